@@ -1,0 +1,205 @@
+-- Entries are taken apart and put together at their first one.
+use Rattle.std.proofs.Common.{◌≡◌, ℕ, ◌+◌, ◌*◌, ◌/◌, ◌%◌, ◌^◌, ◌<◌, ◌≤◌, List, [], ◌++◌, length, take, drop, refl, sym, ap, ◌∙◌, arith, Option, Some, None, Bool, true, false, if◌then◌else◌, ◌↔◌, inl, inr}
+use Rattle.std.proofs.lemmas.List.{length-append, length-take-le, take-append-drop}
+use Rattle.byteorder.specs.Endian.{big_number, big_bytes}
+use Rattle.jsonb_doc.specs.Number.{Number}
+use Rattle.jsonb_doc.specs.Tree.{Tree, null, boolean, number, text, extension, array, object, Trees, no_trees, tree, Pairs, no_pairs, pair, count, keys}
+use Rattle.jsonb_doc.specs.Payload.{Reading, Form, any, canonical, reading, if_written, number_payload, number_of, number_or_unsupported}
+use Rattle.std.specs.Str.{bytes_eq}
+use Rattle.jsonb_doc.proofs.Words.{bytes_eq-true, bytes_eq-same}
+use Rattle.jsonb_doc.specs.Format.{BeginWith, Entry, Container, Members, array_header, object_header, scalar_header, IsDocument, IsContent, AreEntries, AreValues}
+use Rattle.jsonb_doc.specs.Checking.{HasContent, HasEntries}
+use Rattle.jsonb_doc.proofs.Words.{IsBytes, word_read, word_again, word_cancel, append_cancel}
+
+-- the first entry, by its word n
+pub BeginWith-read : (words contents : List ℕ) (n : ℕ) → n ≡ big_number 4 words → 4 ≤ length words → IsBytes words → n / 2 ^ 28 < 8 → n % 2 ^ 28 ≤ length contents
+    → BeginWith words contents (n / 2 ^ 28) (take (n % 2 ^ 28) contents) (drop 4 words) (drop (n % 2 ^ 28) contents)
+BeginWith-read words contents n is long bytes known fits =
+    let len : length (take (n % 2 ^ 28) contents) ≡ n % 2 ^ 28 = length-take-le (n % 2 ^ 28) contents fits in
+    let whole : n / 2 ^ 28 * 2 ^ 28 + length (take (n % 2 ^ 28) contents) ≡ big_number 4 words = omega (arith, len, is) in
+    record {
+      known = known;
+      fits = omega (arith, len);
+      words_joined = word_again words long bytes ∙ ap (λ (m : ℕ). big_bytes 4 m ++ drop 4 words) (sym whole);
+      contents_joined = sym (take-append-drop (n % 2 ^ 28) contents);
+    }
+
+-- what the first word tells of the first entry
+pub BeginWith-word : (words contents : List ℕ) (kind : ℕ) (content ws cs : List ℕ) (n : ℕ) → n ≡ big_number 4 words → BeginWith words contents kind content ws cs
+    → (n / 2 ^ 28 < 8) × (n % 2 ^ 28 ≤ length contents)
+BeginWith-word words contents kind content ws cs n is b =
+    let known = b.known in
+    let fits = b.fits in
+    let read : n ≡ kind * 2 ^ 28 + length content = is ∙ ap (big_number 4) b.words_joined ∙ word_read (kind * 2 ^ 28 + length content) ws (omega arith) in
+    let len = ap length b.contents_joined ∙ length-append content cs in
+    (omega arith, omega (arith, len))
+
+pub BeginWith-long : (words contents : List ℕ) (kind : ℕ) (content ws cs : List ℕ) → BeginWith words contents kind content ws cs → 4 ≤ length words
+BeginWith-long words contents kind content ws cs b = omega (arith, ap length b.words_joined)
+
+-- the first entry and the others lie within the contents
+pub BeginWith-room : (words contents : List ℕ) (kind : ℕ) (content ws cs : List ℕ) → BeginWith words contents kind content ws cs → (length content ≤ length contents) × (length cs ≤ length contents)
+BeginWith-room words contents kind content ws cs b =
+    let len = ap length b.contents_joined ∙ length-append content cs in
+    (omega (arith, len), omega (arith, len))
+
+-- there is one first entry at most
+pub BeginWith-unique : (words contents : List ℕ) (k k' : ℕ) (x x' ws ws' cs cs' : List ℕ) → BeginWith words contents k x ws cs → BeginWith words contents k' x' ws' cs'
+    → (k ≡ k') × (x ≡ x') × (ws ≡ ws') × (cs ≡ cs')
+BeginWith-unique words contents k k' x x' ws ws' cs cs' b b' =
+    let known = b.known in
+    let known' = b'.known in
+    let fits = b.fits in
+    let fits' = b'.fits in
+    let both = word_cancel (k * 2 ^ 28 + length x) (k' * 2 ^ 28 + length x') ws ws' (omega arith) (omega arith) (sym b.words_joined ∙ b'.words_joined) in
+    let same : length x ≡ length x' = omega (arith, both.0) in
+    let rests = append_cancel x cs x' cs' same (sym b.contents_joined ∙ b'.contents_joined) in
+    (omega (arith, both.0), rests.0, both.1, rests.1)
+
+module _ {P : ℕ → List ℕ → Type 0} {Q : List ℕ → List ℕ → Type 0} (words contents : List ℕ) (kind : ℕ) (content ws cs : List ℕ) (b : BeginWith words contents kind content ws cs) where
+  Entry-split : Entry P Q words contents → P kind content × Q ws cs
+  Entry-split e =
+      let (same_kind, same_content, same_words, same_contents) = BeginWith-unique words contents kind e.kind content e.content ws e.other_words cs e.other_contents b e.begin in
+      rw (same_kind, same_content, same_words, same_contents) (e.part, e.others)
+
+  Entry-join : P kind content → Q ws cs → Entry P Q words contents
+  Entry-join part others =
+      record { kind = kind; content = content; other_words = ws; other_contents = cs; begin = b; part = part; others = others }
+
+module _ (number_at : Reading) where
+  pub kind_below : (t : Tree) (kind : ℕ) (bytes : List ℕ) → IsContent number_at t kind bytes → kind < 7
+  kind_below null kind bytes h = omega arith
+  kind_below (boolean true) kind bytes h = omega arith
+  kind_below (boolean false) kind bytes h = omega arith
+  kind_below (number n) kind bytes h = omega arith
+  kind_below (text s) kind bytes h = omega arith
+  kind_below (extension x) kind bytes h = omega arith
+  kind_below (array ts) kind bytes h = omega arith
+  kind_below (object ps) kind bytes h = omega arith
+
+  pub HasEntries-nil : (words contents : List ℕ) → words ≡ [] → contents ≡ [] → HasEntries words contents number_at
+  HasEntries-nil words contents e f = (no_trees, (e, f))
+
+  pub HasEntries-empty : (words contents : List ℕ) → words ≡ [] → HasEntries words contents number_at → contents ≡ []
+  HasEntries-empty words contents e (no_trees, h) = h.1
+  HasEntries-empty words contents e (tree t ts, n) =
+      absurd (omega (arith, BeginWith-long words contents n.kind n.content n.other_words n.other_contents n.begin, ap length e))
+
+  -- entries that aren't empty begin with an entry
+  pub HasEntries-stop : (words contents : List ℕ) → 0 < length words → ((kind : ℕ) (content ws cs : List ℕ) → BeginWith words contents kind content ws cs → ⊥) → HasEntries words contents number_at → ⊥
+  HasEntries-stop words contents some none (no_trees, h) = omega (arith, ap length h.0)
+  HasEntries-stop words contents some none (tree t ts, n) =
+      none n.kind n.content n.other_words n.other_contents n.begin
+
+  pub HasEntries-step : (words contents : List ℕ) (kind : ℕ) (content ws cs : List ℕ) → BeginWith words contents kind content ws cs
+      → HasEntries words contents number_at ↔ (HasContent kind content number_at × HasEntries ws cs number_at)
+  HasEntries-step words contents kind content ws cs b = (split, join)
+    where
+      split : HasEntries words contents number_at → HasContent kind content number_at × HasEntries ws cs number_at
+      split (no_trees, h) =
+          absurd (omega (arith, BeginWith-long words contents kind content ws cs b, ap length h.0))
+      split (tree t ts, e) =
+          let parts = Entry-split {P = IsContent number_at t} {Q = AreEntries number_at ts} words contents kind content ws cs b e in
+          ((t, parts.0), (ts, parts.1))
+
+      join : HasContent kind content number_at × HasEntries ws cs number_at → HasEntries words contents number_at
+      join h = (tree h.0.0 h.1.0, Entry-join {P = IsContent number_at h.0.0} {Q = AreEntries number_at h.1.0} words contents kind content ws cs b h.0.1 h.1.1)
+
+  -- the first tree is that of the first entry
+  pub AreEntries-first : (ts : Trees) (words contents : List ℕ) (kind : ℕ) (content ws cs : List ℕ) → BeginWith words contents kind content ws cs → AreEntries number_at ts words contents
+      → (t : Tree) × (others : Trees) × (ts ≡ tree t others) × IsContent number_at t kind content × AreEntries number_at others ws cs
+  AreEntries-first no_trees words contents kind content ws cs b h =
+      absurd (omega (arith, BeginWith-long words contents kind content ws cs b, ap length h.0))
+  AreEntries-first (tree t ts) words contents kind content ws cs b e =
+      let parts = Entry-split {P = IsContent number_at t} {Q = AreEntries number_at ts} words contents kind content ws cs b e in
+      (t, ts, refl, parts.0, parts.1)
+
+-- what is said of entries may be replaced by what follows from it
+Entry-map : {P P' : ℕ → List ℕ → Type 0} {Q Q' : List ℕ → List ℕ → Type 0} → ((kind : ℕ) (content : List ℕ) → P kind content → P' kind content)
+    → ((words contents : List ℕ) → Q words contents → Q' words contents) → (words contents : List ℕ) → Entry P Q words contents → Entry P' Q' words contents
+Entry-map f g words contents e = record {
+  kind = e.kind;
+  content = e.content;
+  other_words = e.other_words;
+  other_contents = e.other_contents;
+  begin = e.begin;
+  part = f e.kind e.content e.part;
+  others = g e.other_words e.other_contents e.others;
+}
+
+Container-map : {Q Q' : List ℕ → List ℕ → Type 0} (kind n : ℕ) → ((words contents : List ℕ) → Q words contents → Q' words contents) → (bytes : List ℕ) → Container kind n Q bytes → Container kind n Q' bytes
+Container-map kind n g bytes a =
+    record { words = a.words; contents = a.contents; headed = a.headed; parts = g a.words a.contents a.parts }
+
+Members-map : {Q Q' : List ℕ → List ℕ → Type 0} (ks : List (List ℕ)) → ((words contents : List ℕ) → Q words contents → Q' words contents) → (words contents : List ℕ) → Members ks Q words contents → Members ks Q' words contents
+Members-map ks g words contents o = record {
+  value_words = o.value_words;
+  value_contents = o.value_contents;
+  words_joined = o.words_joined;
+  contents_joined = o.contents_joined;
+  are_keys = o.are_keys;
+  values = g o.value_words o.value_contents o.values;
+}
+
+-- what decodes where numbers are read in one way decodes so where they are read in another, which reads as many
+module _ (strict lenient : Reading) (more : (bytes : List ℕ) (n : Number) → strict bytes ≡ Some n → lenient bytes ≡ Some n) where
+  mutual
+    pub content_map : (t : Tree) (kind : ℕ) (bytes : List ℕ) → IsContent strict t kind bytes → IsContent lenient t kind bytes
+    content_map null kind bytes h = h
+    content_map (boolean true) kind bytes h = h
+    content_map (boolean false) kind bytes h = h
+    content_map (number n) kind bytes h = (h.0, more bytes n h.1)
+    content_map (text s) kind bytes h = h
+    content_map (extension x) kind bytes h = h
+    content_map (array ts) kind bytes h = (h.0, Container-map array_header (count ts) (entries_map ts) bytes h.1)
+    content_map (object ps) kind bytes h = (h.0, Container-map object_header (length (keys ps)) (Members-map (keys ps) (values_map ps)) bytes h.1)
+
+    pub entries_map : (ts : Trees) (words contents : List ℕ) → AreEntries strict ts words contents → AreEntries lenient ts words contents
+    entries_map no_trees words contents h = h
+    entries_map (tree t ts) words contents e = Entry-map (content_map t) (entries_map ts) words contents e
+
+    pub values_map : (ps : Pairs) (words contents : List ℕ) → AreValues strict ps words contents → AreValues lenient ps words contents
+    values_map no_pairs words contents h = h
+    values_map (pair key t ps) words contents e = Entry-map (content_map t) (values_map ps) words contents e
+
+  pub document_map : (t : Tree) (bytes : List ℕ) → IsDocument strict t bytes → IsDocument lenient t bytes
+  document_map t bytes (inl h) = inl (content_map t 5 bytes h)
+  document_map t bytes (inr h) =
+      inr (Container-map scalar_header 0 (Entry-map (λ kind content k. (k.0, content_map t kind content k.1)) (λ words contents k. k)) bytes h)
+
+-- what decodes would decode with unsupported payloads as numbers
+number_lenient : (bytes : List ℕ) (n : Number) → number_of bytes ≡ Some n → number_or_unsupported bytes ≡ Some n
+number_lenient bytes n e = rw e refl
+
+pub document_lenient : (t : Tree) (bytes : List ℕ) → IsDocument number_of t bytes → IsDocument number_or_unsupported t bytes
+document_lenient = document_map number_of number_or_unsupported number_lenient
+
+pub has_content_lenient : (kind : ℕ) (bytes : List ℕ) → HasContent kind bytes number_of → HasContent kind bytes number_or_unsupported
+has_content_lenient kind bytes h =
+    (h.0, content_map number_of number_or_unsupported number_lenient h.0 kind bytes h.1)
+
+-- ---- forms
+
+if_written-some : (payload : List ℕ) (found : Option Number) (n : Number) → if_written payload found ≡ Some n → (found ≡ Some n) × (payload ≡ number_payload n)
+if_written-some payload None n e = absurd (cc)
+if_written-some payload (Some m) n e = go (bytes_eq payload (number_payload m)) refl e
+  where
+    go : (b : Bool) → b ≡ bytes_eq payload (number_payload m) → (if b then Some m else None) ≡ Some n → (Some m ≡ Some n) × (payload ≡ number_payload n)
+    go true is k = let same : m ≡ n = cc k in (k, bytes_eq-true payload (number_payload m) (sym is) ∙ ap number_payload same)
+    go false is k = absurd (cc)
+
+-- what a form reads is a number in each document
+pub reads_number : (form : Form) (bytes : List ℕ) (n : Number) → reading form bytes ≡ Some n → number_of bytes ≡ Some n
+reads_number any bytes n e = e
+reads_number canonical bytes n e = (if_written-some bytes (number_of bytes) n e).0
+
+pub canonical_payload : (bytes : List ℕ) (n : Number) → reading canonical bytes ≡ Some n → bytes ≡ number_payload n
+canonical_payload bytes n e = (if_written-some bytes (number_of bytes) n e).1
+
+-- a canonical payload is read in each form
+pub reads_canonical : (form : Form) (bytes : List ℕ) (n : Number) → reading canonical bytes ≡ Some n → reading form bytes ≡ Some n
+reads_canonical any bytes n e = reads_number canonical bytes n e
+reads_canonical canonical bytes n e = e
+
+pub reads_written : (n : Number) → number_of (number_payload n) ≡ Some n → reading canonical (number_payload n) ≡ Some n
+reads_written n e = rw (e, bytes_eq-same (number_payload n)) refl

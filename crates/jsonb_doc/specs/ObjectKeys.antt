@@ -1,0 +1,58 @@
+-- The iterators over the keys and over the values of an object.
+use Rattle.std.specs.Prelude.{◌≡◌, ℕ, ◌+◌, ◌/◌, List, [], ◌∷◌, ◌++◌, length, Option, Some, None, Result, Ok, Err, IfSome, IfErr, ⊤}
+use Rattle.std.specs.Borrow.{Bor}
+use Rattle.jsonb_doc.specs.Tree.{Tree, object, Trees, keys, values}
+use Rattle.jsonb_doc.specs.Payload.{Form}
+use Rattle.jsonb_doc.specs.Format.{AreKeys, key_words, key_bytes}
+use Rattle.jsonb_doc.specs.Elements.{HasElementsLeft, GivesElement}
+use Rattle.jsonb_doc.specs.View.{IsDecodingError}
+use Rattle.jsonb_doc.specs.declared.item.Item.{Item}
+use Rattle.jsonb_doc.specs.declared.key_iter.KeyIter.{KeyIter}
+use Rattle.jsonb_doc.specs.declared.value_iter.ValueIter.{ValueIter}
+use Rattle.jsonb_doc.specs.declared.error.Error.{Error}
+
+-- These keys are left in the iterator. Other bytes may follow them.
+pub record HasKeysLeft (it : KeyIter) (ks : List (List ℕ)) : Type 0 where
+  pub rest : List ℕ
+  pub are_keys : AreKeys ks
+  pub words : it.key_words.now ≡ key_words ks
+  pub bytes : it.key_bytes.now ≡ key_bytes ks ++ rest
+
+-- at most how many keys the iterator gives, on any bytes
+abbrev pub keys_bound : KeyIter → ℕ
+keys_bound it = (length it.key_words.now + 3) / 4
+
+-- the answer is the first of the keys, and the others are left
+abbrev pub TakesKey : List (List ℕ) → Option (Result (Bor (List ℕ)) Error) → KeyIter → Type 0
+TakesKey [] None after = HasKeysLeft after []
+TakesKey [] (Some r) after = ⊥
+TakesKey (key ∷ ks) None after = ⊥
+TakesKey (key ∷ ks) (Some (Err e)) after = ⊥
+TakesKey (key ∷ ks) (Some (Ok given)) after = (given.now ≡ key) × HasKeysLeft after ks
+
+-- what a call of `next` does
+pub record GivesKey (before : KeyIter) (r : Option (Result (Bor (List ℕ)) Error)) (after : KeyIter) : Type 0 where
+  pub takes : (ks : List (List ℕ)) → HasKeysLeft before ks → TakesKey ks r after
+  pub errors : IfSome r (λ x. IfErr x IsDecodingError)
+
+-- the iterator of a tree's keys
+abbrev pub IsKeysOf : Tree → Option KeyIter → Type 0
+IsKeysOf (object ps) (Some it) = HasKeysLeft it (keys ps)
+IsKeysOf (object ps) None = ⊥
+IsKeysOf _ (Some it) = ⊥
+IsKeysOf _ None = ⊤
+
+-- these values are left in the iterator
+abbrev pub HasValuesLeft : Form → ValueIter → Trees → Type 0
+HasValuesLeft form it ts = HasElementsLeft form it.elements ts
+
+-- what a call of `next` does
+abbrev pub GivesValue : ValueIter → Option (Result Item Error) → ValueIter → Type 0
+GivesValue before r after = GivesElement before.elements r after.elements
+
+-- the iterator of a tree's values
+abbrev pub IsValuesOf : Form → Tree → Option ValueIter → Type 0
+IsValuesOf form (object ps) (Some it) = HasValuesLeft form it (values ps)
+IsValuesOf form (object ps) None = ⊥
+IsValuesOf form _ (Some it) = ⊥
+IsValuesOf form _ None = ⊤

@@ -1,0 +1,50 @@
+-- The iterator over the pairs of an object.
+use Rattle.std.specs.Prelude.{◌≡◌, ℕ, ◌+◌, ◌/◌, ◌≤◌, List, ◌++◌, length, Option, Some, None, Result, Ok, Err, IfSome, IfOk, IfErr, ⊤}
+use Rattle.std.specs.Borrow.{Bor}
+use Rattle.jsonb_doc.specs.Tree.{Tree, object, Pairs, no_pairs, pair, keys}
+use Rattle.jsonb_doc.specs.Payload.{Form, reading}
+use Rattle.jsonb_doc.specs.Format.{AreKeys, AreValues, key_words, key_bytes}
+use Rattle.jsonb_doc.specs.Item.{Stands, IsNormal, item_size}
+use Rattle.jsonb_doc.specs.View.{IsDecodingError}
+use Rattle.jsonb_doc.specs.declared.item.Item.{Item}
+use Rattle.jsonb_doc.specs.declared.pair_iter.PairIter.{PairIter}
+use Rattle.jsonb_doc.specs.declared.error.Error.{Error}
+
+-- These pairs are left in the iterator. Other bytes may follow the keys.
+pub record HasPairsLeft (form : Form) (it : PairIter) (ps : Pairs) : Type 0 where
+  pub rest : List ℕ
+  pub are_keys : AreKeys (keys ps)
+  pub words : it.key_words.now ≡ key_words (keys ps)
+  pub bytes : it.key_bytes.now ≡ key_bytes (keys ps) ++ rest
+  pub values : AreValues (reading form) ps it.value_words.now it.value_contents.now
+
+-- at most how many items the iterator gives, on any bytes
+abbrev pub pairs_bound : PairIter → ℕ
+pairs_bound it = (length it.key_words.now + 3) / 4
+
+-- at most how many bytes an item of the iterator has, on any bytes
+abbrev pub pairs_room : PairIter → ℕ
+pairs_room it = length it.value_contents.now
+
+-- the answer is the first of the pairs, and the others are left
+abbrev pub TakesPair : Form → Pairs → Option (Result (Bor (List ℕ) × Item) Error) → PairIter → Type 0
+TakesPair form no_pairs None after = HasPairsLeft form after no_pairs
+TakesPair form no_pairs (Some r) after = ⊥
+TakesPair form (pair key t ps) None after = ⊥
+TakesPair form (pair key t ps) (Some (Err e)) after = ⊥
+TakesPair form (pair key t ps) (Some (Ok given)) after = (given.0.now ≡ key) × Stands form given.1 t × HasPairsLeft form after ps
+
+-- what a call of `next` does
+pub record GivesPair (before : PairIter) (r : Option (Result (Bor (List ℕ) × Item) Error)) (after : PairIter) : Type 0 where
+  pub takes : (form : Form) (ps : Pairs) → HasPairsLeft form before ps → TakesPair form ps r after
+  pub normal : IfSome r (λ x. IfOk x (λ given. IsNormal given.1))
+  pub errors : IfSome r (λ x. IfErr x IsDecodingError)
+  pub size : IfSome r (λ x. IfOk x (λ given. item_size given.1 ≤ pairs_room before))
+  pub room : pairs_room after ≤ pairs_room before
+
+-- the iterator of a tree's pairs
+abbrev pub IsPairsOf : Form → Tree → Option PairIter → Type 0
+IsPairsOf form (object ps) (Some it) = HasPairsLeft form it ps
+IsPairsOf form (object ps) None = ⊥
+IsPairsOf form _ (Some it) = ⊥
+IsPairsOf form _ None = ⊤

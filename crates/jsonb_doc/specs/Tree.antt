@@ -1,0 +1,78 @@
+-- A JSON document as a mathematical value. A text is its UTF-8 bytes.
+use Rattle.std.specs.Prelude.{ℕ, suc, Bool, List, [], ◌∷◌, Option, Some, None, if◌then◌else◌}
+use Rattle.std.specs.Str.{bytes_eq}
+use Rattle.jsonb_doc.specs.Number.{Number}
+use Rattle.jsonb_doc.specs.Extension.{Extension}
+
+mutual
+  pub data Tree : Type 0 where
+    null : Tree
+    boolean : Bool → Tree
+    number : Number → Tree
+    text : List ℕ → Tree
+    extension : Extension → Tree
+    array : Trees → Tree
+    object : Pairs → Tree
+
+  -- the elements of an array, in order
+  pub data Trees : Type 0 where
+    no_trees : Trees
+    tree : Tree → Trees → Trees
+
+  -- the keys of an object with their values, in stored order
+  pub data Pairs : Type 0 where
+    no_pairs : Pairs
+    pair : List ℕ → Tree → Pairs → Pairs
+
+abbrev pub elements : Trees → List Tree
+elements no_trees = []
+elements (tree t ts) = t ∷ elements ts
+
+abbrev pub count : Trees → ℕ
+count no_trees = 0
+count (tree t ts) = suc (count ts)
+
+abbrev pub keys : Pairs → List (List ℕ)
+keys no_pairs = []
+keys (pair key value ps) = key ∷ keys ps
+
+abbrev pub values : Pairs → Trees
+values no_pairs = no_trees
+values (pair key value ps) = tree value (values ps)
+
+-- ---- as lists
+
+abbrev pub trees_of : List Tree → Trees
+trees_of [] = no_trees
+trees_of (t ∷ ts) = tree t (trees_of ts)
+
+-- the trees with one more behind them
+abbrev pub added : Trees → Tree → Trees
+added no_trees t = tree t no_trees
+added (tree u us) t = tree u (added us t)
+
+abbrev pub members : Pairs → List (List ℕ × Tree)
+members no_pairs = []
+members (pair key value ps) = (key, value) ∷ members ps
+
+abbrev pub pairs_of : List (List ℕ × Tree) → Pairs
+pairs_of [] = no_pairs
+pairs_of (p ∷ ps) = pair p.0 p.1 (pairs_of ps)
+
+-- ---- the parts of a container
+
+-- an array's elements, or an object's values, in stored order
+abbrev pub children_of : Tree → Option (List Tree)
+children_of (array ts) = Some (elements ts)
+children_of (object ps) = Some (elements (values ps))
+children_of _ = None
+
+-- the value under a key
+abbrev pub value_under : List ℕ → Pairs → Option Tree
+value_under name no_pairs = None
+value_under name (pair key value ps) = if bytes_eq key name then Some value else value_under name ps
+
+-- the value under a key of an object
+abbrev pub field_of : List ℕ → Tree → Option Tree
+field_of name (object ps) = value_under name ps
+field_of name _ = None

@@ -1,0 +1,206 @@
+ghost use Rattle.std.specs.Prelude.{◌≡◌, ◌≢◌, ◌↔◌, IsOk, IsErrOf, ℕ, List, [], MatchOption, MatchResult, option_copied};
+ghost use Rattle.jsonb_doc.specs.Tree.{Tree};
+ghost use Rattle.jsonb_doc.specs.Payload.{any};
+ghost use Rattle.jsonb_doc.specs.Format.{Decodes, WouldDecode};
+ghost use Rattle.jsonb_doc.specs.Checking.{Judges, HasContent, HasEntries, HasDocument, HasKeys, IsNextKey};
+
+use crate::error::Error;
+use crate::extension::ExtensionValue;
+use crate::number::Number;
+use crate::word::{WORD, split_entry, split_header};
+use std::cmp::Ordering;
+
+pub const NULL: u32 = 0;
+
+pub const TEXT: u32 = 1;
+
+pub const NUMBER: u32 = 2;
+
+pub const FALSE: u32 = 3;
+
+pub const TRUE: u32 = 4;
+
+pub const CONTAINER: u32 = 5;
+
+pub const EXTENSION: u32 = 6;
+
+pub const SCALAR_HEADER: u32 = 1;
+
+pub const OBJECT_HEADER: u32 = 2;
+
+pub const ARRAY_HEADER: u32 = 4;
+
+/// Whether the bytes decode, and else whether they would with floats and decimals of 256 bits as numbers.
+pub fn check(bytes: &[u8]) -> Result<(), Error>
+    ensures ok { IsOk result ↔ ((t : Tree) × Decodes any bytes.now t) }
+    ensures unsupported { IsErrOf result Error.UnsupportedNumber
+        ↔ (((t : Tree) → Decodes any bytes.now t → ⊥) × ((t : Tree) × WouldDecode bytes.now t)) }
+    ensures invalid { IsErrOf result Error.InvalidJsonb ↔ ((t : Tree) → WouldDecode bytes.now t → ⊥) }
+{
+    check_document(bytes)
+}
+
+fn check_document(bytes: &[u8]) -> Result<(), Error>
+    ensures { Judges (HasDocument bytes.now) result }
+{
+    let Some((kind, entries, rest)) = split_header(bytes) else {
+        return Err(Error::InvalidJsonb);
+    };
+    if kind != SCALAR_HEADER {
+        return check_container(bytes);
+    }
+    if entries != 0 || rest.len() < WORD {
+        return Err(Error::InvalidJsonb);
+    }
+    let (words, contents) = rest.split_at(WORD);
+    let Some(entry) = split_entry(words, contents) else {
+        return Err(Error::InvalidJsonb);
+    };
+    if entry.kind == CONTAINER || !entry.other_contents.is_empty() {
+        return Err(Error::InvalidJsonb);
+    }
+    check_content(entry.kind, entry.content)
+}
+
+#[cycle(check)]
+fn check_content(kind: u32, content: &[u8]) -> Result<(), Error>
+    ensures { Judges (HasContent kind content.now) result }
+{
+    if kind == CONTAINER {
+        check_container(content)
+    } else {
+        check_scalar(kind, content)
+    }
+}
+
+fn check_scalar(kind: u32, content: &[u8]) -> Result<(), Error>
+    requires { kind ≢ 5 }
+    ensures { Judges (HasContent kind content.now) result }
+{
+    match kind {
+        NULL => check_empty(content),
+        FALSE => check_empty(content),
+        TRUE => check_empty(content),
+        TEXT => match str::from_utf8(content) {
+            Ok(_) => Ok(()),
+            Err(_) => Err(Error::InvalidJsonb),
+        },
+        NUMBER => match Number::from_payload(content) {
+            Ok(_) => Ok(()),
+            Err(error) => Err(error),
+        },
+        EXTENSION => match ExtensionValue::from_payload(content) {
+            Ok(_) => Ok(()),
+            Err(error) => Err(error),
+        },
+        _ => Err(Error::InvalidJsonb),
+    }
+}
+
+fn check_empty(content: &[u8]) -> Result<(), Error>
+    ensures { MatchResult result (λ _. content.now ≡ []) (λ e. (e ≡ Error.InvalidJsonb) × (content.now ≢ [])) }
+{
+    if content.is_empty() {
+        Ok(())
+    } else {
+        Err(Error::InvalidJsonb)
+    }
+}
+
+#[cycle(check)]
+fn check_container(bytes: &[u8]) -> Result<(), Error>
+    ensures { Judges (HasContent 5 bytes.now) result }
+{
+    let Some((kind, entries, rest)) = split_header(bytes) else {
+        return Err(Error::InvalidJsonb);
+    };
+    let len = WORD * entries;
+    match kind {
+        ARRAY_HEADER if len <= rest.len() => {
+            let (words, contents) = rest.split_at(len);
+            check_entries(words, contents)
+        }
+        OBJECT_HEADER if 2 * len <= rest.len() => {
+            let (words, contents) = rest.split_at(2 * len);
+            let (key_words, value_words) = words.split_at(len);
+            let Some(values) = skip_keys(key_words, contents) else {
+                return Err(Error::InvalidJsonb);
+            };
+            check_entries(value_words, values)
+        }
+        _ => Err(Error::InvalidJsonb),
+    }
+}
+
+/// The contents behind these entry words decode.
+#[cycle(check)]
+fn check_entries(words: &[u8], contents: &[u8]) -> Result<(), Error>
+    ensures { Judges (HasEntries words.now contents.now) result }
+{
+    let mut words_left = words;
+    let mut contents_left = contents;
+    let mut is_supported = true;
+    while !words_left.is_empty() {
+        let Some(entry) = split_entry(words_left, contents_left) else {
+            return Err(Error::InvalidJsonb);
+        };
+        match check_content(entry.kind, entry.content) {
+            Ok(()) => {}
+            Err(error) => match error {
+                Error::UnsupportedNumber => is_supported = false,
+                _ => return Err(error),
+            },
+        }
+        words_left = entry.other_words;
+        contents_left = entry.other_contents;
+    }
+    if !contents_left.is_empty() {
+        return Err(Error::InvalidJsonb);
+    }
+    if is_supported {
+        Ok(())
+    } else {
+        Err(Error::UnsupportedNumber)
+    }
+}
+
+/// The bytes behind the keys that these entry words tell.
+pub fn skip_keys<'a>(words: &[u8], bytes: &'a [u8]) -> Option<&'a [u8]>
+    ensures { MatchOption result ((rest : List ℕ) → HasKeys words.now bytes.now rest → ⊥) (λ rest. HasKeys words.now bytes.now rest.now) }
+{
+    let mut words_left = words;
+    let mut bytes_left = bytes;
+    let mut last: Option<&str> = None;
+    while !words_left.is_empty() {
+        let Some(entry) = split_entry(words_left, bytes_left) else {
+            return None;
+        };
+        if entry.kind != TEXT {
+            return None;
+        }
+        let Some(key) = next_key(last, entry.content) else {
+            return None;
+        };
+        last = Some(key);
+        words_left = entry.other_words;
+        bytes_left = entry.other_contents;
+    }
+    Some(bytes_left)
+}
+
+/// The bytes as a key, where they are one that may follow the last.
+fn next_key<'a>(last: Option<&str>, bytes: &'a [u8]) -> Option<&'a str>
+    ensures { MatchOption result (IsNextKey (option_copied last.entry) bytes.now → ⊥)
+        (λ key. (key.now ≡ bytes.now) × IsNextKey (option_copied last.entry) bytes.now) }
+{
+    let Ok(key) = str::from_utf8(bytes) else {
+        return None;
+    };
+    let Some(last) = last else {
+        return Some(key);
+    };
+    match last.cmp(key) {
+        Ordering::Less => Some(key),
+        _ => None,
+    }
+}

@@ -1,0 +1,103 @@
+ghost use Rattle.std.specs.Prelude.{◌≡◌, Some};
+ghost use Rattle.jsonb_doc.specs.ErrorText.{error_text, fault_text};
+ghost use Rattle.jsonb_doc.specs.declared.error.Error.TheVariants.{OutOfMemory};
+
+use std::alloc::{AllocError, AllocFailed};
+use std::fmt;
+
+/// Why an operation on numbers has no result. Its text is its name.
+#[derive(Clone, Copy, Debug, PartialEq, Eq)]
+pub enum ArithmeticFault {
+    /// The result is below `i64::MIN` or above `u64::MAX`.
+    Overflow,
+    /// A division by zero, or a remainder by it.
+    ZeroDivisor,
+    /// A quotient that is no whole number.
+    Inexact,
+    /// An operand is a decimal other than zero.
+    DecimalOperand,
+}
+
+/// Why a call has no answer. Its text is its name, with the fault of an `Arithmetic` in parentheses.
+#[derive(Clone, Copy, Debug, PartialEq, Eq)]
+pub enum Error {
+    /// The bytes don't decode.
+    InvalidJsonb,
+    /// A float or a decimal of 256 bits was read.
+    UnsupportedNumber,
+    /// A path's text is outside the grammar, or the path has no value.
+    InvalidJsonPath,
+    /// A key path's text is outside the grammar.
+    InvalidKeyPath,
+    /// The value can't be cast so.
+    InvalidCast,
+    /// An object is needed.
+    InvalidObject,
+    /// Another kind is needed.
+    InvalidJsonType,
+    /// The object has the key.
+    ObjectDuplicateKey,
+    /// An operation on numbers has no result.
+    Arithmetic(ArithmeticFault),
+    /// A count or a length passes the limits of the format.
+    TooLarge,
+    /// An item lies too deep for a sortable key.
+    TooDeep,
+    /// Memory was refused.
+    OutOfMemory,
+    /// A path in strict mode asks for what isn't there.
+    StrictPath,
+}
+
+impl fmt::Display for ArithmeticFault {
+    ghost output = { λ fault. Some (fault_text fault) };
+
+    fn fmt<W: fmt::Write>(&self, f: &mut fmt::Formatter<W>) -> fmt::Result {
+        f.write_str(match self {
+            ArithmeticFault::Overflow => "Overflow",
+            ArithmeticFault::ZeroDivisor => "ZeroDivisor",
+            ArithmeticFault::Inexact => "Inexact",
+            ArithmeticFault::DecimalOperand => "DecimalOperand",
+        })
+    }
+}
+
+impl fmt::Display for Error {
+    ghost output = { λ e. Some (error_text e) };
+
+    fn fmt<W: fmt::Write>(&self, f: &mut fmt::Formatter<W>) -> fmt::Result {
+        match self {
+            Error::InvalidJsonb => f.write_str("InvalidJsonb"),
+            Error::UnsupportedNumber => f.write_str("UnsupportedNumber"),
+            Error::InvalidJsonPath => f.write_str("InvalidJsonPath"),
+            Error::InvalidKeyPath => f.write_str("InvalidKeyPath"),
+            Error::InvalidCast => f.write_str("InvalidCast"),
+            Error::InvalidObject => f.write_str("InvalidObject"),
+            Error::InvalidJsonType => f.write_str("InvalidJsonType"),
+            Error::ObjectDuplicateKey => f.write_str("ObjectDuplicateKey"),
+            Error::Arithmetic(fault) => write!(f, "Arithmetic({fault})"),
+            Error::TooLarge => f.write_str("TooLarge"),
+            Error::TooDeep => f.write_str("TooDeep"),
+            Error::OutOfMemory => f.write_str("OutOfMemory"),
+            Error::StrictPath => f.write_str("StrictPath"),
+        }
+    }
+}
+
+impl std::error::Error for Error {}
+
+impl From<AllocError> for Error {
+    ghost from_gives = { λ _ e. e ≡ OutOfMemory };
+
+    fn from(_error: AllocError) -> Error {
+        Error::OutOfMemory
+    }
+}
+
+impl<T: Drop> From<AllocFailed<T>> for Error {
+    ghost from_gives = { λ _ e. e ≡ OutOfMemory };
+
+    fn from(_error: AllocFailed<T>) -> Error {
+        Error::OutOfMemory
+    }
+}
