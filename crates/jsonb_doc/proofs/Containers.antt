@@ -2,15 +2,16 @@
 use Rattle.std.proofs.Common.{◌≡◌, ◌≢◌, ℕ, suc, ◌+◌, ◌*◌, ◌/◌, ◌%◌, ◌^◌, ◌<◌, ◌≤◌, List, [], ◌∷◌, ◌++◌, length, take, drop, refl, sym, ap, ◌∙◌, arith, true, false, ◌↔◌, ◌⊎◌, inl, inr}
 use Rattle.std.proofs.lemmas.List.{length-append, length-take-le, length-drop, take_at, drop_at, take-append-drop, nil_from_length}
 use Rattle.byteorder.specs.Endian.{big_number, big_bytes}
+use Rattle.jsonb_doc.specs.Bytes.{AreBytes}
 use Rattle.jsonb_doc.specs.Tree.{Tree, null, boolean, number, text, extension, array, object, Trees, no_trees, tree, Pairs, no_pairs, pair, count, keys, values}
 use Rattle.jsonb_doc.specs.Payload.{Reading, Form, reading}
 use Rattle.jsonb_doc.specs.Format.{Decodes, HeadedBy, BeginWith, Container, Members, AreKeys, key_words, key_bytes, IsContent, AreEntries, AreValues, IsDocument}
 use Rattle.jsonb_doc.specs.Checking.{HasContent, HasEntries, HasDocument, HasKeys}
-use Rattle.jsonb_doc.proofs.Words.{IsBytes, word_again, word_cancel}
+use Rattle.jsonb_doc.proofs.Words.{word_again, word_cancel}
 use Rattle.jsonb_doc.proofs.Entries.{BeginWith-unique}
 use Rattle.jsonb_doc.proofs.KeysRead.{begin_key}
 
-pub HeadedBy-read : (bytes : List ℕ) (n : ℕ) → n ≡ big_number 4 bytes → 4 ≤ length bytes → IsBytes bytes → n < 2 ^ 32 → HeadedBy bytes (n / 2 ^ 29) (n % 2 ^ 29) (drop 4 bytes)
+pub HeadedBy-read : (bytes : List ℕ) (n : ℕ) → n ≡ big_number 4 bytes → 4 ≤ length bytes → AreBytes bytes → n < 2 ^ 32 → HeadedBy bytes (n / 2 ^ 29) (n % 2 ^ 29) (drop 4 bytes)
 HeadedBy-read bytes n is long fits small =
     let whole : n / 2 ^ 29 * 2 ^ 29 + n % 2 ^ 29 ≡ big_number 4 bytes = omega (arith, is) in
     record {
@@ -262,7 +263,7 @@ module _ (form : Form) (bytes : List ℕ) (kind n : ℕ) (rest : List ℕ) (h : 
   pub array_content : (t : Tree) → kind ≡ 4 → IsContent (reading form) t 5 bytes → (ts : Trees) × (t ≡ array ts) × Decodes form bytes (array ts)
   array_content (boolean true) is c = absurd (omega arith)
   array_content (boolean false) is c = absurd (omega arith)
-  array_content (array ts) is c = (ts, refl, inl c)
+  array_content (array ts) is c = (ts, refl, record { document = inl c })
   array_content (object ps) is c =
       absurd (omega (arith, (HeadedBy-unique bytes kind 2 n (length (keys ps)) rest (c.1.words ++ c.1.contents) h c.1.headed).0))
   array_content _ is c = absurd (omega (arith, c.0))
@@ -272,7 +273,7 @@ module _ (form : Form) (bytes : List ℕ) (kind n : ℕ) (rest : List ℕ) (h : 
   object_content (boolean false) is c = absurd (omega arith)
   object_content (array ts) is c =
       absurd (omega (arith, (HeadedBy-unique bytes kind 4 n (count ts) rest (c.1.words ++ c.1.contents) h c.1.headed).0))
-  object_content (object ps) is c = (ps, refl, inl c)
+  object_content (object ps) is c = (ps, refl, record { document = inl c })
   object_content _ is c = absurd (omega (arith, c.0))
 
 -- an array's elements are the entries behind its header

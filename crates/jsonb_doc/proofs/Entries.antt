@@ -3,16 +3,17 @@ use Rattle.std.proofs.Common.{◌≡◌, ℕ, ◌+◌, ◌*◌, ◌/◌, ◌%◌
 use Rattle.std.proofs.lemmas.List.{length-append, length-take-le, take-append-drop}
 use Rattle.byteorder.specs.Endian.{big_number, big_bytes}
 use Rattle.jsonb_doc.specs.Number.{Number}
+use Rattle.jsonb_doc.specs.Bytes.{AreBytes}
 use Rattle.jsonb_doc.specs.Tree.{Tree, null, boolean, number, text, extension, array, object, Trees, no_trees, tree, Pairs, no_pairs, pair, count, keys}
 use Rattle.jsonb_doc.specs.Payload.{Reading, Form, any, canonical, reading, if_written, number_payload, number_of, number_or_unsupported}
 use Rattle.std.specs.Str.{bytes_eq}
 use Rattle.jsonb_doc.proofs.Words.{bytes_eq-true, bytes_eq-same}
 use Rattle.jsonb_doc.specs.Format.{BeginWith, Entry, Container, Members, array_header, object_header, scalar_header, IsDocument, IsContent, AreEntries, AreValues}
 use Rattle.jsonb_doc.specs.Checking.{HasContent, HasEntries}
-use Rattle.jsonb_doc.proofs.Words.{IsBytes, word_read, word_again, word_cancel, append_cancel}
+use Rattle.jsonb_doc.proofs.Words.{word_read, word_again, word_cancel, append_cancel}
 
 -- the first entry, by its word n
-pub BeginWith-read : (words contents : List ℕ) (n : ℕ) → n ≡ big_number 4 words → 4 ≤ length words → IsBytes words → n / 2 ^ 28 < 8 → n % 2 ^ 28 ≤ length contents
+pub BeginWith-read : (words contents : List ℕ) (n : ℕ) → n ≡ big_number 4 words → 4 ≤ length words → AreBytes words → n / 2 ^ 28 < 8 → n % 2 ^ 28 ≤ length contents
     → BeginWith words contents (n / 2 ^ 28) (take (n % 2 ^ 28) contents) (drop 4 words) (drop (n % 2 ^ 28) contents)
 BeginWith-read words contents n is long bytes known fits =
     let len : length (take (n % 2 ^ 28) contents) ≡ n % 2 ^ 28 = length-take-le (n % 2 ^ 28) contents fits in

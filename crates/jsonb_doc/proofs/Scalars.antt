@@ -118,9 +118,9 @@ pub Judges-exact : {A : Type 0} (bytes : List ℕ) (r : Result A Error) → Judg
     × (IsErrOf r UnsupportedNumber ↔ (((t : Tree) → Decodes any bytes t → ⊥) × ((t : Tree) × WouldDecode bytes t)))
     × (IsErrOf r InvalidJsonb ↔ ((t : Tree) → WouldDecode bytes t → ⊥))
 Judges-exact bytes (Ok x) h =
-    ((λ e. h, λ e. search rules), (λ e. absurd (search rules), λ p. absurd (p.0 h.0 h.1)), (λ e. absurd (search rules), λ p. absurd (p h.0 (document_lenient h.0 bytes h.1))))
+    ((λ e. (h.0, record { document = h.1 }), λ e. search rules), (λ e. absurd (search rules), λ p. absurd (p.0 h.0 (record { document = h.1 }))), (λ e. absurd (search rules), λ p. absurd (p h.0 (document_lenient h.0 bytes h.1))))
 Judges-exact bytes (Err UnsupportedNumber) h =
-    ((λ e. absurd (search rules), λ d. absurd (h.0 d)), (λ e. (λ t d. h.0 (t, d), h.1), λ p. search rules), (λ e. absurd (cc), λ p. absurd (p h.1.0 h.1.1)))
+    ((λ e. absurd (search rules), λ d. absurd (h.0 (d.0, d.1.document))), (λ e. (λ t d. h.0 (t, d.document), h.1), λ p. search rules), (λ e. absurd (cc), λ p. absurd (p h.1.0 h.1.1)))
 Judges-exact bytes (Err InvalidJsonb) h =
-    ((λ e. absurd (search rules), λ d. absurd (h (d.0, document_lenient d.0 bytes d.1))), (λ e. absurd (cc), λ p. absurd (h p.1)), (λ e t d. h (t, d), λ p. search rules))
+    ((λ e. absurd (search rules), λ d. absurd (h (d.0, document_lenient d.0 bytes d.1.document))), (λ e. absurd (cc), λ p. absurd (h p.1)), (λ e t d. h (t, d), λ p. search rules))
 Judges-exact bytes (Err _) h = absurd h

@@ -10,6 +10,10 @@ use Rattle.jsonb_doc.specs.Limits.{IsTooLarge}
 abbrev pub WantsMemory : Error → Type 0
 WantsMemory e = e ≡ OutOfMemory
 
+-- memory was refused, or the format has no place for more
+abbrev pub HasNoRoom : Error → Type 0
+HasNoRoom e = (e ≡ OutOfMemory) ⊎ (e ≡ TooLarge)
+
 -- the refusals of a call that makes a document of the tree
 abbrev pub WantsRoom : Form → Tree → Error → Type 0
 WantsRoom form t e = (e ≡ OutOfMemory) ⊎ ((e ≡ TooLarge) × IsTooLarge form t)

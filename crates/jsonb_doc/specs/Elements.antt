@@ -1,5 +1,5 @@
 -- The iterator over the elements of an array.
-use Rattle.std.specs.Prelude.{ℕ, ◌+◌, ◌/◌, ◌≤◌, length, Option, Some, None, Result, Ok, Err, IfSome, IfOk, IfErr, ⊤}
+use Rattle.std.specs.Prelude.{◌≡◌, ℕ, ◌+◌, ◌/◌, ◌≤◌, length, Option, Some, None, Result, Ok, Err, IfSome, IfNone, IfOk, IfErr, ⊤}
 use Rattle.jsonb_doc.specs.Tree.{Tree, array, Trees, no_trees, tree}
 use Rattle.jsonb_doc.specs.Payload.{Form, reading}
 use Rattle.jsonb_doc.specs.Format.{AreEntries}
@@ -10,8 +10,8 @@ use Rattle.jsonb_doc.specs.declared.element_iter.ElementIter.{ElementIter}
 use Rattle.jsonb_doc.specs.declared.error.Error.{Error}
 
 -- these trees are left in the iterator
-abbrev pub HasElementsLeft : Form → ElementIter → Trees → Type 0
-HasElementsLeft form it ts = AreEntries (reading form) ts it.words.now it.contents.now
+pub record HasElementsLeft (form : Form) (it : ElementIter) (ts : Trees) : Type 0 where
+  pub entries : AreEntries (reading form) ts it.words.now it.contents.now
 
 -- at most how many items the iterator gives, on any bytes
 abbrev pub elements_bound : ElementIter → ℕ
@@ -29,11 +29,12 @@ TakesElement form (tree t ts) None after = ⊥
 TakesElement form (tree t ts) (Some (Err e)) after = ⊥
 TakesElement form (tree t ts) (Some (Ok item)) after = Stands form item t × HasElementsLeft form after ts
 
--- what a call of `next` does
+-- What a call of `next` does. On any bytes it gives an item, an error or `None`, and after `None` nothing more.
 pub record GivesElement (before : ElementIter) (r : Option (Result Item Error)) (after : ElementIter) : Type 0 where
   pub takes : (form : Form) (ts : Trees) → HasElementsLeft form before ts → TakesElement form ts r after
   pub normal : IfSome r (λ x. IfOk x IsNormal)
   pub errors : IfSome r (λ x. IfErr x IsDecodingError)
+  pub ended : IfNone r (elements_bound after ≡ 0)
   pub size : IfSome r (λ x. IfOk x (λ item. item_size item ≤ elements_room before))
   pub room : elements_room after ≤ elements_room before
 

@@ -1,10 +1,10 @@
 -- The iterators over the keys and over the values of an object.
-use Rattle.std.specs.Prelude.{◌≡◌, ℕ, ◌+◌, ◌/◌, List, [], ◌∷◌, ◌++◌, length, Option, Some, None, Result, Ok, Err, IfSome, IfErr, ⊤}
+use Rattle.std.specs.Prelude.{◌≡◌, ℕ, ◌+◌, ◌/◌, List, [], ◌∷◌, ◌++◌, length, Option, Some, None, Result, Ok, Err, IfSome, IfNone, IfErr, ⊤}
 use Rattle.std.specs.Borrow.{Bor}
 use Rattle.jsonb_doc.specs.Tree.{Tree, object, Trees, keys, values}
 use Rattle.jsonb_doc.specs.Payload.{Form}
 use Rattle.jsonb_doc.specs.Format.{AreKeys, key_words, key_bytes}
-use Rattle.jsonb_doc.specs.Elements.{HasElementsLeft, GivesElement}
+use Rattle.jsonb_doc.specs.Elements.{HasElementsLeft, GivesElement, elements_bound, elements_room}
 use Rattle.jsonb_doc.specs.View.{IsDecodingError}
 use Rattle.jsonb_doc.specs.declared.item.Item.{Item}
 use Rattle.jsonb_doc.specs.declared.key_iter.KeyIter.{KeyIter}
@@ -30,10 +30,11 @@ TakesKey (key ∷ ks) None after = ⊥
 TakesKey (key ∷ ks) (Some (Err e)) after = ⊥
 TakesKey (key ∷ ks) (Some (Ok given)) after = (given.now ≡ key) × HasKeysLeft after ks
 
--- what a call of `next` does
+-- What a call of `next` does. On any bytes it gives a key, an error or `None`, and after `None` nothing more.
 pub record GivesKey (before : KeyIter) (r : Option (Result (Bor (List ℕ)) Error)) (after : KeyIter) : Type 0 where
   pub takes : (ks : List (List ℕ)) → HasKeysLeft before ks → TakesKey ks r after
   pub errors : IfSome r (λ x. IfErr x IsDecodingError)
+  pub ended : IfNone r (keys_bound after ≡ 0)
 
 -- the iterator of a tree's keys
 abbrev pub IsKeysOf : Tree → Option KeyIter → Type 0
@@ -45,6 +46,14 @@ IsKeysOf _ None = ⊤
 -- these values are left in the iterator
 abbrev pub HasValuesLeft : Form → ValueIter → Trees → Type 0
 HasValuesLeft form it ts = HasElementsLeft form it.elements ts
+
+-- at most how many values the iterator gives, on any bytes
+abbrev pub values_bound : ValueIter → ℕ
+values_bound it = elements_bound it.elements
+
+-- at most how many bytes an item of the iterator has, on any bytes
+abbrev pub values_room : ValueIter → ℕ
+values_room it = elements_room it.elements
 
 -- what a call of `next` does
 abbrev pub GivesValue : ValueIter → Option (Result Item Error) → ValueIter → Type 0

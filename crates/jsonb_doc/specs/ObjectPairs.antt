@@ -1,5 +1,5 @@
 -- The iterator over the pairs of an object.
-use Rattle.std.specs.Prelude.{◌≡◌, ℕ, ◌+◌, ◌/◌, ◌≤◌, List, ◌++◌, length, Option, Some, None, Result, Ok, Err, IfSome, IfOk, IfErr, ⊤}
+use Rattle.std.specs.Prelude.{◌≡◌, ℕ, ◌+◌, ◌/◌, ◌≤◌, List, ◌++◌, length, Option, Some, None, Result, Ok, Err, IfSome, IfNone, IfOk, IfErr, ⊤}
 use Rattle.std.specs.Borrow.{Bor}
 use Rattle.jsonb_doc.specs.Tree.{Tree, object, Pairs, no_pairs, pair, keys}
 use Rattle.jsonb_doc.specs.Payload.{Form, reading}
@@ -18,7 +18,7 @@ pub record HasPairsLeft (form : Form) (it : PairIter) (ps : Pairs) : Type 0 wher
   pub bytes : it.key_bytes.now ≡ key_bytes (keys ps) ++ rest
   pub values : AreValues (reading form) ps it.value_words.now it.value_contents.now
 
--- at most how many items the iterator gives, on any bytes
+-- at most how many pairs the iterator gives, on any bytes
 abbrev pub pairs_bound : PairIter → ℕ
 pairs_bound it = (length it.key_words.now + 3) / 4
 
@@ -34,11 +34,12 @@ TakesPair form (pair key t ps) None after = ⊥
 TakesPair form (pair key t ps) (Some (Err e)) after = ⊥
 TakesPair form (pair key t ps) (Some (Ok given)) after = (given.0.now ≡ key) × Stands form given.1 t × HasPairsLeft form after ps
 
--- what a call of `next` does
+-- What a call of `next` does. On any bytes it gives a pair, an error or `None`, and after `None` nothing more.
 pub record GivesPair (before : PairIter) (r : Option (Result (Bor (List ℕ) × Item) Error)) (after : PairIter) : Type 0 where
   pub takes : (form : Form) (ps : Pairs) → HasPairsLeft form before ps → TakesPair form ps r after
   pub normal : IfSome r (λ x. IfOk x (λ given. IsNormal given.1))
   pub errors : IfSome r (λ x. IfErr x IsDecodingError)
+  pub ended : IfNone r (pairs_bound after ≡ 0)
   pub size : IfSome r (λ x. IfOk x (λ given. item_size given.1 ≤ pairs_room before))
   pub room : pairs_room after ≤ pairs_room before
 

@@ -46,11 +46,6 @@ abbrev pub trees_of : List Tree → Trees
 trees_of [] = no_trees
 trees_of (t ∷ ts) = tree t (trees_of ts)
 
--- the trees with one more behind them
-abbrev pub added : Trees → Tree → Trees
-added no_trees t = tree t no_trees
-added (tree u us) t = tree u (added us t)
-
 abbrev pub members : Pairs → List (List ℕ × Tree)
 members no_pairs = []
 members (pair key value ps) = (key, value) ∷ members ps

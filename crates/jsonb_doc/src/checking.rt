@@ -10,6 +10,8 @@ use crate::number::Number;
 use crate::word::{WORD, split_entry, split_header};
 use std::cmp::Ordering;
 
+// The kinds of an entry.
+
 pub const NULL: u32 = 0;
 
 pub const TEXT: u32 = 1;
@@ -24,13 +26,19 @@ pub const CONTAINER: u32 = 5;
 
 pub const EXTENSION: u32 = 6;
 
+// The kinds of a header.
+
 pub const SCALAR_HEADER: u32 = 1;
 
 pub const OBJECT_HEADER: u32 = 2;
 
 pub const ARRAY_HEADER: u32 = 4;
 
-/// Whether the bytes decode, and else whether they would with floats and decimals of 256 bits as numbers.
+/// Reads a whole document, and answers whether the bytes decode. It takes no memory.
+///
+/// Bytes that don't decode are refused: as `UnsupportedNumber` where they would decode if each float and each decimal of
+/// 256 bits were a number, and as `InvalidJsonb` where they would not even then. What decodes is said by the README of the
+/// format and by this project's profile, both in docs/FORMAT.md.
 pub fn check(bytes: &[u8]) -> Result<(), Error>
     ensures ok { IsOk result ↔ ((t : Tree) × Decodes any bytes.now t) }
     ensures unsupported { IsErrOf result Error.UnsupportedNumber
@@ -204,3 +212,6 @@ fn next_key<'a>(last: Option<&str>, bytes: &'a [u8]) -> Option<&'a str>
         _ => None,
     }
 }
+
+#[cfg(test)]
+mod tests;

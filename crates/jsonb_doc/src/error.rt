@@ -18,10 +18,10 @@ pub enum ArithmeticFault {
     DecimalOperand,
 }
 
-/// Why a call has no answer. Its text is its name, with the fault of an `Arithmetic` in parentheses.
+/// Why a call has no answer. Its text is its name, with the fault of an `Arithmetic` in parentheses: `Arithmetic(Overflow)`.
 #[derive(Clone, Copy, Debug, PartialEq, Eq)]
 pub enum Error {
-    /// The bytes don't decode.
+    /// The bytes don't decode, for another cause than an unsupported number alone.
     InvalidJsonb,
     /// A float or a decimal of 256 bits was read.
     UnsupportedNumber,
@@ -43,7 +43,7 @@ pub enum Error {
     TooLarge,
     /// An item lies too deep for a sortable key.
     TooDeep,
-    /// Memory was refused.
+    /// A growth was refused: there is no memory for it.
     OutOfMemory,
     /// A path in strict mode asks for what isn't there.
     StrictPath,
@@ -99,5 +99,49 @@ impl<T: Drop> From<AllocFailed<T>> for Error {
 
     fn from(_error: AllocFailed<T>) -> Error {
         Error::OutOfMemory
+    }
+}
+
+#[cfg(test)]
+mod tests {
+    use super::{ArithmeticFault, Error};
+    use std::test::Fail;
+
+    #[test]
+    fn prints_names(rt: HostRuntime) -> Result<(), Fail> {
+        let rows = [
+            (Error::InvalidJsonb, "InvalidJsonb"),
+            (Error::UnsupportedNumber, "UnsupportedNumber"),
+            (Error::InvalidJsonPath, "InvalidJsonPath"),
+            (Error::InvalidKeyPath, "InvalidKeyPath"),
+            (Error::InvalidCast, "InvalidCast"),
+            (Error::InvalidObject, "InvalidObject"),
+            (Error::InvalidJsonType, "InvalidJsonType"),
+            (Error::ObjectDuplicateKey, "ObjectDuplicateKey"),
+            (
+                Error::Arithmetic(ArithmeticFault::Overflow),
+                "Arithmetic(Overflow)",
+            ),
+            (
+                Error::Arithmetic(ArithmeticFault::ZeroDivisor),
+                "Arithmetic(ZeroDivisor)",
+            ),
+            (
+                Error::Arithmetic(ArithmeticFault::Inexact),
+                "Arithmetic(Inexact)",
+            ),
+            (
+                Error::Arithmetic(ArithmeticFault::DecimalOperand),
+                "Arithmetic(DecimalOperand)",
+            ),
+            (Error::TooLarge, "TooLarge"),
+            (Error::TooDeep, "TooDeep"),
+            (Error::OutOfMemory, "OutOfMemory"),
+            (Error::StrictPath, "StrictPath"),
+        ];
+        for (error, text) in rows {
+            assert_eq!(rt; format!(in rt.alloc(); "{error}")?.as_str(), text);
+        }
+        Ok(())
     }
 }

@@ -11,6 +11,7 @@ returns-in_default-clause-steps c = record {
       absurd (c.in_default.ensures _ _ _ _ first.begin);
   normal = search rules;
   errors = search rules;
+  ended = search rules;
   size = search rules;
   room = omega arith;
 }
@@ -22,6 +23,7 @@ returns-in_default-split_entry-clause-steps c = record {
       absurd (c.in_default-split_entry.ensures _ _ _ _ first.entry.begin);
   normal = search rules;
   errors = search rules;
+  ended = search rules;
   size = search rules;
   room = omega arith;
 }
@@ -34,6 +36,7 @@ returns-in_default-from_utf8-clause-steps c = record {
       absurd (c.in_default-from_utf8.ensures.cases.0 (rw same.1 first.utf8));
   normal = search rules;
   errors = search rules;
+  ended = search rules;
   size = search rules;
   room = (BeginWith-room _ _ _ _ _ _ c.in-Some-split_entry.ensures).1;
 }
@@ -60,6 +63,7 @@ returns-in-Ok-from_content-clause-steps c =
           );
       normal = c.in-Ok-from_content.ensures.normal;
       errors = search rules;
+      ended = search rules;
       size = omega (arith, room.0, c.in-Ok-from_content.ensures.size);
       room = room.1;
     }
@@ -74,6 +78,7 @@ returns-in-Err-clause-steps c =
           absurd (c.in-Err.ensures.decodes form first.value (rw (same_value.0, same_value.1) first.entry.part));
       normal = search rules;
       errors = c.in-Err.ensures.errors;
+      ended = search rules;
       size = search rules;
       room = room.1;
     }

@@ -1,0 +1,53 @@
+-- An index entry reads a byte at least.
+use Rattle.std.proofs.Common.{◌≡◌, ℕ, suc, ◌^◌, ◌<◌, List, [], ◌∷◌, length, take, drop, Bool, true, false, refl, arith}
+use Rattle.std.specs.Prelude.{codes}
+use Rattle.std.specs.Str.{str_eq_ignore_ascii_case}
+use Rattle.std.proofs.lemmas.List.{length-drop}
+use Rattle.jsonb_keypath.specs.Rules.{Rule, literal}
+use Rattle.jsonb_keypath.specs.Tokens.{ws, int32}
+use Rattle.jsonb_keypath.specs.TokenLaws.{ReadsSome}
+use Rattle.jsonb_keypath.proofs.ReadsLemmas.{given, some-no_more, grows-give, grows-then, some-then, then-some, some-choice}
+use Rattle.jsonb_keypath.proofs.CutLemmas.{nothing, some-literal}
+use Rattle.jsonb_keypath.proofs.GrowsLemmas.{grows-ws, some-integer_within}
+use Rattle.jsonb.specs.PathTree.{from_front, single, slice}
+use Rattle.jsonb.specs.PathGrammar.{in_any_case, word, spaced, place, entry, spaced_entry, another_entry}
+
+shorter : (n : ℕ) (b : ℕ) (input : List ℕ) → length (drop (suc n) (b ∷ input)) < length (b ∷ input)
+shorter n b input = rw (length-drop (suc n) (b ∷ input)) (omega arith)
+
+pub some-word : (b : ℕ) (text : List ℕ) → ReadsSome (in_any_case (b ∷ text))
+some-word b text [] u rest e = cc
+some-word b text (c ∷ input) u rest e = go (str_eq_ignore_ascii_case (take (length (b ∷ text)) (c ∷ input)) (b ∷ text)) refl where
+  go : (t : Bool) → str_eq_ignore_ascii_case (take (length (b ∷ text)) (c ∷ input)) (b ∷ text) ≡ t → length rest < length (c ∷ input)
+  go true at = rw (← (given tt u (drop (length (b ∷ text)) (c ∷ input)) rest (rw at at e)).1) (shorter (length text) c input)
+  go false at = absurd (nothing u rest (rw at at e))
+
+pub some-spaced : {A : Type 0} (rule : Rule A) → ReadsSome rule → ReadsSome (spaced rule)
+some-spaced rule h = then-some ws _ grows-ws (λ _. some-then rule _ h (λ a. grows-then ws _ grows-ws (λ _. grows-give a)))
+
+some-int32 : ReadsSome int32
+some-int32 = some-integer_within (2 ^ 31)
+
+pub some-place : ReadsSome place
+unfolding place
+some-place =
+    some-choice _ _ (some-then int32 _ some-int32 (λ i. grows-give (from_front i)))
+    (some-choice _ _ (some-then (word "last") _ (some-word 108 (codes "ast")) (λ _. grows-then ws _ grows-ws
+    (λ _. grows-then (literal "-") _ (some-no_more (literal "-") (some-literal 45 [])) (λ _. grows-then ws _ grows-ws
+    (λ _. grows-then int32 _ (some-no_more int32 some-int32) (λ i. grows-give _))))))
+    (some-choice _ _ (some-then (word "last") _ (some-word 108 (codes "ast")) (λ _. grows-then ws _ grows-ws
+    (λ _. grows-then (literal "+") _ (some-no_more (literal "+") (some-literal 43 [])) (λ _. grows-then ws _ grows-ws
+    (λ _. grows-then int32 _ (some-no_more int32 some-int32) (λ i. grows-give _))))))
+    (some-then (word "last") _ (some-word 108 (codes "ast")) (λ _. grows-give _))))
+
+pub some-entry : ReadsSome entry
+unfolding entry
+some-entry =
+    some-choice _ _ (some-then place _ some-place (λ first. grows-then ws _ grows-ws
+    (λ _. grows-then (word "to") _ (some-no_more (word "to") (some-word 116 (codes "o"))) (λ _. grows-then ws _ grows-ws
+    (λ _. grows-then place _ (some-no_more place some-place) (λ last. grows-give (slice first last)))))))
+    (some-then place _ some-place (λ p. grows-give (single p)))
+
+pub some-another_entry : ReadsSome another_entry
+unfolding spaced_entry
+some-another_entry = some-then (literal ",") _ (some-literal 44 []) (λ _. some-no_more (spaced entry) (some-spaced entry some-entry))

@@ -1,0 +1,93 @@
+-- A step without an expression reads a byte at least.
+use Rattle.std.proofs.Common.{ℕ, ◌^◌, ◌≤◌, List, [], ◌∷◌, length, Some, None, arith}
+use Rattle.std.specs.Prelude.{codes}
+use Rattle.jsonb_keypath.specs.Rules.{Rule, give, ◌>>=◌, ◌>>◌, optional, literal, repeat}
+use Rattle.jsonb_keypath.specs.Tokens.{ws, nat8, name, quoted}
+use Rattle.jsonb_keypath.specs.TokenLaws.{ReadsSome, IsRepeated}
+use Rattle.jsonb_keypath.proofs.ReadsLemmas.{NeverGrows, some-no_more, grows-give, grows-then, some-then, grows-choice, some-choice, repeated-repeat}
+use Rattle.jsonb_keypath.proofs.CutLemmas.{some-literal}
+use Rattle.jsonb_keypath.proofs.GrowsLemmas.{grows-ws, some-name, some-quoted, some-natural_below}
+use Rattle.jsonb.specs.PathTree.{colon_field, dot_field, object_field, array_indices}
+use Rattle.jsonb.specs.PathGrammar.{word, spaced, levels, wildcard, field, named_field, entry, spaced_entry, another_entry, entry_list, entries, bracket_field, inner, spaced_inner}
+use Rattle.jsonb.proofs.EntryReadsSome.{some-word, some-spaced, some-entry, some-another_entry}
+
+repeated-no_more : {A : Type 0} (rule : Rule A) → ReadsSome rule → (input : List ℕ) (values : List A) (rest : List ℕ) →
+    IsRepeated rule input values rest → length rest ≤ length input
+repeated-no_more rule reads input [] rest h = rw h.0 (omega arith)
+repeated-no_more rule reads input (a ∷ values) rest h = let first = reads input a h.0 h.1 in
+    let others = repeated-no_more rule reads h.0 values rest h.2 in omega (arith, first, others)
+
+pub grows-repeat : {A : Type 0} (rule : Rule A) → ReadsSome rule → NeverGrows (repeat rule)
+grows-repeat rule reads input values rest e = repeated-no_more rule reads input values rest (repeated-repeat rule reads input values rest e)
+
+some-nat8 : ReadsSome nat8
+some-nat8 = some-natural_below (2 ^ 8)
+
+grows-closing : {A : Type 0} (a : A) → NeverGrows (ws >>= λ _. literal "}" >>= λ _. give a)
+grows-closing a = grows-then ws _ grows-ws (λ _. grows-then (literal "}") _ (some-no_more (literal "}") (some-literal 125 []))
+    (λ _. grows-give a))
+
+some-levels : ReadsSome levels
+unfolding levels
+some-levels =
+    some-choice _ _ (some-then (literal "{") _ (some-literal 123 []) (λ _. grows-then ws _ grows-ws
+    (λ _. grows-then nat8 _ (some-no_more nat8 some-nat8) (λ start. grows-then ws _ grows-ws
+    (λ _. grows-then (word "to") _ (some-no_more (word "to") (some-word 116 (codes "o"))) (λ _. grows-then ws _ grows-ws
+    (λ _. grows-then nat8 _ (some-no_more nat8 some-nat8) (λ end. grows-closing _))))))))
+    (some-choice _ _ (some-then (literal "{") _ (some-literal 123 []) (λ _. grows-then ws _ grows-ws
+    (λ _. grows-then nat8 _ (some-no_more nat8 some-nat8) (λ start. grows-then ws _ grows-ws
+    (λ _. grows-then (word "to") _ (some-no_more (word "to") (some-word 116 (codes "o"))) (λ _. grows-then ws _ grows-ws
+    (λ _. grows-then (word "last") _ (some-no_more (word "last") (some-word 108 (codes "ast"))) (λ _. grows-closing _))))))))
+    (some-then (literal "{") _ (some-literal 123 []) (λ _. grows-then ws _ grows-ws (λ _. grows-then nat8 _ (some-no_more nat8 some-nat8)
+    (λ start. grows-closing _)))))
+
+grows-optional : {A : Type 0} (rule : Rule A) → NeverGrows rule → NeverGrows (optional rule)
+grows-optional rule h = grows-choice _ _ (grows-then rule _ h (λ a. grows-give (Some a))) (grows-give None)
+
+some-wildcard : ReadsSome wildcard
+unfolding wildcard
+some-wildcard =
+    some-choice _ _ (some-then (literal ".**") _ (some-literal 46 (42 ∷ 42 ∷ []))
+    (λ _. grows-then (optional levels) _ (grows-optional levels (some-no_more levels some-levels)) (λ found. grows-give _)))
+    (some-choice _ _ (some-then (literal ".*") _ (some-literal 46 (42 ∷ [])) (λ _. grows-give _))
+    (some-then (literal "[") _ (some-literal 91 []) (λ _. grows-then ws _ grows-ws
+    (λ _. grows-then (literal "*") _ (some-no_more (literal "*") (some-literal 42 [])) (λ _. grows-then ws _ grows-ws
+    (λ _. grows-then (literal "]") _ (some-no_more (literal "]") (some-literal 93 [])) (λ _. grows-give _)))))))
+
+some-field : ReadsSome field
+unfolding field
+some-field = some-choice quoted name some-quoted some-name
+
+some-named_field : ReadsSome named_field
+unfolding named_field
+some-named_field =
+    some-choice _ _ (some-then (literal ":" >> field) _ (some-then (literal ":") _ (some-literal 58 [])
+    (λ _. some-no_more field some-field)) (λ text. grows-give (colon_field text)))
+    (some-then (literal "." >> field) _ (some-then (literal ".") _ (some-literal 46 []) (λ _. some-no_more field some-field))
+    (λ text. grows-give (dot_field text)))
+
+some-entry_list : ReadsSome entry_list
+unfolding spaced_entry
+some-entry_list = some-then (spaced entry) _ (some-spaced entry some-entry)
+    (λ first. grows-then (repeat another_entry) _ (grows-repeat another_entry some-another_entry) (λ others. grows-give (first ∷ others)))
+
+some-entries : ReadsSome entries
+unfolding entries
+some-entries = some-then (literal "[") _ (some-literal 91 []) (λ _. grows-then entry_list _ (some-no_more entry_list some-entry_list)
+    (λ found. grows-then (literal "]") _ (some-no_more (literal "]") (some-literal 93 [])) (λ _. grows-give found)))
+
+some-bracket_field : ReadsSome bracket_field
+unfolding bracket_field
+some-bracket_field = some-then (literal "[") _ (some-literal 91 []) (λ _. grows-then ws _ grows-ws
+    (λ _. grows-then quoted _ (some-no_more quoted some-quoted) (λ text. grows-then ws _ grows-ws
+    (λ _. grows-then (literal "]") _ (some-no_more (literal "]") (some-literal 93 [])) (λ _. grows-give (object_field text))))))
+
+pub some-inner : ReadsSome inner
+unfolding inner
+some-inner =
+    some-choice _ _ some-wildcard (some-choice _ _ some-named_field (some-choice _ _ (some-then entries _ some-entries
+    (λ found. grows-give (array_indices found))) some-bracket_field))
+
+pub some-spaced_inner : ReadsSome spaced_inner
+unfolding spaced_inner
+some-spaced_inner = some-spaced inner some-inner

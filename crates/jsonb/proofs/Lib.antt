@@ -1,0 +1,16 @@
+mod Rows
+pub mod ExpressionLemmas
+pub mod ViewLemmas
+pub mod Texts
+pub mod PositionLemmas
+pub mod EntryReadsSome
+pub mod InnerReadsSome
+pub mod PathShape
+pub mod InnerReadsBack
+pub mod OperandReadsBack
+pub mod ConditionReadsBack
+pub mod PathReadsBack
+pub mod GrammarShape
+pub mod PathLaw
+pub mod Bounds
+pub mod ExpressionReadsSome

@@ -1,0 +1,58 @@
+-- Each JSON path that the grammar reads prints to a text that reads as the same path but for variants.
+use Rattle.std.proofs.Common.{◌≡◌, ℕ, List, [], ◌∷◌, Option, Some, None, refl}
+use Rattle.std.specs.Prelude.{IfSome, pos, negsuc, map}
+use Rattle.jsonb.specs.PathTree.{Literal, null, boolean, unsigned, signed, decimal64, decimal128, string, raw, Step, root, current, dot_wildcard, recursive_dot_wildcard, bracket_wildcard, dot_field, colon_field, object_field, array_indices, filter, whole_expression, Steps, no_steps, step, Expression, paths, value, binary, unary, exists}
+use Rattle.jsonb.specs.PathGrammar.{json_path}
+use Rattle.jsonb.specs.PathLaws.{settled_literal, settled_step, settled_steps, settled, ReadsBack}
+use Rattle.jsonb.proofs.PathReadsBack.{path-text}
+use Rattle.jsonb.proofs.GrammarShape.{json_path_is_path}
+
+settled_literal-twice : (l : Literal) → settled_literal (settled_literal l) ≡ settled_literal l
+settled_literal-twice null = refl
+settled_literal-twice (boolean b) = refl
+settled_literal-twice (unsigned n) = refl
+settled_literal-twice (signed (pos n)) = refl
+settled_literal-twice (signed (negsuc n)) = refl
+settled_literal-twice (decimal64 whole scale) = refl
+settled_literal-twice (decimal128 whole scale) = refl
+settled_literal-twice (string text) = refl
+settled_literal-twice (raw document) = refl
+
+-- settling once more changes nothing
+mutual
+  settled_step-twice : (s : Step) → settled_step (settled_step s) ≡ settled_step s
+  settled_step-twice root = refl
+  settled_step-twice current = refl
+  settled_step-twice dot_wildcard = refl
+  settled_step-twice (recursive_dot_wildcard l) = refl
+  settled_step-twice bracket_wildcard = refl
+  settled_step-twice (dot_field text) = refl
+  settled_step-twice (colon_field text) = refl
+  settled_step-twice (object_field text) = refl
+  settled_step-twice (array_indices es) = refl
+  settled_step-twice (filter e) = rw (settled-twice e) refl
+  settled_step-twice (whole_expression e) = rw (settled-twice e) refl
+
+  settled_steps-twice : (ss : Steps) → settled_steps (settled_steps ss) ≡ settled_steps ss
+  settled_steps-twice no_steps = refl
+  settled_steps-twice (step s ss) = rw (settled_step-twice s, settled_steps-twice ss) refl
+
+  settled-twice : (e : Expression) → settled (settled e) ≡ settled e
+  settled-twice (paths ss) = rw (settled_steps-twice ss) refl
+  settled-twice (value l) = rw (settled_literal-twice l) refl
+  settled-twice (binary op left right) = rw (settled-twice left, settled-twice right) refl
+  settled-twice (unary op e) = rw (settled-twice e) refl
+  settled-twice (exists ss) = rw (settled_steps-twice ss) refl
+
+settled_path-twice : (p : List Step) → map settled_step p ≡ map settled_step (map settled_step p)
+settled_path-twice [] = refl
+settled_path-twice (s ∷ p) = rw (settled_step-twice s, ← settled_path-twice p) refl
+
+pub reads_back : (text : List ℕ) (p : List Step) → json_path text ≡ Some p → ReadsBack p
+reads_back text p e = (map settled_step p, path-text p (json_path_is_path text p e), settled_path-twice p)
+
+pub reads_back_if_read : (text : List ℕ) → IfSome (json_path text) ReadsBack
+reads_back_if_read text = go (json_path text) refl where
+  go : (o : Option (List Step)) → json_path text ≡ o → IfSome o ReadsBack
+  go None e = tt
+  go (Some p) e = reads_back text p e

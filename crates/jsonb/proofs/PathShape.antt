@@ -1,0 +1,136 @@
+-- The paths that the grammar makes.
+use Rattle.std.proofs.Common.{◌≡◌, ◌<◌, ◌^◌, List, [], ◌∷◌, length, Bool, true, false, Option, Some, None, ◌⊎◌}
+use Rattle.std.specs.Prelude.{⊤, ℤ, nat_lt, MatchBool}
+use Rattle.jsonb_keypath.specs.Each.{Each}
+use Rattle.jsonb_keypath.specs.Tokens.{is_within}
+use Rattle.jsonb_keypath.proofs.YieldsLemmas.{IsName}
+use Rattle.jsonb.specs.PathTree.{Place, from_front, from_last, Entry, single, slice, LevelEnd, level, last_level, Levels, Literal, null, boolean, unsigned, signed, decimal64, decimal128, string, raw, Step, root, current, dot_wildcard, recursive_dot_wildcard, bracket_wildcard, dot_field, colon_field, object_field, array_indices, filter, whole_expression, Steps, no_steps, step, Expression, paths, value, binary, unary, exists}
+use Rattle.jsonb.specs.PathText.{joins}
+
+-- an index of 32 bits
+abbrev pub IsIndex : ℤ → Type 0
+IsIndex i = is_within (2 ^ 31) i ≡ true
+
+abbrev pub IsPlace : Place → Type 0
+IsPlace (from_front i) = IsIndex i
+IsPlace (from_last i) = IsIndex i
+
+abbrev pub IsEntry : Entry → Type 0
+IsEntry (single place) = IsPlace place
+IsEntry (slice first last) = IsPlace first × IsPlace last
+
+abbrev pub IsLevelEnd : Option LevelEnd → Type 0
+IsLevelEnd None = ⊤
+IsLevelEnd (Some (level n)) = nat_lt n (2 ^ 8) ≡ true
+IsLevelEnd (Some last_level) = ⊤
+
+abbrev pub AreLevels : Option Levels → Type 0
+AreLevels None = ⊤
+AreLevels (Some levels) = (nat_lt levels.start (2 ^ 8) ≡ true) × IsLevelEnd levels.end
+
+abbrev pub IsLiteral : Literal → Type 0
+IsLiteral null = ⊤
+IsLiteral (boolean b) = ⊤
+IsLiteral (unsigned n) = nat_lt n (2 ^ 64) ≡ true
+IsLiteral (signed z) = is_within (2 ^ 63) z ≡ true
+IsLiteral (decimal64 whole scale) = ⊥
+IsLiteral (decimal128 whole scale) = ⊥
+IsLiteral (string text) = IsName text
+IsLiteral (raw document) = ⊥
+
+-- a step that may stand in an operand: no filter, and not a beginning
+abbrev pub IsInner : Step → Type 0
+IsInner root = ⊥
+IsInner current = ⊥
+IsInner dot_wildcard = ⊤
+IsInner (recursive_dot_wildcard levels) = AreLevels levels
+IsInner bracket_wildcard = ⊤
+IsInner (dot_field name) = IsName name
+IsInner (colon_field name) = IsName name
+IsInner (object_field name) = IsName name
+IsInner (array_indices entries) = (0 < length entries) × Each IsEntry entries
+IsInner (filter e) = ⊥
+IsInner (whole_expression e) = ⊥
+
+abbrev pub AreInner : Steps → Type 0
+AreInner no_steps = ⊤
+AreInner (step s ss) = IsInner s × AreInner ss
+
+-- where an operand begins; `@` only in a filter
+abbrev pub IsBeginning : Bool → Step → Type 0
+IsBeginning is_in_filter root = ⊤
+IsBeginning is_in_filter current = is_in_filter ≡ true
+IsBeginning is_in_filter dot_wildcard = ⊥
+IsBeginning is_in_filter (recursive_dot_wildcard levels) = ⊥
+IsBeginning is_in_filter bracket_wildcard = ⊥
+IsBeginning is_in_filter (dot_field name) = ⊥
+IsBeginning is_in_filter (colon_field name) = ⊥
+IsBeginning is_in_filter (object_field name) = ⊥
+IsBeginning is_in_filter (array_indices entries) = ⊥
+IsBeginning is_in_filter (filter e) = ⊥
+IsBeginning is_in_filter (whole_expression e) = ⊥
+
+abbrev pub IsOperand : Bool → Expression → Type 0
+IsOperand is_in_filter (paths no_steps) = ⊥
+IsOperand is_in_filter (paths (step s ss)) = IsBeginning is_in_filter s × AreInner ss
+IsOperand is_in_filter (value l) = IsLiteral l
+IsOperand is_in_filter (binary op left right) = ⊥
+IsOperand is_in_filter (unary op operand) = ⊥
+IsOperand is_in_filter (exists steps) = ⊥
+
+abbrev pub is_signed_literal : Literal → Bool
+is_signed_literal null = false
+is_signed_literal (boolean b) = false
+is_signed_literal (unsigned n) = false
+is_signed_literal (signed z) = true
+is_signed_literal (decimal64 whole scale) = false
+is_signed_literal (decimal128 whole scale) = false
+is_signed_literal (string text) = false
+is_signed_literal (raw document) = false
+
+-- whether a sign may stand in front; such an operand is no left side
+abbrev pub is_signed : Expression → Bool
+is_signed (paths steps) = false
+is_signed (value l) = is_signed_literal l
+is_signed (binary op left right) = false
+is_signed (unary op operand) = false
+is_signed (exists steps) = false
+
+abbrev mutual
+  -- a step behind the first one
+  pub IsPathStep : Step → Type 0
+  IsPathStep root = ⊥
+  IsPathStep current = ⊥
+  IsPathStep dot_wildcard = ⊤
+  IsPathStep (recursive_dot_wildcard levels) = AreLevels levels
+  IsPathStep bracket_wildcard = ⊤
+  IsPathStep (dot_field name) = IsName name
+  IsPathStep (colon_field name) = IsName name
+  IsPathStep (object_field name) = IsName name
+  IsPathStep (array_indices entries) = (0 < length entries) × Each IsEntry entries
+  IsPathStep (filter e) = IsCondition true e
+  IsPathStep (whole_expression e) = ⊥
+
+  pub ArePathSteps : Steps → Type 0
+  ArePathSteps no_steps = ⊤
+  ArePathSteps (step s ss) = IsPathStep s × ArePathSteps ss
+
+  -- the steps of `exists`
+  pub IsExistsPath : Steps → Type 0
+  IsExistsPath no_steps = ⊥
+  IsExistsPath (step s ss) = IsBeginning true s × ArePathSteps ss
+
+  -- what an expression of the grammar is: operands stand only in comparisons, in arithmetic and behind a sign
+  pub IsCondition : Bool → Expression → Type 0
+  IsCondition is_in_filter (paths steps) = ⊥
+  IsCondition is_in_filter (value l) = ⊥
+  IsCondition is_in_filter (binary op left right) =
+      MatchBool (joins op) (IsCondition is_in_filter left × IsCondition is_in_filter right)
+      ((is_signed left ≡ false) × IsOperand is_in_filter left × IsOperand is_in_filter right)
+  IsCondition is_in_filter (unary op operand) = IsOperand is_in_filter operand
+  IsCondition is_in_filter (exists steps) = IsExistsPath steps
+
+-- a whole path
+abbrev pub IsPath : List Step → Type 0
+IsPath p = ((e : Expression) × (p ≡ whole_expression e ∷ []) × IsCondition false e) ⊎ (((ss : List Step) ×
+    (p ≡ root ∷ ss) × Each IsPathStep ss) ⊎ Each IsPathStep p)

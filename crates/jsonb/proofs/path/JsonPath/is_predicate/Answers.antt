@@ -1,0 +1,14 @@
+use Rattle.std.proofs.Common.{◌≡◌, ◌≤◌, List, [], ◌∷◌, length, false, refl, ap, ◌∙◌, arith}
+use Rattle.jsonb.specs.PathTree.{is_predicate}
+use Rattle.jsonb.specs.PathViews.{steps_view}
+use Rattle.jsonb.specs.declared.path.Path.{Path}
+use Rattle.jsonb.proofs.path.JsonPath.is_predicate.Goals as goal
+
+-- a path of two or more steps is not one expression
+longer : (steps : List Path) → 2 ≤ length steps → false ≡ is_predicate (steps_view steps)
+longer [] h = refl
+longer (s ∷ []) h = absurd (omega arith)
+longer (s ∷ t ∷ rest) h = refl
+
+pub returns-in_default-2 : goal.returns-in_default-2
+returns-in_default-2 c = longer _ c.in_default.len_at_least ∙ ap (λ steps. is_predicate (steps_view steps)) c.as_slice.ensures.value

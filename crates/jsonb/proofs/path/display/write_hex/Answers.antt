@@ -1,0 +1,15 @@
+use Rattle.std.proofs.Common.{refl, arith, rules}
+use Rattle.std.proofs.Output.{has_written_append, has_written_of_eq}
+use Rattle.hex.specs.Hex.{encode_with}
+use Rattle.jsonb.proofs.Texts.{encode_lower-take_more}
+use Rattle.jsonb.proofs.path.display.write_hex.Goals as goal
+
+pub loop-byte-init : goal.loop-byte-init
+unfolding encode_with
+loop-byte-init g c = search rules
+
+pub loop-byte-preserved : goal.loop-byte-preserved
+loop-byte-preserved g c plain =
+    let had = c.loop-byte.invariant plain in
+    has_written_of_eq _ _ _ _ _ (encode_lower-take_more c.args.bytes.now c.loop-byte.byte-index 0 (omega arith))
+    (has_written_append _ _ _ _ _ _ had (c.in_ok-write_hex_byte.ensures had.plain refl))

@@ -1,0 +1,16 @@
+use Rattle.std.proofs.Common.{pos, refl, arith}
+use Rattle.std.proofs.Output.{has_written_append, has_written_of_eq}
+use Rattle.jsonb.specs.PathText.{other_entry_text}
+use Rattle.jsonb.specs.declared.path.ArrayIndex.TheVariants as ArrayIndex
+use Rattle.jsonb.specs.declared.path.Index.TheVariants as Index
+use Rattle.jsonb.specs.PathViews.{entry_view}
+use Rattle.jsonb.proofs.Texts.{text_of_one_more}
+use Rattle.jsonb.proofs.path.display.write_other_indices.Goals as goal
+
+pub loop-index-preserved : goal.loop-index-preserved
+loop-index-preserved g c plain =
+    let had = c.loop-index.invariant plain in
+    let default = ArrayIndex.Index (Index.Index (pos 0)) in
+    has_written_of_eq _ _ _ _ _ (text_of_one_more other_entry_text entry_view c.args.indices.now c.loop-index.index-index default
+    (omega arith))
+    (has_written_append _ _ _ _ _ _ had (c.in_ok-write.ensures.writes had.plain refl))

@@ -1,0 +1,13 @@
+-- What a recursive step does at a level: whether the item is taken, and whether its children are looked at.
+use Rattle.std.specs.Prelude.{ℕ, ◌==◌, nat_lt, nat_le, Bool, true, false, Option, Some, None, if◌then◌else◌}
+use Rattle.jsonb.specs.PathTree.{Levels, LevelEnd, level, last_level}
+
+-- below the start, and from the start on
+abbrev pub at_level : Option LevelEnd → ℕ → ℕ → Bool × Bool
+at_level None start n = if nat_lt n start then (false, true) else if n == start then (true, false) else (false, false)
+at_level (Some (level last)) start n = if nat_lt n start then (false, nat_le start last) else if nat_le n last then (true, true) else
+    (false, false)
+at_level (Some last_level) start n = if nat_lt n start then (false, true) else (true, true)
+
+abbrev pub level_answer : Levels → ℕ → Bool × Bool
+level_answer levels n = at_level levels.end levels.start n

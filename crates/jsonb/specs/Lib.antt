@@ -1,0 +1,9 @@
+pub mod PathTree
+pub mod PathGrammar
+pub mod PathViews
+pub mod PathText
+pub mod PathOrder
+pub mod PathOrderLaws
+pub mod Positions
+pub mod LevelTable
+pub mod PathLaws

@@ -1,0 +1,309 @@
+-- Which texts are JSON paths, and which trees they stand for.
+use Rattle.std.specs.Prelude.{ℕ, zero, suc, ◌^◌, ◌+◌, ◌++◌, Bool, true, false, List, [], ◌∷◌, length, take, drop, Option, Some, None, ℤ, pos, neg_ℤ, fold, codes, if◌then◌else◌}
+use Rattle.std.specs.Str.{str_eq_ignore_ascii_case}
+use Prim.Native.String.{String}
+use Rattle.jsonb_keypath.specs.Rules.{Rule, give, fail, ◌>>=◌, ◌>>◌, ◌</>◌, optional, only_if, literal, repeat, list_of, whole}
+use Rattle.jsonb_keypath.specs.Tokens.{ws, nat8, nat64, int32, int64, is_within, name, quoted}
+use Rattle.jsonb.specs.PathTree.{Place, from_front, from_last, Entry, single, slice, level, last_level, Levels, Literal, null, boolean, unsigned, signed, string, BinaryOp, and_op, or_op, eq, not_eq, lt, lte, gt, gte, starts_with_op, add, subtract, multiply, divide, modulo, UnaryOp, plus, minus, Step, root, current, dot_wildcard, recursive_dot_wildcard, bracket_wildcard, dot_field, colon_field, object_field, array_indices, filter, whole_expression, Expression, paths, value, binary, unary, exists, steps_of}
+
+-- these letters, each in any case
+abbrev pub in_any_case : List ℕ → Rule (Unit {0})
+in_any_case text = λ input. if str_eq_ignore_ascii_case (take (length text) input) text then Some (tt, drop (length text) input) else None
+
+abbrev pub word : String → Rule (Unit {0})
+word text = in_any_case (codes text)
+
+-- white space around the rule
+abbrev pub spaced : {A : Type 0} → Rule A → Rule A
+spaced rule = do
+  ws
+  a ← rule
+  ws
+  give a
+
+-- ---- steps without expressions
+
+-- the negated number; the least one of 32 bits has no negation there, and gives the greatest
+abbrev pub negated : ℤ → ℤ
+negated z = if is_within (2 ^ 31) (neg_ℤ z) then neg_ℤ z else pos (2147483647)
+
+unfoldable pub place : Rule Place
+place =
+    (int32 >>= λ i. give (from_front i))
+    </> (do
+      word "last"
+      ws
+      literal "-"
+      ws
+      i ← int32
+      give (from_last (negated i)))
+    </> (do
+      word "last"
+      ws
+      literal "+"
+      ws
+      i ← int32
+      give (from_last i))
+    </> (word "last" >> give (from_last (pos 0)))
+
+unfoldable pub entry : Rule Entry
+entry =
+    (do
+      first ← place
+      ws
+      word "to"
+      ws
+      last ← place
+      give (slice first last))
+    </> (place >>= λ p. give (single p))
+
+unfoldable pub levels : Rule Levels
+levels =
+    (do
+      literal "{"
+      ws
+      start ← nat8
+      ws
+      word "to"
+      ws
+      end ← nat8
+      ws
+      literal "}"
+      give (record { start = start; end = Some (level end) }))
+    </> (do
+      literal "{"
+      ws
+      start ← nat8
+      ws
+      word "to"
+      ws
+      word "last"
+      ws
+      literal "}"
+      give (record { start = start; end = Some last_level }))
+    </> (do
+      literal "{"
+      ws
+      start ← nat8
+      ws
+      literal "}"
+      give (record { start = start; end = None }))
+
+unfoldable pub field : Rule (List ℕ)
+field = quoted </> name
+
+unfoldable pub spaced_entry : Rule Entry
+spaced_entry = spaced entry
+
+-- a comma, and the entry behind it
+abbrev pub another_entry : Rule Entry
+another_entry = literal "," >> spaced_entry
+
+abbrev pub entry_list : Rule (List Entry)
+entry_list = list_of spaced_entry (literal ",")
+
+unfoldable pub entries : Rule (List Entry)
+entries = do
+  literal "["
+  found ← entry_list
+  literal "]"
+  give found
+
+unfoldable pub wildcard : Rule Step
+wildcard =
+    (do
+      literal ".**"
+      found ← optional levels
+      give (recursive_dot_wildcard found))
+    </> (literal ".*" >> give dot_wildcard)
+    </> (do
+      literal "["
+      ws
+      literal "*"
+      ws
+      literal "]"
+      give bracket_wildcard)
+
+unfoldable pub named_field : Rule Step
+named_field = (literal ":" >> field >>= λ text. give (colon_field text)) </> (literal "." >> field >>= λ text. give (dot_field text))
+
+unfoldable pub bracket_field : Rule Step
+bracket_field = do
+  literal "["
+  ws
+  text ← quoted
+  ws
+  literal "]"
+  give (object_field text)
+
+unfoldable pub inner : Rule Step
+inner = wildcard </> named_field </> (entries >>= λ found. give (array_indices found)) </> bracket_field
+
+unfoldable pub spaced_inner : Rule Step
+spaced_inner = spaced inner
+
+-- ---- operands
+
+unfoldable pub path_root : Bool → Rule Step
+path_root is_in_filter = (literal "$" >> give root) </> (only_if is_in_filter >> literal "@" >> give current)
+
+unfoldable pub literal_value : Rule Literal
+literal_value =
+    (literal "null" >> give null)
+    </> (literal "true" >> give (boolean true))
+    </> (literal "false" >> give (boolean false))
+    </> (nat64 >>= λ n. give (unsigned n))
+    </> (int64 >>= λ z. give (signed z))
+    </> (quoted >>= λ text. give (string text))
+
+-- the root of a path, and the steps behind it
+abbrev pub operand_steps : Bool → Rule (List Step)
+operand_steps is_in_filter = do
+  first ← path_root is_in_filter
+  others ← repeat spaced_inner
+  give (first ∷ others)
+
+unfoldable pub operand : Bool → Rule Expression
+operand is_in_filter = (operand_steps is_in_filter >>= λ steps. give (paths (steps_of steps))) </> (literal_value >>= λ l. give (value l))
+
+unfoldable pub spaced_operand : Bool → Rule Expression
+spaced_operand is_in_filter = spaced (operand is_in_filter)
+
+unfoldable pub arithmetic_operator : Rule BinaryOp
+arithmetic_operator =
+    (literal "+" >> give add)
+    </> (literal "-" >> give subtract)
+    </> (literal "*" >> give multiply)
+    </> (literal "/" >> give divide)
+    </> (literal "%" >> give modulo)
+
+unfoldable pub operator : Rule BinaryOp
+operator =
+    (literal "==" >> give eq)
+    </> (literal "!=" >> give not_eq)
+    </> (literal "<>" >> give not_eq)
+    </> (literal "<=" >> give lte)
+    </> (literal "<" >> give lt)
+    </> (literal ">=" >> give gte)
+    </> (literal ">" >> give gt)
+    </> (literal "starts with" >> give starts_with_op)
+    </> arithmetic_operator
+
+unfoldable pub unary_operator : Rule UnaryOp
+unary_operator = (literal "+" >> give plus) </> (literal "-" >> give minus)
+
+unfoldable pub unary_atom : Bool → Rule Expression
+unary_atom is_in_filter = do
+  op ← unary_operator
+  e ← spaced_operand is_in_filter
+  give (unary op e)
+
+unfoldable pub binary_atom : Bool → Rule Expression
+binary_atom is_in_filter = do
+  left ← spaced_operand is_in_filter
+  op ← operator
+  right ← spaced_operand is_in_filter
+  give (binary op left right)
+
+-- ---- expressions
+
+-- the members from the left on, joined two by two
+abbrev pub joined_by : BinaryOp → List Expression → Expression
+joined_by op [] = value null
+joined_by op (first ∷ others) = fold (λ left right. binary op left right) first others
+
+-- `nested` reads an expression inside parentheses, in a filter or not
+module _ (nested : Bool → Rule Expression) where
+  -- `?( .. )`
+  unfoldable pub filter_with : Rule Expression
+  filter_with = do
+    literal "?"
+    ws
+    literal "("
+    ws
+    e ← nested true
+    ws
+    literal ")"
+    give e
+
+  unfoldable pub path_with : Rule Step
+  path_with = spaced_inner </> spaced (filter_with >>= λ e. give (filter e))
+
+  -- `( .. )`
+  unfoldable pub group_with : Bool → Rule Expression
+  group_with is_in_filter = do
+    literal "("
+    ws
+    e ← nested is_in_filter
+    ws
+    literal ")"
+    give e
+
+  -- the root of a path in `exists`, and the steps behind it
+  abbrev pub exists_steps : Rule (List Step)
+  exists_steps = do
+    first ← path_root true
+    others ← repeat path_with
+    give (first ∷ others)
+
+  unfoldable pub exists_with : Rule Expression
+  exists_with = do
+    literal "exists"
+    ws
+    literal "("
+    ws
+    steps ← exists_steps
+    ws
+    literal ")"
+    give (exists (steps_of steps))
+
+  unfoldable pub atom_with : Bool → Rule Expression
+  atom_with is_in_filter = unary_atom is_in_filter </> binary_atom is_in_filter </> group_with is_in_filter </> exists_with
+
+  -- `&&`, and the part behind it
+  abbrev pub another_atom : Bool → Rule Expression
+  another_atom is_in_filter = spaced (literal "&&") >> atom_with is_in_filter
+
+  unfoldable pub and_with : Bool → Rule Expression
+  and_with is_in_filter = list_of (atom_with is_in_filter) (spaced (literal "&&")) >>= λ members. give (joined_by and_op members)
+
+  -- `||`, and the part behind it
+  abbrev pub another_and : Bool → Rule Expression
+  another_and is_in_filter = spaced (literal "||") >> and_with is_in_filter
+
+  unfoldable pub or_with : Bool → Rule Expression
+  or_with is_in_filter = list_of (and_with is_in_filter) (spaced (literal "||")) >>= λ members. give (joined_by or_op members)
+
+-- An expression with at most so many parentheses within one another. The length of the input is bound enough.
+unfoldable pub nested_or : ℕ → Bool → Rule Expression
+nested_or zero is_in_filter = fail
+nested_or (suc n) is_in_filter = or_with (nested_or n) is_in_filter
+
+unfoldable pub expression : Bool → Rule Expression
+expression is_in_filter input = nested_or (length input + 1) is_in_filter input
+
+-- ---- whole texts
+
+unfoldable pub root_expression : Rule (List Step)
+root_expression = spaced (expression false) >>= λ e. give (whole_expression e ∷ [])
+
+unfoldable pub first_step : Rule Step
+first_step = (literal "$" >> give root) </> (spaced name >>= λ text. give (dot_field text))
+
+-- the first step, where one stands there
+unfoldable pub front_steps : Rule (List Step)
+front_steps = (first_step >>= λ s. give (s ∷ [])) </> give []
+
+-- one step of a path, where a filter may hold any expression
+unfoldable pub path_step : Rule Step
+path_step input = path_with (nested_or (length input + 1)) input
+
+unfoldable pub plain_path : Rule (List Step)
+plain_path = do
+  front ← front_steps
+  others ← repeat path_step
+  give (front ++ others)
+
+-- the steps of the path that a text is, where it is one
+unfoldable pub json_path : List ℕ → Option (List Step)
+json_path text = whole (spaced (root_expression </> plain_path) text)

@@ -1,0 +1,25 @@
+//! JSON paths: read from texts, printed, and built by hand.
+//!
+//! The types of paths stand in `path`, and `parse_json_path` in `parser`; both are also here. What
+//! the crates below offer is handed on: documents and numbers here, key paths in `keypath`.
+#![tactic(auto)]
+
+pub mod laws;
+pub mod parser;
+pub mod path;
+
+pub use self::parser::parse_json_path;
+pub use self::path::{
+    ArrayIndex, BinaryOperator, Expr, Index, JsonPath, Path, PathValue, RecursiveLevel,
+    RecursiveLevelEnd, UnaryOperator,
+};
+pub use jsonb_doc::{
+    ArithmeticFault, ArrayBuilder, Date, Decimal64, Decimal128, ElementIter, Error, ExtensionValue,
+    Interval, Item, KeyIter, Number, ObjectBuilder, PairIter, Timestamp, TimestampTz, ValueIter,
+    check, elements, encode_item, keys, pairs, root_item, values,
+};
+pub use jsonb_keypath as keypath;
+pub use jsonb_raw::RawJsonb;
+
+#[cfg(test)]
+mod tests;

@@ -1,0 +1,123 @@
+//! Steps that hold no expression.
+
+ghost use Rattle.std.specs.Prelude.{◌≡◌, IfOk};
+ghost use Rattle.jsonb.specs.PathGrammar.{levels, wildcard, named_field, bracket_field, inner, spaced_inner};
+ghost use Rattle.jsonb_keypath.specs.Views.{read_as, LeavesLess};
+ghost use Rattle.jsonb.specs.PathViews.{levels_view, step_view};
+
+use super::Reading;
+use super::index::entries_at;
+use super::token::{field_at, quoted_at, word_at};
+use crate::path::{Path, RecursiveLevel, RecursiveLevelEnd};
+use jsonb_keypath::token::{literal, nat8, skip_space};
+use std::alloc::Global;
+
+#[tactic(auto, unfolding(crate::specs::PathGrammar::levels))]
+fn levels_at(input: &[u8]) -> Option<(RecursiveLevel, &[u8])>
+    ensures value { read_as levels_view result ≡ levels input.now }
+    ensures shrinks { LeavesLess input.now result }
+{
+    let inside = literal(b"{", input)?;
+    let (start, rest) = nat8(skip_space(inside))?;
+    let rest = skip_space(rest);
+    if let Some(after) = word_at(b"to", rest) {
+        let after = skip_space(after);
+        if let Some((end, last)) = nat8(after) {
+            if let Some(closed) = literal(b"}", skip_space(last)) {
+                let end = Some(RecursiveLevelEnd::Index(end));
+                return Some((RecursiveLevel { start, end }, closed));
+            }
+        }
+        if let Some(last) = word_at(b"last", after) {
+            if let Some(closed) = literal(b"}", skip_space(last)) {
+                let end = Some(RecursiveLevelEnd::Last);
+                return Some((RecursiveLevel { start, end }, closed));
+            }
+        }
+    }
+    let closed = literal(b"}", rest)?;
+    Some((RecursiveLevel { start, end: None }, closed))
+}
+
+#[tactic(auto, unfolding(crate::specs::PathGrammar::wildcard))]
+fn wildcard_at(input: &[u8]) -> Option<(Path<'_>, &[u8])>
+    ensures value { read_as step_view result ≡ wildcard input.now }
+    ensures shrinks { LeavesLess input.now result }
+{
+    if let Some(rest) = literal(b".**", input) {
+        return match levels_at(rest) {
+            Some((found, after)) => Some((Path::RecursiveDotWildcard(Some(found)), after)),
+            None => Some((Path::RecursiveDotWildcard(None), rest)),
+        };
+    }
+    if let Some(rest) = literal(b".*", input) {
+        return Some((Path::DotWildcard, rest));
+    }
+    let inside = literal(b"[", input)?;
+    let star = literal(b"*", skip_space(inside))?;
+    let end = literal(b"]", skip_space(star))?;
+    Some((Path::BracketWildcard, end))
+}
+
+#[tactic(auto, unfolding(crate::specs::PathGrammar::named_field))]
+fn named_field_at(alloc: Global, input: &[u8]) -> Reading<'_, Path<'_>>
+    ensures value { IfOk result (λ found. read_as step_view found ≡ named_field input.now) }
+    ensures shrinks { IfOk result (LeavesLess input.now) }
+{
+    if let Some(rest) = literal(b":", input) {
+        if let Some((text, end)) = field_at(alloc, rest)? {
+            return Ok(Some((Path::ColonField(text), end)));
+        }
+    }
+    if let Some(rest) = literal(b".", input) {
+        if let Some((text, end)) = field_at(alloc, rest)? {
+            return Ok(Some((Path::DotField(text), end)));
+        }
+    }
+    Ok(None)
+}
+
+#[tactic(auto, unfolding(crate::specs::PathGrammar::bracket_field))]
+fn bracket_field_at(alloc: Global, input: &[u8]) -> Reading<'_, Path<'_>>
+    ensures value { IfOk result (λ found. read_as step_view found ≡ bracket_field input.now) }
+    ensures shrinks { IfOk result (LeavesLess input.now) }
+{
+    let Some(inside) = literal(b"[", input) else {
+        return Ok(None);
+    };
+    let Some((text, rest)) = quoted_at(alloc, skip_space(inside))? else {
+        return Ok(None);
+    };
+    match literal(b"]", skip_space(rest)) {
+        Some(end) => Ok(Some((Path::ObjectField(text), end))),
+        None => Ok(None),
+    }
+}
+
+#[tactic(auto, unfolding(crate::specs::PathGrammar::inner))]
+fn inner_at(alloc: Global, input: &[u8]) -> Reading<'_, Path<'_>>
+    ensures value { IfOk result (λ found. read_as step_view found ≡ inner input.now) }
+    ensures shrinks { IfOk result (LeavesLess input.now) }
+{
+    if let Some((path, rest)) = wildcard_at(input) {
+        return Ok(Some((path, rest)));
+    }
+    if let Some((path, rest)) = named_field_at(alloc, input)? {
+        return Ok(Some((path, rest)));
+    }
+    if let Some((found, rest)) = entries_at(alloc, input)? {
+        return Ok(Some((Path::ArrayIndices(found), rest)));
+    }
+    bracket_field_at(alloc, input)
+}
+
+#[tactic(auto, unfolding(crate::specs::PathGrammar::spaced_inner))]
+pub(super) fn spaced_inner_at(alloc: Global, input: &[u8]) -> Reading<'_, Path<'_>>
+    ensures value { IfOk result (λ found. read_as step_view found ≡ spaced_inner input.now) }
+    ensures shrinks { IfOk result (LeavesLess input.now) }
+{
+    match inner_at(alloc, skip_space(input))? {
+        Some((path, rest)) => Ok(Some((path, skip_space(rest)))),
+        None => Ok(None),
+    }
+}

@@ -1,0 +1,214 @@
+//! Operands, and the operations on them.
+
+ghost use Rattle.std.specs.Prelude.{◌≡◌, IfOk};
+ghost use Rattle.jsonb.specs.PathGrammar.{path_root, literal_value, operand_steps, operand, spaced_operand, operator, arithmetic_operator, unary_operator, unary_atom, binary_atom};
+ghost use Rattle.jsonb_keypath.specs.Views.{read_as, LeavesLess};
+ghost use Rattle.jsonb.specs.PathViews.{literal_view, operator_view, sign_view, step_view, steps_view, expression_view};
+
+use super::Reading;
+use super::inner::spaced_inner_at;
+use super::token::quoted_at;
+use crate::path::{BinaryOperator, Expr, Path, PathValue, UnaryOperator};
+use jsonb_doc::Number;
+use jsonb_keypath::token::{int64, literal, nat64, skip_space};
+use std::alloc::Global;
+
+#[tactic(auto, unfolding(crate::specs::PathGrammar::operator))]
+fn operator_at(input: &[u8]) -> Option<(BinaryOperator, &[u8])>
+    ensures value { read_as operator_view result ≡ operator input.now }
+    ensures shrinks { LeavesLess input.now result }
+{
+    if let Some(rest) = literal(b"==", input) {
+        return Some((BinaryOperator::Eq, rest));
+    }
+    if let Some(rest) = literal(b"!=", input) {
+        return Some((BinaryOperator::NotEq, rest));
+    }
+    if let Some(rest) = literal(b"<>", input) {
+        return Some((BinaryOperator::NotEq, rest));
+    }
+    if let Some(rest) = literal(b"<=", input) {
+        return Some((BinaryOperator::Lte, rest));
+    }
+    if let Some(rest) = literal(b"<", input) {
+        return Some((BinaryOperator::Lt, rest));
+    }
+    if let Some(rest) = literal(b">=", input) {
+        return Some((BinaryOperator::Gte, rest));
+    }
+    if let Some(rest) = literal(b">", input) {
+        return Some((BinaryOperator::Gt, rest));
+    }
+    if let Some(rest) = literal(b"starts with", input) {
+        return Some((BinaryOperator::StartsWith, rest));
+    }
+    arithmetic_operator_at(input)
+}
+
+#[tactic(auto, unfolding(crate::specs::PathGrammar::arithmetic_operator))]
+fn arithmetic_operator_at(input: &[u8]) -> Option<(BinaryOperator, &[u8])>
+    ensures value { read_as operator_view result ≡ arithmetic_operator input.now }
+    ensures shrinks { LeavesLess input.now result }
+{
+    if let Some(rest) = literal(b"+", input) {
+        return Some((BinaryOperator::Add, rest));
+    }
+    if let Some(rest) = literal(b"-", input) {
+        return Some((BinaryOperator::Subtract, rest));
+    }
+    if let Some(rest) = literal(b"*", input) {
+        return Some((BinaryOperator::Multiply, rest));
+    }
+    if let Some(rest) = literal(b"/", input) {
+        return Some((BinaryOperator::Divide, rest));
+    }
+    if let Some(rest) = literal(b"%", input) {
+        return Some((BinaryOperator::Modulo, rest));
+    }
+    None
+}
+
+#[tactic(auto, unfolding(crate::specs::PathGrammar::unary_operator))]
+fn unary_operator_at(input: &[u8]) -> Option<(UnaryOperator, &[u8])>
+    ensures value { read_as sign_view result ≡ unary_operator input.now }
+    ensures shrinks { LeavesLess input.now result }
+{
+    if let Some(rest) = literal(b"+", input) {
+        return Some((UnaryOperator::Add, rest));
+    }
+    if let Some(rest) = literal(b"-", input) {
+        return Some((UnaryOperator::Subtract, rest));
+    }
+    None
+}
+
+#[tactic(auto, unfolding(crate::specs::PathGrammar::literal_value))]
+fn literal_value_at(alloc: Global, input: &[u8]) -> Reading<'_, PathValue<'_>>
+    ensures value { IfOk result (λ found. read_as literal_view found ≡ literal_value input.now) }
+    ensures shrinks { IfOk result (LeavesLess input.now) }
+{
+    if let Some(rest) = literal(b"null", input) {
+        return Ok(Some((PathValue::Null, rest)));
+    }
+    if let Some(rest) = literal(b"true", input) {
+        return Ok(Some((PathValue::Boolean(true), rest)));
+    }
+    if let Some(rest) = literal(b"false", input) {
+        return Ok(Some((PathValue::Boolean(false), rest)));
+    }
+    if let Some((n, rest)) = nat64(input) {
+        return Ok(Some((PathValue::Number(Number::UInt64(n)), rest)));
+    }
+    if let Some((z, rest)) = int64(input) {
+        return Ok(Some((PathValue::Number(Number::Int64(z)), rest)));
+    }
+    match quoted_at(alloc, input)? {
+        Some((text, rest)) => Ok(Some((PathValue::String(text), rest))),
+        None => Ok(None),
+    }
+}
+
+// Where a path begins: `$`, and in a filter also `@`.
+#[tactic(auto, unfolding(crate::specs::PathGrammar::path_root))]
+pub(super) fn path_root_at(is_in_filter: bool, input: &[u8]) -> Option<(Path<'_>, &[u8])>
+    ensures value { read_as step_view result ≡ path_root is_in_filter input.now }
+    ensures shrinks { LeavesLess input.now result }
+{
+    if let Some(rest) = literal(b"$", input) {
+        return Some((Path::Root, rest));
+    }
+    if is_in_filter {
+        if let Some(rest) = literal(b"@", input) {
+            return Some((Path::Current, rest));
+        }
+    }
+    None
+}
+
+// The first step and the steps behind it.
+fn operand_steps_at(alloc: Global, is_in_filter: bool, input: &[u8]) -> Reading<'_, Vec<Path<'_>>>
+    ensures value { IfOk result (λ found.
+        read_as (λ steps. steps_view steps.items) found ≡ operand_steps is_in_filter input.now) }
+    ensures shrinks { IfOk result (LeavesLess input.now) }
+{
+    let Some((first, mut rest)) = path_root_at(is_in_filter, input) else {
+        return Ok(None);
+    };
+    let mut steps = Vec::new(alloc);
+    steps.push(first)?;
+    while let Some((next, after)) = spaced_inner_at(alloc, rest)? {
+        steps.push(next)?;
+        rest = after;
+    }
+    Ok(Some((steps, rest)))
+}
+
+#[tactic(auto, unfolding(crate::specs::PathGrammar::operand))]
+fn operand_at(alloc: Global, is_in_filter: bool, input: &[u8]) -> Reading<'_, Expr<'_>>
+    ensures value { IfOk result (λ found. read_as expression_view found ≡ operand is_in_filter input.now) }
+    ensures shrinks { IfOk result (LeavesLess input.now) }
+{
+    if let Some((steps, rest)) = operand_steps_at(alloc, is_in_filter, input)? {
+        return Ok(Some((Expr::Paths(steps), rest)));
+    }
+    match literal_value_at(alloc, input)? {
+        Some((found, rest)) => Ok(Some((Expr::Value(Box::new(alloc, found)?), rest))),
+        None => Ok(None),
+    }
+}
+
+#[tactic(auto, unfolding(crate::specs::PathGrammar::spaced_operand))]
+fn spaced_operand_at(alloc: Global, is_in_filter: bool, input: &[u8]) -> Reading<'_, Expr<'_>>
+    ensures value { IfOk result (λ found.
+        read_as expression_view found ≡ spaced_operand is_in_filter input.now) }
+    ensures shrinks { IfOk result (LeavesLess input.now) }
+{
+    match operand_at(alloc, is_in_filter, skip_space(input))? {
+        Some((found, rest)) => Ok(Some((found, skip_space(rest)))),
+        None => Ok(None),
+    }
+}
+
+#[tactic(auto, unfolding(crate::specs::PathGrammar::unary_atom))]
+pub(super) fn unary_atom_at(
+    alloc: Global,
+    is_in_filter: bool,
+    input: &[u8],
+) -> Reading<'_, Expr<'_>>
+    ensures value { IfOk result (λ found.
+        read_as expression_view found ≡ unary_atom is_in_filter input.now) }
+    ensures shrinks { IfOk result (LeavesLess input.now) }
+{
+    let Some((op, rest)) = unary_operator_at(input) else {
+        return Ok(None);
+    };
+    let Some((found, rest)) = spaced_operand_at(alloc, is_in_filter, rest)? else {
+        return Ok(None);
+    };
+    let operand = Box::new(alloc, found)?;
+    Ok(Some((Expr::UnaryOp { op, operand }, rest)))
+}
+
+#[tactic(auto, unfolding(crate::specs::PathGrammar::binary_atom))]
+pub(super) fn binary_atom_at(
+    alloc: Global,
+    is_in_filter: bool,
+    input: &[u8],
+) -> Reading<'_, Expr<'_>>
+    ensures value { IfOk result (λ found.
+        read_as expression_view found ≡ binary_atom is_in_filter input.now) }
+    ensures shrinks { IfOk result (LeavesLess input.now) }
+{
+    let Some((first, rest)) = spaced_operand_at(alloc, is_in_filter, input)? else {
+        return Ok(None);
+    };
+    let Some((op, rest)) = operator_at(rest) else {
+        return Ok(None);
+    };
+    let Some((second, rest)) = spaced_operand_at(alloc, is_in_filter, rest)? else {
+        return Ok(None);
+    };
+    let left = Box::new(alloc, first)?;
+    let right = Box::new(alloc, second)?;
+    Ok(Some((Expr::BinaryOp { op, left, right }, rest)))
+}

@@ -1,0 +1,71 @@
+//! Tokens at the front of the input.
+
+ghost use Rattle.std.specs.Prelude.{◌≡◌, ◌+◌, ◌≤◌, length, option_map, IfSome, IfOk};
+ghost use Rattle.std.specs.Cow.{cow_str_bytes};
+ghost use Rattle.jsonb_keypath.specs.Rules.{bytes};
+ghost use Rattle.jsonb_keypath.specs.Tokens.{name, quoted};
+ghost use Rattle.jsonb_keypath.specs.Views.{read_as, LeavesLess};
+ghost use Rattle.jsonb.specs.PathGrammar.{in_any_case, field, spaced};
+
+use super::Reading;
+use jsonb_keypath::token::{literal, read_name, read_quoted, skip_space};
+use std::alloc::{AllocError, Global};
+use std::borrow::CowStr;
+
+// A name at the front. Nothing but want of memory refuses it.
+pub(super) fn name_at(alloc: Global, input: &[u8]) -> Reading<'_, CowStr<'_, Global>>
+    ensures value { IfOk result (λ found. read_as cow_str_bytes found ≡ name input.now) }
+    ensures shrinks { IfOk result (LeavesLess input.now) }
+{
+    match read_name(alloc, input) {
+        Ok(found) => Ok(found),
+        Err(_) => Err(AllocError),
+    }
+}
+
+// A text between quotes at the front. Nothing but want of memory refuses it.
+pub(super) fn quoted_at(alloc: Global, input: &[u8]) -> Reading<'_, CowStr<'_, Global>>
+    ensures value { IfOk result (λ found. read_as cow_str_bytes found ≡ quoted input.now) }
+    ensures shrinks { IfOk result (LeavesLess input.now) }
+{
+    match read_quoted(alloc, input) {
+        Ok(found) => Ok(found),
+        Err(_) => Err(AllocError),
+    }
+}
+
+// A name, or a text between quotes.
+#[tactic(auto, unfolding(crate::specs::PathGrammar::field))]
+pub(super) fn field_at(alloc: Global, input: &[u8]) -> Reading<'_, CowStr<'_, Global>>
+    ensures value { IfOk result (λ found. read_as cow_str_bytes found ≡ field input.now) }
+    ensures shrinks { IfOk result (LeavesLess input.now) }
+{
+    match quoted_at(alloc, input)? {
+        Some(found) => Ok(Some(found)),
+        None => name_at(alloc, input),
+    }
+}
+
+// The input behind a word in any case of its letters.
+pub(super) fn word_at<'a>(text: &[u8], input: &'a [u8]) -> Option<&'a [u8]>
+    ensures value { option_map (λ rest. (tt, rest.now)) result ≡ in_any_case text.now input.now }
+    ensures shrinks { IfSome result (λ rest. length rest.now + length text.now ≡ length input.now) }
+{
+    if input.len() < text.len() {
+        return None;
+    }
+    let (front, rest) = input.split_at(text.len());
+    if front.eq_ignore_ascii_case(text) {
+        return Some(rest);
+    }
+    None
+}
+
+// These bytes with white space around them.
+pub(super) fn separator_at<'a>(text: &[u8], input: &'a [u8]) -> Option<&'a [u8]>
+    ensures value { option_map (λ rest. (tt, rest.now)) result ≡ spaced (bytes text.now) input.now }
+    ensures shrinks { IfSome result (λ rest. length rest.now + length text.now ≤ length input.now) }
+{
+    let rest = literal(text, skip_space(input))?;
+    Some(skip_space(rest))
+}

@@ -1,0 +1,108 @@
+//! `clone`, which takes memory, and answers the same parts.
+
+ghost use Rattle.std.specs.Prelude.{◌≡◌};
+ghost use Rattle.jsonb_doc.specs.Answer.{Answers};
+ghost use Rattle.jsonb.specs.PathViews.{literal_view, step_view, steps_view, expression_view, path_view};
+
+use super::{Expr, JsonPath, Path, PathValue};
+use jsonb_doc::Error;
+use std::alloc::Global;
+
+impl<'a> JsonPath<'a> {
+    /// The same steps. Names that borrow borrow again. `OutOfMemory` where memory is refused.
+    pub fn clone(&self, alloc: Global) -> Result<JsonPath<'a>, Error>
+        ensures { Answers result (λ copy. path_view copy ≡ path_view self.now) }
+    {
+        let paths = copy_steps(&self.paths, alloc)?;
+        Ok(JsonPath { paths })
+    }
+}
+
+impl<'a> Path<'a> {
+    /// The same step. `OutOfMemory` where memory is refused.
+    #[cycle(copy)]
+    pub fn clone(&self, alloc: Global) -> Result<Path<'a>, Error>
+        ensures { Answers result (λ copy. step_view copy ≡ step_view self.now) }
+    {
+        match self {
+            Path::Root => Ok(Path::Root),
+            Path::Current => Ok(Path::Current),
+            Path::DotWildcard => Ok(Path::DotWildcard),
+            Path::RecursiveDotWildcard(level) => Ok(Path::RecursiveDotWildcard(*level)),
+            Path::BracketWildcard => Ok(Path::BracketWildcard),
+            Path::DotField(name) => Ok(Path::DotField(name.clone()?)),
+            Path::ColonField(name) => Ok(Path::ColonField(name.clone()?)),
+            Path::ObjectField(name) => Ok(Path::ObjectField(name.clone()?)),
+            Path::ArrayIndices(indices) => Ok(Path::ArrayIndices(indices.to_vec(alloc)?)),
+            Path::FilterExpr(expression) => {
+                let copy = (**expression).clone(alloc)?;
+                Ok(Path::FilterExpr(Box::new(alloc, copy)?))
+            }
+            Path::Expr(expression) => {
+                let copy = (**expression).clone(alloc)?;
+                Ok(Path::Expr(Box::new(alloc, copy)?))
+            }
+        }
+    }
+}
+
+impl<'a> Expr<'a> {
+    /// The same expression. `OutOfMemory` where memory is refused.
+    #[cycle(copy)]
+    pub fn clone(&self, alloc: Global) -> Result<Expr<'a>, Error>
+        ensures { Answers result (λ copy. expression_view copy ≡ expression_view self.now) }
+    {
+        match self {
+            Expr::Paths(steps) => Ok(Expr::Paths(copy_steps(steps, alloc)?)),
+            Expr::Value(literal) => {
+                let copy = (**literal).clone(alloc)?;
+                Ok(Expr::Value(Box::new(alloc, copy)?))
+            }
+            Expr::BinaryOp { op, left, right } => {
+                let left = (**left).clone(alloc)?;
+                let right = (**right).clone(alloc)?;
+                Ok(Expr::BinaryOp {
+                    op: *op,
+                    left: Box::new(alloc, left)?,
+                    right: Box::new(alloc, right)?,
+                })
+            }
+            Expr::UnaryOp { op, operand } => {
+                let operand = (**operand).clone(alloc)?;
+                Ok(Expr::UnaryOp {
+                    op: *op,
+                    operand: Box::new(alloc, operand)?,
+                })
+            }
+            Expr::ExistsFunc(steps) => Ok(Expr::ExistsFunc(copy_steps(steps, alloc)?)),
+        }
+    }
+}
+
+impl<'a> PathValue<'a> {
+    /// The same literal. Only a text that does not borrow takes memory, and `OutOfMemory` is
+    /// answered where that is refused.
+    pub fn clone(&self, _alloc: Global) -> Result<PathValue<'a>, Error>
+        ensures { Answers result (λ copy. literal_view copy ≡ literal_view self.now) }
+    {
+        match self {
+            PathValue::Null => Ok(PathValue::Null),
+            PathValue::Boolean(b) => Ok(PathValue::Boolean(*b)),
+            PathValue::Number(n) => Ok(PathValue::Number(*n)),
+            PathValue::String(text) => Ok(PathValue::String(text.clone()?)),
+            PathValue::Raw(document) => Ok(PathValue::Raw(*document)),
+        }
+    }
+}
+
+// The same steps, one after the other.
+#[cycle(copy)]
+fn copy_steps<'a>(steps: &Vec<Path<'a>>, alloc: Global) -> Result<Vec<Path<'a>>, Error>
+    ensures { Answers result (λ copies. steps_view copies.items ≡ steps_view steps.now.items) }
+{
+    let mut copies = Vec::with_capacity(alloc, steps.len())?;
+    for step in steps {
+        copies.push(step.clone(alloc)?)?;
+    }
+    Ok(copies)
+}

@@ -1,0 +1,279 @@
+//! How the parts of a path print.
+ghost use Rattle.std.specs.Prelude.{[], ◌∷◌, ◌++◌, Some, codes, map, flat_map};
+ghost use Rattle.std.specs.Fmt.{WritesOnOk};
+ghost use Rattle.hex.specs.Hex.{encode_lower};
+ghost use Rattle.jsonb.specs.PathText.{offset_text, place_text, entry_text, entries_text, other_entry_text, level_text, operator_text, sign_text, literal_text, side_text, step_text, steps_text, expression_text, path_text};
+ghost use Rattle.jsonb.specs.PathTree.{steps_of};
+ghost use Rattle.jsonb.specs.PathViews.{place_view, entry_view, levels_view, operator_view, sign_view, literal_view, step_view, steps_view, expression_view, path_view};
+
+use super::{
+    ArrayIndex, BinaryOperator, Expr, Index, JsonPath, Path, PathValue, RecursiveLevel,
+    RecursiveLevelEnd, UnaryOperator,
+};
+use jsonb_keypath::token::{write_name, write_quoted};
+use std::fmt;
+
+impl fmt::Display for JsonPath<'_> {
+    ghost output = { λ p. Some (path_text (path_view p)) };
+
+    fn fmt<W: fmt::Write>(&self, f: &mut fmt::Formatter<W>) -> fmt::Result {
+        write_steps(&self.paths, f)
+    }
+}
+
+impl fmt::Display for Path<'_> {
+    ghost output = { λ p. Some (step_text (step_view p)) };
+
+    fn fmt<W: fmt::Write>(&self, f: &mut fmt::Formatter<W>) -> fmt::Result {
+        write_step(self, f)
+    }
+}
+
+impl fmt::Display for Expr<'_> {
+    ghost output = { λ e. Some (expression_text (expression_view e)) };
+
+    fn fmt<W: fmt::Write>(&self, f: &mut fmt::Formatter<W>) -> fmt::Result {
+        write_expression(self, f)
+    }
+}
+
+#[cycle(write)]
+fn write_steps<W: fmt::Write>(steps: &Vec<Path<'_>>, f: &mut fmt::Formatter<W>) -> fmt::Result
+    ensures { WritesOnOk W.write_str_gives f.old result (steps_text (steps_of (steps_view steps.now.items))) f.new }
+{
+    for step in steps {
+        write_step(step, f)?;
+    }
+    Ok(())
+}
+
+#[cycle(write)]
+fn write_step<W: fmt::Write>(step: &Path<'_>, f: &mut fmt::Formatter<W>) -> fmt::Result
+    ensures { WritesOnOk W.write_str_gives f.old result (step_text (step_view step.now)) f.new }
+{
+    match step {
+        Path::Root => f.write_str("$"),
+        Path::Current => f.write_str("@"),
+        Path::DotWildcard => f.write_str(".*"),
+        Path::RecursiveDotWildcard(None) => f.write_str(".**"),
+        Path::RecursiveDotWildcard(Some(level)) => write!(f, ".**{{{level}}}"),
+        Path::BracketWildcard => f.write_str("[*]"),
+        Path::DotField(name) => {
+            f.write_str(".")?;
+            write_name(name.as_str(), f)
+        }
+        Path::ColonField(name) => {
+            f.write_str(":")?;
+            write_name(name.as_str(), f)
+        }
+        Path::ObjectField(name) => {
+            f.write_str("[")?;
+            write_quoted(name.as_str(), f)?;
+            f.write_str("]")
+        }
+        Path::ArrayIndices(indices) => write_array_indices(indices, f),
+        Path::FilterExpr(expression) => {
+            f.write_str("?(")?;
+            write_expression(expression, f)?;
+            f.write_str(")")
+        }
+        Path::Expr(expression) => write_expression(expression, f),
+    }
+}
+
+#[cycle(write)]
+fn write_expression<W: fmt::Write>(expression: &Expr<'_>, f: &mut fmt::Formatter<W>) -> fmt::Result
+    ensures { WritesOnOk W.write_str_gives f.old result (expression_text (expression_view expression.now)) f.new }
+{
+    match expression {
+        Expr::Paths(steps) => write_steps(steps, f),
+        Expr::Value(literal) => write!(f, "{}", **literal),
+        Expr::BinaryOp { op, left, right } => {
+            write_side(left, f)?;
+            write!(f, " {op} ")?;
+            write_side(right, f)
+        }
+        Expr::UnaryOp { op, operand } => {
+            write!(f, "{op}")?;
+            write_expression(operand, f)
+        }
+        Expr::ExistsFunc(steps) => {
+            f.write_str("exists(")?;
+            write_steps(steps, f)?;
+            f.write_str(")")
+        }
+    }
+}
+
+/// Writes a side of a binary expression.
+#[cycle(write)]
+fn write_side<W: fmt::Write>(side: &Expr<'_>, f: &mut fmt::Formatter<W>) -> fmt::Result
+    ensures { WritesOnOk W.write_str_gives f.old result
+        (side_text (expression_view side.now) (expression_text (expression_view side.now))) f.new }
+{
+    if let Expr::BinaryOp {
+        op: BinaryOperator::And | BinaryOperator::Or,
+        ..
+    } = side
+    {
+        f.write_str("(")?;
+        write_expression(side, f)?;
+        f.write_str(")")
+    } else {
+        write_expression(side, f)
+    }
+}
+
+fn write_array_indices<W: fmt::Write>(
+    indices: &Vec<ArrayIndex>,
+    f: &mut fmt::Formatter<W>,
+) -> fmt::Result
+    ensures { WritesOnOk W.write_str_gives f.old result
+        (codes "[" ++ entries_text (map entry_view indices.now.items) ++ codes "]") f.new }
+{
+    f.write_str("[")?;
+    if let Some((first, rest)) = indices.split_first() {
+        write!(f, "{first}")?;
+        write_other_indices(rest, f)?;
+    }
+    f.write_str("]")
+}
+
+/// Writes each entry behind a comma and a space.
+fn write_other_indices<W: fmt::Write>(
+    indices: &[ArrayIndex],
+    f: &mut fmt::Formatter<W>,
+) -> fmt::Result
+    ensures { WritesOnOk W.write_str_gives f.old result
+        (flat_map other_entry_text (map entry_view indices.now)) f.new }
+{
+    for index in indices {
+        write!(f, ", {index}")?;
+    }
+    Ok(())
+}
+
+impl fmt::Display for Index {
+    ghost output = { λ i. Some (place_text (place_view i)) };
+
+    fn fmt<W: fmt::Write>(&self, f: &mut fmt::Formatter<W>) -> fmt::Result {
+        match self {
+            Index::Index(index) => write!(f, "{index}"),
+            Index::LastIndex(offset) => write_last(*offset, f),
+        }
+    }
+}
+
+// Writes a place that is counted from the last element. The least offset has no positive
+// counterpart, so it does not stand behind a minus.
+fn write_last<W: fmt::Write>(offset: i32, f: &mut fmt::Formatter<W>) -> fmt::Result
+    ensures { WritesOnOk W.write_str_gives f.old result (codes "last" ++ offset_text offset) f.new }
+{
+    if offset == 0 {
+        return f.write_str("last");
+    }
+    if offset > 0 || offset == i32::MIN {
+        return write!(f, "last+{offset}");
+    }
+    write!(f, "last{offset}")
+}
+
+impl fmt::Display for ArrayIndex {
+    ghost output = { λ e. Some (entry_text (entry_view e)) };
+
+    fn fmt<W: fmt::Write>(&self, f: &mut fmt::Formatter<W>) -> fmt::Result {
+        match self {
+            ArrayIndex::Index(index) => write!(f, "{index}"),
+            ArrayIndex::Slice((start, end)) => write!(f, "{start} to {end}"),
+        }
+    }
+}
+
+impl fmt::Display for RecursiveLevel {
+    ghost output = { λ l. Some (level_text (levels_view l)) };
+
+    fn fmt<W: fmt::Write>(&self, f: &mut fmt::Formatter<W>) -> fmt::Result {
+        let start = self.start;
+        match self.end {
+            None => write!(f, "{start}"),
+            Some(RecursiveLevelEnd::Index(end)) => write!(f, "{start} to {end}"),
+            Some(RecursiveLevelEnd::Last) => write!(f, "{start} to last"),
+        }
+    }
+}
+
+impl fmt::Display for PathValue<'_> {
+    ghost output = { λ v. Some (literal_text (literal_view v)) };
+
+    fn fmt<W: fmt::Write>(&self, f: &mut fmt::Formatter<W>) -> fmt::Result {
+        match self {
+            PathValue::Null => f.write_str("null"),
+            PathValue::Boolean(true) => f.write_str("true"),
+            PathValue::Boolean(false) => f.write_str("false"),
+            PathValue::Number(number) => write!(f, "{number}"),
+            PathValue::String(text) => write_quoted(text.as_str(), f),
+            PathValue::Raw(document) => {
+                f.write_str("raw(")?;
+                write_hex(document.as_bytes(), f)?;
+                f.write_str(")")
+            }
+        }
+    }
+}
+
+/// Writes the bytes in hexadecimal, in lower case.
+fn write_hex<W: fmt::Write>(bytes: &[u8], f: &mut fmt::Formatter<W>) -> fmt::Result
+    ensures { WritesOnOk W.write_str_gives f.old result (encode_lower bytes.now) f.new }
+{
+    for byte in bytes {
+        write_hex_byte(*byte, f)?;
+    }
+    Ok(())
+}
+
+fn write_hex_byte<W: fmt::Write>(byte: u8, f: &mut fmt::Formatter<W>) -> fmt::Result
+    ensures { WritesOnOk W.write_str_gives f.old result (encode_lower (byte ∷ [])) f.new }
+{
+    let mut digits = [0; 2];
+    if hex::encode_to_slice([byte].as_slice(), &mut digits).is_err() {
+        return Err(fmt::Error);
+    }
+    match str::from_utf8(&digits) {
+        Ok(text) => f.write_str(text),
+        Err(_) => Err(fmt::Error),
+    }
+}
+
+impl fmt::Display for BinaryOperator {
+    ghost output = { λ op. Some (operator_text (operator_view op)) };
+
+    fn fmt<W: fmt::Write>(&self, f: &mut fmt::Formatter<W>) -> fmt::Result {
+        f.write_str(match self {
+            BinaryOperator::And => "&&",
+            BinaryOperator::Or => "||",
+            BinaryOperator::Eq => "==",
+            BinaryOperator::NotEq => "!=",
+            BinaryOperator::Lt => "<",
+            BinaryOperator::Lte => "<=",
+            BinaryOperator::Gt => ">",
+            BinaryOperator::Gte => ">=",
+            BinaryOperator::StartsWith => "starts with",
+            BinaryOperator::Add => "+",
+            BinaryOperator::Subtract => "-",
+            BinaryOperator::Multiply => "*",
+            BinaryOperator::Divide => "/",
+            BinaryOperator::Modulo => "%",
+        })
+    }
+}
+
+impl fmt::Display for UnaryOperator {
+    ghost output = { λ op. Some (sign_text (sign_view op)) };
+
+    fn fmt<W: fmt::Write>(&self, f: &mut fmt::Formatter<W>) -> fmt::Result {
+        f.write_str(match self {
+            UnaryOperator::Add => "+",
+            UnaryOperator::Subtract => "-",
+        })
+    }
+}

@@ -1,0 +1,96 @@
+//! Which positions of an array an entry means.
+
+ghost use Rattle.std.specs.Prelude.{◌≡◌, ◌<◌, ◌≤◌, ◌↔◌, ℕ, pos, ◌≤ℤ◌, ◌<ℤ◌, IsTrue, nat_eq};
+ghost use Rattle.std.specs.HashSet.{contains};
+ghost use Rattle.jsonb_doc.specs.Answer.{Answers};
+ghost use Rattle.jsonb.specs.PathViews.{place_view, entry_view};
+ghost use Rattle.jsonb.specs.Positions.{position, IsBetween, IsPosition};
+
+use super::{ArrayIndex, Index};
+use jsonb_doc::Error;
+use std::alloc::Global;
+use std::collections::HashSet;
+
+impl ArrayIndex {
+    /// The positions of an array of `length` elements that the entry means: for a slice all from its
+    /// first end to its second, both included. Those that the array does not have are left out.
+    ///
+    /// It reserves for all positions first, and answers `OutOfMemory` where memory is refused. The
+    /// set's seed is fixed.
+    pub fn to_indices(&self, alloc: Global, length: usize) -> Result<HashSet<usize>, Error>
+        ensures { Answers result (λ found. (k : ℕ) →
+            IsTrue (contains nat_eq found k) ↔ IsPosition (entry_view self.now) length k) }
+    {
+        match self {
+            ArrayIndex::Index(index) => {
+                let at = index.position(length);
+                positions_between(alloc, at, at, length)
+            }
+            ArrayIndex::Slice((first, last)) => positions_between(
+                alloc,
+                first.position(length),
+                last.position(length),
+                length,
+            ),
+        }
+    }
+}
+
+impl Index {
+    // The number of the place in an array of this length.
+    fn position(&self, length: usize) -> i128
+        ensures { result ≡ position length (place_view self.now) }
+    {
+        match self {
+            Index::Index(i) => i128::from(*i),
+            Index::LastIndex(n) => length as i128 + i128::from(*n) - 1,
+        }
+    }
+}
+
+// The positions from the first number to the last, both included.
+fn positions_between(
+    alloc: Global,
+    first: i128,
+    last: i128,
+    length: usize,
+) -> Result<HashSet<usize>, Error>
+    ensures { Answers result (λ found. (k : ℕ) →
+        IsTrue (contains nat_eq found k) ↔ IsBetween first last length k) }
+{
+    let start = first_not_below(first, length);
+    let end = first_above(last, length).max(start);
+    let mut found = HashSet::with_capacity(alloc, end - start)?;
+    for position in start..end {
+        found.insert(position)?;
+    }
+    Ok(found)
+}
+
+// The first position that is not below the number, or the length.
+fn first_not_below(at: i128, length: usize) -> usize
+    ensures within { result ≤ length }
+    ensures splits { (k : ℕ) → k < length → (result ≤ k) ↔ (at ≤ℤ pos k) }
+{
+    if at <= 0 {
+        return 0;
+    }
+    if at >= length as i128 {
+        return length;
+    }
+    at as usize
+}
+
+// The first position above the number, or the length.
+fn first_above(at: i128, length: usize) -> usize
+    ensures within { result ≤ length }
+    ensures splits { (k : ℕ) → k < length → (result ≤ k) ↔ (at <ℤ pos k) }
+{
+    if at < 0 {
+        return 0;
+    }
+    if at >= length as i128 {
+        return length;
+    }
+    at as usize + 1
+}

@@ -1,0 +1,28 @@
+-- Equality of values part by part.
+use Rattle.std.proofs.Common.{◌≡◌, ℕ, zero, suc, ◌*◌, ◌^◌, ℤ, pos, negsuc, refl, ap, ◌∙◌, arith, Equal}
+use Rattle.std.specs.Ordering.{eq_by_cmp, is_eq, int_cmp}
+use Rattle.std.proofs.lemmas.Cmp.{tied_itself, alike_right}
+use Rattle.jsonb_doc.specs.Number.{Variant, number_cmp, number_from}
+use Rattle.jsonb_doc.specs.NumberOrder.{number_cmp_total}
+use Rattle.jsonb_doc.specs.View.{number_parts, number_view}
+use Rattle.jsonb_doc.specs.declared.number.Number.{Number}
+
+-- a number of these parts has their value, whichever zero it is
+same_value : (variant : Variant) (whole : ℤ) (scale : ℕ) → number_cmp (number_from variant whole scale) (record { variant = variant; whole = whole; scale = scale }) ≡ Equal
+same_value variant (pos zero) scale = by (0 * 10 ^ scale) (0 * 10 ^ 0) (omega arith) (omega arith)
+  where
+    by : (m n : ℕ) → m ≡ 0 → n ≡ 0 → int_cmp (pos m) (pos n) ≡ Equal
+    by m n e f = rw (e, f) refl
+same_value variant (pos (suc n)) scale = tied_itself number_cmp_total (record { variant = variant; whole = pos (suc n); scale = scale })
+same_value variant (negsuc n) scale = tied_itself number_cmp_total (record { variant = variant; whole = negsuc n; scale = scale })
+
+-- numbers compare as those of their trees do
+pub number_cmp-number_view : (m n : Number) → number_cmp (number_view m) (number_view n) ≡ number_cmp (number_parts m) (number_parts n)
+number_cmp-number_view m n =
+    number_cmp_total.congr (number_view m) (number_parts m) (number_view n) (same m) ∙ alike_right number_cmp_total (number_view n) (number_parts n) (number_parts m) (same n)
+  where
+    same : (n : Number) → number_cmp (number_view n) (number_parts n) ≡ Equal
+    same n = same_value (number_parts n).variant (number_parts n).whole (number_parts n).scale
+
+pub equal_in_trees : (m n : Number) → eq_by_cmp number_cmp (number_view m) (number_view n) ≡ eq_by_cmp number_cmp (number_parts m) (number_parts n)
+equal_in_trees m n = ap is_eq (number_cmp-number_view m n)

@@ -1,0 +1,238 @@
+-- The search for a key, and the value under it.
+use Rattle.std.proofs.Common.{◌≡◌, ◌≢◌, ℕ, suc, ◌-◌, ◌*◌, ◌<◌, ◌≤◌, List, [], ◌∷◌, ◌++◌, length, take, drop, refl, sym, ap, ◌∙◌, arith, Some, None, Bool, true, false, inl, inr, append_assoc}
+use Rattle.std.proofs.lemmas.List.{length-append, length-take-le, append-nil}
+use Rattle.std.specs.Str.{bytes_eq}
+use Rattle.std.specs.Bool.{Decides}
+use Rattle.jsonb_doc.specs.Tree.{Tree, Pairs, no_pairs, pair, keys, value_under, field_of}
+use Rattle.jsonb_doc.specs.Payload.{Reading, Form, any, reading}
+use Rattle.jsonb_doc.specs.Format.{Decodes, HeadedBy, header, entry_word, BeginWith, AreValues, IsContent, key_words, key_bytes}
+use Rattle.jsonb_doc.specs.Lengths.{StandBefore, HoldKeys, IsNoneOf, FoundKey}
+use Rattle.jsonb_doc.specs.Answer.{SameOption}
+use Rattle.jsonb_doc.specs.Spots.{Marks, spot_content}
+use Rattle.jsonb_doc.specs.declared.spot.Spot.{Spot}
+use Rattle.jsonb_doc.proofs.Words.{bytes_eq-true, bytes_eq-same}
+use Rattle.jsonb_doc.proofs.Entries.{BeginWith-long, BeginWith-unique}
+use Rattle.jsonb_doc.proofs.KeysRead.{begin_key}
+use Rattle.jsonb_doc.proofs.Scalars.{some_injective}
+use Rattle.jsonb_doc.proofs.Containers.{length-key_words}
+use Rattle.jsonb_doc.proofs.LengthsLemmas.{StandBefore-joined, HoldKeys-before}
+use Rattle.jsonb_doc.proofs.SpotsLemmas.{Marks-kind, Marks-array, Marks-object, Marks-part, some_field, headed_end}
+
+-- ---- the search
+
+-- the keys that are left, where the name is none of those before them
+pub record KeysLeft (name : List ℕ) (ks : List (List ℕ)) (rest words bytes : List ℕ) : Type 0 where
+  pub front : List (List ℕ)
+  pub back : List (List ℕ)
+  pub joined : ks ≡ front ++ back
+  pub first : IsNoneOf name front
+  pub behind : HoldKeys back words bytes rest
+
+IsNoneOf-append : (name key : List ℕ) (front : List (List ℕ)) → IsNoneOf name front → key ≢ name → IsNoneOf name (front ++ key ∷ [])
+IsNoneOf-append name key [] h other = (other, tt)
+IsNoneOf-append name key (k ∷ front) h other = (h.0, IsNoneOf-append name key front h.1 other)
+
+pub KeysLeft-start : (name : List ℕ) (ks : List (List ℕ)) (rest words bytes : List ℕ) → HoldKeys ks words bytes rest → KeysLeft name ks rest words bytes
+KeysLeft-start name ks rest words bytes h = record { front = []; back = ks; joined = refl; first = tt; behind = h }
+
+pub KeysLeft-stop : (name : List ℕ) (ks : List (List ℕ)) (rest words bytes : List ℕ) → 0 < length words → ((kind : ℕ) (content ws cs : List ℕ) → BeginWith words bytes kind content ws cs → ⊥) → KeysLeft name ks rest words bytes → ⊥
+KeysLeft-stop name ks rest words bytes some none l = go l.back l.behind
+  where
+    go : (back : List (List ℕ)) → HoldKeys back words bytes rest → ⊥
+    go [] h = omega (arith, ap length h.words_joined)
+    go (key ∷ back) h = none 1 key (key_words back) (key_bytes back ++ rest) (begin_key words bytes rest key back h.are_keys.0.1 h.words_joined h.bytes_joined)
+
+pub KeysLeft-end : (name : List ℕ) (ks : List (List ℕ)) (rest words bytes : List ℕ) → length words ≡ 0 → KeysLeft name ks rest words bytes → IsNoneOf name ks
+KeysLeft-end name ks rest words bytes none l = go l.back l.joined l.behind
+  where
+    go : (back : List (List ℕ)) → ks ≡ l.front ++ back → HoldKeys back words bytes rest → IsNoneOf name ks
+    go [] joined h = rw (joined ∙ append-nil l.front) l.first
+    go (key ∷ back) joined h = absurd (omega (arith, ap length h.words_joined))
+
+module _ (words bytes : List ℕ) (kind : ℕ) (key ws bs : List ℕ) (b : BeginWith words bytes kind key ws bs) where
+  -- the first of the keys is the first entry
+  first_key : (back : List (List ℕ)) (rest : List ℕ) → HoldKeys back words bytes rest → (others : List (List ℕ)) × (back ≡ key ∷ others) × HoldKeys others ws bs rest
+  first_key [] rest h = absurd (omega (arith, BeginWith-long words bytes kind key ws bs b, ap length h.words_joined))
+  first_key (first ∷ others) rest h =
+      let same = BeginWith-unique _ _ _ _ _ _ _ _ _ _ b (begin_key words bytes rest first others h.are_keys.0.1 h.words_joined h.bytes_joined) in
+      (others, ap (λ (k : List ℕ). k ∷ others) (sym same.1), record { are_keys = h.are_keys.2; words_joined = same.2; bytes_joined = same.3 })
+
+  pub KeysLeft-step : (name : List ℕ) (ks : List (List ℕ)) (rest : List ℕ) → key ≢ name → KeysLeft name ks rest words bytes → KeysLeft name ks rest ws bs
+  KeysLeft-step name ks rest other l =
+      let (others, is, holds) = first_key l.back rest l.behind in
+      record {
+        front = l.front ++ key ∷ [];
+        back = others;
+        joined = l.joined ∙ ap (λ (k : List (List ℕ)). l.front ++ k) is ∙ sym (append_assoc l.front (key ∷ []) others);
+        first = IsNoneOf-append name key l.front l.first other;
+        behind = holds;
+      }
+
+  pub KeysLeft-found : (name : List ℕ) (ks : List (List ℕ)) (rest : List ℕ) → key ≡ name → KeysLeft name ks rest words bytes → FoundKey name ks rest ws bs
+  KeysLeft-found name ks rest same l =
+      let (others, is, holds) = first_key l.back rest l.behind in
+      record {
+        front = l.front;
+        back = others;
+        joined = l.joined ∙ ap (λ (k : List (List ℕ)). l.front ++ k) is ∙ ap (λ (k : List ℕ). l.front ++ k ∷ others) same;
+        first = l.first;
+        behind = holds;
+      }
+
+pub BeginWith-shorter : (words contents : List ℕ) (kind : ℕ) (content ws cs : List ℕ) → BeginWith words contents kind content ws cs → length ws ≤ length words
+BeginWith-shorter words contents kind content ws cs b = omega (arith, ap length b.words_joined)
+
+pub is_other : {r : Bool} {P : Type 0} → Decides r P → r ≡ false → P → ⊥
+is_other decides differ p = let same = decides.1 p in cc (same, differ)
+
+-- ---- the value
+
+-- where a value stands behind this many bytes of words
+pub record ValueAt (number_at : Reading) (value : Tree) (passed : ℕ) (words contents : List ℕ) : Type 0 where
+  pub parts : List (List ℕ)
+  pub left : List ℕ
+  pub before : StandBefore parts (take passed words) contents left
+  pub kind : ℕ
+  pub content : List ℕ
+  pub ws : List ℕ
+  pub cs : List ℕ
+  pub begin : BeginWith (drop passed words) left kind content ws cs
+  pub part : IsContent number_at value kind content
+
+ValueAt-more : (number_at : Reading) (value : Tree) (n : ℕ) (words contents : List ℕ) (kind : ℕ) (content ws cs : List ℕ) → BeginWith words contents kind content ws cs → ValueAt number_at value (4 * n) ws cs → ValueAt number_at value (4 * suc n) words contents
+ValueAt-more number_at value n words contents kind content ws cs b v =
+    let four : 4 * suc n ≡ suc (suc (suc (suc (4 * n)))) = omega arith in
+    let taken : take (4 * suc n) words ≡ entry_word kind (length content) ++ take (4 * n) ws = ap (λ (m : ℕ). take m words) four ∙ ap (take (suc (suc (suc (suc (4 * n)))))) b.words_joined in
+    let dropped : drop (4 * suc n) words ≡ drop (4 * n) ws = ap (λ (m : ℕ). drop m words) four ∙ ap (drop (suc (suc (suc (suc (4 * n)))))) b.words_joined in
+    record {
+      parts = content ∷ v.parts;
+      left = v.left;
+      before = record {
+        kind = kind;
+        content = content;
+        other_words = take (4 * n) ws;
+        other_contents = cs;
+        begin = record { known = b.known; fits = b.fits; words_joined = taken; contents_joined = b.contents_joined };
+        part = refl;
+        others = v.before;
+      };
+      kind = v.kind;
+      content = v.content;
+      ws = v.ws;
+      cs = v.cs;
+      begin = rw dropped v.begin;
+      part = v.part;
+    }
+
+bytes_eq-other : (xs ys : List ℕ) → xs ≢ ys → bytes_eq xs ys ≡ false
+bytes_eq-other xs ys other = go (bytes_eq xs ys) refl
+  where
+    go : (b : Bool) → b ≡ bytes_eq xs ys → b ≡ false
+    go true is = absurd (other (bytes_eq-true xs ys (sym is)))
+    go false is = refl
+
+pub no_value : (name : List ℕ) (ps : Pairs) → IsNoneOf name (keys ps) → value_under name ps ≡ None
+no_value name no_pairs none = refl
+no_value name (pair key t ps) none = rw (bytes_eq-other key name none.0) (no_value name ps none.1)
+
+-- the value under the name is behind as many others as its key
+pub value_at : (number_at : Reading) (name : List ℕ) (ps : Pairs) (front back : List (List ℕ)) → keys ps ≡ front ++ name ∷ back → IsNoneOf name front → (words contents : List ℕ) → AreValues number_at ps words contents
+    → (value : Tree) × (value_under name ps ≡ Some value) × ValueAt number_at value (4 * length front) words contents
+value_at number_at name no_pairs [] back joined none words contents e = absurd (cc joined)
+value_at number_at name no_pairs (k ∷ front) back joined none words contents e = absurd (cc joined)
+value_at number_at name (pair key t ps) [] back joined none words contents e =
+    let same : key ≡ name = cc joined in (
+      t,
+      rw (same, bytes_eq-same name) refl,
+      record {
+        parts = [];
+        left = contents;
+        before = (refl, refl);
+        kind = e.kind;
+        content = e.content;
+        ws = e.other_words;
+        cs = e.other_contents;
+        begin = e.begin;
+        part = e.part;
+      },
+    )
+value_at number_at name (pair key t ps) (k ∷ front) back joined none words contents e =
+    let same : key ≡ k = cc joined in
+    let others : keys ps ≡ front ++ name ∷ back = cc joined in
+    let (value, is, at) = value_at number_at name ps front back others none.1 e.other_words e.other_contents e.others in
+    (value, rw (same, bytes_eq-other k name none.0) is, ValueAt-more number_at value (length front) words contents e.kind e.content e.other_words e.other_contents e.begin at)
+
+-- the value of a field, whose contents are the end of the object's
+pub record FieldAt (number_at : Reading) (name : List ℕ) (t : Tree) (words contents values : List ℕ) (passed : ℕ) : Type 0 where
+  pub value : Tree
+  pub under : field_of name t ≡ Some value
+  pub front : List ℕ
+  pub ends : contents ≡ front ++ values
+  pub at : ValueAt number_at value passed words values
+
+-- ---- the spot of the value
+
+module _ (bytes : List ℕ) (parent : Spot) (t : Tree) (m : Marks bytes parent t) (content : List ℕ) (is : content ≡ spot_content bytes parent) (container : parent.kind ≡ 5) where
+  -- an array has no fields
+  pub Marks-other : (kind n : ℕ) (rest : List ℕ) → HeadedBy content kind n rest → kind ≢ 2 → (name : List ℕ) → field_of name t ≡ None
+  Marks-other kind n rest h other name = elim (Marks-kind bytes parent t m content is container kind n rest h) [
+    | inl two ↦ absurd (other two)
+    | inr four ↦ ap (field_of name) (Marks-array bytes parent t m content is container kind n rest h four).1
+  ]
+
+  module _ (kind n : ℕ) (rest : List ℕ) (h : HeadedBy content kind n rest) (two : kind ≡ 2) (name : List ℕ) where
+    pub field_absent : ((ks : List (List ℕ)) (found : List ℕ) → HoldKeys ks (take (4 * n) (take (2 * (4 * n)) rest)) (drop (2 * (4 * n)) rest) found → IsNoneOf name ks) → field_of name t ≡ None
+    field_absent none =
+        let (ps, same, parts) = Marks-object bytes parent t m content is container kind n rest h two in
+        let p = parts any m.whole m.decodes in
+        ap (field_of name) same ∙ no_value name ps (none (keys ps) p.found p.holds)
+
+    module _ (behind bytes_behind : List ℕ) (finds : (ks : List (List ℕ)) (found : List ℕ) → HoldKeys ks (take (4 * n) (take (2 * (4 * n)) rest)) (drop (2 * (4 * n)) rest) found → FoundKey name ks found behind bytes_behind) where
+      -- keys stand behind the one that was found
+      pub field_keys : (form : Form) (top : Tree) → Decodes form bytes top → (back : List (List ℕ)) × (found : List ℕ) × StandBefore back behind bytes_behind found
+      field_keys form top d =
+          let (ps, same, parts) = Marks-object bytes parent t m content is container kind n rest h two in
+          let p = parts form top d in
+          let f = finds (keys ps) p.found p.holds in
+          (f.back, p.found, HoldKeys-before f.back _ _ p.found f.behind)
+
+      module _ (contents : List ℕ) (skips : (parts : List (List ℕ)) (others : List ℕ) → StandBefore parts behind bytes_behind others → contents ≡ others) (passed : ℕ) (place : passed ≡ 4 * n - length behind - 4) where
+        -- the field's value, as the bytes hold it
+        pub field_value : (form : Form) (top : Tree) → Decodes form bytes top → FieldAt (reading form) name t (drop (4 * n) (take (2 * (4 * n)) rest)) (drop (2 * (4 * n)) rest) contents passed
+        field_value form top d =
+            let (ps, same, parts) = Marks-object bytes parent t m content is container kind n rest h two in
+            let p = parts form top d in
+            let f = finds (keys ps) p.found p.holds in
+            let skipped = skips f.back p.found (HoldKeys-before f.back _ _ p.found f.behind) in
+            let (value, under, at) = value_at (reading form) name ps f.front f.back f.joined f.first _ p.found p.are_values in
+            let whole = length-take-le (2 * (4 * n)) rest p.fits in
+            let half = length-take-le (4 * n) (take (2 * (4 * n)) rest) (omega (arith, whole)) in
+            let all = ap length p.holds.words_joined ∙ length-key_words (keys ps) in
+            let split = ap length f.joined ∙ length-append f.front (name ∷ f.back) in
+            let others = ap length f.behind.words_joined ∙ length-key_words f.back in
+            let from : passed ≡ 4 * length f.front = omega (arith, half, all, split, others, place) in
+            record {
+              value = value;
+              under = ap (field_of name) same ∙ under;
+              front = key_bytes (keys ps);
+              ends = p.holds.bytes_joined ∙ ap (λ (w : List ℕ). key_bytes (keys ps) ++ w) (sym skipped);
+              at = rw (skipped, from) at;
+            }
+
+        module _ (value_kind : ℕ) (value_content ws cs : List ℕ)
+            (entry : (parts : List (List ℕ)) (left : List ℕ) → StandBefore parts (take passed (drop (4 * n) (take (2 * (4 * n)) rest))) contents left → BeginWith (drop passed (drop (4 * n) (take (2 * (4 * n)) rest))) left value_kind value_content ws cs) where
+          -- the spot of the field's value
+          pub field_marks : (spot : Spot) → spot.kind ≡ value_kind → spot.end ≡ parent.end - length cs → spot.start ≡ spot.end - length value_content → SameOption (Marks bytes) (Some spot) (field_of name t)
+          field_marks spot k e s =
+              let one = field_value any m.whole m.decodes in
+              let before = StandBefore-joined one.at.parts _ contents one.at.left one.at.before in
+              let first = entry one.at.parts one.at.left one.at.before in
+              let header_words = header kind n ++ take (2 * (4 * n)) rest in
+              let joined : spot_content bytes parent ≡ ((header_words ++ one.front) ++ before.0) ++ (value_content ++ cs) =
+              sym is ∙ headed_end content rest kind n (2 * (4 * n)) h ∙ ap (λ (w : List ℕ). header_words ++ w) one.ends ∙ sym (append_assoc header_words one.front contents) ∙ ap (λ (w : List ℕ). (header_words ++ one.front) ++ w) (before.1 ∙ ap (λ (w : List ℕ). before.0 ++ w) first.contents_joined) ∙ sym (append_assoc (header_words ++ one.front) before.0 (value_content ++ cs)) in
+              some_field bytes name t one.value spot one.under (Marks-part bytes parent t m spot one.value value_kind ((header_words ++ one.front) ++ before.0) value_content cs joined k e s (λ form top d.
+              let other = field_value form top d in
+              let same : other.value ≡ one.value = some_injective (sym other.under ∙ one.under) in
+              let begin = entry other.at.parts other.at.left other.at.before in
+              let (same_kind, same_content, same_words, same_contents) = BeginWith-unique _ _ _ _ _ _ _ _ _ _ begin other.at.begin in
+              rw (same_kind, same_content, ← same) other.at.part))

@@ -1,0 +1,281 @@
+-- Spots of children within the content of a spot.
+use Rattle.std.proofs.Common.{◌≡◌, ◌≢◌, ℕ, ◌+◌, ◌-◌, ◌*◌, ◌^◌, ◌<◌, ◌≤◌, List, [], ◌∷◌, ◌++◌, length, take, drop, refl, sym, ap, ◌∙◌, arith, ◌⊎◌, Some, None, Ok, append_assoc}
+use Rattle.std.proofs.lemmas.List.{length-append, length-take-le, length-drop, drop_at, drop-take, drop-drop, take-append-drop, append-nil}
+use Rattle.std.proofs.Math.Seq.{take-add}
+use Rattle.std.proofs.lemmas.Slice.{between_to_end}
+use Rattle.std.specs.Prelude.{slice_range}
+use Rattle.jsonb_doc.specs.Tree.{Tree, null, boolean, number, text, extension, array, object, Trees, no_trees, tree, Pairs, trees_of, elements, values, keys, children_of, field_of}
+use Rattle.jsonb_doc.specs.Payload.{Reading, Form, any, reading, number_of}
+use Rattle.jsonb_doc.specs.Format.{Decodes, HeadedBy, header, entry_word, BeginWith, IsContent, AreEntries, AreValues, key_bytes}
+use Rattle.jsonb_doc.specs.Answer.{SameOption}
+use Rattle.jsonb_doc.specs.Lengths.{StartWith, StandBefore, HoldKeys}
+use Rattle.jsonb_doc.specs.Spots.{Marks, HasSpotsLeft, TakesSpot, spot_content}
+use Rattle.jsonb_doc.specs.declared.spot.Spot.{Spot}
+use Rattle.jsonb_doc.specs.declared.spot_iter.SpotIter.{SpotIter}
+use Rattle.jsonb_doc.proofs.Words.{append_cancel, word_cancel}
+use Rattle.jsonb_doc.proofs.Entries.{BeginWith-long, BeginWith-room, BeginWith-unique}
+use Rattle.jsonb_doc.proofs.Containers.{HasContent-headed, HasContent-kind, array_content, object_content, array_elements, entries_of}
+use Rattle.jsonb_doc.proofs.PairsLemmas.{object_pairs}
+use Rattle.jsonb_doc.proofs.LengthsLemmas.{HoldKeys-before}
+use Rattle.jsonb_doc.proofs.CanonicalLemmas.{in_any}
+use Rattle.jsonb_doc.proofs.Unique.{document_unique}
+
+-- ---- parts of bytes
+
+length_range : (bytes : List ℕ) (s e : ℕ) → s ≤ e → e ≤ length bytes → length (slice_range bytes s e) ≡ e - s
+length_range bytes s e ordered within = length-take-le (e - s) (drop s bytes) (omega (arith, length-drop s bytes))
+
+-- a part of a range of bytes is a range of them
+pub range_part : (bytes : List ℕ) (s e a b : ℕ) (front part back : List ℕ) → s ≤ e → e ≤ length bytes → slice_range bytes s e ≡ front ++ (part ++ back) → b ≡ e - length back → a ≡ b - length part
+    → (a ≤ b) × (b ≤ e) × (slice_range bytes a b ≡ part)
+range_part bytes s e a b front part back ordered within joined ends begins =
+    let whole = length_range bytes s e ordered within in
+    let sum = ap length joined ∙ length-append front (part ++ back) in
+    let both = length-append part back in
+    let from : s + length front ≡ a = omega (arith, whole, sum, both) in
+    let size : e - s ≡ length front + (length part + length back) = omega (arith, whole, sum, both) in
+    let behind : take (length part + length back) (drop (length front) (drop s bytes)) ≡ part ++ back =
+    sym (drop-take (length front) (length part + length back) (drop s bytes)) ∙ ap (λ (n : ℕ). drop (length front) (take n (drop s bytes))) (sym size) ∙ ap (drop (length front)) joined ∙ drop_at front (part ++ back) (length front) refl in
+    let there : drop (length front) (drop s bytes) ≡ drop a bytes = drop-drop (length front) s bytes ∙ ap (λ (n : ℕ). drop n bytes) from in
+    let split : part ++ back ≡ take (length part) (drop a bytes) ++ take (length back) (drop (length part) (drop a bytes)) =
+    sym behind ∙ ap (take (length part + length back)) there ∙ take-add (length part) (length back) (drop a bytes) in
+    let long : length (take (length part) (drop a bytes)) ≡ length part = length-take-le (length part) (drop a bytes) (omega (arith, length-drop a bytes, whole, sum, both)) in
+    let cut = append_cancel part back (take (length part) (drop a bytes)) (take (length back) (drop (length part) (drop a bytes))) (sym long) split in
+    let wide : b - a ≡ length part = omega (arith, whole, sum, both) in
+    (omega arith, omega arith, ap (λ (n : ℕ). take n (drop a bytes)) wide ∙ sym cut.0)
+
+-- the front and the rest of a range
+pub range_front : (bytes : List ℕ) (s e n : ℕ) → s + n ≤ e → e ≤ length bytes → slice_range bytes s (s + n) ≡ take n (slice_range bytes s e)
+range_front bytes s e n fits within =
+    let whole = length_range bytes s e (omega arith) within in
+    let len = length-take-le n (slice_range bytes s e) (omega (arith, whole)) in
+    let rest = length-drop n (slice_range bytes s e) in
+    (range_part bytes s e s (s + n) [] (take n (slice_range bytes s e)) (drop n (slice_range bytes s e)) (omega arith) within (sym (take-append-drop n (slice_range bytes s e))) (omega (arith, whole, rest)) (omega (arith, len))).2
+
+pub range_rest : (bytes : List ℕ) (s e n : ℕ) → s + n ≤ e → e ≤ length bytes → slice_range bytes (s + n) e ≡ drop n (slice_range bytes s e)
+range_rest bytes s e n fits within =
+    let whole = length_range bytes s e (omega arith) within in
+    let rest = length-drop n (slice_range bytes s e) in
+    let joined : slice_range bytes s e ≡ take n (slice_range bytes s e) ++ (drop n (slice_range bytes s e) ++ []) = sym (take-append-drop n (slice_range bytes s e)) ∙ ap (λ (w : List ℕ). take n (slice_range bytes s e) ++ w) (sym (append-nil (drop n (slice_range bytes s e)))) in
+    (range_part bytes s e (s + n) e (take n (slice_range bytes s e)) (drop n (slice_range bytes s e)) [] (omega arith) within joined (omega arith) (omega (arith, whole, rest))).2
+
+-- the end of a range
+pub range_end : (bytes : List ℕ) (s e : ℕ) (front back : List ℕ) → s ≤ e → e ≤ length bytes → slice_range bytes s e ≡ front ++ back
+    → (e - length back ≤ e) × (slice_range bytes (e - length back) e ≡ back)
+range_end bytes s e front back ordered within joined =
+    let found = range_part bytes s e (e - length back) e front back [] ordered within (joined ∙ ap (λ (w : List ℕ). front ++ w) (sym (append-nil back))) (omega arith) refl in
+    (found.0, found.2)
+
+pub trees_of-elements : (ts : Trees) → trees_of (elements ts) ≡ ts
+trees_of-elements no_trees = refl
+trees_of-elements (tree t ts) = ap (tree t) (trees_of-elements ts)
+
+-- ---- an iterator and its first spot
+
+-- the first entry, by its word, where the contents are long enough
+StartWith-begin : (words contents others : List ℕ) (kind len : ℕ) → StartWith words kind len others → len ≤ length contents → BeginWith words contents kind (take len contents) others (drop len contents)
+StartWith-begin words contents others kind len w fits =
+    let same = length-take-le len contents fits in
+    record {
+      known = w.known;
+      fits = rw same w.fits;
+      words_joined = w.joined ∙ ap (λ (n : ℕ). entry_word kind n ++ others) (sym same);
+      contents_joined = sym (take-append-drop len contents);
+    }
+
+-- the word of the first entry tells how long it is
+StartWith-length : (words contents others : List ℕ) (kind len : ℕ) (k : ℕ) (content ws cs : List ℕ) → StartWith words kind len others → BeginWith words contents k content ws cs → len ≤ length contents
+StartWith-length words contents others kind len k content ws cs w b =
+    let known = w.known in
+    let fits = w.fits in
+    let known' = b.known in
+    let fits' = b.fits in
+    let both = word_cancel (kind * 2 ^ 28 + len) (k * 2 ^ 28 + length content) others ws (omega arith) (omega arith) (sym w.joined ∙ b.words_joined) in
+    omega (arith, both.0, BeginWith-room words contents k content ws cs b)
+
+first_part : (number_at : Reading) (t : Tree) (ts : Trees) (words contents : List ℕ) (kind : ℕ) (content ws cs : List ℕ) → BeginWith words contents kind content ws cs → AreEntries number_at (tree t ts) words contents
+    → IsContent number_at t kind content × AreEntries number_at ts ws cs
+first_part number_at t ts words contents kind content ws cs b e =
+    let (same_kind, same_content, same_words, same_contents) = BeginWith-unique words contents kind e.kind content e.content ws e.other_words cs e.other_contents b e.begin in
+    rw (same_kind, same_content, same_words, same_contents) (e.part, e.others)
+
+module _ (bytes : List ℕ) (it : SpotIter) where
+  pub HasSpotsLeft-empty : (ts : List Tree) (after : SpotIter) → length it.words.now ≡ 0 → after ≡ it → HasSpotsLeft bytes it ts → TakesSpot bytes ts None after
+  HasSpotsLeft-empty [] after none same h = rw same h
+  HasSpotsLeft-empty (t ∷ ts) after none same h =
+      let e = h.entries any h.whole h.decodes in
+      absurd (omega (arith, BeginWith-long _ _ e.kind e.content e.other_words e.other_contents e.begin))
+
+  -- words that aren't none begin with one
+  pub HasSpotsLeft-word : (ts : List Tree) → 0 < length it.words.now → ((kind len : ℕ) (others : List ℕ) → StartWith it.words.now kind len others → ⊥) → HasSpotsLeft bytes it ts → ⊥
+  HasSpotsLeft-word [] some none h = omega (arith, ap length (h.entries any h.whole h.decodes).0)
+  HasSpotsLeft-word (t ∷ ts) some none h =
+      let e = h.entries any h.whole h.decodes in
+      none e.kind (length e.content) e.other_words (record { known = e.begin.known; fits = e.begin.fits; joined = e.begin.words_joined })
+
+  module _ (kind len : ℕ) (others : List ℕ) (w : StartWith it.words.now kind len others) where
+    -- the first content is within the container
+    pub HasSpotsLeft-fits : (ts : List Tree) → HasSpotsLeft bytes it ts → it.start + len ≤ it.end
+    HasSpotsLeft-fits [] h = absurd (omega (arith, ap length (h.entries any h.whole h.decodes).0, ap length w.joined))
+    HasSpotsLeft-fits (t ∷ ts) h =
+        let e = h.entries any h.whole h.decodes in
+        let fits = StartWith-length _ _ others kind len e.kind e.content e.other_words e.other_contents w e.begin in
+        let ordered = h.ordered in
+        omega (arith, fits, length_range bytes it.start it.end h.ordered h.within)
+
+    -- the first spot is that of the first tree, and the others are left
+    pub HasSpotsLeft-first : (ts : List Tree) (spot : Spot) (after : SpotIter) → spot.kind ≡ kind → spot.start ≡ it.start → spot.end ≡ it.start + len
+        → after.words.now ≡ others → after.start ≡ it.start + len → after.end ≡ it.end → HasSpotsLeft bytes it ts → TakesSpot bytes ts (Some (Ok spot)) after
+    HasSpotsLeft-first [] spot after k s e words start end h = absurd (omega (arith, ap length (h.entries any h.whole h.decodes).0, ap length w.joined))
+    HasSpotsLeft-first (t ∷ ts) spot after k s e words start end h =
+        let within = h.within in
+        let fits = HasSpotsLeft-fits (t ∷ ts) h in
+        let long : len ≤ length (slice_range bytes it.start it.end) = omega (arith, fits, length_range bytes it.start it.end h.ordered h.within) in
+        let first = λ (form : Form) (top : Tree) (d : Decodes form bytes top). first_part (reading form) t (trees_of ts) _ _ kind _ _ _ (StartWith-begin _ _ others kind len w long) (h.entries form top d) in (
+          record {
+            whole = h.whole;
+            decodes = h.decodes;
+            ordered = omega arith;
+            within = omega arith;
+            content = λ form top d. rw (k, s, e, range_front bytes it.start it.end len fits within) (first form top d).0;
+          },
+          record {
+            whole = h.whole;
+            decodes = h.decodes;
+            ordered = omega arith;
+            within = omega arith;
+            entries = λ form top d. rw (words, start, end, range_rest bytes it.start it.end len fits within) (first form top d).1;
+          },
+        )
+
+-- ---- spots
+
+-- the spot of a part of all the bytes
+pub Marks-root : (bytes : List ℕ) (spot : Spot) (t : Tree) (kind : ℕ) (front content back : List ℕ) → bytes ≡ front ++ (content ++ back) → spot.kind ≡ kind → spot.end ≡ length bytes - length back → spot.start ≡ spot.end - length content
+    → Decodes any bytes t → ((form : Form) (top : Tree) → Decodes form bytes top → IsContent (reading form) top kind content) → Marks bytes spot t
+Marks-root bytes spot t kind front content back joined k e s h part =
+    let all : slice_range bytes 0 (length bytes) ≡ bytes = between_to_end bytes 0 (length bytes) (omega arith) in
+    let found = range_part bytes 0 (length bytes) spot.start spot.end front content back (omega arith) (omega arith) (all ∙ joined) e s in
+    record {
+      whole = t;
+      decodes = h;
+      ordered = found.0;
+      within = found.1;
+      content = λ form top d.
+          let same : top ≡ t = document_unique number_of top t bytes (in_any form top bytes d).document h.document in
+          rw (k, found.2, ← same) (part form top d);
+    }
+
+module _ (bytes : List ℕ) (parent : Spot) (t : Tree) (m : Marks bytes parent t) where
+  -- the spot of a part of a content
+  pub Marks-part : (spot : Spot) (u : Tree) (kind : ℕ) (front content back : List ℕ) → spot_content bytes parent ≡ front ++ (content ++ back) → spot.kind ≡ kind → spot.end ≡ parent.end - length back → spot.start ≡ spot.end - length content
+      → ((form : Form) (top : Tree) → Decodes form bytes top → IsContent (reading form) u kind content) → Marks bytes spot u
+  Marks-part spot u kind front content back joined k e s part =
+      let within = m.within in
+      let found = range_part bytes parent.start parent.end spot.start spot.end front content back m.ordered m.within joined e s in
+      record {
+        whole = m.whole;
+        decodes = m.decodes;
+        ordered = found.0;
+        within = omega (arith, found.1);
+        content = λ form top d. rw (k, found.2) (part form top d);
+      }
+
+  -- the spots of the entries at the end of a content
+  pub HasSpotsLeft-part : (it : SpotIter) (ts : Trees) (front contents : List ℕ) → spot_content bytes parent ≡ front ++ contents → it.start ≡ parent.end - length contents → it.end ≡ parent.end
+      → ((form : Form) (top : Tree) → Decodes form bytes top → AreEntries (reading form) ts it.words.now contents) → HasSpotsLeft bytes it (elements ts)
+  HasSpotsLeft-part it ts front contents joined s e entries =
+      let found = range_end bytes parent.start parent.end front contents m.ordered m.within joined in
+      let within = m.within in
+      record {
+        whole = m.whole;
+        decodes = m.decodes;
+        ordered = rw (s, e) found.0;
+        within = omega arith;
+        entries = λ form top d. rw (trees_of-elements ts, s, e, found.1) (entries form top d);
+      }
+
+  -- a scalar has no children and no fields
+  pub Marks-scalar : parent.kind ≢ 5 → (children_of t ≡ None) × ((name : List ℕ) → field_of name t ≡ None)
+  Marks-scalar scalar = go t (m.content any m.whole m.decodes)
+    where
+      go : (u : Tree) → IsContent number_of u parent.kind (spot_content bytes parent) → (children_of u ≡ None) × ((name : List ℕ) → field_of name u ≡ None)
+      go (array ts) h = absurd (scalar h.0)
+      go (object ps) h = absurd (scalar h.0)
+      go null h = (refl, λ name. refl)
+      go (boolean b) h = (refl, λ name. refl)
+      go (number n) h = (refl, λ name. refl)
+      go (text s) h = (refl, λ name. refl)
+      go (extension x) h = (refl, λ name. refl)
+
+pub no_children : (bytes : List ℕ) (t : Tree) → children_of t ≡ None → SameOption (HasSpotsLeft bytes) None (children_of t)
+no_children bytes t none = rw none tt
+
+pub some_children : (bytes : List ℕ) (t : Tree) (it : SpotIter) (ts : List Tree) → children_of t ≡ Some ts → HasSpotsLeft bytes it ts → SameOption (HasSpotsLeft bytes) (Some it) (children_of t)
+some_children bytes t it ts is h = rw is h
+
+pub no_field : (bytes name : List ℕ) (t : Tree) → field_of name t ≡ None → SameOption (Marks bytes) None (field_of name t)
+no_field bytes name t none = rw none tt
+
+pub some_field : (bytes name : List ℕ) (t u : Tree) (spot : Spot) → field_of name t ≡ Some u → Marks bytes spot u → SameOption (Marks bytes) (Some spot) (field_of name t)
+some_field bytes name t u spot is h = rw is h
+
+-- what stands behind the header and the words
+pub headed_end : (content rest : List ℕ) (kind entries n : ℕ) → HeadedBy content kind entries rest → content ≡ (header kind entries ++ take n rest) ++ drop n rest
+headed_end content rest kind entries n h =
+    h.joined ∙ ap (λ (w : List ℕ). header kind entries ++ w) (sym (take-append-drop n rest)) ∙ sym (append_assoc (header kind entries) (take n rest) (drop n rest))
+
+-- ---- containers
+
+-- the parts of an object behind its header
+pub record ObjectAt (number_at : Reading) (ps : Pairs) (n : ℕ) (rest : List ℕ) : Type 0 where
+  pub fits : 2 * (4 * n) ≤ length rest
+  pub found : List ℕ
+  pub holds : HoldKeys (keys ps) (take (4 * n) (take (2 * (4 * n)) rest)) (drop (2 * (4 * n)) rest) found
+  pub are_values : AreValues number_at ps (drop (4 * n) (take (2 * (4 * n)) rest)) found
+
+module _ (bytes : List ℕ) (parent : Spot) (t : Tree) (m : Marks bytes parent t) (content : List ℕ) (is : content ≡ spot_content bytes parent) (container : parent.kind ≡ 5) where
+  pub Marks-container : (form : Form) (top : Tree) → Decodes form bytes top → IsContent (reading form) t 5 content
+  Marks-container form top d = rw (is, ← container) (m.content form top d)
+
+  pub Marks-headed : (kind entries : ℕ) × (rest : List ℕ) × HeadedBy content kind entries rest
+  Marks-headed = HasContent-headed (reading any) content (t, Marks-container any m.whole m.decodes)
+
+  module _ (kind n : ℕ) (rest : List ℕ) (h : HeadedBy content kind n rest) where
+    pub Marks-kind : (kind ≡ 2) ⊎ (kind ≡ 4)
+    Marks-kind = HasContent-kind (reading any) content kind n rest h (t, Marks-container any m.whole m.decodes)
+
+    pub Marks-array : kind ≡ 4 → (ts : Trees) × (t ≡ array ts) × (4 * n ≤ length rest) × ((form : Form) (top : Tree) → Decodes form bytes top → AreEntries (reading form) ts (take (4 * n) rest) (drop (4 * n) rest))
+    Marks-array four =
+        let found = array_content any content kind n rest h t four (Marks-container any m.whole m.decodes) in
+        let at = λ (form : Form) (top : Tree) (d : Decodes form bytes top). array_elements (reading form) content kind n rest h found.0 (rw found.1 at (Marks-container form top d)) in
+        (found.0, found.1, (at any m.whole m.decodes).1, λ form top d. (at form top d).2)
+
+    pub Marks-object : kind ≡ 2 → (ps : Pairs) × (t ≡ object ps) × ((form : Form) (top : Tree) → Decodes form bytes top → ObjectAt (reading form) ps n rest)
+    Marks-object two =
+        let found = object_content any content kind n rest h t two (Marks-container any m.whole m.decodes) in (
+          found.0,
+          found.1,
+          λ form top d.
+              let parts = object_pairs (reading form) content kind n rest h found.0 (rw found.1 at (Marks-container form top d)) in
+              record {
+                fits = parts.0;
+                found = parts.1;
+                holds = record { are_keys = parts.2; words_joined = parts.3; bytes_joined = parts.4 };
+                are_values = parts.5;
+              },
+        )
+
+    pub array_children : (it : SpotIter) → kind ≡ 4 → it.words.now ≡ take (4 * n) rest → it.start ≡ parent.end - length (drop (4 * n) rest) → it.end ≡ parent.end → SameOption (HasSpotsLeft bytes) (Some it) (children_of t)
+    array_children it four words start end =
+        let (ts, same, fits, entries) = Marks-array four in
+        some_children bytes t it (elements ts) (ap children_of same) (HasSpotsLeft-part bytes parent t m it ts (header kind n ++ take (4 * n) rest) (drop (4 * n) rest) (sym is ∙ headed_end content rest kind n (4 * n) h) start end (λ form top d. rw words (entries form top d)))
+
+    pub object_children : (it : SpotIter) (found : List ℕ) → kind ≡ 2 → ((parts : List (List ℕ)) (others : List ℕ) → StandBefore parts (take (4 * n) (take (2 * (4 * n)) rest)) (drop (2 * (4 * n)) rest) others → found ≡ others)
+        → it.words.now ≡ drop (4 * n) (take (2 * (4 * n)) rest) → it.start ≡ parent.end - length found → it.end ≡ parent.end → SameOption (HasSpotsLeft bytes) (Some it) (children_of t)
+    object_children it found two skips words start end =
+        let (ps, same, parts) = Marks-object two in
+        let skipped = λ (form : Form) (top : Tree) (d : Decodes form bytes top). let p = parts form top d in skips (keys ps) p.found (HoldKeys-before (keys ps) _ _ p.found p.holds) in
+        let p = parts any m.whole m.decodes in
+        let joined = sym is ∙ headed_end content rest kind n (2 * (4 * n)) h ∙ ap (λ (w : List ℕ). (header kind n ++ take (2 * (4 * n)) rest) ++ w) (p.holds.bytes_joined ∙ ap (λ (w : List ℕ). key_bytes (keys ps) ++ w) (sym (skipped any m.whole m.decodes))) ∙ sym (append_assoc (header kind n ++ take (2 * (4 * n)) rest) (key_bytes (keys ps)) found) in
+        some_children bytes t it (elements (values ps)) (ap children_of same) (HasSpotsLeft-part bytes parent t m it (values ps) ((header kind n ++ take (2 * (4 * n)) rest) ++ key_bytes (keys ps)) found joined start end (λ form top d. rw (words, skipped form top d) (entries_of (reading form) ps _ _ (parts form top d).are_values)))

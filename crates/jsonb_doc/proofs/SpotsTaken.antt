@@ -1,0 +1,66 @@
+-- What a caller knows of the spots that it was given.
+use Rattle.std.proofs.Common.{◌≡◌, ℕ, List, [], ◌∷◌, Option, Some, None, Result, Ok, Err, refl}
+use Rattle.jsonb_doc.specs.Tree.{Tree}
+use Rattle.jsonb_doc.specs.Payload.{Form, any}
+use Rattle.jsonb_doc.specs.Format.{Decodes}
+use Rattle.jsonb_doc.specs.Answer.{SameOption}
+use Rattle.jsonb_doc.specs.Spots.{Marks, HasSpotsLeft, TakesSpot}
+use Rattle.jsonb_doc.specs.declared.spot.Spot.{Spot}
+use Rattle.jsonb_doc.specs.declared.spot_iter.SpotIter.{SpotIter}
+use Rattle.jsonb_doc.specs.declared.error.Error.{Error}
+use Rattle.jsonb_doc.proofs.CanonicalLemmas.{in_any}
+
+-- bytes of either form decode, as `root_spot` asks
+pub decodes_any : (form : Form) (bytes : List ℕ) (top : Tree) → Decodes form bytes top → Decodes any bytes top
+decodes_any form bytes top d = in_any form top bytes d
+
+-- a spot that an iterator gave
+pub record TakenSpot (bytes : List ℕ) (ts : List Tree) (spot : Spot) (after : SpotIter) : Type 0 where
+  pub first : Tree
+  pub others : List Tree
+  pub whole : ts ≡ first ∷ others
+  pub marks : Marks bytes spot first
+  pub left : HasSpotsLeft bytes after others
+
+pub taken_spot : (bytes : List ℕ) (ts : List Tree) (r : Result Spot Error) (spot : Spot) (after : SpotIter) → r ≡ Ok spot → TakesSpot bytes ts (Some r) after → TakenSpot bytes ts spot after
+taken_spot bytes ts r spot after is h = go ts (rw is at h)
+  where
+    go : (us : List Tree) → TakesSpot bytes us (Some (Ok spot)) after → TakenSpot bytes us spot after
+    go [] k = absurd k
+    go (t ∷ us) k = record { first = t; others = us; whole = refl; marks = k.0; left = k.1 }
+
+-- an iterator of bytes that decode refuses nothing
+pub no_refusal : (bytes : List ℕ) (ts : List Tree) (r : Result Spot Error) (e : Error) (after : SpotIter) → r ≡ Err e → TakesSpot bytes ts (Some r) after → ⊥
+no_refusal bytes ts r e after is h = go ts (rw is at h)
+  where
+    go : (us : List Tree) → TakesSpot bytes us (Some (Err e)) after → ⊥
+    go [] k = k
+    go (t ∷ us) k = k
+
+-- no tree is left at the end
+pub no_spots_left : (bytes : List ℕ) (ts : List Tree) (after : SpotIter) → TakesSpot bytes ts None after → ts ≡ []
+no_spots_left bytes [] after h = refl
+no_spots_left bytes (t ∷ ts) after h = absurd h
+
+-- a container has an iterator over its children
+pub some_spots : (bytes : List ℕ) (it : SpotIter) (found : Option (List Tree)) → SameOption (HasSpotsLeft bytes) (Some it) found → (ts : List Tree) × (found ≡ Some ts) × HasSpotsLeft bytes it ts
+some_spots bytes it (Some ts) h = (ts, refl, h)
+some_spots bytes it None h = absurd h
+
+-- an item without an iterator has no children
+pub no_spots : (bytes : List ℕ) (found : Option (List Tree)) → SameOption (HasSpotsLeft bytes) None found → found ≡ None
+no_spots bytes (Some ts) h = absurd h
+no_spots bytes None h = refl
+
+-- a spot of a part that is there
+pub some_spot : (bytes : List ℕ) (spot : Spot) (found : Option Tree) → SameOption (Marks bytes) (Some spot) found → (t : Tree) × (found ≡ Some t) × Marks bytes spot t
+some_spot bytes spot (Some t) h = (t, refl, h)
+some_spot bytes spot None h = absurd h
+
+pub no_spot : (bytes : List ℕ) (found : Option Tree) → SameOption (Marks bytes) None found → found ≡ None
+no_spot bytes (Some t) h = absurd h
+no_spot bytes None h = refl
+
+-- what is found is the spot of the part that is wanted
+pub same_found : (bytes : List ℕ) (r : Option Spot) (wanted found : Option Tree) → wanted ≡ found → SameOption (Marks bytes) r found → SameOption (Marks bytes) r wanted
+same_found bytes r wanted found is h = rw is h

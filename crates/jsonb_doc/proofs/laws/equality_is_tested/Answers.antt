@@ -1,0 +1,5 @@
+use Rattle.jsonb_doc.specs.EqualLaws.{is_equal-IsEqual}
+use Rattle.jsonb_doc.proofs.laws.equality_is_tested.Goals as goal
+
+pub returns : goal.returns
+returns c = is_equal-IsEqual

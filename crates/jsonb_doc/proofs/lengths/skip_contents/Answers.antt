@@ -1,0 +1,11 @@
+use Rattle.jsonb_doc.proofs.LengthsLemmas.{StandBefore-joined, IsPart-some, IsPart-size}
+use Rattle.jsonb_doc.proofs.lengths.skip_contents.Goals as goal
+
+pub returns-clause-rest : goal.returns-clause-rest
+returns-clause-rest c = λ parts rest h.
+    let joined = StandBefore-joined parts _ _ rest h in
+    let sum = c.contents_len.ensures parts _ rest h in
+    IsPart-some _ joined.0 rest _ c.get.result joined.1 sum c.get.ensures.lookup
+
+pub returns-clause-size : goal.returns-clause-size
+returns-clause-size c = IsPart-size _ _ c.get.result c.get.ensures.lookup

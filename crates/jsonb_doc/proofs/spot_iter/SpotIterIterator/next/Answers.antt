@@ -1,0 +1,48 @@
+use Rattle.std.proofs.Common.{arith, rules, refl, ◌∙◌, ◌<◌, ◌+◌}
+use Rattle.std.proofs.lemmas.Grind.{common_steps}
+use Rattle.jsonb_doc.proofs.SpotsLemmas.{HasSpotsLeft-empty, HasSpotsLeft-word, HasSpotsLeft-fits, HasSpotsLeft-first}
+use Rattle.jsonb_doc.proofs.spot_iter.SpotIterIterator.next.Goals as goal
+use Rattle.jsonb_doc.proofs.spot_iter.SpotIterIterator.next.Goals.{in_default-checked_add-via-in-Some-checked_add+else-end-self, in_default-checked_add-via-in_default-checked_add}
+
+pub returns-then-is_empty-clause-steps : goal.returns-then-is_empty-clause-steps
+returns-then-is_empty-clause-steps c = record {
+  takes = λ bytes ts h. HasSpotsLeft-empty bytes c.args.self.now ts c.args.self.now (grind (arith, common_steps)) refl h;
+  errors = search rules;
+  size = search rules;
+  room = omega arith;
+}
+
+pub returns-in_default-clause-steps : goal.returns-in_default-clause-steps
+returns-in_default-clause-steps c = record {
+  takes = λ bytes ts h. absurd (HasSpotsLeft-word bytes c.args.self.now ts (grind (arith, common_steps)) c.in_default.ensures.word h);
+  errors = search rules;
+  size = search rules;
+  room = omega arith;
+}
+
+pub returns-in-Some-checked_add-clause-steps : goal.returns-in-Some-checked_add-clause-steps
+returns-in-Some-checked_add-clause-steps c =
+    let sum = c.in-Some-checked_add.ensures in
+    let start = c.new.ensures.start in
+    let end = c.new.ensures.end ∙ sum.1 in
+    record {
+      takes = λ bytes ts h.
+          HasSpotsLeft-first bytes c.args.self.now c.in-Some.kind c.in-Some.len c.in-Some.others.now c.in-Some.ensures.word ts c.new.result _ c.new.ensures.kind start end refl sum.1 refl h;
+      errors = search rules;
+      size = omega (arith, sum.1, start, end);
+      room = omega (arith, sum.1);
+    }
+
+pub returns-in_default-checked_add-clause-steps : goal.returns-in_default-checked_add-clause-steps
+returns-in_default-checked_add-clause-steps c =
+    let past : c.args.self.now.end < c.args.self.now.start + c.in-Some.len = elim c.in_default-checked_add.branch [
+      | in_default-checked_add-via-in-Some-checked_add+else-end-self w ↦ omega (arith, w.in-Some-checked_add.ensures)
+      | in_default-checked_add-via-in_default-checked_add w ↦ omega (arith, w.in_default-checked_add.ensures)
+    ] in
+    record {
+      takes = λ bytes ts h.
+          absurd (omega (arith, past, HasSpotsLeft-fits bytes c.args.self.now c.in-Some.kind c.in-Some.len c.in-Some.others.now c.in-Some.ensures.word ts h));
+      errors = search rules;
+      size = search rules;
+      room = omega arith;
+    }

@@ -1,0 +1,66 @@
+//! Contents that are passed over by the lengths in their entry words.
+
+ghost use Rattle.std.specs.Prelude.{◌≡◌, ℕ, ◌+◌, ◌^◌, ◌<◌, ◌≤◌, List, MatchOption, IsSomeAnd, IfSome, length, take, drop};
+ghost use Rattle.jsonb_doc.specs.Format.{BeginWith};
+ghost use Rattle.jsonb_doc.specs.Lengths.{StandBefore, StartWith};
+
+use crate::word::{Entry, KINDS, LENGTHS, split_entry, split_word};
+
+/// How long the contents of these entry words are, all together.
+pub fn contents_len(words: &[u8]) -> usize
+    requires { length words.now < 2 ^ 32 }
+    ensures { (parts : List (List ℕ)) (contents rest : List ℕ) → StandBefore parts words.now contents rest
+        → result + length rest ≡ length contents }
+{
+    let mut len = 0;
+    let mut left = words;
+    while let Some((word, others)) = split_word(left) {
+        len += (word % LENGTHS) as usize;
+        left = others;
+    }
+    len
+}
+
+/// What follows the contents of these entry words, where there are as many bytes.
+pub fn skip_contents<'a>(words: &[u8], contents: &'a [u8]) -> Option<&'a [u8]>
+    requires { length words.now < 2 ^ 32 }
+    ensures rest { (parts : List (List ℕ)) (rest : List ℕ) → StandBefore parts words.now contents.now rest
+        → IsSomeAnd result (λ r. r.now ≡ rest) }
+    ensures size { IfSome result (λ r. length r.now ≤ length contents.now) }
+{
+    contents.get(contents_len(words)..)
+}
+
+/// The first entry behind this many bytes of entry words.
+pub fn entry_behind<'w, 'c>(
+    words: &'w [u8],
+    passed: usize,
+    contents: &'c [u8],
+) -> Option<Entry<'w, 'c>>
+    requires within { passed ≤ length words.now }
+    requires short { length words.now < 2 ^ 32 }
+    ensures entry { (parts : List (List ℕ)) (left : List ℕ) → StandBefore parts (take passed words.now) contents.now left
+        → MatchOption result
+        ((kind : ℕ) (content ws cs : List ℕ) → BeginWith (drop passed words.now) left kind content ws cs → ⊥)
+        (λ e. BeginWith (drop passed words.now) left e.kind e.content.now e.other_words.now e.other_contents.now) }
+    ensures size { IfSome result (λ e. length e.content.now + length e.other_contents.now ≤ length contents.now) }
+{
+    let (before, others) = words.split_at(passed);
+    let left = skip_contents(before, contents)?;
+    split_entry(others, left)
+}
+
+/// The kind and the length that the first entry word tells, and the words after it.
+pub fn split_entry_word(words: &[u8]) -> Option<(u32, usize, &[u8])>
+    ensures word { MatchOption result
+        ((kind len : ℕ) (others : List ℕ) → StartWith words.now kind len others → ⊥)
+        (λ r. StartWith words.now r.0 r.1 r.2.now) }
+    ensures size { IfSome result (λ r. length r.2.now + 4 ≡ length words.now) }
+{
+    let (word, others) = split_word(words)?;
+    let kind = word / LENGTHS;
+    if kind >= KINDS {
+        return None;
+    }
+    Some((kind, (word % LENGTHS) as usize, others))
+}

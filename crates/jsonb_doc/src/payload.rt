@@ -1,0 +1,272 @@
+//! How numbers and extension values are written.
+ghost use Rattle.std.specs.Prelude.{◌≡◌, ◌≤◌, ◌++◌, [], ◌∷◌, length, pos, OnOk, OnErr};
+ghost use Rattle.std.specs.Int.{w32, w64, w128};
+ghost use Rattle.byteorder.specs.Endian.{big_bytes};
+ghost use Rattle.jsonb_doc.specs.Number.{int64, uint64, decimal64, decimal128, number_from, FitsNumber};
+ghost use Rattle.jsonb_doc.specs.Extension.{binary, date, timestamp, timestamp_tz, interval, FitsExtension};
+ghost use Rattle.jsonb_doc.specs.Payload.{fixed_bytes, unsigned_width, signed_size, number_payload_of, number_payload, extension_payload};
+ghost use Rattle.jsonb_doc.specs.Encoding.{StaysInFront};
+ghost use Rattle.jsonb_doc.specs.View.{number_view, extension_view};
+
+use crate::extension::ExtensionValue;
+use crate::number::Number;
+use std::alloc::AllocError;
+
+/// In how many bytes an unsigned number is stored.
+fn unsigned_width_of(n: u64) -> usize
+    ensures { result ≡ unsigned_width n }
+{
+    if n < 0x100 {
+        1
+    } else if n < 0x1_0000 {
+        2
+    } else if n < 0x1_0000_0000 {
+        4
+    } else {
+        8
+    }
+}
+
+/// An unsigned number that needs as many bytes as this signed one does.
+fn signed_size_of(value: i64) -> u64
+    ensures { result ≡ signed_size value }
+{
+    if value < 0 {
+        2 * (-(value + 1)) as u64
+    } else {
+        2 * value as u64
+    }
+}
+
+/// How many bytes the payload of an `Int64` has.
+fn int64_len(value: i64) -> usize
+    ensures { result ≡ length (number_payload_of int64 value 0) }
+{
+    if value == 0 {
+        1
+    } else {
+        1 + unsigned_width_of(signed_size_of(value))
+    }
+}
+
+/// How many bytes the payload of a `UInt64` has.
+fn uint64_len(value: u64) -> usize
+    ensures { result ≡ length (number_payload_of uint64 (pos value) 0) }
+{
+    if value == 0 {
+        1
+    } else {
+        1 + unsigned_width_of(value)
+    }
+}
+
+/// How many bytes the payload of a `Decimal64` has.
+fn decimal64_len(value: i64, scale: u8) -> usize
+    ensures { result ≡ length (number_payload_of decimal64 value scale) }
+{
+    if value == 0 { 1 } else { 10 }
+}
+
+/// How many bytes the payload of a `Decimal128` has.
+fn decimal128_len(value: i128, scale: u8) -> usize
+    ensures { result ≡ length (number_payload_of decimal128 value scale) }
+{
+    if value == 0 { 1 } else { 18 }
+}
+
+/// How many bytes the payload of a number has.
+pub fn number_len(number: Number) -> usize
+    ensures { result ≡ length (number_payload (number_view number)) }
+{
+    match number {
+        Number::Int64(value) => int64_len(value),
+        Number::UInt64(value) => uint64_len(value),
+        Number::Decimal64(decimal) => decimal64_len(decimal.value, decimal.scale),
+        Number::Decimal128(decimal) => decimal128_len(decimal.value, decimal.scale),
+    }
+}
+
+/// Puts the lowest bytes of the number at the end, the highest of them first.
+fn push_low_bytes(out: &mut Vec<u8>, n: u64, width: usize) -> Result<(), AllocError>
+    requires { width ≤ 8 }
+    ensures pushed { OnOk result (out.new.items ≡ out.old.items ++ big_bytes width n) }
+    ensures unchanged { OnErr result (out.new.items ≡ out.old.items) }
+{
+    out.extend_from_slice(&n.to_be_bytes()[8 - width..])
+}
+
+/// Puts the bytes of the number at the end, the highest first.
+fn push_i32(out: &mut Vec<u8>, value: i32) -> Result<(), AllocError>
+    ensures pushed { OnOk result (out.new.items ≡ out.old.items ++ fixed_bytes w32 value) }
+    ensures unchanged { OnErr result (out.new.items ≡ out.old.items) }
+{
+    out.extend_from_slice(&value.to_be_bytes())
+}
+
+fn push_i64(out: &mut Vec<u8>, value: i64) -> Result<(), AllocError>
+    ensures pushed { OnOk result (out.new.items ≡ out.old.items ++ fixed_bytes w64 value) }
+    ensures unchanged { OnErr result (out.new.items ≡ out.old.items) }
+{
+    out.extend_from_slice(&value.to_be_bytes())
+}
+
+fn push_i128(out: &mut Vec<u8>, value: i128) -> Result<(), AllocError>
+    ensures pushed { OnOk result (out.new.items ≡ out.old.items ++ fixed_bytes w128 value) }
+    ensures unchanged { OnErr result (out.new.items ≡ out.old.items) }
+{
+    out.extend_from_slice(&value.to_be_bytes())
+}
+
+fn push_int64(out: &mut Vec<u8>, value: i64) -> Result<(), AllocError>
+    ensures pushed { OnOk result (out.new.items ≡ out.old.items ++ number_payload_of int64 value 0) }
+    ensures kept { OnErr result (StaysInFront out.old.items out.new.items) }
+    ensures fits { FitsNumber (number_from int64 value 0) }
+{
+    if value == 0 {
+        out.push(0x00)?;
+        return Ok(());
+    }
+    out.push(0x40)?;
+    let width = unsigned_width_of(signed_size_of(value));
+    push_low_bytes(out, value.cast_unsigned(), width)
+}
+
+fn push_uint64(out: &mut Vec<u8>, value: u64) -> Result<(), AllocError>
+    ensures pushed { OnOk result (out.new.items ≡ out.old.items ++ number_payload_of uint64 (pos value) 0) }
+    ensures kept { OnErr result (StaysInFront out.old.items out.new.items) }
+    ensures fits { FitsNumber (number_from uint64 (pos value) 0) }
+{
+    if value == 0 {
+        out.push(0x00)?;
+        return Ok(());
+    }
+    out.push(0x50)?;
+    push_low_bytes(out, value, unsigned_width_of(value))
+}
+
+fn push_decimal64(out: &mut Vec<u8>, value: i64, scale: u8) -> Result<(), AllocError>
+    ensures pushed { OnOk result (out.new.items ≡ out.old.items ++ number_payload_of decimal64 value scale) }
+    ensures kept { OnErr result (StaysInFront out.old.items out.new.items) }
+    ensures fits { FitsNumber (number_from decimal64 value scale) }
+{
+    if value == 0 {
+        out.push(0x00)?;
+        return Ok(());
+    }
+    out.push(0x70)?;
+    push_i64(out, value)?;
+    out.push(scale)?;
+    Ok(())
+}
+
+fn push_decimal128(out: &mut Vec<u8>, value: i128, scale: u8) -> Result<(), AllocError>
+    ensures pushed { OnOk result (out.new.items ≡ out.old.items ++ number_payload_of decimal128 value scale) }
+    ensures kept { OnErr result (StaysInFront out.old.items out.new.items) }
+    ensures fits { FitsNumber (number_from decimal128 value scale) }
+{
+    if value == 0 {
+        out.push(0x00)?;
+        return Ok(());
+    }
+    out.push(0x70)?;
+    push_i128(out, value)?;
+    out.push(scale)?;
+    Ok(())
+}
+
+/// Puts the payload of a number at the end, each zero as one byte.
+pub fn push_number_payload(out: &mut Vec<u8>, number: Number) -> Result<(), AllocError>
+    ensures pushed { OnOk result (out.new.items ≡ out.old.items ++ number_payload (number_view number)) }
+    ensures kept { OnErr result (StaysInFront out.old.items out.new.items) }
+    ensures fits { FitsNumber (number_view number) }
+{
+    match number {
+        Number::Int64(value) => push_int64(out, value),
+        Number::UInt64(value) => push_uint64(out, value),
+        Number::Decimal64(decimal) => push_decimal64(out, decimal.value, decimal.scale),
+        Number::Decimal128(decimal) => push_decimal128(out, decimal.value, decimal.scale),
+    }
+}
+
+/// How many bytes the payload of an extension value has.
+pub fn extension_len(value: &ExtensionValue<'_>) -> usize
+    ensures { result ≡ length (extension_payload (extension_view value.now)) }
+{
+    match value {
+        ExtensionValue::Binary(bytes) => 1 + bytes.len(),
+        ExtensionValue::Date(_) => 5,
+        ExtensionValue::Timestamp(_) => 9,
+        ExtensionValue::TimestampTz(_) => 13,
+        ExtensionValue::Interval(_) => 17,
+    }
+}
+
+fn push_binary(out: &mut Vec<u8>, bytes: &[u8]) -> Result<(), AllocError>
+    ensures pushed { OnOk result (out.new.items ≡ out.old.items ++ extension_payload (binary bytes.now)) }
+    ensures kept { OnErr result (StaysInFront out.old.items out.new.items) }
+    ensures fits { FitsExtension (binary bytes.now) }
+{
+    out.push(0x00)?;
+    out.extend_from_slice(bytes)
+}
+
+fn push_date(out: &mut Vec<u8>, value: i32) -> Result<(), AllocError>
+    ensures pushed { OnOk result (out.new.items ≡ out.old.items ++ extension_payload (date value)) }
+    ensures kept { OnErr result (StaysInFront out.old.items out.new.items) }
+    ensures fits { FitsExtension (date value) }
+{
+    out.push(0x10)?;
+    push_i32(out, value)
+}
+
+fn push_timestamp(out: &mut Vec<u8>, value: i64) -> Result<(), AllocError>
+    ensures pushed { OnOk result (out.new.items ≡ out.old.items ++ extension_payload (timestamp value)) }
+    ensures kept { OnErr result (StaysInFront out.old.items out.new.items) }
+    ensures fits { FitsExtension (timestamp value) }
+{
+    out.push(0x20)?;
+    push_i64(out, value)
+}
+
+fn push_timestamp_tz(out: &mut Vec<u8>, offset: i32, value: i64) -> Result<(), AllocError>
+    ensures pushed { OnOk result (out.new.items ≡ out.old.items ++ extension_payload (timestamp_tz offset value)) }
+    ensures kept { OnErr result (StaysInFront out.old.items out.new.items) }
+    ensures fits { FitsExtension (timestamp_tz offset value) }
+{
+    out.push(0x30)?;
+    push_i32(out, offset)?;
+    push_i64(out, value)
+}
+
+fn push_interval(out: &mut Vec<u8>, months: i32, days: i32, micros: i64) -> Result<(), AllocError>
+    ensures pushed { OnOk result (out.new.items ≡ out.old.items ++ extension_payload (interval months days micros)) }
+    ensures kept { OnErr result (StaysInFront out.old.items out.new.items) }
+    ensures fits { FitsExtension (interval months days micros) }
+{
+    out.push(0x40)?;
+    push_i32(out, months)?;
+    push_i32(out, days)?;
+    push_i64(out, micros)
+}
+
+/// Puts the payload of an extension value at the end.
+pub fn push_extension_payload(
+    out: &mut Vec<u8>,
+    value: &ExtensionValue<'_>,
+) -> Result<(), AllocError>
+    ensures pushed { OnOk result (out.new.items ≡ out.old.items ++ extension_payload (extension_view value.now)) }
+    ensures kept { OnErr result (StaysInFront out.old.items out.new.items) }
+    ensures fits { FitsExtension (extension_view value.now) }
+{
+    match value {
+        ExtensionValue::Binary(bytes) => push_binary(out, bytes),
+        ExtensionValue::Date(date) => push_date(out, date.value),
+        ExtensionValue::Timestamp(timestamp) => push_timestamp(out, timestamp.value),
+        ExtensionValue::TimestampTz(timestamp) => {
+            push_timestamp_tz(out, timestamp.offset, timestamp.value)
+        }
+        ExtensionValue::Interval(interval) => {
+            push_interval(out, interval.months, interval.days, interval.micros)
+        }
+    }
+}

@@ -1,0 +1,185 @@
+ghost use Rattle.std.specs.Prelude.{◌≡◌, ℕ, ◌+◌, ◌*◌, ◌^◌, ◌<◌, ◌≤◌, List, length, slice_range, IsOkAnd, IfOk, IfErr, IfSome, MatchResult};
+ghost use Rattle.jsonb_doc.specs.Tree.{Tree, children_of, field_of};
+ghost use Rattle.jsonb_doc.specs.Payload.{Form, any};
+ghost use Rattle.jsonb_doc.specs.Format.{Decodes, HeadedBy};
+ghost use Rattle.jsonb_doc.specs.Item.{Stands, IsNormal, item_size};
+ghost use Rattle.jsonb_doc.specs.Answer.{SameOption};
+ghost use Rattle.jsonb_doc.specs.Lengths.{HoldKeys, FindsKey};
+ghost use Rattle.jsonb_doc.specs.Spots.{Marks, HasSpotsLeft, spot_size, spot_content, spots_bound, spots_room};
+ghost use Rattle.jsonb_doc.specs.View.{IsDecodingError};
+
+use crate::checking::{ARRAY_HEADER, CONTAINER, OBJECT_HEADER, SCALAR_HEADER};
+use crate::error::Error;
+use crate::item::Item;
+use crate::lengths::{entry_behind, skip_contents};
+use crate::spot_iter::SpotIter;
+use crate::word::{WORD, split_entry, split_header};
+
+/// One item of a document: its kind, and where its content stands in the bytes.
+#[derive(Clone, Copy, Debug)]
+pub struct Spot {
+    kind: u32,
+    start: usize,
+    end: usize,
+}
+
+impl Spot {
+    pub(crate) fn new(kind: u32, start: usize, end: usize) -> Spot
+        ensures kind { result.kind ≡ kind }
+        ensures start { result.start ≡ start }
+        ensures end { result.end ≡ end }
+    {
+        Spot { kind, start, end }
+    }
+
+    /// Its content within these bytes. Bytes in which it has no place are `InvalidJsonb`.
+    fn content<'a>(self, bytes: &'a [u8]) -> Result<&'a [u8], Error>
+        ensures { MatchResult result
+            (λ content. (self.start ≤ self.end) × (self.end ≤ length bytes.now) × (content.now ≡ spot_content bytes.now self))
+            (λ e. (e ≡ Error.InvalidJsonb) × (self.start ≤ self.end → self.end ≤ length bytes.now → ⊥)) }
+    {
+        match bytes.get(self.start..self.end) {
+            Some(content) => Ok(content),
+            None => Err(Error::InvalidJsonb),
+        }
+    }
+}
+
+/// The spot of a document's root. Bytes that don't decode are `InvalidJsonb` or `UnsupportedNumber`, or have some spot.
+pub fn root_spot(bytes: &[u8]) -> Result<Spot, Error>
+    ensures marks { (t : Tree) → Decodes any bytes.now t → IsOkAnd result (λ spot. Marks bytes.now spot t) }
+    ensures size { IfOk result (λ spot. spot_size spot ≤ length bytes.now) }
+    ensures errors { IfErr result IsDecodingError }
+{
+    let Some((kind, _, rest)) = split_header(bytes) else {
+        return Err(Error::InvalidJsonb);
+    };
+    if kind != SCALAR_HEADER {
+        return Ok(Spot::new(CONTAINER, 0, bytes.len()));
+    }
+    if rest.len() < WORD {
+        return Err(Error::InvalidJsonb);
+    }
+    let (words, contents) = rest.split_at(WORD);
+    let Some(entry) = split_entry(words, contents) else {
+        return Err(Error::InvalidJsonb);
+    };
+    let start = bytes.len() - contents.len();
+    Ok(Spot::new(entry.kind, start, start + entry.content.len()))
+}
+
+/// The item at a spot of these bytes, its slices borrowed from them. The spot of other bytes has some item here, or is
+/// refused as bytes that don't decode.
+pub fn spot_item<'a>(bytes: &'a [u8], spot: Spot) -> Result<Item<'a>, Error>
+    ensures item { (t : Tree) → Marks bytes.now spot t → IsOkAnd result (λ item. Stands any item t) }
+    ensures in_form { (form : Form) (top t : Tree) → Decodes form bytes.now top → Marks bytes.now spot t
+        → IsOkAnd result (λ item. Stands form item t) }
+    ensures normal { IfOk result IsNormal }
+    ensures size { IfOk result (λ item. item_size item ≤ spot_size spot) }
+    ensures errors { IfErr result IsDecodingError }
+{
+    Item::from_content(spot.kind, spot.content(bytes)?)
+}
+
+/// The spots of an array's elements or of an object's values, in stored order. `None` is for a scalar.
+/// The spot of other bytes gives some spots here, or is refused as bytes that don't decode.
+pub fn child_spots<'a>(bytes: &'a [u8], spot: Spot) -> Result<Option<SpotIter<'a>>, Error>
+    ensures spots { (t : Tree) → Marks bytes.now spot t
+        → IsOkAnd result (λ found. SameOption (HasSpotsLeft bytes.now) found (children_of t)) }
+    ensures room { IfOk result (λ found. IfSome found (λ it. spots_room it < spot_size spot)) }
+    ensures bound { (kind entries : ℕ) (rest : List ℕ) → HeadedBy (spot_content bytes.now spot) kind entries rest
+        → IfOk result (λ found. IfSome found (λ it. spots_bound it ≤ entries)) }
+    ensures errors { IfErr result IsDecodingError }
+{
+    let content = spot.content(bytes)?;
+    if spot.kind != CONTAINER {
+        return Ok(None);
+    }
+    let Some((kind, entries, rest)) = split_header(content) else {
+        return Err(Error::InvalidJsonb);
+    };
+    let len = WORD * entries;
+    match kind {
+        ARRAY_HEADER if len <= rest.len() => {
+            let (words, contents) = rest.split_at(len);
+            let start = spot.end - contents.len();
+            Ok(Some(SpotIter::new(words, start, spot.end)))
+        }
+        OBJECT_HEADER if 2 * len <= rest.len() => {
+            let (words, contents) = rest.split_at(2 * len);
+            let (key_words, value_words) = words.split_at(len);
+            let Some(values) = skip_contents(key_words, contents) else {
+                return Err(Error::InvalidJsonb);
+            };
+            let start = spot.end - values.len();
+            Ok(Some(SpotIter::new(value_words, start, spot.end)))
+        }
+        _ => Err(Error::InvalidJsonb),
+    }
+}
+
+/// The spot of the value under this key. `None` is for an object without the key, and for another item.
+/// The spot of other bytes gives some spot here, or is refused as bytes that don't decode.
+pub fn field_spot(bytes: &[u8], spot: Spot, name: &str) -> Result<Option<Spot>, Error>
+    ensures field { (t : Tree) → Marks bytes.now spot t
+        → IsOkAnd result (λ found. SameOption (Marks bytes.now) found (field_of name.now t)) }
+    ensures size { IfOk result (λ found. IfSome found (λ child. spot_size child < spot_size spot)) }
+    ensures errors { IfErr result IsDecodingError }
+{
+    let object = spot.content(bytes)?;
+    if spot.kind != CONTAINER {
+        return Ok(None);
+    }
+    let Some((kind, entries, rest)) = split_header(object) else {
+        return Err(Error::InvalidJsonb);
+    };
+    if kind != OBJECT_HEADER {
+        return Ok(None);
+    }
+    let len = WORD * entries;
+    if rest.len() < 2 * len {
+        return Err(Error::InvalidJsonb);
+    }
+    let (words, contents) = rest.split_at(2 * len);
+    let (key_words, value_words) = words.split_at(len);
+    let Some((words_behind, bytes_behind)) = find_key(key_words, contents, name.as_bytes())? else {
+        return Ok(None);
+    };
+    let Some(values) = skip_contents(words_behind, bytes_behind) else {
+        return Err(Error::InvalidJsonb);
+    };
+    let Some(value) = entry_behind(value_words, len - words_behind.len() - WORD, values) else {
+        return Err(Error::InvalidJsonb);
+    };
+    let end = spot.end - value.other_contents.len();
+    Ok(Some(Spot::new(value.kind, end - value.content.len(), end)))
+}
+
+/// What follows the key that is this name, of the keys with these words and bytes.
+fn find_key<'w, 'k>(
+    words: &'w [u8],
+    bytes: &'k [u8],
+    name: &[u8],
+) -> Result<Option<(&'w [u8], &'k [u8])>, Error>
+    ensures found { (ks : List (List ℕ)) (rest : List ℕ) → HoldKeys ks words.now bytes.now rest
+        → IsOkAnd result (λ found. FindsKey name.now ks rest found) }
+    ensures size { IfOk result (λ found. IfSome found (λ r. (length r.0.now + 4 ≤ length words.now) × (length r.1.now ≤ length bytes.now))) }
+    ensures errors { IfErr result IsDecodingError }
+{
+    let mut words_left = words;
+    let mut bytes_left = bytes;
+    while !words_left.is_empty() {
+        let Some(key) = split_entry(words_left, bytes_left) else {
+            return Err(Error::InvalidJsonb);
+        };
+        words_left = key.other_words;
+        bytes_left = key.other_contents;
+        if key.content == name {
+            return Ok(Some((words_left, bytes_left)));
+        }
+    }
+    Ok(None)
+}
+
+#[cfg(test)]
+mod tests;

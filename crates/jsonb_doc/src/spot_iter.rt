@@ -1,0 +1,56 @@
+use crate::error::Error;
+use crate::lengths::split_entry_word;
+use crate::spot::Spot;
+
+/// The spots of a container's children that are left, in stored order. It ends after the first one that has no place.
+#[derive(Clone, Copy)]
+pub struct SpotIter<'a> {
+    words: &'a [u8],
+    start: usize,
+    end: usize,
+}
+
+impl<'a> SpotIter<'a> {
+    ghost use Rattle.std.specs.Prelude.{◌≡◌};
+
+    pub(crate) fn new(words: &'a [u8], start: usize, end: usize) -> SpotIter<'a>
+        ensures words { result.words.now ≡ words.now }
+        ensures start { result.start ≡ start }
+        ensures end { result.end ≡ end }
+    {
+        SpotIter { words, start, end }
+    }
+}
+
+impl<'a> Iterator for SpotIter<'a> {
+    ghost use Rattle.std.specs.Iterator.{at_most};
+    ghost use Rattle.jsonb_doc.specs.Spots.{GivesSpot, spots_bound};
+
+    type Item = Result<Spot, Error>;
+
+    ghost next_gives = { GivesSpot };
+
+    ghost remaining = { λ it. at_most (spots_bound it) };
+
+    fn next(&mut self) -> Option<Result<Spot, Error>> {
+        if self.words.is_empty() {
+            return None;
+        }
+        let Some((kind, len, others)) = split_entry_word(self.words) else {
+            self.words = &[];
+            return Some(Err(Error::InvalidJsonb));
+        };
+        let start = self.start;
+        match start.checked_add(len) {
+            Some(end) if end <= self.end => {
+                self.words = others;
+                self.start = end;
+                Some(Ok(Spot::new(kind, start, end)))
+            }
+            _ => {
+                self.words = &[];
+                Some(Err(Error::InvalidJsonb))
+            }
+        }
+    }
+}

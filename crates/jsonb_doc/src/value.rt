@@ -1,0 +1,54 @@
+use crate::error::Error;
+use crate::extension::{Date, Interval, Timestamp, TimestampTz};
+use crate::number::Number;
+use copy::copy;
+use std::alloc::Global;
+use std::borrow::CowStr;
+use std::collections::BTreeMap;
+
+mod copy;
+mod decode;
+mod equal;
+#[cfg(test)]
+mod tests;
+
+pub use decode::to_value;
+
+/// A decoded value.
+///
+/// Two values are equal where they have the same shape, numbers by exact value (`1` is `1.0`) and extension values by
+/// their fields.
+#[derive(Drop)]
+pub enum Value<'a> {
+    Null,
+    Bool(bool),
+    String(CowStr<'a, Global>),
+    Number(Number),
+    /// Bytes that JSON itself has no kind for.
+    Binary(&'a [u8]),
+    Date(Date),
+    Timestamp(Timestamp),
+    TimestampTz(TimestampTz),
+    Interval(Interval),
+    Array(Vec<Value<'a>>),
+    /// The members, in the byte order of their keys.
+    Object(BTreeMap<String, Value<'a>>),
+}
+
+impl<'a> Value<'a> {
+    ghost use Rattle.std.specs.Prelude.{◌≡◌, IfOk};
+    ghost use Rattle.jsonb_doc.specs.Answer.{Answers};
+    ghost use Rattle.jsonb_doc.specs.Value.{value_tree, value_parts};
+
+    /// The same value, with its own copy of each text, list and map that it owns. What it borrows, the copy borrows.
+    ///
+    /// # Errors
+    ///
+    /// `OutOfMemory` where memory is refused.
+    pub fn clone(&self, alloc: Global) -> Result<Value<'a>, Error>
+        ensures tree { Answers result (λ copy. value_tree copy ≡ value_tree self.now) }
+        ensures parts { IfOk result (λ copy. value_parts copy ≡ value_parts self.now) }
+    {
+        Ok(copy(alloc, self)?)
+    }
+}

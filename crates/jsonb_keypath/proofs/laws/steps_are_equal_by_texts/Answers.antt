@@ -1,0 +1,5 @@
+use Rattle.jsonb_keypath.proofs.EqualLemmas.{key-equal}
+use Rattle.jsonb_keypath.proofs.laws.steps_are_equal_by_texts.Goals as goal
+
+pub returns : goal.returns
+returns c = let d = key-equal c.args.left.now c.args.right.now in (d.0, d.1)

@@ -1,0 +1,50 @@
+-- The text of a key path, from which it reads back.
+use Rattle.std.specs.Prelude.{ℕ, Bool, false, not, ◌&&◌, ◌||◌, ◌==◌, List, [], ◌∷◌, ◌++◌, flat_map, codes, if◌then◌else◌}
+use Rattle.std.specs.List.{list_all}
+use Rattle.std.specs.Char.{is_ascii_digit, is_ascii_alphanumeric}
+use Rattle.std.specs.Fmt.{signed_decimal}
+use Rattle.jsonb_keypath.specs.KeyPathGrammar.{Key, index, quoted_name, plain_name}
+
+-- a letter or digit of ASCII, or an underscore
+abbrev pub is_word_byte : ℕ → Bool
+is_word_byte b = is_ascii_alphanumeric b || b == 95
+
+-- a name that stands without quotes: word bytes, the first of them no digit
+abbrev pub is_plain_name : List ℕ → Bool
+is_plain_name [] = false
+is_plain_name (b ∷ rest) = not (is_ascii_digit b) && list_all is_word_byte (b ∷ rest)
+
+-- a byte between quotes: a quote and a backslash stand behind a backslash
+abbrev pub quoted_byte : ℕ → List ℕ
+quoted_byte b = if b == 34 || b == 92 then codes "\\" ++ b ∷ [] else b ∷ []
+
+-- a byte that stands alone between quotes
+abbrev pub needs_no_escape : ℕ → Bool
+needs_no_escape b = not (b == 34 || b == 92)
+
+-- a text between quotes
+abbrev pub quoted_text : List ℕ → List ℕ
+quoted_text text = codes "\"" ++ flat_map quoted_byte text ++ codes "\""
+
+-- a name as it is where it is plain, and else between quotes
+abbrev pub name_text : List ℕ → List ℕ
+name_text text = if is_plain_name text then text else quoted_text text
+
+-- an index in decimal, a quoted name between quotes, a name between quotes where it is not plain
+abbrev pub key_text : Key → List ℕ
+key_text (index i) = signed_decimal i
+key_text (quoted_name text) = quoted_text text
+key_text (plain_name text) = name_text text
+
+-- a step behind another one
+abbrev pub other_key_text : Key → List ℕ
+other_key_text key = codes "," ++ key_text key
+
+-- steps with commas in between
+abbrev pub keys_text : List Key → List ℕ
+keys_text [] = []
+keys_text (first ∷ rest) = key_text first ++ flat_map other_key_text rest
+
+-- the steps between braces
+abbrev pub key_path_text : List Key → List ℕ
+key_path_text keys = codes "{" ++ keys_text keys ++ codes "}"

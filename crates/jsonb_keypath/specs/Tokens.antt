@@ -1,0 +1,197 @@
+-- The tokens that key paths and JSON paths share.
+use Rattle.std.specs.Prelude.{ℕ, ◌+◌, ◌-◌, ◌*◌, ◌^◌, Bool, true, false, not, ◌&&◌, ◌==◌, nat_lt, nat_le, List, [], ◌∷◌, ◌++◌, drop, take_while, Option, Some, None, ℤ, pos, negsuc, neg_ℤ, codes, if◌then◌else◌, encode_utf8}
+use Rattle.std.specs.List.{list_any, prefix_len, concat}
+use Rattle.std.specs.Char.{is_ascii_digit, digit_value}
+use Rattle.std.specs.Str.{is_utf8}
+use Rattle.std.specs.Str.Parse.{digits_value}
+use Rattle.jsonb_keypath.specs.Rules.{Rule, give, ◌>>=◌, ◌>>◌, ◌</>◌, only_if, literal, repeat}
+
+-- ---- white space and numbers
+
+-- space, tab, line feed or carriage return
+abbrev pub is_space : ℕ → Bool
+is_space b = list_any (λ c. c == b) (32 ∷ 9 ∷ 10 ∷ 13 ∷ [])
+
+-- the input behind the bytes at its front that pass the test
+abbrev pub past : (ℕ → Bool) → List ℕ → List ℕ
+past test input = drop (prefix_len test input) input
+
+-- a run of white space, which may be empty
+unfoldable pub ws : Rule (Unit {0})
+ws input = Some (tt, past is_space input)
+
+-- the longest run of digits, one at least, as the number that they write
+unfoldable pub natural : Rule ℕ
+natural input =
+    if nat_lt 0 (prefix_len is_ascii_digit input)
+    then Some (digits_value 10 (take_while is_ascii_digit input), past is_ascii_digit input) else None
+
+-- one that is below the bound
+unfoldable pub natural_below : ℕ → Rule ℕ
+natural_below bound = do
+  n ← natural
+  only_if (nat_lt n bound)
+  give n
+
+abbrev pub nat8 : Rule ℕ
+nat8 = natural_below (2 ^ 8)
+
+abbrev pub nat64 : Rule ℕ
+nat64 = natural_below (2 ^ 64)
+
+-- whether a minus stands there; a plus may stand there too
+unfoldable pub sign : Rule Bool
+sign = (literal "-" >> give true) </> (literal "+" >> give false) </> give false
+
+abbrev pub with_sign : Bool → ℕ → ℤ
+with_sign negative n = if negative then neg_ℤ (pos n) else pos n
+
+-- a number with or without a sign
+unfoldable pub integer : Rule ℤ
+integer = do
+  negative ← sign
+  n ← natural
+  give (with_sign negative n)
+
+-- from minus the bound on, and below the bound
+abbrev pub is_within : ℕ → ℤ → Bool
+is_within bound (pos n) = nat_lt n bound
+is_within bound (negsuc n) = nat_lt n bound
+
+unfoldable pub integer_within : ℕ → Rule ℤ
+integer_within bound = do
+  z ← integer
+  only_if (is_within bound z)
+  give z
+
+abbrev pub int32 : Rule ℤ
+int32 = integer_within (2 ^ 31)
+
+abbrev pub int64 : Rule ℤ
+int64 = integer_within (2 ^ 63)
+
+-- ---- escapes
+
+-- the byte that the one behind a backslash stands for
+abbrev pub escaped : ℕ → Option ℕ
+escaped b =
+    if list_any (λ c. c == b) (codes "\"\\/") then Some b
+    else if b == 98 then Some 8
+    else if b == 102 then Some 12
+    else if b == 110 then Some 10
+    else if b == 114 then Some 13
+    else if b == 116 then Some 9
+    else None
+
+-- the value of one byte
+abbrev pub byte_as : {A : Type 0} → (ℕ → Option A) → Rule A
+byte_as value [] = None
+byte_as value (b ∷ rest) = with_rest (value b) rest where
+  with_rest : {A : Type 0} → Option A → Rule A
+  with_rest None rest = None
+  with_rest (Some a) rest = Some (a, rest)
+
+abbrev pub hex_digit : ℕ → Option ℕ
+hex_digit b = if nat_lt (digit_value b) 16 then Some (digit_value b) else None
+
+-- four hexadecimal digits
+unfoldable pub four_hex : Rule ℕ
+four_hex = do
+  a ← byte_as hex_digit
+  b ← byte_as hex_digit
+  c ← byte_as hex_digit
+  d ← byte_as hex_digit
+  give (((a * 16 + b) * 16 + c) * 16 + d)
+
+-- a UTF-16 code unit: four hexadecimal digits behind `\u`, in braces or without
+unfoldable pub code_unit : Rule ℕ
+code_unit = do
+  literal "\\u"
+  (do
+    literal "{"
+    n ← four_hex
+    literal "}"
+    give n) </> four_hex
+
+abbrev pub is_high_surrogate : ℕ → Bool
+is_high_surrogate n = nat_le 0xD800 n && nat_lt n 0xDC00
+
+abbrev pub is_low_surrogate : ℕ → Bool
+is_low_surrogate n = nat_le 0xDC00 n && nat_lt n 0xE000
+
+-- the character beyond U+FFFF that two surrogates stand for
+abbrev pub joined : ℕ → ℕ → ℕ
+joined high low = 0x10000 + (high - 0xD800) * 0x400 + (low - 0xDC00)
+
+-- a character by its number; a high surrogate and a low one behind it are one character, and else a
+-- surrogate fails
+unfoldable pub numbered : Rule ℕ
+numbered = do
+  n ← code_unit
+  if is_high_surrogate n then (do
+    low ← code_unit
+    only_if (is_low_surrogate low)
+    give (joined n low)) else (do
+      only_if (not (is_low_surrogate n))
+      give n)
+
+-- one escape, as the character that it stands for
+unfoldable pub escape : Rule ℕ
+escape = (literal "\\" >> byte_as escaped) </> numbered
+
+-- ---- texts
+
+-- the byte stands for itself: it is no backslash, and not excluded
+abbrev pub is_plain : (ℕ → Bool) → ℕ → Bool
+is_plain is_excluded b = not (b == 92) && not (is_excluded b)
+
+abbrev pub plain : (ℕ → Bool) → ℕ → Option (List ℕ)
+plain is_excluded b = if is_plain is_excluded b then Some (b ∷ []) else None
+
+-- one unit, as the bytes that it stands for: an escape, or a byte that stands for itself
+unfoldable pub unit : (ℕ → Bool) → Rule (List ℕ)
+unit is_excluded = (escape >>= λ c. give (encode_utf8 c)) </> byte_as (plain is_excluded)
+
+-- the longest run of units, one at least, as the bytes that it stands for
+unfoldable pub units : (ℕ → Bool) → Rule (List ℕ)
+units is_excluded = do
+  first ← unit is_excluded
+  others ← repeat (unit is_excluded)
+  give (first ++ concat others)
+
+-- the same where it stands for UTF-8
+unfoldable pub text : (ℕ → Bool) → Rule (List ℕ)
+text is_excluded = do
+  found ← units is_excluded
+  only_if (is_utf8 found)
+  give found
+
+-- the bytes that end a name
+abbrev pub stop_bytes : List ℕ
+stop_bytes = codes " ,.:{}[]()?@$|<>!=+-*/%\"'"
+
+abbrev pub is_stop : ℕ → Bool
+is_stop b = list_any (λ c. c == b) stop_bytes
+
+abbrev pub is_quote : ℕ → Bool
+is_quote b = b == 34
+
+-- reads nothing: here the input ends, or a byte that passes the test stands
+abbrev pub ahead : (ℕ → Bool) → Rule (Unit {0})
+ahead test [] = Some (tt, [])
+ahead test (b ∷ rest) = if test b then Some (tt, b ∷ rest) else None
+
+-- a name: units up to the end or to a stop byte
+unfoldable pub name : Rule (List ℕ)
+name = do
+  found ← text is_stop
+  ahead is_stop
+  give found
+
+-- units between quotes
+unfoldable pub quoted : Rule (List ℕ)
+quoted = do
+  literal "\""
+  found ← text is_quote
+  literal "\""
+  give found

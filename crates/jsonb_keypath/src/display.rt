@@ -1,0 +1,85 @@
+//! How key paths print: the steps between braces with commas in between, as a text from which they
+//! read back. An index is decimal; a quoted name stands between quotes, and so does a name that is
+//! not plain; within quotes a quote and a backslash have a backslash in front.
+
+ghost use Rattle.std.specs.Prelude.{Some, flat_map};
+ghost use Rattle.std.specs.Fmt.{WritesOnOk};
+ghost use Rattle.jsonb_keypath.specs.KeyPathText.{key_text, other_key_text, key_path_text};
+ghost use Rattle.jsonb_keypath.specs.KeyPathViews.{key_view, keys_view, key_paths_view, owned_key_view, owned_keys_view, owned_key_paths_view};
+
+use crate::key_path::{KeyPath, KeyPaths};
+use crate::owned::{OwnedKeyPath, OwnedKeyPaths};
+use crate::token::{write_name, write_quoted};
+use std::fmt;
+
+impl fmt::Display for KeyPath<'_> {
+    ghost output = { λ k. Some (key_text (key_view k)) };
+
+    fn fmt<W: fmt::Write>(&self, f: &mut fmt::Formatter<W>) -> fmt::Result {
+        match self {
+            KeyPath::Index(index) => write!(f, "{index}"),
+            KeyPath::QuotedName(text) => write_quoted(text.as_str(), f),
+            KeyPath::Name(text) => write_name(text.as_str(), f),
+        }
+    }
+}
+
+impl fmt::Display for KeyPaths<'_> {
+    ghost output = { λ k. Some (key_path_text (key_paths_view k)) };
+
+    fn fmt<W: fmt::Write>(&self, f: &mut fmt::Formatter<W>) -> fmt::Result {
+        f.write_str("{")?;
+        if let Some((first, others)) = self.paths.split_first() {
+            write!(f, "{first}")?;
+            write_others(others, f)?;
+        }
+        f.write_str("}")
+    }
+}
+
+// Writes each step behind a comma.
+fn write_others<W: fmt::Write>(steps: &[KeyPath<'_>], f: &mut fmt::Formatter<W>) -> fmt::Result
+    ensures { WritesOnOk W.write_str_gives f.old result
+        (flat_map other_key_text (keys_view steps.now)) f.new }
+{
+    for step in steps {
+        write!(f, ",{step}")?;
+    }
+    Ok(())
+}
+
+impl fmt::Display for OwnedKeyPath {
+    ghost output = { λ k. Some (key_text (owned_key_view k)) };
+
+    fn fmt<W: fmt::Write>(&self, f: &mut fmt::Formatter<W>) -> fmt::Result {
+        let step = self.as_key_path();
+        write!(f, "{step}")
+    }
+}
+
+impl fmt::Display for OwnedKeyPaths {
+    ghost output = { λ k. Some (key_path_text (owned_key_paths_view k)) };
+
+    fn fmt<W: fmt::Write>(&self, f: &mut fmt::Formatter<W>) -> fmt::Result {
+        f.write_str("{")?;
+        if let Some((first, others)) = self.paths.split_first() {
+            write!(f, "{first}")?;
+            write_other_owned(others, f)?;
+        }
+        f.write_str("}")
+    }
+}
+
+// Writes each step behind a comma.
+fn write_other_owned<W: fmt::Write>(
+    steps: &[OwnedKeyPath],
+    f: &mut fmt::Formatter<W>,
+) -> fmt::Result
+    ensures { WritesOnOk W.write_str_gives f.old result
+        (flat_map other_key_text (owned_keys_view steps.now)) f.new }
+{
+    for step in steps {
+        write!(f, ",{step}")?;
+    }
+    Ok(())
+}

@@ -1,0 +1,85 @@
+//! What is true of tokens and key paths, whatever reads or prints them. The functions answer
+//! nothing; their contracts are the laws.
+//!
+//! A rule of the grammar is a function from the input to its outcome, a value and the rest or a
+//! failure, so each rule has exactly one outcome on each input.
+
+ghost use Rattle.std.specs.Prelude.{◌≡◌, ◌↔◌, ℕ, Bool, true, List, Some, IfSome};
+ghost use Rattle.jsonb_keypath.specs.KeyPathGrammar.{Key, another_key, key_path};
+ghost use Rattle.jsonb_keypath.specs.KeyPathLaws.{ReadsBack, PlainKeyPathsReadBack};
+ghost use Rattle.jsonb_keypath.specs.KeyPathViews.{key_view, key_paths_view, owned_key_view, owned_key_paths_view};
+ghost use Rattle.jsonb_keypath.specs.Rules.{Rule, repeat};
+ghost use Rattle.jsonb_keypath.specs.TokenLaws.{ReadsSome, IsRepeated, IsName, IsQuoted};
+ghost use Rattle.jsonb_keypath.specs.Tokens.{name, quoted, unit};
+ghost use Rattle.jsonb_keypath.specs.contracts.key_path.KeyPathPartialEq.TheImpl.{eq-value as key_equal};
+ghost use Rattle.jsonb_keypath.specs.contracts.key_path.KeyPathsPartialEq.TheImpl.{eq-value as key_paths_equal};
+ghost use Rattle.jsonb_keypath.specs.contracts.owned.OwnedKeyPathPartialEq.TheImpl.{eq-value as owned_key_equal};
+ghost use Rattle.jsonb_keypath.specs.contracts.owned.OwnedKeyPathsPartialEq.TheImpl.{eq-value as owned_key_paths_equal};
+
+use crate::key_path::{KeyPath, KeyPaths};
+use crate::owned::{OwnedKeyPath, OwnedKeyPaths};
+
+/// A name is one or more units, and then the end or a stop byte; there is no other way to cut the
+/// input so.
+pub fn name_is_a_cut(input: &[u8])
+    ensures { (text rest : List ℕ) →
+        (name input.now ≡ Some (text, rest)) ↔ IsName input.now text rest }
+{}
+
+/// A quoted text is one or more units between quotes; there is no other way to cut the input so.
+pub fn quoted_is_a_cut(input: &[u8])
+    ensures { (text rest : List ℕ) →
+        (quoted input.now ≡ Some (text, rest)) ↔ IsQuoted input.now text rest }
+{}
+
+/// A unit reads a byte at least, whatever bytes are excluded.
+pub fn unit_reads_some()
+    ensures { (is_excluded : ℕ → Bool) → ReadsSome (unit is_excluded) }
+{}
+
+/// A comma with a step behind it reads a byte at least.
+pub fn another_key_reads_some()
+    ensures { ReadsSome another_key }
+{}
+
+/// A rule that reads a byte at least is repeated until it fails.
+pub fn repetition_ends_where_the_rule_fails(input: &[u8])
+    ensures { (rule : Rule Key) → ReadsSome rule → (keys : List Key) → (rest : List ℕ) →
+        (repeat rule input.now ≡ Some (keys, rest)) ↔ IsRepeated rule input.now keys rest }
+{}
+
+/// A key path that the grammar accepts prints to a text that reads as a key path with the same
+/// places: an index as the same index, a name, quoted or not, as a name of the same text.
+pub fn printed_key_path_reads_back(text: &[u8])
+    ensures { IfSome (key_path text.now) ReadsBack }
+{}
+
+/// A key path whose names are plain, and whose quoted names are nonempty and have no quote and no
+/// backslash, prints to a text that reads as the same key path.
+pub fn plain_key_paths_read_back()
+    ensures { PlainKeyPathsReadBack }
+{}
+
+/// Steps are equal by `==` exactly where they are of one kind with the same index or text, whatever
+/// holds the text.
+pub fn steps_are_equal_by_texts(left: &KeyPath, right: &KeyPath)
+    ensures { (key_equal.it left.now right.now ≡ true) ↔ (key_view left.now ≡ key_view right.now) }
+{}
+
+/// Key paths are equal by `==` exactly where they have the same steps.
+pub fn key_paths_are_equal_by_steps(left: &KeyPaths, right: &KeyPaths)
+    ensures { (key_paths_equal.it left.now right.now ≡ true) ↔
+        (key_paths_view left.now ≡ key_paths_view right.now) }
+{}
+
+/// Owned steps are equal by `==` exactly where they are of one kind with the same index or text.
+pub fn owned_steps_are_equal_by_texts(left: &OwnedKeyPath, right: &OwnedKeyPath)
+    ensures { (owned_key_equal.it left.now right.now ≡ true) ↔
+        (owned_key_view left.now ≡ owned_key_view right.now) }
+{}
+
+/// Owned key paths are equal by `==` exactly where they have the same steps.
+pub fn owned_key_paths_are_equal_by_steps(left: &OwnedKeyPaths, right: &OwnedKeyPaths)
+    ensures { (owned_key_paths_equal.it left.now right.now ≡ true) ↔
+        (owned_key_paths_view left.now ≡ owned_key_paths_view right.now) }
+{}

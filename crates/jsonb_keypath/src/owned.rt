@@ -1,0 +1,84 @@
+//! Key paths with texts of their own.
+
+ghost use Rattle.std.specs.Prelude.{◌≡◌};
+ghost use Rattle.jsonb_doc.specs.Answer.{Answers};
+ghost use Rattle.jsonb_keypath.specs.KeyPathViews.{key_view, key_paths_view, owned_key_view, owned_key_paths_view};
+
+use crate::key_path::{KeyPath, KeyPaths};
+use jsonb_doc::Error;
+use std::alloc::Global;
+use std::borrow::CowStr;
+
+/// A key path with texts of its own, which outlives the text that it was read from.
+///
+/// Two of them are equal, and hash alike, where they have the same steps.
+#[derive(PartialEq, Eq, Hash, Drop)]
+pub struct OwnedKeyPaths {
+    /// The steps, from the root on.
+    pub paths: Vec<OwnedKeyPath>,
+}
+
+/// One step of a key path, with a text of its own.
+///
+/// Two of them are equal, and hash alike, where they are of one kind and have the same index or the
+/// same text.
+#[derive(PartialEq, Eq, Hash, Drop)]
+pub enum OwnedKeyPath {
+    /// An element of an array, counted from 0, or from the end where it is negative; at an object
+    /// the key that is its decimal text.
+    Index(i32),
+    /// A key of an object, written between quotes.
+    QuotedName(String),
+    /// A key of an object, written without quotes.
+    Name(String),
+}
+
+impl OwnedKeyPaths {
+    /// The same steps with the same texts.
+    ///
+    /// Refused with `OutOfMemory` alone.
+    pub fn clone(&self, alloc: Global) -> Result<OwnedKeyPaths, Error>
+        ensures { Answers result (λ copy. owned_key_paths_view copy ≡ owned_key_paths_view self.now) }
+    {
+        let mut paths = Vec::with_capacity(alloc, self.paths.len())?;
+        for step in &self.paths {
+            paths.push(step.clone(alloc)?)?;
+        }
+        Ok(OwnedKeyPaths { paths })
+    }
+
+    /// The same steps, with the texts borrowed from here.
+    ///
+    /// Refused with `OutOfMemory` alone.
+    pub fn as_key_paths(&self, alloc: Global) -> Result<KeyPaths<'_>, Error>
+        ensures { Answers result (λ same. key_paths_view same ≡ owned_key_paths_view self.now) }
+    {
+        let mut paths = Vec::with_capacity(alloc, self.paths.len())?;
+        for step in &self.paths {
+            paths.push(step.as_key_path())?;
+        }
+        Ok(KeyPaths { paths })
+    }
+}
+
+impl OwnedKeyPath {
+    /// The same step with the same text.
+    ///
+    /// Refused with `OutOfMemory` alone.
+    pub fn clone(&self, alloc: Global) -> Result<OwnedKeyPath, Error>
+        ensures { Answers result (λ copy. owned_key_view copy ≡ owned_key_view self.now) }
+    {
+        self.as_key_path().to_owned(alloc)
+    }
+
+    /// The same step, with its text borrowed from here. It takes no memory.
+    pub fn as_key_path(&self) -> KeyPath<'_>
+        ensures { key_view result ≡ owned_key_view self.now }
+    {
+        match self {
+            OwnedKeyPath::Index(index) => KeyPath::Index(*index),
+            OwnedKeyPath::QuotedName(text) => KeyPath::QuotedName(CowStr::Borrowed(text.as_str())),
+            OwnedKeyPath::Name(text) => KeyPath::Name(CowStr::Borrowed(text.as_str())),
+        }
+    }
+}

@@ -1,0 +1,259 @@
+//! Names, and texts between quotes.
+
+ghost use Rattle.std.specs.Prelude.{◌≡◌, ◌++◌, string_bytes, IfOk, IfErr, OnOk};
+ghost use Rattle.std.specs.List.{prefix_len};
+ghost use Rattle.std.specs.Cow.{cow_str_bytes};
+ghost use Rattle.jsonb_doc.specs.declared.error.Error.TheVariants.{OutOfMemory};
+ghost use Rattle.jsonb_keypath.specs.Tokens.{is_plain, is_stop as spec_is_stop, unit, units, text, name, quoted};
+ghost use Rattle.jsonb_keypath.specs.Views.{excluded, unit_bytes, read_as, LeavesLess};
+
+use super::escape::escape_at;
+use super::literal;
+use jsonb_doc::Error;
+use std::alloc::{AllocError, Global};
+use std::borrow::CowStr;
+
+/// Reads a name at the front of the input: the longest run of one or more units, a unit being an
+/// escape or a byte that is neither a backslash nor a stop byte, and then the end of the input or a
+/// stop byte.
+///
+/// The stop bytes are space and `, . : { } [ ] ( ) ? @ $ | < > ! = + - * / % " '`. A tab, a line end
+/// and `&` are none. A malformed escape in the run, a lone surrogate, or bytes that are no UTF-8
+/// fail the whole name: None.
+///
+/// The name is given with its escapes replaced, and what follows it. Without escapes it is borrowed
+/// from the input. Refused with `OutOfMemory` alone, and only where there are escapes.
+pub fn read_name(alloc: Global, input: &[u8]) -> Result<Option<(CowStr<'_, Global>, &[u8])>, Error>
+    ensures value { IfOk result (λ found. read_as cow_str_bytes found ≡ name input.now) }
+    ensures shrinks { IfOk result (LeavesLess input.now) }
+    ensures err { IfErr result (λ e. e ≡ OutOfMemory) }
+{
+    Ok(name_at(alloc, input)?)
+}
+
+/// Reads a text between quotes at the front of the input: a quote, one or more units, a unit being
+/// an escape or a byte that is neither a backslash nor a quote, and a quote.
+///
+/// Empty quotes, a missing end, a malformed escape, a lone surrogate, or bytes that are no UTF-8
+/// fail the text: None.
+///
+/// The text is given without its quotes and with its escapes replaced, and what follows it. Without
+/// escapes it is borrowed from the input. Refused with `OutOfMemory` alone, and only where there
+/// are escapes.
+pub fn read_quoted(
+    alloc: Global,
+    input: &[u8],
+) -> Result<Option<(CowStr<'_, Global>, &[u8])>, Error>
+    ensures value { IfOk result (λ found. read_as cow_str_bytes found ≡ quoted input.now) }
+    ensures shrinks { IfOk result (LeavesLess input.now) }
+    ensures err { IfErr result (λ e. e ≡ OutOfMemory) }
+{
+    Ok(quoted_at(alloc, input)?)
+}
+
+// A name, where memory alone can fail.
+#[tactic(auto, unfolding(crate::specs::Tokens::name))]
+pub(crate) fn name_at(
+    alloc: Global,
+    input: &[u8],
+) -> Result<Option<(CowStr<'_, Global>, &[u8])>, AllocError>
+    ensures value { IfOk result (λ found. read_as cow_str_bytes found ≡ name input.now) }
+    ensures shrinks { IfOk result (LeavesLess input.now) }
+{
+    let Some((found, rest)) = text_at(alloc, Ending::Stop, input)? else {
+        return Ok(None);
+    };
+    if let Some(next) = rest.first() {
+        if !Ending::Stop.excludes(*next) {
+            return Ok(None);
+        }
+    }
+    Ok(Some((found, rest)))
+}
+
+// A text between quotes, where memory alone can fail.
+#[tactic(auto, unfolding(crate::specs::Tokens::quoted))]
+pub(crate) fn quoted_at(
+    alloc: Global,
+    input: &[u8],
+) -> Result<Option<(CowStr<'_, Global>, &[u8])>, AllocError>
+    ensures value { IfOk result (λ found. read_as cow_str_bytes found ≡ quoted input.now) }
+    ensures shrinks { IfOk result (LeavesLess input.now) }
+{
+    let Some(inside) = literal(b"\"", input) else {
+        return Ok(None);
+    };
+    let Some((found, rest)) = text_at(alloc, Ending::Quote, inside)? else {
+        return Ok(None);
+    };
+    match literal(b"\"", rest) {
+        Some(end) => Ok(Some((found, end))),
+        None => Ok(None),
+    }
+}
+
+/// Which bytes a text can't hold but by an escape.
+#[derive(Clone, Copy)]
+pub(crate) enum Ending {
+    /// The stop bytes, which end a name.
+    Stop,
+    /// The quote alone.
+    Quote,
+}
+
+impl Ending {
+    fn excludes(self, b: u8) -> bool
+        ensures { result ≡ excluded self b }
+    {
+        match self {
+            Ending::Stop => is_stop(b),
+            Ending::Quote => b == b'"',
+        }
+    }
+}
+
+fn is_stop(b: u8) -> bool
+    ensures { result ≡ spec_is_stop b }
+{
+    matches!(
+        b,
+        b' ' | b','
+            | b'.'
+            | b':'
+            | b'{'
+            | b'}'
+            | b'['
+            | b']'
+            | b'('
+            | b')'
+            | b'?'
+            | b'@'
+            | b'$'
+            | b'|'
+            | b'<'
+            | b'>'
+            | b'!'
+            | b'='
+            | b'+'
+            | b'-'
+            | b'*'
+            | b'/'
+            | b'%'
+            | b'"'
+            | b'\''
+    )
+}
+
+// A text up to where its run of units ends. A text without escapes is not copied.
+fn text_at(
+    alloc: Global,
+    ending: Ending,
+    input: &[u8],
+) -> Result<Option<(CowStr<'_, Global>, &[u8])>, AllocError>
+    ensures value { IfOk result (λ found.
+        read_as cow_str_bytes found ≡ text (excluded ending) input.now) }
+    ensures shrinks { IfOk result (LeavesLess input.now) }
+{
+    let count = plain_count(ending, input);
+    let (front, rest) = input.split_at(count);
+    if let Some(_) = literal(b"\\", rest) {
+        return match owned_text_at(alloc, ending, input)? {
+            Some((found, after)) => Ok(Some((CowStr::Owned(found), after))),
+            None => Ok(None),
+        };
+    }
+    if count == 0 {
+        return Ok(None);
+    }
+    match str::from_utf8(front) {
+        Ok(found) => Ok(Some((CowStr::Borrowed(found), rest))),
+        Err(_) => Ok(None),
+    }
+}
+
+fn plain_count(ending: Ending, input: &[u8]) -> usize
+    ensures { result ≡ prefix_len (is_plain (excluded ending)) input.now }
+{
+    input
+        .iter()
+        .take_while(|b| **b != b'\\' && !ending.excludes(**b))
+        .count()
+}
+
+// The same text, in memory of its own.
+fn owned_text_at(
+    alloc: Global,
+    ending: Ending,
+    input: &[u8],
+) -> Result<Option<(String, &[u8])>, AllocError>
+    ensures value { IfOk result (λ found.
+        read_as string_bytes found ≡ text (excluded ending) input.now) }
+    ensures shrinks { IfOk result (LeavesLess input.now) }
+{
+    let Some((bytes, after)) = units_at(alloc, ending, input)? else {
+        return Ok(None);
+    };
+    match String::from_utf8(bytes) {
+        Ok(found) => Ok(Some((found, after))),
+        Err(_) => Ok(None),
+    }
+}
+
+// The longest run of units, one at least, as the bytes that it stands for.
+#[tactic(auto, unfolding(crate::specs::Tokens::units))]
+fn units_at(
+    alloc: Global,
+    ending: Ending,
+    input: &[u8],
+) -> Result<Option<(Vec<u8>, &[u8])>, AllocError>
+    ensures value { IfOk result (λ found.
+        read_as (λ bytes. bytes.items) found ≡ units (excluded ending) input.now) }
+    ensures shrinks { IfOk result (LeavesLess input.now) }
+{
+    let Some((first, mut rest)) = unit_at(ending, input) else {
+        return Ok(None);
+    };
+    let mut found = Vec::new(alloc);
+    push_unit(&mut found, first)?;
+    while let Some((next, after)) = unit_at(ending, rest) {
+        push_unit(&mut found, next)?;
+        rest = after;
+    }
+    Ok(Some((found, rest)))
+}
+
+/// A part of a text: a byte that stands for itself, or the character of an escape.
+#[derive(Clone, Copy)]
+pub(crate) enum Unit {
+    Byte(u8),
+    Escape(char),
+}
+
+#[tactic(auto, unfolding(crate::specs::Tokens::unit))]
+fn unit_at(ending: Ending, input: &[u8]) -> Option<(Unit, &[u8])>
+    ensures value { read_as unit_bytes result ≡ unit (excluded ending) input.now }
+    ensures shrinks { LeavesLess input.now result }
+{
+    if let Some((c, rest)) = escape_at(input) {
+        return Some((Unit::Escape(c), rest));
+    }
+    let (first, rest) = input.split_first()?;
+    if *first == b'\\' || ending.excludes(*first) {
+        return None;
+    }
+    Some((Unit::Byte(*first), rest))
+}
+
+fn push_unit(found: &mut Vec<u8>, next: Unit) -> Result<(), AllocError>
+    ensures { OnOk result (found.new.items ≡ found.old.items ++ unit_bytes next) }
+{
+    match next {
+        Unit::Byte(b) => found.push(b)?,
+        Unit::Escape(c) => {
+            let mut buffer = [0u8; 4];
+            let bytes = c.encode_utf8(&mut buffer);
+            found.extend_from_slice(bytes.as_bytes())?;
+        }
+    }
+    Ok(())
+}

@@ -1,0 +1,115 @@
+-- What the iterator over the spots of children gives, and the children of a list.
+use Rattle.std.proofs.Common.{◌≡◌, ◌≢◌, ℕ, zero, suc, ◌<◌, ◌-◌, ◌≤◌, ℤ, pos, negsuc, Bool, true, false, nat_lt, if◌then◌else◌, List, [], ◌∷◌, length, drop, Option, Some, None, Result, Ok, Err, IsOkAnd, unwrap_or, refl, arith, slice_get, sym, ap}
+use Rattle.std.specs.Prelude.{option_and_then, unsigned_abs}
+use lib.Signed.{lt_z}
+use Rattle.std.proofs.lemmas.Bool.Decides.{nat_tests}
+use Rattle.jsonb_doc.specs.Tree.{Tree}
+use Rattle.jsonb_doc.specs.Answer.{SameOption}
+use Rattle.jsonb_doc.specs.Spots.{Marks, HasSpotsLeft, TakesSpot}
+use Rattle.jsonb_doc.specs.declared.error.Error.{Error}
+use Rattle.jsonb_doc.specs.declared.spot.Spot.{Spot}
+use Rattle.jsonb_doc.specs.declared.spot_iter.SpotIter.{SpotIter}
+use Rattle.jsonb_raw.specs.Places.{index_position}
+
+-- at first all children are left
+pub all_left : (bytes : List ℕ) (it : SpotIter) (o : Option (List Tree)) → SameOption (HasSpotsLeft bytes) (Some it) o
+    → HasSpotsLeft bytes it (unwrap_or o [])
+all_left bytes it (Some ts) h = h
+all_left bytes it None h = absurd h
+
+pub none_there : (bytes : List ℕ) (o : Option (List Tree)) → SameOption (HasSpotsLeft bytes) None o → unwrap_or o [] ≡ []
+none_there bytes (Some ts) h = absurd h
+none_there bytes None h = refl
+
+-- the trees are a first one, whose spot was given, and the rest, which is left
+pub record FirstLeft (bytes : List ℕ) (ts : List Tree) (r : Result Spot Error) (after : SpotIter) : Type 0 where
+  pub first : Tree
+  pub rest : List Tree
+  pub split : ts ≡ first ∷ rest
+  pub marks : IsOkAnd r (λ spot. Marks bytes spot first)
+  pub left : HasSpotsLeft bytes after rest
+
+pub first_left : (bytes : List ℕ) (ts : List Tree) (r : Result Spot Error) (after : SpotIter) → TakesSpot bytes ts (Some r) after
+    → FirstLeft bytes ts r after
+first_left bytes [] r after h = absurd h
+first_left bytes (t ∷ ts) (Ok spot) after h = record { first = t; rest = ts; split = refl; marks = h.0; left = h.1 }
+first_left bytes (t ∷ ts) (Err e) after h = absurd h
+
+pub none_left : (bytes : List ℕ) (ts : List Tree) (after : SpotIter) → TakesSpot bytes ts None after → ts ≡ []
+none_left bytes [] after h = refl
+none_left bytes (t ∷ ts) after h = absurd h
+
+-- the child at a position, of those that are left
+pub here : (ts : List Tree) (n : ℕ) (first : Tree) (rest : List Tree) (wanted : Option Tree) → ts ≡ first ∷ rest → n ≡ 0
+    → slice_get ts n ≡ wanted → wanted ≡ Some first
+here ts n first rest wanted split now same = sym (rw (split, now) at same)
+
+pub further : (ts : List Tree) (n : ℕ) (first : Tree) (rest : List Tree) (wanted : Option Tree) → ts ≡ first ∷ rest → n ≢ 0
+    → slice_get ts n ≡ wanted → slice_get rest (n - 1) ≡ wanted
+further ts zero first rest wanted split later same = absurd (later refl)
+further ts (suc n) first rest wanted split later same = let e : suc n - 1 ≡ n = omega arith in rw e (rw split at same)
+
+pub nowhere : (ts : List Tree) (n : ℕ) (wanted : Option Tree) → ts ≡ [] → slice_get ts n ≡ wanted → wanted ≡ None
+nowhere ts n wanted none same = sym (rw none at same)
+
+-- the element in front of what is left of a list
+pub record SplitAt (all : List Tree) (k : ℕ) (first : Tree) (rest : List Tree) : Type 0 where
+  pub inside : k < length all
+  pub at : slice_get all k ≡ Some first
+  pub behind : drop (suc k) all ≡ rest
+
+pub split_at : (all : List Tree) (k : ℕ) (first : Tree) (rest : List Tree) → drop k all ≡ first ∷ rest → SplitAt all k first rest
+split_at [] zero first rest e = cc
+split_at [] (suc k) first rest e = cc
+split_at (t ∷ ts) zero first rest e = record { inside = omega arith; at = cc; behind = cc }
+split_at (t ∷ ts) (suc k) first rest e = let s = split_at ts k first rest e in record { inside = omega arith; at = s.at; behind = s.behind }
+
+pub at_end : (all : List Tree) (k : ℕ) → k ≤ length all → drop k all ≡ [] → k ≡ length all
+at_end [] k inside e = omega arith
+at_end (t ∷ ts) zero inside e = cc
+at_end (t ∷ ts) (suc k) inside e = let h : k ≤ length ts = omega arith in ap suc (at_end ts k h e)
+
+marks_of : (bytes : List ℕ) (t : Tree) (r : Result Spot Error) (spot : Spot) → r ≡ Ok spot
+    → IsOkAnd r (λ spot. Marks bytes spot t) → Marks bytes spot t
+marks_of bytes t r spot e h = rw e at h
+
+no_marks : (bytes : List ℕ) (t : Tree) (r : Result Spot Error) (error : Error) → r ≡ Err error
+    → IsOkAnd r (λ spot. Marks bytes spot t) → ⊥
+no_marks bytes t r error e h = rw e at h
+
+pub first_marked : {bytes : List ℕ} {ts : List Tree} {r : Result Spot Error} {after : SpotIter} (f : FirstLeft bytes ts r after) (spot : Spot)
+    → r ≡ Ok spot → Marks bytes spot f.first
+first_marked {bytes} {ts} {r} {after} f spot e = marks_of bytes f.first r spot e f.marks
+
+-- where a tree is left, its spot is given
+pub first_given : {bytes : List ℕ} {ts : List Tree} {r : Result Spot Error} {after : SpotIter} (f : FirstLeft bytes ts r after) (error : Error)
+    → r ≡ Err error → ⊥
+first_given {bytes} {ts} {r} {after} f error e = no_marks bytes f.first r error e f.marks
+
+pub takes_ok : (bytes : List ℕ) (ts : List Tree) (r : Result Spot Error) (spot : Spot) (after : SpotIter) → r ≡ Ok spot
+    → TakesSpot bytes ts (Some r) after → TakesSpot bytes ts (Some (Ok spot)) after
+takes_ok bytes ts r spot after e h = rw e at h
+
+-- ---- an index, from the front or from the end
+
+beyond : (ts : List Tree) (n : ℕ) → length ts ≤ n → slice_get ts n ≡ None
+beyond [] n h = refl
+beyond (t ∷ ts) zero h = absurd (omega arith)
+beyond (t ∷ ts) (suc n) h = beyond ts n (omega arith)
+
+pub from_front : (ts : List Tree) (n : ℕ)
+    → option_and_then (λ n. slice_get ts n) (index_position (length ts) (pos n)) ≡ slice_get ts n
+from_front ts n = by (nat_lt n (length ts)) refl
+  where
+    by : (b : Bool) → nat_lt n (length ts) ≡ b
+        → option_and_then (λ n. slice_get ts n) (if nat_lt n (length ts) then Some n else None) ≡ slice_get ts n
+    by true e = rw e refl
+    by false e = let h : length ts ≤ n = grind (arith, nat_tests, e) in rw (e, beyond ts n h) refl
+
+pub plain_index : (i j : ℤ) (n : ℕ) → j ≡ i → n ≡ unsigned_abs j → lt_z j (pos 0) ≡ false → pos n ≡ i
+plain_index i (pos m) n same is test = rw (← same, is) refl
+plain_index i (negsuc m) n same is test = cc
+
+pub negative_index : (i j : ℤ) (n : ℕ) → j ≡ i → n ≡ unsigned_abs j → lt_z j (pos 0) ≡ true → negsuc (n - 1) ≡ i
+negative_index i (pos m) n same is test = absurd (grind (arith, nat_tests, test))
+negative_index i (negsuc m) n same is test = let e : n - 1 ≡ m = omega (arith, is) in rw (← same, e) refl

@@ -1,0 +1,71 @@
+-- Steps from a number's digits to those of the number without its last digit.
+use Rattle.std.proofs.Common.{◌≡◌, ◌≢◌, ℕ, zero, suc, ◌+◌, ◌-◌, ◌*◌, ◌/◌, ◌%◌, ◌^◌, ◌<◌, ◌≤◌, ◌==◌, ◌&&◌, Bool, true, false, cond, List, [], ◌∷◌, ◌++◌, map, length, refl, sym, ap, ap₂, ◌∙◌, arith, nat_cmp, Less, pow-suc, mul_comm, mul_assoc, mul-le-mul_left, append_assoc}
+use native.Mathlib.Nat.{one-le-pow}
+use Rattle.std.specs.List.{list_all}
+use Rattle.std.specs.Int.Digits.{digits_of}
+use Rattle.std.proofs.lemmas.List.{map-append}
+use Rattle.std.proofs.lemmas.Bool.{ne_eqb}
+use Rattle.std.proofs.lemmas.Int.Digits.{digits_of_step, length-digits_of_step, length-digits_of-le}
+use Rattle.jsonb_doc.specs.Comparing.{nat_cmp-lt}
+use Rattle.jsonb_raw.specs.SortableKey.{significant}
+use Rattle.jsonb_raw.specs.Spelling.{signed_byte, signed_bytes}
+
+pub count_step : (n : ℕ) → 0 < n → length (digits_of 10 (n / 10)) + 1 ≡ length (digits_of 10 n)
+count_step n h = sym (length-digits_of_step 10 n (omega arith) h)
+
+pub count_few : (n : ℕ) → n < 2 ^ 128 → length (digits_of 10 n) ≤ 39
+count_few n h = length-digits_of-le 10 39 n (omega arith) (omega arith)
+
+pub digits_pushed : (negative : Bool) (old : List ℕ) (n : ℕ) → 0 < n → (old ++ signed_bytes negative (map suc (digits_of 10 (n / 10)))) ++ signed_byte negative (suc (n % 10)) ∷ [] ≡ old ++ signed_bytes negative (map suc (digits_of 10 n))
+digits_pushed negative old n h =
+    append_assoc old (signed_bytes negative (map suc (digits_of 10 (n / 10)))) (signed_byte negative (suc (n % 10)) ∷ [])
+    ∙ ap (λ x. old ++ x)
+    (sym (map-append (signed_byte negative) (map suc (digits_of 10 (n / 10))) (suc (n % 10) ∷ []))
+    ∙ ap (map (signed_byte negative)) (sym (map-append suc (digits_of 10 (n / 10)) (n % 10 ∷ [])) ∙ ap (map suc) (sym (digits_of_step 10 n (omega arith) h))))
+
+all_zero_behind : (ds : List ℕ) → list_all (λ d. d == 0) (ds ++ 0 ∷ []) ≡ list_all (λ d. d == 0) ds
+all_zero_behind [] = refl
+all_zero_behind (d ∷ ds) = ap (λ b. (d == 0) && b) (all_zero_behind ds)
+
+significant-zero_behind : (ds : List ℕ) → significant (ds ++ 0 ∷ []) ≡ significant ds
+significant-zero_behind [] = refl
+significant-zero_behind (d ∷ ds) = ap₂ (λ b x. cond ((d == 0) && b) [] (d ∷ x)) (all_zero_behind ds) (significant-zero_behind ds)
+
+not_all_zero_behind : (c : ℕ) (ds : List ℕ) → c ≢ 0 → list_all (λ d. d == 0) (ds ++ c ∷ []) ≡ false
+not_all_zero_behind c [] h = ap (λ b. b && true) (ne_eqb c 0 h)
+not_all_zero_behind c (d ∷ ds) h = ap (λ b. (d == 0) && b) (not_all_zero_behind c ds h) ∙ and-false (d == 0)
+  where
+    and-false : (b : Bool) → (b && false) ≡ false
+    and-false true = refl
+    and-false false = refl
+
+significant-behind : (c : ℕ) (ds : List ℕ) → c ≢ 0 → significant (ds ++ c ∷ []) ≡ ds ++ c ∷ []
+significant-behind c [] h = ap (λ b. cond (b && true) [] (c ∷ [])) (ne_eqb c 0 h)
+significant-behind c (d ∷ ds) h = ap₂ (λ b x. cond b [] (d ∷ x)) (not_all_zero_behind c (d ∷ ds) h) (significant-behind c ds h)
+
+pub significant_step : (n : ℕ) → 0 < n → n % 10 ≡ 0 → significant (digits_of 10 (n / 10)) ≡ significant (digits_of 10 n)
+significant_step n h e = sym (significant-zero_behind (digits_of 10 (n / 10))) ∙ ap (λ d. significant (digits_of 10 (n / 10) ++ d ∷ [])) (sym e) ∙ ap significant (sym (digits_of_step 10 n (omega arith) h))
+
+pub significant_whole : (n : ℕ) → n % 10 ≢ 0 → significant (digits_of 10 n) ≡ digits_of 10 n
+significant_whole n ne =
+    ap significant step ∙ significant-behind (n % 10) (digits_of 10 (n / 10)) ne ∙ sym step
+  where
+    step : digits_of 10 n ≡ digits_of 10 (n / 10) ++ (n % 10 ∷ [])
+    step = digits_of_step 10 n (omega arith) (omega arith)
+
+-- 0 has no digits
+pub significant-nothing : (n : ℕ) → n ≡ 0 → significant (digits_of 10 n) ≡ digits_of 10 n
+significant-nothing zero e = refl
+significant-nothing (suc n) e = absurd (omega arith)
+
+pub power_step : (b k : ℕ) → 0 < k → b * 10 * 10 ^ (k - 1) ≡ b * 10 ^ k
+power_step b zero h = absurd (omega arith)
+power_step b (suc k) h = mul_assoc b 10 (10 ^ (suc k - 1)) ∙ ap (λ x. b * x) (ap (λ j. 10 * 10 ^ j) (let e : suc k - 1 ≡ k = omega arith in e) ∙ mul_comm 10 (10 ^ k) ∙ sym (pow-suc 10 k))
+
+-- a number of 128 bits is below one whose tenfold passes them
+pub below_scaled : (a b k : ℕ) → 0 < k → a < 2 ^ 128 → 2 ^ 128 ≤ b * 10 → Less ≡ nat_cmp a (b * 10 ^ k)
+below_scaled a b k h ha hb =
+    let p : 1 ≤ 10 ^ (k - 1) = one-le-pow (k - 1) 10 (omega arith) in
+    let q : b * 10 * 1 ≤ b * 10 * 10 ^ (k - 1) = mul-le-mul_left (b * 10) p in
+    let e : b * 10 * 10 ^ (k - 1) ≡ b * 10 ^ k = power_step b k h in
+    sym (nat_cmp-lt a (b * 10 ^ k) (omega arith))

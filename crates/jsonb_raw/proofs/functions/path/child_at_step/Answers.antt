@@ -1,0 +1,23 @@
+use Rattle.std.proofs.Common.{rules, w32}
+use mir.Val.{SFits}
+use Rattle.std.proofs.lemmas.Int.{to_z-of_z}
+use Rattle.jsonb_raw.proofs.IndexLemmas.{passed}
+use Rattle.jsonb_doc.specs.Tree.{field_of}
+use Rattle.jsonb_doc.specs.Answer.{SameOption}
+use Rattle.jsonb_doc.specs.Spots.{Marks}
+use Rattle.jsonb_raw.proofs.Answered.{answered}
+use Rattle.jsonb_raw.proofs.PlaceLemmas.{plain_met, quoted_met}
+use Rattle.jsonb_raw.proofs.functions.path.child_at_step.Goals as goal
+
+pub returns-in-Index-clause-child : goal.returns-in-Index-clause-child
+returns-in-Index-clause-child c = λ t m.
+    let fits : SFits w32 c.in-Index.index = search rules in
+    rw c.in-Index.is (passed _ _ c.in-Index.index t _ (to_z-of_z w32 c.in-Index.index fits) (c.indexed_child.ensures.child t m))
+
+pub returns-in-QuotedName-clause-child : goal.returns-in-QuotedName-clause-child
+returns-in-QuotedName-clause-child c = λ t m.
+    rw (c.in-QuotedName.is, quoted_met _ t, ← c.as_str.ensures.value) (answered (λ found. SameOption (Marks c.args.bytes.now) found (field_of c.as_str.result.now t)) c.field_spot.result (c.field_spot.ensures.field t m))
+
+pub returns-in-Name-clause-child : goal.returns-in-Name-clause-child
+returns-in-Name-clause-child c = λ t m.
+    rw (c.in-Name.is, plain_met _ t, ← c.as_str-in-Name.ensures.value) (answered (λ found. SameOption (Marks c.args.bytes.now) found (field_of c.as_str-in-Name.result.now t)) c.field_spot-in-Name.result (c.field_spot-in-Name.ensures.field t m))

@@ -1,0 +1,10 @@
+use Rattle.std.proofs.Common.{arith, ap, ap₂, ◌∙◌, ◌++◌, ◌∷◌, []}
+use Rattle.jsonb_raw.specs.Spelling.{signed_byte}
+use Rattle.jsonb_raw.proofs.DigitSteps.{digits_pushed}
+use Rattle.jsonb_raw.proofs.key_bytes.+push_digits.Goals as goal
+
+pub returns : goal.returns
+returns t c =
+    c.in_ok-push.ensures.items
+    ∙ ap₂ (λ xs b. xs ++ b ∷ []) c.in_ok-push_digits.ensures (c.spell.ensures ∙ ap (signed_byte c.args.negative) (omega arith))
+    ∙ digits_pushed c.args.negative c.args.out.now.items c.args.n (omega arith)

@@ -1,0 +1,26 @@
+-- The equality key of a tree: bytes that two trees share exactly where they are equal by value.
+use Rattle.std.specs.Prelude.{ℕ, List, [], ◌∷◌, ◌++◌, length}
+use Rattle.std.specs.Int.{w32, w64, to_be_bytes}
+use Rattle.jsonb_doc.specs.Tree.{Tree, Trees, Pairs, count, keys}
+use Rattle.jsonb_doc.specs.Order.{rank}
+use Rattle.jsonb_doc.specs.Payload.{extension_payload}
+use Rattle.jsonb_raw.specs.SortableKey.{number_bytes, text_bytes}
+
+-- a kind byte and the content: counts in four bytes, the length of an extension's payload in eight
+abbrev mutual
+  pub equality_key : Tree → List ℕ
+  equality_key Tree.null = 8 ∷ []
+  equality_key (Tree.boolean b) = rank (Tree.boolean b) ∷ []
+  equality_key (Tree.number n) = 4 ∷ number_bytes n.whole n.scale
+  equality_key (Tree.text bytes) = 5 ∷ text_bytes bytes
+  equality_key (Tree.extension x) = 1 ∷ to_be_bytes w64 (length (extension_payload x)) ++ extension_payload x
+  equality_key (Tree.array ts) = 7 ∷ to_be_bytes w32 (count ts) ++ equality_keys_of_trees ts
+  equality_key (Tree.object ps) = 6 ∷ to_be_bytes w32 (length (keys ps)) ++ equality_keys_of_pairs ps
+
+  pub equality_keys_of_trees : Trees → List ℕ
+  equality_keys_of_trees Trees.no_trees = []
+  equality_keys_of_trees (Trees.tree t ts) = equality_key t ++ equality_keys_of_trees ts
+
+  pub equality_keys_of_pairs : Pairs → List ℕ
+  equality_keys_of_pairs Pairs.no_pairs = []
+  equality_keys_of_pairs (Pairs.pair k v ps) = (5 ∷ text_bytes k) ++ (equality_key v ++ equality_keys_of_pairs ps)

@@ -1,0 +1,11 @@
+pub mod Documents
+pub mod Iterators
+pub mod Places
+pub mod PlacesLaws
+pub mod Depth
+pub mod SortableKey
+pub mod EqualityKey
+pub mod KeyAnswer
+pub mod KeyLaws
+pub mod Spelling
+pub mod KeyWidth

@@ -1,0 +1,64 @@
+-- The sortable key of a tree: bytes whose order is the order of the trees.
+use Rattle.std.specs.Prelude.{ℕ, zero, suc, ◌+◌, ◌-◌, ◌^◌, ◌≤◌, ◌==◌, ◌≡◌, ◌⊎◌, if◌then◌else◌, List, [], ◌∷◌, ◌++◌, map, length, ℤ, pos, negsuc}
+use Rattle.std.specs.Int.{Width, to_be_bytes, byte_len, w16}
+use Rattle.std.specs.Int.Digits.{digits_of}
+use Rattle.std.specs.List.{list_all}
+use Rattle.jsonb_doc.specs.Tree.{Tree, Trees, Pairs}
+use Rattle.jsonb_doc.specs.Order.{rank}
+use Rattle.jsonb_doc.specs.Payload.{extension_payload}
+
+-- the digits up to the last that is not 0
+abbrev pub significant : List ℕ → List ℕ
+significant [] = []
+significant (c ∷ cs) = if list_all (λ d. d == 0) (c ∷ cs) then [] else c ∷ significant cs
+
+-- The number n / 10 ^ scale above 0 is 0.c1..ck times ten to the E, where c1 and ck are not 0: E + 1000 in two
+-- bytes, each digit plus 1, and an end byte. E is the count of n's digits less the scale.
+unfoldable pub magnitude_bytes : ℕ → ℕ → List ℕ
+magnitude_bytes n scale = to_be_bytes w16 (length (digits_of 10 n) + 1000 - scale) ++ (map suc (significant (digits_of 10 n)) ++ 0 ∷ [])
+
+-- A negative number has the complement of each byte, so that a greater magnitude is below.
+abbrev pub number_bytes : ℤ → ℕ → List ℕ
+number_bytes (pos zero) scale = 0x80 ∷ []
+number_bytes (pos (suc n)) scale = 0x81 ∷ magnitude_bytes (suc n) scale
+number_bytes (negsuc n) scale = 0x7f ∷ map (λ b. 255 - b) (magnitude_bytes (suc n) scale)
+
+-- the bytes 0 and 1 are escaped, since the byte 0 ends a text
+abbrev pub escaped_byte : ℕ → List ℕ
+escaped_byte zero = 1 ∷ 1 ∷ []
+escaped_byte (suc zero) = 1 ∷ 2 ∷ []
+escaped_byte (suc (suc b)) = suc (suc b) ∷ []
+
+abbrev pub text_bytes : List ℕ → List ℕ
+text_bytes [] = 0 ∷ []
+text_bytes (b ∷ bs) = escaped_byte b ++ text_bytes bs
+
+-- an item at a depth: the depth in the width's bytes, its kind and its content
+abbrev pub item_bytes : Width → ℕ → ℕ → List ℕ → List ℕ
+item_bytes w depth kind content = to_be_bytes w depth ++ kind ∷ content
+
+abbrev mutual
+  pub key : Width → Tree → ℕ → List ℕ
+  key w Tree.null d = item_bytes w d 8 []
+  key w (Tree.boolean b) d = item_bytes w d (rank (Tree.boolean b)) []
+  key w (Tree.number n) d = item_bytes w d 4 (number_bytes n.whole n.scale)
+  key w (Tree.text bytes) d = item_bytes w d 5 (text_bytes bytes)
+  key w (Tree.extension x) d = item_bytes w d 1 (extension_payload x ++ 0 ∷ [])
+  key w (Tree.array ts) d = item_bytes w d 7 (keys_of_trees w ts (suc d))
+  key w (Tree.object ps) d = item_bytes w d 6 (keys_of_pairs w ps (suc d))
+
+  pub keys_of_trees : Width → Trees → ℕ → List ℕ
+  keys_of_trees w Trees.no_trees d = []
+  keys_of_trees w (Trees.tree t ts) d = key w t d ++ keys_of_trees w ts d
+
+  pub keys_of_pairs : Width → Pairs → ℕ → List ℕ
+  keys_of_pairs w Pairs.no_pairs d = []
+  keys_of_pairs w (Pairs.pair k v ps) d = item_bytes w d 5 (text_bytes k) ++ (key w v d ++ keys_of_pairs w ps d)
+
+-- how many depths the width's bytes tell apart
+abbrev pub depths : Width → ℕ
+depths w = 256 ^ byte_len w
+
+-- what may stand behind the key of an item at a depth: nothing, or an item that lies no deeper
+abbrev pub IsRest : Width → ℕ → List ℕ → Type 0
+IsRest w d r = (r ≡ []) ⊎ ((e : ℕ) × (x : List ℕ) × (e ≤ d) × (r ≡ to_be_bytes w e ++ x))

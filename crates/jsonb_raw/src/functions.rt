@@ -1,0 +1,4 @@
+//! The calls on documents.
+
+mod operator;
+mod path;

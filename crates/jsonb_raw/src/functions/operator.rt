@@ -1,0 +1,67 @@
+//! Functions on documents of every kind.
+
+ghost use Rattle.std.specs.Prelude.{◌≡◌, IfErr};
+ghost use Rattle.std.specs.Int.{w8, w16};
+ghost use Rattle.jsonb_doc.specs.Tree.{Tree};
+ghost use Rattle.jsonb_doc.specs.Payload.{Form};
+ghost use Rattle.jsonb_doc.specs.Format.{Decodes};
+ghost use Rattle.jsonb_doc.specs.Answer.{Answers};
+ghost use Rattle.jsonb_raw.specs.Documents.{raw_bytes, IsReadingError};
+ghost use Rattle.jsonb_raw.specs.KeyAnswer.{MakesKey, RanksAsTree, IsKeyError};
+ghost use Rattle.jsonb_raw.specs.EqualityKey.{equality_key};
+
+#[cfg(test)]
+mod tests;
+
+use crate::equality_key::item_key;
+use crate::raw::RawJsonb;
+use crate::sortable_key::{DepthWidth, document_key};
+use jsonb_doc::{Error, root_item};
+use std::alloc::Global;
+
+impl RawJsonb<'_> {
+    /// The sortable key: bytes that compare, as bytes do, as the documents compare.
+    ///
+    /// Two documents have one key exactly where they are equal by value. No order is promised where an extension
+    /// occurs, nor beside a key of `convert_to_comparable_wide`.
+    ///
+    /// Each item gives its depth in one byte (the root's is 0), the byte of its kind and its content; an object's
+    /// keys lie as deep as its values. `TooDeep` exactly where an item lies deeper than 255. `InvalidJsonb` or
+    /// `UnsupportedNumber` only where the bytes don't decode, and `OutOfMemory` where memory is refused.
+    pub fn convert_to_comparable(&self, alloc: Global) -> Result<Vec<u8>, Error>
+        ensures key { (form : Form) (tree : Tree) → Decodes form (raw_bytes self.now) tree
+            → MakesKey w8 tree result }
+        ensures order { (form : Form) (tree : Tree) → Decodes form (raw_bytes self.now) tree
+            → RanksAsTree w8 tree result }
+        ensures errors { IfErr result IsKeyError }
+    {
+        document_key(alloc, self.as_bytes(), DepthWidth::OneByte)
+    }
+
+    /// The wide sortable key: as `convert_to_comparable`, with each depth in two bytes, the high byte first.
+    ///
+    /// `TooDeep` exactly where an item lies deeper than 65,535; the other errors are the same. Nothing is said of
+    /// it beside a key of `convert_to_comparable`.
+    pub fn convert_to_comparable_wide(&self, alloc: Global) -> Result<Vec<u8>, Error>
+        ensures key { (form : Form) (tree : Tree) → Decodes form (raw_bytes self.now) tree
+            → MakesKey w16 tree result }
+        ensures order { (form : Form) (tree : Tree) → Decodes form (raw_bytes self.now) tree
+            → RanksAsTree w16 tree result }
+        ensures errors { IfErr result IsKeyError }
+    {
+        document_key(alloc, self.as_bytes(), DepthWidth::TwoBytes)
+    }
+
+    /// The equality key: bytes that two documents share exactly where they are equal by value, at every depth and
+    /// with extensions. Their order means nothing.
+    ///
+    /// `InvalidJsonb` or `UnsupportedNumber` only where the bytes don't decode, and `OutOfMemory` where memory is
+    /// refused.
+    pub fn equality_key(&self, alloc: Global) -> Result<Vec<u8>, Error>
+        ensures key { (form : Form) (tree : Tree) → Decodes form (raw_bytes self.now) tree
+            → Answers result (λ v. v.items ≡ equality_key tree) }
+        ensures errors { IfErr result IsReadingError }
+    {
+        item_key(alloc, &root_item(self.as_bytes())?)
+    }
+}

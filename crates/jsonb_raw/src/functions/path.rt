@@ -1,0 +1,148 @@
+//! The calls on the places of a document.
+
+ghost use Rattle.std.specs.Prelude.{negsuc, List, length, slice_get, option_and_then, IsOkAnd, IfErr};
+ghost use Rattle.std.specs.Iterator.{IsFinite};
+ghost use Rattle.jsonb_doc.specs.Tree.{Tree};
+ghost use Rattle.jsonb_doc.specs.Payload.{Form};
+ghost use Rattle.jsonb_doc.specs.Format.{Decodes};
+ghost use Rattle.jsonb_doc.specs.Answer.{Answers, SameOption};
+ghost use Rattle.jsonb_doc.specs.Spots.{Marks};
+ghost use Rattle.jsonb_doc.specs.View.{IsDecodingError};
+ghost use Rattle.jsonb_keypath.specs.declared.key_path.KeyPath.{KeyPath};
+ghost use Rattle.jsonb_keypath.specs.KeyPathGrammar.{index as index_step};
+ghost use Rattle.jsonb_keypath.specs.KeyPathViews.{key_view, keys_view};
+ghost use Rattle.jsonb_raw.specs.Documents.{raw_bytes, MakesOption, IsReadingError, IsMakingError};
+ghost use Rattle.jsonb_raw.specs.Places.{children, child_met, index_position, tree_at_steps};
+ghost use Rattle.jsonb_raw.specs.Iterators.{TellsWhatIsLeft};
+
+use crate::owned::OwnedJsonb;
+use crate::raw::RawJsonb;
+use jsonb_doc::{Error, Item, Spot, child_spots, field_spot, root_spot, spot_item};
+use jsonb_keypath::KeyPath;
+use std::alloc::Global;
+
+/// The child at a position.
+fn nth_child(bytes: &[u8], spot: Spot, position: usize) -> Result<Option<Spot>, Error>
+    ensures child { (t : Tree) → Marks bytes.now spot t
+        → IsOkAnd result (λ found. SameOption (Marks bytes.now) found (slice_get (children t) position)) }
+    ensures errors { IfErr result IsDecodingError }
+{
+    let Some(children) = child_spots(bytes, spot)? else {
+        return Ok(None);
+    };
+    let mut before = position;
+    for child in children {
+        let child = child?;
+        if before == 0 {
+            return Ok(Some(child));
+        }
+        before -= 1;
+    }
+    Ok(None)
+}
+
+/// The child that so many others follow. A second walk over the children stays so many behind the first.
+fn child_from_end(bytes: &[u8], spot: Spot, after: usize) -> Result<Option<Spot>, Error>
+    ensures child { (t : Tree) → Marks bytes.now spot t → IsOkAnd result (λ found. SameOption (Marks bytes.now) found
+        (option_and_then (λ n. slice_get (children t) n) (index_position (length (children t)) (negsuc after)))) }
+    ensures errors { IfErr result IsDecodingError }
+{
+    let Some(children) = child_spots(bytes, spot)? else {
+        return Ok(None);
+    };
+    let Some(mut behind) = child_spots(bytes, spot)? else {
+        return Ok(None);
+    };
+    let mut wait = after;
+    let mut found = None;
+    for child in children {
+        child?;
+        if wait > 0 {
+            wait -= 1;
+        } else if let Some(next) = behind.next() {
+            found = Some(next?);
+        }
+    }
+    Ok(found)
+}
+
+/// The element that an index means, from the end where it is negative.
+fn element_at(bytes: &[u8], spot: Spot, index: i32) -> Result<Option<Spot>, Error>
+    ensures element { (t : Tree) → Marks bytes.now spot t → IsOkAnd result (λ found. SameOption (Marks bytes.now) found
+        (option_and_then (λ n. slice_get (children t) n) (index_position (length (children t)) index))) }
+    ensures errors { IfErr result IsDecodingError }
+{
+    let distance = index.unsigned_abs() as usize;
+    let is_from_end = index < 0;
+    if is_from_end {
+        child_from_end(bytes, spot, distance - 1)
+    } else {
+        nth_child(bytes, spot, distance)
+    }
+}
+
+/// The child that an index meets: an element, or the value under the index in decimal.
+fn indexed_child(alloc: Global, bytes: &[u8], spot: Spot, index: i32) -> Result<Option<Spot>, Error>
+    ensures child { (t : Tree) → Marks bytes.now spot t
+        → Answers result (λ found. SameOption (Marks bytes.now) found (child_met (index_step index) t)) }
+    ensures errors { IfErr result IsReadingError }
+{
+    match spot_item(bytes, spot)? {
+        Item::Array(_) => element_at(bytes, spot, index),
+        Item::Object(_) => {
+            let key = format!(in alloc; "{index}")?;
+            field_spot(bytes, spot, key.as_str())
+        }
+        _ => Ok(None),
+    }
+}
+
+/// The child that a step meets.
+fn child_at_step(
+    alloc: Global,
+    bytes: &[u8],
+    spot: Spot,
+    step: &KeyPath<'_>,
+) -> Result<Option<Spot>, Error>
+    ensures child { (t : Tree) → Marks bytes.now spot t
+        → Answers result (λ found. SameOption (Marks bytes.now) found (child_met (key_view step.now) t)) }
+    ensures errors { IfErr result IsReadingError }
+{
+    match step {
+        KeyPath::Index(index) => indexed_child(alloc, bytes, spot, *index),
+        KeyPath::QuotedName(name) => field_spot(bytes, spot, name.as_str()),
+        KeyPath::Name(name) => field_spot(bytes, spot, name.as_str()),
+    }
+}
+
+impl RawJsonb<'_> {
+    /// The part of the document at the place that the steps meet, as a document of its own. At an array only an
+    /// index meets an element, counted from the end where it is negative. At an object a name meets the value
+    /// under it, and an index the value under its decimal text. `None` is where a step meets nothing. No steps
+    /// meet the whole document.
+    ///
+    /// `InvalidJsonb` and `UnsupportedNumber` come only where the bytes don't decode, `TooLarge` only where the
+    /// part is too large for a document of its own.
+    pub fn get_by_keypath<'k, I: Iterator<Item = &'k KeyPath<'k>> + Drop>(
+        &self,
+        alloc: Global,
+        steps: I,
+    ) -> Result<Option<OwnedJsonb>, Error>
+        requires can { I.can_next steps }
+        requires ends { IsFinite (I.remaining steps) }
+        ensures place { (left : I → List KeyPath) → TellsWhatIsLeft I.next_gives left
+            → (form : Form) (t : Tree) → Decodes form (raw_bytes self.now) t
+            → MakesOption form (tree_at_steps (keys_view (left steps)) t) result }
+        ensures errors { IfErr result IsMakingError }
+    {
+        let bytes = self.as_bytes();
+        let mut spot = root_spot(bytes)?;
+        for step in steps {
+            let Some(child) = child_at_step(alloc, bytes, spot, step)? else {
+                return Ok(None);
+            };
+            spot = child;
+        }
+        Ok(Some(OwnedJsonb::from_spot(alloc, bytes, spot)?))
+    }
+}

@@ -1,0 +1,43 @@
+//! What is true of the definitions, whatever the calls do. The functions answer nothing.
+
+ghost use Rattle.std.specs.Prelude.{IfSome};
+ghost use Rattle.jsonb_keypath.specs.KeyPathGrammar.{key_path};
+ghost use Rattle.std.specs.Int.{w8, w16};
+ghost use Rattle.jsonb_raw.specs.KeyLaws.{KeysKeepBelow, KeysKeepEqual, KeysOrder, KeysTellApart, EqualityKeysTellApart, DigitsWrite};
+ghost use Rattle.jsonb_raw.specs.PlacesLaws.{NoStepsMeetTheWhole, PrintsToItsPlace};
+
+/// The place of no steps is the whole tree.
+pub fn no_steps_meet_the_whole()
+    ensures { NoStepsMeetTheWhole }
+{}
+
+/// Each text that is a key path prints to a text that reads as a key path with the same place on every tree.
+pub fn printed_key_paths_keep_their_place(text: &[u8])
+    ensures { IfSome (key_path text.now) PrintsToItsPlace }
+{}
+
+/// Sortable keys, with depths in one byte, are in order as the trees are.
+pub fn sortable_keys()
+    ensures below { KeysKeepBelow w8 }
+    ensures equal { KeysKeepEqual w8 }
+    ensures order { KeysOrder w8 }
+    ensures apart { KeysTellApart w8 }
+{}
+
+/// The same of wide sortable keys, with depths in two bytes.
+pub fn wide_sortable_keys()
+    ensures below { KeysKeepBelow w16 }
+    ensures equal { KeysKeepEqual w16 }
+    ensures order { KeysOrder w16 }
+    ensures apart { KeysTellApart w16 }
+{}
+
+/// Equality keys stand for equality by value, at every depth, also where extensions occur.
+pub fn equality_keys()
+    ensures { EqualityKeysTellApart }
+{}
+
+/// The digits of a number's key write its absolute value, with no zero at either end.
+pub fn number_digits()
+    ensures { DigitsWrite }
+{}

@@ -1,0 +1,16 @@
+//! Documents as bytes, borrowed or owned, and what is asked of them without decoding them whole.
+#![tactic(auto)]
+
+mod equality_key;
+mod functions;
+mod key_bytes;
+mod key_kind;
+pub mod laws;
+mod owned;
+mod raw;
+mod sortable_key;
+#[cfg(test)]
+mod tests;
+
+pub use owned::OwnedJsonb;
+pub use raw::RawJsonb;

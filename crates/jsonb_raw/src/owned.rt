@@ -1,0 +1,71 @@
+//! A document that owns its bytes.
+
+ghost use Rattle.std.specs.Prelude.{◌≡◌, IfErr};
+ghost use Rattle.jsonb_doc.specs.Tree.{Tree};
+ghost use Rattle.jsonb_doc.specs.Payload.{Form};
+ghost use Rattle.jsonb_doc.specs.Format.{Decodes};
+ghost use Rattle.jsonb_doc.specs.Answer.{Answers};
+ghost use Rattle.jsonb_doc.specs.Spots.{Marks};
+ghost use Rattle.jsonb_raw.specs.Documents.{raw_bytes, Makes, IsMakingError};
+
+use crate::raw::RawJsonb;
+use jsonb_doc::{Error, Spot, encode_item, spot_item};
+use std::alloc::Global;
+use std::marker::Model;
+
+/// The bytes of a document.
+#[derive(Drop)]
+pub struct OwnedJsonb {
+    bytes: Vec<u8>,
+}
+
+impl Model for OwnedJsonb {
+    ghost use Rattle.std.specs.Prelude.{List, ℕ};
+
+    ghost Value = { List ℕ };
+
+    ghost view = { λ owned. owned.bytes.items };
+}
+
+impl OwnedJsonb {
+    /// These bytes, as they are. They need not decode.
+    pub fn new(bytes: Vec<u8>) -> OwnedJsonb
+        ensures { result ≡ bytes.items }
+    {
+        Self { bytes }
+    }
+
+    /// The item at a spot of these bytes as a document of its own. `TooLarge` is for an item that passes the limits
+    /// of a document, `InvalidJsonb` and `UnsupportedNumber` come only where the bytes don't decode.
+    pub(crate) fn from_spot(alloc: Global, bytes: &[u8], spot: Spot) -> Result<OwnedJsonb, Error>
+        ensures document { (form : Form) (whole t : Tree) → Decodes form bytes.now whole → Marks bytes.now spot t
+            → Makes form t result }
+        ensures errors { IfErr result IsMakingError }
+    {
+        let item = spot_item(bytes, spot)?;
+        Ok(OwnedJsonb::new(encode_item(alloc, &item)?))
+    }
+
+    /// The document, borrowed.
+    pub fn as_raw(&self) -> RawJsonb<'_>
+        ensures { raw_bytes result ≡ self.now }
+    {
+        RawJsonb::new(self.bytes.as_slice())
+    }
+
+    /// The bytes.
+    pub fn to_vec(self) -> Vec<u8>
+        ensures { result.items ≡ self }
+    {
+        let OwnedJsonb { bytes } = self;
+        bytes
+    }
+
+    /// The same bytes in memory of their own.
+    pub fn clone(&self, alloc: Global) -> Result<OwnedJsonb, Error>
+        ensures { Answers result (λ copy. copy ≡ self.now) }
+    {
+        let bytes = Vec::from_slice(alloc, self.bytes.as_slice())?;
+        Ok(OwnedJsonb::new(bytes))
+    }
+}

@@ -1,0 +1,4 @@
+pub mod Requests
+pub mod Outcomes
+pub mod Views
+pub mod Answers

@@ -1,0 +1,63 @@
+-- What comes of a command: the lines that it prints, or its refusal.
+use Rattle.std.specs.Prelude.{◌≡◌, ◌⊎◌, ◌<◌, ◌≤◌, ℕ, List, ◌++◌, Option, Some, None, Result, Ok, Err, IsErrAnd, codes}
+use Rattle.std.specs.Int.{w8}
+use Rattle.jsonb_doc.specs.declared.error.Error.{Error}
+use Rattle.jsonb_doc.specs.declared.error.Error.TheVariants.{InvalidJsonb, UnsupportedNumber, InvalidKeyPath, TooLarge, TooDeep}
+use Rattle.jsonb_doc.specs.Tree.{Tree}
+use Rattle.jsonb_doc.specs.Payload.{Form, any}
+use Rattle.jsonb_doc.specs.Format.{Decodes, WouldDecode}
+use Rattle.jsonb_doc.specs.Limits.{IsTooLarge}
+use Rattle.jsonb_keypath.specs.KeyPathGrammar.{Key, key_path}
+use Rattle.jsonb_raw.specs.Depth.{deepest}
+use Rattle.jsonb_raw.specs.Places.{tree_at_steps}
+use Rattle.jsonb_raw.specs.SortableKey.{depths}
+use Rattle.jsonb_raw.specs.SortableKey as sortable
+use Rattle.hex.specs.Hex.{encode_lower}
+use Rattle.jsonb_tool.specs.Requests.{Request, get, key}
+
+-- the lines that a command prints, each with its line feed, or its refusal
+abbrev pub Outcome : Type 0
+Outcome = Result (List ℕ) Error
+
+-- why bytes are no document: they would be one if each float and each decimal of 256 bits were a number, or not even then
+abbrev pub IsDamage : List ℕ → Error → Type 0
+IsDamage bytes UnsupportedNumber = ((t : Tree) → Decodes any bytes t → ⊥) × ((t : Tree) × WouldDecode bytes t)
+IsDamage bytes InvalidJsonb = (t : Tree) → WouldDecode bytes t → ⊥
+IsDamage bytes _ = ⊥
+
+-- The outcome is as said of the tree that the bytes decode to, in each form in which they do.
+-- Where they don't decode, it is the refusal that says why.
+abbrev pub OnDocument : List ℕ → (Form → Tree → Outcome → Type 0) → Outcome → Type 0
+OnDocument bytes IsOutcomeOn outcome =
+    (((t : Tree) × Decodes any bytes t)
+    × ((form : Form) (t : Tree) → Decodes form bytes t → IsOutcomeOn form t outcome))
+    ⊎ IsErrAnd outcome (IsDamage bytes)
+
+-- The line is a document of the tree in hexadecimal, or `none` where there is no tree.
+-- The refusal is that the tree is too large for a document.
+abbrev pub ShowsTree : Form → Option Tree → Outcome → Type 0
+ShowsTree form None outcome = outcome ≡ Ok (codes "none\n")
+ShowsTree form (Some t) (Ok lines) =
+    (bytes : List ℕ) × Decodes form bytes t × (lines ≡ encode_lower bytes ++ codes "\n")
+ShowsTree form (Some t) (Err e) = (e ≡ TooLarge) × IsTooLarge form t
+
+-- `get`: the tree at the place that the steps meet, where the path is a key path
+abbrev pub Gets : Option (List Key) → List ℕ → Outcome → Type 0
+Gets None document outcome = outcome ≡ Err InvalidKeyPath
+Gets (Some steps) document outcome =
+    OnDocument document (λ form t. ShowsTree form (tree_at_steps steps t)) outcome
+
+-- The line is the sortable key of the tree in hexadecimal.
+-- The refusal is that an item of the tree lies too deep for a key.
+abbrev pub ShowsKey : Tree → Outcome → Type 0
+ShowsKey t (Ok lines) = (lines ≡ encode_lower (sortable.key w8 t 0) ++ codes "\n") × (deepest t < depths w8)
+ShowsKey t (Err e) = (e ≡ TooDeep) × (depths w8 ≤ deepest t)
+
+-- `key`: the sortable key of the document
+abbrev pub ShowsKeyOf : List ℕ → Outcome → Type 0
+ShowsKeyOf document outcome = OnDocument document (λ form t. ShowsKey t) outcome
+
+-- what comes of a request
+abbrev pub IsOutcome : Request → Outcome → Type 0
+IsOutcome (get path document) outcome = Gets (key_path path) document outcome
+IsOutcome (key document) outcome = ShowsKeyOf document outcome

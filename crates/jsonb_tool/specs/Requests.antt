@@ -1,0 +1,23 @@
+-- What the words of a command line ask for.
+use Rattle.std.specs.Prelude.{ℕ, List, [], ◌∷◌, Option, None, option_map, codes, if◌then◌else◌}
+use Rattle.std.specs.Result.{result_ok}
+use Rattle.std.specs.Str.{bytes_eq}
+use Rattle.hex.specs.Hex.{decode_of}
+
+-- A command. Its path is the text that was given, its document the bytes.
+pub data Request : Type 0 where
+  get : List ℕ → List ℕ → Request
+  key : List ℕ → Request
+
+-- the bytes that a text is the hexadecimal of, in either case of letters
+abbrev pub bytes_of : List ℕ → Option (List ℕ)
+bytes_of digits = result_ok (decode_of digits)
+
+-- What the words ask for: a command by its name, with as many words as it takes, and hexadecimal for its document.
+-- Other words ask for nothing.
+abbrev pub request_of : List (List ℕ) → Option Request
+request_of (name ∷ path ∷ digits ∷ []) =
+    if bytes_eq name (codes "get") then option_map (get path) (bytes_of digits) else None
+request_of (name ∷ digits ∷ []) =
+    if bytes_eq name (codes "key") then option_map key (bytes_of digits) else None
+request_of _ = None

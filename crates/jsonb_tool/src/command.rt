@@ -1,0 +1,54 @@
+//! Commands, read from the words of a command line.
+ghost use Rattle.std.specs.Prelude.{◌≡◌, map, option_map, IfOk, IfErr, string_bytes};
+ghost use Rattle.jsonb_doc.specs.declared.error.Error.TheVariants.{OutOfMemory};
+ghost use Rattle.jsonb_tool.specs.Requests.{bytes_of, request_of};
+ghost use Rattle.jsonb_tool.specs.Views.{request};
+
+use hex::FromHexError;
+use jsonb_doc::Error;
+use std::alloc::Global;
+
+/// A command with its arguments.
+#[derive(Drop)]
+pub enum Command<'w> {
+    /// The document at the place of a key path.
+    Get { path: &'w str, document: Vec<u8> },
+    /// The sortable key of the document.
+    Key { document: Vec<u8> },
+}
+
+impl<'w> Command<'w> {
+    /// The command that the words are, with its document turned to bytes.
+    ///
+    /// None where they are another command, or too few or too many words, or where the document isn't hexadecimal.
+    /// The only error is `OutOfMemory`.
+    pub fn read(alloc: Global, words: &'w [String]) -> Result<Option<Command<'w>>, Error>
+        ensures value { IfOk result (λ found. option_map request found ≡ request_of (map string_bytes words.now)) }
+        ensures err { IfErr result (λ e. e ≡ OutOfMemory) }
+    {
+        match words {
+            [name, path, digits] if name.as_str() == "get" => {
+                let path = path.as_str();
+                let document = document_from(alloc, digits.as_str())?;
+                Ok(document.map(|document| Command::Get { path, document }))
+            }
+            [name, digits] if name.as_str() == "key" => {
+                let document = document_from(alloc, digits.as_str())?;
+                Ok(document.map(|document| Command::Key { document }))
+            }
+            _ => Ok(None),
+        }
+    }
+}
+
+/// The bytes that a text is the hexadecimal of, in either case; None where it is none.
+fn document_from(alloc: Global, digits: &str) -> Result<Option<Vec<u8>>, Error>
+    ensures value { IfOk result (λ found. option_map (λ bytes. bytes.items) found ≡ bytes_of digits.now) }
+    ensures err { IfErr result (λ e. e ≡ OutOfMemory) }
+{
+    match hex::decode(alloc, digits) {
+        Ok(bytes) => Ok(Some(bytes)),
+        Err(FromHexError::OutOfMemory) => Err(Error::OutOfMemory),
+        Err(_) => Ok(None),
+    }
+}
