@@ -20,3 +20,4 @@ pub mod WrittenDigits
 pub mod Left
 pub mod Walked
 pub mod Counted
+pub mod ScalarLemmas

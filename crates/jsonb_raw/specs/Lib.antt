@@ -9,3 +9,5 @@ pub mod KeyAnswer
 pub mod KeyLaws
 pub mod Spelling
 pub mod KeyWidth
+pub mod Scalars
+pub mod Casts

@@ -1,4 +1,6 @@
 //! The calls on documents.
 
+mod cast;
 mod operator;
 mod path;
+mod scalar;

@@ -1,0 +1,20 @@
+use Rattle.std.proofs.Common.{◌≡◌, rules, refl, None}
+use Rattle.jsonb_doc.specs.Tree as spec
+use Rattle.jsonb_doc.specs.View.{number_parts, number_view}
+use Rattle.jsonb_raw.specs.Casts.{text_of}
+use Rattle.jsonb_raw.proofs.ScalarLemmas.{no_text}
+use Rattle.jsonb_raw.proofs.raw.RawJsonb.to_str.Goals as goal
+
+pub returns-in-Number-clause-value : goal.returns-in-Number-clause-value
+returns-in-Number-clause-value c = λ form tree d.
+    let is : tree ≡ spec.number (number_view c.in-Number.number) = rw c.in-Number.is at (c.in_ok-value.ensures.decodes form tree (rw c.as_bytes.ensures d)) in
+    let normal : number_parts c.in-Number.number ≡ number_view c.in-Number.number = rw c.in-Number.is at c.in_ok-value.ensures.normal in
+    rw (is, ← normal) c.text_from_number.ensures
+
+pub returns-in_default : goal.returns-in_default
+returns-in_default c = record {
+  value = λ form tree d.
+      let is : text_of tree ≡ None = no_text form c.in_ok-value.field-0 tree (search rules) c.in_default.not-Boolean c.in_default.not-Number c.in_default.not-String in
+      rw is refl;
+  errors = search rules;
+}
