@@ -22,3 +22,5 @@ pub mod Walked
 pub mod Counted
 pub mod ScalarLemmas
 pub mod InStep
+pub mod KeysCounted
+pub mod SetKept
