@@ -24,3 +24,4 @@ pub mod ScalarLemmas
 pub mod InStep
 pub mod KeysCounted
 pub mod SetKept
+pub mod SetLawProofs

@@ -13,3 +13,4 @@ pub mod Scalars
 pub mod Casts
 pub mod Sets
 pub mod SetCounts
+pub mod SetLaws
