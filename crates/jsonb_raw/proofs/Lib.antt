@@ -21,3 +21,7 @@ pub mod Left
 pub mod Walked
 pub mod Counted
 pub mod ScalarLemmas
+pub mod InStep
+pub mod KeysCounted
+pub mod SetKept
+pub mod SetLawProofs

@@ -11,3 +11,6 @@ pub mod Spelling
 pub mod KeyWidth
 pub mod Scalars
 pub mod Casts
+pub mod Sets
+pub mod SetCounts
+pub mod SetLaws

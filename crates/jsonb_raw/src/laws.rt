@@ -4,6 +4,7 @@ ghost use Rattle.std.specs.Prelude.{IfSome};
 ghost use Rattle.jsonb_keypath.specs.KeyPathGrammar.{key_path};
 ghost use Rattle.std.specs.Int.{w8, w16};
 ghost use Rattle.jsonb_raw.specs.KeyLaws.{KeysKeepBelow, KeysKeepEqual, KeysOrder, KeysTellApart, EqualityKeysTellApart, DigitsWrite};
+ghost use Rattle.jsonb_raw.specs.SetLaws.{SplitDeals, SplitCounts, DistinctCounts, OverlapIsShared};
 ghost use Rattle.jsonb_raw.specs.PlacesLaws.{NoStepsMeetTheWhole, PrintsToItsPlace};
 
 /// The place of no steps is the whole tree.
@@ -40,4 +41,21 @@ pub fn equality_keys()
 /// The digits of a number's key write its absolute value, with no zero at either end.
 pub fn number_digits()
     ensures { DigitsWrite }
+{}
+
+/// Intersection and difference by another list: each occurrence goes to exactly one of them, in order. Counted by
+/// value, the intersection has what both lists have, and the difference what the first has more often.
+pub fn split_lists()
+    ensures dealt { SplitDeals }
+    ensures counts { SplitCounts }
+{}
+
+/// Of each group of elements that are equal by value one stays.
+pub fn distinct_elements()
+    ensures { DistinctCounts }
+{}
+
+/// Two lists overlap exactly where their intersection is not empty.
+pub fn overlap()
+    ensures { OverlapIsShared }
 {}

@@ -1,0 +1,128 @@
+-- What the loops of the set functions keep true.
+use Rattle.std.proofs.Common.{◌≡◌, ◌+◌, ◌<◌, ◌^◌, ℕ, suc, Bool, true, false, ◌||◌, cond, List, [], ◌∷◌, ◌++◌, length, map, filter, Option, Some, None, inl, inr, refl, sym, ap, subst, ◌∙◌, append_assoc, append-nil, arith}
+use Rattle.std.specs.List.{AllByRecursion}
+use Rattle.jsonb_doc.specs.Bytes.{AreBytes}
+use Rattle.jsonb_doc.specs.Tree.{Tree, null, boolean, number, text, extension, array, object, Trees, no_trees, tree, elements, count, trees_of}
+use Rattle.jsonb_doc.specs.Payload.{Form, canonical}
+use Rattle.jsonb_doc.specs.Format.{Decodes}
+use Rattle.jsonb_doc.specs.Limits.{Fits, AreInRange, IsShort, HasShortParts, HasShortElements, IsWithinLimits, IsTooLarge}
+use Rattle.jsonb_doc.specs.Answer.{WantsRoom}
+use Rattle.jsonb_doc.specs.ArrayBuilder.{Parts, no_parts, HoldsElements}
+use Rattle.jsonb_doc.specs.Elements.{HasElementsLeft, IsElementsOf}
+use Rattle.jsonb_doc.specs.declared.element_iter.ElementIter.{ElementIter}
+use Rattle.jsonb_doc.specs.declared.error.Error.{Error}
+use Rattle.jsonb_doc.proofs.LimitLemmas.{array_too_large-more}
+use Rattle.jsonb_doc.proofs.DecodedFits.{decoded_fits}
+use Rattle.jsonb_raw.specs.Sets.{members, Occurrence, occurrences}
+use Rattle.jsonb_raw.specs.SetCounts.{keeps, kept_one, StandsBehind}
+use Rattle.jsonb_raw.specs.declared.functions.array.counts.KeyCounts.{KeyCounts}
+use Rattle.jsonb_raw.specs.declared.functions.array.sets.Kept.{Kept}
+
+-- ---- the elements of a document
+
+-- a tree that has its place in an array is within the limits
+short_part : (t : Tree) → IsShort canonical t → HasShortParts canonical t → IsWithinLimits canonical t
+short_part (array ts) short parts = parts
+short_part (object ps) short parts = parts
+short_part null short parts = short
+short_part (boolean b) short parts = short
+short_part (number n) short parts = short
+short_part (text s) short parts = short
+short_part (extension x) short parts = short
+
+fit_elements : (ts : Trees) → AreInRange ts → HasShortElements canonical ts → AllByRecursion Fits (elements ts)
+fit_elements no_trees range short = tt
+fit_elements (tree t ts) range short = ((range.0, short_part t short.0 short.1), fit_elements ts range.1 short.2)
+
+count_elements : (ts : Trees) → length (elements ts) ≡ count ts
+count_elements no_trees = refl
+count_elements (tree t ts) = ap suc (count_elements ts)
+
+-- the elements of an array that fits do, and there are not too many
+pub elements_fit : (ts : Trees) → Fits (array ts) → AllByRecursion Fits (elements ts)
+elements_fit ts f = fit_elements ts f.0 f.1.1
+
+pub elements_few : (ts : Trees) → Fits (array ts) → length (elements ts) < 2 ^ 63
+elements_few ts f = omega (arith, f.1.0, count_elements ts)
+
+pub members_fit : (t : Tree) → Fits t → AllByRecursion Fits (members t)
+members_fit (array ts) f = elements_fit ts f
+members_fit t f = (f, tt)
+
+-- where there is an iterator over elements, the tree is an array; else it counts as one element
+pub record IsArrayOf (form : Form) (it : ElementIter) (t : Tree) : Type 0 where
+  pub trees : Trees
+  pub is : t ≡ array trees
+  pub left : HasElementsLeft form it trees
+
+pub array_found : (form : Form) (t : Tree) (it : ElementIter) → IsElementsOf form t (Some it) → IsArrayOf form it t
+array_found form (array ts) it h = record { trees = ts; is = refl; left = h }
+array_found form t it h = absurd h
+
+pub no_array : (form : Form) (t : Tree) → IsElementsOf form t None → members t ≡ t ∷ []
+no_array form (array ts) h = absurd h
+no_array form t h = refl
+
+pub or_false : (b : Bool) → (b || false) ≡ b
+or_false true = refl
+or_false false = refl
+
+-- ---- what is kept
+
+-- those elements of what is left that are kept, behind the elements `before`
+abbrev pub kept_behind : Kept → List Tree → List Tree → List Tree → List Tree
+kept_behind kind other before left = map (λ o. o.1) (filter (keeps kind other) (occurrences before left))
+
+kept_next : (kind : Kept) (other before : List Tree) (t : Tree) (left : List Tree) → kept_one kind other (before, t) ++ kept_behind kind other (t ∷ before) left ≡ kept_behind kind other before (t ∷ left)
+kept_next kind other before t left = by (keeps kind other (before, t))
+  where
+    others : List Occurrence
+    others = filter (keeps kind other) (occurrences (t ∷ before) left)
+
+    by : (b : Bool) → cond b (t ∷ []) [] ++ map (λ o. o.1) others ≡ map (λ o. o.1) (cond b ((before, t) ∷ others) others)
+    by true = refl
+    by false = refl
+
+-- What is held, followed by what is kept of the elements that are left, is the whole.
+pub record KeptLeft (form : Form) (kind : Kept) (m : KeyCounts) (other : List Tree) (parts : Parts) (left whole : List Tree) : Type 0 where
+  pub before : List Tree
+  pub held : List Tree
+  pub few : length before + length left < 2 ^ 63
+  pub fit : AllByRecursion Fits left
+  pub behind : StandsBehind kind m other before
+  pub holds : HoldsElements form parts held
+  pub joined : held ++ kept_behind kind other before left ≡ whole
+
+pub KeptLeft-all : (form : Form) (kind : Kept) (m : KeyCounts) (other : List Tree) (parts : Parts) (ts : List Tree) → parts ≡ no_parts → length ts < 2 ^ 63 → AllByRecursion Fits ts → StandsBehind kind m other []
+    → KeptLeft form kind m other parts ts (kept_behind kind other [] ts)
+KeptLeft-all form kind m other parts ts is few fit behind =
+    record { before = []; held = []; few = omega arith; fit = fit; behind = behind; holds = rw is (refl, refl); joined = refl }
+
+pub KeptLeft-done : (form : Form) (kind : Kept) (m : KeyCounts) (other : List Tree) (parts : Parts) (whole : List Tree) → KeptLeft form kind m other parts [] whole → HoldsElements form parts whole
+KeptLeft-done form kind m other parts whole h = subst (HoldsElements form parts) (sym (append-nil h.held) ∙ h.joined) h.holds
+
+module _ (form : Form) (kind : Kept) (m : KeyCounts) (other : List Tree) (parts : Parts) (first : Tree) (rest whole : List Tree) (h : KeptLeft form kind m other parts (first ∷ rest) whole) where
+  joined_next : (h.held ++ kept_one kind other (h.before, first)) ++ kept_behind kind other (first ∷ h.before) rest ≡ whole
+  joined_next =
+      append_assoc h.held (kept_one kind other (h.before, first)) (kept_behind kind other (first ∷ h.before) rest)
+      ∙ ap (λ ts. h.held ++ ts) (kept_next kind other h.before first rest) ∙ h.joined
+
+  pub few_before : length h.before < 2 ^ 63
+  few_before = let few : length h.before + length (first ∷ rest) < 2 ^ 63 = h.few in omega arith
+
+  pub KeptLeft-next : (n : KeyCounts) (after : Parts) → StandsBehind kind n other (first ∷ h.before) → HoldsElements form after (h.held ++ kept_one kind other (h.before, first)) → KeptLeft form kind n other after rest whole
+  KeptLeft-next n after behind holds = record {
+    before = first ∷ h.before;
+    held = h.held ++ kept_one kind other (h.before, first);
+    few = let few : length h.before + length (first ∷ rest) < 2 ^ 63 = h.few in omega arith;
+    fit = h.fit.1;
+    behind = behind;
+    holds = holds;
+    joined = joined_next;
+  }
+
+  pub KeptLeft-refused : (e : Error) → WantsRoom form (array (trees_of (h.held ++ kept_one kind other (h.before, first)))) e → WantsRoom form (array (trees_of whole)) e
+  KeptLeft-refused e (inl memory) = inl memory
+  KeptLeft-refused e (inr (is, large)) =
+      inr (is, subst (λ (ts : List Tree). IsTooLarge form (array (trees_of ts))) joined_next
+        (array_too_large-more form (h.held ++ kept_one kind other (h.before, first)) (kept_behind kind other (first ∷ h.before) rest) large))

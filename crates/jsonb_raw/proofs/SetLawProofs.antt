@@ -1,0 +1,192 @@
+-- The laws of arrays as sets: what is kept, counted by value.
+use Rattle.std.proofs.Common.{◌≡◌, ◌≢◌, ◌+◌, ◌-◌, ◌<◌, ◌≤◌, ℕ, min, Bool, true, false, not, ◌||◌, cond, List, [], ◌∷◌, map, filter, count_by, nat_lt, nat_eq, inl, inr, refl, sym, ap, ap₂, ◌∙◌, arith, IsTrue}
+use Rattle.std.specs.Cmp.{IsPartialEquivalence, partial_equiv_from_equiv}
+use Rattle.std.specs.List.{list_any}
+use Rattle.std.proofs.lemmas.Bool.Decides.{nat_tests}
+use Rattle.std.proofs.lemmas.List.Sums.{sum_by-cons}
+use Rattle.jsonb_doc.specs.Tree.{Tree}
+use Rattle.jsonb_doc.specs.Equal.{is_equal}
+use Rattle.jsonb_doc.specs.EqualLaws.{is_equal_equiv}
+use Rattle.jsonb_raw.specs.Sets.{count_of, Occurrence, occurrences, kept, is_first, is_shared, distinct, shared, unshared, overlap}
+use Rattle.jsonb_raw.specs.SetLaws.{IsDealtTo, SplitDeals, SplitCounts, DistinctCounts, OverlapIsShared}
+
+-- ---- a test and its opposite deal
+
+-- the elements that pass a test, behind the elements `before`
+abbrev kept_behind : (Occurrence → Bool) → List Tree → List Tree → List Tree
+kept_behind test before ts = map (λ o. o.1) (filter test (occurrences before ts))
+
+tests_deal : (test : Occurrence → Bool) (before ts : List Tree) → IsDealtTo ts (kept_behind test before ts) (kept_behind (λ o. not (test o)) before ts)
+tests_deal test before [] = (refl, refl)
+tests_deal test before (t ∷ ts) = by (test (before, t)) (tests_deal test (t ∷ before) ts)
+  where
+    yes : List Occurrence
+    yes = filter test (occurrences (t ∷ before) ts)
+
+    no : List Occurrence
+    no = filter (λ o. not (test o)) (occurrences (t ∷ before) ts)
+
+    by : (b : Bool) → IsDealtTo ts (map (λ o. o.1) yes) (map (λ o. o.1) no) → IsDealtTo (t ∷ ts) (map (λ o. o.1) (cond b ((before, t) ∷ yes) yes)) (map (λ o. o.1) (cond (not b) ((before, t) ∷ no) no))
+    by true h = inl (map (λ o. o.1) yes, refl, h)
+    by false h = inr (map (λ o. o.1) no, refl, h)
+
+pub split_deals : SplitDeals
+split_deals ts other = tests_deal (is_shared other) [] ts
+
+-- ---- counts by value
+
+equal_per : IsPartialEquivalence is_equal
+equal_per = partial_equiv_from_equiv is_equal_equiv
+
+same_test : (a b : Bool) → (a ≡ true → b ≡ true) → (b ≡ true → a ≡ true) → a ≡ b
+same_test true b f g = sym (f refl)
+same_test false true f g = g refl
+same_test false false f g = refl
+
+-- equal trees equal the same ones
+alike : (u t v : Tree) → is_equal t v ≡ true → is_equal u t ≡ is_equal u v
+alike u t v e =
+    same_test (is_equal u t) (is_equal u v)
+    (λ h. equal_per.trans u t v h e)
+    (λ h. equal_per.trans u v t h (equal_per.symm v t ∙ e))
+
+count-cons : (t x : Tree) (ts : List Tree) → count_of t (x ∷ ts) ≡ cond (is_equal x t) 1 0 + count_of t ts
+count-cons t x ts = sum_by-cons (λ u. cond (is_equal u t) 1 0) x ts
+
+-- equal trees are counted alike
+pub same_counts : (t v : Tree) (ts : List Tree) → is_equal t v ≡ true → count_of t ts ≡ count_of v ts
+same_counts t v [] e = refl
+same_counts t v (x ∷ ts) e =
+    count-cons t x ts ∙ ap₂ (λ b n. cond b 1 0 + n) (alike x t v e) (same_counts t v ts e) ∙ sym (count-cons v x ts)
+
+dealt_counts : (t : Tree) (zs xs ys : List Tree) → IsDealtTo zs xs ys → count_of t xs + count_of t ys ≡ count_of t zs
+dealt_counts t [] xs ys h = rw (h.0, h.1) refl
+dealt_counts t (z ∷ zs) xs ys (inl h) =
+    let rest = dealt_counts t zs h.0 ys h.2 in
+    rw h.1 (let front = count-cons t z h.0 in let back = count-cons t z zs in omega arith)
+dealt_counts t (z ∷ zs) xs ys (inr h) =
+    let rest = dealt_counts t zs xs h.0 h.2 in
+    rw h.1 (let front = count-cons t z h.0 in let back = count-cons t z zs in omega arith)
+
+-- one element more, which is equal to the counted value or not, and is kept or not
+step : (equal keeps : Bool) (before left found limit : ℕ) → (equal ≡ true → keeps ≡ nat_lt before limit)
+    → found + min (cond equal 1 0 + before) limit ≡ min (cond equal 1 0 + before + left) limit
+    → cond keeps (cond equal 1 0 + found) found + min before limit ≡ min (before + (cond equal 1 0 + left)) limit
+step true true before left found limit told h = let e : true ≡ nat_lt before limit = told refl in let below : before < limit = grind (arith, nat_tests) in omega arith
+step true false before left found limit told h = let e : false ≡ nat_lt before limit = told refl in let above : limit ≤ before = grind (arith, nat_tests) in omega arith
+step false true before left found limit told h = omega arith
+step false false before left found limit told h = omega arith
+
+-- Where a test keeps a value up to a limit, that is how often it is kept.
+module _ (test : Occurrence → Bool) (limit : Tree → ℕ)
+    (told : (before : List Tree) (x : Tree) → test (before, x) ≡ nat_lt (count_of x before) (limit x))
+    (same : (x t : Tree) → is_equal x t ≡ true → limit x ≡ limit t) where
+  kept_counts : (t : Tree) (before ts : List Tree) → count_of t (kept_behind test before ts) + min (count_of t before) (limit t) ≡ min (count_of t before + count_of t ts) (limit t)
+  kept_counts t before [] = omega arith
+  kept_counts t before (x ∷ ts) =
+      let rest : count_of t (kept_behind test (x ∷ before) ts) + min (count_of t (x ∷ before)) (limit t) ≡ min (count_of t (x ∷ before) + count_of t ts) (limit t) = kept_counts t (x ∷ before) ts in
+      let more : count_of t (kept_behind test (x ∷ before) ts) + min (cond (is_equal x t) 1 0 + count_of t before) (limit t) ≡ min (cond (is_equal x t) 1 0 + count_of t before + count_of t ts) (limit t) = rw (← count-cons t x before) rest in
+      ap (λ n. n + min (count_of t before) (limit t)) (front (test (before, x)))
+      ∙ step (is_equal x t) (test (before, x)) (count_of t before) (count_of t ts) (count_of t (kept_behind test (x ∷ before) ts)) (limit t)
+          (λ e. told before x ∙ ap₂ nat_lt (same_counts x t before e) (same x t e)) more
+      ∙ ap (λ n. min (count_of t before + n) (limit t)) (sym (count-cons t x ts))
+    where
+      others : List Occurrence
+      others = filter test (occurrences (x ∷ before) ts)
+
+      front : (b : Bool) → count_of t (map (λ o. o.1) (cond b ((before, x) ∷ others) others)) ≡ cond b (cond (is_equal x t) 1 0 + count_of t (map (λ o. o.1) others)) (count_of t (map (λ o. o.1) others))
+      front true = count-cons t x (map (λ o. o.1) others)
+      front false = refl
+
+shared_counts : (ts other : List Tree) (t : Tree) → count_of t (shared ts other) ≡ min (count_of t ts) (count_of t other)
+shared_counts ts other t =
+    let h = kept_counts (is_shared other) (λ x. count_of x other) (λ before x. refl) (λ x v e. same_counts x v other e) t [] ts in
+    omega (arith, h)
+
+pub split_counts : SplitCounts
+split_counts ts other t =
+    let both = shared_counts ts other t in
+    let all = dealt_counts t ts (shared ts other) (unshared ts other) (split_deals ts other) in
+    (both, omega arith)
+
+pub distinct_counts : DistinctCounts
+distinct_counts ts t =
+    let h = kept_counts is_first (λ x. 1) (λ before x. none (count_of x before)) (λ x v e. refl) t [] ts in
+    omega (arith, h)
+  where
+    none : (n : ℕ) → nat_eq n 0 ≡ nat_lt n 1
+    none n = grind (arith, nat_tests)
+
+-- ---- overlap
+
+-- a tree is counted where it occurs
+counted : (t x : Tree) (ts : List Tree) → is_equal x t ≡ true → 0 < count_of t (x ∷ ts)
+counted t x ts e = let h : count_of t (x ∷ ts) ≡ 1 + count_of t ts = count-cons t x ts ∙ ap (λ b. cond b 1 0 + count_of t ts) e in omega arith
+
+counted_behind : (t x : Tree) (ts : List Tree) → 0 < count_of t ts → 0 < count_of t (x ∷ ts)
+counted_behind t x ts h = let e = count-cons t x ts in omega arith
+
+behind_another : (t x : Tree) (ts : List Tree) → is_equal x t ≡ false → 0 < count_of t (x ∷ ts) → 0 < count_of t ts
+behind_another t x ts e h = let h' : count_of t (x ∷ ts) ≡ 0 + count_of t ts = count-cons t x ts ∙ ap (λ b. cond b 1 0 + count_of t ts) e in omega arith
+
+-- some tree equals it exactly where it is counted
+any_from_count : (t : Tree) (ts : List Tree) → 0 < count_of t ts → list_any (λ u. is_equal t u) ts ≡ true
+any_from_count t [] h = absurd (omega (arith, h))
+any_from_count t (x ∷ ts) h = by (is_equal t x) (equal_per.symm t x) (any_from_count t ts)
+  where
+    by : (b : Bool) → b ≡ is_equal x t → (0 < count_of t ts → list_any (λ u. is_equal t u) ts ≡ true) → (b || list_any (λ u. is_equal t u) ts) ≡ true
+    by true e rest = refl
+    by false e rest = rest (behind_another t x ts (sym e) h)
+
+count_from_any : (t : Tree) (ts : List Tree) → list_any (λ u. is_equal t u) ts ≡ true → 0 < count_of t ts
+count_from_any t [] h = absurd (cc)
+count_from_any t (x ∷ ts) h = by (is_equal t x) (equal_per.symm t x) (count_from_any t ts) h
+  where
+    by : (b : Bool) → b ≡ is_equal x t → (list_any (λ u. is_equal t u) ts ≡ true → 0 < count_of t ts) → (b || list_any (λ u. is_equal t u) ts) ≡ true → 0 < count_of t (x ∷ ts)
+    by true e rest h' = counted t x ts (sym e)
+    by false e rest h' = counted_behind t x ts (rest h')
+
+-- a value that both lists have
+pub record HasBoth (ts other : List Tree) : Type 0 where
+  pub value : Tree
+  pub first : 0 < count_of value ts
+  pub second : 0 < count_of value other
+
+overlap_value : (ts other : List Tree) → overlap ts other ≡ true → HasBoth ts other
+overlap_value [] other h = absurd (cc)
+overlap_value (x ∷ ts) other h = by (list_any (λ u. is_equal x u) other) refl (overlap_value ts other) h
+  where
+    by : (b : Bool) → list_any (λ u. is_equal x u) other ≡ b → (overlap ts other ≡ true → HasBoth ts other) → (b || overlap ts other) ≡ true → HasBoth (x ∷ ts) other
+    by true e rest h' = record { value = x; first = counted x x ts (is_equal_equiv.refl x); second = count_from_any x other e }
+    by false e rest h' = let v = rest h' in record { value = v.value; first = counted_behind v.value x ts v.first; second = v.second }
+
+or_true : (b : Bool) → (b || true) ≡ true
+or_true true = refl
+or_true false = refl
+
+value_overlaps : (ts other : List Tree) (t : Tree) → 0 < count_of t ts → 0 < count_of t other → overlap ts other ≡ true
+value_overlaps [] other t h k = absurd (omega (arith, h))
+value_overlaps (x ∷ ts) other t h k = by (is_equal x t) refl (λ h'. value_overlaps ts other t h' k)
+  where
+    by : (b : Bool) → is_equal x t ≡ b → (0 < count_of t ts → overlap ts other ≡ true) → (list_any (λ u. is_equal x u) other || overlap ts other) ≡ true
+    by true e rest =
+        let same = same_counts x t other e in
+        let here : list_any (λ u. is_equal x u) other ≡ true = any_from_count x other (omega arith) in
+        ap (λ b. b || overlap ts other) here
+    by false e rest = ap (λ b. list_any (λ u. is_equal x u) other || b) (rest (behind_another t x ts e h)) ∙ or_true (list_any (λ u. is_equal x u) other)
+
+pub overlap_is_shared : OverlapIsShared
+overlap_is_shared ts other = (
+    λ h none. let v = overlap_value ts other h in
+    let c : count_of v.value (shared ts other) ≡ min (count_of v.value ts) (count_of v.value other) = shared_counts ts other v.value in
+    let z : count_of v.value (shared ts other) ≡ 0 = ap (count_of v.value) none in
+    omega (arith, c, z, v.first, v.second),
+    λ some. by (shared ts other) (λ t. shared_counts ts other t) some,
+  )
+  where
+    by : (xs : List Tree) → ((t : Tree) → count_of t xs ≡ min (count_of t ts) (count_of t other)) → xs ≢ [] → overlap ts other ≡ true
+    by [] counts some = absurd (some refl)
+    by (x ∷ xs) counts some =
+        let there : 0 < count_of x (x ∷ xs) = counted x x xs (is_equal_equiv.refl x) in
+        let c : count_of x (x ∷ xs) ≡ min (count_of x ts) (count_of x other) = counts x in
+        value_overlaps ts other x (omega arith) (omega arith)

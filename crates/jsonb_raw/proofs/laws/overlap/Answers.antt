@@ -1,0 +1,5 @@
+use Rattle.jsonb_raw.proofs.SetLawProofs.{overlap_is_shared}
+use Rattle.jsonb_raw.proofs.laws.overlap.Goals as goal
+
+pub returns : goal.returns
+returns c = overlap_is_shared

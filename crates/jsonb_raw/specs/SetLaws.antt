@@ -1,0 +1,28 @@
+-- The laws of arrays as sets.
+use Rattle.std.specs.Prelude.{◌≡◌, ◌≢◌, ◌⊎◌, ◌↔◌, ℕ, ◌-◌, min, List, [], ◌∷◌, IsTrue}
+use Rattle.jsonb_doc.specs.Tree.{Tree}
+use Rattle.jsonb_raw.specs.Sets.{count_of, distinct, shared, unshared, overlap}
+
+-- The first list deals its elements out, in order: each to exactly one of the two others.
+abbrev pub IsDealtTo : {A : Type 0} → List A → List A → List A → Type 0
+IsDealtTo [] xs ys = (xs ≡ []) × (ys ≡ [])
+IsDealtTo {A} (z ∷ zs) xs ys =
+    ((others : List A) × (xs ≡ z ∷ others) × IsDealtTo zs others ys) ⊎ ((others : List A) × (ys ≡ z ∷ others) × IsDealtTo zs xs others)
+
+-- A split puts each occurrence into the intersection or into the difference, in order.
+abbrev pub SplitDeals : Type 0
+SplitDeals = (ts other : List Tree) → IsDealtTo ts (shared ts other) (unshared ts other)
+
+-- The intersection has each value as often as both lists do, the difference as often as the first has it more often.
+abbrev pub SplitCounts : Type 0
+SplitCounts =
+    (ts other : List Tree) (t : Tree) → (count_of t (shared ts other) ≡ min (count_of t ts) (count_of t other))
+    × (count_of t (unshared ts other) ≡ count_of t ts - count_of t other)
+
+-- Each value that is there stays once.
+abbrev pub DistinctCounts : Type 0
+DistinctCounts = (ts : List Tree) (t : Tree) → count_of t (distinct ts) ≡ min (count_of t ts) 1
+
+-- Two lists overlap exactly where their intersection is not empty.
+abbrev pub OverlapIsShared : Type 0
+OverlapIsShared = (ts other : List Tree) → IsTrue (overlap ts other) ↔ (shared ts other ≢ [])

@@ -1,0 +1,4 @@
+//! The calls on arrays.
+
+mod counts;
+mod sets;

@@ -1,0 +1,289 @@
+//! Arrays as sets: elements are compared by their equality keys, and by value where no memory is taken.
+
+ghost use Rattle.std.specs.Prelude.{◌≡◌, ◌<◌, ◌^◌, List, [], ◌∷◌, ◌++◌, if◌then◌else◌, length, IsOkAnd, OnOk, IfErr};
+ghost use Rattle.std.specs.List.{AllByRecursion, list_any};
+ghost use Rattle.jsonb_doc.specs.Tree.{Tree, Trees, array, trees_of, elements as elements_of};
+ghost use Rattle.jsonb_doc.specs.Equal.{is_equal};
+ghost use Rattle.jsonb_doc.specs.Limits.{Fits};
+ghost use Rattle.jsonb_doc.specs.Payload.{Form};
+ghost use Rattle.jsonb_doc.specs.Format.{Decodes};
+ghost use Rattle.jsonb_doc.specs.Item.{Stands};
+ghost use Rattle.jsonb_doc.specs.Elements.{HasElementsLeft};
+ghost use Rattle.jsonb_doc.specs.ArrayBuilder.{HoldsElements};
+ghost use Rattle.jsonb_doc.specs.Answer.{Answers, Builds, WantsMemory};
+ghost use Rattle.jsonb_doc.specs.View.{IsDecodingError};
+ghost use Rattle.jsonb_raw.specs.Documents.{raw_bytes, Makes, IsReadingError, IsMakingError};
+ghost use Rattle.jsonb_raw.specs.EqualityKey.{equality_key};
+ghost use Rattle.jsonb_raw.specs.Sets.{members, kept, distinct, shared, unshared, overlap};
+ghost use Rattle.jsonb_raw.specs.SetCounts.{CountsKeys, StandsBehind, keeps, kept_one};
+
+use super::counts::KeyCounts;
+use crate::equal_items::items_equal;
+use crate::equality_key::item_key;
+use crate::owned::OwnedJsonb;
+use crate::raw::RawJsonb;
+use jsonb_doc::{ArrayBuilder, ElementIter, Error, Item, elements, root_item};
+use std::alloc::Global;
+
+/// Which elements of an array are kept.
+#[derive(Clone, Copy)]
+enum Kept {
+    /// The first of each group of equal ones. Those that were met are counted.
+    First,
+    /// Those that another array holds too, as often as it does. What is left of the other one is counted.
+    Shared,
+    /// Those that the intersection drops.
+    Unshared,
+}
+
+/// Whether an element with this key is kept. The counts move on behind it.
+fn is_kept(kind: Kept, counts: &mut KeyCounts, key: Vec<u8>) -> Result<bool, Error>
+    ensures kept { (other before : List Tree) (t : Tree) → StandsBehind kind counts.old other before
+        → Fits t → key.items ≡ equality_key t → length before < 2 ^ 63
+        → Answers result (λ b. b ≡ keeps kind other (before, t)) }
+    ensures behind { (other before : List Tree) (t : Tree) → StandsBehind kind counts.old other before
+        → Fits t → key.items ≡ equality_key t → length before < 2 ^ 63
+        → Answers result (λ b. StandsBehind kind counts.new other (t ∷ before)) }
+    ensures errors { IfErr result WantsMemory }
+{
+    match kind {
+        Kept::First => Ok(counts.add(key)? == 0),
+        Kept::Shared => counts.take(key),
+        Kept::Unshared => Ok(!counts.take(key)?),
+    }
+}
+
+/// Adds the item behind the elements that the builder holds, where it is kept. The counts move on behind it.
+fn push_kept(
+    alloc: Global,
+    kind: Kept,
+    counts: &mut KeyCounts,
+    builder: &mut ArrayBuilder,
+    item: &Item<'_>,
+) -> Result<(), Error>
+    ensures pushed { (form : Form) (other before held : List Tree) (t : Tree) → Stands form item.now t → Fits t
+        → StandsBehind kind counts.old other before → length before < 2 ^ 63
+        → HoldsElements form builder.old held
+        → Builds form (array (trees_of (held ++ kept_one kind other (before, t)))) result
+        (λ _. HoldsElements form builder.new (held ++ kept_one kind other (before, t))) }
+    ensures behind { (form : Form) (other before : List Tree) (t : Tree) → Stands form item.now t → Fits t
+        → StandsBehind kind counts.old other before → length before < 2 ^ 63
+        → OnOk result (StandsBehind kind counts.new other (t ∷ before)) }
+    ensures errors { IfErr result IsMakingError }
+{
+    let key = item_key(alloc, item)?;
+    if !is_kept(kind, counts, key)? {
+        return Ok(());
+    }
+    builder.push_item(item)
+}
+
+/// The array of the elements that are kept.
+fn kept_elements(
+    alloc: Global,
+    kind: Kept,
+    mut counts: KeyCounts,
+    found: ElementIter<'_>,
+) -> Result<OwnedJsonb, Error>
+    ensures made { (form : Form) (other : List Tree) (ts : Trees) → HasElementsLeft form found.entry ts
+        → AllByRecursion Fits (elements_of ts) → length (elements_of ts) < 2 ^ 63
+        → StandsBehind kind counts other []
+        → Makes form (array (trees_of (kept (keeps kind other) (elements_of ts)))) result }
+    ensures errors { IfErr result IsMakingError }
+{
+    let mut builder = ArrayBuilder::new(alloc);
+    for item in found {
+        push_kept(alloc, kind, &mut counts, &mut builder, &item?)?;
+    }
+    Ok(OwnedJsonb::new(builder.build()?))
+}
+
+/// The array of an item that counts as one element, or no element where it is not kept.
+fn kept_item(
+    alloc: Global,
+    kind: Kept,
+    mut counts: KeyCounts,
+    item: &Item<'_>,
+) -> Result<OwnedJsonb, Error>
+    ensures made { (form : Form) (other : List Tree) (t : Tree) → Stands form item.now t → Fits t
+        → StandsBehind kind counts other []
+        → Makes form (array (trees_of (kept (keeps kind other) (t ∷ [])))) result }
+    ensures errors { IfErr result IsMakingError }
+{
+    let mut builder = ArrayBuilder::new(alloc);
+    push_kept(alloc, kind, &mut counts, &mut builder, item)?;
+    Ok(OwnedJsonb::new(builder.build()?))
+}
+
+/// The same of a document, where a root that is no array counts as one element.
+fn kept_members(
+    alloc: Global,
+    kind: Kept,
+    counts: KeyCounts,
+    bytes: &[u8],
+) -> Result<OwnedJsonb, Error>
+    ensures made { (form : Form) (other : List Tree) (t : Tree) → Decodes form bytes.now t
+        → StandsBehind kind counts other []
+        → Makes form (array (trees_of (kept (keeps kind other) (members t)))) result }
+    ensures errors { IfErr result IsMakingError }
+{
+    match elements(bytes)? {
+        Some(found) => kept_elements(alloc, kind, counts, found),
+        None => kept_item(alloc, kind, counts, &root_item(bytes)?),
+    }
+}
+
+/// Counts the keys of the elements.
+fn count_elements(alloc: Global, found: ElementIter<'_>) -> Result<KeyCounts, Error>
+    ensures counts { (form : Form) (ts : Trees) → HasElementsLeft form found.entry ts
+        → length (elements_of ts) < 2 ^ 63 → Answers result (λ m. CountsKeys m (elements_of ts)) }
+    ensures errors { IfErr result IsReadingError }
+{
+    let mut counts = KeyCounts::new(alloc);
+    for item in found {
+        counts.add(item_key(alloc, &item?)?)?;
+    }
+    Ok(counts)
+}
+
+/// Counts the key of an item.
+fn count_item(alloc: Global, item: &Item<'_>) -> Result<KeyCounts, Error>
+    ensures counts { (form : Form) (t : Tree) → Stands form item.now t
+        → Answers result (λ m. CountsKeys m (t ∷ [])) }
+    ensures errors { IfErr result IsReadingError }
+{
+    let mut counts = KeyCounts::new(alloc);
+    counts.add(item_key(alloc, item)?)?;
+    Ok(counts)
+}
+
+/// Counts the keys of a document's elements, where a root that is no array counts as one.
+fn count_members(alloc: Global, bytes: &[u8]) -> Result<KeyCounts, Error>
+    ensures counts { (form : Form) (t : Tree) → Decodes form bytes.now t
+        → Answers result (λ m. CountsKeys m (members t)) }
+    ensures fit { (form : Form) (t : Tree) → Decodes form bytes.now t → AllByRecursion Fits (members t) }
+    ensures errors { IfErr result IsReadingError }
+{
+    match elements(bytes)? {
+        Some(found) => count_elements(alloc, found),
+        None => count_item(alloc, &root_item(bytes)?),
+    }
+}
+
+/// Whether an element equals the item by value.
+fn has_element(found: ElementIter<'_>, item: &Item<'_>) -> Result<bool, Error>
+    ensures has { (form other_form : Form) (ts : Trees) (t : Tree) → HasElementsLeft form found.entry ts
+        → Stands other_form item.now t → IsOkAnd result (λ b. b ≡ list_any (is_equal t) (elements_of ts)) }
+    ensures errors { IfErr result IsDecodingError }
+{
+    for element in found {
+        if items_equal(item, &element?)? {
+            return Ok(true);
+        }
+    }
+    Ok(false)
+}
+
+/// Whether an element of the document equals the item by value, where a root that is no array counts as one.
+fn has_member(bytes: &[u8], item: &Item<'_>) -> Result<bool, Error>
+    ensures has { (form other_form : Form) (t u : Tree) → Decodes form bytes.now u
+        → Stands other_form item.now t → IsOkAnd result (λ b. b ≡ list_any (is_equal t) (members u)) }
+    ensures errors { IfErr result IsDecodingError }
+{
+    match elements(bytes)? {
+        Some(found) => has_element(found, item),
+        None => items_equal(item, &root_item(bytes)?),
+    }
+}
+
+/// Whether an element equals one of the other document.
+fn elements_overlap(found: ElementIter<'_>, other: &[u8]) -> Result<bool, Error>
+    ensures overlap { (form other_form : Form) (ts : Trees) (u : Tree) → HasElementsLeft form found.entry ts
+        → Decodes other_form other.now u → IsOkAnd result (λ b. b ≡ overlap (elements_of ts) (members u)) }
+    ensures errors { IfErr result IsDecodingError }
+{
+    for element in found {
+        if has_member(other, &element?)? {
+            return Ok(true);
+        }
+    }
+    Ok(false)
+}
+
+/// The same of a document, where a root that is no array counts as one element.
+fn members_overlap(bytes: &[u8], other: &[u8]) -> Result<bool, Error>
+    ensures overlap { (form other_form : Form) (t u : Tree) → Decodes form bytes.now t
+        → Decodes other_form other.now u → IsOkAnd result (λ b. b ≡ overlap (members t) (members u)) }
+    ensures errors { IfErr result IsDecodingError }
+{
+    match elements(bytes)? {
+        Some(found) => elements_overlap(found, other),
+        None => has_member(other, &root_item(bytes)?),
+    }
+}
+
+impl RawJsonb<'_> {
+    /// The array of the first of each group of elements that are equal by value, in order. A document that is no
+    /// array becomes an array of one.
+    ///
+    /// `InvalidJsonb` and `UnsupportedNumber` come only where the bytes don't decode, `TooLarge` only where the
+    /// array passes the limits, and `OutOfMemory` where memory is refused.
+    pub fn array_distinct(&self, alloc: Global) -> Result<OwnedJsonb, Error>
+        ensures distinct { (form : Form) (t : Tree) → Decodes form (raw_bytes self.now) t
+            → Makes form (array (trees_of (distinct (members t)))) result }
+        ensures errors { IfErr result IsMakingError }
+    {
+        kept_members(alloc, Kept::First, KeyCounts::new(alloc), self.as_bytes())
+    }
+
+    /// The array of the elements that the other document holds too: an element stays while fewer elements before
+    /// it equal it by value than elements of the other document do. A document that is no array counts as one
+    /// element.
+    ///
+    /// `InvalidJsonb` and `UnsupportedNumber` come only where the bytes of one don't decode, `TooLarge` only
+    /// where the array passes the limits, and `OutOfMemory` where memory is refused.
+    pub fn array_intersection(
+        &self,
+        alloc: Global,
+        other: &RawJsonb<'_>,
+    ) -> Result<OwnedJsonb, Error>
+        ensures shared { (form other_form : Form) (t u : Tree) → Decodes form (raw_bytes self.now) t
+            → Decodes other_form (raw_bytes other.now) u
+            → Makes form (array (trees_of (shared (members t) (members u)))) result }
+        ensures errors { IfErr result IsMakingError }
+    {
+        let counts = count_members(alloc, other.as_bytes())?;
+        kept_members(alloc, Kept::Shared, counts, self.as_bytes())
+    }
+
+    /// The array of the elements that `array_intersection` drops, in order.
+    ///
+    /// `InvalidJsonb` and `UnsupportedNumber` come only where the bytes of one don't decode, `TooLarge` only
+    /// where the array passes the limits, and `OutOfMemory` where memory is refused.
+    pub fn array_except(
+        &self,
+        alloc: Global,
+        other: &RawJsonb<'_>,
+    ) -> Result<OwnedJsonb, Error>
+        ensures unshared { (form other_form : Form) (t u : Tree) → Decodes form (raw_bytes self.now) t
+            → Decodes other_form (raw_bytes other.now) u
+            → Makes form (array (trees_of (unshared (members t) (members u)))) result }
+        ensures errors { IfErr result IsMakingError }
+    {
+        let counts = count_members(alloc, other.as_bytes())?;
+        kept_members(alloc, Kept::Unshared, counts, self.as_bytes())
+    }
+
+    /// Whether an element equals one of the other document by value, where a document that is no array counts as
+    /// one element. It takes no memory.
+    ///
+    /// `InvalidJsonb` and `UnsupportedNumber` come only where the bytes of one don't decode.
+    pub fn array_overlap(&self, other: &RawJsonb<'_>) -> Result<bool, Error>
+        ensures overlap { (form other_form : Form) (t u : Tree) → Decodes form (raw_bytes self.now) t
+            → Decodes other_form (raw_bytes other.now) u
+            → IsOkAnd result (λ b. b ≡ overlap (members t) (members u)) }
+        ensures errors { IfErr result IsDecodingError }
+    {
+        members_overlap(self.as_bytes(), other.as_bytes())
+    }
+}
