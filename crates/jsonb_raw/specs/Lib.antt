@@ -11,3 +11,8 @@ pub mod Spelling
 pub mod KeyWidth
 pub mod Scalars
 pub mod Casts
+pub mod Texts
+pub mod Strip
+pub mod Contains
+pub mod Concat
+pub mod PairSteps

@@ -12,6 +12,7 @@ ghost use Rattle.jsonb_raw.specs.EqualityKey.{equality_key};
 
 #[cfg(test)]
 mod tests;
+mod traverse;
 
 use crate::equality_key::item_key;
 use crate::raw::RawJsonb;
