@@ -22,3 +22,6 @@ pub mod Walked
 pub mod Counted
 pub mod ScalarLemmas
 pub mod Told
+pub mod Stripped
+pub mod Inserted
+pub mod Repeats

@@ -10,6 +10,8 @@ ghost use Rattle.jsonb_raw.specs.Documents.{raw_bytes, IsReadingError};
 ghost use Rattle.jsonb_raw.specs.KeyAnswer.{MakesKey, RanksAsTree, IsKeyError};
 ghost use Rattle.jsonb_raw.specs.EqualityKey.{equality_key};
 
+mod repeat;
+mod strip;
 #[cfg(test)]
 mod tests;
 mod traverse;
