@@ -25,3 +25,4 @@ pub mod Told
 pub mod Stripped
 pub mod Inserted
 pub mod Repeats
+pub mod InStep
