@@ -21,6 +21,10 @@ pub mod Left
 pub mod Walked
 pub mod Counted
 pub mod ScalarLemmas
+pub mod Told
+pub mod Stripped
+pub mod Inserted
+pub mod Repeats
 pub mod InStep
 pub mod KeysCounted
 pub mod SetKept

@@ -14,3 +14,8 @@ pub mod Casts
 pub mod Sets
 pub mod SetCounts
 pub mod SetLaws
+pub mod Texts
+pub mod Strip
+pub mod Contains
+pub mod Concat
+pub mod PairSteps

@@ -10,8 +10,11 @@ ghost use Rattle.jsonb_raw.specs.Documents.{raw_bytes, IsReadingError};
 ghost use Rattle.jsonb_raw.specs.KeyAnswer.{MakesKey, RanksAsTree, IsKeyError};
 ghost use Rattle.jsonb_raw.specs.EqualityKey.{equality_key};
 
+mod repeat;
+mod strip;
 #[cfg(test)]
 mod tests;
+mod traverse;
 
 use crate::equality_key::item_key;
 use crate::raw::RawJsonb;

@@ -1,0 +1,134 @@
+use Rattle.std.proofs.Common.{rules, arith, true, false, ◌∷◌, ◌++◌, ◌≡◌, ℕ, List, [], sym, ◌∙◌}
+use Rattle.std.specs.Fn.{FnReturnsAt}
+use Rattle.jsonb_doc.specs.Tree.{Tree, Trees, Pairs, array, object}
+use Rattle.jsonb_raw.specs.Texts.{texts, texts_of_trees, texts_of_pairs, Tells}
+use Rattle.jsonb_raw.proofs.Told.{told_none, told_alone, told_first, told_then, told_head, told_after}
+use Rattle.jsonb_raw.proofs.Left.{SomeElements-all, SomeElements-first, SomeElements-error, SomeElements-none, SomePairs-all, SomePairs-first, SomePairs-error, SomePairs-none}
+use Rattle.jsonb_raw.proofs.functions.operator.traverse.+texts.Goals as goal
+use Rattle.jsonb_raw.proofs.functions.operator.traverse.+texts.Goals.{object_tells-then-func-via-then-func, object_tells-then-func-via-else-func+in_ok-item_tells+then-branch}
+
+-- ---- items
+
+pub item_tells-returns-in-String-clause-told : goal.item_tells-returns-in-String-clause-told
+item_tells-returns-in-String-clause-told g t c = λ form tree stands.
+    let is = rw c.in-String.is at stands in
+    let told : FnReturnsAt g.F.Fn c.args.func.now c.in-String.text.now c.func.result = record { shown = c.as_bytes.result; shows = c.as_bytes.ensures.value; says = record { met = c.func.ensures } } in
+    rw is (told_alone g.F.Fn c.args.func.now _ c.func.result told)
+
+pub item_tells-returns-in-Array-clause-told : goal.item_tells-returns-in-Array-clause-told
+item_tells-returns-in-Array-clause-told g t c = λ form tree stands.
+    let (ts, is, d) = rw c.in-Array.is at stands in
+    rw is (c.array_tells.ensures.told form ts d)
+
+pub item_tells-returns-in-Object-clause-told : goal.item_tells-returns-in-Object-clause-told
+item_tells-returns-in-Object-clause-told g t c = λ form tree stands.
+    let (ps, is, d) = rw c.in-Object.is at stands in
+    rw is (c.object_tells.ensures.told form ps d)
+
+-- ---- arrays
+
+pub array_tells-returns-in_err-found-clause-told : goal.array_tells-returns-in_err-found-clause-told
+array_tells-returns-in_err-found-clause-told g t c = λ form ts d. absurd (c.in_err-found.ensures.decodes form (array ts) d)
+
+pub array_tells-returns-in_default-clause-told : goal.array_tells-returns-in_default-clause-told
+array_tells-returns-in_default-clause-told g t c = λ form ts d. absurd (rw c.in_default.is at (c.in_ok-found.ensures.decodes form (array ts) d))
+
+pub array_tells-loop-item-init : goal.array_tells-loop-item-init
+array_tells-loop-item-init g t c = record {
+  can = tt;
+  finite = tt;
+  room = search rules;
+  left = λ form ts d. SomeElements-all form ts _ _ _ _ c.in-Some.is c.into_iter-item-iterator.ensures.into_iter_gives (c.in_ok-found.ensures.decodes form (array ts) d) (λ b h. h);
+}
+
+pub array_tells-loop-item-preserved : goal.array_tells-loop-item-preserved
+array_tells-loop-item-preserved g t c = record {
+  can = tt;
+  finite = tt;
+  room = omega (arith, c.in-Some-item.ensures.steps.room);
+  left = λ form ts d.
+      SomeElements-first form _ _ _ _ _ c.in_ok-item.was c.in-Some-item.ensures.steps (c.loop-item.invariant.left form ts d)
+      (λ first rest left stands fact. record {
+        trees = rest;
+        left = left;
+        fact = λ b h. fact b (told_then g.F.Fn c.args.func.now (texts first) (texts_of_trees rest) (rw c.if-branch.false at (c.in_ok-item_tells.ensures.told form first stands)) b h);
+      });
+}
+
+pub array_tells-returns-in_err-item-clause-told : goal.array_tells-returns-in_err-item-clause-told
+array_tells-returns-in_err-item-clause-told g t c = λ form ts d.
+    SomeElements-error form _ _ _ _ _ c.in_err-item.was c.in-Some-item.ensures.steps (c.loop-item.invariant.left form ts d)
+
+pub array_tells-returns-in_err-item_tells-clause-told : goal.array_tells-returns-in_err-item_tells-clause-told
+array_tells-returns-in_err-item_tells-clause-told g t c = λ form ts d.
+    SomeElements-first form _ _ _ _ _ c.in_ok-item.was c.in-Some-item.ensures.steps (c.loop-item.invariant.left form ts d)
+    (λ first rest left stands fact. absurd (c.in_err-item_tells.ensures.told form first stands))
+
+pub array_tells-returns-then-branch-clause-told : goal.array_tells-returns-then-branch-clause-told
+array_tells-returns-then-branch-clause-told g t c = λ form ts d.
+    SomeElements-first form _ _ _ _ _ c.in_ok-item.was c.in-Some-item.ensures.steps (c.loop-item.invariant.left form ts d)
+    (λ first rest left stands fact. fact true (told_first g.F.Fn c.args.func.now (texts first) (texts_of_trees rest) (rw c.if-branch.true at (c.in_ok-item_tells.ensures.told form first stands))))
+
+pub array_tells-returns-clause-told : goal.array_tells-returns-clause-told
+array_tells-returns-clause-told g t c = λ form ts d.
+    SomeElements-none form _ _ _ c.in-None.ensures.steps (c.loop-item.invariant.left form ts d) false (told_none g.F.Fn c.args.func.now)
+
+-- ---- objects
+
+pub object_tells-returns-in_err-found-clause-told : goal.object_tells-returns-in_err-found-clause-told
+object_tells-returns-in_err-found-clause-told g t c = λ form ps d. absurd (c.in_err-found.ensures.decodes form (object ps) d)
+
+pub object_tells-returns-in_default-clause-told : goal.object_tells-returns-in_default-clause-told
+object_tells-returns-in_default-clause-told g t c = λ form ps d. absurd (rw c.in_default.is at (c.in_ok-found.ensures.decodes form (object ps) d))
+
+pub object_tells-loop-pair-init : goal.object_tells-loop-pair-init
+object_tells-loop-pair-init g t c = record {
+  can = tt;
+  finite = tt;
+  room = search rules;
+  left = λ form ps d. SomePairs-all form ps _ _ _ _ c.in-Some.is c.into_iter-pair-iterator.ensures.into_iter_gives (c.in_ok-found.ensures.decodes form (object ps) d) (λ b h. h);
+}
+
+pub object_tells-returns-in_err-key-clause-told : goal.object_tells-returns-in_err-key-clause-told
+object_tells-returns-in_err-key-clause-told g t c = λ form ps d.
+    SomePairs-error form _ _ _ _ _ c.in_err-key.was c.in-Some-pair.ensures.steps (c.loop-pair.invariant.left form ps d)
+
+pub object_tells-returns-in_err-item_tells-clause-told : goal.object_tells-returns-in_err-item_tells-clause-told
+object_tells-returns-in_err-item_tells-clause-told g t c = λ form ps d.
+    SomePairs-first form _ _ _ _ _ c.in_ok-key.was c.in-Some-pair.ensures.steps (c.loop-pair.invariant.left form ps d)
+    (λ value rest left stands fact. absurd (c.in_err-item_tells.ensures.told form value stands))
+
+pub object_tells-returns-then-func-clause-told : goal.object_tells-returns-then-func-clause-told
+object_tells-returns-then-func-clause-told g t c = λ form ps d.
+    SomePairs-first form _ _ _ _ _ c.in_ok-key.was c.in-Some-pair.ensures.steps (c.loop-pair.invariant.left form ps d)
+    (λ value rest left stands fact. fact true (
+    elim c.then-func.branch [
+      object_tells-then-func-via-then-func w ↦
+        let told : FnReturnsAt g.F.Fn c.args.func.now c.in_ok-key.key.now true = record { shown = c.as_bytes.result; shows = c.as_bytes.ensures.value; says = record { met = rw w.if-func.true at c.func.ensures } } in
+        told_head g.F.Fn c.args.func.now c.in_ok-key.key.now (texts value ++ texts_of_pairs rest) told
+    | object_tells-then-func-via-else-func+in_ok-item_tells+then-branch w ↦
+        let told : FnReturnsAt g.F.Fn c.args.func.now c.in_ok-key.key.now false = record { shown = c.as_bytes.result; shows = c.as_bytes.ensures.value; says = record { met = rw w.if-func.false at c.func.ensures } } in
+        told_after g.F.Fn c.args.func.now c.in_ok-key.key.now (texts value ++ texts_of_pairs rest) told true
+        (told_first g.F.Fn c.args.func.now (texts value) (texts_of_pairs rest) (rw w.if-branch.true at (w.in_ok-item_tells.ensures.told form value stands)))
+    ]))
+
+pub object_tells-loop-pair-preserved : goal.object_tells-loop-pair-preserved
+object_tells-loop-pair-preserved g t c = record {
+  can = tt;
+  finite = tt;
+  room = omega (arith, c.in-Some-pair.ensures.steps.room);
+  left = λ form ps d.
+      SomePairs-first form _ _ _ _ _ c.in_ok-key.was c.in-Some-pair.ensures.steps (c.loop-pair.invariant.left form ps d)
+      (λ value rest left stands fact. record {
+        pairs = rest;
+        left = left;
+        fact = λ b h.
+            let told : FnReturnsAt g.F.Fn c.args.func.now c.in_ok-key.key.now false = record { shown = c.as_bytes.result; shows = c.as_bytes.ensures.value; says = record { met = rw c.if-func.false at c.func.ensures } } in
+            fact b (told_after g.F.Fn c.args.func.now c.in_ok-key.key.now (texts value ++ texts_of_pairs rest) told b
+            (told_then g.F.Fn c.args.func.now (texts value) (texts_of_pairs rest) (rw c.if-branch.false at (c.in_ok-item_tells.ensures.told form value stands)) b h));
+      });
+}
+
+pub object_tells-returns-clause-told : goal.object_tells-returns-clause-told
+object_tells-returns-clause-told g t c = λ form ps d.
+    SomePairs-none form _ _ _ c.in-None.ensures.steps (c.loop-pair.invariant.left form ps d) false (told_none g.F.Fn c.args.func.now)
