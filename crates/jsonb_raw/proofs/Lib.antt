@@ -21,3 +21,4 @@ pub mod Left
 pub mod Walked
 pub mod Counted
 pub mod ScalarLemmas
+pub mod LeafWalk
