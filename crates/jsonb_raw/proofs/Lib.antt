@@ -22,3 +22,4 @@ pub mod Walked
 pub mod Counted
 pub mod ScalarLemmas
 pub mod LeafWalk
+pub mod LeafPlaces

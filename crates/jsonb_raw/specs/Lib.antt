@@ -13,3 +13,4 @@ pub mod Scalars
 pub mod Casts
 pub mod Leaves
 pub mod LeafViews
+pub mod LeavesLaws
