@@ -23,3 +23,4 @@ pub mod Counted
 pub mod ScalarLemmas
 pub mod LeafWalk
 pub mod LeafPlaces
+mod LeafRows
