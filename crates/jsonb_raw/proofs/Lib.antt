@@ -29,3 +29,6 @@ pub mod InStep
 pub mod KeysCounted
 pub mod SetKept
 pub mod SetLawProofs
+pub mod LeafWalk
+pub mod LeafPlaces
+mod LeafRows

@@ -19,3 +19,6 @@ pub mod Strip
 pub mod Contains
 pub mod Concat
 pub mod PairSteps
+pub mod Leaves
+pub mod LeafViews
+pub mod LeavesLaws

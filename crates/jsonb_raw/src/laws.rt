@@ -6,6 +6,7 @@ ghost use Rattle.std.specs.Int.{w8, w16};
 ghost use Rattle.jsonb_raw.specs.KeyLaws.{KeysKeepBelow, KeysKeepEqual, KeysOrder, KeysTellApart, EqualityKeysTellApart, DigitsWrite};
 ghost use Rattle.jsonb_raw.specs.SetLaws.{SplitDeals, SplitCounts, DistinctCounts, OverlapIsShared};
 ghost use Rattle.jsonb_raw.specs.PlacesLaws.{NoStepsMeetTheWhole, PrintsToItsPlace};
+ghost use Rattle.jsonb_raw.specs.LeavesLaws.{LeavesAreInPlace};
 
 /// The place of no steps is the whole tree.
 pub fn no_steps_meet_the_whole()
@@ -58,4 +59,7 @@ pub fn distinct_elements()
 /// Two lists overlap exactly where their intersection is not empty.
 pub fn overlap()
     ensures { OverlapIsShared }
+/// At the place of each leaf's key path stands the leaf, also where arrays are ignored.
+pub fn leaves_are_in_place()
+    ensures { LeavesAreInPlace }
 {}

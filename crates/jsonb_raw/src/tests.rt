@@ -16,6 +16,8 @@ use std::alloc::Global;
 use std::borrow::CowStr;
 use std::test::Fail;
 
+mod leaves;
+
 // [false, 10, {"k":"v"}]
 const MIXED: &[u8] =
     b"\x80\0\0\x03\x30\0\0\0\x20\0\0\x02\x50\0\0\x0e\x50\x0a\x40\0\0\x01\x10\0\0\x01\x10\0\0\x01kv";

@@ -21,6 +21,8 @@ use jsonb_doc::{Error, Item, Spot, child_spots, field_spot, root_spot, spot_item
 use jsonb_keypath::KeyPath;
 use std::alloc::Global;
 
+mod leaves;
+
 /// The child at a position.
 fn nth_child(bytes: &[u8], spot: Spot, position: usize) -> Result<Option<Spot>, Error>
     ensures child { (t : Tree) → Marks bytes.now spot t
