@@ -11,3 +11,7 @@ pub mod Spelling
 pub mod KeyWidth
 pub mod Scalars
 pub mod Casts
+pub mod Exists
+pub mod ExistsLaws
+pub mod Deletes
+pub mod DeletesLaws

@@ -5,6 +5,8 @@ ghost use Rattle.jsonb_keypath.specs.KeyPathGrammar.{key_path};
 ghost use Rattle.std.specs.Int.{w8, w16};
 ghost use Rattle.jsonb_raw.specs.KeyLaws.{KeysKeepBelow, KeysKeepEqual, KeysOrder, KeysTellApart, EqualityKeysTellApart, DigitsWrite};
 ghost use Rattle.jsonb_raw.specs.PlacesLaws.{NoStepsMeetTheWhole, PrintsToItsPlace};
+ghost use Rattle.jsonb_raw.specs.ExistsLaws.{AllOfNoneAndAnyOfNone};
+ghost use Rattle.jsonb_raw.specs.DeletesLaws.{PairsAreGone};
 
 /// The place of no steps is the whole tree.
 pub fn no_steps_meet_the_whole()
@@ -40,4 +42,14 @@ pub fn equality_keys()
 /// The digits of a number's key write its absolute value, with no zero at either end.
 pub fn number_digits()
     ensures { DigitsWrite }
+{}
+
+/// A document has all of no texts, and none of no texts.
+pub fn all_of_no_texts_and_any_of_no_texts()
+    ensures { AllOfNoneAndAnyOfNone }
+{}
+
+/// Where a place that is a pair of an object is taken out, its steps meet nothing any more.
+pub fn pairs_that_are_taken_out_are_gone()
+    ensures { PairsAreGone }
 {}
