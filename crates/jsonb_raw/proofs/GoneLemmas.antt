@@ -15,6 +15,7 @@ use Rattle.jsonb_raw.specs.Places.{children, asked_key, child_position, child_me
 use Rattle.jsonb_raw.specs.Deletes.{put_tree, put_pair, change_tree, change_value, change_child, take_out, without}
 use Rattle.jsonb_raw.specs.DeletesLaws.{PairsAreGone}
 use Rattle.jsonb_raw.proofs.PlaceLemmas.{position-cons, step_by_step}
+use Rattle.jsonb_raw.proofs.PositionLemmas.{position_in_object}
 
 -- ---- keys
 
@@ -58,12 +59,6 @@ key_gone name (pair key t ps) n rising at = by (λ m e. key_gone name ps m risin
         let is : key ≡ name = bytes_eq-true key name same in
         rw (← first, ← is) (below_all key (keys ps) rising.1 rising.2)
     by rest false other = behind rest (position (λ k. bytes_eq k name) (keys ps)) refl other (sym (position-cons (λ k. bytes_eq k name) key (keys ps) false other) ∙ at)
-
--- a step asks each object for a key
-position_in_object : (step : Key) (ps : Pairs) → child_position step (object ps) ≡ position (λ key. bytes_eq key (asked_key step)) (keys ps)
-position_in_object (index i) ps = refl
-position_in_object (quoted_name name) ps = refl
-position_in_object (plain_name name) ps = refl
 
 -- ---- a child that is changed, and not taken out
 

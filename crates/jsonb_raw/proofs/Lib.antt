@@ -23,3 +23,5 @@ pub mod Counted
 pub mod ScalarLemmas
 pub mod GoneLemmas
 pub mod ExistsLemmas
+pub mod MetLemmas
+pub mod PositionLemmas
