@@ -32,3 +32,7 @@ pub mod SetLawProofs
 pub mod LeafWalk
 pub mod LeafPlaces
 mod LeafRows
+pub mod GoneLemmas
+pub mod ExistsLemmas
+pub mod MetLemmas
+pub mod PositionLemmas

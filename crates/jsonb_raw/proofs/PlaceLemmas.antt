@@ -27,7 +27,7 @@ shifted n len false e =
     let e' : nat_lt (1 + n) (suc len) ≡ false = grind (arith, nat_tests) in rw (e, e') refl
 
 -- the first position at which a test holds, in a list with one more in front
-position-cons : {A : Type 0} (p : A → Bool) (x : A) (xs : List A) (b : Bool) → p x ≡ b
+pub position-cons : {A : Type 0} (p : A → Bool) (x : A) (xs : List A) (b : Bool) → p x ≡ b
     → position p (x ∷ xs) ≡ cond b (Some 0) (option_map suc (position p xs))
 position-cons p x xs true e = let e' = below 0 (suc (length xs)) (omega arith) in rw (e, e') refl
 position-cons p x xs false e = rw e (shifted (position_or_len p xs) (length xs) _ refl)

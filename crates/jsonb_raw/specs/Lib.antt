@@ -22,3 +22,8 @@ pub mod PairSteps
 pub mod Leaves
 pub mod LeafViews
 pub mod LeavesLaws
+pub mod Exists
+pub mod ExistsLaws
+pub mod Deletes
+pub mod DeletesLaws
+pub mod MetChildren

@@ -7,6 +7,8 @@ ghost use Rattle.jsonb_raw.specs.KeyLaws.{KeysKeepBelow, KeysKeepEqual, KeysOrde
 ghost use Rattle.jsonb_raw.specs.SetLaws.{SplitDeals, SplitCounts, DistinctCounts, OverlapIsShared};
 ghost use Rattle.jsonb_raw.specs.PlacesLaws.{NoStepsMeetTheWhole, PrintsToItsPlace};
 ghost use Rattle.jsonb_raw.specs.LeavesLaws.{LeavesAreInPlace};
+ghost use Rattle.jsonb_raw.specs.ExistsLaws.{AllOfNoneAndAnyOfNone};
+ghost use Rattle.jsonb_raw.specs.DeletesLaws.{PairsAreGone};
 
 /// The place of no steps is the whole tree.
 pub fn no_steps_meet_the_whole()
@@ -62,4 +64,12 @@ pub fn overlap()
 /// At the place of each leaf's key path stands the leaf, also where arrays are ignored.
 pub fn leaves_are_in_place()
     ensures { LeavesAreInPlace }
+/// A document has all of no texts, and none of no texts.
+pub fn all_of_no_texts_and_any_of_no_texts()
+    ensures { AllOfNoneAndAnyOfNone }
+{}
+
+/// Where a place that is a pair of an object is taken out, its steps meet nothing any more.
+pub fn pairs_that_are_taken_out_are_gone()
+    ensures { PairsAreGone }
 {}

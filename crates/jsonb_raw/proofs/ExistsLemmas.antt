@@ -1,0 +1,62 @@
+-- What the texts that are left of a walk say of all of them.
+use Rattle.std.proofs.Common.{◌≡◌, ℕ, Bool, true, false, ◌||◌, ◌&&◌, not, List, [], ◌∷◌, Option, Some, None, is_some, refl, sym, ap, ◌∙◌}
+use Rattle.std.specs.List.{list_any, list_all}
+use Rattle.std.specs.Borrow.{Bor}
+use Rattle.std.specs.Str.{bytes_eq}
+use Rattle.jsonb_doc.specs.Tree.{Tree, text, Trees, tree, Pairs, no_pairs, pair, elements, keys, value_under}
+use Rattle.jsonb_doc.specs.Payload.{Form}
+use Rattle.jsonb_doc.specs.Item.{Stands}
+use Rattle.jsonb_doc.specs.Answer.{SameOption}
+use Rattle.jsonb_doc.specs.declared.item.Item.{Item}
+use Rattle.jsonb_doc.specs.declared.item.Item.TheVariants as item
+use Rattle.jsonb_raw.specs.Exists.{is_text}
+
+-- ---- keys
+
+value_there : (name : List ℕ) (ps : Pairs) → is_some (value_under name ps) ≡ list_any (λ key. bytes_eq key name) (keys ps)
+value_there name no_pairs = refl
+value_there name (pair key t ps) = by (value_there name ps) (bytes_eq key name) refl
+  where
+    by : is_some (value_under name ps) ≡ list_any (λ key. bytes_eq key name) (keys ps) → (b : Bool) → bytes_eq key name ≡ b
+        → is_some (value_under name (pair key t ps)) ≡ list_any (λ k. bytes_eq k name) (key ∷ keys ps)
+    by rest true same = rw same refl
+    by rest false other = rw other rest
+
+-- an object has a key exactly where a value is found under it
+pub key_there : {A : Type 0} (R : A → Tree → Type 0) (found : Option A) (name : List ℕ) (ps : Pairs) → SameOption R found (value_under name ps)
+    → is_some found ≡ list_any (λ key. bytes_eq key name) (keys ps)
+key_there {A} R found name ps h = by found (value_under name ps) h ∙ value_there name ps
+  where
+    by : (o : Option A) (wanted : Option Tree) → SameOption R o wanted → is_some o ≡ is_some wanted
+    by (Some a) (Some t) h = refl
+    by (Some a) None h = absurd h
+    by None (Some t) h = absurd h
+    by None None h = refl
+
+-- ---- elements
+
+pub text_item : (form : Form) (x : Item) (s : Bor (List ℕ)) (t : Tree) (name : List ℕ) → x ≡ item.String s → Stands form x t → is_text name t ≡ bytes_eq s.now name
+text_item form x s t name is stands = let e : t ≡ text s.now = rw is at stands in rw e refl
+
+pub no_text_item : (form : Form) (x : Item) (t : Tree) (name : List ℕ) → ((s : Bor (List ℕ)) → x ≡ item.String s → ⊥) → Stands form x t → is_text name t ≡ false
+no_text_item form item.Null t name not_text h = rw h refl
+no_text_item form (item.Boolean b) t name not_text h = rw h refl
+no_text_item form (item.Number n) t name not_text h = rw h refl
+no_text_item form (item.String s) t name not_text h = absurd (not_text s refl)
+no_text_item form (item.Extension x) t name not_text h = rw h refl
+no_text_item form (item.Array bytes) t name not_text h = rw h.1 refl
+no_text_item form (item.Object bytes) t name not_text h = rw h.1 refl
+
+-- ---- one more that is tested
+
+pub any_first : {A : Type 0} (p : A → Bool) (x : A) (xs : List A) (all : Bool) → p x ≡ true → list_any p (x ∷ xs) ≡ all → true ≡ all
+any_first p x xs all test e = rw test at e
+
+pub any_next : {A : Type 0} (p : A → Bool) (x : A) (xs : List A) (all : Bool) → p x ≡ false → list_any p (x ∷ xs) ≡ all → list_any p xs ≡ all
+any_next p x xs all test e = rw test at e
+
+pub all_first : {A : Type 0} (p : A → Bool) (x : A) (xs : List A) (all : Bool) → p x ≡ false → list_all p (x ∷ xs) ≡ all → false ≡ all
+all_first p x xs all test e = rw test at e
+
+pub all_next : {A : Type 0} (p : A → Bool) (x : A) (xs : List A) (all : Bool) → p x ≡ true → list_all p (x ∷ xs) ≡ all → list_all p xs ≡ all
+all_next p x xs all test e = rw test at e

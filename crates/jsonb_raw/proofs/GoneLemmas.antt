@@ -1,0 +1,232 @@
+-- A pair that is taken out of an object is gone.
+use Rattle.std.proofs.Common.{◌≡◌, ℕ, zero, suc, Bool, true, false, List, [], ◌∷◌, ◌++◌, length, Option, Some, None, refl, sym, ap, subst, ◌∙◌, slice_get, Less, nat_cmp}
+use Rattle.std.specs.Prelude.{position, option_and_then, option_map, unwrap_or}
+use Rattle.std.specs.Ordering.{is_eq}
+use Rattle.std.specs.Cmp.Lexicographic.{slice_cmp}
+use Rattle.std.specs.Str.{bytes_eq}
+use Rattle.std.proofs.lemmas.Cmp.{nat_list_cmp_total}
+use Rattle.std.proofs.lemmas.Map.Text.{is_eq-slice_cmp}
+use Rattle.jsonb_doc.specs.Tree.{Tree, null, boolean, number, text, extension, array, object, Trees, no_trees, tree, Pairs, no_pairs, pair, elements, keys, values}
+use Rattle.jsonb_doc.specs.Format.{IsBelowFirst, AreKeys}
+use Rattle.jsonb_doc.specs.Limits.{IsInRange, AreInRange, ValuesAreInRange}
+use Rattle.jsonb_doc.proofs.Words.{bytes_eq-true}
+use Rattle.jsonb_keypath.specs.KeyPathGrammar.{Key, index, quoted_name, plain_name}
+use Rattle.jsonb_raw.specs.Places.{children, asked_key, child_position, child_met, place, tree_at_steps, index_position}
+use Rattle.jsonb_raw.specs.Deletes.{put_tree, put_pair, change_tree, change_value, change_child, take_out, without}
+use Rattle.jsonb_raw.specs.DeletesLaws.{PairsAreGone}
+use Rattle.jsonb_raw.proofs.PlaceLemmas.{position-cons, step_by_step}
+use Rattle.jsonb_raw.proofs.PositionLemmas.{position_in_object}
+
+-- ---- keys
+
+-- a key in front that is another one changes nothing
+none_in_front : (name key : List ℕ) (ks : List (List ℕ)) → bytes_eq key name ≡ false → position (λ k. bytes_eq k name) ks ≡ None
+    → position (λ k. bytes_eq k name) (key ∷ ks) ≡ None
+none_in_front name key ks other none = rw (position-cons (λ k. bytes_eq k name) key ks false other, none) refl
+
+-- a text below the first of rising keys is none of them
+below_all : (name : List ℕ) (ks : List (List ℕ)) → IsBelowFirst name ks → AreKeys ks → position (λ k. bytes_eq k name) ks ≡ None
+below_all name [] below rising = refl
+below_all name (key ∷ ks) below rising =
+    none_in_front name key ks other (below_all name ks (lower ks rising.1) rising.2)
+  where
+    other : bytes_eq key name ≡ false
+    other = sym (is_eq-slice_cmp key name) ∙ ap is_eq (nat_list_cmp_total.antisymm key name) ∙ rw below refl
+
+    lower : (ls : List (List ℕ)) → IsBelowFirst key ls → IsBelowFirst name ls
+    lower [] above = tt
+    lower (l ∷ ls) above = nat_list_cmp_total.trans name key l below above
+
+-- where the pair of a key is taken out, no key is that key
+key_gone : (name : List ℕ) (ps : Pairs) (n : ℕ) → AreKeys (keys ps) → position (λ k. bytes_eq k name) (keys ps) ≡ Some n
+    → position (λ k. bytes_eq k name) (keys (change_value n (take_out []) ps)) ≡ None
+key_gone name no_pairs n rising at = let bad : None ≡ Some n = at in absurd (cc)
+key_gone name (pair key t ps) n rising at = by (λ m e. key_gone name ps m rising.2 e) (bytes_eq key name) refl
+  where
+    others_gone : Type 0
+    others_gone = (m : ℕ) → position (λ k. bytes_eq k name) (keys ps) ≡ Some m → position (λ k. bytes_eq k name) (keys (change_value m (take_out []) ps)) ≡ None
+
+    behind : others_gone → (o : Option ℕ) → position (λ k. bytes_eq k name) (keys ps) ≡ o → bytes_eq key name ≡ false → option_map suc o ≡ Some n
+        → position (λ k. bytes_eq k name) (keys (change_value n (take_out []) (pair key t ps))) ≡ None
+    behind rest None is other e = let bad : None ≡ Some n = e in absurd (cc)
+    behind rest (Some m) is other e =
+        let e' : suc m ≡ n = cc e in
+        rw (← e') (none_in_front name key (keys (change_value m (take_out []) ps)) other (rest m is))
+
+    by : others_gone → (b : Bool) → bytes_eq key name ≡ b → position (λ k. bytes_eq k name) (keys (change_value n (take_out []) (pair key t ps))) ≡ None
+    by rest true same =
+        let first : 0 ≡ n = cc (sym (position-cons (λ k. bytes_eq k name) key (keys ps) true same) ∙ at) in
+        let is : key ≡ name = bytes_eq-true key name same in
+        rw (← first, ← is) (below_all key (keys ps) rising.1 rising.2)
+    by rest false other = behind rest (position (λ k. bytes_eq k name) (keys ps)) refl other (sym (position-cons (λ k. bytes_eq k name) key (keys ps) false other) ∙ at)
+
+-- ---- a child that is changed, and not taken out
+
+module _ (change : Tree → Option Tree) (child child' : Tree) (changed : change child ≡ Some child') where
+  same_count : (ts : Trees) (n : ℕ) → slice_get (elements ts) n ≡ Some child → length (elements (change_tree n change ts)) ≡ length (elements ts)
+  same_count no_trees n at = refl
+  same_count (tree t ts) zero at = let e : t ≡ child = cc at in rw (e, changed) refl
+  same_count (tree t ts) (suc n) at = ap suc (same_count ts n at)
+
+  same_keys : (ps : Pairs) (n : ℕ) → slice_get (elements (values ps)) n ≡ Some child → keys (change_value n change ps) ≡ keys ps
+  same_keys no_pairs n at = refl
+  same_keys (pair key t ps) zero at = let e : t ≡ child = cc at in rw (e, changed) refl
+  same_keys (pair key t ps) (suc n) at = ap (λ ks. key ∷ ks) (same_keys ps n at)
+
+  element_there : (ts : Trees) (n : ℕ) → slice_get (elements ts) n ≡ Some child → slice_get (elements (change_tree n change ts)) n ≡ Some child'
+  element_there no_trees n at = let bad : None ≡ Some child = at in absurd (cc)
+  element_there (tree t ts) zero at = let e : t ≡ child = cc at in rw (e, changed) refl
+  element_there (tree t ts) (suc n) at = element_there ts n at
+
+  value_there : (ps : Pairs) (n : ℕ) → slice_get (elements (values ps)) n ≡ Some child → slice_get (elements (values (change_value n change ps))) n ≡ Some child'
+  value_there no_pairs n at = let bad : None ≡ Some child = at in absurd (cc)
+  value_there (pair key t ps) zero at = let e : t ≡ child = cc at in rw (e, changed) refl
+  value_there (pair key t ps) (suc n) at = value_there ps n at
+
+  child_there : (t : Tree) (n : ℕ) → slice_get (children t) n ≡ Some child → slice_get (children (change_child n change t)) n ≡ Some child'
+  child_there (array ts) n at = element_there ts n at
+  child_there (object ps) n at = value_there ps n at
+  child_there null n at = let bad : None ≡ Some child = at in absurd (cc)
+  child_there (boolean b) n at = let bad : None ≡ Some child = at in absurd (cc)
+  child_there (number m) n at = let bad : None ≡ Some child = at in absurd (cc)
+  child_there (text s) n at = let bad : None ≡ Some child = at in absurd (cc)
+  child_there (extension x) n at = let bad : None ≡ Some child = at in absurd (cc)
+
+  -- a step meets the child at the position that it met before
+  same_position : (step : Key) (t : Tree) (n : ℕ) → slice_get (children t) n ≡ Some child → child_position step (change_child n change t) ≡ child_position step t
+  same_position (index i) (array ts) n at = ap (λ len. index_position len i) (same_count ts n at)
+  same_position (quoted_name name) (array ts) n at = refl
+  same_position (plain_name name) (array ts) n at = refl
+  same_position step (object ps) n at =
+      position_in_object step (change_value n change ps) ∙ ap (position (λ key. bytes_eq key (asked_key step))) (same_keys ps n at) ∙ sym (position_in_object step ps)
+  same_position step null n at = refl
+  same_position step (boolean b) n at = refl
+  same_position step (number m) n at = refl
+  same_position step (text s) n at = refl
+  same_position step (extension x) n at = refl
+
+-- ---- ranges
+
+element_in_range : (ts : Trees) (n : ℕ) (child : Tree) → AreInRange ts → slice_get (elements ts) n ≡ Some child → IsInRange child
+element_in_range no_trees n child fits at = let bad : None ≡ Some child = at in absurd (cc)
+element_in_range (tree t ts) zero child fits at = let e : t ≡ child = cc at in rw (← e) fits.0
+element_in_range (tree t ts) (suc n) child fits at = element_in_range ts n child fits.1 at
+
+value_in_range : (ps : Pairs) (n : ℕ) (child : Tree) → ValuesAreInRange ps → slice_get (elements (values ps)) n ≡ Some child → IsInRange child
+value_in_range no_pairs n child fits at = let bad : None ≡ Some child = at in absurd (cc)
+value_in_range (pair key t ps) zero child fits at = let e : t ≡ child = cc at in rw (← e) fits.0
+value_in_range (pair key t ps) (suc n) child fits at = value_in_range ps n child fits.1 at
+
+child_in_range : (t : Tree) (n : ℕ) (child : Tree) → IsInRange t → slice_get (children t) n ≡ Some child → IsInRange child
+child_in_range (array ts) n child fits at = element_in_range ts n child fits at
+child_in_range (object ps) n child fits at = value_in_range ps n child fits.1 at
+child_in_range null n child fits at = let bad : None ≡ Some child = at in absurd (cc)
+child_in_range (boolean b) n child fits at = let bad : None ≡ Some child = at in absurd (cc)
+child_in_range (number m) n child fits at = let bad : None ≡ Some child = at in absurd (cc)
+child_in_range (text s) n child fits at = let bad : None ≡ Some child = at in absurd (cc)
+child_in_range (extension x) n child fits at = let bad : None ≡ Some child = at in absurd (cc)
+
+-- ---- the first step of a place
+
+-- the first step meets a child, and the other steps have a place in it
+pub record FirstMet (step : Key) (steps : List Key) (t : Tree) (ns : List ℕ) : Type 0 where
+  pub at : ℕ
+  pub child : Tree
+  pub others : List ℕ
+  pub split : ns ≡ at ∷ others
+  pub meets : child_position step t ≡ Some at
+  pub is : slice_get (children t) at ≡ Some child
+  pub placed : place steps child ≡ Some others
+
+pub first_met : (step : Key) (steps : List Key) (t : Tree) (ns : List ℕ) → place (step ∷ steps) t ≡ Some ns → FirstMet step steps t ns
+first_met step steps t ns e = at_position (child_position step t) refl e
+  where
+    placed : (n : ℕ) (child : Tree) (o : Option (List ℕ)) → child_position step t ≡ Some n → slice_get (children t) n ≡ Some child → place steps child ≡ o
+        → option_map (λ ms. n ∷ ms) o ≡ Some ns → FirstMet step steps t ns
+    placed n child None meets is at h = let bad : None ≡ Some ns = h in absurd (cc)
+    placed n child (Some ms) meets is at h =
+        record { at = n; child = child; others = ms; split = cc h; meets = meets; is = is; placed = at }
+
+    at_child : (n : ℕ) (o : Option Tree) → child_position step t ≡ Some n → slice_get (children t) n ≡ o
+        → option_map (λ ms. n ∷ ms) (option_and_then (place steps) o) ≡ Some ns → FirstMet step steps t ns
+    at_child n None meets is h = let bad : None ≡ Some ns = h in absurd (cc)
+    at_child n (Some child) meets is h = placed n child (place steps child) meets is refl h
+
+    at_position : (o : Option ℕ) → child_position step t ≡ o
+        → option_and_then (λ n. option_map (λ ms. n ∷ ms) (option_and_then (place steps) (slice_get (children t) n))) o ≡ Some ns → FirstMet step steps t ns
+    at_position None meets h = let bad : None ≡ Some ns = h in absurd (cc)
+    at_position (Some n) meets h = at_child n (slice_get (children t) n) meets refl h
+
+-- ---- the law
+
+taken_last : (n : ℕ) (ns others : List ℕ) (t t' : Tree) → ns ≡ n ∷ others → [] ≡ others → take_out ns t ≡ Some t' → change_child n (take_out []) t ≡ t'
+taken_last n ns others t t' split end out = cc (rw (split, ← end) at out)
+
+taken_first : (n : ℕ) (ns others : List ℕ) (t t' : Tree) → ns ≡ n ∷ others → take_out ns t ≡ Some t' → change_child n (take_out others) t ≡ t'
+taken_first n ns others t t' split out = cc (rw split at out)
+
+taken_some : (n : ℕ) (ns others : List ℕ) (t : Tree) → ns ≡ n ∷ others → take_out ns t ≡ Some (change_child n (take_out others) t)
+taken_some n ns others t split = rw split refl
+
+in_object : (last : Key) (t : Tree) (ps : Pairs) (n : ℕ) → t ≡ object ps → child_position last t ≡ Some n → position (λ key. bytes_eq key (asked_key last)) (keys ps) ≡ Some n
+in_object last t ps n is at = sym (position_in_object last ps) ∙ rw is at at
+
+object_left : (t t' : Tree) (ps : Pairs) (n : ℕ) → t ≡ object ps → change_child n (take_out []) t ≡ t' → object (change_value n (take_out []) ps) ≡ t'
+object_left t t' ps n is left = rw is at left
+
+inner_parent : (step : Key) (steps : List Key) (t child : Tree) (n : ℕ) (wanted : Option Tree) → child_position step t ≡ Some n → slice_get (children t) n ≡ Some child
+    → tree_at_steps (step ∷ steps) t ≡ wanted → tree_at_steps steps child ≡ wanted
+inner_parent step steps t child n wanted meets is e = rw (meets, is) at (sym (step_by_step step steps t) ∙ e)
+
+goes_on : (step : Key) (steps : List Key) (t child : Tree) (n : ℕ) → child_position step t ≡ Some n → slice_get (children t) n ≡ Some child → place steps child ≡ None
+    → place (step ∷ steps) t ≡ None
+goes_on step steps t child n meets is none = rw (meets, is, none) refl
+
+-- the last step meets no key of the object any more
+last_gone : (last : Key) (t : Tree) (ps : Pairs) (ns : List ℕ) → AreKeys (keys ps) → t ≡ object ps → place (last ∷ []) t ≡ Some ns → (t' : Tree)
+    → take_out ns t ≡ Some t' → place (last ∷ []) t' ≡ None
+last_gone last t ps ns rising is met t' out =
+    let f = first_met last [] t ns met in
+    let end : [] ≡ f.others = cc f.placed in
+    let left = object_left t t' ps f.at is (taken_last f.at ns f.others t t' f.split end out) in
+    let gone = key_gone (asked_key last) ps f.at rising (in_object last t ps f.at is f.meets) in
+    let none = position_in_object last (change_value f.at (take_out []) ps) ∙ gone in
+    subst (λ (u : Tree). place (last ∷ []) u ≡ None) left (no_child (object (change_value f.at (take_out []) ps)) none)
+  where
+    no_child : (u : Tree) → child_position last u ≡ None → place (last ∷ []) u ≡ None
+    no_child u none = rw none refl
+
+-- places of some steps have a position
+some_positions : (front : List Key) (last : Key) (t : Tree) (ns : List ℕ) → place (front ++ last ∷ []) t ≡ Some ns → (n : ℕ) × (ms : List ℕ) × (ns ≡ n ∷ ms)
+some_positions [] last t ns met = let f = first_met last [] t ns met in (f.at, f.others, f.split)
+some_positions (step ∷ front) last t ns met = let f = first_met step (front ++ last ∷ []) t ns met in (f.at, f.others, f.split)
+
+gone : (front : List Key) (last : Key) (t : Tree) (ps : Pairs) (ns : List ℕ) → IsInRange t → tree_at_steps front t ≡ Some (object ps)
+    → place (front ++ last ∷ []) t ≡ Some ns → (t' : Tree) → take_out ns t ≡ Some t' → place (front ++ last ∷ []) t' ≡ None
+gone [] last t ps ns fits parent met t' out =
+    let is : t ≡ object ps = cc parent in
+    let fits' : IsInRange (object ps) = rw is at fits in
+    last_gone last t ps ns fits'.0 is met t' out
+gone (step ∷ front) last t ps ns fits parent met t' out =
+    let f = first_met step (front ++ last ∷ []) t ns met in
+    let some = some_positions front last f.child f.others f.placed in
+    let taken = taken_some some.0 f.others some.1 f.child some.2 in
+    let below = inner_parent step front t f.child f.at _ f.meets f.is parent in
+    let rest = gone front last f.child ps f.others (child_in_range t f.at f.child fits f.is) below f.placed _ taken in
+    let meets = same_position (take_out f.others) f.child _ taken step t f.at f.is ∙ f.meets in
+    let there = child_there (take_out f.others) f.child _ taken t f.at f.is in
+    let here = goes_on step (front ++ last ∷ []) _ _ f.at meets there rest in
+    subst (λ (u : Tree). place (step ∷ (front ++ last ∷ [])) u ≡ None) (taken_first f.at ns f.others t t' f.split out) here
+
+pub pairs_are_gone : PairsAreGone
+pairs_are_gone t fits front last ps parent = by (place (front ++ last ∷ []) t) refl
+  where
+    left : (o : Option Tree) (ns : List ℕ) → take_out ns t ≡ o → place (front ++ last ∷ []) t ≡ Some ns → place (front ++ last ∷ []) (unwrap_or o t) ≡ None
+    left None ns out met =
+        let some = some_positions front last t ns met in
+        let bad : Some (change_child some.0 (take_out some.1) t) ≡ None = rw some.2 at out in absurd (cc)
+    left (Some t') ns out met = gone front last t ps ns fits.0 parent met t' out
+
+    by : (o : Option (List ℕ)) → place (front ++ last ∷ []) t ≡ o → place (front ++ last ∷ []) (unwrap_or (option_and_then (λ ns. take_out ns t) o) t) ≡ None
+    by None none = none
+    by (Some ns) met = left (take_out ns t) ns refl met

@@ -1,0 +1,131 @@
+//! A document without the place that steps meet.
+
+ghost use Rattle.std.specs.Prelude.{◌≡◌, ℕ, List, length, position as first_position, IsOkAnd, IfErr};
+ghost use Rattle.std.specs.Iterator.{IsFinite};
+ghost use Rattle.std.specs.Fmt.{signed_decimal};
+ghost use Rattle.std.specs.Str.{bytes_eq};
+ghost use Rattle.jsonb_doc.specs.Tree.{Tree, Trees, Pairs, array, object, elements, keys};
+ghost use Rattle.jsonb_doc.specs.Payload.{Form, any};
+ghost use Rattle.jsonb_doc.specs.Format.{Decodes};
+ghost use Rattle.jsonb_doc.specs.Answer.{Answers, SameOption};
+ghost use Rattle.jsonb_doc.specs.Spots.{Marks};
+ghost use Rattle.jsonb_doc.specs.View.{IsDecodingError};
+ghost use Rattle.jsonb_keypath.specs.declared.key_path.KeyPath.{KeyPath};
+ghost use Rattle.jsonb_keypath.specs.KeyPathViews.{key_view, keys_view};
+ghost use Rattle.jsonb_raw.specs.Documents.{IsReadingError};
+ghost use Rattle.jsonb_raw.specs.Iterators.{TellsWhatIsLeft};
+ghost use Rattle.jsonb_raw.specs.Places.{index_position, child_position, place};
+ghost use Rattle.jsonb_raw.specs.MetChildren.{AreAt};
+
+use super::nth_child;
+use jsonb_doc::{Error, Item, Spot, elements, keys, root_spot, spot_item};
+use jsonb_keypath::KeyPath;
+use std::alloc::Global;
+
+/// A child that a step met: the spot of its parent, and its position among the children there.
+#[derive(Clone, Copy)]
+pub struct MetChild {
+    parent: Spot,
+    position: usize,
+}
+
+/// The position that an index means in an array, from the end where it is negative.
+fn element_position(bytes: &[u8], index: i32) -> Result<Option<usize>, Error>
+    ensures position { (form : Form) (ts : Trees) → Decodes form bytes.now (array ts)
+        → IsOkAnd result (λ found. found ≡ index_position (length (elements ts)) index) }
+    ensures errors { IfErr result IsDecodingError }
+{
+    let Some(elements) = elements(bytes)? else {
+        return Ok(None);
+    };
+    let count = elements.len();
+    let distance = index.unsigned_abs() as usize;
+    let is_from_end = index < 0;
+    if is_from_end {
+        Ok(count.checked_sub(distance))
+    } else if distance < count {
+        Ok(Some(distance))
+    } else {
+        Ok(None)
+    }
+}
+
+/// The position of the first key of an object that is this name.
+fn key_position(bytes: &[u8], name: &str) -> Result<Option<usize>, Error>
+    ensures position { (form : Form) (ps : Pairs) → Decodes form bytes.now (object ps)
+        → IsOkAnd result (λ found. found ≡ first_position (λ key. bytes_eq key name.now) (keys ps)) }
+    ensures errors { IfErr result IsDecodingError }
+{
+    let Some(keys) = keys(bytes)? else {
+        return Ok(None);
+    };
+    let mut passed = 0;
+    for key in keys {
+        if key? == name {
+            return Ok(Some(passed));
+        }
+        passed += 1;
+    }
+    Ok(None)
+}
+
+/// The position of the key of an object that is an index in decimal.
+fn decimal_position(alloc: Global, bytes: &[u8], index: i32) -> Result<Option<usize>, Error>
+    ensures position { (form : Form) (ps : Pairs) → Decodes form bytes.now (object ps)
+        → Answers result (λ found. found ≡ first_position (λ key. bytes_eq key (signed_decimal index)) (keys ps)) }
+    ensures errors { IfErr result IsReadingError }
+{
+    let key = format!(in alloc; "{index}")?;
+    key_position(bytes, key.as_str())
+}
+
+/// The position of the child that a step meets.
+fn position_met(
+    alloc: Global,
+    bytes: &[u8],
+    spot: Spot,
+    step: &KeyPath<'_>,
+) -> Result<Option<usize>, Error>
+    ensures position { (t : Tree) → Marks bytes.now spot t
+        → Answers result (λ found. found ≡ child_position (key_view step.now) t) }
+    ensures errors { IfErr result IsReadingError }
+{
+    match (spot_item(bytes, spot)?, step) {
+        (Item::Array(array), KeyPath::Index(index)) => element_position(array, *index),
+        (Item::Object(object), KeyPath::Index(index)) => decimal_position(alloc, object, *index),
+        (Item::Object(object), KeyPath::QuotedName(name)) => key_position(object, name.as_str()),
+        (Item::Object(object), KeyPath::Name(name)) => key_position(object, name.as_str()),
+        _ => Ok(None),
+    }
+}
+
+/// The children that the steps meet, each in the one before it.
+fn children_met<'k, I: Iterator<Item = &'k KeyPath<'k>> + Drop>(
+    alloc: Global,
+    bytes: &[u8],
+    steps: I,
+) -> Result<Option<Vec<MetChild>>, Error>
+    requires can { I.can_next steps }
+    requires ends { IsFinite (I.remaining steps) }
+    ensures met { (left : I → List KeyPath) → TellsWhatIsLeft I.next_gives left
+        → (t : Tree) → Decodes any bytes.now t
+        → Answers result (λ found. SameOption (λ met ns. AreAt bytes.now t met.items ns) found (place (keys_view (left steps)) t)) }
+    ensures errors { IfErr result IsReadingError }
+{
+    let mut spot = root_spot(bytes)?;
+    let mut met = Vec::new(alloc);
+    for step in steps {
+        let Some(position) = position_met(alloc, bytes, spot, step)? else {
+            return Ok(None);
+        };
+        let Some(child) = nth_child(bytes, spot, position)? else {
+            return Ok(None);
+        };
+        met.push(MetChild {
+            parent: spot,
+            position,
+        })?;
+        spot = child;
+    }
+    Ok(Some(met))
+}
