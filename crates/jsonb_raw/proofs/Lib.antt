@@ -21,3 +21,5 @@ pub mod Left
 pub mod Walked
 pub mod Counted
 pub mod ScalarLemmas
+pub mod Held
+pub mod ObjectLemmas

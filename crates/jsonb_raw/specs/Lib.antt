@@ -11,3 +11,5 @@ pub mod Spelling
 pub mod KeyWidth
 pub mod Scalars
 pub mod Casts
+pub mod Making
+pub mod Objects
