@@ -36,3 +36,5 @@ pub mod GoneLemmas
 pub mod ExistsLemmas
 pub mod MetLemmas
 pub mod PositionLemmas
+pub mod Held
+pub mod ObjectLemmas

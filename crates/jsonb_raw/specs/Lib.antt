@@ -27,3 +27,5 @@ pub mod ExistsLaws
 pub mod Deletes
 pub mod DeletesLaws
 pub mod MetChildren
+pub mod Making
+pub mod Objects

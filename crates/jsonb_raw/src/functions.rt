@@ -2,6 +2,8 @@
 
 mod array;
 mod cast;
+mod object;
 mod operator;
 mod path;
+mod push;
 mod scalar;

@@ -1,0 +1,11 @@
+use Rattle.jsonb_doc.specs.Tree.{Pairs, object, members}
+use Rattle.jsonb_doc.specs.Payload.{Form}
+use Rattle.jsonb_doc.specs.Format.{Decodes}
+use Rattle.jsonb_raw.specs.Documents.{raw_bytes}
+use Rattle.jsonb_raw.specs.Objects.{dropped}
+use Rattle.jsonb_raw.proofs.Held.{HeldPairs}
+use Rattle.jsonb_raw.proofs.raw.RawJsonb.object_delete.Given as goal
+
+abbrev pub invariant-loop-pair : goal.invariant-loop-pair
+invariant-loop-pair l = (form : Form) (ps : Pairs) → Decodes form (raw_bytes l.self) (object ps)
+    → HeldPairs form l.builder l.pair-iterator (λ left. dropped l.keys (members left)) (dropped l.keys (members ps))

@@ -1,0 +1,46 @@
+-- What the calls on objects answer.
+use Rattle.std.specs.Prelude.{ℕ, Bool, not, List, filter, map, Option, Some, None}
+use Rattle.std.specs.Borrow.{Bor}
+use Rattle.std.specs.BTreeSet.{BTreeSet, contains_by}
+use Rattle.std.specs.Ordering.{nat_cmp}
+use Rattle.std.specs.Cmp.Lexicographic.{slice_cmp}
+use Rattle.jsonb_doc.specs.Tree.{Tree, text, array, object, keys, members, pairs_of, trees_of}
+
+-- a set of texts
+abbrev pub TextSet : Type 0
+TextSet = BTreeSet (Bor (List ℕ))
+
+-- the set has the text
+abbrev pub is_in : TextSet → List ℕ → Bool
+is_in set name = contains_by (λ k. slice_cmp nat_cmp name k.now) set
+
+-- the pairs whose keys are in the set
+abbrev pub picked : TextSet → List (List ℕ × Tree) → List (List ℕ × Tree)
+picked set ps = filter (λ p. is_in set p.0) ps
+
+-- the pairs whose keys are not in the set
+abbrev pub dropped : TextSet → List (List ℕ × Tree) → List (List ℕ × Tree)
+dropped set ps = filter (λ p. not (is_in set p.0)) ps
+
+-- an object with other pairs, none of another tree
+abbrev pub with_pairs : (List (List ℕ × Tree) → List (List ℕ × Tree)) → Tree → Option Tree
+with_pairs change (object ps) = Some (object (pairs_of (change (members ps))))
+with_pairs change _ = None
+
+-- an object's pairs whose keys are in the set
+abbrev pub object_pick : TextSet → Tree → Option Tree
+object_pick set t = with_pairs (picked set) t
+
+-- an object's pairs whose keys are not in the set
+abbrev pub object_delete : TextSet → Tree → Option Tree
+object_delete set t = with_pairs (dropped set) t
+
+-- an array of an object's keys
+abbrev pub object_keys : Tree → Option Tree
+object_keys (object ps) = Some (array (trees_of (map text (keys ps))))
+object_keys _ = None
+
+-- an object's pairs, in the order of their keys
+abbrev pub object_each : Tree → Option (List (List ℕ × Tree))
+object_each (object ps) = Some (members ps)
+object_each _ = None
