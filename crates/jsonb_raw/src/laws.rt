@@ -61,9 +61,13 @@ pub fn distinct_elements()
 /// Two lists overlap exactly where their intersection is not empty.
 pub fn overlap()
     ensures { OverlapIsShared }
+{}
+
 /// At the place of each leaf's key path stands the leaf, also where arrays are ignored.
 pub fn leaves_are_in_place()
     ensures { LeavesAreInPlace }
+{}
+
 /// A document has all of no texts, and none of no texts.
 pub fn all_of_no_texts_and_any_of_no_texts()
     ensures { AllOfNoneAndAnyOfNone }

@@ -7,8 +7,6 @@ ghost use Rattle.jsonb_keypath.specs.KeyPathViews.{key_paths_view};
 ghost use Rattle.jsonb_raw.specs.Documents.{raw_bytes, MakesOption};
 ghost use Rattle.jsonb_raw.specs.Places.{tree_at_steps};
 
-mod operators;
-
 use super::*;
 use jsonb_doc::{ArrayBuilder, Error};
 use jsonb_keypath::{KeyPath, KeyPaths, parse_key_paths};
@@ -17,6 +15,7 @@ use std::borrow::CowStr;
 use std::test::Fail;
 
 mod leaves;
+mod operators;
 
 // [false, 10, {"k":"v"}]
 const MIXED: &[u8] =
