@@ -25,3 +25,4 @@ pub mod InStep
 pub mod KeysCounted
 pub mod SetKept
 pub mod SetLawProofs
+mod SetRows
