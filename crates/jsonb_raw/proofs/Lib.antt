@@ -38,3 +38,4 @@ pub mod MetLemmas
 pub mod PositionLemmas
 pub mod Held
 pub mod ObjectLemmas
+mod SetRows

@@ -124,5 +124,8 @@ module _ (form : Form) (kind : Kept) (m : KeyCounts) (other : List Tree) (parts 
   pub KeptLeft-refused : (e : Error) → WantsRoom form (array (trees_of (h.held ++ kept_one kind other (h.before, first)))) e → WantsRoom form (array (trees_of whole)) e
   KeptLeft-refused e (inl memory) = inl memory
   KeptLeft-refused e (inr (is, large)) =
-      inr (is, subst (λ (ts : List Tree). IsTooLarge form (array (trees_of ts))) joined_next
-        (array_too_large-more form (h.held ++ kept_one kind other (h.before, first)) (kept_behind kind other (first ∷ h.before) rest) large))
+      inr (
+        is,
+        subst (λ (ts : List Tree). IsTooLarge form (array (trees_of ts))) joined_next
+            (array_too_large-more form (h.held ++ kept_one kind other (h.before, first)) (kept_behind kind other (first ∷ h.before) rest) large),
+      )

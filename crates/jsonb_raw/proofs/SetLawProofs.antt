@@ -88,7 +88,7 @@ module _ (test : Occurrence → Bool) (limit : Tree → ℕ)
       let more : count_of t (kept_behind test (x ∷ before) ts) + min (cond (is_equal x t) 1 0 + count_of t before) (limit t) ≡ min (cond (is_equal x t) 1 0 + count_of t before + count_of t ts) (limit t) = rw (← count-cons t x before) rest in
       ap (λ n. n + min (count_of t before) (limit t)) (front (test (before, x)))
       ∙ step (is_equal x t) (test (before, x)) (count_of t before) (count_of t ts) (count_of t (kept_behind test (x ∷ before) ts)) (limit t)
-          (λ e. told before x ∙ ap₂ nat_lt (same_counts x t before e) (same x t e)) more
+      (λ e. told before x ∙ ap₂ nat_lt (same_counts x t before e) (same x t e)) more
       ∙ ap (λ n. min (count_of t before + n) (limit t)) (sym (count-cons t x ts))
     where
       others : List Occurrence
@@ -177,12 +177,12 @@ value_overlaps (x ∷ ts) other t h k = by (is_equal x t) refl (λ h'. value_ove
 
 pub overlap_is_shared : OverlapIsShared
 overlap_is_shared ts other = (
-    λ h none. let v = overlap_value ts other h in
-    let c : count_of v.value (shared ts other) ≡ min (count_of v.value ts) (count_of v.value other) = shared_counts ts other v.value in
-    let z : count_of v.value (shared ts other) ≡ 0 = ap (count_of v.value) none in
-    omega (arith, c, z, v.first, v.second),
-    λ some. by (shared ts other) (λ t. shared_counts ts other t) some,
-  )
+  λ h none. let v = overlap_value ts other h in
+      let c : count_of v.value (shared ts other) ≡ min (count_of v.value ts) (count_of v.value other) = shared_counts ts other v.value in
+      let z : count_of v.value (shared ts other) ≡ 0 = ap (count_of v.value) none in
+      omega (arith, c, z, v.first, v.second),
+  λ some. by (shared ts other) (λ t. shared_counts ts other t) some,
+)
   where
     by : (xs : List Tree) → ((t : Tree) → count_of t xs ≡ min (count_of t ts) (count_of t other)) → xs ≢ [] → overlap ts other ≡ true
     by [] counts some = absurd (some refl)

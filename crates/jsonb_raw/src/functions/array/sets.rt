@@ -260,11 +260,7 @@ impl RawJsonb<'_> {
     ///
     /// `InvalidJsonb` and `UnsupportedNumber` come only where the bytes of one don't decode, `TooLarge` only
     /// where the array passes the limits, and `OutOfMemory` where memory is refused.
-    pub fn array_except(
-        &self,
-        alloc: Global,
-        other: &RawJsonb<'_>,
-    ) -> Result<OwnedJsonb, Error>
+    pub fn array_except(&self, alloc: Global, other: &RawJsonb<'_>) -> Result<OwnedJsonb, Error>
         ensures unshared { (form other_form : Form) (t u : Tree) → Decodes form (raw_bytes self.now) t
             → Decodes other_form (raw_bytes other.now) u
             → Makes form (array (trees_of (unshared (members t) (members u)))) result }

@@ -1,0 +1,49 @@
+-- Arrays as sets, computed on `[1,1,2,1.0]` and `[1]`.
+use Rattle.std.specs.Prelude.{◌≡◌, ℕ, List, [], ◌∷◌, true, false, pos, refl}
+use Rattle.jsonb_doc.specs.Number.{number_from, uint64, decimal64}
+use Rattle.jsonb_doc.specs.Extension.{date}
+use Rattle.jsonb_doc.specs.Tree.{Tree, number, extension, array, trees_of}
+use Rattle.jsonb_raw.specs.Sets.{members, distinct, shared, unshared, overlap}
+
+abbrev one : Tree
+one = number (number_from uint64 (pos 1) 0)
+
+abbrev two : Tree
+two = number (number_from uint64 (pos 2) 0)
+
+-- 1.0, which equals 1
+abbrev decimal_one : Tree
+decimal_one = number (number_from decimal64 (pos 10) 1)
+
+abbrev repeated : Tree
+repeated = array (trees_of (one ∷ one ∷ two ∷ decimal_one ∷ []))
+
+abbrev ones : Tree
+ones = array (trees_of (one ∷ []))
+
+abbrev day : Tree
+day = extension (date (pos 1))
+
+dropped_once : unshared (members repeated) (members ones) ≡ one ∷ two ∷ decimal_one ∷ []
+dropped_once = refl
+
+kept_once : shared (members repeated) (members ones) ≡ one ∷ []
+kept_once = refl
+
+one_of_each : distinct (members repeated) ≡ one ∷ two ∷ []
+one_of_each = refl
+
+nothing_dropped : unshared (members one) (members ones) ≡ []
+nothing_dropped = refl
+
+overlaps_two : overlap (members repeated) (members two) ≡ true
+overlaps_two = refl
+
+day_alone : shared (members day) (members day) ≡ day ∷ []
+day_alone = refl
+
+days_overlap : overlap (members day) (members day) ≡ true
+days_overlap = refl
+
+two_not_there : overlap (members ones) (members two) ≡ false
+two_not_there = refl

@@ -1,0 +1,262 @@
+//! Arrays as sets: the worked rows, documents that are no arrays, and elements that are equal by value.
+
+use crate::{OwnedJsonb, RawJsonb};
+use jsonb_doc::Error;
+use std::alloc::Global;
+use std::test::Fail;
+
+// [10,20,30]
+const TENS: &[u8] =
+    b"\x80\x00\x00\x03\x20\x00\x00\x02\x20\x00\x00\x02\x20\x00\x00\x02\x50\x0a\x50\x14\x50\x1e";
+
+// ["a",1]
+const TEXT_AND_ONE: &[u8] = b"\x80\x00\x00\x02\x10\x00\x00\x01\x20\x00\x00\x02\x61\x50\x01";
+
+// [1]
+const ONES: &[u8] = b"\x80\x00\x00\x01\x20\x00\x00\x02\x50\x01";
+
+// [1,1,2,1.0]
+const REPEATED: &[u8] =
+    b"\x80\x00\x00\x04\x20\x00\x00\x02\x20\x00\x00\x02\x20\x00\x00\x02\x20\x00\x00\x0a\x50\x01\x50\x01\x50\x02\x70\x00\x00\x00\x00\x00\x00\x00\x0a\x01";
+
+// [[1]]
+const ARRAY_IN_ARRAY: &[u8] =
+    b"\x80\x00\x00\x01\x50\x00\x00\x0a\x80\x00\x00\x01\x20\x00\x00\x02\x50\x01";
+
+// date 1
+const DATE: &[u8] = b"\x20\x00\x00\x00\x60\x00\x00\x05\x10\x00\x00\x00\x01";
+
+// {"asd":"adf"}
+const OBJECT: &[u8] = b"\x40\x00\x00\x01\x10\x00\x00\x03\x10\x00\x00\x03\x61\x73\x64\x61\x64\x66";
+
+// 1
+const ONE: &[u8] = b"\x20\x00\x00\x00\x20\x00\x00\x02\x50\x01";
+
+// 2
+const TWO: &[u8] = b"\x20\x00\x00\x00\x20\x00\x00\x02\x50\x02";
+
+// []
+const EMPTY: &[u8] = b"\x80\x00\x00\x00";
+
+// [[1],{"k":1}]
+const NESTED: &[u8] =
+    b"\x80\x00\x00\x02\x50\x00\x00\x0a\x50\x00\x00\x0f\x80\x00\x00\x01\x20\x00\x00\x02\x50\x01\x40\x00\x00\x01\x10\x00\x00\x01\x20\x00\x00\x02\x6b\x50\x01";
+
+// [[1.0],{"k":1.0}]
+const NESTED_DECIMALS: &[u8] =
+    b"\x80\x00\x00\x02\x50\x00\x00\x12\x50\x00\x00\x17\x80\x00\x00\x01\x20\x00\x00\x0a\x70\x00\x00\x00\x00\x00\x00\x00\x0a\x01\x40\x00\x00\x01\x10\x00\x00\x01\x20\x00\x00\x0a\x6b\x70\x00\x00\x00\x00\x00\x00\x00\x0a\x01";
+
+// [1.5], whose element is a float
+const FLOATS: &[u8] = b"\x80\x00\x00\x01\x20\x00\x00\x09\x60\x3f\xf8\x00\x00\x00\x00\x00\x00";
+
+type Made = Result<OwnedJsonb, Error>;
+
+fn distinct(alloc: Global, bytes: &[u8]) -> Made {
+    RawJsonb::new(bytes).array_distinct(alloc)
+}
+
+fn intersection(alloc: Global, bytes: &[u8], other: &[u8]) -> Made {
+    RawJsonb::new(bytes).array_intersection(alloc, &RawJsonb::new(other))
+}
+
+fn except(alloc: Global, bytes: &[u8], other: &[u8]) -> Made {
+    RawJsonb::new(bytes).array_except(alloc, &RawJsonb::new(other))
+}
+
+fn overlap(bytes: &[u8], other: &[u8]) -> Result<bool, Error> {
+    RawJsonb::new(bytes).array_overlap(&RawJsonb::new(other))
+}
+
+#[test]
+fn the_first_of_equal_elements_stays(rt: HostRuntime) -> Result<(), Fail> {
+    let one_and_two =
+        b"\x80\x00\x00\x02\x20\x00\x00\x02\x20\x00\x00\x02\x50\x01\x50\x02".as_slice();
+    let object =
+        b"\x80\x00\x00\x01\x50\x00\x00\x12\x40\x00\x00\x01\x10\x00\x00\x03\x10\x00\x00\x03\x61\x73\x64\x61\x64\x66".as_slice();
+    let date = b"\x80\x00\x00\x01\x60\x00\x00\x05\x10\x00\x00\x00\x01".as_slice();
+    for (bytes, wanted) in [
+        (REPEATED, one_and_two),
+        (TENS, TENS),
+        (EMPTY, EMPTY),
+        (ONE, ONES),
+        (OBJECT, object),
+        (DATE, date),
+        (NESTED, NESTED),
+    ] {
+        let made = distinct(rt.alloc(), bytes)?;
+        assert_eq!(rt; made.as_raw().as_bytes(), wanted);
+    }
+    // [[1],[1.0],[1]]
+    let alike =
+        b"\x80\x00\x00\x03\x50\x00\x00\x0a\x50\x00\x00\x12\x50\x00\x00\x0a\x80\x00\x00\x01\x20\x00\x00\x02\x50\x01\x80\x00\x00\x01\x20\x00\x00\x0a\x70\x00\x00\x00\x00\x00\x00\x00\x0a\x01\x80\x00\x00\x01\x20\x00\x00\x02\x50\x01";
+    let made = distinct(rt.alloc(), alike)?;
+    assert_eq!(rt; made.as_raw().as_bytes(), ARRAY_IN_ARRAY);
+    Ok(())
+}
+
+#[test]
+fn a_split_keeps_and_drops_by_counts(rt: HostRuntime) -> Result<(), Fail> {
+    // [1,2,1.0]
+    let dropped_once =
+        b"\x80\x00\x00\x03\x20\x00\x00\x02\x20\x00\x00\x02\x20\x00\x00\x0a\x50\x01\x50\x02\x70\x00\x00\x00\x00\x00\x00\x00\x0a\x01".as_slice();
+    // [1,1]
+    let two_ones = b"\x80\x00\x00\x02\x20\x00\x00\x02\x20\x00\x00\x02\x50\x01\x50\x01".as_slice();
+    // [2,1.0]
+    let dropped_twice =
+        b"\x80\x00\x00\x02\x20\x00\x00\x02\x20\x00\x00\x0a\x50\x02\x70\x00\x00\x00\x00\x00\x00\x00\x0a\x01".as_slice();
+    for (bytes, other, kept, dropped) in [
+        (REPEATED, ONES, ONES, dropped_once),
+        (REPEATED, two_ones, two_ones, dropped_twice),
+        (REPEATED, REPEATED, REPEATED, EMPTY),
+        (REPEATED, TENS, EMPTY, REPEATED),
+        (REPEATED, EMPTY, EMPTY, REPEATED),
+        (EMPTY, REPEATED, EMPTY, EMPTY),
+        (two_ones, REPEATED, two_ones, EMPTY),
+        (NESTED, NESTED_DECIMALS, NESTED, EMPTY),
+        (NESTED_DECIMALS, NESTED, NESTED_DECIMALS, EMPTY),
+        (ARRAY_IN_ARRAY, ONES, EMPTY, ARRAY_IN_ARRAY),
+    ] {
+        let intersection = intersection(rt.alloc(), bytes, other)?;
+        assert_eq!(rt; intersection.as_raw().as_bytes(), kept);
+        let except = except(rt.alloc(), bytes, other)?;
+        assert_eq!(rt; except.as_raw().as_bytes(), dropped);
+    }
+    Ok(())
+}
+
+#[test]
+fn what_is_no_array_counts_as_one_element(rt: HostRuntime) -> Result<(), Fail> {
+    let object =
+        b"\x80\x00\x00\x01\x50\x00\x00\x12\x40\x00\x00\x01\x10\x00\x00\x03\x10\x00\x00\x03\x61\x73\x64\x61\x64\x66".as_slice();
+    let date = b"\x80\x00\x00\x01\x60\x00\x00\x05\x10\x00\x00\x00\x01".as_slice();
+    for (bytes, other, kept, dropped) in [
+        (ONE, ONES, ONES, EMPTY),
+        (ONE, ONE, ONES, EMPTY),
+        (ONE, REPEATED, ONES, EMPTY),
+        (
+            TWO,
+            ONES,
+            EMPTY,
+            b"\x80\x00\x00\x01\x20\x00\x00\x02\x50\x02".as_slice(),
+        ),
+        (ONES, ONE, ONES, EMPTY),
+        (TENS, ONE, EMPTY, TENS),
+        (OBJECT, OBJECT, object, EMPTY),
+        (object, OBJECT, object, EMPTY),
+        (DATE, DATE, date, EMPTY),
+        (DATE, ONE, EMPTY, date),
+    ] {
+        let intersection = intersection(rt.alloc(), bytes, other)?;
+        assert_eq!(rt; intersection.as_raw().as_bytes(), kept);
+        let except = except(rt.alloc(), bytes, other)?;
+        assert_eq!(rt; except.as_raw().as_bytes(), dropped);
+    }
+    Ok(())
+}
+
+#[test]
+fn arrays_overlap_in_an_equal_element(rt: HostRuntime) {
+    // [1.0]
+    let decimal =
+        b"\x80\x00\x00\x01\x20\x00\x00\x0a\x70\x00\x00\x00\x00\x00\x00\x00\x0a\x01".as_slice();
+    for (bytes, other) in [
+        (REPEATED, TWO),
+        (TWO, REPEATED),
+        (ONES, decimal),
+        (TEXT_AND_ONE, ONES),
+        (ARRAY_IN_ARRAY, NESTED_DECIMALS),
+        (NESTED, NESTED_DECIMALS),
+        (DATE, DATE),
+        (OBJECT, OBJECT),
+        // null and [null], true and [false,true], "a" and ["a",1]
+        (
+            b"\x20\x00\x00\x00\x00\x00\x00\x00".as_slice(),
+            b"\x80\x00\x00\x01\x00\x00\x00\x00".as_slice(),
+        ),
+        (
+            b"\x20\x00\x00\x00\x40\x00\x00\x00".as_slice(),
+            b"\x80\x00\x00\x02\x30\x00\x00\x00\x40\x00\x00\x00".as_slice(),
+        ),
+        (
+            b"\x20\x00\x00\x00\x10\x00\x00\x01\x61".as_slice(),
+            TEXT_AND_ONE,
+        ),
+    ] {
+        assert_eq!(rt; overlap(bytes, other), Ok(true), "{bytes:?} with {other:?}");
+    }
+}
+
+#[test]
+fn arrays_without_equal_elements_do_not_overlap(rt: HostRuntime) {
+    for (bytes, other) in [
+        (TENS, ONES),
+        (EMPTY, REPEATED),
+        (REPEATED, EMPTY),
+        (ARRAY_IN_ARRAY, ONES),
+        (DATE, ONE),
+        // a timestamp, and another day
+        (
+            DATE,
+            b"\x20\x00\x00\x00\x60\x00\x00\x09\x20\x00\x00\x00\x00\x00\x00\x00\x01".as_slice(),
+        ),
+        (
+            DATE,
+            b"\x20\x00\x00\x00\x60\x00\x00\x05\x10\x00\x00\x00\x02".as_slice(),
+        ),
+        // [[1,1]] and [[1]]
+        (
+            b"\x80\x00\x00\x01\x50\x00\x00\x10\x80\x00\x00\x02\x20\x00\x00\x02\x20\x00\x00\x02\x50\x01\x50\x01".as_slice(),
+            ARRAY_IN_ARRAY,
+        ),
+        (
+            ARRAY_IN_ARRAY,
+            b"\x80\x00\x00\x01\x50\x00\x00\x10\x80\x00\x00\x02\x20\x00\x00\x02\x20\x00\x00\x02\x50\x01\x50\x01".as_slice(),
+        ),
+        // {"asd":"adf"} with {"asd":"adg"}, {"ase":"adf"}, {}
+        (
+            OBJECT,
+            b"\x40\x00\x00\x01\x10\x00\x00\x03\x10\x00\x00\x03\x61\x73\x64\x61\x64\x67".as_slice(),
+        ),
+        (
+            OBJECT,
+            b"\x40\x00\x00\x01\x10\x00\x00\x03\x10\x00\x00\x03\x61\x73\x65\x61\x64\x66".as_slice(),
+        ),
+        (OBJECT, b"\x40\x00\x00\x00".as_slice()),
+        // true and false, null and false, "a" and "b"
+        (
+            b"\x20\x00\x00\x00\x40\x00\x00\x00".as_slice(),
+            b"\x20\x00\x00\x00\x30\x00\x00\x00".as_slice(),
+        ),
+        (
+            b"\x20\x00\x00\x00\x00\x00\x00\x00".as_slice(),
+            b"\x20\x00\x00\x00\x30\x00\x00\x00".as_slice(),
+        ),
+        (
+            b"\x20\x00\x00\x00\x10\x00\x00\x01\x61".as_slice(),
+            b"\x20\x00\x00\x00\x10\x00\x00\x01\x62".as_slice(),
+        ),
+    ] {
+        assert_eq!(rt;
+            overlap(bytes, other),
+            Ok(false),
+            "{bytes:?} with {other:?}"
+        );
+    }
+}
+
+#[test]
+fn sets_refuse_what_does_not_decode(rt: HostRuntime) {
+    let damaged = b"\x80\x00\x00".as_slice();
+    for (bytes, error) in [
+        (damaged, Error::InvalidJsonb),
+        (FLOATS, Error::UnsupportedNumber),
+    ] {
+        assert_eq!(rt; distinct(rt.alloc(), bytes).err(), Some(error));
+        assert_eq!(rt; intersection(rt.alloc(), bytes, ONES).err(), Some(error));
+        assert_eq!(rt; intersection(rt.alloc(), ONES, bytes).err(), Some(error));
+        assert_eq!(rt; except(rt.alloc(), bytes, ONES).err(), Some(error));
+        assert_eq!(rt; except(rt.alloc(), ONES, bytes).err(), Some(error));
+        assert_eq!(rt; overlap(bytes, ONES), Err(error));
+        assert_eq!(rt; overlap(ONES, bytes), Err(error));
+    }
+}
