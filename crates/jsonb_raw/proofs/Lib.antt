@@ -26,3 +26,5 @@ pub mod Stripped
 pub mod Inserted
 pub mod Repeats
 pub mod InStep
+pub mod PairStepLemmas
+pub mod MatchLemmas
