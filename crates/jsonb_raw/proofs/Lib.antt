@@ -28,3 +28,4 @@ pub mod Repeats
 pub mod InStep
 pub mod PairStepLemmas
 pub mod MatchLemmas
+pub mod ContainLemmas
