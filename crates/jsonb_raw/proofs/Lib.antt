@@ -39,3 +39,6 @@ pub mod PositionLemmas
 pub mod Held
 pub mod ObjectLemmas
 mod SetRows
+pub mod PairStepLemmas
+pub mod MatchLemmas
+pub mod ContainLemmas

@@ -4,13 +4,7 @@ use Rattle.std.specs.Ordering.{nat_cmp, match_ordering}
 use Rattle.std.specs.Cmp.Lexicographic.{slice_cmp}
 use Rattle.jsonb_doc.specs.Tree.{Pairs, no_pairs, pair}
 
--- the pairs whose keys are below this one in the order of bytes
-abbrev pub pairs_below : List ℕ → Pairs → Pairs
-pairs_below key no_pairs = no_pairs
-pairs_below key (pair k t ps) =
-    match_ordering (slice_cmp nat_cmp k key) (pair k t (pairs_below key ps)) (pairs_below key ps) (pairs_below key ps)
-
--- the pairs whose keys are above
+-- the pairs whose keys are above this one in the order of bytes
 abbrev pub pairs_above : List ℕ → Pairs → Pairs
 pairs_above key no_pairs = no_pairs
 pairs_above key (pair k t ps) =

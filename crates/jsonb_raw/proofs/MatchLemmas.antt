@@ -1,0 +1,110 @@
+-- Which pairs match as two objects are walked in step, and which items match.
+use Rattle.std.proofs.Common.{◌≡◌, ℕ, Bool, true, false, ◌&&◌, ◌||◌, List, [], ◌∷◌, Option, Some, None, refl, sym, ap, ap₂, ◌∙◌, Ordering, Less, Equal, Greater}
+use Rattle.std.specs.Option.{option_map_or}
+use Rattle.std.specs.Ordering.{nat_cmp, is_eq, match_ordering}
+use Rattle.std.specs.Cmp.Lexicographic.{slice_cmp}
+use Rattle.std.specs.List.{list_any}
+use Rattle.std.specs.Str.{bytes_eq}
+use Rattle.std.proofs.lemmas.Cmp.{nat_list_cmp_total}
+use Rattle.std.specs.Borrow.{Bor}
+use Rattle.jsonb_doc.specs.declared.item.Item.{Item}
+use Rattle.jsonb_doc.specs.declared.item.Item.TheVariants as item
+use Rattle.jsonb_doc.specs.Payload.{Form}
+use Rattle.jsonb_doc.specs.Item.{Stands}
+use Rattle.jsonb_doc.specs.Answer.{SameOption}
+use Rattle.jsonb_doc.specs.Tree.{Tree, null, boolean, number, text, extension, array, object, Trees, Pairs, no_pairs, pair, keys, elements, members, value_under}
+use Rattle.jsonb_doc.specs.Equal.{is_equal}
+use Rattle.jsonb_doc.specs.Format.{IsBelowFirst}
+use Rattle.jsonb_doc.proofs.BuilderSteps.{AreRising}
+use Rattle.jsonb_raw.specs.PairSteps.{pairs_above}
+use Rattle.jsonb_raw.specs.Contains.{is_matched_by, each_pair_is_matched}
+use Rattle.jsonb_raw.proofs.PairStepLemmas.{test_of_order, below_further, same_below, no_value}
+
+is_equal_order : (o : Ordering) → is_eq o ≡ true → o ≡ Equal
+is_equal_order Less h = cc
+is_equal_order Equal h = refl
+is_equal_order Greater h = cc
+
+no_second : (b : Bool) → (b || false) ≡ b
+no_second true = refl
+no_second false = refl
+
+module _ (key : List ℕ) (m : Tree → Bool) where
+  abbrev passes : List ℕ × Tree → Bool
+  passes p = bytes_eq p.0 key && m p.1
+
+  -- where keys rise, the pair with the key is the one that is asked
+  pub any_by_value : (ps : Pairs) → AreRising (keys ps) → list_any (λ p. bytes_eq p.0 key && m p.1) (members ps) ≡ option_map_or m (value_under key ps) false
+  any_by_value no_pairs rising = refl
+  any_by_value (pair k t ps) rising = by (bytes_eq k key) refl (any_by_value ps rising.1)
+    where
+      by : (b : Bool) → bytes_eq k key ≡ b → list_any passes (members ps) ≡ option_map_or m (value_under key ps) false → list_any passes (members (pair k t ps)) ≡ option_map_or m (value_under key (pair k t ps)) false
+      by true e rest =
+          let same = is_equal_order (slice_cmp nat_cmp k key) (sym (test_of_order k key (slice_cmp nat_cmp k key) refl) ∙ e) in
+          let none = no_value key ps (same_below k key (keys ps) same rising.0) rising.1 in
+          rw e (ap (λ b. m t || b) (rest ∙ ap (λ o. option_map_or m o false) none) ∙ no_second (m t))
+      by false e rest = rw e rest
+
+  -- pairs with lower keys change nothing
+  pub any_above : (low : List ℕ) (ps : Pairs) → slice_cmp nat_cmp low key ≡ Less → list_any (λ p. bytes_eq p.0 key && m p.1) (members ps) ≡ list_any (λ p. bytes_eq p.0 key && m p.1) (members (pairs_above low ps))
+  any_above low no_pairs below = refl
+  any_above low (pair k t ps) below = by (slice_cmp nat_cmp k low) refl (any_above low ps below)
+    where
+      other : slice_cmp nat_cmp k key ≡ Less → list_any passes (members ps) ≡ list_any passes (members (pairs_above low ps)) → list_any passes (members (pair k t ps)) ≡ list_any passes (members (pairs_above low ps))
+      other less rest = rw (test_of_order k key Less less) rest
+
+      by : (o : Ordering) → slice_cmp nat_cmp k low ≡ o → list_any passes (members ps) ≡ list_any passes (members (pairs_above low ps)) → list_any passes (members (pair k t ps)) ≡ list_any passes (members (pairs_above low (pair k t ps)))
+      by Less e rest = rw e (other (nat_list_cmp_total.trans k low key e below) rest)
+      by Equal e rest = rw e (other (nat_list_cmp_total.congr k low key e ∙ below) rest)
+      by Greater e rest = rw e (ap (λ b. passes (k, t) || b) rest)
+
+-- what is above the first wanted key suffices for the wanted pairs behind it
+each_above : (low : List ℕ) (qs ps : Pairs) → IsBelowFirst low (keys qs) → AreRising (keys qs) → each_pair_is_matched qs (members ps) ≡ each_pair_is_matched qs (members (pairs_above low ps))
+each_above low no_pairs ps below rising = refl
+each_above low (pair k y qs) ps below rising =
+    ap₂ (λ a b. a && b) (any_above k (is_matched_by y) low ps below) (each_above low qs ps (below_further low k (keys qs) below rising.0) rising.1)
+
+module _ (key : List ℕ) (y : Tree) (qs ps : Pairs) (rising : AreRising (keys ps)) where
+  -- a key that isn't there
+  pub unmatched_key : value_under key ps ≡ None → each_pair_is_matched (pair key y qs) (members ps) ≡ false
+  unmatched_key none = rw (any_by_value key (is_matched_by y) ps rising, none) refl
+
+  -- a value that doesn't match
+  pub unmatched_value : (v : Tree) → value_under key ps ≡ Some v → is_matched_by y v ≡ false → each_pair_is_matched (pair key y qs) (members ps) ≡ false
+  unmatched_value v some differs = rw (any_by_value key (is_matched_by y) ps rising, some, differs) refl
+
+  -- a value that matches leaves the pairs above to the others
+  pub matched_value : (v : Tree) → value_under key ps ≡ Some v → is_matched_by y v ≡ true → AreRising (key ∷ keys qs) → each_pair_is_matched (pair key y qs) (members ps) ≡ each_pair_is_matched qs (members (pairs_above key ps))
+  matched_value v some matches wanted =
+      rw (any_by_value key (is_matched_by y) ps rising, some, matches) (each_above key qs ps wanted.0 wanted.1)
+
+-- ---- items
+
+-- what the search for a key answers
+pub no_value_found : (form : Form) (o : Option Tree) → SameOption (Stands form) None o → o ≡ None
+no_value_found form None h = refl
+no_value_found form (Some t) h = absurd h
+
+pub value_found : (form : Form) (x : Item) (o : Option Tree) → SameOption (Stands form) (Some x) o → (t : Tree) × (o ≡ Some t) × Stands form x t
+value_found form x None h = absurd h
+value_found form x (Some t) h = (t, refl, h)
+
+pub no_object : (x : Item) (b d : Bor (List ℕ)) → x ≡ item.Array b → x ≡ item.Object d → ⊥
+no_object x b d h k = cc
+
+-- items that are not two arrays nor two objects match where they are equal
+pub matches_if_equal : (form other_form : Form) (x y : Item) (t u : Tree) → Stands form x t → Stands other_form y u
+    → ((b d : Bor (List ℕ)) → x ≡ item.Array b → y ≡ item.Array d → ⊥)
+    → ((b d : Bor (List ℕ)) → x ≡ item.Object b → y ≡ item.Object d → ⊥)
+    → is_equal t u ≡ is_matched_by u t
+matches_if_equal form other_form x item.Null t u h k arrays objects = rw k refl
+matches_if_equal form other_form x (item.Boolean b) t u h k arrays objects = rw k refl
+matches_if_equal form other_form x (item.Number n) t u h k arrays objects = rw k refl
+matches_if_equal form other_form x (item.String s) t u h k arrays objects = rw k refl
+matches_if_equal form other_form x (item.Extension e) t u h k arrays objects = rw k refl
+matches_if_equal form other_form (item.Array b) (item.Array d) t u h k arrays objects = absurd (arrays b d refl refl)
+matches_if_equal form other_form (item.Object b) (item.Object d) t u h k arrays objects = absurd (objects b d refl refl)
+matches_if_equal form other_form (item.Object b) (item.Array d) t u h k arrays objects = rw (h.1, k.1) refl
+matches_if_equal form other_form (item.Array b) (item.Object d) t u h k arrays objects = rw (h.1, k.1) refl
+matches_if_equal form other_form x (item.Array d) t u h k arrays objects = rw (h, k.1) refl
+matches_if_equal form other_form x (item.Object d) t u h k arrays objects = rw (h, k.1) refl
