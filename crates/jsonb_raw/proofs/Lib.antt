@@ -23,3 +23,5 @@ pub mod Counted
 pub mod ScalarLemmas
 pub mod Held
 pub mod ObjectLemmas
+pub mod Listed
+pub mod Taken

@@ -13,3 +13,5 @@ pub mod Scalars
 pub mod Casts
 pub mod Making
 pub mod Objects
+pub mod Arrays
+pub mod Children

@@ -1,5 +1,6 @@
 //! The calls on documents.
 
+mod array;
 mod cast;
 mod object;
 mod operator;
