@@ -25,3 +25,4 @@ pub mod Held
 pub mod ObjectLemmas
 pub mod Listed
 pub mod Taken
+pub mod ArrayLemmas
