@@ -42,3 +42,6 @@ mod SetRows
 pub mod PairStepLemmas
 pub mod MatchLemmas
 pub mod ContainLemmas
+pub mod Listed
+pub mod Taken
+pub mod ArrayLemmas

@@ -29,3 +29,5 @@ pub mod DeletesLaws
 pub mod MetChildren
 pub mod Making
 pub mod Objects
+pub mod Arrays
+pub mod Children

@@ -1,8 +1,11 @@
 -- What the calls answer that make a document or refuse the tree, or that make several documents.
-use Rattle.std.specs.Prelude.{◌≡◌, ◌⊎◌, List, Option, Some, None, Result, Err, MatchResult}
-use Rattle.std.specs.List.{Any}
+use Rattle.std.specs.Prelude.{◌≡◌, ◌⊎◌, ℕ, List, Option, Some, None, Result, Ok, Err, MatchResult, IsSomeAnd, Vec, String, string_bytes}
+use Rattle.std.specs.List.{Any, AllZip}
+use Rattle.std.specs.Map.{values_of}
+use Rattle.std.specs.declared.alloc.Global.{Global}
 use Rattle.jsonb_doc.specs.Tree.{Tree}
 use Rattle.jsonb_doc.specs.Payload.{Form}
+use Rattle.jsonb_doc.specs.Format.{Decodes}
 use Rattle.jsonb_doc.specs.Limits.{IsTooLarge}
 use Rattle.jsonb_doc.specs.declared.error.Error.{Error}
 use Rattle.jsonb_doc.specs.declared.error.Error.TheVariants.{OutOfMemory, TooLarge}
@@ -21,3 +24,17 @@ BuildsEach form ts r P = MatchResult r P (λ e. (e ≡ OutOfMemory) ⊎ ((e ≡ 
 -- what a call that makes documents or refuses may refuse on any bytes
 abbrev pub IsMakingErrorOr : Error → Error → Type 0
 IsMakingErrorOr refusal e = IsMakingError e ⊎ (e ≡ refusal)
+
+-- documents of the trees that there are, in order, or none where there are none
+abbrev pub MakesEach : Form → Option (List Tree) → Result (Option (Vec OwnedJsonb Global)) Error → Type 0
+MakesEach form (Some ts) r = BuildsEach form ts r (λ found. IsSomeAnd found (λ made. AllZip (Decodes form) made.items ts))
+MakesEach form None r = r ≡ Ok None
+
+-- the key, and a document of the value
+abbrev pub IsPairOf : Form → String Global × OwnedJsonb → List ℕ × Tree → Type 0
+IsPairOf form made p = (string_bytes made.0 ≡ p.0) × Decodes form made.1 p.1
+
+-- the keys with documents of their values, in order, or none where there are no pairs
+abbrev pub MakesPairs : Form → Option (List (List ℕ × Tree)) → Result (Option (Vec (String Global × OwnedJsonb) Global)) Error → Type 0
+MakesPairs form (Some ps) r = BuildsEach form (values_of ps) r (λ found. IsSomeAnd found (λ made. AllZip (IsPairOf form) made.items ps))
+MakesPairs form None r = r ≡ Ok None

@@ -2,19 +2,25 @@
 //!
 //! On bytes that don't decode each call answers `InvalidJsonb` or `UnsupportedNumber`, or as a document that does.
 
-ghost use Rattle.std.specs.Prelude.{IfErr};
+ghost use Rattle.std.specs.Prelude.{◌≡◌, ◌⊎◌, ◌||◌, false, not, IsTrue, IfErr, IsErrOf, IsOkAnd};
 ghost use Rattle.jsonb_doc.specs.Tree.{Tree};
 ghost use Rattle.jsonb_doc.specs.Payload.{Form};
 ghost use Rattle.jsonb_doc.specs.Format.{Decodes};
-ghost use Rattle.jsonb_raw.specs.Documents.{raw_bytes};
-ghost use Rattle.jsonb_raw.specs.Making.{MakesOr, IsMakingErrorOr};
-ghost use Rattle.jsonb_raw.specs.Objects.{object_pick, object_delete};
+ghost use Rattle.jsonb_doc.specs.Item.{Stands};
+ghost use Rattle.jsonb_doc.specs.Answer.{Builds, HasNoRoom};
+ghost use Rattle.jsonb_doc.specs.View.{IsDecodingError};
+ghost use Rattle.jsonb_raw.specs.Documents.{raw_bytes, MakesOption, IsMakingError};
+ghost use Rattle.jsonb_raw.specs.Making.{MakesOr, MakesPairs, IsPairOf, IsMakingErrorOr};
+ghost use Rattle.jsonb_raw.specs.Objects.{object_pick, object_delete, object_keys, object_each, object_insert, has_name};
 
-use crate::functions::push::push_pair;
+use crate::functions::push::{push_pair, push_pairs_at};
 use crate::owned::OwnedJsonb;
 use crate::raw::RawJsonb;
-use jsonb_doc::{Error, ObjectBuilder, pairs};
+use jsonb_doc::{
+    ArrayBuilder, Error, Item, ObjectBuilder, encode_item, field_spot, keys, pairs, root_spot,
+};
 use std::alloc::Global;
+use std::cmp::Ordering;
 use std::collections::BTreeSet;
 
 impl RawJsonb<'_> {
@@ -63,4 +69,111 @@ impl RawJsonb<'_> {
         }
         Ok(OwnedJsonb::new(builder.build()?))
     }
+
+    /// The keys of the object, in order, as an array, and `None` where the root is no object.
+    ///
+    /// `InvalidJsonb` and `UnsupportedNumber` come only where the bytes don't decode, `TooLarge` only where the answer
+    /// passes the limits of a document, and `OutOfMemory` where memory is refused.
+    pub fn object_keys(&self, alloc: Global) -> Result<Option<OwnedJsonb>, Error>
+        ensures keys { (form : Form) (t : Tree) → Decodes form (raw_bytes self.now) t
+            → MakesOption form (object_keys t) result }
+        ensures errors { IfErr result IsMakingError }
+    {
+        let Some(keys) = keys(self.as_bytes())? else {
+            return Ok(None);
+        };
+        let mut builder = ArrayBuilder::new(alloc);
+        for key in keys {
+            builder.push_item(&Item::String(key?))?;
+        }
+        Ok(Some(OwnedJsonb::new(builder.build()?)))
+    }
+
+    /// The keys of the object, in order, each with its value as a document of its own, and `None` where the root is no
+    /// object.
+    ///
+    /// `InvalidJsonb` and `UnsupportedNumber` come only where the bytes don't decode, `TooLarge` only where a value is
+    /// too large for a document of its own, and `OutOfMemory` where memory is refused.
+    pub fn object_each(&self, alloc: Global) -> Result<Option<Vec<(String, OwnedJsonb)>>, Error>
+        ensures pairs { (form : Form) (t : Tree) → Decodes form (raw_bytes self.now) t
+            → MakesPairs form (object_each t) result }
+        ensures errors { IfErr result IsMakingError }
+    {
+        let Some(pairs) = pairs(self.as_bytes())? else {
+            return Ok(None);
+        };
+        let mut each = Vec::new(alloc);
+        for pair in pairs {
+            let (key, value) = pair?;
+            each.push(owned_pair(alloc, key, &value)?)?;
+        }
+        Ok(Some(each))
+    }
+
+    /// The object with one pair more: this key with the root of the other document. Where the key is there, its value is
+    /// replaced if `update_flag` is set.
+    ///
+    /// `InvalidObject` where the root is no object, and `ObjectDuplicateKey` where the key is there and the flag isn't
+    /// set. `InvalidJsonb` and `UnsupportedNumber` come only where the bytes of either document don't decode, `TooLarge`
+    /// only where the answer passes the limits of a document, and `OutOfMemory` where memory is refused.
+    pub fn object_insert(
+        &self,
+        alloc: Global,
+        new_key: &str,
+        new_val: &RawJsonb<'_>,
+        update_flag: bool,
+    ) -> Result<OwnedJsonb, Error>
+        ensures inserted { (form : Form) (t value : Tree) → Decodes form (raw_bytes self.now) t
+            → Decodes form (raw_bytes new_val.now) value → IsTrue (update_flag || not (has_name new_key.now t))
+            → MakesOr Error.InvalidObject form (object_insert new_key.now value t) result }
+        ensures duplicate { (form : Form) (t : Tree) → Decodes form (raw_bytes self.now) t
+            → IsTrue (has_name new_key.now t) → update_flag ≡ false → IsErrOf result Error.ObjectDuplicateKey }
+        ensures errors { IfErr result (λ e. IsMakingErrorOr Error.InvalidObject e ⊎ (e ≡ Error.ObjectDuplicateKey)) }
+    {
+        let bytes = self.as_bytes();
+        if !update_flag && has_key(bytes, new_key)? {
+            return Err(Error::ObjectDuplicateKey);
+        }
+        object_with_pair(alloc, bytes, new_key, new_val.as_bytes())
+    }
+}
+
+/// A key, and the value as a document of its own.
+fn owned_pair(alloc: Global, key: &str, value: &Item<'_>) -> Result<(String, OwnedJsonb), Error>
+    ensures pair { (form : Form) (t : Tree) → Stands form value.now t
+        → Builds form t result (λ made. IsPairOf form made (key.now, t)) }
+    ensures errors { IfErr result HasNoRoom }
+{
+    let document = OwnedJsonb::new(encode_item(alloc, value)?);
+    Ok((String::from_str(alloc, key)?, document))
+}
+
+/// Whether the root is an object with this key.
+fn has_key(bytes: &[u8], key: &str) -> Result<bool, Error>
+    ensures found { (form : Form) (t : Tree) → Decodes form bytes.now t → IsOkAnd result (λ b. b ≡ has_name key.now t) }
+    ensures errors { IfErr result IsDecodingError }
+{
+    let root = root_spot(bytes)?;
+    Ok(field_spot(bytes, root, key)?.is_some())
+}
+
+/// The object with one pair more, or with another value under the key.
+fn object_with_pair(
+    alloc: Global,
+    bytes: &[u8],
+    new_key: &str,
+    new_val: &[u8],
+) -> Result<OwnedJsonb, Error>
+    ensures inserted { (form : Form) (t value : Tree) → Decodes form bytes.now t → Decodes form new_val.now value
+        → MakesOr Error.InvalidObject form (object_insert new_key.now value t) result }
+    ensures errors { IfErr result (λ e. IsMakingErrorOr Error.InvalidObject e ⊎ (e ≡ Error.ObjectDuplicateKey)) }
+{
+    let Some(pairs) = pairs(bytes)? else {
+        return Err(Error::InvalidObject);
+    };
+    let mut builder = ObjectBuilder::new(alloc);
+    push_pairs_at(&mut builder, pairs, new_key, Ordering::Less)?;
+    builder.push_document(new_key, new_val)?;
+    push_pairs_at(&mut builder, pairs, new_key, Ordering::Greater)?;
+    Ok(OwnedJsonb::new(builder.build()?))
 }

@@ -15,6 +15,8 @@ ghost use Rattle.jsonb_raw.specs.Documents.{raw_bytes, MakesOption, IsReadingErr
 ghost use Rattle.jsonb_raw.specs.Places.{children, child_met, index_position, tree_at_steps};
 ghost use Rattle.jsonb_raw.specs.Iterators.{TellsWhatIsLeft};
 
+mod child;
+
 use crate::owned::OwnedJsonb;
 use crate::raw::RawJsonb;
 use jsonb_doc::{Error, Item, Spot, child_spots, field_spot, root_spot, spot_item};

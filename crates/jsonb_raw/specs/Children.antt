@@ -1,0 +1,44 @@
+-- What the calls on the children of a document answer.
+use Rattle.std.specs.Prelude.{ℕ, ℤ, Bool, false, not, List, map, filter, length, slice_get, Option, Some, None, option_map, option_and_then, unwrap_or, if◌then◌else◌}
+use Rattle.std.specs.List.{find, remove}
+use Rattle.std.specs.Option.{option_or}
+use Rattle.std.specs.Char.{to_ascii_lowercase}
+use Rattle.std.specs.Str.{bytes_eq}
+use Rattle.jsonb_doc.specs.Tree.{Tree, text, array, object, elements, members, field_of, trees_of, pairs_of}
+use Rattle.jsonb_raw.specs.Places.{index_position}
+use Rattle.jsonb_raw.specs.Arrays.{array_values}
+
+-- the element at a position of an array
+abbrev pub element_at : ℕ → Tree → Option Tree
+element_at i t = option_and_then (λ ts. slice_get ts i) (array_values t)
+
+-- the texts are equal where the case of ASCII letters doesn't count
+abbrev pub same_ignoring_case : List ℕ → List ℕ → Bool
+same_ignoring_case a b = bytes_eq (map to_ascii_lowercase a) (map to_ascii_lowercase b)
+
+-- the value of an object's first pair whose key is the name in some case of ASCII letters
+abbrev pub field_ignoring_case : List ℕ → Tree → Option Tree
+field_ignoring_case name (object ps) = option_map (λ p. p.1) (find (λ p. same_ignoring_case p.0 name) (members ps))
+field_ignoring_case name _ = None
+
+-- the value under a name, or else, where the case is ignored, under the first key that is the name in some case
+abbrev pub named_child : List ℕ → Bool → Tree → Option Tree
+named_child name ignore_case t = option_or (field_of name t) (if ignore_case then field_ignoring_case name t else None)
+
+-- a list without the element that an index means, counted from the end where it is negative
+abbrev pub without_position : ℤ → List Tree → List Tree
+without_position i ts = unwrap_or (option_map (remove ts) (index_position (length ts) i)) ts
+
+-- an array without the element that an index means
+abbrev pub without_index : ℤ → Tree → Option Tree
+without_index i t = option_map (λ ts. array (trees_of (without_position i ts))) (array_values t)
+
+abbrev pub is_text : List ℕ → Tree → Bool
+is_text name (text s) = bytes_eq s name
+is_text name _ = false
+
+-- an array without the texts that are the name, an object without the key
+abbrev pub without_name : List ℕ → Tree → Option Tree
+without_name name (array ts) = Some (array (trees_of (filter (λ t. not (is_text name t)) (elements ts))))
+without_name name (object ps) = Some (object (pairs_of (filter (λ p. not (bytes_eq p.0 name)) (members ps))))
+without_name name _ = None

@@ -1,0 +1,219 @@
+//! The calls on the children of a document: the elements of an array and the values of an object.
+//!
+//! On bytes that don't decode each call answers `InvalidJsonb` or `UnsupportedNumber`, or as a document that does.
+
+ghost use Rattle.std.specs.Prelude.{◌≡◌, not, filter, IfErr};
+ghost use Rattle.std.specs.List.{remove};
+ghost use Rattle.std.specs.Str.{bytes_eq};
+ghost use Rattle.jsonb_doc.specs.Tree.{Tree, Trees, Pairs, array, object, elements as element_list, members, trees_of, pairs_of};
+ghost use Rattle.jsonb_doc.specs.Payload.{Form};
+ghost use Rattle.jsonb_doc.specs.Format.{Decodes};
+ghost use Rattle.jsonb_doc.specs.Item.{Stands};
+ghost use Rattle.jsonb_doc.specs.Elements.{HasElementsLeft};
+ghost use Rattle.jsonb_raw.specs.Documents.{raw_bytes, Makes, MakesOption, IsMakingError};
+ghost use Rattle.jsonb_raw.specs.Making.{MakesOr, IsMakingErrorOr};
+ghost use Rattle.jsonb_raw.specs.Places.{index_position};
+ghost use Rattle.jsonb_raw.specs.Children.{element_at, field_ignoring_case, named_child, without_index, is_text, without_name};
+
+use super::nth_child;
+use crate::functions::push::{push_elements, push_pair};
+use crate::owned::OwnedJsonb;
+use crate::raw::RawJsonb;
+use jsonb_doc::{
+    ArrayBuilder, ElementIter, Error, Item, ObjectBuilder, elements, encode_item, field_spot, pairs,
+    root_item, root_spot,
+};
+use std::alloc::Global;
+
+impl RawJsonb<'_> {
+    /// The element at a position, as a document of its own, and `None` where there is none or where the root is no array.
+    ///
+    /// `InvalidJsonb` and `UnsupportedNumber` come only where the bytes don't decode, `TooLarge` only where the element is
+    /// too large for a document of its own, and `OutOfMemory` where memory is refused.
+    pub fn get_by_index(&self, alloc: Global, index: usize) -> Result<Option<OwnedJsonb>, Error>
+        ensures element { (form : Form) (t : Tree) → Decodes form (raw_bytes self.now) t
+            → MakesOption form (element_at index t) result }
+        ensures errors { IfErr result IsMakingError }
+    {
+        let bytes = self.as_bytes();
+        let Item::Array(_) = root_item(bytes)? else {
+            return Ok(None);
+        };
+        let root = root_spot(bytes)?;
+        let Some(spot) = nth_child(bytes, root, index)? else {
+            return Ok(None);
+        };
+        Ok(Some(OwnedJsonb::from_spot(alloc, bytes, spot)?))
+    }
+
+    /// The value under the name, as a document of its own. With `ignore_case` and no such key it is the value of the
+    /// first pair, in the order of the keys, whose key is the name in some case of ASCII letters. `None` where there is
+    /// no such value, or where the root is no object.
+    ///
+    /// `InvalidJsonb` and `UnsupportedNumber` come only where the bytes don't decode, `TooLarge` only where the value is
+    /// too large for a document of its own, and `OutOfMemory` where memory is refused.
+    pub fn get_by_name(
+        &self,
+        alloc: Global,
+        name: &str,
+        ignore_case: bool,
+    ) -> Result<Option<OwnedJsonb>, Error>
+        ensures value { (form : Form) (t : Tree) → Decodes form (raw_bytes self.now) t
+            → MakesOption form (named_child name.now ignore_case t) result }
+        ensures errors { IfErr result IsMakingError }
+    {
+        let bytes = self.as_bytes();
+        let root = root_spot(bytes)?;
+        if let Some(spot) = field_spot(bytes, root, name)? {
+            return Ok(Some(OwnedJsonb::from_spot(alloc, bytes, spot)?));
+        }
+        if ignore_case {
+            value_ignoring_case(alloc, bytes, name)
+        } else {
+            Ok(None)
+        }
+    }
+
+    /// The array without the element that an index means, counted from the end where it is negative. Where there is no
+    /// such element the document is unchanged.
+    ///
+    /// `InvalidJsonType` where the root is no array. `InvalidJsonb` and `UnsupportedNumber` come only where the bytes
+    /// don't decode, `TooLarge` only where the answer passes the limits of a document, and `OutOfMemory` where memory is
+    /// refused.
+    pub fn delete_by_index(&self, alloc: Global, index: i32) -> Result<OwnedJsonb, Error>
+        ensures deleted { (form : Form) (t : Tree) → Decodes form (raw_bytes self.now) t
+            → MakesOr Error.InvalidJsonType form (without_index index t) result }
+        ensures errors { IfErr result (IsMakingErrorOr Error.InvalidJsonType) }
+    {
+        let bytes = self.as_bytes();
+        let Some(elements) = elements(bytes)? else {
+            return Err(Error::InvalidJsonType);
+        };
+        match index_position(elements.len(), index) {
+            Some(position) => array_without_element(alloc, elements, position),
+            None => Ok(OwnedJsonb::new(Vec::from_slice(alloc, bytes)?)),
+        }
+    }
+
+    /// The object without the key, or the array without the texts that are the name.
+    ///
+    /// `InvalidJsonType` for another root. `InvalidJsonb` and `UnsupportedNumber` come only where the bytes don't decode,
+    /// `TooLarge` only where the answer passes the limits of a document, and `OutOfMemory` where memory is refused.
+    pub fn delete_by_name(&self, alloc: Global, name: &str) -> Result<OwnedJsonb, Error>
+        ensures deleted { (form : Form) (t : Tree) → Decodes form (raw_bytes self.now) t
+            → MakesOr Error.InvalidJsonType form (without_name name.now t) result }
+        ensures errors { IfErr result (IsMakingErrorOr Error.InvalidJsonType) }
+    {
+        match root_item(self.as_bytes())? {
+            Item::Array(bytes) => array_without_text(alloc, bytes, name),
+            Item::Object(bytes) => object_without_key(alloc, bytes, name),
+            _ => Err(Error::InvalidJsonType),
+        }
+    }
+}
+
+/// The value of the first pair whose key is the name in some case of ASCII letters.
+fn value_ignoring_case(
+    alloc: Global,
+    bytes: &[u8],
+    name: &str,
+) -> Result<Option<OwnedJsonb>, Error>
+    ensures value { (form : Form) (t : Tree) → Decodes form bytes.now t
+        → MakesOption form (field_ignoring_case name.now t) result }
+    ensures errors { IfErr result IsMakingError }
+{
+    let Some(pairs) = pairs(bytes)? else {
+        return Ok(None);
+    };
+    for pair in pairs {
+        let (key, value) = pair?;
+        if key.eq_ignore_ascii_case(name) {
+            return Ok(Some(OwnedJsonb::new(encode_item(alloc, &value)?)));
+        }
+    }
+    Ok(None)
+}
+
+/// The position of the element that an index means in an array of this length.
+fn index_position(len: usize, index: i32) -> Option<usize>
+    ensures { result ≡ index_position len index }
+{
+    let distance = index.unsigned_abs() as usize;
+    let is_from_end = index < 0;
+    if is_from_end {
+        len.checked_sub(distance)
+    } else if distance < len {
+        Some(distance)
+    } else {
+        None
+    }
+}
+
+/// The array of these elements without the one at a position.
+fn array_without_element(
+    alloc: Global,
+    elements: ElementIter<'_>,
+    position: usize,
+) -> Result<OwnedJsonb, Error>
+    ensures deleted { (form : Form) (ts : Trees) → HasElementsLeft form elements.entry ts
+        → Makes form (array (trees_of (remove (element_list ts) position))) result }
+    ensures errors { IfErr result IsMakingError }
+{
+    let mut left = elements;
+    let mut builder = ArrayBuilder::new(alloc);
+    push_elements(&mut builder, &mut left, position)?;
+    if let Some(element) = left.next() {
+        element?;
+    }
+    let others = left.len();
+    push_elements(&mut builder, &mut left, others)?;
+    Ok(OwnedJsonb::new(builder.build()?))
+}
+
+/// Whether the item is this text.
+fn is_text(item: &Item<'_>, name: &str) -> bool
+    ensures { (form : Form) (t : Tree) → Stands form item.now t → result ≡ is_text name.now t }
+{
+    match item {
+        Item::String(text) => *text == name,
+        _ => false,
+    }
+}
+
+/// The array without the texts that are the name.
+fn array_without_text(alloc: Global, bytes: &[u8], name: &str) -> Result<OwnedJsonb, Error>
+    ensures deleted { (form : Form) (ts : Trees) → Decodes form bytes.now (array ts)
+        → Makes form (array (trees_of (filter (λ t. not (is_text name.now t)) (element_list ts)))) result }
+    ensures errors { IfErr result IsMakingError }
+{
+    let Some(elements) = elements(bytes)? else {
+        return Err(Error::InvalidJsonb);
+    };
+    let mut builder = ArrayBuilder::new(alloc);
+    for element in elements {
+        let element = element?;
+        if !is_text(&element, name) {
+            builder.push_item(&element)?;
+        }
+    }
+    Ok(OwnedJsonb::new(builder.build()?))
+}
+
+/// The object without the key.
+fn object_without_key(alloc: Global, bytes: &[u8], name: &str) -> Result<OwnedJsonb, Error>
+    ensures deleted { (form : Form) (ps : Pairs) → Decodes form bytes.now (object ps)
+        → Makes form (object (pairs_of (filter (λ p. not (bytes_eq p.0 name.now)) (members ps)))) result }
+    ensures errors { IfErr result IsMakingError }
+{
+    let Some(pairs) = pairs(bytes)? else {
+        return Err(Error::InvalidJsonb);
+    };
+    let mut builder = ObjectBuilder::new(alloc);
+    for pair in pairs {
+        let (key, value) = pair?;
+        if key != name {
+            push_pair(&mut builder, key, &value)?;
+        }
+    }
+    Ok(OwnedJsonb::new(builder.build()?))
+}
