@@ -15,4 +15,3 @@ pub mod Exists
 pub mod ExistsLaws
 pub mod Deletes
 pub mod DeletesLaws
-pub mod MetChildren
