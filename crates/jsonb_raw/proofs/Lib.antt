@@ -25,3 +25,6 @@ pub mod GoneLemmas
 pub mod ExistsLemmas
 pub mod MetLemmas
 pub mod PositionLemmas
+pub mod EntryLists
+pub mod CutLemmas
+pub mod CutWords

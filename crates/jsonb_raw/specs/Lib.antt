@@ -15,3 +15,4 @@ pub mod Exists
 pub mod ExistsLaws
 pub mod Deletes
 pub mod DeletesLaws
+pub mod Cuts

@@ -15,6 +15,7 @@ ghost use Rattle.jsonb_raw.specs.Documents.{raw_bytes, MakesOption, IsReadingErr
 ghost use Rattle.jsonb_raw.specs.Places.{children, child_met, index_position, tree_at_steps};
 ghost use Rattle.jsonb_raw.specs.Iterators.{TellsWhatIsLeft};
 
+mod cut;
 mod delete;
 mod exists;
 
