@@ -45,3 +45,6 @@ pub mod ContainLemmas
 pub mod Listed
 pub mod Taken
 pub mod ArrayLemmas
+pub mod EntryLists
+pub mod CutLemmas
+pub mod CutWords

@@ -31,3 +31,4 @@ pub mod Making
 pub mod Objects
 pub mod Arrays
 pub mod Children
+pub mod Cuts

@@ -16,6 +16,9 @@ ghost use Rattle.jsonb_raw.specs.Places.{children, child_met, index_position, tr
 ghost use Rattle.jsonb_raw.specs.Iterators.{TellsWhatIsLeft};
 
 mod child;
+mod cut;
+mod delete;
+mod exists;
 
 use crate::owned::OwnedJsonb;
 use crate::raw::RawJsonb;

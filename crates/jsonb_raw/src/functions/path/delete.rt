@@ -15,19 +15,11 @@ ghost use Rattle.jsonb_keypath.specs.KeyPathViews.{key_view, keys_view};
 ghost use Rattle.jsonb_raw.specs.Documents.{IsReadingError};
 ghost use Rattle.jsonb_raw.specs.Iterators.{TellsWhatIsLeft};
 ghost use Rattle.jsonb_raw.specs.Places.{index_position, child_position, place};
-ghost use Rattle.jsonb_raw.specs.MetChildren.{AreAt};
 
 use super::nth_child;
 use jsonb_doc::{Error, Item, Spot, elements, keys, root_spot, spot_item};
 use jsonb_keypath::KeyPath;
 use std::alloc::Global;
-
-/// A child that a step met: the spot of its parent, and its position among the children there.
-#[derive(Clone, Copy)]
-pub struct MetChild {
-    parent: Spot,
-    position: usize,
-}
 
 /// The position that an index means in an array, from the end where it is negative.
 fn element_position(bytes: &[u8], index: i32) -> Result<Option<usize>, Error>
@@ -99,21 +91,21 @@ fn position_met(
     }
 }
 
-/// The children that the steps meet, each in the one before it.
-fn children_met<'k, I: Iterator<Item = &'k KeyPath<'k>> + Drop>(
+/// The positions of the children that the steps meet, each in the one before it.
+fn place_met<'k, I: Iterator<Item = &'k KeyPath<'k>> + Drop>(
     alloc: Global,
     bytes: &[u8],
     steps: I,
-) -> Result<Option<Vec<MetChild>>, Error>
+) -> Result<Option<Vec<usize>>, Error>
     requires can { I.can_next steps }
     requires ends { IsFinite (I.remaining steps) }
-    ensures met { (left : I → List KeyPath) → TellsWhatIsLeft I.next_gives left
+    ensures place { (left : I → List KeyPath) → TellsWhatIsLeft I.next_gives left
         → (t : Tree) → Decodes any bytes.now t
-        → Answers result (λ found. SameOption (λ met ns. AreAt bytes.now t met.items ns) found (place (keys_view (left steps)) t)) }
+        → Answers result (λ found. SameOption (λ positions ns. positions.items ≡ ns) found (place (keys_view (left steps)) t)) }
     ensures errors { IfErr result IsReadingError }
 {
     let mut spot = root_spot(bytes)?;
-    let mut met = Vec::new(alloc);
+    let mut positions = Vec::new(alloc);
     for step in steps {
         let Some(position) = position_met(alloc, bytes, spot, step)? else {
             return Ok(None);
@@ -121,11 +113,8 @@ fn children_met<'k, I: Iterator<Item = &'k KeyPath<'k>> + Drop>(
         let Some(child) = nth_child(bytes, spot, position)? else {
             return Ok(None);
         };
-        met.push(MetChild {
-            parent: spot,
-            position,
-        })?;
+        positions.push(position)?;
         spot = child;
     }
-    Ok(Some(met))
+    Ok(Some(positions))
 }

@@ -9,13 +9,13 @@ use Rattle.jsonb_keypath.specs.KeyPathViews.{keys_view}
 use Rattle.jsonb_raw.specs.Iterators.{TellsWhatIsLeft}
 use Rattle.jsonb_raw.specs.Places.{place}
 use Rattle.jsonb_raw.proofs.MetLemmas.{Walked}
-use Rattle.jsonb_raw.proofs.functions.path.delete.children_met.Given as goal
+use Rattle.jsonb_raw.proofs.functions.path.delete.place_met.Given as goal
 
--- the children so far lead to the spot, and what the steps that are left meet there comes behind them
+-- what the steps that are left meet in the tree at the spot comes behind the positions so far
 abbrev pub invariant-loop-step : goal.invariant-loop-step
 invariant-loop-step g l = record {
   can : (goal.iterator-loop-step g).can_next l.step-iterator;
   finite : (goal.iterator-loop-step g).is_finite l.step-iterator;
   left : (left : _ → List KeyPath) → TellsWhatIsLeft (goal.iterator-loop-step g).next_gives left → (t : Tree) → Decodes any l.bytes t
-      → Walked l.bytes l.met.items l.spot (keys_view (left l.step-iterator)) t (place (keys_view (left l.fn.steps)) t);
+      → Walked l.bytes l.positions.items l.spot (keys_view (left l.step-iterator)) (place (keys_view (left l.fn.steps)) t);
 }

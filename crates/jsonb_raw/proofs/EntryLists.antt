@@ -1,0 +1,214 @@
+-- Trees and their entries, as lists.
+use Rattle.std.proofs.Common.{◌≡◌, ℕ, zero, suc, ◌+◌, ◌*◌, ◌^◌, ◌<◌, ◌≤◌, List, [], ◌∷◌, ◌++◌, length, Option, Some, None, refl, sym, ap, subst, ◌∙◌, arith, append_assoc, slice_get}
+use Rattle.std.specs.Prelude.{⊤}
+use Rattle.std.proofs.lemmas.List.{length-append}
+use Rattle.jsonb_doc.specs.Tree.{Tree, Trees, no_trees, tree, Pairs, no_pairs, pair, elements, count, keys, values}
+use Rattle.jsonb_doc.specs.Payload.{Reading}
+use Rattle.jsonb_doc.specs.Format.{entry_word, text_entry, key_words, key_bytes, AreKeys, IsContent, AreEntries, AreValues}
+use Rattle.jsonb_doc.specs.Encoding.{EntryParts}
+use Rattle.jsonb_doc.specs.ObjectBuilder.{IsWithin, kept_words, kept_contents}
+use Rattle.jsonb_doc.proofs.Entries.{kind_below}
+use Rattle.jsonb_raw.specs.Deletes.{put_tree, put_pair, change_tree, change_value}
+use Rattle.jsonb_raw.specs.Cuts.{AreWithin}
+
+-- ---- entries
+
+pub words-append : (xs ys : List EntryParts) → kept_words (xs ++ ys) ≡ kept_words xs ++ kept_words ys
+words-append [] ys = refl
+words-append (e ∷ xs) ys = ap (λ (w : List ℕ). entry_word e.0 (length e.1) ++ w) (words-append xs ys) ∙ sym (append_assoc (entry_word e.0 (length e.1)) (kept_words xs) (kept_words ys))
+
+pub contents-append : (xs ys : List EntryParts) → kept_contents (xs ++ ys) ≡ kept_contents xs ++ kept_contents ys
+contents-append [] ys = refl
+contents-append (e ∷ xs) ys = ap (λ (w : List ℕ). e.1 ++ w) (contents-append xs ys) ∙ sym (append_assoc e.1 (kept_contents xs) (kept_contents ys))
+
+pub length-kept_words : (es : List EntryParts) → length (kept_words es) ≡ 4 * length es
+length-kept_words [] = refl
+length-kept_words (e ∷ es) = omega (arith, length-kept_words es)
+
+pub within-front : (xs ys : List EntryParts) → AreWithin (xs ++ ys) → AreWithin xs
+within-front [] ys h = tt
+within-front (e ∷ xs) ys h = (h.0, within-front xs ys h.1)
+
+pub within-back : (xs ys : List EntryParts) → AreWithin (xs ++ ys) → AreWithin ys
+within-back [] ys h = h
+within-back (e ∷ xs) ys h = within-back xs ys h.1
+
+pub within-both : (xs ys : List EntryParts) → AreWithin xs → AreWithin ys → AreWithin (xs ++ ys)
+within-both [] ys h g = g
+within-both (e ∷ xs) ys h g = (h.0, within-both xs ys h.1 g)
+
+-- ---- keys as entries
+
+abbrev pub key_entries : List (List ℕ) → List EntryParts
+key_entries [] = []
+key_entries (key ∷ ks) = (text_entry, key) ∷ key_entries ks
+
+pub key-words : (ks : List (List ℕ)) → kept_words (key_entries ks) ≡ key_words ks
+key-words [] = refl
+key-words (key ∷ ks) = ap (λ (w : List ℕ). entry_word text_entry (length key) ++ w) (key-words ks)
+
+pub key-contents : (ks : List (List ℕ)) → kept_contents (key_entries ks) ≡ key_bytes ks
+key-contents [] = refl
+key-contents (key ∷ ks) = ap (λ (w : List ℕ). key ++ w) (key-contents ks)
+
+pub key-within : (ks : List (List ℕ)) → AreKeys ks → AreWithin (key_entries ks)
+key-within [] h = tt
+key-within (key ∷ ks) h = ((omega arith, h.0.1), key-within ks h.2)
+
+pub key-count : (ks : List (List ℕ)) → length (key_entries ks) ≡ length ks
+key-count [] = refl
+key-count (key ∷ ks) = ap suc (key-count ks)
+
+pub keys-append : (xs ys : List (List ℕ)) → key_entries (xs ++ ys) ≡ key_entries xs ++ key_entries ys
+keys-append [] ys = refl
+keys-append (key ∷ xs) ys = ap (λ es. (text_entry, key) ∷ es) (keys-append xs ys)
+
+-- ---- the entries of trees
+
+module _ (number_at : Reading) where
+  -- one by one, the entries are those of the trees
+  abbrev pub AreOf : Trees → List EntryParts → Type 0
+  AreOf no_trees [] = ⊤
+  AreOf no_trees (e ∷ es) = ⊥
+  AreOf (tree t ts) [] = ⊥
+  AreOf (tree t ts) (e ∷ es) = IsContent number_at t e.0 e.1 × AreOf ts es
+
+  pub record Listed (ts : Trees) (words contents : List ℕ) : Type 0 where
+    pub entries : List EntryParts
+    pub within : AreWithin entries
+    pub are : AreOf ts entries
+    pub words_are : words ≡ kept_words entries
+    pub contents_are : contents ≡ kept_contents entries
+
+  pub listed : (ts : Trees) (words contents : List ℕ) → AreEntries number_at ts words contents → Listed ts words contents
+  listed no_trees words contents h = record { entries = []; within = tt; are = tt; words_are = h.0; contents_are = h.1 }
+  listed (tree t ts) words contents h =
+      let rest = listed ts h.other_words h.other_contents h.others in
+      record {
+        entries = (h.kind, h.content) ∷ rest.entries;
+        within = ((h.begin.known, h.begin.fits), rest.within);
+        are = (h.part, rest.are);
+        words_are = h.begin.words_joined ∙ ap (λ (w : List ℕ). entry_word h.kind (length h.content) ++ w) rest.words_are;
+        contents_are = h.begin.contents_joined ∙ ap (λ (w : List ℕ). h.content ++ w) rest.contents_are;
+      }
+
+  pub joined : (ts : Trees) (es : List EntryParts) → AreWithin es → AreOf ts es → AreEntries number_at ts (kept_words es) (kept_contents es)
+  joined no_trees [] within h = (refl, refl)
+  joined no_trees (e ∷ es) within h = absurd h
+  joined (tree t ts) [] within h = absurd h
+  joined (tree t ts) (e ∷ es) within h = record {
+    kind = e.0;
+    content = e.1;
+    other_words = kept_words es;
+    other_contents = kept_contents es;
+    begin = record { known = within.0.0; fits = within.0.1; words_joined = refl; contents_joined = refl };
+    part = h.0;
+    others = joined ts es within.1 h.1;
+  }
+
+  pub joined_values : (ps : Pairs) (es : List EntryParts) → AreWithin es → AreOf (values ps) es → AreValues number_at ps (kept_words es) (kept_contents es)
+  joined_values no_pairs [] within h = (refl, refl)
+  joined_values no_pairs (e ∷ es) within h = absurd h
+  joined_values (pair key t ps) [] within h = absurd h
+  joined_values (pair key t ps) (e ∷ es) within h = record {
+    kind = e.0;
+    content = e.1;
+    other_words = kept_words es;
+    other_contents = kept_contents es;
+    begin = record { known = within.0.0; fits = within.0.1; words_joined = refl; contents_joined = refl };
+    part = h.0;
+    others = joined_values ps es within.1 h.1;
+  }
+
+  pub count_are : (ts : Trees) (es : List EntryParts) → AreOf ts es → count ts ≡ length es
+  count_are no_trees [] h = refl
+  count_are no_trees (e ∷ es) h = absurd h
+  count_are (tree t ts) [] h = absurd h
+  count_are (tree t ts) (e ∷ es) h = ap suc (count_are ts es h.1)
+
+  -- the entry of the tree at a position, those before it and those behind it; and the entries when that tree is changed
+  pub record Split (ts : Trees) (es : List EntryParts) (n : ℕ) (child : Tree) : Type 0 where
+    pub front : List EntryParts
+    pub entry : EntryParts
+    pub back : List EntryParts
+    pub whole : es ≡ front ++ entry ∷ back
+    pub passed : n ≡ length front
+    pub is : IsContent number_at child entry.0 entry.1
+    pub without : (change : Tree → Option Tree) → change child ≡ None → AreOf (change_tree n change ts) (front ++ back)
+    pub changed : (change : Tree → Option Tree) (child' : Tree) (e : EntryParts) → change child ≡ Some child' → IsContent number_at child' e.0 e.1
+        → AreOf (change_tree n change ts) (front ++ e ∷ back)
+
+  pub split : (ts : Trees) (es : List EntryParts) (n : ℕ) (child : Tree) → AreOf ts es → slice_get (elements ts) n ≡ Some child → Split ts es n child
+  split no_trees es n child h at = let bad : None ≡ Some child = at in absurd (cc)
+  split (tree t ts) [] n child h at = absurd h
+  split (tree t ts) (e ∷ es) zero child h at =
+      let same : t ≡ child = cc at in
+      record {
+        front = [];
+        entry = e;
+        back = es;
+        whole = refl;
+        passed = refl;
+        is = subst (λ (u : Tree). IsContent number_at u e.0 e.1) same h.0;
+        without = λ change gone. let g : change t ≡ None = ap change same ∙ gone in rw g h.1;
+        changed = λ change child' e' made is. let g : change t ≡ Some child' = ap change same ∙ made in rw g (is, h.1);
+      }
+  split (tree t ts) (e ∷ es) (suc n) child h at =
+      let s = split ts es n child h.1 at in
+      record {
+        front = e ∷ s.front;
+        entry = s.entry;
+        back = s.back;
+        whole = ap (λ xs. e ∷ xs) s.whole;
+        passed = ap suc s.passed;
+        is = s.is;
+        without = λ change gone. (h.0, s.without change gone);
+        changed = λ change child' e' made is. (h.0, s.changed change child' e' made is);
+      }
+
+-- ---- the pair at a position
+
+-- the keys before the one at a position and behind it; and the keys when its value is changed
+pub record SplitKeys (ps : Pairs) (n : ℕ) (child : Tree) : Type 0 where
+  pub front : List (List ℕ)
+  pub key : List ℕ
+  pub back : List (List ℕ)
+  pub whole : keys ps ≡ front ++ key ∷ back
+  pub passed : n ≡ length front
+  pub without : (change : Tree → Option Tree) → change child ≡ None → keys (change_value n change ps) ≡ front ++ back
+  pub changed : (change : Tree → Option Tree) (child' : Tree) → change child ≡ Some child' → keys (change_value n change ps) ≡ keys ps
+
+pub split_keys : (ps : Pairs) (n : ℕ) (child : Tree) → slice_get (elements (values ps)) n ≡ Some child → SplitKeys ps n child
+split_keys no_pairs n child at = let bad : None ≡ Some child = at in absurd (cc)
+split_keys (pair key t ps) zero child at =
+    let same : t ≡ child = cc at in
+    record {
+      front = [];
+      key = key;
+      back = keys ps;
+      whole = refl;
+      passed = refl;
+      without = λ change gone. let g : change t ≡ None = ap change same ∙ gone in rw g refl;
+      changed = λ change child' made. let g : change t ≡ Some child' = ap change same ∙ made in rw g refl;
+    }
+split_keys (pair key t ps) (suc n) child at =
+    let s = split_keys ps n child at in
+    record {
+      front = key ∷ s.front;
+      key = s.key;
+      back = s.back;
+      whole = ap (λ ks. key ∷ ks) s.whole;
+      passed = ap suc s.passed;
+      without = λ change gone. ap (λ ks. key ∷ ks) (s.without change gone);
+      changed = λ change child' made. ap (λ ks. key ∷ ks) (s.changed change child' made);
+    }
+
+-- the values of changed pairs are the changed values
+pub values_changed : (ps : Pairs) (n : ℕ) (change : Tree → Option Tree) → values (change_value n change ps) ≡ change_tree n change (values ps)
+values_changed no_pairs n change = refl
+values_changed (pair key t ps) zero change = by (change t)
+  where
+    by : (o : Option Tree) → values (put_pair key o ps) ≡ put_tree o (values ps)
+    by None = refl
+    by (Some u) = refl
+values_changed (pair key t ps) (suc n) change = ap (tree t) (values_changed ps n change)

@@ -1,0 +1,17 @@
+use Rattle.std.proofs.Common.{◌≡◌, ℕ, ◌+◌, ◌*◌, ◌^◌, ◌≤◌, List, length}
+use Rattle.jsonb_doc.specs.Encoding.{EntryParts}
+use Rattle.jsonb_doc.specs.ObjectBuilder.{kept_words, kept_contents}
+use Rattle.jsonb_raw.specs.Cuts.{AreWithin}
+use Rattle.jsonb_raw.proofs.CutWords.{WordsLeft}
+use Rattle.jsonb_raw.proofs.functions.path.cut.contents_len.Given as goal
+
+-- the length so far and the contents of the words that are left make up all contents
+abbrev pub invariant-loop-word : goal.invariant-loop-word
+invariant-loop-word l = record {
+  bound : l.len + 2 ^ 26 * length l.left ≤ 2 ^ 26 * length l.fn.words;
+  left : (es : List EntryParts) → AreWithin es → l.fn.words ≡ kept_words es
+      → WordsLeft l.len l.left (length (kept_contents es));
+}
+
+abbrev pub decreases-loop-word : goal.decreases-loop-word
+decreases-loop-word l = length l.left

@@ -1,0 +1,65 @@
+-- Containers as bytes: their entries in a row, one of them replaced or left out.
+use Rattle.std.specs.Prelude.{◌≡◌, ℕ, ◌+◌, ◌*◌, ◌^◌, ◌<◌, ◌≤◌, List, [], ◌∷◌, ◌++◌, length, slice_range, slice_get, Option, Some, None, ⊤}
+use Rattle.std.specs.Int.{w32, to_be_bytes}
+use Rattle.jsonb_doc.specs.Tree.{Tree}
+use Rattle.jsonb_doc.specs.Payload.{Reading}
+use Rattle.jsonb_doc.specs.Format.{IsContent, container_entry, entry_word}
+use Rattle.jsonb_doc.specs.Encoding.{EntryParts}
+use Rattle.jsonb_doc.specs.ObjectBuilder.{IsWithin, kept_words, kept_contents}
+use Rattle.jsonb_raw.specs.declared.functions.path.cut.EntryPlace.{EntryPlace}
+use Rattle.jsonb_raw.specs.declared.functions.path.cut.ChildEntries.{ChildEntries}
+use Rattle.jsonb_raw.specs.Places.{children}
+use Rattle.jsonb_raw.specs.Deletes.{change_child}
+
+-- each of the entries has its place in the format
+abbrev pub AreWithin : List EntryParts → Type 0
+AreWithin [] = ⊤
+AreWithin (e ∷ es) = IsWithin e × AreWithin es
+
+-- the bytes are a header, and the words and the contents of these entries
+pub record HoldEntries (bytes : List ℕ) (es : List EntryParts) : Type 0 where
+  pub head : List ℕ
+  pub four : length head ≡ 4
+  pub within : AreWithin es
+  pub joined : bytes ≡ head ++ (kept_words es ++ kept_contents es)
+
+-- the place of an entry that these others stand before, of so many
+pub record IsPlaceOf (place : EntryPlace) (total : ℕ) (front : List EntryParts) (e : EntryParts) : Type 0 where
+  pub word : place.word ≡ 4 + 4 * length front
+  pub start : place.start ≡ 4 + 4 * total + length (kept_contents front)
+  pub end : place.end ≡ 4 + 4 * total + length (kept_contents front) + length e.1
+
+-- the content of an entry
+abbrev pub content_at : List ℕ → EntryPlace → List ℕ
+content_at bytes place = slice_range bytes place.start place.end
+
+-- the container with another container as the content of an entry
+abbrev pub with_content : List ℕ → EntryPlace → List ℕ → List ℕ
+with_content bytes place content =
+    slice_range bytes 0 place.word ++ (entry_word container_entry (length content)
+    ++ (slice_range bytes (place.word + 4) place.start ++ (content ++ slice_range bytes place.end (length bytes))))
+
+-- the parts of the bytes around the entries of a child
+abbrev pub around : List ℕ → Option EntryPlace → EntryPlace → List ℕ
+around bytes None value =
+    slice_range bytes 4 value.word ++ (slice_range bytes (value.word + 4) value.start ++ slice_range bytes value.end (length bytes))
+around bytes (Some key) value =
+    slice_range bytes 4 key.word ++ (slice_range bytes (key.word + 4) value.word ++ (slice_range bytes (value.word + 4) key.start
+    ++ (slice_range bytes key.end value.start ++ slice_range bytes value.end (length bytes))))
+
+-- the container without a child
+abbrev pub without_child : List ℕ → ChildEntries → List ℕ
+without_child bytes child = to_be_bytes w32 child.header ++ around bytes child.key child.value
+
+-- The entries are those of the child at a position of a container's tree: its content stands there, and without it, or
+-- with another content in its place, the bytes are those of the changed tree.
+pub record AreOfChild (number_at : Reading) (bytes : List ℕ) (t : Tree) (n : ℕ) (child : Tree) (entries : ChildEntries) : Type 0 where
+  pub kind : ℕ
+  pub content : IsContent number_at child kind (content_at bytes entries.value)
+  pub short : length (content_at bytes entries.value) < 2 ^ 28
+  pub cut : (change : Tree → Option Tree) → change child ≡ None → IsContent number_at (change_child n change t) container_entry (without_child bytes entries)
+  pub shorter : length (without_child bytes entries) ≤ length bytes
+  pub changed : (change : Tree → Option Tree) (child' : Tree) (content' : List ℕ) → change child ≡ Some child'
+      → IsContent number_at child' container_entry content' → length content' ≤ length (content_at bytes entries.value)
+      → IsContent number_at (change_child n change t) container_entry (with_content bytes entries.value content')
+  pub no_longer : (content' : List ℕ) → length content' ≤ length (content_at bytes entries.value) → length (with_content bytes entries.value content') ≤ length bytes
