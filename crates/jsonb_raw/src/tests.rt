@@ -7,6 +7,8 @@ ghost use Rattle.jsonb_keypath.specs.KeyPathViews.{key_paths_view};
 ghost use Rattle.jsonb_raw.specs.Documents.{raw_bytes, MakesOption};
 ghost use Rattle.jsonb_raw.specs.Places.{tree_at_steps};
 
+mod leaves;
+mod operators;
 mod sets;
 
 use super::*;
@@ -15,9 +17,6 @@ use jsonb_keypath::{KeyPath, KeyPaths, parse_key_paths};
 use std::alloc::Global;
 use std::borrow::CowStr;
 use std::test::Fail;
-
-mod leaves;
-mod operators;
 
 // [false, 10, {"k":"v"}]
 const MIXED: &[u8] =

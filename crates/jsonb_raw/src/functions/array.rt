@@ -1,7 +1,4 @@
 //! The calls on arrays.
-
-mod counts;
-mod sets;
 //!
 //! On bytes that don't decode each call answers `InvalidJsonb` or `UnsupportedNumber`, or as a document that does.
 
@@ -15,6 +12,9 @@ ghost use Rattle.jsonb_doc.specs.View.{IsDecodingError};
 ghost use Rattle.jsonb_raw.specs.Documents.{raw_bytes, Makes, IsMakingError};
 ghost use Rattle.jsonb_raw.specs.Making.{MakesEach};
 ghost use Rattle.jsonb_raw.specs.Arrays.{array_length, array_values, array_insert, insert_place};
+
+mod counts;
+mod sets;
 
 use crate::functions::push::push_elements;
 use crate::owned::OwnedJsonb;

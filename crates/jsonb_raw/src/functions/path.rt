@@ -19,16 +19,13 @@ mod child;
 mod cut;
 mod delete;
 mod exists;
+mod leaves;
 
 use crate::owned::OwnedJsonb;
 use crate::raw::RawJsonb;
 use jsonb_doc::{Error, Item, Spot, child_spots, field_spot, root_spot, spot_item};
 use jsonb_keypath::KeyPath;
 use std::alloc::Global;
-
-mod delete;
-mod exists;
-mod leaves;
 
 /// The child at a position.
 fn nth_child(bytes: &[u8], spot: Spot, position: usize) -> Result<Option<Spot>, Error>
