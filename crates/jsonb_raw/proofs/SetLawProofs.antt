@@ -1,5 +1,5 @@
 -- The laws of arrays as sets: what is kept, counted by value.
-use Rattle.std.proofs.Common.{◌≡◌, ◌≢◌, ◌+◌, ◌-◌, ◌<◌, ◌≤◌, ℕ, min, Bool, true, false, not, ◌||◌, cond, List, [], ◌∷◌, map, filter, count_by, nat_lt, nat_eq, inl, inr, refl, sym, ap, ap₂, ◌∙◌, arith, IsTrue}
+use Rattle.std.proofs.Common.{◌≡◌, ◌≢◌, ◌+◌, ◌<◌, ◌≤◌, ℕ, min, Bool, true, false, not, ◌||◌, cond, List, [], ◌∷◌, map, filter, nat_lt, nat_eq, inl, inr, refl, sym, ap, ap₂, ◌∙◌, arith}
 use Rattle.std.specs.Cmp.{IsPartialEquivalence, partial_equiv_from_equiv}
 use Rattle.std.specs.List.{list_any}
 use Rattle.std.proofs.lemmas.Bool.Decides.{nat_tests}
@@ -7,7 +7,7 @@ use Rattle.std.proofs.lemmas.List.Sums.{sum_by-cons}
 use Rattle.jsonb_doc.specs.Tree.{Tree}
 use Rattle.jsonb_doc.specs.Equal.{is_equal}
 use Rattle.jsonb_doc.specs.EqualLaws.{is_equal_equiv}
-use Rattle.jsonb_raw.specs.Sets.{count_of, Occurrence, occurrences, kept, is_first, is_shared, distinct, shared, unshared, overlap}
+use Rattle.jsonb_raw.specs.Sets.{count_of, Occurrence, occurrences, is_first, is_shared, shared, unshared, overlap}
 use Rattle.jsonb_raw.specs.SetLaws.{IsDealtTo, SplitDeals, SplitCounts, DistinctCounts, OverlapIsShared}
 
 -- ---- a test and its opposite deal

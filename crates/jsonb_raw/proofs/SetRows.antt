@@ -1,5 +1,5 @@
 -- Arrays as sets, computed on `[1,1,2,1.0]` and `[1]`.
-use Rattle.std.specs.Prelude.{◌≡◌, ℕ, List, [], ◌∷◌, true, false, pos, refl}
+use Rattle.std.specs.Prelude.{◌≡◌, [], ◌∷◌, true, false, pos, refl}
 use Rattle.jsonb_doc.specs.Number.{number_from, uint64, decimal64}
 use Rattle.jsonb_doc.specs.Extension.{date}
 use Rattle.jsonb_doc.specs.Tree.{Tree, number, extension, array, trees_of}

@@ -1,6 +1,6 @@
 //! Arrays as sets: elements are compared by their equality keys, and by value where no memory is taken.
 
-ghost use Rattle.std.specs.Prelude.{◌≡◌, ◌<◌, ◌^◌, List, [], ◌∷◌, ◌++◌, if◌then◌else◌, length, IsOkAnd, OnOk, IfErr};
+ghost use Rattle.std.specs.Prelude.{◌≡◌, ◌<◌, ◌^◌, List, [], ◌∷◌, ◌++◌, length, IsOkAnd, OnOk, IfErr};
 ghost use Rattle.std.specs.List.{AllByRecursion, list_any};
 ghost use Rattle.jsonb_doc.specs.Tree.{Tree, Trees, array, trees_of, elements as elements_of};
 ghost use Rattle.jsonb_doc.specs.Equal.{is_equal};
@@ -36,8 +36,8 @@ enum Kept {
     Unshared,
 }
 
-/// Whether an element with this key is kept. The counts move on behind it.
-fn is_kept(kind: Kept, counts: &mut KeyCounts, key: Vec<u8>) -> Result<bool, Error>
+/// Decides whether an element with this key is kept. The counts move on behind it.
+fn decide(kind: Kept, counts: &mut KeyCounts, key: Vec<u8>) -> Result<bool, Error>
     ensures kept { (other before : List Tree) (t : Tree) → StandsBehind kind counts.old other before
         → Fits t → key.items ≡ equality_key t → length before < 2 ^ 63
         → Answers result (λ b. b ≡ keeps kind other (before, t)) }
@@ -72,7 +72,7 @@ fn push_kept(
     ensures errors { IfErr result IsMakingError }
 {
     let key = item_key(alloc, item)?;
-    if !is_kept(kind, counts, key)? {
+    if !decide(kind, counts, key)? {
         return Ok(());
     }
     builder.push_item(item)

@@ -1,4 +1,3 @@
-use Rattle.std.proofs.Common.{rules}
 use Rattle.jsonb_doc.specs.Tree.{elements}
 use Rattle.jsonb_raw.proofs.Left.{SomeElements-first, SomeElements-error, SomeElements-none}
 use Rattle.jsonb_raw.proofs.KeysCounted.{CountsLeft-all, CountsLeft-next, CountsLeft-done}

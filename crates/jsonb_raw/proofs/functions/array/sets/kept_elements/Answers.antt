@@ -1,4 +1,3 @@
-use Rattle.std.proofs.Common.{rules}
 use Rattle.std.proofs.lemmas.Result.{err_from_is_err_and}
 use Rattle.jsonb_doc.specs.Tree.{elements}
 use Rattle.jsonb_raw.proofs.Left.{SomeElements-first, SomeElements-error, SomeElements-none}

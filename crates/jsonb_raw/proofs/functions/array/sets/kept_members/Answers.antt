@@ -1,4 +1,4 @@
-use Rattle.std.proofs.Common.{rules, [], ◌∷◌, arith}
+use Rattle.std.proofs.Common.{arith}
 use Rattle.jsonb_doc.proofs.DecodedFits.{decoded_fits}
 use Rattle.jsonb_raw.proofs.SetKept.{array_found, no_array, elements_fit, elements_few}
 use Rattle.jsonb_raw.proofs.functions.array.sets.kept_members.Goals as goal

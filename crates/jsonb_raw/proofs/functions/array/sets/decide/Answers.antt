@@ -1,6 +1,6 @@
 use Rattle.std.proofs.Common.{◌∙◌, ap, not, nat_eq}
 use Rattle.jsonb_raw.proofs.KeysCounted.{test_first, test_shared, test_unshared}
-use Rattle.jsonb_raw.proofs.functions.array.sets.is_kept.Goals as goal
+use Rattle.jsonb_raw.proofs.functions.array.sets.decide.Goals as goal
 
 pub returns-in_ok-add-in-First-clause-kept : goal.returns-in_ok-add-in-First-clause-kept
 returns-in_ok-add-in-First-clause-kept c = λ other before t h f e few.
