@@ -24,3 +24,4 @@ pub mod ScalarLemmas
 pub mod LeafWalk
 pub mod LeafPlaces
 mod LeafRows
+pub mod LeafLimits
