@@ -20,7 +20,7 @@ use Rattle.jsonb_raw.proofs.PlaceLemmas.{field_met, step_by_step}
 abbrev pub IsInPlace : Tree → Leaf → Type 0
 IsInPlace t leaf = tree_at_steps leaf.0 t ≡ Some leaf.1
 
-Each-append : {A : Type 0} (P : A → Type 0) (xs ys : List A) → Each P xs → Each P ys → Each P (xs ++ ys)
+pub Each-append : {A : Type 0} (P : A → Type 0) (xs ys : List A) → Each P xs → Each P ys → Each P (xs ++ ys)
 Each-append P [] ys h k = k
 Each-append P (x ∷ xs) ys h k = (h.0, Each-append P xs ys h.1 k)
 

@@ -48,3 +48,4 @@ pub mod ArrayLemmas
 pub mod EntryLists
 pub mod CutLemmas
 pub mod CutWords
+pub mod LeafLimits

@@ -1,5 +1,5 @@
 -- What comes of a command: the lines that it prints, or its refusal.
-use Rattle.std.specs.Prelude.{◌≡◌, ◌⊎◌, ◌<◌, ◌≤◌, ℕ, List, ◌++◌, Option, Some, None, Result, Ok, Err, IsErrAnd, codes}
+use Rattle.std.specs.Prelude.{◌≡◌, ◌⊎◌, ◌<◌, ◌≤◌, ℕ, false, List, [], ◌∷◌, ◌++◌, Option, Some, None, Result, Ok, Err, IsSomeAnd, IsOkAnd, IsErrAnd, codes}
 use Rattle.std.specs.Int.{w8}
 use Rattle.jsonb_doc.specs.declared.error.Error.{Error}
 use Rattle.jsonb_doc.specs.declared.error.Error.TheVariants.{InvalidJsonb, UnsupportedNumber, InvalidKeyPath, TooLarge, TooDeep}
@@ -8,12 +8,15 @@ use Rattle.jsonb_doc.specs.Payload.{Form, any}
 use Rattle.jsonb_doc.specs.Format.{Decodes, WouldDecode}
 use Rattle.jsonb_doc.specs.Limits.{IsTooLarge}
 use Rattle.jsonb_keypath.specs.KeyPathGrammar.{Key, key_path}
+use Rattle.jsonb_keypath.specs.KeyPathText.{key_path_text}
 use Rattle.jsonb_raw.specs.Depth.{deepest}
+use Rattle.jsonb_raw.specs.Leaves.{Leaf}
+use Rattle.jsonb_raw.specs.Leaves as leaf
 use Rattle.jsonb_raw.specs.Places.{tree_at_steps}
 use Rattle.jsonb_raw.specs.SortableKey.{depths}
 use Rattle.jsonb_raw.specs.SortableKey as sortable
 use Rattle.hex.specs.Hex.{encode_lower}
-use Rattle.jsonb_tool.specs.Requests.{Request, get, key}
+use Rattle.jsonb_tool.specs.Requests.{Request, get, key, leaves}
 
 -- the lines that a command prints, each with its line feed, or its refusal
 abbrev pub Outcome : Type 0
@@ -57,7 +60,30 @@ ShowsKey t (Err e) = (e ≡ TooDeep) × (depths w8 ≤ deepest t)
 abbrev pub ShowsKeyOf : List ℕ → Outcome → Type 0
 ShowsKeyOf document outcome = OnDocument document (λ form t. ShowsKey t) outcome
 
+-- The line of a leaf: a document of the tree at the place of its steps in hexadecimal, a space, and the steps as they print.
+abbrev pub IsLeafLine : Form → Tree → Leaf → List ℕ → Type 0
+IsLeafLine form t leaf line =
+    (bytes : List ℕ) × IsSomeAnd (tree_at_steps leaf.0 t) (Decodes form bytes)
+    × (line ≡ encode_lower bytes ++ codes " " ++ key_path_text leaf.0 ++ codes "\n")
+
+-- the lines of these leaves of a tree, one behind the other
+abbrev pub AreLeafLines : Form → Tree → List Leaf → List ℕ → Type 0
+AreLeafLines form t [] lines = lines ≡ []
+AreLeafLines form t (leaf ∷ others) lines =
+    (line rest : List ℕ) × IsLeafLine form t leaf line × AreLeafLines form t others rest × (lines ≡ line ++ rest)
+
+-- the lines of these leaves of a tree, or `none` where there are none
+abbrev pub ShowsEachLeaf : Form → Tree → List Leaf → List ℕ → Type 0
+ShowsEachLeaf form t [] lines = lines ≡ codes "none\n"
+ShowsEachLeaf form t (leaf ∷ others) lines = AreLeafLines form t (leaf ∷ others) lines
+
+-- `leaves`: the leaves of the document, arrays entered; none of them is too large for a document
+abbrev pub ShowsLeavesOf : List ℕ → Outcome → Type 0
+ShowsLeavesOf document outcome =
+    OnDocument document (λ form t outcome. IsOkAnd outcome (ShowsEachLeaf form t (leaf.leaves false t))) outcome
+
 -- what comes of a request
 abbrev pub IsOutcome : Request → Outcome → Type 0
 IsOutcome (get path document) outcome = Gets (key_path path) document outcome
 IsOutcome (key document) outcome = ShowsKeyOf document outcome
+IsOutcome (leaves document) outcome = ShowsLeavesOf document outcome

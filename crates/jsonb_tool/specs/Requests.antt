@@ -8,6 +8,7 @@ use Rattle.hex.specs.Hex.{decode_of}
 pub data Request : Type 0 where
   get : List ℕ → List ℕ → Request
   key : List ℕ → Request
+  leaves : List ℕ → Request
 
 -- the bytes that a text is the hexadecimal of, in either case of letters
 abbrev pub bytes_of : List ℕ → Option (List ℕ)
@@ -19,5 +20,6 @@ abbrev pub request_of : List (List ℕ) → Option Request
 request_of (name ∷ path ∷ digits ∷ []) =
     if bytes_eq name (codes "get") then option_map (get path) (bytes_of digits) else None
 request_of (name ∷ digits ∷ []) =
-    if bytes_eq name (codes "key") then option_map key (bytes_of digits) else None
+    if bytes_eq name (codes "key") then option_map key (bytes_of digits)
+    else (if bytes_eq name (codes "leaves") then option_map leaves (bytes_of digits) else None)
 request_of _ = None

@@ -3,7 +3,7 @@ use Rattle.std.specs.Prelude.{ℕ, List, ◌++◌, Option, Some, None, codes}
 use Rattle.hex.specs.Hex.{encode_lower}
 use Rattle.jsonb_raw.specs.declared.owned.OwnedJsonb.{OwnedJsonb}
 use Rattle.jsonb_tool.specs.declared.command.Command.{Command}
-use Rattle.jsonb_tool.specs.declared.command.Command.TheVariants.{Get, Key}
+use Rattle.jsonb_tool.specs.declared.command.Command.TheVariants.{Get, Key, Leaves}
 use Rattle.jsonb_tool.specs.Requests as spec
 use Rattle.jsonb_tool.specs.Requests.{Request}
 
@@ -11,6 +11,7 @@ use Rattle.jsonb_tool.specs.Requests.{Request}
 abbrev pub request : Command → Request
 request (Get path document) = spec.get path.now document.items
 request (Key document) = spec.key document.items
+request (Leaves document) = spec.leaves document.items
 
 -- the line of a document in hexadecimal, or of none
 abbrev pub found_text : Option OwnedJsonb → List ℕ

@@ -15,6 +15,8 @@ pub enum Command<'w> {
     Get { path: &'w str, document: Vec<u8> },
     /// The sortable key of the document.
     Key { document: Vec<u8> },
+    /// The leaves of the document with their key paths.
+    Leaves { document: Vec<u8> },
 }
 
 impl<'w> Command<'w> {
@@ -35,6 +37,10 @@ impl<'w> Command<'w> {
             [name, digits] if name.as_str() == "key" => {
                 let document = document_from(alloc, digits.as_str())?;
                 Ok(document.map(|document| Command::Key { document }))
+            }
+            [name, digits] if name.as_str() == "leaves" => {
+                let document = document_from(alloc, digits.as_str())?;
+                Ok(document.map(|document| Command::Leaves { document }))
             }
             _ => Ok(None),
         }

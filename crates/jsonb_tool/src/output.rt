@@ -1,18 +1,21 @@
 //! What each command prints.
-ghost use Rattle.std.specs.Prelude.{◌≡◌, ◌⊎◌, ◌++◌, Ok, Err, IfOk, MatchResult, codes, string_bytes};
+ghost use Rattle.std.specs.Prelude.{◌≡◌, ◌⊎◌, ◌++◌, Some, Ok, Err, IfOk, MatchResult, codes, string_bytes};
 ghost use Rattle.jsonb_doc.specs.declared.error.Error.TheVariants.{OutOfMemory};
 ghost use Rattle.jsonb_doc.specs.Tree.{Tree};
-ghost use Rattle.jsonb_doc.specs.Payload.{any};
+ghost use Rattle.jsonb_doc.specs.Payload.{Form, any};
+ghost use Rattle.jsonb_doc.specs.Answer.{Builds};
 ghost use Rattle.jsonb_doc.specs.Format.{Decodes};
 ghost use Rattle.jsonb_keypath.specs.KeyPathGrammar.{key_path};
+ghost use Rattle.jsonb_keypath.specs.KeyPathViews.{key_paths_view};
 ghost use Rattle.jsonb_raw.specs.Documents.{raw_bytes};
-ghost use Rattle.jsonb_tool.specs.Outcomes.{Gets, ShowsKeyOf, IsDamage, IsOutcome};
+ghost use Rattle.jsonb_raw.specs.Places.{tree_at_steps};
+ghost use Rattle.jsonb_tool.specs.Outcomes.{Gets, ShowsKeyOf, ShowsLeavesOf, IsLeafLine, IsDamage, IsOutcome};
 ghost use Rattle.jsonb_tool.specs.Views.{found_text, request};
 ghost use Rattle.hex.specs.Hex.{encode_lower};
 
 use crate::command::Command;
 use jsonb_doc::Error;
-use jsonb_keypath::parse_key_paths;
+use jsonb_keypath::{KeyPaths, parse_key_paths};
 use jsonb_raw::{OwnedJsonb, RawJsonb};
 use std::alloc::{AllocError, Global};
 
@@ -25,6 +28,7 @@ pub fn output(alloc: Global, command: &Command<'_>) -> Result<String, Error>
     match command {
         Command::Get { path, document } => get(alloc, path, document.as_slice()),
         Command::Key { document } => key(alloc, document.as_slice()),
+        Command::Leaves { document } => leaves(alloc, document.as_slice()),
     }
 }
 
@@ -49,6 +53,38 @@ fn key(alloc: Global, document: &[u8]) -> Result<String, Error>
     let document = checked(document)?;
     let key = document.convert_to_comparable(alloc)?;
     Ok(hexadecimal_line(alloc, key.as_slice())?)
+}
+
+/// The leaves of a document with their key paths, a line for each, or `none`.
+fn leaves(alloc: Global, document: &[u8]) -> Result<String, Error>
+    ensures { MatchResult result
+        (λ lines. ShowsLeavesOf document.now (Ok (string_bytes lines)))
+        (λ e. (e ≡ OutOfMemory) ⊎ ShowsLeavesOf document.now (Err e)) }
+{
+    let document = checked(document)?;
+    let leaves = document.extract_scalar_key_values(alloc, false)?;
+    if leaves.is_empty() {
+        return Ok(String::from_str(alloc, "none\n")?);
+    }
+    let mut lines = String::new(alloc);
+    for (path, _) in &leaves {
+        let line = leaf_line(alloc, &document, path)?;
+        lines.push_str(line.as_str())?;
+    }
+    Ok(lines)
+}
+
+/// The line of a leaf: the document at the place of its key path, and the path.
+fn leaf_line(alloc: Global, document: &RawJsonb<'_>, path: &KeyPaths<'_>) -> Result<String, Error>
+    ensures { (form : Form) (t u : Tree) → Decodes form (raw_bytes document.now) t
+        → tree_at_steps (key_paths_view path.now) t ≡ Some u
+        → Builds form u result (λ line. IsLeafLine form t (key_paths_view path.now, u) (string_bytes line)) }
+{
+    let Some(part) = document.get_by_keypath(alloc, path.paths.iter())? else {
+        return Err(Error::InvalidJsonb);
+    };
+    let digits = hex::encode(alloc, part.as_raw().as_bytes())?;
+    Ok(format!(in alloc; "{digits} {path}\n")?)
 }
 
 /// The bytes as a document, or why they are none.

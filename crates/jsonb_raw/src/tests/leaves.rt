@@ -2,11 +2,10 @@
 
 use super::{FRED, MIXED};
 use crate::RawJsonb;
-use jsonb_doc::{Error, Number, Value};
+use jsonb_doc::{Error, Value, root_item, to_value};
 use jsonb_keypath::KeyPath;
 use std::alloc::Global;
 use std::borrow::CowStr;
-use std::collections::BTreeMap;
 use std::test::Fail;
 
 // {"a":null,"b":[null]}
@@ -19,68 +18,90 @@ const NESTED: &[u8] = b"\x80\0\0\x01\x50\0\0\x0a\x80\0\0\x01\x20\0\0\x02\x50\x01
 // [[],{}]
 const EMPTIES: &[u8] = b"\x80\0\0\x02\x50\0\0\x04\x50\0\0\x04\x80\0\0\0\x40\0\0\0";
 
+// {"a":[]}
+const EMPTY_ARRAY_UNDER_KEY: &[u8] = b"\x40\0\0\x01\x10\0\0\x01\x50\0\0\x04a\x80\0\0\0";
+
+// {"a":{}}
+const EMPTY_OBJECT_UNDER_KEY: &[u8] = b"\x40\0\0\x01\x10\0\0\x01\x50\0\0\x04a\x40\0\0\0";
+
+// [null]
+const ONE_NULL: &[u8] = b"\x80\0\0\x01\0\0\0\0";
+
 const EMPTY_ARRAY: &[u8] = b"\x80\0\0\0";
 
 const EMPTY_OBJECT: &[u8] = b"\x40\0\0\0";
 
+const NULL: &[u8] = b"\x20\0\0\0\0\0\0\0";
+
+const FALSE: &[u8] = b"\x20\0\0\0\x30\0\0\0";
+
+const TRUE: &[u8] = b"\x20\0\0\0\x40\0\0\0";
+
+const ONE: &[u8] = b"\x20\0\0\0\x20\0\0\x02\x50\x01";
+
+const TEN: &[u8] = b"\x20\0\0\0\x20\0\0\x02\x50\x0a";
+
+// 3720453 and 5062051
+const HOME_NUMBER: &[u8] = b"\x20\0\0\0\x20\0\0\x05\x50\0\x38\xc5\x05";
+
+const WORK_NUMBER: &[u8] = b"\x20\0\0\0\x20\0\0\x05\x50\0\x4d\x3d\xa3";
+
+// "v", "Fred", "home" and "work"
+const V: &[u8] = b"\x20\0\0\0\x10\0\0\x01v";
+
+const FRED_TEXT: &[u8] = b"\x20\0\0\0\x10\0\0\x04Fred";
+
+const HOME_TEXT: &[u8] = b"\x20\0\0\0\x10\0\0\x04home";
+
+const WORK_TEXT: &[u8] = b"\x20\0\0\0\x10\0\0\x04work";
+
+// the date 1
+const DATE: &[u8] = b"\x20\0\0\0\x60\0\0\x05\x10\0\0\0\x01";
+
 // a float
 const FLOAT: &[u8] = b"\x20\0\0\0\x20\0\0\x09\x60\x3f\xf8\0\0\0\0\0\0";
 
-/// Whether the document has these leaves, with the printed forms of their paths.
-fn has_leaves<'a>(
+/// Whether the document has these leaves: the printed form of each path, and a document of the value there.
+fn has_leaves(
     alloc: Global,
-    document: &'a [u8],
+    document: &'static [u8],
     ignore_array: bool,
-    wanted: &'a [(&'a str, Value<'a>)],
+    wanted: &[(&'static str, &'static [u8])],
 ) -> Result<bool, Error> {
     let found = RawJsonb::new(document).extract_scalar_key_values(alloc, ignore_array)?;
     if found.len() != wanted.len() {
         return Ok(false);
     }
-    for ((path, value), (text, wanted_value)) in found.iter().zip(wanted) {
+    for ((path, value), (text, bytes)) in found.iter().zip(wanted) {
         let printed = format!(in alloc; "{path}")?;
-        if printed.as_str() != *text || value != wanted_value {
+        if printed.as_str() != *text || *value != to_value(alloc, &root_item(bytes)?)? {
             return Ok(false);
         }
     }
     Ok(true)
 }
 
-fn text(text: &str) -> Value<'_> {
-    Value::String(CowStr::Borrowed(text))
-}
-
-fn whole(value: u64) -> Value<'static> {
-    Value::Number(Number::UInt64(value))
-}
-
 #[test]
 fn leaves_come_in_stored_order(rt: HostRuntime) -> Result<(), Fail> {
-    let mixed = [
-        ("{0}", Value::Bool(false)),
-        ("{1}", whole(10)),
-        ("{2,k}", text("v")),
-    ];
+    let mixed = [("{0}", FALSE), ("{1}", TEN), ("{2,k}", V)];
     assert!(rt; has_leaves(rt.alloc(), MIXED, false, &mixed)?);
     let fred = [
-        ("{name}", text("Fred")),
-        ("{phones,0,number}", whole(3720453)),
-        ("{phones,0,type}", text("home")),
-        ("{phones,1,number}", whole(5062051)),
-        ("{phones,1,type}", text("work")),
+        ("{name}", FRED_TEXT),
+        ("{phones,0,number}", HOME_NUMBER),
+        ("{phones,0,type}", HOME_TEXT),
+        ("{phones,1,number}", WORK_NUMBER),
+        ("{phones,1,type}", WORK_TEXT),
     ];
     assert!(rt; has_leaves(rt.alloc(), FRED, false, &fred)?);
-    let nulls = [("{a}", Value::Null), ("{b,0}", Value::Null)];
+    let nulls = [("{a}", NULL), ("{b,0}", NULL)];
     assert!(rt; has_leaves(rt.alloc(), NULLS, false, &nulls)?);
-    assert!(rt; has_leaves(rt.alloc(), NESTED, false, &[("{0,0}", whole(1))])?);
+    assert!(rt; has_leaves(rt.alloc(), NESTED, false, &[("{0,0}", ONE)])?);
     Ok(())
 }
 
 #[test]
 fn an_array_that_is_ignored_is_a_leaf(rt: HostRuntime) -> Result<(), Fail> {
-    let mut one_null = Vec::new(rt.alloc());
-    one_null.push(Value::Null)?;
-    let nulls = [("{a}", Value::Null), ("{b}", Value::Array(one_null))];
+    let nulls = [("{a}", NULL), ("{b}", ONE_NULL)];
     assert!(rt; has_leaves(rt.alloc(), NULLS, true, &nulls)?);
     assert!(rt;
         has_leaves(rt.alloc(), MIXED, true, &[])?,
@@ -92,33 +113,20 @@ fn an_array_that_is_ignored_is_a_leaf(rt: HostRuntime) -> Result<(), Fail> {
 
 #[test]
 fn an_empty_container_is_a_leaf(rt: HostRuntime) -> Result<(), Fail> {
-    let empties = [
-        ("{0}", Value::Array(Vec::new(rt.alloc()))),
-        ("{1}", Value::Object(BTreeMap::new(rt.alloc()))),
-    ];
+    let empties = [("{0}", EMPTY_ARRAY), ("{1}", EMPTY_OBJECT)];
     assert!(rt; has_leaves(rt.alloc(), EMPTIES, false, &empties)?);
-    // {"a":[]} and {"a":{}}
-    let in_array = [("{a}", Value::Array(Vec::new(rt.alloc())))];
-    let with_array = b"\x40\0\0\x01\x10\0\0\x01\x50\0\0\x04a\x80\0\0\0".as_slice();
-    assert!(rt; has_leaves(rt.alloc(), with_array, false, &in_array)?);
-    assert!(rt; has_leaves(rt.alloc(), with_array, true, &in_array)?);
-    let in_object = [("{a}", Value::Object(BTreeMap::new(rt.alloc())))];
-    let with_object = b"\x40\0\0\x01\x10\0\0\x01\x50\0\0\x04a\x40\0\0\0".as_slice();
-    assert!(rt; has_leaves(rt.alloc(), with_object, true, &in_object)?);
+    for ignore_array in [false, true] {
+        let array = [("{a}", EMPTY_ARRAY)];
+        assert!(rt; has_leaves(rt.alloc(), EMPTY_ARRAY_UNDER_KEY, ignore_array, &array)?);
+        let object = [("{a}", EMPTY_OBJECT)];
+        assert!(rt; has_leaves(rt.alloc(), EMPTY_OBJECT_UNDER_KEY, ignore_array, &object)?);
+    }
     Ok(())
 }
 
 #[test]
 fn the_root_is_no_leaf(rt: HostRuntime) -> Result<(), Fail> {
-    for root in [
-        EMPTY_ARRAY,
-        EMPTY_OBJECT,
-        b"\x20\0\0\0\0\0\0\0".as_slice(),
-        b"\x20\0\0\0\x40\0\0\0".as_slice(),
-        b"\x20\0\0\0\x20\0\0\x02\x50\x05".as_slice(),
-        b"\x20\0\0\0\x10\0\0\x01v".as_slice(),
-        b"\x20\0\0\0\x60\0\0\x05\x10\0\0\0\x01".as_slice(),
-    ] {
+    for root in [EMPTY_ARRAY, EMPTY_OBJECT, NULL, TRUE, TEN, V, DATE] {
         assert!(rt; has_leaves(rt.alloc(), root, false, &[])?, "{root:?}");
         assert!(rt; has_leaves(rt.alloc(), root, true, &[])?, "{root:?}");
     }
@@ -152,8 +160,10 @@ fn any_key_is_a_name(rt: HostRuntime) -> Result<(), Fail> {
             "{\"a b\"}",
         ),
     ] {
-        let leaf = [(path, Value::Null)];
-        assert!(rt; has_leaves(rt.alloc(), document, false, &leaf)?, "{path}");
+        assert!(rt;
+            has_leaves(rt.alloc(), document, false, &[(path, NULL)])?,
+            "{path}"
+        );
     }
     Ok(())
 }

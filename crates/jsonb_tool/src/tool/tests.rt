@@ -86,6 +86,65 @@ fn key_prints_the_sortable_key(rt: HostRuntime) -> Result<(), Fail> {
 }
 
 #[test]
+fn leaves_prints_a_line_for_each_leaf(rt: HostRuntime) -> Result<(), Fail> {
+    for (document, lines) in [
+        (
+            ARRAY,
+            "2000000030000000 {0}\n2000000020000002500a {1}\n200000001000000176 {2,k}",
+        ),
+        (
+            ARRAY_IN_UPPER_CASE,
+            "2000000030000000 {0}\n2000000020000002500a {1}\n200000001000000176 {2,k}",
+        ),
+        // {"a":null,"b":[null]}
+        (
+            "400000021000000110000001000000005000000861628000000100000000",
+            "2000000000000000 {a}\n2000000000000000 {b,0}",
+        ),
+        // [[],{}]
+        (
+            "8000000250000004500000048000000040000000",
+            "80000000 {0}\n40000000 {1}",
+        ),
+        // {"a b":1}
+        (
+            "4000000110000003200000026120625001",
+            "20000000200000025001 {\"a b\"}",
+        ),
+        // {"":null}
+        ("400000011000000000000000", "2000000000000000 {\"\"}"),
+    ] {
+        let is_right = answers(rt.alloc(), &["leaves", document], lines, 0)?;
+        assert!(rt; is_right, "leaves {document}");
+    }
+    Ok(())
+}
+
+#[test]
+fn leaves_prints_none_where_there_are_none(rt: HostRuntime) -> Result<(), Fail> {
+    for document in ["20000000200000025005", "80000000", "40000000"] {
+        assert!(rt;
+            answers(rt.alloc(), &["leaves", document], "none", 0)?,
+            "{document}"
+        );
+    }
+    Ok(())
+}
+
+#[test]
+fn leaves_refuses_with_the_name_of_the_error(rt: HostRuntime) -> Result<(), Fail> {
+    for (document, line) in [
+        ("800000", "refused: InvalidJsonb"),
+        ("", "refused: InvalidJsonb"),
+        (FLOAT, "refused: UnsupportedNumber"),
+    ] {
+        let is_right = answers(rt.alloc(), &["leaves", document], line, 1)?;
+        assert!(rt; is_right, "leaves {document}");
+    }
+    Ok(())
+}
+
+#[test]
 fn other_words_get_usage(rt: HostRuntime) -> Result<(), Fail> {
     assert!(rt; answers(rt.alloc(), &[], "usage", 2)?, "no words");
     assert!(rt; answers(rt.alloc(), &["get"], "usage", 2)?);
@@ -105,7 +164,10 @@ fn other_words_get_usage(rt: HostRuntime) -> Result<(), Fail> {
     );
     assert!(rt; answers(rt.alloc(), &["key", "8000000g"], "usage", 2)?);
     assert!(rt; answers(rt.alloc(), &["key", "{}", ARRAY], "usage", 2)?);
-    for command in ["GET", "KEY", "", "leaves", "select", "match"] {
+    assert!(rt; answers(rt.alloc(), &["leaves"], "usage", 2)?);
+    assert!(rt; answers(rt.alloc(), &["leaves", "8000000g"], "usage", 2)?);
+    assert!(rt; answers(rt.alloc(), &["leaves", "{}", ARRAY], "usage", 2)?);
+    for command in ["GET", "KEY", "LEAVES", "", "select", "match"] {
         assert!(rt;
             answers(rt.alloc(), &[command, ARRAY], "usage", 2)?,
             "{command}"

@@ -1,0 +1,83 @@
+-- No leaf is too large for a document of its own.
+use Rattle.std.proofs.Common.{◌≡◌, ◌^◌, ◌<◌, ◌≤◌, ℕ, zero, suc, pos, negsuc, ℤ, Bool, true, false, List, [], ◌∷◌, arith, lit<, if◌then◌else◌, refl}
+use Rattle.jsonb_doc.specs.Number.{Variant, int64, uint64, decimal64, decimal128}
+use Rattle.jsonb_doc.specs.Tree.{Tree, null, boolean, number, text, extension, array, object, Trees, no_trees, tree, Pairs, no_pairs, pair}
+use Rattle.jsonb_doc.specs.Payload.{Form, any, canonical}
+use Rattle.jsonb_doc.specs.Limits.{IsShort, HasShortParts, HasShortElements, HasShortValues, IsWithinLimits, Fits, widest_number}
+use Rattle.jsonb_keypath.specs.Each.{Each}
+use Rattle.jsonb_keypath.specs.KeyPathGrammar.{Key, index, plain_name}
+use Rattle.jsonb_raw.specs.Leaves.{Leaf, behind, is_leaf, leaves_at, leaves, leaves_of_trees, leaves_of_pairs}
+use Rattle.jsonb_raw.proofs.LeafPlaces.{Each-append}
+
+short_number : (variant : Variant) (whole : ℤ) → widest_number variant whole ≤ 18
+short_number variant (pos zero) = omega arith
+short_number int64 (pos (suc n)) = omega arith
+short_number uint64 (pos (suc n)) = omega arith
+short_number decimal64 (pos (suc n)) = omega arith
+short_number decimal128 (pos (suc n)) = omega arith
+short_number int64 (negsuc n) = omega arith
+short_number uint64 (negsuc n) = omega arith
+short_number decimal64 (negsuc n) = omega arith
+short_number decimal128 (negsuc n) = omega arith
+
+-- a leaf whose canonical content is short is within the limits, in either form
+leaf_within_limits : (form : Form) (t : Tree) → is_leaf false t ≡ true → IsShort canonical t → IsWithinLimits form t
+leaf_within_limits any null is short = lit< tt
+leaf_within_limits canonical null is short = short
+leaf_within_limits any (boolean b) is short = lit< tt
+leaf_within_limits canonical (boolean b) is short = short
+leaf_within_limits any (number n) is short = omega (arith, short_number n.variant n.whole)
+leaf_within_limits canonical (number n) is short = short
+leaf_within_limits any (text s) is short = short
+leaf_within_limits canonical (text s) is short = short
+leaf_within_limits any (extension x) is short = short
+leaf_within_limits canonical (extension x) is short = short
+leaf_within_limits form (array no_trees) is short = (lit< tt, tt)
+leaf_within_limits form (array (tree t ts)) is short = cc
+leaf_within_limits form (object no_pairs) is short = (lit< tt, tt, tt)
+leaf_within_limits form (object (pair key t ps)) is short = cc
+
+module _ (form : Form) where
+  abbrev IsSmall : Leaf → Type 0
+  IsSmall leaf = IsWithinLimits form leaf.1
+
+  small_behind : (step : Key) (within : List Leaf) → Each IsSmall within → Each IsSmall (behind (step ∷ []) within)
+  small_behind step [] h = tt
+  small_behind step (leaf ∷ within) h = (h.0, small_behind step within h.1)
+
+  small_at : (step : Key) (t : Tree) (within : List Leaf) → IsShort canonical t → Each IsSmall within → Each IsSmall (leaves_at false step t within)
+  small_at step t within short h = small_behind step _ (go (is_leaf false t) refl)
+    where
+      go : (b : Bool) → is_leaf false t ≡ b → Each IsSmall (if b then ([], t) ∷ [] else within)
+      go true is = (leaf_within_limits form t is short, tt)
+      go false is = h
+
+  mutual
+    each_small : (t : Tree) → HasShortParts canonical t → Each IsSmall (leaves false t)
+    each_small null h = tt
+    each_small (boolean b) h = tt
+    each_small (number n) h = tt
+    each_small (text s) h = tt
+    each_small (extension x) h = tt
+    each_small (array ts) h = trees_small 0 ts h.1
+    each_small (object ps) h = pairs_small ps h.2
+
+    trees_small : (n : ℕ) (ts : Trees) → HasShortElements canonical ts → Each IsSmall (leaves_of_trees false n ts)
+    trees_small n no_trees h = tt
+    trees_small n (tree t ts) h =
+        Each-append IsSmall _ _ (small_at (index (pos n)) t (leaves false t) h.0 (each_small t h.1)) (trees_small (suc n) ts h.2)
+
+    pairs_small : (ps : Pairs) → HasShortValues canonical ps → Each IsSmall (leaves_of_pairs false ps)
+    pairs_small no_pairs h = tt
+    pairs_small (pair key t ps) h =
+        Each-append IsSmall _ _ (small_at (plain_name key) t (leaves false t) h.0 (each_small t h.1)) (pairs_small ps h.2)
+
+  -- the leaves of a tree that fits are within the limits
+  pub each_within_limits : (t : Tree) → Fits t → Each (λ leaf. IsWithinLimits form leaf.1) (leaves false t)
+  each_within_limits null fits = tt
+  each_within_limits (boolean b) fits = tt
+  each_within_limits (number n) fits = tt
+  each_within_limits (text s) fits = tt
+  each_within_limits (extension x) fits = tt
+  each_within_limits (array ts) fits = each_small (array ts) fits.1
+  each_within_limits (object ps) fits = each_small (object ps) fits.1
