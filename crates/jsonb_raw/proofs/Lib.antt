@@ -26,3 +26,4 @@ pub mod ObjectLemmas
 pub mod Listed
 pub mod Taken
 pub mod ArrayLemmas
+pub mod ChildAnswers

@@ -7,6 +7,10 @@ ghost use Rattle.jsonb_keypath.specs.KeyPathViews.{key_paths_view};
 ghost use Rattle.jsonb_raw.specs.Documents.{raw_bytes, MakesOption};
 ghost use Rattle.jsonb_raw.specs.Places.{tree_at_steps};
 
+mod arrays;
+mod child;
+mod objects;
+
 use super::*;
 use jsonb_doc::Error;
 use jsonb_keypath::{KeyPath, KeyPaths, parse_key_paths};

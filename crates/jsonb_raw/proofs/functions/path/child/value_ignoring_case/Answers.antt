@@ -1,0 +1,1 @@
+use Rattle.jsonb_raw.proofs.functions.path.child.value_ignoring_case.Goals as goal
