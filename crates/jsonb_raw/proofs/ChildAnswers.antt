@@ -30,13 +30,13 @@ object_item form x b t is stands = rw is at stands
 
 -- an item that is no container has no children with a name
 pub no_names : (form : Form) (x : Item) (t : Tree) (name : List ℕ) → Stands form x t → ((b : Bor (List ℕ)) → x ≡ item.Array b → ⊥) → ((b : Bor (List ℕ)) → x ≡ item.Object b → ⊥) → without_name name t ≡ None
-no_names form item.Null t name stands no no' = rw stands refl
-no_names form (item.Boolean b) t name stands no no' = rw stands refl
-no_names form (item.Number n) t name stands no no' = rw stands refl
-no_names form (item.String s) t name stands no no' = rw stands refl
-no_names form (item.Extension x) t name stands no no' = rw stands refl
-no_names form (item.Array b) t name stands no no' = absurd (no b refl)
-no_names form (item.Object b) t name stands no no' = absurd (no' b refl)
+no_names form item.Null t name stands not_array not_object = rw stands refl
+no_names form (item.Boolean b) t name stands not_array not_object = rw stands refl
+no_names form (item.Number n) t name stands not_array not_object = rw stands refl
+no_names form (item.String s) t name stands not_array not_object = rw stands refl
+no_names form (item.Extension x) t name stands not_array not_object = rw stands refl
+no_names form (item.Array b) t name stands not_array not_object = absurd (not_array b refl)
+no_names form (item.Object b) t name stands not_array not_object = absurd (not_object b refl)
 
 -- the child at a position of an array is its element
 pub child_is_element : (form : Form) (x : Item) (b : Bor (List ℕ)) (t : Tree) (i : ℕ) → x ≡ item.Array b → Stands form x t → slice_get (children t) i ≡ element_at i t
@@ -92,8 +92,18 @@ decided a b false test = go (same_ignoring_case a b) refl
 -- the value of the first pair that passes, or the search goes on behind it
 pub found_here : (name key : List ℕ) (t : Tree) (rest : List (List ℕ × Tree)) (ps : Pairs) → same_ignoring_case key name ≡ true
     → find (λ p. same_ignoring_case p.0 name) ((key, t) ∷ rest) ≡ find (λ p. same_ignoring_case p.0 name) (members ps) → field_ignoring_case name (object ps) ≡ Some t
-found_here name key t rest ps yes same = ap (option_map (λ p. p.1)) (sym (rw yes at same))
+found_here name key t rest ps passes same = ap (option_map (λ p. p.1)) (sym (rw passes at same))
 
 pub found_behind : (name key : List ℕ) (t : Tree) (rest : List (List ℕ × Tree)) (wanted : Option (List ℕ × Tree)) → same_ignoring_case key name ≡ false
     → find (λ p. same_ignoring_case p.0 name) ((key, t) ∷ rest) ≡ wanted → find (λ p. same_ignoring_case p.0 name) rest ≡ wanted
-found_behind name key t rest wanted no same = rw no at same
+found_behind name key t rest wanted fails same = rw fails at same
+
+-- ---- what `!=` answers
+
+pub differs : (same answer : Bool) → answer ≡ not same → answer ≡ true → same ≡ false
+differs true answer is holds = let bad : true ≡ false = sym holds ∙ is in cc
+differs false answer is holds = refl
+
+pub agrees : (same answer : Bool) → answer ≡ not same → answer ≡ false → same ≡ true
+agrees true answer is fails = refl
+agrees false answer is fails = let bad : false ≡ true = sym fails ∙ is in cc
