@@ -49,3 +49,4 @@ pub mod EntryLists
 pub mod CutLemmas
 pub mod CutWords
 pub mod LeafLimits
+pub mod ChildAnswers

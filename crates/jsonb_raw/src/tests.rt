@@ -10,6 +10,9 @@ ghost use Rattle.jsonb_raw.specs.Places.{tree_at_steps};
 mod leaves;
 mod operators;
 mod sets;
+mod arrays;
+mod child;
+mod objects;
 
 use super::*;
 use jsonb_doc::{ArrayBuilder, Error};

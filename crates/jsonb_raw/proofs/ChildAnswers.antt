@@ -1,0 +1,109 @@
+-- What the calls on children answer, by the item or the spot that was found.
+use Rattle.std.proofs.Common.{◌≡◌, ◌≢◌, ◌↔◌, ℕ, suc, zero, ℤ, Bool, true, false, not, IsTrue, List, [], ◌∷◌, ◌++◌, map, length, drop, slice_get, Option, Some, None, Result, Ok, Err, unwrap_or, cond, if◌then◌else◌, Bor, refl, sym, ap, subst, ◌∙◌}
+use Rattle.std.specs.Prelude.{option_map, option_and_then}
+use Rattle.std.specs.List.{find, remove}
+use Rattle.std.specs.Option.{option_or}
+use Rattle.std.specs.Str.{bytes_eq}
+use Rattle.std.specs.Char.{to_ascii_lowercase}
+use Rattle.std.proofs.lemmas.Slice.Eq.{bytes_eq-Decides}
+use Rattle.jsonb_doc.specs.Tree as spec
+use Rattle.jsonb_doc.specs.Tree.{Tree, array, object, Trees, Pairs, elements, members, trees_of, field_of}
+use Rattle.jsonb_doc.specs.Payload.{Form}
+use Rattle.jsonb_doc.specs.Format.{Decodes}
+use Rattle.jsonb_doc.specs.Item.{Stands}
+use Rattle.jsonb_doc.specs.Elements.{HasElementsLeft, TakesElement}
+use Rattle.jsonb_doc.specs.declared.error.Error.{Error}
+use Rattle.jsonb_doc.specs.declared.element_iter.ElementIter.{ElementIter}
+use Rattle.jsonb_doc.specs.declared.item.Item.{Item}
+use Rattle.jsonb_doc.specs.declared.item.Item.TheVariants as item
+use Rattle.jsonb_doc.proofs.TreeLists.{trees_of-elements}
+use Rattle.jsonb_raw.specs.Places.{children, index_position}
+use Rattle.jsonb_raw.specs.Children.{element_at, same_ignoring_case, field_ignoring_case, named_child, without_position, without_index, without_name}
+
+-- ---- arrays and objects by their items
+
+pub array_item : (form : Form) (x : Item) (b : Bor (List ℕ)) (t : Tree) → x ≡ item.Array b → Stands form x t → (ts : Trees) × (t ≡ array ts) × Decodes form b.now (array ts)
+array_item form x b t is stands = rw is at stands
+
+pub object_item : (form : Form) (x : Item) (b : Bor (List ℕ)) (t : Tree) → x ≡ item.Object b → Stands form x t → (ps : Pairs) × (t ≡ object ps) × Decodes form b.now (object ps)
+object_item form x b t is stands = rw is at stands
+
+-- an item that is no container has no children with a name
+pub no_names : (form : Form) (x : Item) (t : Tree) (name : List ℕ) → Stands form x t → ((b : Bor (List ℕ)) → x ≡ item.Array b → ⊥) → ((b : Bor (List ℕ)) → x ≡ item.Object b → ⊥) → without_name name t ≡ None
+no_names form item.Null t name stands not_array not_object = rw stands refl
+no_names form (item.Boolean b) t name stands not_array not_object = rw stands refl
+no_names form (item.Number n) t name stands not_array not_object = rw stands refl
+no_names form (item.String s) t name stands not_array not_object = rw stands refl
+no_names form (item.Extension x) t name stands not_array not_object = rw stands refl
+no_names form (item.Array b) t name stands not_array not_object = absurd (not_array b refl)
+no_names form (item.Object b) t name stands not_array not_object = absurd (not_object b refl)
+
+-- the child at a position of an array is its element
+pub child_is_element : (form : Form) (x : Item) (b : Bor (List ℕ)) (t : Tree) (i : ℕ) → x ≡ item.Array b → Stands form x t → slice_get (children t) i ≡ element_at i t
+child_is_element form x b t i is stands = let s = array_item form x b t is stands in rw s.1 refl
+
+-- ---- an element less
+
+drop_one_more : {A : Type 0} (n : ℕ) (xs : List A) → drop 1 (drop n xs) ≡ drop (suc n) xs
+drop_one_more zero [] = refl
+drop_one_more zero (x ∷ xs) = refl
+drop_one_more (suc n) [] = refl
+drop_one_more (suc n) (x ∷ xs) = drop_one_more n xs
+
+without_first : (form : Form) (ts : List Tree) (r : Option (Result Item Error)) (after : ElementIter) → TakesElement form (trees_of ts) r after → HasElementsLeft form after (trees_of (drop 1 ts))
+without_first form [] None after h = h
+without_first form [] (Some r) after h = absurd h
+without_first form (t ∷ ts) None after h = absurd h
+without_first form (t ∷ ts) (Some (Ok x)) after h = h.1
+without_first form (t ∷ ts) (Some (Err e)) after h = absurd h
+
+-- behind the elements in front one is passed over
+pub one_skipped : (form : Form) (n : ℕ) (ts : List Tree) (r : Option (Result Item Error)) (after : ElementIter) → TakesElement form (trees_of (drop n ts)) r after → HasElementsLeft form after (trees_of (drop (suc n) ts))
+one_skipped form n ts r after h =
+    subst (λ (us : List Tree). HasElementsLeft form after (trees_of us)) (drop_one_more n ts) (without_first form (drop n ts) r after h)
+
+-- an index that means an element, or none
+pub without_some : (i : ℤ) (ts : Trees) (n : ℕ) → index_position (length (elements ts)) i ≡ Some n → without_index i (array ts) ≡ Some (array (trees_of (remove (elements ts) n)))
+without_some i ts n is = rw is refl
+
+pub without_none : (i : ℤ) (ts : Trees) → index_position (length (elements ts)) i ≡ None → without_index i (array ts) ≡ Some (array ts)
+without_none i ts is = rw is (ap (λ us. Some (array us)) (trees_of-elements ts))
+
+-- ---- names
+
+pub named_there : (name : List ℕ) (ignore : Bool) (t u : Tree) → field_of name t ≡ Some u → named_child name ignore t ≡ Some u
+named_there name ignore t u is = rw is refl
+
+pub named_otherwise : (name : List ℕ) (t : Tree) → field_of name t ≡ None → named_child name true t ≡ field_ignoring_case name t
+named_otherwise name t is = rw is refl
+
+pub named_nowhere : (name : List ℕ) (t : Tree) → field_of name t ≡ None → named_child name false t ≡ None
+named_nowhere name t is = rw is refl
+
+-- a test of the code decides whether texts are the same
+pub decided : (a b : List ℕ) (r : Bool) → (IsTrue r ↔ (map to_ascii_lowercase a ≡ map to_ascii_lowercase b)) → same_ignoring_case a b ≡ r
+decided a b true test = (bytes_eq-Decides (map to_ascii_lowercase a) (map to_ascii_lowercase b)).1 (test.0 refl)
+decided a b false test = go (same_ignoring_case a b) refl
+  where
+    go : (s : Bool) → same_ignoring_case a b ≡ s → s ≡ false
+    go false e = refl
+    go true e = sym (test.1 ((bytes_eq-Decides (map to_ascii_lowercase a) (map to_ascii_lowercase b)).0 e))
+
+-- the value of the first pair that passes, or the search goes on behind it
+pub found_here : (name key : List ℕ) (t : Tree) (rest : List (List ℕ × Tree)) (ps : Pairs) → same_ignoring_case key name ≡ true
+    → find (λ p. same_ignoring_case p.0 name) ((key, t) ∷ rest) ≡ find (λ p. same_ignoring_case p.0 name) (members ps) → field_ignoring_case name (object ps) ≡ Some t
+found_here name key t rest ps passes same = ap (option_map (λ p. p.1)) (sym (rw passes at same))
+
+pub found_behind : (name key : List ℕ) (t : Tree) (rest : List (List ℕ × Tree)) (wanted : Option (List ℕ × Tree)) → same_ignoring_case key name ≡ false
+    → find (λ p. same_ignoring_case p.0 name) ((key, t) ∷ rest) ≡ wanted → find (λ p. same_ignoring_case p.0 name) rest ≡ wanted
+found_behind name key t rest wanted fails same = rw fails at same
+
+-- ---- what `!=` answers
+
+pub differs : (same answer : Bool) → answer ≡ not same → answer ≡ true → same ≡ false
+differs true answer is holds = let bad : true ≡ false = sym holds ∙ is in cc
+differs false answer is holds = refl
+
+pub agrees : (same answer : Bool) → answer ≡ not same → answer ≡ false → same ≡ true
+agrees true answer is fails = refl
+agrees false answer is fails = let bad : false ≡ true = sym fails ∙ is in cc

@@ -1,0 +1,180 @@
+//! Children: elements by their positions and values by their names, handed out and taken out.
+
+use crate::{OwnedJsonb, RawJsonb};
+use jsonb_doc::Error;
+use std::alloc::Global;
+use std::test::Fail;
+
+// [10,20,30]
+const TENS: &[u8] = b"\x80\0\0\x03\x20\0\0\x02\x20\0\0\x02\x20\0\0\x02\x50\x0a\x50\x14\x50\x1e";
+
+// [10,20]
+const FIRST_TWO: &[u8] = b"\x80\0\0\x02\x20\0\0\x02\x20\0\0\x02\x50\x0a\x50\x14";
+
+// [20,30]
+const LAST_TWO: &[u8] = b"\x80\0\0\x02\x20\0\0\x02\x20\0\0\x02\x50\x14\x50\x1e";
+
+// [10,30]
+const OUTER_TWO: &[u8] = b"\x80\0\0\x02\x20\0\0\x02\x20\0\0\x02\x50\x0a\x50\x1e";
+
+// [1,"a"]
+const ONE_AND_TEXT: &[u8] = b"\x80\0\0\x02\x20\0\0\x02\x10\0\0\x01\x50\x01a";
+
+// [1]
+const ONE_IN_ARRAY: &[u8] = b"\x80\0\0\x01\x20\0\0\x02\x50\x01";
+
+// {"asd":"adf"}
+const OBJECT: &[u8] = b"\x40\0\0\x01\x10\0\0\x03\x10\0\0\x03asdadf";
+
+// {"a":null,"b":[null]}
+const TWO: &[u8] =
+    b"\x40\0\0\x02\x10\0\0\x01\x10\0\0\x01\0\0\0\0\x50\0\0\x08ab\x80\0\0\x01\0\0\0\0";
+
+// {"AB":1,"Ab":false,"ab":true}
+const CASES: &[u8] =
+    b"\x40\0\0\x03\x10\0\0\x02\x10\0\0\x02\x10\0\0\x02\x20\0\0\x02\x30\0\0\0\x40\0\0\0ABAbab\x50\x01";
+
+const ONE: &[u8] = b"\x20\0\0\0\x20\0\0\x02\x50\x01";
+const FIVE: &[u8] = b"\x20\0\0\0\x20\0\0\x02\x50\x05";
+const TWENTY: &[u8] = b"\x20\0\0\0\x20\0\0\x02\x50\x14";
+const YES: &[u8] = b"\x20\0\0\0\x40\0\0\0";
+const NO: &[u8] = b"\x20\0\0\0\x30\0\0\0";
+const NULL: &[u8] = b"\x20\0\0\0\0\0\0\0";
+const NULL_IN_ARRAY: &[u8] = b"\x80\0\0\x01\0\0\0\0";
+const ADF: &[u8] = b"\x20\0\0\0\x10\0\0\x03adf";
+const TEXT: &[u8] = b"\x20\0\0\0\x10\0\0\x01a";
+const DATE: &[u8] = b"\x20\0\0\0\x60\0\0\x05\x10\0\0\0\x01";
+const CUT: &[u8] = b"\x80\0\0";
+
+/// Whether what was found is this document, or none where none is given.
+fn is_found(found: &Option<OwnedJsonb>, wanted: Option<&[u8]>) -> bool {
+    match (found, wanted) {
+        (Some(part), Some(wanted)) => part.as_raw().as_bytes() == wanted,
+        (None, None) => true,
+        _ => false,
+    }
+}
+
+fn without_index(alloc: Global, bytes: &[u8], index: i32) -> Result<OwnedJsonb, Error> {
+    RawJsonb::new(bytes).delete_by_index(alloc, index)
+}
+
+#[test]
+fn gives_an_element(rt: HostRuntime) -> Result<(), Fail> {
+    for (bytes, index, wanted) in [
+        (TENS, 1, Some(TWENTY)),
+        (TENS, 3, None),
+        (TENS, usize::MAX, None),
+        (ONE_IN_ARRAY, 0, Some(ONE)),
+        (ONE_IN_ARRAY, 1, None),
+        (ONE_AND_TEXT, 1, Some(TEXT)),
+        // only an array has elements
+        (TWO, 0, None),
+        (ONE, 0, None),
+        (DATE, 0, None),
+    ] {
+        let found = RawJsonb::new(bytes).get_by_index(rt.alloc(), index)?;
+        assert!(rt; is_found(&found, wanted), "at {index}");
+    }
+    Ok(())
+}
+
+#[test]
+fn gives_a_value(rt: HostRuntime) -> Result<(), Fail> {
+    for (bytes, name, ignore_case, wanted) in [
+        (OBJECT, "ASD", true, Some(ADF)),
+        (OBJECT, "ASD", false, None),
+        (OBJECT, "asd", true, Some(ADF)),
+        (OBJECT, "asd", false, Some(ADF)),
+        (OBJECT, "as", true, None),
+        (TWO, "b", false, Some(NULL_IN_ARRAY)),
+        (TWO, "A", true, Some(NULL)),
+        (TWO, "c", true, None),
+        // the key itself comes first, then the first key in some case
+        (CASES, "ab", true, Some(YES)),
+        (CASES, "Ab", true, Some(NO)),
+        (CASES, "aB", true, Some(ONE)),
+        (CASES, "aB", false, None),
+        // only an object has keys
+        (ONE_AND_TEXT, "a", true, None),
+        (TEXT, "a", true, None),
+        (DATE, "a", false, None),
+    ] {
+        let found = RawJsonb::new(bytes).get_by_name(rt.alloc(), name, ignore_case)?;
+        assert!(rt; is_found(&found, wanted), "at {name}");
+    }
+    Ok(())
+}
+
+#[test]
+fn ignores_the_case_of_ascii_letters_alone(rt: HostRuntime) -> Result<(), Fail> {
+    // {"é":1}
+    let accent = b"\x40\0\0\x01\x10\0\0\x02\x20\0\0\x02\xc3\xa9\x50\x01".as_slice();
+    let document = RawJsonb::new(accent);
+    assert!(rt; is_found(&document.get_by_name(rt.alloc(), "é", true)?, Some(ONE)));
+    assert!(rt; is_found(&document.get_by_name(rt.alloc(), "É", true)?, None));
+    Ok(())
+}
+
+#[test]
+fn takes_an_element_out(rt: HostRuntime) -> Result<(), Fail> {
+    for (bytes, index, wanted) in [
+        (TENS, 0, LAST_TWO),
+        (TENS, 1, OUTER_TWO),
+        (TENS, 2, FIRST_TWO),
+        (TENS, -1, FIRST_TWO),
+        (TENS, -2, OUTER_TWO),
+        (TENS, -3, LAST_TWO),
+        // out of range
+        (TENS, 3, TENS),
+        (TENS, -4, TENS),
+        (TENS, 2_147_483_647, TENS),
+        (ONE_IN_ARRAY, -2_147_483_648, ONE_IN_ARRAY),
+        (ONE_IN_ARRAY, 0, b"\x80\0\0\0".as_slice()),
+    ] {
+        let made = without_index(rt.alloc(), bytes, index)?;
+        assert_eq!(rt; made.as_raw().as_bytes(), wanted, "at {index}");
+    }
+    for bytes in [OBJECT, ONE, TEXT, NULL, DATE] {
+        assert!(rt; matches!(without_index(rt.alloc(), bytes, 0), Err(Error::InvalidJsonType)));
+    }
+    Ok(())
+}
+
+#[test]
+fn takes_a_name_out(rt: HostRuntime) -> Result<(), Fail> {
+    // ["a",1,"a","b",["a"]], [1,"b",["a"]], {"b":[null]}
+    let texts =
+        b"\x80\0\0\x05\x10\0\0\x01\x20\0\0\x02\x10\0\0\x01\x10\0\0\x01\x50\0\0\x09a\x50\x01ab\x80\0\0\x01\x10\0\0\x01a".as_slice();
+    let others =
+        b"\x80\0\0\x03\x20\0\0\x02\x10\0\0\x01\x50\0\0\x09\x50\x01b\x80\0\0\x01\x10\0\0\x01a"
+            .as_slice();
+    let second = b"\x40\0\0\x01\x10\0\0\x01\x50\0\0\x08b\x80\0\0\x01\0\0\0\0".as_slice();
+    for (bytes, name, wanted) in [
+        (ONE_AND_TEXT, "a", ONE_IN_ARRAY),
+        (ONE_AND_TEXT, "b", ONE_AND_TEXT),
+        (texts, "a", others),
+        (TWO, "a", second),
+        (TWO, "c", TWO),
+        (OBJECT, "asd", b"\x40\0\0\0".as_slice()),
+        (OBJECT, "ASD", OBJECT),
+    ] {
+        let made = RawJsonb::new(bytes).delete_by_name(rt.alloc(), name)?;
+        assert_eq!(rt; made.as_raw().as_bytes(), wanted);
+    }
+    for bytes in [FIVE, TEXT, NULL, YES, DATE] {
+        let made = RawJsonb::new(bytes).delete_by_name(rt.alloc(), "a");
+        assert!(rt; matches!(made, Err(Error::InvalidJsonType)));
+    }
+    Ok(())
+}
+
+#[test]
+fn damage_is_refused(rt: HostRuntime) {
+    let alloc = rt.alloc();
+    let cut = RawJsonb::new(CUT);
+    assert!(rt; matches!(cut.get_by_index(alloc, 0), Err(Error::InvalidJsonb)));
+    assert!(rt; matches!(cut.get_by_name(alloc, "a", true), Err(Error::InvalidJsonb)));
+    assert!(rt; matches!(cut.delete_by_index(alloc, 0), Err(Error::InvalidJsonb)));
+    assert!(rt; matches!(cut.delete_by_name(alloc, "a"), Err(Error::InvalidJsonb)));
+}

@@ -1,0 +1,180 @@
+//! Objects: their keys and pairs, one pair more, some pairs, and the others.
+
+use crate::{OwnedJsonb, RawJsonb};
+use jsonb_doc::Error;
+use std::alloc::Global;
+use std::collections::BTreeSet;
+use std::test::Fail;
+
+// {"asd":"adf"}
+const OBJECT: &[u8] = b"\x40\0\0\x01\x10\0\0\x03\x10\0\0\x03asdadf";
+
+// {"a":null,"b":[null]}
+const TWO: &[u8] =
+    b"\x40\0\0\x02\x10\0\0\x01\x10\0\0\x01\0\0\0\0\x50\0\0\x08ab\x80\0\0\x01\0\0\0\0";
+
+// {"name":"Fred","phones":[{"number":3720453,"type":"home"},{"number":5062051,"type":"work"}]}
+const FRED: &[u8] =
+    b"\x40\0\0\x02\x10\0\0\x04\x10\0\0\x06\x10\0\0\x04\x50\0\0\x5anamephonesFred\x80\0\0\x02\x50\0\0\x27\x50\0\0\x27\x40\0\0\x02\x10\0\0\x06\x10\0\0\x04\x20\0\0\x05\x10\0\0\x04numbertype\x50\0\x38\xc5\x05home\x40\0\0\x02\x10\0\0\x06\x10\0\0\x04\x20\0\0\x05\x10\0\0\x04numbertype\x50\0\x4d\x3d\xa3work";
+
+// [1]
+const ARRAY: &[u8] = b"\x80\0\0\x01\x20\0\0\x02\x50\x01";
+
+const EMPTY: &[u8] = b"\x40\0\0\0";
+const ONE: &[u8] = b"\x20\0\0\0\x20\0\0\x02\x50\x01";
+const DATE: &[u8] = b"\x20\0\0\0\x60\0\0\x05\x10\0\0\0\x01";
+const CUT: &[u8] = b"\x40\0\0";
+
+// an object in whose bytes the key "a" stands twice
+const REPEATED: &[u8] = b"\x40\0\0\x02\x10\0\0\x01\x10\0\0\x01\0\0\0\0\0\0\0\0aa";
+
+/// The document with 1 under a key.
+fn with_one(
+    alloc: Global,
+    bytes: &[u8],
+    key: &str,
+    update_flag: bool,
+) -> Result<OwnedJsonb, Error> {
+    RawJsonb::new(bytes).object_insert(alloc, key, &RawJsonb::new(ONE), update_flag)
+}
+
+#[test]
+fn gives_the_keys(rt: HostRuntime) -> Result<(), Fail> {
+    let names = b"\x80\0\0\x02\x10\0\0\x04\x10\0\0\x06namephones".as_slice();
+    let letters = b"\x80\0\0\x02\x10\0\0\x01\x10\0\0\x01ab".as_slice();
+    for (bytes, wanted) in [
+        (FRED, names),
+        (TWO, letters),
+        (EMPTY, b"\x80\0\0\0".as_slice()),
+    ] {
+        let Some(keys) = RawJsonb::new(bytes).object_keys(rt.alloc())? else {
+            panic!(rt; "no keys");
+        };
+        assert_eq!(rt; keys.as_raw().as_bytes(), wanted);
+    }
+    for bytes in [ARRAY, ONE, DATE] {
+        assert!(rt; RawJsonb::new(bytes).object_keys(rt.alloc())?.is_none());
+    }
+    Ok(())
+}
+
+#[test]
+fn gives_each_pair(rt: HostRuntime) -> Result<(), Fail> {
+    let Some(pairs) = RawJsonb::new(TWO).object_each(rt.alloc())? else {
+        panic!(rt; "no pairs");
+    };
+    assert_eq!(rt; pairs.len(), 2);
+    let null = b"\x20\0\0\0\0\0\0\0".as_slice();
+    let null_in_array = b"\x80\0\0\x01\0\0\0\0".as_slice();
+    for (pair, (key, value)) in pairs.iter().zip([("a", null), ("b", null_in_array)]) {
+        assert_eq!(rt; pair.0.as_str(), key);
+        assert_eq!(rt; pair.1.as_raw().as_bytes(), value);
+    }
+    for bytes in [ARRAY, ONE, DATE] {
+        assert!(rt; RawJsonb::new(bytes).object_each(rt.alloc())?.is_none());
+    }
+    Ok(())
+}
+
+#[test]
+fn inserts_a_pair(rt: HostRuntime) -> Result<(), Fail> {
+    // {"asd":"adf","b":1}, {"a":1,"asd":"adf"}, {"asd":1}, {"a":null,"aa":1,"b":[null]}
+    let behind =
+        b"\x40\0\0\x02\x10\0\0\x03\x10\0\0\x01\x10\0\0\x03\x20\0\0\x02asdbadf\x50\x01".as_slice();
+    let before =
+        b"\x40\0\0\x02\x10\0\0\x01\x10\0\0\x03\x20\0\0\x02\x10\0\0\x03aasd\x50\x01adf".as_slice();
+    let replaced = b"\x40\0\0\x01\x10\0\0\x03\x20\0\0\x02asd\x50\x01".as_slice();
+    let between =
+        b"\x40\0\0\x03\x10\0\0\x01\x10\0\0\x02\x10\0\0\x01\0\0\0\0\x20\0\0\x02\x50\0\0\x08aaab\x50\x01\x80\0\0\x01\0\0\0\0".as_slice();
+    let alone = b"\x40\0\0\x01\x10\0\0\0\x20\0\0\x02\x50\x01".as_slice();
+    for (bytes, key, update_flag, wanted) in [
+        (OBJECT, "b", false, behind),
+        (OBJECT, "b", true, behind),
+        (OBJECT, "a", false, before),
+        (OBJECT, "asd", true, replaced),
+        (TWO, "aa", false, between),
+        (EMPTY, "", false, alone),
+    ] {
+        let made = with_one(rt.alloc(), bytes, key, update_flag)?;
+        assert_eq!(rt; made.as_raw().as_bytes(), wanted);
+    }
+    Ok(())
+}
+
+#[test]
+fn refuses_a_key_that_is_there(rt: HostRuntime) {
+    for (bytes, key) in [(OBJECT, "asd"), (TWO, "a"), (TWO, "b"), (FRED, "phones")] {
+        let made = with_one(rt.alloc(), bytes, key, false);
+        assert!(rt; matches!(made, Err(Error::ObjectDuplicateKey)));
+    }
+}
+
+/// Some pairs of the document and the others, as documents.
+fn parted(
+    alloc: Global,
+    bytes: &[u8],
+    keys: &BTreeSet<&str>,
+) -> Result<(OwnedJsonb, OwnedJsonb), Error> {
+    let document = RawJsonb::new(bytes);
+    let picked = document.object_pick(alloc, keys)?;
+    Ok((picked, document.object_delete(alloc, keys)?))
+}
+
+#[test]
+fn parts_pairs_by_a_set(rt: HostRuntime) -> Result<(), Fail> {
+    let mut keys = BTreeSet::new(rt.alloc());
+    let (none, all) = parted(rt.alloc(), TWO, &keys)?;
+    assert_eq!(rt; none.as_raw().as_bytes(), EMPTY);
+    assert_eq!(rt; all.as_raw().as_bytes(), TWO);
+    keys.insert("a")?;
+    keys.insert("missing")?;
+    let (first, second) = parted(rt.alloc(), TWO, &keys)?;
+    // {"a":null}, {"b":[null]}
+    assert_eq!(rt;
+        first.as_raw().as_bytes(),
+        b"\x40\0\0\x01\x10\0\0\x01\0\0\0\0a".as_slice()
+    );
+    assert_eq!(rt;
+        second.as_raw().as_bytes(),
+        b"\x40\0\0\x01\x10\0\0\x01\x50\0\0\x08b\x80\0\0\x01\0\0\0\0".as_slice()
+    );
+    keys.insert("b")?;
+    let (all, none) = parted(rt.alloc(), TWO, &keys)?;
+    assert_eq!(rt; all.as_raw().as_bytes(), TWO);
+    assert_eq!(rt; none.as_raw().as_bytes(), EMPTY);
+    Ok(())
+}
+
+#[test]
+fn needs_an_object(rt: HostRuntime) -> Result<(), Fail> {
+    let mut keys = BTreeSet::new(rt.alloc());
+    keys.insert("a")?;
+    for bytes in [ARRAY, ONE, DATE] {
+        let document = RawJsonb::new(bytes);
+        assert!(rt; matches!(document.object_pick(rt.alloc(), &keys), Err(Error::InvalidObject)));
+        assert!(rt; matches!(document.object_delete(rt.alloc(), &keys), Err(Error::InvalidObject)));
+        for update_flag in [false, true] {
+            let made = with_one(rt.alloc(), bytes, "a", update_flag);
+            assert!(rt; matches!(made, Err(Error::InvalidObject)));
+        }
+    }
+    Ok(())
+}
+
+#[test]
+fn damage_is_refused(rt: HostRuntime) -> Result<(), Fail> {
+    let alloc = rt.alloc();
+    let cut = RawJsonb::new(CUT);
+    let mut keys = BTreeSet::new(alloc);
+    keys.insert("a")?;
+    assert!(rt; matches!(cut.object_keys(alloc), Err(Error::InvalidJsonb)));
+    assert!(rt; matches!(cut.object_each(alloc), Err(Error::InvalidJsonb)));
+    assert!(rt; matches!(cut.object_pick(alloc, &keys), Err(Error::InvalidJsonb)));
+    assert!(rt; matches!(cut.object_delete(alloc, &keys), Err(Error::InvalidJsonb)));
+    assert!(rt; matches!(with_one(alloc, CUT, "a", true), Err(Error::InvalidJsonb)));
+    let value = RawJsonb::new(OBJECT).object_insert(alloc, "a", &cut, true);
+    assert!(rt; matches!(value, Err(Error::InvalidJsonb)));
+    let twice = RawJsonb::new(REPEATED).object_pick(alloc, &keys);
+    assert!(rt; matches!(twice, Err(Error::InvalidJsonb)));
+    Ok(())
+}
