@@ -7,12 +7,12 @@ ghost use Rattle.jsonb_keypath.specs.KeyPathViews.{key_paths_view};
 ghost use Rattle.jsonb_raw.specs.Documents.{raw_bytes, MakesOption};
 ghost use Rattle.jsonb_raw.specs.Places.{tree_at_steps};
 
-mod leaves;
-mod operators;
-mod sets;
 mod arrays;
 mod child;
+mod leaves;
 mod objects;
+mod operators;
+mod sets;
 
 use super::*;
 use jsonb_doc::{ArrayBuilder, Error};
