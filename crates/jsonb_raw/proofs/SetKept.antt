@@ -10,7 +10,8 @@ use Rattle.jsonb_doc.specs.Elements.{HasElementsLeft, IsElementsOf}
 use Rattle.jsonb_doc.specs.declared.element_iter.ElementIter.{ElementIter}
 use Rattle.jsonb_doc.specs.declared.error.Error.{Error}
 use Rattle.jsonb_doc.proofs.LimitLemmas.{array_too_large-more}
-use Rattle.jsonb_raw.specs.Sets.{members, Occurrence, occurrences}
+use Rattle.jsonb_raw.specs.Arrays.{as_elements}
+use Rattle.jsonb_raw.specs.Sets.{Occurrence, occurrences}
 use Rattle.jsonb_raw.specs.SetCounts.{keeps, kept_one, StandsBehind}
 use Rattle.jsonb_raw.specs.declared.functions.array.counts.KeyCounts.{KeyCounts}
 use Rattle.jsonb_raw.specs.declared.functions.array.sets.Kept.{Kept}
@@ -42,7 +43,7 @@ elements_fit ts f = fit_elements ts f.0 f.1.1
 pub elements_few : (ts : Trees) → Fits (array ts) → length (elements ts) < 2 ^ 63
 elements_few ts f = omega (arith, f.1.0, count_elements ts)
 
-pub members_fit : (t : Tree) → Fits t → AllByRecursion Fits (members t)
+pub members_fit : (t : Tree) → Fits t → AllByRecursion Fits (as_elements t)
 members_fit (array ts) f = elements_fit ts f
 members_fit t f = (f, tt)
 
@@ -56,7 +57,7 @@ pub array_found : (form : Form) (t : Tree) (it : ElementIter) → IsElementsOf f
 array_found form (array ts) it h = record { trees = ts; is = refl; left = h }
 array_found form t it h = absurd h
 
-pub no_array : (form : Form) (t : Tree) → IsElementsOf form t None → members t ≡ t ∷ []
+pub no_array : (form : Form) (t : Tree) → IsElementsOf form t None → as_elements t ≡ t ∷ []
 no_array form (array ts) h = absurd h
 no_array form t h = refl
 

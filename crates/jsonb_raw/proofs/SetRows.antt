@@ -3,7 +3,8 @@ use Rattle.std.specs.Prelude.{◌≡◌, [], ◌∷◌, true, false, pos, refl}
 use Rattle.jsonb_doc.specs.Number.{number_from, uint64, decimal64}
 use Rattle.jsonb_doc.specs.Extension.{date}
 use Rattle.jsonb_doc.specs.Tree.{Tree, number, extension, array, trees_of}
-use Rattle.jsonb_raw.specs.Sets.{members, distinct, shared, unshared, overlap}
+use Rattle.jsonb_raw.specs.Arrays.{as_elements}
+use Rattle.jsonb_raw.specs.Sets.{distinct, shared, unshared, overlap}
 
 abbrev one : Tree
 one = number (number_from uint64 (pos 1) 0)
@@ -24,26 +25,26 @@ ones = array (trees_of (one ∷ []))
 abbrev day : Tree
 day = extension (date (pos 1))
 
-dropped_once : unshared (members repeated) (members ones) ≡ one ∷ two ∷ decimal_one ∷ []
+dropped_once : unshared (as_elements repeated) (as_elements ones) ≡ one ∷ two ∷ decimal_one ∷ []
 dropped_once = refl
 
-kept_once : shared (members repeated) (members ones) ≡ one ∷ []
+kept_once : shared (as_elements repeated) (as_elements ones) ≡ one ∷ []
 kept_once = refl
 
-one_of_each : distinct (members repeated) ≡ one ∷ two ∷ []
+one_of_each : distinct (as_elements repeated) ≡ one ∷ two ∷ []
 one_of_each = refl
 
-nothing_dropped : unshared (members one) (members ones) ≡ []
+nothing_dropped : unshared (as_elements one) (as_elements ones) ≡ []
 nothing_dropped = refl
 
-overlaps_two : overlap (members repeated) (members two) ≡ true
+overlaps_two : overlap (as_elements repeated) (as_elements two) ≡ true
 overlaps_two = refl
 
-day_alone : shared (members day) (members day) ≡ day ∷ []
+day_alone : shared (as_elements day) (as_elements day) ≡ day ∷ []
 day_alone = refl
 
-days_overlap : overlap (members day) (members day) ≡ true
+days_overlap : overlap (as_elements day) (as_elements day) ≡ true
 days_overlap = refl
 
-two_not_there : overlap (members ones) (members two) ≡ false
+two_not_there : overlap (as_elements ones) (as_elements two) ≡ false
 two_not_there = refl

@@ -7,6 +7,7 @@ use Rattle.std.specs.Str.{bytes_eq}
 use Rattle.jsonb_doc.specs.Tree.{Tree, text, array, object, elements, members, field_of, trees_of, pairs_of}
 use Rattle.jsonb_raw.specs.Places.{index_position}
 use Rattle.jsonb_raw.specs.Arrays.{array_values}
+use Rattle.jsonb_raw.specs.Exists.{is_text}
 
 -- the element at a position of an array
 abbrev pub element_at : ℕ → Tree → Option Tree
@@ -32,10 +33,6 @@ without_position i ts = unwrap_or (option_map (remove ts) (index_position (lengt
 -- an array without the element that an index means
 abbrev pub without_index : ℤ → Tree → Option Tree
 without_index i t = option_map (λ ts. array (trees_of (without_position i ts))) (array_values t)
-
-abbrev pub is_text : List ℕ → Tree → Bool
-is_text name (text s) = bytes_eq s name
-is_text name _ = false
 
 -- an array without the texts that are the name, an object without the key
 abbrev pub without_name : List ℕ → Tree → Option Tree

@@ -4,11 +4,6 @@ use Rattle.std.specs.List.{list_any}
 use Rattle.jsonb_doc.specs.Tree.{Tree, array, elements}
 use Rattle.jsonb_doc.specs.Equal.{is_equal}
 
--- the elements of an array; any other tree counts as one element
-abbrev pub members : Tree → List Tree
-members (array ts) = elements ts
-members t = t ∷ []
-
 -- how many of the trees equal this one by value
 abbrev pub count_of : Tree → List Tree → ℕ
 count_of t us = count_by (λ u. is_equal u t) us

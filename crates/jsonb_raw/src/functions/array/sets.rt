@@ -14,7 +14,8 @@ ghost use Rattle.jsonb_doc.specs.Answer.{Answers, Builds, WantsMemory};
 ghost use Rattle.jsonb_doc.specs.View.{IsDecodingError};
 ghost use Rattle.jsonb_raw.specs.Documents.{raw_bytes, Makes, IsReadingError, IsMakingError};
 ghost use Rattle.jsonb_raw.specs.EqualityKey.{equality_key};
-ghost use Rattle.jsonb_raw.specs.Sets.{members, kept, distinct, shared, unshared, overlap};
+ghost use Rattle.jsonb_raw.specs.Arrays.{as_elements};
+ghost use Rattle.jsonb_raw.specs.Sets.{kept, distinct, shared, unshared, overlap};
 ghost use Rattle.jsonb_raw.specs.SetCounts.{CountsKeys, StandsBehind, keeps, kept_one};
 
 use super::counts::KeyCounts;
@@ -124,7 +125,7 @@ fn kept_members(
 ) -> Result<OwnedJsonb, Error>
     ensures made { (form : Form) (other : List Tree) (t : Tree) → Decodes form bytes.now t
         → StandsBehind kind counts other []
-        → Makes form (array (trees_of (kept (keeps kind other) (members t)))) result }
+        → Makes form (array (trees_of (kept (keeps kind other) (as_elements t)))) result }
     ensures errors { IfErr result IsMakingError }
 {
     match elements(bytes)? {
@@ -160,8 +161,8 @@ fn count_item(alloc: Global, item: &Item<'_>) -> Result<KeyCounts, Error>
 /// Counts the keys of a document's elements, where a root that is no array counts as one.
 fn count_members(alloc: Global, bytes: &[u8]) -> Result<KeyCounts, Error>
     ensures counts { (form : Form) (t : Tree) → Decodes form bytes.now t
-        → Answers result (λ m. CountsKeys m (members t)) }
-    ensures fit { (form : Form) (t : Tree) → Decodes form bytes.now t → AllByRecursion Fits (members t) }
+        → Answers result (λ m. CountsKeys m (as_elements t)) }
+    ensures fit { (form : Form) (t : Tree) → Decodes form bytes.now t → AllByRecursion Fits (as_elements t) }
     ensures errors { IfErr result IsReadingError }
 {
     match elements(bytes)? {
@@ -187,7 +188,7 @@ fn has_element(found: ElementIter<'_>, item: &Item<'_>) -> Result<bool, Error>
 /// Whether an element of the document equals the item by value, where a root that is no array counts as one.
 fn has_member(bytes: &[u8], item: &Item<'_>) -> Result<bool, Error>
     ensures has { (form other_form : Form) (t u : Tree) → Decodes form bytes.now u
-        → Stands other_form item.now t → IsOkAnd result (λ b. b ≡ list_any (is_equal t) (members u)) }
+        → Stands other_form item.now t → IsOkAnd result (λ b. b ≡ list_any (is_equal t) (as_elements u)) }
     ensures errors { IfErr result IsDecodingError }
 {
     match elements(bytes)? {
@@ -199,7 +200,7 @@ fn has_member(bytes: &[u8], item: &Item<'_>) -> Result<bool, Error>
 /// Whether an element equals one of the other document.
 fn elements_overlap(found: ElementIter<'_>, other: &[u8]) -> Result<bool, Error>
     ensures overlap { (form other_form : Form) (ts : Trees) (u : Tree) → HasElementsLeft form found.entry ts
-        → Decodes other_form other.now u → IsOkAnd result (λ b. b ≡ overlap (elements_of ts) (members u)) }
+        → Decodes other_form other.now u → IsOkAnd result (λ b. b ≡ overlap (elements_of ts) (as_elements u)) }
     ensures errors { IfErr result IsDecodingError }
 {
     for element in found {
@@ -213,7 +214,7 @@ fn elements_overlap(found: ElementIter<'_>, other: &[u8]) -> Result<bool, Error>
 /// The same of a document, where a root that is no array counts as one element.
 fn members_overlap(bytes: &[u8], other: &[u8]) -> Result<bool, Error>
     ensures overlap { (form other_form : Form) (t u : Tree) → Decodes form bytes.now t
-        → Decodes other_form other.now u → IsOkAnd result (λ b. b ≡ overlap (members t) (members u)) }
+        → Decodes other_form other.now u → IsOkAnd result (λ b. b ≡ overlap (as_elements t) (as_elements u)) }
     ensures errors { IfErr result IsDecodingError }
 {
     match elements(bytes)? {
@@ -230,7 +231,7 @@ impl RawJsonb<'_> {
     /// array passes the limits, and `OutOfMemory` where memory is refused.
     pub fn array_distinct(&self, alloc: Global) -> Result<OwnedJsonb, Error>
         ensures distinct { (form : Form) (t : Tree) → Decodes form (raw_bytes self.now) t
-            → Makes form (array (trees_of (distinct (members t)))) result }
+            → Makes form (array (trees_of (distinct (as_elements t)))) result }
         ensures errors { IfErr result IsMakingError }
     {
         kept_members(alloc, Kept::First, KeyCounts::new(alloc), self.as_bytes())
@@ -249,7 +250,7 @@ impl RawJsonb<'_> {
     ) -> Result<OwnedJsonb, Error>
         ensures shared { (form other_form : Form) (t u : Tree) → Decodes form (raw_bytes self.now) t
             → Decodes other_form (raw_bytes other.now) u
-            → Makes form (array (trees_of (shared (members t) (members u)))) result }
+            → Makes form (array (trees_of (shared (as_elements t) (as_elements u)))) result }
         ensures errors { IfErr result IsMakingError }
     {
         let counts = count_members(alloc, other.as_bytes())?;
@@ -263,7 +264,7 @@ impl RawJsonb<'_> {
     pub fn array_except(&self, alloc: Global, other: &RawJsonb<'_>) -> Result<OwnedJsonb, Error>
         ensures unshared { (form other_form : Form) (t u : Tree) → Decodes form (raw_bytes self.now) t
             → Decodes other_form (raw_bytes other.now) u
-            → Makes form (array (trees_of (unshared (members t) (members u)))) result }
+            → Makes form (array (trees_of (unshared (as_elements t) (as_elements u)))) result }
         ensures errors { IfErr result IsMakingError }
     {
         let counts = count_members(alloc, other.as_bytes())?;
@@ -277,7 +278,7 @@ impl RawJsonb<'_> {
     pub fn array_overlap(&self, other: &RawJsonb<'_>) -> Result<bool, Error>
         ensures overlap { (form other_form : Form) (t u : Tree) → Decodes form (raw_bytes self.now) t
             → Decodes other_form (raw_bytes other.now) u
-            → IsOkAnd result (λ b. b ≡ overlap (members t) (members u)) }
+            → IsOkAnd result (λ b. b ≡ overlap (as_elements t) (as_elements u)) }
         ensures errors { IfErr result IsDecodingError }
     {
         members_overlap(self.as_bytes(), other.as_bytes())

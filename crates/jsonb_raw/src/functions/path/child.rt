@@ -13,7 +13,8 @@ ghost use Rattle.jsonb_doc.specs.Elements.{HasElementsLeft};
 ghost use Rattle.jsonb_raw.specs.Documents.{raw_bytes, Makes, MakesOption, IsMakingError};
 ghost use Rattle.jsonb_raw.specs.Making.{MakesOr, IsMakingErrorOr};
 ghost use Rattle.jsonb_raw.specs.Places.{index_position};
-ghost use Rattle.jsonb_raw.specs.Children.{element_at, field_ignoring_case, named_child, without_index, is_text, without_name};
+ghost use Rattle.jsonb_raw.specs.Children.{element_at, field_ignoring_case, named_child, without_index, without_name};
+ghost use Rattle.jsonb_raw.specs.Exists.{is_text};
 
 use super::nth_child;
 use crate::functions::push::{push_elements, push_pair};

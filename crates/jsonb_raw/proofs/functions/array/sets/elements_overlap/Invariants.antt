@@ -3,7 +3,8 @@ use Rattle.jsonb_doc.specs.Tree.{Tree, Trees, elements}
 use Rattle.jsonb_doc.specs.Payload.{Form}
 use Rattle.jsonb_doc.specs.Format.{Decodes}
 use Rattle.jsonb_doc.specs.Elements.{HasElementsLeft}
-use Rattle.jsonb_raw.specs.Sets.{members, overlap}
+use Rattle.jsonb_raw.specs.Arrays.{as_elements}
+use Rattle.jsonb_raw.specs.Sets.{overlap}
 use Rattle.jsonb_raw.proofs.Left.{SomeElements}
 use Rattle.jsonb_raw.proofs.functions.array.sets.elements_overlap.Given as goal
 
@@ -13,5 +14,5 @@ invariant-loop-element l = record {
   can : (goal.iterator-loop-element).can_next l.element-iterator;
   finite : (goal.iterator-loop-element).is_finite l.element-iterator;
   left : (form other_form : Form) (ts : Trees) (u : Tree) → HasElementsLeft form l.fn.found ts → Decodes other_form l.other u
-      → SomeElements form l.element-iterator (λ left. overlap (elements left) (members u) ≡ overlap (elements ts) (members u));
+      → SomeElements form l.element-iterator (λ left. overlap (elements left) (as_elements u) ≡ overlap (elements ts) (as_elements u));
 }

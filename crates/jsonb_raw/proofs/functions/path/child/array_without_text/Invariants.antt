@@ -2,7 +2,7 @@ use Rattle.std.proofs.Common.{filter, not}
 use Rattle.jsonb_doc.specs.Tree.{Trees, array, elements}
 use Rattle.jsonb_doc.specs.Payload.{Form}
 use Rattle.jsonb_doc.specs.Format.{Decodes}
-use Rattle.jsonb_raw.specs.Children.{is_text}
+use Rattle.jsonb_raw.specs.Exists.{is_text}
 use Rattle.jsonb_raw.proofs.Held.{HeldElements}
 use Rattle.jsonb_raw.proofs.functions.path.child.array_without_text.Given as goal
 
