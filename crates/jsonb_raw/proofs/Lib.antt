@@ -27,3 +27,4 @@ pub mod Listed
 pub mod Taken
 pub mod ArrayLemmas
 pub mod ChildAnswers
+pub mod Dealt

@@ -15,3 +15,4 @@ pub mod Making
 pub mod Objects
 pub mod Arrays
 pub mod Children
+pub mod ObjectsLaws

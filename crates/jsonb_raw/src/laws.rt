@@ -5,6 +5,7 @@ ghost use Rattle.jsonb_keypath.specs.KeyPathGrammar.{key_path};
 ghost use Rattle.std.specs.Int.{w8, w16};
 ghost use Rattle.jsonb_raw.specs.KeyLaws.{KeysKeepBelow, KeysKeepEqual, KeysOrder, KeysTellApart, EqualityKeysTellApart, DigitsWrite};
 ghost use Rattle.jsonb_raw.specs.PlacesLaws.{NoStepsMeetTheWhole, PrintsToItsPlace};
+ghost use Rattle.jsonb_raw.specs.ObjectsLaws.{PickAndDeletePartObjects};
 
 /// The place of no steps is the whole tree.
 pub fn no_steps_meet_the_whole()
@@ -40,4 +41,9 @@ pub fn equality_keys()
 /// The digits of a number's key write its absolute value, with no zero at either end.
 pub fn number_digits()
     ensures { DigitsWrite }
+{}
+
+/// Each pair of an object is either picked by a set of keys or left when the same keys are deleted, in order.
+pub fn pick_and_delete_part_objects()
+    ensures { PickAndDeletePartObjects }
 {}
