@@ -1,6 +1,6 @@
 -- Two filters that pass the opposite deal a list out.
-use Rattle.std.proofs.Common.{◌≡◌, Bool, true, false, not, List, [], ◌∷◌, filter, cond, inl, inr, refl, sym, subst}
-use Rattle.jsonb_doc.specs.Tree.{Tree, Pairs, members, pairs_of}
+use Rattle.std.proofs.Common.{Bool, true, false, not, List, [], ◌∷◌, filter, cond, inl, inr, refl}
+use Rattle.jsonb_doc.specs.Tree.{Pairs, members, pairs_of}
 use Rattle.jsonb_doc.proofs.TreeLists.{members-pairs_of}
 use Rattle.jsonb_raw.specs.Objects.{TextSet, is_in, picked, dropped}
 use Rattle.jsonb_raw.specs.ObjectsLaws.{IsDealtTo, IsParted}

@@ -28,3 +28,4 @@ pub mod Taken
 pub mod ArrayLemmas
 pub mod ChildAnswers
 pub mod Dealt
+mod CallRows
