@@ -1,12 +1,9 @@
 -- What the calls on children answer, by the item or the spot that was found.
-use Rattle.std.proofs.Common.{◌≡◌, ◌≢◌, ◌↔◌, ℕ, suc, zero, ℤ, Bool, true, false, not, IsTrue, List, [], ◌∷◌, ◌++◌, map, length, drop, slice_get, Option, Some, None, Result, Ok, Err, unwrap_or, cond, if◌then◌else◌, Bor, refl, sym, ap, subst, ◌∙◌}
-use Rattle.std.specs.Prelude.{option_map, option_and_then}
+use Rattle.std.proofs.Common.{◌≡◌, ◌↔◌, ℕ, suc, zero, ℤ, Bool, true, false, not, IsTrue, List, [], ◌∷◌, map, length, drop, slice_get, Option, Some, None, Result, Ok, Err, Bor, refl, sym, ap, subst, ◌∙◌}
+use Rattle.std.specs.Prelude.{option_map}
 use Rattle.std.specs.List.{find, remove}
-use Rattle.std.specs.Option.{option_or}
-use Rattle.std.specs.Str.{bytes_eq}
 use Rattle.std.specs.Char.{to_ascii_lowercase}
 use Rattle.std.proofs.lemmas.Slice.Eq.{bytes_eq-Decides}
-use Rattle.jsonb_doc.specs.Tree as spec
 use Rattle.jsonb_doc.specs.Tree.{Tree, array, object, Trees, Pairs, elements, members, trees_of, field_of}
 use Rattle.jsonb_doc.specs.Payload.{Form}
 use Rattle.jsonb_doc.specs.Format.{Decodes}
@@ -18,7 +15,7 @@ use Rattle.jsonb_doc.specs.declared.item.Item.{Item}
 use Rattle.jsonb_doc.specs.declared.item.Item.TheVariants as item
 use Rattle.jsonb_doc.proofs.TreeLists.{trees_of-elements}
 use Rattle.jsonb_raw.specs.Places.{children, index_position}
-use Rattle.jsonb_raw.specs.Children.{element_at, same_ignoring_case, field_ignoring_case, named_child, without_position, without_index, without_name}
+use Rattle.jsonb_raw.specs.Children.{element_at, same_ignoring_case, field_ignoring_case, named_child, without_index, without_name}
 
 -- ---- arrays and objects by their items
 

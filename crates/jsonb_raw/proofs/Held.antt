@@ -1,13 +1,13 @@
 -- A loop over a document's parts that pushes into a builder: what is held, followed by what the parts that are left give, is
 -- the whole. `gives` is what the parts that are left are to give, `whole` what all of them give.
-use Rattle.std.proofs.Common.{◌≡◌, ℕ, not, IsTrue, List, [], ◌∷◌, ◌++◌, Option, Some, None, Result, Ok, Err, refl, sym, ap, subst, ◌∙◌}
+use Rattle.std.proofs.Common.{◌≡◌, ℕ, not, IsTrue, List, [], ◌∷◌, ◌++◌, Option, Some, Result, Ok, subst}
 use Rattle.std.specs.Borrow.{Bor}
 use Rattle.std.specs.Map.{keys_of}
 use Rattle.jsonb_doc.specs.declared.error.Error.{Error}
 use Rattle.jsonb_doc.specs.declared.item.Item.{Item}
 use Rattle.jsonb_doc.specs.declared.pair_iter.PairIter.{PairIter}
 use Rattle.jsonb_doc.specs.declared.element_iter.ElementIter.{ElementIter}
-use Rattle.jsonb_doc.specs.Tree.{Tree, array, object, Trees, no_trees, tree, Pairs, no_pairs, pair, trees_of, pairs_of}
+use Rattle.jsonb_doc.specs.Tree.{Tree, array, object, Trees, tree, Pairs, pair, trees_of, pairs_of}
 use Rattle.jsonb_doc.specs.Payload.{Form}
 use Rattle.jsonb_doc.specs.Item.{Stands}
 use Rattle.jsonb_doc.specs.Answer.{WantsRoom}

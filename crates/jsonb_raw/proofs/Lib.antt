@@ -50,3 +50,5 @@ pub mod CutLemmas
 pub mod CutWords
 pub mod LeafLimits
 pub mod ChildAnswers
+pub mod Dealt
+mod CallRows

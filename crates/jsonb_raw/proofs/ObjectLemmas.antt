@@ -1,5 +1,5 @@
 -- Which trees have pairs, and what is made of them.
-use Rattle.std.proofs.Common.{◌≡◌, ◌⊎◌, inl, inr, ℕ, Bool, true, false, List, [], ◌∷◌, ◌++◌, String, Global, subst, Option, Some, None, Result, Ok, Err, Ordering, Less, Equal, Greater, nat_cmp, refl, sym, ap, ◌∙◌, append-nil}
+use Rattle.std.proofs.Common.{◌≡◌, ◌⊎◌, inl, inr, ℕ, List, [], ◌∷◌, ◌++◌, String, Global, subst, Option, Some, None, Result, Ok, Err, Ordering, Less, Equal, Greater, nat_cmp, refl, sym, ap, ◌∙◌, append-nil}
 use Rattle.std.specs.Prelude.{is_some}
 use Rattle.std.specs.Borrow.{Bor}
 use Rattle.std.specs.Ordering.{match_ordering, ordering_reverse, is_eq}
@@ -17,7 +17,7 @@ use Rattle.jsonb_doc.specs.Answer.{SameOption, WantsRoom}
 use Rattle.jsonb_doc.specs.Limits.{IsTooLarge}
 use Rattle.jsonb_doc.specs.declared.error.Error.TheVariants.{OutOfMemory, TooLarge}
 use Rattle.jsonb_doc.specs.ObjectBuilder.{insert_pair}
-use Rattle.jsonb_doc.specs.ObjectKeys.{HasKeysLeft, TakesKey, GivesKey, IsKeysOf}
+use Rattle.jsonb_doc.specs.ObjectKeys.{HasKeysLeft, TakesKey, IsKeysOf}
 use Rattle.jsonb_doc.specs.declared.key_iter.KeyIter.{KeyIter}
 use Rattle.jsonb_doc.specs.ObjectPairs.{IsPairsOf}
 use Rattle.jsonb_doc.specs.declared.error.Error.{Error}

@@ -26,9 +26,9 @@ pub mod Exists
 pub mod ExistsLaws
 pub mod Deletes
 pub mod DeletesLaws
-pub mod MetChildren
 pub mod Making
 pub mod Objects
 pub mod Arrays
 pub mod Children
 pub mod Cuts
+pub mod ObjectsLaws

@@ -9,6 +9,7 @@ ghost use Rattle.jsonb_raw.specs.PlacesLaws.{NoStepsMeetTheWhole, PrintsToItsPla
 ghost use Rattle.jsonb_raw.specs.LeavesLaws.{LeavesAreInPlace};
 ghost use Rattle.jsonb_raw.specs.ExistsLaws.{AllOfNoneAndAnyOfNone};
 ghost use Rattle.jsonb_raw.specs.DeletesLaws.{PairsAreGone};
+ghost use Rattle.jsonb_raw.specs.ObjectsLaws.{PickAndDeletePartObjects};
 
 /// The place of no steps is the whole tree.
 pub fn no_steps_meet_the_whole()
@@ -76,4 +77,9 @@ pub fn all_of_no_texts_and_any_of_no_texts()
 /// Where a place that is a pair of an object is taken out, its steps meet nothing any more.
 pub fn pairs_that_are_taken_out_are_gone()
     ensures { PairsAreGone }
+{}
+
+/// Each pair of an object is either picked by a set of keys or left when the same keys are deleted, in order.
+pub fn pick_and_delete_part_objects()
+    ensures { PickAndDeletePartObjects }
 {}

@@ -19,9 +19,13 @@ const ONE_IN_ARRAY: &[u8] = b"\x80\0\0\x01\x20\0\0\x02\x50\x01";
 const OBJECT: &[u8] = b"\x40\0\0\x01\x10\0\0\x03\x10\0\0\x03asdadf";
 
 const EMPTY: &[u8] = b"\x80\0\0\0";
+
 const ONE: &[u8] = b"\x20\0\0\0\x20\0\0\x02\x50\x01";
+
 const NINE: &[u8] = b"\x20\0\0\0\x20\0\0\x02\x50\x09";
+
 const DATE: &[u8] = b"\x20\0\0\0\x60\0\0\x05\x10\0\0\0\x01";
+
 const CUT: &[u8] = b"\x80\0\0";
 
 /// The document with the 9 at a position.

@@ -35,15 +35,25 @@ const CASES: &[u8] =
     b"\x40\0\0\x03\x10\0\0\x02\x10\0\0\x02\x10\0\0\x02\x20\0\0\x02\x30\0\0\0\x40\0\0\0ABAbab\x50\x01";
 
 const ONE: &[u8] = b"\x20\0\0\0\x20\0\0\x02\x50\x01";
+
 const FIVE: &[u8] = b"\x20\0\0\0\x20\0\0\x02\x50\x05";
+
 const TWENTY: &[u8] = b"\x20\0\0\0\x20\0\0\x02\x50\x14";
+
 const YES: &[u8] = b"\x20\0\0\0\x40\0\0\0";
+
 const NO: &[u8] = b"\x20\0\0\0\x30\0\0\0";
+
 const NULL: &[u8] = b"\x20\0\0\0\0\0\0\0";
+
 const NULL_IN_ARRAY: &[u8] = b"\x80\0\0\x01\0\0\0\0";
+
 const ADF: &[u8] = b"\x20\0\0\0\x10\0\0\x03adf";
+
 const TEXT: &[u8] = b"\x20\0\0\0\x10\0\0\x01a";
+
 const DATE: &[u8] = b"\x20\0\0\0\x60\0\0\x05\x10\0\0\0\x01";
+
 const CUT: &[u8] = b"\x80\0\0";
 
 /// Whether what was found is this document, or none where none is given.
@@ -136,7 +146,12 @@ fn takes_an_element_out(rt: HostRuntime) -> Result<(), Fail> {
         assert_eq!(rt; made.as_raw().as_bytes(), wanted, "at {index}");
     }
     for bytes in [OBJECT, ONE, TEXT, NULL, DATE] {
-        assert!(rt; matches!(without_index(rt.alloc(), bytes, 0), Err(Error::InvalidJsonType)));
+        assert!(rt;
+            matches!(
+                without_index(rt.alloc(), bytes, 0),
+                Err(Error::InvalidJsonType)
+            )
+        );
     }
     Ok(())
 }
@@ -147,8 +162,7 @@ fn takes_a_name_out(rt: HostRuntime) -> Result<(), Fail> {
     let texts =
         b"\x80\0\0\x05\x10\0\0\x01\x20\0\0\x02\x10\0\0\x01\x10\0\0\x01\x50\0\0\x09a\x50\x01ab\x80\0\0\x01\x10\0\0\x01a".as_slice();
     let others =
-        b"\x80\0\0\x03\x20\0\0\x02\x10\0\0\x01\x50\0\0\x09\x50\x01b\x80\0\0\x01\x10\0\0\x01a"
-            .as_slice();
+        b"\x80\0\0\x03\x20\0\0\x02\x10\0\0\x01\x50\0\0\x09\x50\x01b\x80\0\0\x01\x10\0\0\x01a".as_slice();
     let second = b"\x40\0\0\x01\x10\0\0\x01\x50\0\0\x08b\x80\0\0\x01\0\0\0\0".as_slice();
     for (bytes, name, wanted) in [
         (ONE_AND_TEXT, "a", ONE_IN_ARRAY),

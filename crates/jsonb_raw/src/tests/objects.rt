@@ -21,8 +21,11 @@ const FRED: &[u8] =
 const ARRAY: &[u8] = b"\x80\0\0\x01\x20\0\0\x02\x50\x01";
 
 const EMPTY: &[u8] = b"\x40\0\0\0";
+
 const ONE: &[u8] = b"\x20\0\0\0\x20\0\0\x02\x50\x01";
+
 const DATE: &[u8] = b"\x20\0\0\0\x60\0\0\x05\x10\0\0\0\x01";
+
 const CUT: &[u8] = b"\x40\0\0";
 
 // an object in whose bytes the key "a" stands twice
@@ -151,8 +154,18 @@ fn needs_an_object(rt: HostRuntime) -> Result<(), Fail> {
     keys.insert("a")?;
     for bytes in [ARRAY, ONE, DATE] {
         let document = RawJsonb::new(bytes);
-        assert!(rt; matches!(document.object_pick(rt.alloc(), &keys), Err(Error::InvalidObject)));
-        assert!(rt; matches!(document.object_delete(rt.alloc(), &keys), Err(Error::InvalidObject)));
+        assert!(rt;
+            matches!(
+                document.object_pick(rt.alloc(), &keys),
+                Err(Error::InvalidObject)
+            )
+        );
+        assert!(rt;
+            matches!(
+                document.object_delete(rt.alloc(), &keys),
+                Err(Error::InvalidObject)
+            )
+        );
         for update_flag in [false, true] {
             let made = with_one(rt.alloc(), bytes, "a", update_flag);
             assert!(rt; matches!(made, Err(Error::InvalidObject)));

@@ -21,8 +21,8 @@ use crate::functions::push::{push_elements, push_pair};
 use crate::owned::OwnedJsonb;
 use crate::raw::RawJsonb;
 use jsonb_doc::{
-    ArrayBuilder, ElementIter, Error, Item, ObjectBuilder, elements, encode_item, field_spot, pairs,
-    root_item, root_spot,
+    ArrayBuilder, ElementIter, Error, Item, ObjectBuilder, elements, encode_item, field_spot,
+    pairs, root_item, root_spot,
 };
 use std::alloc::Global;
 
@@ -114,11 +114,7 @@ impl RawJsonb<'_> {
 }
 
 /// The value of the first pair whose key is the name in some case of ASCII letters.
-fn value_ignoring_case(
-    alloc: Global,
-    bytes: &[u8],
-    name: &str,
-) -> Result<Option<OwnedJsonb>, Error>
+fn value_ignoring_case(alloc: Global, bytes: &[u8], name: &str) -> Result<Option<OwnedJsonb>, Error>
     ensures value { (form : Form) (t : Tree) → Decodes form bytes.now t
         → MakesOption form (field_ignoring_case name.now t) result }
     ensures errors { IfErr result IsMakingError }

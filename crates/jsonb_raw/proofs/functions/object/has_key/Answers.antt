@@ -1,4 +1,4 @@
-use Rattle.std.proofs.Common.{ap, ◌∙◌}
+use Rattle.std.proofs.Common.{◌∙◌}
 use Rattle.jsonb_doc.specs.Tree.{field_of}
 use Rattle.jsonb_doc.specs.Spots.{Marks}
 use Rattle.jsonb_doc.proofs.SpotsTaken.{decodes_any}

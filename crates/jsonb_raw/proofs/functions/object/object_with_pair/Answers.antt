@@ -1,7 +1,6 @@
-use Rattle.std.proofs.Common.{◌≡◌, [], ◌∷◌, ◌++◌, refl, Ok, Less, Greater}
+use Rattle.std.proofs.Common.{[], ◌∷◌, Ok, Greater}
 use Rattle.std.proofs.lemmas.Result.{err_from_is_err_and}
-use Rattle.jsonb_doc.specs.Tree.{Tree, Pairs, object, members}
-use Rattle.jsonb_doc.specs.Format.{Decodes}
+use Rattle.jsonb_doc.specs.Tree.{object, members}
 use Rattle.jsonb_doc.specs.ObjectBuilder.{insert_pair}
 use Rattle.jsonb_doc.specs.ObjectPairs.{HasPairsLeft}
 use Rattle.jsonb_doc.specs.declared.error.Error.TheVariants.{InvalidObject}

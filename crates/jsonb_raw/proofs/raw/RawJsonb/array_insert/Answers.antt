@@ -28,5 +28,5 @@ returns-clause-inserted c = λ form t value d dv.
     let dv' : Decodes form c.as_bytes-value.result.now value = rw c.as_bytes-value.ensures dv in
     let o = array_of form t _ _ c.in-Some.is (c.in_ok-elements.ensures.decodes form t d') in
     let place : c.insert_place-place.result ≡ insert_place (length (elements o.0)) c.args.pos =
-        c.insert_place-place.ensures ∙ ap (insert_place c.len.result) (to_z-of_z w32 c.args.pos c.ranges.pos) ∙ ap (λ n. insert_place n c.args.pos) (c.len.ensures form o.0 o.2 ∙ length-elements o.0) in
+    c.insert_place-place.ensures ∙ ap (insert_place c.len.result) (to_z-of_z w32 c.args.pos c.ranges.pos) ∙ ap (λ n. insert_place n c.args.pos) (c.len.ensures form o.0 o.2 ∙ length-elements o.0) in
     rw (o.1, ← place) (c.array_with_element.ensures.inserted form o.0 value o.2 dv')

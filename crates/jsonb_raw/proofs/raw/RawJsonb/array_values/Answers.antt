@@ -1,6 +1,6 @@
 use Rattle.std.proofs.Common.{◌≡◌, ◌++◌, [], ◌∷◌}
 use Rattle.std.proofs.lemmas.Result.{err_from_is_err_and}
-use Rattle.jsonb_doc.specs.Tree.{Tree, array, elements}
+use Rattle.jsonb_doc.specs.Tree.{array, elements}
 use Rattle.jsonb_doc.specs.Format.{Decodes}
 use Rattle.jsonb_raw.proofs.Left.{SomeElements-all, SomeElements-first, SomeElements-error, SomeElements-none}
 use Rattle.jsonb_raw.proofs.Listed.{Made, none_made, one_made, all_made}

@@ -1,4 +1,4 @@
-use Rattle.std.proofs.Common.{◌≡◌, None, Some, length, refl, sym, ap, ◌∙◌, w32}
+use Rattle.std.proofs.Common.{◌≡◌, None, Some, length, sym, ap, ◌∙◌, w32}
 use Rattle.std.proofs.lemmas.Int.{to_z-of_z}
 use Rattle.std.specs.List.{remove}
 use Rattle.jsonb_doc.specs.Tree.{array, elements, trees_of}
@@ -14,7 +14,7 @@ returns-in-Some-index_position-clause-deleted c = λ form t d.
     let d' : Decodes form c.as_bytes-bytes.result.now t = rw c.as_bytes-bytes.ensures d in
     let o = array_of form t _ _ c.in-Some.is (c.in_ok-elements.ensures.decodes form t d') in
     let found : index_position (length (elements o.0)) c.args.index ≡ Some c.in-Some-index_position.position =
-        ap (λ n. index_position n c.args.index) (sym (c.len.ensures form o.0 o.2 ∙ length-elements o.0)) ∙ ap (index_position c.len.result) (sym (to_z-of_z w32 c.args.index c.ranges.index)) ∙ sym c.index_position.ensures ∙ c.in-Some-index_position.is in
+    ap (λ n. index_position n c.args.index) (sym (c.len.ensures form o.0 o.2 ∙ length-elements o.0)) ∙ ap (index_position c.len.result) (sym (to_z-of_z w32 c.args.index c.ranges.index)) ∙ sym c.index_position.ensures ∙ c.in-Some-index_position.is in
     let is : without_index c.args.index t ≡ Some (array (trees_of (remove (elements o.0) c.in-Some-index_position.position))) = ap (without_index c.args.index) o.1 ∙ without_some c.args.index o.0 _ found in
     rw is (c.array_without_element.ensures.deleted form o.0 o.2)
 
@@ -23,6 +23,6 @@ returns-in_ok-from_slice-in-None-clause-deleted c = λ form t d.
     let d' : Decodes form c.as_bytes-bytes.result.now t = rw c.as_bytes-bytes.ensures d in
     let o = array_of form t _ _ c.in-Some.is (c.in_ok-elements.ensures.decodes form t d') in
     let found : index_position (length (elements o.0)) c.args.index ≡ None =
-        ap (λ n. index_position n c.args.index) (sym (c.len.ensures form o.0 o.2 ∙ length-elements o.0)) ∙ ap (index_position c.len.result) (sym (to_z-of_z w32 c.args.index c.ranges.index)) ∙ sym c.index_position.ensures ∙ c.in-None.is in
+    ap (λ n. index_position n c.args.index) (sym (c.len.ensures form o.0 o.2 ∙ length-elements o.0)) ∙ ap (index_position c.len.result) (sym (to_z-of_z w32 c.args.index c.ranges.index)) ∙ sym c.index_position.ensures ∙ c.in-None.is in
     let is : without_index c.args.index t ≡ Some (array o.0) = ap (without_index c.args.index) o.1 ∙ without_none c.args.index o.0 found in
     rw (is, c.new.ensures, c.in_ok-from_slice-in-None.ensures.items) (rw o.1 at d')

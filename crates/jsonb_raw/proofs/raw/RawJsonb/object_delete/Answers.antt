@@ -1,6 +1,6 @@
 use Rattle.std.proofs.Common.{◌≡◌, true, false, sym, ◌∙◌, refl, Ok}
 use Rattle.std.proofs.lemmas.Result.{err_from_is_err_and}
-use Rattle.jsonb_doc.specs.Tree.{Tree, object, members}
+use Rattle.jsonb_doc.specs.Tree.{object, members}
 use Rattle.jsonb_doc.specs.Format.{Decodes}
 use Rattle.jsonb_doc.specs.declared.error.Error.TheVariants.{InvalidObject}
 use Rattle.jsonb_doc.proofs.BuilderSteps.{AreRising-filter, pairs_whole}

@@ -1,6 +1,6 @@
 use Rattle.std.proofs.Common.{◌≡◌, ◌++◌, [], ◌∷◌}
 use Rattle.std.proofs.lemmas.Result.{err_from_is_err_and}
-use Rattle.jsonb_doc.specs.Tree.{Tree, object, members}
+use Rattle.jsonb_doc.specs.Tree.{object, members}
 use Rattle.jsonb_doc.specs.Format.{Decodes}
 use Rattle.jsonb_raw.specs.Making.{IsPairOf}
 use Rattle.jsonb_raw.proofs.Left.{SomePairs-all, SomePairs-first, SomePairs-error, SomePairs-none}

@@ -1,6 +1,6 @@
-use Rattle.std.proofs.Common.{◌≡◌, [], ◌∷◌, refl, map}
+use Rattle.std.proofs.Common.{[], ◌∷◌, refl, map}
 use Rattle.std.proofs.lemmas.Result.{err_from_is_err_and}
-use Rattle.jsonb_doc.specs.Tree.{Tree, object, keys, text}
+use Rattle.jsonb_doc.specs.Tree.{object, keys, text}
 use Rattle.jsonb_doc.specs.Format.{Decodes}
 use Rattle.jsonb_doc.proofs.BuilderSteps.{HoldsFront, front_empty, front_pushed, front_refused, front_whole}
 use Rattle.jsonb_raw.proofs.ObjectLemmas.{object_of_keys, first_key, no_key_refused, no_more_keys}

@@ -1,5 +1,5 @@
 use Rattle.std.proofs.Common.{ℕ, List, map}
-use Rattle.jsonb_doc.specs.Tree.{Tree, Pairs, object, keys, text}
+use Rattle.jsonb_doc.specs.Tree.{Pairs, object, keys, text}
 use Rattle.jsonb_doc.specs.Payload.{Form}
 use Rattle.jsonb_doc.specs.Format.{Decodes}
 use Rattle.jsonb_doc.specs.ObjectKeys.{HasKeysLeft}

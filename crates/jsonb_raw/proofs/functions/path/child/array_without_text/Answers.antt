@@ -1,6 +1,6 @@
-use Rattle.std.proofs.Common.{◌≡◌, true, false, not, filter, refl, sym, ap, ◌∙◌}
+use Rattle.std.proofs.Common.{◌≡◌, true, false, not, filter, refl, sym, ◌∙◌}
 use Rattle.std.proofs.lemmas.Result.{err_from_is_err_and}
-use Rattle.jsonb_doc.specs.Tree.{Tree, array, elements}
+use Rattle.jsonb_doc.specs.Tree.{array, elements}
 use Rattle.jsonb_raw.specs.Exists.{is_text}
 use Rattle.jsonb_raw.proofs.Left.{SomeElements-error}
 use Rattle.jsonb_raw.proofs.Held.{elements_begun, elements_pushed, elements_refused, elements_skipped}

@@ -1,7 +1,7 @@
-use Rattle.std.proofs.Common.{◌≡◌, true, false, not, filter, refl, sym, ap, ◌∙◌}
+use Rattle.std.proofs.Common.{◌≡◌, true, false, not, filter, refl}
 use Rattle.std.specs.Str.{bytes_eq}
 use Rattle.std.proofs.lemmas.Result.{err_from_is_err_and}
-use Rattle.jsonb_doc.specs.Tree.{Tree, object, members}
+use Rattle.jsonb_doc.specs.Tree.{object, members}
 use Rattle.jsonb_doc.proofs.BuilderSteps.{AreRising-filter, pairs_whole}
 use Rattle.jsonb_raw.proofs.Left.{SomePairs-error, SomePairs-none}
 use Rattle.jsonb_raw.proofs.Held.{pairs_begun, pairs_pushed, pairs_refused, pairs_skipped}

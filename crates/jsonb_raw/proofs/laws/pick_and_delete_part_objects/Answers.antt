@@ -1,0 +1,5 @@
+use Rattle.jsonb_raw.proofs.Dealt.{parted}
+use Rattle.jsonb_raw.proofs.laws.pick_and_delete_part_objects.Goals as goal
+
+pub returns : goal.returns
+returns c = λ set ps. parted set ps
