@@ -100,5 +100,5 @@ module _ (bytes head kw k m v vw kc x mc e cb : List ℕ) (key value : EntryPlac
       let fifth = slice_end bytes (head ++ (kw ++ (k ++ (m ++ (v ++ (vw ++ (kc ++ (x ++ (mc ++ e))))))))) cb value.end (is ∙ simp append_assoc) (simp length-append (omega arith)) in
       rw (first, second, third, fourth, fifth) refl
 
-  pub both_shorter : length (around bytes (Some key) value) ≤ length bytes
-  both_shorter = rw both_left_out (simp length-append (omega (arith, simp length-append at (ap length is))))
+  pub both_shorter : length (around bytes (Some key) value) + 4 ≤ length bytes
+  both_shorter = rw both_left_out (simp length-append (omega (arith, four, simp length-append at (ap length is))))

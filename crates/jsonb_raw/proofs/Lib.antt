@@ -28,3 +28,4 @@ pub mod PositionLemmas
 pub mod EntryLists
 pub mod CutLemmas
 pub mod CutWords
+pub mod CutChild
