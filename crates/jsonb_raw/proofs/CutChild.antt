@@ -11,13 +11,13 @@ use Rattle.jsonb_doc.specs.Format.{header, array_header, object_header, containe
 use Rattle.jsonb_doc.specs.Encoding.{EntryParts}
 use Rattle.jsonb_doc.specs.ObjectBuilder.{IsWithin, kept_words, kept_contents}
 use Rattle.jsonb_doc.proofs.Containers.{entries_of, count-values}
-use Rattle.jsonb_raw.specs.declared.functions.path.cut.EntryPlace.{EntryPlace}
-use Rattle.jsonb_raw.specs.declared.functions.path.cut.ChildEntries.{ChildEntries}
+use Rattle.jsonb_raw.specs.declared.functions.path.entry_place.EntryPlace.{EntryPlace}
+use Rattle.jsonb_raw.specs.declared.functions.path.entry_place.ChildEntries.{ChildEntries}
 use Rattle.jsonb_raw.specs.Places.{children}
 use Rattle.jsonb_raw.specs.Deletes.{change_tree, change_value, change_child}
-use Rattle.jsonb_raw.specs.Cuts.{AreWithin, HoldEntries, IsPlaceOf, AreOfChild, content_at, with_content, without_child, around}
+use Rattle.jsonb_raw.specs.Cuts.{AreWithin, HoldEntries, IsPlaceOf, AreInOrder, AreOfChild, content_at, with_content, without_child, around}
 use Rattle.jsonb_raw.proofs.EntryLists.{AreOf, Listed, Split, SplitKeys, listed, joined, joined_values, count_are, split, split_keys, values_changed, key_entries, key-words, key-contents, key-within, key-count, keys-append, words-append, contents-append, length-kept_words, within-front, within-back, within-both}
-use Rattle.jsonb_raw.proofs.CutLemmas.{content_there, content_replaced, entry_left_out, replaced_no_longer, left_out_shorter, both_left_out, both_shorter}
+use Rattle.jsonb_raw.proofs.CutLemmas.{content_there, content_replaced, entry_within, entry_in_order, entry_left_out, replaced_no_longer, left_out_shorter, both_left_out, both_in_order, both_shorter}
 
 -- ---- headers
 
@@ -55,8 +55,11 @@ module _ (number_at : Reading) (ts : Trees) (bytes : List ℕ) (h : Container ar
   within : AreWithin (cut_entries.front ++ cut_entries.entry ∷ cut_entries.back)
   within = subst AreWithin cut_entries.whole all.within
 
-  total : count ts ≡ length (cut_entries.front ++ cut_entries.entry ∷ cut_entries.back)
-  total = count_are number_at ts all.entries all.are ∙ ap length cut_entries.whole
+  pub element_total : count ts ≡ length (cut_entries.front ++ cut_entries.entry ∷ cut_entries.back)
+  element_total = count_are number_at ts all.entries all.are ∙ ap length cut_entries.whole
+
+  pub element_passed : n ≡ length cut_entries.front
+  element_passed = cut_entries.passed
 
   pub element_held : HoldEntries bytes (cut_entries.front ++ cut_entries.entry ∷ cut_entries.back)
   element_held = record { head = header array_header (count ts); four = refl; within = within; joined = whole }
@@ -65,7 +68,7 @@ module _ (number_at : Reading) (ts : Trees) (bytes : List ℕ) (h : Container ar
       → AreOfChild number_at bytes (array ts) n child (record { header = m - 1; key = None; value = place })
   element_of word m place first read is =
       let word_is = header_read bytes word (h.words ++ h.contents) array_header (count ts) m h.headed first read in
-      let there = content_there bytes (header array_header (count ts)) cut_entries.front cut_entries.back cut_entries.entry place (count ts) whole refl total is in
+      let there = content_there bytes (header array_header (count ts)) cut_entries.front cut_entries.back cut_entries.entry place (count ts) whole refl element_total is in
       let fits = (within-back cut_entries.front (cut_entries.entry ∷ cut_entries.back) within).0 in
       let within_front = within-front cut_entries.front (cut_entries.entry ∷ cut_entries.back) within in
       let within_back = (within-back cut_entries.front (cut_entries.entry ∷ cut_entries.back) within).1 in
@@ -74,25 +77,27 @@ module _ (number_at : Reading) (ts : Trees) (bytes : List ℕ) (h : Container ar
         kind = cut_entries.entry.0;
         content = rw there cut_entries.is;
         short = rw there fits.1;
+        within = entry_within bytes (header array_header (count ts)) cut_entries.front cut_entries.back cut_entries.entry place (count ts) whole refl element_total is;
+        ordered = entry_in_order bytes (header array_header (count ts)) cut_entries.front cut_entries.back cut_entries.entry place (count ts) whole refl element_total is;
         cut = λ change gone.
             let are = cut_entries.without change gone in
             let left = count_are number_at (change_tree n change ts) (cut_entries.front ++ cut_entries.back) are in
-            let more : count ts ≡ suc (count (change_tree n change ts)) = omega (arith, total, left, length-append cut_entries.front cut_entries.back, length-append cut_entries.front (cut_entries.entry ∷ cut_entries.back)) in
+            let more : count ts ≡ suc (count (change_tree n change ts)) = omega (arith, element_total, left, length-append cut_entries.front cut_entries.back, length-append cut_entries.front (cut_entries.entry ∷ cut_entries.back)) in
             (refl, record {
                 words = kept_words (cut_entries.front ++ cut_entries.back);
                 contents = kept_contents (cut_entries.front ++ cut_entries.back);
                 headed = record {
                   known = omega arith;
                   fits = omega (arith, counted, more);
-                  joined = both _ _ _ _ (header_less array_header (count ts) (count (change_tree n change ts)) m word_is more) (entry_left_out bytes (header array_header (count ts)) cut_entries.front cut_entries.back cut_entries.entry place (count ts) whole refl total is);
+                  joined = both _ _ _ _ (header_less array_header (count ts) (count (change_tree n change ts)) m word_is more) (entry_left_out bytes (header array_header (count ts)) cut_entries.front cut_entries.back cut_entries.entry place (count ts) whole refl element_total is);
                 };
                 parts = joined number_at (change_tree n change ts) (cut_entries.front ++ cut_entries.back) (within-both cut_entries.front cut_entries.back within_front within_back) are;
             });
-        shorter = omega (arith, left_out_shorter bytes (header array_header (count ts)) cut_entries.front cut_entries.back cut_entries.entry place (count ts) whole refl total is);
+        shorter = omega (arith, left_out_shorter bytes (header array_header (count ts)) cut_entries.front cut_entries.back cut_entries.entry place (count ts) whole refl element_total is);
         changed = λ change child' content' made is' no_longer.
             let are = cut_entries.changed change child' (container_entry, content') made is' in
             let left = count_are number_at (change_tree n change ts) (cut_entries.front ++ (container_entry, content') ∷ cut_entries.back) are in
-            let same : count (change_tree n change ts) ≡ count ts = omega (arith, total, left, length-append cut_entries.front ((container_entry, content') ∷ cut_entries.back), length-append cut_entries.front (cut_entries.entry ∷ cut_entries.back)) in
+            let same : count (change_tree n change ts) ≡ count ts = omega (arith, element_total, left, length-append cut_entries.front ((container_entry, content') ∷ cut_entries.back), length-append cut_entries.front (cut_entries.entry ∷ cut_entries.back)) in
             let short : length content' < 2 ^ 28 = omega (arith, fits.1, no_longer, ap length there) in
             (refl, record {
                 words = kept_words (cut_entries.front ++ (container_entry, content') ∷ cut_entries.back);
@@ -100,12 +105,12 @@ module _ (number_at : Reading) (ts : Trees) (bytes : List ℕ) (h : Container ar
                 headed = record {
                   known = omega arith;
                   fits = omega (arith, counted, same);
-                  joined = rw (same, content_replaced bytes (header array_header (count ts)) cut_entries.front cut_entries.back cut_entries.entry place (count ts) whole refl total is content') refl;
+                  joined = rw (same, content_replaced bytes (header array_header (count ts)) cut_entries.front cut_entries.back cut_entries.entry place (count ts) whole refl element_total is content') refl;
                 };
                 parts = joined number_at (change_tree n change ts) (cut_entries.front ++ (container_entry, content') ∷ cut_entries.back) (within-both cut_entries.front ((container_entry, content') ∷ cut_entries.back) within_front ((omega arith, short), within_back)) are;
             });
         no_longer = λ content' no_longer.
-            replaced_no_longer bytes (header array_header (count ts)) cut_entries.front cut_entries.back cut_entries.entry place (count ts) whole refl total is content' (omega (arith, no_longer, ap length there));
+            replaced_no_longer bytes (header array_header (count ts)) cut_entries.front cut_entries.back cut_entries.entry place (count ts) whole refl element_total is content' (omega (arith, no_longer, ap length there));
       }
 
 -- ---- objects
@@ -184,6 +189,10 @@ module _ (bytes head : List ℕ) (kf kb ks : List (List ℕ)) (k : List ℕ) (vf
       both_left_out bytes head (kept_words (key_entries kf)) (entry_word text_entry (length k)) (kept_words (key_entries kb ++ vf)) (entry_word e.0 (length e.1)) (kept_words vb) (kept_contents (key_entries kf)) k (kept_contents (key_entries kb ++ vf)) e.1 (kept_contents vb) key value in_two four refl refl key_word_at value_word_at key_start_at key_end_at value_start_at value_end_at
       ∙ left_row left left_is
 
+  pub pair_in_order : AreInOrder (Some key) value (length bytes)
+  pair_in_order =
+      both_in_order bytes head (kept_words (key_entries kf)) (entry_word text_entry (length k)) (kept_words (key_entries kb ++ vf)) (entry_word e.0 (length e.1)) (kept_words vb) (kept_contents (key_entries kf)) k (kept_contents (key_entries kb ++ vf)) e.1 (kept_contents vb) key value in_two four refl refl key_word_at value_word_at key_start_at key_end_at value_start_at value_end_at
+
   pub pair_shorter : length (around bytes (Some key) value) + 4 ≤ length bytes
   pair_shorter =
       both_shorter bytes head (kept_words (key_entries kf)) (entry_word text_entry (length k)) (kept_words (key_entries kb ++ vf)) (entry_word e.0 (length e.1)) (kept_words vb) (kept_contents (key_entries kf)) k (kept_contents (key_entries kb ++ vf)) e.1 (kept_contents vb) key value in_two four refl refl key_word_at value_word_at key_start_at key_end_at value_start_at value_end_at
@@ -218,10 +227,10 @@ module _ (number_at : Reading) (ps : Pairs) (bytes : List ℕ) (h : Container ob
   by_key = ap (λ ks. key_entries ks ++ all_values.entries) cut_keys.whole ∙ ap (λ es. es ++ all_values.entries) (keys-append cut_keys.front (cut_keys.key ∷ cut_keys.back))
       ∙ append_assoc (key_entries cut_keys.front) ((text_entry, cut_keys.key) ∷ key_entries cut_keys.back) all_values.entries
 
-  value_total : 2 * length (keys ps) ≡ length (before_value ++ cut_values.entry ∷ cut_values.back)
+  pub value_total : 2 * length (keys ps) ≡ length (before_value ++ cut_values.entry ∷ cut_values.back)
   value_total = omega (arith, ap length by_value, length-append (key_entries (keys ps)) all_values.entries, key-count (keys ps), count_are number_at (values ps) all_values.entries all_values.are, count-values ps)
 
-  key_total : 2 * length (keys ps) ≡ length (key_entries cut_keys.front ++ (text_entry, cut_keys.key) ∷ behind_key)
+  pub key_total : 2 * length (keys ps) ≡ length (key_entries cut_keys.front ++ (text_entry, cut_keys.key) ∷ behind_key)
   key_total = omega (arith, ap length by_key, length-append (key_entries (keys ps)) all_values.entries, key-count (keys ps), count_are number_at (values ps) all_values.entries all_values.are, count-values ps)
 
   pub value_held : HoldEntries bytes (before_value ++ cut_values.entry ∷ cut_values.back)
@@ -264,6 +273,8 @@ module _ (number_at : Reading) (ps : Pairs) (bytes : List ℕ) (h : Container ob
         kind = cut_values.entry.0;
         content = rw there cut_values.is;
         short = rw there fits.1;
+        within = entry_within bytes (header object_header (length (keys ps))) before_value cut_values.back cut_values.entry value (2 * length (keys ps)) value_joined refl value_total value_is;
+        ordered = pair_in_order bytes (header object_header (length (keys ps))) cut_keys.front cut_keys.back (keys ps) cut_keys.key cut_values.front cut_values.back cut_values.entry key value (2 * length (keys ps)) cut_keys.whole refl both_joined both_total key_is value_is;
         cut = λ change gone.
             let are = rw (← values_changed ps n change) at (cut_values.without change gone) in
             let keys_left = cut_keys.without change gone in

@@ -29,3 +29,4 @@ pub mod EntryLists
 pub mod CutLemmas
 pub mod CutWords
 pub mod CutChild
+pub mod CutCases

@@ -17,6 +17,7 @@ ghost use Rattle.jsonb_raw.specs.Iterators.{TellsWhatIsLeft};
 
 mod cut;
 mod delete;
+mod entry_place;
 mod exists;
 
 use crate::owned::OwnedJsonb;

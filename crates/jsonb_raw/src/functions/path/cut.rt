@@ -12,6 +12,8 @@ ghost use Rattle.jsonb_raw.specs.Documents.{IsReadingError};
 ghost use Rattle.jsonb_raw.specs.Places.{children};
 ghost use Rattle.jsonb_raw.specs.Cuts.{AreWithin, HoldEntries, IsPlaceOf, AreOfChild};
 
+use super::entry_place::{ChildEntries, EntryPlace};
+
 const WORD: usize = 4;
 
 /// Header words count up to this.
@@ -22,23 +24,6 @@ const LENGTHS: u32 = 0x1000_0000;
 
 const OBJECT_HEADER: u32 = 2;
 const ARRAY_HEADER: u32 = 4;
-
-/// Where an entry stands in the bytes of a container: its word, and its content.
-#[derive(Clone, Copy)]
-pub struct EntryPlace {
-    word: usize,
-    start: usize,
-    end: usize,
-}
-
-/// The entries of a child: that of its key, where its parent is an object, and its own. Beside them the header that the
-/// parent has without it.
-#[derive(Clone, Copy)]
-pub struct ChildEntries {
-    header: u32,
-    key: Option<EntryPlace>,
-    value: EntryPlace,
-}
 
 /// How long the contents of these entry words are, all together.
 fn contents_len(words: &[u8]) -> usize
