@@ -111,7 +111,7 @@ module _ (bytes head kw k m v vw kc x mc e cb : List ℕ) (key value : EntryPlac
   pub both_in_order : AreInOrder (Some key) value (length bytes)
   both_in_order =
       let len = simp length-append at (ap length is) in
-      (omega (arith, key_word), omega (arith, key_word, value_word), omega (arith, value_word, key_start), omega (arith, value_start), omega (arith, len, four, key_four, value_four, key_start, key_end, value_start, value_end))
+      (omega (arith, key_word), omega (arith, key_word, value_word), omega (arith, value_word, key_start), omega (arith, key_end), omega (arith, value_start), omega (arith, value_end), omega (arith, len, four, key_four, value_four, key_start, key_end, value_start, value_end))
 
   pub both_shorter : length (around bytes (Some key) value) + 4 ≤ length bytes
   both_shorter = rw both_left_out (simp length-append (omega (arith, four, simp length-append at (ap length is))))

@@ -30,3 +30,6 @@ pub mod CutLemmas
 pub mod CutWords
 pub mod CutChild
 pub mod CutCases
+pub mod PushLemmas
+pub mod PushSteps
+pub mod DeleteLemmas

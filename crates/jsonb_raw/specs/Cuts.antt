@@ -59,7 +59,8 @@ LiesWithin place len = (place.word + 4 ≤ place.start) × (place.start ≤ plac
 abbrev pub AreInOrder : Option EntryPlace → EntryPlace → ℕ → Type 0
 AreInOrder None value len = (4 ≤ value.word) × LiesWithin value len
 AreInOrder (Some key) value len =
-    (4 ≤ key.word) × (key.word + 4 ≤ value.word) × (value.word + 4 ≤ key.start) × (key.end ≤ value.start) × (value.end ≤ len)
+    (4 ≤ key.word) × (key.word + 4 ≤ value.word) × (value.word + 4 ≤ key.start) × (key.start ≤ key.end) × (key.end ≤ value.start)
+    × (value.start ≤ value.end) × (value.end ≤ len)
 
 -- The entries are those of the child at a position of a container's tree: its content stands there, and without it, or
 -- with another content in its place, the bytes are those of the changed tree.
@@ -75,3 +76,10 @@ pub record AreOfChild (number_at : Reading) (bytes : List ℕ) (t : Tree) (n : �
       → IsContent number_at child' container_entry content' → length content' ≤ length (content_at bytes entries.value)
       → IsContent number_at (change_child n change t) container_entry (with_content bytes entries.value content')
   pub no_longer : (content' : List ℕ) → length content' ≤ length (content_at bytes entries.value) → length (with_content bytes entries.value content') ≤ length bytes
+
+-- the bytes of a container of this tree, of so many bytes at most, were put behind the others
+pub record IsPushed (number_at : Reading) (t : Tree) (most : ℕ) (before after : List ℕ) : Type 0 where
+  pub bytes : List ℕ
+  pub joined : after ≡ before ++ bytes
+  pub short : length bytes ≤ most
+  pub content : IsContent number_at t container_entry bytes
