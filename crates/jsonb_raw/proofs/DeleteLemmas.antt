@@ -1,5 +1,5 @@
 -- A document without the place that steps meet, or the same document.
-use Rattle.std.proofs.Common.{◌≡◌, ◌⊎◌, inl, inr, ℕ, List, [], ◌∷◌, ◌++◌, length, Option, Some, None, Result, Ok, Err, refl, sym, ap, subst, ◌∙◌, arith, slice_get}
+use Rattle.std.proofs.Common.{◌≡◌, ◌⊎◌, inl, inr, ℕ, List, [], ◌∷◌, ◌++◌, length, Option, Some, None, Result, Ok, Err, refl, sym, ap, subst, ◌∙◌, arith, slice_get, Vec, Global}
 use Rattle.std.specs.Prelude.{option_and_then}
 use Rattle.jsonb_doc.specs.declared.error.Error.{Error}
 use Rattle.jsonb_doc.specs.Tree.{Tree, null, boolean, number, text, extension, array, object}
@@ -14,20 +14,20 @@ use Rattle.jsonb_raw.specs.Cuts.{IsPushed}
 use Rattle.jsonb_raw.proofs.GoneLemmas.{first_met}
 
 -- the place that was found, or none
-pub no_place : (found : Option (List ℕ)) → SameOption (λ ns ms. ns ≡ ms) None found → found ≡ None
+pub no_place : (found : Option (List ℕ)) → SameOption (λ (v : Vec ℕ Global) ns. v.items ≡ ns) None found → found ≡ None
 no_place None h = refl
 no_place (Some ns) h = absurd h
 
-pub some_place : (ns : List ℕ) (found : Option (List ℕ)) → SameOption (λ ns ms. ns ≡ ms) (Some ns) found → found ≡ Some ns
-some_place ns None h = absurd h
-some_place ns (Some ms) h = ap Some (sym h)
+pub some_place : (v : Vec ℕ Global) (found : Option (List ℕ)) → SameOption (λ (v : Vec ℕ Global) ns. v.items ≡ ns) (Some v) found → found ≡ Some v.items
+some_place v None h = absurd h
+some_place v (Some ns) h = ap Some (sym h)
 
 -- ---- the same document
 
-pub same_decodes : {A : Type 0} (view : A → List ℕ) (form : Form) (bytes : List ℕ) (t left : Tree) (r : Result A Error) → left ≡ t → Decodes form bytes t → Answers r (λ made. view made ≡ bytes)
-    → Answers r (λ made. Decodes form (view made) left)
-same_decodes view form bytes t left (Ok made) is d h = rw (is, h) d
-same_decodes view form bytes t left (Err e) is d h = h
+pub same_decodes : (form : Form) (bytes : List ℕ) (t left : Tree) (r : Result (List ℕ) Error) → left ≡ t → Decodes form bytes t → Answers r (λ made. made ≡ bytes)
+    → Answers r (λ made. Decodes form made left)
+same_decodes form bytes t left (Ok made) is d h = rw (is, h) d
+same_decodes form bytes t left (Err e) is d h = h
 
 pub without_none : (steps : List Key) (t : Tree) → place steps t ≡ None → without steps t ≡ t
 without_none steps t e = rw e refl

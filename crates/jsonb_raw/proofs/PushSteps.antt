@@ -33,15 +33,18 @@ first_taken positions n others t end left is there out = by (slice_get (children
 pub zero_of : (n : ℕ) → true ≡ (n == 0) → n ≡ 0
 zero_of n e = grind (arith, nat_tests)
 
-pub not_zero_of : (n : ℕ) → false ≡ (n == 0) → n ≡ 0 → ⊥
-not_zero_of n e h = grind (arith, nat_tests)
+pub empty_of : (ns : List ℕ) → length ns ≡ 0 → ns ≡ []
+empty_of [] h = refl
+empty_of (n ∷ ns) h = absurd (omega arith)
 
 pub none_left : (others : List ℕ) → true ≡ (length others == 0) → others ≡ []
-none_left others e = by others (zero_of (length others) e)
-  where
-    by : (ns : List ℕ) → length ns ≡ 0 → ns ≡ []
-    by [] h = refl
-    by (n ∷ ns) h = absurd (omega arith)
+none_left others e = empty_of others (zero_of (length others) e)
+
+not_zero_of : (n : ℕ) → false ≡ (n == 0) → n ≡ 0 → ⊥
+not_zero_of n e h = grind (arith, nat_tests)
+
+pub not_empty : (ns : List ℕ) (len : ℕ) → len ≡ length ns → false ≡ (len == 0) → ns ≡ [] → ⊥
+not_empty ns len same e empty = not_zero_of len e (same ∙ ap length empty)
 
 -- ---- the last child is left out
 
