@@ -5,8 +5,8 @@ use Rattle.std.proofs.lemmas.List.{length-append, take_at, drop_at, append-nil}
 use Rattle.jsonb_doc.specs.Format.{container_entry, entry_word}
 use Rattle.jsonb_doc.specs.Encoding.{EntryParts}
 use Rattle.jsonb_doc.specs.ObjectBuilder.{kept_words, kept_contents}
-use Rattle.jsonb_raw.specs.declared.functions.path.cut.EntryPlace.{EntryPlace}
-use Rattle.jsonb_raw.specs.Cuts.{HoldEntries, IsPlaceOf, content_at, with_content, around}
+use Rattle.jsonb_raw.specs.declared.functions.path.entry_place.EntryPlace.{EntryPlace}
+use Rattle.jsonb_raw.specs.Cuts.{HoldEntries, IsPlaceOf, LiesWithin, AreInOrder, content_at, with_content, around}
 use Rattle.jsonb_raw.proofs.EntryLists.{words-append, contents-append, length-kept_words}
 
 -- ---- slices of what is joined
@@ -72,6 +72,14 @@ module _ (bytes head : List ℕ) (front back : List EntryParts) (e : EntryParts)
   content_replaced content =
       rw (parts.before_word, parts.between, parts.behind, words-append front ((container_entry, content) ∷ back), contents-append front ((container_entry, content) ∷ back)) (simp append_assoc)
 
+  pub entry_within : LiesWithin place (length bytes)
+  entry_within =
+      let len = simp length-append at (ap length in_parts) in
+      (omega (arith, word_at, start_at), omega (arith, end_at), omega (arith, len, four, start_at, end_at))
+
+  pub entry_in_order : AreInOrder None place (length bytes)
+  entry_in_order = (omega (arith, word_at), entry_within)
+
   pub entry_left_out : around bytes None place ≡ kept_words (front ++ back) ++ kept_contents (front ++ back)
   entry_left_out = rw (parts.behind_head, parts.between, parts.behind, words-append front back, contents-append front back) (simp append_assoc)
 
@@ -100,5 +108,10 @@ module _ (bytes head kw k m v vw kc x mc e cb : List ℕ) (key value : EntryPlac
       let fifth = slice_end bytes (head ++ (kw ++ (k ++ (m ++ (v ++ (vw ++ (kc ++ (x ++ (mc ++ e))))))))) cb value.end (is ∙ simp append_assoc) (simp length-append (omega arith)) in
       rw (first, second, third, fourth, fifth) refl
 
-  pub both_shorter : length (around bytes (Some key) value) ≤ length bytes
-  both_shorter = rw both_left_out (simp length-append (omega (arith, simp length-append at (ap length is))))
+  pub both_in_order : AreInOrder (Some key) value (length bytes)
+  both_in_order =
+      let len = simp length-append at (ap length is) in
+      (omega (arith, key_word), omega (arith, key_word, value_word), omega (arith, value_word, key_start), omega (arith, key_end), omega (arith, value_start), omega (arith, value_end), omega (arith, len, four, key_four, value_four, key_start, key_end, value_start, value_end))
+
+  pub both_shorter : length (around bytes (Some key) value) + 4 ≤ length bytes
+  both_shorter = rw both_left_out (simp length-append (omega (arith, four, simp length-append at (ap length is))))

@@ -52,3 +52,8 @@ pub mod LeafLimits
 pub mod ChildAnswers
 pub mod Dealt
 mod CallRows
+pub mod CutChild
+pub mod CutCases
+pub mod PushLemmas
+pub mod PushSteps
+pub mod DeleteLemmas

@@ -6,8 +6,8 @@ use Rattle.jsonb_doc.specs.Payload.{Reading}
 use Rattle.jsonb_doc.specs.Format.{IsContent, container_entry, entry_word}
 use Rattle.jsonb_doc.specs.Encoding.{EntryParts}
 use Rattle.jsonb_doc.specs.ObjectBuilder.{IsWithin, kept_words, kept_contents}
-use Rattle.jsonb_raw.specs.declared.functions.path.cut.EntryPlace.{EntryPlace}
-use Rattle.jsonb_raw.specs.declared.functions.path.cut.ChildEntries.{ChildEntries}
+use Rattle.jsonb_raw.specs.declared.functions.path.entry_place.EntryPlace.{EntryPlace}
+use Rattle.jsonb_raw.specs.declared.functions.path.entry_place.ChildEntries.{ChildEntries}
 use Rattle.jsonb_raw.specs.Places.{children}
 use Rattle.jsonb_raw.specs.Deletes.{change_child}
 
@@ -51,15 +51,35 @@ around bytes (Some key) value =
 abbrev pub without_child : List ℕ → ChildEntries → List ℕ
 without_child bytes child = to_be_bytes w32 child.header ++ around bytes child.key child.value
 
+-- the place lies within so many bytes, its word before its content
+abbrev pub LiesWithin : EntryPlace → ℕ → Type 0
+LiesWithin place len = (place.word + 4 ≤ place.start) × (place.start ≤ place.end) × (place.end ≤ len)
+
+-- behind a header, the words of the entries stand before their contents, a key's before its value's
+abbrev pub AreInOrder : Option EntryPlace → EntryPlace → ℕ → Type 0
+AreInOrder None value len = (4 ≤ value.word) × LiesWithin value len
+AreInOrder (Some key) value len =
+    (4 ≤ key.word) × (key.word + 4 ≤ value.word) × (value.word + 4 ≤ key.start) × (key.start ≤ key.end) × (key.end ≤ value.start)
+    × (value.start ≤ value.end) × (value.end ≤ len)
+
 -- The entries are those of the child at a position of a container's tree: its content stands there, and without it, or
 -- with another content in its place, the bytes are those of the changed tree.
 pub record AreOfChild (number_at : Reading) (bytes : List ℕ) (t : Tree) (n : ℕ) (child : Tree) (entries : ChildEntries) : Type 0 where
   pub kind : ℕ
   pub content : IsContent number_at child kind (content_at bytes entries.value)
   pub short : length (content_at bytes entries.value) < 2 ^ 28
+  pub within : LiesWithin entries.value (length bytes)
+  pub ordered : AreInOrder entries.key entries.value (length bytes)
   pub cut : (change : Tree → Option Tree) → change child ≡ None → IsContent number_at (change_child n change t) container_entry (without_child bytes entries)
   pub shorter : length (without_child bytes entries) ≤ length bytes
   pub changed : (change : Tree → Option Tree) (child' : Tree) (content' : List ℕ) → change child ≡ Some child'
       → IsContent number_at child' container_entry content' → length content' ≤ length (content_at bytes entries.value)
       → IsContent number_at (change_child n change t) container_entry (with_content bytes entries.value content')
   pub no_longer : (content' : List ℕ) → length content' ≤ length (content_at bytes entries.value) → length (with_content bytes entries.value content') ≤ length bytes
+
+-- the bytes of a container of this tree, of so many bytes at most, were put behind the others
+pub record IsPushed (number_at : Reading) (t : Tree) (most : ℕ) (before after : List ℕ) : Type 0 where
+  pub bytes : List ℕ
+  pub joined : after ≡ before ++ bytes
+  pub short : length bytes ≤ most
+  pub content : IsContent number_at t container_entry bytes

@@ -18,6 +18,7 @@ ghost use Rattle.jsonb_raw.specs.Iterators.{TellsWhatIsLeft};
 mod child;
 mod cut;
 mod delete;
+mod entry_place;
 mod exists;
 mod leaves;
 

@@ -1,16 +1,20 @@
 //! Containers as bytes, with the entries of a child left out.
 
-ghost use Rattle.std.specs.Prelude.{◌≡◌, ℕ, ◌+◌, ◌*◌, ◌%◌, ◌/◌, ◌^◌, ◌<◌, ◌≤◌, List, ◌∷◌, ◌++◌, length, IsSomeAnd, IfSome, IfErr, Some, slice_get};
-ghost use Rattle.std.specs.Int.{w32, from_be_bytes};
+ghost use Rattle.std.specs.Prelude.{◌≡◌, ℕ, ◌+◌, ◌*◌, ◌%◌, ◌/◌, ◌^◌, ◌<◌, ◌≤◌, List, ◌∷◌, ◌++◌, length, take, drop, IsSomeAnd, IsOkAnd, IfErr, Some, None, slice_get, slice_range};
+ghost use Rattle.std.specs.Int.{w32, to_be_bytes};
 ghost use Rattle.jsonb_doc.specs.Tree.{Tree};
-ghost use Rattle.jsonb_doc.specs.Payload.{Form, Reading, reading};
-ghost use Rattle.jsonb_doc.specs.Format.{HeadedBy, IsContent, container_entry};
+ghost use Rattle.jsonb_doc.specs.Payload.{Form, reading};
+ghost use Rattle.jsonb_doc.specs.Format.{IsContent, container_entry, entry_word};
 ghost use Rattle.jsonb_doc.specs.Encoding.{EntryParts};
 ghost use Rattle.jsonb_doc.specs.ObjectBuilder.{kept_words, kept_contents};
 ghost use Rattle.jsonb_doc.specs.Answer.{Answers};
 ghost use Rattle.jsonb_raw.specs.Documents.{IsReadingError};
-ghost use Rattle.jsonb_raw.specs.Places.{children};
-ghost use Rattle.jsonb_raw.specs.Cuts.{AreWithin, HoldEntries, IsPlaceOf, AreOfChild};
+ghost use Rattle.jsonb_raw.specs.Places.{children, tree_at};
+ghost use Rattle.jsonb_raw.specs.Deletes.{take_out};
+ghost use Rattle.jsonb_raw.specs.Cuts.{AreWithin, HoldEntries, IsPlaceOf, AreInOrder, AreOfChild, around, without_child, IsPushed};
+
+use super::entry_place::{ChildEntries, EntryPlace};
+use jsonb_doc::Error;
 
 const WORD: usize = 4;
 
@@ -20,25 +24,11 @@ const COUNTS: u32 = 0x2000_0000;
 /// Entry words hold lengths up to this.
 const LENGTHS: u32 = 0x1000_0000;
 
+/// The entry word of a container without content.
+const CONTAINER: u32 = 0x5000_0000;
+
 const OBJECT_HEADER: u32 = 2;
 const ARRAY_HEADER: u32 = 4;
-
-/// Where an entry stands in the bytes of a container: its word, and its content.
-#[derive(Clone, Copy)]
-pub struct EntryPlace {
-    word: usize,
-    start: usize,
-    end: usize,
-}
-
-/// The entries of a child: that of its key, where its parent is an object, and its own. Beside them the header that the
-/// parent has without it.
-#[derive(Clone, Copy)]
-pub struct ChildEntries {
-    header: u32,
-    key: Option<EntryPlace>,
-    value: EntryPlace,
-}
 
 /// How long the contents of these entry words are, all together.
 fn contents_len(words: &[u8]) -> usize
@@ -98,4 +88,118 @@ fn child_entries(container: &[u8], position: usize) -> Option<ChildEntries>
         }),
         _ => None,
     }
+}
+
+/// Puts a part of these bytes at the end. A part that they don't have is `InvalidJsonb`.
+fn push_part(out: &mut Vec<u8>, bytes: &[u8], start: usize, end: usize) -> Result<(), Error>
+    ensures pushed { start ≤ end → end ≤ length bytes.now
+        → Answers result (λ _. out.new.items ≡ out.old.items ++ slice_range bytes.now start end) }
+    ensures errors { IfErr result IsReadingError }
+{
+    let Some(part) = bytes.get(start..end) else {
+        return Err(Error::InvalidJsonb);
+    };
+    out.extend_from_slice(part)?;
+    Ok(())
+}
+
+/// Puts the parts around an element's entry at the end.
+fn push_around_element(
+    out: &mut Vec<u8>,
+    array: &[u8],
+    value: EntryPlace,
+) -> Result<(), Error>
+    ensures pushed { AreInOrder None value (length array.now)
+        → Answers result (λ _. out.new.items ≡ out.old.items ++ around array.now None value) }
+    ensures errors { IfErr result IsReadingError }
+{
+    push_part(out, array, WORD, value.word)?;
+    push_part(out, array, value.word + WORD, value.start)?;
+    push_part(out, array, value.end, array.len())
+}
+
+/// Puts the parts around a pair's entries at the end.
+fn push_around_pair(
+    out: &mut Vec<u8>,
+    object: &[u8],
+    key: EntryPlace,
+    value: EntryPlace,
+) -> Result<(), Error>
+    ensures pushed { AreInOrder (Some key) value (length object.now)
+        → Answers result (λ _. out.new.items ≡ out.old.items ++ around object.now (Some key) value) }
+    ensures errors { IfErr result IsReadingError }
+{
+    push_part(out, object, WORD, key.word)?;
+    push_part(out, object, key.word + WORD, value.word)?;
+    push_part(out, object, value.word + WORD, key.start)?;
+    push_part(out, object, key.end, value.start)?;
+    push_part(out, object, value.end, object.len())
+}
+
+/// Puts a container without the child of these entries at the end.
+fn push_without_child(
+    out: &mut Vec<u8>,
+    container: &[u8],
+    entries: &ChildEntries,
+) -> Result<(), Error>
+    ensures pushed { AreInOrder entries.now.key entries.now.value (length container.now)
+        → Answers result (λ _. out.new.items ≡ out.old.items ++ without_child container.now entries.now) }
+    ensures errors { IfErr result IsReadingError }
+{
+    out.extend_from_slice(&entries.header.to_be_bytes())?;
+    match entries.key {
+        Some(key) => push_around_pair(out, container, key, entries.value),
+        None => push_around_element(out, container, entries.value),
+    }
+}
+
+/// Writes a word over the four bytes at a place.
+fn set_word(out: &mut Vec<u8>, at: usize, word: u32)
+    requires { at + 4 ≤ length out.old.items }
+    ensures { out.new.items ≡ take at out.old.items ++ (to_be_bytes w32 word ++ drop (at + 4) out.old.items) }
+{
+    out[at..at + WORD].copy_from_slice(&word.to_be_bytes());
+}
+
+/// Writes the entry word of a container that goes from here to the end over the word at a place.
+fn set_container_word(out: &mut Vec<u8>, word: usize, start: usize) -> Result<(), Error>
+    ensures set { (front old between content : List ℕ) → out.old.items ≡ front ++ (old ++ (between ++ content))
+        → length old ≡ 4 → word ≡ length front → start ≡ length front + 4 + length between → length content < 2 ^ 28
+        → IsOkAnd result (λ _. out.new.items ≡ front ++ (entry_word container_entry (length content) ++ (between ++ content))) }
+    ensures errors { IfErr result IsReadingError }
+{
+    let end = out.len();
+    if start > end || end - start >= LENGTHS as usize || end < WORD || word > end - WORD {
+        return Err(Error::InvalidJsonb);
+    }
+    set_word(out, word, CONTAINER + (end - start) as u32);
+    Ok(())
+}
+
+/// Puts a container without the place of these positions at the end.
+pub fn push_without(out: &mut Vec<u8>, container: &[u8], positions: &[usize]) -> Result<(), Error>
+    ensures pushed { (form : Form) (t end left : Tree) → IsContent (reading form) t container_entry container.now
+        → tree_at positions.now t ≡ Some end → take_out positions.now t ≡ Some left
+        → Answers result (λ _. IsPushed (reading form) left (length container.now) out.old.items out.new.items) }
+    ensures errors { IfErr result IsReadingError }
+{
+    let Some((first, others)) = positions.split_first() else {
+        return Err(Error::InvalidJsonb);
+    };
+    let Some(entries) = child_entries(container, *first) else {
+        return Err(Error::InvalidJsonb);
+    };
+    if others.is_empty() {
+        return push_without_child(out, container, &entries);
+    }
+    let child = entries.value;
+    let Some(content) = container.get(child.start..child.end) else {
+        return Err(Error::InvalidJsonb);
+    };
+    let word = out.len() + child.word;
+    push_part(out, container, 0, child.start)?;
+    let start = out.len();
+    push_without(out, content, others)?;
+    set_container_word(out, word, start)?;
+    push_part(out, container, child.end, container.len())
 }

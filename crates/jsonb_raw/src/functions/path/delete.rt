@@ -1,23 +1,28 @@
 //! A document without the place that steps meet.
 
-ghost use Rattle.std.specs.Prelude.{◌≡◌, ℕ, List, length, position as first_position, IsOkAnd, IfErr};
+ghost use Rattle.std.specs.Prelude.{◌≡◌, ℕ, List, length, position as first_position, not, IsTrue, IsOkAnd, IsErrOf, IfErr, ◌⊎◌};
 ghost use Rattle.std.specs.Iterator.{IsFinite};
 ghost use Rattle.std.specs.Fmt.{signed_decimal};
 ghost use Rattle.std.specs.Str.{bytes_eq};
 ghost use Rattle.jsonb_doc.specs.Tree.{Tree, Trees, Pairs, array, object, elements, keys};
 ghost use Rattle.jsonb_doc.specs.Payload.{Form, any};
 ghost use Rattle.jsonb_doc.specs.Format.{Decodes};
+ghost use Rattle.jsonb_doc.specs.Item.{Stands};
 ghost use Rattle.jsonb_doc.specs.Answer.{Answers, SameOption};
 ghost use Rattle.jsonb_doc.specs.Spots.{Marks};
 ghost use Rattle.jsonb_doc.specs.View.{IsDecodingError};
 ghost use Rattle.jsonb_keypath.specs.declared.key_path.KeyPath.{KeyPath};
 ghost use Rattle.jsonb_keypath.specs.KeyPathViews.{key_view, keys_view};
-ghost use Rattle.jsonb_raw.specs.Documents.{IsReadingError};
+ghost use Rattle.jsonb_raw.specs.Documents.{raw_bytes, IsReadingError};
+ghost use Rattle.jsonb_raw.specs.Deletes.{without, MeetNoPart, is_json_scalar};
 ghost use Rattle.jsonb_raw.specs.Iterators.{TellsWhatIsLeft};
 ghost use Rattle.jsonb_raw.specs.Places.{index_position, child_position, place};
 
+use super::cut::push_without;
 use super::nth_child;
-use jsonb_doc::{Error, Item, Spot, elements, keys, root_spot, spot_item};
+use crate::owned::OwnedJsonb;
+use crate::raw::RawJsonb;
+use jsonb_doc::{Error, Item, Spot, elements, keys, root_item, root_spot, spot_item};
 use jsonb_keypath::KeyPath;
 use std::alloc::Global;
 
@@ -117,4 +122,59 @@ fn place_met<'k, I: Iterator<Item = &'k KeyPath<'k>> + Drop>(
         spot = child;
     }
     Ok(Some(positions))
+}
+
+/// Whether an item is null, a boolean, a number or a string.
+fn is_json_scalar(item: &Item<'_>) -> bool
+    ensures { (form : Form) (t : Tree) → Stands form item.now t → result ≡ is_json_scalar t }
+{
+    !matches!(item, Item::Array(_) | Item::Object(_) | Item::Extension(_))
+}
+
+/// The same bytes in memory of their own.
+fn copied(alloc: Global, bytes: &[u8]) -> Result<OwnedJsonb, Error>
+    ensures same { Answers result (λ made. made ≡ bytes.now) }
+{
+    Ok(OwnedJsonb::new(Vec::from_slice(alloc, bytes)?))
+}
+
+impl RawJsonb<'_> {
+    /// The document without the place that the steps meet, as `get_by_keypath` walks them: an element of an array, or
+    /// a pair of an object. The same bytes where there are no steps, where a step meets nothing, and where the root
+    /// is an extension value.
+    ///
+    /// `InvalidJsonType` exactly where the root is null, a boolean, a number or a string, `InvalidJsonb` and
+    /// `UnsupportedNumber` only where the bytes don't decode, and `OutOfMemory` where memory is refused. What is left is
+    /// copied once.
+    pub fn delete_by_keypath<'k, I: Iterator<Item = &'k KeyPath<'k>> + Drop>(
+        &self,
+        alloc: Global,
+        steps: I,
+    ) -> Result<OwnedJsonb, Error>
+        requires can { I.can_next steps }
+        requires ends { IsFinite (I.remaining steps) }
+        ensures scalar { (form : Form) (t : Tree) → Decodes form (raw_bytes self.now) t → IsTrue (is_json_scalar t)
+            → IsErrOf result Error.InvalidJsonType }
+        ensures without { (left : I → List KeyPath) → TellsWhatIsLeft I.next_gives left
+            → (form : Form) (t : Tree) → Decodes form (raw_bytes self.now) t → IsTrue (not (is_json_scalar t))
+            → Answers result (λ made. Decodes form made (without (keys_view (left steps)) t)) }
+        ensures same { (left : I → List KeyPath) → TellsWhatIsLeft I.next_gives left
+            → (form : Form) (t : Tree) → Decodes form (raw_bytes self.now) t → IsTrue (not (is_json_scalar t))
+            → MeetNoPart (keys_view (left steps)) t → Answers result (λ made. made ≡ raw_bytes self.now) }
+        ensures errors { IfErr result (λ e. IsReadingError e ⊎ (e ≡ Error.InvalidJsonType)) }
+    {
+        let bytes = self.as_bytes();
+        if is_json_scalar(&root_item(bytes)?) {
+            return Err(Error::InvalidJsonType);
+        }
+        let Some(positions) = place_met(alloc, bytes, steps)? else {
+            return copied(alloc, bytes);
+        };
+        if positions.is_empty() {
+            return copied(alloc, bytes);
+        }
+        let mut document = Vec::with_capacity(alloc, bytes.len())?;
+        push_without(&mut document, bytes, positions.as_slice())?;
+        Ok(OwnedJsonb::new(document))
+    }
 }

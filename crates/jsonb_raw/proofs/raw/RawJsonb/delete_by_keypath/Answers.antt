@@ -1,0 +1,61 @@
+use Rattle.std.proofs.Common.{sym, ◌∙◌}
+use Rattle.std.proofs.lemmas.Result.{err_from_is_err_and}
+use Rattle.jsonb_doc.specs.Format.{Decodes}
+use Rattle.jsonb_doc.proofs.CanonicalLemmas.{in_any}
+use Rattle.jsonb_keypath.specs.KeyPathViews.{keys_view}
+use Rattle.jsonb_raw.proofs.PushSteps.{zero_of, empty_of, not_empty}
+use Rattle.jsonb_raw.proofs.DeleteLemmas.{no_place, some_place, same_decodes, without_none, without_whole, part_met, part_out, pushed_decodes}
+use Rattle.jsonb_raw.proofs.raw.RawJsonb.delete_by_keypath.Goals as goal
+
+pub returns-in_err-positions-clause-without : goal.returns-in_err-positions-clause-without
+returns-in_err-positions-clause-without g c = λ left tells form t d other.
+    let p = err_from_is_err_and c.from_residual-in_err-positions.result c.from_residual-in_err-positions.ensures.1 in
+    rw (p.1, p.2) (c.in_err-positions.ensures.place left tells t (in_any form t _ (rw c.as_bytes-bytes.ensures d)))
+
+pub returns-in_err-positions-clause-same : goal.returns-in_err-positions-clause-same
+returns-in_err-positions-clause-same g c = λ left tells form t d other none.
+    let p = err_from_is_err_and c.from_residual-in_err-positions.result c.from_residual-in_err-positions.ensures.1 in
+    rw (p.1, p.2) (c.in_err-positions.ensures.place left tells t (in_any form t _ (rw c.as_bytes-bytes.ensures d)))
+
+pub returns-in_default-clause-without : goal.returns-in_default-clause-without
+returns-in_default-clause-without g c = λ left tells form t d other.
+    let d' : Decodes form c.as_bytes-bytes.result.now t = rw c.as_bytes-bytes.ensures d in
+    let none = no_place _ (rw c.in_default.is at (c.in_ok-positions.ensures.place left tells t (in_any form t _ d'))) in
+    same_decodes form _ t _ _ (without_none (keys_view (left c.args.steps)) t none) d' c.copied.ensures.same
+
+pub returns-then-is_empty-clause-without : goal.returns-then-is_empty-clause-without
+returns-then-is_empty-clause-without g c = λ left tells form t d other.
+    let d' : Decodes form c.as_bytes-bytes.result.now t = rw c.as_bytes-bytes.ensures d in
+    let place = some_place c.in-Some.positions _ (rw c.in-Some.is at (c.in_ok-positions.ensures.place left tells t (in_any form t _ d'))) in
+    let empty = empty_of _ (sym c.in-Some.positions.ok.0 ∙ zero_of _ c.if-is_empty.ensures) in
+    same_decodes form _ t _ _ (without_whole (keys_view (left c.args.steps)) t _ empty place) d' c.copied-then-is_empty.ensures.same
+
+pub returns-in_err-push_without-clause-without : goal.returns-in_err-push_without-clause-without
+returns-in_err-push_without-clause-without g c = λ left tells form t d other.
+    let p = err_from_is_err_and c.from_residual-in_err-push_without.result c.from_residual-in_err-push_without.ensures.1 in
+    let d' : Decodes form c.as_bytes-bytes.result.now t = rw c.as_bytes-bytes.ensures d in
+    let place = some_place c.in-Some.positions _ (rw c.in-Some.is at (c.in_ok-positions.ensures.place left tells t (in_any form t _ d'))) in
+    let some = not_empty _ _ c.in-Some.positions.ok.0 c.if-is_empty.ensures in
+    let o = part_out (keys_view (left c.args.steps)) t c.in-Some.positions.items form c.as_bytes-bytes.result.now some place d' in
+    rw (p.1, p.2) (c.in_err-push_without.ensures.pushed form t o.end o.left o.content (rw c.as_slice.ensures.value o.there) (rw c.as_slice.ensures.value o.out))
+
+pub returns-in_err-push_without-clause-same : goal.returns-in_err-push_without-clause-same
+returns-in_err-push_without-clause-same g c = λ left tells form t d other none.
+    let d' : Decodes form c.as_bytes-bytes.result.now t = rw c.as_bytes-bytes.ensures d in
+    let place = some_place c.in-Some.positions _ (rw c.in-Some.is at (c.in_ok-positions.ensures.place left tells t (in_any form t _ d'))) in
+    absurd (part_met (keys_view (left c.args.steps)) t _ (not_empty _ _ c.in-Some.positions.ok.0 c.if-is_empty.ensures) place none)
+
+pub returns-clause-without : goal.returns-clause-without
+returns-clause-without g c = λ left tells form t d other.
+    let d' : Decodes form c.as_bytes-bytes.result.now t = rw c.as_bytes-bytes.ensures d in
+    let place = some_place c.in-Some.positions _ (rw c.in-Some.is at (c.in_ok-positions.ensures.place left tells t (in_any form t _ d'))) in
+    let some = not_empty _ _ c.in-Some.positions.ok.0 c.if-is_empty.ensures in
+    let o = part_out (keys_view (left c.args.steps)) t c.in-Some.positions.items form c.as_bytes-bytes.result.now some place d' in
+    let pushed = c.in_ok-push_without.ensures.pushed form t o.end o.left o.content (rw c.as_slice.ensures.value o.there) (rw c.as_slice.ensures.value o.out) in
+    pushed_decodes form o.left _ _ _ _ _ pushed c.in_ok-document.ensures.items c.new.ensures o.is
+
+pub returns-clause-same : goal.returns-clause-same
+returns-clause-same g c = λ left tells form t d other none.
+    let d' : Decodes form c.as_bytes-bytes.result.now t = rw c.as_bytes-bytes.ensures d in
+    let place = some_place c.in-Some.positions _ (rw c.in-Some.is at (c.in_ok-positions.ensures.place left tells t (in_any form t _ d'))) in
+    absurd (part_met (keys_view (left c.args.steps)) t _ (not_empty _ _ c.in-Some.positions.ok.0 c.if-is_empty.ensures) place none)

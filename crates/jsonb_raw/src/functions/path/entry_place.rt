@@ -1,0 +1,21 @@
+//! Where entries stand in the bytes of a container.
+
+ghost use Rattle.std.specs.Prelude.{◌<◌, ◌^◌};
+
+/// Where an entry stands in the bytes of a container: its word, and its content.
+#[derive(Clone, Copy)]
+pub struct EntryPlace {
+    pub word: usize,
+    pub start: usize,
+    pub end: usize,
+    ghost small: { word < 2 ^ 33 },
+}
+
+/// The entries of a child: that of its key, where its parent is an object, and its own. Beside them the header that the
+/// parent has without it.
+#[derive(Clone, Copy)]
+pub struct ChildEntries {
+    pub header: u32,
+    pub key: Option<EntryPlace>,
+    pub value: EntryPlace,
+}
