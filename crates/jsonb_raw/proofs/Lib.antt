@@ -29,3 +29,4 @@ pub mod InStep
 pub mod PairStepLemmas
 pub mod MatchLemmas
 pub mod ContainLemmas
+pub mod MergedLemmas

@@ -16,3 +16,4 @@ pub mod Strip
 pub mod Contains
 pub mod Concat
 pub mod PairSteps
+pub mod MergedPairs

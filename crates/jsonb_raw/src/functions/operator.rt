@@ -11,6 +11,7 @@ ghost use Rattle.jsonb_raw.specs.KeyAnswer.{MakesKey, RanksAsTree, IsKeyError};
 ghost use Rattle.jsonb_raw.specs.EqualityKey.{equality_key};
 
 mod contains;
+mod merge;
 mod repeat;
 mod step;
 mod strip;
