@@ -30,3 +30,4 @@ pub mod PairStepLemmas
 pub mod MatchLemmas
 pub mod ContainLemmas
 pub mod MergedLemmas
+pub mod LeftMerged

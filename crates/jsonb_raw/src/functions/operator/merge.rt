@@ -14,8 +14,17 @@ use std::cmp::Ordering;
 /// Both are walked in step. On bytes that don't decode it gives at most as many pairs as both headers count.
 #[derive(Clone, Copy)]
 pub struct MergedPairs<'a> {
-    pub first: PairIter<'a>,
-    pub second: PairIter<'a>,
+    first: PairIter<'a>,
+    second: PairIter<'a>,
+}
+
+impl<'a> MergedPairs<'a> {
+    pub fn new(first: PairIter<'a>, second: PairIter<'a>) -> MergedPairs<'a>
+        ensures first { result.first ≡ first.entry }
+        ensures second { result.second ≡ second.entry }
+    {
+        MergedPairs { first, second }
+    }
 }
 
 impl<'a> Iterator for MergedPairs<'a> {
