@@ -31,3 +31,5 @@ pub mod MatchLemmas
 pub mod ContainLemmas
 pub mod MergedLemmas
 pub mod LeftMerged
+pub mod StripLaws
+pub mod ContainsLaws

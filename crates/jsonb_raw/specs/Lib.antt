@@ -17,3 +17,4 @@ pub mod Contains
 pub mod Concat
 pub mod PairSteps
 pub mod MergedPairs
+pub mod OperatorLaws

@@ -5,6 +5,7 @@ ghost use Rattle.jsonb_keypath.specs.KeyPathGrammar.{key_path};
 ghost use Rattle.std.specs.Int.{w8, w16};
 ghost use Rattle.jsonb_raw.specs.KeyLaws.{KeysKeepBelow, KeysKeepEqual, KeysOrder, KeysTellApart, EqualityKeysTellApart, DigitsWrite};
 ghost use Rattle.jsonb_raw.specs.PlacesLaws.{NoStepsMeetTheWhole, PrintsToItsPlace};
+ghost use Rattle.jsonb_raw.specs.OperatorLaws.{StripTwiceIsStrip, ContainsIsReflexive, ContainsIsTransitive, ConcatOfArraysIsAssociative, ConcatOfObjectsIsAssociative};
 
 /// The place of no steps is the whole tree.
 pub fn no_steps_meet_the_whole()
@@ -40,4 +41,25 @@ pub fn equality_keys()
 /// The digits of a number's key write its absolute value, with no zero at either end.
 pub fn number_digits()
     ensures { DigitsWrite }
+{}
+
+/// What is stripped has nothing to strip.
+pub fn strip_twice_is_strip()
+    ensures { StripTwiceIsStrip }
+{}
+
+/// A document whose root is no extension contains itself.
+pub fn contains_is_reflexive()
+    ensures { ContainsIsReflexive }
+{}
+
+/// A document contains what the documents that it contains do.
+pub fn contains_is_transitive()
+    ensures { ContainsIsTransitive }
+{}
+
+/// The order in which three arrays, or three objects, are put together does not matter.
+pub fn concat_is_associative()
+    ensures arrays { ConcatOfArraysIsAssociative }
+    ensures objects { ConcatOfObjectsIsAssociative }
 {}
