@@ -33,3 +33,4 @@ pub mod MergedLemmas
 pub mod LeftMerged
 pub mod StripLaws
 pub mod ContainsLaws
+pub mod ConcatLaws

@@ -62,7 +62,7 @@ below_inserted low key x (p ∷ ps) less below = go (slice_cmp nat_cmp key p.0)
     go Equal = below
     go Greater = below
 
-rising_inserted : (key : List ℕ) (x : Tree) (ps : List Member) → AreRising (keys_of ps) → AreRising (keys_of (insert_pair key x ps))
+pub rising_inserted : (key : List ℕ) (x : Tree) (ps : List Member) → AreRising (keys_of ps) → AreRising (keys_of (insert_pair key x ps))
 rising_inserted key x [] rising = (tt, tt)
 rising_inserted key x (p ∷ ps) rising = go (slice_cmp nat_cmp key p.0) refl (rising_inserted key x ps rising.1)
   where
