@@ -62,7 +62,7 @@ array_contains_plain ts (extension x) h = absurd (cc)
 array_contains_plain ts (array us) h = absurd (cc)
 array_contains_plain ts (object qs) h = absurd (cc)
 
-object_equals_no_plain : (ps : Pairs) (u : Tree) → is_plain u ≡ true → is_equal (object ps) u ≡ contains (object ps) u
+pub object_equals_no_plain : (ps : Pairs) (u : Tree) → is_plain u ≡ true → is_equal (object ps) u ≡ contains (object ps) u
 object_equals_no_plain ps null h = refl
 object_equals_no_plain ps (boolean true) h = refl
 object_equals_no_plain ps (boolean false) h = refl
@@ -72,7 +72,7 @@ object_equals_no_plain ps (extension x) h = absurd (cc)
 object_equals_no_plain ps (array us) h = absurd (cc)
 object_equals_no_plain ps (object qs) h = absurd (cc)
 
-extension_equals_no_plain : (x : Extension) (u : Tree) → is_plain u ≡ true → is_equal (extension x) u ≡ false
+pub extension_equals_no_plain : (x : Extension) (u : Tree) → is_plain u ≡ true → is_equal (extension x) u ≡ false
 extension_equals_no_plain x null h = refl
 extension_equals_no_plain x (boolean b) h = refl
 extension_equals_no_plain x (number n) h = refl

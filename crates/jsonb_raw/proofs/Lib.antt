@@ -57,3 +57,8 @@ pub mod CutCases
 pub mod PushLemmas
 pub mod PushSteps
 pub mod DeleteLemmas
+pub mod MergedLemmas
+pub mod LeftMerged
+pub mod StripLaws
+pub mod ContainsLaws
+pub mod ConcatLaws

@@ -20,10 +20,10 @@ use Rattle.jsonb_raw.specs.PairSteps.{pairs_above}
 use Rattle.jsonb_raw.specs.Contains.{is_matched_by, each_pair_is_matched}
 use Rattle.jsonb_raw.proofs.PairStepLemmas.{test_of_order, below_further, same_below, no_value}
 
-is_equal_order : (o : Ordering) → is_eq o ≡ true → o ≡ Equal
-is_equal_order Less h = cc
-is_equal_order Equal h = refl
-is_equal_order Greater h = cc
+pub order_of_test : (o : Ordering) → is_eq o ≡ true → o ≡ Equal
+order_of_test Less h = cc
+order_of_test Equal h = refl
+order_of_test Greater h = cc
 
 no_second : (b : Bool) → (b || false) ≡ b
 no_second true = refl
@@ -40,7 +40,7 @@ module _ (key : List ℕ) (m : Tree → Bool) where
     where
       by : (b : Bool) → bytes_eq k key ≡ b → list_any passes (members ps) ≡ option_map_or m (value_under key ps) false → list_any passes (members (pair k t ps)) ≡ option_map_or m (value_under key (pair k t ps)) false
       by true e rest =
-          let same = is_equal_order (slice_cmp nat_cmp k key) (sym (test_of_order k key (slice_cmp nat_cmp k key) refl) ∙ e) in
+          let same = order_of_test (slice_cmp nat_cmp k key) (sym (test_of_order k key (slice_cmp nat_cmp k key) refl) ∙ e) in
           let none = no_value key ps (same_below k key (keys ps) same rising.0) rising.1 in
           rw e (ap (λ b. m t || b) (rest ∙ ap (λ o. option_map_or m o false) none) ∙ no_second (m t))
       by false e rest = rw e rest

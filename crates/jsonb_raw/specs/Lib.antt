@@ -32,3 +32,5 @@ pub mod Arrays
 pub mod Children
 pub mod Cuts
 pub mod ObjectsLaws
+pub mod MergedPairs
+pub mod OperatorLaws

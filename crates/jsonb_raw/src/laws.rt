@@ -10,6 +10,7 @@ ghost use Rattle.jsonb_raw.specs.LeavesLaws.{LeavesAreInPlace};
 ghost use Rattle.jsonb_raw.specs.ExistsLaws.{AllOfNoneAndAnyOfNone};
 ghost use Rattle.jsonb_raw.specs.DeletesLaws.{PairsAreGone};
 ghost use Rattle.jsonb_raw.specs.ObjectsLaws.{PickAndDeletePartObjects};
+ghost use Rattle.jsonb_raw.specs.OperatorLaws.{StripTwiceIsStrip, ContainsIsReflexive, ContainsIsTransitive, ConcatOfArraysIsAssociative, ConcatOfObjectsIsAssociative};
 
 /// The place of no steps is the whole tree.
 pub fn no_steps_meet_the_whole()
@@ -82,4 +83,23 @@ pub fn pairs_that_are_taken_out_are_gone()
 /// Each pair of an object is either picked by a set of keys or left when the same keys are deleted, in order.
 pub fn pick_and_delete_part_objects()
     ensures { PickAndDeletePartObjects }
+/// What is stripped has nothing to strip.
+pub fn strip_twice_is_strip()
+    ensures { StripTwiceIsStrip }
+{}
+
+/// A document whose root is no extension contains itself.
+pub fn contains_is_reflexive()
+    ensures { ContainsIsReflexive }
+{}
+
+/// A document contains what the documents that it contains do.
+pub fn contains_is_transitive()
+    ensures { ContainsIsTransitive }
+{}
+
+/// The order in which three arrays, or three objects, are put together does not matter.
+pub fn concat_is_associative()
+    ensures arrays { ConcatOfArraysIsAssociative }
+    ensures objects { ConcatOfObjectsIsAssociative }
 {}

@@ -10,7 +10,9 @@ ghost use Rattle.jsonb_raw.specs.Documents.{raw_bytes, IsReadingError};
 ghost use Rattle.jsonb_raw.specs.KeyAnswer.{MakesKey, RanksAsTree, IsKeyError};
 ghost use Rattle.jsonb_raw.specs.EqualityKey.{equality_key};
 
+mod concat;
 mod contains;
+mod merge;
 mod repeat;
 mod step;
 mod strip;

@@ -79,4 +79,137 @@ fn keys_that_stand_twice_are_refused(rt: HostRuntime) {
     let repeated = b"\x40\0\0\x02\x10\0\0\x01\x10\0\0\x01\x30\0\0\0\x40\0\0\0aa".as_slice();
     let stripped = RawJsonb::new(repeated).strip_nulls(rt.alloc());
     assert_eq!(rt; stripped.err(), Some(Error::InvalidJsonb));
+    let empty = RawJsonb::new(b"\x40\0\0\0");
+    let made = RawJsonb::new(repeated).concat(rt.alloc(), &empty);
+    assert_eq!(rt; made.err(), Some(Error::InvalidJsonb));
+}
+
+// [1]
+const ONE: &[u8] = b"\x80\0\0\x01\x20\0\0\x02\x50\x01";
+// [[1]]
+const NESTED: &[u8] = b"\x80\0\0\x01\x50\0\0\x0a\x80\0\0\x01\x20\0\0\x02\x50\x01";
+// [1,1,2,1.0]
+const REPEATS: &[u8] =
+    b"\x80\0\0\x04\x20\0\0\x02\x20\0\0\x02\x20\0\0\x02\x20\0\0\x0a\x50\x01\x50\x01\x50\x02\x70\0\0\0\0\0\0\0\x0a\x01";
+// [18446744073709551615]
+const GREATEST: &[u8] = b"\x80\0\0\x01\x20\0\0\x09\x50\xff\xff\xff\xff\xff\xff\xff\xff";
+// the date 1
+const DATE: &[u8] = b"\x20\0\0\0\x60\0\0\x05\x10\0\0\0\x01";
+// 1, 2 and 1.0
+const NUMBER_ONE: &[u8] = b"\x20\0\0\0\x20\0\0\x02\x50\x01";
+const NUMBER_TWO: &[u8] = b"\x20\0\0\0\x20\0\0\x02\x50\x02";
+const TEN_TENTHS: &[u8] = b"\x20\0\0\0\x20\0\0\x0a\x70\0\0\0\0\0\0\0\x0a\x01";
+// {"a":1,"b":2}
+const AB: &[u8] =
+    b"\x40\0\0\x02\x10\0\0\x01\x10\0\0\x01\x20\0\0\x02\x20\0\0\x02ab\x50\x01\x50\x02";
+// {"b":3,"c":4}
+const BC: &[u8] =
+    b"\x40\0\0\x02\x10\0\0\x01\x10\0\0\x01\x20\0\0\x02\x20\0\0\x02bc\x50\x03\x50\x04";
+
+/// Whether the first document contains the second.
+fn contains(document: &[u8], other: &[u8]) -> Result<bool, Error> {
+    RawJsonb::new(document).contains(&RawJsonb::new(other))
+}
+
+#[test]
+fn arrays_contain(rt: HostRuntime) -> Result<(), Fail> {
+    // [1,2,[1,3]] and [1,3]
+    let deep =
+        b"\x80\0\0\x03\x20\0\0\x02\x20\0\0\x02\x50\0\0\x10\x50\x01\x50\x02\x80\0\0\x02\x20\0\0\x02\x20\0\0\x02\x50\x01\x50\x03"
+            .as_slice();
+    let inner = b"\x80\0\0\x02\x20\0\0\x02\x20\0\0\x02\x50\x01\x50\x03".as_slice();
+    let empty = b"\x80\0\0\0".as_slice();
+    for (document, other, wanted) in [
+        (NESTED, NESTED, true),
+        (REPEATS, GREATEST, false),
+        (deep, inner, false),
+        (deep, deep, true),
+        (deep, ONE, true),
+        (ONE, NUMBER_ONE, true),
+        (ONE, TEN_TENTHS, true),
+        (ONE, NUMBER_TWO, false),
+        (NESTED, NUMBER_ONE, false),
+        (NESTED, ONE, false),
+        (ONE, REPEATS, false),
+        (REPEATS, ONE, true),
+        (ONE, empty, true),
+        (empty, ONE, false),
+    ] {
+        assert_eq!(rt; contains(document, other)?, wanted, "{document:?} {other:?}");
+    }
+    Ok(())
+}
+
+#[test]
+fn other_documents_contain(rt: HostRuntime) -> Result<(), Fail> {
+    // {"a":1}, {"b":1}, {"a":[1]}, {"a":[[1]]} and {"x":{"a":1}}
+    let a = b"\x40\0\0\x01\x10\0\0\x01\x20\0\0\x02a\x50\x01".as_slice();
+    let b = b"\x40\0\0\x01\x10\0\0\x01\x20\0\0\x02b\x50\x01".as_slice();
+    let list =
+        b"\x40\0\0\x01\x10\0\0\x01\x50\0\0\x0aa\x80\0\0\x01\x20\0\0\x02\x50\x01".as_slice();
+    let x =
+        b"\x40\0\0\x01\x10\0\0\x01\x50\0\0\x0fx\x40\0\0\x01\x10\0\0\x01\x20\0\0\x02a\x50\x01"
+            .as_slice();
+    let empty = b"\x40\0\0\0".as_slice();
+    for (document, other, wanted) in [
+        (AB, AB, true),
+        (AB, a, true),
+        (AB, b, false),
+        (AB, BC, false),
+        (a, AB, false),
+        (list, a, false),
+        (a, list, false),
+        (list, list, true),
+        (x, a, false),
+        (a, empty, true),
+        (a, NUMBER_ONE, false),
+        (NUMBER_ONE, a, false),
+        (NUMBER_ONE, NUMBER_ONE, true),
+        (NUMBER_ONE, TEN_TENTHS, true),
+        (NUMBER_ONE, NUMBER_TWO, false),
+        (NUMBER_ONE, ONE, false),
+        (DATE, DATE, false),
+        (ONE, DATE, false),
+    ] {
+        assert_eq!(rt; contains(document, other)?, wanted, "{document:?} {other:?}");
+    }
+    assert_eq!(rt; contains(FLOAT, ONE), Err(Error::UnsupportedNumber));
+    assert_eq!(rt; contains(ONE, b""), Err(Error::InvalidJsonb));
+    Ok(())
+}
+
+#[test]
+fn documents_are_put_together(rt: HostRuntime) -> Result<(), Fail> {
+    let nested =
+        b"\x80\0\0\x02\x20\0\0\x02\x50\0\0\x0a\x50\x01\x80\0\0\x01\x20\0\0\x02\x50\x01".as_slice();
+    let numbers = b"\x80\0\0\x02\x20\0\0\x02\x20\0\0\x02\x50\x01\x50\x02".as_slice();
+    // {"a":1,"b":3,"c":4} and {"a":1,"b":2,"c":4}
+    let other_wins =
+        b"\x40\0\0\x03\x10\0\0\x01\x10\0\0\x01\x10\0\0\x01\x20\0\0\x02\x20\0\0\x02\x20\0\0\x02abc\x50\x01\x50\x03\x50\x04"
+            .as_slice();
+    let reversed =
+        b"\x40\0\0\x03\x10\0\0\x01\x10\0\0\x01\x10\0\0\x01\x20\0\0\x02\x20\0\0\x02\x20\0\0\x02abc\x50\x01\x50\x02\x50\x04"
+            .as_slice();
+    // {"k":"v"} and [{"k":"v"},1]
+    let pair = b"\x40\0\0\x01\x10\0\0\x01\x10\0\0\x01kv".as_slice();
+    let mixed =
+        b"\x80\0\0\x02\x50\0\0\x0e\x20\0\0\x02\x40\0\0\x01\x10\0\0\x01\x10\0\0\x01kv\x50\x01"
+            .as_slice();
+    let empty = b"\x40\0\0\0".as_slice();
+    for (document, other, wanted) in [
+        (ONE, NESTED, nested),
+        (NUMBER_ONE, NUMBER_TWO, numbers),
+        (ONE, NUMBER_TWO, numbers),
+        (AB, BC, other_wins),
+        (BC, AB, reversed),
+        (pair, ONE, mixed),
+        (empty, AB, AB),
+        (AB, empty, AB),
+    ] {
+        let made = RawJsonb::new(document).concat(rt.alloc(), &RawJsonb::new(other))?;
+        assert_eq!(rt; made.as_raw().as_bytes(), wanted);
+    }
+    let float = RawJsonb::new(ONE).concat(rt.alloc(), &RawJsonb::new(FLOAT));
+    assert_eq!(rt; float.err(), Some(Error::UnsupportedNumber));
+    Ok(())
 }

@@ -1,0 +1,266 @@
+-- A tree contains itself, and what the trees that it contains do.
+use Rattle.std.proofs.Common.{◌≡◌, ℕ, Bool, true, false, ◌&&◌, ◌||◌, not, IsTrue, List, [], ◌∷◌, ◌++◌, refl, sym, ap₂, ◌∙◌, append_assoc}
+use Rattle.std.specs.List.{list_any}
+use Rattle.std.specs.Str.{bytes_eq}
+use Rattle.std.proofs.lemmas.Slice.Eq.{bytes_eq-Decides}
+use Rattle.jsonb_doc.specs.Tree.{Tree, null, boolean, number, text, extension, array, object, Trees, no_trees, tree, Pairs, no_pairs, pair, elements, members}
+use Rattle.jsonb_doc.specs.Equal.{is_equal}
+use Rattle.jsonb_doc.specs.EqualLaws.{is_equal_equiv}
+use Rattle.std.specs.Cmp.{partial_equiv_from_equiv}
+use Rattle.jsonb_raw.specs.Scalars.{is_extension_value}
+use Rattle.jsonb_raw.specs.Contains.{contains, is_plain, is_matched_by, each_is_matched, each_pair_is_matched}
+use Rattle.jsonb_raw.proofs.ContainLemmas.{contains-extension, contains-array, contains-object, array_contains_plain, object_equals_no_plain, extension_equals_no_plain}
+
+both : (a b : Bool) → a ≡ true → b ≡ true → (a && b) ≡ true
+both a b p q = ap₂ (λ x y. x && y) p q
+
+first_of_both : (a b : Bool) → (a && b) ≡ true → a ≡ true
+first_of_both true b h = refl
+first_of_both false b h = h
+
+second_of_both : (a b : Bool) → (a && b) ≡ true → b ≡ true
+second_of_both true b h = h
+second_of_both false b h = absurd (cc)
+
+same_bytes : (a : List ℕ) → bytes_eq a a ≡ true
+same_bytes a = (bytes_eq-Decides a a).1 refl
+
+bytes_trans : (a b c : List ℕ) → bytes_eq a b ≡ true → bytes_eq b c ≡ true → bytes_eq a c ≡ true
+bytes_trans a b c h k = (bytes_eq-Decides a c).1 ((bytes_eq-Decides a b).0 h ∙ (bytes_eq-Decides b c).0 k)
+
+equal_refl : (t : Tree) → is_equal t t ≡ true
+equal_refl t = is_equal_equiv.refl t
+
+equal_trans : (t u v : Tree) → is_equal t u ≡ true → is_equal u v ≡ true → is_equal t v ≡ true
+equal_trans t u v h k = (partial_equiv_from_equiv is_equal_equiv).trans t u v h k
+
+-- ---- lists
+
+-- a test that an element in the middle passes
+any_middle : {A : Type 0} (p : A → Bool) (before after : List A) (x : A) → p x ≡ true → list_any p (before ++ x ∷ after) ≡ true
+any_middle p [] after x h = rw h refl
+any_middle p (y ∷ ys) after x h = by (p y) (any_middle p ys after x h)
+  where
+    by : (b : Bool) → list_any p (ys ++ x ∷ after) ≡ true → (b || list_any p (ys ++ x ∷ after)) ≡ true
+    by true e = refl
+    by false e = e
+
+-- a weaker test is passed too
+any_more : {A : Type 0} (p q : A → Bool) (xs : List A) → list_any p xs ≡ true → ((x : A) → p x ≡ true → q x ≡ true) → list_any q xs ≡ true
+any_more p q [] h f = absurd (cc)
+any_more {A = A} p q (x ∷ xs) h f = by (p x) refl h (any_more p q xs)
+  where
+    or_second : (b c : Bool) → c ≡ true → (b || c) ≡ true
+    or_second true c h = refl
+    or_second false c h = h
+
+    by : (b : Bool) → p x ≡ b → (b || list_any p xs) ≡ true → (list_any p xs ≡ true → ((x : A) → p x ≡ true → q x ≡ true) → list_any q xs ≡ true) → (q x || list_any q xs) ≡ true
+    by true e k more = rw (f x e) refl
+    by false e k more = or_second (q x) _ (more k f)
+
+-- one of the elements passes p, so what matches it passes q
+each_any : (us : Trees) (xs : List Tree) (p q : Tree → Bool) → each_is_matched us xs ≡ true → list_any p (elements us) ≡ true → ((u x : Tree) → p u ≡ true → is_matched_by u x ≡ true → q x ≡ true) → list_any q xs ≡ true
+each_any no_trees xs p q h k f = absurd (cc)
+each_any (tree u us) xs p q h k f = by (p u) refl k (each_any us xs p q (second_of_both (list_any (is_matched_by u) xs) _ h))
+  where
+    by : (b : Bool) → p u ≡ b → (b || list_any p (elements us)) ≡ true → (list_any p (elements us) ≡ true → ((u x : Tree) → p u ≡ true → is_matched_by u x ≡ true → q x ≡ true) → list_any q xs ≡ true) → list_any q xs ≡ true
+    by true e k more = any_more (is_matched_by u) q xs (first_of_both _ _ h) (λ x. f u x e)
+    by false e k more = more k f
+
+each_pair_any : (us : Pairs) (xs : List (List ℕ × Tree)) (p q : List ℕ × Tree → Bool) → each_pair_is_matched us xs ≡ true → list_any p (members us) ≡ true → ((u x : List ℕ × Tree) → p u ≡ true → (bytes_eq x.0 u.0 && is_matched_by u.1 x.1) ≡ true → q x ≡ true) → list_any q xs ≡ true
+each_pair_any no_pairs xs p q h k f = absurd (cc)
+each_pair_any (pair l u us) xs p q h k f = by (p (l, u)) refl k (each_pair_any us xs p q (second_of_both (list_any (λ x. bytes_eq x.0 l && is_matched_by u x.1) xs) _ h))
+  where
+    by : (b : Bool) → p (l, u) ≡ b → (b || list_any p (members us)) ≡ true → (list_any p (members us) ≡ true → ((u x : List ℕ × Tree) → p u ≡ true → (bytes_eq x.0 u.0 && is_matched_by u.1 x.1) ≡ true → q x ≡ true) → list_any q xs ≡ true) → list_any q xs ≡ true
+    by true e k more = any_more (λ x. bytes_eq x.0 l && is_matched_by u x.1) q xs (first_of_both _ _ h) (λ x. f (l, u) x e)
+    by false e k more = more k f
+
+-- ---- a tree matches itself
+
+mutual
+  matched_refl : (t : Tree) → is_matched_by t t ≡ true
+  matched_refl null = refl
+  matched_refl (boolean b) = equal_refl (boolean b)
+  matched_refl (number n) = equal_refl (number n)
+  matched_refl (text s) = equal_refl (text s)
+  matched_refl (extension x) = equal_refl (extension x)
+  matched_refl (array ts) = each_refl ts (elements ts) [] refl
+  matched_refl (object ps) = each_pair_refl ps (members ps) [] refl
+
+  -- each of the elements that are left stands in the whole list
+  each_refl : (ts : Trees) (whole before : List Tree) → whole ≡ before ++ elements ts → each_is_matched ts whole ≡ true
+  each_refl no_trees whole before e = refl
+  each_refl (tree t ts) whole before e = both _ _
+      (rw e (any_middle (is_matched_by t) before (elements ts) t (matched_refl t)))
+      (each_refl ts whole (before ++ t ∷ []) (e ∙ sym (append_assoc before (t ∷ []) (elements ts))))
+
+  each_pair_refl : (ps : Pairs) (whole before : List (List ℕ × Tree)) → whole ≡ before ++ members ps → each_pair_is_matched ps whole ≡ true
+  each_pair_refl no_pairs whole before e = refl
+  each_pair_refl (pair k t ps) whole before e = both _ _
+      (rw e (any_middle (λ p. bytes_eq p.0 k && is_matched_by t p.1) before (members ps) (k, t) (both _ _ (same_bytes k) (matched_refl t))))
+      (each_pair_refl ps whole (before ++ (k, t) ∷ []) (e ∙ sym (append_assoc before ((k, t) ∷ []) (members ps))))
+
+pub contains_refl : (t : Tree) → IsTrue (not (is_extension_value t)) → contains t t ≡ true
+contains_refl null e = refl
+contains_refl (boolean b) e = equal_refl (boolean b)
+contains_refl (number n) e = equal_refl (number n)
+contains_refl (text s) e = equal_refl (text s)
+contains_refl (extension x) e = absurd (cc)
+contains_refl (array ts) e = each_refl ts (elements ts) [] refl
+contains_refl (object ps) e = each_pair_refl ps (members ps) [] refl
+
+-- ---- what matches is passed on
+
+abbrev not_container : Tree → Bool
+not_container (array ts) = false
+not_container (object ps) = false
+not_container _ = true
+
+-- what equals a tree that is no container is none
+like : (u y : Tree) → is_equal u y ≡ true → not_container y ≡ true → not_container u ≡ true
+like null y h e = refl
+like (boolean b) y h e = refl
+like (number n) y h e = refl
+like (text s) y h e = refl
+like (extension x) y h e = refl
+like (array us) (array ys) h e = absurd (cc)
+like (array us) _ h e = absurd (cc)
+like (object us) (object ys) h e = absurd (cc)
+like (object us) _ h e = absurd (cc)
+
+matched_equal : (u x : Tree) → not_container u ≡ true → is_matched_by u x ≡ is_equal x u
+matched_equal null x e = refl
+matched_equal (boolean b) x e = refl
+matched_equal (number n) x e = refl
+matched_equal (text s) x e = refl
+matched_equal (extension y) x e = refl
+matched_equal (array us) x e = absurd (cc)
+matched_equal (object us) x e = absurd (cc)
+
+equal_passed : (y u x : Tree) → not_container y ≡ true → is_equal u y ≡ true → is_matched_by u x ≡ true → is_equal x y ≡ true
+equal_passed y u x e h k = equal_trans x u y (sym (matched_equal u x (like u y h e)) ∙ k) h
+
+-- an array is matched by arrays alone, and an object by objects
+from_array : (us : Trees) (x : Tree) → is_matched_by (array us) x ≡ true → (xs : Trees) × (x ≡ array xs)
+from_array us null h = absurd (cc)
+from_array us (boolean true) h = absurd (cc)
+from_array us (boolean false) h = absurd (cc)
+from_array us (number n) h = absurd (cc)
+from_array us (text s) h = absurd (cc)
+from_array us (extension x) h = absurd (cc)
+from_array us (array xs) h = (xs, refl)
+from_array us (object xs) h = absurd (cc)
+
+from_object : (us : Pairs) (x : Tree) → is_matched_by (object us) x ≡ true → (xs : Pairs) × (x ≡ object xs)
+from_object us null h = absurd (cc)
+from_object us (boolean true) h = absurd (cc)
+from_object us (boolean false) h = absurd (cc)
+from_object us (number n) h = absurd (cc)
+from_object us (text s) h = absurd (cc)
+from_object us (extension x) h = absurd (cc)
+from_object us (array xs) h = absurd (cc)
+from_object us (object xs) h = (xs, refl)
+
+mutual
+  matched_trans : (y u x : Tree) → is_matched_by y u ≡ true → is_matched_by u x ≡ true → is_matched_by y x ≡ true
+  matched_trans (array ys) u x h k =
+      let (us, e) = from_array ys u h in
+      let k' = rw e at k in
+      let (xs, f) = from_array us x k' in
+      rw f (each_trans ys us (elements xs) (rw e at h) (rw f at k'))
+  matched_trans (object ys) u x h k =
+      let (us, e) = from_object ys u h in
+      let k' = rw e at k in
+      let (xs, f) = from_object us x k' in
+      rw f (each_pair_trans ys us (members xs) (rw e at h) (rw f at k'))
+  matched_trans null u x h k = equal_passed null u x refl h k
+  matched_trans (boolean b) u x h k = equal_passed (boolean b) u x refl h k
+  matched_trans (number n) u x h k = equal_passed (number n) u x refl h k
+  matched_trans (text s) u x h k = equal_passed (text s) u x refl h k
+  matched_trans (extension y) u x h k = equal_passed (extension y) u x refl h k
+
+  each_trans : (ys us : Trees) (xs : List Tree) → each_is_matched ys (elements us) ≡ true → each_is_matched us xs ≡ true → each_is_matched ys xs ≡ true
+  each_trans no_trees us xs h k = refl
+  each_trans (tree y ys) us xs h k = both _ _
+      (each_any us xs (is_matched_by y) (is_matched_by y) k (first_of_both _ _ h) (λ u x a b. matched_trans y u x a b))
+      (each_trans ys us xs (second_of_both (list_any (is_matched_by y) (elements us)) _ h) k)
+
+  each_pair_trans : (ys us : Pairs) (xs : List (List ℕ × Tree)) → each_pair_is_matched ys (members us) ≡ true → each_pair_is_matched us xs ≡ true → each_pair_is_matched ys xs ≡ true
+  each_pair_trans no_pairs us xs h k = refl
+  each_pair_trans (pair l y ys) us xs h k = both _ _
+      (each_pair_any us xs (λ p. bytes_eq p.0 l && is_matched_by y p.1) (λ p. bytes_eq p.0 l && is_matched_by y p.1) k (first_of_both _ _ h)
+      (λ u x a b. both _ _ (bytes_trans x.0 u.0 l (first_of_both _ _ b) (first_of_both _ _ a)) (matched_trans y u.1 x.1 (second_of_both (bytes_eq u.0 l) _ a) (second_of_both (bytes_eq x.0 u.0) _ b))))
+      (each_pair_trans ys us xs (second_of_both (list_any (λ p. bytes_eq p.0 l && is_matched_by y p.1) (members us)) _ h) k)
+
+-- ---- what is contained is passed on
+
+plain_matched : (v t : Tree) → is_plain v ≡ true → is_matched_by v t ≡ is_equal t v
+plain_matched null t h = refl
+plain_matched (boolean b) t h = refl
+plain_matched (number n) t h = refl
+plain_matched (text s) t h = refl
+plain_matched (extension x) t h = absurd (cc)
+plain_matched (array us) t h = absurd (cc)
+plain_matched (object us) t h = absurd (cc)
+
+-- a plain value is matched by an element of an array, or by the tree
+abbrev plain_in : Tree → Tree → Bool
+plain_in v (array ts) = list_any (is_matched_by v) (elements ts)
+plain_in v t = is_matched_by v t
+
+contains_plain : (t v : Tree) → is_plain v ≡ true → contains t v ≡ plain_in v t
+contains_plain null v h = rw h (sym (plain_matched v null h))
+contains_plain (boolean b) v h = rw h (sym (plain_matched v (boolean b) h))
+contains_plain (number n) v h = rw h (sym (plain_matched v (number n) h))
+contains_plain (text s) v h = rw h (sym (plain_matched v (text s) h))
+contains_plain (extension x) v h = sym (plain_matched v (extension x) h ∙ extension_equals_no_plain x v h)
+contains_plain (array ts) v h = sym (array_contains_plain ts v h)
+contains_plain (object ps) v h = sym (plain_matched v (object ps) h ∙ object_equals_no_plain ps v h)
+
+plain_in_trans : (v u t : Tree) → is_matched_by v u ≡ true → plain_in u t ≡ true → plain_in v t ≡ true
+plain_in_trans v u null h k = matched_trans v u null h k
+plain_in_trans v u (boolean b) h k = matched_trans v u (boolean b) h k
+plain_in_trans v u (number n) h k = matched_trans v u (number n) h k
+plain_in_trans v u (text s) h k = matched_trans v u (text s) h k
+plain_in_trans v u (extension x) h k = matched_trans v u (extension x) h k
+plain_in_trans v u (object ps) h k = matched_trans v u (object ps) h k
+plain_in_trans v u (array ts) h k = any_more (is_matched_by u) (is_matched_by v) (elements ts) k (λ x a. matched_trans v u x h a)
+
+no_true : (b : Bool) → b ≡ false → b ≡ true → ⊥
+no_true b e h = cc
+
+plain_trans : (t u v : Tree) → is_plain v ≡ true → contains t u ≡ true → contains u v ≡ true → plain_in v t ≡ true
+plain_trans t (array us) v p h k =
+    let m = sym (contains-array t us) ∙ h in
+    let (ts, e) = from_array us t m in
+    rw e (each_any us (elements ts) (is_matched_by v) (is_matched_by v) (rw e at m) (sym (contains_plain (array us) v p) ∙ k) (λ u x a b. matched_trans v u x a b))
+plain_trans t (object us) v p h k = absurd (no_true _ (sym (object_equals_no_plain us v p) ∙ none us v p) k)
+  where
+    none : (us : Pairs) (v : Tree) → is_plain v ≡ true → is_equal (object us) v ≡ false
+    none us null p = refl
+    none us (boolean b) p = refl
+    none us (number n) p = refl
+    none us (text s) p = refl
+    none us (extension x) p = refl
+    none us (array vs) p = refl
+    none us (object vs) p = absurd (cc)
+plain_trans t (extension x) v p h k = absurd (no_true _ (contains-extension t x) h)
+plain_trans t null v p h k = plain_in_trans v null t (sym (contains_plain null v p) ∙ k) (sym (contains_plain t null refl) ∙ h)
+plain_trans t (boolean b) v p h k = plain_in_trans v (boolean b) t (sym (contains_plain (boolean b) v p) ∙ k) (sym (contains_plain t (boolean b) refl) ∙ h)
+plain_trans t (number n) v p h k = plain_in_trans v (number n) t (sym (contains_plain (number n) v p) ∙ k) (sym (contains_plain t (number n) refl) ∙ h)
+plain_trans t (text s) v p h k = plain_in_trans v (text s) t (sym (contains_plain (text s) v p) ∙ k) (sym (contains_plain t (text s) refl) ∙ h)
+
+pub contains_trans : (t u v : Tree) → contains t u ≡ true → contains u v ≡ true → contains t v ≡ true
+contains_trans t u (array vs) h k =
+    let m = sym (contains-array u vs) ∙ k in
+    let (us, e) = from_array vs u m in
+    contains-array t vs ∙ matched_trans (array vs) u t m (rw e (sym (contains-array t us) ∙ rw e at h))
+contains_trans t u (object vs) h k =
+    let m = sym (contains-object u vs) ∙ k in
+    let (us, e) = from_object vs u m in
+    contains-object t vs ∙ matched_trans (object vs) u t m (rw e (sym (contains-object t us) ∙ rw e at h))
+contains_trans t u (extension x) h k = absurd (no_true _ (contains-extension u x) k)
+contains_trans t u null h k = contains_plain t null refl ∙ plain_trans t u null refl h k
+contains_trans t u (boolean b) h k = contains_plain t (boolean b) refl ∙ plain_trans t u (boolean b) refl h k
+contains_trans t u (number n) h k = contains_plain t (number n) refl ∙ plain_trans t u (number n) refl h k
+contains_trans t u (text s) h k = contains_plain t (text s) refl ∙ plain_trans t u (text s) refl h k
