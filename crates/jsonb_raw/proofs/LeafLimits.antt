@@ -1,5 +1,5 @@
 -- No leaf is too large for a document of its own.
-use Rattle.std.proofs.Common.{◌≡◌, ◌^◌, ◌<◌, ◌≤◌, ℕ, zero, suc, pos, negsuc, ℤ, Bool, true, false, List, [], ◌∷◌, arith, lit<, if◌then◌else◌, refl}
+use Rattle.std.proofs.Common.{◌≡◌, ◌≤◌, ℕ, zero, suc, pos, negsuc, ℤ, Bool, true, false, List, [], ◌∷◌, arith, lit<, if◌then◌else◌, refl}
 use Rattle.jsonb_doc.specs.Number.{Variant, int64, uint64, decimal64, decimal128}
 use Rattle.jsonb_doc.specs.Tree.{Tree, null, boolean, number, text, extension, array, object, Trees, no_trees, tree, Pairs, no_pairs, pair}
 use Rattle.jsonb_doc.specs.Payload.{Form, any, canonical}

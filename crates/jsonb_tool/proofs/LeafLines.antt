@@ -34,7 +34,7 @@ pub part_given : (form : Form) (u : Tree) (o : Option Tree) → o ≡ Some u →
 part_given form u o there said = rw there at said
 
 pub line_of_part : (form : Form) (t u : Tree) (steps : List Key) (part : OwnedJsonb) (digits line : List ℕ) → tree_at_steps steps t ≡ Some u → MakesOption form (tree_at_steps steps t) (Ok (Some part))
-    → digits ≡ encode_lower part → line ≡ digits ++ (codes " " ++ (key_path_text steps ++ codes "\n")) → IsLeafLine form t (steps, u) line
+    → digits ≡ encode_lower part → line ≡ digits ++ (codes " " ++ (key_path_text steps ++ codes "\n")) → IsLeafLine form t steps line
 line_of_part form t u steps part digits line there said shown is = (part, rw there (rw there at said), is ∙ ap (λ ds. ds ++ (codes " " ++ (key_path_text steps ++ codes "\n"))) shown ∙ joined)
   where
     joined : encode_lower part ++ (codes " " ++ (key_path_text steps ++ codes "\n")) ≡ encode_lower part ++ codes " " ++ key_path_text steps ++ codes "\n"
@@ -67,7 +67,7 @@ pub LinesToward-none : (form : Form) (t : Tree) (all : List Leaf) → LinesTowar
 LinesToward-none form t all = record { go_on = λ rest are. are }
 
 pub LinesToward-more : (form : Form) (t : Tree) (all others : List Leaf) (leaf : Leaf) (i : ℕ) (lines line : List ℕ) → drop i all ≡ leaf ∷ others → drop (i + 1) all ≡ others
-    → LinesToward form t all i lines → IsLeafLine form t leaf line → LinesToward form t all (i + 1) (lines ++ line)
+    → LinesToward form t all i lines → IsLeafLine form t leaf.0 line → LinesToward form t all (i + 1) (lines ++ line)
 LinesToward-more form t all others leaf i lines line here next so_far is = record {
   go_on = λ rest are.
       let further = so_far.go_on (line ++ rest) (rw here (line, rest, is, rw next at are, refl)) in

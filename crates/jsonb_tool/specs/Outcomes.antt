@@ -60,17 +60,17 @@ ShowsKey t (Err e) = (e ≡ TooDeep) × (depths w8 ≤ deepest t)
 abbrev pub ShowsKeyOf : List ℕ → Outcome → Type 0
 ShowsKeyOf document outcome = OnDocument document (λ form t. ShowsKey t) outcome
 
--- The line of a leaf: a document of the tree at the place of its steps in hexadecimal, a space, and the steps as they print.
-abbrev pub IsLeafLine : Form → Tree → Leaf → List ℕ → Type 0
-IsLeafLine form t leaf line =
-    (bytes : List ℕ) × IsSomeAnd (tree_at_steps leaf.0 t) (Decodes form bytes)
-    × (line ≡ encode_lower bytes ++ codes " " ++ key_path_text leaf.0 ++ codes "\n")
+-- The line of a leaf with these steps: a document of the tree at their place in hexadecimal, a space, and the steps as they print.
+abbrev pub IsLeafLine : Form → Tree → List Key → List ℕ → Type 0
+IsLeafLine form t steps line =
+    (bytes : List ℕ) × IsSomeAnd (tree_at_steps steps t) (Decodes form bytes)
+    × (line ≡ encode_lower bytes ++ codes " " ++ key_path_text steps ++ codes "\n")
 
 -- the lines of these leaves of a tree, one behind the other
 abbrev pub AreLeafLines : Form → Tree → List Leaf → List ℕ → Type 0
 AreLeafLines form t [] lines = lines ≡ []
 AreLeafLines form t (leaf ∷ others) lines =
-    (line rest : List ℕ) × IsLeafLine form t leaf line × AreLeafLines form t others rest × (lines ≡ line ++ rest)
+    (line rest : List ℕ) × IsLeafLine form t leaf.0 line × AreLeafLines form t others rest × (lines ≡ line ++ rest)
 
 -- the lines of these leaves of a tree, or `none` where there are none
 abbrev pub ShowsEachLeaf : Form → Tree → List Leaf → List ℕ → Type 0

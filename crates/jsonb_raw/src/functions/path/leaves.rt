@@ -39,11 +39,11 @@ fn is_leaf(item: &Item<'_>, ignore_array: bool) -> Result<bool, Error>
     match item {
         Item::Array(_) if ignore_array => Ok(true),
         Item::Array(bytes) => match elements(bytes)? {
-            Some(found) => Ok(found.len() == 0),
+            Some(items) => Ok(items.len() == 0),
             None => Err(Error::InvalidJsonb),
         },
         Item::Object(bytes) => match pairs(bytes)? {
-            Some(found) => Ok(found.len() == 0),
+            Some(members) => Ok(members.len() == 0),
             None => Err(Error::InvalidJsonb),
         },
         _ => Ok(true),
