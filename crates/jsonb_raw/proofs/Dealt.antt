@@ -3,7 +3,8 @@ use Rattle.std.proofs.Common.{Bool, true, false, not, List, [], ◌∷◌, filte
 use Rattle.jsonb_doc.specs.Tree.{Pairs, members, pairs_of}
 use Rattle.jsonb_doc.proofs.TreeLists.{members-pairs_of}
 use Rattle.jsonb_raw.specs.Objects.{TextSet, is_in, picked, dropped}
-use Rattle.jsonb_raw.specs.ObjectsLaws.{IsDealtTo, IsParted}
+use Rattle.jsonb_raw.specs.Dealt.{IsDealtTo}
+use Rattle.jsonb_raw.specs.ObjectsLaws.{IsParted}
 
 filters_deal : {A : Type 0} (test : A → Bool) (zs : List A) → IsDealtTo zs (filter test zs) (filter (λ z. not (test z)) zs)
 filters_deal test [] = (refl, refl)

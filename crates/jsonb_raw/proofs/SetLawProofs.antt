@@ -8,7 +8,8 @@ use Rattle.jsonb_doc.specs.Tree.{Tree}
 use Rattle.jsonb_doc.specs.Equal.{is_equal}
 use Rattle.jsonb_doc.specs.EqualLaws.{is_equal_equiv}
 use Rattle.jsonb_raw.specs.Sets.{count_of, Occurrence, occurrences, is_first, is_shared, shared, unshared, overlap}
-use Rattle.jsonb_raw.specs.SetLaws.{IsDealtTo, SplitDeals, SplitCounts, DistinctCounts, OverlapIsShared}
+use Rattle.jsonb_raw.specs.Dealt.{IsDealtTo}
+use Rattle.jsonb_raw.specs.SetLaws.{SplitDeals, SplitCounts, DistinctCounts, OverlapIsShared}
 
 -- ---- a test and its opposite deal
 

@@ -1,12 +1,8 @@
 -- Two trees put together.
 use Rattle.std.specs.Prelude.{ℕ, List, [], ◌∷◌, ◌++◌}
-use Rattle.jsonb_doc.specs.Tree.{Tree, array, object, elements, members, trees_of, pairs_of}
+use Rattle.jsonb_doc.specs.Tree.{Tree, array, object, members, trees_of, pairs_of}
 use Rattle.jsonb_doc.specs.ObjectBuilder.{insert_pair}
-
--- the elements of an array; another tree counts as one element
-abbrev pub parts : Tree → List Tree
-parts (array ts) = elements ts
-parts t = t ∷ []
+use Rattle.jsonb_raw.specs.Arrays.{as_elements}
 
 -- the pairs of both by rising keys, with the second's value where both have the key
 abbrev pub merged : List (List ℕ × Tree) → List (List ℕ × Tree) → List (List ℕ × Tree)
@@ -16,4 +12,4 @@ merged ps (q ∷ qs) = merged (insert_pair q.0 q.1 ps) qs
 -- two objects give an object, any other two trees an array
 abbrev pub concat : Tree → Tree → Tree
 concat (object ps) (object qs) = object (pairs_of (merged (members ps) (members qs)))
-concat s t = array (trees_of (parts s ++ parts t))
+concat s t = array (trees_of (as_elements s ++ as_elements t))

@@ -34,3 +34,4 @@ pub mod Cuts
 pub mod ObjectsLaws
 pub mod MergedPairs
 pub mod OperatorLaws
+pub mod Dealt

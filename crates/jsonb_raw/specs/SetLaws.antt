@@ -1,13 +1,8 @@
 -- The laws of arrays as sets.
 use Rattle.std.specs.Prelude.{◌≡◌, ◌≢◌, ◌⊎◌, ◌↔◌, ◌-◌, min, List, [], ◌∷◌, IsTrue}
 use Rattle.jsonb_doc.specs.Tree.{Tree}
+use Rattle.jsonb_raw.specs.Dealt.{IsDealtTo}
 use Rattle.jsonb_raw.specs.Sets.{count_of, distinct, shared, unshared, overlap}
-
--- The first list deals its elements out, in order: each to exactly one of the two others.
-abbrev pub IsDealtTo : {A : Type 0} → List A → List A → List A → Type 0
-IsDealtTo [] xs ys = (xs ≡ []) × (ys ≡ [])
-IsDealtTo {A} (z ∷ zs) xs ys =
-    ((others : List A) × (xs ≡ z ∷ others) × IsDealtTo zs others ys) ⊎ ((others : List A) × (ys ≡ z ∷ others) × IsDealtTo zs xs others)
 
 -- A split puts each occurrence into the intersection or into the difference, in order.
 abbrev pub SplitDeals : Type 0

@@ -83,6 +83,8 @@ pub fn pairs_that_are_taken_out_are_gone()
 /// Each pair of an object is either picked by a set of keys or left when the same keys are deleted, in order.
 pub fn pick_and_delete_part_objects()
     ensures { PickAndDeletePartObjects }
+{}
+
 /// What is stripped has nothing to strip.
 pub fn strip_twice_is_strip()
     ensures { StripTwiceIsStrip }

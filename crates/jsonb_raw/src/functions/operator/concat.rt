@@ -8,7 +8,8 @@ ghost use Rattle.jsonb_doc.specs.Item.{Stands};
 ghost use Rattle.jsonb_doc.specs.Answer.{Builds};
 ghost use Rattle.jsonb_doc.specs.ArrayBuilder.{HoldsElements};
 ghost use Rattle.jsonb_raw.specs.Documents.{raw_bytes, Makes, IsMakingError};
-ghost use Rattle.jsonb_raw.specs.Concat.{concat, parts, merged};
+ghost use Rattle.jsonb_raw.specs.Arrays.{as_elements};
+ghost use Rattle.jsonb_raw.specs.Concat.{concat, merged};
 
 use crate::functions::operator::merge::MergedPairs;
 use crate::functions::operator::repeat::no_repeat;
@@ -72,8 +73,8 @@ fn joined_objects(alloc: Global, bytes: &[u8], others: &[u8]) -> Result<Vec<u8>,
 /// The document of the array of two items' parts.
 fn joined_arrays(alloc: Global, item: &Item<'_>, other: &Item<'_>) -> Result<Vec<u8>, Error>
     ensures document { (form : Form) (t u : Tree) → Stands form item.now t → Stands form other.now u
-        → Builds form (array (trees_of (parts t ++ parts u))) result
-        (λ made. Decodes form made.items (array (trees_of (parts t ++ parts u)))) }
+        → Builds form (array (trees_of (as_elements t ++ as_elements u))) result
+        (λ made. Decodes form made.items (array (trees_of (as_elements t ++ as_elements u)))) }
     ensures errors { IfErr result IsMakingError }
 {
     let mut builder = ArrayBuilder::new(alloc);
@@ -86,8 +87,8 @@ fn joined_arrays(alloc: Global, item: &Item<'_>, other: &Item<'_>) -> Result<Vec
 fn push_parts(builder: &mut ArrayBuilder, item: &Item<'_>) -> Result<(), Error>
     ensures pushed { (form : Form) (held : List Tree) (t : Tree) → HoldsElements form builder.old held
         → Stands form item.now t
-        → Builds form (array (trees_of (held ++ parts t))) result
-        (λ _. HoldsElements form builder.new (held ++ parts t)) }
+        → Builds form (array (trees_of (held ++ as_elements t))) result
+        (λ _. HoldsElements form builder.new (held ++ as_elements t)) }
     ensures errors { IfErr result IsMakingError }
 {
     match item {

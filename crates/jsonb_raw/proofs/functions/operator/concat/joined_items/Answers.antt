@@ -7,12 +7,13 @@ use Rattle.jsonb_doc.specs.Payload.{Form}
 use Rattle.jsonb_doc.specs.Format.{Decodes}
 use Rattle.jsonb_doc.specs.Item.{Stands}
 use Rattle.jsonb_doc.specs.Answer.{Builds}
-use Rattle.jsonb_raw.specs.Concat.{concat, parts}
+use Rattle.jsonb_raw.specs.Arrays.{as_elements}
+use Rattle.jsonb_raw.specs.Concat.{concat}
 use Rattle.jsonb_raw.proofs.functions.operator.concat.joined_items.Goals as goal
 use Rattle.jsonb_raw.proofs.functions.operator.concat.joined_items.Goals.{in_default-via-in-Object+in_default, in_default-via-in_default}
 
 -- items that are not two objects give an array
-array_of_both : (form : Form) (x y : Item) (t u : Tree) → Stands form x t → Stands form y u → ((b d : Bor (List ℕ)) → x ≡ item.Object b → y ≡ item.Object d → ⊥) → array (trees_of (parts t ++ parts u)) ≡ concat t u
+array_of_both : (form : Form) (x y : Item) (t u : Tree) → Stands form x t → Stands form y u → ((b d : Bor (List ℕ)) → x ≡ item.Object b → y ≡ item.Object d → ⊥) → array (trees_of (as_elements t ++ as_elements u)) ≡ concat t u
 array_of_both form item.Null y t u h k objects = rw h refl
 array_of_both form (item.Boolean b) y t u h k objects = rw h refl
 array_of_both form (item.Number n) y t u h k objects = rw h refl
