@@ -7,6 +7,9 @@ ghost use Rattle.jsonb_keypath.specs.KeyPathViews.{key_paths_view};
 ghost use Rattle.jsonb_raw.specs.Documents.{raw_bytes, MakesOption};
 ghost use Rattle.jsonb_raw.specs.Places.{tree_at_steps};
 
+mod deletes;
+mod exists;
+
 use super::*;
 use jsonb_doc::Error;
 use jsonb_keypath::{KeyPath, KeyPaths, parse_key_paths};
