@@ -82,8 +82,9 @@ module _ (number_at : Reading) (ts : Trees) (bytes : List ℕ) (h : Container ar
         cut = λ change gone.
             let are = cut_entries.without change gone in
             let left = count_are number_at (change_tree n change ts) (cut_entries.front ++ cut_entries.back) are in
-            let more : count ts ≡ suc (count (change_tree n change ts)) = omega (arith, element_total, left, length-append cut_entries.front cut_entries.back, length-append cut_entries.front (cut_entries.entry ∷ cut_entries.back)) in
-            (refl, record {
+            let more : count ts ≡ suc (count (change_tree n change ts)) = omega (arith, element_total, left, length-append cut_entries.front cut_entries.back, length-append cut_entries.front (cut_entries.entry ∷ cut_entries.back)) in (
+              refl,
+              record {
                 words = kept_words (cut_entries.front ++ cut_entries.back);
                 contents = kept_contents (cut_entries.front ++ cut_entries.back);
                 headed = record {
@@ -92,14 +93,16 @@ module _ (number_at : Reading) (ts : Trees) (bytes : List ℕ) (h : Container ar
                   joined = both _ _ _ _ (header_less array_header (count ts) (count (change_tree n change ts)) m word_is more) (entry_left_out bytes (header array_header (count ts)) cut_entries.front cut_entries.back cut_entries.entry place (count ts) whole refl element_total is);
                 };
                 parts = joined number_at (change_tree n change ts) (cut_entries.front ++ cut_entries.back) (within-both cut_entries.front cut_entries.back within_front within_back) are;
-            });
+              },
+            );
         shorter = omega (arith, left_out_shorter bytes (header array_header (count ts)) cut_entries.front cut_entries.back cut_entries.entry place (count ts) whole refl element_total is);
         changed = λ change child' content' made is' no_longer.
             let are = cut_entries.changed change child' (container_entry, content') made is' in
             let left = count_are number_at (change_tree n change ts) (cut_entries.front ++ (container_entry, content') ∷ cut_entries.back) are in
             let same : count (change_tree n change ts) ≡ count ts = omega (arith, element_total, left, length-append cut_entries.front ((container_entry, content') ∷ cut_entries.back), length-append cut_entries.front (cut_entries.entry ∷ cut_entries.back)) in
-            let short : length content' < 2 ^ 28 = omega (arith, fits.1, no_longer, ap length there) in
-            (refl, record {
+            let short : length content' < 2 ^ 28 = omega (arith, fits.1, no_longer, ap length there) in (
+              refl,
+              record {
                 words = kept_words (cut_entries.front ++ (container_entry, content') ∷ cut_entries.back);
                 contents = kept_contents (cut_entries.front ++ (container_entry, content') ∷ cut_entries.back);
                 headed = record {
@@ -108,7 +111,8 @@ module _ (number_at : Reading) (ts : Trees) (bytes : List ℕ) (h : Container ar
                   joined = rw (same, content_replaced bytes (header array_header (count ts)) cut_entries.front cut_entries.back cut_entries.entry place (count ts) whole refl element_total is content') refl;
                 };
                 parts = joined number_at (change_tree n change ts) (cut_entries.front ++ (container_entry, content') ∷ cut_entries.back) (within-both cut_entries.front ((container_entry, content') ∷ cut_entries.back) within_front ((omega arith, short), within_back)) are;
-            });
+              },
+            );
         no_longer = λ content' no_longer.
             replaced_no_longer bytes (header array_header (count ts)) cut_entries.front cut_entries.back cut_entries.entry place (count ts) whole refl element_total is content' (omega (arith, no_longer, ap length there));
       }
@@ -139,12 +143,16 @@ row_of ks changed front es same =
 
 -- a key's entry and its value's in the row
 module _ (bytes head : List ℕ) (kf kb ks : List (List ℕ)) (k : List ℕ) (vf vb : List EntryParts) (e : EntryParts) (key value : EntryPlace) (total : ℕ) (keys_are : ks ≡ kf ++ k ∷ kb) (four : length head ≡ 4)
-  (is : bytes ≡ head ++ (kept_words (key_entries kf ++ (text_entry, k) ∷ ((key_entries kb ++ vf) ++ e ∷ vb)) ++ kept_contents (key_entries kf ++ (text_entry, k) ∷ ((key_entries kb ++ vf) ++ e ∷ vb))))
-  (same : total ≡ length (key_entries kf ++ (text_entry, k) ∷ ((key_entries kb ++ vf) ++ e ∷ vb))) (key_at : IsPlaceOf key total (key_entries kf) (text_entry, k)) (value_at : IsPlaceOf value total (key_entries ks ++ vf) e) where
+    (is : bytes ≡ head ++ (kept_words (key_entries kf ++ (text_entry, k) ∷ ((key_entries kb ++ vf) ++ e ∷ vb)) ++ kept_contents (key_entries kf ++ (text_entry, k) ∷ ((key_entries kb ++ vf) ++ e ∷ vb))))
+    (same : total ≡ length (key_entries kf ++ (text_entry, k) ∷ ((key_entries kb ++ vf) ++ e ∷ vb))) (key_at : IsPlaceOf key total (key_entries kf) (text_entry, k)) (value_at : IsPlaceOf value total (key_entries ks ++ vf) e) where
   in_two : bytes ≡ head ++ ((kept_words (key_entries kf) ++ (entry_word text_entry (length k) ++ (kept_words (key_entries kb ++ vf) ++ (entry_word e.0 (length e.1) ++ kept_words vb))))
       ++ (kept_contents (key_entries kf) ++ (k ++ (kept_contents (key_entries kb ++ vf) ++ (e.1 ++ kept_contents vb)))))
-  in_two = is ∙ rw (words-append (key_entries kf) ((text_entry, k) ∷ ((key_entries kb ++ vf) ++ e ∷ vb)), contents-append (key_entries kf) ((text_entry, k) ∷ ((key_entries kb ++ vf) ++ e ∷ vb)),
-      words-append (key_entries kb ++ vf) (e ∷ vb), contents-append (key_entries kb ++ vf) (e ∷ vb)) refl
+  in_two = is ∙ rw (
+    words-append (key_entries kf) ((text_entry, k) ∷ ((key_entries kb ++ vf) ++ e ∷ vb)),
+    contents-append (key_entries kf) ((text_entry, k) ∷ ((key_entries kb ++ vf) ++ e ∷ vb)),
+    words-append (key_entries kb ++ vf) (e ∷ vb),
+    contents-append (key_entries kb ++ vf) (e ∷ vb),
+  ) refl
 
   before_contents : length (kept_contents (key_entries ks ++ vf)) ≡ length (kept_contents (key_entries kf)) + length k + length (kept_contents (key_entries kb ++ vf))
   before_contents = rw (keys_are, keys-append kf (k ∷ kb), contents-append (key_entries kf ++ (text_entry, k) ∷ key_entries kb) vf, contents-append (key_entries kf) ((text_entry, k) ∷ key_entries kb), contents-append (key_entries kb) vf)
@@ -181,8 +189,18 @@ module _ (bytes head : List ℕ) (kf kb ks : List (List ℕ)) (k : List ℕ) (vf
       → kept_words (key_entries kf) ++ (kept_words (key_entries kb ++ vf) ++ ((kept_words vb ++ kept_contents (key_entries kf)) ++ (kept_contents (key_entries kb ++ vf) ++ kept_contents vb)))
       ≡ (key_words left ++ kept_words (vf ++ vb)) ++ (key_bytes left ++ kept_contents (vf ++ vb))
   left_row left left_is =
-      rw (left_is, ← key-words (kf ++ kb), ← key-contents (kf ++ kb), keys-append kf kb, words-append (key_entries kf) (key_entries kb), contents-append (key_entries kf) (key_entries kb),
-      words-append (key_entries kb) vf, contents-append (key_entries kb) vf, words-append vf vb, contents-append vf vb) (simp append_assoc)
+      rw (
+        left_is,
+        ← key-words (kf ++ kb),
+        ← key-contents (kf ++ kb),
+        keys-append kf kb,
+        words-append (key_entries kf) (key_entries kb),
+        contents-append (key_entries kf) (key_entries kb),
+        words-append (key_entries kb) vf,
+        contents-append (key_entries kb) vf,
+        words-append vf vb,
+        contents-append vf vb,
+      ) (simp append_assoc)
 
   pub pair_left_out : (left : List (List ℕ)) → left ≡ kf ++ kb → around bytes (Some key) value ≡ (key_words left ++ kept_words (vf ++ vb)) ++ (key_bytes left ++ kept_contents (vf ++ vb))
   pair_left_out left left_is =
@@ -279,8 +297,9 @@ module _ (number_at : Reading) (ps : Pairs) (bytes : List ℕ) (h : Container ob
             let are = rw (← values_changed ps n change) at (cut_values.without change gone) in
             let keys_left = cut_keys.without change gone in
             let more : length (keys ps) ≡ suc (length (keys (change_value n change ps))) =
-                omega (arith, ap length keys_left, ap length cut_keys.whole, length-append cut_keys.front cut_keys.back, length-append cut_keys.front (cut_keys.key ∷ cut_keys.back)) in
-            (refl, record {
+            omega (arith, ap length keys_left, ap length cut_keys.whole, length-append cut_keys.front cut_keys.back, length-append cut_keys.front (cut_keys.key ∷ cut_keys.back)) in (
+              refl,
+              record {
                 words = key_words (keys (change_value n change ps)) ++ kept_words (cut_values.front ++ cut_values.back);
                 contents = key_bytes (keys (change_value n change ps)) ++ kept_contents (cut_values.front ++ cut_values.back);
                 headed = record {
@@ -297,13 +316,15 @@ module _ (number_at : Reading) (ps : Pairs) (bytes : List ℕ) (h : Container ob
                   are_keys = rw keys_left (keys_without cut_keys.front cut_keys.key cut_keys.back (rw cut_keys.whole at h.parts.are_keys));
                   values = joined_values number_at (change_value n change ps) (cut_values.front ++ cut_values.back) (within-both cut_values.front cut_values.back within_front within_back) are;
                 };
-            });
+              },
+            );
         shorter = omega (arith, pair_shorter bytes (header object_header (length (keys ps))) cut_keys.front cut_keys.back (keys ps) cut_keys.key cut_values.front cut_values.back cut_values.entry key value (2 * length (keys ps)) cut_keys.whole refl both_joined both_total key_is value_is);
         changed = λ change child' content' made is' no_longer.
             let are = rw (← values_changed ps n change) at (cut_values.changed change child' (container_entry, content') made is') in
             let keys_same = cut_keys.changed change child' made in
-            let short : length content' < 2 ^ 28 = omega (arith, fits.1, no_longer, ap length there) in
-            (refl, record {
+            let short : length content' < 2 ^ 28 = omega (arith, fits.1, no_longer, ap length there) in (
+              refl,
+              record {
                 words = key_words (keys (change_value n change ps)) ++ kept_words (cut_values.front ++ (container_entry, content') ∷ cut_values.back);
                 contents = key_bytes (keys (change_value n change ps)) ++ kept_contents (cut_values.front ++ (container_entry, content') ∷ cut_values.back);
                 headed = record {
@@ -320,7 +341,8 @@ module _ (number_at : Reading) (ps : Pairs) (bytes : List ℕ) (h : Container ob
                   are_keys = rw keys_same h.parts.are_keys;
                   values = joined_values number_at (change_value n change ps) (cut_values.front ++ (container_entry, content') ∷ cut_values.back) (within-both cut_values.front ((container_entry, content') ∷ cut_values.back) within_front ((omega arith, short), within_back)) are;
                 };
-            });
+              },
+            );
         no_longer = λ content' no_longer.
             replaced_no_longer bytes (header object_header (length (keys ps))) before_value cut_values.back cut_values.entry value (2 * length (keys ps)) value_joined refl value_total value_is content' (omega (arith, no_longer, ap length there));
       }

@@ -32,7 +32,7 @@ pub record Around (bytes : List ℕ) (place : EntryPlace) (head words_before wor
   pub behind : slice_range bytes place.end (length bytes) ≡ contents_behind
 
 module _ (bytes head wf w wb cf e cb : List ℕ) (place : EntryPlace) (is : bytes ≡ head ++ ((wf ++ (w ++ wb)) ++ (cf ++ (e ++ cb)))) (four : length head ≡ 4) (word_four : length w ≡ 4)
-  (word : place.word ≡ 4 + length wf) (start : place.start ≡ 8 + length wf + length wb + length cf) (end : place.end ≡ place.start + length e) where
+    (word : place.word ≡ 4 + length wf) (start : place.start ≡ 8 + length wf + length wb + length cf) (end : place.end ≡ place.start + length e) where
   pub parts_around : Around bytes place head wf wb cf cb
   parts_around = record {
     before_word = slice_of bytes [] (head ++ wf) (w ++ (wb ++ (cf ++ (e ++ cb)))) 0 place.word (is ∙ simp append_assoc) refl (omega (arith, length-append head wf));
@@ -49,7 +49,7 @@ module _ (bytes head wf w wb cf e cb : List ℕ) (place : EntryPlace) (is : byte
 -- ---- the content of one entry replaced, or the entry left out
 
 module _ (bytes head : List ℕ) (front back : List EntryParts) (e : EntryParts) (place : EntryPlace) (total : ℕ) (is : bytes ≡ head ++ (kept_words (front ++ e ∷ back) ++ kept_contents (front ++ e ∷ back)))
-  (four : length head ≡ 4) (same : total ≡ length (front ++ e ∷ back)) (at : IsPlaceOf place total front e) where
+    (four : length head ≡ 4) (same : total ≡ length (front ++ e ∷ back)) (at : IsPlaceOf place total front e) where
   in_parts : bytes ≡ head ++ ((kept_words front ++ (entry_word e.0 (length e.1) ++ kept_words back)) ++ (kept_contents front ++ (e.1 ++ kept_contents back)))
   in_parts = is ∙ rw (words-append front (e ∷ back), contents-append front (e ∷ back)) refl
 
@@ -93,18 +93,18 @@ module _ (bytes head : List ℕ) (front back : List EntryParts) (e : EntryParts)
 -- ---- a key's entry and its value's left out
 
 module _ (bytes head kw k m v vw kc x mc e cb : List ℕ) (key value : EntryPlace) (is : bytes ≡ head ++ ((kw ++ (k ++ (m ++ (v ++ vw)))) ++ (kc ++ (x ++ (mc ++ (e ++ cb))))))
-  (four : length head ≡ 4) (key_four : length k ≡ 4) (value_four : length v ≡ 4) (key_word : key.word ≡ 4 + length kw) (value_word : value.word ≡ 8 + length kw + length m)
-  (key_start : key.start ≡ 12 + length kw + length m + length vw + length kc) (key_end : key.end ≡ key.start + length x) (value_start : value.start ≡ key.end + length mc)
-  (value_end : value.end ≡ value.start + length e) where
+    (four : length head ≡ 4) (key_four : length k ≡ 4) (value_four : length v ≡ 4) (key_word : key.word ≡ 4 + length kw) (value_word : value.word ≡ 8 + length kw + length m)
+    (key_start : key.start ≡ 12 + length kw + length m + length vw + length kc) (key_end : key.end ≡ key.start + length x) (value_start : value.start ≡ key.end + length mc)
+    (value_end : value.end ≡ value.start + length e) where
   pub both_left_out : around bytes (Some key) value ≡ kw ++ (m ++ ((vw ++ kc) ++ (mc ++ cb)))
   both_left_out =
       let first = slice_of bytes head kw (k ++ (m ++ (v ++ (vw ++ (kc ++ (x ++ (mc ++ (e ++ cb)))))))) 4 key.word (is ∙ simp append_assoc) (sym four) (omega (arith, four)) in
       let second = slice_of bytes (head ++ (kw ++ k)) m (v ++ (vw ++ (kc ++ (x ++ (mc ++ (e ++ cb)))))) (key.word + 4) value.word (is ∙ simp append_assoc)
-          (simp length-append (omega arith)) (simp length-append (omega arith)) in
+      (simp length-append (omega arith)) (simp length-append (omega arith)) in
       let third = slice_of bytes (head ++ (kw ++ (k ++ (m ++ v)))) (vw ++ kc) (x ++ (mc ++ (e ++ cb))) (value.word + 4) key.start (is ∙ simp append_assoc)
-          (simp length-append (omega arith)) (simp length-append (omega arith)) in
+      (simp length-append (omega arith)) (simp length-append (omega arith)) in
       let fourth = slice_of bytes (head ++ (kw ++ (k ++ (m ++ (v ++ (vw ++ (kc ++ x))))))) mc (e ++ cb) key.end value.start (is ∙ simp append_assoc)
-          (simp length-append (omega arith)) (simp length-append (omega arith)) in
+      (simp length-append (omega arith)) (simp length-append (omega arith)) in
       let fifth = slice_end bytes (head ++ (kw ++ (k ++ (m ++ (v ++ (vw ++ (kc ++ (x ++ (mc ++ e))))))))) cb value.end (is ∙ simp append_assoc) (simp length-append (omega arith)) in
       rw (first, second, third, fourth, fifth) refl
 

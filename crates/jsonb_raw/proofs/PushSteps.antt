@@ -94,8 +94,8 @@ front bytes word start behind inside =
     let rest = drop (start - (word + 4)) (drop (word + 4) bytes) in
     let first_is : first ≡ take word bytes = let e : word - 0 ≡ word = omega arith in ap (λ (k : ℕ). take k bytes) e in
     let is : bytes ≡ first ++ (old ++ (middle ++ rest)) =
-        split_between bytes word (word + 4) (omega arith) ∙ ap (λ (w : List ℕ). take word bytes ++ (old ++ w)) (sym (take-append-drop (start - (word + 4)) (drop (word + 4) bytes)))
-        ∙ ap (λ (w : List ℕ). w ++ (old ++ (middle ++ rest))) (sym first_is) in
+    split_between bytes word (word + 4) (omega arith) ∙ ap (λ (w : List ℕ). take word bytes ++ (old ++ w)) (sym (take-append-drop (start - (word + 4)) (drop (word + 4) bytes)))
+    ∙ ap (λ (w : List ℕ). w ++ (old ++ (middle ++ rest))) (sym first_is) in
     let first_len : length first ≡ word = ap length first_is ∙ length-take-le word bytes (omega arith) in
     let old_len : length old ≡ 4 = length-between bytes word (word + 4) (omega arith) ∙ omega arith in
     let middle_len : length middle ≡ start - (word + 4) = length-between bytes (word + 4) start inside in
@@ -125,8 +125,17 @@ placed bytes before between pushed content at start word from behind inside firs
       joined = then ∙ regroup before (slice_range bytes 0 start) (slice_range bytes 0 at) (slice_range bytes at (at + 4)) (slice_range bytes (at + 4) start) content between first f.whole;
       four = f.four;
       word_at = omega (arith, word_is, f.before, length-append before (slice_range bytes 0 at));
-      from_at = omega (arith, from_is, ap length first, length-append before (slice_range bytes 0 start), ap length f.whole, length-append (slice_range bytes 0 at) (slice_range bytes at (at + 4) ++ slice_range bytes (at + 4) start),
-          length-append (slice_range bytes at (at + 4)) (slice_range bytes (at + 4) start), f.four, length-append before (slice_range bytes 0 at));
+      from_at = omega (
+        arith,
+        from_is,
+        ap length first,
+        length-append before (slice_range bytes 0 start),
+        ap length f.whole,
+        length-append (slice_range bytes 0 at) (slice_range bytes at (at + 4) ++ slice_range bytes (at + 4) start),
+        length-append (slice_range bytes at (at + 4)) (slice_range bytes (at + 4) start),
+        f.four,
+        length-append before (slice_range bytes 0 at),
+      );
     }
   where
     regroup : (o whole a b c d joined : List ℕ) → joined ≡ o ++ whole → whole ≡ a ++ (b ++ c) → joined ++ d ≡ (o ++ a) ++ (b ++ (c ++ d))

@@ -13,6 +13,8 @@ mod leaves;
 mod objects;
 mod operators;
 mod sets;
+mod deletes;
+mod exists;
 
 use super::*;
 use jsonb_doc::{ArrayBuilder, Error};

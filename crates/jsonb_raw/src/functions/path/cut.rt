@@ -28,6 +28,7 @@ const LENGTHS: u32 = 0x1000_0000;
 const CONTAINER: u32 = 0x5000_0000;
 
 const OBJECT_HEADER: u32 = 2;
+
 const ARRAY_HEADER: u32 = 4;
 
 /// How long the contents of these entry words are, all together.
@@ -104,11 +105,7 @@ fn push_part(out: &mut Vec<u8>, bytes: &[u8], start: usize, end: usize) -> Resul
 }
 
 /// Puts the parts around an element's entry at the end.
-fn push_around_element(
-    out: &mut Vec<u8>,
-    array: &[u8],
-    value: EntryPlace,
-) -> Result<(), Error>
+fn push_around_element(out: &mut Vec<u8>, array: &[u8], value: EntryPlace) -> Result<(), Error>
     ensures pushed { AreInOrder None value (length array.now)
         → Answers result (λ _. out.new.items ≡ out.old.items ++ around array.now None value) }
     ensures errors { IfErr result IsReadingError }

@@ -33,7 +33,7 @@ returns-in_err-set_container_word-clause-pushed m c = λ form t end left h there
     let pushed = c.in_ok-push_without.ensures.pushed form f.child end i.left i.is f.inner i.out in
     let first = c.in_ok-push_part.ensures.pushed (omega arith) (omega (arith, a.within.0, a.within.1, a.within.2)) in
     let p = placed c.args.container.now c.args.out.now.items _ _ pushed.bytes c.in-Some-child_entries.entries.value.word c.in-Some-child_entries.entries.value.start _ _ a.within.0 (omega (arith, a.within.1, a.within.2)) first pushed.joined
-        (ap (λ k. k + c.in-Some-child_entries.entries.value.word) (c.len.ensures ∙ c.args.out.now.ok.0)) (c.len-start.ensures ∙ c.push_part.new.out.ok.0) in
+    (ap (λ k. k + c.in-Some-child_entries.entries.value.word) (c.len.ensures ∙ c.args.out.now.ok.0)) (c.len-start.ensures ∙ c.push_part.new.out.ok.0) in
     absurd (c.in_err-set_container_word.ensures.set _ _ _ pushed.bytes p.joined p.four p.word_at p.from_at (omega (arith, pushed.short, ap length size, a.short)))
 
 pub returns-clause-pushed : goal.returns-clause-pushed
@@ -45,7 +45,7 @@ returns-clause-pushed m c = λ form t end left h there out.
     let pushed = c.in_ok-push_without.ensures.pushed form f.child end i.left i.is f.inner i.out in
     let first = c.in_ok-push_part.ensures.pushed (omega arith) (omega (arith, a.within.0, a.within.1, a.within.2)) in
     let p = placed c.args.container.now c.args.out.now.items _ _ pushed.bytes c.in-Some-child_entries.entries.value.word c.in-Some-child_entries.entries.value.start _ _ a.within.0 (omega (arith, a.within.1, a.within.2)) first pushed.joined
-        (ap (λ k. k + c.in-Some-child_entries.entries.value.word) (c.len.ensures ∙ c.args.out.now.ok.0)) (c.len-start.ensures ∙ c.push_part.new.out.ok.0) in
+    (ap (λ k. k + c.in-Some-child_entries.entries.value.word) (c.len.ensures ∙ c.args.out.now.ok.0)) (c.len-start.ensures ∙ c.push_part.new.out.ok.0) in
     let set = c.in_ok-set_container_word.ensures.set _ _ _ pushed.bytes p.joined p.four p.word_at p.from_at (omega (arith, pushed.short, ap length size, a.short)) in
     whole_pushed (reading form) c.args.container.now t f.child end left _ _ c.in-Some-child_entries.entries _ pushed.bytes _ _ _ _ i f.left_is a size pushed.short pushed.content set
     (c.push_part-2.ensures.pushed a.within.2 (omega arith))

@@ -19,24 +19,24 @@ pub returns-then-eq-clause-has : goal.returns-then-eq-clause-has
 returns-then-eq-clause-has c = λ form ts d.
     SomeElements-first form _ _ _ _ _ c.in_ok-text.was c.in-Some-item.ensures.steps (c.loop-item.invariant form ts d)
     (λ first rest left stands fact.
-        any_first (is_text c.args.name.now) first (elements rest) _ (text_item form _ _ first _ c.in-String.is stands ∙ sym c.if-eq.ensures) fact)
+    any_first (is_text c.args.name.now) first (elements rest) _ (text_item form _ _ first _ c.in-String.is stands ∙ sym c.if-eq.ensures) fact)
 
 pub loop-item-preserved-else-eq : goal.loop-item-preserved-else-eq
 loop-item-preserved-else-eq c = λ form ts d.
     SomeElements-first form _ _ _ _ _ c.in_ok-text.was c.in-Some-item.ensures.steps (c.loop-item.invariant form ts d)
     (λ first rest left stands fact. record {
-        trees = rest;
-        left = left;
-        fact = any_next (is_text c.args.name.now) first (elements rest) _ (text_item form _ _ first _ c.in-String.is stands ∙ sym c.if-eq.ensures) fact;
+      trees = rest;
+      left = left;
+      fact = any_next (is_text c.args.name.now) first (elements rest) _ (text_item form _ _ first _ c.in-String.is stands ∙ sym c.if-eq.ensures) fact;
     })
 
 pub loop-item-preserved : goal.loop-item-preserved
 loop-item-preserved c = λ form ts d.
     SomeElements-first form _ _ _ _ _ c.in_ok-text.was c.in-Some-item.ensures.steps (c.loop-item.invariant form ts d)
     (λ first rest left stands fact. record {
-        trees = rest;
-        left = left;
-        fact = any_next (is_text c.args.name.now) first (elements rest) _ (no_text_item form _ first _ c.in_default-2.not-String stands) fact;
+      trees = rest;
+      left = left;
+      fact = any_next (is_text c.args.name.now) first (elements rest) _ (no_text_item form _ first _ c.in_default-2.not-String stands) fact;
     })
 
 pub returns-in-None-clause-has : goal.returns-in-None-clause-has
