@@ -1,5 +1,5 @@
 -- Which roots contain which.
-use Rattle.std.proofs.Common.{◌≡◌, ℕ, Bool, true, false, List, refl}
+use Rattle.std.proofs.Common.{◌≡◌, ℕ, true, false, List, refl}
 use Rattle.std.specs.List.{list_any}
 use Rattle.std.specs.Borrow.{Bor}
 use Rattle.jsonb_doc.specs.declared.item.Item.{Item}

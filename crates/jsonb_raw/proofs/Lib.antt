@@ -7,6 +7,7 @@ pub mod StepLemmas
 pub mod SamePlaceLemmas
 pub mod Iterated
 mod Rows
+mod OperatorRows
 pub mod Ranking
 pub mod DecimalDigits
 pub mod NumberKeys

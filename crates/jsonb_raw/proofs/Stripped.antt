@@ -1,5 +1,5 @@
 -- What is stripped of rising keys rises.
-use Rattle.std.proofs.Common.{◌≡◌, ℕ, Bool, true, false, List, [], ◌∷◌, cond, refl}
+use Rattle.std.proofs.Common.{◌≡◌, ℕ, Bool, true, false, List, cond, refl}
 use Rattle.std.proofs.lemmas.Cmp.{nat_list_cmp_total}
 use Rattle.jsonb_doc.specs.declared.item.Item.{Item}
 use Rattle.jsonb_doc.specs.declared.item.Item.TheVariants as item

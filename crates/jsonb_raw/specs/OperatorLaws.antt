@@ -1,5 +1,5 @@
 -- The laws of stripping, containing and putting together.
-use Rattle.std.specs.Prelude.{◌≡◌, false, IsTrue, not}
+use Rattle.std.specs.Prelude.{◌≡◌, IsTrue, not}
 use Rattle.jsonb_doc.specs.Tree.{Tree, Trees, Pairs, array, object}
 use Rattle.jsonb_doc.specs.Limits.{Fits}
 use Rattle.jsonb_raw.specs.Scalars.{is_extension_value}

@@ -6,6 +6,38 @@ use super::*;
 const NULLS: &[u8] =
     b"\x40\0\0\x02\x10\0\0\x01\x10\0\0\x01\0\0\0\0\x50\0\0\x08ab\x80\0\0\x01\0\0\0\0";
 
+// {"b":[null]}
+const NULL_ELEMENT: &[u8] = b"\x40\0\0\x01\x10\0\0\x01\x50\0\0\x08b\x80\0\0\x01\0\0\0\0";
+
+// [1]
+const ONE: &[u8] = b"\x80\0\0\x01\x20\0\0\x02\x50\x01";
+
+// [[1]]
+const NESTED: &[u8] = b"\x80\0\0\x01\x50\0\0\x0a\x80\0\0\x01\x20\0\0\x02\x50\x01";
+
+// [1,1,2,1.0]
+const REPEATS: &[u8] =
+    b"\x80\0\0\x04\x20\0\0\x02\x20\0\0\x02\x20\0\0\x02\x20\0\0\x0a\x50\x01\x50\x01\x50\x02\x70\0\0\0\0\0\0\0\x0a\x01";
+
+// [18446744073709551615]
+const GREATEST: &[u8] = b"\x80\0\0\x01\x20\0\0\x09\x50\xff\xff\xff\xff\xff\xff\xff\xff";
+
+// the date 1
+const DATE: &[u8] = b"\x20\0\0\0\x60\0\0\x05\x10\0\0\0\x01";
+
+// 1, 2 and 1.0
+const NUMBER_ONE: &[u8] = b"\x20\0\0\0\x20\0\0\x02\x50\x01";
+
+const NUMBER_TWO: &[u8] = b"\x20\0\0\0\x20\0\0\x02\x50\x02";
+
+const TEN_TENTHS: &[u8] = b"\x20\0\0\0\x20\0\0\x0a\x70\0\0\0\0\0\0\0\x0a\x01";
+
+// {"a":1,"b":2}
+const AB: &[u8] = b"\x40\0\0\x02\x10\0\0\x01\x10\0\0\x01\x20\0\0\x02\x20\0\0\x02ab\x50\x01\x50\x02";
+
+// {"b":3,"c":4}
+const BC: &[u8] = b"\x40\0\0\x02\x10\0\0\x01\x10\0\0\x01\x20\0\0\x02\x20\0\0\x02bc\x50\x03\x50\x04";
+
 /// Whether a document has this text.
 fn has_text(document: &[u8], text: &[u8]) -> Result<bool, Error> {
     RawJsonb::new(document).traverse_check_string(|s| s == text)
@@ -32,10 +64,6 @@ fn texts_are_keys_and_strings(rt: HostRuntime) -> Result<(), Fail> {
     Ok(())
 }
 
-// {"b":[null]}
-const NULL_ELEMENT: &[u8] =
-    b"\x40\0\0\x01\x10\0\0\x01\x50\0\0\x08b\x80\0\0\x01\0\0\0\0";
-
 /// A document in so many arrays.
 fn nested(alloc: Global, document: &[u8], arrays: usize) -> Result<Vec<u8>, Error> {
     let mut found = Vec::from_slice(alloc, document)?;
@@ -52,7 +80,8 @@ fn nulls_of_objects_are_stripped(rt: HostRuntime) -> Result<(), Fail> {
     let null = b"\x20\0\0\0\0\0\0\0".as_slice();
     let empty = b"\x40\0\0\0".as_slice();
     // {"a":{"b":null}} and {"a":{}}
-    let inner = b"\x40\0\0\x01\x10\0\0\x01\x50\0\0\x0da\x40\0\0\x01\x10\0\0\x01\0\0\0\0b".as_slice();
+    let inner =
+        b"\x40\0\0\x01\x10\0\0\x01\x50\0\0\x0da\x40\0\0\x01\x10\0\0\x01\0\0\0\0b".as_slice();
     let emptied = b"\x40\0\0\x01\x10\0\0\x01\x50\0\0\x04a\x40\0\0\0".as_slice();
     let deep = nested(rt.alloc(), empty, 300)?;
     for (document, wanted) in [
@@ -84,28 +113,6 @@ fn keys_that_stand_twice_are_refused(rt: HostRuntime) {
     assert_eq!(rt; made.err(), Some(Error::InvalidJsonb));
 }
 
-// [1]
-const ONE: &[u8] = b"\x80\0\0\x01\x20\0\0\x02\x50\x01";
-// [[1]]
-const NESTED: &[u8] = b"\x80\0\0\x01\x50\0\0\x0a\x80\0\0\x01\x20\0\0\x02\x50\x01";
-// [1,1,2,1.0]
-const REPEATS: &[u8] =
-    b"\x80\0\0\x04\x20\0\0\x02\x20\0\0\x02\x20\0\0\x02\x20\0\0\x0a\x50\x01\x50\x01\x50\x02\x70\0\0\0\0\0\0\0\x0a\x01";
-// [18446744073709551615]
-const GREATEST: &[u8] = b"\x80\0\0\x01\x20\0\0\x09\x50\xff\xff\xff\xff\xff\xff\xff\xff";
-// the date 1
-const DATE: &[u8] = b"\x20\0\0\0\x60\0\0\x05\x10\0\0\0\x01";
-// 1, 2 and 1.0
-const NUMBER_ONE: &[u8] = b"\x20\0\0\0\x20\0\0\x02\x50\x01";
-const NUMBER_TWO: &[u8] = b"\x20\0\0\0\x20\0\0\x02\x50\x02";
-const TEN_TENTHS: &[u8] = b"\x20\0\0\0\x20\0\0\x0a\x70\0\0\0\0\0\0\0\x0a\x01";
-// {"a":1,"b":2}
-const AB: &[u8] =
-    b"\x40\0\0\x02\x10\0\0\x01\x10\0\0\x01\x20\0\0\x02\x20\0\0\x02ab\x50\x01\x50\x02";
-// {"b":3,"c":4}
-const BC: &[u8] =
-    b"\x40\0\0\x02\x10\0\0\x01\x10\0\0\x01\x20\0\0\x02\x20\0\0\x02bc\x50\x03\x50\x04";
-
 /// Whether the first document contains the second.
 fn contains(document: &[u8], other: &[u8]) -> Result<bool, Error> {
     RawJsonb::new(document).contains(&RawJsonb::new(other))
@@ -115,8 +122,7 @@ fn contains(document: &[u8], other: &[u8]) -> Result<bool, Error> {
 fn arrays_contain(rt: HostRuntime) -> Result<(), Fail> {
     // [1,2,[1,3]] and [1,3]
     let deep =
-        b"\x80\0\0\x03\x20\0\0\x02\x20\0\0\x02\x50\0\0\x10\x50\x01\x50\x02\x80\0\0\x02\x20\0\0\x02\x20\0\0\x02\x50\x01\x50\x03"
-            .as_slice();
+        b"\x80\0\0\x03\x20\0\0\x02\x20\0\0\x02\x50\0\0\x10\x50\x01\x50\x02\x80\0\0\x02\x20\0\0\x02\x20\0\0\x02\x50\x01\x50\x03".as_slice();
     let inner = b"\x80\0\0\x02\x20\0\0\x02\x20\0\0\x02\x50\x01\x50\x03".as_slice();
     let empty = b"\x80\0\0\0".as_slice();
     for (document, other, wanted) in [
@@ -135,7 +141,11 @@ fn arrays_contain(rt: HostRuntime) -> Result<(), Fail> {
         (ONE, empty, true),
         (empty, ONE, false),
     ] {
-        assert_eq!(rt; contains(document, other)?, wanted, "{document:?} {other:?}");
+        assert_eq!(rt;
+            contains(document, other)?,
+            wanted,
+            "{document:?} {other:?}"
+        );
     }
     Ok(())
 }
@@ -145,11 +155,9 @@ fn other_documents_contain(rt: HostRuntime) -> Result<(), Fail> {
     // {"a":1}, {"b":1}, {"a":[1]}, {"a":[[1]]} and {"x":{"a":1}}
     let a = b"\x40\0\0\x01\x10\0\0\x01\x20\0\0\x02a\x50\x01".as_slice();
     let b = b"\x40\0\0\x01\x10\0\0\x01\x20\0\0\x02b\x50\x01".as_slice();
-    let list =
-        b"\x40\0\0\x01\x10\0\0\x01\x50\0\0\x0aa\x80\0\0\x01\x20\0\0\x02\x50\x01".as_slice();
+    let list = b"\x40\0\0\x01\x10\0\0\x01\x50\0\0\x0aa\x80\0\0\x01\x20\0\0\x02\x50\x01".as_slice();
     let x =
-        b"\x40\0\0\x01\x10\0\0\x01\x50\0\0\x0fx\x40\0\0\x01\x10\0\0\x01\x20\0\0\x02a\x50\x01"
-            .as_slice();
+        b"\x40\0\0\x01\x10\0\0\x01\x50\0\0\x0fx\x40\0\0\x01\x10\0\0\x01\x20\0\0\x02a\x50\x01".as_slice();
     let empty = b"\x40\0\0\0".as_slice();
     for (document, other, wanted) in [
         (AB, AB, true),
@@ -171,7 +179,11 @@ fn other_documents_contain(rt: HostRuntime) -> Result<(), Fail> {
         (DATE, DATE, false),
         (ONE, DATE, false),
     ] {
-        assert_eq!(rt; contains(document, other)?, wanted, "{document:?} {other:?}");
+        assert_eq!(rt;
+            contains(document, other)?,
+            wanted,
+            "{document:?} {other:?}"
+        );
     }
     assert_eq!(rt; contains(FLOAT, ONE), Err(Error::UnsupportedNumber));
     assert_eq!(rt; contains(ONE, b""), Err(Error::InvalidJsonb));
@@ -185,16 +197,13 @@ fn documents_are_put_together(rt: HostRuntime) -> Result<(), Fail> {
     let numbers = b"\x80\0\0\x02\x20\0\0\x02\x20\0\0\x02\x50\x01\x50\x02".as_slice();
     // {"a":1,"b":3,"c":4} and {"a":1,"b":2,"c":4}
     let other_wins =
-        b"\x40\0\0\x03\x10\0\0\x01\x10\0\0\x01\x10\0\0\x01\x20\0\0\x02\x20\0\0\x02\x20\0\0\x02abc\x50\x01\x50\x03\x50\x04"
-            .as_slice();
+        b"\x40\0\0\x03\x10\0\0\x01\x10\0\0\x01\x10\0\0\x01\x20\0\0\x02\x20\0\0\x02\x20\0\0\x02abc\x50\x01\x50\x03\x50\x04".as_slice();
     let reversed =
-        b"\x40\0\0\x03\x10\0\0\x01\x10\0\0\x01\x10\0\0\x01\x20\0\0\x02\x20\0\0\x02\x20\0\0\x02abc\x50\x01\x50\x02\x50\x04"
-            .as_slice();
+        b"\x40\0\0\x03\x10\0\0\x01\x10\0\0\x01\x10\0\0\x01\x20\0\0\x02\x20\0\0\x02\x20\0\0\x02abc\x50\x01\x50\x02\x50\x04".as_slice();
     // {"k":"v"} and [{"k":"v"},1]
     let pair = b"\x40\0\0\x01\x10\0\0\x01\x10\0\0\x01kv".as_slice();
     let mixed =
-        b"\x80\0\0\x02\x50\0\0\x0e\x20\0\0\x02\x40\0\0\x01\x10\0\0\x01\x10\0\0\x01kv\x50\x01"
-            .as_slice();
+        b"\x80\0\0\x02\x50\0\0\x0e\x20\0\0\x02\x40\0\0\x01\x10\0\0\x01\x10\0\0\x01kv\x50\x01".as_slice();
     let empty = b"\x40\0\0\0".as_slice();
     for (document, other, wanted) in [
         (ONE, NESTED, nested),

@@ -14,7 +14,9 @@ ghost use Rattle.jsonb_raw.specs.Strip.{strip, strip_trees, strip_pairs};
 use crate::functions::operator::repeat::no_repeat;
 use crate::owned::OwnedJsonb;
 use crate::raw::RawJsonb;
-use jsonb_doc::{ArrayBuilder, Error, Item, ObjectBuilder, elements, encode_item, pairs, root_item};
+use jsonb_doc::{
+    ArrayBuilder, Error, Item, ObjectBuilder, elements, encode_item, pairs, root_item,
+};
 use std::alloc::Global;
 
 impl RawJsonb<'_> {

@@ -1,6 +1,5 @@
 use Rattle.std.proofs.Common.{◌≡◌, inl, inr, sym, subst}
 use Rattle.std.specs.Prelude.{IsOkAnd}
-use Rattle.jsonb_doc.specs.Tree.{array, object}
 use Rattle.jsonb_raw.proofs.ContainLemmas.{contains-extension, contains-array, contains-object, plain_item, array_contains_plain, other_contains_plain}
 use Rattle.jsonb_raw.proofs.raw.RawJsonb.contains.Goals as goal
 
@@ -15,12 +14,12 @@ returns-in-Array-clause-answer c = λ form other_form tree wanted d e.
     let means = c.in_ok-wanted.ensures.decodes other_form wanted (rw c.as_bytes-2.ensures e) in
     let answer = c.item_matches.ensures.answer form other_form tree wanted stands means in
     elim c.in-Array.is [
-      inl h ↦
-        let is = rw h.1 at means in
-        rw is.1 (subst (λ a. IsOkAnd c.item_matches.result (λ b. b ≡ a)) (sym (contains-array tree is.0)) (rw is.1 at answer))
-    | inr h ↦
-        let is = rw h.1 at means in
-        rw is.1 (subst (λ a. IsOkAnd c.item_matches.result (λ b. b ≡ a)) (sym (contains-object tree is.0)) (rw is.1 at answer))
+      | inl h ↦
+          let is = rw h.1 at means in
+          rw is.1 (subst (λ a. IsOkAnd c.item_matches.result (λ b. b ≡ a)) (sym (contains-array tree is.0)) (rw is.1 at answer))
+      | inr h ↦
+          let is = rw h.1 at means in
+          rw is.1 (subst (λ a. IsOkAnd c.item_matches.result (λ b. b ≡ a)) (sym (contains-object tree is.0)) (rw is.1 at answer))
     ]
 
 pub returns-in-Array-item-clause-answer : goal.returns-in-Array-item-clause-answer

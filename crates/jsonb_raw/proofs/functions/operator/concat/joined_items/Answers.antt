@@ -31,8 +31,8 @@ array_of_both form (item.Object b) (item.Object d) t u h k objects = absurd (obj
 pub returns-in_default-clause-document : goal.returns-in_default-clause-document
 returns-in_default-clause-document c = λ form t u stands means.
     let made = λ (objects : (b d : Bor (List ℕ)) → c.args.item.now ≡ item.Object b → c.args.other.now ≡ item.Object d → ⊥).
-        subst (λ whole. Builds form whole c.joined_arrays.result (λ v. Decodes form v.items whole)) (array_of_both form c.args.item.now c.args.other.now t u stands means objects) (c.joined_arrays.ensures.document form t u stands means) in
+    subst (λ whole. Builds form whole c.joined_arrays.result (λ v. Decodes form v.items whole)) (array_of_both form c.args.item.now c.args.other.now t u stands means objects) (c.joined_arrays.ensures.document form t u stands means) in
     elim c.in_default.branch [
-      in_default-via-in-Object+in_default w ↦ made (λ b d p q. w.in_default.not-Object-1 d q)
-    | in_default-via-in_default w ↦ made (λ b d p q. w.in_default.not-Object-0 b p)
+      | in_default-via-in-Object+in_default w ↦ made (λ b d p q. w.in_default.not-Object-1 d q)
+      | in_default-via-in_default w ↦ made (λ b d p q. w.in_default.not-Object-0 b p)
     ]

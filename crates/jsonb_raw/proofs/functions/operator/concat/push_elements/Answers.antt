@@ -1,7 +1,7 @@
-use Rattle.std.proofs.Common.{◌≡◌, ◌∷◌, ◌++◌, refl}
+use Rattle.std.proofs.Common.{◌++◌, refl}
 use Rattle.std.proofs.lemmas.Result.{err_from_is_err_and}
-use Rattle.jsonb_doc.specs.Tree.{Tree, Trees, array, elements}
-use Rattle.jsonb_doc.proofs.BuilderSteps.{HoldsFront, front_pushed, front_refused, front_whole}
+use Rattle.jsonb_doc.specs.Tree.{array, elements}
+use Rattle.jsonb_doc.proofs.BuilderSteps.{front_pushed, front_refused, front_whole}
 use Rattle.jsonb_raw.proofs.Left.{SomeElements-all, SomeElements-first, SomeElements-error, SomeElements-none}
 use Rattle.jsonb_raw.proofs.functions.operator.concat.push_elements.Goals as goal
 

@@ -3,10 +3,10 @@ use Rattle.std.specs.Prelude.{IsOkAnd}
 use Rattle.std.specs.List.{list_any}
 use Rattle.std.specs.Borrow.{Bor}
 use Rattle.jsonb_doc.specs.declared.item.Item.TheVariants as item
-use Rattle.jsonb_doc.specs.Tree.{Tree, Trees, Pairs, array, object, keys, elements, members}
-use Rattle.jsonb_doc.proofs.BuilderSteps.{AreRising, keys_rise}
-use Rattle.jsonb_raw.specs.Contains.{is_matched_by, each_is_matched, each_pair_is_matched}
-use Rattle.jsonb_raw.proofs.Left.{SomePairs, SomeElements-all, SomeElements-first, SomeElements-error, SomeElements-none, SomePairs-all, SomePairs-first, SomePairs-error, SomePairs-none}
+use Rattle.jsonb_doc.specs.Tree.{array, object, keys, elements}
+use Rattle.jsonb_doc.proofs.BuilderSteps.{keys_rise}
+use Rattle.jsonb_raw.specs.Contains.{is_matched_by}
+use Rattle.jsonb_raw.proofs.Left.{SomeElements-all, SomeElements-first, SomeElements-error, SomeElements-none, SomePairs-all, SomePairs-first, SomePairs-error, SomePairs-none}
 use Rattle.jsonb_raw.specs.PairSteps.{pairs_above}
 use Rattle.jsonb_raw.proofs.MatchLemmas.{unmatched_key, unmatched_value, matched_value, no_value_found, value_found, matches_if_equal, no_object}
 use Rattle.jsonb_raw.proofs.functions.operator.contains.+contains.Goals as goal
@@ -29,11 +29,11 @@ item_matches-returns-in-Object-Object-clause-answer t c = λ form other_form x y
 pub item_matches-returns-in_default-clause-answer : goal.item_matches-returns-in_default-clause-answer
 item_matches-returns-in_default-clause-answer t c = λ form other_form x y stands wanted.
     let same = λ (arrays : (b d : Bor (List ℕ)) → c.args.item.now ≡ item.Array b → c.args.wanted.now ≡ item.Array d → ⊥) (objects : (b d : Bor (List ℕ)) → c.args.item.now ≡ item.Object b → c.args.wanted.now ≡ item.Object d → ⊥).
-        subst (λ a. IsOkAnd c.items_equal.result (λ b. b ≡ a)) (matches_if_equal form other_form c.args.item.now c.args.wanted.now x y stands wanted arrays objects) (c.items_equal.ensures.equal form other_form x y stands wanted) in
+    subst (λ a. IsOkAnd c.items_equal.result (λ b. b ≡ a)) (matches_if_equal form other_form c.args.item.now c.args.wanted.now x y stands wanted arrays objects) (c.items_equal.ensures.equal form other_form x y stands wanted) in
     elim c.in_default.branch [
-      item_matches-in_default-via-in-Array+in_default w ↦ same (λ b d p q. w.in_default.not-Array-1 d q) (λ b d p q. no_object c.args.item.now _ b w.in_default.is-0 p)
-    | item_matches-in_default-via-in-Object+in_default w ↦ same (λ b d p q. no_object c.args.item.now b _ p w.in_default.is-0) (λ b d p q. w.in_default.not-Object-1 d q)
-    | item_matches-in_default-via-in_default w ↦ same (λ b d p q. w.in_default.not-Array-0 b p) (λ b d p q. w.in_default.not-Object-0 b p)
+      | item_matches-in_default-via-in-Array+in_default w ↦ same (λ b d p q. w.in_default.not-Array-1 d q) (λ b d p q. no_object c.args.item.now _ b w.in_default.is-0 p)
+      | item_matches-in_default-via-in-Object+in_default w ↦ same (λ b d p q. no_object c.args.item.now b _ p w.in_default.is-0) (λ b d p q. w.in_default.not-Object-1 d q)
+      | item_matches-in_default-via-in_default w ↦ same (λ b d p q. w.in_default.not-Array-0 b p) (λ b d p q. w.in_default.not-Object-0 b p)
     ]
 
 -- ---- arrays
@@ -208,11 +208,14 @@ object_contains-loop-pair-preserved t c = record {
       record {
         pairs = rest;
         left = left;
-        fact = (fact.0.1, record {
-          pairs = pairs_above c.in_ok-key.key.now some.pairs;
-          left = rw c.in-Some-3.is at (c.in_ok-value.ensures.above form some.pairs some.left);
-          fact = sym (matched_value c.in_ok-key.key.now value rest some.pairs (keys_rise (keys some.pairs) some.left.are_keys) found.0 found.1 matches fact.0) ∙ some.fact;
-        });
+        fact = (
+          fact.0.1,
+          record {
+            pairs = pairs_above c.in_ok-key.key.now some.pairs;
+            left = rw c.in-Some-3.is at (c.in_ok-value.ensures.above form some.pairs some.left);
+            fact = sym (matched_value c.in_ok-key.key.now value rest some.pairs (keys_rise (keys some.pairs) some.left.are_keys) found.0 found.1 matches fact.0) ∙ some.fact;
+          },
+        );
       });
 }
 

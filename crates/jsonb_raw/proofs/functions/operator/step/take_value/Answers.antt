@@ -1,8 +1,5 @@
-use Rattle.std.proofs.Common.{rules, arith, ◌≡◌, List, None, refl, sym, ◌∙◌, subst, Option}
-use Rattle.jsonb_doc.specs.Tree.{Tree, Pairs, keys, value_under}
-use Rattle.jsonb_doc.specs.Item.{Stands}
-use Rattle.jsonb_doc.specs.Answer.{SameOption}
-use Rattle.jsonb_doc.specs.ObjectPairs.{HasPairsLeft}
+use Rattle.std.proofs.Common.{arith, refl, sym, ◌∙◌}
+use Rattle.jsonb_doc.specs.Tree.{keys}
 use Rattle.jsonb_doc.proofs.BuilderSteps.{keys_rise}
 use Rattle.jsonb_raw.proofs.Left.{SomePairs-first, SomePairs-error, SomePairs-none}
 use Rattle.jsonb_raw.proofs.PairStepLemmas.{value_after_less, above_after_less, value_at_equal, above_at_equal, no_value_at_greater}

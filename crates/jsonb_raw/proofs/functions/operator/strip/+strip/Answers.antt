@@ -1,13 +1,9 @@
-use Rattle.std.proofs.Common.{rules, arith, ◌≡◌, ◌∷◌, [], ◌++◌, List, false, sym, refl, subst}
-use Rattle.std.specs.Prelude.{Vec}
-use Rattle.std.specs.Map.{keys_of}
+use Rattle.std.proofs.Common.{rules, arith, ◌∷◌, [], ◌++◌, refl}
 use Rattle.std.proofs.lemmas.Result.{err_from_is_err_and}
-use Rattle.jsonb_doc.specs.Tree.{Tree, Trees, Pairs, array, object, elements, members, keys, trees_of, pairs_of}
-use Rattle.jsonb_doc.specs.Answer.{Builds}
+use Rattle.jsonb_doc.specs.Tree.{array, object, elements, members, keys, pairs_of}
 use Rattle.jsonb_doc.proofs.TreeLists.{trees_of-elements, pairs_of-members, keys_of-members}
 use Rattle.jsonb_doc.proofs.LimitLemmas.{decoded_keys}
-use Rattle.jsonb_doc.proofs.BuilderSteps.{HoldsFront, front_empty, front_pushed, front_refused, front_part_refused, front_built, HoldsFrontPairs, AreRising, keys_rise, pairs_empty, pair_step, pairs_built}
-use Rattle.jsonb_raw.specs.Scalars.{is_null}
+use Rattle.jsonb_doc.proofs.BuilderSteps.{front_empty, front_pushed, front_refused, front_part_refused, front_built, HoldsFrontPairs, keys_rise, pairs_empty, pair_step, pairs_built}
 use Rattle.jsonb_raw.specs.Strip.{strip, strip_trees, strip_pairs}
 use Rattle.jsonb_raw.proofs.Left.{SomeElements-all, SomeElements-first, SomeElements-error, SomeElements-none, SomePairs-all, SomePairs-first, SomePairs-error, SomePairs-none}
 use Rattle.jsonb_raw.proofs.Inserted.{value_refused}
@@ -161,8 +157,8 @@ stripped_object-loop-pair-preserved t c = record {
         pairs = rest;
         left = left;
         fact = rw c.in_ok-no_repeat.was at (kept_answer form (object (pairs_of (members (strip_pairs ps)))) (λ _. HoldsFrontPairs form c.push_pair.new.builder (members (strip_pairs rest)) (members (strip_pairs ps))) c.push_pair.result c.no_repeat.result c.no_repeat.ensures.kept
-          (pair_step form c.loop-pair.builder c.in_ok-key.key.now (strip value) (members (strip_pairs rest)) (members (strip_pairs ps)) h c.push_pair.new.builder c.push_pair.result
-          (λ qs holds fresh. c.push_pair.ensures.pushed form qs value holds stands fresh)));
+            (pair_step form c.loop-pair.builder c.in_ok-key.key.now (strip value) (members (strip_pairs rest)) (members (strip_pairs ps)) h c.push_pair.new.builder c.push_pair.result
+            (λ qs holds fresh. c.push_pair.ensures.pushed form qs value holds stands fresh)));
       });
 }
 
@@ -173,8 +169,8 @@ stripped_object-returns-in_err-no_repeat-clause-document t c = λ form ps d.
     (λ value rest left stands fact.
     let h = rw (stands_for_no_null form _ value stands c.in_default-value.not-Null) at fact in
     rw (p.1, p.2) (rw pairs_of-members at (rw c.in_err-no_repeat.was at (kept_answer form (object (pairs_of (members (strip_pairs ps)))) (λ _. HoldsFrontPairs form c.push_pair.new.builder (members (strip_pairs rest)) (members (strip_pairs ps))) c.push_pair.result c.no_repeat.result c.no_repeat.ensures.kept
-          (pair_step form c.loop-pair.builder c.in_ok-key.key.now (strip value) (members (strip_pairs rest)) (members (strip_pairs ps)) h c.push_pair.new.builder c.push_pair.result
-          (λ qs holds fresh. c.push_pair.ensures.pushed form qs value holds stands fresh))))))
+    (pair_step form c.loop-pair.builder c.in_ok-key.key.now (strip value) (members (strip_pairs rest)) (members (strip_pairs ps)) h c.push_pair.new.builder c.push_pair.result
+    (λ qs holds fresh. c.push_pair.ensures.pushed form qs value holds stands fresh))))))
 
 pub stripped_object-returns-clause-document : goal.stripped_object-returns-clause-document
 stripped_object-returns-clause-document t c = λ form ps d.

@@ -1,7 +1,7 @@
-use Rattle.std.proofs.Common.{rules, arith, true, false, ◌∷◌, ◌++◌, ◌≡◌, ℕ, List, [], sym, ◌∙◌}
+use Rattle.std.proofs.Common.{rules, arith, true, false, ◌++◌}
 use Rattle.std.specs.Fn.{FnReturnsAt}
-use Rattle.jsonb_doc.specs.Tree.{Tree, Trees, Pairs, array, object}
-use Rattle.jsonb_raw.specs.Texts.{texts, texts_of_trees, texts_of_pairs, Tells}
+use Rattle.jsonb_doc.specs.Tree.{array, object}
+use Rattle.jsonb_raw.specs.Texts.{texts, texts_of_trees, texts_of_pairs}
 use Rattle.jsonb_raw.proofs.Told.{told_none, told_alone, told_first, told_then, told_head, told_after}
 use Rattle.jsonb_raw.proofs.Left.{SomeElements-all, SomeElements-first, SomeElements-error, SomeElements-none, SomePairs-all, SomePairs-first, SomePairs-error, SomePairs-none}
 use Rattle.jsonb_raw.proofs.functions.operator.traverse.+texts.Goals as goal
@@ -103,13 +103,13 @@ object_tells-returns-then-func-clause-told g t c = λ form ps d.
     SomePairs-first form _ _ _ _ _ c.in_ok-key.was c.in-Some-pair.ensures.steps (c.loop-pair.invariant.left form ps d)
     (λ value rest left stands fact. fact true (
     elim c.then-func.branch [
-      object_tells-then-func-via-then-func w ↦
-        let told : FnReturnsAt g.F.Fn c.args.func.now c.in_ok-key.key.now true = record { shown = c.as_bytes.result; shows = c.as_bytes.ensures.value; says = record { met = rw w.if-func.true at c.func.ensures } } in
-        told_head g.F.Fn c.args.func.now c.in_ok-key.key.now (texts value ++ texts_of_pairs rest) told
-    | object_tells-then-func-via-else-func+in_ok-item_tells+then-branch w ↦
-        let told : FnReturnsAt g.F.Fn c.args.func.now c.in_ok-key.key.now false = record { shown = c.as_bytes.result; shows = c.as_bytes.ensures.value; says = record { met = rw w.if-func.false at c.func.ensures } } in
-        told_after g.F.Fn c.args.func.now c.in_ok-key.key.now (texts value ++ texts_of_pairs rest) told true
-        (told_first g.F.Fn c.args.func.now (texts value) (texts_of_pairs rest) (rw w.if-branch.true at (w.in_ok-item_tells.ensures.told form value stands)))
+      | object_tells-then-func-via-then-func w ↦
+          let told : FnReturnsAt g.F.Fn c.args.func.now c.in_ok-key.key.now true = record { shown = c.as_bytes.result; shows = c.as_bytes.ensures.value; says = record { met = rw w.if-func.true at c.func.ensures } } in
+          told_head g.F.Fn c.args.func.now c.in_ok-key.key.now (texts value ++ texts_of_pairs rest) told
+      | object_tells-then-func-via-else-func+in_ok-item_tells+then-branch w ↦
+          let told : FnReturnsAt g.F.Fn c.args.func.now c.in_ok-key.key.now false = record { shown = c.as_bytes.result; shows = c.as_bytes.ensures.value; says = record { met = rw w.if-func.false at c.func.ensures } } in
+          told_after g.F.Fn c.args.func.now c.in_ok-key.key.now (texts value ++ texts_of_pairs rest) told true
+          (told_first g.F.Fn c.args.func.now (texts value) (texts_of_pairs rest) (rw w.if-branch.true at (w.in_ok-item_tells.ensures.told form value stands)))
     ]))
 
 pub object_tells-loop-pair-preserved : goal.object_tells-loop-pair-preserved

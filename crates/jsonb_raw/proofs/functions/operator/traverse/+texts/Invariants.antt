@@ -1,4 +1,4 @@
-use Rattle.std.proofs.Common.{◌≡◌, ◌<◌, ◌+◌, ◌*◌, length, Bool}
+use Rattle.std.proofs.Common.{◌<◌, ◌+◌, ◌*◌, length, Bool}
 use Rattle.jsonb_doc.specs.Tree.{Trees, Pairs, array, object}
 use Rattle.jsonb_doc.specs.Payload.{Form}
 use Rattle.jsonb_doc.specs.Format.{Decodes}

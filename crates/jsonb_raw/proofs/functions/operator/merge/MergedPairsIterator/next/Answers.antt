@@ -1,5 +1,4 @@
-use Rattle.std.proofs.Common.{◌≡◌, ◌∙◌, sym, rules}
-use Rattle.jsonb_raw.specs.MergedPairs.{GivesMerged}
+use Rattle.std.proofs.Common.{◌∙◌, sym}
 use Rattle.jsonb_raw.proofs.MergedLemmas.{first_ended, second_ended, first_taken, both_taken, second_taken}
 use Rattle.jsonb_raw.proofs.functions.operator.merge.MergedPairsIterator.next.Goals as goal
 
