@@ -15,6 +15,7 @@ use Rattle.jsonb_doc.specs.declared.item.Item.{Item}
 use Rattle.jsonb_doc.specs.declared.value.Value.{Value}
 use Rattle.jsonb_doc.proofs.Containers.{array_document}
 use Rattle.jsonb_keypath.specs.declared.key_path.KeyPath.{KeyPath}
+use Rattle.jsonb_keypath.specs.declared.key_path.KeyPaths.{KeyPaths}
 use Rattle.jsonb_keypath.specs.KeyPathGrammar.{Key, index}
 use Rattle.jsonb_keypath.specs.KeyPathViews.{key_view, keys_view, key_paths_view}
 use Rattle.jsonb_raw.specs.declared.functions.path.leaves.Walk.{Walk}
@@ -82,6 +83,17 @@ found_at seen step old there found new r within taken kept finds popped some sam
       ∙ ap (λ ls. leaves_seen seen ls ++ behind (key_paths_view there.path) within) kept
       ∙ ap (λ (steps : List Key). leaves_seen seen old.found.items ++ behind steps within) (ap keys_view taken ∙ map-append key_view old.path.paths.items (step ∷ []))
       ∙ ap (λ (ls : List Leaf). leaves_seen seen old.found.items ++ ls) (behind-step (key_paths_view old.path) (key_view step) within);
+}
+
+-- the part where the walk is, found with its path and its value
+pub one_leaf : (seen : Value → Tree) (old new : Walk) (path : KeyPaths) (value : Value) (t : Tree) → key_paths_view path ≡ key_paths_view old.path → seen value ≡ t
+    → new.path.paths.items ≡ old.path.paths.items → new.found.items ≡ old.found.items ++ (path, value) ∷ [] → Finds seen old new (([], t) ∷ [])
+one_leaf seen old new path value t same_steps same_tree stays pushed = record {
+  path = ap keys_view stays;
+  found =
+      ap (leaves_seen seen) pushed ∙ map-append (λ (leaf : KeyPaths × Value). (key_paths_view leaf.0, seen leaf.1)) old.found.items ((path, value) ∷ [])
+      ∙ ap (λ (steps : List Key). leaves_seen seen old.found.items ++ (steps, seen value) ∷ []) (same_steps ∙ sym (append-nil (key_paths_view old.path)))
+      ∙ ap (λ (u : Tree). leaves_seen seen old.found.items ++ (key_paths_view old.path ++ [], u) ∷ []) same_tree;
 }
 
 -- ---- one part behind the other

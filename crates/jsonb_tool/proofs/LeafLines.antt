@@ -106,6 +106,10 @@ no_more_leaves [] (suc i) h = refl
 no_more_leaves (y ∷ found) zero h = absurd (omega arith)
 no_more_leaves (y ∷ found) (suc i) h = no_more_leaves found i (omega arith)
 
+pub no_leaves : (found : List (KeyPaths × Value)) (n : ℕ) → n ≡ length found → true ≡ (n == 0) → length (leaves_seen value_tree found) ≡ 0
+no_leaves [] n same none = refl
+no_leaves (y ∷ found) n same none = let e : (n == 0) ≡ false = grind (arith, nat_tests, same) in cc
+
 pub some_leaves : (found : List (KeyPaths × Value)) (n : ℕ) → n ≡ length found → false ≡ (n == 0) → 0 < length (leaves_seen value_tree found)
 some_leaves [] n same some = let e : (n == 0) ≡ true = grind (arith, nat_tests, same) in cc
 some_leaves (y ∷ found) n same some = omega arith

@@ -7,7 +7,7 @@ use Rattle.jsonb_doc.specs.Value.{value_tree}
 use Rattle.jsonb_doc.proofs.DecodedFits.{decoded_fits}
 use Rattle.jsonb_raw.specs.Documents.{raw_bytes}
 use Rattle.jsonb_raw.specs.LeafViews.{leaves_seen}
-use Rattle.jsonb_tool.proofs.LeafLines.{leaf_of, LinesToward-none, LinesToward-more, LinesToward-end, shows_each, next_leaf, no_more_leaves, some_leaves, can_be_shown, line_refused}
+use Rattle.jsonb_tool.proofs.LeafLines.{leaf_of, LinesToward-none, LinesToward-more, LinesToward-end, shows_each, shows_none, no_leaves, next_leaf, no_more_leaves, some_leaves, can_be_shown, line_refused}
 use Rattle.jsonb_tool.proofs.output.leaves.Goals as goal
 
 pub returns-in_err-leaves : goal.returns-in_err-leaves
@@ -16,6 +16,17 @@ returns-in_err-leaves c =
     let memory : c.in_err-leaves.field-0.0 ≡ OutOfMemory = c.in_err-leaves.ensures.leaves any t (rw same d) in
     let p = err_from_is_err_and c.from_residual-in_err-leaves.result c.from_residual-in_err-leaves.ensures.1 in
     rw (p.1, p.2) (inl memory)
+
+pub returns-then-is_empty : goal.returns-then-is_empty
+returns-then-is_empty c =
+    let (same, decodes) = c.in_ok-document.ensures in
+    inl (
+      decodes,
+      λ form t d.
+          let d' : Decodes form (raw_bytes c.in_ok-document.document) t = rw same d in
+          let none = no_leaves c.in_ok-leaves.leaves.items _ c.in_ok-leaves.leaves.ok.0 c.if-is_empty.ensures in
+          rw (c.in_ok-leaves.ensures.leaves form t d') at (shows_none form t _ _ none c.in_ok-from_str.ensures.ok),
+    )
 
 pub loop-path-init : goal.loop-path-init
 loop-path-init c = λ form t d. rw c.new-lines.ensures.bytes (LinesToward-none form t _)
