@@ -9,12 +9,12 @@ ghost use Rattle.jsonb_raw.specs.Places.{tree_at_steps};
 
 mod arrays;
 mod child;
+mod deletes;
+mod exists;
 mod leaves;
 mod objects;
 mod operators;
 mod sets;
-mod deletes;
-mod exists;
 
 use super::*;
 use jsonb_doc::{ArrayBuilder, Error};
