@@ -104,3 +104,8 @@ differs false answer is holds = refl
 pub agrees : (same answer : Bool) → answer ≡ not same → answer ≡ false → same ≡ true
 agrees true answer is fails = refl
 agrees false answer is fails = let bad : false ≡ true = sym fails ∙ is in cc
+
+-- ---- positions
+
+pub some_or_none : {n : ℕ} (found : Option ℕ) → found ≡ Some n → found ≡ None → ⊥
+some_or_none {n} found some none = let bad : Some n ≡ None = sym some ∙ none in cc

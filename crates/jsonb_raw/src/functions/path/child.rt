@@ -2,13 +2,14 @@
 //!
 //! On bytes that don't decode each call answers `InvalidJsonb` or `UnsupportedNumber`, or as a document that does.
 
-ghost use Rattle.std.specs.Prelude.{◌≡◌, not, filter, IfErr};
+ghost use Rattle.std.specs.Prelude.{◌≡◌, not, None, filter, length, IfErr};
 ghost use Rattle.std.specs.List.{remove};
 ghost use Rattle.std.specs.Str.{bytes_eq};
 ghost use Rattle.jsonb_doc.specs.Tree.{Tree, Trees, Pairs, array, object, elements as element_list, members, trees_of, pairs_of};
 ghost use Rattle.jsonb_doc.specs.Payload.{Form};
 ghost use Rattle.jsonb_doc.specs.Format.{Decodes};
 ghost use Rattle.jsonb_doc.specs.Item.{Stands};
+ghost use Rattle.jsonb_doc.specs.Answer.{Answers};
 ghost use Rattle.jsonb_doc.specs.Elements.{HasElementsLeft};
 ghost use Rattle.jsonb_raw.specs.Documents.{raw_bytes, Makes, MakesOption, IsMakingError};
 ghost use Rattle.jsonb_raw.specs.Making.{MakesOr, IsMakingErrorOr};
@@ -76,7 +77,7 @@ impl RawJsonb<'_> {
     }
 
     /// The array without the element that an index means, counted from the end where it is negative. Where there is no
-    /// such element the document is unchanged.
+    /// such element the answer has the same bytes.
     ///
     /// `InvalidJsonType` where the root is no array. `InvalidJsonb` and `UnsupportedNumber` come only where the bytes
     /// don't decode, `TooLarge` only where the answer passes the limits of a document, and `OutOfMemory` where memory is
@@ -84,6 +85,9 @@ impl RawJsonb<'_> {
     pub fn delete_by_index(&self, alloc: Global, index: i32) -> Result<OwnedJsonb, Error>
         ensures deleted { (form : Form) (t : Tree) → Decodes form (raw_bytes self.now) t
             → MakesOr Error.InvalidJsonType form (without_index index t) result }
+        ensures unchanged { (form : Form) (ts : Trees) → Decodes form (raw_bytes self.now) (array ts)
+            → index_position (length (element_list ts)) index ≡ None
+            → Answers result (λ made. made ≡ raw_bytes self.now) }
         ensures errors { IfErr result (IsMakingErrorOr Error.InvalidJsonType) }
     {
         let bytes = self.as_bytes();
