@@ -33,3 +33,5 @@ pub mod CutCases
 pub mod PushLemmas
 pub mod PushSteps
 pub mod DeleteLemmas
+mod DeleteRows
+pub mod Copies
