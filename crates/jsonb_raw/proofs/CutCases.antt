@@ -1,5 +1,5 @@
 -- A container is an array or an object, by its header.
-use Rattle.std.proofs.Common.{◌≡◌, ◌⊎◌, inl, inr, ℕ, suc, ◌+◌, ◌*◌, ◌-◌, ◌/◌, ◌%◌, ◌^◌, ◌<◌, ◌≤◌, true, false, List, [], ◌∷◌, ◌++◌, length, take, Option, Some, None, refl, sym, ap, subst, ◌∙◌, arith, slice_get}
+use Rattle.std.proofs.Common.{◌≡◌, ◌⊎◌, inl, inr, ℕ, ◌+◌, ◌*◌, ◌-◌, ◌/◌, ◌%◌, ◌^◌, ◌<◌, ◌≤◌, true, false, List, ◌∷◌, ◌++◌, length, take, Some, None, refl, sym, subst, ◌∙◌, arith, slice_get}
 use Rattle.std.specs.Int.{w32, from_be_bytes}
 use Rattle.std.proofs.lemmas.Option.{slice_get_within}
 use Rattle.jsonb_doc.specs.Tree.{Tree, null, boolean, number, text, extension, array, object, Trees, Pairs, elements, count, keys, values}
@@ -8,7 +8,6 @@ use Rattle.jsonb_doc.specs.Format.{array_header, object_header, container_entry,
 use Rattle.jsonb_doc.specs.Encoding.{EntryParts}
 use Rattle.jsonb_doc.proofs.Containers.{count-values}
 use Rattle.jsonb_raw.specs.declared.functions.path.entry_place.EntryPlace.{EntryPlace}
-use Rattle.jsonb_raw.specs.declared.functions.path.entry_place.ChildEntries.{ChildEntries}
 use Rattle.jsonb_raw.specs.Places.{children}
 use Rattle.jsonb_raw.specs.Cuts.{HoldEntries, IsPlaceOf, AreOfChild}
 use Rattle.jsonb_raw.proofs.PositionLemmas.{count_elements}

@@ -1,22 +1,19 @@
 -- The entries of a child, in an array and in an object.
-use Rattle.std.proofs.Common.{◌≡◌, ℕ, suc, ◌+◌, ◌*◌, ◌-◌, ◌/◌, ◌%◌, ◌^◌, ◌<◌, ◌≤◌, Bool, true, false, List, [], ◌∷◌, ◌++◌, length, take, Option, Some, None, IsSomeAnd, refl, sym, ap, subst, ◌∙◌, arith, append_assoc, slice_get, nat_cmp, Less}
+use Rattle.std.proofs.Common.{◌≡◌, ℕ, suc, ◌+◌, ◌*◌, ◌-◌, ◌^◌, ◌<◌, ◌≤◌, List, [], ◌∷◌, ◌++◌, length, take, Some, None, refl, sym, ap, subst, ◌∙◌, arith, append_assoc, slice_get}
 use Rattle.std.specs.Int.{w32, from_be_bytes, to_be_bytes}
-use Rattle.std.specs.Cmp.Lexicographic.{slice_cmp}
 use Rattle.std.proofs.lemmas.Cmp.{nat_list_cmp_total}
 use Rattle.std.proofs.lemmas.List.{length-append}
 use Rattle.std.proofs.lemmas.Nat.{from_be_bytes-to_be_bytes_4}
-use Rattle.jsonb_doc.specs.Tree.{Tree, null, boolean, number, text, extension, array, object, Trees, Pairs, elements, count, keys, values}
+use Rattle.jsonb_doc.specs.Tree.{Tree, array, object, Trees, Pairs, elements, count, keys, values}
 use Rattle.jsonb_doc.specs.Payload.{Reading}
-use Rattle.jsonb_doc.specs.Format.{header, array_header, object_header, container_entry, text_entry, entry_word, key_words, key_bytes, IsBelowFirst, AreKeys, HeadedBy, Container, Members, IsContent, AreEntries, AreValues}
+use Rattle.jsonb_doc.specs.Format.{header, array_header, object_header, container_entry, text_entry, entry_word, key_words, key_bytes, IsBelowFirst, AreKeys, HeadedBy, Container, Members, AreEntries, AreValues}
 use Rattle.jsonb_doc.specs.Encoding.{EntryParts}
-use Rattle.jsonb_doc.specs.ObjectBuilder.{IsWithin, kept_words, kept_contents}
+use Rattle.jsonb_doc.specs.ObjectBuilder.{kept_words, kept_contents}
 use Rattle.jsonb_doc.proofs.Containers.{entries_of, count-values}
 use Rattle.jsonb_raw.specs.declared.functions.path.entry_place.EntryPlace.{EntryPlace}
-use Rattle.jsonb_raw.specs.declared.functions.path.entry_place.ChildEntries.{ChildEntries}
-use Rattle.jsonb_raw.specs.Places.{children}
-use Rattle.jsonb_raw.specs.Deletes.{change_tree, change_value, change_child}
-use Rattle.jsonb_raw.specs.Cuts.{AreWithin, HoldEntries, IsPlaceOf, AreInOrder, AreOfChild, content_at, with_content, without_child, around}
-use Rattle.jsonb_raw.proofs.EntryLists.{AreOf, Listed, Split, SplitKeys, listed, joined, joined_values, count_are, split, split_keys, values_changed, key_entries, key-words, key-contents, key-within, key-count, keys-append, words-append, contents-append, length-kept_words, within-front, within-back, within-both}
+use Rattle.jsonb_raw.specs.Deletes.{change_tree, change_value}
+use Rattle.jsonb_raw.specs.Cuts.{AreWithin, HoldEntries, IsPlaceOf, AreInOrder, AreOfChild, around}
+use Rattle.jsonb_raw.proofs.EntryLists.{Listed, Split, SplitKeys, listed, joined, joined_values, count_are, split, split_keys, values_changed, key_entries, key-words, key-contents, key-within, key-count, keys-append, words-append, contents-append, length-kept_words, within-front, within-back, within-both}
 use Rattle.jsonb_raw.proofs.CutLemmas.{content_there, content_replaced, entry_within, entry_in_order, entry_left_out, replaced_no_longer, left_out_shorter, both_left_out, both_in_order, both_shorter}
 
 -- ---- headers

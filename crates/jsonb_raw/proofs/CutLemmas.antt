@@ -1,12 +1,12 @@
 -- A container's bytes around one of its entries.
-use Rattle.std.proofs.Common.{◌≡◌, ℕ, suc, ◌+◌, ◌*◌, ◌-◌, ◌^◌, ◌<◌, ◌≤◌, List, [], ◌∷◌, ◌++◌, length, take, drop, Option, Some, None, refl, sym, ap, ◌∙◌, arith, append_assoc}
+use Rattle.std.proofs.Common.{◌≡◌, ℕ, ◌+◌, ◌-◌, ◌≤◌, List, [], ◌∷◌, ◌++◌, length, take, drop, Some, None, refl, sym, ap, ◌∙◌, arith, append_assoc}
 use Rattle.std.specs.Prelude.{slice_range}
 use Rattle.std.proofs.lemmas.List.{length-append, take_at, drop_at, append-nil}
 use Rattle.jsonb_doc.specs.Format.{container_entry, entry_word}
 use Rattle.jsonb_doc.specs.Encoding.{EntryParts}
 use Rattle.jsonb_doc.specs.ObjectBuilder.{kept_words, kept_contents}
 use Rattle.jsonb_raw.specs.declared.functions.path.entry_place.EntryPlace.{EntryPlace}
-use Rattle.jsonb_raw.specs.Cuts.{HoldEntries, IsPlaceOf, LiesWithin, AreInOrder, content_at, with_content, around}
+use Rattle.jsonb_raw.specs.Cuts.{IsPlaceOf, LiesWithin, AreInOrder, content_at, with_content, around}
 use Rattle.jsonb_raw.proofs.EntryLists.{words-append, contents-append, length-kept_words}
 
 -- ---- slices of what is joined

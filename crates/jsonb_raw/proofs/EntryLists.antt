@@ -1,13 +1,11 @@
 -- Trees and their entries, as lists.
-use Rattle.std.proofs.Common.{◌≡◌, ℕ, zero, suc, ◌+◌, ◌*◌, ◌^◌, ◌<◌, ◌≤◌, List, [], ◌∷◌, ◌++◌, length, Option, Some, None, refl, sym, ap, subst, ◌∙◌, arith, append_assoc, slice_get}
+use Rattle.std.proofs.Common.{◌≡◌, ℕ, zero, suc, ◌*◌, List, [], ◌∷◌, ◌++◌, length, Option, Some, None, refl, sym, ap, subst, ◌∙◌, arith, append_assoc, slice_get}
 use Rattle.std.specs.Prelude.{⊤}
-use Rattle.std.proofs.lemmas.List.{length-append}
 use Rattle.jsonb_doc.specs.Tree.{Tree, Trees, no_trees, tree, Pairs, no_pairs, pair, elements, count, keys, values}
 use Rattle.jsonb_doc.specs.Payload.{Reading}
 use Rattle.jsonb_doc.specs.Format.{entry_word, text_entry, key_words, key_bytes, AreKeys, IsContent, AreEntries, AreValues}
 use Rattle.jsonb_doc.specs.Encoding.{EntryParts}
-use Rattle.jsonb_doc.specs.ObjectBuilder.{IsWithin, kept_words, kept_contents}
-use Rattle.jsonb_doc.proofs.Entries.{kind_below}
+use Rattle.jsonb_doc.specs.ObjectBuilder.{kept_words, kept_contents}
 use Rattle.jsonb_raw.specs.Deletes.{put_tree, put_pair, change_tree, change_value}
 use Rattle.jsonb_raw.specs.Cuts.{AreWithin}
 

@@ -1,9 +1,9 @@
 -- What the texts that are left of a walk say of all of them.
-use Rattle.std.proofs.Common.{◌≡◌, ℕ, Bool, true, false, ◌||◌, ◌&&◌, not, List, [], ◌∷◌, Option, Some, None, is_some, refl, sym, ap, ◌∙◌}
+use Rattle.std.proofs.Common.{◌≡◌, ℕ, Bool, true, false, List, ◌∷◌, Option, Some, None, is_some, refl, ◌∙◌}
 use Rattle.std.specs.List.{list_any, list_all}
 use Rattle.std.specs.Borrow.{Bor}
 use Rattle.std.specs.Str.{bytes_eq}
-use Rattle.jsonb_doc.specs.Tree.{Tree, text, Trees, tree, Pairs, no_pairs, pair, elements, keys, value_under}
+use Rattle.jsonb_doc.specs.Tree.{Tree, text, Pairs, no_pairs, pair, keys, value_under}
 use Rattle.jsonb_doc.specs.Payload.{Form}
 use Rattle.jsonb_doc.specs.Item.{Stands}
 use Rattle.jsonb_doc.specs.Answer.{SameOption}

@@ -1,8 +1,7 @@
 -- A pair that is taken out of an object is gone.
-use Rattle.std.proofs.Common.{◌≡◌, ℕ, zero, suc, Bool, true, false, List, [], ◌∷◌, ◌++◌, length, Option, Some, None, refl, sym, ap, subst, ◌∙◌, slice_get, Less, nat_cmp}
+use Rattle.std.proofs.Common.{◌≡◌, ℕ, zero, suc, Bool, true, false, List, [], ◌∷◌, ◌++◌, length, Option, Some, None, refl, sym, ap, subst, ◌∙◌, slice_get}
 use Rattle.std.specs.Prelude.{position, option_and_then, option_map, unwrap_or}
 use Rattle.std.specs.Ordering.{is_eq}
-use Rattle.std.specs.Cmp.Lexicographic.{slice_cmp}
 use Rattle.std.specs.Str.{bytes_eq}
 use Rattle.std.proofs.lemmas.Cmp.{nat_list_cmp_total}
 use Rattle.std.proofs.lemmas.Map.Text.{is_eq-slice_cmp}
@@ -11,8 +10,8 @@ use Rattle.jsonb_doc.specs.Format.{IsBelowFirst, AreKeys}
 use Rattle.jsonb_doc.specs.Limits.{IsInRange, AreInRange, ValuesAreInRange}
 use Rattle.jsonb_doc.proofs.Words.{bytes_eq-true}
 use Rattle.jsonb_keypath.specs.KeyPathGrammar.{Key, index, quoted_name, plain_name}
-use Rattle.jsonb_raw.specs.Places.{children, asked_key, child_position, child_met, place, tree_at_steps, index_position}
-use Rattle.jsonb_raw.specs.Deletes.{put_tree, put_pair, change_tree, change_value, change_child, take_out, without}
+use Rattle.jsonb_raw.specs.Places.{children, asked_key, child_position, place, tree_at_steps, index_position}
+use Rattle.jsonb_raw.specs.Deletes.{change_tree, change_value, change_child, take_out}
 use Rattle.jsonb_raw.specs.DeletesLaws.{PairsAreGone}
 use Rattle.jsonb_raw.proofs.PlaceLemmas.{position-cons, step_by_step}
 use Rattle.jsonb_raw.proofs.PositionLemmas.{position_in_object}

@@ -63,3 +63,5 @@ pub mod LeftMerged
 pub mod StripLaws
 pub mod ContainsLaws
 pub mod ConcatLaws
+mod DeleteRows
+pub mod Copies

@@ -1,5 +1,5 @@
 -- A container without the place of some positions, put behind other bytes level by level.
-use Rattle.std.proofs.Common.{◌≡◌, ◌⊎◌, inl, inr, ℕ, zero, suc, ◌+◌, ◌*◌, ◌-◌, ◌^◌, ◌<◌, ◌≤◌, Bool, true, false, ◌==◌, List, [], ◌∷◌, ◌++◌, length, take, drop, Option, Some, None, Result, Ok, Err, refl, sym, ap, subst, ◌∙◌, arith, append_assoc, slice_get}
+use Rattle.std.proofs.Common.{◌≡◌, ℕ, ◌+◌, ◌-◌, ◌≤◌, true, false, ◌==◌, List, [], ◌∷◌, ◌++◌, length, take, drop, Option, Some, None, Result, Ok, Err, refl, sym, ap, subst, ◌∙◌, arith, append_assoc, slice_get}
 use Rattle.std.specs.Prelude.{slice_range, option_and_then}
 use Rattle.std.proofs.lemmas.List.{length-append, length-take-le, take-append-drop}
 use Rattle.std.proofs.lemmas.Bool.Decides.{nat_tests}
@@ -12,7 +12,7 @@ use Rattle.jsonb_doc.specs.Answer.{Answers}
 use Rattle.jsonb_raw.specs.declared.functions.path.entry_place.ChildEntries.{ChildEntries}
 use Rattle.jsonb_raw.specs.Places.{children, tree_at}
 use Rattle.jsonb_raw.specs.Deletes.{change_child, take_out}
-use Rattle.jsonb_raw.specs.Cuts.{AreInOrder, AreOfChild, IsPushed, content_at, with_content, without_child}
+use Rattle.jsonb_raw.specs.Cuts.{AreOfChild, IsPushed, content_at, with_content, without_child}
 use Rattle.jsonb_raw.proofs.CutLemmas.{slice_of}
 
 -- ---- the first of some positions

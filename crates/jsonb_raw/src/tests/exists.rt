@@ -1,5 +1,12 @@
 //! Worked rows: which texts a document has.
 
+ghost use Rattle.std.specs.Prelude.{◌≡◌, map, IsOkAnd};
+ghost use Rattle.jsonb_doc.specs.Tree.{Tree};
+ghost use Rattle.jsonb_doc.specs.Payload.{Form};
+ghost use Rattle.jsonb_doc.specs.Format.{Decodes};
+ghost use Rattle.jsonb_raw.specs.Documents.{raw_bytes};
+ghost use Rattle.jsonb_raw.specs.Exists.{has_all};
+
 use crate::raw::RawJsonb;
 use jsonb_doc::Error;
 use std::test::Fail;
@@ -32,10 +39,18 @@ const DATE: &[u8] = b"\x20\0\0\0\x60\0\0\x05\x10\0\0\0\x01";
 // an array of a float
 const FLOAT_LIST: &[u8] = b"\x80\0\0\x01\x20\0\0\x09\x60\x3f\xf8\0\0\0\0\0\0";
 
+/// Whether the document has all of the texts: a caller, with what it knows of the answer.
+fn has_each(document: &RawJsonb<'_>, names: &[&str]) -> Result<bool, Error>
+    ensures { (form : Form) (t : Tree) → Decodes form (raw_bytes document.now) t
+        → IsOkAnd result (λ b. b ≡ has_all (map (λ name. name.now) names.now) t) }
+{
+    document.exists_all_keys(names.iter().copied())
+}
+
 /// Whether the document has all of the texts, and whether it has one of them.
 fn all_and_any(bytes: &[u8], names: &[&str]) -> Result<(bool, bool), Error> {
     let document = RawJsonb::new(bytes);
-    let all = document.exists_all_keys(names.iter().copied())?;
+    let all = has_each(&document, names)?;
     let any = document.exists_any_keys(names.iter().copied())?;
     Ok((all, any))
 }

@@ -1,6 +1,6 @@
 //! A document without the place that steps meet.
 
-ghost use Rattle.std.specs.Prelude.{◌≡◌, ℕ, List, length, position as first_position, not, IsTrue, IsOkAnd, IsErrOf, IfErr, ◌⊎◌};
+ghost use Rattle.std.specs.Prelude.{◌≡◌, List, length, position as first_position, not, IsTrue, IsOkAnd, IsErrOf, IfErr, ◌⊎◌};
 ghost use Rattle.std.specs.Iterator.{IsFinite};
 ghost use Rattle.std.specs.Fmt.{signed_decimal};
 ghost use Rattle.std.specs.Str.{bytes_eq};

@@ -1,4 +1,4 @@
-use Rattle.std.proofs.Common.{arith, refl, sym, ap, ◌∙◌, ◌+◌, length, inl, inr}
+use Rattle.std.proofs.Common.{arith, ap, ◌∙◌, ◌+◌, length, inl, inr}
 use Rattle.std.proofs.lemmas.Result.{err_from_is_err_and}
 use Rattle.jsonb_doc.specs.Payload.{reading}
 use Rattle.jsonb_raw.proofs.PushSteps.{first_taken, none_left, cut_pushed, inside, placed, whole_pushed}

@@ -1,4 +1,4 @@
-use Rattle.std.proofs.Common.{refl, arith}
+use Rattle.std.proofs.Common.{refl}
 use Rattle.jsonb_doc.specs.Payload.{reading}
 use Rattle.jsonb_raw.proofs.CutCases.{not_outside, element_missing, element_entries, key_missing, value_missing, member_entries}
 use Rattle.jsonb_raw.proofs.functions.path.cut.child_entries.Goals as goal

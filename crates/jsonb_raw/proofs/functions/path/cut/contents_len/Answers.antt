@@ -1,4 +1,4 @@
-use Rattle.std.proofs.Common.{refl, arith, length}
+use Rattle.std.proofs.Common.{arith, length}
 use Rattle.jsonb_doc.specs.ObjectBuilder.{kept_contents}
 use Rattle.jsonb_raw.proofs.CutWords.{words_next, words_done}
 use Rattle.jsonb_raw.proofs.functions.path.cut.contents_len.Goals as goal

@@ -1,4 +1,4 @@
-use Rattle.std.proofs.Common.{arith, inl, inr, ◌∙◌}
+use Rattle.std.proofs.Common.{arith, inl, inr}
 use Rattle.jsonb_raw.proofs.CutWords.{word_len, bytes_held, entry_read}
 use Rattle.jsonb_raw.proofs.functions.path.cut.entry_place.Goals as goal
 

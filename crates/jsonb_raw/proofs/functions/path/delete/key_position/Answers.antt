@@ -1,4 +1,4 @@
-use Rattle.std.proofs.Common.{rules, refl, sym, ◌∙◌, arith}
+use Rattle.std.proofs.Common.{rules, sym, arith}
 use Rattle.jsonb_doc.specs.Tree.{object, keys}
 use Rattle.jsonb_raw.proofs.PositionLemmas.{first_key, no_key_error, no_more_keys, none_passed, key_here, key_further, key_nowhere}
 use Rattle.jsonb_raw.proofs.functions.path.delete.key_position.Goals as goal

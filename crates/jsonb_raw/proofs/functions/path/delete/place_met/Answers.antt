@@ -1,4 +1,4 @@
-use Rattle.std.proofs.Common.{rules, refl, ap}
+use Rattle.std.proofs.Common.{rules, ap}
 use Rattle.std.proofs.lemmas.Result.{err_from_is_err_and}
 use Rattle.jsonb_keypath.specs.KeyPathViews.{key_view, keys_view}
 use Rattle.jsonb_raw.proofs.MetLemmas.{walk_begun, met_next}

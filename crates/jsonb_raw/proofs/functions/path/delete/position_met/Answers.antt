@@ -1,4 +1,4 @@
-use Rattle.std.proofs.Common.{rules, ◌∙◌, w32}
+use Rattle.std.proofs.Common.{rules, w32}
 use mir.Val.{SFits}
 use Rattle.std.proofs.lemmas.Int.{to_z-of_z}
 use Rattle.jsonb_doc.specs.Payload.{any}

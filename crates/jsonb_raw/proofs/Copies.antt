@@ -1,0 +1,16 @@
+-- An iterator of copies tells what is left in it where the iterator below does.
+use Rattle.std.proofs.Common.{List, map, Option, Some, None, ap}
+use Rattle.std.specs.Iterator.{YieldsFirstRef}
+use Rattle.std.specs.Iterator.Adapters.{copied_steps, copied_source}
+use Rattle.std.specs.Option.{option_copied}
+use Rattle.std.specs.Borrow.{Bor}
+use Rattle.jsonb_raw.specs.Iterators.{TellsWhatIsLeft}
+
+-- `copied()` of an iterator over references
+pub copied_tells : {S A : Type 0} (steps : S → Option (Bor (Bor A)) → S → Type 0) (left : S → List (Bor A)) → TellsWhatIsLeft steps left
+    → TellsWhatIsLeft (copied_steps steps) (λ s. map (λ x. x.now) (left (copied_source s)))
+copied_tells {S} {A} steps left tells s r t k = rw k.2 (by k.0 k.1)
+  where
+    by : (o : Option (Bor (Bor A))) → steps (copied_source s) o (copied_source t) → YieldsFirstRef (λ s. map (λ x. x.now) (left (copied_source s))) s (option_copied o) t
+    by None step = let e = tells _ None _ step in (ap (map (λ x. x.now)) e.0, ap (map (λ x. x.now)) e.1)
+    by (Some x) step = ap (map (λ x. x.now)) (tells _ (Some x) _ step)
