@@ -79,7 +79,8 @@ fn leaves(alloc: Global, document: &[u8]) -> Result<String, Error>
 fn leaf_line(alloc: Global, document: &RawJsonb<'_>, path: &KeyPaths<'_>) -> Result<String, Error>
     ensures { (form : Form) (t u : Tree) → Decodes form (raw_bytes document.now) t
         → tree_at_steps (key_paths_view path.now) t ≡ Some u
-        → Builds form u result (λ line. IsLeafLine form t (key_paths_view path.now) (string_bytes line)) }
+        → Builds form u result
+        (λ line. IsLeafLine form t (key_paths_view path.now) (string_bytes line)) }
 {
     let Some(part) = document.get_by_keypath(alloc, path.paths.iter())? else {
         return Err(Error::InvalidJsonb);

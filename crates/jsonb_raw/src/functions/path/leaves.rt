@@ -52,7 +52,8 @@ fn is_leaf(item: &Item<'_>, ignore_array: bool) -> Result<bool, Error>
 
 /// Finds the item where the walk is as a leaf.
 fn find_leaf<'a>(walk: &mut Walk<'a>, item: &Item<'a>) -> Result<(), Error>
-    ensures leaf { (seen : Value → Tree) → SeesDecoded seen → (form : Form) (t : Tree) → Stands form item.now t → IsNormal item.now
+    ensures leaf { (seen : Value → Tree) → SeesDecoded seen
+        → (form : Form) (t : Tree) → Stands form item.now t → IsNormal item.now
         → Answers result (λ _. Finds seen walk.old walk.new (([], t) ∷ [])) }
     ensures errors { IfErr result IsReadingError }
 {
@@ -70,8 +71,10 @@ fn find_at<'a>(
     item: &Item<'a>,
     ignore_array: bool,
 ) -> Result<(), Error>
-    ensures leaves { (seen : Value → Tree) → SeesDecoded seen → (form : Form) (t : Tree) → Stands form item.now t → IsNormal item.now
-        → Answers result (λ _. Finds seen walk.old walk.new (leaves_at ignore_array (key_view step.entry) t (leaves ignore_array t))) }
+    ensures leaves { (seen : Value → Tree) → SeesDecoded seen
+        → (form : Form) (t : Tree) → Stands form item.now t → IsNormal item.now
+        → Answers result (λ _. Finds seen walk.old walk.new
+        (leaves_at ignore_array (key_view step.entry) t (leaves ignore_array t))) }
     ensures errors { IfErr result IsReadingError }
 {
     walk.path.paths.push(step)?;
@@ -87,7 +90,8 @@ fn find_at<'a>(
 /// Finds the leaves within the item where the walk is.
 #[cycle(leaves)]
 fn find_within<'a>(walk: &mut Walk<'a>, item: &Item<'a>, ignore_array: bool) -> Result<(), Error>
-    ensures leaves { (seen : Value → Tree) → SeesDecoded seen → (form : Form) (t : Tree) → Stands form item.now t
+    ensures leaves { (seen : Value → Tree) → SeesDecoded seen
+        → (form : Form) (t : Tree) → Stands form item.now t
         → Answers result (λ _. Finds seen walk.old walk.new (leaves ignore_array t)) }
     ensures errors { IfErr result IsReadingError }
 {
@@ -101,7 +105,8 @@ fn find_within<'a>(walk: &mut Walk<'a>, item: &Item<'a>, ignore_array: bool) -> 
 /// Finds the leaves within an array.
 #[cycle(leaves)]
 fn find_in_array<'a>(walk: &mut Walk<'a>, bytes: &'a [u8], ignore_array: bool) -> Result<(), Error>
-    ensures leaves { (seen : Value → Tree) → SeesDecoded seen → (form : Form) (ts : Trees) → Decodes form bytes.now (array ts)
+    ensures leaves { (seen : Value → Tree) → SeesDecoded seen
+        → (form : Form) (ts : Trees) → Decodes form bytes.now (array ts)
         → Answers result (λ _. Finds seen walk.old walk.new (leaves_of_trees ignore_array 0 ts)) }
     ensures errors { IfErr result IsReadingError }
 {
@@ -121,7 +126,8 @@ fn find_in_array<'a>(walk: &mut Walk<'a>, bytes: &'a [u8], ignore_array: bool) -
 /// Finds the leaves within an object.
 #[cycle(leaves)]
 fn find_in_object<'a>(walk: &mut Walk<'a>, bytes: &'a [u8], ignore_array: bool) -> Result<(), Error>
-    ensures leaves { (seen : Value → Tree) → SeesDecoded seen → (form : Form) (ps : Pairs) → Decodes form bytes.now (object ps)
+    ensures leaves { (seen : Value → Tree) → SeesDecoded seen
+        → (form : Form) (ps : Pairs) → Decodes form bytes.now (object ps)
         → Answers result (λ _. Finds seen walk.old walk.new (leaves_of_pairs ignore_array ps)) }
     ensures errors { IfErr result IsReadingError }
 {
