@@ -5,7 +5,8 @@ ghost use Rattle.jsonb_keypath.specs.KeyPathGrammar.{key_path};
 ghost use Rattle.std.specs.Int.{w8, w16};
 ghost use Rattle.jsonb_raw.specs.KeyLaws.{KeysKeepBelow, KeysKeepEqual, KeysOrder, KeysTellApart, EqualityKeysTellApart, DigitsWrite};
 ghost use Rattle.jsonb_raw.specs.PlacesLaws.{NoStepsMeetTheWhole, PrintsToItsPlace};
-ghost use Rattle.jsonb_raw.specs.OperatorLaws.{StripTwiceIsStrip, ContainsIsReflexive, ContainsIsTransitive, ConcatOfArraysIsAssociative, ConcatOfObjectsIsAssociative};
+ghost use Rattle.jsonb_raw.specs.OperatorLaws.{StripTwiceIsStrip, ContainsIsReflexive, ContainsIsTransitive};
+ghost use Rattle.jsonb_raw.specs.OperatorLaws.{ConcatOfArraysIsAssociative, ConcatOfObjectsIsAssociative};
 
 /// The place of no steps is the whole tree.
 pub fn no_steps_meet_the_whole()
