@@ -12,7 +12,7 @@ use Rattle.jsonb_doc.specs.declared.pair_iter.PairIter.{PairIter}
 use Rattle.jsonb_doc.specs.Tree.{Tree, Pairs, no_pairs, pair, keys, members}
 use Rattle.jsonb_doc.specs.Payload.{Form}
 use Rattle.jsonb_doc.specs.Format.{IsBelowFirst, AreKeys}
-use Rattle.jsonb_doc.specs.ObjectPairs.{HasPairsLeft, TakesPair, GivesPair}
+use Rattle.jsonb_doc.specs.ObjectPairs.{TakesPair, GivesPair}
 use Rattle.jsonb_doc.specs.ObjectBuilder.{insert_pair}
 use Rattle.jsonb_doc.proofs.BuilderSteps.{AreRising, keys_rise}
 use Rattle.jsonb_doc.proofs.TreeLists.{keys_of-members}

@@ -1,4 +1,3 @@
-use Rattle.std.proofs.Common.{refl}
 use Rattle.std.proofs.lemmas.Result.{err_from_is_err_and}
 use Rattle.jsonb_doc.specs.Tree.{object, members, pairs_of}
 use Rattle.jsonb_doc.proofs.BuilderSteps.{HoldsFrontPairs, keys_rise, pairs_empty, pair_step, pairs_built}

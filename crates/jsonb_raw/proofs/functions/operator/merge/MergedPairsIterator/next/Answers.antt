@@ -1,6 +1,4 @@
-use Rattle.std.proofs.Common.{◌≡◌, ◌∙◌, sym}
-use Rattle.jsonb_raw.specs.MergedPairs.{GivesMerged}
-use Rattle.jsonb_raw.proofs.MergedLemmas.{OrdersNext, first_taken, both_taken, second_taken}
+use Rattle.jsonb_raw.proofs.MergedLemmas.{first_taken, both_taken, second_taken}
 use Rattle.jsonb_raw.proofs.functions.operator.merge.MergedPairsIterator.next.Goals as goal
 
 pub returns-in-Less-clause-steps : goal.returns-in-Less-clause-steps
