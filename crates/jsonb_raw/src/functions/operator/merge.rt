@@ -14,7 +14,7 @@ use std::cmp::Ordering;
 ///
 /// Both are walked in step, and each pair is read once. On bytes that don't decode it gives at most as many pairs as
 /// both headers count.
-#[derive(Clone, Copy)]
+#[derive(Drop)]
 pub struct MergedPairs<'a> {
     first: PairIter<'a>,
     second: PairIter<'a>,
