@@ -10,7 +10,7 @@ ghost use Rattle.jsonb_raw.specs.Places.{tree_at_steps};
 mod operators;
 
 use super::*;
-use jsonb_doc::{ArrayBuilder, Error};
+use jsonb_doc::Error;
 use jsonb_keypath::{KeyPath, KeyPaths, parse_key_paths};
 use std::alloc::Global;
 use std::borrow::CowStr;
