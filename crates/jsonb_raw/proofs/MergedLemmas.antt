@@ -11,12 +11,11 @@ use Rattle.jsonb_doc.specs.declared.item.Item.{Item}
 use Rattle.jsonb_doc.specs.declared.pair_iter.PairIter.{PairIter}
 use Rattle.jsonb_doc.specs.Tree.{Tree, Pairs, no_pairs, pair, keys, members}
 use Rattle.jsonb_doc.specs.Payload.{Form}
-use Rattle.jsonb_doc.specs.Format.{IsBelowFirst}
-use Rattle.jsonb_doc.specs.ObjectPairs.{HasPairsLeft, TakesPair, GivesPair}
+use Rattle.jsonb_doc.specs.Format.{IsBelowFirst, AreKeys}
+use Rattle.jsonb_doc.specs.ObjectPairs.{TakesPair, GivesPair}
 use Rattle.jsonb_doc.specs.ObjectBuilder.{insert_pair}
 use Rattle.jsonb_doc.proofs.BuilderSteps.{AreRising, keys_rise}
 use Rattle.jsonb_doc.proofs.TreeLists.{keys_of-members}
-use Rattle.jsonb_doc.proofs.DecodedValues.{no_member}
 use Rattle.jsonb_raw.specs.declared.functions.operator.merge.MergedPairs.{MergedPairs}
 use Rattle.jsonb_raw.specs.Concat.{merged}
 use Rattle.jsonb_raw.specs.MergedPairs.{HasMergedLeft, TakesMerged}
@@ -75,91 +74,92 @@ pub merged_rising : (ps qs : List Member) → AreRising (keys_of ps) → AreRisi
 merged_rising ps [] rising = rising
 merged_rising ps (q ∷ qs) rising = merged_rising (insert_pair q.0 q.1 ps) qs (rising_inserted q.0 q.1 ps rising)
 
-pub member_keys_rise : (form : Form) (it : PairIter) (ps : Pairs) → HasPairsLeft form it ps → AreRising (keys_of (members ps))
-member_keys_rise form it ps left = rw keys_of-members (keys_rise (keys ps) left.are_keys)
-
 -- ---- the iterator
 
 equal_keys : (k l : List ℕ) → slice_cmp nat_cmp k l ≡ Equal → k ≡ l
 equal_keys k l e = (bytes_eq-Decides k l).0 (test_of_order k l Equal e)
 
-module _ (form : Form) (it : MergedPairs) (first' second' : PairIter) where
-  -- the pairs of one object alone
-  second_alone : (qs : Pairs) (r : Option (Result (Bor (List ℕ) × Item) Error)) → HasPairsLeft form it.first no_pairs → HasPairsLeft form it.second qs → TakesPair form qs r second' → TakesMerged form (members qs) r (record { first = it.first; second = second' })
-  second_alone no_pairs None none left h =
-      record { firsts = no_pairs; seconds = no_pairs; first_left = none; second_left = h; joined = refl }
-  second_alone no_pairs (Some r) none left h = absurd h
-  second_alone (pair k t qs) None none left h = absurd h
-  second_alone (pair k t qs) (Some (Err e)) none left h = absurd h
-  second_alone (pair k t qs) (Some (Ok given)) none left h =
-      (h.0, h.1, record { firsts = no_pairs; seconds = qs; first_left = none; second_left = h.2; joined = merged_none (members qs) (member_keys_rise form second' qs h.2) })
+abbrev Given : Type 0
+Given = Option (Result (Bor (List ℕ) × Item) Error)
 
-  first_alone : (ps : Pairs) (r : Result (Bor (List ℕ) × Item) Error) → HasPairsLeft form it.second no_pairs → TakesPair form ps (Some r) first' → TakesMerged form (members ps) (Some r) (record { first = first'; second = it.second })
-  first_alone no_pairs r none h = absurd h
-  first_alone (pair k t ps) (Err e) none h = absurd h
-  first_alone (pair k t ps) (Ok given) none h =
-      (h.0, h.1, record { firsts = ps; seconds = no_pairs; first_left = h.2; second_left = none; joined = refl })
+rising_members : (ps : Pairs) → AreKeys (keys ps) → AreRising (keys_of (members ps))
+rising_members ps are = rw keys_of-members (keys_rise (keys ps) are)
 
-  pub first_ended : (whole : List Member) (r : Option (Result (Bor (List ℕ) × Item) Error)) → HasMergedLeft form it whole → GivesPair it.first None first' → GivesPair it.second r second' → TakesMerged form whole r (record { first = it.first; second = second' })
-  first_ended whole r h n m =
-      let none = no_member form h.firsts first' (n.takes form h.firsts h.first_left) in
-      let all : members h.seconds ≡ whole = sym (merged_none (members h.seconds) (member_keys_rise form it.second h.seconds h.second_left)) ∙ ap (λ ps. merged (members ps) (members h.seconds)) (sym none) ∙ h.joined in
-      subst (λ ps. TakesMerged form ps r (record { first = it.first; second = second' })) all
-      (second_alone h.seconds r (subst (HasPairsLeft form it.first) none h.first_left) h.second_left (m.takes form h.seconds h.second_left))
+-- what the order of the next pairs says
+pub record OrdersNext (pair other : Given) (o : Ordering) : Type 0 where
+  pub no_first : pair ≡ None → o ≡ Greater
+  pub no_second : (x : Result (Bor (List ℕ) × Item) Error) → pair ≡ Some x → other ≡ None → o ≡ Less
+  pub both : (g f : Bor (List ℕ) × Item) → pair ≡ Some (Ok g) → other ≡ Some (Ok f) → o ≡ slice_cmp nat_cmp g.0.now f.0.now
 
-  pub second_ended : (whole : List Member) (r : Result (Bor (List ℕ) × Item) Error) → HasMergedLeft form it whole → GivesPair it.first (Some r) first' → GivesPair it.second None second' → TakesMerged form whole (Some r) (record { first = first'; second = it.second })
-  second_ended whole r h n m =
-      let none = no_member form h.seconds second' (m.takes form h.seconds h.second_left) in
-      let all : members h.firsts ≡ whole = ap (λ qs. merged (members h.firsts) (members qs)) (sym none) ∙ h.joined in
-      subst (λ ps. TakesMerged form ps (Some r) (record { first = first'; second = it.second })) all
-      (first_alone h.firsts r (subst (HasPairsLeft form it.second) none h.second_left) (n.takes form h.firsts h.first_left))
+module _ (form : Form) (first second first' second' : PairIter) (r' s' : Given) where
+  -- the first object's pair is next
+  take_first : (ps qs : Pairs) (r s : Given) → AreKeys (keys qs) → OrdersNext r s Less → TakesPair form ps r first → TakesPair form qs s second → GivesPair first r' first'
+      → TakesMerged form (merged (members ps) (members qs)) r (record { first = first'; second = second; pair = r'; other = s })
+  take_first no_pairs qs None s are order h i n = absurd (cc (order.no_first refl))
+  take_first no_pairs qs (Some r) s are order h i n = absurd h
+  take_first (pair k t ps) qs None s are order h i n = absurd h
+  take_first (pair k t ps) qs (Some (Err e)) s are order h i n = absurd h
+  take_first (pair k t ps) no_pairs (Some (Ok g)) None are order h i n =
+      (h.0, h.1, record { firsts = ps; seconds = no_pairs; first_left = n.takes form ps h.2; second_left = i; second_keys = are; joined = refl })
+  take_first (pair k t ps) no_pairs (Some (Ok g)) (Some s) are order h i n = absurd i
+  take_first (pair k t ps) (pair l u qs) (Some (Ok g)) None are order h i n = absurd i
+  take_first (pair k t ps) (pair l u qs) (Some (Ok g)) (Some (Err e)) are order h i n = absurd i
+  take_first (pair k t ps) (pair l u qs) (Some (Ok g)) (Some (Ok f)) are order h i n =
+      let e : slice_cmp nat_cmp k l ≡ Less = sym (rw (h.0, i.0) at (order.both g f refl refl)) in
+      rw (merged_less k t l u (members ps) (members qs) (rising_members (pair l u qs) are) e)
+      (h.0, h.1, record { firsts = ps; seconds = pair l u qs; first_left = n.takes form ps h.2; second_left = i; second_keys = are; joined = refl })
 
-  -- the order of two pairs that were read
-  abbrev Compares : Result (Bor (List ℕ) × Item) Error → Result (Bor (List ℕ) × Item) Error → Ordering → Type 0
-  Compares r s o = (g f : Bor (List ℕ) × Item) → r ≡ Ok g → s ≡ Ok f → o ≡ slice_cmp nat_cmp g.0.now f.0.now
+  -- both have the next key
+  take_both : (ps qs : Pairs) (r s : Given) → AreKeys (keys qs) → OrdersNext r s Equal → TakesPair form ps r first → TakesPair form qs s second → GivesPair first r' first' → GivesPair second s' second'
+      → TakesMerged form (merged (members ps) (members qs)) s (record { first = first'; second = second'; pair = r'; other = s' })
+  take_both no_pairs qs None s are order h i n m = absurd (cc (order.no_first refl))
+  take_both no_pairs qs (Some r) s are order h i n m = absurd h
+  take_both (pair k t ps) qs None s are order h i n m = absurd h
+  take_both (pair k t ps) qs (Some (Err e)) s are order h i n m = absurd h
+  take_both (pair k t ps) no_pairs (Some (Ok g)) None are order h i n m = absurd (cc (order.no_second (Ok g) refl refl))
+  take_both (pair k t ps) no_pairs (Some (Ok g)) (Some s) are order h i n m = absurd i
+  take_both (pair k t ps) (pair l u qs) (Some (Ok g)) None are order h i n m = absurd i
+  take_both (pair k t ps) (pair l u qs) (Some (Ok g)) (Some (Err e)) are order h i n m = absurd i
+  take_both (pair k t ps) (pair l u qs) (Some (Ok g)) (Some (Ok f)) are order h i n m =
+      let e : slice_cmp nat_cmp k l ≡ Equal = sym (rw (h.0, i.0) at (order.both g f refl refl)) in
+      rw (merged_equal k t l u (members ps) (members qs) (rising_members (pair l u qs) are) e)
+      (i.0 ∙ sym (equal_keys k l e), i.1, record { firsts = ps; seconds = qs; first_left = n.takes form ps h.2; second_left = m.takes form qs i.2; second_keys = are.2; joined = refl })
 
-  less : (ps qs : Pairs) (r s : Result (Bor (List ℕ) × Item) Error) → HasPairsLeft form it.second qs → Compares r s Less → TakesPair form ps (Some r) first' → TakesPair form qs (Some s) second' → TakesMerged form (merged (members ps) (members qs)) (Some r) (record { first = first'; second = it.second })
-  less (pair k t ps) (pair l u qs) (Ok g) (Ok f) left order h i =
-      let e : slice_cmp nat_cmp k l ≡ Less = sym (rw (h.0, i.0) at (order g f refl refl)) in
-      rw (merged_less k t l u (members ps) (members qs) (member_keys_rise form it.second (pair l u qs) left) e)
-      (h.0, h.1, record { firsts = ps; seconds = pair l u qs; first_left = h.2; second_left = left; joined = refl })
-  less no_pairs qs r s left order h i = absurd h
-  less (pair k t ps) no_pairs r s left order h i = absurd i
-  less (pair k t ps) (pair l u qs) (Err e) s left order h i = absurd h
-  less (pair k t ps) (pair l u qs) (Ok g) (Err e) left order h i = absurd i
+  -- the second object's pair is next
+  take_second : (ps qs : Pairs) (r s : Given) → AreKeys (keys qs) → OrdersNext r s Greater → TakesPair form ps r first → TakesPair form qs s second → GivesPair second s' second'
+      → TakesMerged form (merged (members ps) (members qs)) s (record { first = first; second = second'; pair = r; other = s' })
+  take_second no_pairs qs (Some r) s are order h i m = absurd h
+  take_second no_pairs no_pairs None None are order h i m =
+      record { firsts = no_pairs; seconds = no_pairs; first_left = h; second_left = m.takes form no_pairs i; second_keys = are; joined = refl }
+  take_second no_pairs no_pairs None (Some s) are order h i m = absurd i
+  take_second no_pairs (pair l u qs) None None are order h i m = absurd i
+  take_second no_pairs (pair l u qs) None (Some (Err e)) are order h i m = absurd i
+  take_second no_pairs (pair l u qs) None (Some (Ok f)) are order h i m =
+      rw (merged_none (members (pair l u qs)) (rising_members (pair l u qs) are))
+      (i.0, i.1, record { firsts = no_pairs; seconds = qs; first_left = h; second_left = m.takes form qs i.2; second_keys = are.2; joined = merged_none (members qs) (rising_members qs are.2) })
+  take_second (pair k t ps) qs None s are order h i m = absurd h
+  take_second (pair k t ps) qs (Some (Err e)) s are order h i m = absurd h
+  take_second (pair k t ps) no_pairs (Some (Ok g)) None are order h i m = absurd (cc (order.no_second (Ok g) refl refl))
+  take_second (pair k t ps) no_pairs (Some (Ok g)) (Some s) are order h i m = absurd i
+  take_second (pair k t ps) (pair l u qs) (Some (Ok g)) None are order h i m = absurd i
+  take_second (pair k t ps) (pair l u qs) (Some (Ok g)) (Some (Err e)) are order h i m = absurd i
+  take_second (pair k t ps) (pair l u qs) (Some (Ok g)) (Some (Ok f)) are order h i m =
+      let e : slice_cmp nat_cmp k l ≡ Greater = sym (rw (h.0, i.0) at (order.both g f refl refl)) in
+      rw (merged_greater k t l u (members ps) (members qs) (rising_members (pair l u qs) are) e)
+      (i.0, i.1, record { firsts = pair k t ps; seconds = qs; first_left = h; second_left = m.takes form qs i.2; second_keys = are.2; joined = refl })
 
-  equal : (ps qs : Pairs) (r s : Result (Bor (List ℕ) × Item) Error) → HasPairsLeft form it.second qs → Compares r s Equal → TakesPair form ps (Some r) first' → TakesPair form qs (Some s) second' → TakesMerged form (merged (members ps) (members qs)) (Some s) (record { first = first'; second = second' })
-  equal (pair k t ps) (pair l u qs) (Ok g) (Ok f) left order h i =
-      let e : slice_cmp nat_cmp k l ≡ Equal = sym (rw (h.0, i.0) at (order g f refl refl)) in
-      rw (merged_equal k t l u (members ps) (members qs) (member_keys_rise form it.second (pair l u qs) left) e)
-      (i.0 ∙ sym (equal_keys k l e), i.1, record { firsts = ps; seconds = qs; first_left = h.2; second_left = i.2; joined = refl })
-  equal no_pairs qs r s left order h i = absurd h
-  equal (pair k t ps) no_pairs r s left order h i = absurd i
-  equal (pair k t ps) (pair l u qs) (Err e) s left order h i = absurd h
-  equal (pair k t ps) (pair l u qs) (Ok g) (Err e) left order h i = absurd i
+module _ (form : Form) (it : MergedPairs) (whole : List Member) (h : HasMergedLeft form it whole) (first' second' : PairIter) (r' s' : Given) where
+  pub first_taken : OrdersNext it.pair it.other Less → GivesPair it.first r' first' → TakesMerged form whole it.pair (record { first = first'; second = it.second; pair = r'; other = it.other })
+  first_taken order n =
+      subst (λ ps. TakesMerged form ps it.pair (record { first = first'; second = it.second; pair = r'; other = it.other })) h.joined
+      (take_first form it.first it.second first' second' r' s' h.firsts h.seconds it.pair it.other h.second_keys order h.first_left h.second_left n)
 
-  greater : (ps qs : Pairs) (r s : Result (Bor (List ℕ) × Item) Error) → HasPairsLeft form it.first ps → HasPairsLeft form it.second qs → Compares r s Greater → TakesPair form ps (Some r) first' → TakesPair form qs (Some s) second' → TakesMerged form (merged (members ps) (members qs)) (Some s) (record { first = it.first; second = second' })
-  greater (pair k t ps) (pair l u qs) (Ok g) (Ok f) right left order h i =
-      let e : slice_cmp nat_cmp k l ≡ Greater = sym (rw (h.0, i.0) at (order g f refl refl)) in
-      rw (merged_greater k t l u (members ps) (members qs) (member_keys_rise form it.second (pair l u qs) left) e)
-      (i.0, i.1, record { firsts = pair k t ps; seconds = qs; first_left = right; second_left = i.2; joined = refl })
-  greater no_pairs qs r s right left order h i = absurd h
-  greater (pair k t ps) no_pairs r s right left order h i = absurd i
-  greater (pair k t ps) (pair l u qs) (Err e) s right left order h i = absurd h
-  greater (pair k t ps) (pair l u qs) (Ok g) (Err e) right left order h i = absurd i
+  pub both_taken : OrdersNext it.pair it.other Equal → GivesPair it.first r' first' → GivesPair it.second s' second' → TakesMerged form whole it.other (record { first = first'; second = second'; pair = r'; other = s' })
+  both_taken order n m =
+      subst (λ ps. TakesMerged form ps it.other (record { first = first'; second = second'; pair = r'; other = s' })) h.joined
+      (take_both form it.first it.second first' second' r' s' h.firsts h.seconds it.pair it.other h.second_keys order h.first_left h.second_left n m)
 
-  module _ (whole : List Member) (r s : Result (Bor (List ℕ) × Item) Error) (h : HasMergedLeft form it whole) (n : GivesPair it.first (Some r) first') (m : GivesPair it.second (Some s) second') where
-    pub first_taken : Compares r s Less → TakesMerged form whole (Some r) (record { first = first'; second = it.second })
-    first_taken order =
-        subst (λ ps. TakesMerged form ps (Some r) (record { first = first'; second = it.second })) h.joined
-        (less h.firsts h.seconds r s h.second_left order (n.takes form h.firsts h.first_left) (m.takes form h.seconds h.second_left))
-
-    pub both_taken : Compares r s Equal → TakesMerged form whole (Some s) (record { first = first'; second = second' })
-    both_taken order =
-        subst (λ ps. TakesMerged form ps (Some s) (record { first = first'; second = second' })) h.joined
-        (equal h.firsts h.seconds r s h.second_left order (n.takes form h.firsts h.first_left) (m.takes form h.seconds h.second_left))
-
-    pub second_taken : Compares r s Greater → TakesMerged form whole (Some s) (record { first = it.first; second = second' })
-    second_taken order =
-        subst (λ ps. TakesMerged form ps (Some s) (record { first = it.first; second = second' })) h.joined
-        (greater h.firsts h.seconds r s h.first_left h.second_left order (n.takes form h.firsts h.first_left) (m.takes form h.seconds h.second_left))
+  pub second_taken : OrdersNext it.pair it.other Greater → GivesPair it.second s' second' → TakesMerged form whole it.other (record { first = it.first; second = second'; pair = it.pair; other = s' })
+  second_taken order m =
+      subst (λ ps. TakesMerged form ps it.other (record { first = it.first; second = second'; pair = it.pair; other = s' })) h.joined
+      (take_second form it.first it.second first' second' r' s' h.firsts h.seconds it.pair it.other h.second_keys order h.first_left h.second_left m)

@@ -11,6 +11,8 @@ ghost use Rattle.jsonb_raw.specs.ExistsLaws.{AllOfNoneAndAnyOfNone};
 ghost use Rattle.jsonb_raw.specs.DeletesLaws.{PairsAreGone};
 ghost use Rattle.jsonb_raw.specs.ObjectsLaws.{PickAndDeletePartObjects};
 ghost use Rattle.jsonb_raw.specs.OperatorLaws.{StripTwiceIsStrip, ContainsIsReflexive, ContainsIsTransitive, ConcatOfArraysIsAssociative, ConcatOfObjectsIsAssociative};
+ghost use Rattle.jsonb_raw.specs.OperatorLaws.{StripTwiceIsStrip, ContainsIsReflexive, ContainsIsTransitive};
+ghost use Rattle.jsonb_raw.specs.OperatorLaws.{ConcatOfArraysIsAssociative, ConcatOfObjectsIsAssociative};
 
 /// The place of no steps is the whole tree.
 pub fn no_steps_meet_the_whole()

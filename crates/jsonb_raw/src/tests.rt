@@ -17,7 +17,7 @@ mod operators;
 mod sets;
 
 use super::*;
-use jsonb_doc::{ArrayBuilder, Error};
+use jsonb_doc::Error;
 use jsonb_keypath::{KeyPath, KeyPaths, parse_key_paths};
 use std::alloc::Global;
 use std::borrow::CowStr;

@@ -1,6 +1,7 @@
 //! Worked rows: what is asked and made of whole documents.
 
 use super::*;
+use jsonb_doc::ArrayBuilder;
 
 // {"a":null,"b":[null]}
 const NULLS: &[u8] =

@@ -18,11 +18,14 @@ use jsonb_doc::{Error, Item, elements, pairs, root_item};
 impl RawJsonb<'_> {
     /// Whether the document contains the other one. It takes no memory.
     ///
-    /// An object contains an object whose every pair has a pair here with its key and a value that matches its own.
-    /// An array contains an array whose every element is matched by one here. Containers match by containing, other
-    /// values by being equal. An array also contains a null, a truth value, a number or a text that equals one of its
-    /// elements, and one of these four contains what it equals. Nothing else is contained, also no extension that is
-    /// a whole document. `InvalidJsonb` or `UnsupportedNumber` only where the bytes of a document don't decode.
+    /// - An object contains an object where each pair of the other has its key here, with a value that matches its own.
+    /// - An array contains an array where each element of the other is matched by an element here. It also contains a
+    ///   null, a truth value, a number or a text that equals one of its elements.
+    /// - One of these four contains what it equals.
+    ///
+    /// A part matches another where it contains it, if both are arrays or both objects, and else where they are equal by
+    /// value. Nothing else is contained, also no extension that is a whole document. `InvalidJsonb` or
+    /// `UnsupportedNumber` only where the bytes of a document don't decode.
     pub fn contains(&self, other: &RawJsonb<'_>) -> Result<bool, Error>
         ensures answer { (form other_form : Form) (tree wanted : Tree)
             → Decodes form (raw_bytes self.now) tree → Decodes other_form (raw_bytes other.now) wanted

@@ -1,4 +1,3 @@
-use Rattle.std.proofs.Common.{refl}
 use Rattle.std.proofs.lemmas.Result.{err_from_is_err_and}
 use Rattle.jsonb_doc.specs.Tree.{object, members, pairs_of}
 use Rattle.jsonb_doc.proofs.BuilderSteps.{HoldsFrontPairs, keys_rise, pairs_empty, pair_step, pairs_built}
@@ -25,15 +24,10 @@ pub loop-pair-init : goal.loop-pair-init
 loop-pair-init c = record {
   can = tt;
   finite = tt;
+  errors = rw c.into_iter-pair-iterator.ensures.into_iter_gives c.new-pair-items.ensures.errors;
   left = λ form ps qs d e. record {
     pairs = merged (members ps) (members qs);
-    left = record {
-      firsts = ps;
-      seconds = qs;
-      first_left = rw (c.into_iter-pair-iterator.ensures.into_iter_gives, c.new-pair-items.ensures.first) (rw c.in-Some.is at (c.in_ok-first.ensures.decodes form (object ps) d));
-      second_left = rw (c.into_iter-pair-iterator.ensures.into_iter_gives, c.new-pair-items.ensures.second) (rw c.in-Some-2.is at (c.in_ok-second.ensures.decodes form (object qs) e));
-      joined = refl;
-    };
+    left = rw c.into_iter-pair-iterator.ensures.into_iter_gives (c.new-pair-items.ensures.pairs form ps qs (rw c.in-Some.is at (c.in_ok-first.ensures.decodes form (object ps) d)) (rw c.in-Some-2.is at (c.in_ok-second.ensures.decodes form (object qs) e)));
     fact = pairs_empty form _ (merged (members ps) (members qs)) c.new-builder.ensures (merged_rising (members ps) (members qs) (keys_rise _ (decoded_members form c.args.bytes.now ps d)));
   };
 }
@@ -46,6 +40,7 @@ pub loop-pair-preserved : goal.loop-pair-preserved
 loop-pair-preserved c = record {
   can = tt;
   finite = tt;
+  errors = (c.in-Some-pair.ensures.steps.errors c.loop-pair.invariant.errors).1;
   left = λ form ps qs d e.
       SomeMerged-first form _ _ _ _ _ c.in_ok-key.was c.in-Some-pair.ensures.steps (c.loop-pair.invariant.left form ps qs d e)
       (λ value rest left stands fact. record {

@@ -1,36 +1,23 @@
-use Rattle.std.proofs.Common.{◌∙◌, sym}
-use Rattle.jsonb_raw.proofs.MergedLemmas.{first_ended, second_ended, first_taken, both_taken, second_taken}
+use Rattle.jsonb_raw.proofs.MergedLemmas.{first_taken, both_taken, second_taken}
 use Rattle.jsonb_raw.proofs.functions.operator.merge.MergedPairsIterator.next.Goals as goal
-
-pub returns-in_default-clause-steps : goal.returns-in_default-clause-steps
-returns-in_default-clause-steps c = record {
-  takes = λ form ps h. first_ended form c.args.self.now _ _ ps _ h (rw c.in_default.is at c.next.ensures.steps) c.next-in_default.ensures.steps;
-  errors = c.next-in_default.ensures.steps.errors;
-}
-
-pub returns-in_default-next-clause-steps : goal.returns-in_default-next-clause-steps
-returns-in_default-next-clause-steps c = record {
-  takes = λ form ps h. second_ended form c.args.self.now _ _ ps _ h c.in-Some.ensures.steps c.in_default-next.ensures.steps;
-  errors = c.in-Some.ensures.steps.errors;
-}
 
 pub returns-in-Less-clause-steps : goal.returns-in-Less-clause-steps
 returns-in-Less-clause-steps c = record {
-  takes = λ form ps h. first_taken form c.args.self.now _ _ ps _ _ h c.in-Some.ensures.steps c.in-Some-next.ensures.steps
-      (λ g f p q. sym c.in-Less.is ∙ c.pair_order.ensures g f p q);
-  errors = c.in-Some.ensures.steps.errors;
+  takes = λ form ps h. first_taken form c.args.self.now ps h _ c.args.self.now.second _ c.args.self.now.other
+      (record { no_first = c.in-Less.ensures.no_first; no_second = c.in-Less.ensures.no_second; both = c.in-Less.ensures.both }) c.next-self.ensures.steps;
+  errors = λ e. (e.0, (c.next-self.ensures.steps.errors, e.1));
 }
 
 pub returns-in-Equal-clause-steps : goal.returns-in-Equal-clause-steps
 returns-in-Equal-clause-steps c = record {
-  takes = λ form ps h. both_taken form c.args.self.now _ _ ps _ _ h c.in-Some.ensures.steps c.in-Some-next.ensures.steps
-      (λ g f p q. sym c.in-Equal.is ∙ c.pair_order.ensures g f p q);
-  errors = c.in-Some-next.ensures.steps.errors;
+  takes = λ form ps h. both_taken form c.args.self.now ps h _ _ _ _
+      (record { no_first = c.in-Equal.ensures.no_first; no_second = c.in-Equal.ensures.no_second; both = c.in-Equal.ensures.both }) c.next-self-in-Equal.ensures.steps c.next-self-in-Equal-2.ensures.steps;
+  errors = λ e. (e.1, (c.next-self-in-Equal.ensures.steps.errors, c.next-self-in-Equal-2.ensures.steps.errors));
 }
 
 pub returns-in-Greater-clause-steps : goal.returns-in-Greater-clause-steps
 returns-in-Greater-clause-steps c = record {
-  takes = λ form ps h. second_taken form c.args.self.now _ _ ps _ _ h c.in-Some.ensures.steps c.in-Some-next.ensures.steps
-      (λ g f p q. sym c.in-Greater.is ∙ c.pair_order.ensures g f p q);
-  errors = c.in-Some-next.ensures.steps.errors;
+  takes = λ form ps h. second_taken form c.args.self.now ps h c.args.self.now.first _ c.args.self.now.pair _
+      (record { no_first = c.in-Greater.ensures.no_first; no_second = c.in-Greater.ensures.no_second; both = c.in-Greater.ensures.both }) c.next-self-in-Greater.ensures.steps;
+  errors = λ e. (e.1, (e.0, c.next-self-in-Greater.ensures.steps.errors));
 }
