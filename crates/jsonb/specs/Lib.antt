@@ -7,3 +7,12 @@ pub mod PathOrderLaws
 pub mod Positions
 pub mod LevelTable
 pub mod PathLaws
+pub mod Related
+pub mod Values
+pub mod Compare
+pub mod Preorder
+pub mod ItemSteps
+pub mod PathArithmetic
+pub mod Meaning
+pub mod SelectorAnswers
+pub mod Selection

@@ -7,12 +7,14 @@
 pub mod laws;
 pub mod parser;
 pub mod path;
+pub mod selector;
 
 pub use self::parser::parse_json_path;
 pub use self::path::{
     ArrayIndex, BinaryOperator, Expr, Index, JsonPath, Path, PathValue, RecursiveLevel,
     RecursiveLevelEnd, UnaryOperator,
 };
+pub use self::selector::Selector;
 pub use jsonb_doc::{
     ArithmeticFault, ArrayBuilder, Date, Decimal64, Decimal128, ElementIter, Error, ExtensionValue,
     Interval, Item, KeyIter, Number, ObjectBuilder, PairIter, Timestamp, TimestampTz, ValueIter,

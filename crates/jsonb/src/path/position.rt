@@ -36,6 +36,25 @@ impl ArrayIndex {
     }
 }
 
+impl ArrayIndex {
+    /// The positions that the entry means in an array of `length` elements, from the first number up to below
+    /// the second.
+    pub(crate) fn bounds(&self, length: usize) -> (usize, usize)
+        ensures within { (result.0 ≤ result.1) × (result.1 ≤ length) }
+        ensures meant { (k : ℕ) → k < length → ((result.0 ≤ k) × (k < result.1)) ↔ IsPosition (entry_view self.now) length k }
+    {
+        let (first, last) = match self {
+            ArrayIndex::Index(index) => {
+                let at = index.position(length);
+                (at, at)
+            }
+            ArrayIndex::Slice((first, last)) => (first.position(length), last.position(length)),
+        };
+        let start = first_not_below(first, length);
+        (start, first_above(last, length).max(start))
+    }
+}
+
 impl Index {
     // The number of the place in an array of this length.
     fn position(&self, length: usize) -> i128

@@ -1,0 +1,164 @@
+//! The places of an item's children.
+
+ghost use Rattle.std.specs.Prelude.{◌≡◌, ℕ, ◌++◌, ◌∷◌, [], map, List, Ok, IfErr, OnOk, IsOkAnd};
+ghost use Rattle.jsonb_doc.specs.Answer.{Gives, SameOption, WantsMemory};
+ghost use Rattle.jsonb_doc.specs.Spots.{Marks, HasSpotsLeft};
+ghost use Rattle.jsonb_doc.specs.Tree.{Tree};
+ghost use Rattle.jsonb.specs.PathViews.{entry_view};
+ghost use Rattle.jsonb.specs.Related.{AllRelated};
+ghost use Rattle.jsonb.specs.ItemSteps.{elements_of, values_of, field_step, values_step, elements_step, indices_step, picked_by, picked};
+ghost use Rattle.jsonb.specs.Selection.{option_spots};
+
+use super::document::Mode;
+use crate::path::ArrayIndex;
+use jsonb_doc::{Error, Item, Spot, SpotIter, child_spots, field_spot, spot_item};
+use std::alloc::Global;
+
+/// The elements of an array. `None` is for another item.
+pub(crate) fn elements<'a>(bytes: &'a [u8], item: Spot) -> Result<Option<SpotIter<'a>>, Error>
+    ensures { (t : Tree) → Marks bytes.now item t
+        → IsOkAnd result (λ found. SameOption (HasSpotsLeft bytes.now) found (elements_of t)) }
+{
+    match spot_item(bytes, item)? {
+        Item::Array(_) => child_spots(bytes, item),
+        _ => Ok(None),
+    }
+}
+
+/// The values of an object, in the order of their keys. `None` is for another item.
+pub(crate) fn values<'a>(bytes: &'a [u8], item: Spot) -> Result<Option<SpotIter<'a>>, Error>
+    ensures { (t : Tree) → Marks bytes.now item t
+        → IsOkAnd result (λ found. SameOption (HasSpotsLeft bytes.now) found (values_of t)) }
+{
+    match spot_item(bytes, item)? {
+        Item::Object(_) => child_spots(bytes, item),
+        _ => Ok(None),
+    }
+}
+
+/// One more place.
+pub(crate) fn push_spot(queue: &mut Vec<Spot>, spot: Spot) -> Result<(), Error>
+    ensures ok { OnOk result (queue.new.items ≡ queue.old.items ++ spot ∷ []) }
+    ensures err { IfErr result WantsMemory }
+{
+    queue.push(spot)?;
+    Ok(())
+}
+
+/// The places that are left in an iterator.
+pub(crate) fn push_spots(spots: SpotIter<'_>, queue: &mut Vec<Spot>) -> Result<(), Error>
+    ensures { (bytes : List ℕ) (ts before : List Tree) → HasSpotsLeft bytes spots.entry ts → AllRelated (Marks bytes) queue.old.items before
+        → Gives (λ _ us. AllRelated (Marks bytes) queue.new.items (before ++ us)) WantsMemory result (Ok ts) }
+{
+    for spot in spots {
+        push_spot(queue, spot?)?;
+    }
+    Ok(())
+}
+
+/// The value under a key of an object. `None` is where there is none, in lax mode.
+pub(crate) fn field(
+    bytes: &[u8],
+    mode: Mode,
+    name: &str,
+    item: Spot,
+) -> Result<Option<Spot>, Error>
+    ensures { (t : Tree) → Marks bytes.now item t
+        → Gives (λ found us. AllRelated (Marks bytes.now) (option_spots found) us) WantsMemory result (field_step mode name.now t) }
+{
+    match field_spot(bytes, item, name)? {
+        Some(value) => Ok(Some(value)),
+        None => match mode {
+            Mode::Lax => Ok(None),
+            Mode::Strict => Err(Error::StrictPath),
+        },
+    }
+}
+
+/// The values of an object, behind what the queue has.
+pub(crate) fn push_values(
+    bytes: &[u8],
+    mode: Mode,
+    item: Spot,
+    queue: &mut Vec<Spot>,
+) -> Result<(), Error>
+    ensures { (t : Tree) (before : List Tree) → Marks bytes.now item t → AllRelated (Marks bytes.now) queue.old.items before
+        → Gives (λ _ ts. AllRelated (Marks bytes.now) queue.new.items (before ++ ts)) WantsMemory result (values_step mode t) }
+{
+    match values(bytes, item)? {
+        Some(values) => push_spots(values, queue),
+        None => match mode {
+            Mode::Lax => Ok(()),
+            Mode::Strict => Err(Error::StrictPath),
+        },
+    }
+}
+
+/// The elements of an array, behind what the queue has.
+pub(crate) fn push_elements(
+    bytes: &[u8],
+    mode: Mode,
+    item: Spot,
+    queue: &mut Vec<Spot>,
+) -> Result<(), Error>
+    ensures { (t : Tree) (before : List Tree) → Marks bytes.now item t → AllRelated (Marks bytes.now) queue.old.items before
+        → Gives (λ _ ts. AllRelated (Marks bytes.now) queue.new.items (before ++ ts)) WantsMemory result (elements_step mode t) }
+{
+    match elements(bytes, item)? {
+        Some(elements) => push_spots(elements, queue),
+        None => match mode {
+            Mode::Lax => push_spot(queue, item),
+            Mode::Strict => Err(Error::StrictPath),
+        },
+    }
+}
+
+/// The elements at the positions of the entries, behind what the queue has. The array is walked once.
+pub(crate) fn push_positions(
+    alloc: Global,
+    bytes: &[u8],
+    mode: Mode,
+    entries: &[ArrayIndex],
+    item: Spot,
+    queue: &mut Vec<Spot>,
+) -> Result<(), Error>
+    ensures { (t : Tree) (before : List Tree) → Marks bytes.now item t → AllRelated (Marks bytes.now) queue.old.items before
+        → Gives (λ _ ts. AllRelated (Marks bytes.now) queue.new.items (before ++ ts)) WantsMemory result (indices_step mode (map entry_view entries.now) t) }
+{
+    match elements(bytes, item)? {
+        Some(elements) => {
+            let mut spots = Vec::new(alloc);
+            push_spots(elements, &mut spots)?;
+            push_entries(entries, &spots, queue)
+        }
+        None => match mode {
+            Mode::Lax => Ok(()),
+            Mode::Strict => Err(Error::StrictPath),
+        },
+    }
+}
+
+// The elements at the positions of one entry after the other.
+fn push_entries(
+    entries: &[ArrayIndex],
+    elements: &[Spot],
+    queue: &mut Vec<Spot>,
+) -> Result<(), Error>
+    ensures { (bytes : List ℕ) (ts before : List Tree) → AllRelated (Marks bytes) elements.now ts → AllRelated (Marks bytes) queue.old.items before
+        → Gives (λ _ us. AllRelated (Marks bytes) queue.new.items (before ++ us)) WantsMemory result (Ok (picked (map entry_view entries.now) ts)) }
+{
+    for entry in entries {
+        push_entry(entry, elements, queue)?;
+    }
+    Ok(())
+}
+
+// The elements at the positions of one entry, ascending.
+fn push_entry(entry: &ArrayIndex, elements: &[Spot], queue: &mut Vec<Spot>) -> Result<(), Error>
+    ensures { (bytes : List ℕ) (ts before : List Tree) → AllRelated (Marks bytes) elements.now ts → AllRelated (Marks bytes) queue.old.items before
+        → Gives (λ _ us. AllRelated (Marks bytes) queue.new.items (before ++ us)) WantsMemory result (Ok (picked_by (entry_view entry.now) ts)) }
+{
+    let (start, end) = entry.bounds(elements.len());
+    queue.extend_from_slice(&elements[start..end])?;
+    Ok(())
+}

@@ -1,0 +1,25 @@
+//! The places that steps have found.
+
+ghost use Rattle.std.specs.Prelude.{◌≡◌};
+ghost use Rattle.jsonb.specs.Selection.{found_spots};
+
+use jsonb_doc::Spot;
+use std::slice;
+
+/// The places of a list of items. One alone needs no memory.
+#[derive(Drop)]
+pub(crate) enum Found {
+    One(Spot),
+    Many(Vec<Spot>),
+}
+
+impl Found {
+    pub(crate) fn as_slice(&self) -> &[Spot]
+        ensures { result.now ≡ found_spots self.now }
+    {
+        match self {
+            Found::One(spot) => slice::from_ref(spot),
+            Found::Many(spots) => spots.as_slice(),
+        }
+    }
+}
