@@ -14,3 +14,8 @@ pub mod GrammarShape
 pub mod PathLaw
 pub mod Bounds
 pub mod ExpressionReadsSome
+pub mod Outcomes
+pub mod Progress
+pub mod ItemKinds
+pub mod PickLemmas
+pub mod LevelLemmas
