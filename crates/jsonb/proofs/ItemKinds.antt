@@ -1,5 +1,5 @@
 -- What the kind of an item says of its tree.
-use Rattle.std.proofs.Common.{◌≡◌, ℕ, List, [], ◌∷◌, Option, Some, None, refl, sym, ap, subst}
+use Rattle.std.proofs.Common.{◌≡◌, ℕ, List, [], ◌∷◌, flat_map, Option, Some, None, refl, sym, ap, subst}
 use Rattle.std.specs.Borrow.{Bor}
 use Rattle.jsonb_doc.specs.Tree as tree
 use Rattle.jsonb_doc.specs.Tree.{Tree, children_of}
@@ -34,3 +34,12 @@ no_values (String s) t n h = rw h refl
 no_values (Extension x) t n h = rw h refl
 no_values (Array bytes) t n h = rw h.1 refl
 no_values (Object bytes) t n h = absurd (n bytes refl)
+
+-- the values of an array, and of another item
+pub array_values : (t : Tree) (ts : List Tree) → elements_of t ≡ Some ts → values_of_item t ≡ flat_map value_of_item ts
+array_values (tree.array us) ts is = ap (flat_map value_of_item) (let e : tree.elements us ≡ ts = cc in e)
+array_values _ ts is = cc
+
+pub other_values : (t : Tree) → elements_of t ≡ None → values_of_item t ≡ value_of_item t
+other_values (tree.array us) is = cc
+other_values _ is = refl

@@ -92,6 +92,10 @@ singles_start Left Done ts before l d = record { rest = ts; given = before; left
 
 -- ---- over a list
 
+-- what stands for no place of a list
+abbrev pub no_spot : Spot
+no_spot = record { kind = 0; start = 0; end = 0 }
+
 module _ {A B : Type 0} (R : A → B → Type 0) (xs : List A) where
   pub list_first : (i : ℕ) (d : A) → i < length xs → (rest : List B) → AllRelated R (drop i xs) rest → First (AllRelated R (drop (i + 1) xs)) (R (get_or xs i d)) rest
   list_first i d h rest a = go rest (subst (λ l. AllRelated R l rest) (drop-cons xs i d h ∙ ap (λ n. get_or xs i d ∷ drop n xs) (sym (add-one i))) a)

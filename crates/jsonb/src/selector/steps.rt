@@ -107,14 +107,27 @@ pub(crate) fn step_list<'a>(
 {
     match items {
         Found::One(item) => step_item(alloc, mode, step, document, item),
-        Found::Many(items) => {
-            let mut queue = Vec::new(alloc);
-            for item in &items {
-                push_step(alloc, mode, step, document, *item, &mut queue)?;
-            }
-            Ok(Found::Many(queue))
-        }
+        Found::Many(items) => step_many(alloc, mode, step, document, &items),
     }
+}
+
+/// One step of each of many items, in order.
+#[cycle(steps)]
+fn step_many<'a>(
+    alloc: Global,
+    mode: Mode,
+    step: &'a Path<'a>,
+    document: Document<'a>,
+    items: &[Spot],
+) -> Result<Found, Error>
+    ensures { (top : Tree) (ts : List Tree) → HasTree document.entry top → AllRelated (IsAt document.entry) items.now ts
+        → Gives (λ found us. AllRelated (IsAt document.entry) (found_spots found) us) WantsMemory result (joined (step_meaning mode (step_view step.now) top) ts) }
+{
+    let mut queue = Vec::new(alloc);
+    for item in items {
+        push_step(alloc, mode, step, document, *item, &mut queue)?;
+    }
+    Ok(Found::Many(queue))
 }
 
 /// Several steps, one after the other, from one item.

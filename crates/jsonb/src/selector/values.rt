@@ -1,6 +1,6 @@
 //! The values of items.
 
-ghost use Rattle.std.specs.Prelude.{◌≡◌, ℕ, ◌++◌, List, Ok, map, flat_map};
+ghost use Rattle.std.specs.Prelude.{◌≡◌, ◌++◌, ◌∷◌, [], List, Ok, OnOk, IfErr, map, flat_map};
 ghost use Rattle.jsonb_doc.specs.Answer.{Gives, WantsMemory};
 ghost use Rattle.jsonb_doc.specs.Spots.{Marks, HasSpotsLeft};
 ghost use Rattle.jsonb_doc.specs.Tree.{Tree};
@@ -25,14 +25,24 @@ pub(crate) fn found_values<'a>(
 {
     match items {
         Found::One(item) => item_values(alloc, bytes, item),
-        Found::Many(items) => {
-            let mut values = Vec::new(alloc);
-            for item in &items {
-                push_values(bytes, *item, &mut values)?;
-            }
-            Ok(Values::Many(values))
-        }
+        Found::Many(items) => many_values(alloc, bytes, &items),
     }
+}
+
+/// The values of many items.
+fn many_values<'a>(
+    alloc: Global,
+    bytes: &'a [u8],
+    items: &[Spot],
+) -> Result<Values<'a>, Error>
+    ensures { (ts : List Tree) → AllRelated (Marks bytes.now) items.now ts
+        → Gives (λ values vs. values_view values ≡ vs) WantsMemory result (Ok (flat_map values_of_item ts)) }
+{
+    let mut values = Vec::new(alloc);
+    for item in items {
+        push_values(bytes, *item, &mut values)?;
+    }
+    Ok(Values::Many(values))
 }
 
 /// The values of one item. One value alone needs no memory.
@@ -40,14 +50,16 @@ fn item_values<'a>(alloc: Global, bytes: &'a [u8], item: Spot) -> Result<Values<
     ensures { (t : Tree) → Marks bytes.now item t
         → Gives (λ values vs. values_view values ≡ vs) WantsMemory result (Ok (values_of_item t)) }
 {
-    if let Some(elements) = elements(bytes, item)? {
-        let mut values = Vec::new(alloc);
-        push_each(bytes, elements, &mut values)?;
-        return Ok(Values::Many(values));
-    }
-    match item_operand(spot_item(bytes, item)?) {
-        Some(value) => Ok(Values::One(value)),
-        None => Ok(Values::Many(Vec::new(alloc))),
+    match elements(bytes, item)? {
+        Some(elements) => {
+            let mut values = Vec::new(alloc);
+            push_each(bytes, elements, &mut values)?;
+            Ok(Values::Many(values))
+        }
+        None => {
+            let value = item_operand(spot_item(bytes, item)?);
+            Ok(Values::at_most_one(alloc, value))
+        }
     }
 }
 
@@ -90,8 +102,17 @@ fn push_value<'a>(
     ensures { (t : Tree) → Marks bytes.now item t
         → Gives (λ _ vs. map operand_value values.new.items ≡ map operand_value values.old.items ++ vs) WantsMemory result (Ok (value_of_item t)) }
 {
-    if let Some(value) = item_operand(spot_item(bytes, item)?) {
-        values.push(value)?;
+    match item_operand(spot_item(bytes, item)?) {
+        Some(value) => push_operand(values, value),
+        None => Ok(()),
     }
+}
+
+/// One more value.
+fn push_operand<'a>(values: &mut Vec<Operand<'a>>, value: Operand<'a>) -> Result<(), Error>
+    ensures ok { OnOk result (values.new.items ≡ values.old.items ++ value.entry ∷ []) }
+    ensures err { IfErr result WantsMemory }
+{
+    values.push(value)?;
     Ok(())
 }
