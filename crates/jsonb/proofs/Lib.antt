@@ -19,3 +19,5 @@ pub mod Progress
 pub mod ItemKinds
 pub mod PickLemmas
 pub mod LevelLemmas
+pub mod PathNodes
+pub mod StepLemmas

@@ -142,3 +142,9 @@ module _ {A V : Type 0} {S : A → List Tree → Type 0} {r : Outcome A} (mode :
   pub unlisted : (o : Option (List Tree)) → SameOption R None o → Gives S WantsMemory r (list_or mode otherwise None) → Gives S WantsMemory r (list_or mode otherwise o)
   unlisted (Some us) h g = absurd h
   unlisted None h g = g
+
+-- one part that was found
+pub found_one : {A V : Type 0} {S : A → List Tree → Type 0} {r : Outcome A} (mode : Mode) (otherwise : List Tree) (R : V → Tree → Type 0) (g : Tree → List Tree) (v : V) (o : Option Tree) →
+    SameOption R (Some v) o → ((u : Tree) → R v u → Gives S WantsMemory r (Ok (g u))) → Gives S WantsMemory r (list_or mode otherwise (option_map g o))
+found_one mode otherwise R g v (Some u) h go = go u h
+found_one mode otherwise R g v None h go = absurd h

@@ -7,9 +7,10 @@ ghost use Rattle.jsonb_doc.specs.Tree.{Tree};
 ghost use Rattle.jsonb.specs.PathViews.{entry_view};
 ghost use Rattle.jsonb.specs.Related.{AllRelated};
 ghost use Rattle.jsonb.specs.ItemSteps.{elements_of, values_of, field_step, values_step, elements_step, indices_step, picked_by, picked};
-ghost use Rattle.jsonb.specs.Selection.{option_spots};
+ghost use Rattle.jsonb.specs.Selection.{found_spots};
 
 use super::document::Mode;
+use super::found::Found;
 use crate::path::ArrayIndex;
 use jsonb_doc::{Error, Item, Spot, SpotIter, child_spots, field_spot, spot_item};
 use std::alloc::Global;
@@ -64,20 +65,41 @@ pub(crate) fn push_spots(spots: SpotIter<'_>, queue: &mut Vec<Spot>) -> Result<(
     Ok(())
 }
 
-/// The value under a key of an object. `None` is where there is none, in lax mode.
+/// The value under a key of an object.
 pub(crate) fn field(
+    alloc: Global,
     bytes: &[u8],
     mode: Mode,
     name: &str,
     item: Spot,
-) -> Result<Option<Spot>, Error>
+) -> Result<Found, Error>
     ensures { (t : Tree) → Marks bytes.now item t
-        → Gives (λ found us. AllRelated (Marks bytes.now) (option_spots found) us) WantsMemory result (field_step mode name.now t) }
+        → Gives (λ found us. AllRelated (Marks bytes.now) (found_spots found) us) WantsMemory result (field_step mode name.now t) }
 {
     match field_spot(bytes, item, name)? {
-        Some(value) => Ok(Some(value)),
+        Some(value) => Ok(Found::One(value)),
         None => match mode {
-            Mode::Lax => Ok(None),
+            Mode::Lax => Ok(Found::Many(Vec::new(alloc))),
+            Mode::Strict => Err(Error::StrictPath),
+        },
+    }
+}
+
+/// The value under a key of an object, behind what the queue has.
+pub(crate) fn push_field(
+    bytes: &[u8],
+    mode: Mode,
+    name: &str,
+    item: Spot,
+    queue: &mut Vec<Spot>,
+) -> Result<(), Error>
+    ensures { (t : Tree) (before : List Tree) → Marks bytes.now item t → AllRelated (Marks bytes.now) queue.old.items before
+        → Gives (λ _ ts. AllRelated (Marks bytes.now) queue.new.items (before ++ ts)) WantsMemory result (field_step mode name.now t) }
+{
+    match field_spot(bytes, item, name)? {
+        Some(value) => push_spot(queue, value),
+        None => match mode {
+            Mode::Lax => Ok(()),
             Mode::Strict => Err(Error::StrictPath),
         },
     }

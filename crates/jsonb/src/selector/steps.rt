@@ -10,7 +10,9 @@ ghost use Rattle.jsonb.specs.Related.{AllRelated};
 ghost use Rattle.jsonb.specs.Meaning.{step_meaning, steps_meaning, truth, operand_values, start};
 ghost use Rattle.jsonb.specs.Selection.{IsAt, HasTree, found_spots, values_view, IsKept};
 
-use super::children::{field, push_elements, push_if, push_positions, push_spot, push_values};
+use super::children::{
+    field, push_elements, push_field, push_if, push_positions, push_spot, push_values,
+};
 use super::document::{Document, Mode};
 use super::found::Found;
 use super::levels::push_levels;
@@ -46,15 +48,9 @@ fn push_step<'a>(
         ),
         Path::RecursiveDotWildcard(levels) => push_levels(document.bytes, *levels, 0, item, queue),
         Path::Root | Path::Current => push_spot(queue, item),
-        Path::DotField(name) | Path::ColonField(name) | Path::ObjectField(name) => match field(
-            document.bytes,
-            mode,
-            name.as_str(),
-            item,
-        )? {
-            Some(value) => push_spot(queue, value),
-            None => Ok(()),
-        },
+        Path::DotField(name) => push_field(document.bytes, mode, name.as_str(), item, queue),
+        Path::ColonField(name) => push_field(document.bytes, mode, name.as_str(), item, queue),
+        Path::ObjectField(name) => push_field(document.bytes, mode, name.as_str(), item, queue),
         Path::FilterExpr(e) => {
             let keeps = is_kept(alloc, mode, e, document, item)?;
             push_if(keeps, item, queue)
@@ -77,10 +73,9 @@ fn step_item<'a>(
 {
     match step {
         Path::Root | Path::Current => Ok(Found::One(item)),
-        Path::DotField(name) | Path::ColonField(name) | Path::ObjectField(name) => {
-            let value = field(document.bytes, mode, name.as_str(), item)?;
-            Ok(Found::at_most_one(alloc, value))
-        }
+        Path::DotField(name) => field(alloc, document.bytes, mode, name.as_str(), item),
+        Path::ColonField(name) => field(alloc, document.bytes, mode, name.as_str(), item),
+        Path::ObjectField(name) => field(alloc, document.bytes, mode, name.as_str(), item),
         Path::FilterExpr(e) => {
             let keeps = is_kept(alloc, mode, e, document, item)?;
             Ok(Found::at_most_one(alloc, keeps.then_some(item)))
