@@ -14,3 +14,4 @@ pub mod GrammarShape
 pub mod PathLaw
 pub mod Bounds
 pub mod ExpressionReadsSome
+pub mod SelectedParts

@@ -16,3 +16,4 @@ pub mod PathArithmetic
 pub mod Meaning
 pub mod SelectorAnswers
 pub mod Selection
+pub mod Selected

@@ -5,6 +5,7 @@
 
 mod children;
 mod document;
+mod documents;
 mod found;
 mod levels;
 mod operand;
