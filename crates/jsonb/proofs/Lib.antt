@@ -15,3 +15,8 @@ pub mod PathLaw
 pub mod Bounds
 pub mod ExpressionReadsSome
 pub mod SelectedParts
+pub mod Outcomes
+pub mod Progress
+pub mod ItemKinds
+pub mod PickLemmas
+pub mod LevelLemmas

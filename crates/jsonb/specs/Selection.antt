@@ -1,5 +1,5 @@
 -- What a path selects: places of the document, or what an expression makes.
-use Rattle.std.specs.Prelude.{◌≡◌, Bool, true, false, List, [], ◌∷◌, map, Option, Some, None, Ok, Err}
+use Rattle.std.specs.Prelude.{◌≡◌, Bool, true, false, List, [], ◌∷◌, map, Option, Some, None, Ok, Err, if◌then◌else◌}
 use Rattle.jsonb_doc.specs.Answer.{Outcome}
 use Rattle.jsonb_doc.specs.declared.error.Error.TheVariants.{InvalidJsonPath}
 use Rattle.jsonb_doc.specs.declared.spot.Spot.{Spot}
@@ -56,6 +56,10 @@ option_spots None = []
 abbrev pub found_spots : Found → List Spot
 found_spots (found.One spot) = spot ∷ []
 found_spots (found.Many v) = v.items
+
+-- the list of an item that a filter keeps, or does not
+abbrev pub IsKept : Tree → Bool → List Tree → Type 0
+IsKept t keeps ts = ts ≡ (if keeps then t ∷ [] else [])
 
 -- the part is the tree: an item, or an array of one
 abbrev pub IsPart : Form → Part → Tree → Type 0

@@ -10,6 +10,8 @@ mod found;
 mod levels;
 mod operand;
 mod part;
+mod steps;
+mod values;
 
 use self::document::Mode;
 use jsonb_raw::RawJsonb;

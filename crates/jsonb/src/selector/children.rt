@@ -1,6 +1,6 @@
 //! The places of an item's children.
 
-ghost use Rattle.std.specs.Prelude.{◌≡◌, ℕ, ◌++◌, ◌∷◌, [], map, List, Ok, IfErr, OnOk, IsOkAnd};
+ghost use Rattle.std.specs.Prelude.{◌≡◌, ℕ, ◌++◌, ◌∷◌, [], map, List, Ok, IfErr, OnOk, IsOkAnd, if◌then◌else◌};
 ghost use Rattle.jsonb_doc.specs.Answer.{Gives, SameOption, WantsMemory};
 ghost use Rattle.jsonb_doc.specs.Spots.{Marks, HasSpotsLeft};
 ghost use Rattle.jsonb_doc.specs.Tree.{Tree};
@@ -43,6 +43,14 @@ pub(crate) fn push_spot(queue: &mut Vec<Spot>, spot: Spot) -> Result<(), Error>
 {
     queue.push(spot)?;
     Ok(())
+}
+
+/// One more place, where the condition holds.
+pub(crate) fn push_if(condition: bool, spot: Spot, queue: &mut Vec<Spot>) -> Result<(), Error>
+    ensures { (bytes : List ℕ) (t : Tree) (before : List Tree) → Marks bytes spot t → AllRelated (Marks bytes) queue.old.items before
+        → Gives (λ _ us. AllRelated (Marks bytes) queue.new.items (before ++ us)) WantsMemory result (Ok (if condition then t ∷ [] else [])) }
+{
+    if condition { push_spot(queue, spot) } else { Ok(()) }
 }
 
 /// The places that are left in an iterator.

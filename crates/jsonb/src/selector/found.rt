@@ -1,9 +1,10 @@
 //! The places that steps have found.
 
 ghost use Rattle.std.specs.Prelude.{◌≡◌};
-ghost use Rattle.jsonb.specs.Selection.{found_spots};
+ghost use Rattle.jsonb.specs.Selection.{found_spots, option_spots};
 
 use jsonb_doc::Spot;
+use std::alloc::Global;
 use std::slice;
 
 /// The places of a list of items. One alone needs no memory.
@@ -14,6 +15,15 @@ pub(crate) enum Found {
 }
 
 impl Found {
+    pub(crate) fn at_most_one(alloc: Global, spot: Option<Spot>) -> Found
+        ensures { found_spots result ≡ option_spots spot }
+    {
+        match spot {
+            Some(spot) => Found::One(spot),
+            None => Found::Many(Vec::new(alloc)),
+        }
+    }
+
     pub(crate) fn as_slice(&self) -> &[Spot]
         ensures { result.now ≡ found_spots self.now }
     {

@@ -8,7 +8,7 @@ ghost use Rattle.jsonb.specs.PathViews.{levels_view};
 ghost use Rattle.jsonb.specs.Related.{AllRelated};
 ghost use Rattle.jsonb.specs.Preorder.{answer_at, preorder};
 
-use super::children::push_spot;
+use super::children::push_if;
 use crate::path::RecursiveLevel;
 use jsonb_doc::{Error, Spot, child_spots};
 
@@ -25,9 +25,7 @@ pub(crate) fn push_levels(
         → Gives (λ _ ts. AllRelated (Marks bytes.now) queue.new.items (before ++ ts)) WantsMemory result (Ok (preorder (option_map levels_view levels) n t)) }
 {
     let (is_taken, goes_on) = answer_at(levels, level);
-    if is_taken {
-        push_spot(queue, item)?;
-    }
+    push_if(is_taken, item, queue)?;
     if !goes_on {
         return Ok(());
     }

@@ -11,6 +11,7 @@ ghost use Rattle.jsonb.specs.Selection.{operand_value, values_view, option_value
 
 use crate::path::{BinaryOperator, PathValue};
 use jsonb_doc::{Item, Number};
+use std::alloc::Global;
 use std::cmp::Ordering;
 use std::slice;
 
@@ -32,6 +33,15 @@ pub(crate) enum Values<'a> {
 }
 
 impl<'a> Values<'a> {
+    pub(crate) fn at_most_one(alloc: Global, value: Option<Operand<'a>>) -> Values<'a>
+        ensures { values_view result ≡ option_values value.entry }
+    {
+        match value {
+            Some(value) => Values::One(value),
+            None => Values::Many(Vec::new(alloc)),
+        }
+    }
+
     pub(crate) fn as_slice(&self) -> &[Operand<'a>]
         ensures { map operand_value result.now ≡ values_view self.now }
     {
