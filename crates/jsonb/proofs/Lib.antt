@@ -20,3 +20,8 @@ pub mod Progress
 pub mod ItemKinds
 pub mod PickLemmas
 pub mod LevelLemmas
+pub mod CalculateLemmas
+pub mod Handed
+
+-- lemmas of the crates below, for the crates above
+pub use Rattle.jsonb_raw.proofs.Iterated

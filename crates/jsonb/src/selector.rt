@@ -3,6 +3,7 @@
 //! A selection keeps a list of places in the bytes. Each step makes the next list of the one before;
 //! no item is copied before it is handed out.
 
+mod calculate;
 mod children;
 mod document;
 mod documents;
