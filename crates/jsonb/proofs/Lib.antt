@@ -14,6 +14,7 @@ pub mod GrammarShape
 pub mod PathLaw
 pub mod Bounds
 pub mod ExpressionReadsSome
+pub mod SelectedParts
 pub mod Outcomes
 pub mod Progress
 pub mod ItemKinds
@@ -21,3 +22,8 @@ pub mod PickLemmas
 pub mod LevelLemmas
 pub mod PathNodes
 pub mod StepLemmas
+pub mod CalculateLemmas
+pub mod Handed
+
+-- lemmas of the crates below, for the crates above
+pub use Rattle.jsonb_raw.proofs.Iterated

@@ -16,3 +16,21 @@ pub mod PathArithmetic
 pub mod Meaning
 pub mod SelectorAnswers
 pub mod Selection
+pub mod Selected
+
+-- what clauses cite of the crates below, for the crates above
+pub use Rattle.jsonb_doc.specs.declared.error.Error
+pub use Rattle.jsonb_doc.specs.ErrorText
+pub use Rattle.jsonb_doc.specs.Tree
+pub use Rattle.jsonb_doc.specs.Payload
+pub use Rattle.jsonb_doc.specs.Format
+pub use Rattle.jsonb_doc.specs.Limits
+pub use Rattle.jsonb_doc.specs.Answer
+pub use Rattle.jsonb_keypath.specs.KeyPathGrammar
+pub use Rattle.jsonb_keypath.specs.KeyPathViews
+pub use Rattle.jsonb_raw.specs.declared.owned.OwnedJsonb
+pub use Rattle.jsonb_raw.specs.Documents
+pub use Rattle.jsonb_raw.specs.Depth
+pub use Rattle.jsonb_raw.specs.Places
+pub use Rattle.jsonb_raw.specs.SortableKey
+pub use Rattle.jsonb_raw.specs.KeyAnswer

@@ -17,11 +17,15 @@ pub use self::path::{
 pub use self::selector::Selector;
 pub use jsonb_doc::{
     ArithmeticFault, ArrayBuilder, Date, Decimal64, Decimal128, ElementIter, Error, ExtensionValue,
-    Interval, Item, KeyIter, Number, ObjectBuilder, PairIter, Timestamp, TimestampTz, ValueIter,
-    check, elements, encode_item, keys, pairs, root_item, values,
+    Interval, Item, KeyIter, Number, ObjectBuilder, PairIter, Spot, SpotIter, Timestamp,
+    TimestampTz, Value, ValueIter, check, child_spots, elements, encode_item, field_spot, keys,
+    pairs, root_item, root_spot, spot_item, to_value, values,
 };
 pub use jsonb_keypath as keypath;
-pub use jsonb_raw::RawJsonb;
+pub use jsonb_keypath::{
+    KeyPath, KeyPaths, OwnedKeyPath, OwnedKeyPaths, parse_key_paths, read_name, read_quoted,
+};
+pub use jsonb_raw::{OwnedJsonb, RawJsonb};
 
 #[cfg(test)]
 mod tests;

@@ -3,8 +3,10 @@
 //! A selection keeps a list of places in the bytes. Each step makes the next list of the one before;
 //! no item is copied before it is handed out.
 
+mod calculate;
 mod children;
 mod document;
+mod documents;
 mod found;
 mod levels;
 mod operand;

@@ -1,19 +1,19 @@
 //! What each command prints.
 ghost use Rattle.std.specs.Prelude.{◌≡◌, ◌⊎◌, ◌++◌, Ok, Err, IfOk, MatchResult, codes, string_bytes};
-ghost use Rattle.jsonb_doc.specs.declared.error.Error.TheVariants.{OutOfMemory};
-ghost use Rattle.jsonb_doc.specs.Tree.{Tree};
-ghost use Rattle.jsonb_doc.specs.Payload.{any};
-ghost use Rattle.jsonb_doc.specs.Format.{Decodes};
-ghost use Rattle.jsonb_keypath.specs.KeyPathGrammar.{key_path};
-ghost use Rattle.jsonb_raw.specs.Documents.{raw_bytes};
+ghost use Rattle.jsonb.specs.Error.TheVariants.{OutOfMemory};
+ghost use Rattle.jsonb.specs.Tree.{Tree};
+ghost use Rattle.jsonb.specs.Payload.{any};
+ghost use Rattle.jsonb.specs.Format.{Decodes};
+ghost use Rattle.jsonb.specs.KeyPathGrammar.{key_path};
+ghost use Rattle.jsonb.specs.Documents.{raw_bytes};
 ghost use Rattle.jsonb_tool.specs.Outcomes.{Gets, ShowsKeyOf, IsDamage, IsOutcome};
 ghost use Rattle.jsonb_tool.specs.Views.{found_text, request};
 ghost use Rattle.hex.specs.Hex.{encode_lower};
 
 use crate::command::Command;
-use jsonb_doc::Error;
-use jsonb_keypath::parse_key_paths;
-use jsonb_raw::{OwnedJsonb, RawJsonb};
+use jsonb::Error;
+use jsonb::parse_key_paths;
+use jsonb::{OwnedJsonb, RawJsonb};
 use std::alloc::{AllocError, Global};
 
 /// The lines that a command prints, each with its line feed, or its refusal.
