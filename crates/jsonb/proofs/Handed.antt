@@ -1,5 +1,5 @@
 -- From the documents that are made of a selection to what a call hands out.
-use Rattle.std.proofs.Common.{◌≡◌, List, Option, Some, None, Result, Ok, Err, ◌⊎◌, inl, inr}
+use Rattle.std.proofs.Common.{◌≡◌, List, Option, Some, None, Result, Ok, Err, ◌⊎◌, inl, inr, subst, sym}
 use Rattle.jsonb_doc.specs.Answer.{Outcome, Gives, WantsMemory}
 use Rattle.jsonb_doc.specs.Format.{Decodes}
 use Rattle.jsonb_doc.specs.Limits.{IsTooLarge}
@@ -44,3 +44,7 @@ handed_by IsPastLimits {o = Err e} h go = absurd h.ok
 pub handed_refused : {A C D : Type 0} {Q : C → D → Type 0} (R : A → D → Type 0) (IsPastLimits : D → Type 0) {e : Error} {o : Outcome D}
     → Gives Q WantsMemory (Err e) o → HandsOut R IsPastLimits (Err e) o
 handed_refused R IsPastLimits h = record { ok = tt; err = elim h.err [ inl memory ↦ inl (inl memory) | inr is ↦ inr is ] }
+
+-- the same of an equal answer
+pub handed_same : {A B : Type 0} (R : A → B → Type 0) (IsPastLimits : B → Type 0) {r s : Outcome A} {o : Outcome B} → s ≡ r → HandsOut R IsPastLimits r o → HandsOut R IsPastLimits s o
+handed_same R IsPastLimits {o = o} is h = subst (λ z. HandsOut R IsPastLimits z o) (sym is) h

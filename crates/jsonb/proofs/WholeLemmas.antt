@@ -13,7 +13,7 @@ use Rattle.jsonb_doc.specs.declared.number.Number.TheVariants.{Int64, UInt64, De
 use Rattle.jsonb.specs.PathTree as math
 use Rattle.jsonb.specs.PathTree.{Step, Expression, steps_of}
 use Rattle.jsonb.specs.PathViews.{step_view, steps_view, number_literal, literal_view}
-use Rattle.jsonb.specs.Meaning.{step_meaning, steps_meaning, as_filter, Means}
+use Rattle.jsonb.specs.Meaning.{step_meaning, steps_meaning, as_filter, Means, predicate}
 use Rattle.jsonb.specs.Selection.{step_expression, lone_expression, begins_with_current}
 use Rattle.jsonb.specs.declared.selector.document.Mode.{Mode}
 use Rattle.jsonb.specs.declared.path.PathValue.{PathValue}
@@ -113,3 +113,16 @@ is_outcome (Err e) x h = absurd h
 pub without_memory : {A B : Type 0} {R : A → B → Type 0} {r : Outcome A} {o : Outcome B} → Gives R (λ (_ : Error). ⊥) r o → Gives R WantsMemory r o
 without_memory {A} {B} {R} {r = Ok x} {o} h = record { ok = h.ok; err = tt }
 without_memory {A} {B} {R} {r = Err e} {o} h = record { ok = tt; err = elim h.err [ inl none ↦ absurd none | inr is ↦ inr is ] }
+
+-- a path that is no single expression says nothing
+pub no_lone : (path : List Step) → math.is_predicate path ≡ false → (e : Expression) → lone_expression path ≡ Some e → ⊥
+no_lone [] p e h = cc
+no_lone (math.whole_expression x ∷ []) p e h = cc
+no_lone (s ∷ []) p e h = cc
+no_lone (s ∷ t ∷ rest) p e h = cc
+
+pub no_predicate : (mode : Mode) (path : List Step) (top : Tree) → lone_expression path ≡ None → predicate mode path top ≡ Ok None
+no_predicate mode [] top h = refl
+no_predicate mode (math.whole_expression x ∷ []) top h = cc
+no_predicate mode (math.whole_expression x ∷ t ∷ rest) top h = refl
+no_predicate mode _ top h = refl
