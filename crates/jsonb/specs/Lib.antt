@@ -16,6 +16,7 @@ pub mod PathArithmetic
 pub mod Meaning
 pub mod SelectorAnswers
 pub mod Selection
+pub mod SelectorLaws
 pub mod Selected
 
 -- what clauses cite of the crates below, for the crates above

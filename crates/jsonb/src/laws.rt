@@ -3,6 +3,7 @@
 ghost use Rattle.std.specs.Prelude.{ℕ, Bool, IfSome};
 ghost use Rattle.jsonb.specs.PathGrammar.{json_path, another_entry, spaced_inner, path_step, another_atom, another_and, nested_or};
 ghost use Rattle.jsonb.specs.PathLaws.{ReadsBack, RulesHold};
+ghost use Rattle.jsonb.specs.SelectorLaws.{StrictImpliesLax};
 ghost use Rattle.jsonb_keypath.specs.TokenLaws.{ReadsSome};
 
 /// A JSON path that was read prints to a text that reads as the same path, but for which variant
@@ -25,4 +26,9 @@ pub fn repeated_rules_read_some()
     ensures path_steps { ReadsSome path_step }
     ensures conditions { (n : ℕ) (is_in_filter : Bool) → ReadsSome (another_atom (nested_or n) is_in_filter) }
     ensures alternatives { (n : ℕ) (is_in_filter : Bool) → ReadsSome (another_and (nested_or n) is_in_filter) }
+{}
+
+/// Where the strict meaning of a path is a list, its lax meaning is the same list.
+pub fn strict_implies_lax()
+    ensures { StrictImpliesLax }
 {}
