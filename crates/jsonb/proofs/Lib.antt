@@ -28,3 +28,4 @@ pub mod ReadMeans
 
 -- lemmas of the crates below, for the crates above
 pub use Rattle.jsonb_raw.proofs.Iterated
+pub mod WholeLemmas

@@ -13,6 +13,7 @@ mod operand;
 mod part;
 mod steps;
 mod values;
+mod whole;
 
 use self::document::Mode;
 use jsonb_raw::RawJsonb;
