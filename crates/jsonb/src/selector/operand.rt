@@ -67,7 +67,7 @@ pub(crate) fn item_operand<'a>(item: Item<'a>) -> Option<Operand<'a>>
 }
 
 /// The value of a literal.
-pub(crate) fn literal_operand<'a>(literal: &'a PathValue<'a>) -> Operand<'a>
+pub(crate) fn literal_operand<'a>(literal: &'a PathValue<'_>) -> Operand<'a>
     ensures { option_values (Some result) ≡ values_of_literal (literal_item (literal_view literal.now)) }
 {
     match literal {

@@ -27,7 +27,7 @@ use std::alloc::Global;
 fn push_step<'a>(
     alloc: Global,
     mode: Mode,
-    step: &'a Path<'a>,
+    step: &'a Path<'_>,
     document: Document<'a>,
     item: Spot,
     queue: &mut Vec<Spot>,
@@ -64,7 +64,7 @@ fn push_step<'a>(
 fn step_item<'a>(
     alloc: Global,
     mode: Mode,
-    step: &'a Path<'a>,
+    step: &'a Path<'_>,
     document: Document<'a>,
     item: Spot,
 ) -> Result<Found, Error>
@@ -93,7 +93,7 @@ fn step_item<'a>(
 pub(crate) fn step_list<'a>(
     alloc: Global,
     mode: Mode,
-    step: &'a Path<'a>,
+    step: &'a Path<'_>,
     document: Document<'a>,
     items: Found,
 ) -> Result<Found, Error>
@@ -111,7 +111,7 @@ pub(crate) fn step_list<'a>(
 fn step_many<'a>(
     alloc: Global,
     mode: Mode,
-    step: &'a Path<'a>,
+    step: &'a Path<'_>,
     document: Document<'a>,
     items: &[Spot],
 ) -> Result<Found, Error>
@@ -130,7 +130,7 @@ fn step_many<'a>(
 pub(crate) fn select_steps<'a>(
     alloc: Global,
     mode: Mode,
-    steps: &'a [Path<'a>],
+    steps: &'a [Path<'_>],
     document: Document<'a>,
     first: Spot,
 ) -> Result<Found, Error>
@@ -159,7 +159,7 @@ fn first_item(steps: &[Path<'_>], document: Document<'_>, item: Spot) -> Spot
 pub(crate) fn is_kept<'a>(
     alloc: Global,
     mode: Mode,
-    e: &'a Expr<'a>,
+    e: &'a Expr<'_>,
     document: Document<'a>,
     item: Spot,
 ) -> Result<bool, Error>
@@ -177,7 +177,7 @@ pub(crate) fn is_kept<'a>(
 pub(crate) fn truth<'a>(
     alloc: Global,
     mode: Mode,
-    e: &'a Expr<'a>,
+    e: &'a Expr<'_>,
     document: Document<'a>,
     item: Spot,
 ) -> Result<Option<bool>, Error>
@@ -226,7 +226,7 @@ pub(crate) fn truth<'a>(
 pub(crate) fn operand_values<'a>(
     alloc: Global,
     mode: Mode,
-    e: &'a Expr<'a>,
+    e: &'a Expr<'_>,
     document: Document<'a>,
     item: Spot,
 ) -> Result<Values<'a>, Error>

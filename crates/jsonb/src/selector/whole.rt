@@ -28,7 +28,7 @@ use std::alloc::Global;
 pub(crate) fn selection<'a>(
     alloc: Global,
     mode: Mode,
-    steps: &'a [Path<'a>],
+    steps: &'a [Path<'_>],
     document: Document<'a>,
 ) -> Result<Selected<'a>, Error>
     ensures { (form : Form) (top : Tree) (outcome : Outcome (List Tree)) → HasTree document.entry top → Means form mode (steps_view steps.now) top outcome
@@ -80,7 +80,7 @@ fn begins_with_current(steps: &[Path<'_>]) -> bool
 fn top_steps<'a>(
     alloc: Global,
     mode: Mode,
-    steps: &'a [Path<'a>],
+    steps: &'a [Path<'_>],
     document: Document<'a>,
 ) -> Result<Found, Error>
     ensures { (top : Tree) → HasTree document.entry top
@@ -97,7 +97,7 @@ fn top_steps<'a>(
 fn top_step<'a>(
     alloc: Global,
     mode: Mode,
-    step: &'a Path<'a>,
+    step: &'a Path<'_>,
     document: Document<'a>,
     items: Found,
 ) -> Result<Found, Error>
@@ -114,7 +114,7 @@ fn top_step<'a>(
 fn kept_items<'a>(
     alloc: Global,
     mode: Mode,
-    e: &'a Expr<'a>,
+    e: &'a Expr<'_>,
     document: Document<'a>,
     items: &[Spot],
 ) -> Result<Found, Error>
@@ -132,7 +132,7 @@ fn kept_items<'a>(
 fn push_kept<'a>(
     alloc: Global,
     mode: Mode,
-    e: &'a Expr<'a>,
+    e: &'a Expr<'_>,
     document: Document<'a>,
     item: Spot,
     queue: &mut Vec<Spot>,
@@ -148,7 +148,7 @@ fn push_kept<'a>(
 fn expression_parts<'a>(
     alloc: Global,
     mode: Mode,
-    e: &'a Expr<'a>,
+    e: &'a Expr<'_>,
     document: Document<'a>,
 ) -> Result<Vec<Part<'a>>, Error>
     ensures { (form : Form) (top : Tree) (outcome : Outcome (List Tree)) → HasTree document.entry top → Means form mode (whole_expression (expression_view e.now) ∷ []) top outcome
@@ -171,7 +171,7 @@ fn expression_parts<'a>(
 }
 
 // A literal as the whole path: an array of it, and of a document the document.
-fn literal_parts<'a>(alloc: Global, literal: &'a PathValue<'a>) -> Result<Vec<Part<'a>>, Error>
+fn literal_parts<'a>(alloc: Global, literal: &'a PathValue<'_>) -> Result<Vec<Part<'a>>, Error>
     ensures { (form : Form) (mode : Mode) (top : Tree) (outcome : Outcome (List Tree)) → Means form mode (whole_expression (value (literal_view literal.now)) ∷ []) top outcome
         → Gives (λ v ts. AllRelated (IsPart form) v.items ts) WantsMemory result outcome }
 {
@@ -192,7 +192,7 @@ fn whole_unary<'a>(
     alloc: Global,
     mode: Mode,
     op: UnaryOperator,
-    operand: &'a Expr<'a>,
+    operand: &'a Expr<'_>,
     document: Document<'a>,
 ) -> Result<Vec<Part<'a>>, Error>
     ensures { (form : Form) (top : Tree) → HasTree document.entry top
@@ -207,8 +207,8 @@ fn whole_binary<'a>(
     alloc: Global,
     mode: Mode,
     op: BinaryOperator,
-    left: &'a Expr<'a>,
-    right: &'a Expr<'a>,
+    left: &'a Expr<'_>,
+    right: &'a Expr<'_>,
     document: Document<'a>,
 ) -> Result<Number, Error>
     ensures { (top : Tree) (o : Operation) → HasTree document.entry top → operation (operator_view op) ≡ Some o
@@ -223,7 +223,7 @@ fn whole_binary<'a>(
 fn whole_truth<'a>(
     alloc: Global,
     mode: Mode,
-    e: &'a Expr<'a>,
+    e: &'a Expr<'_>,
     document: Document<'a>,
 ) -> Result<Vec<Part<'a>>, Error>
     ensures { (form : Form) (top : Tree) → HasTree document.entry top
@@ -255,7 +255,7 @@ fn lone_part<'a>(alloc: Global, part: Part<'a>) -> Result<Vec<Part<'a>>, Error>
 pub(crate) fn expression_truth<'a>(
     alloc: Global,
     mode: Mode,
-    e: &'a Expr<'a>,
+    e: &'a Expr<'_>,
     document: Document<'a>,
 ) -> Result<Option<bool>, Error>
     ensures { (top : Tree) → HasTree document.entry top → Gives (λ b c. b ≡ c) WantsMemory result (expression_predicate mode (expression_view e.now) top) }
