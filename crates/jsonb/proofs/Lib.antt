@@ -25,7 +25,6 @@ pub mod StepLemmas
 pub mod CalculateLemmas
 pub mod Handed
 pub mod ReadMeans
-
 -- lemmas of the crates below, for the crates above
 pub use Rattle.jsonb_raw.proofs.Iterated
 pub mod WholeLemmas

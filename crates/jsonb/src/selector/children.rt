@@ -51,7 +51,11 @@ pub(crate) fn push_if(condition: bool, spot: Spot, queue: &mut Vec<Spot>) -> Res
     ensures { (bytes : List ℕ) (t : Tree) (before : List Tree) → Marks bytes spot t → AllRelated (Marks bytes) queue.old.items before
         → Gives (λ _ us. AllRelated (Marks bytes) queue.new.items (before ++ us)) WantsMemory result (Ok (if condition then t ∷ [] else [])) }
 {
-    if condition { push_spot(queue, spot) } else { Ok(()) }
+    if condition {
+        push_spot(queue, spot)
+    } else {
+        Ok(())
+    }
 }
 
 /// The places that are left in an iterator.

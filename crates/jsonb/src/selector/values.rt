@@ -30,11 +30,7 @@ pub(crate) fn found_values<'a>(
 }
 
 /// The values of many items.
-fn many_values<'a>(
-    alloc: Global,
-    bytes: &'a [u8],
-    items: &[Spot],
-) -> Result<Values<'a>, Error>
+fn many_values<'a>(alloc: Global, bytes: &'a [u8], items: &[Spot]) -> Result<Values<'a>, Error>
     ensures { (ts : List Tree) → AllRelated (Marks bytes.now) items.now ts
         → Gives (λ values vs. values_view values ≡ vs) WantsMemory result (Ok (flat_map values_of_item ts)) }
 {
@@ -64,11 +60,7 @@ fn item_values<'a>(alloc: Global, bytes: &'a [u8], item: Spot) -> Result<Values<
 }
 
 /// The values of an item, behind those that there are: an array gives those of its elements.
-fn push_values<'a>(
-    bytes: &'a [u8],
-    item: Spot,
-    values: &mut Vec<Operand<'a>>,
-) -> Result<(), Error>
+fn push_values<'a>(bytes: &'a [u8], item: Spot, values: &mut Vec<Operand<'a>>) -> Result<(), Error>
     ensures { (t : Tree) → Marks bytes.now item t
         → Gives (λ _ vs. map operand_value values.new.items ≡ map operand_value values.old.items ++ vs) WantsMemory result (Ok (values_of_item t)) }
 {
@@ -94,11 +86,7 @@ fn push_each<'a>(
 }
 
 /// The value of an item that is no array, and of an element.
-fn push_value<'a>(
-    bytes: &'a [u8],
-    item: Spot,
-    values: &mut Vec<Operand<'a>>,
-) -> Result<(), Error>
+fn push_value<'a>(bytes: &'a [u8], item: Spot, values: &mut Vec<Operand<'a>>) -> Result<(), Error>
     ensures { (t : Tree) → Marks bytes.now item t
         → Gives (λ _ vs. map operand_value values.new.items ≡ map operand_value values.old.items ++ vs) WantsMemory result (Ok (value_of_item t)) }
 {
