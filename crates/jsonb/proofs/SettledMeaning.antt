@@ -183,7 +183,7 @@ binary-truth modulo l r vl vr tl tr mode top item = refl
 steps-same : (s : Step) (ss : Steps) → StepSame s → StepsSame ss → StepsSame (step s ss)
 steps-same s ss one more mode top items =
     rw (joined-same (step_meaning mode (settled_step s) top) (step_meaning mode s top) (one mode top) items)
-      (with-same (joined (step_meaning mode s top) items) (steps_meaning mode (settled_steps ss) top) (steps_meaning mode ss top) (more mode top))
+    (with-same (joined (step_meaning mode s top) items) (steps_meaning mode (settled_steps ss) top) (steps_meaning mode ss top) (more mode top))
 
 mutual
   step_same : (s : Step) → StepSame s
@@ -284,10 +284,10 @@ same_calculation : (op : Operation) (l l' r r' : Outcome (List Value)) → settl
 same_calculation op l l' r r' e f =
     sym (through l' r') ∙ ap (λ (o : Outcome (List Value)). calculation op o (settled_values r')) e ∙ ap (λ (o : Outcome (List Value)). calculation op (settled_values l) o) f ∙ through l r
   where
-  through : (x y : Outcome (List Value)) → calculation op (settled_values x) (settled_values y) ≡ calculation op x y
-  through (Err er) y = refl
-  through (Ok ls) (Err er) = refl
-  through (Ok ls) (Ok rs) = two-settled op ls rs
+    through : (x y : Outcome (List Value)) → calculation op (settled_values x) (settled_values y) ≡ calculation op x y
+    through (Err er) y = refl
+    through (Ok ls) (Err er) = refl
+    through (Ok ls) (Ok rs) = two-settled op ls rs
 
 scalar-settled : (l : Literal) → settled_outcome (literal_list (literal_item (settled_literal l))) ≡ settled_outcome (literal_list (literal_item l))
 scalar-settled path.null = refl
