@@ -1,7 +1,7 @@
-//! JSON paths: read from texts, printed, and built by hand.
+//! JSON paths: read from texts, printed, built by hand, and run on documents.
 //!
-//! The types of paths stand in `path`, and `parse_json_path` in `parser`; both are also here. What
-//! the crates below offer is handed on: documents and numbers here, key paths in `keypath`.
+//! The types of paths stand in `path`, `parse_json_path` in `parser`, and what runs paths in `selector`; all are also
+//! here. What the crates below offer is handed on: documents, numbers and key paths here, the latter also in `keypath`.
 #![tactic(auto)]
 
 pub mod laws;
@@ -14,7 +14,7 @@ pub use self::path::{
     ArrayIndex, BinaryOperator, Expr, Index, JsonPath, Path, PathValue, RecursiveLevel,
     RecursiveLevelEnd, UnaryOperator,
 };
-pub use self::selector::Selector;
+pub use self::selector::{SelectByPath, Selector};
 pub use jsonb_doc::{
     ArithmeticFault, ArrayBuilder, Date, Decimal64, Decimal128, ElementIter, Error, ExtensionValue,
     Interval, Item, KeyIter, Number, ObjectBuilder, PairIter, Spot, SpotIter, Timestamp,

@@ -10,6 +10,7 @@ ghost use Rattle.jsonb.specs.Meaning.{is_some_item};
 ghost use Rattle.jsonb.specs.Selection.{Selects};
 ghost use Rattle.jsonb.specs.declared.selector.document.Document.{Document};
 
+mod by_path;
 mod calculate;
 mod children;
 mod document;
@@ -22,6 +23,7 @@ mod steps;
 mod values;
 mod whole;
 
+pub use self::by_path::SelectByPath;
 use self::document::{Document, Mode};
 use self::documents::{array_document, documents, first_document, value_document};
 use self::part::Selected;
@@ -92,7 +94,7 @@ impl<'a> Selector<'a> {
     /// refusal on the tree, `TooLarge` only where an item passes the limits of a document, and `InvalidJsonb`
     /// and `UnsupportedNumber` only where the root or a document in the path doesn't decode. So do they for the
     /// calls below.
-    pub fn select_values(&mut self, path: &'a JsonPath<'a>) -> Result<Vec<OwnedJsonb>, Error>
+    pub fn select_values(&mut self, path: &'a JsonPath<'_>) -> Result<Vec<OwnedJsonb>, Error>
         ensures kept { self.new ≡ self.old }
         ensures values { (form : Form) (top : Tree) (outcome : Outcome (List Tree)) → Decodes form (root_bytes self.old) top
             → Means form (mode_of self.old) (path_view path.now) top outcome
@@ -104,7 +106,7 @@ impl<'a> Selector<'a> {
     }
 
     /// One array of the path's list.
-    pub fn select_array(&mut self, path: &'a JsonPath<'a>) -> Result<OwnedJsonb, Error>
+    pub fn select_array(&mut self, path: &'a JsonPath<'_>) -> Result<OwnedJsonb, Error>
         ensures kept { self.new ≡ self.old }
         ensures array { (form : Form) (top : Tree) (outcome : Outcome (List Tree)) → Decodes form (root_bytes self.old) top
             → Means form (mode_of self.old) (path_view path.now) top outcome
@@ -117,7 +119,7 @@ impl<'a> Selector<'a> {
 
     /// The first of the path's list, or none. The whole path is executed, so that a refusal behind the first
     /// item is the answer.
-    pub fn select_first(&mut self, path: &'a JsonPath<'a>) -> Result<Option<OwnedJsonb>, Error>
+    pub fn select_first(&mut self, path: &'a JsonPath<'_>) -> Result<Option<OwnedJsonb>, Error>
         ensures kept { self.new ≡ self.old }
         ensures first { (form : Form) (top : Tree) (outcome : Outcome (List Tree)) → Decodes form (root_bytes self.old) top
             → Means form (mode_of self.old) (path_view path.now) top outcome
@@ -129,7 +131,7 @@ impl<'a> Selector<'a> {
     }
 
     /// None for an empty list, its only item, or one array of several.
-    pub fn select_value(&mut self, path: &'a JsonPath<'a>) -> Result<Option<OwnedJsonb>, Error>
+    pub fn select_value(&mut self, path: &'a JsonPath<'_>) -> Result<Option<OwnedJsonb>, Error>
         ensures kept { self.new ≡ self.old }
         ensures value { (form : Form) (top : Tree) (outcome : Outcome (List Tree)) → Decodes form (root_bytes self.old) top
             → Means form (mode_of self.old) (path_view path.now) top outcome
@@ -141,7 +143,7 @@ impl<'a> Selector<'a> {
     }
 
     /// Whether the path's list has an item. So it is true of every comparison that is not refused.
-    pub fn exists(&mut self, path: &'a JsonPath<'a>) -> Result<bool, Error>
+    pub fn exists(&mut self, path: &'a JsonPath<'_>) -> Result<bool, Error>
         ensures kept { self.new ≡ self.old }
         ensures exists { (form : Form) (top : Tree) (outcome : Outcome (List Tree)) → Decodes form (root_bytes self.old) top
             → Means form (mode_of self.old) (path_view path.now) top outcome
@@ -154,7 +156,7 @@ impl<'a> Selector<'a> {
 
     /// Whether a path that is a comparison, `&&`, `||` or `exists` is true. None is for unknown, and for every
     /// other path; for one that is no single expression at once, without memory.
-    pub fn predicate_match(&mut self, path: &'a JsonPath<'a>) -> Result<Option<bool>, Error>
+    pub fn predicate_match(&mut self, path: &'a JsonPath<'_>) -> Result<Option<bool>, Error>
         ensures kept { self.new ≡ self.old }
         ensures other { is_predicate (path_view path.now) ≡ false → result ≡ Ok None }
         ensures truth { (form : Form) (top : Tree) → Decodes form (root_bytes self.old) top
