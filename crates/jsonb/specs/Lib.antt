@@ -7,3 +7,37 @@ pub mod PathOrderLaws
 pub mod Positions
 pub mod LevelTable
 pub mod PathLaws
+pub mod Related
+pub mod Values
+pub mod Compare
+pub mod Preorder
+pub mod ItemSteps
+pub mod PathArithmetic
+pub mod Meaning
+pub mod SelectorAnswers
+pub mod Selection
+pub mod SelectorLaws
+pub mod Selected
+-- what clauses cite of the crates below, for the crates above
+pub use Rattle.jsonb_doc.specs.declared.error.Error
+pub use Rattle.jsonb_doc.specs.ErrorText
+pub use Rattle.jsonb_doc.specs.Tree
+pub use Rattle.jsonb_doc.specs.Payload
+pub use Rattle.jsonb_doc.specs.Format
+pub use Rattle.jsonb_doc.specs.Limits
+pub use Rattle.jsonb_doc.specs.Answer
+pub use Rattle.jsonb_doc.specs.declared.value.Value as DecodedValue
+pub use Rattle.jsonb_doc.specs.Value as ValueTree
+pub use Rattle.jsonb_keypath.specs.declared.key_path.KeyPaths
+pub use Rattle.jsonb_keypath.specs.Each
+pub use Rattle.jsonb_keypath.specs.KeyPathGrammar
+pub use Rattle.jsonb_keypath.specs.KeyPathText
+pub use Rattle.jsonb_keypath.specs.KeyPathViews
+pub use Rattle.jsonb_raw.specs.declared.owned.OwnedJsonb
+pub use Rattle.jsonb_raw.specs.Documents
+pub use Rattle.jsonb_raw.specs.Depth
+pub use Rattle.jsonb_raw.specs.Leaves
+pub use Rattle.jsonb_raw.specs.LeafViews
+pub use Rattle.jsonb_raw.specs.Places
+pub use Rattle.jsonb_raw.specs.SortableKey
+pub use Rattle.jsonb_raw.specs.KeyAnswer

@@ -3,6 +3,7 @@
 ghost use Rattle.std.specs.Prelude.{ℕ, Bool, IfSome};
 ghost use Rattle.jsonb.specs.PathGrammar.{json_path, another_entry, spaced_inner, path_step, another_atom, another_and, nested_or};
 ghost use Rattle.jsonb.specs.PathLaws.{ReadsBack, RulesHold};
+ghost use Rattle.jsonb.specs.SelectorLaws.{StrictImpliesLax, VariantsChangeNoValue, PrintsWithMeaning};
 ghost use Rattle.jsonb_keypath.specs.TokenLaws.{ReadsSome};
 
 /// A JSON path that was read prints to a text that reads as the same path, but for which variant
@@ -25,4 +26,20 @@ pub fn repeated_rules_read_some()
     ensures path_steps { ReadsSome path_step }
     ensures conditions { (n : ℕ) (is_in_filter : Bool) → ReadsSome (another_atom (nested_or n) is_in_filter) }
     ensures alternatives { (n : ℕ) (is_in_filter : Bool) → ReadsSome (another_and (nested_or n) is_in_filter) }
+{}
+
+/// Where the strict meaning of a path is a list, its lax meaning is the same list.
+pub fn strict_implies_lax()
+    ensures { StrictImpliesLax }
+{}
+
+/// Paths that differ at most in which variant holds a whole number mean the same on every tree: they have
+/// the same refusal, or lists that are equal by value.
+pub fn variants_change_no_value()
+    ensures { VariantsChangeNoValue }
+{}
+
+/// A JSON path that was read prints to a text that reads as a path of the same meaning.
+pub fn printed_json_path_keeps_its_meaning(text: &[u8])
+    ensures { IfSome (json_path text.now) PrintsWithMeaning }
 {}

@@ -1,25 +1,31 @@
-//! JSON paths: read from texts, printed, and built by hand.
+//! JSON paths: read from texts, printed, built by hand, and run on documents.
 //!
-//! The types of paths stand in `path`, and `parse_json_path` in `parser`; both are also here. What
-//! the crates below offer is handed on: documents and numbers here, key paths in `keypath`.
+//! The types of paths stand in `path`, `parse_json_path` in `parser`, and what runs paths in `selector`; all are also
+//! here. What the crates below offer is handed on: documents, numbers and key paths here, the latter also in `keypath`.
 #![tactic(auto)]
 
 pub mod laws;
 pub mod parser;
 pub mod path;
+pub mod selector;
 
 pub use self::parser::parse_json_path;
 pub use self::path::{
     ArrayIndex, BinaryOperator, Expr, Index, JsonPath, Path, PathValue, RecursiveLevel,
     RecursiveLevelEnd, UnaryOperator,
 };
+pub use self::selector::{SelectByPath, Selector};
 pub use jsonb_doc::{
     ArithmeticFault, ArrayBuilder, Date, Decimal64, Decimal128, ElementIter, Error, ExtensionValue,
-    Interval, Item, KeyIter, Number, ObjectBuilder, PairIter, Timestamp, TimestampTz, ValueIter,
-    check, elements, encode_item, keys, pairs, root_item, values,
+    Interval, Item, KeyIter, Number, ObjectBuilder, PairIter, Spot, SpotIter, Timestamp,
+    TimestampTz, Value, ValueIter, check, child_spots, elements, encode_item, field_spot, keys,
+    pairs, root_item, root_spot, spot_item, to_value, values,
 };
 pub use jsonb_keypath as keypath;
-pub use jsonb_raw::RawJsonb;
+pub use jsonb_keypath::{
+    KeyPath, KeyPaths, OwnedKeyPath, OwnedKeyPaths, parse_key_paths, read_name, read_quoted,
+};
+pub use jsonb_raw::{OwnedJsonb, RawJsonb};
 
 #[cfg(test)]
 mod tests;

@@ -1,11 +1,11 @@
 -- What an error of a check says.
 use Rattle.std.proofs.Common.{List, ℕ, Err, refl}
 use Rattle.std.specs.Prelude.{◌↔◌, IsOk, IsErrOf}
-use Rattle.jsonb_doc.specs.declared.error.Error.{Error}
-use Rattle.jsonb_doc.specs.declared.error.Error.TheVariants.{InvalidJsonb, UnsupportedNumber}
-use Rattle.jsonb_doc.specs.Tree.{Tree}
-use Rattle.jsonb_doc.specs.Payload.{any}
-use Rattle.jsonb_doc.specs.Format.{Decodes, WouldDecode}
+use Rattle.jsonb.specs.Error.{Error}
+use Rattle.jsonb.specs.Error.TheVariants.{InvalidJsonb, UnsupportedNumber}
+use Rattle.jsonb.specs.Tree.{Tree}
+use Rattle.jsonb.specs.Payload.{any}
+use Rattle.jsonb.specs.Format.{Decodes, WouldDecode}
 use Rattle.jsonb_tool.specs.Outcomes.{IsDamage}
 
 -- an error of a check says why the bytes are no document

@@ -3,26 +3,26 @@ use Rattle.std.proofs.Common.{◌≡◌, ◌++◌, ◌+◌, ◌<◌, ◌≤◌, 
 use Rattle.hex.specs.Hex.{encode_lower}
 use Rattle.std.specs.Prelude.{◌==◌}
 use Rattle.std.proofs.lemmas.Bool.Decides.{nat_tests}
-use Rattle.jsonb_doc.specs.declared.error.Error.{Error}
-use Rattle.jsonb_doc.specs.declared.error.Error.TheVariants.{OutOfMemory}
-use Rattle.jsonb_doc.specs.declared.value.Value.{Value}
-use Rattle.jsonb_doc.specs.Value.{value_tree}
-use Rattle.jsonb_keypath.specs.declared.key_path.KeyPaths.{KeyPaths}
-use Rattle.jsonb_keypath.specs.KeyPathViews.{key_paths_view}
-use Rattle.jsonb_raw.specs.LeafViews.{leaves_seen}
-use Rattle.jsonb_doc.specs.Answer.{WantsRoom}
-use Rattle.jsonb_doc.specs.Tree.{Tree}
-use Rattle.jsonb_doc.specs.Payload.{Form}
-use Rattle.jsonb_keypath.specs.KeyPathGrammar.{Key}
-use Rattle.jsonb_keypath.specs.KeyPathText.{key_path_text}
-use Rattle.jsonb_raw.specs.declared.owned.OwnedJsonb.{OwnedJsonb}
-use Rattle.jsonb_raw.specs.Documents.{MakesOption}
-use Rattle.jsonb_doc.specs.Limits.{Fits, IsWithinLimits}
-use Rattle.jsonb_keypath.specs.Each.{Each}
-use Rattle.jsonb_raw.specs.Leaves.{Leaf, leaves}
-use Rattle.jsonb_raw.proofs.LeafPlaces.{each_in_place}
-use Rattle.jsonb_raw.proofs.LeafLimits.{each_within_limits}
-use Rattle.jsonb_raw.specs.Places.{tree_at_steps}
+use Rattle.jsonb.specs.Error.{Error}
+use Rattle.jsonb.specs.Error.TheVariants.{OutOfMemory}
+use Rattle.jsonb.specs.DecodedValue.{Value}
+use Rattle.jsonb.specs.ValueTree.{value_tree}
+use Rattle.jsonb.specs.KeyPaths.{KeyPaths}
+use Rattle.jsonb.specs.KeyPathViews.{key_paths_view}
+use Rattle.jsonb.specs.LeafViews.{leaves_seen}
+use Rattle.jsonb.specs.Answer.{WantsRoom}
+use Rattle.jsonb.specs.Tree.{Tree}
+use Rattle.jsonb.specs.Payload.{Form}
+use Rattle.jsonb.specs.KeyPathGrammar.{Key}
+use Rattle.jsonb.specs.KeyPathText.{key_path_text}
+use Rattle.jsonb.specs.OwnedJsonb.{OwnedJsonb}
+use Rattle.jsonb.specs.Documents.{MakesOption}
+use Rattle.jsonb.specs.Limits.{Fits, IsWithinLimits}
+use Rattle.jsonb.specs.Each.{Each}
+use Rattle.jsonb.specs.Leaves.{Leaf, leaves}
+use Rattle.jsonb.proofs.LeafPlaces.{each_in_place}
+use Rattle.jsonb.proofs.LeafLimits.{each_within_limits}
+use Rattle.jsonb.specs.Places.{tree_at_steps}
 use Rattle.jsonb_tool.specs.Outcomes.{IsLeafLine, AreLeafLines, ShowsEachLeaf}
 
 -- ---- one line

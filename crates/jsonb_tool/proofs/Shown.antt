@@ -4,18 +4,18 @@ use Rattle.std.specs.Prelude.{Vec}
 use Rattle.std.specs.Int.{w8}
 use Rattle.std.specs.declared.alloc.Global.{Global}
 use Rattle.hex.specs.Hex.{encode_lower}
-use Rattle.jsonb_doc.specs.declared.error.Error.{Error}
-use Rattle.jsonb_doc.specs.declared.error.Error.TheVariants.{OutOfMemory}
-use Rattle.jsonb_doc.specs.Tree.{Tree}
-use Rattle.jsonb_doc.specs.Payload.{Form, any}
-use Rattle.jsonb_doc.specs.Format.{Decodes}
-use Rattle.jsonb_raw.specs.declared.owned.OwnedJsonb.{OwnedJsonb}
-use Rattle.jsonb_raw.specs.Documents.{MakesOption}
-use Rattle.jsonb_keypath.specs.KeyPathGrammar.{Key, key_path}
-use Rattle.jsonb_raw.specs.Depth.{deepest}
-use Rattle.jsonb_raw.specs.KeyAnswer.{IsRefusal, MakesKey}
-use Rattle.jsonb_raw.specs.Places.{tree_at_steps}
-use Rattle.jsonb_raw.specs.SortableKey.{depths}
+use Rattle.jsonb.specs.Error.{Error}
+use Rattle.jsonb.specs.Error.TheVariants.{OutOfMemory}
+use Rattle.jsonb.specs.Tree.{Tree}
+use Rattle.jsonb.specs.Payload.{Form, any}
+use Rattle.jsonb.specs.Format.{Decodes}
+use Rattle.jsonb.specs.OwnedJsonb.{OwnedJsonb}
+use Rattle.jsonb.specs.Documents.{MakesOption}
+use Rattle.jsonb.specs.KeyPathGrammar.{Key, key_path}
+use Rattle.jsonb.specs.Depth.{deepest}
+use Rattle.jsonb.specs.KeyAnswer.{IsRefusal, MakesKey}
+use Rattle.jsonb.specs.Places.{tree_at_steps}
+use Rattle.jsonb.specs.SortableKey.{depths}
 use Rattle.jsonb_tool.specs.Outcomes.{Gets, OnDocument, ShowsKey, ShowsKeyOf, ShowsTree}
 use Rattle.jsonb_tool.specs.Views.{found_text}
 

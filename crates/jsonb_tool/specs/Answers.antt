@@ -1,7 +1,7 @@
 -- What the program writes, and its exit status.
 use Rattle.std.specs.Prelude.{◌≡◌, ◌⊎◌, ℕ, List, ◌++◌, Option, Some, None, Ok, Err, codes}
-use Rattle.jsonb_doc.specs.declared.error.Error.TheVariants.{OutOfMemory}
-use Rattle.jsonb_doc.specs.ErrorText.{error_text}
+use Rattle.jsonb.specs.Error.TheVariants.{OutOfMemory}
+use Rattle.jsonb.specs.ErrorText.{error_text}
 use Rattle.jsonb_tool.specs.Requests.{Request, request_of}
 use Rattle.jsonb_tool.specs.Outcomes.{Outcome, IsOutcome}
 

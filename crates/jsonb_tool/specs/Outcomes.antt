@@ -1,20 +1,20 @@
 -- What comes of a command: the lines that it prints, or its refusal.
 use Rattle.std.specs.Prelude.{◌≡◌, ◌⊎◌, ◌<◌, ◌≤◌, ℕ, false, List, [], ◌∷◌, ◌++◌, Option, Some, None, Result, Ok, Err, IsSomeAnd, IsOkAnd, IsErrAnd, codes}
 use Rattle.std.specs.Int.{w8}
-use Rattle.jsonb_doc.specs.declared.error.Error.{Error}
-use Rattle.jsonb_doc.specs.declared.error.Error.TheVariants.{InvalidJsonb, UnsupportedNumber, InvalidKeyPath, TooLarge, TooDeep}
-use Rattle.jsonb_doc.specs.Tree.{Tree}
-use Rattle.jsonb_doc.specs.Payload.{Form, any}
-use Rattle.jsonb_doc.specs.Format.{Decodes, WouldDecode}
-use Rattle.jsonb_doc.specs.Limits.{IsTooLarge}
-use Rattle.jsonb_keypath.specs.KeyPathGrammar.{Key, key_path}
-use Rattle.jsonb_keypath.specs.KeyPathText.{key_path_text}
-use Rattle.jsonb_raw.specs.Depth.{deepest}
-use Rattle.jsonb_raw.specs.Leaves.{Leaf}
-use Rattle.jsonb_raw.specs.Leaves as leaf
-use Rattle.jsonb_raw.specs.Places.{tree_at_steps}
-use Rattle.jsonb_raw.specs.SortableKey.{depths}
-use Rattle.jsonb_raw.specs.SortableKey as sortable
+use Rattle.jsonb.specs.Error.{Error}
+use Rattle.jsonb.specs.Error.TheVariants.{InvalidJsonb, UnsupportedNumber, InvalidKeyPath, TooLarge, TooDeep}
+use Rattle.jsonb.specs.Tree.{Tree}
+use Rattle.jsonb.specs.Payload.{Form, any}
+use Rattle.jsonb.specs.Format.{Decodes, WouldDecode}
+use Rattle.jsonb.specs.Limits.{IsTooLarge}
+use Rattle.jsonb.specs.KeyPathGrammar.{Key, key_path}
+use Rattle.jsonb.specs.KeyPathText.{key_path_text}
+use Rattle.jsonb.specs.Depth.{deepest}
+use Rattle.jsonb.specs.Leaves.{Leaf}
+use Rattle.jsonb.specs.Leaves as leaf
+use Rattle.jsonb.specs.Places.{tree_at_steps}
+use Rattle.jsonb.specs.SortableKey.{depths}
+use Rattle.jsonb.specs.SortableKey as sortable
 use Rattle.hex.specs.Hex.{encode_lower}
 use Rattle.jsonb_tool.specs.Requests.{Request, get, key, leaves}
 

@@ -1,7 +1,7 @@
 -- What the values of the code stand for.
 use Rattle.std.specs.Prelude.{ℕ, List, ◌++◌, Option, Some, None, codes}
 use Rattle.hex.specs.Hex.{encode_lower}
-use Rattle.jsonb_raw.specs.declared.owned.OwnedJsonb.{OwnedJsonb}
+use Rattle.jsonb.specs.OwnedJsonb.{OwnedJsonb}
 use Rattle.jsonb_tool.specs.declared.command.Command.{Command}
 use Rattle.jsonb_tool.specs.declared.command.Command.TheVariants.{Get, Key, Leaves}
 use Rattle.jsonb_tool.specs.Requests as spec

@@ -1,11 +1,11 @@
 //! Commands, read from the words of a command line.
 ghost use Rattle.std.specs.Prelude.{◌≡◌, map, option_map, IfOk, IfErr, string_bytes};
-ghost use Rattle.jsonb_doc.specs.declared.error.Error.TheVariants.{OutOfMemory};
+ghost use Rattle.jsonb.specs.Error.TheVariants.{OutOfMemory};
 ghost use Rattle.jsonb_tool.specs.Requests.{bytes_of, request_of};
 ghost use Rattle.jsonb_tool.specs.Views.{request};
 
 use hex::FromHexError;
-use jsonb_doc::Error;
+use jsonb::Error;
 use std::alloc::Global;
 
 /// A command with its arguments.

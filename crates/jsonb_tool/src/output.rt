@@ -1,22 +1,21 @@
 //! What each command prints.
 ghost use Rattle.std.specs.Prelude.{◌≡◌, ◌⊎◌, ◌++◌, Some, Ok, Err, IfOk, MatchResult, codes, string_bytes};
-ghost use Rattle.jsonb_doc.specs.declared.error.Error.TheVariants.{OutOfMemory};
-ghost use Rattle.jsonb_doc.specs.Tree.{Tree};
-ghost use Rattle.jsonb_doc.specs.Payload.{Form, any};
-ghost use Rattle.jsonb_doc.specs.Answer.{Builds};
-ghost use Rattle.jsonb_doc.specs.Format.{Decodes};
-ghost use Rattle.jsonb_keypath.specs.KeyPathGrammar.{key_path};
-ghost use Rattle.jsonb_keypath.specs.KeyPathViews.{key_paths_view};
-ghost use Rattle.jsonb_raw.specs.Documents.{raw_bytes};
-ghost use Rattle.jsonb_raw.specs.Places.{tree_at_steps};
+ghost use Rattle.jsonb.specs.Error.TheVariants.{OutOfMemory};
+ghost use Rattle.jsonb.specs.Tree.{Tree};
+ghost use Rattle.jsonb.specs.Payload.{Form, any};
+ghost use Rattle.jsonb.specs.Answer.{Builds};
+ghost use Rattle.jsonb.specs.Format.{Decodes};
+ghost use Rattle.jsonb.specs.KeyPathGrammar.{key_path};
+ghost use Rattle.jsonb.specs.KeyPathViews.{key_paths_view};
+ghost use Rattle.jsonb.specs.Documents.{raw_bytes};
+ghost use Rattle.jsonb.specs.Places.{tree_at_steps};
 ghost use Rattle.jsonb_tool.specs.Outcomes.{Gets, ShowsKeyOf, ShowsLeavesOf, IsLeafLine, IsDamage, IsOutcome};
 ghost use Rattle.jsonb_tool.specs.Views.{found_text, request};
 ghost use Rattle.hex.specs.Hex.{encode_lower};
 
 use crate::command::Command;
-use jsonb_doc::Error;
-use jsonb_keypath::{KeyPaths, parse_key_paths};
-use jsonb_raw::{OwnedJsonb, RawJsonb};
+use jsonb::keypath::KeyPaths;
+use jsonb::{Error, OwnedJsonb, RawJsonb, parse_key_paths};
 use std::alloc::{AllocError, Global};
 
 /// The lines that a command prints, each with its line feed, or its refusal.

@@ -6,7 +6,7 @@ ghost use Rattle.jsonb_tool.specs.Answers.{IsAnswer};
 
 use crate::command::Command;
 use crate::output::output;
-use jsonb_doc::Error;
+use jsonb::Error;
 use std::alloc::Global;
 use std::borrow::CowStr;
 use std::io::Write;

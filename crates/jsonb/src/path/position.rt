@@ -36,6 +36,27 @@ impl ArrayIndex {
     }
 }
 
+impl ArrayIndex {
+    /// The positions that the entry means in an array of `length` elements, from the first number up to below
+    /// the second.
+    pub(crate) fn bounds(&self, length: usize) -> (usize, usize)
+        ensures within { (result.0 ≤ result.1) × (result.1 ≤ length) }
+        ensures meant { (k : ℕ) → k < length → ((result.0 ≤ k) × (k < result.1)) ↔ IsPosition (entry_view self.now) length k }
+    {
+        match self {
+            ArrayIndex::Index(index) => {
+                let at = index.position(length);
+                bounds_between(at, at, length)
+            }
+            ArrayIndex::Slice((first, last)) => bounds_between(
+                first.position(length),
+                last.position(length),
+                length,
+            ),
+        }
+    }
+}
+
 impl Index {
     // The number of the place in an array of this length.
     fn position(&self, length: usize) -> i128
@@ -58,13 +79,22 @@ fn positions_between(
     ensures { Answers result (λ found. (k : ℕ) →
         IsTrue (contains nat_eq found k) ↔ IsBetween first last length k) }
 {
-    let start = first_not_below(first, length);
-    let end = first_above(last, length).max(start);
+    let (start, end) = bounds_between(first, last, length);
     let mut found = HashSet::with_capacity(alloc, end - start)?;
     for position in start..end {
         found.insert(position)?;
     }
     Ok(found)
+}
+
+// The positions from the first number to the last, both included: from where they begin up to below where they
+// end.
+fn bounds_between(first: i128, last: i128, length: usize) -> (usize, usize)
+    ensures within { (result.0 ≤ result.1) × (result.1 ≤ length) }
+    ensures meant { (k : ℕ) → k < length → ((result.0 ≤ k) × (k < result.1)) ↔ IsBetween first last length k }
+{
+    let start = first_not_below(first, length);
+    (start, first_above(last, length).max(start))
 }
 
 // The first position that is not below the number, or the length.

@@ -1,8 +1,8 @@
 use Rattle.std.proofs.Common.{rules, ◌≡◌, Some, Ok, Err}
-use Rattle.jsonb_keypath.specs.KeyPathGrammar.{key_path}
-use Rattle.jsonb_keypath.specs.KeyPathViews.{key_paths_view}
-use Rattle.jsonb_raw.specs.Documents.{raw_bytes}
-use Rattle.jsonb_raw.proofs.Iterated.{iter_tells}
+use Rattle.jsonb.specs.KeyPathGrammar.{key_path}
+use Rattle.jsonb.specs.KeyPathViews.{key_paths_view}
+use Rattle.jsonb.specs.Documents.{raw_bytes}
+use Rattle.jsonb.proofs.Iterated.{iter_tells}
 use Rattle.jsonb_tool.proofs.Shown.{LooksUp, Gets-found, Gets-refused}
 use Rattle.jsonb_tool.proofs.output.get.Goals as goal
 

@@ -1,12 +1,12 @@
 use Rattle.std.proofs.Common.{◌≡◌, ◌∙◌, ap, refl, arith, inl}
 use Rattle.std.proofs.lemmas.Result.{err_from_is_err_and}
-use Rattle.jsonb_doc.specs.declared.error.Error.TheVariants.{OutOfMemory}
-use Rattle.jsonb_doc.specs.Format.{Decodes}
-use Rattle.jsonb_doc.specs.Payload.{any}
-use Rattle.jsonb_doc.specs.Value.{value_tree}
-use Rattle.jsonb_doc.proofs.DecodedFits.{decoded_fits}
-use Rattle.jsonb_raw.specs.Documents.{raw_bytes}
-use Rattle.jsonb_raw.specs.LeafViews.{leaves_seen}
+use Rattle.jsonb.specs.Error.TheVariants.{OutOfMemory}
+use Rattle.jsonb.specs.Format.{Decodes}
+use Rattle.jsonb.specs.Payload.{any}
+use Rattle.jsonb.specs.ValueTree.{value_tree}
+use Rattle.jsonb.proofs.DecodedFits.{decoded_fits}
+use Rattle.jsonb.specs.Documents.{raw_bytes}
+use Rattle.jsonb.specs.LeafViews.{leaves_seen}
 use Rattle.jsonb_tool.proofs.LeafLines.{leaf_of, LinesToward-none, LinesToward-more, LinesToward-end, shows_each, shows_none, no_leaves, next_leaf, no_more_leaves, some_leaves, can_be_shown, line_refused}
 use Rattle.jsonb_tool.proofs.output.leaves.Goals as goal
 

@@ -1,10 +1,10 @@
 use Rattle.std.proofs.Common.{string_bytes}
-use Rattle.jsonb_doc.specs.Tree.{Tree}
-use Rattle.jsonb_doc.specs.Payload.{Form}
-use Rattle.jsonb_doc.specs.Format.{Decodes}
-use Rattle.jsonb_doc.specs.Value.{value_tree}
-use Rattle.jsonb_raw.specs.Documents.{raw_bytes}
-use Rattle.jsonb_raw.specs.LeafViews.{leaves_seen}
+use Rattle.jsonb.specs.Tree.{Tree}
+use Rattle.jsonb.specs.Payload.{Form}
+use Rattle.jsonb.specs.Format.{Decodes}
+use Rattle.jsonb.specs.ValueTree.{value_tree}
+use Rattle.jsonb.specs.Documents.{raw_bytes}
+use Rattle.jsonb.specs.LeafViews.{leaves_seen}
 use Rattle.jsonb_tool.proofs.LeafLines.{LinesToward}
 use Rattle.jsonb_tool.proofs.output.leaves.Given as goal
 

@@ -1,28 +1,19 @@
-use Rattle.std.proofs.Common.{◌≡◌, ◌<◌, ◌≤◌, ◌↔◌, ◌<ℤ◌, ◌≤ℤ◌, pos, max, arith, rules}
-use Rattle.std.proofs.lemmas.Int.{by_lt_z}
-use Rattle.jsonb.proofs.PositionLemmas.{before_end}
+use Rattle.std.proofs.Common.{◌≡◌, ◌<◌, ◌≤◌, ◌↔◌, arith, rules}
+use mir.Syntax.{w128}
+use mir.Val.{SFits}
+use Rattle.std.proofs.lemmas.Int.{to_z-of_z}
 use Rattle.jsonb.proofs.path.position.positions_between.Goals as goal
 
 pub returns : goal.returns
 returns c k =
     let inside = c.loop-position.invariant k in
-    let low : k < c.args.length → (c.first_not_below-start.result ≤ k) ↔ (c.args.first ≤ℤ pos k) = search rules in
-    let high : k < c.args.length → (c.first_above.result ≤ k) ↔ (c.args.last <ℤ pos k) = search (rules, c.first_above.ensures.splits) in
-    let within : c.first_above.result ≤ c.args.length = c.first_above.ensures.within in
-    let greatest : c.max-end.result ≡ max c.first_above.result c.first_not_below-start.result = search rules in
-    let ends : c.loop-position.position ≡ c.max-end.result = omega
-    (arith, c.loop-position-test.false, c.loop-position.auto.position-end) in (
-      λ found.
-          let h = inside.0 found in
-          let early : k < c.first_above.result = omega (arith, h.0, h.1, ends, greatest) in
-          let short : k < c.args.length = omega (arith, early, within) in (
-            short,
-            (low short).0 h.0,
-            by_lt_z c.args.last (pos k) (λ above. absurd (omega (arith, early, (high short).1 above)))
-                (λ below. below),
-          ),
-      λ b.
-          let past_start : c.first_not_below-start.result ≤ k = (low b.0).1 b.1 in
-          let early : k < c.first_above.result = before_end k c.first_above.result c.args.last (high b.0).0 b.2 in
-          inside.1 (past_start, omega (arith, early, ends, greatest)),
+    let start = c.bounds_between-start.result.0 in
+    let end = c.bounds_between-start.result.1 in
+    let first_fits : SFits w128 c.args.first = search rules in
+    let last_fits : SFits w128 c.args.last = search rules in
+    let meant = rw (to_z-of_z w128 c.args.first first_fits, to_z-of_z w128 c.args.last last_fits) at (c.bounds_between-start.ensures.meant k) in
+    let within : end ≤ c.args.length = c.bounds_between-start.ensures.within.1 in
+    let reached : c.loop-position.position ≡ end = omega (arith, c.loop-position-test.false, c.loop-position.auto.position-end, c.bounds_between-start.ensures.within.0) in (
+      λ found. let h = inside.0 found in let early : k < end = omega (arith, h.1, reached) in (meant (omega (arith, early, within))).0 (h.0, early),
+      λ b. let h = (meant b.0).1 b in inside.1 (h.0, omega (arith, h.1, reached)),
     )

@@ -1,0 +1,91 @@
+-- Values that are numbers, and the results of arithmetic.
+use Rattle.std.specs.Prelude.{◌+ℤ◌, ◌-ℤ◌, ◌*ℤ◌, int_div, int_rem, nat_lt, ◌||◌, ◌^◌}
+use Rattle.std.proofs.Common.{◌≡◌, zero, suc, ℤ, pos, negsuc, Bool, true, false, if◌then◌else◌, IfOk, List, [], ◌∷◌, ◌++◌, map, Some, Ok, Err, IsOkAnd, refl, sym, ap, inl, inr}
+use Rattle.std.proofs.lemmas.List.{map-append}
+use Rattle.jsonb_doc.specs.Answer.{Outcome, Gives, WantsMemory, with_value, joined}
+use Rattle.jsonb_doc.specs.Arithmetic as op
+use Rattle.jsonb_doc.specs.Arithmetic.{Operation, calculated, integer, on_integers, IsOutcome}
+use Rattle.jsonb_doc.specs.Number.{Number, number_from, int64, uint64}
+use Rattle.jsonb_doc.specs.declared.error.Error.TheVariants.{Arithmetic}
+use Rattle.jsonb_doc.specs.declared.error.ArithmeticFault.TheVariants.{Overflow, ZeroDivisor, Inexact, DecimalOperand}
+use Rattle.jsonb_doc.specs.Payload.{Form}
+use Rattle.jsonb_doc.specs.Tree as tree
+use Rattle.jsonb_doc.specs.Tree.{Tree}
+use Rattle.jsonb_doc.specs.View.{number_view}
+use Rattle.jsonb_doc.specs.declared.number.Number.{Number as CodeNumber}
+use Rattle.jsonb_doc.specs.declared.item.Item.TheVariants as item
+use Rattle.jsonb.specs.PathArithmetic.{number_list, two_numbers, all_numbers}
+use Rattle.jsonb.specs.Related.{AllRelated}
+use Rattle.jsonb.specs.Selection.{lone_number, value_number, IsNumberTree, IsPart}
+use Rattle.jsonb.specs.Values.{Value, number}
+use Rattle.jsonb.specs.declared.selector.part.Part.{Part}
+use Rattle.jsonb.specs.declared.selector.part.Part.TheVariants as part
+use Rattle.jsonb.proofs.Outcomes.{AllRelated-append}
+
+-- what is never refused for want of memory
+pub as_memory : {A B : Type 0} {R : A → B → Type 0} {r : Outcome A} {o : Outcome B} → Gives R (λ _. ⊥) r o → Gives R WantsMemory r o
+as_memory {r = Ok x} h = record { ok = h.ok; err = tt }
+as_memory {r = Err e} h = record { ok = tt; err = inr (elim h.err [ inl none ↦ absurd none | inr is ↦ is ]) }
+
+-- ---- a result of arithmetic is a number as a tree has it, where every zero is one number
+
+abbrev pub IsNormal : Number → Type 0
+IsNormal r = number_from r.variant r.whole r.scale ≡ r
+
+chosen : (b : Bool) (o p : Outcome Number) → IfOk o IsNormal → IfOk p IsNormal → IfOk (if b then o else p) IsNormal
+chosen true o p h k = h
+chosen false o p h k = k
+
+integer_normal : (z : ℤ) → IfOk (integer z) IsNormal
+integer_normal (pos zero) = chosen (nat_lt 0 (2 ^ 64)) (Ok (record { variant = uint64; whole = pos 0; scale = 0 })) (Err (Arithmetic Overflow)) refl tt
+integer_normal (pos (suc n)) = chosen (nat_lt (suc n) (2 ^ 64)) (Ok (record { variant = uint64; whole = pos (suc n); scale = 0 })) (Err (Arithmetic Overflow)) refl tt
+integer_normal (negsuc n) = chosen (nat_lt n (2 ^ 63)) (Ok (record { variant = int64; whole = negsuc n; scale = 0 })) (Err (Arithmetic Overflow)) refl tt
+
+on_integers_normal : (o : Operation) (x y : ℤ) → IfOk (on_integers o x y) IsNormal
+on_integers_normal op.add x y = integer_normal (x +ℤ y)
+on_integers_normal op.subtract x y = integer_normal (x -ℤ y)
+on_integers_normal op.multiply x y = integer_normal (x *ℤ y)
+on_integers_normal op.divide x y =
+    chosen (op.is_zero y) (Err (Arithmetic ZeroDivisor)) (if op.is_zero (int_rem x y) then integer (int_div x y) else Err (Arithmetic Inexact)) tt
+    (chosen (op.is_zero (int_rem x y)) (integer (int_div x y)) (Err (Arithmetic Inexact)) (integer_normal (int_div x y)) tt)
+on_integers_normal op.modulo x y = chosen (op.is_zero y) (Err (Arithmetic ZeroDivisor)) (integer (int_rem x y)) tt (integer_normal (int_rem x y))
+
+calculated_normal : (o : Operation) (m n : Number) → IfOk (calculated o m n) IsNormal
+calculated_normal o m n =
+    chosen (op.is_decimal m.variant || op.is_decimal n.variant) (Err (Arithmetic DecimalOperand)) (on_integers o m.whole n.whole) tt (on_integers_normal o m.whole n.whole)
+
+outcome_given : (o : Outcome Number) (r : Outcome CodeNumber) → IfOk o IsNormal → IsOutcome o r → Gives IsNumberTree (λ _. ⊥) r (number_list o)
+outcome_given o (Ok n) normal is = record { ok = rw is (ap (λ k. tree.number k ∷ []) (rw is at normal)); err = tt }
+outcome_given o (Err e) normal is = record { ok = tt; err = inr (rw is refl) }
+
+-- ---- operands
+
+lone_is : (vs : List Value) (n : Number) → lone_number vs ≡ Some n → vs ≡ number n ∷ []
+lone_is (number m ∷ []) n h = let k : m ≡ n = cc in ap (λ z. number z ∷ []) k
+lone_is _ n h = cc
+
+two_are : (o : Operation) (ls rs : List Value) (m n : Number) → Some m ≡ lone_number ls → Some n ≡ lone_number rs
+    → two_numbers o ls rs ≡ number_list (calculated o m n)
+two_are o ls rs m n p q = λ i. two_numbers o (lone_is ls m (sym p) i) (lone_is rs n (sym q) i)
+
+-- two operands of one number each
+pub two_given : (o : Operation) (ls rs : List Value) (m n : CodeNumber) (r : Outcome CodeNumber) → Some (number_view m) ≡ lone_number ls → Some (number_view n) ≡ lone_number rs
+    → IsOutcome (calculated o (number_view m) (number_view n)) r → Gives IsNumberTree (λ _. ⊥) r (two_numbers o ls rs)
+two_given o ls rs m n r p q is = rw (two_are o ls rs _ _ p q) (outcome_given _ r (calculated_normal o (number_view m) (number_view n)) is)
+
+pub all_numbers-joined : (vs : List Value) → all_numbers vs ≡ joined value_number vs
+all_numbers-joined [] = refl
+all_numbers-joined (number n ∷ rest) = ap (λ o. with_value o (λ ns. Ok (n ∷ ns))) (all_numbers-joined rest)
+all_numbers-joined (v ∷ rest) = refl
+
+-- one more number
+pub number_added : (old new : List CodeNumber) (n : CodeNumber) (v : Value) (before : List Number) → new ≡ old ++ n ∷ []
+    → value_number v ≡ Ok (number_view n ∷ []) → map number_view old ≡ before → IsOkAnd (value_number v) (λ us. map number_view new ≡ before ++ us)
+number_added old new n v before added is held = rw is (rw (added, map-append, held) refl)
+
+-- one more part
+pub part_added : (form : Form) (old new : List Part) (n : CodeNumber) (o : Outcome (List Tree)) (before : List Tree)
+    → new ≡ old ++ part.Item (item.Number n) ∷ [] → IsOkAnd o (IsNumberTree n) → AllRelated (IsPart form) old before
+    → IsOkAnd o (λ us. AllRelated (IsPart form) new (before ++ us))
+part_added form old new n (Ok us) before added is held = rw (added, ← is) (AllRelated-append (IsPart form) old _ before _ held (refl, tt))
+part_added form old new n (Err e) before added is held = absurd is

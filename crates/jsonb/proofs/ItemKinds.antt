@@ -1,0 +1,45 @@
+-- What the kind of an item says of its tree.
+use Rattle.std.proofs.Common.{◌≡◌, ℕ, List, [], ◌∷◌, flat_map, Option, Some, None, refl, sym, ap, subst}
+use Rattle.std.specs.Borrow.{Bor}
+use Rattle.jsonb_doc.specs.Tree as tree
+use Rattle.jsonb_doc.specs.Tree.{Tree, children_of}
+use Rattle.jsonb_doc.specs.Payload.{any}
+use Rattle.jsonb_doc.specs.Item.{Stands}
+use Rattle.jsonb_doc.specs.declared.item.Item.{Item}
+use Rattle.jsonb_doc.specs.declared.item.Item.TheVariants.{Null, Boolean, Number, String, Extension, Array, Object}
+use Rattle.jsonb.specs.ItemSteps.{elements_of, values_of}
+use Rattle.jsonb.specs.Values.{values_of_item, value_of_item}
+
+-- the elements of an array are its children, and so are the values of an object
+pub array_children : (item : Item) (bytes : Bor (List ℕ)) (t : Tree) → item ≡ Array bytes → Stands any item t → children_of t ≡ elements_of t
+array_children item bytes t is h = let s = rw is at h in rw s.1 refl
+
+pub object_children : (item : Item) (bytes : Bor (List ℕ)) (t : Tree) → item ≡ Object bytes → Stands any item t → children_of t ≡ values_of t
+object_children item bytes t is h = let s = rw is at h in rw s.1 refl
+
+pub no_elements : (item : Item) (t : Tree) → ((bytes : Bor (List ℕ)) → item ≡ Array bytes → ⊥) → Stands any item t → elements_of t ≡ None
+no_elements Null t n h = rw h refl
+no_elements (Boolean b) t n h = rw h refl
+no_elements (Number m) t n h = rw h refl
+no_elements (String s) t n h = rw h refl
+no_elements (Extension x) t n h = rw h refl
+no_elements (Array bytes) t n h = absurd (n bytes refl)
+no_elements (Object bytes) t n h = rw h.1 refl
+
+pub no_values : (item : Item) (t : Tree) → ((bytes : Bor (List ℕ)) → item ≡ Object bytes → ⊥) → Stands any item t → values_of t ≡ None
+no_values Null t n h = rw h refl
+no_values (Boolean b) t n h = rw h refl
+no_values (Number m) t n h = rw h refl
+no_values (String s) t n h = rw h refl
+no_values (Extension x) t n h = rw h refl
+no_values (Array bytes) t n h = rw h.1 refl
+no_values (Object bytes) t n h = absurd (n bytes refl)
+
+-- the values of an array, and of another item
+pub array_values : (t : Tree) (ts : List Tree) → elements_of t ≡ Some ts → values_of_item t ≡ flat_map value_of_item ts
+array_values (tree.array us) ts is = ap (flat_map value_of_item) (let e : tree.elements us ≡ ts = cc in e)
+array_values _ ts is = cc
+
+pub other_values : (t : Tree) → elements_of t ≡ None → values_of_item t ≡ value_of_item t
+other_values (tree.array us) is = cc
+other_values _ is = refl

@@ -1,0 +1,105 @@
+-- What strict mode gives, lax mode gives too.
+use Rattle.std.proofs.Common.{◌≡◌, ℕ, List, [], ◌∷◌, ◌++◌, map, Option, Some, None, option_map, Ok, Err, refl, sym, subst, ◌∙◌}
+use Rattle.jsonb_doc.specs.Answer.{Outcome, with_value, joined}
+use Rattle.jsonb_doc.specs.Arithmetic.{Operation}
+use Rattle.jsonb_doc.specs.Payload.{Form}
+use Rattle.jsonb_doc.specs.Tree.{Tree, field_of}
+use Rattle.jsonb.specs.PathTree.{BinaryOp, and_op, or_op, Step, root, current, dot_wildcard, recursive_dot_wildcard, bracket_wildcard, dot_field, colon_field, object_field, array_indices, filter, whole_expression, Steps, no_steps, step, Expression, paths, value, raw, binary, unary, exists, steps_of}
+use Rattle.jsonb.specs.Values.{Value}
+use Rattle.jsonb.specs.Compare.{Truth}
+use Rattle.jsonb.specs.PathArithmetic.{operation, two_numbers, each_signed}
+use Rattle.jsonb.specs.ItemSteps.{list_or, picked, elements_of, values_of}
+use Rattle.jsonb.specs.Meaning.{step_meaning, steps_meaning, operand_values, truth, start, condition, as_filter, expression_meaning, binary_meaning, truth_list, meaning, Means}
+use Rattle.jsonb.specs.declared.selector.document.Mode.TheVariants.{Lax, Strict}
+
+-- a value of the first is the second's
+abbrev Keeps : {A : Type 0} → Outcome A → Outcome A → Type 0
+Keeps (Ok x) lax = lax ≡ Ok x
+Keeps (Err e) lax = Unit {0}
+
+keeps_same : {A : Type 0} (o : Outcome A) → Keeps o o
+keeps_same (Ok x) = refl
+keeps_same (Err e) = tt
+
+keeps_with : {A B : Type 0} (o p : Outcome A) (f g : A → Outcome B) → Keeps o p → ((x : A) → Keeps (f x) (g x)) → Keeps (with_value o f) (with_value p g)
+keeps_with (Ok x) p f g h k = subst (λ q. Keeps (f x) (with_value q g)) (sym h) (k x)
+keeps_with (Err e) p f g h k = tt
+
+keeps_joined : {A B : Type 0} (f g : A → Outcome (List B)) → ((x : A) → Keeps (f x) (g x)) → (xs : List A) → Keeps (joined f xs) (joined g xs)
+keeps_joined f g h [] = refl
+keeps_joined f g h (x ∷ xs) =
+    keeps_with (f x) (g x) (λ front. with_value (joined f xs) (λ back. Ok (front ++ back))) (λ front. with_value (joined g xs) (λ back. Ok (front ++ back))) (h x)
+    (λ front. keeps_with (joined f xs) (joined g xs) (λ back. Ok (front ++ back)) (λ back. Ok (front ++ back)) (keeps_joined f g h xs) (λ back. refl))
+
+list_kept : (otherwise : List Tree) (o : Option (List Tree)) → Keeps (list_or Strict otherwise o) (list_or Lax otherwise o)
+list_kept otherwise (Some ts) = refl
+list_kept otherwise None = tt
+
+condition_kept : (op : BinaryOp) (o : Option Operation) (l l' r r' : Outcome (List Value)) → Keeps l l' → Keeps r r' → Keeps (condition op o l r) (condition op o l' r')
+condition_kept op (Some a) l l' r r' h k = refl
+condition_kept op None l l' r r' h k = keeps_with l l' _ _ h (λ ls. keeps_with r r' _ _ k (λ rs. refl))
+
+mutual
+  step_kept : (s : Step) (top item : Tree) → Keeps (step_meaning Strict s top item) (step_meaning Lax s top item)
+  step_kept root top item = refl
+  step_kept current top item = refl
+  step_kept dot_wildcard top item = list_kept [] (values_of item)
+  step_kept (recursive_dot_wildcard levels) top item = refl
+  step_kept bracket_wildcard top item = list_kept (item ∷ []) (elements_of item)
+  step_kept (dot_field name) top item = list_kept [] (option_map (λ u. u ∷ []) (field_of name item))
+  step_kept (colon_field name) top item = list_kept [] (option_map (λ u. u ∷ []) (field_of name item))
+  step_kept (object_field name) top item = list_kept [] (option_map (λ u. u ∷ []) (field_of name item))
+  step_kept (array_indices entries) top item = list_kept [] (option_map (picked entries) (elements_of item))
+  step_kept (filter e) top item = keeps_with (truth Strict e top item) (truth Lax e top item) _ _ (truth_kept e top item) (λ b. refl)
+  step_kept (whole_expression e) top item = tt
+
+  steps_kept : (ss : Steps) (top : Tree) (items : List Tree) → Keeps (steps_meaning Strict ss top items) (steps_meaning Lax ss top items)
+  steps_kept no_steps top items = refl
+  steps_kept (step s rest) top items =
+      keeps_with (joined (step_meaning Strict s top) items) (joined (step_meaning Lax s top) items) (steps_meaning Strict rest top) (steps_meaning Lax rest top)
+      (keeps_joined (step_meaning Strict s top) (step_meaning Lax s top) (λ item. step_kept s top item) items) (λ ts. steps_kept rest top ts)
+
+  operand_kept : (e : Expression) (top item : Tree) → Keeps (operand_values Strict e top item) (operand_values Lax e top item)
+  operand_kept (paths ss) top item =
+      keeps_with (steps_meaning Strict ss top (start ss top item ∷ [])) (steps_meaning Lax ss top (start ss top item ∷ [])) _ _ (steps_kept ss top (start ss top item ∷ [])) (λ ts. refl)
+  operand_kept (value l) top item = refl
+  operand_kept _ top item = tt
+
+  truth_kept : (e : Expression) (top item : Tree) → Keeps (truth Strict e top item) (truth Lax e top item)
+  truth_kept (binary and_op l r) top item =
+      keeps_with (truth Strict l top item) (truth Lax l top item) _ _ (truth_kept l top item) (λ a. keeps_with (truth Strict r top item) (truth Lax r top item) _ _ (truth_kept r top item) (λ b. refl))
+  truth_kept (binary or_op l r) top item =
+      keeps_with (truth Strict l top item) (truth Lax l top item) _ _ (truth_kept l top item) (λ a. keeps_with (truth Strict r top item) (truth Lax r top item) _ _ (truth_kept r top item) (λ b. refl))
+  truth_kept (binary op l r) top item = condition_kept op (operation op) _ _ _ _ (operand_kept l top item) (operand_kept r top item)
+  truth_kept (exists ss) top item =
+      keeps_with (steps_meaning Strict ss top (start ss top item ∷ [])) (steps_meaning Lax ss top (start ss top item ∷ [])) _ _ (steps_kept ss top (start ss top item ∷ [])) (λ ts. refl)
+  truth_kept _ top item = tt
+
+truth_list_kept : (a b : Outcome Truth) → Keeps a b → Keeps (truth_list a) (truth_list b)
+truth_list_kept a b h = keeps_with a b _ _ h (λ t. refl)
+
+binary_kept : (o : Option Operation) (l l' r r' : Outcome (List Value)) (t t' : Outcome Truth) → Keeps l l' → Keeps r r' → Keeps t t' → Keeps (binary_meaning o l r t) (binary_meaning o l' r' t')
+binary_kept (Some op) l l' r r' t t' h k m = keeps_with l l' _ _ h (λ ls. keeps_with r r' _ _ k (λ rs. keeps_same (two_numbers op ls rs)))
+binary_kept None l l' r r' t t' h k m = truth_list_kept t t' m
+
+expression_kept : (e : Expression) (top : Tree) → Keeps (expression_meaning Strict e top) (expression_meaning Lax e top)
+expression_kept (paths ss) top = tt
+expression_kept (value l) top = keeps_same (expression_meaning Lax (value l) top)
+expression_kept (unary op e) top = keeps_with (operand_values Strict e top top) (operand_values Lax e top top) (each_signed op) (each_signed op) (operand_kept e top top) (λ vs. keeps_same (each_signed op vs))
+expression_kept (binary op l r) top = binary_kept (operation op) _ _ _ _ _ _ (operand_kept l top top) (operand_kept r top top) (truth_kept (binary op l r) top top)
+expression_kept (exists ss) top = truth_list_kept (truth Strict (exists ss) top top) (truth Lax (exists ss) top top) (truth_kept (exists ss) top top)
+
+meaning_kept : (path : List Step) (top : Tree) → Keeps (meaning Strict path top) (meaning Lax path top)
+meaning_kept (whole_expression e ∷ []) top = expression_kept e top
+meaning_kept (current ∷ rest) top = tt
+meaning_kept [] top = refl
+meaning_kept (s ∷ rest) top = steps_kept (steps_of (map as_filter (s ∷ rest))) top (top ∷ [])
+
+from_kept : {A : Type 0} (o p : Outcome A) (x : A) → Keeps o p → Ok x ≡ o → Ok x ≡ p
+from_kept (Ok y) p x h is = is ∙ sym h
+from_kept (Err e) p x h is = cc
+
+module _ (form : Form) (top : Tree) (ts : List Tree) where
+  pub means_kept : (path : List Step) → Means form Strict path top (Ok ts) → Means form Lax path top (Ok ts)
+  means_kept (whole_expression (value (raw document)) ∷ []) h = h
+  means_kept path h = from_kept (meaning Strict path top) (meaning Lax path top) ts (meaning_kept path top) h

@@ -1,0 +1,164 @@
+-- The elements that an index entry picks are those between its bounds.
+use Rattle.std.proofs.Common.{◌≡◌, ℕ, zero, suc, ◌+◌, ◌-◌, ◌<◌, ◌≤◌, ◌↔◌, ℤ, pos, ◌≤ℤ◌, Bool, true, false, cond, ◌&&◌, List, [], ◌∷◌, ◌++◌, length, take, drop, filter, filter_map, slice_get, Some, None, nat_lt, refl, sym, ap, ◌∙◌, subst, arith, append-nil, append_assoc}
+use Rattle.std.specs.Prelude.{int_le, slice_range}
+use Rattle.std.specs.Ordering.{int_eq}
+use Rattle.std.specs.Bool.{Decides}
+use Rattle.std.specs.List.{cons_option}
+use Rattle.std.proofs.lemmas.Bool.Decides.{Decides-int_eq, nat_tests}
+use Rattle.std.proofs.lemmas.Int.{ints}
+use Rattle.jsonb_doc.specs.Tree.{Tree}
+use Rattle.jsonb.specs.PathTree.{Entry, single, slice, from_front}
+use Rattle.jsonb.specs.Positions.{position, IsPosition}
+use Rattle.jsonb.specs.Related.{AllRelated}
+use Rattle.jsonb.specs.ItemSteps.{is_meant, count_from, picked_by, picked}
+
+-- ---- the test and the relation agree
+
+le_decides : (x y : ℤ) → Decides (int_le x y) (x ≤ℤ y)
+le_decides x y = (λ h. grind (arith, ints), λ h. grind (arith, ints))
+
+both_decide : {P Q : Type 0} (a b : Bool) → Decides a P → Decides b Q → Decides (a && b) (P × Q)
+both_decide true b f g = (λ h. (f.0 refl, g.0 h), λ h. g.1 h.1)
+both_decide false b f g = (λ h. cc, λ h. f.1 h.0)
+
+pub meant_decides : (entry : Entry) (n k : ℕ) → k < n → Decides (is_meant n entry k) (IsPosition entry n k)
+meant_decides (single place) n k h =
+    let d = Decides-int_eq (pos k) (position n place) in (λ is. (h, d.0 is), λ is. d.1 is.1)
+meant_decides (slice first last) n k h =
+    let d = both_decide (int_le (position n first) (pos k)) (int_le (pos k) (position n last)) (le_decides (position n first) (pos k)) (le_decides (pos k) (position n last)) in
+    (λ is. let b = d.0 is in (h, b.0, b.1), λ b. d.1 (b.1, b.2))
+
+not_meant : (entry : Entry) (n k : ℕ) (b : Bool) → is_meant n entry k ≡ b → (b ≡ true → ⊥) → is_meant n entry k ≡ false
+not_meant entry n k true e wrong = absurd (wrong refl)
+not_meant entry n k false e wrong = e
+
+-- ---- from a position on
+
+count_from-next : (n k : ℕ) → k < n → count_from k (n - k) ≡ k ∷ count_from (k + 1) (n - (k + 1))
+count_from-next n k h = let e : n - k ≡ suc (n - (k + 1)) = omega arith in ap (count_from k) e
+
+count_from-end : (n k : ℕ) → n ≤ k → count_from k (n - k) ≡ []
+count_from-end n k h = let e : n - k ≡ 0 = omega arith in ap (count_from k) e
+
+get-drop : {B : Type 0} (ts : List B) (k : ℕ) → k < length ts → (u : B) × (slice_get ts k ≡ Some u) × (drop k ts ≡ u ∷ drop (suc k) ts)
+get-drop [] k h = absurd (omega (arith, h))
+get-drop (t ∷ ts) zero h = (t, refl, refl)
+get-drop (t ∷ ts) (suc k) h = get-drop ts k (omega (arith, h))
+
+module _ {B : Type 0} (ts : List B) (p : ℕ → Bool) (n : ℕ) where
+  abbrev rest_from : ℕ → List B
+  rest_from k = filter_map (slice_get ts) (filter p (count_from k (n - k)))
+
+  rest_taken : (k : ℕ) (u : B) → k < n → p k ≡ true → slice_get ts k ≡ Some u → rest_from k ≡ u ∷ rest_from (k + 1)
+  rest_taken k u h is here =
+      ap (λ l. filter_map (slice_get ts) (filter p l)) (count_from-next n k h)
+      ∙ ap (λ b. filter_map (slice_get ts) (cond b (k ∷ filter p (count_from (k + 1) (n - (k + 1)))) (filter p (count_from (k + 1) (n - (k + 1)))))) is
+      ∙ ap (λ o. cons_option o (rest_from (k + 1))) here
+
+  rest_passed : (k : ℕ) → k < n → p k ≡ false → rest_from k ≡ rest_from (k + 1)
+  rest_passed k h is =
+      ap (λ l. filter_map (slice_get ts) (filter p l)) (count_from-next n k h)
+      ∙ ap (λ b. filter_map (slice_get ts) (cond b (k ∷ filter p (count_from (k + 1) (n - (k + 1)))) (filter p (count_from (k + 1) (n - (k + 1)))))) is
+
+  rest_none : (k : ℕ) → n ≤ k → rest_from k ≡ []
+  rest_none k h = ap (λ l. filter_map (slice_get ts) (filter p l)) (count_from-end n k h)
+
+  -- so many that are passed over, and so many that are taken
+  passed_until : (d k j : ℕ) → k + d ≡ j → j ≤ n → ((i : ℕ) → k ≤ i → i < j → p i ≡ false) → rest_from k ≡ rest_from j
+  passed_until zero k j e h none = let same : k ≡ j = omega arith in ap rest_from same
+  passed_until (suc d) k j e h none =
+      rest_passed k (omega arith) (none k (omega arith) (omega arith)) ∙ passed_until d (k + 1) j (omega arith) h (λ i low high. none i (omega arith) high)
+
+  taken_until : (d k j : ℕ) → k + d ≡ j → j ≤ n → n ≡ length ts → ((i : ℕ) → k ≤ i → i < j → p i ≡ true) → rest_from k ≡ take d (drop k ts) ++ rest_from j
+  taken_until zero k j e h len all = let same : k ≡ j = omega arith in ap rest_from same
+  taken_until (suc d) k j e h len all =
+      let here = get-drop ts k (omega arith) in
+      let next : k + 1 ≡ suc k = omega arith in
+      rest_taken k here.0 (omega arith) (all k (omega arith) (omega arith)) here.1
+      ∙ ap (λ l. here.0 ∷ l) (taken_until d (k + 1) j (omega arith) h len (λ i low high. all i (omega arith) high))
+      ∙ ap (λ m. here.0 ∷ (take d (drop m ts) ++ rest_from j)) next
+      ∙ ap (λ l. take (suc d) l ++ rest_from j) (sym here.2)
+
+  between_bounds : (start end : ℕ) → start ≤ end → end ≤ n → n ≡ length ts →
+      ((i : ℕ) → start ≤ i → i < end → p i ≡ true) → ((i : ℕ) → i < start → p i ≡ false) → ((i : ℕ) → end ≤ i → i < n → p i ≡ false) →
+      rest_from 0 ≡ take (end - start) (drop start ts)
+  between_bounds start end h k len all below above =
+      passed_until start 0 start (omega arith) (omega arith) (λ i low high. below i high)
+      ∙ taken_until (end - start) start end (omega arith) k len all
+      ∙ ap (λ l. take (end - start) (drop start ts) ++ l) (passed_until (n - end) end n (omega arith) (omega arith) above ∙ rest_none n (omega arith))
+      ∙ append-nil _
+
+pub picked_between : (entry : Entry) (ts : List Tree) (start end : ℕ) → start ≤ end → end ≤ length ts →
+    ((k : ℕ) → k < length ts → ((start ≤ k) × (k < end)) ↔ IsPosition entry (length ts) k) → picked_by entry ts ≡ slice_range ts start end
+picked_between entry ts start end h k meant =
+    let whole : length ts ≡ length ts - 0 = omega arith in
+    ap (λ m. filter_map (slice_get ts) (filter (is_meant (length ts) entry) (count_from 0 m))) whole
+    ∙ between_bounds ts (is_meant (length ts) entry) (length ts) start end h k refl
+    (λ i low high. let short : i < length ts = omega arith in (meant_decides entry (length ts) i short).1 ((meant i short).0 (low, high)))
+    (λ i high. let short : i < length ts = omega arith in
+    not_meant entry (length ts) i _ refl (λ is. let b = (meant i short).1 ((meant_decides entry (length ts) i short).0 is) in absurd (omega (arith, b.0))))
+    (λ i low short. not_meant entry (length ts) i _ refl (λ is. let b = (meant i short).1 ((meant_decides entry (length ts) i short).0 is) in absurd (omega (arith, b.1))))
+
+-- ---- related lists, cut at the same places
+
+module _ {A B : Type 0} (R : A → B → Type 0) where
+  pub AllRelated-length : (xs : List A) (ys : List B) → AllRelated R xs ys → length xs ≡ length ys
+  AllRelated-length [] [] h = refl
+  AllRelated-length [] (y ∷ ys) h = absurd h
+  AllRelated-length (x ∷ xs) [] h = absurd h
+  AllRelated-length (x ∷ xs) (y ∷ ys) h = ap suc (AllRelated-length xs ys h.1)
+
+  AllRelated-take : (d : ℕ) (xs : List A) (ys : List B) → AllRelated R xs ys → AllRelated R (take d xs) (take d ys)
+  AllRelated-take zero xs ys h = tt
+  AllRelated-take (suc d) [] [] h = tt
+  AllRelated-take (suc d) [] (y ∷ ys) h = absurd h
+  AllRelated-take (suc d) (x ∷ xs) [] h = absurd h
+  AllRelated-take (suc d) (x ∷ xs) (y ∷ ys) h = (h.0, AllRelated-take d xs ys h.1)
+
+  AllRelated-drop : (d : ℕ) (xs : List A) (ys : List B) → AllRelated R xs ys → AllRelated R (drop d xs) (drop d ys)
+  AllRelated-drop zero xs ys h = h
+  AllRelated-drop (suc d) [] [] h = tt
+  AllRelated-drop (suc d) [] (y ∷ ys) h = absurd h
+  AllRelated-drop (suc d) (x ∷ xs) [] h = absurd h
+  AllRelated-drop (suc d) (x ∷ xs) (y ∷ ys) h = AllRelated-drop d xs ys h.1
+
+  pub AllRelated-between : (start end : ℕ) (xs : List A) (ys : List B) → AllRelated R xs ys → AllRelated R (slice_range xs start end) (slice_range ys start end)
+  AllRelated-between start end xs ys h = AllRelated-take (end - start) (drop start xs) (drop start ys) (AllRelated-drop start xs ys h)
+
+-- ---- one plain index
+
+pub get_first : {B : Type 0} (ts : List B) (first : B) (others : List B) (k : ℕ) → ts ≡ first ∷ others → k ≡ 0 → slice_get ts k ≡ Some first
+get_first ts first others k whole none = rw (whole, none) refl
+
+pub get_further : {B : Type 0} (ts : List B) (first : B) (others : List B) (k : ℕ) → ts ≡ first ∷ others → (k ≡ 0 → ⊥) → slice_get others (k - 1) ≡ slice_get ts k
+get_further ts first others k whole later = rw whole (go k later)
+  where
+    go : (j : ℕ) → (j ≡ 0 → ⊥) → slice_get others (j - 1) ≡ slice_get (first ∷ others) j
+    go zero none = absurd (none refl)
+    go (suc j) none = let e : suc j - 1 ≡ j = omega arith in ap (slice_get others) e
+
+pub get_none : {B : Type 0} (ts : List B) (k : ℕ) → ts ≡ [] → slice_get ts k ≡ None
+get_none ts k is = rw is refl
+
+past_end : {B : Type 0} (ts : List B) (k : ℕ) → length ts ≤ k → slice_get ts k ≡ None
+past_end [] k h = refl
+past_end (t ∷ ts) zero h = absurd (omega (arith, h))
+past_end (t ∷ ts) (suc k) h = past_end ts k (omega (arith, h))
+
+pub picked_plain : (k : ℕ) (ts : List Tree) → picked (single (from_front (pos k)) ∷ []) ts ≡ filter_map (slice_get ts) (k ∷ [])
+picked_plain k ts = append-nil (picked_by (single (from_front (pos k))) ts) ∙ by_order (nat_lt k (length ts)) refl
+  where
+    by_order : (b : Bool) → nat_lt k (length ts) ≡ b → picked_by (single (from_front (pos k))) ts ≡ filter_map (slice_get ts) (k ∷ [])
+    by_order true e =
+        let short : k < length ts = grind (arith, nat_tests) in
+        let here = get-drop ts k short in
+        let one : k + 1 - k ≡ 1 = omega arith in
+        picked_between (single (from_front (pos k))) ts k (k + 1) (omega arith) (omega arith)
+        (λ i inside. (λ h. (inside, let same : i ≡ k = omega (arith, h.0, h.1) in ap pos same), λ h. let same : i ≡ k = cc in (omega arith, omega arith)))
+        ∙ ap (λ n. take n (drop k ts)) one ∙ ap (take 1) here.2 ∙ sym (ap (λ o. cons_option o []) here.1)
+    by_order false e =
+        let past : length ts ≤ k = grind (arith, nat_tests) in
+        let none : length ts - length ts ≡ 0 = omega arith in
+        picked_between (single (from_front (pos k))) ts (length ts) (length ts) (omega arith) (omega arith)
+        (λ i inside. (λ h. absurd (omega (arith, h.0, h.1)), λ h. let same : i ≡ k = cc in absurd (omega arith)))
+        ∙ ap (λ n. take n (drop (length ts) ts)) none ∙ sym (ap (λ o. cons_option o []) (past_end ts k past))

@@ -1,0 +1,21 @@
+-- A path that was read has one meaning on each tree.
+use Rattle.std.proofs.Common.{ℕ, List, [], ◌∷◌, Some, ◌≡◌, refl, inl, inr}
+use Rattle.jsonb_doc.specs.Payload.{Form}
+use Rattle.jsonb_doc.specs.Tree.{Tree}
+use Rattle.jsonb.specs.Meaning.{Means, meaning}
+use Rattle.jsonb.specs.PathGrammar.{json_path}
+use Rattle.jsonb.specs.PathTree.{Step, whole_expression, value, raw}
+use Rattle.jsonb.specs.declared.selector.document.Mode.{Mode}
+use Rattle.jsonb.proofs.PathShape.{IsPath}
+use Rattle.jsonb.proofs.GrammarShape.{json_path_is_path}
+
+-- no text has a document as a literal
+shape_means : (form : Form) (mode : Mode) (p : List Step) (top : Tree) → IsPath p → Means form mode p top (meaning mode p top)
+shape_means form mode (whole_expression (value (raw document)) ∷ []) top (inl (e, is, condition)) =
+    let same : e ≡ value (raw document) = cc in absurd (rw same at condition)
+shape_means form mode (whole_expression (value (raw document)) ∷ []) top (inr (inl (ss, is, each))) = cc
+shape_means form mode (whole_expression (value (raw document)) ∷ []) top (inr (inr each)) = absurd each.0
+shape_means form mode p top shape = refl
+
+pub read_means : (form : Form) (mode : Mode) (text : List ℕ) (p : List Step) (top : Tree) → json_path text ≡ Some p → Means form mode p top (meaning mode p top)
+read_means form mode text p top read = shape_means form mode p top (json_path_is_path text p read)

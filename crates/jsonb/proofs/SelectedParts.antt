@@ -1,0 +1,113 @@
+-- The parts that are selected, position by position.
+use Rattle.std.proofs.Common.{◌≡◌, ℕ, zero, suc, ◌+◌, ◌<◌, ◌≤◌, List, [], ◌∷◌, ◌++◌, length, get_or, drop, Some, None, Ok, refl, ap, inl, inr, arith, add-one}
+use Rattle.std.proofs.Math.Seq.{drop-cons}
+use Rattle.std.proofs.Math.ListN.{drop_of_length-le}
+use Rattle.jsonb_doc.specs.Tree.{Tree}
+use Rattle.jsonb_doc.specs.Payload.{Form}
+use Rattle.jsonb_doc.specs.Limits.{IsTooLarge}
+use Rattle.jsonb_doc.specs.Spots.{Marks}
+use Rattle.jsonb_doc.specs.ArrayBuilder.{Parts, no_parts, HoldsElements}
+use Rattle.jsonb_doc.specs.Answer.{WantsRoom}
+use Rattle.jsonb_doc.specs.declared.error.Error.{Error}
+use Rattle.jsonb_doc.specs.declared.spot.Spot.{Spot}
+use Rattle.jsonb_doc.proofs.LimitLemmas.{array_too_large-element}
+use Rattle.jsonb.specs.declared.selector.part.Part.{Part}
+use Rattle.std.specs.Prelude.{Vec}
+use Rattle.std.specs.declared.alloc.Global.{Global}
+use Rattle.jsonb.specs.Related.{AllRelated}
+use Rattle.jsonb.specs.Selected.{selected_len}
+use Rattle.jsonb.specs.Selection.{IsAt, IsPart, Selects, found_spots}
+use Rattle.jsonb.specs.SelectorAnswers.{HasTooLarge, LacksRoom, first_of, value_of, array_of}
+use Rattle.jsonb.specs.declared.selector.document.Document.{Document}
+use Rattle.jsonb.specs.declared.selector.found.Found.{Found}
+use Rattle.jsonb.specs.declared.selector.part.Selected.{Selected}
+use Rattle.jsonb.specs.declared.selector.part.Selected.TheVariants as selected
+
+-- ---- related lists
+
+pub related_length : {A B : Type 0} (R : A → B → Type 0) (xs : List A) (ys : List B) → AllRelated R xs ys → length xs ≡ length ys
+related_length R [] [] h = refl
+related_length R [] (y ∷ ys) h = absurd h
+related_length R (x ∷ xs) [] h = absurd h
+related_length R (x ∷ xs) (y ∷ ys) h = ap suc (related_length R xs ys h.1)
+
+pub related_at : {A B : Type 0} (R : A → B → Type 0) (xs : List A) (ys : List B) (k : ℕ) (d : A) (e : B) → k < length xs → AllRelated R xs ys
+    → R (get_or xs k d) (get_or ys k e)
+related_at R [] ys k d e short h = absurd (omega (arith, short))
+related_at R (x ∷ xs) [] k d e short h = absurd h
+related_at R (x ∷ xs) (y ∷ ys) zero d e short h = h.0
+related_at R (x ∷ xs) (y ∷ ys) (suc k) d e short h = related_at R xs ys k d e (omega (arith, short)) h.1
+
+pub related_more : {A B : Type 0} (R : A → B → Type 0) (xs : List A) (ys : List B) (x : A) (y : B) → AllRelated R xs ys → R x y
+    → AllRelated R (xs ++ x ∷ []) (ys ++ y ∷ [])
+related_more R [] [] x y h r = (r, tt)
+related_more R [] (v ∷ ys) x y h r = absurd h
+related_more R (u ∷ xs) [] x y h r = absurd h
+related_more R (u ∷ xs) (v ∷ ys) x y h r = (h.0, related_more R xs ys x y h.1 r)
+
+-- ---- what is selected
+
+pub Selects-length : (form : Form) (document : Document) (s : Selected) (ts : List Tree) → Selects form document s ts → selected_len s ≡ length ts
+Selects-length form document (selected.Spots spots) ts h = related_length (IsAt document) (found_spots spots) ts h
+Selects-length form document (selected.Made parts) ts h = related_length (IsPart form) parts.items ts h
+
+-- the spot at a position, and the part
+pub Selects-spot : (form : Form) (document : Document) (s : Selected) (found : Found) (spots : List Spot) (ts : List Tree) (k : ℕ) (d : Spot) (e : Tree)
+    → s ≡ selected.Spots found → spots ≡ found_spots found → k < selected_len s → Selects form document s ts
+    → Marks document.bytes.now (get_or spots k d) (get_or ts k e)
+Selects-spot form document s found spots ts k d e is same short h =
+    rw same (related_at (IsAt document) (found_spots found) ts k d e (rw is at short) (rw is at h))
+
+pub Selects-part : (form : Form) (document : Document) (s : Selected) (parts : Vec Part Global) (ts : List Tree) (k : ℕ) (d : Part) (e : Tree)
+    → s ≡ selected.Made parts → k < selected_len s → Selects form document s ts → IsPart form (get_or parts.items k d) (get_or ts k e)
+Selects-part form document s parts ts k d e is short h =
+    related_at (IsPart form) parts.items ts k d e (rw is at short) (rw is at h)
+
+-- the trees from a position on
+pub left_first : (ts : List Tree) (k : ℕ) (e : Tree) → k < length ts → drop k ts ≡ get_or ts k e ∷ drop (k + 1) ts
+left_first ts k e short = rw (add-one, drop-cons ts k e)
+
+pub left_none : (ts : List Tree) (k : ℕ) → length ts ≤ k → drop k ts ≡ []
+left_none ts k h = drop_of_length-le ts h
+
+-- ---- documents
+
+-- an empty builder holds nothing
+pub none_held : (form : Form) (parts : Parts) → parts ≡ no_parts → HoldsElements form parts []
+none_held form parts is = rw is (refl, refl)
+
+-- one tree that is too large is among those that are
+pub too_large_at : (form : Form) (ts : List Tree) (k : ℕ) (e : Tree) → k < length ts → IsTooLarge form (get_or ts k e) → HasTooLarge form ts
+too_large_at form [] k e short h = absurd (omega (arith, short))
+too_large_at form (t ∷ ts) zero e short h = inl h
+too_large_at form (t ∷ ts) (suc k) e short h = inr (too_large_at form ts k e (omega (arith, short)) h)
+
+-- at most one tree is its own first
+pub value_few : (ts : List Tree) → length ts ≤ 1 → value_of ts ≡ first_of ts
+value_few [] h = refl
+value_few (t ∷ []) h = refl
+value_few (t ∷ u ∷ ts) h = absurd (omega (arith, h))
+
+pub value_many : (ts : List Tree) → 1 < length ts → value_of ts ≡ Some (array_of ts)
+value_many [] h = absurd (omega (arith, h))
+value_many (t ∷ []) h = absurd (omega (arith, h))
+value_many (t ∷ u ∷ ts) h = refl
+
+pub first_none : (ts : List Tree) → length ts ≡ 0 → first_of ts ≡ None
+first_none [] h = refl
+first_none (t ∷ ts) h = cc
+
+pub first_some : (ts : List Tree) (e : Tree) → 0 < length ts → first_of ts ≡ Some (get_or ts 0 e)
+first_some [] e h = absurd (omega (arith, h))
+first_some (t ∷ ts) e h = refl
+
+-- the refusal of a part is one of the array that it goes into
+pub part_refused : (form : Form) (ts : List Tree) (t u : Tree) (e : Error) → t ≡ u → WantsRoom form u e → WantsRoom form (array_of (ts ++ t ∷ [])) e
+part_refused form ts t u e is (inl memory) = inl memory
+part_refused form ts t u e is (inr (large, past)) = inr (large, array_too_large-element form ts [] t (rw is past))
+
+-- the refusal of a part is one of the list
+pub list_refused : (form : Form) (ts : List Tree) (k : ℕ) (d : Tree) (e : Error) → k < length ts → WantsRoom form (get_or ts k d) e
+    → LacksRoom (HasTooLarge form) (Ok ts) e
+list_refused form ts k d e short (inl memory) = inl memory
+list_refused form ts k d e short (inr (large, past)) = inr (large, too_large_at form ts k d short past)

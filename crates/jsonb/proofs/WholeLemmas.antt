@@ -1,0 +1,128 @@
+-- Paths that are one expression, and all others.
+use Rattle.std.proofs.Common.{◌≡◌, ◌+◌, ◌<◌, List, [], ◌∷◌, map, Some, None, is_some, subst, Option, true, false, Ok, Err, IsOkAnd, ℕ, suc, length, drop, get_or, add-one, arith, refl, ap, sym, ◌∙◌, inl, inr, Box, Global}
+use Rattle.std.proofs.Math.Seq.{drop-cons}
+use Rattle.jsonb_doc.specs.Answer.{Outcome, with_value, joined, Gives, WantsMemory}
+use Rattle.jsonb_doc.specs.Payload.{Form}
+use Rattle.jsonb_doc.specs.View.{number_view}
+use Rattle.jsonb_doc.specs.Tree as tree
+use Rattle.jsonb_doc.specs.Tree.{Tree}
+use Rattle.jsonb_doc.specs.declared.error.Error.{Error}
+use Rattle.jsonb_doc.specs.declared.error.Error.TheVariants.{InvalidJsonPath}
+use Rattle.jsonb_doc.specs.declared.number.Number.{Number}
+use Rattle.jsonb_doc.specs.declared.number.Number.TheVariants.{Int64, UInt64, Decimal64, Decimal128}
+use Rattle.jsonb.specs.PathTree as math
+use Rattle.jsonb.specs.PathTree.{Step, Expression, steps_of}
+use Rattle.jsonb.specs.PathViews.{step_view, steps_view, number_literal, literal_view}
+use Rattle.jsonb.specs.Meaning.{step_meaning, steps_meaning, as_filter, Means, predicate}
+use Rattle.jsonb.specs.Selection.{step_expression, lone_expression, begins_with_current}
+use Rattle.jsonb.specs.declared.selector.document.Mode.{Mode}
+use Rattle.jsonb.specs.declared.path.PathValue.{PathValue}
+use Rattle.jsonb.specs.declared.path.Expr.{Expr}
+use Rattle.jsonb.specs.declared.path.Expr.TheOpen.{Expr-F, Path-F}
+use Rattle.jsonb.specs.declared.path.Expr.TheViews.{roll-Path, roll-out-Path}
+use Rattle.jsonb.specs.declared.path.Path.{Path, out-Path}
+use Rattle.jsonb.specs.declared.path.Path.TheVariants as step
+use Rattle.jsonb.proofs.PathNodes.{step_is}
+
+-- a step that is no expression is the same as a filter
+others : (s : Path) (x : Path-F Expr Path) → out-Path s ≡ x → ((e : Box Expr Global) → s ≡ step.Expr e → ⊥) → (as_filter (step_view s) ≡ step_view s) × (step_expression (step_view s) ≡ None)
+others s Path-F.Root h n = (ap as_filter (step_is s _ h) ∙ sym (step_is s _ h), ap step_expression (step_is s _ h))
+others s Path-F.Current h n = (ap as_filter (step_is s _ h) ∙ sym (step_is s _ h), ap step_expression (step_is s _ h))
+others s Path-F.DotWildcard h n = (ap as_filter (step_is s _ h) ∙ sym (step_is s _ h), ap step_expression (step_is s _ h))
+others s (Path-F.RecursiveDotWildcard r) h n = (ap as_filter (step_is s _ h) ∙ sym (step_is s _ h), ap step_expression (step_is s _ h))
+others s Path-F.BracketWildcard h n = (ap as_filter (step_is s _ h) ∙ sym (step_is s _ h), ap step_expression (step_is s _ h))
+others s (Path-F.DotField x) h n = (ap as_filter (step_is s _ h) ∙ sym (step_is s _ h), ap step_expression (step_is s _ h))
+others s (Path-F.ColonField x) h n = (ap as_filter (step_is s _ h) ∙ sym (step_is s _ h), ap step_expression (step_is s _ h))
+others s (Path-F.ObjectField x) h n = (ap as_filter (step_is s _ h) ∙ sym (step_is s _ h), ap step_expression (step_is s _ h))
+others s (Path-F.ArrayIndices v) h n = (ap as_filter (step_is s _ h) ∙ sym (step_is s _ h), ap step_expression (step_is s _ h))
+others s (Path-F.FilterExpr e) h n = (ap as_filter (step_is s _ h) ∙ sym (step_is s _ h), ap step_expression (step_is s _ h))
+others s (Path-F.Expr e) h n = absurd (n e (sym (roll-out-Path s) ∙ ap roll-Path h ∙ step.rolls-Expr e))
+
+pub no_expression : (s : Path) → ((e : Box Expr Global) → s ≡ step.Expr e → ⊥) → as_filter (step_view s) ≡ step_view s
+no_expression s n = (others s (out-Path s) refl n).0
+
+pub no_step_expression : (s : Path) → ((e : Box Expr Global) → s ≡ step.Expr e → ⊥) → step_expression (step_view s) ≡ None
+no_step_expression s n = (others s (out-Path s) refl n).1
+
+-- one step alone, and all other lists
+pub one_step : (steps : List Path) (s : Path) → length steps ≡ 1 → s ≡ get_or steps 0 s → lone_expression (steps_view steps) ≡ step_expression (step_view s)
+one_step [] s l is = cc
+one_step (t ∷ []) s l is = ap (λ x. step_expression (step_view x)) (sym is)
+one_step (t ∷ u ∷ rest) s l is = absurd (omega (arith, l))
+
+pub not_one_step : (steps : List Path) → (length steps ≡ 1 → ⊥) → lone_expression (steps_view steps) ≡ None
+not_one_step [] n = refl
+not_one_step (t ∷ []) n = absurd (n refl)
+not_one_step (t ∷ u ∷ rest) n = refl
+
+-- the steps from the i-th one on: that step, and those behind it
+pub top_steps_at : (mode : Mode) (steps : List Path) (i : ℕ) (s : Path) (top : Tree) (us : List Tree) → i < length steps → s ≡ get_or steps i s →
+    steps_meaning mode (steps_of (map as_filter (steps_view (drop i steps)))) top us
+    ≡ with_value (joined (step_meaning mode (as_filter (step_view s)) top) us) (steps_meaning mode (steps_of (map as_filter (steps_view (drop (i + 1) steps)))) top)
+top_steps_at mode steps i s top us h is =
+    ap (λ l. steps_meaning mode (steps_of (map as_filter (steps_view l))) top us) (drop-cons steps i s h ∙ ap (λ x. x ∷ drop (suc i) steps) (sym is) ∙ ap (λ n. s ∷ drop n steps) (sym (add-one i)))
+
+-- the meaning of a path that is one expression, of one that begins with `@`, and of all others
+step_expression_is : (s : Step) (e : Expression) → step_expression s ≡ Some e → s ≡ math.whole_expression e
+step_expression_is (math.whole_expression x) e h = let k : x ≡ e = cc in ap math.whole_expression k
+step_expression_is _ e h = cc
+
+pub lone_is : (path : List Step) (e : Expression) → lone_expression path ≡ Some e → path ≡ math.whole_expression e ∷ []
+lone_is [] e h = cc
+lone_is (s ∷ []) e h = ap (λ x. x ∷ []) (step_expression_is s e h)
+lone_is (s ∷ t ∷ rest) e h = cc
+
+module _ (form : Form) (mode : Mode) (top : Tree) (outcome : Outcome (List Tree)) where
+  pub refused_current : (path : List Step) → begins_with_current path ≡ true → Means form mode path top outcome → outcome ≡ Err InvalidJsonPath
+  refused_current (math.current ∷ rest) b h = h
+  refused_current _ b h = cc
+
+  pub by_steps : (path : List Step) → lone_expression path ≡ None → begins_with_current path ≡ false → Means form mode path top outcome → outcome ≡ steps_meaning mode (steps_of (map as_filter path)) top (top ∷ [])
+  by_steps (math.current ∷ rest) n b h = cc
+  by_steps (math.whole_expression (math.value (math.raw document)) ∷ s ∷ rest) n b h = h
+  by_steps (math.whole_expression e ∷ []) n b h = cc
+  by_steps _ n b h = h
+
+  -- an expression that is seen as another
+  pub meant : (x y : Expression) → x ≡ y → Means form mode (math.whole_expression x ∷ []) top outcome → Means form mode (math.whole_expression y ∷ []) top outcome
+  meant x y is h = subst (λ z. Means form mode (math.whole_expression z ∷ []) top outcome) is h
+
+  pub literal_meant : (v w : PathValue) → v ≡ w → Means form mode (math.whole_expression (math.value (literal_view v)) ∷ []) top outcome → Means form mode (math.whole_expression (math.value (literal_view w)) ∷ []) top outcome
+  literal_meant v w is h = subst (λ x. Means form mode (math.whole_expression (math.value (literal_view x)) ∷ []) top outcome) is h
+
+  pub number_meant : (n : Number) → Means form mode (math.whole_expression (math.value (number_literal n)) ∷ []) top outcome → outcome ≡ Ok (tree.array (tree.trees_of (tree.number (number_view n) ∷ [])) ∷ [])
+  number_meant (Int64 z) h = h
+  number_meant (UInt64 z) h = h
+  number_meant (Decimal64 d) h = h
+  number_meant (Decimal128 d) h = h
+
+pub some_of : {A : Type 0} (o : Option A) → is_some o ≡ true → (x : A) × (o ≡ Some x)
+some_of (Some x) h = (x, refl)
+some_of None h = cc
+
+pub none_of : {A : Type 0} (o : Option A) → is_some o ≡ false → o ≡ None
+none_of (Some x) h = cc
+none_of None h = refl
+
+-- an outcome with this value
+pub is_outcome : {B : Type 0} (o : Outcome B) (x : B) → IsOkAnd o (λ y. x ≡ y) → o ≡ Ok x
+is_outcome (Ok y) x h = ap Ok (sym h)
+is_outcome (Err e) x h = absurd h
+
+-- a call without memory
+pub without_memory : {A B : Type 0} {R : A → B → Type 0} {r : Outcome A} {o : Outcome B} → Gives R (λ (_ : Error). ⊥) r o → Gives R WantsMemory r o
+without_memory {A} {B} {R} {r = Ok x} {o} h = record { ok = h.ok; err = tt }
+without_memory {A} {B} {R} {r = Err e} {o} h = record { ok = tt; err = elim h.err [ inl none ↦ absurd none | inr is ↦ inr is ] }
+
+-- a path that is no single expression says nothing
+pub no_lone : (path : List Step) → math.is_predicate path ≡ false → (e : Expression) → lone_expression path ≡ Some e → ⊥
+no_lone [] p e h = cc
+no_lone (math.whole_expression x ∷ []) p e h = cc
+no_lone (s ∷ []) p e h = cc
+no_lone (s ∷ t ∷ rest) p e h = cc
+
+pub no_predicate : (mode : Mode) (path : List Step) (top : Tree) → lone_expression path ≡ None → predicate mode path top ≡ Ok None
+no_predicate mode [] top h = refl
+no_predicate mode (math.whole_expression x ∷ []) top h = cc
+no_predicate mode (math.whole_expression x ∷ t ∷ rest) top h = refl
+no_predicate mode _ top h = refl

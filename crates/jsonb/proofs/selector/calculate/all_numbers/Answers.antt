@@ -1,0 +1,35 @@
+use Rattle.std.proofs.Common.{◌≡◌, [], map, refl, inr}
+use Rattle.std.proofs.lemmas.Result.{err_from_is_err_and}
+use Rattle.jsonb_doc.specs.View.{number_view}
+use Rattle.jsonb.specs.Related.{AllRelated}
+use Rattle.jsonb.specs.Selection.{operand_value, value_number}
+use Rattle.jsonb.proofs.Outcomes.{Is, related_of_map}
+use Rattle.jsonb.proofs.Progress.{at_start, one_more, refused_in, at_end, list_first, list_end}
+use Rattle.jsonb.proofs.CalculateLemmas.{all_numbers-joined, number_added}
+use Rattle.jsonb.proofs.selector.calculate.all_numbers.Goals as goal
+
+pub loop-value-init : goal.loop-value-init
+loop-value-init c =
+    rw (c.new-numbers.ensures.items, all_numbers-joined)
+    (at_start value_number (AllRelated (Is operand_value) c.args.values.now) (λ ns. [] ≡ ns) (map operand_value c.args.values.now)
+    (related_of_map operand_value c.args.values.now (map operand_value c.args.values.now) refl) refl)
+
+pub returns-in_err-number_of : goal.returns-in_err-number_of
+returns-in_err-number_of c =
+    let p = err_from_is_err_and c.from_residual.result c.from_residual.ensures.1 in
+    rw (p.1, p.2)
+    (refused_in value_number (λ v ns. map number_view v.items ≡ ns) _ _ _ (λ ns. map number_view c.loop-value.numbers.items ≡ ns) _ _ _ c.loop-value.invariant
+    (list_first (Is operand_value) c.args.values.now c.loop-value.value-index _ c.loop-value-test.true)
+    (λ v before is held. record { ok = tt; err = inr (rw (← is) c.in_err-number_of.ensures) }))
+
+pub loop-value-preserved : goal.loop-value-preserved
+loop-value-preserved c =
+    one_more value_number _ _ _ _ _ _ c.loop-value.invariant
+    (list_first (Is operand_value) c.args.values.now c.loop-value.value-index _ c.loop-value-test.true)
+    (λ v before is held. rw (← is) (number_added _ _ _ _ before c.in_ok-push.ensures.items c.in_ok-number_of.ensures held))
+
+pub returns : goal.returns
+returns c = record {
+  ok = at_end value_number _ _ _ c.loop-value.invariant (list_end (Is operand_value) c.args.values.now c.loop-value.value-index c.loop-value-test.false);
+  err = tt;
+}

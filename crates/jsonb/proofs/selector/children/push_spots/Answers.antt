@@ -1,0 +1,29 @@
+use Rattle.std.proofs.Common.{◌++◌, [], ◌∷◌, Ok}
+use Rattle.jsonb_doc.specs.Spots.{Marks, HasSpotsLeft}
+use Rattle.jsonb.specs.Related.{AllRelated}
+use Rattle.jsonb.proofs.Outcomes.{pushed}
+use Rattle.jsonb.proofs.Progress.{singles_start, one_more, at_end, spot_first, spot_end, spot_refused}
+use Rattle.jsonb.proofs.selector.children.push_spots.Goals as goal
+
+pub loop-spot-init : goal.loop-spot-init
+loop-spot-init c = λ bytes ts before l a.
+    rw c.into_iter-spot-iterator.ensures.into_iter_gives (singles_start (HasSpotsLeft bytes c.args.spots) (AllRelated (Marks bytes) c.args.queue.now.items) ts before l a)
+
+pub returns-in_err-spot : goal.returns-in_err-spot
+returns-in_err-spot c = λ bytes ts before l a.
+    spot_refused (λ t. Ok (t ∷ [])) (AllRelated (Marks bytes) c.loop-spot.queue.items) (Ok (before ++ ts)) bytes c.loop-spot.spot-iterator _ c.in-Some.spot _ c.in_err-spot.was c.in-Some.ensures.steps
+    (c.loop-spot.invariant bytes ts before l a)
+
+pub loop-spot-preserved : goal.loop-spot-preserved
+loop-spot-preserved c = λ bytes ts before l a.
+    one_more (λ t. Ok (t ∷ [])) (HasSpotsLeft bytes c.loop-spot.spot-iterator) (HasSpotsLeft bytes c.next.new.self)
+    (AllRelated (Marks bytes) c.loop-spot.queue.items) (AllRelated (Marks bytes) c.push_spot.new.queue.items) (Marks bytes c.in_ok-spot.field-0) (Ok (before ++ ts))
+    (c.loop-spot.invariant bytes ts before l a) (spot_first bytes c.loop-spot.spot-iterator c.next.new.self c.in-Some.spot c.in_ok-spot.field-0 c.in_ok-spot.was c.in-Some.ensures.steps)
+    (λ t so_far m d. (pushed (Marks bytes) (Ok tt) c.loop-spot.queue.items c.push_spot.new.queue.items c.in_ok-spot.field-0 so_far t c.in_ok-push_spot.ensures.ok tt d m).ok)
+
+pub returns : goal.returns
+returns c = λ bytes ts before l a. record {
+  ok = at_end (λ t. Ok (t ∷ [])) (HasSpotsLeft bytes c.loop-spot.spot-iterator) (AllRelated (Marks bytes) c.loop-spot.queue.items) (Ok (before ++ ts))
+      (c.loop-spot.invariant bytes ts before l a) (spot_end bytes c.loop-spot.spot-iterator c.next.new.self c.in-None.ensures.steps);
+  err = tt;
+}

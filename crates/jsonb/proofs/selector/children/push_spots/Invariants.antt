@@ -1,0 +1,10 @@
+use Rattle.std.proofs.Common.{ℕ, ◌++◌, ◌∷◌, [], List, Ok}
+use Rattle.jsonb_doc.specs.Spots.{Marks, HasSpotsLeft}
+use Rattle.jsonb_doc.specs.Tree.{Tree}
+use Rattle.jsonb.specs.Related.{AllRelated}
+use Rattle.jsonb.proofs.Progress.{Progress}
+use Rattle.jsonb.proofs.selector.children.push_spots.Given as goal
+
+abbrev pub invariant-loop-spot : goal.invariant-loop-spot
+invariant-loop-spot l = (bytes : List ℕ) (ts before : List Tree) → HasSpotsLeft bytes l.fn.spots ts → AllRelated (Marks bytes) l.fn.queue.items before →
+    Progress (HasSpotsLeft bytes l.spot-iterator) (AllRelated (Marks bytes) l.queue.items) (λ t. Ok (t ∷ [])) (Ok (before ++ ts))

@@ -1,0 +1,17 @@
+use Rattle.std.proofs.Common.{[], ◌∷◌}
+use Rattle.std.proofs.lemmas.Result.{err_from_is_err_and}
+use Rattle.jsonb_doc.specs.Format.{Decodes}
+use Rattle.jsonb_doc.proofs.BuilderSteps.{answered}
+use Rattle.jsonb.specs.SelectorAnswers.{array_of}
+use Rattle.jsonb.proofs.SelectedParts.{none_held}
+use Rattle.jsonb.proofs.selector.documents.array_of_one.Goals as goal
+
+pub returns-in_err-push_item-clause-document : goal.returns-in_err-push_item-clause-document
+returns-in_err-push_item-clause-document c = λ form t stands.
+    let p = err_from_is_err_and c.from_residual.result c.from_residual.ensures.1 in
+    rw (p.1, p.2) (c.in_err-push_item.ensures.pushed form [] t (none_held form _ c.new-builder.ensures) stands)
+
+pub returns-clause-document : goal.returns-clause-document
+returns-clause-document c = λ form t stands.
+    answered form (array_of (t ∷ [])) (λ v. Decodes form v.items (array_of (t ∷ []))) c.build.result
+    (c.build.ensures.decodes form (t ∷ []) (c.in_ok-push_item.ensures.pushed form [] t (none_held form _ c.new-builder.ensures) stands))

@@ -1,0 +1,9 @@
+use Rattle.std.proofs.lemmas.Result.{err_from_is_err_and}
+use Rattle.jsonb.proofs.SelectedParts.{part_refused}
+use Rattle.jsonb.proofs.selector.documents.push_part.Goals as goal
+
+pub returns-in_err-array-in-ArrayOf-clause-pushed : goal.returns-in_err-array-in-ArrayOf-clause-pushed
+returns-in_err-array-in-ArrayOf-clause-pushed c = λ form ts t held is.
+    let p = err_from_is_err_and c.from_residual.result c.from_residual.ensures.1 in
+    let part = rw c.in-ArrayOf.is at is in
+    rw (p.1, p.2) (part_refused form ts t _ _ part.1 (c.in_err-array-in-ArrayOf.ensures.document form part.0 part.2))

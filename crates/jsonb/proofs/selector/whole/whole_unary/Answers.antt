@@ -1,0 +1,10 @@
+use Rattle.std.proofs.Common.{sym, ◌∙◌, ap}
+use Rattle.jsonb.specs.PathArithmetic.{each_signed}
+use Rattle.jsonb.specs.PathViews.{sign_view}
+use Rattle.jsonb.proofs.Outcomes.{followed, same_outcome}
+use Rattle.jsonb.proofs.selector.whole.whole_unary.Goals as goal
+
+pub returns : goal.returns
+returns c = λ form top r.
+    followed (each_signed (sign_view c.args.op)) (c.in_ok-values.ensures top top r r) (λ vs p.
+    same_outcome (ap (each_signed (sign_view c.args.op)) (sym p ∙ sym c.as_slice.ensures)) (c.unary_numbers.ensures form))

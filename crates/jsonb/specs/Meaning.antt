@@ -1,0 +1,143 @@
+-- What a path means on a tree: a list of items, or the first refusal.
+use Rattle.std.specs.Prelude.{◌≡◌, Bool, true, false, List, [], ◌∷◌, map, flat_map, Option, Some, None, Ok, Err}
+use Rattle.jsonb_doc.specs.Answer.{Outcome, with_value, joined}
+use Rattle.jsonb_doc.specs.Arithmetic.{Operation}
+use Rattle.jsonb_doc.specs.declared.error.Error.TheVariants.{InvalidJsonPath}
+use Rattle.jsonb_doc.specs.Payload.{Form}
+use Rattle.jsonb_doc.specs.Format.{Decodes}
+use Rattle.jsonb_doc.specs.Tree as tree
+use Rattle.jsonb_doc.specs.Tree.{Tree}
+use Rattle.jsonb.specs.PathTree.{Literal, raw, BinaryOp, and_op, or_op, Step, root, current, dot_wildcard, recursive_dot_wildcard, bracket_wildcard, dot_field, colon_field, object_field, array_indices, filter, whole_expression, Steps, no_steps, step, Expression, paths, value, binary, unary, exists, steps_of}
+use Rattle.jsonb.specs.Values.{Value, values_of_item, literal_item, values_of_literal}
+use Rattle.jsonb.specs.Compare.{Truth, compare, both, either}
+use Rattle.jsonb.specs.PathArithmetic.{operation, two_numbers, each_signed}
+use Rattle.jsonb.specs.Preorder.{preorder}
+use Rattle.jsonb.specs.ItemSteps.{field_step, values_step, elements_step, indices_step}
+use Rattle.jsonb.specs.declared.selector.document.Mode.{Mode}
+
+-- the item, where the filter is true
+abbrev pub kept : Tree → Truth → List Tree
+kept item (Some true) = item ∷ []
+kept item _ = []
+
+-- where a path within an expression starts: at the item where it begins with `@`, else at the root
+abbrev pub start : Steps → Tree → Tree → Tree
+start (step current rest) top item = item
+start _ top item = top
+
+abbrev pub is_some_item : List Tree → Bool
+is_some_item [] = false
+is_some_item (t ∷ ts) = true
+
+-- a comparison takes the values of both operands first; arithmetic in a filter is unknown, its operands not looked at
+abbrev pub compared : BinaryOp → Outcome (List Value) → Outcome (List Value) → Outcome Truth
+compared op left right = with_value left (λ ls. with_value right (λ rs. Ok (compare op ls rs)))
+
+abbrev pub condition : BinaryOp → Option Operation → Outcome (List Value) → Outcome (List Value) → Outcome Truth
+condition op (Some arithmetic) left right = Ok None
+condition op None left right = compared op left right
+
+abbrev mutual
+  -- one step, of one item of the document `top`
+  pub step_meaning : Mode → Step → Tree → Tree → Outcome (List Tree)
+  step_meaning mode root top item = Ok (item ∷ [])
+  step_meaning mode current top item = Ok (item ∷ [])
+  step_meaning mode dot_wildcard top item = values_step mode item
+  step_meaning mode (recursive_dot_wildcard levels) top item = Ok (preorder levels 0 item)
+  step_meaning mode bracket_wildcard top item = elements_step mode item
+  step_meaning mode (dot_field name) top item = field_step mode name item
+  step_meaning mode (colon_field name) top item = field_step mode name item
+  step_meaning mode (object_field name) top item = field_step mode name item
+  step_meaning mode (array_indices entries) top item = indices_step mode entries item
+  step_meaning mode (filter e) top item = with_value (truth mode e top item) (λ b. Ok (kept item b))
+  step_meaning mode (whole_expression e) top item = Err InvalidJsonPath
+
+  -- one step after the other, each of all the items
+  pub steps_meaning : Mode → Steps → Tree → List Tree → Outcome (List Tree)
+  steps_meaning mode no_steps top items = Ok items
+  steps_meaning mode (step s rest) top items = with_value (joined (step_meaning mode s top) items) (steps_meaning mode rest top)
+
+  -- the values of an operand
+  pub operand_values : Mode → Expression → Tree → Tree → Outcome (List Value)
+  operand_values mode (paths steps) top item =
+      with_value (steps_meaning mode steps top (start steps top item ∷ [])) (λ ts. Ok (flat_map values_of_item ts))
+  operand_values mode (value l) top item = Ok (values_of_literal (literal_item l))
+  operand_values mode _ top item = Err InvalidJsonPath
+
+  -- whether an expression is true of an item
+  pub truth : Mode → Expression → Tree → Tree → Outcome Truth
+  truth mode (binary and_op l r) top item = with_value (truth mode l top item) (λ a. with_value (truth mode r top item) (λ b. Ok (both a b)))
+  truth mode (binary or_op l r) top item = with_value (truth mode l top item) (λ a. with_value (truth mode r top item) (λ b. Ok (either a b)))
+  truth mode (binary op l r) top item = condition op (operation op) (operand_values mode l top item) (operand_values mode r top item)
+  truth mode (exists steps) top item =
+      with_value (steps_meaning mode steps top (start steps top item ∷ [])) (λ ts. Ok (Some (is_some_item ts)))
+  truth mode _ top item = Err InvalidJsonPath
+
+-- ---- one expression as the whole path; the root is the item
+
+-- a truth as an item: unknown is null
+abbrev pub truth_item : Truth → Tree
+truth_item (Some b) = tree.boolean b
+truth_item None = tree.null
+
+abbrev pub truth_list : Outcome Truth → Outcome (List Tree)
+truth_list outcome = with_value outcome (λ b. Ok (truth_item b ∷ []))
+
+-- arithmetic takes the values of both operands first
+abbrev pub calculation : Operation → Outcome (List Value) → Outcome (List Value) → Outcome (List Tree)
+calculation op left right = with_value left (λ ls. with_value right (λ rs. two_numbers op ls rs))
+
+abbrev pub binary_meaning : Option Operation → Outcome (List Value) → Outcome (List Value) → Outcome Truth → Outcome (List Tree)
+binary_meaning (Some op) left right truth = calculation op left right
+binary_meaning None left right truth = truth_list truth
+
+-- an array of one scalar; the list of a document has `Means`
+abbrev pub literal_list : Option Tree → Outcome (List Tree)
+literal_list (Some t) = Ok (tree.array (tree.trees_of (t ∷ [])) ∷ [])
+literal_list None = Err InvalidJsonPath
+
+abbrev pub expression_meaning : Mode → Expression → Tree → Outcome (List Tree)
+expression_meaning mode (paths steps) top = Err InvalidJsonPath
+expression_meaning mode (value l) top = literal_list (literal_item l)
+expression_meaning mode (unary op e) top = with_value (operand_values mode e top top) (each_signed op)
+expression_meaning mode (binary op l r) top =
+    binary_meaning (operation op) (operand_values mode l top top) (operand_values mode r top top) (truth mode (binary op l r) top top)
+expression_meaning mode (exists steps) top = truth_list (truth mode (exists steps) top top)
+
+-- ---- whole paths
+
+-- among several steps an expression is a filter
+abbrev pub as_filter : Step → Step
+as_filter (whole_expression e) = filter e
+as_filter s = s
+
+-- the list of a path on a tree, or its first refusal
+abbrev pub meaning : Mode → List Step → Tree → Outcome (List Tree)
+meaning mode (whole_expression e ∷ []) top = expression_meaning mode e top
+meaning mode (current ∷ rest) top = Err InvalidJsonPath
+meaning mode path top = steps_meaning mode (steps_of (map as_filter path)) top (top ∷ [])
+
+-- the path has this outcome on the tree; of one document alone it is the tree that its bytes decode to
+abbrev pub Means : Form → Mode → List Step → Tree → Outcome (List Tree) → Type 0
+Means form mode (whole_expression (value (raw document)) ∷ []) top outcome =
+    (t : Tree) × Decodes form document t × (outcome ≡ Ok (t ∷ []))
+Means form mode path top outcome = outcome ≡ meaning mode path top
+
+-- ---- what a path says as a predicate
+
+-- a comparison, `&&`, `||` or `exists` its truth, and arithmetic nothing
+abbrev pub binary_predicate : Option Operation → Outcome (List Value) → Outcome (List Value) → Outcome Truth → Outcome Truth
+binary_predicate (Some op) left right truth = with_value (calculation op left right) (λ ts. Ok None)
+binary_predicate None left right truth = truth
+
+abbrev pub expression_predicate : Mode → Expression → Tree → Outcome Truth
+expression_predicate mode (binary op l r) top =
+    binary_predicate (operation op) (operand_values mode l top top) (operand_values mode r top top) (truth mode (binary op l r) top top)
+expression_predicate mode (exists steps) top = truth mode (exists steps) top top
+expression_predicate mode (value l) top = Ok None
+expression_predicate mode e top = with_value (expression_meaning mode e top) (λ ts. Ok None)
+
+-- nothing where the path is no single expression; unknown is none too
+abbrev pub predicate : Mode → List Step → Tree → Outcome Truth
+predicate mode (whole_expression e ∷ []) top = expression_predicate mode e top
+predicate mode _ top = Ok None

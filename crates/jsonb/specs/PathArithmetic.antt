@@ -1,0 +1,44 @@
+-- Arithmetic of an expression that is the whole path.
+use Rattle.std.specs.Prelude.{List, [], ◌∷◌, Option, Some, None, Ok, Err}
+use Rattle.jsonb_doc.specs.Answer.{Outcome, with_value, joined}
+use Rattle.jsonb_doc.specs.Arithmetic as arith
+use Rattle.jsonb_doc.specs.Arithmetic.{Operation, calculated, negated}
+use Rattle.jsonb_doc.specs.declared.error.Error.TheVariants.{InvalidJsonPath}
+use Rattle.jsonb_doc.specs.Number.{Number}
+use Rattle.jsonb_doc.specs.Tree as tree
+use Rattle.jsonb_doc.specs.Tree.{Tree}
+use Rattle.jsonb.specs.PathTree.{BinaryOp, add, subtract, multiply, divide, modulo, UnaryOp, plus, minus}
+use Rattle.jsonb.specs.Values.{Value, number}
+
+-- the operation of an operator, where it is one of arithmetic
+abbrev pub operation : BinaryOp → Option Operation
+operation add = Some arith.add
+operation subtract = Some arith.subtract
+operation multiply = Some arith.multiply
+operation divide = Some arith.divide
+operation modulo = Some arith.modulo
+operation _ = None
+
+-- a number as a list of one item
+abbrev pub number_list : Outcome Number → Outcome (List Tree)
+number_list outcome = with_value outcome (λ n. Ok (tree.number n ∷ []))
+
+-- two operands, of one number each
+abbrev pub two_numbers : Operation → List Value → List Value → Outcome (List Tree)
+two_numbers op (number m ∷ []) (number n ∷ []) = number_list (calculated op m n)
+two_numbers op _ _ = Err InvalidJsonPath
+
+-- the numbers that the values are; another value is refused
+abbrev pub all_numbers : List Value → Outcome (List Number)
+all_numbers [] = Ok []
+all_numbers (number n ∷ rest) = with_value (all_numbers rest) (λ ns. Ok (n ∷ ns))
+all_numbers (value ∷ rest) = Err InvalidJsonPath
+
+-- a sign in front of a number
+abbrev pub signed_number : UnaryOp → Number → Outcome (List Tree)
+signed_number plus n = Ok (tree.number n ∷ [])
+signed_number minus n = number_list (negated n)
+
+-- a sign in front of each value: first all have to be numbers, then the results are taken from left to right
+abbrev pub each_signed : UnaryOp → List Value → Outcome (List Tree)
+each_signed op values = with_value (all_numbers values) (joined (signed_number op))

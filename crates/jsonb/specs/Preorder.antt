@@ -1,0 +1,29 @@
+-- The items that a recursive step gives.
+use Rattle.std.specs.Prelude.{ℕ, ◌+◌, Bool, true, List, [], ◌∷◌, ◌++◌, Option, Some, None, if◌then◌else◌}
+use Rattle.jsonb_doc.specs.Tree.{Tree, array, object, Trees, no_trees, tree, Pairs, no_pairs, pair}
+use Rattle.jsonb.specs.PathTree.{Levels}
+use Rattle.jsonb.specs.LevelTable.{level_answer}
+
+-- whether an item of this level is taken, and whether its children are looked at; without levels all are
+abbrev pub answer_at : Option Levels → ℕ → Bool × Bool
+answer_at (Some levels) n = level_answer levels n
+answer_at None n = (true, true)
+
+-- the item itself, where its level is taken
+abbrev pub own : Option Levels → ℕ → Tree → List Tree
+own levels n t = if (answer_at levels n).0 then t ∷ [] else []
+
+-- the items from this one down, each before its children
+abbrev mutual
+  pub preorder : Option Levels → ℕ → Tree → List Tree
+  preorder levels n (array ts) = own levels n (array ts) ++ (if (answer_at levels n).1 then preorder_elements levels (n + 1) ts else [])
+  preorder levels n (object ps) = own levels n (object ps) ++ (if (answer_at levels n).1 then preorder_values levels (n + 1) ps else [])
+  preorder levels n t = own levels n t
+
+  pub preorder_elements : Option Levels → ℕ → Trees → List Tree
+  preorder_elements levels n no_trees = []
+  preorder_elements levels n (tree t ts) = preorder levels n t ++ preorder_elements levels n ts
+
+  pub preorder_values : Option Levels → ℕ → Pairs → List Tree
+  preorder_values levels n no_pairs = []
+  preorder_values levels n (pair key t ps) = preorder levels n t ++ preorder_values levels n ps

@@ -1,0 +1,32 @@
+-- Laws of the meaning of paths.
+use Rattle.std.specs.Prelude.{◌≡◌, List, Some, Ok, Err}
+use Rattle.jsonb_doc.specs.Answer.{Outcome}
+use Rattle.jsonb_doc.specs.Order.{IsEqual}
+use Rattle.jsonb_doc.specs.Payload.{Form}
+use Rattle.jsonb_doc.specs.Tree.{Tree}
+use Rattle.jsonb.specs.PathGrammar.{json_path}
+use Rattle.jsonb.specs.PathLaws.{SameButVariants}
+use Rattle.jsonb.specs.PathText.{path_text}
+use Rattle.jsonb.specs.PathTree.{Step}
+use Rattle.jsonb.specs.Related.{AllRelated}
+use Rattle.jsonb.specs.Meaning.{meaning, Means}
+use Rattle.jsonb.specs.declared.selector.document.Mode.{Mode}
+use Rattle.jsonb.specs.declared.selector.document.Mode.TheVariants.{Lax, Strict}
+
+-- where the strict meaning is a list, the lax meaning is the same list
+abbrev pub StrictImpliesLax : Type 0
+StrictImpliesLax = (form : Form) (path : List Step) (top : Tree) (ts : List Tree) → Means form Strict path top (Ok ts) → Means form Lax path top (Ok ts)
+
+-- the same refusal, or lists that are equal by value member by member
+abbrev pub SameByValue : Outcome (List Tree) → Outcome (List Tree) → Type 0
+SameByValue (Ok ts) (Ok us) = AllRelated IsEqual ts us
+SameByValue (Err e) (Err f) = e ≡ f
+SameByValue _ _ = ⊥
+
+-- paths that differ at most in which variant holds a whole number mean the same
+abbrev pub VariantsChangeNoValue : Type 0
+VariantsChangeNoValue = (mode : Mode) (p q : List Step) (top : Tree) → SameButVariants p q → SameByValue (meaning mode p top) (meaning mode q top)
+
+-- the printed text reads, as a path that means the same
+abbrev pub PrintsWithMeaning : List Step → Type 0
+PrintsWithMeaning p = (q : List Step) × (json_path (path_text p) ≡ Some q) × ((mode : Mode) (top : Tree) → SameByValue (meaning mode p top) (meaning mode q top))

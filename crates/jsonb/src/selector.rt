@@ -1,0 +1,193 @@
+//! Selecting by JSON paths: the items of a document that a path selects.
+//!
+//! A selection keeps a list of places in the bytes. Each step makes the next list of the one before;
+//! no item is copied before it is handed out.
+
+ghost use Rattle.std.specs.Prelude.{◌≡◌, List};
+ghost use Rattle.jsonb_doc.specs.Payload.{Form};
+ghost use Rattle.jsonb_doc.specs.Tree.{Tree};
+ghost use Rattle.jsonb.specs.Meaning.{is_some_item};
+ghost use Rattle.jsonb.specs.Selection.{Selects};
+ghost use Rattle.jsonb.specs.declared.selector.document.Document.{Document};
+
+mod by_path;
+mod calculate;
+mod children;
+mod document;
+mod documents;
+mod found;
+mod levels;
+mod operand;
+mod part;
+mod steps;
+mod values;
+mod whole;
+
+pub use self::by_path::SelectByPath;
+use self::document::{Document, Mode};
+use self::documents::{array_document, documents, first_document, value_document};
+use self::part::Selected;
+use self::whole::{expression_truth, lone_expression, selection};
+use crate::path::JsonPath;
+use jsonb_doc::{Error, root_spot};
+use jsonb_raw::{OwnedJsonb, RawJsonb};
+use std::alloc::Global;
+
+/// Runs paths on a document.
+///
+/// Each call executes the whole path. What it answers depends on the root and the path alone, so that a
+/// selector may be used again after any refusal.
+#[derive(Drop)]
+pub struct Selector<'a> {
+    alloc: Global,
+    root: RawJsonb<'a>,
+    mode: Mode,
+}
+
+impl<'a> Selector<'a> {
+    ghost use Rattle.std.specs.Prelude.{◌≡◌, List, Ok, None, false, IsOkAnd};
+    ghost use Rattle.jsonb_doc.specs.Answer.{Gives, Outcome, WantsMemory};
+    ghost use Rattle.jsonb_doc.specs.Payload.{Form};
+    ghost use Rattle.jsonb_doc.specs.Format.{Decodes};
+    ghost use Rattle.jsonb_doc.specs.Limits.{IsTooLarge};
+    ghost use Rattle.jsonb_doc.specs.Tree.{Tree};
+    ghost use Rattle.jsonb_raw.specs.Documents.{raw_bytes};
+    ghost use Rattle.jsonb.specs.PathTree.{is_predicate};
+    ghost use Rattle.jsonb.specs.PathViews.{path_view};
+    ghost use Rattle.jsonb.specs.Meaning.{Means, is_some_item, predicate};
+    ghost use Rattle.jsonb.specs.Selection.{HasTree};
+    ghost use Rattle.jsonb.specs.SelectorAnswers.{root_bytes, mode_of, HandsOut, AreDocuments, HasTooLarge, IsDocumentOf, IsPast, array_of, first_of, value_of};
+    ghost use Rattle.jsonb.specs.declared.selector.document.Mode.TheVariants.{Lax, Strict};
+
+    /// A lax selector: a step that does not fit an item gives nothing of it, and `[*]` gives the item itself.
+    /// It takes no memory.
+    pub fn new(alloc: Global, root: RawJsonb<'a>) -> Selector<'a>
+        ensures root { root_bytes result ≡ raw_bytes root.entry }
+        ensures mode { mode_of result ≡ Lax }
+    {
+        Selector {
+            alloc,
+            root,
+            mode: Mode::Lax,
+        }
+    }
+
+    /// A strict selector: `StrictPath` where a step does not fit an item. It takes no memory.
+    ///
+    /// So are a field step on an item that is no object or lacks the name, `.*` on an item that is no object,
+    /// and `[*]` or index entries on an item that is no array, within filters too. A position past an array's
+    /// end gives nothing, and `.**` is as in a lax selector.
+    pub fn new_strict(alloc: Global, root: RawJsonb<'a>) -> Selector<'a>
+        ensures root { root_bytes result ≡ raw_bytes root.entry }
+        ensures mode { mode_of result ≡ Strict }
+    {
+        Selector {
+            alloc,
+            root,
+            mode: Mode::Strict,
+        }
+    }
+
+    /// Each item of the path's list as a document, in order with repeats.
+    ///
+    /// `InvalidJsonPath`, `Arithmetic` and in strict mode `StrictPath` come exactly where the path has that
+    /// refusal on the tree, `TooLarge` only where an item passes the limits of a document, and `InvalidJsonb`
+    /// and `UnsupportedNumber` only where the root or a document in the path doesn't decode. So do they for the
+    /// calls below.
+    pub fn select_values(&mut self, path: &'a JsonPath<'_>) -> Result<Vec<OwnedJsonb>, Error>
+        ensures kept { self.new ≡ self.old }
+        ensures values { (form : Form) (top : Tree) (outcome : Outcome (List Tree)) → Decodes form (root_bytes self.old) top
+            → Means form (mode_of self.old) (path_view path.now) top outcome
+            → HandsOut (λ v ts. AreDocuments form v.items ts) (HasTooLarge form) result outcome }
+    {
+        let document = self.document()?;
+        let selected = selection(self.alloc, self.mode, &path.paths, document)?;
+        documents(self.alloc, document, &selected)
+    }
+
+    /// One array of the path's list.
+    pub fn select_array(&mut self, path: &'a JsonPath<'_>) -> Result<OwnedJsonb, Error>
+        ensures kept { self.new ≡ self.old }
+        ensures array { (form : Form) (top : Tree) (outcome : Outcome (List Tree)) → Decodes form (root_bytes self.old) top
+            → Means form (mode_of self.old) (path_view path.now) top outcome
+            → HandsOut (λ made ts. Decodes form made (array_of ts)) (λ ts. IsTooLarge form (array_of ts)) result outcome }
+    {
+        let document = self.document()?;
+        let selected = selection(self.alloc, self.mode, &path.paths, document)?;
+        array_document(self.alloc, document, &selected)
+    }
+
+    /// The first of the path's list, or none. The whole path is executed, so that a refusal behind the first
+    /// item is the answer.
+    pub fn select_first(&mut self, path: &'a JsonPath<'_>) -> Result<Option<OwnedJsonb>, Error>
+        ensures kept { self.new ≡ self.old }
+        ensures first { (form : Form) (top : Tree) (outcome : Outcome (List Tree)) → Decodes form (root_bytes self.old) top
+            → Means form (mode_of self.old) (path_view path.now) top outcome
+            → HandsOut (λ found ts. IsDocumentOf form found (first_of ts)) (λ ts. IsPast form (first_of ts)) result outcome }
+    {
+        let document = self.document()?;
+        let selected = selection(self.alloc, self.mode, &path.paths, document)?;
+        first_document(self.alloc, document, &selected)
+    }
+
+    /// None for an empty list, its only item, or one array of several.
+    pub fn select_value(&mut self, path: &'a JsonPath<'_>) -> Result<Option<OwnedJsonb>, Error>
+        ensures kept { self.new ≡ self.old }
+        ensures value { (form : Form) (top : Tree) (outcome : Outcome (List Tree)) → Decodes form (root_bytes self.old) top
+            → Means form (mode_of self.old) (path_view path.now) top outcome
+            → HandsOut (λ found ts. IsDocumentOf form found (value_of ts)) (λ ts. IsPast form (value_of ts)) result outcome }
+    {
+        let document = self.document()?;
+        let selected = selection(self.alloc, self.mode, &path.paths, document)?;
+        value_document(self.alloc, document, &selected)
+    }
+
+    /// Whether the path's list has an item. So it is true of every comparison that is not refused.
+    pub fn exists(&mut self, path: &'a JsonPath<'_>) -> Result<bool, Error>
+        ensures kept { self.new ≡ self.old }
+        ensures exists { (form : Form) (top : Tree) (outcome : Outcome (List Tree)) → Decodes form (root_bytes self.old) top
+            → Means form (mode_of self.old) (path_view path.now) top outcome
+            → Gives (λ b ts. b ≡ is_some_item ts) WantsMemory result outcome }
+    {
+        let document = self.document()?;
+        let selected = selection(self.alloc, self.mode, &path.paths, document)?;
+        Ok(is_some(&selected))
+    }
+
+    /// Whether a path that is a comparison, `&&`, `||` or `exists` is true. None is for unknown, and for every
+    /// other path; for one that is no single expression at once, without memory.
+    pub fn predicate_match(&mut self, path: &'a JsonPath<'_>) -> Result<Option<bool>, Error>
+        ensures kept { self.new ≡ self.old }
+        ensures other { is_predicate (path_view path.now) ≡ false → result ≡ Ok None }
+        ensures truth { (form : Form) (top : Tree) → Decodes form (root_bytes self.old) top
+            → Gives (λ b c. b ≡ c) WantsMemory result (predicate (mode_of self.old) (path_view path.now) top) }
+    {
+        match lone_expression(&path.paths) {
+            Some(e) => {
+                let document = self.document()?;
+                expression_truth(self.alloc, self.mode, e, document)
+            }
+            None => Ok(None),
+        }
+    }
+
+    // The root's bytes, with its place in them.
+    fn document(&self) -> Result<Document<'a>, Error>
+        ensures { (form : Form) (top : Tree) → Decodes form (root_bytes self.now) top
+            → IsOkAnd result (λ document. (document.bytes.now ≡ root_bytes self.now) × HasTree document top) }
+    {
+        let bytes = self.root.as_bytes();
+        let root = root_spot(bytes)?;
+        Ok(Document { bytes, root })
+    }
+}
+
+// Whether anything is selected.
+fn is_some(selected: &Selected<'_>) -> bool
+    ensures { (form : Form) (document : Document) (ts : List Tree) → Selects form document selected.now ts → result ≡ is_some_item ts }
+{
+    match selected {
+        Selected::Spots(spots) => !spots.as_slice().is_empty(),
+        Selected::Made(parts) => !parts.is_empty(),
+    }
+}

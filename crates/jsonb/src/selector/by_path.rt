@@ -1,0 +1,126 @@
+//! Paths on documents that are borrowed.
+
+ghost use Rattle.std.specs.Prelude.{◌≡◌, ℕ, false, List, None, Ok};
+ghost use Rattle.jsonb_doc.specs.Answer.{Outcome, Gives, WantsMemory};
+ghost use Rattle.jsonb_doc.specs.Format.{Decodes};
+ghost use Rattle.jsonb_doc.specs.Limits.{IsTooLarge};
+ghost use Rattle.jsonb_doc.specs.Payload.{Form};
+ghost use Rattle.jsonb_doc.specs.Tree.{Tree};
+ghost use Rattle.jsonb_raw.specs.Documents.{raw_bytes};
+ghost use Rattle.jsonb.specs.Meaning.{Means, is_some_item, predicate};
+ghost use Rattle.jsonb.specs.PathTree.{is_predicate};
+ghost use Rattle.jsonb.specs.PathViews.{path_view};
+ghost use Rattle.jsonb.specs.SelectorAnswers.{HandsOut, AreDocuments, HasTooLarge, IsDocumentOf, IsPast, array_of, first_of, value_of};
+ghost use Rattle.jsonb.specs.declared.selector.document.Mode.TheVariants.{Lax};
+
+use crate::path::JsonPath;
+use crate::selector::Selector;
+use jsonb_doc::Error;
+use jsonb_raw::{OwnedJsonb, RawJsonb};
+use std::alloc::Global;
+
+/// Asks a document by JSON paths. Each call answers as that of a new lax `Selector` does, and executes the whole path.
+///
+/// Each is refused as its path is: with `InvalidJsonPath`, or with `Arithmetic` for numbers without a result. `TooLarge`
+/// comes only where what is handed out passes the limits of a document, `InvalidJsonb` and `UnsupportedNumber` only
+/// where the document or one in the path does not decode, and `OutOfMemory` where memory is refused.
+pub trait SelectByPath<'a> {
+    ghost document: { Self → List ℕ };
+
+    /// The items that the path selects, each as a document, in their order and with repeats.
+    fn select_by_path(
+        &self,
+        alloc: Global,
+        path: &'a JsonPath<'_>,
+    ) -> Result<Vec<OwnedJsonb>, Error>
+        ensures { (form : Form) (top : Tree) (outcome : Outcome (List Tree)) → Decodes form (document self.now) top
+            → Means form Lax (path_view path.now) top outcome
+            → HandsOut (λ v ts. AreDocuments form v.items ts) (HasTooLarge form) result outcome };
+
+    /// One array of the items that the path selects.
+    fn select_array_by_path(
+        &self,
+        alloc: Global,
+        path: &'a JsonPath<'_>,
+    ) -> Result<OwnedJsonb, Error>
+        ensures { (form : Form) (top : Tree) (outcome : Outcome (List Tree)) → Decodes form (document self.now) top
+            → Means form Lax (path_view path.now) top outcome
+            → HandsOut (λ made ts. Decodes form made (array_of ts)) (λ ts. IsTooLarge form (array_of ts)) result outcome };
+
+    /// The first item that the path selects; none where it selects nothing.
+    fn select_first_by_path(
+        &self,
+        alloc: Global,
+        path: &'a JsonPath<'_>,
+    ) -> Result<Option<OwnedJsonb>, Error>
+        ensures { (form : Form) (top : Tree) (outcome : Outcome (List Tree)) → Decodes form (document self.now) top
+            → Means form Lax (path_view path.now) top outcome
+            → HandsOut (λ found ts. IsDocumentOf form found (first_of ts)) (λ ts. IsPast form (first_of ts)) result outcome };
+
+    /// The only item that the path selects, or one array of several; none where it selects nothing.
+    fn select_value_by_path(
+        &self,
+        alloc: Global,
+        path: &'a JsonPath<'_>,
+    ) -> Result<Option<OwnedJsonb>, Error>
+        ensures { (form : Form) (top : Tree) (outcome : Outcome (List Tree)) → Decodes form (document self.now) top
+            → Means form Lax (path_view path.now) top outcome
+            → HandsOut (λ found ts. IsDocumentOf form found (value_of ts)) (λ ts. IsPast form (value_of ts)) result outcome };
+
+    /// Whether the path selects anything.
+    fn path_exists(&self, alloc: Global, path: &'a JsonPath<'_>) -> Result<bool, Error>
+        ensures { (form : Form) (top : Tree) (outcome : Outcome (List Tree)) → Decodes form (document self.now) top
+            → Means form Lax (path_view path.now) top outcome
+            → Gives (λ b ts. b ≡ is_some_item ts) WantsMemory result outcome };
+
+    /// What a path says that is a comparison, `&&`, `||` or `exists`; none where that is unknown, and for every other
+    /// path. A path that is no expression alone is not executed.
+    fn path_match(&self, alloc: Global, path: &'a JsonPath<'_>) -> Result<Option<bool>, Error>
+        ensures other { is_predicate (path_view path.now) ≡ false → result ≡ Ok None }
+        ensures truth { (form : Form) (top : Tree) → Decodes form (document self.now) top
+            → Gives (λ b c. b ≡ c) WantsMemory result (predicate Lax (path_view path.now) top) };
+}
+
+impl<'a> SelectByPath<'a> for RawJsonb<'a> {
+    ghost document = { raw_bytes };
+
+    fn select_by_path(
+        &self,
+        alloc: Global,
+        path: &'a JsonPath<'_>,
+    ) -> Result<Vec<OwnedJsonb>, Error> {
+        Selector::new(alloc, *self).select_values(path)
+    }
+
+    fn select_array_by_path(
+        &self,
+        alloc: Global,
+        path: &'a JsonPath<'_>,
+    ) -> Result<OwnedJsonb, Error> {
+        Selector::new(alloc, *self).select_array(path)
+    }
+
+    fn select_first_by_path(
+        &self,
+        alloc: Global,
+        path: &'a JsonPath<'_>,
+    ) -> Result<Option<OwnedJsonb>, Error> {
+        Selector::new(alloc, *self).select_first(path)
+    }
+
+    fn select_value_by_path(
+        &self,
+        alloc: Global,
+        path: &'a JsonPath<'_>,
+    ) -> Result<Option<OwnedJsonb>, Error> {
+        Selector::new(alloc, *self).select_value(path)
+    }
+
+    fn path_exists(&self, alloc: Global, path: &'a JsonPath<'_>) -> Result<bool, Error> {
+        Selector::new(alloc, *self).exists(path)
+    }
+
+    fn path_match(&self, alloc: Global, path: &'a JsonPath<'_>) -> Result<Option<bool>, Error> {
+        Selector::new(alloc, *self).predicate_match(path)
+    }
+}

@@ -1,0 +1,134 @@
+//! Arithmetic of an expression that is the whole path.
+
+ghost use Rattle.std.specs.Prelude.{◌≡◌, ◌∷◌, [], Ok, Err, Some, option_map, map, is_some, MatchResult};
+ghost use Rattle.jsonb_doc.specs.Answer.{Gives, WantsMemory, joined};
+ghost use Rattle.jsonb_doc.specs.Arithmetic.{Operation, calculated, IsOutcome};
+ghost use Rattle.jsonb_doc.specs.Payload.{Form};
+ghost use Rattle.jsonb_doc.specs.View.{number_view};
+ghost use Rattle.jsonb.specs.PathArithmetic.{operation, two_numbers, all_numbers, signed_number, each_signed};
+ghost use Rattle.jsonb.specs.PathViews.{operator_view, sign_view};
+ghost use Rattle.jsonb.specs.Related.{AllRelated};
+ghost use Rattle.jsonb.specs.Selection.{operand_value, lone_number, value_number, IsNumberTree, IsPart};
+
+use super::operand::Operand;
+use super::part::Part;
+use crate::path::{BinaryOperator, UnaryOperator};
+use jsonb_doc::{Error, Item, Number};
+use std::alloc::Global;
+
+/// Whether the operator is one of arithmetic.
+pub(crate) fn is_arithmetic(op: BinaryOperator) -> bool
+    ensures { result ≡ is_some (operation (operator_view op)) }
+{
+    matches!(
+        op,
+        BinaryOperator::Add
+            | BinaryOperator::Subtract
+            | BinaryOperator::Multiply
+            | BinaryOperator::Divide
+            | BinaryOperator::Modulo
+    )
+}
+
+/// The number of two numbers. An operator that is none of arithmetic is refused.
+fn calculate(op: BinaryOperator, left: Number, right: Number) -> Result<Number, Error>
+    ensures { (o : Operation) → operation (operator_view op) ≡ Some o
+        → IsOutcome (calculated o (number_view left) (number_view right)) result }
+{
+    match op {
+        BinaryOperator::Add => left.add(right),
+        BinaryOperator::Subtract => left.sub(right),
+        BinaryOperator::Multiply => left.mul(right),
+        BinaryOperator::Divide => left.div(right),
+        BinaryOperator::Modulo => left.rem(right),
+        _ => Err(Error::InvalidJsonPath),
+    }
+}
+
+/// The one value, where it is a number.
+fn lone_number(values: &[Operand<'_>]) -> Option<Number>
+    ensures { option_map number_view result ≡ lone_number (map operand_value values.now) }
+{
+    match values {
+        [Operand::Number(number)] => Some(*number),
+        _ => None,
+    }
+}
+
+/// The number of two operands, each of which has to be one number. `InvalidJsonPath` is for another operand,
+/// and else `Arithmetic` for numbers without a result.
+pub(crate) fn binary_number(
+    op: BinaryOperator,
+    left: &[Operand<'_>],
+    right: &[Operand<'_>],
+) -> Result<Number, Error>
+    ensures { (o : Operation) → operation (operator_view op) ≡ Some o
+        → Gives IsNumberTree (λ _. ⊥) result (two_numbers o (map operand_value left.now) (map operand_value right.now)) }
+{
+    match (lone_number(left), lone_number(right)) {
+        (Some(m), Some(n)) => calculate(op, m, n),
+        _ => Err(Error::InvalidJsonPath),
+    }
+}
+
+/// The number that a value is. Another value is refused with `InvalidJsonPath`.
+fn number_of(value: &Operand<'_>) -> Result<Number, Error>
+    ensures { MatchResult result (λ n. value_number (operand_value value.now) ≡ Ok (number_view n ∷ []))
+        (λ e. value_number (operand_value value.now) ≡ Err e) }
+{
+    match value {
+        Operand::Number(number) => Ok(*number),
+        _ => Err(Error::InvalidJsonPath),
+    }
+}
+
+/// The numbers that the values are. A value that is none is refused with `InvalidJsonPath`.
+fn all_numbers(alloc: Global, values: &[Operand<'_>]) -> Result<Vec<Number>, Error>
+    ensures { Gives (λ v ns. map number_view v.items ≡ ns) WantsMemory result (all_numbers (map operand_value values.now)) }
+{
+    let mut numbers = Vec::new(alloc);
+    for value in values {
+        numbers.push(number_of(value)?)?;
+    }
+    Ok(numbers)
+}
+
+/// A number behind a sign.
+fn signed(op: UnaryOperator, number: Number) -> Result<Number, Error>
+    ensures { Gives IsNumberTree (λ _. ⊥) result (signed_number (sign_view op) (number_view number)) }
+{
+    match op {
+        UnaryOperator::Add => Ok(number),
+        UnaryOperator::Subtract => number.neg(),
+    }
+}
+
+/// Each number behind a sign, from left to right.
+fn each_signed<'a>(
+    alloc: Global,
+    op: UnaryOperator,
+    numbers: &[Number],
+) -> Result<Vec<Part<'a>>, Error>
+    ensures { (form : Form) → Gives (λ v ts. AllRelated (IsPart form) v.items ts) WantsMemory result
+        (joined (signed_number (sign_view op)) (map number_view numbers.now)) }
+{
+    let mut parts = Vec::new(alloc);
+    for number in numbers {
+        parts.push(Part::Item(Item::Number(signed(op, *number)?)))?;
+    }
+    Ok(parts)
+}
+
+/// Each value behind a sign. First all have to be numbers: `InvalidJsonPath` is for another value, and else
+/// `Arithmetic` for the first number without a result.
+pub(crate) fn unary_numbers<'a>(
+    alloc: Global,
+    op: UnaryOperator,
+    values: &[Operand<'_>],
+) -> Result<Vec<Part<'a>>, Error>
+    ensures { (form : Form) → Gives (λ v ts. AllRelated (IsPart form) v.items ts) WantsMemory result
+        (each_signed (sign_view op) (map operand_value values.now)) }
+{
+    let numbers = all_numbers(alloc, values)?;
+    each_signed(alloc, op, &numbers)
+}

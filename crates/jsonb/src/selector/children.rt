@@ -1,0 +1,240 @@
+//! The places of an item's children.
+
+ghost use Rattle.std.specs.Prelude.{◌≡◌, ℕ, ◌++◌, ◌∷◌, [], map, List, Ok, IfErr, OnOk, IsOkAnd, if◌then◌else◌, pos, ⊤, MatchOption, filter_map, slice_get};
+ghost use Rattle.jsonb_doc.specs.Answer.{Gives, SameOption, WantsMemory};
+ghost use Rattle.jsonb_doc.specs.Spots.{Marks, HasSpotsLeft};
+ghost use Rattle.jsonb_doc.specs.Tree.{Tree};
+ghost use Rattle.jsonb.specs.PathTree.{single, from_front};
+ghost use Rattle.jsonb.specs.PathViews.{entry_view};
+ghost use Rattle.jsonb.specs.Related.{AllRelated};
+ghost use Rattle.jsonb.specs.ItemSteps.{elements_of, values_of, field_step, values_step, elements_step, indices_step, picked_by, picked};
+ghost use Rattle.jsonb.specs.Selection.{found_spots};
+
+use super::document::Mode;
+use super::found::Found;
+use crate::path::{ArrayIndex, Index};
+use jsonb_doc::{Error, Item, Spot, SpotIter, child_spots, field_spot, spot_item};
+use std::alloc::Global;
+
+/// The elements of an array. `None` is for another item.
+pub(crate) fn elements<'a>(bytes: &'a [u8], item: Spot) -> Result<Option<SpotIter<'a>>, Error>
+    ensures { (t : Tree) → Marks bytes.now item t
+        → IsOkAnd result (λ found. SameOption (HasSpotsLeft bytes.now) found (elements_of t)) }
+{
+    match spot_item(bytes, item)? {
+        Item::Array(_) => child_spots(bytes, item),
+        _ => Ok(None),
+    }
+}
+
+/// The values of an object, in the order of their keys. `None` is for another item.
+pub(crate) fn values<'a>(bytes: &'a [u8], item: Spot) -> Result<Option<SpotIter<'a>>, Error>
+    ensures { (t : Tree) → Marks bytes.now item t
+        → IsOkAnd result (λ found. SameOption (HasSpotsLeft bytes.now) found (values_of t)) }
+{
+    match spot_item(bytes, item)? {
+        Item::Object(_) => child_spots(bytes, item),
+        _ => Ok(None),
+    }
+}
+
+/// One more place.
+pub(crate) fn push_spot(queue: &mut Vec<Spot>, spot: Spot) -> Result<(), Error>
+    ensures ok { OnOk result (queue.new.items ≡ queue.old.items ++ spot ∷ []) }
+    ensures err { IfErr result WantsMemory }
+{
+    queue.push(spot)?;
+    Ok(())
+}
+
+/// One more place, where the condition holds.
+pub(crate) fn push_if(condition: bool, spot: Spot, queue: &mut Vec<Spot>) -> Result<(), Error>
+    ensures { (bytes : List ℕ) (t : Tree) (before : List Tree) → Marks bytes spot t → AllRelated (Marks bytes) queue.old.items before
+        → Gives (λ _ us. AllRelated (Marks bytes) queue.new.items (before ++ us)) WantsMemory result (Ok (if condition then t ∷ [] else [])) }
+{
+    if condition {
+        push_spot(queue, spot)
+    } else {
+        Ok(())
+    }
+}
+
+/// The places that are left in an iterator.
+pub(crate) fn push_spots(spots: SpotIter<'_>, queue: &mut Vec<Spot>) -> Result<(), Error>
+    ensures { (bytes : List ℕ) (ts before : List Tree) → HasSpotsLeft bytes spots.entry ts → AllRelated (Marks bytes) queue.old.items before
+        → Gives (λ _ us. AllRelated (Marks bytes) queue.new.items (before ++ us)) WantsMemory result (Ok ts) }
+{
+    for spot in spots {
+        push_spot(queue, spot?)?;
+    }
+    Ok(())
+}
+
+/// The value under a key of an object.
+pub(crate) fn field(
+    alloc: Global,
+    bytes: &[u8],
+    mode: Mode,
+    name: &str,
+    item: Spot,
+) -> Result<Found, Error>
+    ensures { (t : Tree) → Marks bytes.now item t
+        → Gives (λ found us. AllRelated (Marks bytes.now) (found_spots found) us) WantsMemory result (field_step mode name.now t) }
+{
+    match field_spot(bytes, item, name)? {
+        Some(value) => Ok(Found::One(value)),
+        None => match mode {
+            Mode::Lax => Ok(Found::Many(Vec::new(alloc))),
+            Mode::Strict => Err(Error::StrictPath),
+        },
+    }
+}
+
+/// The value under a key of an object, behind what the queue has.
+pub(crate) fn push_field(
+    bytes: &[u8],
+    mode: Mode,
+    name: &str,
+    item: Spot,
+    queue: &mut Vec<Spot>,
+) -> Result<(), Error>
+    ensures { (t : Tree) (before : List Tree) → Marks bytes.now item t → AllRelated (Marks bytes.now) queue.old.items before
+        → Gives (λ _ ts. AllRelated (Marks bytes.now) queue.new.items (before ++ ts)) WantsMemory result (field_step mode name.now t) }
+{
+    match field_spot(bytes, item, name)? {
+        Some(value) => push_spot(queue, value),
+        None => match mode {
+            Mode::Lax => Ok(()),
+            Mode::Strict => Err(Error::StrictPath),
+        },
+    }
+}
+
+/// The values of an object, behind what the queue has.
+pub(crate) fn push_values(
+    bytes: &[u8],
+    mode: Mode,
+    item: Spot,
+    queue: &mut Vec<Spot>,
+) -> Result<(), Error>
+    ensures { (t : Tree) (before : List Tree) → Marks bytes.now item t → AllRelated (Marks bytes.now) queue.old.items before
+        → Gives (λ _ ts. AllRelated (Marks bytes.now) queue.new.items (before ++ ts)) WantsMemory result (values_step mode t) }
+{
+    match values(bytes, item)? {
+        Some(values) => push_spots(values, queue),
+        None => match mode {
+            Mode::Lax => Ok(()),
+            Mode::Strict => Err(Error::StrictPath),
+        },
+    }
+}
+
+/// The elements of an array, behind what the queue has.
+pub(crate) fn push_elements(
+    bytes: &[u8],
+    mode: Mode,
+    item: Spot,
+    queue: &mut Vec<Spot>,
+) -> Result<(), Error>
+    ensures { (t : Tree) (before : List Tree) → Marks bytes.now item t → AllRelated (Marks bytes.now) queue.old.items before
+        → Gives (λ _ ts. AllRelated (Marks bytes.now) queue.new.items (before ++ ts)) WantsMemory result (elements_step mode t) }
+{
+    match elements(bytes, item)? {
+        Some(elements) => push_spots(elements, queue),
+        None => match mode {
+            Mode::Lax => push_spot(queue, item),
+            Mode::Strict => Err(Error::StrictPath),
+        },
+    }
+}
+
+/// The elements at the positions of the entries, behind what the queue has.
+pub(crate) fn push_positions(
+    alloc: Global,
+    bytes: &[u8],
+    mode: Mode,
+    entries: &[ArrayIndex],
+    item: Spot,
+    queue: &mut Vec<Spot>,
+) -> Result<(), Error>
+    ensures { (t : Tree) (before : List Tree) → Marks bytes.now item t → AllRelated (Marks bytes.now) queue.old.items before
+        → Gives (λ _ ts. AllRelated (Marks bytes.now) queue.new.items (before ++ ts)) WantsMemory result (indices_step mode (map entry_view entries.now) t) }
+{
+    match elements(bytes, item)? {
+        Some(elements) => push_picked(alloc, elements, entries, queue),
+        None => match mode {
+            Mode::Lax => Ok(()),
+            Mode::Strict => Err(Error::StrictPath),
+        },
+    }
+}
+
+// The elements at the positions of the entries. For one plain index the walk ends there; else all elements
+// are walked once.
+fn push_picked(
+    alloc: Global,
+    elements: SpotIter<'_>,
+    entries: &[ArrayIndex],
+    queue: &mut Vec<Spot>,
+) -> Result<(), Error>
+    ensures { (bytes : List ℕ) (ts before : List Tree) → HasSpotsLeft bytes elements.entry ts → AllRelated (Marks bytes) queue.old.items before
+        → Gives (λ _ us. AllRelated (Marks bytes) queue.new.items (before ++ us)) WantsMemory result (Ok (picked (map entry_view entries.now) ts)) }
+{
+    if let Some(position) = plain_index(entries) {
+        return push_nth(elements, position, queue);
+    }
+    let mut spots = Vec::new(alloc);
+    push_spots(elements, &mut spots)?;
+    push_entries(entries, &spots, queue)
+}
+
+// The position of one index that counts from the front.
+fn plain_index(entries: &[ArrayIndex]) -> Option<usize>
+    ensures { MatchOption result ⊤ (λ k. map entry_view entries.now ≡ single (from_front (pos k)) ∷ []) }
+{
+    match entries {
+        [ArrayIndex::Index(Index::Index(at))] if *at >= 0 => Some(*at as usize),
+        _ => None,
+    }
+}
+
+// The element at a position.
+fn push_nth(elements: SpotIter<'_>, position: usize, queue: &mut Vec<Spot>) -> Result<(), Error>
+    ensures { (bytes : List ℕ) (ts before : List Tree) → HasSpotsLeft bytes elements.entry ts → AllRelated (Marks bytes) queue.old.items before
+        → Gives (λ _ us. AllRelated (Marks bytes) queue.new.items (before ++ us)) WantsMemory result (Ok (filter_map (slice_get ts) (position ∷ []))) }
+{
+    let mut before = position;
+    for element in elements {
+        let element = element?;
+        if before == 0 {
+            return push_spot(queue, element);
+        }
+        before -= 1;
+    }
+    Ok(())
+}
+
+// The elements at the positions of one entry after the other.
+fn push_entries(
+    entries: &[ArrayIndex],
+    elements: &[Spot],
+    queue: &mut Vec<Spot>,
+) -> Result<(), Error>
+    ensures { (bytes : List ℕ) (ts before : List Tree) → AllRelated (Marks bytes) elements.now ts → AllRelated (Marks bytes) queue.old.items before
+        → Gives (λ _ us. AllRelated (Marks bytes) queue.new.items (before ++ us)) WantsMemory result (Ok (picked (map entry_view entries.now) ts)) }
+{
+    for entry in entries {
+        push_entry(entry, elements, queue)?;
+    }
+    Ok(())
+}
+
+// The elements at the positions of one entry, ascending.
+fn push_entry(entry: &ArrayIndex, elements: &[Spot], queue: &mut Vec<Spot>) -> Result<(), Error>
+    ensures { (bytes : List ℕ) (ts before : List Tree) → AllRelated (Marks bytes) elements.now ts → AllRelated (Marks bytes) queue.old.items before
+        → Gives (λ _ us. AllRelated (Marks bytes) queue.new.items (before ++ us)) WantsMemory result (Ok (picked_by (entry_view entry.now) ts)) }
+{
+    let (start, end) = entry.bounds(elements.len());
+    queue.extend_from_slice(&elements[start..end])?;
+    Ok(())
+}

@@ -1,0 +1,19 @@
+//! What a selection runs on.
+
+use jsonb_doc::Spot;
+
+/// The bytes of a document with the place of its root.
+#[derive(Clone, Copy)]
+pub(crate) struct Document<'a> {
+    pub(crate) bytes: &'a [u8],
+    pub(crate) root: Spot,
+}
+
+/// What a step does with an item that it does not fit.
+#[derive(Clone, Copy, Debug, PartialEq, Eq)]
+pub(crate) enum Mode {
+    /// It gives nothing, or the item itself.
+    Lax,
+    /// It is refused.
+    Strict,
+}

@@ -1,0 +1,159 @@
+//! From what a path selects to documents.
+
+ghost use Rattle.std.specs.Prelude.{◌≡◌, ◌∷◌, ◌++◌, ◌<◌, [], List, Ok, IsOkAnd, IfErr};
+ghost use Rattle.std.specs.List.{HoldsAt};
+ghost use Rattle.jsonb_doc.specs.Tree.{Tree};
+ghost use Rattle.jsonb_doc.specs.Payload.{Form};
+ghost use Rattle.jsonb_doc.specs.Format.{Decodes};
+ghost use Rattle.jsonb_doc.specs.Item.{Stands};
+ghost use Rattle.jsonb_doc.specs.View.{IsDecodingError};
+ghost use Rattle.jsonb_doc.specs.Answer.{Builds, HasNoRoom};
+ghost use Rattle.jsonb_doc.specs.ArrayBuilder.{HoldsElements};
+ghost use Rattle.jsonb_raw.specs.Documents.{Makes, MakesOption, IsMakingError};
+ghost use Rattle.jsonb.specs.Selection.{IsPart, Selects};
+ghost use Rattle.jsonb.specs.SelectorAnswers.{HandsOut, AreDocuments, HasTooLarge, array_of, first_of, value_of};
+ghost use Rattle.jsonb.specs.Selected.{selected_len};
+
+use super::document::Document;
+use super::part::{Part, Selected};
+use jsonb_doc::{ArrayBuilder, Error, Item, encode_item, spot_item};
+use jsonb_raw::OwnedJsonb;
+use std::alloc::Global;
+
+/// How many parts are selected.
+pub(crate) fn selected_len(selected: &Selected<'_>) -> usize
+    ensures { result ≡ selected_len selected.now }
+{
+    match selected {
+        Selected::Spots(spots) => spots.as_slice().len(),
+        Selected::Made(parts) => parts.len(),
+    }
+}
+
+/// The part at a position, its slices borrowed from the document.
+fn part_at<'a>(
+    document: Document<'a>,
+    selected: &Selected<'a>,
+    position: usize,
+) -> Result<Part<'a>, Error>
+    requires { position < selected_len selected.now }
+    ensures part { (form : Form) (top : Tree) (ts : List Tree) → Decodes form document.entry.bytes.now top
+        → Selects form document.entry selected.now ts → IsOkAnd result (λ part. HoldsAt (IsPart form part) ts position) }
+    ensures errors { IfErr result IsDecodingError }
+{
+    match selected {
+        Selected::Spots(spots) => {
+            let spot = spots.as_slice()[position];
+            Ok(Part::Item(spot_item(document.bytes, spot)?))
+        },
+        Selected::Made(parts) => Ok(parts[position]),
+    }
+}
+
+/// The array of one item, as a document.
+fn array_of_one(alloc: Global, item: &Item<'_>) -> Result<Vec<u8>, Error>
+    ensures document { (form : Form) (t : Tree) → Stands form item.now t
+        → Builds form (array_of (t ∷ [])) result (λ v. Decodes form v.items (array_of (t ∷ []))) }
+    ensures errors { IfErr result HasNoRoom }
+{
+    let mut builder = ArrayBuilder::new(alloc);
+    builder.push_item(item)?;
+    builder.build()
+}
+
+/// A part as a document.
+fn part_document(alloc: Global, part: &Part<'_>) -> Result<OwnedJsonb, Error>
+    ensures document { (form : Form) (t : Tree) → IsPart form part.now t → Makes form t result }
+    ensures errors { IfErr result HasNoRoom }
+{
+    match part {
+        Part::Item(item) => Ok(OwnedJsonb::new(encode_item(alloc, item)?)),
+        Part::ArrayOf(item) => Ok(OwnedJsonb::new(array_of_one(alloc, item)?)),
+    }
+}
+
+/// Adds a part behind the other elements of an array.
+fn push_part(alloc: Global, builder: &mut ArrayBuilder, part: &Part<'_>) -> Result<(), Error>
+    ensures pushed { (form : Form) (ts : List Tree) (t : Tree) → HoldsElements form builder.old ts → IsPart form part.now t
+        → Builds form (array_of (ts ++ t ∷ [])) result (λ _. HoldsElements form builder.new (ts ++ t ∷ [])) }
+    ensures errors { IfErr result HasNoRoom }
+{
+    match part {
+        Part::Item(item) => builder.push_item(item),
+        Part::ArrayOf(item) => {
+            let array = array_of_one(alloc, item)?;
+            builder.push_item(&Item::Array(array.as_slice()))
+        }
+    }
+}
+
+/// Each part that is selected as a document, in order. `TooLarge` is for a part that is too large for one.
+pub(crate) fn documents(
+    alloc: Global,
+    document: Document<'_>,
+    selected: &Selected<'_>,
+) -> Result<Vec<OwnedJsonb>, Error>
+    ensures documents { (form : Form) (top : Tree) (ts : List Tree) → Decodes form document.entry.bytes.now top
+        → Selects form document.entry selected.now ts
+        → HandsOut (λ v us. AreDocuments form v.items us) (HasTooLarge form) result (Ok ts) }
+    ensures errors { IfErr result IsMakingError }
+{
+    let mut documents = Vec::new(alloc);
+    for position in 0..selected_len(selected) {
+        let part = part_at(document, selected, position)?;
+        documents.push(part_document(alloc, &part)?)?;
+    }
+    Ok(documents)
+}
+
+/// One array of the parts that are selected. `TooLarge` is for an array that passes the limits.
+pub(crate) fn array_document(
+    alloc: Global,
+    document: Document<'_>,
+    selected: &Selected<'_>,
+) -> Result<OwnedJsonb, Error>
+    ensures document { (form : Form) (top : Tree) (ts : List Tree) → Decodes form document.entry.bytes.now top
+        → Selects form document.entry selected.now ts → Makes form (array_of ts) result }
+    ensures errors { IfErr result IsMakingError }
+{
+    let mut builder = ArrayBuilder::new(alloc);
+    for position in 0..selected_len(selected) {
+        let part = part_at(document, selected, position)?;
+        push_part(alloc, &mut builder, &part)?;
+    }
+    Ok(OwnedJsonb::new(builder.build()?))
+}
+
+/// The first part that is selected as a document, or none. `TooLarge` is for a part that is too large for one.
+pub(crate) fn first_document(
+    alloc: Global,
+    document: Document<'_>,
+    selected: &Selected<'_>,
+) -> Result<Option<OwnedJsonb>, Error>
+    ensures document { (form : Form) (top : Tree) (ts : List Tree) → Decodes form document.entry.bytes.now top
+        → Selects form document.entry selected.now ts → MakesOption form (first_of ts) result }
+    ensures errors { IfErr result IsMakingError }
+{
+    if selected_len(selected) == 0 {
+        return Ok(None);
+    }
+    let part = part_at(document, selected, 0)?;
+    Ok(Some(part_document(alloc, &part)?))
+}
+
+/// None where nothing is selected, the only part as a document, or one array of several.
+/// `TooLarge` is for a part or an array that passes the limits.
+pub(crate) fn value_document(
+    alloc: Global,
+    document: Document<'_>,
+    selected: &Selected<'_>,
+) -> Result<Option<OwnedJsonb>, Error>
+    ensures document { (form : Form) (top : Tree) (ts : List Tree) → Decodes form document.entry.bytes.now top
+        → Selects form document.entry selected.now ts → MakesOption form (value_of ts) result }
+    ensures errors { IfErr result IsMakingError }
+{
+    if selected_len(selected) > 1 {
+        return Ok(Some(array_document(alloc, document, selected)?));
+    }
+    first_document(alloc, document, selected)
+}

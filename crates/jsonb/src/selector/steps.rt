@@ -1,0 +1,252 @@
+//! The steps of a path, one after the other, and the filters in them.
+
+ghost use Rattle.std.specs.Prelude.{◌≡◌, ◌++◌, ◌∷◌, [], List, Ok, map, flat_map, true};
+ghost use Rattle.jsonb_doc.specs.Answer.{Gives, WantsMemory, joined, with_value};
+ghost use Rattle.jsonb_doc.specs.Spots.{Marks};
+ghost use Rattle.jsonb_doc.specs.Tree.{Tree};
+ghost use Rattle.jsonb.specs.PathTree.{steps_of, filter};
+ghost use Rattle.jsonb.specs.PathViews.{step_view, steps_view, expression_view};
+ghost use Rattle.jsonb.specs.Related.{AllRelated};
+ghost use Rattle.jsonb.specs.Meaning.{step_meaning, steps_meaning, truth, operand_values, start};
+ghost use Rattle.jsonb.specs.Selection.{IsAt, HasTree, found_spots, values_view, IsKept};
+
+use super::children::{
+    field, push_elements, push_field, push_if, push_positions, push_spot, push_values,
+};
+use super::document::{Document, Mode};
+use super::found::Found;
+use super::levels::push_levels;
+use super::operand::{Values, both, compare, either, literal_operand};
+use super::values::found_values;
+use crate::path::{BinaryOperator, Expr, Path};
+use jsonb_doc::{Error, Spot};
+use std::alloc::Global;
+
+/// One step of one item, behind what the queue has.
+#[cycle(steps)]
+fn push_step<'a>(
+    alloc: Global,
+    mode: Mode,
+    step: &'a Path<'_>,
+    document: Document<'a>,
+    item: Spot,
+    queue: &mut Vec<Spot>,
+) -> Result<(), Error>
+    ensures { (top t : Tree) (before : List Tree) → HasTree document.entry top → IsAt document.entry item t → AllRelated (IsAt document.entry) queue.old.items before
+        → Gives (λ _ ts. AllRelated (IsAt document.entry) queue.new.items (before ++ ts)) WantsMemory result (step_meaning mode (step_view step.now) top t) }
+{
+    match step {
+        Path::DotWildcard => push_values(document.bytes, mode, item, queue),
+        Path::BracketWildcard => push_elements(document.bytes, mode, item, queue),
+        Path::ArrayIndices(entries) => push_positions(
+            alloc,
+            document.bytes,
+            mode,
+            entries,
+            item,
+            queue,
+        ),
+        Path::RecursiveDotWildcard(levels) => push_levels(document.bytes, *levels, 0, item, queue),
+        Path::Root | Path::Current => push_spot(queue, item),
+        Path::DotField(name) => push_field(document.bytes, mode, name.as_str(), item, queue),
+        Path::ColonField(name) => push_field(document.bytes, mode, name.as_str(), item, queue),
+        Path::ObjectField(name) => push_field(document.bytes, mode, name.as_str(), item, queue),
+        Path::FilterExpr(e) => {
+            let keeps = is_kept(alloc, mode, e, document, item)?;
+            push_if(keeps, item, queue)
+        }
+        Path::Expr(_) => Err(Error::InvalidJsonPath),
+    }
+}
+
+/// One step of one item. What gives one item at most needs no memory.
+#[cycle(steps)]
+fn step_item<'a>(
+    alloc: Global,
+    mode: Mode,
+    step: &'a Path<'_>,
+    document: Document<'a>,
+    item: Spot,
+) -> Result<Found, Error>
+    ensures { (top t : Tree) → HasTree document.entry top → IsAt document.entry item t
+        → Gives (λ found ts. AllRelated (IsAt document.entry) (found_spots found) ts) WantsMemory result (step_meaning mode (step_view step.now) top t) }
+{
+    match step {
+        Path::Root | Path::Current => Ok(Found::One(item)),
+        Path::DotField(name) => field(alloc, document.bytes, mode, name.as_str(), item),
+        Path::ColonField(name) => field(alloc, document.bytes, mode, name.as_str(), item),
+        Path::ObjectField(name) => field(alloc, document.bytes, mode, name.as_str(), item),
+        Path::FilterExpr(e) => {
+            let keeps = is_kept(alloc, mode, e, document, item)?;
+            Ok(Found::at_most_one(alloc, keeps.then_some(item)))
+        }
+        _ => {
+            let mut queue = Vec::new(alloc);
+            push_step(alloc, mode, step, document, item, &mut queue)?;
+            Ok(Found::Many(queue))
+        }
+    }
+}
+
+/// One step of each item of a list, in order.
+#[cycle(steps)]
+pub(crate) fn step_list<'a>(
+    alloc: Global,
+    mode: Mode,
+    step: &'a Path<'_>,
+    document: Document<'a>,
+    items: Found,
+) -> Result<Found, Error>
+    ensures { (top : Tree) (ts : List Tree) → HasTree document.entry top → AllRelated (IsAt document.entry) (found_spots items) ts
+        → Gives (λ found us. AllRelated (IsAt document.entry) (found_spots found) us) WantsMemory result (joined (step_meaning mode (step_view step.now) top) ts) }
+{
+    match items {
+        Found::One(item) => step_item(alloc, mode, step, document, item),
+        Found::Many(items) => step_many(alloc, mode, step, document, &items),
+    }
+}
+
+/// One step of each of many items, in order.
+#[cycle(steps)]
+fn step_many<'a>(
+    alloc: Global,
+    mode: Mode,
+    step: &'a Path<'_>,
+    document: Document<'a>,
+    items: &[Spot],
+) -> Result<Found, Error>
+    ensures { (top : Tree) (ts : List Tree) → HasTree document.entry top → AllRelated (IsAt document.entry) items.now ts
+        → Gives (λ found us. AllRelated (IsAt document.entry) (found_spots found) us) WantsMemory result (joined (step_meaning mode (step_view step.now) top) ts) }
+{
+    let mut queue = Vec::new(alloc);
+    for item in items {
+        push_step(alloc, mode, step, document, *item, &mut queue)?;
+    }
+    Ok(Found::Many(queue))
+}
+
+/// Several steps, one after the other, from one item.
+#[cycle(steps)]
+pub(crate) fn select_steps<'a>(
+    alloc: Global,
+    mode: Mode,
+    steps: &'a [Path<'_>],
+    document: Document<'a>,
+    first: Spot,
+) -> Result<Found, Error>
+    ensures { (top t : Tree) → HasTree document.entry top → IsAt document.entry first t
+        → Gives (λ found us. AllRelated (IsAt document.entry) (found_spots found) us) WantsMemory result (steps_meaning mode (steps_of (steps_view steps.now)) top (t ∷ [])) }
+{
+    let mut items = Found::One(first);
+    for step in steps {
+        items = step_list(alloc, mode, step, document, items)?;
+    }
+    Ok(items)
+}
+
+/// Where a path within an expression starts.
+fn first_item(steps: &[Path<'_>], document: Document<'_>, item: Spot) -> Spot
+    ensures { (top t : Tree) → HasTree document.entry top → IsAt document.entry item t → IsAt document.entry result (start (steps_of (steps_view steps.now)) top t) }
+{
+    match steps.first() {
+        Some(Path::Current) => item,
+        _ => document.root,
+    }
+}
+
+/// Whether a filter keeps an item.
+#[cycle(steps)]
+pub(crate) fn is_kept<'a>(
+    alloc: Global,
+    mode: Mode,
+    e: &'a Expr<'_>,
+    document: Document<'a>,
+    item: Spot,
+) -> Result<bool, Error>
+    ensures { (top t : Tree) → HasTree document.entry top → IsAt document.entry item t
+        → Gives (IsKept t) WantsMemory result (step_meaning mode (filter (expression_view e.now)) top t) }
+{
+    match truth(alloc, mode, e, document, item)? {
+        Some(keeps) => Ok(keeps),
+        None => Ok(false),
+    }
+}
+
+/// Whether an expression is true of an item. None is for unknown.
+#[cycle(steps)]
+pub(crate) fn truth<'a>(
+    alloc: Global,
+    mode: Mode,
+    e: &'a Expr<'_>,
+    document: Document<'a>,
+    item: Spot,
+) -> Result<Option<bool>, Error>
+    ensures { (top t : Tree) → HasTree document.entry top → IsAt document.entry item t
+        → Gives (λ b c. b ≡ c) WantsMemory result (truth mode (expression_view e.now) top t) }
+{
+    match e {
+        Expr::BinaryOp { op, left, right } => match op {
+            BinaryOperator::And => {
+                let a = truth(alloc, mode, left, document, item)?;
+                let b = truth(alloc, mode, right, document, item)?;
+                Ok(both(a, b))
+            }
+            BinaryOperator::Or => {
+                let a = truth(alloc, mode, left, document, item)?;
+                let b = truth(alloc, mode, right, document, item)?;
+                Ok(either(a, b))
+            }
+            BinaryOperator::Add
+            | BinaryOperator::Subtract
+            | BinaryOperator::Multiply
+            | BinaryOperator::Divide
+            | BinaryOperator::Modulo => Ok(None),
+            _ => {
+                let ls = operand_values(alloc, mode, left, document, item)?;
+                let rs = operand_values(alloc, mode, right, document, item)?;
+                Ok(compare(*op, ls.as_slice(), rs.as_slice()))
+            }
+        },
+        Expr::ExistsFunc(steps) => {
+            let found = select_steps(
+                alloc,
+                mode,
+                steps,
+                document,
+                first_item(steps, document, item),
+            )?;
+            Ok(Some(!found.as_slice().is_empty()))
+        }
+        Expr::Paths(_) | Expr::Value(_) | Expr::UnaryOp { .. } => Err(Error::InvalidJsonPath),
+    }
+}
+
+/// The values of an operand.
+#[cycle(steps)]
+pub(crate) fn operand_values<'a>(
+    alloc: Global,
+    mode: Mode,
+    e: &'a Expr<'_>,
+    document: Document<'a>,
+    item: Spot,
+) -> Result<Values<'a>, Error>
+    ensures { (top t : Tree) → HasTree document.entry top → IsAt document.entry item t
+        → Gives (λ values vs. values_view values ≡ vs) WantsMemory result (operand_values mode (expression_view e.now) top t) }
+{
+    match e {
+        Expr::Paths(steps) => {
+            let found = select_steps(
+                alloc,
+                mode,
+                steps,
+                document,
+                first_item(steps, document, item),
+            )?;
+            found_values(alloc, document.bytes, found)
+        }
+        Expr::Value(literal) => Ok(Values::One(literal_operand(literal))),
+        Expr::BinaryOp { .. } | Expr::UnaryOp { .. } | Expr::ExistsFunc(_) => Err(
+            Error::InvalidJsonPath,
+        ),
+    }
+}

@@ -1,0 +1,106 @@
+//! The values of items.
+
+ghost use Rattle.std.specs.Prelude.{◌≡◌, ◌++◌, ◌∷◌, [], List, Ok, OnOk, IfErr, map, flat_map};
+ghost use Rattle.jsonb_doc.specs.Answer.{Gives, WantsMemory};
+ghost use Rattle.jsonb_doc.specs.Spots.{Marks, HasSpotsLeft};
+ghost use Rattle.jsonb_doc.specs.Tree.{Tree};
+ghost use Rattle.jsonb.specs.Related.{AllRelated};
+ghost use Rattle.jsonb.specs.Values.{values_of_item, value_of_item};
+ghost use Rattle.jsonb.specs.Selection.{found_spots, operand_value, values_view};
+
+use super::children::elements;
+use super::found::Found;
+use super::operand::{Operand, Values, item_operand};
+use jsonb_doc::{Error, Spot, SpotIter, spot_item};
+use std::alloc::Global;
+
+/// The values of items.
+pub(crate) fn found_values<'a>(
+    alloc: Global,
+    bytes: &'a [u8],
+    items: Found,
+) -> Result<Values<'a>, Error>
+    ensures { (ts : List Tree) → AllRelated (Marks bytes.now) (found_spots items) ts
+        → Gives (λ values vs. values_view values ≡ vs) WantsMemory result (Ok (flat_map values_of_item ts)) }
+{
+    match items {
+        Found::One(item) => item_values(alloc, bytes, item),
+        Found::Many(items) => many_values(alloc, bytes, &items),
+    }
+}
+
+/// The values of many items.
+fn many_values<'a>(alloc: Global, bytes: &'a [u8], items: &[Spot]) -> Result<Values<'a>, Error>
+    ensures { (ts : List Tree) → AllRelated (Marks bytes.now) items.now ts
+        → Gives (λ values vs. values_view values ≡ vs) WantsMemory result (Ok (flat_map values_of_item ts)) }
+{
+    let mut values = Vec::new(alloc);
+    for item in items {
+        push_values(bytes, *item, &mut values)?;
+    }
+    Ok(Values::Many(values))
+}
+
+/// The values of one item. One value alone needs no memory.
+fn item_values<'a>(alloc: Global, bytes: &'a [u8], item: Spot) -> Result<Values<'a>, Error>
+    ensures { (t : Tree) → Marks bytes.now item t
+        → Gives (λ values vs. values_view values ≡ vs) WantsMemory result (Ok (values_of_item t)) }
+{
+    match elements(bytes, item)? {
+        Some(elements) => {
+            let mut values = Vec::new(alloc);
+            push_each(bytes, elements, &mut values)?;
+            Ok(Values::Many(values))
+        }
+        None => {
+            let value = item_operand(spot_item(bytes, item)?);
+            Ok(Values::at_most_one(alloc, value))
+        }
+    }
+}
+
+/// The values of an item, behind those that there are: an array gives those of its elements.
+fn push_values<'a>(bytes: &'a [u8], item: Spot, values: &mut Vec<Operand<'a>>) -> Result<(), Error>
+    ensures { (t : Tree) → Marks bytes.now item t
+        → Gives (λ _ vs. map operand_value values.new.items ≡ map operand_value values.old.items ++ vs) WantsMemory result (Ok (values_of_item t)) }
+{
+    match elements(bytes, item)? {
+        Some(elements) => push_each(bytes, elements, values),
+        None => push_value(bytes, item, values),
+    }
+}
+
+/// The value of each element.
+fn push_each<'a>(
+    bytes: &'a [u8],
+    elements: SpotIter<'_>,
+    values: &mut Vec<Operand<'a>>,
+) -> Result<(), Error>
+    ensures { (ts : List Tree) → HasSpotsLeft bytes.now elements.entry ts
+        → Gives (λ _ vs. map operand_value values.new.items ≡ map operand_value values.old.items ++ vs) WantsMemory result (Ok (flat_map value_of_item ts)) }
+{
+    for element in elements {
+        push_value(bytes, element?, values)?;
+    }
+    Ok(())
+}
+
+/// The value of an item that is no array, and of an element.
+fn push_value<'a>(bytes: &'a [u8], item: Spot, values: &mut Vec<Operand<'a>>) -> Result<(), Error>
+    ensures { (t : Tree) → Marks bytes.now item t
+        → Gives (λ _ vs. map operand_value values.new.items ≡ map operand_value values.old.items ++ vs) WantsMemory result (Ok (value_of_item t)) }
+{
+    match item_operand(spot_item(bytes, item)?) {
+        Some(value) => push_operand(values, value),
+        None => Ok(()),
+    }
+}
+
+/// One more value.
+fn push_operand<'a>(values: &mut Vec<Operand<'a>>, value: Operand<'a>) -> Result<(), Error>
+    ensures ok { OnOk result (values.new.items ≡ values.old.items ++ value.entry ∷ []) }
+    ensures err { IfErr result WantsMemory }
+{
+    values.push(value)?;
+    Ok(())
+}

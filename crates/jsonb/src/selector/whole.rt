@@ -1,0 +1,280 @@
+//! A path as a whole: its top steps, or one expression.
+
+ghost use Rattle.std.specs.Prelude.{◌≡◌, ◌++◌, ◌∷◌, [], List, Ok, Err, None, Some, MatchOption, map};
+ghost use Rattle.jsonb_doc.specs.Answer.{Gives, Outcome, WantsMemory, joined, with_value};
+ghost use Rattle.jsonb_doc.specs.Arithmetic.{Operation};
+ghost use Rattle.jsonb_doc.specs.Payload.{Form};
+ghost use Rattle.jsonb_doc.specs.Tree.{Tree};
+ghost use Rattle.jsonb.specs.PathTree.{steps_of, filter, whole_expression, value};
+ghost use Rattle.jsonb.specs.PathViews.{step_view, steps_view, expression_view, literal_view, operator_view, sign_view};
+ghost use Rattle.jsonb.specs.Related.{AllRelated};
+ghost use Rattle.jsonb.specs.PathArithmetic.{operation, each_signed};
+ghost use Rattle.jsonb.specs.Meaning.{step_meaning, steps_meaning, operand_values, truth, as_filter, Means, truth_item, truth_list, calculation, expression_predicate};
+ghost use Rattle.jsonb.specs.Selection.{IsAt, HasTree, found_spots, IsPart, IsNumberTree, Selects, step_expression, lone_expression, begins_with_current};
+ghost use Rattle.jsonb.specs.declared.selector.document.Mode.{Mode};
+ghost use Rattle.jsonb.specs.declared.selector.part.Part.TheVariants as part;
+
+use super::calculate::{binary_number, is_arithmetic, unary_numbers};
+use super::children::push_if;
+use super::document::{Document, Mode};
+use super::found::Found;
+use super::part::{Part, Selected};
+use super::steps::{is_kept, operand_values, step_list, truth};
+use crate::path::{BinaryOperator, Expr, Path, PathValue, UnaryOperator};
+use jsonb_doc::{Error, Item, Number, Spot, root_item};
+use std::alloc::Global;
+
+/// What a path selects.
+pub(crate) fn selection<'a>(
+    alloc: Global,
+    mode: Mode,
+    steps: &'a [Path<'_>],
+    document: Document<'a>,
+) -> Result<Selected<'a>, Error>
+    ensures { (form : Form) (top : Tree) (outcome : Outcome (List Tree)) → HasTree document.entry top → Means form mode (steps_view steps.now) top outcome
+        → Gives (Selects form document.entry) WantsMemory result outcome }
+{
+    if let Some(e) = lone_expression(steps) {
+        let parts = expression_parts(alloc, mode, e, document)?;
+        return Ok(Selected::Made(parts));
+    }
+    if begins_with_current(steps) {
+        return Err(Error::InvalidJsonPath);
+    }
+    let spots = top_steps(alloc, mode, steps, document)?;
+    Ok(Selected::Spots(spots))
+}
+
+/// The expression that is the whole path.
+pub(crate) fn lone_expression<'s, 'a>(steps: &'s [Path<'a>]) -> Option<&'s Expr<'a>>
+    ensures { MatchOption result (lone_expression (steps_view steps.now) ≡ None) (λ e. lone_expression (steps_view steps.now) ≡ Some (expression_view e.now)) }
+{
+    if steps.len() == 1 {
+        step_expression(&steps[0])
+    } else {
+        None
+    }
+}
+
+// The expression of a step.
+fn step_expression<'s, 'a>(step: &'s Path<'a>) -> Option<&'s Expr<'a>>
+    ensures { MatchOption result (step_expression (step_view step.now) ≡ None) (λ e. step_expression (step_view step.now) ≡ Some (expression_view e.now)) }
+{
+    match step {
+        Path::Expr(e) => Some(e),
+        _ => None,
+    }
+}
+
+// Whether the first step is `@`.
+fn begins_with_current(steps: &[Path<'_>]) -> bool
+    ensures { result ≡ begins_with_current (steps_view steps.now) }
+{
+    match steps.first() {
+        Some(Path::Current) => true,
+        _ => false,
+    }
+}
+
+// The steps of a path, one after the other, from the root.
+fn top_steps<'a>(
+    alloc: Global,
+    mode: Mode,
+    steps: &'a [Path<'_>],
+    document: Document<'a>,
+) -> Result<Found, Error>
+    ensures { (top : Tree) → HasTree document.entry top
+        → Gives (λ found us. AllRelated (IsAt document.entry) (found_spots found) us) WantsMemory result (steps_meaning mode (steps_of (map as_filter (steps_view steps.now))) top (top ∷ [])) }
+{
+    let mut items = Found::One(document.root);
+    for step in steps {
+        items = top_step(alloc, mode, step, document, items)?;
+    }
+    Ok(items)
+}
+
+// One step of the path of each item of a list. An expression is a filter there.
+fn top_step<'a>(
+    alloc: Global,
+    mode: Mode,
+    step: &'a Path<'_>,
+    document: Document<'a>,
+    items: Found,
+) -> Result<Found, Error>
+    ensures { (top : Tree) (ts : List Tree) → HasTree document.entry top → AllRelated (IsAt document.entry) (found_spots items) ts
+        → Gives (λ found us. AllRelated (IsAt document.entry) (found_spots found) us) WantsMemory result (joined (step_meaning mode (as_filter (step_view step.now)) top) ts) }
+{
+    match step {
+        Path::Expr(e) => kept_items(alloc, mode, e, document, items.as_slice()),
+        _ => step_list(alloc, mode, step, document, items),
+    }
+}
+
+// The items of a list that a filter keeps.
+fn kept_items<'a>(
+    alloc: Global,
+    mode: Mode,
+    e: &'a Expr<'_>,
+    document: Document<'a>,
+    items: &[Spot],
+) -> Result<Found, Error>
+    ensures { (top : Tree) (ts : List Tree) → HasTree document.entry top → AllRelated (IsAt document.entry) items.now ts
+        → Gives (λ found us. AllRelated (IsAt document.entry) (found_spots found) us) WantsMemory result (joined (step_meaning mode (filter (expression_view e.now)) top) ts) }
+{
+    let mut queue = Vec::new(alloc);
+    for item in items {
+        push_kept(alloc, mode, e, document, *item, &mut queue)?;
+    }
+    Ok(Found::Many(queue))
+}
+
+// An item that a filter keeps, behind what the queue has.
+fn push_kept<'a>(
+    alloc: Global,
+    mode: Mode,
+    e: &'a Expr<'_>,
+    document: Document<'a>,
+    item: Spot,
+    queue: &mut Vec<Spot>,
+) -> Result<(), Error>
+    ensures { (top t : Tree) (before : List Tree) → HasTree document.entry top → IsAt document.entry item t → AllRelated (IsAt document.entry) queue.old.items before
+        → Gives (λ _ ts. AllRelated (IsAt document.entry) queue.new.items (before ++ ts)) WantsMemory result (step_meaning mode (filter (expression_view e.now)) top t) }
+{
+    let keeps = is_kept(alloc, mode, e, document, item)?;
+    push_if(keeps, item, queue)
+}
+
+// What an expression makes that is the whole path.
+fn expression_parts<'a>(
+    alloc: Global,
+    mode: Mode,
+    e: &'a Expr<'_>,
+    document: Document<'a>,
+) -> Result<Vec<Part<'a>>, Error>
+    ensures { (form : Form) (top : Tree) (outcome : Outcome (List Tree)) → HasTree document.entry top → Means form mode (whole_expression (expression_view e.now) ∷ []) top outcome
+        → Gives (λ v ts. AllRelated (IsPart form) v.items ts) WantsMemory result outcome }
+{
+    match e {
+        Expr::Paths(_) => Err(Error::InvalidJsonPath),
+        Expr::Value(value) => literal_parts(alloc, value),
+        Expr::UnaryOp { op, operand } => whole_unary(alloc, mode, *op, operand, document),
+        Expr::BinaryOp { op, left, right } => {
+            if is_arithmetic(*op) {
+                let number = whole_binary(alloc, mode, *op, left, right, document)?;
+                lone_part(alloc, Part::Item(Item::Number(number)))
+            } else {
+                whole_truth(alloc, mode, e, document)
+            }
+        }
+        Expr::ExistsFunc(_) => whole_truth(alloc, mode, e, document),
+    }
+}
+
+// A literal as the whole path: an array of it, and of a document the document.
+fn literal_parts<'a>(alloc: Global, literal: &'a PathValue<'_>) -> Result<Vec<Part<'a>>, Error>
+    ensures { (form : Form) (mode : Mode) (top : Tree) (outcome : Outcome (List Tree)) → Means form mode (whole_expression (value (literal_view literal.now)) ∷ []) top outcome
+        → Gives (λ v ts. AllRelated (IsPart form) v.items ts) WantsMemory result outcome }
+{
+    match literal {
+        PathValue::Null => lone_part(alloc, Part::ArrayOf(Item::Null)),
+        PathValue::Boolean(b) => lone_part(alloc, Part::ArrayOf(Item::Boolean(*b))),
+        PathValue::Number(n) => lone_part(alloc, Part::ArrayOf(Item::Number(*n))),
+        PathValue::String(s) => lone_part(alloc, Part::ArrayOf(Item::String(s.as_str()))),
+        PathValue::Raw(raw) => {
+            let item = root_item(raw.as_bytes())?;
+            lone_part(alloc, Part::Item(item))
+        }
+    }
+}
+
+// The signed numbers of an operand.
+fn whole_unary<'a>(
+    alloc: Global,
+    mode: Mode,
+    op: UnaryOperator,
+    operand: &'a Expr<'_>,
+    document: Document<'a>,
+) -> Result<Vec<Part<'a>>, Error>
+    ensures { (form : Form) (top : Tree) → HasTree document.entry top
+        → Gives (λ v ts. AllRelated (IsPart form) v.items ts) WantsMemory result (with_value (operand_values mode (expression_view operand.now) top top) (each_signed (sign_view op))) }
+{
+    let values = operand_values(alloc, mode, operand, document, document.root)?;
+    unary_numbers(alloc, op, values.as_slice())
+}
+
+// The number of two operands, the values of both taken first.
+fn whole_binary<'a>(
+    alloc: Global,
+    mode: Mode,
+    op: BinaryOperator,
+    left: &'a Expr<'_>,
+    right: &'a Expr<'_>,
+    document: Document<'a>,
+) -> Result<Number, Error>
+    ensures { (top : Tree) (o : Operation) → HasTree document.entry top → operation (operator_view op) ≡ Some o
+        → Gives IsNumberTree WantsMemory result (calculation o (operand_values mode (expression_view left.now) top top) (operand_values mode (expression_view right.now) top top)) }
+{
+    let ls = operand_values(alloc, mode, left, document, document.root)?;
+    let rs = operand_values(alloc, mode, right, document, document.root)?;
+    binary_number(op, ls.as_slice(), rs.as_slice())
+}
+
+// A comparison, `&&`, `||` or `exists`: its truth.
+fn whole_truth<'a>(
+    alloc: Global,
+    mode: Mode,
+    e: &'a Expr<'_>,
+    document: Document<'a>,
+) -> Result<Vec<Part<'a>>, Error>
+    ensures { (form : Form) (top : Tree) → HasTree document.entry top
+        → Gives (λ v ts. AllRelated (IsPart form) v.items ts) WantsMemory result (truth_list (truth mode (expression_view e.now) top top)) }
+{
+    let truth = truth(alloc, mode, e, document, document.root)?;
+    lone_part(alloc, Part::Item(truth_item(truth)))
+}
+
+// A truth as an item: unknown is null.
+fn truth_item<'a>(truth: Option<bool>) -> Item<'a>
+    ensures { (form : Form) → IsPart form (part.Item result) (truth_item truth) }
+{
+    match truth {
+        Some(b) => Item::Boolean(b),
+        None => Item::Null,
+    }
+}
+
+fn lone_part<'a>(alloc: Global, part: Part<'a>) -> Result<Vec<Part<'a>>, Error>
+    ensures { (form : Form) (t : Tree) → IsPart form part.entry t → Gives (λ v ts. AllRelated (IsPart form) v.items ts) WantsMemory result (Ok (t ∷ [])) }
+{
+    let mut parts = Vec::new(alloc);
+    parts.push(part)?;
+    Ok(parts)
+}
+
+/// What an expression says as a predicate.
+pub(crate) fn expression_truth<'a>(
+    alloc: Global,
+    mode: Mode,
+    e: &'a Expr<'_>,
+    document: Document<'a>,
+) -> Result<Option<bool>, Error>
+    ensures { (top : Tree) → HasTree document.entry top → Gives (λ b c. b ≡ c) WantsMemory result (expression_predicate mode (expression_view e.now) top) }
+{
+    match e {
+        Expr::Paths(_) => Err(Error::InvalidJsonPath),
+        Expr::Value(_) => Ok(None),
+        Expr::UnaryOp { op, operand } => {
+            let _parts = whole_unary(alloc, mode, *op, operand, document)?;
+            Ok(None)
+        }
+        Expr::BinaryOp { op, left, right } => {
+            if is_arithmetic(*op) {
+                let _number = whole_binary(alloc, mode, *op, left, right, document)?;
+                Ok(None)
+            } else {
+                truth(alloc, mode, e, document, document.root)
+            }
+        }
+        Expr::ExistsFunc(_) => truth(alloc, mode, e, document, document.root),
+    }
+}
