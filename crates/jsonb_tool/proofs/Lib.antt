@@ -1,3 +1,4 @@
 pub mod Checks
 pub mod Shown
 pub mod LeafLines
+pub mod Selected
