@@ -1,2 +1,3 @@
 pub mod Checks
 pub mod Shown
+pub mod Selected

@@ -8,6 +8,8 @@ use Rattle.hex.specs.Hex.{decode_of}
 pub data Request : Type 0 where
   get : List ℕ → List ℕ → Request
   key : List ℕ → Request
+  select : List ℕ → List ℕ → Request
+  path_match : List ℕ → List ℕ → Request
 
 -- the bytes that a text is the hexadecimal of, in either case of letters
 abbrev pub bytes_of : List ℕ → Option (List ℕ)
@@ -17,7 +19,9 @@ bytes_of digits = result_ok (decode_of digits)
 -- Other words ask for nothing.
 abbrev pub request_of : List (List ℕ) → Option Request
 request_of (name ∷ path ∷ digits ∷ []) =
-    if bytes_eq name (codes "get") then option_map (get path) (bytes_of digits) else None
+    if bytes_eq name (codes "get") then option_map (get path) (bytes_of digits)
+    else if bytes_eq name (codes "select") then option_map (select path) (bytes_of digits)
+    else if bytes_eq name (codes "match") then option_map (path_match path) (bytes_of digits) else None
 request_of (name ∷ digits ∷ []) =
     if bytes_eq name (codes "key") then option_map key (bytes_of digits) else None
 request_of _ = None

@@ -1,9 +1,10 @@
 -- What the values of the code stand for.
-use Rattle.std.specs.Prelude.{ℕ, List, ◌++◌, Option, Some, None, codes}
+use Rattle.std.specs.Prelude.{ℕ, List, [], ◌∷◌, ◌++◌, flat_map, Option, Some, None, codes}
 use Rattle.hex.specs.Hex.{encode_lower}
 use Rattle.jsonb.specs.OwnedJsonb.{OwnedJsonb}
 use Rattle.jsonb_tool.specs.declared.command.Command.{Command}
-use Rattle.jsonb_tool.specs.declared.command.Command.TheVariants.{Get, Key}
+use Rattle.jsonb_tool.specs.declared.command.Command.TheVariants.{Get, Key, Select, Match}
+use Rattle.jsonb_tool.specs.Outcomes.{document_line}
 use Rattle.jsonb_tool.specs.Requests as spec
 use Rattle.jsonb_tool.specs.Requests.{Request}
 
@@ -11,8 +12,15 @@ use Rattle.jsonb_tool.specs.Requests.{Request}
 abbrev pub request : Command → Request
 request (Get path document) = spec.get path.now document.items
 request (Key document) = spec.key document.items
+request (Select path document) = spec.select path.now document.items
+request (Match path document) = spec.path_match path.now document.items
 
 -- the line of a document in hexadecimal, or of none
 abbrev pub found_text : Option OwnedJsonb → List ℕ
 found_text (Some document) = encode_lower document ++ codes "\n"
 found_text None = codes "none\n"
+
+-- a line for each document in hexadecimal, or that of none
+abbrev pub found_lines : List OwnedJsonb → List ℕ
+found_lines [] = codes "none\n"
+found_lines (document ∷ documents) = flat_map document_line (document ∷ documents)

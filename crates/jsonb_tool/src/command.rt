@@ -15,6 +15,10 @@ pub enum Command<'w> {
     Get { path: &'w str, document: Vec<u8> },
     /// The sortable key of the document.
     Key { document: Vec<u8> },
+    /// What a JSON path selects of the document.
+    Select { path: &'w str, document: Vec<u8> },
+    /// What a JSON path says of the document as a predicate.
+    Match { path: &'w str, document: Vec<u8> },
 }
 
 impl<'w> Command<'w> {
@@ -31,6 +35,16 @@ impl<'w> Command<'w> {
                 let path = path.as_str();
                 let document = document_from(alloc, digits.as_str())?;
                 Ok(document.map(|document| Command::Get { path, document }))
+            }
+            [name, path, digits] if name.as_str() == "select" => {
+                let path = path.as_str();
+                let document = document_from(alloc, digits.as_str())?;
+                Ok(document.map(|document| Command::Select { path, document }))
+            }
+            [name, path, digits] if name.as_str() == "match" => {
+                let path = path.as_str();
+                let document = document_from(alloc, digits.as_str())?;
+                Ok(document.map(|document| Command::Match { path, document }))
             }
             [name, digits] if name.as_str() == "key" => {
                 let document = document_from(alloc, digits.as_str())?;

@@ -6,14 +6,13 @@ ghost use Rattle.jsonb.specs.Payload.{any};
 ghost use Rattle.jsonb.specs.Format.{Decodes};
 ghost use Rattle.jsonb.specs.KeyPathGrammar.{key_path};
 ghost use Rattle.jsonb.specs.Documents.{raw_bytes};
-ghost use Rattle.jsonb_tool.specs.Outcomes.{Gets, ShowsKeyOf, IsDamage, IsOutcome};
-ghost use Rattle.jsonb_tool.specs.Views.{found_text, request};
+ghost use Rattle.jsonb.specs.PathGrammar.{json_path};
+ghost use Rattle.jsonb_tool.specs.Outcomes.{Gets, ShowsKeyOf, Selects, Matches, IsDamage, IsOutcome, truth_line};
+ghost use Rattle.jsonb_tool.specs.Views.{found_text, found_lines, request};
 ghost use Rattle.hex.specs.Hex.{encode_lower};
 
 use crate::command::Command;
-use jsonb::Error;
-use jsonb::parse_key_paths;
-use jsonb::{OwnedJsonb, RawJsonb};
+use jsonb::{Error, OwnedJsonb, RawJsonb, SelectByPath, parse_json_path, parse_key_paths};
 use std::alloc::{AllocError, Global};
 
 /// The lines that a command prints, each with its line feed, or its refusal.
@@ -25,6 +24,8 @@ pub fn output(alloc: Global, command: &Command<'_>) -> Result<String, Error>
     match command {
         Command::Get { path, document } => get(alloc, path, document.as_slice()),
         Command::Key { document } => key(alloc, document.as_slice()),
+        Command::Select { path, document } => select(alloc, path, document.as_slice()),
+        Command::Match { path, document } => path_match(alloc, path, document.as_slice()),
     }
 }
 
@@ -51,6 +52,30 @@ fn key(alloc: Global, document: &[u8]) -> Result<String, Error>
     Ok(hexadecimal_line(alloc, key.as_slice())?)
 }
 
+/// The documents that a JSON path selects, each on a line, or `none`.
+fn select<'a>(alloc: Global, path: &'a str, document: &'a [u8]) -> Result<String, Error>
+    ensures { MatchResult result
+        (λ lines. Selects (json_path path.now) document.now (Ok (string_bytes lines)))
+        (λ e. (e ≡ OutOfMemory) ⊎ Selects (json_path path.now) document.now (Err e)) }
+{
+    let steps = parse_json_path(alloc, path.as_bytes())?;
+    let document = checked(document)?;
+    let found = document.select_by_path(alloc, &steps)?;
+    Ok(found_lines(alloc, &found)?)
+}
+
+/// What a JSON path says as a predicate: `true`, `false` or `unknown`.
+fn path_match<'a>(alloc: Global, path: &'a str, document: &'a [u8]) -> Result<String, Error>
+    ensures { MatchResult result
+        (λ lines. Matches (json_path path.now) document.now (Ok (string_bytes lines)))
+        (λ e. (e ≡ OutOfMemory) ⊎ Matches (json_path path.now) document.now (Err e)) }
+{
+    let steps = parse_json_path(alloc, path.as_bytes())?;
+    let document = checked(document)?;
+    let truth = document.path_match(alloc, &steps)?;
+    Ok(String::from_str(alloc, truth_line(truth))?)
+}
+
 /// The bytes as a document, or why they are none.
 fn checked(bytes: &[u8]) -> Result<RawJsonb<'_>, Error>
     ensures { MatchResult result
@@ -69,6 +94,32 @@ fn found_line(alloc: Global, found: Option<OwnedJsonb>) -> Result<String, AllocE
     match found {
         Some(document) => hexadecimal_line(alloc, document.as_raw().as_bytes()),
         None => String::from_str(alloc, "none\n"),
+    }
+}
+
+/// A line for each document, or `none`.
+fn found_lines(alloc: Global, documents: &[OwnedJsonb]) -> Result<String, AllocError>
+    ensures { IfOk result (λ lines. string_bytes lines ≡ found_lines documents.now) }
+{
+    if documents.is_empty() {
+        return String::from_str(alloc, "none\n");
+    }
+    let mut lines = String::new(alloc);
+    for document in documents {
+        let line = hexadecimal_line(alloc, document.as_raw().as_bytes())?;
+        lines.push_str(line.as_str())?;
+    }
+    Ok(lines)
+}
+
+/// The line of a truth.
+fn truth_line(truth: Option<bool>) -> &'static str
+    ensures { result.now ≡ truth_line truth }
+{
+    match truth {
+        Some(true) => "true\n",
+        Some(false) => "false\n",
+        None => "unknown\n",
     }
 }
 

@@ -69,6 +69,70 @@ fn get_refuses_with_the_name_of_the_error(rt: HostRuntime) -> Result<(), Fail> {
     Ok(())
 }
 
+/// `[1,"a"]`
+const NUMBER_THEN_TEXT: &str = "800000022000000210000001500161";
+
+/// `[1]`
+const ONE_ELEMENT: &str = "80000001200000025001";
+
+const FIVE: &str = "20000000200000025005";
+
+#[test]
+fn select_prints_each_document(rt: HostRuntime) -> Result<(), Fail> {
+    for (path, document, line) in [
+        ("1 == -1", ONE_ELEMENT, "2000000030000000"),
+        (
+            "$[0] == 1 || $[1] == 1",
+            NUMBER_THEN_TEXT,
+            "2000000000000000",
+        ),
+        ("$ != null", FIVE, "2000000040000000"),
+        (
+            "$[last, 0]",
+            TENS,
+            "2000000020000002501e\n2000000020000002500a",
+        ),
+        ("$[-1]", TENS, "none"),
+        ("7 - 10", ONE_ELEMENT, "200000002000000240fd"),
+        ("", ARRAY_IN_UPPER_CASE, ARRAY),
+    ] {
+        let is_right = answers(rt.alloc(), &["select", path, document], line, 0)?;
+        assert!(rt; is_right, "select {path} {document}");
+    }
+    Ok(())
+}
+
+#[test]
+fn match_prints_a_truth(rt: HostRuntime) -> Result<(), Fail> {
+    for (path, document, line) in [
+        ("1 == -1", ONE_ELEMENT, "false"),
+        ("$[0] == 1 || $[1] == 1", NUMBER_THEN_TEXT, "unknown"),
+        ("$[*] > 25", TENS, "true"),
+        ("7 - 10", ONE_ELEMENT, "unknown"),
+        ("$.a", ONE_ELEMENT, "unknown"),
+    ] {
+        let is_right = answers(rt.alloc(), &["match", path, document], line, 0)?;
+        assert!(rt; is_right, "match {path} {document}");
+    }
+    Ok(())
+}
+
+#[test]
+fn paths_are_refused(rt: HostRuntime) -> Result<(), Fail> {
+    for (command, path, document, line) in [
+        ("select", "$ / 0", FIVE, "refused: Arithmetic(ZeroDivisor)"),
+        ("match", "$ / 2", FIVE, "refused: Arithmetic(Inexact)"),
+        ("select", "-1 == 1", ONE_ELEMENT, "refused: InvalidJsonPath"),
+        ("match", "$[1,]", "800000", "refused: InvalidJsonPath"),
+        ("select", "$.a", "800000", "refused: InvalidJsonb"),
+        ("match", "$.a", FLOAT, "refused: UnsupportedNumber"),
+    ] {
+        let is_right = answers(rt.alloc(), &[command, path, document], line, 1)?;
+        assert!(rt; is_right, "{command} {path} {document}");
+    }
+    Ok(())
+}
+
 #[test]
 fn key_prints_the_sortable_key(rt: HostRuntime) -> Result<(), Fail> {
     for (document, line, status) in [

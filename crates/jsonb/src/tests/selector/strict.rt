@@ -1,0 +1,40 @@
+//! Paths in a strict selector, each beside a lax one.
+
+use super::*;
+
+#[test]
+fn a_step_that_does_not_fit_is_refused(rt: HostRuntime) -> Result<(), Fail> {
+    let pair = "4000000110000001100000016b76";
+    let levels = "800000015000000a80000001200000025001 80000001200000025001 20000000200000025001";
+    for (path, document, strict, lax) in [
+        ("$.a", NULLS, "2000000000000000", "2000000000000000"),
+        ("$.c", NULLS, "StrictPath", ""),
+        ("$[*]", FIVE, "StrictPath", "20000000200000025005"),
+        ("$[5]", TENS, "", ""),
+        ("$[*].k", MIXED, "StrictPath", "200000001000000176"),
+        ("$[*]?(@.k == \"v\")", MIXED, "StrictPath", pair),
+        (
+            "$.a == 1 || $.c == 1",
+            NULLS,
+            "StrictPath",
+            "2000000000000000",
+        ),
+        ("exists($.c)", NULLS, "StrictPath", "2000000030000000"),
+        ("-$.c", NULLS, "StrictPath", ""),
+        ("$.**", NESTED, levels, levels),
+        ("$[*] + $.c", TENS, "StrictPath", "InvalidJsonPath"),
+        ("$[*]?(@.a + 1)", TENS, "", ""),
+        (
+            "$[*]?(-@.a)",
+            ONE_ELEMENT,
+            "InvalidJsonPath",
+            "InvalidJsonPath",
+        ),
+    ] {
+        let found = selected_strictly(&rt, path, document)?;
+        assert_eq!(rt; found.as_str(), strict, "strict {path} on {document}");
+        let found = selected(&rt, path, document)?;
+        assert_eq!(rt; found.as_str(), lax, "lax {path} on {document}");
+    }
+    Ok(())
+}

@@ -1,0 +1,6 @@
+use Rattle.std.proofs.Common.{◌≡◌, flat_map, take, string_bytes}
+use Rattle.jsonb_tool.specs.Outcomes.{document_line}
+use Rattle.jsonb_tool.proofs.output.found_lines.Given as goal
+
+abbrev pub invariant-loop-document : goal.invariant-loop-document
+invariant-loop-document l = string_bytes l.lines ≡ flat_map document_line (take l.document-index l.documents)
