@@ -1,5 +1,5 @@
 -- Laws of the meaning of paths.
-use Rattle.std.specs.Prelude.{◌≡◌, List, Some, Ok, Err}
+use Rattle.std.specs.Prelude.{◌≡◌, ◌↔◌, ℕ, ◌<◌, true, List, Some, Ok, Err}
 use Rattle.jsonb_doc.specs.Answer.{Outcome}
 use Rattle.jsonb_doc.specs.Order.{IsEqual}
 use Rattle.jsonb_doc.specs.Payload.{Form}
@@ -7,7 +7,9 @@ use Rattle.jsonb_doc.specs.Tree.{Tree}
 use Rattle.jsonb.specs.PathGrammar.{json_path}
 use Rattle.jsonb.specs.PathLaws.{SameButVariants}
 use Rattle.jsonb.specs.PathText.{path_text}
-use Rattle.jsonb.specs.PathTree.{Step}
+use Rattle.jsonb.specs.PathTree.{Entry, Step}
+use Rattle.jsonb.specs.Positions.{IsPosition}
+use Rattle.jsonb.specs.ItemSteps.{is_meant}
 use Rattle.jsonb.specs.Related.{AllRelated}
 use Rattle.jsonb.specs.Meaning.{meaning, Means}
 use Rattle.jsonb.specs.declared.selector.document.Mode.{Mode}
@@ -30,3 +32,7 @@ VariantsChangeNoValue = (mode : Mode) (p q : List Step) (top : Tree) → SameBut
 -- the printed text reads, as a path that means the same
 abbrev pub PrintsWithMeaning : List Step → Type 0
 PrintsWithMeaning p = (q : List Step) × (json_path (path_text p) ≡ Some q) × ((mode : Mode) (top : Tree) → SameByValue (meaning mode p top) (meaning mode q top))
+
+-- the listed positions of an entry are those that it means
+abbrev pub PositionsAreMeant : Type 0
+PositionsAreMeant = (entry : Entry) (length k : ℕ) → k < length → (is_meant length entry k ≡ true) ↔ IsPosition entry length k

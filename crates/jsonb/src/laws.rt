@@ -3,7 +3,7 @@
 ghost use Rattle.std.specs.Prelude.{ℕ, Bool, IfSome};
 ghost use Rattle.jsonb.specs.PathGrammar.{json_path, another_entry, spaced_inner, path_step, another_atom, another_and, nested_or};
 ghost use Rattle.jsonb.specs.PathLaws.{ReadsBack, RulesHold};
-ghost use Rattle.jsonb.specs.SelectorLaws.{StrictImpliesLax, VariantsChangeNoValue, PrintsWithMeaning};
+ghost use Rattle.jsonb.specs.SelectorLaws.{StrictImpliesLax, VariantsChangeNoValue, PrintsWithMeaning, PositionsAreMeant};
 ghost use Rattle.jsonb_keypath.specs.TokenLaws.{ReadsSome};
 
 /// A JSON path that was read prints to a text that reads as the same path, but for which variant
@@ -42,4 +42,9 @@ pub fn variants_change_no_value()
 /// A JSON path that was read prints to a text that reads as a path of the same meaning.
 pub fn printed_json_path_keeps_its_meaning(text: &[u8])
     ensures { IfSome (json_path text.now) PrintsWithMeaning }
+{}
+
+/// An index entry selects exactly the positions that `to_indices` holds.
+pub fn selected_positions_are_meant()
+    ensures { PositionsAreMeant }
 {}

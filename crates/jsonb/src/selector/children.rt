@@ -3,6 +3,8 @@
 ghost use Rattle.std.specs.Prelude.{◌≡◌, ℕ, ◌++◌, ◌∷◌, [], map, List, Ok, IfErr, OnOk, IsOkAnd, if◌then◌else◌, pos, ⊤, MatchOption, filter_map, slice_get};
 ghost use Rattle.jsonb_doc.specs.Answer.{Gives, SameOption, WantsMemory};
 ghost use Rattle.jsonb_doc.specs.Spots.{Marks, HasSpotsLeft};
+ghost use Rattle.jsonb_doc.specs.Payload.{any};
+ghost use Rattle.jsonb_doc.specs.Item.{Stands};
 ghost use Rattle.jsonb_doc.specs.Tree.{Tree};
 ghost use Rattle.jsonb.specs.PathTree.{single, from_front};
 ghost use Rattle.jsonb.specs.PathViews.{entry_view};
@@ -21,8 +23,20 @@ pub(crate) fn elements<'a>(bytes: &'a [u8], item: Spot) -> Result<Option<SpotIte
     ensures { (t : Tree) → Marks bytes.now item t
         → IsOkAnd result (λ found. SameOption (HasSpotsLeft bytes.now) found (elements_of t)) }
 {
-    match spot_item(bytes, item)? {
-        Item::Array(_) => child_spots(bytes, item),
+    array_elements(bytes, item, &spot_item(bytes, item)?)
+}
+
+/// The elements of an array that was read at this place. `None` is for another item.
+pub(crate) fn array_elements<'a>(
+    bytes: &'a [u8],
+    spot: Spot,
+    item: &Item<'_>,
+) -> Result<Option<SpotIter<'a>>, Error>
+    ensures { (t : Tree) → Marks bytes.now spot t → Stands any item.now t
+        → IsOkAnd result (λ found. SameOption (HasSpotsLeft bytes.now) found (elements_of t)) }
+{
+    match item {
+        Item::Array(_) => child_spots(bytes, spot),
         _ => Ok(None),
     }
 }
