@@ -19,7 +19,7 @@ use Rattle.jsonb.specs.Values.{Value, null, boolean, number, text, raw, values_o
 use Rattle.jsonb.specs.Compare.{Truth, value_order, begins, is_raw, pair_truth, first_decisive, compare}
 use Rattle.jsonb.specs.PathArithmetic.{operation, number_list, all_numbers, two_numbers, signed_number, each_signed}
 use Rattle.jsonb.specs.Meaning.{kept, start, compared, condition, step_meaning, steps_meaning, operand_values, truth, truth_list, calculation, binary_meaning, literal_list, expression_meaning, as_filter, meaning, binary_predicate, expression_predicate, predicate}
-use Rattle.jsonb.specs.SelectorLaws.{SameByValue, VariantsChangeNoValue, PrintsWithMeaning}
+use Rattle.jsonb.specs.SelectorLaws.{SameByValue, MeanTheSame, VariantsChangeNoMeaning, PrintsWithMeaning}
 use Rattle.jsonb.specs.declared.selector.document.Mode.{Mode}
 
 -- ---- numbers whose whole values are unsigned where they are not negative
@@ -390,14 +390,55 @@ same_by_value (Ok ts) (Ok us) e = same_lists ts us (let k : map settled_tree ts 
 same_by_value (Err a) (Err b) e = cc
 same_by_value _ _ e = cc
 
-pub variants_change_no_value : VariantsChangeNoValue
-variants_change_no_value mode p q top same =
-    same_by_value (meaning mode p top) (meaning mode q top)
-    (sym (meaning-settled p mode top) ∙ ap (λ (path : List Step). settled_outcome (meaning mode path top)) same ∙ meaning-settled q mode top)
+-- ---- predicates
+
+abbrev none : Outcome Truth
+none = Ok None
+
+same_refusal : (o o' : Outcome (List Tree)) → settled_outcome o ≡ settled_outcome o' → with_value o (λ ts. none) ≡ with_value o' (λ ts. none)
+same_refusal (Ok ts) (Ok us) e = refl
+same_refusal (Err a) (Err b) e = ap Err (let k : a ≡ b = cc in k)
+same_refusal _ _ e = cc
+
+expression-predicate : (e : Expression) (mode : Mode) (top : Tree) → expression_predicate mode (settled e) top ≡ expression_predicate mode e top
+expression-predicate (paths ss) mode top = refl
+expression-predicate (value l) mode top = refl
+expression-predicate (unary op e) mode top =
+    same_refusal (expression_meaning mode (settled (unary op e)) top) (expression_meaning mode (unary op e) top) (expression-meaning (unary op e) mode top)
+expression-predicate (binary op l r) mode top = rw ((expression_same (binary op l r)).1 mode top top) (go (operation op)) where
+  go : (o : Option Operation) → binary_predicate o (operand_values mode (settled l) top top) (operand_values mode (settled r) top top) (truth mode (binary op l r) top top)
+      ≡ binary_predicate o (operand_values mode l top top) (operand_values mode r top top) (truth mode (binary op l r) top top)
+  go (Some o) = ap (λ (x : Outcome (List Tree)). with_value x (λ ts. none)) (same_calculation o _ _ _ _ ((expression_same l).0 mode top top) ((expression_same r).0 mode top top))
+  go None = refl
+expression-predicate (exists ss) mode top = (expression_same (exists ss)).1 mode top top
+
+predicate-settled : (p : List Step) (mode : Mode) (top : Tree) → predicate mode (map settled_step p) top ≡ predicate mode p top
+predicate-settled [] mode top = refl
+predicate-settled (whole_expression e ∷ []) mode top = expression-predicate e mode top
+predicate-settled (whole_expression e ∷ t ∷ p) mode top = refl
+predicate-settled (root ∷ p) mode top = refl
+predicate-settled (current ∷ p) mode top = refl
+predicate-settled (dot_wildcard ∷ p) mode top = refl
+predicate-settled (recursive_dot_wildcard levels ∷ p) mode top = refl
+predicate-settled (bracket_wildcard ∷ p) mode top = refl
+predicate-settled (dot_field name ∷ p) mode top = refl
+predicate-settled (colon_field name ∷ p) mode top = refl
+predicate-settled (object_field name ∷ p) mode top = refl
+predicate-settled (array_indices entries ∷ p) mode top = refl
+predicate-settled (filter e ∷ p) mode top = refl
+
+pub variants_change_no_meaning : VariantsChangeNoMeaning
+variants_change_no_meaning p q same mode top = (
+  same_by_value (meaning mode p top) (meaning mode q top)
+      (sym (meaning-settled p mode top) ∙ ap (λ (path : List Step). settled_outcome (meaning mode path top)) same ∙ meaning-settled q mode top),
+  sym (predicate-settled p mode top) ∙ ap (λ (path : List Step). predicate mode path top) same ∙ predicate-settled q mode top,
+)
+
+-- ---- printed paths
 
 -- what is read back is the same path but for variants
 meant_back : (o : Option (List Step)) → IfSome o ReadsBack → IfSome o PrintsWithMeaning
-meant_back (Some p) h = (h.0, h.1, λ mode top. variants_change_no_value mode p h.0 top h.2)
+meant_back (Some p) h = (h.0, h.1, variants_change_no_meaning p h.0 h.2)
 meant_back None h = tt
 
 pub prints_with_meaning : (text : List ℕ) → IfSome (json_path text) ReadsBack → IfSome (json_path text) PrintsWithMeaning

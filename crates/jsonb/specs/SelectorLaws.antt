@@ -11,7 +11,7 @@ use Rattle.jsonb.specs.PathTree.{Entry, Step}
 use Rattle.jsonb.specs.Positions.{IsPosition}
 use Rattle.jsonb.specs.ItemSteps.{is_meant}
 use Rattle.jsonb.specs.Related.{AllRelated}
-use Rattle.jsonb.specs.Meaning.{meaning, Means}
+use Rattle.jsonb.specs.Meaning.{meaning, Means, predicate}
 use Rattle.jsonb.specs.declared.selector.document.Mode.{Mode}
 use Rattle.jsonb.specs.declared.selector.document.Mode.TheVariants.{Lax, Strict}
 
@@ -25,13 +25,17 @@ SameByValue (Ok ts) (Ok us) = AllRelated IsEqual ts us
 SameByValue (Err e) (Err f) = e ≡ f
 SameByValue _ _ = ⊥
 
--- paths that differ at most in which variant holds a whole number mean the same
-abbrev pub VariantsChangeNoValue : Type 0
-VariantsChangeNoValue = (mode : Mode) (p q : List Step) (top : Tree) → SameButVariants p q → SameByValue (meaning mode p top) (meaning mode q top)
+-- the paths mean the same on every tree, and say the same as predicates
+abbrev pub MeanTheSame : List Step → List Step → Type 0
+MeanTheSame p q = (mode : Mode) (top : Tree) → SameByValue (meaning mode p top) (meaning mode q top) × (predicate mode p top ≡ predicate mode q top)
+
+-- so do paths that differ at most in which variant holds a whole number
+abbrev pub VariantsChangeNoMeaning : Type 0
+VariantsChangeNoMeaning = (p q : List Step) → SameButVariants p q → MeanTheSame p q
 
 -- the printed text reads, as a path that means the same
 abbrev pub PrintsWithMeaning : List Step → Type 0
-PrintsWithMeaning p = (q : List Step) × (json_path (path_text p) ≡ Some q) × ((mode : Mode) (top : Tree) → SameByValue (meaning mode p top) (meaning mode q top))
+PrintsWithMeaning p = (q : List Step) × (json_path (path_text p) ≡ Some q) × MeanTheSame p q
 
 -- the listed positions of an entry are those that it means
 abbrev pub PositionsAreMeant : Type 0

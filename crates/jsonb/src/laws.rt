@@ -3,7 +3,7 @@
 ghost use Rattle.std.specs.Prelude.{ℕ, Bool, IfSome};
 ghost use Rattle.jsonb.specs.PathGrammar.{json_path, another_entry, spaced_inner, path_step, another_atom, another_and, nested_or};
 ghost use Rattle.jsonb.specs.PathLaws.{ReadsBack, RulesHold};
-ghost use Rattle.jsonb.specs.SelectorLaws.{StrictImpliesLax, VariantsChangeNoValue, PrintsWithMeaning, PositionsAreMeant};
+ghost use Rattle.jsonb.specs.SelectorLaws.{StrictImpliesLax, VariantsChangeNoMeaning, PrintsWithMeaning, PositionsAreMeant};
 ghost use Rattle.jsonb_keypath.specs.TokenLaws.{ReadsSome};
 
 /// A JSON path that was read prints to a text that reads as the same path, but for which variant
@@ -34,9 +34,9 @@ pub fn strict_implies_lax()
 {}
 
 /// Paths that differ at most in which variant holds a whole number mean the same on every tree: they have
-/// the same refusal, or lists that are equal by value.
-pub fn variants_change_no_value()
-    ensures { VariantsChangeNoValue }
+/// the same refusal, or lists that are equal by value, and the same answer as predicates.
+pub fn variants_change_no_meaning()
+    ensures { VariantsChangeNoMeaning }
 {}
 
 /// A JSON path that was read prints to a text that reads as a path of the same meaning.
