@@ -29,3 +29,5 @@ pub mod ReadMeans
 pub use Rattle.jsonb_raw.proofs.Iterated
 pub mod WholeLemmas
 pub mod ModeLemmas
+pub mod SettledMeaning
+mod MeaningRows

@@ -1,16 +1,16 @@
 -- The elements that an index entry picks are those between its bounds.
-use Rattle.std.proofs.Common.{◌≡◌, ℕ, zero, suc, ◌+◌, ◌-◌, ◌<◌, ◌≤◌, ◌↔◌, ℤ, pos, ◌≤ℤ◌, Bool, true, false, cond, ◌&&◌, List, [], ◌∷◌, ◌++◌, length, take, drop, filter, filter_map, slice_get, Some, refl, sym, ap, ◌∙◌, subst, arith, append-nil, append_assoc}
+use Rattle.std.proofs.Common.{◌≡◌, ℕ, zero, suc, ◌+◌, ◌-◌, ◌<◌, ◌≤◌, ◌↔◌, ℤ, pos, ◌≤ℤ◌, Bool, true, false, cond, ◌&&◌, List, [], ◌∷◌, ◌++◌, length, take, drop, filter, filter_map, slice_get, Some, None, nat_lt, refl, sym, ap, ◌∙◌, subst, arith, append-nil, append_assoc}
 use Rattle.std.specs.Prelude.{int_le, slice_range}
 use Rattle.std.specs.Ordering.{int_eq}
 use Rattle.std.specs.Bool.{Decides}
 use Rattle.std.specs.List.{cons_option}
-use Rattle.std.proofs.lemmas.Bool.Decides.{Decides-int_eq}
+use Rattle.std.proofs.lemmas.Bool.Decides.{Decides-int_eq, nat_tests}
 use Rattle.std.proofs.lemmas.Int.{ints}
 use Rattle.jsonb_doc.specs.Tree.{Tree}
-use Rattle.jsonb.specs.PathTree.{Entry, single, slice}
+use Rattle.jsonb.specs.PathTree.{Entry, single, slice, from_front}
 use Rattle.jsonb.specs.Positions.{position, IsPosition}
 use Rattle.jsonb.specs.Related.{AllRelated}
-use Rattle.jsonb.specs.ItemSteps.{is_meant, count_from, picked_by}
+use Rattle.jsonb.specs.ItemSteps.{is_meant, count_from, picked_by, picked}
 
 -- ---- the test and the relation agree
 
@@ -124,3 +124,41 @@ module _ {A B : Type 0} (R : A → B → Type 0) where
 
   pub AllRelated-between : (start end : ℕ) (xs : List A) (ys : List B) → AllRelated R xs ys → AllRelated R (slice_range xs start end) (slice_range ys start end)
   AllRelated-between start end xs ys h = AllRelated-take (end - start) (drop start xs) (drop start ys) (AllRelated-drop start xs ys h)
+
+-- ---- one plain index
+
+pub get_first : {B : Type 0} (ts : List B) (first : B) (others : List B) (k : ℕ) → ts ≡ first ∷ others → k ≡ 0 → slice_get ts k ≡ Some first
+get_first ts first others k whole none = rw (whole, none) refl
+
+pub get_further : {B : Type 0} (ts : List B) (first : B) (others : List B) (k : ℕ) → ts ≡ first ∷ others → (k ≡ 0 → ⊥) → slice_get others (k - 1) ≡ slice_get ts k
+get_further ts first others k whole later = rw whole (go k later)
+  where
+    go : (j : ℕ) → (j ≡ 0 → ⊥) → slice_get others (j - 1) ≡ slice_get (first ∷ others) j
+    go zero none = absurd (none refl)
+    go (suc j) none = let e : suc j - 1 ≡ j = omega arith in ap (slice_get others) e
+
+pub get_none : {B : Type 0} (ts : List B) (k : ℕ) → ts ≡ [] → slice_get ts k ≡ None
+get_none ts k is = rw is refl
+
+past_end : {B : Type 0} (ts : List B) (k : ℕ) → length ts ≤ k → slice_get ts k ≡ None
+past_end [] k h = refl
+past_end (t ∷ ts) zero h = absurd (omega (arith, h))
+past_end (t ∷ ts) (suc k) h = past_end ts k (omega (arith, h))
+
+pub picked_plain : (k : ℕ) (ts : List Tree) → picked (single (from_front (pos k)) ∷ []) ts ≡ filter_map (slice_get ts) (k ∷ [])
+picked_plain k ts = append-nil (picked_by (single (from_front (pos k))) ts) ∙ by_order (nat_lt k (length ts)) refl
+  where
+    by_order : (b : Bool) → nat_lt k (length ts) ≡ b → picked_by (single (from_front (pos k))) ts ≡ filter_map (slice_get ts) (k ∷ [])
+    by_order true e =
+        let short : k < length ts = grind (arith, nat_tests) in
+        let here = get-drop ts k short in
+        let one : k + 1 - k ≡ 1 = omega arith in
+        picked_between (single (from_front (pos k))) ts k (k + 1) (omega arith) (omega arith)
+        (λ i inside. (λ h. (inside, let same : i ≡ k = omega (arith, h.0, h.1) in ap pos same), λ h. let same : i ≡ k = cc in (omega arith, omega arith)))
+        ∙ ap (λ n. take n (drop k ts)) one ∙ ap (take 1) here.2 ∙ sym (ap (λ o. cons_option o []) here.1)
+    by_order false e =
+        let past : length ts ≤ k = grind (arith, nat_tests) in
+        let none : length ts - length ts ≡ 0 = omega arith in
+        picked_between (single (from_front (pos k))) ts (length ts) (length ts) (omega arith) (omega arith)
+        (λ i inside. (λ h. absurd (omega (arith, h.0, h.1)), λ h. let same : i ≡ k = cc in absurd (omega arith)))
+        ∙ ap (λ n. take n (drop (length ts) ts)) none ∙ sym (ap (λ o. cons_option o []) (past_end ts k past))

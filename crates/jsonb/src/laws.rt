@@ -3,7 +3,7 @@
 ghost use Rattle.std.specs.Prelude.{ℕ, Bool, IfSome};
 ghost use Rattle.jsonb.specs.PathGrammar.{json_path, another_entry, spaced_inner, path_step, another_atom, another_and, nested_or};
 ghost use Rattle.jsonb.specs.PathLaws.{ReadsBack, RulesHold};
-ghost use Rattle.jsonb.specs.SelectorLaws.{StrictImpliesLax};
+ghost use Rattle.jsonb.specs.SelectorLaws.{StrictImpliesLax, VariantsChangeNoMeaning, PrintsWithMeaning, PositionsAreMeant};
 ghost use Rattle.jsonb_keypath.specs.TokenLaws.{ReadsSome};
 
 /// A JSON path that was read prints to a text that reads as the same path, but for which variant
@@ -31,4 +31,20 @@ pub fn repeated_rules_read_some()
 /// Where the strict meaning of a path is a list, its lax meaning is the same list.
 pub fn strict_implies_lax()
     ensures { StrictImpliesLax }
+{}
+
+/// Paths that differ at most in which variant holds a whole number mean the same on every tree: they have
+/// the same refusal, or lists that are equal by value, and the same answer as predicates.
+pub fn variants_change_no_meaning()
+    ensures { VariantsChangeNoMeaning }
+{}
+
+/// A JSON path that was read prints to a text that reads as a path of the same meaning.
+pub fn printed_json_path_keeps_its_meaning(text: &[u8])
+    ensures { IfSome (json_path text.now) PrintsWithMeaning }
+{}
+
+/// An index entry selects exactly the positions that `to_indices` holds.
+pub fn selected_positions_are_meant()
+    ensures { PositionsAreMeant }
 {}

@@ -1,9 +1,12 @@
 //! The places of an item's children.
 
-ghost use Rattle.std.specs.Prelude.{◌≡◌, ℕ, ◌++◌, ◌∷◌, [], map, List, Ok, IfErr, OnOk, IsOkAnd, if◌then◌else◌};
+ghost use Rattle.std.specs.Prelude.{◌≡◌, ℕ, ◌++◌, ◌∷◌, [], map, List, Ok, IfErr, OnOk, IsOkAnd, if◌then◌else◌, pos, ⊤, MatchOption, filter_map, slice_get};
 ghost use Rattle.jsonb_doc.specs.Answer.{Gives, SameOption, WantsMemory};
 ghost use Rattle.jsonb_doc.specs.Spots.{Marks, HasSpotsLeft};
+ghost use Rattle.jsonb_doc.specs.Payload.{any};
+ghost use Rattle.jsonb_doc.specs.Item.{Stands};
 ghost use Rattle.jsonb_doc.specs.Tree.{Tree};
+ghost use Rattle.jsonb.specs.PathTree.{single, from_front};
 ghost use Rattle.jsonb.specs.PathViews.{entry_view};
 ghost use Rattle.jsonb.specs.Related.{AllRelated};
 ghost use Rattle.jsonb.specs.ItemSteps.{elements_of, values_of, field_step, values_step, elements_step, indices_step, picked_by, picked};
@@ -11,7 +14,7 @@ ghost use Rattle.jsonb.specs.Selection.{found_spots};
 
 use super::document::Mode;
 use super::found::Found;
-use crate::path::ArrayIndex;
+use crate::path::{ArrayIndex, Index};
 use jsonb_doc::{Error, Item, Spot, SpotIter, child_spots, field_spot, spot_item};
 use std::alloc::Global;
 
@@ -20,8 +23,20 @@ pub(crate) fn elements<'a>(bytes: &'a [u8], item: Spot) -> Result<Option<SpotIte
     ensures { (t : Tree) → Marks bytes.now item t
         → IsOkAnd result (λ found. SameOption (HasSpotsLeft bytes.now) found (elements_of t)) }
 {
-    match spot_item(bytes, item)? {
-        Item::Array(_) => child_spots(bytes, item),
+    array_elements(bytes, item, &spot_item(bytes, item)?)
+}
+
+/// The elements of an array that was read at this place. `None` is for another item.
+pub(crate) fn array_elements<'a>(
+    bytes: &'a [u8],
+    spot: Spot,
+    item: &Item<'_>,
+) -> Result<Option<SpotIter<'a>>, Error>
+    ensures { (t : Tree) → Marks bytes.now spot t → Stands any item.now t
+        → IsOkAnd result (λ found. SameOption (HasSpotsLeft bytes.now) found (elements_of t)) }
+{
+    match item {
+        Item::Array(_) => child_spots(bytes, spot),
         _ => Ok(None),
     }
 }
@@ -147,7 +162,7 @@ pub(crate) fn push_elements(
     }
 }
 
-/// The elements at the positions of the entries, behind what the queue has. The array is walked once.
+/// The elements at the positions of the entries, behind what the queue has.
 pub(crate) fn push_positions(
     alloc: Global,
     bytes: &[u8],
@@ -160,16 +175,57 @@ pub(crate) fn push_positions(
         → Gives (λ _ ts. AllRelated (Marks bytes.now) queue.new.items (before ++ ts)) WantsMemory result (indices_step mode (map entry_view entries.now) t) }
 {
     match elements(bytes, item)? {
-        Some(elements) => {
-            let mut spots = Vec::new(alloc);
-            push_spots(elements, &mut spots)?;
-            push_entries(entries, &spots, queue)
-        }
+        Some(elements) => push_picked(alloc, elements, entries, queue),
         None => match mode {
             Mode::Lax => Ok(()),
             Mode::Strict => Err(Error::StrictPath),
         },
     }
+}
+
+// The elements at the positions of the entries. For one plain index the walk ends there; else all elements
+// are walked once.
+fn push_picked(
+    alloc: Global,
+    elements: SpotIter<'_>,
+    entries: &[ArrayIndex],
+    queue: &mut Vec<Spot>,
+) -> Result<(), Error>
+    ensures { (bytes : List ℕ) (ts before : List Tree) → HasSpotsLeft bytes elements.entry ts → AllRelated (Marks bytes) queue.old.items before
+        → Gives (λ _ us. AllRelated (Marks bytes) queue.new.items (before ++ us)) WantsMemory result (Ok (picked (map entry_view entries.now) ts)) }
+{
+    if let Some(position) = plain_index(entries) {
+        return push_nth(elements, position, queue);
+    }
+    let mut spots = Vec::new(alloc);
+    push_spots(elements, &mut spots)?;
+    push_entries(entries, &spots, queue)
+}
+
+// The position of one index that counts from the front.
+fn plain_index(entries: &[ArrayIndex]) -> Option<usize>
+    ensures { MatchOption result ⊤ (λ k. map entry_view entries.now ≡ single (from_front (pos k)) ∷ []) }
+{
+    match entries {
+        [ArrayIndex::Index(Index::Index(at))] if *at >= 0 => Some(*at as usize),
+        _ => None,
+    }
+}
+
+// The element at a position.
+fn push_nth(elements: SpotIter<'_>, position: usize, queue: &mut Vec<Spot>) -> Result<(), Error>
+    ensures { (bytes : List ℕ) (ts before : List Tree) → HasSpotsLeft bytes elements.entry ts → AllRelated (Marks bytes) queue.old.items before
+        → Gives (λ _ us. AllRelated (Marks bytes) queue.new.items (before ++ us)) WantsMemory result (Ok (filter_map (slice_get ts) (position ∷ []))) }
+{
+    let mut before = position;
+    for element in elements {
+        let element = element?;
+        if before == 0 {
+            return push_spot(queue, element);
+        }
+        before -= 1;
+    }
+    Ok(())
 }
 
 // The elements at the positions of one entry after the other.

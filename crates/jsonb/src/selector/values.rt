@@ -3,15 +3,17 @@
 ghost use Rattle.std.specs.Prelude.{◌≡◌, ◌++◌, ◌∷◌, [], List, Ok, OnOk, IfErr, map, flat_map};
 ghost use Rattle.jsonb_doc.specs.Answer.{Gives, WantsMemory};
 ghost use Rattle.jsonb_doc.specs.Spots.{Marks, HasSpotsLeft};
+ghost use Rattle.jsonb_doc.specs.Payload.{any};
+ghost use Rattle.jsonb_doc.specs.Item.{Stands};
 ghost use Rattle.jsonb_doc.specs.Tree.{Tree};
 ghost use Rattle.jsonb.specs.Related.{AllRelated};
 ghost use Rattle.jsonb.specs.Values.{values_of_item, value_of_item};
 ghost use Rattle.jsonb.specs.Selection.{found_spots, operand_value, values_view};
 
-use super::children::elements;
+use super::children::array_elements;
 use super::found::Found;
 use super::operand::{Operand, Values, item_operand};
-use jsonb_doc::{Error, Spot, SpotIter, spot_item};
+use jsonb_doc::{Error, Item, Spot, SpotIter, spot_item};
 use std::alloc::Global;
 
 /// The values of items.
@@ -46,14 +48,15 @@ fn item_values<'a>(alloc: Global, bytes: &'a [u8], item: Spot) -> Result<Values<
     ensures { (t : Tree) → Marks bytes.now item t
         → Gives (λ values vs. values_view values ≡ vs) WantsMemory result (Ok (values_of_item t)) }
 {
-    match elements(bytes, item)? {
+    let found = spot_item(bytes, item)?;
+    match array_elements(bytes, item, &found)? {
         Some(elements) => {
             let mut values = Vec::new(alloc);
             push_each(bytes, elements, &mut values)?;
             Ok(Values::Many(values))
         }
         None => {
-            let value = item_operand(spot_item(bytes, item)?);
+            let value = item_operand(found);
             Ok(Values::at_most_one(alloc, value))
         }
     }
@@ -64,9 +67,10 @@ fn push_values<'a>(bytes: &'a [u8], item: Spot, values: &mut Vec<Operand<'a>>) -
     ensures { (t : Tree) → Marks bytes.now item t
         → Gives (λ _ vs. map operand_value values.new.items ≡ map operand_value values.old.items ++ vs) WantsMemory result (Ok (values_of_item t)) }
 {
-    match elements(bytes, item)? {
+    let found = spot_item(bytes, item)?;
+    match array_elements(bytes, item, &found)? {
         Some(elements) => push_each(bytes, elements, values),
-        None => push_value(bytes, item, values),
+        None => push_item(found, values),
     }
 }
 
@@ -90,7 +94,15 @@ fn push_value<'a>(bytes: &'a [u8], item: Spot, values: &mut Vec<Operand<'a>>) ->
     ensures { (t : Tree) → Marks bytes.now item t
         → Gives (λ _ vs. map operand_value values.new.items ≡ map operand_value values.old.items ++ vs) WantsMemory result (Ok (value_of_item t)) }
 {
-    match item_operand(spot_item(bytes, item)?) {
+    push_item(spot_item(bytes, item)?, values)
+}
+
+/// The same for an item that was read.
+fn push_item<'a>(item: Item<'a>, values: &mut Vec<Operand<'a>>) -> Result<(), Error>
+    ensures { (t : Tree) → Stands any item.entry t
+        → Gives (λ _ vs. map operand_value values.new.items ≡ map operand_value values.old.items ++ vs) WantsMemory result (Ok (value_of_item t)) }
+{
+    match item_operand(item) {
         Some(value) => push_operand(values, value),
         None => Ok(()),
     }

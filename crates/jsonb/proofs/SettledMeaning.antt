@@ -1,0 +1,445 @@
+-- Which variant holds a whole literal changes no truth, no step and no value.
+use Rattle.std.proofs.Common.{◌≡◌, ℕ, zero, suc, List, [], ◌∷◌, ◌++◌, Bool, true, false, Option, Some, None, refl, sym, ◌∙◌, ap, subst, map, flat_map, Ok, Err}
+use Rattle.std.specs.Prelude.{ℤ, pos, negsuc, IfSome, ◌||◌, if◌then◌else◌}
+use Rattle.std.specs.declared.cmp.Ordering.TheVariants.{Equal}
+use Rattle.std.proofs.lemmas.Cmp.{tied_itself}
+use Rattle.jsonb_doc.specs.NumberOrder.{number_cmp_total}
+use Rattle.jsonb_doc.specs.Answer.{Outcome, with_value, joined}
+use Rattle.jsonb_doc.specs.Arithmetic.{Operation, is_decimal, calculated, negated}
+use Rattle.jsonb_doc.specs.Number.{Variant, int64, uint64, decimal64, decimal128, Number, number_cmp}
+use Rattle.jsonb_doc.specs.Order.{IsEqual, AreEqual, PairsAreEqual}
+use Rattle.jsonb_doc.specs.Tree as tree
+use Rattle.jsonb_doc.specs.Tree.{Tree, Trees, Pairs}
+use Rattle.jsonb.specs.PathTree as path
+use Rattle.jsonb.specs.PathTree.{Literal, BinaryOp, and_op, or_op, eq, not_eq, lt, lte, gt, gte, starts_with_op, add, subtract, multiply, divide, modulo, UnaryOp, plus, minus, Step, root, current, dot_wildcard, recursive_dot_wildcard, bracket_wildcard, dot_field, colon_field, object_field, array_indices, filter, whole_expression, Steps, no_steps, step, Expression, paths, value, binary, unary, exists, steps_of}
+use Rattle.jsonb.specs.PathLaws.{settled_literal, settled_step, settled_steps, settled, SameButVariants, ReadsBack}
+use Rattle.jsonb.specs.PathGrammar.{json_path}
+use Rattle.jsonb.specs.Related.{AllRelated}
+use Rattle.jsonb.specs.Values.{Value, null, boolean, number, text, raw, values_of_item, literal_item, values_of_literal}
+use Rattle.jsonb.specs.Compare.{Truth, value_order, begins, is_raw, pair_truth, first_decisive, compare}
+use Rattle.jsonb.specs.PathArithmetic.{operation, number_list, all_numbers, two_numbers, signed_number, each_signed}
+use Rattle.jsonb.specs.Meaning.{kept, start, compared, condition, step_meaning, steps_meaning, operand_values, truth, truth_list, calculation, binary_meaning, literal_list, expression_meaning, as_filter, meaning, binary_predicate, expression_predicate, predicate}
+use Rattle.jsonb.specs.SelectorLaws.{SameByValue, MeanTheSame, VariantsChangeNoMeaning, PrintsWithMeaning}
+use Rattle.jsonb.specs.declared.selector.document.Mode.{Mode}
+
+-- ---- numbers whose whole values are unsigned where they are not negative
+
+abbrev settled_variant : Variant → ℤ → Variant
+settled_variant int64 (pos n) = uint64
+settled_variant int64 (negsuc n) = int64
+settled_variant uint64 z = uint64
+settled_variant decimal64 z = decimal64
+settled_variant decimal128 z = decimal128
+
+abbrev settled_number : Number → Number
+settled_number n = record { variant = settled_variant n.variant n.whole; whole = n.whole; scale = n.scale }
+
+abbrev settled_value : Value → Value
+settled_value null = null
+settled_value (boolean b) = boolean b
+settled_value (number n) = number (settled_number n)
+settled_value (text bs) = text bs
+settled_value raw = raw
+
+abbrev mutual
+  settled_tree : Tree → Tree
+  settled_tree tree.null = tree.null
+  settled_tree (tree.boolean b) = tree.boolean b
+  settled_tree (tree.number n) = tree.number (settled_number n)
+  settled_tree (tree.text bs) = tree.text bs
+  settled_tree (tree.extension x) = tree.extension x
+  settled_tree (tree.array ts) = tree.array (settled_trees ts)
+  settled_tree (tree.object ps) = tree.object (settled_pairs ps)
+
+  settled_trees : Trees → Trees
+  settled_trees tree.no_trees = tree.no_trees
+  settled_trees (tree.tree t ts) = tree.tree (settled_tree t) (settled_trees ts)
+
+  settled_pairs : Pairs → Pairs
+  settled_pairs tree.no_pairs = tree.no_pairs
+  settled_pairs (tree.pair key t ps) = tree.pair key (settled_tree t) (settled_pairs ps)
+
+-- the list with each tree settled, or the same refusal
+abbrev settled_outcome : Outcome (List Tree) → Outcome (List Tree)
+settled_outcome o = with_value o (λ ts. Ok (map settled_tree ts))
+
+-- ---- comparisons see no variant
+
+order-settled : (v w : Value) → value_order (settled_value v) (settled_value w) ≡ value_order v w
+order-settled null null = refl
+order-settled (boolean a) (boolean b) = refl
+order-settled (number m) (number n) = refl
+order-settled (text a) (text b) = refl
+order-settled raw raw = refl
+order-settled _ _ = refl
+
+begins-settled : (v w : Value) → begins (settled_value v) (settled_value w) ≡ begins v w
+begins-settled null null = refl
+begins-settled (boolean a) (boolean b) = refl
+begins-settled (number m) (number n) = refl
+begins-settled (text a) (text b) = refl
+begins-settled raw raw = refl
+begins-settled _ _ = refl
+
+raw-settled : (v : Value) → is_raw (settled_value v) ≡ is_raw v
+raw-settled null = refl
+raw-settled (boolean b) = refl
+raw-settled (number n) = refl
+raw-settled (text bs) = refl
+raw-settled raw = refl
+
+pair-settled : (op : BinaryOp) (v w : Value) → pair_truth op (settled_value v) (settled_value w) ≡ pair_truth op v w
+pair-settled starts_with_op v w = begins-settled v w
+pair-settled _ v w = rw (raw-settled v, raw-settled w, order-settled v w) refl
+
+row-settled : (op : BinaryOp) (v : Value) (ws : List Value) → map (λ w. pair_truth op (settled_value v) w) (map settled_value ws) ≡ map (λ w. pair_truth op v w) ws
+row-settled op v [] = refl
+row-settled op v (w ∷ ws) = rw (pair-settled op v w, row-settled op v ws) refl
+
+pairs-settled : (op : BinaryOp) (vs ws : List Value) → flat_map (λ v. map (λ w. pair_truth op v w) (map settled_value ws)) (map settled_value vs) ≡ flat_map (λ v. map (λ w. pair_truth op v w) ws) vs
+pairs-settled op [] ws = refl
+pairs-settled op (v ∷ vs) ws = rw (row-settled op v ws, pairs-settled op vs ws) refl
+
+compare-settled : (op : BinaryOp) (vs ws : List Value) → compare op (map settled_value vs) (map settled_value ws) ≡ compare op vs ws
+compare-settled op vs ws = ap first_decisive (pairs-settled op vs ws)
+
+-- the values with each settled
+abbrev settled_values : Outcome (List Value) → Outcome (List Value)
+settled_values o = with_value o (λ vs. Ok (map settled_value vs))
+
+compared-settled : (op : BinaryOp) (l r : Outcome (List Value)) → compared op (settled_values l) (settled_values r) ≡ compared op l r
+compared-settled op (Err e) r = refl
+compared-settled op (Ok ls) (Err e) = refl
+compared-settled op (Ok ls) (Ok rs) = ap (λ (t : Truth). Ok t) (compare-settled op ls rs)
+
+same_compared : (op : BinaryOp) (l l' r r' : Outcome (List Value)) → settled_values l' ≡ settled_values l → settled_values r' ≡ settled_values r → compared op l' r' ≡ compared op l r
+same_compared op l l' r r' e f = sym (compared-settled op l' r') ∙ ap (λ (o : Outcome (List Value)). compared op o (settled_values r')) e ∙ ap (λ (o : Outcome (List Value)). compared op (settled_values l) o) f ∙ compared-settled op l r
+
+same_condition : (op : BinaryOp) (o : Option Operation) (l l' r r' : Outcome (List Value)) → settled_values l' ≡ settled_values l → settled_values r' ≡ settled_values r → condition op o l' r' ≡ condition op o l r
+same_condition op (Some arithmetic) l l' r r' e f = refl
+same_condition op None l l' r r' e f = same_compared op l l' r r' e f
+
+literal-settled : (l : Literal) → map settled_value (values_of_literal (literal_item (settled_literal l))) ≡ map settled_value (values_of_literal (literal_item l))
+literal-settled path.null = refl
+literal-settled (path.boolean b) = refl
+literal-settled (path.unsigned n) = refl
+literal-settled (path.signed (pos zero)) = refl
+literal-settled (path.signed (pos (suc n))) = refl
+literal-settled (path.signed (negsuc n)) = refl
+literal-settled (path.decimal64 w s) = refl
+literal-settled (path.decimal128 w s) = refl
+literal-settled (path.string bs) = refl
+literal-settled (path.raw bytes) = refl
+
+-- ---- steps, operands and truths
+
+joined-same : {A B : Type 0} (f g : A → Outcome (List B)) → ((a : A) → f a ≡ g a) → (xs : List A) → joined f xs ≡ joined g xs
+joined-same f g h [] = refl
+joined-same f g h (x ∷ xs) = rw (h x, joined-same f g h xs) refl
+
+start-settled : (ss : Steps) (top item : Tree) → start (settled_steps ss) top item ≡ start ss top item
+start-settled no_steps top item = refl
+start-settled (step current rest) top item = refl
+start-settled (step _ rest) top item = refl
+
+with-same : {A B : Type 0} (o : Outcome A) (f g : A → Outcome B) → ((a : A) → f a ≡ g a) → with_value o f ≡ with_value o g
+with-same (Ok a) f g h = h a
+with-same (Err e) f g h = refl
+
+abbrev Values : Expression → Type 0
+Values e = (mode : Mode) (top item : Tree) → settled_values (operand_values mode (settled e) top item) ≡ settled_values (operand_values mode e top item)
+
+abbrev Truths : Expression → Type 0
+Truths e = (mode : Mode) (top item : Tree) → truth mode (settled e) top item ≡ truth mode e top item
+
+abbrev StepSame : Step → Type 0
+StepSame s = (mode : Mode) (top item : Tree) → step_meaning mode (settled_step s) top item ≡ step_meaning mode s top item
+
+abbrev StepsSame : Steps → Type 0
+StepsSame ss = (mode : Mode) (top : Tree) (items : List Tree) → steps_meaning mode (settled_steps ss) top items ≡ steps_meaning mode ss top items
+
+path-values : (ss : Steps) → StepsSame ss → Values (paths ss)
+path-values ss h mode top item = rw (start-settled ss top item, h mode top (start ss top item ∷ [])) refl
+
+exists-truth : (ss : Steps) → StepsSame ss → Truths (exists ss)
+exists-truth ss h mode top item = rw (start-settled ss top item, h mode top (start ss top item ∷ [])) refl
+
+binary-truth : (op : BinaryOp) (l r : Expression) → Values l → Values r → Truths l → Truths r → Truths (binary op l r)
+binary-truth and_op l r vl vr tl tr mode top item = rw (tl mode top item, tr mode top item) refl
+binary-truth or_op l r vl vr tl tr mode top item = rw (tl mode top item, tr mode top item) refl
+binary-truth eq l r vl vr tl tr mode top item = same_condition eq None _ _ _ _ (vl mode top item) (vr mode top item)
+binary-truth not_eq l r vl vr tl tr mode top item = same_condition not_eq None _ _ _ _ (vl mode top item) (vr mode top item)
+binary-truth lt l r vl vr tl tr mode top item = same_condition lt None _ _ _ _ (vl mode top item) (vr mode top item)
+binary-truth lte l r vl vr tl tr mode top item = same_condition lte None _ _ _ _ (vl mode top item) (vr mode top item)
+binary-truth gt l r vl vr tl tr mode top item = same_condition gt None _ _ _ _ (vl mode top item) (vr mode top item)
+binary-truth gte l r vl vr tl tr mode top item = same_condition gte None _ _ _ _ (vl mode top item) (vr mode top item)
+binary-truth starts_with_op l r vl vr tl tr mode top item = same_condition starts_with_op None _ _ _ _ (vl mode top item) (vr mode top item)
+binary-truth add l r vl vr tl tr mode top item = refl
+binary-truth subtract l r vl vr tl tr mode top item = refl
+binary-truth multiply l r vl vr tl tr mode top item = refl
+binary-truth divide l r vl vr tl tr mode top item = refl
+binary-truth modulo l r vl vr tl tr mode top item = refl
+
+steps-same : (s : Step) (ss : Steps) → StepSame s → StepsSame ss → StepsSame (step s ss)
+steps-same s ss one more mode top items =
+    rw (joined-same (step_meaning mode (settled_step s) top) (step_meaning mode s top) (one mode top) items)
+    (with-same (joined (step_meaning mode s top) items) (steps_meaning mode (settled_steps ss) top) (steps_meaning mode ss top) (more mode top))
+
+mutual
+  step_same : (s : Step) → StepSame s
+  step_same root = λ mode top item. refl
+  step_same current = λ mode top item. refl
+  step_same dot_wildcard = λ mode top item. refl
+  step_same (recursive_dot_wildcard levels) = λ mode top item. refl
+  step_same bracket_wildcard = λ mode top item. refl
+  step_same (dot_field name) = λ mode top item. refl
+  step_same (colon_field name) = λ mode top item. refl
+  step_same (object_field name) = λ mode top item. refl
+  step_same (array_indices entries) = λ mode top item. refl
+  step_same (filter e) = λ mode top item. rw ((expression_same e).1 mode top item) refl
+  step_same (whole_expression e) = λ mode top item. refl
+
+  expression_same : (e : Expression) → Values e × Truths e
+  expression_same (paths ss) = (path-values ss (steps_same ss), λ mode top item. refl)
+  expression_same (value l) = (λ mode top item. ap (λ (vs : List Value). Ok vs) (literal-settled l), λ mode top item. refl)
+  expression_same (binary op l r) = (λ mode top item. refl, binary-truth op l r (expression_same l).0 (expression_same r).0 (expression_same l).1 (expression_same r).1)
+  expression_same (unary op e) = (λ mode top item. refl, λ mode top item. refl)
+  expression_same (exists ss) = (λ mode top item. refl, exists-truth ss (steps_same ss))
+
+  steps_same : (ss : Steps) → StepsSame ss
+  steps_same no_steps = λ mode top items. refl
+  steps_same (step s ss) = steps-same s ss (step_same s) (steps_same ss)
+
+-- ---- whole paths, by value
+
+settled_variant-twice : (v : Variant) (z : ℤ) → settled_variant (settled_variant v z) z ≡ settled_variant v z
+settled_variant-twice int64 (pos n) = refl
+settled_variant-twice int64 (negsuc n) = refl
+settled_variant-twice uint64 z = refl
+settled_variant-twice decimal64 z = refl
+settled_variant-twice decimal128 z = refl
+
+settled_number-twice : (n : Number) → settled_number (settled_number n) ≡ settled_number n
+settled_number-twice n = ap (λ (v : Variant). record { variant = v; whole = n.whole; scale = n.scale }) (settled_variant-twice n.variant n.whole)
+
+decimal-settled : (v : Variant) (z : ℤ) → is_decimal (settled_variant v z) ≡ is_decimal v
+decimal-settled int64 (pos n) = refl
+decimal-settled int64 (negsuc n) = refl
+decimal-settled uint64 z = refl
+decimal-settled decimal64 z = refl
+decimal-settled decimal128 z = refl
+
+calculated-settled : (op : Operation) (m n : Number) → calculated op (settled_number m) (settled_number n) ≡ calculated op m n
+calculated-settled op m n = rw (decimal-settled m.variant m.whole, decimal-settled n.variant n.whole) refl
+
+negated-settled : (n : Number) → negated (settled_number n) ≡ negated n
+negated-settled n = rw (decimal-settled n.variant n.whole) refl
+
+-- a function of the values that sees no variant, but for those in its answer
+same_answer : (f : List Value → Outcome (List Tree)) → ((vs : List Value) → settled_outcome (f (map settled_value vs)) ≡ settled_outcome (f vs)) → (o o' : Outcome (List Value)) → settled_values o' ≡ settled_values o →
+    settled_outcome (with_value o' f) ≡ settled_outcome (with_value o f)
+same_answer f h o o' e = sym (through o') ∙ ap (λ (x : Outcome (List Value)). settled_outcome (with_value x f)) e ∙ through o where
+  through : (x : Outcome (List Value)) → settled_outcome (with_value (settled_values x) f) ≡ settled_outcome (with_value x f)
+  through (Ok vs) = h vs
+  through (Err er) = refl
+
+numbers-settled : (vs : List Value) → all_numbers (map settled_value vs) ≡ with_value (all_numbers vs) (λ ns. Ok (map settled_number ns))
+numbers-settled [] = refl
+numbers-settled (null ∷ vs) = refl
+numbers-settled (boolean b ∷ vs) = refl
+numbers-settled (text bs ∷ vs) = refl
+numbers-settled (raw ∷ vs) = refl
+numbers-settled (number n ∷ vs) = rw (numbers-settled vs) (go (all_numbers vs)) where
+  go : (o : Outcome (List Number)) → with_value (with_value o (λ ns. Ok (map settled_number ns))) (λ ns. Ok (settled_number n ∷ ns)) ≡ with_value (with_value o (λ ns. Ok (n ∷ ns))) (λ ns. Ok (map settled_number ns))
+  go (Ok ns) = refl
+  go (Err e) = refl
+
+joined-minus : (ns : List Number) → joined (signed_number minus) (map settled_number ns) ≡ joined (signed_number minus) ns
+joined-minus [] = refl
+joined-minus (n ∷ ns) = rw (negated-settled n, joined-minus ns) refl
+
+plus_is : (ns : List Number) → joined (signed_number plus) ns ≡ Ok (map tree.number ns)
+plus_is [] = refl
+plus_is (n ∷ ns) = rw (plus_is ns) refl
+
+trees-settled : (ns : List Number) → map settled_tree (map tree.number (map settled_number ns)) ≡ map settled_tree (map tree.number ns)
+trees-settled [] = refl
+trees-settled (n ∷ ns) = rw (settled_number-twice n, trees-settled ns) refl
+
+joined-plus : (ns : List Number) → settled_outcome (joined (signed_number plus) (map settled_number ns)) ≡ settled_outcome (joined (signed_number plus) ns)
+joined-plus ns = rw (plus_is (map settled_number ns), plus_is ns, trees-settled ns) refl
+
+signed-settled : (op : UnaryOp) (vs : List Value) → settled_outcome (each_signed op (map settled_value vs)) ≡ settled_outcome (each_signed op vs)
+signed-settled op vs = rw (numbers-settled vs) (go op (all_numbers vs)) where
+  go : (op : UnaryOp) (o : Outcome (List Number)) → settled_outcome (with_value (with_value o (λ ns. Ok (map settled_number ns))) (joined (signed_number op))) ≡ settled_outcome (with_value o (joined (signed_number op)))
+  go op (Err e) = refl
+  go plus (Ok ns) = joined-plus ns
+  go minus (Ok ns) = ap settled_outcome (joined-minus ns)
+
+two-settled : (op : Operation) (ls rs : List Value) → two_numbers op (map settled_value ls) (map settled_value rs) ≡ two_numbers op ls rs
+two-settled op (number m ∷ []) (number n ∷ []) = rw (calculated-settled op m n) refl
+two-settled op _ _ = refl
+
+same_calculation : (op : Operation) (l l' r r' : Outcome (List Value)) → settled_values l' ≡ settled_values l → settled_values r' ≡ settled_values r → calculation op l' r' ≡ calculation op l r
+same_calculation op l l' r r' e f =
+    sym (through l' r') ∙ ap (λ (o : Outcome (List Value)). calculation op o (settled_values r')) e ∙ ap (λ (o : Outcome (List Value)). calculation op (settled_values l) o) f ∙ through l r
+  where
+    through : (x y : Outcome (List Value)) → calculation op (settled_values x) (settled_values y) ≡ calculation op x y
+    through (Err er) y = refl
+    through (Ok ls) (Err er) = refl
+    through (Ok ls) (Ok rs) = two-settled op ls rs
+
+scalar-settled : (l : Literal) → settled_outcome (literal_list (literal_item (settled_literal l))) ≡ settled_outcome (literal_list (literal_item l))
+scalar-settled path.null = refl
+scalar-settled (path.boolean b) = refl
+scalar-settled (path.unsigned n) = refl
+scalar-settled (path.signed (pos zero)) = refl
+scalar-settled (path.signed (pos (suc n))) = refl
+scalar-settled (path.signed (negsuc n)) = refl
+scalar-settled (path.decimal64 w s) = refl
+scalar-settled (path.decimal128 w s) = refl
+scalar-settled (path.string bs) = refl
+scalar-settled (path.raw bytes) = refl
+
+binary-meaning : (op : BinaryOp) (l r : Expression) (mode : Mode) (top : Tree) → expression_meaning mode (settled (binary op l r)) top ≡ expression_meaning mode (binary op l r) top
+binary-meaning op l r mode top = rw ((expression_same (binary op l r)).1 mode top top) (go (operation op)) where
+  go : (o : Option Operation) → binary_meaning o (operand_values mode (settled l) top top) (operand_values mode (settled r) top top) (truth mode (binary op l r) top top)
+      ≡ binary_meaning o (operand_values mode l top top) (operand_values mode r top top) (truth mode (binary op l r) top top)
+  go (Some o) = same_calculation o _ _ _ _ ((expression_same l).0 mode top top) ((expression_same r).0 mode top top)
+  go None = refl
+
+expression-meaning : (e : Expression) (mode : Mode) (top : Tree) → settled_outcome (expression_meaning mode (settled e) top) ≡ settled_outcome (expression_meaning mode e top)
+expression-meaning (paths ss) mode top = refl
+expression-meaning (value l) mode top = scalar-settled l
+expression-meaning (unary op e) mode top = same_answer (each_signed op) (signed-settled op) _ _ ((expression_same e).0 mode top top)
+expression-meaning (binary op l r) mode top = ap settled_outcome (binary-meaning op l r mode top)
+expression-meaning (exists ss) mode top = rw ((expression_same (exists ss)).1 mode top top) refl
+
+filter-settled : (s : Step) → as_filter (settled_step s) ≡ settled_step (as_filter s)
+filter-settled root = refl
+filter-settled current = refl
+filter-settled dot_wildcard = refl
+filter-settled (recursive_dot_wildcard levels) = refl
+filter-settled bracket_wildcard = refl
+filter-settled (dot_field name) = refl
+filter-settled (colon_field name) = refl
+filter-settled (object_field name) = refl
+filter-settled (array_indices entries) = refl
+filter-settled (filter e) = refl
+filter-settled (whole_expression e) = refl
+
+filters-settled : (p : List Step) → steps_of (map as_filter (map settled_step p)) ≡ settled_steps (steps_of (map as_filter p))
+filters-settled [] = refl
+filters-settled (s ∷ p) = rw (filter-settled s, filters-settled p) refl
+
+plain-meaning : (p : List Step) (mode : Mode) (top : Tree) → steps_meaning mode (steps_of (map as_filter (map settled_step p))) top (top ∷ []) ≡ steps_meaning mode (steps_of (map as_filter p)) top (top ∷ [])
+plain-meaning p mode top = rw (filters-settled p) (steps_same (steps_of (map as_filter p)) mode top (top ∷ []))
+
+meaning-settled : (p : List Step) (mode : Mode) (top : Tree) → settled_outcome (meaning mode (map settled_step p) top) ≡ settled_outcome (meaning mode p top)
+meaning-settled [] mode top = refl
+meaning-settled (whole_expression e ∷ []) mode top = expression-meaning e mode top
+meaning-settled (whole_expression e ∷ t ∷ p) mode top = ap settled_outcome (plain-meaning (whole_expression e ∷ t ∷ p) mode top)
+meaning-settled (current ∷ p) mode top = refl
+meaning-settled (root ∷ p) mode top = ap settled_outcome (plain-meaning (root ∷ p) mode top)
+meaning-settled (dot_wildcard ∷ p) mode top = ap settled_outcome (plain-meaning (dot_wildcard ∷ p) mode top)
+meaning-settled (recursive_dot_wildcard levels ∷ p) mode top = ap settled_outcome (plain-meaning (recursive_dot_wildcard levels ∷ p) mode top)
+meaning-settled (bracket_wildcard ∷ p) mode top = ap settled_outcome (plain-meaning (bracket_wildcard ∷ p) mode top)
+meaning-settled (dot_field name ∷ p) mode top = ap settled_outcome (plain-meaning (dot_field name ∷ p) mode top)
+meaning-settled (colon_field name ∷ p) mode top = ap settled_outcome (plain-meaning (colon_field name ∷ p) mode top)
+meaning-settled (object_field name ∷ p) mode top = ap settled_outcome (plain-meaning (object_field name ∷ p) mode top)
+meaning-settled (array_indices entries ∷ p) mode top = ap settled_outcome (plain-meaning (array_indices entries ∷ p) mode top)
+meaning-settled (filter e ∷ p) mode top = ap settled_outcome (plain-meaning (filter e ∷ p) mode top)
+
+-- ---- what differs at most in variants is equal by value
+
+number_itself : (n : Number) → number_cmp n n ≡ Equal
+number_itself n = tied_itself number_cmp_total n
+
+mutual
+  same_tree : (t u : Tree) → settled_tree t ≡ settled_tree u → IsEqual t u
+  same_tree tree.null tree.null e = tt
+  same_tree (tree.boolean a) (tree.boolean b) e = cc
+  same_tree (tree.number m) (tree.number n) e =
+      let k : settled_number m ≡ settled_number n = cc in subst (λ x. number_cmp (settled_number m) x ≡ Equal) k (number_itself (settled_number m))
+  same_tree (tree.text a) (tree.text b) e = cc
+  same_tree (tree.extension a) (tree.extension b) e = cc
+  same_tree (tree.array ts) (tree.array us) e = same_trees ts us (let k : settled_trees ts ≡ settled_trees us = cc in k)
+  same_tree (tree.object ps) (tree.object qs) e = same_pairs ps qs (let k : settled_pairs ps ≡ settled_pairs qs = cc in k)
+  same_tree _ _ e = cc
+
+  same_trees : (ts us : Trees) → settled_trees ts ≡ settled_trees us → AreEqual ts us
+  same_trees tree.no_trees tree.no_trees e = tt
+  same_trees (tree.tree t ts) (tree.tree u us) e =
+      (same_tree t u (let k : settled_tree t ≡ settled_tree u = cc in k), same_trees ts us (let k : settled_trees ts ≡ settled_trees us = cc in k))
+  same_trees _ _ e = cc
+
+  same_pairs : (ps qs : Pairs) → settled_pairs ps ≡ settled_pairs qs → PairsAreEqual ps qs
+  same_pairs tree.no_pairs tree.no_pairs e = tt
+  same_pairs (tree.pair a t ps) (tree.pair b u qs) e =
+      (let k : a ≡ b = cc in k, same_tree t u (let k : settled_tree t ≡ settled_tree u = cc in k), same_pairs ps qs (let k : settled_pairs ps ≡ settled_pairs qs = cc in k))
+  same_pairs _ _ e = cc
+
+same_lists : (ts us : List Tree) → map settled_tree ts ≡ map settled_tree us → AllRelated IsEqual ts us
+same_lists [] [] e = tt
+same_lists (t ∷ ts) (u ∷ us) e =
+    (same_tree t u (let k : settled_tree t ≡ settled_tree u = cc in k), same_lists ts us (let k : map settled_tree ts ≡ map settled_tree us = cc in k))
+same_lists _ _ e = cc
+
+same_by_value : (o o' : Outcome (List Tree)) → settled_outcome o ≡ settled_outcome o' → SameByValue o o'
+same_by_value (Ok ts) (Ok us) e = same_lists ts us (let k : map settled_tree ts ≡ map settled_tree us = cc in k)
+same_by_value (Err a) (Err b) e = cc
+same_by_value _ _ e = cc
+
+-- ---- predicates
+
+abbrev none : Outcome Truth
+none = Ok None
+
+same_refusal : (o o' : Outcome (List Tree)) → settled_outcome o ≡ settled_outcome o' → with_value o (λ ts. none) ≡ with_value o' (λ ts. none)
+same_refusal (Ok ts) (Ok us) e = refl
+same_refusal (Err a) (Err b) e = ap Err (let k : a ≡ b = cc in k)
+same_refusal _ _ e = cc
+
+expression-predicate : (e : Expression) (mode : Mode) (top : Tree) → expression_predicate mode (settled e) top ≡ expression_predicate mode e top
+expression-predicate (paths ss) mode top = refl
+expression-predicate (value l) mode top = refl
+expression-predicate (unary op e) mode top =
+    same_refusal (expression_meaning mode (settled (unary op e)) top) (expression_meaning mode (unary op e) top) (expression-meaning (unary op e) mode top)
+expression-predicate (binary op l r) mode top = rw ((expression_same (binary op l r)).1 mode top top) (go (operation op)) where
+  go : (o : Option Operation) → binary_predicate o (operand_values mode (settled l) top top) (operand_values mode (settled r) top top) (truth mode (binary op l r) top top)
+      ≡ binary_predicate o (operand_values mode l top top) (operand_values mode r top top) (truth mode (binary op l r) top top)
+  go (Some o) = ap (λ (x : Outcome (List Tree)). with_value x (λ ts. none)) (same_calculation o _ _ _ _ ((expression_same l).0 mode top top) ((expression_same r).0 mode top top))
+  go None = refl
+expression-predicate (exists ss) mode top = (expression_same (exists ss)).1 mode top top
+
+predicate-settled : (p : List Step) (mode : Mode) (top : Tree) → predicate mode (map settled_step p) top ≡ predicate mode p top
+predicate-settled [] mode top = refl
+predicate-settled (whole_expression e ∷ []) mode top = expression-predicate e mode top
+predicate-settled (whole_expression e ∷ t ∷ p) mode top = refl
+predicate-settled (root ∷ p) mode top = refl
+predicate-settled (current ∷ p) mode top = refl
+predicate-settled (dot_wildcard ∷ p) mode top = refl
+predicate-settled (recursive_dot_wildcard levels ∷ p) mode top = refl
+predicate-settled (bracket_wildcard ∷ p) mode top = refl
+predicate-settled (dot_field name ∷ p) mode top = refl
+predicate-settled (colon_field name ∷ p) mode top = refl
+predicate-settled (object_field name ∷ p) mode top = refl
+predicate-settled (array_indices entries ∷ p) mode top = refl
+predicate-settled (filter e ∷ p) mode top = refl
+
+pub variants_change_no_meaning : VariantsChangeNoMeaning
+variants_change_no_meaning p q same mode top = (
+  same_by_value (meaning mode p top) (meaning mode q top)
+      (sym (meaning-settled p mode top) ∙ ap (λ (path : List Step). settled_outcome (meaning mode path top)) same ∙ meaning-settled q mode top),
+  sym (predicate-settled p mode top) ∙ ap (λ (path : List Step). predicate mode path top) same ∙ predicate-settled q mode top,
+)
+
+-- ---- printed paths
+
+-- what is read back is the same path but for variants
+meant_back : (o : Option (List Step)) → IfSome o ReadsBack → IfSome o PrintsWithMeaning
+meant_back (Some p) h = (h.0, h.1, variants_change_no_meaning p h.0 h.2)
+meant_back None h = tt
+
+pub prints_with_meaning : (text : List ℕ) → IfSome (json_path text) ReadsBack → IfSome (json_path text) PrintsWithMeaning
+prints_with_meaning input h = meant_back (json_path input) h

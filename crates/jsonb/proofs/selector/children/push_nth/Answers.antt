@@ -1,0 +1,43 @@
+use Rattle.std.proofs.Common.{◌≡◌, ◌-◌, [], ◌∷◌, Ok, Some, ap, sym, ◌∙◌, refl, subst, slice_get}
+use Rattle.std.specs.List.{cons_option}
+use Rattle.jsonb_doc.specs.Spots.{Marks, HasSpotsLeft}
+use Rattle.jsonb_doc.proofs.SpotsTaken.{no_refusal}
+use Rattle.jsonb.specs.Related.{AllRelated}
+use Rattle.jsonb.proofs.Outcomes.{pushed, unchanged, same_outcome}
+use Rattle.jsonb.proofs.Progress.{spot_first, spot_end}
+use Rattle.jsonb.proofs.PickLemmas.{get_first, get_further, get_none}
+use Rattle.jsonb.proofs.selector.children.push_nth.Goals as goal
+
+pub loop-element-init : goal.loop-element-init
+loop-element-init c = record {
+  same = refl;
+  left = λ bytes ts h. (ts, subst (λ it. HasSpotsLeft bytes it ts) (sym c.into_iter-element-iterator.ensures.into_iter_gives) h, refl);
+}
+
+pub returns-in_err-element : goal.returns-in_err-element
+returns-in_err-element c = λ bytes ts before h a.
+    let inv = c.loop-element.invariant.left bytes ts h in
+    absurd (no_refusal bytes inv.0 c.in-Some.element _ c.next.new.self c.in_err-element.was (c.in-Some.ensures.steps.takes bytes inv.0 inv.1))
+
+pub returns-then-before-eq0 : goal.returns-then-before-eq0
+returns-then-before-eq0 c = λ bytes ts before h a.
+    let inv = c.loop-element.invariant.left bytes ts h in
+    let k = spot_first bytes c.loop-element.element-iterator c.next.new.self c.in-Some.element _ c.in_ok-element.was c.in-Some.ensures.steps inv.0 inv.1 in
+    same_outcome (ap (λ o. Ok (cons_option o [])) (sym inv.2 ∙ get_first inv.0 k.first k.others c.loop-element.before k.whole c.if-before-eq0.true))
+    (pushed (Marks bytes) c.push_spot.result _ c.push_spot.new.queue.items _ before k.first c.push_spot.ensures.ok c.push_spot.ensures.err
+    (subst (λ l. AllRelated (Marks bytes) l before) (sym c.loop-element.invariant.same) a) k.holds)
+
+pub loop-element-preserved : goal.loop-element-preserved
+loop-element-preserved c = record {
+  same = c.loop-element.invariant.same;
+  left = λ bytes ts h.
+      let inv = c.loop-element.invariant.left bytes ts h in
+      let k = spot_first bytes c.loop-element.element-iterator c.next.new.self c.in-Some.element _ c.in_ok-element.was c.in-Some.ensures.steps inv.0 inv.1 in
+      (k.others, k.left, get_further inv.0 k.first k.others c.loop-element.before k.whole c.if-before-eq0.false ∙ inv.2);
+}
+
+pub returns : goal.returns
+returns c = λ bytes ts before h a.
+    let inv = c.loop-element.invariant.left bytes ts h in
+    let none = spot_end bytes c.loop-element.element-iterator c.next.new.self c.in-None.ensures.steps inv.0 inv.1 in
+    same_outcome (ap (λ o. Ok (cons_option o [])) (sym inv.2 ∙ get_none inv.0 c.loop-element.before none)) (unchanged (Marks bytes) c.loop-element.queue.items before (subst (λ l. AllRelated (Marks bytes) l before) (sym c.loop-element.invariant.same) a))

@@ -1,0 +1,23 @@
+use Rattle.std.proofs.Common.{[], Ok, Err, ap, sym, ◌∙◌, subst}
+use Rattle.std.proofs.lemmas.Result.{err_from_is_err_and}
+use Rattle.jsonb_doc.specs.Spots.{Marks}
+use Rattle.jsonb.specs.Related.{AllRelated}
+use Rattle.jsonb.specs.ItemSteps.{picked}
+use Rattle.jsonb.proofs.Outcomes.{only_memory, same_answer, same_outcome}
+use Rattle.jsonb.proofs.PickLemmas.{picked_plain}
+use Rattle.jsonb.proofs.selector.children.push_picked.Goals as goal
+
+pub returns-in-Some : goal.returns-in-Some
+returns-in-Some c = λ bytes ts before h a.
+    same_outcome (ap Ok (ap (λ l. picked l ts) c.in-Some.ensures ∙ picked_plain c.in-Some.position ts)) (c.push_nth.ensures bytes ts before h a)
+
+pub returns-in_err-push_spots : goal.returns-in_err-push_spots
+returns-in_err-push_spots c = λ bytes ts before h a.
+    let p = err_from_is_err_and c.from_residual.result c.from_residual.ensures.1 in
+    same_answer (p.1 ∙ ap Err p.2) (only_memory (c.in_err-push_spots.ensures bytes ts [] h (subst (λ l. AllRelated (Marks bytes) l []) (sym c.new-spots.ensures.items) tt)))
+
+pub returns : goal.returns
+returns c = λ bytes ts before h a.
+    c.push_entries.ensures bytes ts before
+    (subst (λ l. AllRelated (Marks bytes) l ts) (sym c.deref.ensures.value)
+    (c.in_ok-push_spots.ensures bytes ts [] h (subst (λ l. AllRelated (Marks bytes) l []) (sym c.new-spots.ensures.items) tt)).ok) a
