@@ -16,9 +16,7 @@ ghost use Rattle.hex.specs.Hex.{encode_lower};
 
 use crate::command::Command;
 use jsonb::keypath::KeyPaths;
-use jsonb::{
-    Error, OwnedJsonb, RawJsonb, SelectByPath, parse_json_path, parse_key_paths,
-};
+use jsonb::{Error, OwnedJsonb, RawJsonb, SelectByPath, parse_json_path, parse_key_paths};
 use std::alloc::{AllocError, Global};
 
 /// The lines that a command prints, each with its line feed, or its refusal.
