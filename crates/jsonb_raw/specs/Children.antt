@@ -1,10 +1,10 @@
 -- What the calls on the children of a document answer.
-use Rattle.std.specs.Prelude.{ℕ, ℤ, Bool, false, not, List, map, filter, length, slice_get, Option, Some, None, option_map, option_and_then, unwrap_or, if◌then◌else◌}
+use Rattle.std.specs.Prelude.{ℕ, ℤ, Bool, not, List, map, filter, length, slice_get, Option, Some, None, option_map, option_and_then, unwrap_or, if◌then◌else◌}
 use Rattle.std.specs.List.{find, remove}
 use Rattle.std.specs.Option.{option_or}
 use Rattle.std.specs.Char.{to_ascii_lowercase}
 use Rattle.std.specs.Str.{bytes_eq}
-use Rattle.jsonb_doc.specs.Tree.{Tree, text, array, object, elements, members, field_of, trees_of, pairs_of}
+use Rattle.jsonb_doc.specs.Tree.{Tree, array, object, elements, members, field_of, trees_of, pairs_of}
 use Rattle.jsonb_raw.specs.Places.{index_position}
 use Rattle.jsonb_raw.specs.Arrays.{array_values}
 use Rattle.jsonb_raw.specs.Exists.{is_text}

@@ -1,5 +1,5 @@
 -- The laws of arrays as sets.
-use Rattle.std.specs.Prelude.{◌≡◌, ◌≢◌, ◌⊎◌, ◌↔◌, ◌-◌, min, List, [], ◌∷◌, IsTrue}
+use Rattle.std.specs.Prelude.{◌≡◌, ◌≢◌, ◌↔◌, ◌-◌, min, List, [], IsTrue}
 use Rattle.jsonb_doc.specs.Tree.{Tree}
 use Rattle.jsonb_raw.specs.Dealt.{IsDealtTo}
 use Rattle.jsonb_raw.specs.Sets.{count_of, distinct, shared, unshared, overlap}

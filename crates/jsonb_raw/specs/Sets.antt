@@ -1,7 +1,7 @@
 -- Arrays as sets, whose elements are told apart by value, and counted.
 use Rattle.std.specs.Prelude.{ℕ, ◌==◌, Bool, not, List, [], ◌∷◌, count_by, filter, map, nat_lt}
 use Rattle.std.specs.List.{list_any}
-use Rattle.jsonb_doc.specs.Tree.{Tree, array, elements}
+use Rattle.jsonb_doc.specs.Tree.{Tree}
 use Rattle.jsonb_doc.specs.Equal.{is_equal}
 
 -- how many of the trees equal this one by value
