@@ -1,5 +1,5 @@
 -- What the kind of an item says of its tree.
-use Rattle.std.proofs.Common.{◌≡◌, ℕ, List, [], ◌∷◌, flat_map, Option, Some, None, refl, sym, ap, subst}
+use Rattle.std.proofs.Common.{◌≡◌, ℕ, List, flat_map, Some, None, refl, ap}
 use Rattle.std.specs.Borrow.{Bor}
 use Rattle.jsonb_doc.specs.Tree as tree
 use Rattle.jsonb_doc.specs.Tree.{Tree, children_of}

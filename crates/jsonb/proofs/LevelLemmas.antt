@@ -1,5 +1,5 @@
 -- The items below an item, by its children.
-use Rattle.std.proofs.Common.{◌≡◌, ℕ, ◌+◌, true, false, List, [], ◌∷◌, ◌++◌, flat_map, Option, Some, None, refl, ap, sym, ◌∙◌, append_assoc, append-nil, if◌then◌else◌}
+use Rattle.std.proofs.Common.{◌≡◌, ℕ, ◌+◌, true, false, List, [], ◌++◌, flat_map, Option, Some, None, refl, ap, ◌∙◌, append-nil, if◌then◌else◌}
 use Rattle.jsonb_doc.specs.Tree as tree
 use Rattle.jsonb_doc.specs.Tree.{Tree, Trees, Pairs, null, boolean, number, text, extension, array, object, no_trees, no_pairs, pair, elements, values, children_of}
 use Rattle.jsonb.specs.PathTree.{Levels}

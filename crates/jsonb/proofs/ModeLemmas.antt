@@ -1,5 +1,5 @@
 -- What strict mode gives, lax mode gives too.
-use Rattle.std.proofs.Common.{◌≡◌, ℕ, List, [], ◌∷◌, ◌++◌, map, Option, Some, None, option_map, Ok, Err, refl, sym, subst, ◌∙◌}
+use Rattle.std.proofs.Common.{◌≡◌, List, [], ◌∷◌, ◌++◌, map, Option, Some, None, option_map, Ok, Err, refl, sym, subst, ◌∙◌}
 use Rattle.jsonb_doc.specs.Answer.{Outcome, with_value, joined}
 use Rattle.jsonb_doc.specs.Arithmetic.{Operation}
 use Rattle.jsonb_doc.specs.Payload.{Form}

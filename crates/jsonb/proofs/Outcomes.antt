@@ -1,9 +1,8 @@
 -- Answers that give meanings: what a part's answer says of the whole.
-use Rattle.std.proofs.Common.{◌≡◌, List, [], ◌∷◌, ◌++◌, Option, Some, None, option_map, Result, Ok, Err, OnOk, IfErr, IsOkAnd, refl, inl, inr, subst, sym, ap, ◌∙◌, append-nil, ◌⊎◌, length, map, rules}
+use Rattle.std.proofs.Common.{◌≡◌, List, [], ◌∷◌, ◌++◌, Option, Some, None, option_map, Result, Ok, Err, OnOk, IfErr, IsOkAnd, refl, inl, inr, subst, sym, ap, append-nil, length, map, rules}
 use Rattle.std.specs.Prelude.{not, ◌==◌}
-use Rattle.jsonb_doc.specs.Answer.{Outcome, with_value, joined, Gives, SameOption, WantsMemory}
+use Rattle.jsonb_doc.specs.Answer.{Outcome, with_value, Gives, SameOption, WantsMemory}
 use Rattle.jsonb_doc.specs.declared.error.Error.{Error}
-use Rattle.jsonb_doc.specs.declared.error.Error.TheVariants.{OutOfMemory}
 use Rattle.jsonb_doc.specs.Tree.{Tree}
 use Rattle.jsonb.specs.Related.{AllRelated}
 use Rattle.jsonb.specs.Meaning.{is_some_item}

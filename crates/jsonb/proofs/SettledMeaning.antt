@@ -1,6 +1,6 @@
 -- Which variant holds a whole literal changes no truth, no step and no value.
-use Rattle.std.proofs.Common.{◌≡◌, ℕ, zero, suc, List, [], ◌∷◌, ◌++◌, Bool, true, false, Option, Some, None, refl, sym, ◌∙◌, ap, subst, map, flat_map, Ok, Err}
-use Rattle.std.specs.Prelude.{ℤ, pos, negsuc, IfSome, ◌||◌, if◌then◌else◌}
+use Rattle.std.proofs.Common.{◌≡◌, ℕ, zero, suc, List, [], ◌∷◌, Option, Some, None, refl, sym, ◌∙◌, ap, subst, map, flat_map, Ok, Err}
+use Rattle.std.specs.Prelude.{ℤ, pos, negsuc, IfSome}
 use Rattle.std.specs.declared.cmp.Ordering.TheVariants.{Equal}
 use Rattle.std.proofs.lemmas.Cmp.{tied_itself}
 use Rattle.jsonb_doc.specs.NumberOrder.{number_cmp_total}
@@ -12,14 +12,14 @@ use Rattle.jsonb_doc.specs.Tree as tree
 use Rattle.jsonb_doc.specs.Tree.{Tree, Trees, Pairs}
 use Rattle.jsonb.specs.PathTree as path
 use Rattle.jsonb.specs.PathTree.{Literal, BinaryOp, and_op, or_op, eq, not_eq, lt, lte, gt, gte, starts_with_op, add, subtract, multiply, divide, modulo, UnaryOp, plus, minus, Step, root, current, dot_wildcard, recursive_dot_wildcard, bracket_wildcard, dot_field, colon_field, object_field, array_indices, filter, whole_expression, Steps, no_steps, step, Expression, paths, value, binary, unary, exists, steps_of}
-use Rattle.jsonb.specs.PathLaws.{settled_literal, settled_step, settled_steps, settled, SameButVariants, ReadsBack}
+use Rattle.jsonb.specs.PathLaws.{settled_literal, settled_step, settled_steps, settled, ReadsBack}
 use Rattle.jsonb.specs.PathGrammar.{json_path}
 use Rattle.jsonb.specs.Related.{AllRelated}
-use Rattle.jsonb.specs.Values.{Value, null, boolean, number, text, raw, values_of_item, literal_item, values_of_literal}
+use Rattle.jsonb.specs.Values.{Value, null, boolean, number, text, raw, literal_item, values_of_literal}
 use Rattle.jsonb.specs.Compare.{Truth, value_order, begins, is_raw, pair_truth, first_decisive, compare}
-use Rattle.jsonb.specs.PathArithmetic.{operation, number_list, all_numbers, two_numbers, signed_number, each_signed}
-use Rattle.jsonb.specs.Meaning.{kept, start, compared, condition, step_meaning, steps_meaning, operand_values, truth, truth_list, calculation, binary_meaning, literal_list, expression_meaning, as_filter, meaning, binary_predicate, expression_predicate, predicate}
-use Rattle.jsonb.specs.SelectorLaws.{SameByValue, MeanTheSame, VariantsChangeNoMeaning, PrintsWithMeaning}
+use Rattle.jsonb.specs.PathArithmetic.{operation, all_numbers, two_numbers, signed_number, each_signed}
+use Rattle.jsonb.specs.Meaning.{start, compared, condition, step_meaning, steps_meaning, operand_values, truth, calculation, binary_meaning, literal_list, expression_meaning, as_filter, meaning, binary_predicate, expression_predicate, predicate}
+use Rattle.jsonb.specs.SelectorLaws.{SameByValue, VariantsChangeNoMeaning, PrintsWithMeaning}
 use Rattle.jsonb.specs.declared.selector.document.Mode.{Mode}
 
 -- ---- numbers whose whole values are unsigned where they are not negative

@@ -1,16 +1,15 @@
 -- Parts of the meaning of steps and filters.
-use Rattle.std.proofs.Common.{◌≡◌, ◌≢◌, ℕ, ◌+◌, ◌<◌, List, [], ◌∷◌, ◌++◌, map, flat_map, length, drop, get_or, suc, add-one, Bool, true, false, Option, Some, None, Result, Ok, Err, IsOkAnd, refl, sym, ap, ◌∙◌, subst, append-nil, Box, Global, if◌then◌else◌}
+use Rattle.std.proofs.Common.{◌≡◌, ◌≢◌, ℕ, ◌+◌, ◌<◌, List, [], ◌∷◌, ◌++◌, length, drop, get_or, suc, add-one, Bool, true, false, Option, Some, None, Ok, Err, refl, sym, ap, ◌∙◌, append-nil, Box, Global, if◌then◌else◌}
 use Rattle.std.specs.Bool.{then_some}
 use Rattle.std.proofs.Math.Seq.{drop-cons}
-use Rattle.jsonb_doc.specs.Answer.{Outcome, with_value, joined, Gives, WantsMemory}
+use Rattle.jsonb_doc.specs.Answer.{Outcome, with_value, joined}
 use Rattle.jsonb_doc.specs.Tree.{Tree}
 use Rattle.jsonb_doc.specs.declared.spot.Spot.{Spot}
 use Rattle.jsonb.specs.PathTree as math
 use Rattle.jsonb.specs.PathTree.{steps_of}
 use Rattle.jsonb.specs.PathViews.{step_view, steps_view, expression_view, operator_view}
 use Rattle.jsonb.specs.Related.{AllRelated}
-use Rattle.jsonb.specs.Values.{values_of_item}
-use Rattle.jsonb.specs.Compare.{Truth, compare}
+use Rattle.jsonb.specs.Compare.{compare}
 use Rattle.jsonb.specs.Meaning.{step_meaning, steps_meaning, truth, operand_values, start, kept}
 use Rattle.jsonb.specs.Selection.{IsKept, option_spots}
 use Rattle.jsonb.specs.declared.selector.document.Mode.{Mode}
@@ -20,7 +19,6 @@ use Rattle.jsonb.specs.declared.path.Expr.TheVariants as expr
 use Rattle.jsonb.specs.declared.path.BinaryOperator.{BinaryOperator}
 use Rattle.jsonb.specs.declared.path.BinaryOperator.TheVariants.{And, Or, Eq, NotEq, Lt, Lte, Gt, Gte, StartsWith, Add, Subtract, Multiply, Divide, Modulo}
 use Rattle.jsonb.proofs.PathNodes.{binary_is}
-use Rattle.jsonb.proofs.Outcomes.{one_ok}
 
 -- one item alone
 pub joined_one : {B C : Type 0} (f : B → Outcome (List C)) (t : B) → joined f (t ∷ []) ≡ f t

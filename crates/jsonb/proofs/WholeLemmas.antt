@@ -18,7 +18,7 @@ use Rattle.jsonb.specs.Selection.{step_expression, lone_expression, begins_with_
 use Rattle.jsonb.specs.declared.selector.document.Mode.{Mode}
 use Rattle.jsonb.specs.declared.path.PathValue.{PathValue}
 use Rattle.jsonb.specs.declared.path.Expr.{Expr}
-use Rattle.jsonb.specs.declared.path.Expr.TheOpen.{Expr-F, Path-F}
+use Rattle.jsonb.specs.declared.path.Expr.TheOpen.{Path-F}
 use Rattle.jsonb.specs.declared.path.Expr.TheViews.{roll-Path, roll-out-Path}
 use Rattle.jsonb.specs.declared.path.Path.{Path, out-Path}
 use Rattle.jsonb.specs.declared.path.Path.TheVariants as step

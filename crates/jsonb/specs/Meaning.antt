@@ -7,7 +7,7 @@ use Rattle.jsonb_doc.specs.Payload.{Form}
 use Rattle.jsonb_doc.specs.Format.{Decodes}
 use Rattle.jsonb_doc.specs.Tree as tree
 use Rattle.jsonb_doc.specs.Tree.{Tree}
-use Rattle.jsonb.specs.PathTree.{Literal, raw, BinaryOp, and_op, or_op, Step, root, current, dot_wildcard, recursive_dot_wildcard, bracket_wildcard, dot_field, colon_field, object_field, array_indices, filter, whole_expression, Steps, no_steps, step, Expression, paths, value, binary, unary, exists, steps_of}
+use Rattle.jsonb.specs.PathTree.{raw, BinaryOp, and_op, or_op, Step, root, current, dot_wildcard, recursive_dot_wildcard, bracket_wildcard, dot_field, colon_field, object_field, array_indices, filter, whole_expression, Steps, no_steps, step, Expression, paths, value, binary, unary, exists, steps_of}
 use Rattle.jsonb.specs.Values.{Value, values_of_item, literal_item, values_of_literal}
 use Rattle.jsonb.specs.Compare.{Truth, compare, both, either}
 use Rattle.jsonb.specs.PathArithmetic.{operation, two_numbers, each_signed}

@@ -1,6 +1,6 @@
 -- From what a path selects, or says, to the lines that show it.
-use Rattle.std.proofs.Common.{◌≡◌, ◌++◌, ℕ, List, [], ◌∷◌, Option, Some, None, Result, Ok, Err, ◌⊎◌, inl, inr, refl, ap}
-use Rattle.std.specs.Prelude.{Vec, Bool, true, false}
+use Rattle.std.proofs.Common.{◌≡◌, ℕ, List, [], ◌∷◌, Some, Result, Ok, Err, ◌⊎◌, inl, inr, refl}
+use Rattle.std.specs.Prelude.{Vec}
 use Rattle.std.specs.declared.alloc.Global.{Global}
 use Rattle.jsonb.specs.Error.{Error}
 use Rattle.jsonb.specs.Error.TheVariants.{OutOfMemory, TooLarge}
@@ -13,11 +13,10 @@ use Rattle.jsonb.specs.Compare.{Truth}
 use Rattle.jsonb.specs.Meaning.{Means, meaning, predicate}
 use Rattle.jsonb.specs.PathGrammar.{json_path}
 use Rattle.jsonb.specs.PathTree.{Step}
-use Rattle.jsonb.specs.Related.{AllRelated}
 use Rattle.jsonb.specs.SelectorAnswers.{HandsOut, AreDocuments, HasTooLarge}
 use Rattle.jsonb.specs.declared.selector.document.Mode.TheVariants.{Lax}
 use Rattle.jsonb.proofs.ReadMeans.{read_means}
-use Rattle.jsonb_tool.specs.Outcomes.{Outcome, OnDocument, Selects, ShowsTrees, ShowsList, Matches, ShowsTruth, truth_line}
+use Rattle.jsonb_tool.specs.Outcomes.{Selects, ShowsTrees, ShowsList, Matches, ShowsTruth, truth_line}
 use Rattle.jsonb_tool.specs.Views.{found_lines}
 
 -- ---- `select`

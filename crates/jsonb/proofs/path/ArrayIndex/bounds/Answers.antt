@@ -1,10 +1,8 @@
-use Rattle.std.proofs.Common.{◌≡◌, ℕ, ◌<◌, ◌≤◌, ◌↔◌, ℤ, pos, ◌≤ℤ◌, arith, rules, sym, ◌∙◌, subst}
+use Rattle.std.proofs.Common.{◌≡◌, ℕ, ◌<◌, ◌↔◌, ℤ, pos, ◌≤ℤ◌, arith, rules, sym, ◌∙◌}
 use mir.Syntax.{w128}
 use mir.Val.{SFits}
 use Rattle.std.proofs.lemmas.Int.{ints, to_z-of_z}
-use Rattle.jsonb.specs.PathTree.{single}
-use Rattle.jsonb.specs.PathViews.{entry_view, place_view}
-use Rattle.jsonb.specs.Positions.{position, IsBetween, IsPosition}
+use Rattle.jsonb.specs.Positions.{IsBetween}
 use Rattle.jsonb.proofs.path.ArrayIndex.bounds.Goals as goal
 
 between_itself : (at : ℤ) (k : ℕ) → at ≤ℤ pos k → pos k ≤ℤ at → pos k ≡ at

@@ -1,4 +1,4 @@
-use Rattle.std.proofs.Common.{◌≡◌, ℕ, ◌++◌, map, List, drop, take}
+use Rattle.std.proofs.Common.{◌≡◌, ℕ, ◌++◌, map, List, drop}
 use Rattle.jsonb_doc.specs.Spots.{Marks}
 use Rattle.jsonb_doc.specs.Tree.{Tree}
 use Rattle.jsonb.specs.PathViews.{entry_view}

@@ -1,8 +1,6 @@
 use Rattle.std.proofs.Common.{[], ◌∷◌}
 use Rattle.jsonb_doc.specs.Spots.{Marks}
 use Rattle.jsonb_doc.specs.Tree.{field_of}
-use Rattle.jsonb_doc.proofs.SpotsTaken.{some_spot}
-use Rattle.jsonb.specs.ItemSteps.{list_or}
 use Rattle.jsonb.proofs.Outcomes.{found_one, pushed}
 use Rattle.jsonb.proofs.selector.children.push_field.Goals as goal
 

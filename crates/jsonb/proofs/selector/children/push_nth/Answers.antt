@@ -1,4 +1,4 @@
-use Rattle.std.proofs.Common.{◌≡◌, ◌-◌, [], ◌∷◌, Ok, Some, ap, sym, ◌∙◌, refl, subst, slice_get}
+use Rattle.std.proofs.Common.{[], Ok, ap, sym, ◌∙◌, refl, subst}
 use Rattle.std.specs.List.{cons_option}
 use Rattle.jsonb_doc.specs.Spots.{Marks, HasSpotsLeft}
 use Rattle.jsonb_doc.proofs.SpotsTaken.{no_refusal}

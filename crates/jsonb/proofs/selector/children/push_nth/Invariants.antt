@@ -1,7 +1,6 @@
 use Rattle.std.proofs.Common.{◌≡◌, ℕ, List, slice_get}
-use Rattle.jsonb_doc.specs.Spots.{Marks, HasSpotsLeft}
+use Rattle.jsonb_doc.specs.Spots.{HasSpotsLeft}
 use Rattle.jsonb_doc.specs.Tree.{Tree}
-use Rattle.jsonb.specs.Related.{AllRelated}
 use Rattle.jsonb.proofs.selector.children.push_nth.Given as goal
 
 -- of the elements that are left, so many stand before the one at the position

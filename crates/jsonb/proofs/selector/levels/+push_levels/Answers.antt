@@ -1,7 +1,7 @@
-use Rattle.std.proofs.Common.{◌≡◌, ◌≤◌, ◌+◌, ◌++◌, [], ◌∷◌, Ok, Err, Some, None, ap, sym, ◌∙◌, subst, option_map, if◌then◌else◌, append_assoc, arith, rules, ◌<◌}
+use Rattle.std.proofs.Common.{◌≡◌, ◌+◌, ◌++◌, [], ◌∷◌, Ok, Err, ap, sym, ◌∙◌, subst, option_map, if◌then◌else◌, append_assoc, arith}
 use Rattle.std.proofs.lemmas.Result.{err_from_is_err_and}
-use Rattle.jsonb_doc.specs.Tree.{Tree, children_of}
-use Rattle.jsonb_doc.specs.Spots.{Marks, HasSpotsLeft, spot_size, spots_room}
+use Rattle.jsonb_doc.specs.Tree.{children_of}
+use Rattle.jsonb_doc.specs.Spots.{Marks, HasSpotsLeft}
 use Rattle.jsonb_doc.proofs.SpotsTaken.{some_spots, no_spots}
 use Rattle.jsonb.specs.PathViews.{levels_view}
 use Rattle.jsonb.specs.Preorder.{own, preorder}

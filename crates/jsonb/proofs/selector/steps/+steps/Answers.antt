@@ -1,16 +1,15 @@
-use Rattle.std.proofs.Common.{◌≡◌, ◌∷◌, ◌++◌, [], ◌+◌, List, Some, Ok, Err, IsOkAnd, map, flat_map, drop, ap, sym, ◌∙◌, refl, inl, inr, subst, rules}
+use Rattle.std.proofs.Common.{◌∷◌, [], ◌+◌, Some, Ok, Err, IsOkAnd, map, flat_map, drop, ap, sym, ◌∙◌, refl, inl, inr, subst}
 use Rattle.std.specs.Prelude.{not, ◌==◌, length}
 use Rattle.std.proofs.Math.ListN.{drop_of_length-le}
 use Rattle.std.proofs.lemmas.Result.{err_from_is_err_and}
 use Rattle.jsonb_doc.specs.Answer.{joined, with_value}
-use Rattle.jsonb_doc.specs.Tree.{Tree}
 use Rattle.jsonb.specs.PathTree as math
 use Rattle.jsonb.specs.PathTree.{steps_of}
 use Rattle.jsonb.specs.PathViews.{step_view, steps_view, expression_view, operator_view, entry_view}
 use Rattle.jsonb.specs.Related.{AllRelated}
 use Rattle.jsonb.specs.Values.{values_of_item}
 use Rattle.jsonb.specs.Compare.{compare, both, either}
-use Rattle.jsonb.specs.Selection.{IsAt, found_spots, values_view, operand_value}
+use Rattle.jsonb.specs.Selection.{IsAt, found_spots}
 use Rattle.jsonb.specs.ItemSteps.{field_step, indices_step}
 use Rattle.jsonb.specs.Meaning.{step_meaning, steps_meaning, truth, operand_values, kept, is_some_item}
 use Rattle.jsonb.proofs.Outcomes.{same_outcome, same_answer, refused_as, pushed, one_ok, both_ok, first_refused, second_refused, followed, given_by, continued, some_related}

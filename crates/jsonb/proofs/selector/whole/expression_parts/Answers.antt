@@ -1,4 +1,4 @@
-use Rattle.std.proofs.Common.{◌≡◌, List, [], ◌∷◌, Ok, Err, None, Some, sym, ◌∙◌, ap, refl}
+use Rattle.std.proofs.Common.{[], ◌∷◌, Err, sym, ◌∙◌, ap, refl}
 use Rattle.std.proofs.lemmas.Result.{err_from_is_err_and}
 use Rattle.jsonb_doc.specs.Answer.{with_value}
 use Rattle.jsonb_doc.specs.Tree.{number}

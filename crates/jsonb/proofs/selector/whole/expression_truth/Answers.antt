@@ -1,4 +1,4 @@
-use Rattle.std.proofs.Common.{◌≡◌, List, [], ◌∷◌, Ok, Err, None, Some, sym, ◌∙◌, ap, refl}
+use Rattle.std.proofs.Common.{Ok, Err, None, sym, ◌∙◌, ap, refl}
 use Rattle.std.proofs.lemmas.Result.{err_from_is_err_and}
 use Rattle.jsonb_doc.specs.Payload.{any}
 use Rattle.jsonb_doc.specs.Answer.{with_value}
