@@ -19,7 +19,7 @@ ContainsIsReflexive = (t : Tree) → IsTrue (not (is_extension_value t)) → IsT
 abbrev pub ContainsIsTransitive : Type 0
 ContainsIsTransitive = (t u v : Tree) → IsTrue (contains t u) → IsTrue (contains u v) → IsTrue (contains t v)
 
--- The order in which three arrays are put together does not matter.
+-- Which two of three arrays are put together first does not matter.
 abbrev pub ConcatOfArraysIsAssociative : Type 0
 ConcatOfArraysIsAssociative =
     (ts us vs : Trees) → concat (concat (array ts) (array us)) (array vs) ≡ concat (array ts) (concat (array us) (array vs))

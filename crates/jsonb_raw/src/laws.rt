@@ -10,7 +10,6 @@ ghost use Rattle.jsonb_raw.specs.LeavesLaws.{LeavesAreInPlace};
 ghost use Rattle.jsonb_raw.specs.ExistsLaws.{AllOfNoneAndAnyOfNone};
 ghost use Rattle.jsonb_raw.specs.DeletesLaws.{PairsAreGone};
 ghost use Rattle.jsonb_raw.specs.ObjectsLaws.{PickAndDeletePartObjects};
-ghost use Rattle.jsonb_raw.specs.OperatorLaws.{StripTwiceIsStrip, ContainsIsReflexive, ContainsIsTransitive, ConcatOfArraysIsAssociative, ConcatOfObjectsIsAssociative};
 ghost use Rattle.jsonb_raw.specs.OperatorLaws.{StripTwiceIsStrip, ContainsIsReflexive, ContainsIsTransitive};
 ghost use Rattle.jsonb_raw.specs.OperatorLaws.{ConcatOfArraysIsAssociative, ConcatOfObjectsIsAssociative};
 
@@ -24,7 +23,7 @@ pub fn printed_key_paths_keep_their_place(text: &[u8])
     ensures { IfSome (key_path text.now) PrintsToItsPlace }
 {}
 
-/// Sortable keys, with depths in one byte, are in order as the trees are.
+/// Sortable keys of trees without extensions, with depths in one byte, are in order as the trees are.
 pub fn sortable_keys()
     ensures below { KeysKeepBelow w8 }
     ensures equal { KeysKeepEqual w8 }
@@ -102,7 +101,7 @@ pub fn contains_is_transitive()
     ensures { ContainsIsTransitive }
 {}
 
-/// The order in which three arrays, or three objects, are put together does not matter.
+/// Which two of three arrays, or of three objects, are put together first does not matter.
 pub fn concat_is_associative()
     ensures arrays { ConcatOfArraysIsAssociative }
     ensures objects { ConcatOfObjectsIsAssociative }

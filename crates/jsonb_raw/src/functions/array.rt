@@ -1,6 +1,6 @@
 //! The calls on arrays.
 //!
-//! On bytes that don't decode each call answers `InvalidJsonb` or `UnsupportedNumber`, or as a document that does.
+//! On bytes that don't decode each call returns; which answer or refusal it gives is not fixed.
 
 ghost use Rattle.std.specs.Prelude.{◌≡◌, ◌≤◌, ℕ, [], ◌∷◌, IfErr, IsOkAnd};
 ghost use Rattle.std.specs.List.{insert};

@@ -1,6 +1,6 @@
 //! Casts of documents to truth values, integers and texts.
 //!
-//! On bytes that don't decode each call answers `InvalidJsonb` or `UnsupportedNumber`, or as a document that does.
+//! On bytes that don't decode each call returns; which answer or refusal it gives is not fixed.
 //! Only the root is read.
 
 ghost use Rattle.std.specs.Prelude.{◌≡◌, IfErr};

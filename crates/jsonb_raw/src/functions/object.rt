@@ -1,6 +1,6 @@
 //! The calls on objects.
 //!
-//! On bytes that don't decode each call answers `InvalidJsonb` or `UnsupportedNumber`, or as a document that does.
+//! On bytes that don't decode each call returns; which answer or refusal it gives is not fixed.
 
 ghost use Rattle.std.specs.Prelude.{◌≡◌, ◌⊎◌, ◌||◌, false, not, IsTrue, IfErr, IsErrOf, IsOkAnd};
 ghost use Rattle.jsonb_doc.specs.Tree.{Tree};

@@ -29,11 +29,12 @@ use std::alloc::Global;
 impl RawJsonb<'_> {
     /// The sortable key: bytes that compare, as bytes do, as the documents compare.
     ///
-    /// Two documents have one key exactly where they are equal by value. No order is promised where an extension
-    /// occurs, nor beside a key of `convert_to_comparable_wide`.
+    /// Two documents without extensions have one key exactly where they are equal by value. Where an extension occurs
+    /// no order is promised, and documents that differ may share a key. Nor is anything promised beside a key of
+    /// `convert_to_comparable_wide`.
     ///
-    /// Each item gives its depth in one byte (the root's is 0), the byte of its kind and its content; an object's
-    /// keys lie as deep as its values. `TooDeep` exactly where an item lies deeper than 255. `InvalidJsonb` or
+    /// Each item gives its depth in one byte (the root's is 0), the byte of its kind and its content, as
+    /// `docs/FORMAT.md` lays them out; an object's keys lie as deep as its values. `TooDeep` exactly where an item lies deeper than 255. `InvalidJsonb` or
     /// `UnsupportedNumber` only where the bytes don't decode, and `OutOfMemory` where memory is refused.
     pub fn convert_to_comparable(&self, alloc: Global) -> Result<Vec<u8>, Error>
         ensures key { (form : Form) (tree : Tree) → Decodes form (raw_bytes self.now) tree
@@ -61,6 +62,8 @@ impl RawJsonb<'_> {
 
     /// The equality key: bytes that two documents share exactly where they are equal by value, at every depth and
     /// with extensions. Their order means nothing.
+    ///
+    /// Kinds, counts, lengths and contents stand one after the other, as `docs/FORMAT.md` lays them out.
     ///
     /// `InvalidJsonb` or `UnsupportedNumber` only where the bytes don't decode, and `OutOfMemory` where memory is
     /// refused.

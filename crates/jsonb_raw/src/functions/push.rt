@@ -30,7 +30,7 @@ pub fn push_pair(builder: &mut ObjectBuilder, key: &str, value: &Item<'_>) -> Re
     }
 }
 
-/// Adds the pairs of a document whose keys stand so to a name.
+/// Adds the pairs of a document whose keys compare to the name as `side` says.
 pub fn push_pairs_at(
     builder: &mut ObjectBuilder,
     pairs: PairIter<'_>,

@@ -1,6 +1,6 @@
 //! What kind of value a document is, and the value of a scalar.
 //!
-//! On bytes that don't decode each call answers `InvalidJsonb` or `UnsupportedNumber`, or a value. Only the root is read.
+//! On bytes that don't decode each call returns; which answer or refusal it gives is not fixed. Only the root is read.
 
 ghost use Rattle.std.specs.Prelude.{◌≡◌, ◌↔◌, ◌^◌, ◌<◌, ℕ, ℤ, pos, FitsSigned, IfErr, IsOkAnd, IsTrue, MatchOption, is_some};
 ghost use Rattle.std.specs.Int.{w64};
@@ -30,6 +30,8 @@ impl<'a> RawJsonb<'a> {
     /// The kind of the root: `NULL_VALUE`, `BOOLEAN`, `INTEGER`, `DECIMAL`, `STRING`, `BINARY`, `DATE`, `TIMESTAMP`,
     /// `TIMESTAMP_TZ`, `INTERVAL`, `ARRAY` or `OBJECT` (this project's profile). A zero is an `INTEGER`, whatever
     /// variant it is stored as.
+    ///
+    /// `InvalidJsonb` or `UnsupportedNumber` only where the bytes don't decode.
     pub fn type_of(&self) -> Result<&'static str, Error>
         ensures name { (form : Form) (tree : Tree) → Decodes form (raw_bytes self.now) tree
             → IsOkAnd result (λ name. name.now ≡ type_name tree) }
@@ -47,6 +49,8 @@ impl<'a> RawJsonb<'a> {
     }
 
     /// Whether the document is null.
+    ///
+    /// `InvalidJsonb` or `UnsupportedNumber` only where the bytes don't decode.
     pub fn is_null(&self) -> Result<bool, Error>
         ensures kind { (form : Form) (tree : Tree) → Decodes form (raw_bytes self.now) tree
             → IsOkAnd result (λ b. b ≡ is_null tree) }
@@ -56,6 +60,8 @@ impl<'a> RawJsonb<'a> {
     }
 
     /// Whether the document is a truth value.
+    ///
+    /// `InvalidJsonb` or `UnsupportedNumber` only where the bytes don't decode.
     pub fn is_boolean(&self) -> Result<bool, Error>
         ensures kind { (form : Form) (tree : Tree) → Decodes form (raw_bytes self.now) tree
             → IsOkAnd result (λ b. b ≡ is_boolean tree) }
@@ -65,6 +71,8 @@ impl<'a> RawJsonb<'a> {
     }
 
     /// Whether the document is a number.
+    ///
+    /// `InvalidJsonb` or `UnsupportedNumber` only where the bytes don't decode.
     pub fn is_number(&self) -> Result<bool, Error>
         ensures kind { (form : Form) (tree : Tree) → Decodes form (raw_bytes self.now) tree
             → IsOkAnd result (λ b. b ≡ is_number tree) }
@@ -74,6 +82,8 @@ impl<'a> RawJsonb<'a> {
     }
 
     /// Whether the document is a text.
+    ///
+    /// `InvalidJsonb` or `UnsupportedNumber` only where the bytes don't decode.
     pub fn is_string(&self) -> Result<bool, Error>
         ensures kind { (form : Form) (tree : Tree) → Decodes form (raw_bytes self.now) tree
             → IsOkAnd result (λ b. b ≡ is_string tree) }
@@ -83,6 +93,8 @@ impl<'a> RawJsonb<'a> {
     }
 
     /// Whether the document is an array.
+    ///
+    /// `InvalidJsonb` or `UnsupportedNumber` only where the bytes don't decode.
     pub fn is_array(&self) -> Result<bool, Error>
         ensures kind { (form : Form) (tree : Tree) → Decodes form (raw_bytes self.now) tree
             → IsOkAnd result (λ b. b ≡ is_array tree) }
@@ -92,6 +104,8 @@ impl<'a> RawJsonb<'a> {
     }
 
     /// Whether the document is an object.
+    ///
+    /// `InvalidJsonb` or `UnsupportedNumber` only where the bytes don't decode.
     pub fn is_object(&self) -> Result<bool, Error>
         ensures kind { (form : Form) (tree : Tree) → Decodes form (raw_bytes self.now) tree
             → IsOkAnd result (λ b. b ≡ is_object tree) }
@@ -101,6 +115,8 @@ impl<'a> RawJsonb<'a> {
     }
 
     /// Whether the document is a value that JSON itself lacks.
+    ///
+    /// `InvalidJsonb` or `UnsupportedNumber` only where the bytes don't decode.
     pub fn is_extension_value(&self) -> Result<bool, Error>
         ensures kind { (form : Form) (tree : Tree) → Decodes form (raw_bytes self.now) tree
             → IsOkAnd result (λ b. b ≡ is_extension_value tree) }
@@ -109,7 +125,9 @@ impl<'a> RawJsonb<'a> {
         Ok(matches!(root_item(self.as_bytes())?, Item::Extension(_)))
     }
 
-    /// Whether the document is any bytes.
+    /// Whether the document is a binary value.
+    ///
+    /// `InvalidJsonb` or `UnsupportedNumber` only where the bytes don't decode.
     pub fn is_binary(&self) -> Result<bool, Error>
         ensures kind { (form : Form) (tree : Tree) → Decodes form (raw_bytes self.now) tree
             → IsOkAnd result (λ b. b ≡ is_binary tree) }
@@ -122,6 +140,8 @@ impl<'a> RawJsonb<'a> {
     }
 
     /// Whether the document is a day.
+    ///
+    /// `InvalidJsonb` or `UnsupportedNumber` only where the bytes don't decode.
     pub fn is_date(&self) -> Result<bool, Error>
         ensures kind { (form : Form) (tree : Tree) → Decodes form (raw_bytes self.now) tree
             → IsOkAnd result (λ b. b ≡ is_date tree) }
@@ -134,6 +154,8 @@ impl<'a> RawJsonb<'a> {
     }
 
     /// Whether the document is a point in time without a time zone.
+    ///
+    /// `InvalidJsonb` or `UnsupportedNumber` only where the bytes don't decode.
     pub fn is_timestamp(&self) -> Result<bool, Error>
         ensures kind { (form : Form) (tree : Tree) → Decodes form (raw_bytes self.now) tree
             → IsOkAnd result (λ b. b ≡ is_timestamp tree) }
@@ -146,6 +168,8 @@ impl<'a> RawJsonb<'a> {
     }
 
     /// Whether the document is a point in time with a time zone.
+    ///
+    /// `InvalidJsonb` or `UnsupportedNumber` only where the bytes don't decode.
     pub fn is_timestamp_tz(&self) -> Result<bool, Error>
         ensures kind { (form : Form) (tree : Tree) → Decodes form (raw_bytes self.now) tree
             → IsOkAnd result (λ b. b ≡ is_timestamp_tz tree) }
@@ -158,6 +182,8 @@ impl<'a> RawJsonb<'a> {
     }
 
     /// Whether the document is a length of time.
+    ///
+    /// `InvalidJsonb` or `UnsupportedNumber` only where the bytes don't decode.
     pub fn is_interval(&self) -> Result<bool, Error>
         ensures kind { (form : Form) (tree : Tree) → Decodes form (raw_bytes self.now) tree
             → IsOkAnd result (λ b. b ≡ is_interval tree) }
@@ -170,6 +196,8 @@ impl<'a> RawJsonb<'a> {
     }
 
     /// Whether the document is a number that is whole and fits `i64`. The decimal 1.0 is whole.
+    ///
+    /// `InvalidJsonb` or `UnsupportedNumber` only where the bytes don't decode.
     pub fn is_i64(&self) -> Result<bool, Error>
         ensures kind { (form : Form) (tree : Tree) → Decodes form (raw_bytes self.now) tree
             → IsOkAnd result (λ b. IsTrue b ↔ ((z : ℤ) × IsWholeNumber tree z × FitsSigned w64 z)) }
@@ -179,6 +207,8 @@ impl<'a> RawJsonb<'a> {
     }
 
     /// Whether the document is a number that is whole and fits `u64`. The decimal 1.0 is whole.
+    ///
+    /// `InvalidJsonb` or `UnsupportedNumber` only where the bytes don't decode.
     pub fn is_u64(&self) -> Result<bool, Error>
         ensures kind { (form : Form) (tree : Tree) → Decodes form (raw_bytes self.now) tree
             → IsOkAnd result (λ b. IsTrue b ↔ ((n : ℕ) × IsWholeNumber tree (pos n) × (n < 2 ^ 64))) }
@@ -188,6 +218,8 @@ impl<'a> RawJsonb<'a> {
     }
 
     /// `()` where the document is null, else `None`.
+    ///
+    /// `InvalidJsonb` or `UnsupportedNumber` only where the bytes don't decode.
     pub fn as_null(&self) -> Result<Option<()>, Error>
         ensures value { (form : Form) (tree : Tree) → Decodes form (raw_bytes self.now) tree
             → IsOkAnd result (λ found. is_some found ≡ is_null tree) }
@@ -200,6 +232,8 @@ impl<'a> RawJsonb<'a> {
     }
 
     /// The truth value, where the document is one, else `None`.
+    ///
+    /// `InvalidJsonb` or `UnsupportedNumber` only where the bytes don't decode.
     pub fn as_bool(&self) -> Result<Option<bool>, Error>
         ensures value { (form : Form) (tree : Tree) → Decodes form (raw_bytes self.now) tree
             → IsOkAnd result (λ found. found ≡ boolean_in tree) }
@@ -212,6 +246,8 @@ impl<'a> RawJsonb<'a> {
     }
 
     /// The number, where the document is one, else `None`. A zero is `UInt64(0)`, whatever variant it is stored as.
+    ///
+    /// `InvalidJsonb` or `UnsupportedNumber` only where the bytes don't decode.
     pub fn as_number(&self) -> Result<Option<Number>, Error>
         ensures value { (form : Form) (tree : Tree) → Decodes form (raw_bytes self.now) tree
             → IsOkAnd result (λ found. SameOption (λ n m. number_parts n ≡ m) found (number_in tree)) }
@@ -224,6 +260,8 @@ impl<'a> RawJsonb<'a> {
     }
 
     /// The text, borrowed, where the document is one, else `None`.
+    ///
+    /// `InvalidJsonb` or `UnsupportedNumber` only where the bytes don't decode.
     pub fn as_str(&self) -> Result<Option<CowStr<'a, Global>>, Error>
         ensures value { (form : Form) (tree : Tree) → Decodes form (raw_bytes self.now) tree
             → IsOkAnd result (λ found. SameOption BorrowsText found (text_in tree)) }
@@ -236,6 +274,8 @@ impl<'a> RawJsonb<'a> {
     }
 
     /// The extension value, where the document is one, else `None`.
+    ///
+    /// `InvalidJsonb` or `UnsupportedNumber` only where the bytes don't decode.
     pub fn as_extension_value(&self) -> Result<Option<ExtensionValue<'a>>, Error>
         ensures value { (form : Form) (tree : Tree) → Decodes form (raw_bytes self.now) tree
             → IsOkAnd result (λ found. SameOption (λ x y. extension_view x ≡ y) found (extension_in tree)) }
@@ -248,6 +288,8 @@ impl<'a> RawJsonb<'a> {
     }
 
     /// The day, where the document is one, else `None`.
+    ///
+    /// `InvalidJsonb` or `UnsupportedNumber` only where the bytes don't decode.
     pub fn as_date(&self) -> Result<Option<Date>, Error>
         ensures value { (form : Form) (tree : Tree) → Decodes form (raw_bytes self.now) tree
             → IsOkAnd result (λ found. SameOption IsDate found (date_in tree)) }
@@ -260,6 +302,8 @@ impl<'a> RawJsonb<'a> {
     }
 
     /// The point in time without a time zone, where the document is one, else `None`.
+    ///
+    /// `InvalidJsonb` or `UnsupportedNumber` only where the bytes don't decode.
     pub fn as_timestamp(&self) -> Result<Option<Timestamp>, Error>
         ensures value { (form : Form) (tree : Tree) → Decodes form (raw_bytes self.now) tree
             → IsOkAnd result (λ found. SameOption IsTimestamp found (timestamp_in tree)) }
@@ -272,6 +316,8 @@ impl<'a> RawJsonb<'a> {
     }
 
     /// The point in time with a time zone, where the document is one, else `None`.
+    ///
+    /// `InvalidJsonb` or `UnsupportedNumber` only where the bytes don't decode.
     pub fn as_timestamp_tz(&self) -> Result<Option<TimestampTz>, Error>
         ensures value { (form : Form) (tree : Tree) → Decodes form (raw_bytes self.now) tree
             → IsOkAnd result (λ found. SameOption IsTimestampTz found (timestamp_tz_in tree)) }
@@ -284,6 +330,8 @@ impl<'a> RawJsonb<'a> {
     }
 
     /// The length of time, where the document is one, else `None`.
+    ///
+    /// `InvalidJsonb` or `UnsupportedNumber` only where the bytes don't decode.
     pub fn as_interval(&self) -> Result<Option<Interval>, Error>
         ensures value { (form : Form) (tree : Tree) → Decodes form (raw_bytes self.now) tree
             → IsOkAnd result (λ found. SameOption IsInterval found (interval_in tree)) }
@@ -295,7 +343,9 @@ impl<'a> RawJsonb<'a> {
         }
     }
 
-    /// A copy of the bytes, where the document is any bytes, else `None`. `OutOfMemory` where memory is refused.
+    /// A copy of the bytes, where the document is a binary value, else `None`. `OutOfMemory` where memory is refused.
+    ///
+    /// `InvalidJsonb` or `UnsupportedNumber` only where the bytes don't decode.
     pub fn as_binary(&self, alloc: Global) -> Result<Option<Vec<u8>>, Error>
         ensures value { (form : Form) (tree : Tree) → Decodes form (raw_bytes self.now) tree
             → CopiesBytes (binary_in tree) result }
@@ -311,6 +361,8 @@ impl<'a> RawJsonb<'a> {
 
     /// The number as an `i64`, where the document is a number that is whole and fits, else `None`. The decimal 1.0 is
     /// whole.
+    ///
+    /// `InvalidJsonb` or `UnsupportedNumber` only where the bytes don't decode.
     pub fn as_i64(&self) -> Result<Option<i64>, Error>
         ensures value { (form : Form) (tree : Tree) → Decodes form (raw_bytes self.now) tree
             → IsOkAnd result (λ found. MatchOption found
@@ -326,6 +378,8 @@ impl<'a> RawJsonb<'a> {
 
     /// The number as a `u64`, where the document is a number that is whole and fits, else `None`. The decimal 1.0 is
     /// whole.
+    ///
+    /// `InvalidJsonb` or `UnsupportedNumber` only where the bytes don't decode.
     pub fn as_u64(&self) -> Result<Option<u64>, Error>
         ensures value { (form : Form) (tree : Tree) → Decodes form (raw_bytes self.now) tree
             → IsOkAnd result (λ found. MatchOption found

@@ -13,7 +13,8 @@ use crate::raw::RawJsonb;
 use jsonb_doc::{Error, Item, elements, pairs, root_item};
 
 impl RawJsonb<'_> {
-    /// Asks `func` about the strings of the document and the keys of its objects, at every depth. It takes no memory.
+    /// Asks `func` about the strings of the document and the keys of its objects, at every depth. `func` must be
+    /// callable on any bytes, and return. The call itself takes no memory.
     ///
     /// True only where a call on one of them answered true, false only where a call on each of them answered false.
     /// Which calls are made before the answer is true, and their order, isn't fixed. `InvalidJsonb` or

@@ -1,6 +1,6 @@
 //! The calls on the children of a document: the elements of an array and the values of an object.
 //!
-//! On bytes that don't decode each call answers `InvalidJsonb` or `UnsupportedNumber`, or as a document that does.
+//! On bytes that don't decode each call returns; which answer or refusal it gives is not fixed.
 
 ghost use Rattle.std.specs.Prelude.{◌≡◌, not, None, filter, length, IfErr};
 ghost use Rattle.std.specs.List.{remove};

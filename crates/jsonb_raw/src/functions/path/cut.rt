@@ -18,10 +18,10 @@ use jsonb_doc::Error;
 
 const WORD: usize = 4;
 
-/// Header words count up to this.
+/// Counts in header words are below this.
 const COUNTS: u32 = 0x2000_0000;
 
-/// Entry words hold lengths up to this.
+/// Lengths in entry words are below this.
 const LENGTHS: u32 = 0x1000_0000;
 
 /// The entry word of a container without content.

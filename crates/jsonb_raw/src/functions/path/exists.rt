@@ -60,7 +60,7 @@ fn item_has(item: &Item<'_>, name: &str) -> Result<bool, Error>
 
 impl RawJsonb<'_> {
     /// Whether the document has all of these texts: as keys of an object, as strings in an array, or as a string
-    /// that is the root. It has all of no texts.
+    /// that is the root. Without texts it is true. It takes no memory.
     ///
     /// `InvalidJsonb` and `UnsupportedNumber` come only where the bytes don't decode.
     pub fn exists_all_keys<'k, I: Iterator<Item = &'k str> + Drop>(
@@ -84,7 +84,7 @@ impl RawJsonb<'_> {
     }
 
     /// Whether the document has one of these texts: as a key of an object, as a string in an array, or as a string
-    /// that is the root. It has none of no texts.
+    /// that is the root. Without texts it is false. It takes no memory.
     ///
     /// `InvalidJsonb` and `UnsupportedNumber` come only where the bytes don't decode.
     pub fn exists_any_keys<'k, I: Iterator<Item = &'k str> + Drop>(

@@ -144,9 +144,9 @@ fn find_in_object<'a>(walk: &mut Walk<'a>, bytes: &'a [u8], ignore_array: bool) 
 
 impl<'a> RawJsonb<'a> {
     /// The leaves of the document in stored order, each with its key path: an index for an element, a name for a
-    /// key. A leaf is a scalar or an empty container, and with the flag every array; the other containers are
-    /// entered. The root is none, and with the flag an array as the root has none. Names and texts are borrowed
-    /// from the document.
+    /// key. A leaf is a scalar or an empty container, and with `ignore_array` every array; the other containers are
+    /// entered. The root itself is never a leaf, and with `ignore_array` an array as the root has no leaves. Names
+    /// and texts are borrowed from the document.
     ///
     /// `InvalidJsonb` and `UnsupportedNumber` come only where the bytes don't decode, else `OutOfMemory` where
     /// memory is refused.
