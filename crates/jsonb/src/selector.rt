@@ -33,10 +33,10 @@ use jsonb_doc::{Error, root_spot};
 use jsonb_raw::{OwnedJsonb, RawJsonb};
 use std::alloc::Global;
 
-/// Runs paths on a document.
+/// Runs paths on a document. docs/PATHS.md says what a path selects, in lax and in strict mode.
 ///
-/// Each call executes the whole path. What it answers depends on the root and the path alone, so that a
-/// selector may be used again after any refusal.
+/// Each call executes the whole path, but `predicate_match` a path that is no single expression. What it answers
+/// depends on the root, the mode and the path alone, so that a selector may be used again after any refusal.
 #[derive(Drop)]
 pub struct Selector<'a> {
     alloc: Global,
@@ -75,8 +75,8 @@ impl<'a> Selector<'a> {
     /// A strict selector: `StrictPath` where a step does not fit an item. It takes no memory.
     ///
     /// So are a field step on an item that is no object or lacks the name, `.*` on an item that is no object,
-    /// and `[*]` or index entries on an item that is no array, within filters too. A position past an array's
-    /// end gives nothing, and `.**` is as in a lax selector.
+    /// and `[*]` or index entries on an item that is no array, within filters, operands and `exists` too. A position
+    /// past an array's end gives nothing, and `.**` is as in a lax selector.
     pub fn new_strict(alloc: Global, root: RawJsonb<'a>) -> Selector<'a>
         ensures root { root_bytes result ≡ raw_bytes root.entry }
         ensures mode { mode_of result ≡ Strict }
@@ -90,10 +90,11 @@ impl<'a> Selector<'a> {
 
     /// Each item of the path's list as a document, in order with repeats.
     ///
-    /// `InvalidJsonPath`, `Arithmetic` and in strict mode `StrictPath` come exactly where the path has that
-    /// refusal on the tree, `TooLarge` only where an item passes the limits of a document, and `InvalidJsonb`
-    /// and `UnsupportedNumber` only where the root or a document in the path doesn't decode. So do they for the
-    /// calls below.
+    /// It is refused as the path is on the document: with `InvalidJsonPath`, `Arithmetic`, or in strict mode
+    /// `StrictPath`. `TooLarge` comes only where an item passes the limits of a document, `InvalidJsonb` and
+    /// `UnsupportedNumber` only where the root or a document in the path doesn't decode, and `OutOfMemory` where
+    /// memory is refused. The calls below refuse for the same causes: `TooLarge` is there for what is handed out,
+    /// and never comes from `exists` and `predicate_match`.
     pub fn select_values(&mut self, path: &'a JsonPath<'_>) -> Result<Vec<OwnedJsonb>, Error>
         ensures kept { self.new ≡ self.old }
         ensures values { (form : Form) (top : Tree) (outcome : Outcome (List Tree)) → Decodes form (root_bytes self.old) top
@@ -154,8 +155,9 @@ impl<'a> Selector<'a> {
         Ok(is_some(&selected))
     }
 
-    /// Whether a path that is a comparison, `&&`, `||` or `exists` is true. None is for unknown, and for every
-    /// other path; for one that is no single expression at once, without memory.
+    /// Whether a path that is a comparison, `&&`, `||` or `exists` is true. None is for unknown. A sign or arithmetic
+    /// is executed, refused as it is, and else None. A path that is no single expression is None at once, without
+    /// memory.
     pub fn predicate_match(&mut self, path: &'a JsonPath<'_>) -> Result<Option<bool>, Error>
         ensures kept { self.new ≡ self.old }
         ensures other { is_predicate (path_view path.now) ≡ false → result ≡ Ok None }

@@ -19,7 +19,7 @@ use jsonb_doc::Error;
 use jsonb_raw::{OwnedJsonb, RawJsonb};
 use std::alloc::Global;
 
-/// Asks a document by JSON paths. Each call answers as that of a new lax `Selector` does, and executes the whole path.
+/// Asks a document by JSON paths. Each call answers as that of a new lax `Selector` does.
 ///
 /// Each is refused as its path is: with `InvalidJsonPath`, or with `Arithmetic` for numbers without a result. `TooLarge`
 /// comes only where what is handed out passes the limits of a document, `InvalidJsonb` and `UnsupportedNumber` only
@@ -73,8 +73,8 @@ pub trait SelectByPath<'a> {
             → Means form Lax (path_view path.now) top outcome
             → Gives (λ b ts. b ≡ is_some_item ts) WantsMemory result outcome };
 
-    /// What a path says that is a comparison, `&&`, `||` or `exists`; none where that is unknown, and for every other
-    /// path. A path that is no expression alone is not executed.
+    /// Whether a path that is a comparison, `&&`, `||` or `exists` is true of the document; none where that is unknown, and
+    /// for every other path. One that is no single expression is not executed.
     fn path_match(&self, alloc: Global, path: &'a JsonPath<'_>) -> Result<Option<bool>, Error>
         ensures other { is_predicate (path_view path.now) ≡ false → result ≡ Ok None }
         ensures truth { (form : Form) (top : Tree) → Decodes form (document self.now) top

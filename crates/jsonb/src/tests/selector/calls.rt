@@ -65,6 +65,12 @@ fn each_call_answers_by_the_same_list(rt: HostRuntime) -> Result<(), Fail> {
             "20000000200000025001;80000001200000025001;20000000200000025001;20000000200000025001;\
             Ok(true);Ok(None)",
         ),
+        (
+            "$[*]",
+            TENS,
+            "2000000020000002500a 20000000200000025014 2000000020000002501e;80000003200000022000000220000002500a5014501e;\
+            2000000020000002500a;80000003200000022000000220000002500a5014501e;Ok(true);Ok(None)",
+        ),
         ("$[*]", EMPTY, ";80000000;none;none;Ok(false);Ok(None)"),
         (
             "1 == -1",
@@ -94,7 +100,7 @@ fn each_call_answers_by_the_same_list(rt: HostRuntime) -> Result<(), Fail> {
 }
 
 #[test]
-fn every_call_executes_the_whole_path(rt: HostRuntime) -> Result<(), Fail> {
+fn the_first_comes_only_of_a_whole_list(rt: HostRuntime) -> Result<(), Fail> {
     // [1, 18446744073709551615]
     let document = "80000002 20000002 20000009 5001 50ffffffffffffffff";
     let bytes = bytes_of(&rt, document)?;
