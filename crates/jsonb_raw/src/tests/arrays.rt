@@ -28,6 +28,12 @@ const DATE: &[u8] = b"\x20\0\0\0\x60\0\0\x05\x10\0\0\0\x01";
 
 const CUT: &[u8] = b"\x80\0\0";
 
+// [1.5], a float
+const FLOATS: &[u8] = b"\x80\0\0\x01\x20\0\0\x09\x60\x3f\xf8\0\0\0\0\0\0";
+
+// a float
+const FLOAT: &[u8] = b"\x20\0\0\0\x20\0\0\x09\x60\x3f\xf8\0\0\0\0\0\0";
+
 /// The document with the 9 at a position.
 fn with_nine(alloc: Global, bytes: &[u8], pos: i32) -> Result<OwnedJsonb, Error> {
     RawJsonb::new(bytes).array_insert(alloc, pos, &RawJsonb::new(NINE))
@@ -132,4 +138,25 @@ fn damage_is_refused(rt: HostRuntime) {
     assert!(rt; matches!(cut.array_values(alloc), Err(Error::InvalidJsonb)));
     assert!(rt; matches!(cut.array_insert(alloc, 0, &one), Err(Error::InvalidJsonb)));
     assert!(rt; matches!(one.array_insert(alloc, 0, &cut), Err(Error::InvalidJsonb)));
+}
+
+#[test]
+fn floats_are_refused(rt: HostRuntime) {
+    let alloc = rt.alloc();
+    let floats = RawJsonb::new(FLOATS);
+    let one = RawJsonb::new(ONE_IN_ARRAY);
+    let float = RawJsonb::new(FLOAT);
+    assert!(rt; matches!(floats.array_values(alloc), Err(Error::UnsupportedNumber)));
+    assert!(rt;
+        matches!(
+            floats.array_insert(alloc, 0, &one),
+            Err(Error::UnsupportedNumber)
+        )
+    );
+    assert!(rt;
+        matches!(
+            one.array_insert(alloc, 0, &float),
+            Err(Error::UnsupportedNumber)
+        )
+    );
 }

@@ -56,6 +56,12 @@ const DATE: &[u8] = b"\x20\0\0\0\x60\0\0\x05\x10\0\0\0\x01";
 
 const CUT: &[u8] = b"\x80\0\0";
 
+// [1.5], a float
+const FLOATS: &[u8] = b"\x80\0\0\x01\x20\0\0\x09\x60\x3f\xf8\0\0\0\0\0\0";
+
+// {"a":1.5}, a float
+const FLOAT_UNDER_A: &[u8] = b"\x40\0\0\x01\x10\0\0\x01\x20\0\0\x09a\x60\x3f\xf8\0\0\0\0\0\0";
+
 /// Whether what was found is this document, or none where none is given.
 fn is_found(found: &Option<OwnedJsonb>, wanted: Option<&[u8]>) -> bool {
     match (found, wanted) {
@@ -191,4 +197,34 @@ fn damage_is_refused(rt: HostRuntime) {
     assert!(rt; matches!(cut.get_by_name(alloc, "a", true), Err(Error::InvalidJsonb)));
     assert!(rt; matches!(cut.delete_by_index(alloc, 0), Err(Error::InvalidJsonb)));
     assert!(rt; matches!(cut.delete_by_name(alloc, "a"), Err(Error::InvalidJsonb)));
+}
+
+#[test]
+fn floats_are_refused(rt: HostRuntime) {
+    let alloc = rt.alloc();
+    let floats = RawJsonb::new(FLOATS);
+    let float = RawJsonb::new(FLOAT_UNDER_A);
+    assert!(rt; matches!(floats.get_by_index(alloc, 0), Err(Error::UnsupportedNumber)));
+    for (name, ignore_case) in [("a", false), ("A", true)] {
+        let found = float.get_by_name(alloc, name, ignore_case);
+        assert!(rt; matches!(found, Err(Error::UnsupportedNumber)), "{name}");
+    }
+    assert!(rt;
+        matches!(
+            floats.delete_by_index(alloc, 0),
+            Err(Error::UnsupportedNumber)
+        )
+    );
+    assert!(rt;
+        matches!(
+            floats.delete_by_name(alloc, "a"),
+            Err(Error::UnsupportedNumber)
+        )
+    );
+    assert!(rt;
+        matches!(
+            float.delete_by_name(alloc, "b"),
+            Err(Error::UnsupportedNumber)
+        )
+    );
 }

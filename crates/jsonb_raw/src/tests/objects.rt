@@ -28,6 +28,12 @@ const DATE: &[u8] = b"\x20\0\0\0\x60\0\0\x05\x10\0\0\0\x01";
 
 const CUT: &[u8] = b"\x40\0\0";
 
+// {"a":1.5}, a float
+const FLOAT_UNDER_A: &[u8] = b"\x40\0\0\x01\x10\0\0\x01\x20\0\0\x09a\x60\x3f\xf8\0\0\0\0\0\0";
+
+// a float
+const FLOAT: &[u8] = b"\x20\0\0\0\x20\0\0\x09\x60\x3f\xf8\0\0\0\0\0\0";
+
 // an object in whose bytes the key "a" stands twice
 const REPEATED: &[u8] = b"\x40\0\0\x02\x10\0\0\x01\x10\0\0\x01\0\0\0\0\0\0\0\0aa";
 
@@ -129,18 +135,15 @@ fn parts_pairs_by_a_set(rt: HostRuntime) -> Result<(), Fail> {
     let (none, all) = parted(rt.alloc(), TWO, &keys)?;
     assert_eq!(rt; none.as_raw().as_bytes(), EMPTY);
     assert_eq!(rt; all.as_raw().as_bytes(), TWO);
-    keys.insert("a")?;
-    keys.insert("missing")?;
-    let (first, second) = parted(rt.alloc(), TWO, &keys)?;
     // {"a":null}, {"b":[null]}
-    assert_eq!(rt;
-        first.as_raw().as_bytes(),
-        b"\x40\0\0\x01\x10\0\0\x01\0\0\0\0a".as_slice()
-    );
-    assert_eq!(rt;
-        second.as_raw().as_bytes(),
-        b"\x40\0\0\x01\x10\0\0\x01\x50\0\0\x08b\x80\0\0\x01\0\0\0\0".as_slice()
-    );
+    let first = b"\x40\0\0\x01\x10\0\0\x01\0\0\0\0a".as_slice();
+    let second = b"\x40\0\0\x01\x10\0\0\x01\x50\0\0\x08b\x80\0\0\x01\0\0\0\0".as_slice();
+    for key in ["a", "missing"] {
+        keys.insert(key)?;
+        let (picked, left) = parted(rt.alloc(), TWO, &keys)?;
+        assert_eq!(rt; picked.as_raw().as_bytes(), first);
+        assert_eq!(rt; left.as_raw().as_bytes(), second);
+    }
     keys.insert("b")?;
     let (all, none) = parted(rt.alloc(), TWO, &keys)?;
     assert_eq!(rt; all.as_raw().as_bytes(), TWO);
@@ -189,5 +192,30 @@ fn damage_is_refused(rt: HostRuntime) -> Result<(), Fail> {
     assert!(rt; matches!(value, Err(Error::InvalidJsonb)));
     let twice = RawJsonb::new(REPEATED).object_pick(alloc, &keys);
     assert!(rt; matches!(twice, Err(Error::InvalidJsonb)));
+    Ok(())
+}
+
+#[test]
+fn floats_are_refused(rt: HostRuntime) -> Result<(), Fail> {
+    let alloc = rt.alloc();
+    let document = RawJsonb::new(FLOAT_UNDER_A);
+    let float = RawJsonb::new(FLOAT);
+    let mut keys = BTreeSet::new(alloc);
+    assert!(rt; matches!(document.object_each(alloc), Err(Error::UnsupportedNumber)));
+    assert!(rt;
+        matches!(
+            document.object_delete(alloc, &keys),
+            Err(Error::UnsupportedNumber)
+        )
+    );
+    keys.insert("a")?;
+    assert!(rt;
+        matches!(
+            document.object_pick(alloc, &keys),
+            Err(Error::UnsupportedNumber)
+        )
+    );
+    let value = RawJsonb::new(OBJECT).object_insert(alloc, "a", &float, false);
+    assert!(rt; matches!(value, Err(Error::UnsupportedNumber)));
     Ok(())
 }

@@ -130,6 +130,8 @@ fn arrays_contain(rt: HostRuntime) -> Result<(), Fail> {
         (NESTED, NESTED, true),
         (REPEATS, GREATEST, false),
         (deep, inner, false),
+        (deep, NESTED, true),
+        (DATE_IN_ARRAY, DATE_IN_ARRAY, true),
         (deep, deep, true),
         (deep, ONE, true),
         (ONE, NUMBER_ONE, true),
