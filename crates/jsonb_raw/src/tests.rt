@@ -10,6 +10,7 @@ ghost use Rattle.jsonb_raw.specs.Places.{tree_at_steps};
 mod arrays;
 mod child;
 mod deletes;
+pub(crate) mod documents;
 mod exists;
 mod leaves;
 mod objects;
@@ -17,29 +18,16 @@ mod operators;
 mod sets;
 
 use super::*;
+use crate::tests::documents::{DIGITS, FLOAT, MIXED_ARRAY, PHONES};
 use jsonb_doc::Error;
 use jsonb_keypath::{KeyPath, KeyPaths, parse_key_paths};
 use std::alloc::Global;
 use std::borrow::CowStr;
 use std::test::Fail;
 
-// [false, 10, {"k":"v"}]
-const MIXED: &[u8] =
-    b"\x80\0\0\x03\x30\0\0\0\x20\0\0\x02\x50\0\0\x0e\x50\x0a\x40\0\0\x01\x10\0\0\x01\x10\0\0\x01kv";
-
 // {"number":3720453,"type":"home"}
 const HOME: &[u8] =
     b"\x40\0\0\x02\x10\0\0\x06\x10\0\0\x04\x20\0\0\x05\x10\0\0\x04numbertype\x50\0\x38\xc5\x05home";
-
-// {"name":"Fred","phones":[{"number":3720453,"type":"home"},{"number":5062051,"type":"work"}]}
-const FRED: &[u8] =
-    b"\x40\0\0\x02\x10\0\0\x04\x10\0\0\x06\x10\0\0\x04\x50\0\0\x5anamephonesFred\x80\0\0\x02\x50\0\0\x27\x50\0\0\x27\x40\0\0\x02\x10\0\0\x06\x10\0\0\x04\x20\0\0\x05\x10\0\0\x04numbertype\x50\0\x38\xc5\x05home\x40\0\0\x02\x10\0\0\x06\x10\0\0\x04\x20\0\0\x05\x10\0\0\x04numbertype\x50\0\x4d\x3d\xa3work";
-
-// {"-1":false,"0":true}
-const DIGITS: &[u8] = b"\x40\0\0\x02\x10\0\0\x02\x10\0\0\x01\x30\0\0\0\x40\0\0\0-10";
-
-// a float
-const FLOAT: &[u8] = b"\x20\0\0\0\x20\0\0\x09\x60\x3f\xf8\0\0\0\0\0\0";
 
 /// The part at the place of a key path: a caller, with what it knows of the answer.
 fn part_at(
@@ -77,9 +65,12 @@ fn steps_lead_to_a_part(rt: HostRuntime) -> Result<(), Fail> {
         (b"{-2}".as_slice(), ten),
         (b"{0}".as_slice(), no),
         (b"{-3}".as_slice(), no),
-        (b"{}".as_slice(), MIXED),
+        (b"{}".as_slice(), MIXED_ARRAY),
     ] {
-        assert!(rt; has_at(rt.alloc(), MIXED, text, Some(part))?, "at {text:?}");
+        assert!(rt;
+            has_at(rt.alloc(), MIXED_ARRAY, text, Some(part))?,
+            "at {text:?}"
+        );
     }
     Ok(())
 }
@@ -94,7 +85,7 @@ fn steps_may_meet_nothing(rt: HostRuntime) -> Result<(), Fail> {
         b"{\"0\"}".as_slice(),
         b"{1,0}".as_slice(),
     ] {
-        assert!(rt; has_at(rt.alloc(), MIXED, text, None)?, "at {text:?}");
+        assert!(rt; has_at(rt.alloc(), MIXED_ARRAY, text, None)?, "at {text:?}");
     }
     Ok(())
 }
@@ -105,7 +96,7 @@ fn several_steps_go_deeper(rt: HostRuntime) -> Result<(), Fail> {
     let work = b"\x20\0\0\0\x10\0\0\x04work".as_slice();
     let number = b"\x20\0\0\0\x20\0\0\x05\x50\0\x38\xc5\x05".as_slice();
     for (text, wanted) in [
-        (b"{}".as_slice(), Some(FRED)),
+        (b"{}".as_slice(), Some(PHONES)),
         (b"{name}".as_slice(), Some(name)),
         (b"{phones,0}".as_slice(), Some(HOME)),
         (b"{phones,-2}".as_slice(), Some(HOME)),
@@ -114,7 +105,7 @@ fn several_steps_go_deeper(rt: HostRuntime) -> Result<(), Fail> {
         (b"{phones,2}".as_slice(), None),
         (b"{0}".as_slice(), None),
     ] {
-        assert!(rt; has_at(rt.alloc(), FRED, text, wanted)?, "at {text:?}");
+        assert!(rt; has_at(rt.alloc(), PHONES, text, wanted)?, "at {text:?}");
     }
     Ok(())
 }
@@ -142,7 +133,7 @@ fn steps_come_from_any_iterator(rt: HostRuntime) -> Result<(), Fail> {
         KeyPath::Name(CowStr::Borrowed("k")),
         KeyPath::Index(0),
     ];
-    let document = RawJsonb::new(MIXED);
+    let document = RawJsonb::new(MIXED_ARRAY);
     let Some(part) = document.get_by_keypath(rt.alloc(), steps[..2].iter())? else {
         panic!(rt; "no part");
     };
@@ -164,7 +155,7 @@ fn damage_is_refused(rt: HostRuntime) {
         assert_eq!(rt; RawJsonb::new(bytes).check(), Err(error));
         assert_eq!(rt; has_at(rt.alloc(), bytes, b"{}", None), Err(error));
     }
-    assert_eq!(rt; RawJsonb::new(FRED).check(), Ok(()));
+    assert_eq!(rt; RawJsonb::new(PHONES).check(), Ok(()));
 }
 
 #[test]
@@ -174,7 +165,7 @@ fn documents_keep_their_bytes(rt: HostRuntime) -> Result<(), Fail> {
     let copy = owned.clone(rt.alloc())?;
     assert_eq!(rt; copy.to_vec().as_slice(), HOME);
     assert_eq!(rt; owned.to_vec().as_slice(), HOME);
-    let raw = RawJsonb::new(MIXED);
+    let raw = RawJsonb::new(MIXED_ARRAY);
     let again = raw;
     assert_eq!(rt; raw.as_bytes(), again.as_bytes());
     Ok(())

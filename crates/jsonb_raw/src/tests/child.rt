@@ -1,12 +1,13 @@
 //! Children: elements by their positions and values by their names, handed out and taken out.
 
+use crate::tests::documents::{
+    CUT_ARRAY, DATE, FALSE, FIVE, FLOAT_UNDER_A, FLOATS, NULL, NULL_IN_ARRAY, NULLS,
+    NUMBER_THEN_TEXT, ONE, ONE_ELEMENT, ONE_PAIR, TENS, TEXT, TRUE,
+};
 use crate::{OwnedJsonb, RawJsonb};
 use jsonb_doc::Error;
 use std::alloc::Global;
 use std::test::Fail;
-
-// [10,20,30]
-const TENS: &[u8] = b"\x80\0\0\x03\x20\0\0\x02\x20\0\0\x02\x20\0\0\x02\x50\x0a\x50\x14\x50\x1e";
 
 // [10,20]
 const FIRST_TWO: &[u8] = b"\x80\0\0\x02\x20\0\0\x02\x20\0\0\x02\x50\x0a\x50\x14";
@@ -17,50 +18,13 @@ const LAST_TWO: &[u8] = b"\x80\0\0\x02\x20\0\0\x02\x20\0\0\x02\x50\x14\x50\x1e";
 // [10,30]
 const OUTER_TWO: &[u8] = b"\x80\0\0\x02\x20\0\0\x02\x20\0\0\x02\x50\x0a\x50\x1e";
 
-// [1,"a"]
-const ONE_AND_TEXT: &[u8] = b"\x80\0\0\x02\x20\0\0\x02\x10\0\0\x01\x50\x01a";
-
-// [1]
-const ONE_IN_ARRAY: &[u8] = b"\x80\0\0\x01\x20\0\0\x02\x50\x01";
-
-// {"asd":"adf"}
-const OBJECT: &[u8] = b"\x40\0\0\x01\x10\0\0\x03\x10\0\0\x03asdadf";
-
-// {"a":null,"b":[null]}
-const TWO: &[u8] =
-    b"\x40\0\0\x02\x10\0\0\x01\x10\0\0\x01\0\0\0\0\x50\0\0\x08ab\x80\0\0\x01\0\0\0\0";
-
 // {"AB":1,"Ab":false,"ab":true}
 const CASES: &[u8] =
     b"\x40\0\0\x03\x10\0\0\x02\x10\0\0\x02\x10\0\0\x02\x20\0\0\x02\x30\0\0\0\x40\0\0\0ABAbab\x50\x01";
 
-const ONE: &[u8] = b"\x20\0\0\0\x20\0\0\x02\x50\x01";
-
-const FIVE: &[u8] = b"\x20\0\0\0\x20\0\0\x02\x50\x05";
-
 const TWENTY: &[u8] = b"\x20\0\0\0\x20\0\0\x02\x50\x14";
 
-const YES: &[u8] = b"\x20\0\0\0\x40\0\0\0";
-
-const NO: &[u8] = b"\x20\0\0\0\x30\0\0\0";
-
-const NULL: &[u8] = b"\x20\0\0\0\0\0\0\0";
-
-const NULL_IN_ARRAY: &[u8] = b"\x80\0\0\x01\0\0\0\0";
-
 const ADF: &[u8] = b"\x20\0\0\0\x10\0\0\x03adf";
-
-const TEXT: &[u8] = b"\x20\0\0\0\x10\0\0\x01a";
-
-const DATE: &[u8] = b"\x20\0\0\0\x60\0\0\x05\x10\0\0\0\x01";
-
-const CUT: &[u8] = b"\x80\0\0";
-
-// [1.5], a float
-const FLOATS: &[u8] = b"\x80\0\0\x01\x20\0\0\x09\x60\x3f\xf8\0\0\0\0\0\0";
-
-// {"a":1.5}, a float
-const FLOAT_UNDER_A: &[u8] = b"\x40\0\0\x01\x10\0\0\x01\x20\0\0\x09a\x60\x3f\xf8\0\0\0\0\0\0";
 
 /// Whether what was found is this document, or none where none is given.
 fn is_found(found: &Option<OwnedJsonb>, wanted: Option<&[u8]>) -> bool {
@@ -81,11 +45,11 @@ fn gives_an_element(rt: HostRuntime) -> Result<(), Fail> {
         (TENS, 1, Some(TWENTY)),
         (TENS, 3, None),
         (TENS, usize::MAX, None),
-        (ONE_IN_ARRAY, 0, Some(ONE)),
-        (ONE_IN_ARRAY, 1, None),
-        (ONE_AND_TEXT, 1, Some(TEXT)),
+        (ONE_ELEMENT, 0, Some(ONE)),
+        (ONE_ELEMENT, 1, None),
+        (NUMBER_THEN_TEXT, 1, Some(TEXT)),
         // only an array has elements
-        (TWO, 0, None),
+        (NULLS, 0, None),
         (ONE, 0, None),
         (DATE, 0, None),
     ] {
@@ -98,21 +62,21 @@ fn gives_an_element(rt: HostRuntime) -> Result<(), Fail> {
 #[test]
 fn gives_a_value(rt: HostRuntime) -> Result<(), Fail> {
     for (bytes, name, ignore_case, wanted) in [
-        (OBJECT, "ASD", true, Some(ADF)),
-        (OBJECT, "ASD", false, None),
-        (OBJECT, "asd", true, Some(ADF)),
-        (OBJECT, "asd", false, Some(ADF)),
-        (OBJECT, "as", true, None),
-        (TWO, "b", false, Some(NULL_IN_ARRAY)),
-        (TWO, "A", true, Some(NULL)),
-        (TWO, "c", true, None),
+        (ONE_PAIR, "ASD", true, Some(ADF)),
+        (ONE_PAIR, "ASD", false, None),
+        (ONE_PAIR, "asd", true, Some(ADF)),
+        (ONE_PAIR, "asd", false, Some(ADF)),
+        (ONE_PAIR, "as", true, None),
+        (NULLS, "b", false, Some(NULL_IN_ARRAY)),
+        (NULLS, "A", true, Some(NULL)),
+        (NULLS, "c", true, None),
         // the key itself comes first, then the first key in some case
-        (CASES, "ab", true, Some(YES)),
-        (CASES, "Ab", true, Some(NO)),
+        (CASES, "ab", true, Some(TRUE)),
+        (CASES, "Ab", true, Some(FALSE)),
         (CASES, "aB", true, Some(ONE)),
         (CASES, "aB", false, None),
         // only an object has keys
-        (ONE_AND_TEXT, "a", true, None),
+        (NUMBER_THEN_TEXT, "a", true, None),
         (TEXT, "a", true, None),
         (DATE, "a", false, None),
     ] {
@@ -145,13 +109,13 @@ fn takes_an_element_out(rt: HostRuntime) -> Result<(), Fail> {
         (TENS, 3, TENS),
         (TENS, -4, TENS),
         (TENS, 2_147_483_647, TENS),
-        (ONE_IN_ARRAY, -2_147_483_648, ONE_IN_ARRAY),
-        (ONE_IN_ARRAY, 0, b"\x80\0\0\0".as_slice()),
+        (ONE_ELEMENT, -2_147_483_648, ONE_ELEMENT),
+        (ONE_ELEMENT, 0, b"\x80\0\0\0".as_slice()),
     ] {
         let made = without_index(rt.alloc(), bytes, index)?;
         assert_eq!(rt; made.as_raw().as_bytes(), wanted, "at {index}");
     }
-    for bytes in [OBJECT, ONE, TEXT, NULL, DATE] {
+    for bytes in [ONE_PAIR, ONE, TEXT, NULL, DATE] {
         assert!(rt;
             matches!(
                 without_index(rt.alloc(), bytes, 0),
@@ -171,18 +135,18 @@ fn takes_a_name_out(rt: HostRuntime) -> Result<(), Fail> {
         b"\x80\0\0\x03\x20\0\0\x02\x10\0\0\x01\x50\0\0\x09\x50\x01b\x80\0\0\x01\x10\0\0\x01a".as_slice();
     let second = b"\x40\0\0\x01\x10\0\0\x01\x50\0\0\x08b\x80\0\0\x01\0\0\0\0".as_slice();
     for (bytes, name, wanted) in [
-        (ONE_AND_TEXT, "a", ONE_IN_ARRAY),
-        (ONE_AND_TEXT, "b", ONE_AND_TEXT),
+        (NUMBER_THEN_TEXT, "a", ONE_ELEMENT),
+        (NUMBER_THEN_TEXT, "b", NUMBER_THEN_TEXT),
         (texts, "a", others),
-        (TWO, "a", second),
-        (TWO, "c", TWO),
-        (OBJECT, "asd", b"\x40\0\0\0".as_slice()),
-        (OBJECT, "ASD", OBJECT),
+        (NULLS, "a", second),
+        (NULLS, "c", NULLS),
+        (ONE_PAIR, "asd", b"\x40\0\0\0".as_slice()),
+        (ONE_PAIR, "ASD", ONE_PAIR),
     ] {
         let made = RawJsonb::new(bytes).delete_by_name(rt.alloc(), name)?;
         assert_eq!(rt; made.as_raw().as_bytes(), wanted);
     }
-    for bytes in [FIVE, TEXT, NULL, YES, DATE] {
+    for bytes in [FIVE, TEXT, NULL, TRUE, DATE] {
         let made = RawJsonb::new(bytes).delete_by_name(rt.alloc(), "a");
         assert!(rt; matches!(made, Err(Error::InvalidJsonType)));
     }
@@ -192,7 +156,7 @@ fn takes_a_name_out(rt: HostRuntime) -> Result<(), Fail> {
 #[test]
 fn damage_is_refused(rt: HostRuntime) {
     let alloc = rt.alloc();
-    let cut = RawJsonb::new(CUT);
+    let cut = RawJsonb::new(CUT_ARRAY);
     assert!(rt; matches!(cut.get_by_index(alloc, 0), Err(Error::InvalidJsonb)));
     assert!(rt; matches!(cut.get_by_name(alloc, "a", true), Err(Error::InvalidJsonb)));
     assert!(rt; matches!(cut.delete_by_index(alloc, 0), Err(Error::InvalidJsonb)));

@@ -2,27 +2,11 @@
 
 use crate::owned::OwnedJsonb;
 use crate::raw::RawJsonb;
+use crate::tests::documents::{DATE, DIGITS, FIVE, MIXED_ARRAY, PHONES};
 use jsonb_doc::{ArrayBuilder, Error};
 use jsonb_keypath::{KeyPath, parse_key_paths};
 use std::alloc::Global;
 use std::test::Fail;
-
-// [false, 10, {"k":"v"}]
-const MIXED: &[u8] =
-    b"\x80\0\0\x03\x30\0\0\0\x20\0\0\x02\x50\0\0\x0e\x50\x0a\x40\0\0\x01\x10\0\0\x01\x10\0\0\x01kv";
-
-// {"name":"Fred","phones":[{"number":3720453,"type":"home"},{"number":5062051,"type":"work"}]}
-const FRED: &[u8] =
-    b"\x40\0\0\x02\x10\0\0\x04\x10\0\0\x06\x10\0\0\x04\x50\0\0\x5anamephonesFred\x80\0\0\x02\x50\0\0\x27\x50\0\0\x27\x40\0\0\x02\x10\0\0\x06\x10\0\0\x04\x20\0\0\x05\x10\0\0\x04numbertype\x50\0\x38\xc5\x05home\x40\0\0\x02\x10\0\0\x06\x10\0\0\x04\x20\0\0\x05\x10\0\0\x04numbertype\x50\0\x4d\x3d\xa3work";
-
-// {"-1":false,"0":true}
-const DIGITS: &[u8] = b"\x40\0\0\x02\x10\0\0\x02\x10\0\0\x01\x30\0\0\0\x40\0\0\0-10";
-
-// 5
-const FIVE: &[u8] = b"\x20\0\0\0\x20\0\0\x02\x50\x05";
-
-// the date 1
-const DATE: &[u8] = b"\x20\0\0\0\x60\0\0\x05\x10\0\0\0\x01";
 
 /// The document without the place of a key path's text.
 fn without(alloc: Global, bytes: &[u8], text: &[u8]) -> Result<OwnedJsonb, Error> {
@@ -68,7 +52,10 @@ fn elements_and_pairs(rt: HostRuntime) -> Result<(), Fail> {
         (b"{2}".as_slice(), no_last),
         (b"{-1}".as_slice(), no_last),
     ] {
-        assert!(rt; leaves(rt.alloc(), MIXED, text, wanted)?, "at {text:?}");
+        assert!(rt;
+            leaves(rt.alloc(), MIXED_ARRAY, text, wanted)?,
+            "at {text:?}"
+        );
     }
     Ok(())
 }
@@ -85,7 +72,10 @@ fn the_same_bytes_where_nothing_is_met(rt: HostRuntime) -> Result<(), Fail> {
         b"{2,l}".as_slice(),
         b"{2,k,0}".as_slice(),
     ] {
-        assert!(rt; leaves(rt.alloc(), MIXED, text, MIXED)?, "at {text:?}");
+        assert!(rt;
+            leaves(rt.alloc(), MIXED_ARRAY, text, MIXED_ARRAY)?,
+            "at {text:?}"
+        );
     }
     assert!(rt; leaves(rt.alloc(), DATE, b"{0}", DATE)?);
     assert!(rt; leaves(rt.alloc(), DATE, b"{}", DATE)?);
@@ -106,10 +96,10 @@ fn several_levels(rt: HostRuntime) -> Result<(), Fail> {
         (b"{phones,0,number}".as_slice(), no_number),
         (b"{phones,-1}".as_slice(), one_phone),
         (b"{phones}".as_slice(), no_phones),
-        (b"{phones,2}".as_slice(), FRED),
-        (b"{phones,0,number,0}".as_slice(), FRED),
+        (b"{phones,2}".as_slice(), PHONES),
+        (b"{phones,0,number,0}".as_slice(), PHONES),
     ] {
-        assert!(rt; leaves(rt.alloc(), FRED, text, wanted)?, "at {text:?}");
+        assert!(rt; leaves(rt.alloc(), PHONES, text, wanted)?, "at {text:?}");
     }
     Ok(())
 }

@@ -8,36 +8,12 @@ ghost use Rattle.jsonb_raw.specs.Documents.{raw_bytes};
 ghost use Rattle.jsonb_raw.specs.Exists.{has_all};
 
 use crate::raw::RawJsonb;
+use crate::tests::documents::{DATE, FIVE, FLOATS, NULL, NULLS, NUMBER_THEN_TEXT, ONE_PAIR, TEXT};
 use jsonb_doc::Error;
 use std::test::Fail;
 
-// 5
-const FIVE: &[u8] = b"\x20\0\0\0\x20\0\0\x02\x50\x05";
-
-// {"asd":"adf"}
-const PAIR: &[u8] = b"\x40\0\0\x01\x10\0\0\x03\x10\0\0\x03asdadf";
-
-// [1,"a"]
-const LIST: &[u8] = b"\x80\0\0\x02\x20\0\0\x02\x10\0\0\x01\x50\x01a";
-
-// {"a":null,"b":[null]}
-const TWO_KEYS: &[u8] =
-    b"\x40\0\0\x02\x10\0\0\x01\x10\0\0\x01\0\0\0\0\x50\0\0\x08ab\x80\0\0\x01\0\0\0\0";
-
 // [["a"]]
 const INNER_TEXT: &[u8] = b"\x80\0\0\x01\x50\0\0\x09\x80\0\0\x01\x10\0\0\x01a";
-
-// "a"
-const TEXT: &[u8] = b"\x20\0\0\0\x10\0\0\x01a";
-
-// null
-const NULL: &[u8] = b"\x20\0\0\0\0\0\0\0";
-
-// the date 1
-const DATE: &[u8] = b"\x20\0\0\0\x60\0\0\x05\x10\0\0\0\x01";
-
-// an array of a float
-const FLOAT_LIST: &[u8] = b"\x80\0\0\x01\x20\0\0\x09\x60\x3f\xf8\0\0\0\0\0\0";
 
 /// Whether the document has all of the texts: a caller, with what it knows of the answer.
 fn has_each(document: &RawJsonb<'_>, names: &[&str]) -> Result<bool, Error>
@@ -57,28 +33,31 @@ fn all_and_any(bytes: &[u8], names: &[&str]) -> Result<(bool, bool), Error> {
 
 #[test]
 fn no_texts(rt: HostRuntime) {
-    for bytes in [FIVE, PAIR, LIST, TEXT, NULL, DATE] {
+    for bytes in [FIVE, ONE_PAIR, NUMBER_THEN_TEXT, TEXT, NULL, DATE] {
         assert_eq!(rt; all_and_any(bytes, &[]), Ok((true, false)));
     }
 }
 
 #[test]
 fn keys_of_objects(rt: HostRuntime) {
-    assert_eq!(rt; all_and_any(PAIR, &["asd"]), Ok((true, true)));
+    assert_eq!(rt; all_and_any(ONE_PAIR, &["asd"]), Ok((true, true)));
     // a value is no key
-    assert_eq!(rt; all_and_any(PAIR, &["adf"]), Ok((false, false)));
-    assert_eq!(rt; all_and_any(PAIR, &["asd", "adf"]), Ok((false, true)));
-    assert_eq!(rt; all_and_any(TWO_KEYS, &["b", "a", "b"]), Ok((true, true)));
-    assert_eq!(rt; all_and_any(TWO_KEYS, &["c", "a"]), Ok((false, true)));
-    assert_eq!(rt; all_and_any(TWO_KEYS, &["c", ""]), Ok((false, false)));
+    assert_eq!(rt; all_and_any(ONE_PAIR, &["adf"]), Ok((false, false)));
+    assert_eq!(rt; all_and_any(ONE_PAIR, &["asd", "adf"]), Ok((false, true)));
+    assert_eq!(rt; all_and_any(NULLS, &["b", "a", "b"]), Ok((true, true)));
+    assert_eq!(rt; all_and_any(NULLS, &["c", "a"]), Ok((false, true)));
+    assert_eq!(rt; all_and_any(NULLS, &["c", ""]), Ok((false, false)));
 }
 
 #[test]
 fn strings_in_arrays(rt: HostRuntime) {
-    assert_eq!(rt; all_and_any(LIST, &["a"]), Ok((true, true)));
+    assert_eq!(rt; all_and_any(NUMBER_THEN_TEXT, &["a"]), Ok((true, true)));
     // a number is no text
-    assert_eq!(rt; all_and_any(LIST, &["1"]), Ok((false, false)));
-    assert_eq!(rt; all_and_any(LIST, &["1", "a"]), Ok((false, true)));
+    assert_eq!(rt; all_and_any(NUMBER_THEN_TEXT, &["1"]), Ok((false, false)));
+    assert_eq!(rt;
+        all_and_any(NUMBER_THEN_TEXT, &["1", "a"]),
+        Ok((false, true))
+    );
     // only the root's own elements count
     assert_eq!(rt; all_and_any(INNER_TEXT, &["a"]), Ok((false, false)));
 }
@@ -101,8 +80,5 @@ fn other_roots_have_no_texts(rt: HostRuntime) {
 fn damage_is_refused(rt: HostRuntime) {
     assert_eq!(rt; all_and_any(b"", &["a"]), Err(Error::InvalidJsonb));
     assert_eq!(rt; all_and_any(b"\x80\0\0", &["a"]), Err(Error::InvalidJsonb));
-    assert_eq!(rt;
-        all_and_any(FLOAT_LIST, &["a"]),
-        Err(Error::UnsupportedNumber)
-    );
+    assert_eq!(rt; all_and_any(FLOATS, &["a"]), Err(Error::UnsupportedNumber));
 }

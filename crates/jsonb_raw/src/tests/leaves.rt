@@ -1,19 +1,15 @@
 //! Worked rows: the leaves of documents.
 
-use super::{FRED, MIXED};
 use crate::RawJsonb;
+use crate::tests::documents::{
+    DATE, EMPTY_ARRAY, EMPTY_OBJECT, FALSE, FLOAT, MIXED_ARRAY, NESTED_ARRAY, NULL, NULL_IN_ARRAY,
+    NULLS, ONE, PHONES, TRUE,
+};
 use jsonb_doc::{Error, Value, root_item, to_value};
 use jsonb_keypath::KeyPath;
 use std::alloc::Global;
 use std::borrow::CowStr;
 use std::test::Fail;
-
-// {"a":null,"b":[null]}
-const NULLS: &[u8] =
-    b"\x40\0\0\x02\x10\0\0\x01\x10\0\0\x01\0\0\0\0\x50\0\0\x08ab\x80\0\0\x01\0\0\0\0";
-
-// [[1]]
-const NESTED: &[u8] = b"\x80\0\0\x01\x50\0\0\x0a\x80\0\0\x01\x20\0\0\x02\x50\x01";
 
 // [[],{}]
 const EMPTIES: &[u8] = b"\x80\0\0\x02\x50\0\0\x04\x50\0\0\x04\x80\0\0\0\x40\0\0\0";
@@ -23,21 +19,6 @@ const EMPTY_ARRAY_UNDER_KEY: &[u8] = b"\x40\0\0\x01\x10\0\0\x01\x50\0\0\x04a\x80
 
 // {"a":{}}
 const EMPTY_OBJECT_UNDER_KEY: &[u8] = b"\x40\0\0\x01\x10\0\0\x01\x50\0\0\x04a\x40\0\0\0";
-
-// [null]
-const ONE_NULL: &[u8] = b"\x80\0\0\x01\0\0\0\0";
-
-const EMPTY_ARRAY: &[u8] = b"\x80\0\0\0";
-
-const EMPTY_OBJECT: &[u8] = b"\x40\0\0\0";
-
-const NULL: &[u8] = b"\x20\0\0\0\0\0\0\0";
-
-const FALSE: &[u8] = b"\x20\0\0\0\x30\0\0\0";
-
-const TRUE: &[u8] = b"\x20\0\0\0\x40\0\0\0";
-
-const ONE: &[u8] = b"\x20\0\0\0\x20\0\0\x02\x50\x01";
 
 const TEN: &[u8] = b"\x20\0\0\0\x20\0\0\x02\x50\x0a";
 
@@ -54,12 +35,6 @@ const FRED_TEXT: &[u8] = b"\x20\0\0\0\x10\0\0\x04Fred";
 const HOME_TEXT: &[u8] = b"\x20\0\0\0\x10\0\0\x04home";
 
 const WORK_TEXT: &[u8] = b"\x20\0\0\0\x10\0\0\x04work";
-
-// the date 1
-const DATE: &[u8] = b"\x20\0\0\0\x60\0\0\x05\x10\0\0\0\x01";
-
-// a float
-const FLOAT: &[u8] = b"\x20\0\0\0\x20\0\0\x09\x60\x3f\xf8\0\0\0\0\0\0";
 
 /// Whether the document has these leaves: the printed form of each path, and a document of the value there.
 fn has_leaves(
@@ -84,7 +59,7 @@ fn has_leaves(
 #[test]
 fn leaves_come_in_stored_order(rt: HostRuntime) -> Result<(), Fail> {
     let mixed = [("{0}", FALSE), ("{1}", TEN), ("{2,k}", V)];
-    assert!(rt; has_leaves(rt.alloc(), MIXED, false, &mixed)?);
+    assert!(rt; has_leaves(rt.alloc(), MIXED_ARRAY, false, &mixed)?);
     let fred = [
         ("{name}", FRED_TEXT),
         ("{phones,0,number}", HOME_NUMBER),
@@ -92,22 +67,22 @@ fn leaves_come_in_stored_order(rt: HostRuntime) -> Result<(), Fail> {
         ("{phones,1,number}", WORK_NUMBER),
         ("{phones,1,type}", WORK_TEXT),
     ];
-    assert!(rt; has_leaves(rt.alloc(), FRED, false, &fred)?);
+    assert!(rt; has_leaves(rt.alloc(), PHONES, false, &fred)?);
     let nulls = [("{a}", NULL), ("{b,0}", NULL)];
     assert!(rt; has_leaves(rt.alloc(), NULLS, false, &nulls)?);
-    assert!(rt; has_leaves(rt.alloc(), NESTED, false, &[("{0,0}", ONE)])?);
+    assert!(rt; has_leaves(rt.alloc(), NESTED_ARRAY, false, &[("{0,0}", ONE)])?);
     Ok(())
 }
 
 #[test]
 fn an_array_that_is_ignored_is_a_leaf(rt: HostRuntime) -> Result<(), Fail> {
-    let nulls = [("{a}", NULL), ("{b}", ONE_NULL)];
+    let nulls = [("{a}", NULL), ("{b}", NULL_IN_ARRAY)];
     assert!(rt; has_leaves(rt.alloc(), NULLS, true, &nulls)?);
     assert!(rt;
-        has_leaves(rt.alloc(), MIXED, true, &[])?,
+        has_leaves(rt.alloc(), MIXED_ARRAY, true, &[])?,
         "an array as the root"
     );
-    assert!(rt; has_leaves(rt.alloc(), NESTED, true, &[])?);
+    assert!(rt; has_leaves(rt.alloc(), NESTED_ARRAY, true, &[])?);
     Ok(())
 }
 
@@ -135,7 +110,7 @@ fn the_root_is_no_leaf(rt: HostRuntime) -> Result<(), Fail> {
 
 #[test]
 fn names_are_borrowed(rt: HostRuntime) -> Result<(), Fail> {
-    let found = RawJsonb::new(MIXED).extract_scalar_key_values(rt.alloc(), false)?;
+    let found = RawJsonb::new(MIXED_ARRAY).extract_scalar_key_values(rt.alloc(), false)?;
     let Some((path, value)) = found.last() else {
         panic!(rt; "no leaf");
     };

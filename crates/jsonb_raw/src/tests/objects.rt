@@ -1,38 +1,15 @@
 //! Objects: their keys and pairs, one pair more, some pairs, and the others.
 
+use crate::tests::documents::{
+    DATE, EMPTY_OBJECT, FLOAT, FLOAT_UNDER_A, NULLS, ONE, ONE_ELEMENT, ONE_PAIR, PHONES,
+};
 use crate::{OwnedJsonb, RawJsonb};
 use jsonb_doc::Error;
 use std::alloc::Global;
 use std::collections::BTreeSet;
 use std::test::Fail;
 
-// {"asd":"adf"}
-const OBJECT: &[u8] = b"\x40\0\0\x01\x10\0\0\x03\x10\0\0\x03asdadf";
-
-// {"a":null,"b":[null]}
-const TWO: &[u8] =
-    b"\x40\0\0\x02\x10\0\0\x01\x10\0\0\x01\0\0\0\0\x50\0\0\x08ab\x80\0\0\x01\0\0\0\0";
-
-// {"name":"Fred","phones":[{"number":3720453,"type":"home"},{"number":5062051,"type":"work"}]}
-const FRED: &[u8] =
-    b"\x40\0\0\x02\x10\0\0\x04\x10\0\0\x06\x10\0\0\x04\x50\0\0\x5anamephonesFred\x80\0\0\x02\x50\0\0\x27\x50\0\0\x27\x40\0\0\x02\x10\0\0\x06\x10\0\0\x04\x20\0\0\x05\x10\0\0\x04numbertype\x50\0\x38\xc5\x05home\x40\0\0\x02\x10\0\0\x06\x10\0\0\x04\x20\0\0\x05\x10\0\0\x04numbertype\x50\0\x4d\x3d\xa3work";
-
-// [1]
-const ARRAY: &[u8] = b"\x80\0\0\x01\x20\0\0\x02\x50\x01";
-
-const EMPTY: &[u8] = b"\x40\0\0\0";
-
-const ONE: &[u8] = b"\x20\0\0\0\x20\0\0\x02\x50\x01";
-
-const DATE: &[u8] = b"\x20\0\0\0\x60\0\0\x05\x10\0\0\0\x01";
-
 const CUT: &[u8] = b"\x40\0\0";
-
-// {"a":1.5}, a float
-const FLOAT_UNDER_A: &[u8] = b"\x40\0\0\x01\x10\0\0\x01\x20\0\0\x09a\x60\x3f\xf8\0\0\0\0\0\0";
-
-// a float
-const FLOAT: &[u8] = b"\x20\0\0\0\x20\0\0\x09\x60\x3f\xf8\0\0\0\0\0\0";
 
 // an object in whose bytes the key "a" stands twice
 const REPEATED: &[u8] = b"\x40\0\0\x02\x10\0\0\x01\x10\0\0\x01\0\0\0\0\0\0\0\0aa";
@@ -52,16 +29,16 @@ fn gives_the_keys(rt: HostRuntime) -> Result<(), Fail> {
     let names = b"\x80\0\0\x02\x10\0\0\x04\x10\0\0\x06namephones".as_slice();
     let letters = b"\x80\0\0\x02\x10\0\0\x01\x10\0\0\x01ab".as_slice();
     for (bytes, wanted) in [
-        (FRED, names),
-        (TWO, letters),
-        (EMPTY, b"\x80\0\0\0".as_slice()),
+        (PHONES, names),
+        (NULLS, letters),
+        (EMPTY_OBJECT, b"\x80\0\0\0".as_slice()),
     ] {
         let Some(keys) = RawJsonb::new(bytes).object_keys(rt.alloc())? else {
             panic!(rt; "no keys");
         };
         assert_eq!(rt; keys.as_raw().as_bytes(), wanted);
     }
-    for bytes in [ARRAY, ONE, DATE] {
+    for bytes in [ONE_ELEMENT, ONE, DATE] {
         assert!(rt; RawJsonb::new(bytes).object_keys(rt.alloc())?.is_none());
     }
     Ok(())
@@ -69,7 +46,7 @@ fn gives_the_keys(rt: HostRuntime) -> Result<(), Fail> {
 
 #[test]
 fn gives_each_pair(rt: HostRuntime) -> Result<(), Fail> {
-    let Some(pairs) = RawJsonb::new(TWO).object_each(rt.alloc())? else {
+    let Some(pairs) = RawJsonb::new(NULLS).object_each(rt.alloc())? else {
         panic!(rt; "no pairs");
     };
     assert_eq!(rt; pairs.len(), 2);
@@ -79,7 +56,7 @@ fn gives_each_pair(rt: HostRuntime) -> Result<(), Fail> {
         assert_eq!(rt; pair.0.as_str(), key);
         assert_eq!(rt; pair.1.as_raw().as_bytes(), value);
     }
-    for bytes in [ARRAY, ONE, DATE] {
+    for bytes in [ONE_ELEMENT, ONE, DATE] {
         assert!(rt; RawJsonb::new(bytes).object_each(rt.alloc())?.is_none());
     }
     Ok(())
@@ -97,12 +74,12 @@ fn inserts_a_pair(rt: HostRuntime) -> Result<(), Fail> {
         b"\x40\0\0\x03\x10\0\0\x01\x10\0\0\x02\x10\0\0\x01\0\0\0\0\x20\0\0\x02\x50\0\0\x08aaab\x50\x01\x80\0\0\x01\0\0\0\0".as_slice();
     let alone = b"\x40\0\0\x01\x10\0\0\0\x20\0\0\x02\x50\x01".as_slice();
     for (bytes, key, update_flag, wanted) in [
-        (OBJECT, "b", false, behind),
-        (OBJECT, "b", true, behind),
-        (OBJECT, "a", false, before),
-        (OBJECT, "asd", true, replaced),
-        (TWO, "aa", false, between),
-        (EMPTY, "", false, alone),
+        (ONE_PAIR, "b", false, behind),
+        (ONE_PAIR, "b", true, behind),
+        (ONE_PAIR, "a", false, before),
+        (ONE_PAIR, "asd", true, replaced),
+        (NULLS, "aa", false, between),
+        (EMPTY_OBJECT, "", false, alone),
     ] {
         let made = with_one(rt.alloc(), bytes, key, update_flag)?;
         assert_eq!(rt; made.as_raw().as_bytes(), wanted);
@@ -112,7 +89,12 @@ fn inserts_a_pair(rt: HostRuntime) -> Result<(), Fail> {
 
 #[test]
 fn refuses_a_key_that_is_there(rt: HostRuntime) {
-    for (bytes, key) in [(OBJECT, "asd"), (TWO, "a"), (TWO, "b"), (FRED, "phones")] {
+    for (bytes, key) in [
+        (ONE_PAIR, "asd"),
+        (NULLS, "a"),
+        (NULLS, "b"),
+        (PHONES, "phones"),
+    ] {
         let made = with_one(rt.alloc(), bytes, key, false);
         assert!(rt; matches!(made, Err(Error::ObjectDuplicateKey)));
     }
@@ -132,22 +114,22 @@ fn parted(
 #[test]
 fn parts_pairs_by_a_set(rt: HostRuntime) -> Result<(), Fail> {
     let mut keys = BTreeSet::new(rt.alloc());
-    let (none, all) = parted(rt.alloc(), TWO, &keys)?;
-    assert_eq!(rt; none.as_raw().as_bytes(), EMPTY);
-    assert_eq!(rt; all.as_raw().as_bytes(), TWO);
+    let (none, all) = parted(rt.alloc(), NULLS, &keys)?;
+    assert_eq!(rt; none.as_raw().as_bytes(), EMPTY_OBJECT);
+    assert_eq!(rt; all.as_raw().as_bytes(), NULLS);
     // {"a":null}, {"b":[null]}
     let first = b"\x40\0\0\x01\x10\0\0\x01\0\0\0\0a".as_slice();
     let second = b"\x40\0\0\x01\x10\0\0\x01\x50\0\0\x08b\x80\0\0\x01\0\0\0\0".as_slice();
     for key in ["a", "missing"] {
         keys.insert(key)?;
-        let (picked, left) = parted(rt.alloc(), TWO, &keys)?;
+        let (picked, left) = parted(rt.alloc(), NULLS, &keys)?;
         assert_eq!(rt; picked.as_raw().as_bytes(), first);
         assert_eq!(rt; left.as_raw().as_bytes(), second);
     }
     keys.insert("b")?;
-    let (all, none) = parted(rt.alloc(), TWO, &keys)?;
-    assert_eq!(rt; all.as_raw().as_bytes(), TWO);
-    assert_eq!(rt; none.as_raw().as_bytes(), EMPTY);
+    let (all, none) = parted(rt.alloc(), NULLS, &keys)?;
+    assert_eq!(rt; all.as_raw().as_bytes(), NULLS);
+    assert_eq!(rt; none.as_raw().as_bytes(), EMPTY_OBJECT);
     Ok(())
 }
 
@@ -155,7 +137,7 @@ fn parts_pairs_by_a_set(rt: HostRuntime) -> Result<(), Fail> {
 fn needs_an_object(rt: HostRuntime) -> Result<(), Fail> {
     let mut keys = BTreeSet::new(rt.alloc());
     keys.insert("a")?;
-    for bytes in [ARRAY, ONE, DATE] {
+    for bytes in [ONE_ELEMENT, ONE, DATE] {
         let document = RawJsonb::new(bytes);
         assert!(rt;
             matches!(
@@ -188,7 +170,7 @@ fn damage_is_refused(rt: HostRuntime) -> Result<(), Fail> {
     assert!(rt; matches!(cut.object_pick(alloc, &keys), Err(Error::InvalidJsonb)));
     assert!(rt; matches!(cut.object_delete(alloc, &keys), Err(Error::InvalidJsonb)));
     assert!(rt; matches!(with_one(alloc, CUT, "a", true), Err(Error::InvalidJsonb)));
-    let value = RawJsonb::new(OBJECT).object_insert(alloc, "a", &cut, true);
+    let value = RawJsonb::new(ONE_PAIR).object_insert(alloc, "a", &cut, true);
     assert!(rt; matches!(value, Err(Error::InvalidJsonb)));
     let twice = RawJsonb::new(REPEATED).object_pick(alloc, &keys);
     assert!(rt; matches!(twice, Err(Error::InvalidJsonb)));
@@ -215,7 +197,7 @@ fn floats_are_refused(rt: HostRuntime) -> Result<(), Fail> {
             Err(Error::UnsupportedNumber)
         )
     );
-    let value = RawJsonb::new(OBJECT).object_insert(alloc, "a", &float, false);
+    let value = RawJsonb::new(ONE_PAIR).object_insert(alloc, "a", &float, false);
     assert!(rt; matches!(value, Err(Error::UnsupportedNumber)));
     Ok(())
 }

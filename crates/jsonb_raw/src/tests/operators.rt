@@ -1,37 +1,23 @@
 //! Worked rows: what is asked and made of whole documents.
 
-use super::*;
-use jsonb_doc::ArrayBuilder;
-
-// {"a":null,"b":[null]}
-const NULLS: &[u8] =
-    b"\x40\0\0\x02\x10\0\0\x01\x10\0\0\x01\0\0\0\0\x50\0\0\x08ab\x80\0\0\x01\0\0\0\0";
+use crate::RawJsonb;
+use crate::tests::documents::{
+    DATE, EQUAL_NUMBERS, FLOAT, MIXED_ARRAY, NESTED_ARRAY, NULLS, ONE, ONE_ELEMENT, PHONES, TWO,
+};
+use jsonb_doc::{ArrayBuilder, Error};
+use std::alloc::Global;
+use std::test::Fail;
 
 // {"b":[null]}
 const NULL_ELEMENT: &[u8] = b"\x40\0\0\x01\x10\0\0\x01\x50\0\0\x08b\x80\0\0\x01\0\0\0\0";
 
-// [1]
-const ONE: &[u8] = b"\x80\0\0\x01\x20\0\0\x02\x50\x01";
-
-// [[1]]
-const NESTED: &[u8] = b"\x80\0\0\x01\x50\0\0\x0a\x80\0\0\x01\x20\0\0\x02\x50\x01";
-
-// [1,1,2,1.0]
-const REPEATS: &[u8] =
-    b"\x80\0\0\x04\x20\0\0\x02\x20\0\0\x02\x20\0\0\x02\x20\0\0\x0a\x50\x01\x50\x01\x50\x02\x70\0\0\0\0\0\0\0\x0a\x01";
-
 // [18446744073709551615]
 const GREATEST: &[u8] = b"\x80\0\0\x01\x20\0\0\x09\x50\xff\xff\xff\xff\xff\xff\xff\xff";
 
-// the date 1
-const DATE: &[u8] = b"\x20\0\0\0\x60\0\0\x05\x10\0\0\0\x01";
-
-// 1, 2 and 1.0
-const NUMBER_ONE: &[u8] = b"\x20\0\0\0\x20\0\0\x02\x50\x01";
-
-const NUMBER_TWO: &[u8] = b"\x20\0\0\0\x20\0\0\x02\x50\x02";
-
 const TEN_TENTHS: &[u8] = b"\x20\0\0\0\x20\0\0\x0a\x70\0\0\0\0\0\0\0\x0a\x01";
+
+// [date 1]
+const DATE_IN_ARRAY: &[u8] = b"\x80\0\0\x01\x60\0\0\x05\x10\0\0\0\x01";
 
 // {"a":1,"b":2}
 const AB: &[u8] = b"\x40\0\0\x02\x10\0\0\x01\x10\0\0\x01\x20\0\0\x02\x20\0\0\x02ab\x50\x01\x50\x02";
@@ -50,12 +36,12 @@ fn texts_are_keys_and_strings(rt: HostRuntime) -> Result<(), Fail> {
     for (document, text, wanted) in [
         (NULLS, b"b".as_slice(), true),
         (NULLS, b"c".as_slice(), false),
-        (MIXED, b"k".as_slice(), true),
-        (MIXED, b"v".as_slice(), true),
-        (MIXED, b"false".as_slice(), false),
-        (FRED, b"work".as_slice(), true),
-        (FRED, b"number".as_slice(), true),
-        (FRED, b"wor".as_slice(), false),
+        (MIXED_ARRAY, b"k".as_slice(), true),
+        (MIXED_ARRAY, b"v".as_slice(), true),
+        (MIXED_ARRAY, b"false".as_slice(), false),
+        (PHONES, b"work".as_slice(), true),
+        (PHONES, b"number".as_slice(), true),
+        (PHONES, b"wor".as_slice(), false),
         (word, b"word".as_slice(), true),
         (word, b"".as_slice(), false),
     ] {
@@ -91,8 +77,8 @@ fn nulls_of_objects_are_stripped(rt: HostRuntime) -> Result<(), Fail> {
         (null, null),
         (empty, empty),
         (inner, emptied),
-        (MIXED, MIXED),
-        (FRED, FRED),
+        (MIXED_ARRAY, MIXED_ARRAY),
+        (PHONES, PHONES),
         (deep.as_slice(), deep.as_slice()),
     ] {
         let stripped = RawJsonb::new(document).strip_nulls(rt.alloc())?;
@@ -127,22 +113,22 @@ fn arrays_contain(rt: HostRuntime) -> Result<(), Fail> {
     let inner = b"\x80\0\0\x02\x20\0\0\x02\x20\0\0\x02\x50\x01\x50\x03".as_slice();
     let empty = b"\x80\0\0\0".as_slice();
     for (document, other, wanted) in [
-        (NESTED, NESTED, true),
-        (REPEATS, GREATEST, false),
+        (NESTED_ARRAY, NESTED_ARRAY, true),
+        (EQUAL_NUMBERS, GREATEST, false),
         (deep, inner, false),
-        (deep, NESTED, true),
+        (deep, NESTED_ARRAY, true),
         (DATE_IN_ARRAY, DATE_IN_ARRAY, true),
         (deep, deep, true),
-        (deep, ONE, true),
-        (ONE, NUMBER_ONE, true),
-        (ONE, TEN_TENTHS, true),
-        (ONE, NUMBER_TWO, false),
-        (NESTED, NUMBER_ONE, false),
-        (NESTED, ONE, false),
-        (ONE, REPEATS, false),
-        (REPEATS, ONE, true),
-        (ONE, empty, true),
-        (empty, ONE, false),
+        (deep, ONE_ELEMENT, true),
+        (ONE_ELEMENT, ONE, true),
+        (ONE_ELEMENT, TEN_TENTHS, true),
+        (ONE_ELEMENT, TWO, false),
+        (NESTED_ARRAY, ONE, false),
+        (NESTED_ARRAY, ONE_ELEMENT, false),
+        (ONE_ELEMENT, EQUAL_NUMBERS, false),
+        (EQUAL_NUMBERS, ONE_ELEMENT, true),
+        (ONE_ELEMENT, empty, true),
+        (empty, ONE_ELEMENT, false),
     ] {
         assert_eq!(rt;
             contains(document, other)?,
@@ -173,14 +159,14 @@ fn other_documents_contain(rt: HostRuntime) -> Result<(), Fail> {
         (list, list, true),
         (x, a, false),
         (a, empty, true),
-        (a, NUMBER_ONE, false),
-        (NUMBER_ONE, a, false),
-        (NUMBER_ONE, NUMBER_ONE, true),
-        (NUMBER_ONE, TEN_TENTHS, true),
-        (NUMBER_ONE, NUMBER_TWO, false),
-        (NUMBER_ONE, ONE, false),
+        (a, ONE, false),
+        (ONE, a, false),
+        (ONE, ONE, true),
+        (ONE, TEN_TENTHS, true),
+        (ONE, TWO, false),
+        (ONE, ONE_ELEMENT, false),
         (DATE, DATE, false),
-        (ONE, DATE, false),
+        (ONE_ELEMENT, DATE, false),
     ] {
         assert_eq!(rt;
             contains(document, other)?,
@@ -188,8 +174,8 @@ fn other_documents_contain(rt: HostRuntime) -> Result<(), Fail> {
             "{document:?} {other:?}"
         );
     }
-    assert_eq!(rt; contains(FLOAT, ONE), Err(Error::UnsupportedNumber));
-    assert_eq!(rt; contains(ONE, b""), Err(Error::InvalidJsonb));
+    assert_eq!(rt; contains(FLOAT, ONE_ELEMENT), Err(Error::UnsupportedNumber));
+    assert_eq!(rt; contains(ONE_ELEMENT, b""), Err(Error::InvalidJsonb));
     Ok(())
 }
 
@@ -209,19 +195,19 @@ fn documents_are_put_together(rt: HostRuntime) -> Result<(), Fail> {
         b"\x80\0\0\x02\x50\0\0\x0e\x20\0\0\x02\x40\0\0\x01\x10\0\0\x01\x10\0\0\x01kv\x50\x01".as_slice();
     let empty = b"\x40\0\0\0".as_slice();
     for (document, other, wanted) in [
-        (ONE, NESTED, nested),
-        (NUMBER_ONE, NUMBER_TWO, numbers),
-        (ONE, NUMBER_TWO, numbers),
+        (ONE_ELEMENT, NESTED_ARRAY, nested),
+        (ONE, TWO, numbers),
+        (ONE_ELEMENT, TWO, numbers),
         (AB, BC, other_wins),
         (BC, AB, reversed),
-        (pair, ONE, mixed),
+        (pair, ONE_ELEMENT, mixed),
         (empty, AB, AB),
         (AB, empty, AB),
     ] {
         let made = RawJsonb::new(document).concat(rt.alloc(), &RawJsonb::new(other))?;
         assert_eq!(rt; made.as_raw().as_bytes(), wanted);
     }
-    let float = RawJsonb::new(ONE).concat(rt.alloc(), &RawJsonb::new(FLOAT));
+    let float = RawJsonb::new(ONE_ELEMENT).concat(rt.alloc(), &RawJsonb::new(FLOAT));
     assert_eq!(rt; float.err(), Some(Error::UnsupportedNumber));
     Ok(())
 }

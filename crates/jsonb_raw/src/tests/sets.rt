@@ -1,42 +1,15 @@
 //! Arrays as sets: the worked rows, documents that are no arrays, and elements that are equal by value.
 
+use crate::tests::documents::{
+    DATE, EMPTY_ARRAY, EQUAL_NUMBERS, FLOATS, NESTED_ARRAY, ONE, ONE_ELEMENT, ONE_PAIR, TENS, TWO,
+};
 use crate::{OwnedJsonb, RawJsonb};
 use jsonb_doc::Error;
 use std::alloc::Global;
 use std::test::Fail;
 
-// [10,20,30]
-const TENS: &[u8] =
-    b"\x80\x00\x00\x03\x20\x00\x00\x02\x20\x00\x00\x02\x20\x00\x00\x02\x50\x0a\x50\x14\x50\x1e";
-
 // ["a",1]
 const TEXT_AND_ONE: &[u8] = b"\x80\x00\x00\x02\x10\x00\x00\x01\x20\x00\x00\x02\x61\x50\x01";
-
-// [1]
-const ONES: &[u8] = b"\x80\x00\x00\x01\x20\x00\x00\x02\x50\x01";
-
-// [1,1,2,1.0]
-const REPEATED: &[u8] =
-    b"\x80\x00\x00\x04\x20\x00\x00\x02\x20\x00\x00\x02\x20\x00\x00\x02\x20\x00\x00\x0a\x50\x01\x50\x01\x50\x02\x70\x00\x00\x00\x00\x00\x00\x00\x0a\x01";
-
-// [[1]]
-const ARRAY_IN_ARRAY: &[u8] =
-    b"\x80\x00\x00\x01\x50\x00\x00\x0a\x80\x00\x00\x01\x20\x00\x00\x02\x50\x01";
-
-// date 1
-const DATE: &[u8] = b"\x20\x00\x00\x00\x60\x00\x00\x05\x10\x00\x00\x00\x01";
-
-// {"asd":"adf"}
-const OBJECT: &[u8] = b"\x40\x00\x00\x01\x10\x00\x00\x03\x10\x00\x00\x03\x61\x73\x64\x61\x64\x66";
-
-// 1
-const ONE: &[u8] = b"\x20\x00\x00\x00\x20\x00\x00\x02\x50\x01";
-
-// 2
-const TWO: &[u8] = b"\x20\x00\x00\x00\x20\x00\x00\x02\x50\x02";
-
-// []
-const EMPTY: &[u8] = b"\x80\x00\x00\x00";
 
 // [[1],{"k":1}]
 const NESTED: &[u8] =
@@ -45,9 +18,6 @@ const NESTED: &[u8] =
 // [[1.0],{"k":1.0}]
 const NESTED_DECIMALS: &[u8] =
     b"\x80\x00\x00\x02\x50\x00\x00\x12\x50\x00\x00\x17\x80\x00\x00\x01\x20\x00\x00\x0a\x70\x00\x00\x00\x00\x00\x00\x00\x0a\x01\x40\x00\x00\x01\x10\x00\x00\x01\x20\x00\x00\x0a\x6b\x70\x00\x00\x00\x00\x00\x00\x00\x0a\x01";
-
-// [1.5], whose element is a float
-const FLOATS: &[u8] = b"\x80\x00\x00\x01\x20\x00\x00\x09\x60\x3f\xf8\x00\x00\x00\x00\x00\x00";
 
 type Made = Result<OwnedJsonb, Error>;
 
@@ -75,11 +45,11 @@ fn the_first_of_equal_elements_stays(rt: HostRuntime) -> Result<(), Fail> {
         b"\x80\x00\x00\x01\x50\x00\x00\x12\x40\x00\x00\x01\x10\x00\x00\x03\x10\x00\x00\x03\x61\x73\x64\x61\x64\x66".as_slice();
     let date = b"\x80\x00\x00\x01\x60\x00\x00\x05\x10\x00\x00\x00\x01".as_slice();
     for (bytes, wanted) in [
-        (REPEATED, one_and_two),
+        (EQUAL_NUMBERS, one_and_two),
         (TENS, TENS),
-        (EMPTY, EMPTY),
-        (ONE, ONES),
-        (OBJECT, object),
+        (EMPTY_ARRAY, EMPTY_ARRAY),
+        (ONE, ONE_ELEMENT),
+        (ONE_PAIR, object),
         (DATE, date),
         (NESTED, NESTED),
     ] {
@@ -90,7 +60,7 @@ fn the_first_of_equal_elements_stays(rt: HostRuntime) -> Result<(), Fail> {
     let alike =
         b"\x80\x00\x00\x03\x50\x00\x00\x0a\x50\x00\x00\x12\x50\x00\x00\x0a\x80\x00\x00\x01\x20\x00\x00\x02\x50\x01\x80\x00\x00\x01\x20\x00\x00\x0a\x70\x00\x00\x00\x00\x00\x00\x00\x0a\x01\x80\x00\x00\x01\x20\x00\x00\x02\x50\x01";
     let made = distinct(rt.alloc(), alike)?;
-    assert_eq!(rt; made.as_raw().as_bytes(), ARRAY_IN_ARRAY);
+    assert_eq!(rt; made.as_raw().as_bytes(), NESTED_ARRAY);
     Ok(())
 }
 
@@ -105,16 +75,16 @@ fn a_split_keeps_and_drops_by_counts(rt: HostRuntime) -> Result<(), Fail> {
     let dropped_twice =
         b"\x80\x00\x00\x02\x20\x00\x00\x02\x20\x00\x00\x0a\x50\x02\x70\x00\x00\x00\x00\x00\x00\x00\x0a\x01".as_slice();
     for (bytes, other, kept, dropped) in [
-        (REPEATED, ONES, ONES, dropped_once),
-        (REPEATED, two_ones, two_ones, dropped_twice),
-        (REPEATED, REPEATED, REPEATED, EMPTY),
-        (REPEATED, TENS, EMPTY, REPEATED),
-        (REPEATED, EMPTY, EMPTY, REPEATED),
-        (EMPTY, REPEATED, EMPTY, EMPTY),
-        (two_ones, REPEATED, two_ones, EMPTY),
-        (NESTED, NESTED_DECIMALS, NESTED, EMPTY),
-        (NESTED_DECIMALS, NESTED, NESTED_DECIMALS, EMPTY),
-        (ARRAY_IN_ARRAY, ONES, EMPTY, ARRAY_IN_ARRAY),
+        (EQUAL_NUMBERS, ONE_ELEMENT, ONE_ELEMENT, dropped_once),
+        (EQUAL_NUMBERS, two_ones, two_ones, dropped_twice),
+        (EQUAL_NUMBERS, EQUAL_NUMBERS, EQUAL_NUMBERS, EMPTY_ARRAY),
+        (EQUAL_NUMBERS, TENS, EMPTY_ARRAY, EQUAL_NUMBERS),
+        (EQUAL_NUMBERS, EMPTY_ARRAY, EMPTY_ARRAY, EQUAL_NUMBERS),
+        (EMPTY_ARRAY, EQUAL_NUMBERS, EMPTY_ARRAY, EMPTY_ARRAY),
+        (two_ones, EQUAL_NUMBERS, two_ones, EMPTY_ARRAY),
+        (NESTED, NESTED_DECIMALS, NESTED, EMPTY_ARRAY),
+        (NESTED_DECIMALS, NESTED, NESTED_DECIMALS, EMPTY_ARRAY),
+        (NESTED_ARRAY, ONE_ELEMENT, EMPTY_ARRAY, NESTED_ARRAY),
     ] {
         let intersection = intersection(rt.alloc(), bytes, other)?;
         assert_eq!(rt; intersection.as_raw().as_bytes(), kept);
@@ -130,21 +100,21 @@ fn what_is_no_array_counts_as_one_element(rt: HostRuntime) -> Result<(), Fail> {
         b"\x80\x00\x00\x01\x50\x00\x00\x12\x40\x00\x00\x01\x10\x00\x00\x03\x10\x00\x00\x03\x61\x73\x64\x61\x64\x66".as_slice();
     let date = b"\x80\x00\x00\x01\x60\x00\x00\x05\x10\x00\x00\x00\x01".as_slice();
     for (bytes, other, kept, dropped) in [
-        (ONE, ONES, ONES, EMPTY),
-        (ONE, ONE, ONES, EMPTY),
-        (ONE, REPEATED, ONES, EMPTY),
+        (ONE, ONE_ELEMENT, ONE_ELEMENT, EMPTY_ARRAY),
+        (ONE, ONE, ONE_ELEMENT, EMPTY_ARRAY),
+        (ONE, EQUAL_NUMBERS, ONE_ELEMENT, EMPTY_ARRAY),
         (
             TWO,
-            ONES,
-            EMPTY,
+            ONE_ELEMENT,
+            EMPTY_ARRAY,
             b"\x80\x00\x00\x01\x20\x00\x00\x02\x50\x02".as_slice(),
         ),
-        (ONES, ONE, ONES, EMPTY),
-        (TENS, ONE, EMPTY, TENS),
-        (OBJECT, OBJECT, object, EMPTY),
-        (object, OBJECT, object, EMPTY),
-        (DATE, DATE, date, EMPTY),
-        (DATE, ONE, EMPTY, date),
+        (ONE_ELEMENT, ONE, ONE_ELEMENT, EMPTY_ARRAY),
+        (TENS, ONE, EMPTY_ARRAY, TENS),
+        (ONE_PAIR, ONE_PAIR, object, EMPTY_ARRAY),
+        (object, ONE_PAIR, object, EMPTY_ARRAY),
+        (DATE, DATE, date, EMPTY_ARRAY),
+        (DATE, ONE, EMPTY_ARRAY, date),
     ] {
         let intersection = intersection(rt.alloc(), bytes, other)?;
         assert_eq!(rt; intersection.as_raw().as_bytes(), kept);
@@ -160,14 +130,14 @@ fn arrays_overlap_in_an_equal_element(rt: HostRuntime) {
     let decimal =
         b"\x80\x00\x00\x01\x20\x00\x00\x0a\x70\x00\x00\x00\x00\x00\x00\x00\x0a\x01".as_slice();
     for (bytes, other) in [
-        (REPEATED, TWO),
-        (TWO, REPEATED),
-        (ONES, decimal),
-        (TEXT_AND_ONE, ONES),
-        (ARRAY_IN_ARRAY, NESTED_DECIMALS),
+        (EQUAL_NUMBERS, TWO),
+        (TWO, EQUAL_NUMBERS),
+        (ONE_ELEMENT, decimal),
+        (TEXT_AND_ONE, ONE_ELEMENT),
+        (NESTED_ARRAY, NESTED_DECIMALS),
         (NESTED, NESTED_DECIMALS),
         (DATE, DATE),
-        (OBJECT, OBJECT),
+        (ONE_PAIR, ONE_PAIR),
         // null and [null], true and [false,true], "a" and ["a",1]
         (
             b"\x20\x00\x00\x00\x00\x00\x00\x00".as_slice(),
@@ -189,10 +159,10 @@ fn arrays_overlap_in_an_equal_element(rt: HostRuntime) {
 #[test]
 fn arrays_without_equal_elements_do_not_overlap(rt: HostRuntime) {
     for (bytes, other) in [
-        (TENS, ONES),
-        (EMPTY, REPEATED),
-        (REPEATED, EMPTY),
-        (ARRAY_IN_ARRAY, ONES),
+        (TENS, ONE_ELEMENT),
+        (EMPTY_ARRAY, EQUAL_NUMBERS),
+        (EQUAL_NUMBERS, EMPTY_ARRAY),
+        (NESTED_ARRAY, ONE_ELEMENT),
         (DATE, ONE),
         // a timestamp, and another day
         (
@@ -206,22 +176,22 @@ fn arrays_without_equal_elements_do_not_overlap(rt: HostRuntime) {
         // [[1,1]] and [[1]]
         (
             b"\x80\x00\x00\x01\x50\x00\x00\x10\x80\x00\x00\x02\x20\x00\x00\x02\x20\x00\x00\x02\x50\x01\x50\x01".as_slice(),
-            ARRAY_IN_ARRAY,
+            NESTED_ARRAY,
         ),
         (
-            ARRAY_IN_ARRAY,
+            NESTED_ARRAY,
             b"\x80\x00\x00\x01\x50\x00\x00\x10\x80\x00\x00\x02\x20\x00\x00\x02\x20\x00\x00\x02\x50\x01\x50\x01".as_slice(),
         ),
         // {"asd":"adf"} with {"asd":"adg"}, {"ase":"adf"}, {}
         (
-            OBJECT,
+            ONE_PAIR,
             b"\x40\x00\x00\x01\x10\x00\x00\x03\x10\x00\x00\x03\x61\x73\x64\x61\x64\x67".as_slice(),
         ),
         (
-            OBJECT,
+            ONE_PAIR,
             b"\x40\x00\x00\x01\x10\x00\x00\x03\x10\x00\x00\x03\x61\x73\x65\x61\x64\x66".as_slice(),
         ),
-        (OBJECT, b"\x40\x00\x00\x00".as_slice()),
+        (ONE_PAIR, b"\x40\x00\x00\x00".as_slice()),
         // true and false, null and false, "a" and "b"
         (
             b"\x20\x00\x00\x00\x40\x00\x00\x00".as_slice(),
@@ -252,11 +222,17 @@ fn sets_refuse_what_does_not_decode(rt: HostRuntime) {
         (FLOATS, Error::UnsupportedNumber),
     ] {
         assert_eq!(rt; distinct(rt.alloc(), bytes).err(), Some(error));
-        assert_eq!(rt; intersection(rt.alloc(), bytes, ONES).err(), Some(error));
-        assert_eq!(rt; intersection(rt.alloc(), ONES, bytes).err(), Some(error));
-        assert_eq!(rt; except(rt.alloc(), bytes, ONES).err(), Some(error));
-        assert_eq!(rt; except(rt.alloc(), ONES, bytes).err(), Some(error));
-        assert_eq!(rt; overlap(bytes, ONES), Err(error));
-        assert_eq!(rt; overlap(ONES, bytes), Err(error));
+        assert_eq!(rt;
+            intersection(rt.alloc(), bytes, ONE_ELEMENT).err(),
+            Some(error)
+        );
+        assert_eq!(rt;
+            intersection(rt.alloc(), ONE_ELEMENT, bytes).err(),
+            Some(error)
+        );
+        assert_eq!(rt; except(rt.alloc(), bytes, ONE_ELEMENT).err(), Some(error));
+        assert_eq!(rt; except(rt.alloc(), ONE_ELEMENT, bytes).err(), Some(error));
+        assert_eq!(rt; overlap(bytes, ONE_ELEMENT), Err(error));
+        assert_eq!(rt; overlap(ONE_ELEMENT, bytes), Err(error));
     }
 }

@@ -1,12 +1,8 @@
 use crate::raw::RawJsonb;
+use crate::tests::documents::{DATE, FLOAT};
 use jsonb_doc::{Decimal64, Decimal128, Error, Item, Number, encode_item};
 use std::alloc::Global;
 use std::test::Fail;
-
-// the date 1
-const DATE: &[u8] = b"\x20\0\0\0\x60\0\0\x05\x10\0\0\0\x01";
-// a float
-const FLOAT: &[u8] = b"\x20\0\0\0\x20\0\0\x09\x60\x3f\xf8\0\0\0\0\0\0";
 
 fn decimal(scale: u8, value: i64) -> Item<'static> {
     Item::Number(Number::Decimal64(Decimal64 { scale, value }))

@@ -1,12 +1,9 @@
 use crate::raw::RawJsonb;
+use crate::tests::documents::{DATE, EMPTY_ARRAY, EMPTY_OBJECT, FLOAT, NULL, NULLS, ONE_ELEMENT};
 use jsonb_doc::{ArrayBuilder, Decimal64, Error, Item, Number, encode_item};
 use std::alloc::{AllocError, Global};
 use std::test::Fail;
 
-// null
-const NULL: &[u8] = b"\x20\0\0\0\0\0\0\0";
-// [1]
-const ONE_ELEMENT: &[u8] = b"\x80\0\0\x01\x20\0\0\x02\x50\x01";
 // [[1],2]
 const ONE_THEN_TWO: &[u8] =
     b"\x80\0\0\x02\x50\0\0\x0a\x20\0\0\x02\x80\0\0\x01\x20\0\0\x02\x50\x01\x50\x02";
@@ -17,17 +14,6 @@ const ONE_AND_TWO: &[u8] =
 const PAIR: &[u8] = b"\x40\0\0\x01\x10\0\0\x01\x10\0\0\x01kv";
 // {"k":null}
 const NULL_PAIR: &[u8] = b"\x40\0\0\x01\x10\0\0\x01\0\0\0\0k";
-// {"a":null,"b":[null]}
-const NULLS: &[u8] =
-    b"\x40\0\0\x02\x10\0\0\x01\x10\0\0\x01\0\0\0\0\x50\0\0\x08ab\x80\0\0\x01\0\0\0\0";
-// the date 1
-const DATE: &[u8] = b"\x20\0\0\0\x60\0\0\x05\x10\0\0\0\x01";
-// a float
-const FLOAT: &[u8] = b"\x20\0\0\0\x20\0\0\x09\x60\x3f\xf8\0\0\0\0\0\0";
-
-const EMPTY_ARRAY: &[u8] = b"\x80\0\0\0";
-
-const EMPTY_OBJECT: &[u8] = b"\x40\0\0\0";
 
 fn decimal(scale: u8, value: i64) -> Number {
     Number::Decimal64(Decimal64 { scale, value })

@@ -1,4 +1,5 @@
 use crate::raw::RawJsonb;
+use crate::tests::documents::{DATE, EMPTY_ARRAY, EMPTY_OBJECT, FLOAT};
 use jsonb_doc::{
     Date, Decimal64, Error, ExtensionValue, Interval, Item, Number, Timestamp, TimestampTz,
     encode_item,
@@ -6,18 +7,10 @@ use jsonb_doc::{
 use std::alloc::Global;
 use std::test::Fail;
 
-// the date 1
-const DATE: &[u8] = b"\x20\0\0\0\x60\0\0\x05\x10\0\0\0\x01";
 // 1 month, 2 days and 3 microseconds
 const INTERVAL: &[u8] = b"\x20\0\0\0\x60\0\0\x11\x40\0\0\0\x01\0\0\0\x02\0\0\0\0\0\0\0\x03";
 // a decimal of 64 bits that is zero
 const DECIMAL_ZERO: &[u8] = b"\x20\0\0\0\x20\0\0\x0a\x70\0\0\0\0\0\0\0\0\x02";
-// a float
-const FLOAT: &[u8] = b"\x20\0\0\0\x20\0\0\x09\x60\x3f\xf8\0\0\0\0\0\0";
-
-const EMPTY_ARRAY: &[u8] = b"\x80\0\0\0";
-
-const EMPTY_OBJECT: &[u8] = b"\x40\0\0\0";
 
 const TIMESTAMP: Timestamp = Timestamp { value: -7 };
 
