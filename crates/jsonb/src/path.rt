@@ -1,8 +1,9 @@
 //! JSON paths as trees.
 //!
 //! A path is a list of steps. `parser` makes one of a text; a caller may also build one by hand.
-//! Each type prints as the text that reads as it, but for what no text can hold: numbers with a
-//! scale, documents as literals, and steps where the grammar has none.
+//! A path that was read prints as a text that reads as it, but for the variant of a whole number. Of a
+//! path that was built by hand nothing is promised: no text holds a number with a scale, a document as a
+//! literal, an empty name, or a step where the grammar has none.
 
 use jsonb_doc::Number;
 use jsonb_raw::RawJsonb;
@@ -18,6 +19,7 @@ mod position;
 /// A JSON path: the steps that a selection takes one after the other, from the root on.
 #[derive(PartialEq, Drop)]
 pub struct JsonPath<'a> {
+    /// The steps, the first one first.
     pub paths: Vec<Path<'a>>,
 }
 
@@ -43,9 +45,9 @@ impl JsonPath<'_> {
 #[cycle(path)]
 #[derive(PartialEq, Drop)]
 pub enum Path<'a> {
-    /// `$`: the root of the document.
+    /// `$`: the root of the document. As a later step it leaves the list as it is.
     Root,
-    /// `@`: the item that a filter looks at.
+    /// `@`: the item that a filter looks at. As a later step it leaves the list as it is.
     Current,
     /// `.*`: the values of an object.
     DotWildcard,
@@ -122,6 +124,7 @@ pub enum RecursiveLevelEnd {
 /// the step begins at has level 0, and its children have level 1.
 #[derive(Clone, Copy, Debug, PartialEq)]
 pub struct RecursiveLevel {
+    /// The first level that is taken.
     pub start: u8,
     /// None for the start alone.
     pub end: Option<RecursiveLevelEnd>,
@@ -133,9 +136,11 @@ pub struct RecursiveLevel {
 /// document equals none, not even itself: there is no `Eq`.
 #[derive(Drop)]
 pub enum PathValue<'a> {
+    /// `null`.
     Null,
+    /// `true` or `false`.
     Boolean(bool),
-    /// No text has a number with a scale.
+    /// A number. No text has one with a scale.
     Number(Number),
     /// `"a text"`.
     String(CowStr<'a, Global>),
@@ -191,6 +196,7 @@ pub enum UnaryOperator {
 pub enum Expr<'a> {
     /// A path that begins at `$` or `@`.
     Paths(Vec<Path<'a>>),
+    /// A literal.
     Value(Box<PathValue<'a>>),
     /// A comparison, arithmetic, or two conditions joined by `&&` or `||`.
     BinaryOp {
@@ -198,6 +204,7 @@ pub enum Expr<'a> {
         left: Box<Expr<'a>>,
         right: Box<Expr<'a>>,
     },
+    /// A sign in front of an operand.
     UnaryOp {
         op: UnaryOperator,
         operand: Box<Expr<'a>>,

@@ -249,7 +249,8 @@ fn push_interval(out: &mut Vec<u8>, months: i32, days: i32, micros: i64) -> Resu
     push_i64(out, micros)
 }
 
-/// Puts the payload of an extension value at the end.
+/// Puts the payload of an extension value at the end. Where memory is refused, `out` may have a part of it behind
+/// what it held.
 pub fn push_extension_payload(
     out: &mut Vec<u8>,
     value: &ExtensionValue<'_>,

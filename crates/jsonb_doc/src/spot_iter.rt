@@ -2,7 +2,8 @@ use crate::error::Error;
 use crate::lengths::split_entry_word;
 use crate::spot::Spot;
 
-/// The spots of a container's children that are left, in stored order. It ends after the first one that has no place.
+/// The spots of a container's children that are left, in stored order. It ends behind one that has no
+/// place, which is `InvalidJsonb`.
 #[derive(Clone, Copy)]
 pub struct SpotIter<'a> {
     words: &'a [u8],

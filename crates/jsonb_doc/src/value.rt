@@ -20,16 +20,25 @@ pub use decode::to_value;
 /// their fields.
 #[derive(Drop)]
 pub enum Value<'a> {
+    /// null.
     Null,
+    /// A truth value.
     Bool(bool),
+    /// A text, borrowed from the document or owned.
     String(CowStr<'a, Global>),
+    /// A number.
     Number(Number),
     /// Bytes that JSON itself has no kind for.
     Binary(&'a [u8]),
+    /// A day.
     Date(Date),
+    /// A point in time.
     Timestamp(Timestamp),
+    /// A point in time with a time zone.
     TimestampTz(TimestampTz),
+    /// A length of time.
     Interval(Interval),
+    /// The elements.
     Array(Vec<Value<'a>>),
     /// The members, in the byte order of their keys.
     Object(BTreeMap<String, Value<'a>>),

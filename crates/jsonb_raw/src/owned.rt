@@ -61,7 +61,7 @@ impl OwnedJsonb {
         bytes
     }
 
-    /// The same bytes in memory of their own.
+    /// The same bytes in memory of their own. `OutOfMemory` where memory is refused.
     pub fn clone(&self, alloc: Global) -> Result<OwnedJsonb, Error>
         ensures { Answers result (λ copy. copy ≡ self.now) }
     {

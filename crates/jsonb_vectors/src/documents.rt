@@ -9,7 +9,7 @@ pub struct Document {
     pub digits: &'static str,
 }
 
-/// A scalar of each kind, and a pair.
+/// A truth value, a number, and an object of one pair.
 pub const MIXED_ARRAY: Document = Document {
     value: "[false, 10, {\"k\":\"v\"}]",
     digits: "80000003 30000000 20000002 5000000e 500a 40000001 10000001 10000001 6b 76",
@@ -92,6 +92,7 @@ pub const ONE_PAIR: Document = Document {
     digits: "40000001 10000003 10000003 617364 616466",
 };
 
+/// All of them.
 pub static DOCUMENTS: [Document; 15] = [
     MIXED_ARRAY,
     TENS,

@@ -1,4 +1,4 @@
-//! Documents of every kind, and tests that go over all of them.
+//! Fifteen documents, made by hand from the format, and tests that go over all of them.
 #![tactic(auto)]
 
 mod documents;

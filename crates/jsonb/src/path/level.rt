@@ -9,9 +9,10 @@ use super::{RecursiveLevel, RecursiveLevelEnd};
 impl RecursiveLevel {
     /// Whether an item of this level is taken, and whether its children are looked at.
     ///
-    /// Below the start none is taken. From the start on: with no end the start alone is taken; with
-    /// an end all up to it, and nothing is looked at where the end lies before the start; with
-    /// `Last` all are taken.
+    /// Below the start the item is not taken, and its children are looked at unless the end lies below the
+    /// start. From the start on: with no end the start alone is taken, and no children are looked at; with an
+    /// end the items up to it are taken and their children looked at, and nothing behind it; with `Last` both,
+    /// always.
     pub fn check_recursive_level(&self, level: u8) -> (bool, bool)
         ensures { result ≡ level_answer (levels_view self.now) level }
     {
