@@ -83,7 +83,7 @@ pub total_start : {B C : Type 0} (g : B → List C) (Left : List B → Type 0) (
 total_start g Left Done ts before l d = record { rest = ts; given = before; left = l; done = d; is = sym (ap (behind before) (joined_total g ts)) }
 
 -- parts that are one item each
-joined_singles : {B : Type 0} (ts : List B) → joined (λ t. Ok (t ∷ [])) ts ≡ Ok ts
+pub joined_singles : {B : Type 0} (ts : List B) → joined (λ t. Ok (t ∷ [])) ts ≡ Ok ts
 joined_singles [] = refl
 joined_singles (t ∷ ts) = ap (λ o. with_value o (λ back. Ok (t ∷ back))) (joined_singles ts)
 

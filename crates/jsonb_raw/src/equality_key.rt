@@ -1,13 +1,12 @@
 //! The equality key of a document: a walk over its items that writes kinds, counts and contents.
 
 ghost use Rattle.std.specs.Prelude.{◌≡◌, ◌++◌, ◌∷◌, length, IfErr};
-ghost use Rattle.std.specs.Int.{w32, w64, to_be_bytes};
+ghost use Rattle.std.specs.Int.{w32, to_be_bytes};
 ghost use Rattle.jsonb_doc.specs.Tree.{Tree, Trees, Pairs};
 ghost use Rattle.jsonb_doc.specs.View.{number_view, extension_view};
-ghost use Rattle.jsonb_doc.specs.Payload.{extension_payload};
 ghost use Rattle.jsonb_raw.specs.EqualityKey.{equality_key};
 ghost use Rattle.jsonb_raw.specs.SortableKey.{text_bytes};
-ghost use Rattle.jsonb_doc.specs.Payload.{Form};
+ghost use Rattle.jsonb_doc.specs.Payload.{Form, extension_payload};
 ghost use Rattle.jsonb_doc.specs.Format.{Decodes};
 ghost use Rattle.jsonb_doc.specs.Item.{Stands};
 ghost use Rattle.jsonb_doc.specs.Answer.{Answers};
@@ -15,9 +14,7 @@ ghost use Rattle.jsonb_raw.specs.Documents.{IsReadingError};
 
 use crate::key_bytes::{push_number, push_text};
 use crate::key_kind;
-use jsonb_doc::{
-    Error, ExtensionValue, Item, Number, elements, pairs, push_extension_payload, root_item,
-};
+use jsonb_doc::{Error, ExtensionValue, Item, Number, elements, pairs, push_extension_payload};
 use std::alloc::Global;
 
 /// Appends a kind and a count in four bytes, the highest first.
@@ -66,7 +63,7 @@ fn push_string(out: &mut Vec<u8>, text: &[u8]) -> Result<(), Error>
 }
 
 /// Appends the key of a number.
-fn push_decimal(out: &mut Vec<u8>, number: &Number) -> Result<(), Error>
+fn push_number_key(out: &mut Vec<u8>, number: &Number) -> Result<(), Error>
     ensures { Answers result
         (λ _. out.new.items ≡ out.old.items ++ equality_key (Tree.number (number_view number.now))) }
 {
@@ -89,7 +86,7 @@ fn push_item(out: &mut Vec<u8>, item: &Item<'_>) -> Result<(), Error>
         } else {
             key_kind::FALSE
         })?,
-        Item::Number(number) => push_decimal(out, number)?,
+        Item::Number(number) => push_number_key(out, number)?,
         Item::String(text) => push_string(out, text.as_bytes())?,
         Item::Extension(value) => push_extension(out, value)?,
         Item::Array(bytes) => push_array(out, bytes)?,

@@ -1,7 +1,6 @@
 //! The sortable key of a document: a walk over its items that writes each behind its depth and its kind.
 
 ghost use Rattle.std.specs.Prelude.{◌≡◌, ◌<◌, ◌+◌, ◌++◌, [], suc, IfErr};
-ghost use Rattle.std.specs.Int.{w8, w16};
 ghost use Rattle.jsonb_doc.specs.Tree.{Tree, Trees, Pairs};
 ghost use Rattle.jsonb_doc.specs.Payload.{Form};
 ghost use Rattle.jsonb_doc.specs.Format.{Decodes};

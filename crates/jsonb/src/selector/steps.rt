@@ -72,7 +72,6 @@ fn step_item<'a>(
         → Gives (λ found ts. AllRelated (IsAt document.entry) (found_spots found) ts) WantsMemory result (step_meaning mode (step_view step.now) top t) }
 {
     match step {
-        Path::Root | Path::Current => Ok(Found::One(item)),
         Path::DotField(name) => field(alloc, document.bytes, mode, name.as_str(), item),
         Path::ColonField(name) => field(alloc, document.bytes, mode, name.as_str(), item),
         Path::ObjectField(name) => field(alloc, document.bytes, mode, name.as_str(), item),
@@ -88,7 +87,7 @@ fn step_item<'a>(
     }
 }
 
-/// One step of each item of a list, in order.
+/// One step of each item of a list, in order. `$` and `@` leave the list as it is.
 #[cycle(steps)]
 pub(crate) fn step_list<'a>(
     alloc: Global,
@@ -100,9 +99,12 @@ pub(crate) fn step_list<'a>(
     ensures { (top : Tree) (ts : List Tree) → HasTree document.entry top → AllRelated (IsAt document.entry) (found_spots items) ts
         → Gives (λ found us. AllRelated (IsAt document.entry) (found_spots found) us) WantsMemory result (joined (step_meaning mode (step_view step.now) top) ts) }
 {
-    match items {
-        Found::One(item) => step_item(alloc, mode, step, document, item),
-        Found::Many(items) => step_many(alloc, mode, step, document, &items),
+    match step {
+        Path::Root | Path::Current => Ok(items),
+        _ => match items {
+            Found::One(item) => step_item(alloc, mode, step, document, item),
+            Found::Many(items) => step_many(alloc, mode, step, document, &items),
+        },
     }
 }
 
@@ -154,6 +156,22 @@ fn first_item(steps: &[Path<'_>], document: Document<'_>, item: Spot) -> Spot
     }
 }
 
+/// What a path within an expression gives of an item.
+#[cycle(steps)]
+fn path_items<'a>(
+    alloc: Global,
+    mode: Mode,
+    steps: &'a [Path<'_>],
+    document: Document<'a>,
+    item: Spot,
+) -> Result<Found, Error>
+    ensures { (top t : Tree) → HasTree document.entry top → IsAt document.entry item t
+        → Gives (λ found us. AllRelated (IsAt document.entry) (found_spots found) us) WantsMemory result (steps_meaning mode (steps_of (steps_view steps.now)) top (start (steps_of (steps_view steps.now)) top t ∷ [])) }
+{
+    let first = first_item(steps, document, item);
+    select_steps(alloc, mode, steps, document, first)
+}
+
 /// Whether a filter keeps an item.
 #[cycle(steps)]
 pub(crate) fn is_kept<'a>(
@@ -202,19 +220,13 @@ pub(crate) fn truth<'a>(
             | BinaryOperator::Divide
             | BinaryOperator::Modulo => Ok(None),
             _ => {
-                let ls = operand_values(alloc, mode, left, document, item)?;
-                let rs = operand_values(alloc, mode, right, document, item)?;
-                Ok(compare(*op, ls.as_slice(), rs.as_slice()))
+                let lefts = operand_values(alloc, mode, left, document, item)?;
+                let rights = operand_values(alloc, mode, right, document, item)?;
+                Ok(compare(*op, lefts.as_slice(), rights.as_slice()))
             }
         },
         Expr::ExistsFunc(steps) => {
-            let found = select_steps(
-                alloc,
-                mode,
-                steps,
-                document,
-                first_item(steps, document, item),
-            )?;
+            let found = path_items(alloc, mode, steps, document, item)?;
             Ok(Some(!found.as_slice().is_empty()))
         }
         Expr::Paths(_) | Expr::Value(_) | Expr::UnaryOp { .. } => Err(Error::InvalidJsonPath),
@@ -235,13 +247,7 @@ pub(crate) fn operand_values<'a>(
 {
     match e {
         Expr::Paths(steps) => {
-            let found = select_steps(
-                alloc,
-                mode,
-                steps,
-                document,
-                first_item(steps, document, item),
-            )?;
+            let found = path_items(alloc, mode, steps, document, item)?;
             found_values(alloc, document.bytes, found)
         }
         Expr::Value(literal) => Ok(Values::One(literal_operand(literal))),

@@ -214,9 +214,9 @@ fn whole_binary<'a>(
     ensures { (top : Tree) (o : Operation) → HasTree document.entry top → operation (operator_view op) ≡ Some o
         → Gives IsNumberTree WantsMemory result (calculation o (operand_values mode (expression_view left.now) top top) (operand_values mode (expression_view right.now) top top)) }
 {
-    let ls = operand_values(alloc, mode, left, document, document.root)?;
-    let rs = operand_values(alloc, mode, right, document, document.root)?;
-    binary_number(op, ls.as_slice(), rs.as_slice())
+    let lefts = operand_values(alloc, mode, left, document, document.root)?;
+    let rights = operand_values(alloc, mode, right, document, document.root)?;
+    binary_number(op, lefts.as_slice(), rights.as_slice())
 }
 
 // A comparison, `&&`, `||` or `exists`: its truth.

@@ -2,7 +2,7 @@
 //!
 //! On bytes that don't decode each call returns; which answer or refusal it gives is not fixed.
 
-ghost use Rattle.std.specs.Prelude.{◌≡◌, ◌≤◌, ℕ, [], ◌∷◌, IfErr, IsOkAnd};
+ghost use Rattle.std.specs.Prelude.{◌≡◌, [], ◌∷◌, IfErr, IsOkAnd};
 ghost use Rattle.std.specs.List.{insert};
 ghost use Rattle.jsonb_doc.specs.Tree.{Tree, Trees, array, elements as element_list, trees_of};
 ghost use Rattle.jsonb_doc.specs.Payload.{Form};

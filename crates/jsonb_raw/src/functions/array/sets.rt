@@ -117,7 +117,7 @@ fn kept_item(
 }
 
 /// The same of a document, where a root that is no array counts as one element.
-fn kept_members(
+fn kept_of_document(
     alloc: Global,
     kind: Kept,
     counts: KeyCounts,
@@ -159,7 +159,7 @@ fn count_item(alloc: Global, item: &Item<'_>) -> Result<KeyCounts, Error>
 }
 
 /// Counts the keys of a document's elements, where a root that is no array counts as one.
-fn count_members(alloc: Global, bytes: &[u8]) -> Result<KeyCounts, Error>
+fn count_document(alloc: Global, bytes: &[u8]) -> Result<KeyCounts, Error>
     ensures counts { (form : Form) (t : Tree) → Decodes form bytes.now t
         → Answers result (λ m. CountsKeys m (as_elements t)) }
     ensures fit { (form : Form) (t : Tree) → Decodes form bytes.now t → AllByRecursion Fits (as_elements t) }
@@ -186,7 +186,7 @@ fn has_element(found: ElementIter<'_>, item: &Item<'_>) -> Result<bool, Error>
 }
 
 /// Whether an element of the document equals the item by value, where a root that is no array counts as one.
-fn has_member(bytes: &[u8], item: &Item<'_>) -> Result<bool, Error>
+fn document_has(bytes: &[u8], item: &Item<'_>) -> Result<bool, Error>
     ensures has { (form other_form : Form) (t u : Tree) → Decodes form bytes.now u
         → Stands other_form item.now t → IsOkAnd result (λ b. b ≡ list_any (is_equal t) (as_elements u)) }
     ensures errors { IfErr result IsDecodingError }
@@ -204,7 +204,7 @@ fn elements_overlap(found: ElementIter<'_>, other: &[u8]) -> Result<bool, Error>
     ensures errors { IfErr result IsDecodingError }
 {
     for element in found {
-        if has_member(other, &element?)? {
+        if document_has(other, &element?)? {
             return Ok(true);
         }
     }
@@ -212,14 +212,14 @@ fn elements_overlap(found: ElementIter<'_>, other: &[u8]) -> Result<bool, Error>
 }
 
 /// The same of a document, where a root that is no array counts as one element.
-fn members_overlap(bytes: &[u8], other: &[u8]) -> Result<bool, Error>
+fn documents_overlap(bytes: &[u8], other: &[u8]) -> Result<bool, Error>
     ensures overlap { (form other_form : Form) (t u : Tree) → Decodes form bytes.now t
         → Decodes other_form other.now u → IsOkAnd result (λ b. b ≡ overlap (as_elements t) (as_elements u)) }
     ensures errors { IfErr result IsDecodingError }
 {
     match elements(bytes)? {
         Some(found) => elements_overlap(found, other),
-        None => has_member(other, &root_item(bytes)?),
+        None => document_has(other, &root_item(bytes)?),
     }
 }
 
@@ -234,7 +234,7 @@ impl RawJsonb<'_> {
             → Makes form (array (trees_of (distinct (as_elements t)))) result }
         ensures errors { IfErr result IsMakingError }
     {
-        kept_members(alloc, Kept::First, KeyCounts::new(alloc), self.as_bytes())
+        kept_of_document(alloc, Kept::First, KeyCounts::new(alloc), self.as_bytes())
     }
 
     /// The array of the elements that the other document holds too: an element stays while fewer elements before
@@ -253,8 +253,8 @@ impl RawJsonb<'_> {
             → Makes form (array (trees_of (shared (as_elements t) (as_elements u)))) result }
         ensures errors { IfErr result IsMakingError }
     {
-        let counts = count_members(alloc, other.as_bytes())?;
-        kept_members(alloc, Kept::Shared, counts, self.as_bytes())
+        let counts = count_document(alloc, other.as_bytes())?;
+        kept_of_document(alloc, Kept::Shared, counts, self.as_bytes())
     }
 
     /// The array of the elements that `array_intersection` drops, in order.
@@ -267,8 +267,8 @@ impl RawJsonb<'_> {
             → Makes form (array (trees_of (unshared (as_elements t) (as_elements u)))) result }
         ensures errors { IfErr result IsMakingError }
     {
-        let counts = count_members(alloc, other.as_bytes())?;
-        kept_members(alloc, Kept::Unshared, counts, self.as_bytes())
+        let counts = count_document(alloc, other.as_bytes())?;
+        kept_of_document(alloc, Kept::Unshared, counts, self.as_bytes())
     }
 
     /// Whether an element equals one of the other document by value, where a document that is no array counts as
@@ -281,6 +281,6 @@ impl RawJsonb<'_> {
             → IsOkAnd result (λ b. b ≡ overlap (as_elements t) (as_elements u)) }
         ensures errors { IfErr result IsDecodingError }
     {
-        members_overlap(self.as_bytes(), other.as_bytes())
+        documents_overlap(self.as_bytes(), other.as_bytes())
     }
 }

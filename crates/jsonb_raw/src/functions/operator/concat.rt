@@ -1,6 +1,6 @@
 //! Two documents put together.
 
-ghost use Rattle.std.specs.Prelude.{◌++◌, ℕ, List, IfErr};
+ghost use Rattle.std.specs.Prelude.{◌++◌, List, IfErr};
 ghost use Rattle.jsonb_doc.specs.Tree.{Tree, Trees, Pairs, array, object, elements, trees_of, members, pairs_of};
 ghost use Rattle.jsonb_doc.specs.Payload.{Form};
 ghost use Rattle.jsonb_doc.specs.Format.{Decodes};

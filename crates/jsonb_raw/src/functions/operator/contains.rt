@@ -1,6 +1,6 @@
 //! Whether a document contains another.
 
-ghost use Rattle.std.specs.Prelude.{◌≡◌, ℕ, List, IsOkAnd, IfErr};
+ghost use Rattle.std.specs.Prelude.{◌≡◌, IsOkAnd, IfErr};
 ghost use Rattle.std.specs.List.{list_any};
 ghost use Rattle.jsonb_doc.specs.Tree.{Tree, Trees, Pairs, array, object, elements, members};
 ghost use Rattle.jsonb_doc.specs.Payload.{Form};

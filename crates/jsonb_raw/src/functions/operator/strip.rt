@@ -97,14 +97,14 @@ fn stripped_object(alloc: Global, bytes: &[u8]) -> Result<Vec<u8>, Error>
         if let Item::Null = value {
             continue;
         }
-        no_repeat(push_pair(alloc, &mut builder, key, &value))?;
+        no_repeat(push_stripped_pair(alloc, &mut builder, key, &value))?;
     }
     builder.build()
 }
 
 /// Adds a pair, its value stripped, to an object.
 #[cycle(strip)]
-fn push_pair(
+fn push_stripped_pair(
     alloc: Global,
     builder: &mut ObjectBuilder,
     key: &str,

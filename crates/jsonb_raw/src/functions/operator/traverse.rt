@@ -54,7 +54,7 @@ fn array_tells<F: Fn(&[u8]) -> bool>(bytes: &[u8], func: &F) -> Result<bool, Err
     ensures errors { IfErr result IsDecodingError }
 {
     let Some(found) = elements(bytes)? else {
-        return Ok(false);
+        return Err(Error::InvalidJsonb);
     };
     for item in found {
         if item_tells(&item?, func)? {
@@ -73,7 +73,7 @@ fn object_tells<F: Fn(&[u8]) -> bool>(bytes: &[u8], func: &F) -> Result<bool, Er
     ensures errors { IfErr result IsDecodingError }
 {
     let Some(found) = pairs(bytes)? else {
-        return Ok(false);
+        return Err(Error::InvalidJsonb);
     };
     for pair in found {
         let (key, value) = pair?;

@@ -1,6 +1,6 @@
 //! The leaves of a document, with their key paths.
 
-ghost use Rattle.std.specs.Prelude.{◌≡◌, ◌++◌, [], ◌∷◌, IsOkAnd, IfOk, IfErr};
+ghost use Rattle.std.specs.Prelude.{◌≡◌, [], ◌∷◌, IsOkAnd, IfOk, IfErr};
 ghost use Rattle.jsonb_doc.specs.Tree.{Tree, Trees, Pairs, array, object};
 ghost use Rattle.jsonb_doc.specs.Payload.{Form};
 ghost use Rattle.jsonb_doc.specs.Format.{Decodes};

@@ -13,7 +13,7 @@ use Rattle.jsonb.specs.Selection.{IsAt, found_spots}
 use Rattle.jsonb.specs.ItemSteps.{field_step, indices_step}
 use Rattle.jsonb.specs.Meaning.{step_meaning, steps_meaning, truth, operand_values, kept, is_some_item}
 use Rattle.jsonb.proofs.Outcomes.{same_outcome, same_answer, refused_as, pushed, one_ok, both_ok, first_refused, second_refused, followed, given_by, continued, some_related}
-use Rattle.jsonb.proofs.Progress.{no_spot, one_more, refused_in, at_end, list_first, list_end}
+use Rattle.jsonb.proofs.Progress.{no_spot, one_more, refused_in, at_end, list_first, list_end, joined_singles}
 use Rattle.jsonb.proofs.PathNodes.{root_is, current_is, values_is, elements_is, levels_is, dot_field_is, colon_field_is, object_field_is, indices_is, filter_is, paths_is, binary_is, exists_is}
 use Rattle.jsonb.proofs.StepLemmas.{joined_one, only_one, kept_known, kept_unknown, kept_found, steps_at, from_start, compared_is}
 use Rattle.jsonb.proofs.selector.steps.+steps.Goals as goal
@@ -105,15 +105,23 @@ step_item-returns-in_ok-push_step-in_default t c = λ top u r s. record {
 
 -- ---- one step of a list
 
-pub step_list-returns-in-One : goal.step_list-returns-in-One
-step_list-returns-in-One t c = λ top ts r a.
-    let one = only_one (IsAt c.args.document) c.in-One.item ts (subst (λ f. AllRelated (IsAt c.args.document) (found_spots f) ts) c.in-One.is a) in
+pub step_list-returns-in-Root : goal.step_list-returns-in-Root
+step_list-returns-in-Root t c = λ top ts r a.
+    let kept = record { ok = a; err = tt } in
+    elim c.in-Root.is [
+      | inl is ↦ same_outcome (ap (λ x. joined (step_meaning c.args.mode x top) ts) (root_is c.args.step.now is) ∙ joined_singles ts) kept
+      | inr is ↦ same_outcome (ap (λ x. joined (step_meaning c.args.mode x top) ts) (current_is c.args.step.now is) ∙ joined_singles ts) kept
+    ]
+
+pub step_list-returns-in-One-in_default : goal.step_list-returns-in-One-in_default
+step_list-returns-in-One-in_default t c = λ top ts r a.
+    let one = only_one (IsAt c.args.document) c.in-One-in_default.item ts (subst (λ f. AllRelated (IsAt c.args.document) (found_spots f) ts) c.in-One-in_default.is a) in
     same_outcome (ap (joined (step_meaning c.args.mode (step_view c.args.step.now) top)) one.1 ∙ joined_one (step_meaning c.args.mode (step_view c.args.step.now) top) one.0) (c.step_item.ensures top one.0 r one.2)
 
-pub step_list-returns-in-Many : goal.step_list-returns-in-Many
-step_list-returns-in-Many t c = λ top ts r a.
+pub step_list-returns-in-Many-in_default : goal.step_list-returns-in-Many-in_default
+step_list-returns-in-Many-in_default t c = λ top ts r a.
     c.step_many.ensures top ts r
-    (subst (λ l. AllRelated (IsAt c.args.document) l ts) (sym c.deref.ensures.value) (subst (λ f. AllRelated (IsAt c.args.document) (found_spots f) ts) c.in-Many.is a))
+    (subst (λ l. AllRelated (IsAt c.args.document) l ts) (sym c.deref.ensures.value) (subst (λ f. AllRelated (IsAt c.args.document) (found_spots f) ts) c.in-Many-in_default.is a))
 
 pub step_many-returns-in_err-push_step : goal.step_many-returns-in_err-push_step
 step_many-returns-in_err-push_step t c = λ top ts r a.
@@ -164,6 +172,9 @@ select_steps-returns t c = λ top u r s.
     let none = inv.2 ∙ ap (λ l. steps_meaning c.args.mode (steps_of (steps_view l)) top inv.0) (drop_of_length-le c.args.steps.now c.loop-step-test.false) in
     record { ok = subst (λ o. IsOkAnd o (AllRelated (IsAt c.args.document) (found_spots c.loop-step.items))) (sym none) inv.1; err = tt }
 
+pub path_items-returns : goal.path_items-returns
+path_items-returns t c = λ top u r s. c.select_steps.ensures top _ r (c.first_item.ensures top u r s)
+
 -- ---- filters
 
 pub is_kept-returns-in-Some : goal.is_kept-returns-in-Some
@@ -179,41 +190,41 @@ is_kept-returns-in-None t c = λ top u r s.
 pub operand_values-returns-in_err-found-in-Paths : goal.operand_values-returns-in_err-found-in-Paths
 operand_values-returns-in_err-found-in-Paths t c = λ top u r s. let p = err_from_is_err_and c.from_residual.result c.from_residual.ensures.1 in
     same_answer (p.1 ∙ ap Err p.2) (same_outcome (ap (λ x. operand_values c.args.mode x top u) (paths_is c.args.e.now c.in-Paths.steps c.in-Paths.is)
-    ∙ ap (λ o. with_value o (λ ts. Ok (flat_map values_of_item ts))) (from_start c.args.mode _ _ _ top u c.deref.ensures.value c.deref-in-Paths.ensures.value))
-    (first_refused (λ ts. Ok (flat_map values_of_item ts)) (c.in_err-found-in-Paths.ensures top _ r (c.first_item.ensures top u r s))))
+    ∙ ap (λ o. with_value o (λ ts. Ok (flat_map values_of_item ts))) (from_start c.args.mode _ _ _ top u c.deref.ensures.value c.deref.ensures.value))
+    (first_refused (λ ts. Ok (flat_map values_of_item ts)) (c.in_err-found-in-Paths.ensures top u r s)))
 
 pub operand_values-returns-in_ok-found-in-Paths : goal.operand_values-returns-in_ok-found-in-Paths
 operand_values-returns-in_ok-found-in-Paths t c = λ top u r s.
     same_outcome (ap (λ x. operand_values c.args.mode x top u) (paths_is c.args.e.now c.in-Paths.steps c.in-Paths.is)
-    ∙ ap (λ o. with_value o (λ ts. Ok (flat_map values_of_item ts))) (from_start c.args.mode _ _ _ top u c.deref.ensures.value c.deref-in-Paths.ensures.value))
-    (followed (λ ts. Ok (flat_map values_of_item ts)) (c.in_ok-found-in-Paths.ensures top _ r (c.first_item.ensures top u r s)) (λ ts related. c.found_values.ensures ts related))
+    ∙ ap (λ o. with_value o (λ ts. Ok (flat_map values_of_item ts))) (from_start c.args.mode _ _ _ top u c.deref.ensures.value c.deref.ensures.value))
+    (followed (λ ts. Ok (flat_map values_of_item ts)) (c.in_ok-found-in-Paths.ensures top u r s) (λ ts related. c.found_values.ensures ts related))
 
 -- ---- truths
 
 pub truth-returns-in_err-found-in-ExistsFunc : goal.truth-returns-in_err-found-in-ExistsFunc
 truth-returns-in_err-found-in-ExistsFunc t c = λ top u r s. let p = err_from_is_err_and c.from_residual-in_err-found-in-ExistsFunc.result c.from_residual-in_err-found-in-ExistsFunc.ensures.1 in
     same_answer (p.1 ∙ ap Err p.2) (same_outcome (ap (λ x. truth c.args.mode x top u) (exists_is c.args.e.now c.in-ExistsFunc.steps c.in-ExistsFunc.is)
-    ∙ ap (λ o. with_value o (λ ts. Ok (Some (is_some_item ts)))) (from_start c.args.mode _ _ _ top u c.deref-in-ExistsFunc.ensures.value c.deref-in-ExistsFunc-2.ensures.value))
-    (first_refused (λ ts. Ok (Some (is_some_item ts))) (c.in_err-found-in-ExistsFunc.ensures top _ r (c.first_item.ensures top u r s))))
+    ∙ ap (λ o. with_value o (λ ts. Ok (Some (is_some_item ts)))) (from_start c.args.mode _ _ _ top u c.deref-in-ExistsFunc.ensures.value c.deref-in-ExistsFunc.ensures.value))
+    (first_refused (λ ts. Ok (Some (is_some_item ts))) (c.in_err-found-in-ExistsFunc.ensures top u r s)))
 
 pub truth-returns-in_ok-found-in-ExistsFunc : goal.truth-returns-in_ok-found-in-ExistsFunc
 truth-returns-in_ok-found-in-ExistsFunc t c = λ top u r s.
     same_outcome (ap (λ x. truth c.args.mode x top u) (exists_is c.args.e.now c.in-ExistsFunc.steps c.in-ExistsFunc.is)
-    ∙ ap (λ o. with_value o (λ ts. Ok (Some (is_some_item ts)))) (from_start c.args.mode _ _ _ top u c.deref-in-ExistsFunc.ensures.value c.deref-in-ExistsFunc-2.ensures.value))
-    (one_ok (λ ts. Ok (Some (is_some_item ts))) (c.in_ok-found-in-ExistsFunc.ensures top _ r (c.first_item.ensures top u r s)) (λ ts related.
+    ∙ ap (λ o. with_value o (λ ts. Ok (Some (is_some_item ts)))) (from_start c.args.mode _ _ _ top u c.deref-in-ExistsFunc.ensures.value c.deref-in-ExistsFunc.ensures.value))
+    (one_ok (λ ts. Ok (Some (is_some_item ts))) (c.in_ok-found-in-ExistsFunc.ensures top u r s) (λ ts related.
     ap Some (ap not c.is_empty.ensures ∙ ap (λ l. not (length l == 0)) c.as_slice-in-ExistsFunc.ensures ∙ some_related (IsAt c.args.document) _ ts related)))
 
-pub truth-returns-in_err-rs-in_default : goal.truth-returns-in_err-rs-in_default
-truth-returns-in_err-rs-in_default t c = λ top u r s. let p = err_from_is_err_and c.from_residual-in_err-rs-in_default.result c.from_residual-in_err-rs-in_default.ensures.1 in
+pub truth-returns-in_err-rights-in_default : goal.truth-returns-in_err-rights-in_default
+truth-returns-in_err-rights-in_default t c = λ top u r s. let p = err_from_is_err_and c.from_residual-in_err-rights-in_default.result c.from_residual-in_err-rights-in_default.ensures.1 in
     same_answer (p.1 ∙ ap Err p.2) (same_outcome (compared_is c.args.mode c.args.e.now c.in-BinaryOp.op c.in-BinaryOp.left c.in-BinaryOp.right top u _ _ c.in-BinaryOp.is c.deref-in_default.ensures c.deref-in_default-2.ensures
     c.in_default.not-And c.in_default.not-Or c.in_default.not-Add c.in_default.not-Subtract c.in_default.not-Multiply c.in_default.not-Divide c.in_default.not-Modulo)
-    (second_refused (λ ls rs. Ok (compare (operator_view c.in-BinaryOp.op) ls rs)) (c.in_ok-ls-in_default.ensures top u r s) (c.in_err-rs-in_default.ensures top u r s)))
+    (second_refused (λ ls rs. Ok (compare (operator_view c.in-BinaryOp.op) ls rs)) (c.in_ok-lefts-in_default.ensures top u r s) (c.in_err-rights-in_default.ensures top u r s)))
 
-pub truth-returns-in_ok-rs-in_default : goal.truth-returns-in_ok-rs-in_default
-truth-returns-in_ok-rs-in_default t c = λ top u r s.
+pub truth-returns-in_ok-rights-in_default : goal.truth-returns-in_ok-rights-in_default
+truth-returns-in_ok-rights-in_default t c = λ top u r s.
     same_outcome (compared_is c.args.mode c.args.e.now c.in-BinaryOp.op c.in-BinaryOp.left c.in-BinaryOp.right top u _ _ c.in-BinaryOp.is c.deref-in_default.ensures c.deref-in_default-2.ensures
     c.in_default.not-And c.in_default.not-Or c.in_default.not-Add c.in_default.not-Subtract c.in_default.not-Multiply c.in_default.not-Divide c.in_default.not-Modulo)
-    (both_ok (λ ls rs. Ok (compare (operator_view c.in-BinaryOp.op) ls rs)) (c.in_ok-ls-in_default.ensures top u r s) (c.in_ok-rs-in_default.ensures top u r s)
+    (both_ok (λ ls rs. Ok (compare (operator_view c.in-BinaryOp.op) ls rs)) (c.in_ok-lefts-in_default.ensures top u r s) (c.in_ok-rights-in_default.ensures top u r s)
     (λ ls rs p q. c.compare.ensures ∙ (λ i. compare (operator_view c.in-BinaryOp.op) (c.as_slice.ensures i) (c.as_slice-in_default.ensures i)) ∙ (λ i. compare (operator_view c.in-BinaryOp.op) (p i) (q i))))
 
 pub truth-returns-in_ok-b-in-And : goal.truth-returns-in_ok-b-in-And

@@ -6,5 +6,5 @@ use Rattle.jsonb.proofs.selector.whole.whole_binary.Goals as goal
 
 pub returns : goal.returns
 returns c = λ top o r h.
-    followed _ (c.in_ok-ls.ensures top top r r) (λ ls p. followed (two_numbers o ls) (c.in_ok-rs.ensures top top r r) (λ rs q.
+    followed _ (c.in_ok-lefts.ensures top top r r) (λ ls p. followed (two_numbers o ls) (c.in_ok-rights.ensures top top r r) (λ rs q.
     same_outcome (λ i. two_numbers o ((sym p ∙ sym c.as_slice.ensures) i) ((sym q ∙ sym c.as_slice-2.ensures) i)) (without_memory (c.binary_number.ensures o h))))

@@ -9,16 +9,16 @@ pub returns-in_err-element-clause-overlap : goal.returns-in_err-element-clause-o
 returns-in_err-element-clause-overlap c = λ form other_form ts u l d.
     SomeElements-error form _ _ _ _ _ c.in_err-element.was c.in-Some.ensures.steps (c.loop-element.invariant.left form other_form ts u l d)
 
-pub returns-in_err-has_member-clause-overlap : goal.returns-in_err-has_member-clause-overlap
-returns-in_err-has_member-clause-overlap c = λ form other_form ts u l d.
+pub returns-in_err-document_has-clause-overlap : goal.returns-in_err-document_has-clause-overlap
+returns-in_err-document_has-clause-overlap c = λ form other_form ts u l d.
     SomeElements-first form _ _ _ _ _ c.in_ok-element.was c.in-Some.ensures.steps (c.loop-element.invariant.left form other_form ts u l d)
-    (λ first rest left stands fact. absurd (c.in_err-has_member.ensures.has other_form form first u d stands))
+    (λ first rest left stands fact. absurd (c.in_err-document_has.ensures.has other_form form first u d stands))
 
 pub returns-then-branch-clause-overlap : goal.returns-then-branch-clause-overlap
 returns-then-branch-clause-overlap c = λ form other_form ts u l d.
     SomeElements-first form _ _ _ _ _ c.in_ok-element.was c.in-Some.ensures.steps (c.loop-element.invariant.left form other_form ts u l d)
     (λ first rest left stands fact.
-    let yes : list_any (is_equal first) (as_elements u) ≡ true = sym (c.in_ok-has_member.ensures.has other_form form first u d stands) ∙ c.if-branch.true in
+    let yes : list_any (is_equal first) (as_elements u) ≡ true = sym (c.in_ok-document_has.ensures.has other_form form first u d stands) ∙ c.if-branch.true in
     rw yes at fact)
 
 pub loop-element-preserved : goal.loop-element-preserved
@@ -28,7 +28,7 @@ loop-element-preserved c = record {
   left = λ form other_form ts u l d.
       SomeElements-first form _ _ _ _ _ c.in_ok-element.was c.in-Some.ensures.steps (c.loop-element.invariant.left form other_form ts u l d)
       (λ first rest left stands fact.
-      let no : list_any (is_equal first) (as_elements u) ≡ false = sym (c.in_ok-has_member.ensures.has other_form form first u d stands) ∙ c.if-branch.false in
+      let no : list_any (is_equal first) (as_elements u) ≡ false = sym (c.in_ok-document_has.ensures.has other_form form first u d stands) ∙ c.if-branch.false in
       record { trees = rest; left = left; fact = rw no at fact });
 }
 

@@ -39,25 +39,25 @@ push_element-returns-in_ok-stripped_object-in-Object-clause-pushed t c = λ form
 
 -- ---- one pair
 
-pub push_pair-returns-in_err-stripped_array-in-Array-clause-pushed : goal.push_pair-returns-in_err-stripped_array-in-Array-clause-pushed
-push_pair-returns-in_err-stripped_array-in-Array-clause-pushed t c = λ form ps u holds stands fresh.
+pub push_stripped_pair-returns-in_err-stripped_array-in-Array-clause-pushed : goal.push_stripped_pair-returns-in_err-stripped_array-in-Array-clause-pushed
+push_stripped_pair-returns-in_err-stripped_array-in-Array-clause-pushed t c = λ form ps u holds stands fresh.
     let p = err_from_is_err_and c.from_residual.result c.from_residual.ensures.1 in
     let (us, is, d) = rw c.in-Array.is at stands in
     rw (p.1, p.2, is) (value_refused form c.args.key.now (array (strip_trees us)) ps _ (c.in_err-stripped_array-in-Array.ensures.document form us d))
 
-pub push_pair-returns-in_err-stripped_object-in-Object-clause-pushed : goal.push_pair-returns-in_err-stripped_object-in-Object-clause-pushed
-push_pair-returns-in_err-stripped_object-in-Object-clause-pushed t c = λ form ps u holds stands fresh.
+pub push_stripped_pair-returns-in_err-stripped_object-in-Object-clause-pushed : goal.push_stripped_pair-returns-in_err-stripped_object-in-Object-clause-pushed
+push_stripped_pair-returns-in_err-stripped_object-in-Object-clause-pushed t c = λ form ps u holds stands fresh.
     let p = err_from_is_err_and c.from_residual-in_err-stripped_object-in-Object.result c.from_residual-in_err-stripped_object-in-Object.ensures.1 in
     let (qs, is, d) = rw c.in-Object.is at stands in
     rw (p.1, p.2, is) (value_refused form c.args.key.now (object (strip_pairs qs)) ps _ (c.in_err-stripped_object-in-Object.ensures.document form qs d))
 
-pub push_pair-returns-in_ok-stripped_array-in-Array-clause-pushed : goal.push_pair-returns-in_ok-stripped_array-in-Array-clause-pushed
-push_pair-returns-in_ok-stripped_array-in-Array-clause-pushed t c = λ form ps u holds stands fresh.
+pub push_stripped_pair-returns-in_ok-stripped_array-in-Array-clause-pushed : goal.push_stripped_pair-returns-in_ok-stripped_array-in-Array-clause-pushed
+push_stripped_pair-returns-in_ok-stripped_array-in-Array-clause-pushed t c = λ form ps u holds stands fresh.
     let (us, is, d) = rw c.in-Array.is at stands in
     rw is (c.push_document.ensures.pushed form ps (array (strip_trees us)) holds (rw c.deref.ensures.value (c.in_ok-stripped_array-in-Array.ensures.document form us d)) fresh)
 
-pub push_pair-returns-in_ok-stripped_object-in-Object-clause-pushed : goal.push_pair-returns-in_ok-stripped_object-in-Object-clause-pushed
-push_pair-returns-in_ok-stripped_object-in-Object-clause-pushed t c = λ form ps u holds stands fresh.
+pub push_stripped_pair-returns-in_ok-stripped_object-in-Object-clause-pushed : goal.push_stripped_pair-returns-in_ok-stripped_object-in-Object-clause-pushed
+push_stripped_pair-returns-in_ok-stripped_object-in-Object-clause-pushed t c = λ form ps u holds stands fresh.
     let (qs, is, d) = rw c.in-Object.is at stands in
     rw is (c.push_document-in-Object.ensures.pushed form ps (object (strip_pairs qs)) holds (rw c.deref-in-Object.ensures.value (c.in_ok-stripped_object-in-Object.ensures.document form qs d)) fresh)
 
@@ -156,9 +156,9 @@ stripped_object-loop-pair-preserved t c = record {
       record {
         pairs = rest;
         left = left;
-        fact = rw c.in_ok-no_repeat.was at (kept_answer form (object (pairs_of (members (strip_pairs ps)))) (λ _. HoldsFrontPairs form c.push_pair.new.builder (members (strip_pairs rest)) (members (strip_pairs ps))) c.push_pair.result c.no_repeat.result c.no_repeat.ensures.kept
-            (pair_step form c.loop-pair.builder c.in_ok-key.key.now (strip value) (members (strip_pairs rest)) (members (strip_pairs ps)) h c.push_pair.new.builder c.push_pair.result
-            (λ qs holds fresh. c.push_pair.ensures.pushed form qs value holds stands fresh)));
+        fact = rw c.in_ok-no_repeat.was at (kept_answer form (object (pairs_of (members (strip_pairs ps)))) (λ _. HoldsFrontPairs form c.push_stripped_pair.new.builder (members (strip_pairs rest)) (members (strip_pairs ps))) c.push_stripped_pair.result c.no_repeat.result c.no_repeat.ensures.kept
+            (pair_step form c.loop-pair.builder c.in_ok-key.key.now (strip value) (members (strip_pairs rest)) (members (strip_pairs ps)) h c.push_stripped_pair.new.builder c.push_stripped_pair.result
+            (λ qs holds fresh. c.push_stripped_pair.ensures.pushed form qs value holds stands fresh)));
       });
 }
 
@@ -168,9 +168,9 @@ stripped_object-returns-in_err-no_repeat-clause-document t c = λ form ps d.
     SomePairs-first form _ _ _ _ _ c.in_ok-key.was c.in-Some-pair.ensures.steps (c.loop-pair.invariant.left form ps d)
     (λ value rest left stands fact.
     let h = rw (stands_for_no_null form _ value stands c.in_default-value.not-Null) at fact in
-    rw (p.1, p.2) (rw pairs_of-members at (rw c.in_err-no_repeat.was at (kept_answer form (object (pairs_of (members (strip_pairs ps)))) (λ _. HoldsFrontPairs form c.push_pair.new.builder (members (strip_pairs rest)) (members (strip_pairs ps))) c.push_pair.result c.no_repeat.result c.no_repeat.ensures.kept
-    (pair_step form c.loop-pair.builder c.in_ok-key.key.now (strip value) (members (strip_pairs rest)) (members (strip_pairs ps)) h c.push_pair.new.builder c.push_pair.result
-    (λ qs holds fresh. c.push_pair.ensures.pushed form qs value holds stands fresh))))))
+    rw (p.1, p.2) (rw pairs_of-members at (rw c.in_err-no_repeat.was at (kept_answer form (object (pairs_of (members (strip_pairs ps)))) (λ _. HoldsFrontPairs form c.push_stripped_pair.new.builder (members (strip_pairs rest)) (members (strip_pairs ps))) c.push_stripped_pair.result c.no_repeat.result c.no_repeat.ensures.kept
+    (pair_step form c.loop-pair.builder c.in_ok-key.key.now (strip value) (members (strip_pairs rest)) (members (strip_pairs ps)) h c.push_stripped_pair.new.builder c.push_stripped_pair.result
+    (λ qs holds fresh. c.push_stripped_pair.ensures.pushed form qs value holds stands fresh))))))
 
 pub stripped_object-returns-clause-document : goal.stripped_object-returns-clause-document
 stripped_object-returns-clause-document t c = λ form ps d.

@@ -13,8 +13,8 @@ use Rattle.jsonb_raw.proofs.functions.operator.strip.+strip.Given as goal
 abbrev pub decreases-push_element : goal.decreases-push_element
 decreases-push_element l = 2 * item_size l.item.now + 1
 
-abbrev pub decreases-push_pair : goal.decreases-push_pair
-decreases-push_pair l = 2 * item_size l.value.now + 1
+abbrev pub decreases-push_stripped_pair : goal.decreases-push_stripped_pair
+decreases-push_stripped_pair l = 2 * item_size l.value.now + 1
 
 abbrev pub decreases-stripped_array : goal.decreases-stripped_array
 decreases-stripped_array l = 2 * length l.bytes.now

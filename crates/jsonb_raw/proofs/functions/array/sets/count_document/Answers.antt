@@ -1,7 +1,7 @@
 use Rattle.std.proofs.Common.{arith}
 use Rattle.jsonb_doc.proofs.DecodedFits.{decoded_fits}
 use Rattle.jsonb_raw.proofs.SetKept.{array_found, no_array, members_fit, elements_few}
-use Rattle.jsonb_raw.proofs.functions.array.sets.count_members.Goals as goal
+use Rattle.jsonb_raw.proofs.functions.array.sets.count_document.Goals as goal
 
 pub returns-in-Some-clause-counts : goal.returns-in-Some-clause-counts
 returns-in-Some-clause-counts c = λ form t d.

@@ -1,5 +1,5 @@
 use Rattle.jsonb_raw.proofs.SetKept.{array_found, no_array, or_false}
-use Rattle.jsonb_raw.proofs.functions.array.sets.has_member.Goals as goal
+use Rattle.jsonb_raw.proofs.functions.array.sets.document_has.Goals as goal
 
 pub returns-in-Some-clause-has : goal.returns-in-Some-clause-has
 returns-in-Some-clause-has c = λ form other_form t u d s.

@@ -1,7 +1,7 @@
 use Rattle.std.proofs.Common.{arith}
 use Rattle.jsonb_doc.proofs.DecodedFits.{decoded_fits}
 use Rattle.jsonb_raw.proofs.SetKept.{array_found, no_array, elements_fit, elements_few}
-use Rattle.jsonb_raw.proofs.functions.array.sets.kept_members.Goals as goal
+use Rattle.jsonb_raw.proofs.functions.array.sets.kept_of_document.Goals as goal
 
 pub returns-in-Some-clause-made : goal.returns-in-Some-clause-made
 returns-in-Some-clause-made c = λ form other t d b.

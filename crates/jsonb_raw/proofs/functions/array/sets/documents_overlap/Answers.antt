@@ -1,5 +1,5 @@
 use Rattle.jsonb_raw.proofs.SetKept.{array_found, no_array, or_false}
-use Rattle.jsonb_raw.proofs.functions.array.sets.members_overlap.Goals as goal
+use Rattle.jsonb_raw.proofs.functions.array.sets.documents_overlap.Goals as goal
 
 pub returns-in-Some-clause-overlap : goal.returns-in-Some-clause-overlap
 returns-in-Some-clause-overlap c = λ form other_form t u d e.
@@ -9,4 +9,4 @@ returns-in-Some-clause-overlap c = λ form other_form t u d e.
 pub returns-in_ok-root_item-in-None-clause-overlap : goal.returns-in_ok-root_item-in-None-clause-overlap
 returns-in_ok-root_item-in-None-clause-overlap c = λ form other_form t u d e.
     let one = no_array form t (rw c.in-None.is at (c.in_ok-found.ensures.decodes form t d)) in
-    rw (one, or_false) (c.has_member.ensures.has other_form form t u e (c.in_ok-root_item-in-None.ensures.decodes form t d))
+    rw (one, or_false) (c.document_has.ensures.has other_form form t u e (c.in_ok-root_item-in-None.ensures.decodes form t d))
