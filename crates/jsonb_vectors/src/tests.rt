@@ -1,4 +1,8 @@
 //! Each document is one, and is given back whole.
+
+mod calls;
+mod damage;
+
 use crate::documents::{DOCUMENTS, Document};
 use jsonb_keypath::parse_key_paths;
 use jsonb_raw::RawJsonb;
