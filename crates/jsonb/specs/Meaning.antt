@@ -91,7 +91,7 @@ abbrev pub binary_meaning : Option Operation → Outcome (List Value) → Outcom
 binary_meaning (Some op) left right truth = calculation op left right
 binary_meaning None left right truth = truth_list truth
 
--- an array of one scalar; the list of a document has `Means`
+-- an array of the literal; of a document as a literal `Means` says the list
 abbrev pub literal_list : Option Tree → Outcome (List Tree)
 literal_list (Some t) = Ok (tree.array (tree.trees_of (t ∷ [])) ∷ [])
 literal_list None = Err InvalidJsonPath

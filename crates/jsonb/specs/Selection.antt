@@ -84,10 +84,7 @@ abbrev pub begins_with_current : List Step → Bool
 begins_with_current (current ∷ rest) = true
 begins_with_current _ = false
 
--- the number of a tree that a number of the code is
-abbrev pub IsNumber : CodeNumber → Number → Type 0
-IsNumber m n = number_view m ≡ n
-
+-- the list of a number of the code
 abbrev pub IsNumberTree : CodeNumber → List Tree → Type 0
 IsNumberTree m ts = number (number_view m) ∷ [] ≡ ts
 
