@@ -21,22 +21,14 @@ impl ArrayIndex {
         ensures { Answers result (λ found. (k : ℕ) →
             IsTrue (contains nat_eq found k) ↔ IsPosition (entry_view self.now) length k) }
     {
-        match self {
-            ArrayIndex::Index(index) => {
-                let at = index.position(length);
-                positions_between(alloc, at, at, length)
-            }
-            ArrayIndex::Slice((first, last)) => positions_between(
-                alloc,
-                first.position(length),
-                last.position(length),
-                length,
-            ),
+        let (start, end) = self.bounds(length);
+        let mut found = HashSet::with_capacity(alloc, end - start)?;
+        for position in start..end {
+            found.insert(position)?;
         }
+        Ok(found)
     }
-}
 
-impl ArrayIndex {
     /// The positions that the entry means in an array of `length` elements, from the first number up to below
     /// the second.
     pub(crate) fn bounds(&self, length: usize) -> (usize, usize)
@@ -67,24 +59,6 @@ impl Index {
             Index::LastIndex(n) => length as i128 + i128::from(*n) - 1,
         }
     }
-}
-
-// The positions from the first number to the last, both included.
-fn positions_between(
-    alloc: Global,
-    first: i128,
-    last: i128,
-    length: usize,
-) -> Result<HashSet<usize>, Error>
-    ensures { Answers result (λ found. (k : ℕ) →
-        IsTrue (contains nat_eq found k) ↔ IsBetween first last length k) }
-{
-    let (start, end) = bounds_between(first, last, length);
-    let mut found = HashSet::with_capacity(alloc, end - start)?;
-    for position in start..end {
-        found.insert(position)?;
-    }
-    Ok(found)
 }
 
 // The positions from the first number to the last, both included: from where they begin up to below where they
