@@ -47,9 +47,9 @@ pub fn pair_place(bytes: &[u8], name: &str) -> Result<Option<PairPlace>, Error>
 /// The first so many of the entries, and the others.
 fn split_entries(entries: Entries<'_>, count: usize) -> Option<(Entries<'_>, Entries<'_>)>
     requires { length entries.words.now < 2 ^ 32 }
-    ensures split { (front back : List EntryParts) → AreBytesOf entries (front ++ back) → count ≡ length front
+    ensures split { (front back : List EntryParts) → AreBytesOf entries.entry (front ++ back) → count ≡ length front
         → IsSomeAnd result (λ parts. AreBytesOf parts.0 front × AreBytesOf parts.1 back) }
-    ensures shorter { IfSome result (λ parts. length parts.1.words.now ≤ length entries.words.now) }
+    ensures shorter { IfSome result (λ parts. length parts.1.words.now ≤ length entries.entry.words.now) }
 {
     if count > entries.words.len() / WORD {
         return None;
