@@ -8,14 +8,18 @@ use Rattle.std.specs.Cmp.{Equal-is}
 use Rattle.std.proofs.lemmas.List.{length-append}
 use Rattle.std.proofs.lemmas.Map.Text.{is_eq-slice_cmp}
 use Rattle.std.proofs.lemmas.Slice.Eq.{bytes_eq-Decides}
+use Rattle.jsonb_doc.specs.Tree as spec
 use Rattle.jsonb_doc.specs.Tree.{Tree, object, Pairs, no_pairs, pair, keys, value_under}
-use Rattle.jsonb_doc.specs.Format.{IsKey, IsBelowFirst, AreKeys}
+use Rattle.jsonb_doc.specs.Payload.{Form}
+use Rattle.jsonb_doc.specs.Format.{Decodes, IsKey, IsBelowFirst, AreKeys}
 use Rattle.jsonb_doc.specs.ObjectBuilder.{insert_pair}
 use Rattle.jsonb_doc.specs.ObjectKeys.{HasKeysLeft}
 use Rattle.jsonb_doc.specs.declared.key_iter.KeyIter.{KeyIter}
 use Rattle.jsonb_doc.proofs.BuilderSteps.{keys_rise}
+use Rattle.jsonb_doc.proofs.LimitLemmas.{decoded_keys}
 use Rattle.jsonb_raw.specs.declared.functions.object.pair_parts.PairPlace.{PairPlace}
 use Rattle.jsonb_raw.specs.Inserts.{AreBelow, IsInPlace, IsPlaceAmong, IsPairPlace}
+use Rattle.jsonb_raw.specs.Objects.{has_name}
 use Rattle.jsonb_raw.proofs.PairStepLemmas.{above_key, below_key, no_value, value_after_less, value_at_equal}
 
 -- ---- orders
@@ -161,3 +165,25 @@ module _ (name : List ℕ) (ks : List (List ℕ)) (passed : ℕ) (it : KeyIter) 
 
 pub in_object : (name : List ℕ) (t : Tree) (ps : Pairs) (place : PairPlace) → t ≡ object ps → IsPlaceAmong place name (keys ps) → IsPairPlace name t (Some place)
 in_object name t ps place is at = rw is at
+
+-- ---- the answer on a name
+
+object_at : (name : List ℕ) (t : Tree) (place : PairPlace) → IsPairPlace name t (Some place) → (ps : Pairs) × (t ≡ object ps) × IsPlaceAmong place name (keys ps)
+object_at name (object ps) place at = (ps, refl, at)
+object_at name spec.null place at = absurd at
+object_at name (spec.boolean b) place at = absurd at
+object_at name (spec.number n) place at = absurd at
+object_at name (spec.text s) place at = absurd at
+object_at name (spec.extension x) place at = absurd at
+object_at name (spec.array ts) place at = absurd at
+
+module _ (form : Form) (bytes : List ℕ) (name : List ℕ) (t : Tree) (place : PairPlace) (d : Decodes form bytes t) (at : IsPairPlace name t (Some place)) where
+  pub name_there : 0 < place.taken → has_name name t ≡ true
+  name_there some =
+      let o = object_at name t place at in
+      subst (λ (u : Tree). has_name name u ≡ true) (sym o.1) (is_there place name o.0 (decoded_keys form bytes o.0 (rw o.1 at d)) o.2 some)
+
+  pub name_missing : place.taken ≡ 0 → has_name name t ≡ false
+  name_missing none =
+      let o = object_at name t place at in
+      subst (λ (u : Tree). has_name name u ≡ false) (sym o.1) (not_there place name o.0 (decoded_keys form bytes o.0 (rw o.1 at d)) o.2 none)

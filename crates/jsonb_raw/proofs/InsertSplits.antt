@@ -64,15 +64,22 @@ module _ (entries : Entries) (front back : List EntryParts) (count : ℕ) (h : A
 
 -- ---- the entries of an object in a row
 
+-- how many pairs stay, and that the bytes behind the header hold the entries
+pub record IsRow (place : PairPlace) (count : ℕ) (rest : List ℕ) (before key between value behind : List EntryParts) : Type 0 where
+  pub kept : place.taken + length between ≡ count
+  pub enough : 8 * count ≤ length rest
+  pub are : (words contents : Bor (List ℕ)) → words.now ≡ take (8 * count) rest → contents.now ≡ drop (8 * count) rest
+      → AreBytesOf (record { words = words; contents = contents }) (before ++ (key ++ (between ++ (value ++ behind))))
+
 module _ (bytes : List ℕ) (place : PairPlace) (before key between value behind : List EntryParts) (h : IsCutAt bytes place before key between value behind) (word rest : List ℕ) (m count : ℕ)
     (first : word ≡ take 4 bytes) (behind_word : rest ≡ drop 4 bytes) (read : m ≡ from_be_bytes w32 word) (count_is : count ≡ m % 2 ^ 29) where
-  abbrev pub all : List EntryParts
+  abbrev all : List EntryParts
   all = before ++ (key ++ (between ++ (value ++ behind)))
 
   headed : HeadedBy bytes object_header (length key + length between) (kept_words all ++ kept_contents all)
   headed = record { known = omega arith; fits = h.fits; joined = h.joined }
 
-  pub pair_count : count ≡ length key + length between
+  pair_count : count ≡ length key + length between
   pair_count =
       let fits = h.fits in
       let is = header_read bytes word (kept_words all ++ kept_contents all) object_header (length key + length between) m headed first read in
@@ -85,17 +92,19 @@ module _ (bytes : List ℕ) (place : PairPlace) (before key between value behind
   all_count =
       omega (arith, pair_count, h.passed, h.keys, h.values, h.pairs, length-append before (key ++ (between ++ (value ++ behind))), length-append key (between ++ (value ++ behind)), length-append between (value ++ behind), length-append value behind)
 
-  pub row_enough : 8 * count ≤ length rest
-  row_enough = omega (arith, ap length rest_is, length-append (kept_words all) (kept_contents all), length-kept_words all, all_count)
+  words_count : length (kept_words all) ≡ 8 * count
+  words_count = omega (arith, length-kept_words all, all_count)
 
-  pub row_are : (words contents : Bor (List ℕ)) → words.now ≡ take (8 * count) rest → contents.now ≡ drop (8 * count) rest → AreBytesOf (record { words = words; contents = contents }) all
-  row_are words contents taken dropped =
-      let len : length (kept_words all) ≡ 8 * count = omega (arith, length-kept_words all, all_count) in
-      record {
+  pub row_of : IsRow place count rest before key between value behind
+  row_of = record {
+    kept = omega (arith, pair_count, h.keys);
+    enough = omega (arith, ap length rest_is, length-append (kept_words all) (kept_contents all), words_count);
+    are = λ words contents taken dropped. record {
         within = h.within;
-        words = taken ∙ ap (take (8 * count)) rest_is ∙ take_at (kept_words all) (kept_contents all) (8 * count) len;
-        contents = dropped ∙ ap (drop (8 * count)) rest_is ∙ drop_at (kept_words all) (kept_contents all) (8 * count) len;
-      }
+        words = taken ∙ ap (take (8 * count)) rest_is ∙ take_at (kept_words all) (kept_contents all) (8 * count) words_count;
+        contents = dropped ∙ ap (drop (8 * count)) rest_is ∙ drop_at (kept_words all) (kept_contents all) (8 * count) words_count;
+      };
+  }
 
 -- ---- the root of a document
 
