@@ -1,17 +1,17 @@
 -- The entries of an object, with those of one pair more.
-use Rattle.std.proofs.Common.{◌≡◌, ◌⊎◌, inl, inr, ℕ, suc, ◌+◌, ◌*◌, ◌^◌, ◌<◌, ◌≤◌, List, [], ◌∷◌, ◌++◌, length, refl, sym, ap, subst, ◌∙◌, arith, append_assoc, map}
+use Rattle.std.proofs.Common.{◌≡◌, ◌⊎◌, inl, inr, ℕ, ◌+◌, ◌^◌, ◌<◌, ◌≤◌, List, [], ◌∷◌, ◌++◌, length, refl, sym, ap, subst, ◌∙◌, arith, append_assoc}
 use Rattle.std.specs.Prelude.{IsUtf8}
 use Rattle.std.specs.List.{All}
 use Rattle.std.specs.Map.{keys_of, values_of}
-use Rattle.std.proofs.lemmas.List.{length-append, map-append}
+use Rattle.std.proofs.lemmas.List.{length-append}
 use Rattle.std.proofs.lemmas.List.Elements.{All-cons, All-nil}
 use Rattle.std.proofs.lemmas.Map.Entries.{length-keys_of, length-values_of}
 use Rattle.jsonb_doc.specs.Tree.{Tree, object, Pairs, no_pairs, pair, keys, members, pairs_of}
 use Rattle.jsonb_doc.specs.Payload.{Form, reading}
 use Rattle.jsonb_doc.specs.Format.{Decodes, IsContent, AreValues, AreKeys, Container, Members, header, object_header, text_entry, entry_word, key_words, key_bytes}
-use Rattle.jsonb_doc.specs.Limits.{content_size, IsShort, AreShortKeys, HasShortValues, IsTooLarge}
+use Rattle.jsonb_doc.specs.Limits.{IsShort, AreShortKeys, HasShortValues, IsTooLarge}
 use Rattle.jsonb_doc.specs.Encoding.{EntryParts}
-use Rattle.jsonb_doc.specs.ObjectBuilder.{IsWithin, IsEntryOf, HoldsPairs, insert_pair, kept_words, kept_contents, object_bytes}
+use Rattle.jsonb_doc.specs.ObjectBuilder.{IsWithin, HoldsPairs, insert_pair, kept_words, kept_contents, object_bytes}
 use Rattle.jsonb_doc.proofs.Containers.{object_document}
 use Rattle.jsonb_doc.proofs.ObjectLemmas.{held_inserted, object_decodes}
 use Rattle.jsonb_doc.proofs.Sizes.{size_within}
@@ -71,7 +71,7 @@ split_at (p ∷ ps) (key ∷ front) back e =
     record {
       front = p ∷ rest.front;
       back = rest.back;
-      joined = ap (λ qs. p ∷ qs) rest.joined;
+      joined = cc (rest.joined);
       front_are = cc (first, rest.front_are);
       back_are = rest.back_are;
     }

@@ -1,5 +1,5 @@
 -- The entries of an object split in several, and the entry of a document's root.
-use Rattle.std.proofs.Common.{◌≡◌, ◌⊎◌, inl, inr, ℕ, ◌+◌, ◌*◌, ◌/◌, ◌%◌, ◌^◌, ◌<◌, ◌≤◌, true, false, List, [], ◌∷◌, ◌++◌, length, take, drop, Option, Some, None, Result, Ok, Err, refl, sym, ap, subst, ◌∙◌, arith, append-nil}
+use Rattle.std.proofs.Common.{◌≡◌, ◌⊎◌, inl, inr, ℕ, ◌+◌, ◌*◌, ◌/◌, ◌%◌, ◌^◌, ◌<◌, ◌≤◌, true, false, List, ◌++◌, length, take, drop, Option, Some, None, Result, Ok, Err, refl, sym, ap, ◌∙◌, arith, append-nil}
 use Rattle.std.specs.Prelude.{IsSomeAnd, IsOkAnd}
 use Rattle.std.specs.Option.{ok_or}
 use Rattle.std.specs.Borrow.{Bor}
@@ -100,10 +100,10 @@ module _ (bytes : List ℕ) (place : PairPlace) (before key between value behind
     kept = omega (arith, pair_count, h.keys);
     enough = omega (arith, ap length rest_is, length-append (kept_words all) (kept_contents all), words_count);
     are = λ words contents taken dropped. record {
-        within = h.within;
-        words = taken ∙ ap (take (8 * count)) rest_is ∙ take_at (kept_words all) (kept_contents all) (8 * count) words_count;
-        contents = dropped ∙ ap (drop (8 * count)) rest_is ∙ drop_at (kept_words all) (kept_contents all) (8 * count) words_count;
-      };
+      within = h.within;
+      words = taken ∙ ap (take (8 * count)) rest_is ∙ take_at (kept_words all) (kept_contents all) (8 * count) words_count;
+      contents = dropped ∙ ap (drop (8 * count)) rest_is ∙ drop_at (kept_words all) (kept_contents all) (8 * count) words_count;
+    };
   }
 
 -- ---- the root of a document

@@ -1,6 +1,5 @@
 -- Objects as bytes, with one pair more.
 use Rattle.std.specs.Prelude.{◌≡◌, ℕ, ◌+◌, ◌^◌, ◌<◌, List, [], ◌∷◌, ◌++◌, length, Option, Some, None, ⊤}
-use Rattle.std.specs.List.{All}
 use Rattle.std.specs.Ordering.{nat_cmp}
 use Rattle.std.specs.Cmp.Lexicographic.{slice_cmp}
 use Rattle.std.specs.declared.cmp.Ordering.TheVariants.{Less}
@@ -14,7 +13,7 @@ use Rattle.jsonb_raw.specs.declared.functions.object.pair_parts.KeptEntries.{Kep
 use Rattle.jsonb_raw.specs.declared.functions.object.pair_parts.RootEntry.{RootEntry}
 use Rattle.jsonb_raw.specs.Cuts.{AreWithin}
 
--- ---- the place of a key
+-- ---- the place of a name
 
 -- each of the keys is below the name
 abbrev pub AreBelow : List ℕ → List (List ℕ) → Type 0

@@ -1,6 +1,6 @@
 //! One pair more in the bytes of an object. What stays is copied once, as it is stored.
 
-ghost use Rattle.std.specs.Prelude.{◌≡◌, ℕ, ◌+◌, ◌^◌, ◌<◌, ◌≤◌, List, ◌++◌, length, IfOk, IfErr, OnOk, IfSome, IsOkAnd, IsSomeAnd};
+ghost use Rattle.std.specs.Prelude.{◌≡◌, ℕ, ◌+◌, ◌^◌, ◌<◌, ◌≤◌, List, ◌++◌, length, IfErr, OnOk, IfSome, IsOkAnd, IsSomeAnd};
 ghost use Rattle.jsonb_doc.specs.Tree.{Tree, Pairs, object, keys as key_list, members, pairs_of};
 ghost use Rattle.jsonb_doc.specs.Payload.{Form, reading};
 ghost use Rattle.jsonb_doc.specs.Format.{Decodes, IsContent, entry_word};

@@ -1,6 +1,6 @@
-use Rattle.std.proofs.Common.{◌≡◌, ◌∙◌, ◌++◌, inl, inr, refl, sym, ap, arith, append_assoc}
+use Rattle.std.proofs.Common.{◌≡◌, ◌∙◌, ◌++◌, inl, inr, refl, ap, arith}
 use Rattle.jsonb_raw.specs.Inserts.{word_row, content_row}
-use Rattle.jsonb_raw.proofs.InsertEntries.{before, between, behind, key_there, value_there, is_cut, made_decodes, made_too_large}
+use Rattle.jsonb_raw.proofs.InsertEntries.{is_cut, made_decodes, made_too_large}
 use Rattle.jsonb_raw.proofs.functions.object.insert.object_with_pair.Goals as goal
 use Rattle.jsonb_raw.proofs.functions.object.insert.object_with_pair.Goals.{then-key-longest-via-then-key-longest, then-key-longest-via-else-key-longest+then-value-longest, then-key-longest-via-else-key-longest+else-value-longest+then-kept}
 

@@ -18,8 +18,7 @@ returns-in_err-contents-clause-split c = λ front back h same.
 pub returns-clause-split : goal.returns-clause-split
 returns-clause-split c = λ front back h same.
     let len : c.contents_len.result ≡ length (kept_contents front) = c.contents_len.ensures.contents front (within-front front back h.within) (front_words c.args.entries front back c.args.count h same _ c.split_at.ensures.front) in
-    let cut = c.in_ok-contents.ensures.cases in
-    (
+    let cut = c.in_ok-contents.ensures.cases in (
       front_are c.args.entries front back c.args.count h same _ _ _ c.split_at.ensures.front len cut.1,
       back_are c.args.entries front back c.args.count h same _ _ _ c.split_at.ensures.back len cut.2,
     )
