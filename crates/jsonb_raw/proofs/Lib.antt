@@ -25,6 +25,9 @@ pub mod ScalarLemmas
 pub mod Told
 pub mod Stripped
 pub mod Inserted
+pub mod InsertPlaces
+pub mod InsertEntries
+pub mod InsertSplits
 pub mod Repeats
 pub mod InStep
 pub mod KeysCounted

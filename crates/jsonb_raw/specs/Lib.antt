@@ -31,6 +31,7 @@ pub mod Objects
 pub mod Arrays
 pub mod Children
 pub mod Cuts
+pub mod Inserts
 pub mod ObjectsLaws
 pub mod MergedPairs
 pub mod OperatorLaws

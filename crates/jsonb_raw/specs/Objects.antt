@@ -1,9 +1,8 @@
 -- What the calls on objects answer.
-use Rattle.std.specs.Prelude.{ℕ, ◌==◌, Bool, not, is_some, List, filter, map, Option, Some, None}
+use Rattle.std.specs.Prelude.{ℕ, Bool, not, is_some, List, filter, map, Option, Some, None}
 use Rattle.std.specs.Borrow.{Bor}
 use Rattle.std.specs.BTreeSet.{BTreeSet, contains_by}
-use Rattle.std.specs.Ordering.{nat_cmp, ordering_index}
-use Rattle.std.specs.declared.cmp.Ordering.{Ordering}
+use Rattle.std.specs.Ordering.{nat_cmp}
 use Rattle.std.specs.Cmp.Lexicographic.{slice_cmp}
 use Rattle.jsonb_doc.specs.ObjectBuilder.{insert_pair}
 use Rattle.jsonb_doc.specs.Tree.{Tree, text, array, object, keys, members, field_of, pairs_of, trees_of}
@@ -54,7 +53,3 @@ object_insert name value t = with_pairs (insert_pair name value) t
 -- the object has the key
 abbrev pub has_name : List ℕ → Tree → Bool
 has_name name t = is_some (field_of name t)
-
--- the pairs whose keys stand so to a name
-abbrev pub pairs_at : Ordering → List ℕ → List (List ℕ × Tree) → List (List ℕ × Tree)
-pairs_at side name ps = filter (λ p. ordering_index (slice_cmp nat_cmp p.0 name) == ordering_index side) ps

@@ -2,6 +2,7 @@
 
 mod array;
 mod cast;
+mod entry_words;
 mod object;
 mod operator;
 mod path;

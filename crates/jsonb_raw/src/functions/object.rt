@@ -2,25 +2,25 @@
 //!
 //! On bytes that don't decode each call returns; which answer or refusal it gives is not fixed.
 
-ghost use Rattle.std.specs.Prelude.{◌≡◌, ◌⊎◌, ◌||◌, false, not, IsTrue, IfErr, IsErrOf, IsOkAnd};
+ghost use Rattle.std.specs.Prelude.{◌≡◌, ◌⊎◌, ◌||◌, false, not, IsTrue, IfErr, IsErrOf};
 ghost use Rattle.jsonb_doc.specs.Tree.{Tree};
 ghost use Rattle.jsonb_doc.specs.Payload.{Form};
 ghost use Rattle.jsonb_doc.specs.Format.{Decodes};
 ghost use Rattle.jsonb_doc.specs.Item.{Stands};
 ghost use Rattle.jsonb_doc.specs.Answer.{Builds, HasNoRoom};
-ghost use Rattle.jsonb_doc.specs.View.{IsDecodingError};
 ghost use Rattle.jsonb_raw.specs.Documents.{raw_bytes, MakesOption, IsMakingError};
 ghost use Rattle.jsonb_raw.specs.Making.{MakesOr, MakesPairs, IsPairOf, IsMakingErrorOr};
 ghost use Rattle.jsonb_raw.specs.Objects.{object_pick, object_delete, object_keys, object_each, object_insert, has_name};
 
-use crate::functions::push::{push_pair, push_pairs_at};
+mod insert;
+mod pair_parts;
+
+use crate::functions::push::push_pair;
 use crate::owned::OwnedJsonb;
 use crate::raw::RawJsonb;
-use jsonb_doc::{
-    ArrayBuilder, Error, Item, ObjectBuilder, encode_item, field_spot, keys, pairs, root_spot,
-};
+use insert::{object_with_pair, pair_place};
+use jsonb_doc::{ArrayBuilder, Error, Item, ObjectBuilder, encode_item, keys, pairs};
 use std::alloc::Global;
-use std::cmp::Ordering;
 use std::collections::BTreeSet;
 
 impl RawJsonb<'_> {
@@ -131,10 +131,13 @@ impl RawJsonb<'_> {
         ensures errors { IfErr result (λ e. IsMakingErrorOr Error.InvalidObject e ⊎ (e ≡ Error.ObjectDuplicateKey)) }
     {
         let bytes = self.as_bytes();
-        if !update_flag && has_key(bytes, new_key)? {
+        let Some(place) = pair_place(bytes, new_key)? else {
+            return Err(Error::InvalidObject);
+        };
+        if !update_flag && place.taken > 0 {
             return Err(Error::ObjectDuplicateKey);
         }
-        object_with_pair(alloc, bytes, new_key, new_val.as_bytes())
+        object_with_pair(alloc, bytes, place, new_key, new_val.as_bytes())
     }
 }
 
@@ -146,34 +149,4 @@ fn owned_pair(alloc: Global, key: &str, value: &Item<'_>) -> Result<(String, Own
 {
     let document = OwnedJsonb::new(encode_item(alloc, value)?);
     Ok((String::from_str(alloc, key)?, document))
-}
-
-/// Whether the root is an object with this key.
-fn has_key(bytes: &[u8], key: &str) -> Result<bool, Error>
-    ensures found { (form : Form) (t : Tree) → Decodes form bytes.now t → IsOkAnd result (λ b. b ≡ has_name key.now t) }
-    ensures errors { IfErr result IsDecodingError }
-{
-    let root = root_spot(bytes)?;
-    Ok(field_spot(bytes, root, key)?.is_some())
-}
-
-/// The object with one pair more, or with another value under the key.
-fn object_with_pair(
-    alloc: Global,
-    bytes: &[u8],
-    new_key: &str,
-    new_val: &[u8],
-) -> Result<OwnedJsonb, Error>
-    ensures inserted { (form : Form) (t value : Tree) → Decodes form bytes.now t → Decodes form new_val.now value
-        → MakesOr Error.InvalidObject form (object_insert new_key.now value t) result }
-    ensures errors { IfErr result (λ e. IsMakingErrorOr Error.InvalidObject e ⊎ (e ≡ Error.ObjectDuplicateKey)) }
-{
-    let Some(pairs) = pairs(bytes)? else {
-        return Err(Error::InvalidObject);
-    };
-    let mut builder = ObjectBuilder::new(alloc);
-    push_pairs_at(&mut builder, pairs, new_key, Ordering::Less)?;
-    builder.push_document(new_key, new_val)?;
-    push_pairs_at(&mut builder, pairs, new_key, Ordering::Greater)?;
-    Ok(OwnedJsonb::new(builder.build()?))
 }

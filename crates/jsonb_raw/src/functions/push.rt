@@ -1,19 +1,16 @@
 //! Parts of documents that go into builders.
 
 ghost use Rattle.std.specs.Prelude.{ℕ, ◌++◌, not, IsTrue, List, take, drop, IfErr, OnOk};
-ghost use Rattle.jsonb_doc.specs.Tree.{Tree, Trees, Pairs, array, object, elements as element_list, members, trees_of, pairs_of};
+ghost use Rattle.jsonb_doc.specs.Tree.{Tree, Trees, array, object, elements as element_list, trees_of, pairs_of};
 ghost use Rattle.jsonb_doc.specs.Payload.{Form};
 ghost use Rattle.jsonb_doc.specs.Item.{Stands};
 ghost use Rattle.jsonb_doc.specs.Answer.{Builds};
 ghost use Rattle.jsonb_doc.specs.Elements.{HasElementsLeft};
-ghost use Rattle.jsonb_doc.specs.ObjectPairs.{HasPairsLeft};
 ghost use Rattle.jsonb_doc.specs.ObjectBuilder.{HoldsPairs, has_key, insert_pair};
-ghost use Rattle.jsonb_doc.proofs.BuilderSteps.{HoldsFront, HoldsFrontPairs};
+ghost use Rattle.jsonb_doc.proofs.BuilderSteps.{HoldsFront};
 ghost use Rattle.jsonb_raw.specs.Documents.{IsMakingError};
-ghost use Rattle.jsonb_raw.specs.Objects.{pairs_at};
 
-use jsonb_doc::{ArrayBuilder, ElementIter, Error, Item, ObjectBuilder, PairIter};
-use std::cmp::Ordering;
+use jsonb_doc::{ArrayBuilder, ElementIter, Error, Item, ObjectBuilder};
 
 /// Adds a pair of a document to an object. Where the key is there the document doesn't decode, since its keys rise.
 pub fn push_pair(builder: &mut ObjectBuilder, key: &str, value: &Item<'_>) -> Result<(), Error>
@@ -28,27 +25,6 @@ pub fn push_pair(builder: &mut ObjectBuilder, key: &str, value: &Item<'_>) -> Re
         Err(Error::ObjectDuplicateKey) => Err(Error::InvalidJsonb),
         answer => answer,
     }
-}
-
-/// Adds the pairs of a document whose keys compare to the name as `side` says.
-pub fn push_pairs_at(
-    builder: &mut ObjectBuilder,
-    pairs: PairIter<'_>,
-    name: &str,
-    side: Ordering,
-) -> Result<(), Error>
-    ensures pushed { (form : Form) (ps : Pairs) (after whole : List (List ℕ × Tree)) → HasPairsLeft form pairs.entry ps
-        → HoldsFrontPairs form builder.old (pairs_at side name.now (members ps) ++ after) whole
-        → Builds form (object (pairs_of whole)) result (λ _. HoldsFrontPairs form builder.new after whole) }
-    ensures errors { IfErr result IsMakingError }
-{
-    for pair in pairs {
-        let (key, value) = pair?;
-        if key.cmp(&name) == side {
-            push_pair(builder, key, &value)?;
-        }
-    }
-    Ok(())
 }
 
 /// Adds the next elements of a document to an array, so many of them or all that are left.

@@ -14,37 +14,13 @@ ghost use Rattle.jsonb_raw.specs.Deletes.{take_out};
 ghost use Rattle.jsonb_raw.specs.Cuts.{AreWithin, HoldEntries, IsPlaceOf, AreInOrder, AreOfChild, around, without_child, IsPushed};
 
 use super::entry_place::{ChildEntries, EntryPlace};
+use crate::functions::entry_words::{
+    ARRAY_HEADER, COUNTS, LENGTHS, OBJECT_HEADER, WORD, contents_len,
+};
 use jsonb_doc::Error;
-
-const WORD: usize = 4;
-
-/// Counts in header words are below this.
-const COUNTS: u32 = 0x2000_0000;
-
-/// Lengths in entry words are below this.
-const LENGTHS: u32 = 0x1000_0000;
 
 /// The entry word of a container without content.
 const CONTAINER: u32 = 0x5000_0000;
-
-const OBJECT_HEADER: u32 = 2;
-
-const ARRAY_HEADER: u32 = 4;
-
-/// How long the contents of these entry words are, all together.
-fn contents_len(words: &[u8]) -> usize
-    requires { length words.now < 2 ^ 32 }
-    ensures contents { (es : List EntryParts) → AreWithin es → words.now ≡ kept_words es → result ≡ length (kept_contents es) }
-    ensures bound { result ≤ 2 ^ 26 * length words.now }
-{
-    let mut len = 0;
-    let mut left = words;
-    while let Some((word, others)) = left.split_first_chunk::<WORD>() {
-        len += (u32::from_be_bytes(*word) % LENGTHS) as usize;
-        left = others;
-    }
-    len
-}
 
 /// The place of the entry that so many others stand before, of so many in all.
 fn entry_place(container: &[u8], total: usize, passed: usize) -> Option<EntryPlace>

@@ -1,8 +1,27 @@
+use Rattle.std.proofs.Common.{◌≡◌, true, false, arith, Some}
 use Rattle.jsonb_doc.specs.Format.{Decodes}
+use Rattle.jsonb_raw.specs.Inserts.{IsPairPlace}
+use Rattle.jsonb_raw.specs.Objects.{has_name}
+use Rattle.jsonb_raw.proofs.InsertPlaces.{name_there, name_missing}
 use Rattle.jsonb_raw.proofs.raw.RawJsonb.object_insert.Goals as goal
+use Rattle.jsonb_raw.proofs.raw.RawJsonb.object_insert.Goals.{else-not-update_flag-via-then-not-update_flag+else-place-gt0, else-not-update_flag-via-else-not-update_flag}
 
-pub returns-clause-inserted : goal.returns-clause-inserted
-returns-clause-inserted c = λ form t value d dv may.
+pub returns-then-place-gt0-clause-inserted : goal.returns-then-place-gt0-clause-inserted
+returns-then-place-gt0-clause-inserted c = λ form t value d dv may.
     let d' : Decodes form c.as_bytes-bytes.result.now t = rw c.as_bytes-bytes.ensures d in
-    let dv' : Decodes form c.as_bytes.result.now value = rw c.as_bytes.ensures dv in
-    c.object_with_pair.ensures.inserted form t value d' dv'
+    let at : IsPairPlace c.args.new_key.now t (Some c.in-Some.place) = rw c.in-Some.is at (c.in_ok-place.ensures.place form t d') in
+    let there : has_name c.args.new_key.now t ≡ true = name_there form _ c.args.new_key.now t c.in-Some.place d' at c.if-place-gt0.true in
+    let flag : c.args.update_flag ≡ false = c.if-not-update_flag.true in
+    let bad : false ≡ true = rw (flag, there) at may in absurd (cc bad)
+
+pub returns-clause-duplicate : goal.returns-clause-duplicate
+returns-clause-duplicate c = λ form t d there flag.
+    let d' : Decodes form c.as_bytes-bytes.result.now t = rw c.as_bytes-bytes.ensures d in
+    let at : IsPairPlace c.args.new_key.now t (Some c.in-Some.place) = rw c.in-Some.is at (c.in_ok-place.ensures.place form t d') in
+    elim c.else-not-update_flag.branch [
+      | else-not-update_flag-via-then-not-update_flag+else-place-gt0 w ↦
+          let missing : has_name c.args.new_key.now t ≡ false = name_missing form _ c.args.new_key.now t c.in-Some.place d' at (omega arith) in
+          let bad : false ≡ true = rw missing at there in absurd (cc bad)
+      | else-not-update_flag-via-else-not-update_flag w ↦
+          let set : c.args.update_flag ≡ true = w.if-not-update_flag.false in absurd (cc (flag, set))
+    ]

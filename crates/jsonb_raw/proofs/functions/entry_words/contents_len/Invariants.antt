@@ -3,7 +3,7 @@ use Rattle.jsonb_doc.specs.Encoding.{EntryParts}
 use Rattle.jsonb_doc.specs.ObjectBuilder.{kept_words, kept_contents}
 use Rattle.jsonb_raw.specs.Cuts.{AreWithin}
 use Rattle.jsonb_raw.proofs.CutWords.{WordsLeft}
-use Rattle.jsonb_raw.proofs.functions.path.cut.contents_len.Given as goal
+use Rattle.jsonb_raw.proofs.functions.entry_words.contents_len.Given as goal
 
 -- the length so far and the contents of the words that are left make up all contents
 abbrev pub invariant-loop-word : goal.invariant-loop-word

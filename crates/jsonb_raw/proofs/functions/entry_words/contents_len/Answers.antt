@@ -1,7 +1,7 @@
 use Rattle.std.proofs.Common.{arith, length}
 use Rattle.jsonb_doc.specs.ObjectBuilder.{kept_contents}
 use Rattle.jsonb_raw.proofs.CutWords.{words_next, words_done}
-use Rattle.jsonb_raw.proofs.functions.path.cut.contents_len.Goals as goal
+use Rattle.jsonb_raw.proofs.functions.entry_words.contents_len.Goals as goal
 
 pub loop-word-init : goal.loop-word-init
 loop-word-init c = record { bound = omega arith; left = λ es within words. record { entries = es; within = within; words = words; sum = omega arith } }

@@ -1,0 +1,13 @@
+use Rattle.std.proofs.Common.{◌≡◌, ◌+◌, ◌≤◌}
+use Rattle.jsonb_doc.specs.Tree.{Tree, Pairs, object, keys}
+use Rattle.jsonb_doc.specs.Payload.{Form}
+use Rattle.jsonb_doc.specs.Format.{Decodes}
+use Rattle.jsonb_raw.proofs.InsertPlaces.{KeysPassed}
+use Rattle.jsonb_raw.proofs.functions.object.insert.pair_place.Given as goal
+
+-- the keys that were passed are below the name
+abbrev pub invariant-loop-key : goal.invariant-loop-key
+invariant-loop-key l = record {
+  bound : l.passed + goal.iterator-loop-key.remaining l.key-iterator ≤ goal.iterator-loop-key.remaining l.initial.key-iterator;
+  walked : (form : Form) (t : Tree) → Decodes form l.fn.bytes t → (ps : Pairs) × (t ≡ object ps) × KeysPassed l.fn.name (keys ps) l.passed l.key-iterator;
+}

@@ -1,0 +1,193 @@
+//! One pair more in the bytes of an object. What stays is copied once, as it is stored.
+
+ghost use Rattle.std.specs.Prelude.{◌≡◌, ℕ, ◌+◌, ◌^◌, ◌<◌, ◌≤◌, List, ◌++◌, length, IfErr, OnOk, IfSome, IsOkAnd, IsSomeAnd};
+ghost use Rattle.jsonb_doc.specs.Tree.{Tree, Pairs, object, keys as key_list, members, pairs_of};
+ghost use Rattle.jsonb_doc.specs.Payload.{Form, reading};
+ghost use Rattle.jsonb_doc.specs.Format.{Decodes, IsContent, entry_word};
+ghost use Rattle.jsonb_doc.specs.Encoding.{EntryParts};
+ghost use Rattle.jsonb_doc.specs.ObjectBuilder.{insert_pair};
+ghost use Rattle.jsonb_doc.specs.View.{IsDecodingError};
+ghost use Rattle.jsonb_raw.specs.Documents.{Makes, IsMakingError};
+ghost use Rattle.jsonb_raw.specs.Inserts.{IsPairPlace, IsPlaceAmong, IsCutAt, AreBytesOf, AreKept, word_row, content_row};
+
+use super::pair_parts::{Entries, KeptEntries, PairPlace, RootEntry};
+use crate::functions::entry_words::{COUNTS, LENGTHS, OBJECT_HEADER, WORD, contents_len};
+use crate::owned::OwnedJsonb;
+use jsonb_doc::{Error, Item, keys, root_item};
+use std::alloc::{AllocError, Global};
+use std::cmp::Ordering;
+
+const STRING: u32 = 1;
+
+const CONTAINER: u32 = 5;
+
+/// Entry words with a kind that is not below this have their top bit set.
+const KINDS: u32 = 8;
+
+/// Where a pair with this key goes into the object, and `None` where the root is no object. The walk ends at the first
+/// key that is not below this one.
+pub fn pair_place(bytes: &[u8], name: &str) -> Result<Option<PairPlace>, Error>
+    ensures place { (form : Form) (t : Tree) → Decodes form bytes.now t → IsOkAnd result (IsPairPlace name.now t) }
+    ensures errors { IfErr result IsDecodingError }
+{
+    let Some(keys) = keys(bytes)? else {
+        return Ok(None);
+    };
+    let mut passed = 0;
+    for key in keys {
+        match key?.cmp(&name) {
+            Ordering::Less => passed += 1,
+            Ordering::Equal => return Ok(Some(PairPlace { passed, taken: 1 })),
+            Ordering::Greater => return Ok(Some(PairPlace { passed, taken: 0 })),
+        }
+    }
+    Ok(Some(PairPlace { passed, taken: 0 }))
+}
+
+/// The first so many of the entries, and the others.
+fn split_entries(entries: Entries<'_>, count: usize) -> Option<(Entries<'_>, Entries<'_>)>
+    requires { length entries.words.now < 2 ^ 32 }
+    ensures split { (front back : List EntryParts) → AreBytesOf entries.entry (front ++ back) → count ≡ length front
+        → IsSomeAnd result (λ parts. AreBytesOf parts.0 front × AreBytesOf parts.1 back) }
+    ensures shorter { IfSome result (λ parts. length parts.1.words.now ≤ length entries.entry.words.now) }
+{
+    if count > entries.words.len() / WORD {
+        return None;
+    }
+    let (words, other_words) = entries.words.split_at(WORD * count);
+    let (contents, other_contents) = entries.contents.split_at_checked(contents_len(words))?;
+    let front = Entries { words, contents };
+    let back = Entries {
+        words: other_words,
+        contents: other_contents,
+    };
+    Some((front, back))
+}
+
+/// The entries of an object that stay where a pair goes to this place.
+fn kept_entries(object: &[u8], place: PairPlace) -> Option<KeptEntries<'_>>
+    ensures { (before key between value behind : List EntryParts) → IsCutAt object.now place before key between value behind
+        → IsSomeAnd result (λ kept. AreKept kept before between behind) }
+{
+    let (header, rest) = object.split_first_chunk::<WORD>()?;
+    let count = (u32::from_be_bytes(*header) % COUNTS) as usize;
+    let pairs = count.checked_sub(place.taken)?;
+    let (words, contents) = rest.split_at_checked(2 * WORD * count)?;
+    let (before, others) = split_entries(Entries { words, contents }, place.passed)?;
+    let (_, others) = split_entries(others, place.taken)?;
+    let (between, others) = split_entries(others, pairs)?;
+    let (_, behind) = split_entries(others, place.taken)?;
+    Some(KeptEntries {
+        pairs,
+        before,
+        between,
+        behind,
+    })
+}
+
+/// The entry of a document whose root is no container: its word tells the kind, and its content follows.
+fn scalar_entry(document: &[u8]) -> Option<RootEntry<'_>>
+    ensures { (kind : ℕ) (head content : List ℕ) → length head ≡ 4 → kind < 8 → length content < 2 ^ 28
+        → document.now ≡ head ++ (entry_word kind (length content) ++ content)
+        → IsSomeAnd result (λ entry. (entry.kind ≡ kind) × (entry.content.now ≡ content)) }
+{
+    let (_, rest) = document.split_first_chunk::<WORD>()?;
+    let (word, content) = rest.split_first_chunk::<WORD>()?;
+    let kind = u32::from_be_bytes(*word) / LENGTHS;
+    if kind >= KINDS {
+        return None;
+    }
+    Some(RootEntry { kind, content })
+}
+
+/// The entry that the root of a document becomes within another, as it is stored.
+fn root_entry(document: &[u8]) -> Result<RootEntry<'_>, Error>
+    ensures entry { (form : Form) (t : Tree) → Decodes form document.now t
+        → IsOkAnd result (λ entry. IsContent (reading form) t entry.kind entry.content.now) }
+    ensures errors { IfErr result IsDecodingError }
+{
+    match root_item(document)? {
+        Item::Array(content) => Ok(RootEntry {
+            kind: CONTAINER,
+            content,
+        }),
+        Item::Object(content) => Ok(RootEntry {
+            kind: CONTAINER,
+            content,
+        }),
+        _ => scalar_entry(document).ok_or(Error::InvalidJsonb),
+    }
+}
+
+/// The word of an entry.
+fn word_of(kind: u32, len: usize) -> [u8; WORD]
+    requires kind { kind < 8 }
+    requires len { len < 2 ^ 28 }
+    ensures { result ≡ entry_word kind len }
+{
+    (kind * LENGTHS + len as u32).to_be_bytes()
+}
+
+/// Puts an object's header and its words at the end, with those of one pair more.
+fn push_words(
+    document: &mut Vec<u8>,
+    kept: &KeptEntries<'_>,
+    key: &str,
+    value: &RootEntry<'_>,
+) -> Result<(), AllocError>
+    requires pairs { kept.now.pairs + 1 < 2 ^ 29 }
+    requires key { length key.now < 2 ^ 28 }
+    requires value { length value.now.content.now < 2 ^ 28 }
+    ensures { OnOk result (document.new.items ≡ document.old.items ++ word_row kept.now key.now value.now) }
+{
+    let header = OBJECT_HEADER * COUNTS + (kept.pairs + 1) as u32;
+    document.extend_from_slice(&header.to_be_bytes())?;
+    document.extend_from_slice(kept.before.words)?;
+    document.extend_from_slice(&word_of(STRING, key.len()))?;
+    document.extend_from_slice(kept.between.words)?;
+    document.extend_from_slice(&word_of(value.kind, value.content.len()))?;
+    document.extend_from_slice(kept.behind.words)
+}
+
+/// Puts an object's contents at the end, with those of one pair more.
+fn push_contents(
+    document: &mut Vec<u8>,
+    kept: &KeptEntries<'_>,
+    key: &str,
+    value: &RootEntry<'_>,
+) -> Result<(), AllocError>
+    ensures { OnOk result (document.new.items ≡ document.old.items ++ content_row kept.now key.now value.now) }
+{
+    document.extend_from_slice(kept.before.contents)?;
+    document.extend_from_slice(key.as_bytes())?;
+    document.extend_from_slice(kept.between.contents)?;
+    document.extend_from_slice(value.content)?;
+    document.extend_from_slice(kept.behind.contents)
+}
+
+/// The object with a pair of this key and the root of the other document, at the key's place.
+pub fn object_with_pair(
+    alloc: Global,
+    bytes: &[u8],
+    place: PairPlace,
+    key: &str,
+    value: &[u8],
+) -> Result<OwnedJsonb, Error>
+    ensures inserted { (form : Form) (ps : Pairs) (t : Tree) → Decodes form bytes.now (object ps) → Decodes form value.now t
+        → IsPlaceAmong place key.now (key_list ps) → Makes form (object (pairs_of (insert_pair key.now t (members ps)))) result }
+    ensures errors { IfErr result IsMakingError }
+{
+    let value = root_entry(value)?;
+    let Some(kept) = kept_entries(bytes, place) else {
+        return Err(Error::InvalidJsonb);
+    };
+    let longest = LENGTHS as usize - 1;
+    if key.len() > longest || value.content.len() > longest || kept.pairs >= COUNTS as usize - 1 {
+        return Err(Error::TooLarge);
+    }
+    let most = bytes.len() + 2 * WORD + key.len() + value.content.len();
+    let mut document = Vec::with_capacity(alloc, most)?;
+    push_words(&mut document, &kept, key, &value)?;
+    push_contents(&mut document, &kept, key, &value)?;
+    Ok(OwnedJsonb::new(document))
+}
