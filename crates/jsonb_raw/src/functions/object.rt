@@ -15,10 +15,10 @@ ghost use Rattle.jsonb_raw.specs.Objects.{object_pick, object_delete, object_key
 mod insert;
 mod pair_parts;
 
+use self::insert::{object_with_pair, pair_place};
 use crate::functions::push::push_pair;
 use crate::owned::OwnedJsonb;
 use crate::raw::RawJsonb;
-use insert::{object_with_pair, pair_place};
 use jsonb_doc::{ArrayBuilder, Error, Item, ObjectBuilder, encode_item, keys, pairs};
 use std::alloc::Global;
 use std::collections::BTreeSet;
