@@ -2,7 +2,7 @@ use Rattle.std.proofs.Common.{◌∷◌, [], ◌+◌, Some, Ok, Err, IsOkAnd, ma
 use Rattle.std.specs.Prelude.{not, ◌==◌, length}
 use Rattle.std.proofs.Math.ListN.{drop_of_length-le}
 use Rattle.std.proofs.lemmas.Result.{err_from_is_err_and}
-use Rattle.jsonb_doc.specs.Answer.{joined, with_value}
+use Rattle.jsonb_doc.specs.Answer.{joined, with_value, Gives, WantsMemory}
 use Rattle.jsonb.specs.PathTree as math
 use Rattle.jsonb.specs.PathTree.{steps_of}
 use Rattle.jsonb.specs.PathViews.{step_view, steps_view, expression_view, operator_view, entry_view}
@@ -107,21 +107,21 @@ step_item-returns-in_ok-push_step-in_default t c = λ top u r s. record {
 
 pub step_list-returns-in-Root : goal.step_list-returns-in-Root
 step_list-returns-in-Root t c = λ top ts r a.
-    let kept = record { ok = a; err = tt } in
+    let kept : Gives (λ found us. AllRelated (IsAt c.args.document) (found_spots found) us) WantsMemory (Ok c.args.items) (Ok ts) = record { ok = a; err = tt } in
     elim c.in-Root.is [
       | inl is ↦ same_outcome (ap (λ x. joined (step_meaning c.args.mode x top) ts) (root_is c.args.step.now is) ∙ joined_singles ts) kept
       | inr is ↦ same_outcome (ap (λ x. joined (step_meaning c.args.mode x top) ts) (current_is c.args.step.now is) ∙ joined_singles ts) kept
     ]
 
-pub step_list-returns-in-One-in_default : goal.step_list-returns-in-One-in_default
-step_list-returns-in-One-in_default t c = λ top ts r a.
-    let one = only_one (IsAt c.args.document) c.in-One-in_default.item ts (subst (λ f. AllRelated (IsAt c.args.document) (found_spots f) ts) c.in-One-in_default.is a) in
+pub step_list-returns-in-One : goal.step_list-returns-in-One
+step_list-returns-in-One t c = λ top ts r a.
+    let one = only_one (IsAt c.args.document) c.in-One.item ts (subst (λ f. AllRelated (IsAt c.args.document) (found_spots f) ts) c.in-One.is a) in
     same_outcome (ap (joined (step_meaning c.args.mode (step_view c.args.step.now) top)) one.1 ∙ joined_one (step_meaning c.args.mode (step_view c.args.step.now) top) one.0) (c.step_item.ensures top one.0 r one.2)
 
-pub step_list-returns-in-Many-in_default : goal.step_list-returns-in-Many-in_default
-step_list-returns-in-Many-in_default t c = λ top ts r a.
+pub step_list-returns-in-Many : goal.step_list-returns-in-Many
+step_list-returns-in-Many t c = λ top ts r a.
     c.step_many.ensures top ts r
-    (subst (λ l. AllRelated (IsAt c.args.document) l ts) (sym c.deref.ensures.value) (subst (λ f. AllRelated (IsAt c.args.document) (found_spots f) ts) c.in-Many-in_default.is a))
+    (subst (λ l. AllRelated (IsAt c.args.document) l ts) (sym c.deref.ensures.value) (subst (λ f. AllRelated (IsAt c.args.document) (found_spots f) ts) c.in-Many.is a))
 
 pub step_many-returns-in_err-push_step : goal.step_many-returns-in_err-push_step
 step_many-returns-in_err-push_step t c = λ top ts r a.
@@ -173,7 +173,7 @@ select_steps-returns t c = λ top u r s.
     record { ok = subst (λ o. IsOkAnd o (AllRelated (IsAt c.args.document) (found_spots c.loop-step.items))) (sym none) inv.1; err = tt }
 
 pub path_items-returns : goal.path_items-returns
-path_items-returns t c = λ top u r s. c.select_steps.ensures top _ r (c.first_item.ensures top u r s)
+path_items-returns t c = λ top u r s. c.select_steps.ensures top _ r (c.first_item-first.ensures top u r s)
 
 -- ---- filters
 
