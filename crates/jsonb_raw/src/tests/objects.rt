@@ -88,6 +88,35 @@ fn inserts_a_pair(rt: HostRuntime) -> Result<(), Fail> {
 }
 
 #[test]
+fn inserting_keeps_what_is_stored(rt: HostRuntime) -> Result<(), Fail> {
+    // {"a":1,"c":[null]}, the number in two bytes
+    let stored =
+        b"\x40\0\0\x02\x10\0\0\x01\x10\0\0\x01\x20\0\0\x03\x50\0\0\x08ac\x50\0\x01\x80\0\0\x01\0\0\0\0".as_slice();
+    let wide = b"\x20\0\0\0\x20\0\0\x03\x50\0\x01".as_slice();
+    let null = b"\x20\0\0\0\0\0\0\0".as_slice();
+    // {"a":1,"b":1,"c":[null]}, {"a":1,"c":{"asd":"adf"}}, {"a":null,"c":[null]}
+    let between =
+        b"\x40\0\0\x03\x10\0\0\x01\x10\0\0\x01\x10\0\0\x01\x20\0\0\x03\x20\0\0\x03\x50\0\0\x08abc\x50\0\x01\x50\0\x01\x80\0\0\x01\0\0\0\0".as_slice();
+    let last =
+        b"\x40\0\0\x02\x10\0\0\x01\x10\0\0\x01\x20\0\0\x03\x50\0\0\x12ac\x50\0\x01\x40\0\0\x01\x10\0\0\x03\x10\0\0\x03asdadf".as_slice();
+    let first =
+        b"\x40\0\0\x02\x10\0\0\x01\x10\0\0\x01\0\0\0\0\x50\0\0\x08ac\x80\0\0\x01\0\0\0\0".as_slice();
+    for (key, value, wanted) in [
+        ("b", wide, between),
+        ("c", OBJECT, last),
+        ("a", null, first),
+    ] {
+        let value = RawJsonb::new(value);
+        let made = RawJsonb::new(stored).object_insert(rt.alloc(), key, &value, true)?;
+        assert_eq!(rt; made.as_raw().as_bytes(), wanted);
+    }
+    let float = RawJsonb::new(b"\x20\0\0\0\x20\0\0\x09\x60\x3f\xf8\0\0\0\0\0\0");
+    let made = RawJsonb::new(stored).object_insert(rt.alloc(), "b", &float, true);
+    assert!(rt; matches!(made, Err(Error::UnsupportedNumber)));
+    Ok(())
+}
+
+#[test]
 fn refuses_a_key_that_is_there(rt: HostRuntime) {
     for (bytes, key) in [
         (ONE_PAIR, "asd"),
