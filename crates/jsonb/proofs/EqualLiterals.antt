@@ -1,5 +1,5 @@
 -- Literals are equal by `==` exactly where they are equal by value.
-use Rattle.std.proofs.Common.{◌≡◌, ℕ, List, Bool, true, false, Some, refl, sym, ◌∙◌, ap}
+use Rattle.std.proofs.Common.{◌≡◌, ℕ, List, Bool, true, false, Some, refl}
 use Rattle.std.specs.Bool.{Decides}
 use Rattle.std.specs.Cmp.{Equal-is}
 use Rattle.std.specs.Cmp.Lexicographic.{slice_cmp}
@@ -7,14 +7,12 @@ use Rattle.std.specs.Cow.{cow_str_bytes}
 use Rattle.std.specs.Ordering.{is_eq, bool_cmp, nat_cmp}
 use Rattle.std.proofs.lemmas.Map.Text.{is_eq-slice_cmp}
 use Rattle.std.proofs.lemmas.Slice.Eq.{bytes_eq-Decides}
-use Rattle.jsonb_doc.specs.Number.{number_cmp}
-use Rattle.jsonb_doc.specs.Order.{IsEqual}
 use Rattle.jsonb_doc.specs.Tree as tree
-use Rattle.jsonb_doc.specs.View.{number_parts, number_view}
+use Rattle.jsonb_doc.specs.View.{number_view}
 use Rattle.jsonb_doc.specs.declared.number.Number.{Number}
 use Rattle.jsonb_doc.specs.declared.number.Number.TheVariants.{Int64, UInt64, Decimal64, Decimal128}
 use Rattle.jsonb_doc.proofs.EqualValues.{number_cmp-number_view}
-use Rattle.jsonb.specs.PathEquality.{AreEqualItems, SameLiteral}
+use Rattle.jsonb.specs.PathEquality.{SameLiteral}
 use Rattle.jsonb.specs.PathOrder.{number_order, path_value_equal}
 use Rattle.jsonb.specs.PathViews.{number_literal, literal_view}
 use Rattle.jsonb.specs.Values.{literal_item}

@@ -1,5 +1,5 @@
 -- The derived equality of paths goes part by part.
-use Rattle.std.proofs.Common.{◌≡◌, ℕ, List, [], ◌∷◌, map, Bool, true, false, Global, refl, sym, ◌∙◌, ap}
+use Rattle.std.proofs.Common.{◌≡◌, ℕ, List, [], ◌∷◌, map, true, false, Global, refl, sym, ◌∙◌, ap}
 use Rattle.std.specs.Prelude.{◌&&◌, nat_eq, option_map}
 use Rattle.std.specs.Bool.{Decides}
 use Rattle.std.specs.Cow.{cow_str_bytes}

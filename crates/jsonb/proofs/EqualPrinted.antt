@@ -9,7 +9,7 @@ use Rattle.jsonb.specs.PathEquality.{SameLiteral, SameStep, SameSteps, SameExpre
 use Rattle.jsonb.specs.PathGrammar.{json_path}
 use Rattle.jsonb.specs.PathLaws.{settled_literal, settled_step, settled_steps, settled}
 use Rattle.jsonb.specs.PathText.{joins}
-use Rattle.jsonb.specs.PathTree.{Literal, null, boolean, unsigned, signed, decimal64, decimal128, string, raw, Step, root, current, dot_wildcard, recursive_dot_wildcard, bracket_wildcard, dot_field, colon_field, object_field, array_indices, filter, whole_expression, Steps, no_steps, step, Expression, paths, value, binary, unary, exists, steps_of}
+use Rattle.jsonb.specs.PathTree.{Literal, null, boolean, unsigned, signed, decimal64, decimal128, string, raw, Step, filter, whole_expression, Steps, no_steps, step, Expression, paths, value, binary, unary, exists}
 use Rattle.jsonb.proofs.GrammarShape.{json_path_is_path}
 use Rattle.jsonb.proofs.PathReadsBack.{path-text}
 use Rattle.jsonb.proofs.SamePathLaws.{path-symmetric, path-transitive}

@@ -1,5 +1,5 @@
 -- Which paths are equal: worked pairs, computed from the definitions alone.
-use Rattle.std.proofs.Common.{◌≡◌, pos, negsuc, true, false, [], ◌∷◌, Some, None, refl}
+use Rattle.std.proofs.Common.{pos, negsuc, true, false, [], ◌∷◌, Some, None, refl}
 use Rattle.std.specs.Prelude.{codes}
 use Rattle.jsonb.specs.PathEquality.{SameLiteral, SamePath}
 use Rattle.jsonb.specs.PathTree as p

@@ -1,6 +1,5 @@
 -- Paths of the same parts: a symmetric and transitive relation.
-use Rattle.std.proofs.Common.{◌≡◌, List, Option, Some, None, refl, sym, ◌∙◌, subst}
-use Rattle.jsonb_doc.specs.Equal.{is_equal}
+use Rattle.std.proofs.Common.{List, Option, Some, None, refl, sym, ◌∙◌, subst}
 use Rattle.jsonb_doc.specs.EqualLaws.{is_equal_equiv, is_equal-IsEqual}
 use Rattle.jsonb_doc.specs.Order.{IsEqual}
 use Rattle.jsonb_doc.specs.Tree.{Tree}
