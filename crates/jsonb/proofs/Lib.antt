@@ -34,3 +34,9 @@ pub mod WholeLemmas
 pub mod ModeLemmas
 pub mod SettledMeaning
 mod MeaningRows
+pub mod EqualParts
+pub mod EqualLiterals
+pub mod EqualPaths
+pub mod SamePathLaws
+pub mod EqualPrinted
+mod EqualRows

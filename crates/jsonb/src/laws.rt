@@ -1,10 +1,28 @@
 //! Laws of the definitions. These functions compute nothing; their contracts are the laws.
 
-ghost use Rattle.std.specs.Prelude.{ℕ, Bool, IfSome};
+ghost use Rattle.std.specs.Prelude.{◌≡◌, ◌↔◌, ℕ, Bool, true, List, IfSome};
+ghost use Rattle.jsonb.specs.PathEquality.{SameLiteral, SameStep, SameExpression, SamePath, PrintsAsEqual};
 ghost use Rattle.jsonb.specs.PathGrammar.{json_path, another_entry, spaced_inner, path_step, another_atom, another_and, nested_or};
 ghost use Rattle.jsonb.specs.PathLaws.{ReadsBack, RulesHold};
+ghost use Rattle.jsonb.specs.PathTree.{Literal, Step, raw};
+ghost use Rattle.jsonb.specs.PathViews.{place_view, entry_view, end_view, levels_view, literal_view, operator_view, sign_view, step_view, expression_view, path_view};
 ghost use Rattle.jsonb.specs.SelectorLaws.{StrictImpliesLax, VariantsChangeNoMeaning, PrintsWithMeaning, PositionsAreMeant};
+ghost use Rattle.jsonb.specs.contracts.path.ArrayIndexPartialEq.TheImpl.{eq-value as entries_equal};
+ghost use Rattle.jsonb.specs.contracts.path.BinaryOperatorPartialEq.TheImpl.{eq-value as operators_equal};
+ghost use Rattle.jsonb.specs.contracts.path.ExprPartialEq.TheImpl.{eq-value as expressions_equal};
+ghost use Rattle.jsonb.specs.contracts.path.IndexPartialEq.TheImpl.{eq-value as indices_equal};
+ghost use Rattle.jsonb.specs.contracts.path.JsonPathPartialEq.TheImpl.{eq-value as json_paths_equal};
+ghost use Rattle.jsonb.specs.contracts.path.PathPartialEq.TheImpl.{eq-value as steps_equal};
+ghost use Rattle.jsonb.specs.contracts.path.RecursiveLevelEndPartialEq.TheImpl.{eq-value as level_ends_equal};
+ghost use Rattle.jsonb.specs.contracts.path.RecursiveLevelPartialEq.TheImpl.{eq-value as levels_equal};
+ghost use Rattle.jsonb.specs.contracts.path.UnaryOperatorPartialEq.TheImpl.{eq-value as signs_equal};
+ghost use Rattle.jsonb.specs.contracts.path.compare.PathValuePartialEq.TheImpl.{eq-value as literals_equal};
 ghost use Rattle.jsonb_keypath.specs.TokenLaws.{ReadsSome};
+
+use crate::path::{
+    ArrayIndex, BinaryOperator, Expr, Index, JsonPath, Path, PathValue, RecursiveLevel,
+    RecursiveLevelEnd, UnaryOperator,
+};
 
 /// A JSON path that was read prints to a text that reads as the same path, but for which variant
 /// holds a whole number.
@@ -47,4 +65,79 @@ pub fn printed_json_path_keeps_its_meaning(text: &[u8])
 /// An index entry selects exactly the positions that `to_indices` holds.
 pub fn selected_positions_are_meant()
     ensures { PositionsAreMeant }
+{}
+
+/// JSON paths are equal by `==` exactly where they have the same steps, part by part.
+pub fn json_paths_are_equal_by_steps(left: &JsonPath, right: &JsonPath)
+    ensures { (json_paths_equal.it left.now right.now ≡ true) ↔
+        SamePath (path_view left.now) (path_view right.now) }
+{}
+
+/// Steps are equal by `==` exactly where they are of one kind with the same parts, whatever holds
+/// the texts.
+pub fn steps_are_equal_by_parts(left: &Path, right: &Path)
+    ensures { (steps_equal.it left.now right.now ≡ true) ↔
+        SameStep (step_view left.now) (step_view right.now) }
+{}
+
+/// Expressions are equal by `==` exactly where they are of one kind with the same parts.
+pub fn expressions_are_equal_by_parts(left: &Expr, right: &Expr)
+    ensures { (expressions_equal.it left.now right.now ≡ true) ↔
+        SameExpression (expression_view left.now) (expression_view right.now) }
+{}
+
+/// Literals are equal by `==` exactly where they are equal by value.
+pub fn literals_are_equal_by_value(left: &PathValue, right: &PathValue)
+    ensures { (literals_equal.it left.now right.now ≡ true) ↔
+        SameLiteral (literal_view left.now) (literal_view right.now) }
+{}
+
+/// Places in an array are equal by `==` exactly where they are counted from the same end, equally far.
+pub fn indices_are_equal_by_parts(left: &Index, right: &Index)
+    ensures { (indices_equal.it left.now right.now ≡ true) ↔
+        (place_view left.now ≡ place_view right.now) }
+{}
+
+/// Index entries are equal by `==` exactly where they have the same places.
+pub fn index_entries_are_equal_by_parts(left: &ArrayIndex, right: &ArrayIndex)
+    ensures { (entries_equal.it left.now right.now ≡ true) ↔
+        (entry_view left.now ≡ entry_view right.now) }
+{}
+
+/// Ends of levels are equal by `==` exactly where they are the same level, or both the last.
+pub fn level_ends_are_equal_by_parts(left: &RecursiveLevelEnd, right: &RecursiveLevelEnd)
+    ensures { (level_ends_equal.it left.now right.now ≡ true) ↔
+        (end_view left.now ≡ end_view right.now) }
+{}
+
+/// Levels are equal by `==` exactly where they have the same start and the same end.
+pub fn levels_are_equal_by_parts(left: &RecursiveLevel, right: &RecursiveLevel)
+    ensures { (levels_equal.it left.now right.now ≡ true) ↔
+        (levels_view left.now ≡ levels_view right.now) }
+{}
+
+/// Operators are equal by `==` exactly where they are the same operator.
+pub fn binary_operators_are_equal_by_kind(left: &BinaryOperator, right: &BinaryOperator)
+    ensures { (operators_equal.it left.now right.now ≡ true) ↔
+        (operator_view left.now ≡ operator_view right.now) }
+{}
+
+/// Signs are equal by `==` exactly where they are the same sign.
+pub fn unary_operators_are_equal_by_kind(left: &UnaryOperator, right: &UnaryOperator)
+    ensures { (signs_equal.it left.now right.now ≡ true) ↔
+        (sign_view left.now ≡ sign_view right.now) }
+{}
+
+/// Having the same parts is symmetric and transitive. It is not reflexive: a document as a literal
+/// equals no literal, not even itself.
+pub fn same_paths()
+    ensures symmetric { (p q : List Step) → SamePath p q → SamePath q p }
+    ensures transitive { (p q r : List Step) → SamePath p q → SamePath q r → SamePath p r }
+    ensures documents { (document : List ℕ) (l : Literal) → ¬ SameLiteral (raw document) l }
+{}
+
+/// A JSON path that was read equals itself, and prints to a text that reads as an equal path.
+pub fn read_json_path_equals_what_it_prints(text: &[u8])
+    ensures itself { IfSome (json_path text.now) (λ p. SamePath p p) }
+    ensures printed { IfSome (json_path text.now) PrintsAsEqual }
 {}

@@ -1,0 +1,44 @@
+-- Which paths are equal: those of the same parts, with literals that are equal by value.
+use Rattle.std.specs.Prelude.{◌≡◌, List, Option, Some}
+use Rattle.jsonb_doc.specs.Order.{IsEqual}
+use Rattle.jsonb_doc.specs.Tree.{Tree}
+use Rattle.jsonb.specs.PathGrammar.{json_path}
+use Rattle.jsonb.specs.PathText.{path_text}
+use Rattle.jsonb.specs.PathTree.{Literal, Step, filter, whole_expression, Steps, no_steps, step, Expression, paths, value, binary, unary, exists, steps_of}
+use Rattle.jsonb.specs.Values.{literal_item}
+
+-- two items, of equal value
+abbrev pub AreEqualItems : Option Tree → Option Tree → Type 0
+AreEqualItems (Some t) (Some u) = IsEqual t u
+AreEqualItems _ _ = ⊥
+
+-- Literals go by the items that they are: null, truth values, numbers by exact value, and texts by bytes. A document equals none, not even itself.
+abbrev pub SameLiteral : Literal → Literal → Type 0
+SameLiteral l m = AreEqualItems (literal_item l) (literal_item m)
+
+-- one kind of step with the same names, index entries and levels; the expressions inside go part by part
+abbrev mutual
+  pub SameStep : Step → Step → Type 0
+  SameStep (filter e) (filter f) = SameExpression e f
+  SameStep (whole_expression e) (whole_expression f) = SameExpression e f
+  SameStep s t = s ≡ t
+
+  pub SameSteps : Steps → Steps → Type 0
+  SameSteps no_steps no_steps = Unit {0}
+  SameSteps (step s ss) (step t ts) = SameStep s t × SameSteps ss ts
+  SameSteps _ _ = ⊥
+
+  pub SameExpression : Expression → Expression → Type 0
+  SameExpression (paths ss) (paths ts) = SameSteps ss ts
+  SameExpression (value l) (value m) = SameLiteral l m
+  SameExpression (binary op left right) (binary op' left' right') = (op ≡ op') × SameExpression left left' × SameExpression right right'
+  SameExpression (unary op e) (unary op' f) = (op ≡ op') × SameExpression e f
+  SameExpression (exists ss) (exists ts) = SameSteps ss ts
+  SameExpression _ _ = ⊥
+
+abbrev pub SamePath : List Step → List Step → Type 0
+SamePath p q = SameSteps (steps_of p) (steps_of q)
+
+-- the printed text reads, as a path of the same parts
+abbrev pub PrintsAsEqual : List Step → Type 0
+PrintsAsEqual p = (q : List Step) × (json_path (path_text p) ≡ Some q) × SamePath p q
