@@ -103,7 +103,7 @@ fn inserting_keeps_what_is_stored(rt: HostRuntime) -> Result<(), Fail> {
         b"\x40\0\0\x02\x10\0\0\x01\x10\0\0\x01\0\0\0\0\x50\0\0\x08ac\x80\0\0\x01\0\0\0\0".as_slice();
     for (key, value, wanted) in [
         ("b", wide, between),
-        ("c", OBJECT, last),
+        ("c", ONE_PAIR, last),
         ("a", null, first),
     ] {
         let value = RawJsonb::new(value);
