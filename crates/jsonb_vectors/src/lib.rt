@@ -1,4 +1,5 @@
-//! Fifteen documents, made by hand from the format, and tests that go over all of them.
+//! Fifteen documents, made by hand from the format, and tests that go over all of them, whole
+//! and damaged.
 #![tactic(auto)]
 
 mod documents;
