@@ -1,9 +1,9 @@
 //! Each call that reads a document, made on some bytes, with the documents that the calls answer.
 
 use jsonb::{
-    ArrayBuilder, Error, ObjectBuilder, OwnedJsonb, RawJsonb, SelectByPath, Selector, child_spots,
-    elements, encode_item, field_spot, keys, pairs, parse_json_path, parse_key_paths, root_item,
-    root_spot, spot_item, to_value, values,
+    ArrayBuilder, Error, JsonPath, ObjectBuilder, OwnedJsonb, RawJsonb, SelectByPath, Selector,
+    child_spots, elements, encode_item, field_spot, keys, pairs, parse_json_path, parse_key_paths,
+    root_item, root_spot, spot_item, to_value, values,
 };
 use std::alloc::Global;
 use std::collections::BTreeSet;
@@ -56,13 +56,14 @@ pub fn ask_array(
     documents: &mut Vec<OwnedJsonb>,
 ) -> Result<(), Fail> {
     let one = RawJsonb::new(ONE);
+    let same = RawJsonb::new(raw.as_bytes());
     let _length = raw.array_length();
-    let _overlap = raw.array_overlap(raw);
+    let _overlap = raw.array_overlap(&same);
     if let Ok(Some(list)) = raw.array_values(alloc) {
         keep_all(documents, Ok(list))?;
     }
     keep(documents, raw.array_distinct(alloc))?;
-    keep(documents, raw.array_intersection(alloc, raw))?;
+    keep(documents, raw.array_intersection(alloc, &same))?;
     keep(documents, raw.array_except(alloc, &one))?;
     for pos in [-2147483648, -1, 0, 1] {
         keep(documents, raw.array_insert(alloc, pos, &one))?;
@@ -114,12 +115,13 @@ pub fn ask_places(
         let _leaves = raw.extract_scalar_key_values(alloc, ignore_array);
     }
     let one = RawJsonb::new(ONE);
+    let same = RawJsonb::new(raw.as_bytes());
     let _contains = raw.contains(&one);
     let _contained = one.contains(raw);
-    let _contains_itself = raw.contains(raw);
+    let _contains_itself = raw.contains(&same);
     let _texts = raw.traverse_check_string(|text| text == b"b".as_slice());
     keep(documents, raw.concat(alloc, &one))?;
-    keep(documents, raw.concat(alloc, raw))?;
+    keep(documents, raw.concat(alloc, &same))?;
     keep(documents, raw.strip_nulls(alloc))
 }
 
@@ -224,7 +226,7 @@ pub fn ask_builders(
     keep_bytes(documents, object.build())
 }
 
-/// Selections by a path, in both modes, through the trait and a selector that is used again.
+/// Selections by a path, in both modes.
 pub fn ask_path(
     alloc: Global,
     bytes: &[u8],
@@ -232,16 +234,40 @@ pub fn ask_path(
     documents: &mut Vec<OwnedJsonb>,
 ) -> Result<(), Fail> {
     let path = parse_json_path(alloc, text.as_bytes())?;
+    ask_by_path(alloc, bytes, &path, documents)?;
+    ask_strict(alloc, bytes, &path, documents)
+}
+
+/// Selections through the trait.
+fn ask_by_path<'a>(
+    alloc: Global,
+    bytes: &'a [u8],
+    path: &'a JsonPath<'_>,
+    documents: &mut Vec<OwnedJsonb>,
+) -> Result<(), Fail> {
     let raw = RawJsonb::new(bytes);
-    keep_all(documents, raw.select_by_path(alloc, &path))?;
-    keep(documents, raw.select_array_by_path(alloc, &path))?;
-    keep_some(documents, raw.select_first_by_path(alloc, &path))?;
-    keep_some(documents, raw.select_value_by_path(alloc, &path))?;
-    let _exists = raw.path_exists(alloc, &path);
-    let _truth = raw.path_match(alloc, &path);
-    let mut strict = Selector::new_strict(alloc, raw);
-    keep_all(documents, strict.select_values(&path))?;
-    keep(documents, strict.select_array(&path))?;
-    let _truth = strict.predicate_match(&path);
+    keep_all(documents, raw.select_by_path(alloc, path))?;
+    keep(documents, raw.select_array_by_path(alloc, path))?;
+    keep_some(documents, raw.select_first_by_path(alloc, path))?;
+    keep_some(documents, raw.select_value_by_path(alloc, path))?;
+    let _exists = raw.path_exists(alloc, path);
+    let _truth = raw.path_match(alloc, path);
+    Ok(())
+}
+
+/// Selections of a strict selector, which is used again.
+fn ask_strict<'a>(
+    alloc: Global,
+    bytes: &'a [u8],
+    path: &'a JsonPath<'_>,
+    documents: &mut Vec<OwnedJsonb>,
+) -> Result<(), Fail> {
+    let mut selector = Selector::new_strict(alloc, RawJsonb::new(bytes));
+    keep_all(documents, selector.select_values(path))?;
+    keep(documents, selector.select_array(path))?;
+    keep_some(documents, selector.select_first(path))?;
+    keep_some(documents, selector.select_value(path))?;
+    let _exists = selector.exists(path);
+    let _truth = selector.predicate_match(path);
     Ok(())
 }
