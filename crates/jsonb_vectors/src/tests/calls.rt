@@ -50,7 +50,7 @@ fn keep_bytes(documents: &mut Vec<OwnedJsonb>, answer: Result<Vec<u8>, Error>) -
 }
 
 /// The calls on arrays.
-pub fn ask_array(
+pub(super) fn ask_array(
     alloc: Global,
     raw: &RawJsonb<'_>,
     documents: &mut Vec<OwnedJsonb>,
@@ -74,7 +74,7 @@ pub fn ask_array(
 }
 
 /// The calls on objects.
-pub fn ask_object(
+pub(super) fn ask_object(
     alloc: Global,
     raw: &RawJsonb<'_>,
     documents: &mut Vec<OwnedJsonb>,
@@ -98,7 +98,7 @@ pub fn ask_object(
 }
 
 /// The calls on places, on whole documents, and those that take names.
-pub fn ask_places(
+pub(super) fn ask_places(
     alloc: Global,
     raw: &RawJsonb<'_>,
     documents: &mut Vec<OwnedJsonb>,
@@ -126,7 +126,7 @@ pub fn ask_places(
 }
 
 /// The keys of a document, and the calls on scalars.
-pub fn ask_scalars(alloc: Global, raw: &RawJsonb<'_>) {
+pub(super) fn ask_scalars(alloc: Global, raw: &RawJsonb<'_>) {
     let _key = raw.convert_to_comparable(alloc);
     let _wide_key = raw.convert_to_comparable_wide(alloc);
     let _equality_key = raw.equality_key(alloc);
@@ -156,7 +156,7 @@ pub fn ask_scalars(alloc: Global, raw: &RawJsonb<'_>) {
 }
 
 /// The extension values of a document, and its casts.
-pub fn ask_extensions_and_casts(alloc: Global, raw: &RawJsonb<'_>) {
+pub(super) fn ask_extensions_and_casts(alloc: Global, raw: &RawJsonb<'_>) {
     let _extension = raw.as_extension_value();
     let _binary = raw.as_binary(alloc);
     let _date = raw.as_date();
@@ -170,7 +170,11 @@ pub fn ask_extensions_and_casts(alloc: Global, raw: &RawJsonb<'_>) {
 }
 
 /// The items of a document, its iterators, and its spots.
-pub fn ask_items(alloc: Global, bytes: &[u8], documents: &mut Vec<OwnedJsonb>) -> Result<(), Fail> {
+pub(super) fn ask_items(
+    alloc: Global,
+    bytes: &[u8],
+    documents: &mut Vec<OwnedJsonb>,
+) -> Result<(), Fail> {
     if let Ok(item) = root_item(bytes) {
         let _value = to_value(alloc, &item);
         keep_bytes(documents, encode_item(alloc, &item))?;
@@ -195,7 +199,11 @@ pub fn ask_items(alloc: Global, bytes: &[u8], documents: &mut Vec<OwnedJsonb>) -
 }
 
 /// The spots of a document, and the items at them.
-pub fn ask_spots(alloc: Global, bytes: &[u8], documents: &mut Vec<OwnedJsonb>) -> Result<(), Fail> {
+pub(super) fn ask_spots(
+    alloc: Global,
+    bytes: &[u8],
+    documents: &mut Vec<OwnedJsonb>,
+) -> Result<(), Fail> {
     let Ok(root) = root_spot(bytes) else {
         return Ok(());
     };
@@ -213,7 +221,7 @@ pub fn ask_spots(alloc: Global, bytes: &[u8], documents: &mut Vec<OwnedJsonb>) -
 }
 
 /// The builders, with the document pushed.
-pub fn ask_builders(
+pub(super) fn ask_builders(
     alloc: Global,
     bytes: &[u8],
     documents: &mut Vec<OwnedJsonb>,
@@ -227,7 +235,7 @@ pub fn ask_builders(
 }
 
 /// Selections by a path, in both modes.
-pub fn ask_path(
+pub(super) fn ask_path(
     alloc: Global,
     bytes: &[u8],
     text: &str,
