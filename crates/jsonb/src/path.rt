@@ -14,6 +14,7 @@ mod compare;
 mod copy;
 mod display;
 mod level;
+mod own;
 mod position;
 
 /// A JSON path: the steps that a selection takes one after the other, from the root on.
@@ -192,7 +193,7 @@ pub enum UnaryOperator {
 
 /// An expression: in a filter, or as the whole path.
 #[cycle(path)]
-#[derive(PartialEq, Drop)]
+#[derive(PartialEq)]
 pub enum Expr<'a> {
     /// A path that begins at `$` or `@`.
     Paths(Vec<Path<'a>>),
@@ -211,4 +212,21 @@ pub enum Expr<'a> {
     },
     /// `exists(@.a)`: whether the path meets anything.
     ExistsFunc(Vec<Path<'a>>),
+}
+
+// A chain of conditions is as long on the left as the text, so that side goes by a loop.
+impl Drop for Expr<'_> {
+    #[cycle(path)]
+    fn drop(mut self) {
+        loop {
+            match self {
+                Expr::BinaryOp { op: _, left, right } => {
+                    drop(right);
+                    self = Box::into_inner(left);
+                }
+                Expr::UnaryOp { op: _, operand } => self = Box::into_inner(operand),
+                Expr::Paths(_) | Expr::Value(_) | Expr::ExistsFunc(_) => return,
+            }
+        }
+    }
 }

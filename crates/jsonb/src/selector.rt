@@ -3,11 +3,12 @@
 //! A selection keeps a list of places in the bytes. Each step makes the next list of the one before;
 //! no item is copied before it is handed out.
 
-ghost use Rattle.std.specs.Prelude.{◌≡◌, List};
+ghost use Rattle.std.specs.Prelude.{◌≡◌, List, IsOkAnd};
 ghost use Rattle.jsonb_doc.specs.Payload.{Form};
 ghost use Rattle.jsonb_doc.specs.Tree.{Tree};
 ghost use Rattle.jsonb.specs.Meaning.{is_some_item};
-ghost use Rattle.jsonb.specs.Selection.{Selects};
+ghost use Rattle.jsonb_doc.specs.Format.{Decodes};
+ghost use Rattle.jsonb.specs.Selection.{Selects, HasTree};
 ghost use Rattle.jsonb.specs.declared.selector.document.Document.{Document};
 
 mod by_path;
@@ -95,62 +96,67 @@ impl<'a> Selector<'a> {
     /// `UnsupportedNumber` only where the root or a document in the path doesn't decode, and `OutOfMemory` where
     /// memory is refused. The calls below refuse for the same causes: `TooLarge` is there for what is handed out,
     /// and never comes from `exists` and `predicate_match`.
-    pub fn select_values(&mut self, path: &'a JsonPath<'_>) -> Result<Vec<OwnedJsonb>, Error>
+    pub fn select_values(&mut self, path: &JsonPath<'_>) -> Result<Vec<OwnedJsonb>, Error>
         ensures kept { self.new ≡ self.old }
         ensures values { (form : Form) (top : Tree) (outcome : Outcome (List Tree)) → Decodes form (root_bytes self.old) top
             → Means form (mode_of self.old) (path_view path.now) top outcome
             → HandsOut (λ v ts. AreDocuments form v.items ts) (HasTooLarge form) result outcome }
     {
-        let document = self.document()?;
+        let bytes = self.root.as_bytes();
+        let document = at_root(bytes)?;
         let selected = selection(self.alloc, self.mode, &path.paths, document)?;
         documents(self.alloc, document, &selected)
     }
 
     /// One array of the path's list.
-    pub fn select_array(&mut self, path: &'a JsonPath<'_>) -> Result<OwnedJsonb, Error>
+    pub fn select_array(&mut self, path: &JsonPath<'_>) -> Result<OwnedJsonb, Error>
         ensures kept { self.new ≡ self.old }
         ensures array { (form : Form) (top : Tree) (outcome : Outcome (List Tree)) → Decodes form (root_bytes self.old) top
             → Means form (mode_of self.old) (path_view path.now) top outcome
             → HandsOut (λ made ts. Decodes form made (array_of ts)) (λ ts. IsTooLarge form (array_of ts)) result outcome }
     {
-        let document = self.document()?;
+        let bytes = self.root.as_bytes();
+        let document = at_root(bytes)?;
         let selected = selection(self.alloc, self.mode, &path.paths, document)?;
         array_document(self.alloc, document, &selected)
     }
 
     /// The first of the path's list, or none. The whole path is executed, so that a refusal behind the first
     /// item is the answer.
-    pub fn select_first(&mut self, path: &'a JsonPath<'_>) -> Result<Option<OwnedJsonb>, Error>
+    pub fn select_first(&mut self, path: &JsonPath<'_>) -> Result<Option<OwnedJsonb>, Error>
         ensures kept { self.new ≡ self.old }
         ensures first { (form : Form) (top : Tree) (outcome : Outcome (List Tree)) → Decodes form (root_bytes self.old) top
             → Means form (mode_of self.old) (path_view path.now) top outcome
             → HandsOut (λ found ts. IsDocumentOf form found (first_of ts)) (λ ts. IsPast form (first_of ts)) result outcome }
     {
-        let document = self.document()?;
+        let bytes = self.root.as_bytes();
+        let document = at_root(bytes)?;
         let selected = selection(self.alloc, self.mode, &path.paths, document)?;
         first_document(self.alloc, document, &selected)
     }
 
     /// None for an empty list, its only item, or one array of several.
-    pub fn select_value(&mut self, path: &'a JsonPath<'_>) -> Result<Option<OwnedJsonb>, Error>
+    pub fn select_value(&mut self, path: &JsonPath<'_>) -> Result<Option<OwnedJsonb>, Error>
         ensures kept { self.new ≡ self.old }
         ensures value { (form : Form) (top : Tree) (outcome : Outcome (List Tree)) → Decodes form (root_bytes self.old) top
             → Means form (mode_of self.old) (path_view path.now) top outcome
             → HandsOut (λ found ts. IsDocumentOf form found (value_of ts)) (λ ts. IsPast form (value_of ts)) result outcome }
     {
-        let document = self.document()?;
+        let bytes = self.root.as_bytes();
+        let document = at_root(bytes)?;
         let selected = selection(self.alloc, self.mode, &path.paths, document)?;
         value_document(self.alloc, document, &selected)
     }
 
     /// Whether the path's list has an item. So it is true of every comparison that is not refused.
-    pub fn exists(&mut self, path: &'a JsonPath<'_>) -> Result<bool, Error>
+    pub fn exists(&mut self, path: &JsonPath<'_>) -> Result<bool, Error>
         ensures kept { self.new ≡ self.old }
         ensures exists { (form : Form) (top : Tree) (outcome : Outcome (List Tree)) → Decodes form (root_bytes self.old) top
             → Means form (mode_of self.old) (path_view path.now) top outcome
             → Gives (λ b ts. b ≡ is_some_item ts) WantsMemory result outcome }
     {
-        let document = self.document()?;
+        let bytes = self.root.as_bytes();
+        let document = at_root(bytes)?;
         let selected = selection(self.alloc, self.mode, &path.paths, document)?;
         Ok(is_some(&selected))
     }
@@ -158,7 +164,7 @@ impl<'a> Selector<'a> {
     /// Whether a path that is a comparison, `&&`, `||` or `exists` is true. None is for unknown. A sign or arithmetic
     /// is executed, refused as it is, and else None. A path that is no single expression is None at once, without
     /// memory.
-    pub fn predicate_match(&mut self, path: &'a JsonPath<'_>) -> Result<Option<bool>, Error>
+    pub fn predicate_match(&mut self, path: &JsonPath<'_>) -> Result<Option<bool>, Error>
         ensures kept { self.new ≡ self.old }
         ensures other { is_predicate (path_view path.now) ≡ false → result ≡ Ok None }
         ensures truth { (form : Form) (top : Tree) → Decodes form (root_bytes self.old) top
@@ -166,22 +172,22 @@ impl<'a> Selector<'a> {
     {
         match lone_expression(&path.paths) {
             Some(e) => {
-                let document = self.document()?;
+                let bytes = self.root.as_bytes();
+                let document = at_root(bytes)?;
                 expression_truth(self.alloc, self.mode, e, document)
             }
             None => Ok(None),
         }
     }
+}
 
-    // The root's bytes, with its place in them.
-    fn document(&self) -> Result<Document<'a>, Error>
-        ensures { (form : Form) (top : Tree) → Decodes form (root_bytes self.now) top
-            → IsOkAnd result (λ document. (document.bytes.now ≡ root_bytes self.now) × HasTree document top) }
-    {
-        let bytes = self.root.as_bytes();
-        let root = root_spot(bytes)?;
-        Ok(Document { bytes, root })
-    }
+// The bytes of a document, with the place of its root in them.
+fn at_root(bytes: &[u8]) -> Result<Document<'_>, Error>
+    ensures { (form : Form) (top : Tree) → Decodes form bytes.now top
+        → IsOkAnd result (λ document. (document.bytes.now ≡ bytes.now) × HasTree document top) }
+{
+    let root = root_spot(bytes)?;
+    Ok(Document { bytes, root })
 }
 
 // Whether anything is selected.

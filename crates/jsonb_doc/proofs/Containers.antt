@@ -82,6 +82,14 @@ pub length-key_words : (ks : List (List ℕ)) → length (key_words ks) ≡ 4 * 
 length-key_words [] = refl
 length-key_words (key ∷ ks) = omega (arith, length-key_words ks)
 
+-- what follows the keys lies within
+pub HasKeys-room : (words bytes rest : List ℕ) → HasKeys words bytes rest → length rest ≤ length bytes
+HasKeys-room words bytes rest (ks, are, is, joined) = omega (arith, ap length joined, length-append (key_bytes ks) rest)
+
+-- the rest is shorter by the header
+pub HeadedBy-length : (bytes : List ℕ) (kind entries : ℕ) (rest : List ℕ) → HeadedBy bytes kind entries rest → length bytes ≡ 4 + length rest
+HeadedBy-length bytes kind entries rest h = omega (arith, ap length h.joined)
+
 -- what follows the keys is one
 pub HasKeys-unique : (words bytes a b : List ℕ) → HasKeys words bytes a → HasKeys words bytes b → a ≡ b
 HasKeys-unique words bytes a b x y = go x.0 y.0 words bytes x.1 y.1 x.2 y.2 x.3 y.3

@@ -11,15 +11,15 @@ use Rattle.jsonb_doc.specs.declared.error.Error.{Error}
 
 -- these trees are left in the iterator
 pub record HasElementsLeft (form : Form) (it : ElementIter) (ts : Trees) : Type 0 where
-  pub entries : AreEntries (reading form) ts it.words.now it.contents.now
+  pub entries : AreEntries (reading form) ts it.entries.words.now it.entries.contents.now
 
 -- at most how many items the iterator gives, on any bytes
 abbrev pub elements_bound : ElementIter → ℕ
-elements_bound it = (length it.words.now + 3) / 4
+elements_bound it = (length it.entries.words.now + 3) / 4
 
 -- at most how many bytes an item of the iterator has, on any bytes
 abbrev pub elements_room : ElementIter → ℕ
-elements_room it = length it.contents.now
+elements_room it = length it.entries.contents.now
 
 -- the answer is the first of the trees, and the others are left
 abbrev pub TakesElement : Form → Trees → Option (Result Item Error) → ElementIter → Type 0

@@ -6,6 +6,7 @@ pub mod NumberOrder
 pub mod NumberText
 pub mod Rounding
 pub mod Extension
+pub mod Stored
 pub mod Tree
 pub mod Payload
 pub mod Format

@@ -1,8 +1,8 @@
 ghost use Rattle.std.specs.Prelude.{◌≡◌, ◌≢◌, ◌↔◌, IsOk, IsErrOf, ℕ, List, [], MatchOption, MatchResult, option_copied};
 ghost use Rattle.jsonb_doc.specs.Tree.{Tree};
-ghost use Rattle.jsonb_doc.specs.Payload.{any};
+ghost use Rattle.jsonb_doc.specs.Payload.{any, number_or_unsupported};
 ghost use Rattle.jsonb_doc.specs.Format.{Decodes, WouldDecode};
-ghost use Rattle.jsonb_doc.specs.Checking.{Judges, HasContent, HasEntries, HasDocument, HasKeys, IsNextKey};
+ghost use Rattle.jsonb_doc.specs.Checking.{Judges, HasContent, HasEntries, HasDocument, HasKeys, IsNextKey, HasParts, HasLarge, IsWithin, Leaves};
 
 use crate::error::Error;
 use crate::extension::ExtensionValue;
@@ -115,61 +115,100 @@ fn check_empty(content: &[u8]) -> Result<(), Error>
     }
 }
 
+/// The content of a container decodes.
+///
+/// It goes into a part that is longer than half of all by this loop, and into the others by a call. So calls nest no deeper
+/// than the length can be halved.
 #[cycle(check)]
 fn check_container(bytes: &[u8]) -> Result<(), Error>
     ensures { Judges (HasContent 5 bytes.now) result }
 {
-    let Some((kind, entries, rest)) = split_header(bytes) else {
-        return Err(Error::InvalidJsonb);
-    };
-    let len = WORD * entries;
-    match kind {
-        ARRAY_HEADER if len <= rest.len() => {
-            let (words, contents) = rest.split_at(len);
-            check_entries(words, contents)
-        }
-        OBJECT_HEADER if 2 * len <= rest.len() => {
-            let (words, contents) = rest.split_at(2 * len);
-            let (key_words, value_words) = words.split_at(len);
-            let Some(values) = skip_keys(key_words, contents) else {
-                return Err(Error::InvalidJsonb);
-            };
-            check_entries(value_words, values)
-        }
-        _ => Err(Error::InvalidJsonb),
-    }
-}
-
-/// The contents behind these entry words decode.
-#[cycle(check)]
-fn check_entries(words: &[u8], contents: &[u8]) -> Result<(), Error>
-    ensures { Judges (HasEntries words.now contents.now) result }
-{
-    let mut words_left = words;
-    let mut contents_left = contents;
+    let mut container = bytes;
     let mut is_supported = true;
-    while !words_left.is_empty() {
-        let Some(entry) = split_entry(words_left, contents_left) else {
+    loop {
+        let Some((words, contents)) = split_container(container) else {
             return Err(Error::InvalidJsonb);
         };
-        match check_content(entry.kind, entry.content) {
-            Ok(()) => {}
-            Err(error) => match error {
-                Error::UnsupportedNumber => is_supported = false,
-                _ => return Err(error),
-            },
-        }
-        words_left = entry.other_words;
-        contents_left = entry.other_contents;
-    }
-    if !contents_left.is_empty() {
-        return Err(Error::InvalidJsonb);
+        let Some(entries) = check_entries(words, contents) else {
+            return Err(Error::InvalidJsonb);
+        };
+        is_supported &= entries.is_supported;
+        let Some(large) = entries.large else {
+            break;
+        };
+        container = large;
     }
     if is_supported {
         Ok(())
     } else {
         Err(Error::UnsupportedNumber)
     }
+}
+
+/// The entry words and the contents of an array's elements or of an object's values.
+fn split_container(bytes: &[u8]) -> Option<(&[u8], &[u8])>
+    ensures { MatchOption result (HasContent 5 bytes.now number_or_unsupported → ⊥) (λ r. HasParts bytes.now r.0.now r.1.now) }
+{
+    let (kind, entries, rest) = split_header(bytes)?;
+    let len = WORD * entries;
+    match kind {
+        ARRAY_HEADER if len <= rest.len() => Some(rest.split_at(len)),
+        OBJECT_HEADER if 2 * len <= rest.len() => {
+            let (words, contents) = rest.split_at(2 * len);
+            let (key_words, value_words) = words.split_at(len);
+            let values = skip_keys(key_words, contents)?;
+            Some((value_words, values))
+        }
+        _ => None,
+    }
+}
+
+/// What is known of entries, but for a container among them.
+#[derive(Clone, Copy)]
+struct Entries<'a> {
+    /// No unsupported number was met.
+    is_supported: bool,
+    /// The container that is longer than half of the contents.
+    large: Option<&'a [u8]>,
+}
+
+/// The contents behind these entry words decode where the large container does that is handed out.
+#[cycle(check)]
+fn check_entries<'a>(words: &[u8], contents: &'a [u8]) -> Option<Entries<'a>>
+    ensures { MatchOption result (HasEntries words.now contents.now number_or_unsupported → ⊥)
+        (λ r. IsWithin (option_copied r.large) contents.now
+        × Leaves r.is_supported (HasEntries words.now contents.now) (HasLarge (option_copied r.large))) }
+{
+    let half = contents.len() / 2;
+    let mut words_left = words;
+    let mut contents_left = contents;
+    let mut is_supported = true;
+    let mut large: Option<&[u8]> = None;
+    while !words_left.is_empty() {
+        let Some(entry) = split_entry(words_left, contents_left) else {
+            return None;
+        };
+        if entry.kind == CONTAINER && entry.content.len() > half {
+            large = Some(entry.content);
+        } else {
+            match check_content(entry.kind, entry.content) {
+                Ok(()) => {}
+                Err(error) => match error {
+                    Error::UnsupportedNumber => is_supported = false,
+                    _ => return None,
+                },
+            }
+        }
+        words_left = entry.other_words;
+        contents_left = entry.other_contents;
+    }
+    if !contents_left.is_empty() {
+        return None;
+    }
+    Some(Entries {
+        is_supported,
+        large,
+    })
 }
 
 /// The bytes behind the keys that these entry words tell.

@@ -78,7 +78,7 @@ each_pair_any (pair l u us) xs p q h k f = by (p (l, u)) refl k (each_pair_any u
 -- ---- a tree matches itself
 
 mutual
-  matched_refl : (t : Tree) → is_matched_by t t ≡ true
+  pub matched_refl : (t : Tree) → is_matched_by t t ≡ true
   matched_refl null = refl
   matched_refl (boolean b) = equal_refl (boolean b)
   matched_refl (number n) = equal_refl (number n)

@@ -19,9 +19,12 @@ pub mod DigitSteps
 pub mod PushedNumbers
 pub mod WrittenDigits
 pub mod Left
+pub mod LevelLemmas
+pub mod LevelKeys
 pub mod Walked
 pub mod Counted
 pub mod ScalarLemmas
+pub mod TextChunks
 pub mod Told
 pub mod Stripped
 pub mod Inserted
@@ -68,3 +71,5 @@ pub mod ContainsLaws
 pub mod ConcatLaws
 mod DeleteRows
 pub mod Copies
+pub mod EntriesLeft
+pub mod EntryMatches

@@ -20,6 +20,8 @@ pub mod Contains
 pub mod Concat
 pub mod PairSteps
 pub mod Leaves
+pub mod Levels
+pub mod KeyParts
 pub mod LeafViews
 pub mod LeavesLaws
 pub mod Exists

@@ -7,6 +7,7 @@ mod functions;
 mod key_bytes;
 mod key_kind;
 pub mod laws;
+mod level;
 mod owned;
 mod raw;
 mod sortable_key;

@@ -1,18 +1,21 @@
 //! The sortable key of a document: a walk over its items that writes each behind its depth and its kind.
 
-ghost use Rattle.std.specs.Prelude.{◌≡◌, ◌<◌, ◌+◌, ◌++◌, [], suc, IfErr};
-ghost use Rattle.jsonb_doc.specs.Tree.{Tree, Trees, Pairs};
+ghost use Rattle.std.specs.Prelude.{◌≡◌, ◌++◌, [], IfErr};
+ghost use Rattle.jsonb_doc.specs.Tree.{Tree};
 ghost use Rattle.jsonb_doc.specs.Payload.{Form};
 ghost use Rattle.jsonb_doc.specs.Format.{Decodes};
 ghost use Rattle.jsonb_doc.specs.Item.{Stands};
-ghost use Rattle.jsonb_raw.specs.Depth.{deepest, deepest_of_trees, deepest_of_pairs};
-ghost use Rattle.jsonb_raw.specs.SortableKey.{key, keys_of_trees, keys_of_pairs, item_bytes, text_bytes, depths};
+ghost use Rattle.jsonb_raw.specs.Depth.{deepest};
+ghost use Rattle.jsonb_raw.specs.SortableKey.{key, item_bytes, text_bytes, depths};
+ghost use Rattle.jsonb_raw.specs.Levels.{Part, IsKeyOf};
+ghost use Rattle.jsonb_raw.specs.KeyParts.{start, part_start};
 ghost use Rattle.jsonb_raw.specs.KeyWidth.{width_of};
 ghost use Rattle.jsonb_raw.specs.KeyAnswer.{AnswersWithin, MakesKey, RanksAsTree, IsKeyError};
 
 use crate::key_bytes::{push_number, push_text};
 use crate::key_kind;
-use jsonb_doc::{Error, Item, elements, pairs, push_extension_payload, root_item};
+use crate::level::Level;
+use jsonb_doc::{Error, Item, push_extension_payload, root_item};
 use std::alloc::Global;
 
 /// How many bytes a key has for each depth.
@@ -58,17 +61,16 @@ fn push_string(out: &mut Vec<u8>, text: &[u8], depth: usize, width: DepthWidth) 
     Ok(())
 }
 
-/// Appends the key of an item that lies at a depth.
-#[cycle(walk)]
-fn push_item(
+/// Appends the key of an item that has no parts, and of any other what stands before its parts.
+fn push_start(
     out: &mut Vec<u8>,
     item: &Item<'_>,
     depth: usize,
     width: DepthWidth,
 ) -> Result<(), Error>
     ensures key { (form : Form) (tree : Tree) → Stands form item.now tree
-        → AnswersWithin (depth + deepest tree) (depths (width_of width)) result
-        (λ _. out.new.items ≡ out.old.items ++ key (width_of width) tree depth) }
+        → AnswersWithin depth (depths (width_of width)) result
+        (λ _. out.new.items ≡ out.old.items ++ start (width_of width) tree depth) }
     ensures errors { IfErr result IsKeyError }
 {
     match item {
@@ -85,59 +87,64 @@ fn push_item(
             push_extension_payload(out, value)?;
             out.push(0)?;
         }
-        Item::Array(bytes) => {
-            push_front(out, depth, key_kind::ARRAY, width)?;
-            push_elements(out, bytes, depth, width)?;
-        }
-        Item::Object(bytes) => {
-            push_front(out, depth, key_kind::OBJECT, width)?;
-            push_pairs(out, bytes, depth, width)?;
-        }
+        Item::Array(_) => push_front(out, depth, key_kind::ARRAY, width)?,
+        Item::Object(_) => push_front(out, depth, key_kind::OBJECT, width)?,
     }
     Ok(())
 }
 
-/// Appends the keys of the elements of an array that lies at a depth.
-#[cycle(walk)]
-fn push_elements(
+/// Appends the start of a part, behind its key where it has one.
+fn push_part(
     out: &mut Vec<u8>,
-    bytes: &[u8],
+    key: Option<&str>,
+    item: &Item<'_>,
     depth: usize,
     width: DepthWidth,
 ) -> Result<(), Error>
-    requires { depth < depths (width_of width) }
-    ensures key { (form : Form) (ts : Trees) → Decodes form bytes.now (Tree.array ts)
-        → AnswersWithin (depth + deepest_of_trees ts) (depths (width_of width)) result
-        (λ _. out.new.items ≡ out.old.items ++ keys_of_trees (width_of width) ts (suc depth)) }
+    ensures key { (form : Form) (part : Part) → IsKeyOf key.entry part.0 → Stands form item.now part.1
+        → AnswersWithin depth (depths (width_of width)) result
+        (λ _. out.new.items ≡ out.old.items ++ part_start (width_of width) part depth) }
     ensures errors { IfErr result IsKeyError }
 {
-    let Some(found) = elements(bytes)? else {
-        return Err(Error::InvalidJsonb);
-    };
-    for item in found {
-        push_item(out, &item?, depth + 1, width)?;
+    if let Some(key) = key {
+        push_string(out, key.as_bytes(), depth, width)?;
     }
-    Ok(())
+    push_start(out, item, depth, width)
 }
 
-/// Appends the keys of the keys and values of an object that lies at a depth.
-#[cycle(walk)]
-fn push_pairs(out: &mut Vec<u8>, bytes: &[u8], depth: usize, width: DepthWidth) -> Result<(), Error>
-    requires { depth < depths (width_of width) }
-    ensures key { (form : Form) (ps : Pairs) → Decodes form bytes.now (Tree.object ps)
-        → AnswersWithin (depth + deepest_of_pairs ps) (depths (width_of width)) result
-        (λ _. out.new.items ≡ out.old.items ++ keys_of_pairs (width_of width) ps (suc depth)) }
+/// Appends the key of an item. What is left of the containers that the walk is within lies in a `Vec`.
+fn push_item(
+    alloc: Global,
+    out: &mut Vec<u8>,
+    item: &Item<'_>,
+    width: DepthWidth,
+) -> Result<(), Error>
+    ensures key { (form : Form) (tree : Tree) → Stands form item.now tree
+        → AnswersWithin (deepest tree) (depths (width_of width)) result
+        (λ _. out.new.items ≡ out.old.items ++ key (width_of width) tree 0) }
     ensures errors { IfErr result IsKeyError }
 {
-    let Some(found) = pairs(bytes)? else {
-        return Err(Error::InvalidJsonb);
+    push_start(out, item, 0, width)?;
+    let Some(found) = Level::of(item)? else {
+        return Ok(());
     };
-    for pair in found {
-        let (key, value) = pair?;
-        push_string(out, key.as_bytes(), depth + 1, width)?;
-        push_item(out, &value, depth + 1, width)?;
+    let mut level = found;
+    let mut around = Vec::new(alloc);
+    'walk: loop {
+        match level.take()? {
+            Some((key, part)) => {
+                push_part(out, key, &part, around.len() + 1, width)?;
+                if let Some(inner) = Level::of(&part)? {
+                    around.push(level)?;
+                    level = inner;
+                }
+            }
+            None => match around.pop() {
+                Some(outer) => level = outer,
+                None => return Ok(()),
+            },
+        }
     }
-    Ok(())
 }
 
 /// The sortable key of a document.
@@ -149,6 +156,6 @@ pub fn document_key(alloc: Global, bytes: &[u8], width: DepthWidth) -> Result<Ve
     ensures errors { IfErr result IsKeyError }
 {
     let mut out = Vec::new(alloc);
-    push_item(&mut out, &root_item(bytes)?, 0, width)?;
+    push_item(alloc, &mut out, &root_item(bytes)?, width)?;
     Ok(out)
 }

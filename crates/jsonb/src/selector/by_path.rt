@@ -28,21 +28,13 @@ pub trait SelectByPath<'a> {
     ghost document: { Self → List ℕ };
 
     /// The items that the path selects, each as a document, in their order and with repeats.
-    fn select_by_path(
-        &self,
-        alloc: Global,
-        path: &'a JsonPath<'_>,
-    ) -> Result<Vec<OwnedJsonb>, Error>
+    fn select_by_path(&self, alloc: Global, path: &JsonPath<'_>) -> Result<Vec<OwnedJsonb>, Error>
         ensures { (form : Form) (top : Tree) (outcome : Outcome (List Tree)) → Decodes form (document self.now) top
             → Means form Lax (path_view path.now) top outcome
             → HandsOut (λ v ts. AreDocuments form v.items ts) (HasTooLarge form) result outcome };
 
     /// One array of the items that the path selects.
-    fn select_array_by_path(
-        &self,
-        alloc: Global,
-        path: &'a JsonPath<'_>,
-    ) -> Result<OwnedJsonb, Error>
+    fn select_array_by_path(&self, alloc: Global, path: &JsonPath<'_>) -> Result<OwnedJsonb, Error>
         ensures { (form : Form) (top : Tree) (outcome : Outcome (List Tree)) → Decodes form (document self.now) top
             → Means form Lax (path_view path.now) top outcome
             → HandsOut (λ made ts. Decodes form made (array_of ts)) (λ ts. IsTooLarge form (array_of ts)) result outcome };
@@ -51,7 +43,7 @@ pub trait SelectByPath<'a> {
     fn select_first_by_path(
         &self,
         alloc: Global,
-        path: &'a JsonPath<'_>,
+        path: &JsonPath<'_>,
     ) -> Result<Option<OwnedJsonb>, Error>
         ensures { (form : Form) (top : Tree) (outcome : Outcome (List Tree)) → Decodes form (document self.now) top
             → Means form Lax (path_view path.now) top outcome
@@ -61,21 +53,21 @@ pub trait SelectByPath<'a> {
     fn select_value_by_path(
         &self,
         alloc: Global,
-        path: &'a JsonPath<'_>,
+        path: &JsonPath<'_>,
     ) -> Result<Option<OwnedJsonb>, Error>
         ensures { (form : Form) (top : Tree) (outcome : Outcome (List Tree)) → Decodes form (document self.now) top
             → Means form Lax (path_view path.now) top outcome
             → HandsOut (λ found ts. IsDocumentOf form found (value_of ts)) (λ ts. IsPast form (value_of ts)) result outcome };
 
     /// Whether the path selects anything.
-    fn path_exists(&self, alloc: Global, path: &'a JsonPath<'_>) -> Result<bool, Error>
+    fn path_exists(&self, alloc: Global, path: &JsonPath<'_>) -> Result<bool, Error>
         ensures { (form : Form) (top : Tree) (outcome : Outcome (List Tree)) → Decodes form (document self.now) top
             → Means form Lax (path_view path.now) top outcome
             → Gives (λ b ts. b ≡ is_some_item ts) WantsMemory result outcome };
 
     /// Whether a path that is a comparison, `&&`, `||` or `exists` is true of the document; none where that is unknown, and
     /// for every other path. One that is no single expression is not executed.
-    fn path_match(&self, alloc: Global, path: &'a JsonPath<'_>) -> Result<Option<bool>, Error>
+    fn path_match(&self, alloc: Global, path: &JsonPath<'_>) -> Result<Option<bool>, Error>
         ensures other { is_predicate (path_view path.now) ≡ false → result ≡ Ok None }
         ensures truth { (form : Form) (top : Tree) → Decodes form (document self.now) top
             → Gives (λ b c. b ≡ c) WantsMemory result (predicate Lax (path_view path.now) top) };
@@ -84,18 +76,14 @@ pub trait SelectByPath<'a> {
 impl<'a> SelectByPath<'a> for RawJsonb<'a> {
     ghost document = { raw_bytes };
 
-    fn select_by_path(
-        &self,
-        alloc: Global,
-        path: &'a JsonPath<'_>,
-    ) -> Result<Vec<OwnedJsonb>, Error> {
+    fn select_by_path(&self, alloc: Global, path: &JsonPath<'_>) -> Result<Vec<OwnedJsonb>, Error> {
         Selector::new(alloc, *self).select_values(path)
     }
 
     fn select_array_by_path(
         &self,
         alloc: Global,
-        path: &'a JsonPath<'_>,
+        path: &JsonPath<'_>,
     ) -> Result<OwnedJsonb, Error> {
         Selector::new(alloc, *self).select_array(path)
     }
@@ -103,7 +91,7 @@ impl<'a> SelectByPath<'a> for RawJsonb<'a> {
     fn select_first_by_path(
         &self,
         alloc: Global,
-        path: &'a JsonPath<'_>,
+        path: &JsonPath<'_>,
     ) -> Result<Option<OwnedJsonb>, Error> {
         Selector::new(alloc, *self).select_first(path)
     }
@@ -111,16 +99,16 @@ impl<'a> SelectByPath<'a> for RawJsonb<'a> {
     fn select_value_by_path(
         &self,
         alloc: Global,
-        path: &'a JsonPath<'_>,
+        path: &JsonPath<'_>,
     ) -> Result<Option<OwnedJsonb>, Error> {
         Selector::new(alloc, *self).select_value(path)
     }
 
-    fn path_exists(&self, alloc: Global, path: &'a JsonPath<'_>) -> Result<bool, Error> {
+    fn path_exists(&self, alloc: Global, path: &JsonPath<'_>) -> Result<bool, Error> {
         Selector::new(alloc, *self).exists(path)
     }
 
-    fn path_match(&self, alloc: Global, path: &'a JsonPath<'_>) -> Result<Option<bool>, Error> {
+    fn path_match(&self, alloc: Global, path: &JsonPath<'_>) -> Result<Option<bool>, Error> {
         Selector::new(alloc, *self).predicate_match(path)
     }
 }

@@ -135,3 +135,21 @@ fn names_unsupported_numbers(rt: HostRuntime) {
         assert_eq!(rt; check(bytes), Err(Error::InvalidJsonb), "{bytes:?}");
     }
 }
+
+#[test]
+fn accepts_deep_documents(rt: HostRuntime) {
+    let mut bytes: Vec<u8> = Vec::new(rt.alloc());
+    for left in (0..200_000_u32).rev() {
+        // an array of one container, and how long that is
+        bytes
+            .extend_from_slice(&0x8000_0001_u32.to_be_bytes())
+            .expect(&rt, "memory");
+        bytes
+            .extend_from_slice(&(0x5000_0004 + 8 * left).to_be_bytes())
+            .expect(&rt, "memory");
+    }
+    bytes
+        .extend_from_slice(&0x8000_0000_u32.to_be_bytes())
+        .expect(&rt, "memory");
+    assert_eq!(rt; check(bytes.as_slice()), Ok(()));
+}

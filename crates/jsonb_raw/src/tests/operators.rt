@@ -211,3 +211,22 @@ fn documents_are_put_together(rt: HostRuntime) -> Result<(), Fail> {
     assert_eq!(rt; float.err(), Some(Error::UnsupportedNumber));
     Ok(())
 }
+
+#[test]
+fn asks_deep_documents(rt: HostRuntime) {
+    let mut bytes: Vec<u8> = Vec::new(rt.alloc());
+    for left in (0..200_000_u32).rev() {
+        // an array of one container, and how long that is
+        bytes
+            .extend_from_slice(&0x8000_0001_u32.to_be_bytes())
+            .expect(&rt, "memory");
+        bytes
+            .extend_from_slice(&(0x5000_0008 + 8 * left).to_be_bytes())
+            .expect(&rt, "memory");
+    }
+    // [null]
+    bytes
+        .extend_from_slice(b"\x80\0\0\x01\0\0\0\0")
+        .expect(&rt, "memory");
+    assert_eq!(rt; has_text(bytes.as_slice(), b"x"), Ok(false));
+}

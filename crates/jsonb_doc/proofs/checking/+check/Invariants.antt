@@ -1,24 +1,35 @@
-use Rattle.std.proofs.Common.{◌≡◌, ◌*◌, ◌+◌, ◌≤◌, length, ◌↔◌, true, false}
-use Rattle.jsonb_doc.specs.Payload.{number_of, number_or_unsupported}
-use Rattle.jsonb_doc.specs.Checking.{HasEntries}
+use Rattle.std.proofs.Common.{◌*◌, ◌+◌, ◌≤◌, length, nat_eq, if◌then◌else◌}
+use Rattle.std.specs.Prelude.{option_copied}
+use Rattle.jsonb_doc.specs.Checking.{HasContent, HasEntries, HasLarge, Leaves}
+use Rattle.jsonb_doc.proofs.Halves.{halvings}
+use Rattle.jsonb_doc.proofs.Left.{IsApart}
 use Rattle.jsonb_doc.proofs.checking.+check.Given as goal
 
+-- calls nest no deeper than the length can be halved
 abbrev pub decreases-check_container : goal.decreases-check_container
-decreases-check_container l = 3 * length l.bytes.now
+decreases-check_container l = 3 * halvings (length l.bytes.now) + 2
 
 abbrev pub decreases-check_content : goal.decreases-check_content
-decreases-check_content l = 3 * length l.content.now + 1
+decreases-check_content l = if nat_eq l.kind 5 then 3 * halvings (length l.content.now) + 3 else 0
 
 abbrev pub decreases-check_entries : goal.decreases-check_entries
-decreases-check_entries l = 3 * length l.contents.now + 2
+decreases-check_entries l = 3 * halvings (length l.contents.now + 4) + 1
 
--- the entries decode where those that are left do, unless an unsupported number was met
+-- the container decodes where the one that is left does
+abbrev pub invariant-check_container-loop-words : goal.invariant-check_container-loop-words
+invariant-check_container-loop-words l = record {
+  shorter : length l.container ≤ length l.fn.bytes;
+  left : Leaves l.is_supported (HasContent 5 l.fn.bytes) (HasContent 5 l.container);
+}
+
+abbrev pub decreases-check_container-loop-words : goal.decreases-check_container-loop-words
+decreases-check_container-loop-words l = length l.container
+
+-- the entries decode where the large container and those that are left do
 abbrev pub invariant-check_entries-loop-words_left : goal.invariant-check_entries-loop-words_left
 invariant-check_entries-loop-words_left l = record {
-  shorter : length l.contents_left ≤ length l.fn.contents;
-  lenient : HasEntries l.fn.words l.fn.contents number_or_unsupported ↔ HasEntries l.words_left l.contents_left number_or_unsupported;
-  supported : l.is_supported ≡ true → HasEntries l.fn.words l.fn.contents number_of ↔ HasEntries l.words_left l.contents_left number_of;
-  unsupported : l.is_supported ≡ false → ¬ HasEntries l.fn.words l.fn.contents number_of;
+  apart : IsApart (option_copied l.large) l.contents_left l.fn.contents;
+  left : Leaves l.is_supported (HasEntries l.fn.words l.fn.contents) (λ r. HasLarge (option_copied l.large) r × HasEntries l.words_left l.contents_left r);
 }
 
 abbrev pub decreases-check_entries-loop-words_left : goal.decreases-check_entries-loop-words_left

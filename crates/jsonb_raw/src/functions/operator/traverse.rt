@@ -1,13 +1,13 @@
 //! A closure asked of the texts of a document.
 
-ghost use Rattle.std.specs.Prelude.{IsOkAnd, IfErr};
+ghost use Rattle.std.specs.Prelude.{◌≡◌, ◌<◌, length, IsOkAnd, IfOk, IfSome, IfErr};
 ghost use Rattle.jsonb_doc.specs.Tree.{Tree, Trees, Pairs, array, object};
 ghost use Rattle.jsonb_doc.specs.Payload.{Form};
 ghost use Rattle.jsonb_doc.specs.Format.{Decodes};
-ghost use Rattle.jsonb_doc.specs.Item.{Stands};
+ghost use Rattle.jsonb_doc.specs.Item.{Stands, item_size};
 ghost use Rattle.jsonb_doc.specs.View.{IsDecodingError};
 ghost use Rattle.jsonb_raw.specs.Documents.{raw_bytes};
-ghost use Rattle.jsonb_raw.specs.Texts.{texts, texts_of_trees, texts_of_pairs, Tells};
+ghost use Rattle.jsonb_raw.specs.Texts.{texts, texts_of_trees, texts_of_pairs, Tells, LeavesTexts};
 
 use crate::raw::RawJsonb;
 use jsonb_doc::{Error, Item, elements, pairs, root_item};
@@ -29,7 +29,19 @@ impl RawJsonb<'_> {
     }
 }
 
+/// What calls of a closure told of the texts of a container.
+#[derive(Clone, Copy)]
+struct Told<'a> {
+    /// One of them answered true.
+    answer: bool,
+    /// The container that was not asked about, as it is longer than half of all.
+    large: Option<Item<'a>>,
+}
+
 /// Whether `func` answers true for a text of the item.
+///
+/// It goes into a part that is longer than half of all by this loop, and into the others by a call. So calls nest no deeper
+/// than the length can be halved.
 #[cycle(texts)]
 fn item_tells<F: Fn(&[u8]) -> bool>(item: &Item<'_>, func: &F) -> Result<bool, Error>
     requires { F.IsAlwaysCallable func.now }
@@ -37,49 +49,114 @@ fn item_tells<F: Fn(&[u8]) -> bool>(item: &Item<'_>, func: &F) -> Result<bool, E
         → IsOkAnd result (λ answer. Tells F.Fn func.now (texts tree) answer) }
     ensures errors { IfErr result IsDecodingError }
 {
-    match item {
-        Item::String(text) => Ok(func(text.as_bytes())),
-        Item::Array(bytes) => array_tells(bytes, func),
-        Item::Object(bytes) => object_tells(bytes, func),
-        _ => Ok(false),
+    let mut left = *item;
+    loop {
+        let told = part_tells(&left, func)?;
+        if told.answer {
+            return Ok(true);
+        }
+        let Some(large) = told.large else {
+            return Ok(false);
+        };
+        left = large;
     }
 }
 
-/// The same of the elements of an array.
+/// The same of an item, but for a container in it.
 #[cycle(texts)]
-fn array_tells<F: Fn(&[u8]) -> bool>(bytes: &[u8], func: &F) -> Result<bool, Error>
+fn part_tells<'a, F: Fn(&[u8]) -> bool>(item: &Item<'a>, func: &F) -> Result<Told<'a>, Error>
+    requires { F.IsAlwaysCallable func.now }
+    ensures told { (form : Form) (tree : Tree) → Stands form item.now tree
+        → IsOkAnd result (λ told. LeavesTexts F.Fn func.now form (texts tree) told.answer told.large) }
+    ensures size { IfOk result (λ told. IfSome told.large (λ large. item_size large < item_size item.now)) }
+    ensures errors { IfErr result IsDecodingError }
+{
+    match item {
+        Item::String(text) => Ok(Told {
+            answer: func(text.as_bytes()),
+            large: None,
+        }),
+        Item::Array(bytes) => array_tells(bytes, func),
+        Item::Object(bytes) => object_tells(bytes, func),
+        _ => Ok(Told {
+            answer: false,
+            large: None,
+        }),
+    }
+}
+
+/// The same of the elements of an array, but for a container among them.
+#[cycle(texts)]
+fn array_tells<'a, F: Fn(&[u8]) -> bool>(bytes: &'a [u8], func: &F) -> Result<Told<'a>, Error>
     requires { F.IsAlwaysCallable func.now }
     ensures told { (form : Form) (ts : Trees) → Decodes form bytes.now (array ts)
-        → IsOkAnd result (λ answer. Tells F.Fn func.now (texts_of_trees ts) answer) }
+        → IsOkAnd result (λ told. LeavesTexts F.Fn func.now form (texts_of_trees ts) told.answer told.large) }
+    ensures size { IfOk result (λ told. IfSome told.large (λ item. item_size item < length bytes.now)) }
     ensures errors { IfErr result IsDecodingError }
 {
     let Some(found) = elements(bytes)? else {
         return Err(Error::InvalidJsonb);
     };
+    let mut large = None;
     for item in found {
-        if item_tells(&item?, func)? {
-            return Ok(true);
+        let item = item?;
+        if large.is_none() && container_len(&item) > bytes.len() / 2 {
+            large = Some(item);
+        } else if item_tells(&item, func)? {
+            return Ok(Told {
+                answer: true,
+                large: None,
+            });
         }
     }
-    Ok(false)
+    Ok(Told {
+        answer: false,
+        large,
+    })
 }
 
 /// The same of the keys and the values of an object.
 #[cycle(texts)]
-fn object_tells<F: Fn(&[u8]) -> bool>(bytes: &[u8], func: &F) -> Result<bool, Error>
+fn object_tells<'a, F: Fn(&[u8]) -> bool>(bytes: &'a [u8], func: &F) -> Result<Told<'a>, Error>
     requires { F.IsAlwaysCallable func.now }
     ensures told { (form : Form) (ps : Pairs) → Decodes form bytes.now (object ps)
-        → IsOkAnd result (λ answer. Tells F.Fn func.now (texts_of_pairs ps) answer) }
+        → IsOkAnd result (λ told. LeavesTexts F.Fn func.now form (texts_of_pairs ps) told.answer told.large) }
+    ensures size { IfOk result (λ told. IfSome told.large (λ item. item_size item < length bytes.now)) }
     ensures errors { IfErr result IsDecodingError }
 {
     let Some(found) = pairs(bytes)? else {
         return Err(Error::InvalidJsonb);
     };
+    let mut large = None;
     for pair in found {
         let (key, value) = pair?;
-        if func(key.as_bytes()) || item_tells(&value, func)? {
-            return Ok(true);
+        if func(key.as_bytes()) {
+            return Ok(Told {
+                answer: true,
+                large: None,
+            });
+        }
+        if large.is_none() && container_len(&value) > bytes.len() / 2 {
+            large = Some(value);
+        } else if item_tells(&value, func)? {
+            return Ok(Told {
+                answer: true,
+                large: None,
+            });
         }
     }
-    Ok(false)
+    Ok(Told {
+        answer: false,
+        large,
+    })
+}
+
+/// How many bytes an array or an object has, and 0 for another item.
+fn container_len(item: &Item<'_>) -> usize
+    ensures { result ≡ item_size item.now }
+{
+    match item {
+        Item::Array(bytes) | Item::Object(bytes) => bytes.len(),
+        _ => 0,
+    }
 }

@@ -37,38 +37,38 @@ pub and_at-returns-in_default-clause-value : goal.and_at-returns-in_default-clau
 and_at-returns-in_default-clause-value t c = λ n enough. and-none n c.args.is_in_filter c.args.input.now (rw c.in_default.is at
     (c.in_ok-first.ensures.value n enough))
 
-pub and_at-loop-found-init : goal.and_at-loop-found-init
-and_at-loop-found-init t c = record {
+pub and_at-loop-next-init : goal.and_at-loop-next-init
+and_at-loop-next-init t c = record {
   read = λ n enough. and-begins n c.args.is_in_filter c.args.input.now (expression_view c.in-Some.first) c.in-Some.after_first.now
       (rw c.in-Some.is at (c.in_ok-first.ensures.value n enough));
   shorter = rw c.in-Some.is at c.in_ok-first.ensures.shrinks;
 }
 
-pub and_at-loop-found-preserved : goal.and_at-loop-found-preserved
-and_at-loop-found-preserved t c =
+pub and_at-loop-next-preserved : goal.and_at-loop-next-preserved
+and_at-loop-next-preserved t c =
     let f = c.args.is_in_filter in
-    let left : c.in_ok-left.left.value ≡ c.loop-found.found = c.in_ok-left.ensures.ok in
+    let left : c.in_ok-left.left.value ≡ c.loop-next.found = c.in_ok-left.ensures.ok in
     let right : c.in_ok-right.right.value ≡ c.in-Some-2.next = c.in_ok-right.ensures.ok in
-    let shape : expression_view (BinaryOp And c.in_ok-left.left c.in_ok-right.right) ≡ binary and_op (expression_view c.loop-found.found)
+    let shape : expression_view (BinaryOp And c.in_ok-left.left c.in_ok-right.right) ≡ binary and_op (expression_view c.loop-next.found)
     (expression_view c.in-Some-2.next) = rw (← left, ← right) (view-binary And c.in_ok-left.left c.in_ok-right.right) in
-    let shorter : length c.in-Some-2.after.now < length c.loop-found.rest.now = rw c.in-Some-2.is at c.in_ok-next.ensures.shrinks in
+    let shorter : length c.in-Some-2.after.now < length c.loop-next.rest.now = rw c.in-Some-2.is at c.in_ok-next.ensures.shrinks in
     record {
       read = λ n enough.
           let reads : Some (expression_view c.in-Some-2.next, c.in-Some-2.after.now) ≡ another_atom
-          (nested_or n) f c.loop-found.rest.now = rw c.in-Some-2.is at (c.in_ok-next.ensures.value n (omega
-          (arith, enough, c.loop-found.invariant.shorter))) in
-          rw shape (fold-goes and_op (another_atom (nested_or n) f) (expression_view c.loop-found.found) c.loop-found.rest.now
-          (expression_view c.in-Some-2.next) c.in-Some-2.after.now _ reads shorter (c.loop-found.invariant.read n enough));
-      shorter = omega (arith, shorter, c.loop-found.invariant.shorter);
+          (nested_or n) f c.loop-next.rest.now = rw c.in-Some-2.is at (c.in_ok-next.ensures.value n (omega
+          (arith, enough, c.loop-next.invariant.shorter))) in
+          rw shape (fold-goes and_op (another_atom (nested_or n) f) (expression_view c.loop-next.found) c.loop-next.rest.now
+          (expression_view c.in-Some-2.next) c.in-Some-2.after.now _ reads shorter (c.loop-next.invariant.read n enough));
+      shorter = omega (arith, shorter, c.loop-next.invariant.shorter);
     }
 
 pub and_at-returns-clause-value : goal.and_at-returns-clause-value
 and_at-returns-clause-value t c =
     λ n enough.
     let f = c.args.is_in_filter in
-    let none = rw c.in_default-2.is at (c.in_ok-next.ensures.value n (omega (arith, enough, c.loop-found.invariant.shorter))) in
-    fold-ends and_op (another_atom (nested_or n) f) (expression_view c.loop-found.found) c.loop-found.rest.now _ none
-    (c.loop-found.invariant.read n enough)
+    let none = rw c.in_default-2.is at (c.in_ok-next.ensures.value n (omega (arith, enough, c.loop-next.invariant.shorter))) in
+    fold-ends and_op (another_atom (nested_or n) f) (expression_view c.loop-next.found) c.loop-next.rest.now _ none
+    (c.loop-next.invariant.read n enough)
 
 pub or_at-returns-in_default-clause-value : goal.or_at-returns-in_default-clause-value
 or_at-returns-in_default-clause-value t c = λ n more.
@@ -76,29 +76,29 @@ or_at-returns-in_default-clause-value t c = λ n more.
     sym (nested-step n c.args.is_in_filter c.args.input.now positive ∙ sym (or-none (n - 1) c.args.is_in_filter c.args.input.now
     (rw c.in_default.is at (c.in_ok-first.ensures.value (n - 1) (omega (arith, more))))))
 
-pub or_at-loop-found-init : goal.or_at-loop-found-init
-or_at-loop-found-init t c = record {
+pub or_at-loop-next-init : goal.or_at-loop-next-init
+or_at-loop-next-init t c = record {
   read = λ n enough. or-begins n c.args.is_in_filter c.args.input.now (expression_view c.in-Some.first) c.in-Some.after_first.now
       (rw c.in-Some.is at (c.in_ok-first.ensures.value n enough));
   shorter = rw c.in-Some.is at c.in_ok-first.ensures.shrinks;
 }
 
-pub or_at-loop-found-preserved : goal.or_at-loop-found-preserved
-or_at-loop-found-preserved t c =
+pub or_at-loop-next-preserved : goal.or_at-loop-next-preserved
+or_at-loop-next-preserved t c =
     let f = c.args.is_in_filter in
-    let left : c.in_ok-left.left.value ≡ c.loop-found.found = c.in_ok-left.ensures.ok in
+    let left : c.in_ok-left.left.value ≡ c.loop-next.found = c.in_ok-left.ensures.ok in
     let right : c.in_ok-right.right.value ≡ c.in-Some-2.next = c.in_ok-right.ensures.ok in
-    let shape : expression_view (BinaryOp Or c.in_ok-left.left c.in_ok-right.right) ≡ binary or_op (expression_view c.loop-found.found)
+    let shape : expression_view (BinaryOp Or c.in_ok-left.left c.in_ok-right.right) ≡ binary or_op (expression_view c.loop-next.found)
     (expression_view c.in-Some-2.next) = rw (← left, ← right) (view-binary Or c.in_ok-left.left c.in_ok-right.right) in
-    let shorter : length c.in-Some-2.after.now < length c.loop-found.rest.now = rw c.in-Some-2.is at c.in_ok-next.ensures.shrinks in
+    let shorter : length c.in-Some-2.after.now < length c.loop-next.rest.now = rw c.in-Some-2.is at c.in_ok-next.ensures.shrinks in
     record {
       read = λ n enough.
           let reads : Some (expression_view c.in-Some-2.next, c.in-Some-2.after.now) ≡ another_and
-          (nested_or n) f c.loop-found.rest.now = rw c.in-Some-2.is at (c.in_ok-next.ensures.value n (omega
-          (arith, enough, c.loop-found.invariant.shorter))) in
-          rw shape (fold-goes or_op (another_and (nested_or n) f) (expression_view c.loop-found.found) c.loop-found.rest.now
-          (expression_view c.in-Some-2.next) c.in-Some-2.after.now _ reads shorter (c.loop-found.invariant.read n enough));
-      shorter = omega (arith, shorter, c.loop-found.invariant.shorter);
+          (nested_or n) f c.loop-next.rest.now = rw c.in-Some-2.is at (c.in_ok-next.ensures.value n (omega
+          (arith, enough, c.loop-next.invariant.shorter))) in
+          rw shape (fold-goes or_op (another_and (nested_or n) f) (expression_view c.loop-next.found) c.loop-next.rest.now
+          (expression_view c.in-Some-2.next) c.in-Some-2.after.now _ reads shorter (c.loop-next.invariant.read n enough));
+      shorter = omega (arith, shorter, c.loop-next.invariant.shorter);
     }
 
 pub or_at-returns-clause-value : goal.or_at-returns-clause-value
@@ -107,7 +107,7 @@ or_at-returns-clause-value t c =
     let f = c.args.is_in_filter in
     let positive : 0 < n = omega (arith, more) in
     let enough : length c.args.input.now ≤ n - 1 = omega (arith, more) in
-    let none = rw c.in_default-2.is at (c.in_ok-next.ensures.value (n - 1) (omega (arith, more, c.loop-found.invariant.shorter))) in
-    fold-ends or_op (another_and (nested_or (n - 1)) f) (expression_view c.loop-found.found) c.loop-found.rest.now _ none
-    (c.loop-found.invariant.read (n - 1) enough)
+    let none = rw c.in_default-2.is at (c.in_ok-next.ensures.value (n - 1) (omega (arith, more, c.loop-next.invariant.shorter))) in
+    fold-ends or_op (another_and (nested_or (n - 1)) f) (expression_view c.loop-next.found) c.loop-next.rest.now _ none
+    (c.loop-next.invariant.read (n - 1) enough)
     ∙ sym (nested-step n f c.args.input.now positive)

@@ -50,22 +50,22 @@ abbrev pub decreases-exists_steps_at-loop-steps : goal.decreases-exists_steps_at
 decreases-exists_steps_at-loop-steps l = length l.rest
 
 -- the expression so far, and the members that are still read
-abbrev pub invariant-and_at-loop-found : goal.invariant-and_at-loop-found
-invariant-and_at-loop-found l = record {
+abbrev pub invariant-and_at-loop-next : goal.invariant-and_at-loop-next
+invariant-and_at-loop-next l = record {
   read : (n : ℕ) → length l.fn.input ≤ n → folded and_op (expression_view l.found) (repeat (another_atom
       (nested_or n) l.is_in_filter) l.rest) ≡ and_with (nested_or n) l.is_in_filter l.fn.input;
   shorter : length l.rest < length l.fn.input;
 }
 
-abbrev pub decreases-and_at-loop-found : goal.decreases-and_at-loop-found
-decreases-and_at-loop-found l = length l.rest
+abbrev pub decreases-and_at-loop-next : goal.decreases-and_at-loop-next
+decreases-and_at-loop-next l = length l.rest
 
-abbrev pub invariant-or_at-loop-found : goal.invariant-or_at-loop-found
-invariant-or_at-loop-found l = record {
+abbrev pub invariant-or_at-loop-next : goal.invariant-or_at-loop-next
+invariant-or_at-loop-next l = record {
   read : (n : ℕ) → length l.fn.input ≤ n → folded or_op (expression_view l.found) (repeat (another_and
       (nested_or n) l.is_in_filter) l.rest) ≡ or_with (nested_or n) l.is_in_filter l.fn.input;
   shorter : length l.rest < length l.fn.input;
 }
 
-abbrev pub decreases-or_at-loop-found : goal.decreases-or_at-loop-found
-decreases-or_at-loop-found l = length l.rest
+abbrev pub decreases-or_at-loop-next : goal.decreases-or_at-loop-next
+decreases-or_at-loop-next l = length l.rest

@@ -1,12 +1,17 @@
 use Rattle.std.proofs.Common.{rules, arith, ℕ, List, true, false, ◌≡◌, refl, sym, ◌∙◌, subst}
 use Rattle.std.specs.Prelude.{IsOkAnd}
+use Rattle.std.specs.Prelude.{◌==◌}
+use Rattle.std.proofs.lemmas.Slice.Eq.{bytes_eq-Decides}
+use Rattle.std.proofs.lemmas.Bool.Decides.{nat_tests}
 use Rattle.std.specs.List.{list_any}
 use Rattle.std.specs.Borrow.{Bor}
 use Rattle.jsonb_doc.specs.declared.item.Item.TheVariants as item
 use Rattle.jsonb_doc.specs.Tree.{array, object, keys, elements}
 use Rattle.jsonb_doc.proofs.BuilderSteps.{keys_rise}
 use Rattle.jsonb_raw.specs.Contains.{is_matched_by}
-use Rattle.jsonb_raw.proofs.Left.{SomeElements-all, SomeElements-first, SomeElements-error, SomeElements-none, SomePairs-all, SomePairs-first, SomePairs-error, SomePairs-none}
+use Rattle.jsonb_raw.proofs.EntriesLeft.{SomeEntries-first, SomeEntries-error, SomeEntries-none}
+use Rattle.jsonb_raw.proofs.EntryMatches.{kinds_tell, bytes_tell, texts_tell, wholes_tell}
+use Rattle.jsonb_raw.proofs.Left.{SomePairs-all, SomePairs-first, SomePairs-error, SomePairs-none}
 use Rattle.jsonb_raw.specs.PairSteps.{pairs_above}
 use Rattle.jsonb_raw.proofs.MatchLemmas.{unmatched_key, unmatched_value, matched_value, no_value_found, value_found, matches_if_equal, no_object}
 use Rattle.jsonb_raw.proofs.functions.operator.contains.+contains.Goals as goal
@@ -38,99 +43,111 @@ item_matches-returns-in_default-clause-answer t c = λ form other_form x y stand
 
 -- ---- arrays
 
-pub array_contains-returns-in_err-wanted-clause-answer : goal.array_contains-returns-in_err-wanted-clause-answer
-array_contains-returns-in_err-wanted-clause-answer t c = λ form other_form xs ys d e. absurd (c.in_err-wanted.ensures.decodes other_form (array ys) e)
+pub array_contains-returns-in_err-found-clause-answer : goal.array_contains-returns-in_err-found-clause-answer
+array_contains-returns-in_err-found-clause-answer t c = λ form other_form xs ys d e. absurd (c.in_err-found.ensures.decodes form xs d)
 
-pub array_contains-returns-in_default-clause-answer : goal.array_contains-returns-in_default-clause-answer
-array_contains-returns-in_default-clause-answer t c = λ form other_form xs ys d e. absurd (rw c.in_default.is at (c.in_ok-wanted.ensures.decodes other_form (array ys) e))
-
-pub array_contains-loop-item-init : goal.array_contains-loop-item-init
-array_contains-loop-item-init t c = record {
+pub array_contains-loop-wanted-init : goal.array_contains-loop-wanted-init
+array_contains-loop-wanted-init t c = record {
   can = tt;
   finite = tt;
   room = search rules;
-  left = λ form other_form xs ys d e. SomeElements-all other_form ys _ _ _ _ c.in-Some.is c.into_iter-item-iterator.ensures.into_iter_gives (c.in_ok-wanted.ensures.decodes other_form (array ys) e) refl;
+  left = λ form other_form xs ys d e. record { trees = ys; left = rw c.into_iter-wanted-iterator.ensures.into_iter_gives (c.in_ok-wanted-items.ensures.decodes other_form ys e); fact = refl };
 }
 
-pub array_contains-returns-in_err-item-clause-answer : goal.array_contains-returns-in_err-item-clause-answer
-array_contains-returns-in_err-item-clause-answer t c = λ form other_form xs ys d e.
-    SomeElements-error other_form _ _ _ _ _ c.in_err-item.was c.in-Some-item.ensures.steps (c.loop-item.invariant.left form other_form xs ys d e)
-
-pub array_contains-returns-in_err-element_matches-clause-answer : goal.array_contains-returns-in_err-element_matches-clause-answer
-array_contains-returns-in_err-element_matches-clause-answer t c = λ form other_form xs ys d e.
-    SomeElements-first other_form _ _ _ _ _ c.in_ok-item.was c.in-Some-item.ensures.steps (c.loop-item.invariant.left form other_form xs ys d e)
-    (λ first rest left stands fact. absurd (c.in_err-element_matches.ensures.answer form other_form xs first d stands))
-
-pub array_contains-returns-then-not-branch-clause-answer : goal.array_contains-returns-then-not-branch-clause-answer
-array_contains-returns-then-not-branch-clause-answer t c = λ form other_form xs ys d e.
-    SomeElements-first other_form _ _ _ _ _ c.in_ok-item.was c.in-Some-item.ensures.steps (c.loop-item.invariant.left form other_form xs ys d e)
-    (λ first rest left stands fact.
-    let no : list_any (is_matched_by first) (elements xs) ≡ false = sym (c.in_ok-element_matches.ensures.answer form other_form xs first d stands) ∙ c.if-not-branch.true in
-    rw no at fact)
-
-pub array_contains-loop-item-preserved : goal.array_contains-loop-item-preserved
-array_contains-loop-item-preserved t c = record {
+pub array_contains-loop-wanted-preserved : goal.array_contains-loop-wanted-preserved
+array_contains-loop-wanted-preserved t c = record {
   can = tt;
   finite = tt;
-  room = omega (arith, c.in-Some-item.ensures.steps.room);
+  room = omega (arith, c.in-Some.ensures.steps.room);
   left = λ form other_form xs ys d e.
-      SomeElements-first other_form _ _ _ _ _ c.in_ok-item.was c.in-Some-item.ensures.steps (c.loop-item.invariant.left form other_form xs ys d e)
-      (λ first rest left stands fact.
-      let yes : list_any (is_matched_by first) (elements xs) ≡ true = sym (c.in_ok-element_matches.ensures.answer form other_form xs first d stands) ∙ c.if-not-branch.false in
+      SomeEntries-first other_form _ _ _ _ _ c.in_ok-wanted.was c.in-Some.ensures.steps (c.loop-wanted.invariant.left form other_form xs ys d e)
+      (λ first rest left stored fact.
+      let yes : list_any (is_matched_by first) (elements xs) ≡ true = sym (c.in_ok-has_match.ensures.answer form other_form xs first (c.in_ok-found.ensures.decodes form xs d) stored (c.in_ok-item.ensures.decodes other_form first stored.content)) ∙ c.if-not-branch.false in
       record { trees = rest; left = left; fact = rw yes at fact });
 }
 
+pub array_contains-returns-in_err-wanted-clause-answer : goal.array_contains-returns-in_err-wanted-clause-answer
+array_contains-returns-in_err-wanted-clause-answer t c = λ form other_form xs ys d e.
+    SomeEntries-error other_form _ _ _ _ _ c.in_err-wanted.was c.in-Some.ensures.steps (c.loop-wanted.invariant.left form other_form xs ys d e)
+
+pub array_contains-returns-in_err-item-clause-answer : goal.array_contains-returns-in_err-item-clause-answer
+array_contains-returns-in_err-item-clause-answer t c = λ form other_form xs ys d e.
+    SomeEntries-first other_form _ _ _ _ _ c.in_ok-wanted.was c.in-Some.ensures.steps (c.loop-wanted.invariant.left form other_form xs ys d e)
+    (λ first rest left stored fact. absurd (c.in_err-item.ensures.decodes other_form first stored.content))
+
+pub array_contains-returns-in_err-has_match-clause-answer : goal.array_contains-returns-in_err-has_match-clause-answer
+array_contains-returns-in_err-has_match-clause-answer t c = λ form other_form xs ys d e.
+    SomeEntries-first other_form _ _ _ _ _ c.in_ok-wanted.was c.in-Some.ensures.steps (c.loop-wanted.invariant.left form other_form xs ys d e)
+    (λ first rest left stored fact. absurd (c.in_err-has_match.ensures.answer form other_form xs first (c.in_ok-found.ensures.decodes form xs d) stored (c.in_ok-item.ensures.decodes other_form first stored.content)))
+
+pub array_contains-returns-then-not-branch-clause-answer : goal.array_contains-returns-then-not-branch-clause-answer
+array_contains-returns-then-not-branch-clause-answer t c = λ form other_form xs ys d e.
+    SomeEntries-first other_form _ _ _ _ _ c.in_ok-wanted.was c.in-Some.ensures.steps (c.loop-wanted.invariant.left form other_form xs ys d e)
+    (λ first rest left stored fact.
+    let no : list_any (is_matched_by first) (elements xs) ≡ false = sym (c.in_ok-has_match.ensures.answer form other_form xs first (c.in_ok-found.ensures.decodes form xs d) stored (c.in_ok-item.ensures.decodes other_form first stored.content)) ∙ c.if-not-branch.true in
+    rw no at fact)
+
 pub array_contains-returns-clause-answer : goal.array_contains-returns-clause-answer
 array_contains-returns-clause-answer t c = λ form other_form xs ys d e.
-    SomeElements-none other_form _ _ _ c.in-None.ensures.steps (c.loop-item.invariant.left form other_form xs ys d e)
+    SomeEntries-none other_form _ _ _ c.in-None.ensures.steps (c.loop-wanted.invariant.left form other_form xs ys d e)
 
--- ---- one element
+-- ---- entries
 
-pub element_matches-returns-in_err-found-clause-answer : goal.element_matches-returns-in_err-found-clause-answer
-element_matches-returns-in_err-found-clause-answer t c = λ form other_form xs y d s. absurd (c.in_err-found.ensures.decodes form (array xs) d)
+pub has_match-returns-in_err-entry-clause-answer : goal.has_match-returns-in_err-entry-clause-answer
+has_match-returns-in_err-entry-clause-answer t c = λ form other_form xs y d s k.
+    SomeEntries-error form _ _ _ _ _ c.in_err-entry.was c.in-Some.ensures.steps (c.loop-entry.invariant.left form other_form xs y d s k)
 
-pub element_matches-returns-in_default-clause-answer : goal.element_matches-returns-in_default-clause-answer
-element_matches-returns-in_default-clause-answer t c = λ form other_form xs y d s. absurd (rw c.in_default.is at (c.in_ok-found.ensures.decodes form (array xs) d))
+pub has_match-returns-in_err-entry_matches-clause-answer : goal.has_match-returns-in_err-entry_matches-clause-answer
+has_match-returns-in_err-entry_matches-clause-answer t c = λ form other_form xs y d s k.
+    SomeEntries-first form _ _ _ _ _ c.in_ok-entry.was c.in-Some.ensures.steps (c.loop-entry.invariant.left form other_form xs y d s k)
+    (λ first rest left stored fact. absurd (c.in_err-entry_matches.ensures.answer form other_form first y stored s k))
 
-pub element_matches-loop-item-init : goal.element_matches-loop-item-init
-element_matches-loop-item-init t c = record {
-  can = tt;
-  finite = tt;
-  room = search rules;
-  left = λ form other_form xs y d s. SomeElements-all form xs _ _ _ _ c.in-Some.is c.into_iter-item-iterator.ensures.into_iter_gives (c.in_ok-found.ensures.decodes form (array xs) d) refl;
-}
-
-pub element_matches-returns-in_err-item-clause-answer : goal.element_matches-returns-in_err-item-clause-answer
-element_matches-returns-in_err-item-clause-answer t c = λ form other_form xs y d s.
-    SomeElements-error form _ _ _ _ _ c.in_err-item.was c.in-Some-item.ensures.steps (c.loop-item.invariant.left form other_form xs y d s)
-
-pub element_matches-returns-in_err-item_matches-clause-answer : goal.element_matches-returns-in_err-item_matches-clause-answer
-element_matches-returns-in_err-item_matches-clause-answer t c = λ form other_form xs y d s.
-    SomeElements-first form _ _ _ _ _ c.in_ok-item.was c.in-Some-item.ensures.steps (c.loop-item.invariant.left form other_form xs y d s)
-    (λ first rest left stands fact. absurd (c.in_err-item_matches.ensures.answer form other_form first y stands s))
-
-pub element_matches-returns-then-branch-clause-answer : goal.element_matches-returns-then-branch-clause-answer
-element_matches-returns-then-branch-clause-answer t c = λ form other_form xs y d s.
-    SomeElements-first form _ _ _ _ _ c.in_ok-item.was c.in-Some-item.ensures.steps (c.loop-item.invariant.left form other_form xs y d s)
-    (λ first rest left stands fact.
-    let yes : is_matched_by y first ≡ true = sym (c.in_ok-item_matches.ensures.answer form other_form first y stands s) ∙ c.if-branch.true in
+pub has_match-returns-then-branch-clause-answer : goal.has_match-returns-then-branch-clause-answer
+has_match-returns-then-branch-clause-answer t c = λ form other_form xs y d s k.
+    SomeEntries-first form _ _ _ _ _ c.in_ok-entry.was c.in-Some.ensures.steps (c.loop-entry.invariant.left form other_form xs y d s k)
+    (λ first rest left stored fact.
+    let yes : is_matched_by y first ≡ true = sym (c.in_ok-entry_matches.ensures.answer form other_form first y stored s k) ∙ c.if-branch.true in
     rw yes at fact)
 
-pub element_matches-loop-item-preserved : goal.element_matches-loop-item-preserved
-element_matches-loop-item-preserved t c = record {
+pub has_match-loop-entry-preserved : goal.has_match-loop-entry-preserved
+has_match-loop-entry-preserved t c = record {
   can = tt;
   finite = tt;
-  room = omega (arith, c.in-Some-item.ensures.steps.room);
-  left = λ form other_form xs y d s.
-      SomeElements-first form _ _ _ _ _ c.in_ok-item.was c.in-Some-item.ensures.steps (c.loop-item.invariant.left form other_form xs y d s)
-      (λ first rest left stands fact.
-      let no : is_matched_by y first ≡ false = sym (c.in_ok-item_matches.ensures.answer form other_form first y stands s) ∙ c.if-branch.false in
+  room = omega (arith, c.in-Some.ensures.steps.room);
+  left = λ form other_form xs y d s k.
+      SomeEntries-first form _ _ _ _ _ c.in_ok-entry.was c.in-Some.ensures.steps (c.loop-entry.invariant.left form other_form xs y d s k)
+      (λ first rest left stored fact.
+      let no : is_matched_by y first ≡ false = sym (c.in_ok-entry_matches.ensures.answer form other_form first y stored s k) ∙ c.if-branch.false in
       record { trees = rest; left = left; fact = rw no at fact });
 }
 
-pub element_matches-returns-clause-answer : goal.element_matches-returns-clause-answer
-element_matches-returns-clause-answer t c = λ form other_form xs y d s.
-    SomeElements-none form _ _ _ c.in-None.ensures.steps (c.loop-item.invariant.left form other_form xs y d s)
+pub has_match-returns-clause-answer : goal.has_match-returns-clause-answer
+has_match-returns-clause-answer t c = λ form other_form xs y d s k.
+    SomeEntries-none form _ _ _ c.in-None.ensures.steps (c.loop-entry.invariant.left form other_form xs y d s k)
+
+pub entry_matches-returns-then-entry-wanted-clause-answer : goal.entry_matches-returns-then-entry-wanted-clause-answer
+entry_matches-returns-then-entry-wanted-clause-answer t c = λ form other_form x y h k i. kinds_tell form other_form _ _ x y h k c.if-entry-wanted.true
+
+pub entry_matches-returns-in-Some-Some-clause-answer : goal.entry_matches-returns-in-Some-Some-clause-answer
+entry_matches-returns-in-Some-Some-clause-answer t c = λ form other_form x y h k i.
+    wholes_tell form other_form _ _ x y h k c.in-Some-Some.number c.in-Some-Some.other c.in-Some-Some.ensures.kind c.in-Some-Some.ensures'.kind c.in-Some-Some.ensures.number c.in-Some-Some.ensures'.number
+
+pub entry_matches-returns-then-eq-clause-answer : goal.entry_matches-returns-then-eq-clause-answer
+entry_matches-returns-then-eq-clause-answer t c = λ form other_form x y h k i.
+    bytes_tell form other_form _ _ x y h k c.if-entry-wanted.false ((bytes_eq-Decides _ _).0 (sym c.eq.ensures ∙ c.if-eq.true))
+
+pub entry_matches-returns-then-is_text-clause-answer : goal.entry_matches-returns-then-is_text-clause-answer
+entry_matches-returns-then-is_text-clause-answer t c = λ form other_form x y h k i.
+    let is_text : (c.args.entry.now.kind == 1) ≡ true = sym c.is_text.ensures ∙ c.if-is_text.true in
+    let is : c.args.entry.now.kind ≡ 1 = grind (arith, nat_tests, is_text) in
+    sym c.if-eq.false ∙ c.eq.ensures ∙ texts_tell form other_form _ _ x y h k c.if-entry-wanted.false is
+
+pub entry_matches-returns-in_err-item-clause-answer : goal.entry_matches-returns-in_err-item-clause-answer
+entry_matches-returns-in_err-item-clause-answer t c = λ form other_form x y h k i. absurd (c.in_err-item.ensures.decodes form x h.content)
+
+pub entry_matches-returns-clause-answer : goal.entry_matches-returns-clause-answer
+entry_matches-returns-clause-answer t c = λ form other_form x y h k i.
+    c.item_matches.ensures.answer form other_form x y (c.in_ok-item.ensures.decodes form x h.content) i
 
 -- ---- objects
 

@@ -1,27 +1,50 @@
-use Rattle.std.proofs.Common.{rules, arith, true, false, ◌++◌}
+use Rattle.std.proofs.Common.{rules, arith, true, false, ◌++◌, ◌∷◌, [], None, ◌≡◌}
 use Rattle.std.specs.Fn.{FnReturnsAt}
 use Rattle.jsonb_doc.specs.Tree.{array, object}
 use Rattle.jsonb_raw.specs.Texts.{texts, texts_of_trees, texts_of_pairs}
-use Rattle.jsonb_raw.proofs.Told.{told_none, told_alone, told_first, told_then, told_head, told_after}
+use Rattle.jsonb_raw.proofs.Told.{told_none, told_alone, told_first, told_head, told_after, leaves_all, leaves_after, leaves_aside, leaves_told}
 use Rattle.jsonb_raw.proofs.Left.{SomeElements-all, SomeElements-first, SomeElements-error, SomeElements-none, SomePairs-all, SomePairs-first, SomePairs-error, SomePairs-none}
 use Rattle.jsonb_raw.proofs.functions.operator.traverse.+texts.Goals as goal
-use Rattle.jsonb_raw.proofs.functions.operator.traverse.+texts.Goals.{object_tells-then-func-via-then-func, object_tells-then-func-via-else-func+in_ok-item_tells+then-branch}
 
 -- ---- items
 
-pub item_tells-returns-in-String-clause-told : goal.item_tells-returns-in-String-clause-told
-item_tells-returns-in-String-clause-told g t c = λ form tree stands.
+pub item_tells-returns-in_err-told-clause-told : goal.item_tells-returns-in_err-told-clause-told
+item_tells-returns-in_err-told-clause-told g t c = λ form tree stands.
+    let l = c.loop-told.invariant.left form tree stands in
+    absurd (c.in_err-told.ensures.told form l.0 l.1)
+
+pub item_tells-returns-then-told-clause-told : goal.item_tells-returns-then-told-clause-told
+item_tells-returns-then-told-clause-told g t c = λ form tree stands.
+    let l = c.loop-told.invariant.left form tree stands in
+    l.2 true (rw c.if-told.true at (c.in_ok-told.ensures.told form l.0 l.1))
+
+pub item_tells-returns-in_default-clause-told : goal.item_tells-returns-in_default-clause-told
+item_tells-returns-in_default-clause-told g t c = λ form tree stands.
+    let l = c.loop-told.invariant.left form tree stands in
+    l.2 false (rw (c.if-told.false, c.in_default.is) at (c.in_ok-told.ensures.told form l.0 l.1))
+
+pub item_tells-loop-told-preserved : goal.item_tells-loop-told-preserved
+item_tells-loop-told-preserved g t c = record {
+  shorter = let size = rw c.in-Some.is at c.in_ok-told.ensures.size in omega (arith, size, c.loop-told.invariant.shorter);
+  left = λ form tree stands.
+      let l = c.loop-told.invariant.left form tree stands in
+      let m = rw (c.if-told.false, c.in-Some.is) at (c.in_ok-told.ensures.told form l.0 l.1) in
+      (m.0, m.1, λ b k. l.2 b (m.2 b k));
+}
+
+pub part_tells-returns-in-String-clause-told : goal.part_tells-returns-in-String-clause-told
+part_tells-returns-in-String-clause-told g t c = λ form tree stands.
     let is = rw c.in-String.is at stands in
     let told : FnReturnsAt g.F.Fn c.args.func.now c.in-String.text.now c.func.result = record { shown = c.as_bytes.result; shows = c.as_bytes.ensures.value; says = record { met = c.func.ensures } } in
-    rw is (told_alone g.F.Fn c.args.func.now _ c.func.result told)
+    rw is (leaves_told g.F.Fn c.args.func.now form [] (c.in-String.text.now ∷ []) c.func.result (told_alone g.F.Fn c.args.func.now _ c.func.result told))
 
-pub item_tells-returns-in-Array-clause-told : goal.item_tells-returns-in-Array-clause-told
-item_tells-returns-in-Array-clause-told g t c = λ form tree stands.
+pub part_tells-returns-in-Array-clause-told : goal.part_tells-returns-in-Array-clause-told
+part_tells-returns-in-Array-clause-told g t c = λ form tree stands.
     let (ts, is, d) = rw c.in-Array.is at stands in
     rw is (c.array_tells.ensures.told form ts d)
 
-pub item_tells-returns-in-Object-clause-told : goal.item_tells-returns-in-Object-clause-told
-item_tells-returns-in-Object-clause-told g t c = λ form tree stands.
+pub part_tells-returns-in-Object-clause-told : goal.part_tells-returns-in-Object-clause-told
+part_tells-returns-in-Object-clause-told g t c = λ form tree stands.
     let (ps, is, d) = rw c.in-Object.is at stands in
     rw is (c.object_tells.ensures.told form ps d)
 
@@ -37,21 +60,23 @@ pub array_tells-loop-item-init : goal.array_tells-loop-item-init
 array_tells-loop-item-init g t c = record {
   can = tt;
   finite = tt;
+  size = tt;
   room = search rules;
-  left = λ form ts d. SomeElements-all form ts _ _ _ _ c.in-Some.is c.into_iter-item-iterator.ensures.into_iter_gives (c.in_ok-found.ensures.decodes form (array ts) d) (λ b h. h);
+  left = λ form ts d. SomeElements-all form ts _ _ _ _ c.in-Some.is c.into_iter-item-iterator.ensures.into_iter_gives (c.in_ok-found.ensures.decodes form (array ts) d) (leaves_all g.F.Fn c.args.func.now form (texts_of_trees ts));
 }
 
 pub array_tells-loop-item-preserved : goal.array_tells-loop-item-preserved
 array_tells-loop-item-preserved g t c = record {
   can = tt;
   finite = tt;
+  size = c.loop-item.invariant.size;
   room = omega (arith, c.in-Some-item.ensures.steps.room);
   left = λ form ts d.
       SomeElements-first form _ _ _ _ _ c.in_ok-item.was c.in-Some-item.ensures.steps (c.loop-item.invariant.left form ts d)
       (λ first rest left stands fact. record {
         trees = rest;
         left = left;
-        fact = λ b h. fact b (told_then g.F.Fn c.args.func.now (texts first) (texts_of_trees rest) (rw c.if-branch.false at (c.in_ok-item_tells.ensures.told form first stands)) b h);
+        fact = leaves_after g.F.Fn c.args.func.now form (texts_of_trees ts) _ (texts first) (texts_of_trees rest) (rw c.if-branch.false at (c.in_ok-item_tells.ensures.told form first stands)) fact;
       });
 }
 
@@ -67,11 +92,25 @@ array_tells-returns-in_err-item_tells-clause-told g t c = λ form ts d.
 pub array_tells-returns-then-branch-clause-told : goal.array_tells-returns-then-branch-clause-told
 array_tells-returns-then-branch-clause-told g t c = λ form ts d.
     SomeElements-first form _ _ _ _ _ c.in_ok-item.was c.in-Some-item.ensures.steps (c.loop-item.invariant.left form ts d)
-    (λ first rest left stands fact. fact true (told_first g.F.Fn c.args.func.now (texts first) (texts_of_trees rest) (rw c.if-branch.true at (c.in_ok-item_tells.ensures.told form first stands))))
+    (λ first rest left stands fact. fact.found (told_first g.F.Fn c.args.func.now (texts first) (texts_of_trees rest) (rw c.if-branch.true at (c.in_ok-item_tells.ensures.told form first stands))))
 
 pub array_tells-returns-clause-told : goal.array_tells-returns-clause-told
 array_tells-returns-clause-told g t c = λ form ts d.
-    SomeElements-none form _ _ _ c.in-None.ensures.steps (c.loop-item.invariant.left form ts d) false (told_none g.F.Fn c.args.func.now)
+    (SomeElements-none form _ _ _ c.in-None.ensures.steps (c.loop-item.invariant.left form ts d)).rest (told_none g.F.Fn c.args.func.now)
+
+pub array_tells-loop-item-preserved-then-container_len-bytes : goal.array_tells-loop-item-preserved-then-container_len-bytes
+array_tells-loop-item-preserved-then-container_len-bytes g t c =
+    let none : c.loop-item.large ≡ None = search rules in
+    let size = rw c.in_ok-item.was at c.in-Some-item.ensures.steps.size in
+    record {
+      can = tt;
+      finite = tt;
+      size = omega (arith, size, c.loop-item.invariant.room);
+      room = omega (arith, c.in-Some-item.ensures.steps.room);
+      left = λ form ts d.
+          SomeElements-first form _ _ _ _ _ c.in_ok-item.was c.in-Some-item.ensures.steps (rw none at (c.loop-item.invariant.left form ts d))
+          (λ first rest left stands fact. record { trees = rest; left = left; fact = leaves_aside g.F.Fn c.args.func.now form (texts_of_trees ts) c.in_ok-item.item first (texts_of_trees rest) stands fact });
+    }
 
 -- ---- objects
 
@@ -85,8 +124,9 @@ pub object_tells-loop-pair-init : goal.object_tells-loop-pair-init
 object_tells-loop-pair-init g t c = record {
   can = tt;
   finite = tt;
+  size = tt;
   room = search rules;
-  left = λ form ps d. SomePairs-all form ps _ _ _ _ c.in-Some.is c.into_iter-pair-iterator.ensures.into_iter_gives (c.in_ok-found.ensures.decodes form (object ps) d) (λ b h. h);
+  left = λ form ps d. SomePairs-all form ps _ _ _ _ c.in-Some.is c.into_iter-pair-iterator.ensures.into_iter_gives (c.in_ok-found.ensures.decodes form (object ps) d) (leaves_all g.F.Fn c.args.func.now form (texts_of_pairs ps));
 }
 
 pub object_tells-returns-in_err-key-clause-told : goal.object_tells-returns-in_err-key-clause-told
@@ -101,34 +141,59 @@ object_tells-returns-in_err-item_tells-clause-told g t c = λ form ps d.
 pub object_tells-returns-then-func-clause-told : goal.object_tells-returns-then-func-clause-told
 object_tells-returns-then-func-clause-told g t c = λ form ps d.
     SomePairs-first form _ _ _ _ _ c.in_ok-key.was c.in-Some-pair.ensures.steps (c.loop-pair.invariant.left form ps d)
-    (λ value rest left stands fact. fact true (
-    elim c.then-func.branch [
-      | object_tells-then-func-via-then-func w ↦
-          let told : FnReturnsAt g.F.Fn c.args.func.now c.in_ok-key.key.now true = record { shown = c.as_bytes.result; shows = c.as_bytes.ensures.value; says = record { met = rw w.if-func.true at c.func.ensures } } in
-          told_head g.F.Fn c.args.func.now c.in_ok-key.key.now (texts value ++ texts_of_pairs rest) told
-      | object_tells-then-func-via-else-func+in_ok-item_tells+then-branch w ↦
-          let told : FnReturnsAt g.F.Fn c.args.func.now c.in_ok-key.key.now false = record { shown = c.as_bytes.result; shows = c.as_bytes.ensures.value; says = record { met = rw w.if-func.false at c.func.ensures } } in
-          told_after g.F.Fn c.args.func.now c.in_ok-key.key.now (texts value ++ texts_of_pairs rest) told true
-          (told_first g.F.Fn c.args.func.now (texts value) (texts_of_pairs rest) (rw w.if-branch.true at (w.in_ok-item_tells.ensures.told form value stands)))
-    ]))
+    (λ value rest left stands fact.
+    let told : FnReturnsAt g.F.Fn c.args.func.now c.in_ok-key.key.now true = record { shown = c.as_bytes.result; shows = c.as_bytes.ensures.value; says = record { met = rw c.if-func.true at c.func.ensures } } in
+    fact.found (told_head g.F.Fn c.args.func.now c.in_ok-key.key.now (texts value ++ texts_of_pairs rest) told))
+
+pub object_tells-returns-then-branch-clause-told : goal.object_tells-returns-then-branch-clause-told
+object_tells-returns-then-branch-clause-told g t c = λ form ps d.
+    SomePairs-first form _ _ _ _ _ c.in_ok-key.was c.in-Some-pair.ensures.steps (c.loop-pair.invariant.left form ps d)
+    (λ value rest left stands fact.
+    let told : FnReturnsAt g.F.Fn c.args.func.now c.in_ok-key.key.now false = record { shown = c.as_bytes.result; shows = c.as_bytes.ensures.value; says = record { met = rw c.if-func.false at c.func.ensures } } in
+    fact.found (told_after g.F.Fn c.args.func.now c.in_ok-key.key.now (texts value ++ texts_of_pairs rest) told true
+    (told_first g.F.Fn c.args.func.now (texts value) (texts_of_pairs rest) (rw c.if-branch.true at (c.in_ok-item_tells.ensures.told form value stands)))))
 
 pub object_tells-loop-pair-preserved : goal.object_tells-loop-pair-preserved
 object_tells-loop-pair-preserved g t c = record {
   can = tt;
   finite = tt;
+  size = c.loop-pair.invariant.size;
   room = omega (arith, c.in-Some-pair.ensures.steps.room);
   left = λ form ps d.
       SomePairs-first form _ _ _ _ _ c.in_ok-key.was c.in-Some-pair.ensures.steps (c.loop-pair.invariant.left form ps d)
-      (λ value rest left stands fact. record {
+      (λ value rest left stands fact.
+      let told : FnReturnsAt g.F.Fn c.args.func.now c.in_ok-key.key.now false = record { shown = c.as_bytes.result; shows = c.as_bytes.ensures.value; says = record { met = rw c.if-func.false at c.func.ensures } } in
+      let none = told_alone g.F.Fn c.args.func.now c.in_ok-key.key.now false told in
+      record {
         pairs = rest;
         left = left;
-        fact = λ b h.
-            let told : FnReturnsAt g.F.Fn c.args.func.now c.in_ok-key.key.now false = record { shown = c.as_bytes.result; shows = c.as_bytes.ensures.value; says = record { met = rw c.if-func.false at c.func.ensures } } in
-            fact b (told_after g.F.Fn c.args.func.now c.in_ok-key.key.now (texts value ++ texts_of_pairs rest) told b
-            (told_then g.F.Fn c.args.func.now (texts value) (texts_of_pairs rest) (rw c.if-branch.false at (c.in_ok-item_tells.ensures.told form value stands)) b h));
+        fact = leaves_after g.F.Fn c.args.func.now form (texts_of_pairs ps) _ (texts value) (texts_of_pairs rest) (rw c.if-branch.false at (c.in_ok-item_tells.ensures.told form value stands))
+            (leaves_after g.F.Fn c.args.func.now form (texts_of_pairs ps) _ (c.in_ok-key.key.now ∷ []) (texts value ++ texts_of_pairs rest) none fact);
       });
 }
 
+pub object_tells-loop-pair-preserved-then-container_len-bytes : goal.object_tells-loop-pair-preserved-then-container_len-bytes
+object_tells-loop-pair-preserved-then-container_len-bytes g t c =
+    let none : c.loop-pair.large ≡ None = search rules in
+    let size = rw c.in_ok-key.was at c.in-Some-pair.ensures.steps.size in
+    record {
+      can = tt;
+      finite = tt;
+      size = omega (arith, size, c.loop-pair.invariant.room);
+      room = omega (arith, c.in-Some-pair.ensures.steps.room);
+      left = λ form ps d.
+          SomePairs-first form _ _ _ _ _ c.in_ok-key.was c.in-Some-pair.ensures.steps (rw none at (c.loop-pair.invariant.left form ps d))
+          (λ value rest left stands fact.
+          let told : FnReturnsAt g.F.Fn c.args.func.now c.in_ok-key.key.now false = record { shown = c.as_bytes.result; shows = c.as_bytes.ensures.value; says = record { met = rw c.if-func.false at c.func.ensures } } in
+          let none = told_alone g.F.Fn c.args.func.now c.in_ok-key.key.now false told in
+          record {
+            pairs = rest;
+            left = left;
+            fact = leaves_aside g.F.Fn c.args.func.now form (texts_of_pairs ps) c.in_ok-key.value value (texts_of_pairs rest) stands
+                (leaves_after g.F.Fn c.args.func.now form (texts_of_pairs ps) None (c.in_ok-key.key.now ∷ []) (texts value ++ texts_of_pairs rest) none fact);
+          });
+    }
+
 pub object_tells-returns-clause-told : goal.object_tells-returns-clause-told
 object_tells-returns-clause-told g t c = λ form ps d.
-    SomePairs-none form _ _ _ c.in-None.ensures.steps (c.loop-pair.invariant.left form ps d) false (told_none g.F.Fn c.args.func.now)
+    (SomePairs-none form _ _ _ c.in-None.ensures.steps (c.loop-pair.invariant.left form ps d)).rest (told_none g.F.Fn c.args.func.now)

@@ -1,36 +1,53 @@
-use Rattle.std.proofs.Common.{◌<◌, ◌+◌, ◌*◌, length, Bool}
-use Rattle.jsonb_doc.specs.Tree.{Trees, Pairs, array, object}
+use Rattle.std.proofs.Common.{◌<◌, ◌≤◌, ◌+◌, ◌*◌, length, Bool}
+use Rattle.jsonb_doc.specs.Tree.{Tree, Trees, Pairs, array, object}
 use Rattle.jsonb_doc.specs.Payload.{Form}
 use Rattle.jsonb_doc.specs.Format.{Decodes}
-use Rattle.jsonb_doc.specs.Item.{item_size}
+use Rattle.jsonb_doc.specs.Item.{Stands, item_size}
 use Rattle.jsonb_doc.specs.Elements.{elements_room}
 use Rattle.jsonb_doc.specs.ObjectPairs.{pairs_room}
-use Rattle.jsonb_raw.specs.Texts.{texts_of_trees, texts_of_pairs, Tells}
+use Rattle.jsonb_raw.specs.Texts.{texts, texts_of_trees, texts_of_pairs, Tells}
+use Rattle.std.specs.Prelude.{IfSome}
+use Rattle.jsonb_raw.proofs.Told.{Leaves}
 use Rattle.jsonb_raw.proofs.Left.{SomeElements, SomePairs}
 use Rattle.jsonb_raw.proofs.functions.operator.traverse.+texts.Given as goal
 
 abbrev pub decreases-item_tells : goal.decreases-item_tells
-decreases-item_tells g l = 2 * item_size l.item.now + 1
+decreases-item_tells g l = 3 * item_size l.item.now + 2
+
+abbrev pub decreases-part_tells : goal.decreases-part_tells
+decreases-part_tells g l = 3 * item_size l.item.now + 1
+
+-- the item that is left decides the whole
+abbrev pub invariant-item_tells-loop-told : goal.invariant-item_tells-loop-told
+invariant-item_tells-loop-told g l = record {
+  shorter : item_size l.left ≤ item_size l.fn.item;
+  left : (form : Form) (tree : Tree) → Stands form l.fn.item tree → (t : Tree) × Stands form l.left t × ((b : Bool) → Tells g.F.Fn l.fn.func (texts t) b → Tells g.F.Fn l.fn.func (texts tree) b);
+}
+
+abbrev pub decreases-item_tells-loop-told : goal.decreases-item_tells-loop-told
+decreases-item_tells-loop-told g l = item_size l.left
 
 abbrev pub decreases-array_tells : goal.decreases-array_tells
-decreases-array_tells g l = 2 * length l.bytes.now
+decreases-array_tells g l = 3 * length l.bytes.now
 
 abbrev pub decreases-object_tells : goal.decreases-object_tells
-decreases-object_tells g l = 2 * length l.bytes.now
+decreases-object_tells g l = 3 * length l.bytes.now
 
 -- each call so far answered false, so what is left decides
 abbrev pub invariant-array_tells-loop-item : goal.invariant-array_tells-loop-item
 invariant-array_tells-loop-item g l = record {
   can : (goal.iterator-array_tells-loop-item g).can_next l.item-iterator;
   finite : (goal.iterator-array_tells-loop-item g).is_finite l.item-iterator;
+  size : IfSome l.large (λ item. item_size item < length l.fn.bytes);
   room : elements_room l.item-iterator < length l.fn.bytes;
-  left : (form : Form) (ts : Trees) → Decodes form l.fn.bytes (array ts) → SomeElements form l.item-iterator (λ left. (b : Bool) → Tells g.F.Fn l.fn.func (texts_of_trees left) b → Tells g.F.Fn l.fn.func (texts_of_trees ts) b);
+  left : (form : Form) (ts : Trees) → Decodes form l.fn.bytes (array ts) → SomeElements form l.item-iterator (λ left. Leaves g.F.Fn l.fn.func form (texts_of_trees ts) (texts_of_trees left) l.large);
 }
 
 abbrev pub invariant-object_tells-loop-pair : goal.invariant-object_tells-loop-pair
 invariant-object_tells-loop-pair g l = record {
   can : (goal.iterator-object_tells-loop-pair g).can_next l.pair-iterator;
   finite : (goal.iterator-object_tells-loop-pair g).is_finite l.pair-iterator;
+  size : IfSome l.large (λ item. item_size item < length l.fn.bytes);
   room : pairs_room l.pair-iterator < length l.fn.bytes;
-  left : (form : Form) (ps : Pairs) → Decodes form l.fn.bytes (object ps) → SomePairs form l.pair-iterator (λ left. (b : Bool) → Tells g.F.Fn l.fn.func (texts_of_pairs left) b → Tells g.F.Fn l.fn.func (texts_of_pairs ps) b);
+  left : (form : Form) (ps : Pairs) → Decodes form l.fn.bytes (object ps) → SomePairs form l.pair-iterator (λ left. Leaves g.F.Fn l.fn.func form (texts_of_pairs ps) (texts_of_pairs left) l.large);
 }

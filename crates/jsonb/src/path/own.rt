@@ -1,0 +1,116 @@
+//! `to_owned`: the same parts with texts of their own, which outlive the text that was read.
+
+ghost use Rattle.std.specs.Prelude.{◌≡◌, IfOk};
+ghost use Rattle.std.specs.Cow.{cow_str_bytes};
+ghost use Rattle.jsonb.specs.PathViews.{literal_view, step_view, steps_view, expression_view, path_view};
+
+use super::{Expr, JsonPath, Path, PathValue};
+use jsonb_doc::Error;
+use std::alloc::Global;
+use std::borrow::CowStr;
+
+impl JsonPath<'_> {
+    /// The same steps, with texts of their own. `OutOfMemory` where memory is refused, and `InvalidJsonPath` where a
+    /// literal is a document, which borrows: no text has one.
+    pub fn to_owned(&self, alloc: Global) -> Result<JsonPath<'static>, Error>
+        ensures { IfOk result (λ copy. path_view copy ≡ path_view self.now) }
+    {
+        let paths = owned_steps(&self.paths, alloc)?;
+        Ok(JsonPath { paths })
+    }
+}
+
+impl Path<'_> {
+    /// The same step. `OutOfMemory` where memory is refused.
+    #[cycle(own)]
+    pub fn to_owned(&self, alloc: Global) -> Result<Path<'static>, Error>
+        ensures { IfOk result (λ copy. step_view copy ≡ step_view self.now) }
+    {
+        match self {
+            Path::Root => Ok(Path::Root),
+            Path::Current => Ok(Path::Current),
+            Path::DotWildcard => Ok(Path::DotWildcard),
+            Path::RecursiveDotWildcard(level) => Ok(Path::RecursiveDotWildcard(*level)),
+            Path::BracketWildcard => Ok(Path::BracketWildcard),
+            Path::DotField(name) => Ok(Path::DotField(owned_text(name, alloc)?)),
+            Path::ColonField(name) => Ok(Path::ColonField(owned_text(name, alloc)?)),
+            Path::ObjectField(name) => Ok(Path::ObjectField(owned_text(name, alloc)?)),
+            Path::ArrayIndices(indices) => Ok(Path::ArrayIndices(indices.to_vec(alloc)?)),
+            Path::FilterExpr(expression) => {
+                let copy = (**expression).to_owned(alloc)?;
+                Ok(Path::FilterExpr(Box::new(alloc, copy)?))
+            }
+            Path::Expr(expression) => {
+                let copy = (**expression).to_owned(alloc)?;
+                Ok(Path::Expr(Box::new(alloc, copy)?))
+            }
+        }
+    }
+}
+
+impl Expr<'_> {
+    /// The same expression. `OutOfMemory` where memory is refused.
+    #[cycle(own)]
+    pub fn to_owned(&self, alloc: Global) -> Result<Expr<'static>, Error>
+        ensures { IfOk result (λ copy. expression_view copy ≡ expression_view self.now) }
+    {
+        match self {
+            Expr::Paths(steps) => Ok(Expr::Paths(owned_steps(steps, alloc)?)),
+            Expr::Value(literal) => {
+                let copy = (**literal).to_owned(alloc)?;
+                Ok(Expr::Value(Box::new(alloc, copy)?))
+            }
+            Expr::BinaryOp { op, left, right } => {
+                let left = (**left).to_owned(alloc)?;
+                let right = (**right).to_owned(alloc)?;
+                Ok(Expr::BinaryOp {
+                    op: *op,
+                    left: Box::new(alloc, left)?,
+                    right: Box::new(alloc, right)?,
+                })
+            }
+            Expr::UnaryOp { op, operand } => {
+                let operand = (**operand).to_owned(alloc)?;
+                Ok(Expr::UnaryOp {
+                    op: *op,
+                    operand: Box::new(alloc, operand)?,
+                })
+            }
+            Expr::ExistsFunc(steps) => Ok(Expr::ExistsFunc(owned_steps(steps, alloc)?)),
+        }
+    }
+}
+
+impl PathValue<'_> {
+    /// The same literal, with a text of its own. `OutOfMemory` where memory is refused, and `InvalidJsonPath` for a
+    /// document.
+    pub fn to_owned(&self, alloc: Global) -> Result<PathValue<'static>, Error>
+        ensures { IfOk result (λ copy. literal_view copy ≡ literal_view self.now) }
+    {
+        match self {
+            PathValue::Null => Ok(PathValue::Null),
+            PathValue::Boolean(b) => Ok(PathValue::Boolean(*b)),
+            PathValue::Number(n) => Ok(PathValue::Number(*n)),
+            PathValue::String(text) => Ok(PathValue::String(owned_text(text, alloc)?)),
+            PathValue::Raw(_) => Err(Error::InvalidJsonPath),
+        }
+    }
+}
+
+// The same steps, one after the other.
+#[cycle(own)]
+fn owned_steps(steps: &Vec<Path<'_>>, alloc: Global) -> Result<Vec<Path<'static>>, Error>
+    ensures { IfOk result (λ copies. steps_view copies.items ≡ steps_view steps.now.items) }
+{
+    let mut copies = Vec::with_capacity(alloc, steps.len())?;
+    for step in steps {
+        copies.push(step.to_owned(alloc)?)?;
+    }
+    Ok(copies)
+}
+
+fn owned_text(text: &CowStr<'_, Global>, alloc: Global) -> Result<CowStr<'static, Global>, Error>
+    ensures { IfOk result (λ copy. cow_str_bytes copy ≡ cow_str_bytes text.now) }
+{
+    Ok(CowStr::Owned(String::from_str(alloc, text.as_str())?))
+}

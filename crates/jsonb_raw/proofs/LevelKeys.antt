@@ -1,0 +1,186 @@
+-- A walk over levels that spells sortable keys: what is written, and then the keys of what each level has left, the innermost
+-- first, is the whole.
+use Rattle.std.proofs.Common.{◌≡◌, ◌+◌, ◌<◌, ◌≤◌, ◌++◌, ℕ, List, [], ◌∷◌, Some, None, refl, sym, ap, ◌∙◌, arith, append_assoc, inl, inr, suc, max, append-nil, length}
+use Rattle.std.specs.Int.{Width, to_be_bytes}
+use Rattle.jsonb_doc.specs.declared.error.Error.{Error}
+use Rattle.jsonb_doc.specs.Tree.{Tree, Trees, Pairs}
+use Rattle.jsonb_raw.specs.Depth.{deepest, deepest_of_trees, deepest_of_pairs}
+use Rattle.jsonb_raw.specs.SortableKey.{key, keys_of_trees, keys_of_pairs, item_bytes, text_bytes, depths}
+use Rattle.jsonb_raw.specs.KeyAnswer.{IsRefusal}
+use Rattle.jsonb_raw.specs.Levels.{Part, parts, parts_of_trees, parts_of_pairs}
+use Rattle.jsonb_raw.specs.KeyParts.{start, part_start}
+use Rattle.jsonb_raw.proofs.Walked.{IsToward, IsToward-refused, IsToward-done}
+
+-- ---- the key of a tree by its parts
+
+abbrev pub part_key : Width → Part → ℕ → List ℕ
+part_key w (None, t) d = key w t d
+part_key w (Some k, t) d = item_bytes w d 5 (text_bytes k) ++ key w t d
+
+abbrev pub keys_of_parts : Width → List Part → ℕ → List ℕ
+keys_of_parts w [] d = []
+keys_of_parts w (p ∷ ps) d = part_key w p d ++ keys_of_parts w ps d
+
+abbrev pub deep_of_parts : List Part → ℕ
+deep_of_parts [] = 0
+deep_of_parts (p ∷ ps) = max (suc (deepest p.1)) (deep_of_parts ps)
+
+trees_keys : (w : Width) (ts : Trees) (d : ℕ) → keys_of_parts w (parts_of_trees ts) d ≡ keys_of_trees w ts d
+trees_keys w Trees.no_trees d = refl
+trees_keys w (Trees.tree t ts) d = ap (λ x. key w t d ++ x) (trees_keys w ts d)
+
+pairs_keys : (w : Width) (ps : Pairs) (d : ℕ) → keys_of_parts w (parts_of_pairs ps) d ≡ keys_of_pairs w ps d
+pairs_keys w Pairs.no_pairs d = refl
+pairs_keys w (Pairs.pair k t ps) d =
+    append_assoc (item_bytes w d 5 (text_bytes k)) (key w t d) (keys_of_parts w (parts_of_pairs ps) d)
+    ∙ ap (λ x. item_bytes w d 5 (text_bytes k) ++ (key w t d ++ x)) (pairs_keys w ps d)
+
+trees_deep : (ts : Trees) → deepest_of_trees ts ≡ deep_of_parts (parts_of_trees ts)
+trees_deep Trees.no_trees = refl
+trees_deep (Trees.tree t ts) = ap (λ n. max (suc (deepest t)) n) (trees_deep ts)
+
+pairs_deep : (ps : Pairs) → deepest_of_pairs ps ≡ deep_of_parts (parts_of_pairs ps)
+pairs_deep Pairs.no_pairs = refl
+pairs_deep (Pairs.pair k t ps) = ap (λ n. max (suc (deepest t)) n) (pairs_deep ps)
+
+parts_deep : (t : Tree) → deepest t ≡ deep_of_parts (parts t)
+parts_deep Tree.null = refl
+parts_deep (Tree.boolean b) = refl
+parts_deep (Tree.number n) = refl
+parts_deep (Tree.text bytes) = refl
+parts_deep (Tree.extension x) = refl
+parts_deep (Tree.array ts) = trees_deep ts
+parts_deep (Tree.object ps) = pairs_deep ps
+
+key_split : (w : Width) (t : Tree) (d : ℕ) → key w t d ≡ start w t d ++ keys_of_parts w (parts t) (suc d)
+key_split w Tree.null d = sym (append-nil (key w Tree.null d))
+key_split w (Tree.boolean b) d = sym (append-nil (key w (Tree.boolean b) d))
+key_split w (Tree.number n) d = sym (append-nil (key w (Tree.number n) d))
+key_split w (Tree.text bytes) d = sym (append-nil (key w (Tree.text bytes) d))
+key_split w (Tree.extension x) d = sym (append-nil (key w (Tree.extension x) d))
+key_split w (Tree.array ts) d =
+    ap (λ x. item_bytes w d 7 x) (sym (trees_keys w ts (suc d))) ∙ sym (append_assoc (to_be_bytes w d) (7 ∷ []) (keys_of_parts w (parts_of_trees ts) (suc d)))
+key_split w (Tree.object ps) d =
+    ap (λ x. item_bytes w d 6 x) (sym (pairs_keys w ps (suc d))) ∙ sym (append_assoc (to_be_bytes w d) (6 ∷ []) (keys_of_parts w (parts_of_pairs ps) (suc d)))
+
+part_split : (w : Width) (p : Part) (d : ℕ) → part_key w p d ≡ part_start w p d ++ keys_of_parts w (parts p.1) (suc d)
+part_split w (None, t) d = key_split w t d
+part_split w (Some k, t) d =
+    ap (λ x. item_bytes w d 5 (text_bytes k) ++ x) (key_split w t d)
+    ∙ sym (append_assoc (item_bytes w d 5 (text_bytes k)) (start w t d) (keys_of_parts w (parts t) (suc d)))
+
+-- ---- what is left at levels, the innermost first: each lies one deeper than the next
+
+abbrev pub keys_of_levels : Width → List (List Part) → List ℕ
+keys_of_levels w [] = []
+keys_of_levels w (ps ∷ ls) = keys_of_parts w ps (suc (length ls)) ++ keys_of_levels w ls
+
+abbrev pub deep_of_levels : List (List Part) → ℕ
+deep_of_levels [] = 0
+deep_of_levels (ps ∷ ls) = max (length ls + deep_of_parts ps) (deep_of_levels ls)
+
+-- the walk is within these levels, none of which is too deep
+pub record IsWithin (w : Width) (out : List ℕ) (levels : List (List Part)) (old whole : List ℕ) (deep : ℕ) : Type 0 where
+  pub toward : IsToward (depths w) out (keys_of_levels w levels) (deep_of_levels levels) old whole deep
+  pub low : length levels ≤ depths w
+
+pub walk_begun : (w : Width) (t : Tree) (old out : List ℕ) → (out ≡ old ++ start w t 0) × (0 < depths w) → IsWithin w out (parts t ∷ []) old (key w t 0) (deepest t)
+walk_begun w t old out p =
+    let deep = parts_deep t in
+    record {
+      toward = record {
+        written = ap (λ x. out ++ x) (append-nil (keys_of_parts w (parts t) 1)) ∙ ap (λ x. x ++ keys_of_parts w (parts t) 1) p.0
+            ∙ append_assoc old (start w t 0) (keys_of_parts w (parts t) 1) ∙ ap (λ x. old ++ x) (sym (key_split w t 0));
+        shallow = λ h. omega (arith, h, deep);
+        deeper = omega (arith, deep);
+      };
+      low = omega (arith, p.1);
+    }
+
+-- a part's start is written, and its own parts are left within
+pub part_begun : (w : Width) (p : Part) (ps : List Part) (ls : List (List Part)) (out out' old whole : List ℕ) (deep : ℕ) → IsWithin w out ((p ∷ ps) ∷ ls) old whole deep
+    → (out' ≡ out ++ part_start w p (length ls + 1)) × (length ls + 1 < depths w) → IsWithin w out' (parts p.1 ∷ ps ∷ ls) old whole deep
+part_begun w p ps ls out out' old whole deep h e =
+    let n = length ls in
+    let s = part_start w p (suc n) in
+    let k = keys_of_parts w (parts p.1) (suc (suc n)) in
+    let others = keys_of_parts w ps (suc n) in
+    let r = keys_of_levels w ls in
+    let is : deepest p.1 ≡ deep_of_parts (parts p.1) = parts_deep p.1 in
+    let shallow = h.toward.shallow in
+    let deeper = h.toward.deeper in
+    record {
+      toward = record {
+        written = ap (λ x. x ++ (k ++ (others ++ r))) (e.0 ∙ ap (λ d. out ++ part_start w p d) (omega arith))
+            ∙ append_assoc out s (k ++ (others ++ r))
+            ∙ ap (λ x. out ++ x) (sym (append_assoc s k (others ++ r)) ∙ ap (λ x. x ++ (others ++ r)) (sym (part_split w p (suc n))) ∙ sym (append_assoc (part_key w p (suc n)) others r))
+            ∙ h.toward.written;
+        shallow = λ b. shallow (within_below n (deepest p.1) (deep_of_parts (parts p.1)) (deep_of_parts ps) (deep_of_levels ls) (depths w) is e.1 b);
+        deeper = within_deeper n (deepest p.1) (deep_of_parts (parts p.1)) (deep_of_parts ps) (deep_of_levels ls) deep is deeper;
+      };
+      low = omega (arith, e.1);
+    }
+  where
+    within_below : (n t q b c limit : ℕ) → t ≡ q → n + 1 < limit → max (suc n + q) (max (n + b) c) < limit → max (n + max (suc t) b) c < limit
+    within_below n t q b c limit is h k = omega arith
+
+    within_deeper : (n t q b c deep : ℕ) → t ≡ q → max (n + max (suc t) b) c ≤ deep → max (suc n + q) (max (n + b) c) ≤ deep
+    within_deeper n t q b c deep is h = omega arith
+
+-- a part is refused
+pub part_refused : (w : Width) (p : Part) (ps : List Part) (ls : List (List Part)) (out old whole : List ℕ) (deep : ℕ) (e : Error) → IsWithin w out ((p ∷ ps) ∷ ls) old whole deep
+    → IsRefusal (length ls + 1) (depths w) e → IsRefusal deep (depths w) e
+part_refused w p ps ls out old whole deep e h r =
+    IsToward-refused (depths w) out (keys_of_levels w ((p ∷ ps) ∷ ls)) (length ls + 1) (deep_of_levels ((p ∷ ps) ∷ ls)) old whole deep e h.toward
+    (part_deep (length ls) (deepest p.1) (deep_of_parts ps) (deep_of_levels ls)) r
+  where
+    part_deep : (n t b c : ℕ) → n + 1 ≤ max (n + max (suc t) b) c
+    part_deep n t b c = omega arith
+
+-- nothing is left at the innermost level
+pub level_done : (w : Width) (ls : List (List Part)) (out old whole : List ℕ) (deep : ℕ) → IsWithin w out ([] ∷ ls) old whole deep → IsWithin w out ls old whole deep
+level_done w ls out old whole deep h =
+    let shallow = h.toward.shallow in
+    let deeper = h.toward.deeper in
+    let low = h.low in
+    record {
+      toward = record {
+        written = h.toward.written;
+        shallow = λ b. shallow (done_below (length ls) (deep_of_levels ls) (depths w) low b);
+        deeper = done_deeper (length ls) (deep_of_levels ls) deep deeper;
+      };
+      low = omega (arith, low);
+    }
+  where
+    done_below : (n c limit : ℕ) → suc n ≤ limit → c < limit → max (n + 0) c < limit
+    done_below n c limit h k = omega arith
+
+    done_deeper : (n c deep : ℕ) → max (n + 0) c ≤ deep → c ≤ deep
+    done_deeper n c deep h = omega arith
+
+-- a part without parts
+pub part_done : (w : Width) (p : Part) (ps : List Part) (ls : List (List Part)) (out old whole : List ℕ) (deep : ℕ) → parts p.1 ≡ [] → IsWithin w out (parts p.1 ∷ ps ∷ ls) old whole deep → IsWithin w out (ps ∷ ls) old whole deep
+part_done w p ps ls out old whole deep none h = level_done w (ps ∷ ls) out old whole deep (rw none at h)
+
+-- nothing is left at any level
+pub walk_done : (w : Width) (out old whole : List ℕ) (deep : ℕ) → IsWithin w out ([] ∷ []) old whole deep → (out ≡ old ++ whole) × (deep < depths w)
+walk_done w out old whole deep h =
+    let low = h.low in
+    IsToward-done (depths w) out 0 old whole deep (level_done w [] out old whole deep h).toward (omega (arith, low))
+
+-- a document without parts is its start
+pub only_start : (w : Width) (t : Tree) (old out : List ℕ) → parts t ≡ [] → (out ≡ old ++ start w t 0) × (0 < depths w) → (out ≡ old ++ key w t 0) × (deepest t < depths w)
+only_start w t old out none p = walk_done w out old (key w t 0) (deepest t) (rw none at (walk_begun w t old out p))
+
+pub root_refused : (t : Tree) (limit : ℕ) (e : Error) → IsRefusal 0 limit e → IsRefusal (deepest t) limit e
+root_refused t limit e (inl m) = inl m
+root_refused t limit e (inr d) = inr (d.0, (let k : limit ≤ 0 = d.1 in omega arith))
+
+-- the same, with the depth as a walk has it
+pub part_begun_at : (w : Width) (p : Part) (ps : List Part) (ls : List (List Part)) (d : ℕ) (out out' old whole : List ℕ) (deep : ℕ) → d ≡ length ls → IsWithin w out ((p ∷ ps) ∷ ls) old whole deep
+    → (out' ≡ out ++ part_start w p (d + 1)) × (d + 1 < depths w) → IsWithin w out' (parts p.1 ∷ ps ∷ ls) old whole deep
+part_begun_at w p ps ls d out out' old whole deep is h e = part_begun w p ps ls out out' old whole deep h (rw is at e)
+
+pub part_refused_at : (w : Width) (p : Part) (ps : List Part) (ls : List (List Part)) (d : ℕ) (out old whole : List ℕ) (deep : ℕ) (e : Error) → d ≡ length ls → IsWithin w out ((p ∷ ps) ∷ ls) old whole deep
+    → IsRefusal (d + 1) (depths w) e → IsRefusal deep (depths w) e
+part_refused_at w p ps ls d out old whole deep e is h r = part_refused w p ps ls out old whole deep e h (rw is at r)

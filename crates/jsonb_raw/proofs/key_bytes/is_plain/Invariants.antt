@@ -1,0 +1,8 @@
+use Rattle.std.proofs.Common.{◌≡◌, take}
+use Rattle.std.specs.Prelude.{nat_lt}
+use Rattle.std.specs.List.{list_all}
+use Rattle.jsonb_raw.proofs.key_bytes.is_plain.Given as goal
+
+-- so far
+abbrev pub invariant-loop-byte : goal.invariant-loop-byte
+invariant-loop-byte l = l.plain ≡ list_all (λ b. nat_lt 1 b) (take l.byte-index l.bytes)

@@ -1,0 +1,67 @@
+//! What a walk has left of a container. A walk keeps the levels that it is within in a `Vec`, so that depth takes none of the
+//! machine's stack.
+
+ghost use Rattle.std.specs.Prelude.{◌≤◌, ◌<◌, ◌^◌, IsOkAnd, IfOk, IfSome, IfErr, List};
+ghost use Rattle.jsonb_doc.specs.Tree.{Tree};
+ghost use Rattle.jsonb_doc.specs.Payload.{Form};
+ghost use Rattle.jsonb_doc.specs.Item.{Stands, item_size};
+ghost use Rattle.jsonb_doc.specs.View.{IsDecodingError};
+ghost use Rattle.jsonb_raw.specs.Levels.{Part, HasPartsLeft, IsLevelOf, TakesPart, IsSmaller, level_room, level_bound};
+
+use jsonb_doc::{ElementIter, Error, Item, PairIter, elements, pairs};
+
+/// The elements or the pairs of a container that are left.
+#[derive(Clone, Copy)]
+pub enum Level<'a> {
+    Elements(ElementIter<'a>),
+    Pairs(PairIter<'a>),
+}
+
+impl<'a> Level<'a> {
+    /// All that an array or an object has, and `None` for any other item.
+    pub fn of(item: &Item<'a>) -> Result<Option<Level<'a>>, Error>
+        ensures level { (form : Form) (tree : Tree) → Stands form item.now tree → IsOkAnd result (IsLevelOf form tree) }
+        ensures room { IfOk result (λ found. IfSome found (λ level. level_room level < item_size item.now)) }
+        ensures bound { IfOk result (λ found. IfSome found (λ level. level_bound level < 2 ^ 64)) }
+        ensures errors { IfErr result IsDecodingError }
+    {
+        match item {
+            Item::Array(bytes) => {
+                let Some(found) = elements(bytes)? else {
+                    return Err(Error::InvalidJsonb);
+                };
+                Ok(Some(Level::Elements(found)))
+            }
+            Item::Object(bytes) => {
+                let Some(found) = pairs(bytes)? else {
+                    return Err(Error::InvalidJsonb);
+                };
+                Ok(Some(Level::Pairs(found)))
+            }
+            _ => Ok(None),
+        }
+    }
+
+    /// Takes the first of what is left: its key, where it is a value of an object, and its item.
+    pub fn take(&mut self) -> Result<Option<(Option<&'a str>, Item<'a>)>, Error>
+        ensures takes { (form : Form) (ps : List Part) → HasPartsLeft form self.old ps → TakesPart form ps result self.new }
+        ensures smaller { IfOk result (λ found. IfSome found (λ given. IsSmaller self.old given.1 self.new)) }
+        ensures errors { IfErr result IsDecodingError }
+    {
+        match self {
+            Level::Elements(left) => {
+                let Some(item) = left.next() else {
+                    return Ok(None);
+                };
+                Ok(Some((None, item?)))
+            }
+            Level::Pairs(left) => {
+                let Some(pair) = left.next() else {
+                    return Ok(None);
+                };
+                let (key, value) = pair?;
+                Ok(Some((Some(key), value)))
+            }
+        }
+    }
+}
