@@ -1,3 +1,5 @@
+//! Whether bytes decode, told without a tree.
+
 ghost use Rattle.std.specs.Prelude.{◌≡◌, ◌≢◌, ◌↔◌, IsOk, IsErrOf, ℕ, List, [], MatchOption, MatchResult, option_copied};
 ghost use Rattle.jsonb_doc.specs.Tree.{Tree};
 ghost use Rattle.jsonb_doc.specs.Payload.{any, number_or_unsupported};
@@ -6,33 +8,12 @@ ghost use Rattle.jsonb_doc.specs.Checking.{Judges, HasContent, HasEntries, HasDo
 
 use crate::error::Error;
 use crate::extension::ExtensionValue;
+use crate::layout::{
+    ARRAY_HEADER, CONTAINER, EXTENSION, FALSE, NULL, NUMBER, OBJECT_HEADER, SCALAR_HEADER, TEXT,
+    TRUE, WORD, split_entry, split_header,
+};
 use crate::number::Number;
-use crate::word::{WORD, split_entry, split_header};
 use std::cmp::Ordering;
-
-// The kinds of an entry.
-
-pub const NULL: u32 = 0;
-
-pub const TEXT: u32 = 1;
-
-pub const NUMBER: u32 = 2;
-
-pub const FALSE: u32 = 3;
-
-pub const TRUE: u32 = 4;
-
-pub const CONTAINER: u32 = 5;
-
-pub const EXTENSION: u32 = 6;
-
-// The kinds of a header.
-
-pub const SCALAR_HEADER: u32 = 1;
-
-pub const OBJECT_HEADER: u32 = 2;
-
-pub const ARRAY_HEADER: u32 = 4;
 
 /// Reads a whole document, and answers whether the bytes decode. It takes no memory.
 ///

@@ -1,3 +1,5 @@
+//! The errors of all calls.
+
 ghost use Rattle.std.specs.Prelude.{◌≡◌, Some};
 ghost use Rattle.jsonb_doc.specs.ErrorText.{error_text, fault_text};
 ghost use Rattle.jsonb_doc.specs.declared.error.Error.TheVariants.{OutOfMemory};

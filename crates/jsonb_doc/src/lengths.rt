@@ -4,7 +4,7 @@ ghost use Rattle.std.specs.Prelude.{◌≡◌, ℕ, ◌+◌, ◌^◌, ◌<◌, �
 ghost use Rattle.jsonb_doc.specs.Format.{BeginWith};
 ghost use Rattle.jsonb_doc.specs.Lengths.{StandBefore, StartWith};
 
-use crate::word::{Entry, KINDS, LENGTHS, split_entry, split_word};
+use crate::layout::{Entry, KINDS, LENGTHS, split_entry, split_word};
 
 /// How long the contents of these entry words are, all together.
 pub fn contents_len(words: &[u8]) -> usize

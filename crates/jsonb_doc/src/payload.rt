@@ -9,6 +9,10 @@ ghost use Rattle.jsonb_doc.specs.Encoding.{StaysInFront};
 ghost use Rattle.jsonb_doc.specs.View.{number_view, extension_view};
 
 use crate::extension::ExtensionValue;
+use crate::layout::{
+    BINARY, DATE, DATE_LEN, DECIMAL, DECIMAL64_LEN, DECIMAL128_LEN, INT64, INTERVAL, INTERVAL_LEN,
+    TIMESTAMP, TIMESTAMP_LEN, TIMESTAMP_TZ, TIMESTAMP_TZ_LEN, UINT64, ZERO,
+};
 use crate::number::Number;
 use std::alloc::AllocError;
 
@@ -64,14 +68,14 @@ fn uint64_len(value: u64) -> usize
 fn decimal64_len(value: i64, scale: u8) -> usize
     ensures { result ≡ length (number_payload_of decimal64 value scale) }
 {
-    if value == 0 { 1 } else { 10 }
+    if value == 0 { 1 } else { 1 + DECIMAL64_LEN }
 }
 
 /// How many bytes the payload of a `Decimal128` has.
 fn decimal128_len(value: i128, scale: u8) -> usize
     ensures { result ≡ length (number_payload_of decimal128 value scale) }
 {
-    if value == 0 { 1 } else { 18 }
+    if value == 0 { 1 } else { 1 + DECIMAL128_LEN }
 }
 
 /// How many bytes the payload of a number has.
@@ -123,10 +127,10 @@ fn push_int64(out: &mut Vec<u8>, value: i64) -> Result<(), AllocError>
     ensures fits { FitsNumber (number_from int64 value 0) }
 {
     if value == 0 {
-        out.push(0x00)?;
+        out.push(ZERO)?;
         return Ok(());
     }
-    out.push(0x40)?;
+    out.push(INT64)?;
     let width = unsigned_width_of(signed_size_of(value));
     push_low_bytes(out, value.cast_unsigned(), width)
 }
@@ -137,10 +141,10 @@ fn push_uint64(out: &mut Vec<u8>, value: u64) -> Result<(), AllocError>
     ensures fits { FitsNumber (number_from uint64 (pos value) 0) }
 {
     if value == 0 {
-        out.push(0x00)?;
+        out.push(ZERO)?;
         return Ok(());
     }
-    out.push(0x50)?;
+    out.push(UINT64)?;
     push_low_bytes(out, value, unsigned_width_of(value))
 }
 
@@ -150,10 +154,10 @@ fn push_decimal64(out: &mut Vec<u8>, value: i64, scale: u8) -> Result<(), AllocE
     ensures fits { FitsNumber (number_from decimal64 value scale) }
 {
     if value == 0 {
-        out.push(0x00)?;
+        out.push(ZERO)?;
         return Ok(());
     }
-    out.push(0x70)?;
+    out.push(DECIMAL)?;
     push_i64(out, value)?;
     out.push(scale)?;
     Ok(())
@@ -165,10 +169,10 @@ fn push_decimal128(out: &mut Vec<u8>, value: i128, scale: u8) -> Result<(), Allo
     ensures fits { FitsNumber (number_from decimal128 value scale) }
 {
     if value == 0 {
-        out.push(0x00)?;
+        out.push(ZERO)?;
         return Ok(());
     }
-    out.push(0x70)?;
+    out.push(DECIMAL)?;
     push_i128(out, value)?;
     out.push(scale)?;
     Ok(())
@@ -194,10 +198,10 @@ pub fn extension_len(value: &ExtensionValue<'_>) -> usize
 {
     match value {
         ExtensionValue::Binary(bytes) => 1 + bytes.len(),
-        ExtensionValue::Date(_) => 5,
-        ExtensionValue::Timestamp(_) => 9,
-        ExtensionValue::TimestampTz(_) => 13,
-        ExtensionValue::Interval(_) => 17,
+        ExtensionValue::Date(_) => 1 + DATE_LEN,
+        ExtensionValue::Timestamp(_) => 1 + TIMESTAMP_LEN,
+        ExtensionValue::TimestampTz(_) => 1 + TIMESTAMP_TZ_LEN,
+        ExtensionValue::Interval(_) => 1 + INTERVAL_LEN,
     }
 }
 
@@ -206,7 +210,7 @@ fn push_binary(out: &mut Vec<u8>, bytes: &[u8]) -> Result<(), AllocError>
     ensures kept { OnErr result (StaysInFront out.old.items out.new.items) }
     ensures fits { FitsExtension (binary bytes.now) }
 {
-    out.push(0x00)?;
+    out.push(BINARY)?;
     out.extend_from_slice(bytes)
 }
 
@@ -215,7 +219,7 @@ fn push_date(out: &mut Vec<u8>, value: i32) -> Result<(), AllocError>
     ensures kept { OnErr result (StaysInFront out.old.items out.new.items) }
     ensures fits { FitsExtension (date value) }
 {
-    out.push(0x10)?;
+    out.push(DATE)?;
     push_i32(out, value)
 }
 
@@ -224,7 +228,7 @@ fn push_timestamp(out: &mut Vec<u8>, value: i64) -> Result<(), AllocError>
     ensures kept { OnErr result (StaysInFront out.old.items out.new.items) }
     ensures fits { FitsExtension (timestamp value) }
 {
-    out.push(0x20)?;
+    out.push(TIMESTAMP)?;
     push_i64(out, value)
 }
 
@@ -233,7 +237,7 @@ fn push_timestamp_tz(out: &mut Vec<u8>, offset: i32, value: i64) -> Result<(), A
     ensures kept { OnErr result (StaysInFront out.old.items out.new.items) }
     ensures fits { FitsExtension (timestamp_tz offset value) }
 {
-    out.push(0x30)?;
+    out.push(TIMESTAMP_TZ)?;
     push_i32(out, offset)?;
     push_i64(out, value)
 }
@@ -243,7 +247,7 @@ fn push_interval(out: &mut Vec<u8>, months: i32, days: i32, micros: i64) -> Resu
     ensures kept { OnErr result (StaysInFront out.old.items out.new.items) }
     ensures fits { FitsExtension (interval months days micros) }
 {
-    out.push(0x40)?;
+    out.push(INTERVAL)?;
     push_i32(out, months)?;
     push_i32(out, days)?;
     push_i64(out, micros)

@@ -1,3 +1,5 @@
+//! Items by their places in the bytes of a document.
+
 ghost use Rattle.std.specs.Prelude.{◌≡◌, ℕ, ◌+◌, ◌*◌, ◌^◌, ◌<◌, ◌≤◌, List, length, slice_range, IsOkAnd, IfOk, IfErr, IfSome, MatchResult};
 ghost use Rattle.jsonb_doc.specs.Tree.{Tree, children_of, field_of};
 ghost use Rattle.jsonb_doc.specs.Payload.{Form, any};
@@ -8,12 +10,13 @@ ghost use Rattle.jsonb_doc.specs.Lengths.{HoldKeys, FindsKey};
 ghost use Rattle.jsonb_doc.specs.Spots.{Marks, HasSpotsLeft, spot_size, spot_content, spots_bound, spots_room};
 ghost use Rattle.jsonb_doc.specs.View.{IsDecodingError};
 
-use crate::checking::{ARRAY_HEADER, CONTAINER, OBJECT_HEADER, SCALAR_HEADER};
 use crate::error::Error;
 use crate::item::Item;
+use crate::layout::{
+    ARRAY_HEADER, CONTAINER, OBJECT_HEADER, SCALAR_HEADER, WORD, split_entry, split_header,
+};
 use crate::lengths::{entry_behind, skip_contents};
 use crate::spot_iter::SpotIter;
-use crate::word::{WORD, split_entry, split_header};
 
 /// One item of a document: its kind, and where its content stands in the bytes.
 #[derive(Clone, Copy, Debug)]

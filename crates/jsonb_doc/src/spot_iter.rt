@@ -1,3 +1,5 @@
+//! The iterator over the places of a container's children.
+
 use crate::error::Error;
 use crate::lengths::split_entry_word;
 use crate::spot::Spot;

@@ -1,3 +1,5 @@
+//! Decoded values.
+
 use crate::error::Error;
 use crate::extension::{Date, Interval, Timestamp, TimestampTz};
 use crate::number::Number;

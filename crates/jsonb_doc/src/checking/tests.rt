@@ -1,3 +1,5 @@
+//! What is refused, and as what.
+
 use super::check;
 use crate::error::Error;
 

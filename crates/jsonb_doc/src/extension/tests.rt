@@ -1,3 +1,5 @@
+//! Payloads of extension values.
+
 use super::{Date, ExtensionValue, Interval, Timestamp, TimestampTz};
 use crate::error::Error;
 

@@ -1,3 +1,5 @@
+//! Payloads of numbers, their order and their arithmetic.
+
 use super::{Decimal64, Decimal128, Number};
 use crate::error::Error;
 

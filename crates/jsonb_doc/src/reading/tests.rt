@@ -1,3 +1,5 @@
+//! Items of documents that decode and of bytes that don't.
+
 use super::{elements, keys, pairs, root_item, values};
 use crate::error::Error;
 use crate::extension::{Date, ExtensionValue, Interval};

@@ -1,3 +1,5 @@
+//! Spots of documents that decode and of bytes that don't.
+
 use crate::error::Error;
 use crate::extension::{Date, ExtensionValue};
 use crate::item::Item;

@@ -1,3 +1,5 @@
+//! Values of documents, copied and compared.
+
 use super::*;
 use crate::extension::ExtensionValue;
 use crate::item::Item;
