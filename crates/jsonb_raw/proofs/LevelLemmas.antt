@@ -79,7 +79,7 @@ as_many form [] (p ∷ ps) h = absurd h
 as_many form (l ∷ ls) [] h = absurd h
 as_many form (l ∷ ls) (p ∷ ps) h = ap suc (as_many form ls ps h.1)
 
-pub innermost : (around : List Level) (l : Level) → reverse (around ++ l ∷ []) ≡ l ∷ reverse around
+pub innermost : {A : Type 0} (around : List A) (l : A) → reverse (around ++ l ∷ []) ≡ l ∷ reverse around
 innermost around l = reverse-append around (l ∷ [])
 
 -- there are as many parts left around as levels

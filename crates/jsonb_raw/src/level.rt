@@ -5,7 +5,7 @@ ghost use Rattle.std.specs.Prelude.{◌≤◌, ◌<◌, ◌^◌, ◌≡◌, IsOk
 ghost use Rattle.jsonb_doc.specs.Tree.{Tree, Trees, Pairs, array, object};
 ghost use Rattle.jsonb_doc.specs.Payload.{Form};
 ghost use Rattle.jsonb_doc.specs.Format.{Decodes};
-ghost use Rattle.jsonb_doc.specs.Item.{Stands, item_size};
+ghost use Rattle.jsonb_doc.specs.Item.{Stands, IsNormal, item_size};
 ghost use Rattle.jsonb_doc.specs.View.{IsDecodingError};
 ghost use Rattle.jsonb_raw.specs.Levels.{
     Part, parts_of_trees, parts_of_pairs, HasPartsLeft, IsLevelOf, TakesPart, IsSmaller, level_room, level_bound};
@@ -89,6 +89,7 @@ impl<'a> Level<'a> {
     pub fn take(&mut self) -> Result<Option<(Option<&'a str>, Item<'a>)>, Error>
         ensures takes { (form : Form) (ps : List Part) → HasPartsLeft form self.old ps → TakesPart form ps result self.new }
         ensures smaller { IfOk result (λ found. IfSome found (λ given. IsSmaller self.old given.1 self.new)) }
+        ensures normal { IfOk result (λ found. IfSome found (λ given. IsNormal given.1)) }
         ensures errors { IfErr result IsDecodingError }
     {
         match self {
