@@ -1,5 +1,5 @@
 -- From one word of answers to another.
-use Rattle.std.proofs.Common.{◌≡◌, Option, Some, None, Result, Ok, Err, IsOkAnd, inl}
+use Rattle.std.proofs.Common.{◌≡◌, Option, Some, None, Result, Ok, Err, IsOkAnd, IfOk, inl}
 use Rattle.jsonb_doc.specs.declared.error.Error.{Error}
 use Rattle.jsonb_doc.specs.declared.error.Error.TheVariants.{OutOfMemory}
 use Rattle.jsonb_doc.specs.Tree.{Tree}
@@ -10,6 +10,10 @@ use Rattle.jsonb_raw.specs.Documents.{MakesOption}
 pub answered : {A : Type 0} (P : A → Type 0) (r : Result A Error) → IsOkAnd r P → Answers r P
 answered P (Ok x) h = h
 answered P (Err e) h = absurd h
+
+pub if_answered : {A : Type 0} (P : A → Type 0) (r : Result A Error) → Answers r P → IfOk r P
+if_answered P (Ok x) h = h
+if_answered P (Err e) h = tt
 
 -- want of memory is an answer for every tree
 pub no_memory : (form : Form) (wanted : Option Tree) (e : Error) → e ≡ OutOfMemory → MakesOption form wanted (Err e)

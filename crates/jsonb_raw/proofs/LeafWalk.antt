@@ -1,41 +1,134 @@
--- A walk that finds leaves, part by part.
-use Rattle.std.proofs.Common.{◌≡◌, ◌+◌, ◌%◌, ◌<◌, ◌^◌, ◌++◌, ℕ, suc, ℤ, pos, ◌+ℤ◌, Bool, true, false, nat_eq, List, [], ◌∷◌, Option, Some, None, Result, Ok, length, refl, sym, ap, ◌∙◌, arith, append_assoc, append-nil}
-use Rattle.std.specs.Prelude.{if◌then◌else◌, vec_len, IfOk, IsSome, option_to_list}
+-- A walk over levels that finds leaves: what is found, and then the leaves of what each level has left, the innermost first, are
+-- all.
+use Rattle.std.proofs.Common.{◌≡◌, ◌+◌, ◌%◌, ◌<◌, ◌^◌, ◌++◌, ℕ, suc, ℤ, pos, Bool, true, false, List, [], ◌∷◌, Option, Some, None, length, refl, sym, ap, ◌∙◌, arith, append_assoc, append-nil}
+use Rattle.std.specs.Prelude.{if◌then◌else◌, reverse, map}
 use Rattle.std.specs.Borrow.{Bor}
-use Rattle.std.specs.Int.{w32, cast_signed, int_wrap}
-use Rattle.std.proofs.lemmas.List.{map-append, length-append, length-map}
-use Rattle.std.proofs.lemmas.Bool.Decides.{nat_tests}
-use Rattle.std.proofs.lemmas.Int.{ints, wrapping_add_onto, int_wrap_fits}
-use Rattle.jsonb_doc.specs.Tree.{Tree, Trees, no_trees, tree, Pairs, no_pairs, pair, count, keys, array, object}
+use Rattle.std.specs.Int.{w32, cast_signed}
+use Rattle.std.proofs.lemmas.List.{map-append, reverse-reverse}
+use Rattle.std.proofs.lemmas.Int.{ints}
+use Rattle.jsonb_doc.specs.Tree as spec
+use Rattle.jsonb_doc.specs.Tree.{Tree, Trees, no_trees, tree, Pairs, no_pairs, pair, count, keys}
 use Rattle.jsonb_doc.specs.Payload.{Form, reading}
-use Rattle.jsonb_doc.specs.Format.{Decodes}
-use Rattle.jsonb_doc.specs.Item.{IsNormal}
-use Rattle.jsonb_doc.specs.declared.error.Error.{Error}
+use Rattle.jsonb_doc.specs.Item.{Stands}
 use Rattle.jsonb_doc.specs.declared.item.Item.{Item}
+use Rattle.jsonb_doc.specs.declared.item.Item.TheVariants as item
 use Rattle.jsonb_doc.specs.declared.value.Value.{Value}
-use Rattle.jsonb_doc.proofs.Containers.{array_document}
-use Rattle.jsonb_keypath.specs.declared.key_path.KeyPath.{KeyPath}
+use Rattle.jsonb_doc.proofs.Containers.{array_document, object_document}
 use Rattle.jsonb_keypath.specs.declared.key_path.KeyPaths.{KeyPaths}
-use Rattle.jsonb_keypath.specs.KeyPathGrammar.{Key, index}
-use Rattle.jsonb_keypath.specs.KeyPathViews.{key_view, keys_view, key_paths_view}
-use Rattle.jsonb_raw.specs.declared.functions.path.leaves.Walk.{Walk}
-use Rattle.jsonb_raw.specs.Leaves.{Leaf, behind, is_leaf, leaves_at, leaves, leaves_of_trees}
-use Rattle.jsonb_raw.specs.LeafViews.{leaves_seen, Finds}
+use Rattle.jsonb_keypath.specs.KeyPathGrammar.{Key, index, plain_name}
+use Rattle.jsonb_keypath.specs.KeyPathViews.{key_paths_view}
+use Rattle.jsonb_raw.specs.declared.functions.path.leaves.Entered.{Entered}
+use Rattle.jsonb_raw.specs.declared.level.Level.{Level}
+use Rattle.jsonb_raw.specs.Levels.{Part, parts, parts_of_trees, parts_of_pairs, IsKeyOf}
+use Rattle.jsonb_raw.specs.Leaves.{Leaf, behind, is_leaf, leaves_at, leaves, leaves_of_trees, leaves_of_pairs}
+use Rattle.jsonb_raw.specs.LeafViews.{leaves_seen, step_at, steps_into}
+use Rattle.jsonb_raw.proofs.LevelLemmas.{count_of_trees, count_of_pairs, innermost}
 
--- ---- which items are leaves
+-- ---- which parts are entered
 
-some_more : (n : ℕ) → nat_eq (suc n) 0 ≡ false
-some_more n = grind (arith, nat_tests)
+-- a container without parts is a leaf
+pub empty_leaf : (ignore_array : Bool) (t : Tree) (n : ℕ) → n ≡ length (parts t) → n ≡ 0 → is_leaf ignore_array t ≡ true
+empty_leaf ignore_array spec.null n is none = refl
+empty_leaf ignore_array (spec.boolean b) n is none = refl
+empty_leaf ignore_array (spec.number m) n is none = refl
+empty_leaf ignore_array (spec.text s) n is none = refl
+empty_leaf ignore_array (spec.extension x) n is none = refl
+empty_leaf ignore_array (spec.array no_trees) n is none = refl
+empty_leaf ignore_array (spec.array (tree t ts)) n is none = absurd (omega (arith, is, none))
+empty_leaf ignore_array (spec.object no_pairs) n is none = refl
+empty_leaf ignore_array (spec.object (pair k t ps)) n is none = absurd (omega (arith, is, none))
 
-pub empty_array : (ignore_array : Bool) (ts : Trees) (n : ℕ) → ignore_array ≡ false → n ≡ count ts → nat_eq n 0 ≡ is_leaf ignore_array (array ts)
-empty_array ignore_array no_trees n entered is = rw is refl
-empty_array ignore_array (tree t ts) n entered is = rw (is, entered) (some_more (count ts))
+pub full_array : (ignore_array : Bool) (ts : Trees) (n : ℕ) → ignore_array ≡ false → n ≡ length (parts_of_trees ts) → (n ≡ 0 → ⊥) → is_leaf ignore_array (spec.array ts) ≡ false
+full_array ignore_array no_trees n entered is some = absurd (some is)
+full_array ignore_array (tree t ts) n entered is some = entered
 
-pub empty_object : (ignore_array : Bool) (ps : Pairs) (n : ℕ) → n ≡ length (keys ps) → nat_eq n 0 ≡ is_leaf ignore_array (object ps)
-empty_object ignore_array no_pairs n is = rw is refl
-empty_object ignore_array (pair key t ps) n is = rw is (some_more (length (keys ps)))
+pub full_object : (ignore_array : Bool) (ps : Pairs) (n : ℕ) → n ≡ length (parts_of_pairs ps) → (n ≡ 0 → ⊥) → is_leaf ignore_array (spec.object ps) ≡ false
+full_object ignore_array no_pairs n is some = absurd (some is)
+full_object ignore_array (pair k t ps) n is some = refl
 
--- ---- one part
+-- nothing lies within a leaf
+pub none_within : (ignore_array : Bool) (t : Tree) → is_leaf ignore_array t ≡ true → leaves ignore_array t ≡ []
+none_within ignore_array spec.null leaf = refl
+none_within ignore_array (spec.boolean b) leaf = refl
+none_within ignore_array (spec.number m) leaf = refl
+none_within ignore_array (spec.text s) leaf = refl
+none_within ignore_array (spec.extension x) leaf = refl
+none_within true (spec.array no_trees) leaf = refl
+none_within false (spec.array no_trees) leaf = refl
+none_within ignore_array (spec.array (tree t ts)) leaf = rw leaf refl
+none_within ignore_array (spec.object no_pairs) leaf = refl
+none_within ignore_array (spec.object (pair k t ps)) leaf = cc
+
+-- ---- the leaves within a tree by its parts
+
+abbrev pub next : ℕ → ℕ
+next n = (n + 1) % 2 ^ 32
+
+-- the step to a part of this key, if any, and at this position
+abbrev pub part_step : Option (List ℕ) → ℕ → Key
+part_step None n = index (cast_signed w32 n)
+part_step (Some k) n = plain_name k
+
+abbrev pub leaves_of_parts : Bool → ℕ → List Part → List Leaf
+leaves_of_parts ignore_array n [] = []
+leaves_of_parts ignore_array n (p ∷ ps) = leaves_at ignore_array (part_step p.0 n) p.1 (leaves ignore_array p.1) ++ leaves_of_parts ignore_array (next n) ps
+
+signed : (n : ℕ) → n < 2 ^ 31 → cast_signed w32 n ≡ pos n
+signed n small = omega (arith, ints)
+
+next_is : (n : ℕ) → n < 2 ^ 31 → next n ≡ suc n
+next_is n small = omega arith
+
+trees_leaves : (ignore_array : Bool) (n : ℕ) (ts : Trees) → n + count ts < 2 ^ 31 → leaves_of_parts ignore_array n (parts_of_trees ts) ≡ leaves_of_trees ignore_array n ts
+trees_leaves ignore_array n no_trees few = refl
+trees_leaves ignore_array n (tree t ts) few =
+    let small : n < 2 ^ 31 = omega arith in
+    ap (λ z. leaves_at ignore_array (index z) t (leaves ignore_array t) ++ leaves_of_parts ignore_array (next n) (parts_of_trees ts)) (signed n small)
+    ∙ ap (λ m. leaves_at ignore_array (index (pos n)) t (leaves ignore_array t) ++ leaves_of_parts ignore_array m (parts_of_trees ts)) (next_is n small)
+    ∙ ap (λ (ls : List Leaf). leaves_at ignore_array (index (pos n)) t (leaves ignore_array t) ++ ls) (trees_leaves ignore_array (suc n) ts (omega arith))
+
+pairs_leaves : (ignore_array : Bool) (n : ℕ) (ps : Pairs) → leaves_of_parts ignore_array n (parts_of_pairs ps) ≡ leaves_of_pairs ignore_array ps
+pairs_leaves ignore_array n no_pairs = refl
+pairs_leaves ignore_array n (pair k t ps) =
+    ap (λ (ls : List Leaf). leaves_at ignore_array (plain_name k) t (leaves ignore_array t) ++ ls) (pairs_leaves ignore_array (next n) ps)
+
+-- bytes decode to less parts than an index can count
+few_parts : (form : Form) (x : Item) (t : Tree) → Stands form x t → length (parts t) < 2 ^ 31
+few_parts form item.Null t stands = rw stands (omega arith)
+few_parts form (item.Boolean b) t stands = rw stands (omega arith)
+few_parts form (item.Number n) t stands = rw stands (omega arith)
+few_parts form (item.String s) t stands = rw stands (omega arith)
+few_parts form (item.Extension x) t stands = rw stands (omega arith)
+few_parts form (item.Array bytes) t stands =
+    let (ts, is, d) = stands in
+    let fits = (array_document (reading form) ts bytes.now d.document).1.headed.fits in
+    rw is (omega (arith, fits, count_of_trees ts))
+few_parts form (item.Object bytes) t stands =
+    let (ps, is, d) = stands in
+    let fits = (object_document (reading form) ps bytes.now d.document).1.headed.fits in
+    rw is (omega (arith, fits, count_of_pairs ps))
+
+parts_leaves : (ignore_array : Bool) (t : Tree) → length (parts t) < 2 ^ 31 → is_leaf ignore_array t ≡ false → leaves ignore_array t ≡ leaves_of_parts ignore_array 0 (parts t)
+parts_leaves ignore_array spec.null few entered = cc
+parts_leaves ignore_array (spec.boolean b) few entered = cc
+parts_leaves ignore_array (spec.number m) few entered = cc
+parts_leaves ignore_array (spec.text s) few entered = cc
+parts_leaves ignore_array (spec.extension x) few entered = cc
+parts_leaves ignore_array (spec.array no_trees) few entered = cc
+parts_leaves true (spec.array (tree t ts)) few entered = cc
+parts_leaves false (spec.array (tree t ts)) few entered = sym (trees_leaves false 0 (tree t ts) (omega (arith, few, count_of_trees ts)))
+parts_leaves ignore_array (spec.object ps) few entered = sym (pairs_leaves ignore_array 0 ps)
+
+pub item_leaves : (form : Form) (x : Item) (ignore_array : Bool) (t : Tree) → Stands form x t → is_leaf ignore_array t ≡ false → leaves ignore_array t ≡ leaves_of_parts ignore_array 0 (parts t)
+item_leaves form x ignore_array t stands entered = parts_leaves ignore_array t (few_parts form x t stands) entered
+
+pub keyed_step : (key : Option (Bor (List ℕ))) (k : Option (List ℕ)) (n : ℕ) → IsKeyOf key k → step_at key n ≡ part_step k n
+keyed_step None None n h = refl
+keyed_step None (Some k) n h = absurd h
+keyed_step (Some key) None n h = absurd h
+keyed_step (Some key) (Some k) n h = ap plain_name h
+
+-- ---- what is left at levels
 
 -- the same leaves, first one step further in, and then further
 behind-step : (path : List Key) (step : Key) (within : List Leaf) → behind (path ++ step ∷ []) within ≡ behind path (behind (step ∷ []) within)
@@ -43,138 +136,109 @@ behind-step path step [] = refl
 behind-step path step (leaf ∷ within) =
     ap (λ (steps : List Key). (steps, leaf.1) ∷ behind (path ++ step ∷ []) within) (append_assoc path (step ∷ []) leaf.0) ∙ ap (λ (ls : List Leaf). (path ++ step ∷ leaf.0, leaf.1) ∷ ls) (behind-step path step within)
 
-same_front : {A : Type 0} (xs ys : List A) (x y : A) → xs ++ x ∷ [] ≡ ys ++ y ∷ [] → xs ≡ ys
-same_front [] [] x y e = refl
-same_front [] (b ∷ []) x y e = cc
-same_front [] (b ∷ c ∷ ys) x y e = cc
-same_front (a ∷ []) [] x y e = cc
-same_front (a ∷ b ∷ xs) [] x y e = cc
-same_front (a ∷ xs) (b ∷ ys) x y e = let front : xs ≡ ys = same_front xs ys x y (cc) in cc
-
--- the last step is taken back
-taken_back : (step : KeyPath) (old there found new : List KeyPath) (r : Option KeyPath) → there ≡ old ++ step ∷ [] → keys_view found ≡ keys_view there
-    → found ≡ new ++ option_to_list r → (0 < length found → IsSome r) → keys_view new ≡ keys_view old
-taken_back step old there found new None taken same popped some =
-    let all : length (keys_view found) ≡ length (keys_view old ++ key_view step ∷ []) = ap length (same ∙ ap keys_view taken ∙ map-append key_view old (step ∷ [])) in
-    let no : IsSome {T = KeyPath} None = some (omega (arith, length-map found key_view, all, length-append (keys_view old) (key_view step ∷ []))) in cc
-taken_back step old there found new (Some last) taken same popped some =
-    same_front (keys_view new) (keys_view old) (key_view last) (key_view step)
-    (sym (map-append key_view new (last ∷ [])) ∙ ap keys_view (sym popped) ∙ same ∙ ap keys_view taken ∙ map-append key_view old (step ∷ []))
-
--- a leaf is found where the part is one, and else what lies within
-pub found_leaf : (seen : Value → Tree) (old new : Walk) (ignore_array test : Bool) (t : Tree) (within : List Leaf)
-    → test ≡ is_leaf ignore_array t → test ≡ true → Finds seen old new (([], t) ∷ []) → Finds seen old new (if is_leaf ignore_array t then ([], t) ∷ [] else within)
-found_leaf seen old new ignore_array test t within same is_one finds = rw (sym same ∙ is_one) finds
-
-pub found_within : (seen : Value → Tree) (old new : Walk) (ignore_array test : Bool) (t : Tree) (within : List Leaf)
-    → test ≡ is_leaf ignore_array t → test ≡ false → Finds seen old new within → Finds seen old new (if is_leaf ignore_array t then ([], t) ∷ [] else within)
-found_within seen old new ignore_array test t within same is_none finds = rw (sym same ∙ is_none) finds
-
--- A step is taken, leaves are found there, and the step is taken back.
-pub found_at : (seen : Value → Tree) (step : KeyPath) (old there found new : Walk) (r : Option KeyPath) (within : List Leaf)
-    → there.path.paths.items ≡ old.path.paths.items ++ step ∷ [] → there.found.items ≡ old.found.items
-    → Finds seen there found within
-    → found.path.paths.items ≡ new.path.paths.items ++ option_to_list r → (0 < vec_len found.path.paths → IsSome r) → new.found.items ≡ found.found.items
-    → Finds seen old new (behind (key_view step ∷ []) within)
-found_at seen step old there found new r within taken kept finds popped some same = record {
-  path = taken_back step _ _ _ _ r taken finds.path popped (λ h. some (omega (arith, found.path.paths.ok.0)));
-  found =
-      ap (leaves_seen seen) same ∙ finds.found
-      ∙ ap (λ ls. leaves_seen seen ls ++ behind (key_paths_view there.path) within) kept
-      ∙ ap (λ (steps : List Key). leaves_seen seen old.found.items ++ behind steps within) (ap keys_view taken ∙ map-append key_view old.path.paths.items (step ∷ []))
-      ∙ ap (λ (ls : List Leaf). leaves_seen seen old.found.items ++ ls) (behind-step (key_paths_view old.path) (key_view step) within);
-}
-
--- the part where the walk is, found with its path and its value
-pub one_leaf : (seen : Value → Tree) (old new : Walk) (path : KeyPaths) (value : Value) (t : Tree) → key_paths_view path ≡ key_paths_view old.path → seen value ≡ t
-    → new.path.paths.items ≡ old.path.paths.items → new.found.items ≡ old.found.items ++ (path, value) ∷ [] → Finds seen old new (([], t) ∷ [])
-one_leaf seen old new path value t same_steps same_tree stays pushed = record {
-  path = ap keys_view stays;
-  found =
-      ap (leaves_seen seen) pushed ∙ map-append (λ (leaf : KeyPaths × Value). (key_paths_view leaf.0, seen leaf.1)) old.found.items ((path, value) ∷ [])
-      ∙ ap (λ (steps : List Key). leaves_seen seen old.found.items ++ (steps, seen value) ∷ []) (same_steps ∙ sym (append-nil (key_paths_view old.path)))
-      ∙ ap (λ (u : Tree). leaves_seen seen old.found.items ++ (key_paths_view old.path ++ [], u) ∷ []) same_tree;
-}
-
--- ---- one part behind the other
-
--- what is found, followed by the leaves that are left, is the whole, and the walk is where it was
-pub record FindsToward (seen : Value → Tree) (old now : Walk) (left whole : List Leaf) : Type 0 where
-  pub path : key_paths_view now.path ≡ key_paths_view old.path
-  pub found : leaves_seen seen now.found.items ++ behind (key_paths_view old.path) left ≡ leaves_seen seen old.found.items ++ behind (key_paths_view old.path) whole
-
-pub FindsToward-all : (seen : Value → Tree) (old : Walk) (whole : List Leaf) → FindsToward seen old old whole whole
-FindsToward-all seen old whole = record { path = refl; found = refl }
-
-pub FindsToward-more : (seen : Value → Tree) (old now next : Walk) (part left whole : List Leaf) → FindsToward seen old now (part ++ left) whole → Finds seen now next part → FindsToward seen old next left whole
-FindsToward-more seen old now next part left whole so_far finds =
-    let steps = key_paths_view old.path in
-    record {
-      path = finds.path ∙ so_far.path;
-      found =
-          ap (λ (ls : List Leaf). ls ++ behind steps left) (finds.found ∙ ap (λ (ss : List Key). leaves_seen seen now.found.items ++ behind ss part) so_far.path)
-          ∙ append_assoc (leaves_seen seen now.found.items) (behind steps part) (behind steps left)
-          ∙ ap (λ (ls : List Leaf). leaves_seen seen now.found.items ++ ls) (sym (map-append (λ (leaf : Leaf). (steps ++ leaf.0, leaf.1)) part left))
-          ∙ so_far.found;
-    }
-
-pub FindsToward-end : (seen : Value → Tree) (old new : Walk) (whole : List Leaf) → FindsToward seen old new [] whole → Finds seen old new whole
-FindsToward-end seen old new whole so_far = record {
-  path = so_far.path;
-  found = sym (append-nil (leaves_seen seen new.found.items)) ∙ so_far.found;
-}
-
--- the same at the elements of an array, where the next one has this index
-pub record ElementsToFind (seen : Value → Tree) (ignore_array : Bool) (old now : Walk) (i : ℤ) (ts left : Trees) : Type 0 where
-  pub n : ℕ
-  pub is : i ≡ pos n
-  pub few : n + count left < 2 ^ 29
-  pub toward : FindsToward seen old now (leaves_of_trees ignore_array n left) (leaves_of_trees ignore_array 0 ts)
-
--- bytes decode to less than 2^29 elements
-pub ElementsToFind-all : (form : Form) (bytes : List ℕ) (seen : Value → Tree) (ignore_array : Bool) (walk : Walk) (ts : Trees) → Decodes form bytes (array ts) → ElementsToFind seen ignore_array walk walk (pos 0) ts ts
-ElementsToFind-all form bytes seen ignore_array walk ts d = record {
-  n = 0;
-  is = refl;
-  few = omega (arith, (array_document (reading form) ts bytes d.document).1.headed.fits);
-  toward = FindsToward-all seen walk (leaves_of_trees ignore_array 0 ts);
-}
-
--- the next index, as it is computed
-next_index : (n bits : ℕ) → bits < 2 ^ 32 → cast_signed w32 bits ≡ pos n → n < 2 ^ 29 → cast_signed w32 ((bits + 1) % 2 ^ 32) ≡ pos (suc n)
-next_index n bits fits is few =
-    wrapping_add_onto w32 bits (pos 1) fits (omega (arith, ints)) ∙ ap (λ z. int_wrap w32 (z +ℤ pos 1)) is ∙ int_wrap_fits w32 (pos n +ℤ pos 1) (omega (arith, ints)) ∙ omega (arith, ints)
-
-pub ElementsToFind-more : (seen : Value → Tree) (ignore_array : Bool) (old now next : Walk) (bits : ℕ) (ts rest : Trees) (t : Tree)
-    → bits < 2 ^ 32 → ElementsToFind seen ignore_array old now (cast_signed w32 bits) ts (tree t rest)
-    → Finds seen now next (leaves_at ignore_array (index (cast_signed w32 bits)) t (leaves ignore_array t)) → ElementsToFind seen ignore_array old next (cast_signed w32 ((bits + 1) % 2 ^ 32)) ts rest
-ElementsToFind-more seen ignore_array old now next bits ts rest t fits so_far finds = record {
-  n = suc so_far.n;
-  is = next_index so_far.n bits fits so_far.is (omega (arith, so_far.few));
-  few = omega (arith, so_far.few);
-  toward = FindsToward-more seen old now next _ _ _ so_far.toward (rw so_far.is at finds);
-}
-
--- ---- an item
-
-pub array_leaves : (ignore_array : Bool) (ts : Trees) → ignore_array ≡ false → leaves ignore_array (array ts) ≡ leaves_of_trees ignore_array 0 ts
-array_leaves ignore_array ts entered = rw entered refl
-
--- ---- the root
+behind-append : (path : List Key) (xs ys : List Leaf) → behind path (xs ++ ys) ≡ behind path xs ++ behind path ys
+behind-append path xs ys = map-append (λ (leaf : Leaf). (path ++ leaf.0, leaf.1)) xs ys
 
 behind-none : (found : List Leaf) → behind [] found ≡ found
 behind-none [] = refl
 behind-none (leaf ∷ found) = ap (λ (ls : List Leaf). leaf ∷ ls) (behind-none found)
 
--- what a walk from the root finds
-pub found_below_root : (seen : Value → Tree) (old new : Walk) (all : List Leaf) → old.path.paths.items ≡ [] → old.found.items ≡ [] → Finds seen old new all → leaves_seen seen new.found.items ≡ all
-found_below_root seen old new all no_steps no_leaves finds =
-    finds.found ∙ ap (λ ls. leaves_seen seen ls ++ behind (key_paths_view old.path) all) no_leaves ∙ ap (λ ss. behind (keys_view ss) all) no_steps ∙ behind-none all
+-- the leaves of what the containers around have left, the innermost first
+abbrev pub leaves_around : Bool → List Entered → List (List Part) → List Leaf
+leaves_around ignore_array (e ∷ es) (ps ∷ ls) = behind (steps_into (reverse es)) (leaves_of_parts ignore_array (next e.index) ps) ++ leaves_around ignore_array es ls
+leaves_around ignore_array _ _ = []
 
--- ---- what an iterator gives is normal
+-- what is found, and then the leaves of what each level has left, are all
+pub record LeavesToward (seen : Value → Tree) (ignore_array : Bool) (found : List (KeyPaths × Value)) (around : List Entered) (n : ℕ) (here : List Part) (others : List (List Part)) (whole : List Leaf) : Type 0 where
+  pub joined : leaves_seen seen found ++ (behind (steps_into around) (leaves_of_parts ignore_array n here) ++ leaves_around ignore_array (reverse around) others) ≡ whole
 
-pub normal_item : (r : Result Item Error) (x : Item) → r ≡ Ok x → IfOk r IsNormal → IsNormal x
-normal_item r x is normal = rw is at normal
+pub walk_begun : (seen : Value → Tree) (ignore_array : Bool) (found : List (KeyPaths × Value)) (around : List Entered) (t : Tree) → found ≡ [] → around ≡ [] → leaves ignore_array t ≡ leaves_of_parts ignore_array 0 (parts t)
+    → LeavesToward seen ignore_array found around 0 (parts t) [] (leaves ignore_array t)
+walk_begun seen ignore_array found around t none root is = record {
+  joined = rw (none, root) (append-nil (behind [] (leaves_of_parts ignore_array 0 (parts t))) ∙ behind-none (leaves_of_parts ignore_array 0 (parts t)) ∙ sym is);
+}
 
-pub normal_value : (r : Result (Bor (List ℕ) × Item) Error) (x : Bor (List ℕ) × Item) → r ≡ Ok x → IfOk r (λ given. IsNormal given.1) → IsNormal x.1
-normal_value r x is normal = rw is at normal
+-- a part that is a leaf is found
+pub leaf_found : (seen : Value → Tree) (ignore_array : Bool) (found found' : List (KeyPaths × Value)) (around : List Entered) (n : ℕ) (key : Option (Bor (List ℕ))) (p : Part) (ps : List Part) (others : List (List Part)) (whole : List Leaf) (path : KeyPaths) (value : Value)
+    → LeavesToward seen ignore_array found around n (p ∷ ps) others whole → is_leaf ignore_array p.1 ≡ true → IsKeyOf key p.0 → key_paths_view path ≡ steps_into around ++ step_at key n ∷ [] → seen value ≡ p.1 → found' ≡ found ++ (path, value) ∷ []
+    → LeavesToward seen ignore_array found' around (next n) ps others whole
+leaf_found seen ignore_array found found' around n key p ps others whole path value h leaf keyed led same pushed =
+    let steps = steps_into around in
+    let step = part_step p.0 n in
+    let left = leaves_of_parts ignore_array (next n) ps in
+    let outside = leaves_around ignore_array (reverse around) others in
+    let front = leaves_seen seen found in
+    record {
+      joined =
+          ap (λ (ls : List Leaf). ls ++ (behind steps left ++ outside))
+              (ap (leaves_seen seen) pushed ∙ map-append (λ (leaf : KeyPaths × Value). (key_paths_view leaf.0, seen leaf.1)) found ((path, value) ∷ [])
+                ∙ ap (λ (ss : List Key). front ++ (ss, seen value) ∷ []) (led ∙ ap (λ s. steps ++ s ∷ []) (keyed_step key p.0 n keyed))
+                ∙ ap (λ u. front ++ (steps ++ step ∷ [], u) ∷ []) same)
+          ∙ append_assoc front ((steps ++ step ∷ [], p.1) ∷ []) (behind steps left ++ outside)
+          ∙ ap (λ (ls : List Leaf). front ++ (behind steps (ls ++ left) ++ outside)) (sym (at_leaf step p.1 (leaves ignore_array p.1) leaf))
+          ∙ h.joined;
+    }
+  where
+    at_leaf : (step : Key) (t : Tree) (within : List Leaf) → is_leaf ignore_array t ≡ true → leaves_at ignore_array step t within ≡ (step ∷ [], t) ∷ []
+    at_leaf step t within leaf = rw leaf refl
+
+-- a part that is no leaf is entered
+pub part_entered : (seen : Value → Tree) (ignore_array : Bool) (found : List (KeyPaths × Value)) (around around' : List Entered) (e : Entered) (p : Part) (ps : List Part) (others : List (List Part)) (whole : List Leaf)
+    → LeavesToward seen ignore_array found around e.index (p ∷ ps) others whole → is_leaf ignore_array p.1 ≡ false → IsKeyOf e.key p.0 → leaves ignore_array p.1 ≡ leaves_of_parts ignore_array 0 (parts p.1) → around' ≡ around ++ e ∷ []
+    → LeavesToward seen ignore_array found around' 0 (parts p.1) (ps ∷ others) whole
+part_entered seen ignore_array found around around' e p ps others whole h entered keyed within pushed =
+    let steps = steps_into around in
+    let step = part_step p.0 e.index in
+    let left = leaves_of_parts ignore_array (next e.index) ps in
+    let outside = leaves_around ignore_array (reverse around) others in
+    let front = leaves_seen seen found in
+    let inner = leaves_of_parts ignore_array 0 (parts p.1) in
+    record {
+      joined =
+          ap (λ (es : List Entered). front ++ (behind (steps_into es) inner ++ leaves_around ignore_array (reverse es) (ps ∷ others))) pushed
+          ∙ ap (λ (es : List Entered). front ++ (behind (steps_into (around ++ e ∷ [])) inner ++ leaves_around ignore_array es (ps ∷ others))) (innermost around e)
+          ∙ ap (λ (es : List Entered). front ++ (behind (steps_into (around ++ e ∷ [])) inner ++ (behind (steps_into es) left ++ outside))) (reverse-reverse around)
+          ∙ ap (λ (ss : List Key). front ++ (behind ss inner ++ (behind steps left ++ outside)))
+              (map-append (λ (x : Entered). step_at x.key x.index) around (e ∷ []) ∙ ap (λ s. steps ++ s ∷ []) (keyed_step e.key p.0 e.index keyed))
+          ∙ ap (λ (ls : List Leaf). front ++ (ls ++ (behind steps left ++ outside))) (behind-step steps step inner)
+          ∙ ap (λ (ls : List Leaf). front ++ ls) (sym (append_assoc (behind steps (behind (step ∷ []) inner)) (behind steps left) outside))
+          ∙ ap (λ (ls : List Leaf). front ++ (ls ++ outside)) (sym (behind-append steps (behind (step ∷ []) inner) left))
+          ∙ ap (λ (ls : List Leaf). front ++ (behind steps (ls ++ left) ++ outside)) (ap (λ (ls : List Leaf). behind (step ∷ []) ls) (sym within) ∙ sym (at_part step p.1 (leaves ignore_array p.1) entered))
+          ∙ h.joined;
+    }
+  where
+    at_part : (step : Key) (t : Tree) (inside : List Leaf) → is_leaf ignore_array t ≡ false → leaves_at ignore_array step t inside ≡ behind (step ∷ []) inside
+    at_part step t inside entered = rw entered refl
+
+-- nothing is left at the innermost level
+pub level_done : (seen : Value → Tree) (ignore_array : Bool) (found : List (KeyPaths × Value)) (around around' : List Entered) (outer : Entered) (n : ℕ) (here : List Part) (others more : List (List Part)) (whole : List Leaf)
+    → others ≡ here ∷ more → around ≡ around' ++ outer ∷ [] → LeavesToward seen ignore_array found around n [] others whole → LeavesToward seen ignore_array found around' (next outer.index) here more whole
+level_done seen ignore_array found around around' outer n here others more whole same popped h =
+    let front = leaves_seen seen found in
+    let left = leaves_of_parts ignore_array (next outer.index) here in
+    let outside = leaves_around ignore_array (reverse around') more in
+    record {
+      joined =
+          ap (λ (es : List Entered). front ++ (behind (steps_into es) left ++ outside)) (sym (reverse-reverse around'))
+          ∙ ap (λ (es : List Entered). front ++ leaves_around ignore_array es (here ∷ more)) (sym (innermost around' outer))
+          ∙ ap (λ (es : List Entered). front ++ leaves_around ignore_array (reverse es) (here ∷ more)) (sym popped)
+          ∙ ap (λ (ls : List (List Part)). front ++ leaves_around ignore_array (reverse around) ls) (sym same)
+          ∙ h.joined;
+    }
+
+-- nothing is left at any level
+pub walk_done : (seen : Value → Tree) (ignore_array : Bool) (found : List (KeyPaths × Value)) (around : List Entered) (n : ℕ) (others : List (List Part)) (whole : List Leaf)
+    → around ≡ [] → LeavesToward seen ignore_array found around n [] others whole → leaves_seen seen found ≡ whole
+walk_done seen ignore_array found around n others whole root h = sym (append-nil (leaves_seen seen found)) ∙ rw root at h.joined
+
+-- ---- the levels around
+
+abbrev pub levels : List Entered → List Level
+levels around = map (λ (e : Entered). e.level) around
+
+pub levels_behind : (around around' : List Entered) (e : Entered) → around' ≡ around ++ e ∷ [] → levels around' ≡ levels around ++ e.level ∷ []
+levels_behind around around' e pushed = ap levels pushed ∙ map-append (λ (e : Entered). e.level) around (e ∷ [])
+
+pub no_items : {A : Type 0} (xs : List A) → length xs ≡ 0 → xs ≡ []
+no_items [] none = refl
+no_items (x ∷ xs) none = absurd (omega (arith, none))

@@ -11,7 +11,7 @@ use Rattle.jsonb_doc.specs.declared.item.Item.{Item}
 use Rattle.jsonb_doc.specs.declared.element_iter.ElementIter.{ElementIter}
 use Rattle.jsonb_doc.specs.declared.pair_iter.PairIter.{PairIter}
 use Rattle.jsonb_doc.specs.Tree as spec
-use Rattle.jsonb_doc.specs.Tree.{Tree, Trees}
+use Rattle.jsonb_doc.specs.Tree.{Tree, Trees, count, keys}
 use Rattle.jsonb_doc.specs.Payload.{Form}
 use Rattle.jsonb_doc.specs.Item.{Stands, item_size}
 use Rattle.jsonb_doc.specs.Elements.{TakesElement}
@@ -49,6 +49,15 @@ pub no_pair_error : (form : Form) (it : PairIter) (e : Error) (qs : spec.Pairs) 
 no_pair_error form it e spec.no_pairs h = h
 no_pair_error form it e (spec.pair k t qs) h = h
 
+-- how many parts a container has
+pub count_of_trees : (ts : Trees) → count ts ≡ length (parts_of_trees ts)
+count_of_trees spec.no_trees = refl
+count_of_trees (spec.tree t ts) = ap suc (count_of_trees ts)
+
+pub count_of_pairs : (ps : spec.Pairs) → length (keys ps) ≡ length (parts_of_pairs ps)
+count_of_pairs spec.no_pairs = refl
+count_of_pairs (spec.pair k t ps) = ap suc (count_of_pairs ps)
+
 -- ---- the levels that a walk is within, the innermost first
 
 abbrev pub HavePartsLeft : Form → List Level → List (List Part) → Type 0
@@ -70,7 +79,7 @@ as_many form [] (p ∷ ps) h = absurd h
 as_many form (l ∷ ls) [] h = absurd h
 as_many form (l ∷ ls) (p ∷ ps) h = ap suc (as_many form ls ps h.1)
 
-pub innermost : (around : List Level) (l : Level) → reverse (around ++ l ∷ []) ≡ l ∷ reverse around
+pub innermost : {A : Type 0} (around : List A) (l : A) → reverse (around ++ l ∷ []) ≡ l ∷ reverse around
 innermost around l = reverse-append around (l ∷ [])
 
 -- there are as many parts left around as levels

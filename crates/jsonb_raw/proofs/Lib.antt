@@ -22,7 +22,7 @@ pub mod Left
 pub mod LevelLemmas
 pub mod LevelKeys
 pub mod Walked
-pub mod Counted
+pub mod EqualityWalk
 pub mod ScalarLemmas
 pub mod TextChunks
 pub mod Told

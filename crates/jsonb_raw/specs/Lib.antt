@@ -22,6 +22,7 @@ pub mod PairSteps
 pub mod Leaves
 pub mod Levels
 pub mod KeyParts
+pub mod EqualityParts
 pub mod LeafViews
 pub mod LeavesLaws
 pub mod Exists

@@ -1,20 +1,22 @@
 //! The equality key of a document: a walk over its items that writes kinds, counts and contents.
 
-ghost use Rattle.std.specs.Prelude.{◌≡◌, ◌++◌, ◌∷◌, length, IfErr};
-ghost use Rattle.std.specs.Int.{w32, to_be_bytes};
-ghost use Rattle.jsonb_doc.specs.Tree.{Tree, Trees, Pairs};
+ghost use Rattle.std.specs.Prelude.{◌≡◌, ◌≤◌, ◌<◌, ◌+◌, ◌^◌, ◌++◌, ◌∷◌, length, take, drop, IfOk, IfSome, IfErr};
+ghost use Rattle.std.specs.Int.{w32, w64, to_be_bytes};
+ghost use Rattle.jsonb_doc.specs.Tree.{Tree};
 ghost use Rattle.jsonb_doc.specs.View.{number_view, extension_view};
 ghost use Rattle.jsonb_raw.specs.EqualityKey.{equality_key};
+ghost use Rattle.jsonb_raw.specs.EqualityParts.{equality_start, equality_part_start};
+ghost use Rattle.jsonb_raw.specs.Levels.{Part, IsKeyOf, IsLevelOf, level_room, level_bound};
 ghost use Rattle.jsonb_raw.specs.SortableKey.{text_bytes};
-ghost use Rattle.jsonb_doc.specs.Payload.{Form, extension_payload};
-ghost use Rattle.jsonb_doc.specs.Format.{Decodes};
-ghost use Rattle.jsonb_doc.specs.Item.{Stands};
+ghost use Rattle.jsonb_doc.specs.Payload.{Form};
+ghost use Rattle.jsonb_doc.specs.Item.{Stands, item_size};
 ghost use Rattle.jsonb_doc.specs.Answer.{Answers};
 ghost use Rattle.jsonb_raw.specs.Documents.{IsReadingError};
 
 use crate::key_bytes::{push_number, push_text};
 use crate::key_kind;
-use jsonb_doc::{Error, ExtensionValue, Item, Number, elements, pairs, push_extension_payload};
+use crate::level::Level;
+use jsonb_doc::{Error, ExtensionValue, Item, Number, push_extension_payload};
 use std::alloc::Global;
 
 /// Appends a kind and a count in four bytes, the highest first.
@@ -29,27 +31,27 @@ fn push_count(out: &mut Vec<u8>, kind: u8, count: usize) -> Result<(), Error>
     Ok(())
 }
 
-/// How many bytes the payload of an extension has.
-fn payload_len(value: &ExtensionValue<'_>) -> usize
-    ensures { result ≡ length (extension_payload (extension_view value.now)) }
+/// Writes a length over the eight bytes at a place.
+fn set_len(out: &mut Vec<u8>, at: usize, len: u64)
+    requires { at + 8 ≤ length out.old.items }
+    ensures { out.new.items ≡ take at out.old.items ++ (to_be_bytes w64 len ++ drop (at + 8) out.old.items) }
 {
-    match value {
-        ExtensionValue::Binary(bytes) => 1 + bytes.len(),
-        ExtensionValue::Date(_) => 5,
-        ExtensionValue::Timestamp(_) => 9,
-        ExtensionValue::TimestampTz(_) => 13,
-        ExtensionValue::Interval(_) => 17,
-    }
+    out[at..at + 8].copy_from_slice(&len.to_be_bytes());
 }
 
-/// Appends the kind, the length in eight bytes and the payload of an extension.
+/// Appends the kind, the length in eight bytes and the payload of an extension. The length is written over zeros, once the
+/// payload stands behind them.
 fn push_extension(out: &mut Vec<u8>, value: &ExtensionValue<'_>) -> Result<(), Error>
     ensures { Answers result
         (λ _. out.new.items ≡ out.old.items ++ equality_key (Tree.extension (extension_view value.now))) }
 {
     out.push(key_kind::EXTENSION)?;
-    out.extend_from_slice(&(payload_len(value) as u64).to_be_bytes())?;
+    let at = out.len();
+    out.extend_from_slice(&[0; 8])?;
+    let start = out.len();
     push_extension_payload(out, value)?;
+    let len = (out.len() - start) as u64;
+    set_len(out, at, len);
     Ok(())
 }
 
@@ -72,63 +74,89 @@ fn push_number_key(out: &mut Vec<u8>, number: &Number) -> Result<(), Error>
     Ok(())
 }
 
-/// Appends the equality key of an item.
-#[cycle(walk)]
-fn push_item(out: &mut Vec<u8>, item: &Item<'_>) -> Result<(), Error>
+/// Appends the key of an item that has no parts, and of any other what stands before its parts, which it hands out.
+#[inline(always)]
+fn push_start<'a>(out: &mut Vec<u8>, item: &Item<'a>) -> Result<Option<Level<'a>>, Error>
     ensures key { (form : Form) (tree : Tree) → Stands form item.now tree
-        → Answers result (λ _. out.new.items ≡ out.old.items ++ equality_key tree) }
+        → Answers result (λ found. (out.new.items ≡ out.old.items ++ equality_start tree) × IsLevelOf form tree found) }
+    ensures room { IfOk result (λ found. IfSome found (λ level. level_room level < item_size item.now)) }
+    ensures bound { IfOk result (λ found. IfSome found (λ level. level_bound level < 2 ^ 64)) }
     ensures errors { IfErr result IsReadingError }
 {
     match item {
         Item::Null => out.push(key_kind::NULL)?,
-        Item::Boolean(value) => out.push(if *value {
-            key_kind::TRUE
-        } else {
-            key_kind::FALSE
-        })?,
+        Item::Boolean(false) => out.push(key_kind::FALSE)?,
+        Item::Boolean(true) => out.push(key_kind::TRUE)?,
         Item::Number(number) => push_number_key(out, number)?,
         Item::String(text) => push_string(out, text.as_bytes())?,
         Item::Extension(value) => push_extension(out, value)?,
-        Item::Array(bytes) => push_array(out, bytes)?,
-        Item::Object(bytes) => push_object(out, bytes)?,
+        Item::Array(bytes) => {
+            let level = Level::of_array(bytes)?;
+            push_count(out, key_kind::ARRAY, level.len())?;
+            return Ok(Some(level));
+        }
+        Item::Object(bytes) => {
+            let level = Level::of_object(bytes)?;
+            push_count(out, key_kind::OBJECT, level.len())?;
+            return Ok(Some(level));
+        }
     }
-    Ok(())
+    Ok(None)
 }
 
-/// Appends the equality key of an array.
-#[cycle(walk)]
-fn push_array(out: &mut Vec<u8>, bytes: &[u8]) -> Result<(), Error>
-    ensures key { (form : Form) (ts : Trees) → Decodes form bytes.now (Tree.array ts)
-        → Answers result (λ _. out.new.items ≡ out.old.items ++ equality_key (Tree.array ts)) }
+/// Appends the start of a part, behind its key where it has one, and hands out its own parts.
+#[inline(always)]
+fn push_part<'a>(
+    out: &mut Vec<u8>,
+    key: Option<&str>,
+    item: &Item<'a>,
+) -> Result<Option<Level<'a>>, Error>
+    ensures key { (form : Form) (part : Part) → IsKeyOf key.entry part.0 → Stands form item.now part.1
+        → Answers result (λ found. (out.new.items ≡ out.old.items ++ equality_part_start part) × IsLevelOf form part.1 found) }
+    ensures room { IfOk result (λ found. IfSome found (λ level. level_room level < item_size item.now)) }
+    ensures bound { IfOk result (λ found. IfSome found (λ level. level_bound level < 2 ^ 64)) }
     ensures errors { IfErr result IsReadingError }
 {
-    let Some(found) = elements(bytes)? else {
-        return Err(Error::InvalidJsonb);
-    };
-    push_count(out, key_kind::ARRAY, found.len())?;
-    for item in found {
-        push_item(out, &item?)?;
-    }
-    Ok(())
-}
-
-/// Appends the equality key of an object.
-#[cycle(walk)]
-fn push_object(out: &mut Vec<u8>, bytes: &[u8]) -> Result<(), Error>
-    ensures key { (form : Form) (ps : Pairs) → Decodes form bytes.now (Tree.object ps)
-        → Answers result (λ _. out.new.items ≡ out.old.items ++ equality_key (Tree.object ps)) }
-    ensures errors { IfErr result IsReadingError }
-{
-    let Some(found) = pairs(bytes)? else {
-        return Err(Error::InvalidJsonb);
-    };
-    push_count(out, key_kind::OBJECT, found.len())?;
-    for pair in found {
-        let (key, value) = pair?;
+    if let Some(key) = key {
         push_string(out, key.as_bytes())?;
-        push_item(out, &value)?;
     }
-    Ok(())
+    push_start(out, item)
+}
+
+/// Appends the equality key of an item. What is left of the containers that the walk is within lies in a `Vec`.
+fn push_item(alloc: Global, out: &mut Vec<u8>, item: &Item<'_>) -> Result<(), Error>
+    ensures key { (form : Form) (tree : Tree) → Stands form item.now tree
+        → Answers result (λ _. out.new.items ≡ out.old.items ++ equality_key tree) }
+    ensures errors { IfErr result IsReadingError }
+{
+    let Some(found) = push_start(out, item)? else {
+        return Ok(());
+    };
+    let mut level = found;
+    let mut around = Vec::new(alloc);
+    'walk: loop {
+        match level.take()? {
+            Some((key, part)) => {
+                if let Some(inner) = push_part(out, key, &part)? {
+                    around.push(level)?;
+                    level = inner;
+                }
+            }
+            None => match around.pop() {
+                Some(outer) => level = outer,
+                None => return Ok(()),
+            },
+        }
+    }
+}
+
+/// How many bytes a key is begun with, so that it seldom grows.
+fn first_capacity(item: &Item<'_>) -> usize {
+    match item {
+        Item::String(text) => text.len().saturating_add(2),
+        Item::Array(bytes) | Item::Object(bytes) => bytes.len(),
+        _ => 32,
+    }
 }
 
 /// The equality key of an item.
@@ -137,7 +165,7 @@ pub fn item_key(alloc: Global, item: &Item<'_>) -> Result<Vec<u8>, Error>
         → Answers result (λ v. v.items ≡ equality_key tree) }
     ensures errors { IfErr result IsReadingError }
 {
-    let mut out = Vec::new(alloc);
-    push_item(&mut out, item)?;
+    let mut out = Vec::with_capacity(alloc, first_capacity(item))?;
+    push_item(alloc, &mut out, item)?;
     Ok(out)
 }

@@ -1,145 +1,128 @@
 //! The leaves of a document, with their key paths.
 
-ghost use Rattle.std.specs.Prelude.{◌≡◌, [], ◌∷◌, IsOkAnd, IfOk, IfErr};
-ghost use Rattle.jsonb_doc.specs.Tree.{Tree, Trees, Pairs, array, object};
+ghost use Rattle.std.specs.Prelude.{◌≡◌, ◌<◌, ◌^◌, ◌++◌, [], ◌∷◌, IsOkAnd, IfOk, IfSome, IfErr};
+ghost use Rattle.jsonb_doc.specs.Tree.{Tree};
 ghost use Rattle.jsonb_doc.specs.Payload.{Form};
 ghost use Rattle.jsonb_doc.specs.Format.{Decodes};
-ghost use Rattle.jsonb_doc.specs.Item.{Stands, IsNormal};
+ghost use Rattle.jsonb_doc.specs.Item.{Stands, item_size};
 ghost use Rattle.jsonb_doc.specs.Answer.{Answers};
 ghost use Rattle.jsonb_doc.specs.Value.{value_tree, value_parts};
 ghost use Rattle.jsonb_doc.specs.View.{IsDecodingError};
 ghost use Rattle.jsonb_doc.specs.declared.value.Value.{Value};
-ghost use Rattle.jsonb_keypath.specs.KeyPathViews.{key_view};
+ghost use Rattle.jsonb_keypath.specs.KeyPathViews.{key_view, key_paths_view};
 ghost use Rattle.jsonb_raw.specs.Documents.{raw_bytes, IsReadingError};
-ghost use Rattle.jsonb_raw.specs.Leaves.{is_leaf, leaves_at, leaves, leaves_of_trees, leaves_of_pairs};
-ghost use Rattle.jsonb_raw.specs.LeafViews.{leaves_seen, SeesDecoded, Finds};
+ghost use Rattle.jsonb_raw.specs.Leaves.{leaves};
+ghost use Rattle.jsonb_raw.specs.LeafViews.{leaves_seen, SeesDecoded, IsEntered, step_at, steps_into};
+ghost use Rattle.jsonb_raw.specs.Levels.{level_room, level_bound};
 
+use crate::level::Level;
 use crate::raw::RawJsonb;
-use jsonb_doc::{Error, Item, Value, elements, pairs, root_item, to_value};
+use jsonb_doc::{Error, Item, Value, root_item, to_value};
 use jsonb_keypath::{KeyPath, KeyPaths};
 use std::alloc::Global;
 use std::borrow::CowStr;
 
-/// A walk over the parts of a document.
-#[derive(Drop)]
-struct Walk<'a> {
-    alloc: Global,
-    /// The path of the part where the walk is.
-    path: KeyPaths<'a>,
-    /// The leaves that it has found.
-    found: Vec<(KeyPaths<'a>, Value<'a>)>,
+/// A container that the walk has entered a part of.
+#[derive(Clone, Copy, Drop)]
+struct Entered<'a> {
+    /// What it has left behind that part.
+    level: Level<'a>,
+    /// The key of that part, where it is a value of an object.
+    key: Option<&'a str>,
+    /// How many parts stand before that part, as an index counts them.
+    index: u32,
 }
 
-/// Whether an item below the root is a leaf.
-fn is_leaf(item: &Item<'_>, ignore_array: bool) -> Result<bool, Error>
-    ensures leaf { (form : Form) (t : Tree) → Stands form item.now t
-        → IsOkAnd result (λ answer. answer ≡ is_leaf ignore_array t) }
+/// The step to a part: its key, where it has one, and else its index.
+#[inline(always)]
+fn step_to<'a>(key: Option<&'a str>, index: u32) -> KeyPath<'a>
+    ensures { key_view result ≡ step_at key.entry index }
+{
+    match key {
+        Some(key) => KeyPath::Name(CowStr::Borrowed(key)),
+        None => KeyPath::Index(index.cast_signed()),
+    }
+}
+
+/// The path to a part of the innermost of these containers.
+fn path_to<'a>(
+    alloc: Global,
+    around: &Vec<Entered<'a>>,
+    key: Option<&'a str>,
+    index: u32,
+) -> Result<KeyPaths<'a>, Error>
+    ensures { Answers result (λ path. key_paths_view path ≡ steps_into around.now.items ++ step_at key.entry index ∷ []) }
+{
+    let mut paths = Vec::with_capacity(alloc, around.len() + 1)?;
+    for entered in around {
+        paths.push(step_to(entered.key, entered.index))?;
+    }
+    paths.push(step_to(key, index))?;
+    Ok(KeyPaths { paths })
+}
+
+/// The parts of an item that is entered. `None` is for a leaf.
+#[inline(always)]
+fn parts_entered<'a>(item: &Item<'a>, ignore_array: bool) -> Result<Option<Level<'a>>, Error>
+    ensures leaf { (form : Form) (t : Tree) → Stands form item.now t → IsOkAnd result (IsEntered form ignore_array t) }
+    ensures room { IfOk result (λ found. IfSome found (λ level. level_room level < item_size item.now)) }
+    ensures bound { IfOk result (λ found. IfSome found (λ level. level_bound level < 2 ^ 64)) }
     ensures errors { IfErr result IsDecodingError }
 {
-    match item {
-        Item::Array(_) if ignore_array => Ok(true),
-        Item::Array(bytes) => match elements(bytes)? {
-            Some(items) => Ok(items.len() == 0),
-            None => Err(Error::InvalidJsonb),
-        },
-        Item::Object(bytes) => match pairs(bytes)? {
-            Some(members) => Ok(members.len() == 0),
-            None => Err(Error::InvalidJsonb),
-        },
-        _ => Ok(true),
+    let level = match item {
+        Item::Array(bytes) if !ignore_array => Level::of_array(bytes)?,
+        Item::Object(bytes) => Level::of_object(bytes)?,
+        _ => return Ok(None),
+    };
+    if level.len() == 0 {
+        return Ok(None);
     }
+    Ok(Some(level))
 }
 
-/// Finds the item where the walk is as a leaf.
-fn find_leaf<'a>(walk: &mut Walk<'a>, item: &Item<'a>) -> Result<(), Error>
-    ensures leaf { (seen : Value → Tree) → SeesDecoded seen
-        → (form : Form) (t : Tree) → Stands form item.now t → IsNormal item.now
-        → Answers result (λ _. Finds seen walk.old walk.new (([], t) ∷ [])) }
-    ensures errors { IfErr result IsReadingError }
-{
-    let path = walk.path.clone(walk.alloc)?;
-    let value = to_value(walk.alloc, item)?;
-    walk.found.push((path, value))?;
-    Ok(())
-}
-
-/// Finds the leaves at a part of the item where the walk is, which this step meets.
-#[cycle(leaves)]
-fn find_at<'a>(
-    walk: &mut Walk<'a>,
-    step: KeyPath<'a>,
+/// The leaves within an item. What is left of the containers that the walk is within lies in a `Vec`; the steps to a part are
+/// written once, where it is a leaf.
+fn leaves_within<'a>(
+    alloc: Global,
     item: &Item<'a>,
     ignore_array: bool,
-) -> Result<(), Error>
-    ensures leaves { (seen : Value → Tree) → SeesDecoded seen
-        → (form : Form) (t : Tree) → Stands form item.now t → IsNormal item.now
-        → Answers result (λ _. Finds seen walk.old walk.new
-        (leaves_at ignore_array (key_view step.entry) t (leaves ignore_array t))) }
-    ensures errors { IfErr result IsReadingError }
-{
-    walk.path.paths.push(step)?;
-    if is_leaf(item, ignore_array)? {
-        find_leaf(walk, item)?;
-    } else {
-        find_within(walk, item, ignore_array)?;
-    }
-    drop(walk.path.paths.pop());
-    Ok(())
-}
-
-/// Finds the leaves within the item where the walk is.
-#[cycle(leaves)]
-fn find_within<'a>(walk: &mut Walk<'a>, item: &Item<'a>, ignore_array: bool) -> Result<(), Error>
+) -> Result<Vec<(KeyPaths<'a>, Value<'a>)>, Error>
     ensures leaves { (seen : Value → Tree) → SeesDecoded seen
         → (form : Form) (t : Tree) → Stands form item.now t
-        → Answers result (λ _. Finds seen walk.old walk.new (leaves ignore_array t)) }
+        → Answers result (λ found. leaves_seen seen found.items ≡ leaves ignore_array t) }
     ensures errors { IfErr result IsReadingError }
 {
-    match item {
-        Item::Array(bytes) if !ignore_array => find_in_array(walk, bytes, ignore_array),
-        Item::Object(bytes) => find_in_object(walk, bytes, ignore_array),
-        _ => Ok(()),
-    }
-}
-
-/// Finds the leaves within an array.
-#[cycle(leaves)]
-fn find_in_array<'a>(walk: &mut Walk<'a>, bytes: &'a [u8], ignore_array: bool) -> Result<(), Error>
-    ensures leaves { (seen : Value → Tree) → SeesDecoded seen
-        → (form : Form) (ts : Trees) → Decodes form bytes.now (array ts)
-        → Answers result (λ _. Finds seen walk.old walk.new (leaves_of_trees ignore_array 0 ts)) }
-    ensures errors { IfErr result IsReadingError }
-{
-    let Some(found) = elements(bytes)? else {
-        return Err(Error::InvalidJsonb);
+    let mut found = Vec::new(alloc);
+    let Some(first) = parts_entered(item, ignore_array)? else {
+        return Ok(found);
     };
+    let mut level = first;
     // An array that decodes has fewer elements than an index can count.
-    let mut index = 0i32;
-    for item in found {
-        let item = item?;
-        find_at(walk, KeyPath::Index(index), &item, ignore_array)?;
-        index = index.wrapping_add(1);
+    let mut index = 0u32;
+    let mut around = Vec::new(alloc);
+    'walk: loop {
+        match level.take()? {
+            Some((key, part)) => match parts_entered(&part, ignore_array)? {
+                Some(inner) => {
+                    around.push(Entered { level, key, index })?;
+                    level = inner;
+                    index = 0;
+                }
+                None => {
+                    let path = path_to(alloc, &around, key, index)?;
+                    found.push((path, to_value(alloc, &part)?))?;
+                    index = index.wrapping_add(1);
+                }
+            },
+            None => match around.pop() {
+                Some(outer) => {
+                    level = outer.level;
+                    index = outer.index.wrapping_add(1);
+                }
+                None => return Ok(found),
+            },
+        }
     }
-    Ok(())
-}
-
-/// Finds the leaves within an object.
-#[cycle(leaves)]
-fn find_in_object<'a>(walk: &mut Walk<'a>, bytes: &'a [u8], ignore_array: bool) -> Result<(), Error>
-    ensures leaves { (seen : Value → Tree) → SeesDecoded seen
-        → (form : Form) (ps : Pairs) → Decodes form bytes.now (object ps)
-        → Answers result (λ _. Finds seen walk.old walk.new (leaves_of_pairs ignore_array ps)) }
-    ensures errors { IfErr result IsReadingError }
-{
-    let Some(found) = pairs(bytes)? else {
-        return Err(Error::InvalidJsonb);
-    };
-    for pair in found {
-        let (key, item) = pair?;
-        let step = KeyPath::Name(CowStr::Borrowed(key));
-        find_at(walk, step, &item, ignore_array)?;
-    }
-    Ok(())
 }
 
 impl<'a> RawJsonb<'a> {
@@ -163,14 +146,6 @@ impl<'a> RawJsonb<'a> {
             → IfOk result (λ found. leaves_seen value_parts found.items ≡ leaves ignore_array t) }
         ensures errors { IfErr result IsReadingError }
     {
-        let mut walk = Walk {
-            alloc,
-            path: KeyPaths {
-                paths: Vec::new(alloc),
-            },
-            found: Vec::new(alloc),
-        };
-        find_within(&mut walk, &root_item(self.as_bytes())?, ignore_array)?;
-        Ok(walk.found)
+        leaves_within(alloc, &root_item(self.as_bytes())?, ignore_array)
     }
 }
