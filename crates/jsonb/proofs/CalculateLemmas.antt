@@ -1,6 +1,6 @@
 -- Values that are numbers, and the results of arithmetic.
 use Rattle.std.specs.Prelude.{◌+ℤ◌, ◌-ℤ◌, ◌*ℤ◌, int_div, int_rem, nat_lt, ◌||◌, ◌^◌}
-use Rattle.std.proofs.Common.{◌≡◌, zero, suc, ℤ, pos, negsuc, Bool, true, false, if◌then◌else◌, IfOk, List, [], ◌∷◌, ◌++◌, map, Some, Ok, Err, IsOkAnd, refl, sym, ap, inl, inr}
+use Rattle.std.proofs.Common.{◌≡◌, zero, suc, ℤ, pos, negsuc, Bool, true, false, if◌then◌else◌, IfOk, IfErr, subst, List, [], ◌∷◌, ◌++◌, map, Some, Ok, Err, IsOkAnd, refl, sym, ap, inl, inr}
 use Rattle.std.proofs.lemmas.List.{map-append}
 use Rattle.jsonb_doc.specs.Answer.{Outcome, Gives, WantsMemory, with_value, joined}
 use Rattle.jsonb_doc.specs.Arithmetic as op
@@ -17,7 +17,9 @@ use Rattle.jsonb_doc.specs.declared.item.Item.TheVariants as item
 use Rattle.jsonb.specs.PathArithmetic.{number_list, two_numbers, all_numbers}
 use Rattle.jsonb.specs.Related.{AllRelated}
 use Rattle.jsonb.specs.Selection.{lone_number, value_number, IsNumberTree, IsPart}
+use Rattle.jsonb.specs.SelectionErrors.{IsPathError, IsSelectionError}
 use Rattle.jsonb.specs.Values.{Value, number}
+use Rattle.jsonb.specs.declared.selector.document.Mode.{Mode}
 use Rattle.jsonb.specs.declared.selector.part.Part.{Part}
 use Rattle.jsonb.specs.declared.selector.part.Part.TheVariants as part
 use Rattle.jsonb.proofs.Outcomes.{AllRelated-append}
@@ -53,6 +55,42 @@ on_integers_normal op.modulo x y = chosen (op.is_zero y) (Err (Arithmetic ZeroDi
 calculated_normal : (o : Operation) (m n : Number) → IfOk (calculated o m n) IsNormal
 calculated_normal o m n =
     chosen (op.is_decimal m.variant || op.is_decimal n.variant) (Err (Arithmetic DecimalOperand)) (on_integers o m.whole n.whole) tt (on_integers_normal o m.whole n.whole)
+
+-- arithmetic is refused by an arithmetic fault alone
+module _ (mode : Mode) where
+  one_of : (b : Bool) (o p : Outcome Number) → IfErr o (IsPathError mode) → IfErr p (IsPathError mode) → IfErr (if b then o else p) (IsPathError mode)
+  one_of true o p h k = h
+  one_of false o p h k = k
+
+  integer_refused : (z : ℤ) → IfErr (integer z) (IsPathError mode)
+  integer_refused (pos zero) = one_of (nat_lt 0 (2 ^ 64)) (Ok (record { variant = uint64; whole = pos 0; scale = 0 })) (Err (Arithmetic Overflow)) tt tt
+  integer_refused (pos (suc n)) = one_of (nat_lt (suc n) (2 ^ 64)) (Ok (record { variant = uint64; whole = pos (suc n); scale = 0 })) (Err (Arithmetic Overflow)) tt tt
+  integer_refused (negsuc n) = one_of (nat_lt n (2 ^ 63)) (Ok (record { variant = int64; whole = negsuc n; scale = 0 })) (Err (Arithmetic Overflow)) tt tt
+
+  on_integers_refused : (o : Operation) (x y : ℤ) → IfErr (on_integers o x y) (IsPathError mode)
+  on_integers_refused op.add x y = integer_refused (x +ℤ y)
+  on_integers_refused op.subtract x y = integer_refused (x -ℤ y)
+  on_integers_refused op.multiply x y = integer_refused (x *ℤ y)
+  on_integers_refused op.divide x y =
+      one_of (op.is_zero y) (Err (Arithmetic ZeroDivisor)) (if op.is_zero (int_rem x y) then integer (int_div x y) else Err (Arithmetic Inexact)) tt
+      (one_of (op.is_zero (int_rem x y)) (integer (int_div x y)) (Err (Arithmetic Inexact)) (integer_refused (int_div x y)) tt)
+  on_integers_refused op.modulo x y = one_of (op.is_zero y) (Err (Arithmetic ZeroDivisor)) (integer (int_rem x y)) tt (integer_refused (int_rem x y))
+
+  calculated_refused : (o : Operation) (m n : Number) → IfErr (calculated o m n) (IsPathError mode)
+  calculated_refused o m n =
+      one_of (op.is_decimal m.variant || op.is_decimal n.variant) (Err (Arithmetic DecimalOperand)) (on_integers o m.whole n.whole) tt (on_integers_refused o m.whole n.whole)
+
+  refused_so : (o : Outcome Number) (r : Outcome CodeNumber) → IsOutcome o r → IfErr o (IsPathError mode) → IfErr r (IsPathError mode)
+  refused_so o (Ok n) is h = tt
+  refused_so o (Err e) is h = subst (λ q. IfErr q (IsPathError mode)) is h
+
+  pub calculation_refused : (o : Operation) (m n : Number) (r : Outcome CodeNumber) → IsOutcome (calculated o m n) r → IfErr r (IsPathError mode)
+  calculation_refused o m n r is = refused_so (calculated o m n) r is (calculated_refused o m n)
+
+  -- a path's refusal is one of a selection
+  pub refused_as_path : {A : Type 0} (r : Outcome A) → IfErr r (IsPathError mode) → IfErr r (IsSelectionError mode)
+  refused_as_path (Ok x) h = tt
+  refused_as_path (Err e) h = inr h
 
 outcome_given : (o : Outcome Number) (r : Outcome CodeNumber) → IfOk o IsNormal → IsOutcome o r → Gives IsNumberTree (λ _. ⊥) r (number_list o)
 outcome_given o (Ok n) normal is = record { ok = rw is (ap (λ k. tree.number k ∷ []) (rw is at normal)); err = tt }

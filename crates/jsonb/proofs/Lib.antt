@@ -31,6 +31,7 @@ pub use Rattle.jsonb_raw.proofs.Iterated
 pub use Rattle.jsonb_raw.proofs.LeafPlaces
 pub use Rattle.jsonb_raw.proofs.LeafLimits
 pub mod WholeLemmas
+pub mod PredicateLemmas
 pub mod ModeLemmas
 pub mod SettledMeaning
 mod MeaningRows

@@ -4,12 +4,11 @@ use Rattle.jsonb_doc.specs.Answer.{Outcome, with_value, joined}
 use Rattle.jsonb_doc.specs.Arithmetic.{Operation}
 use Rattle.jsonb_doc.specs.Payload.{Form}
 use Rattle.jsonb_doc.specs.Tree.{Tree, field_of}
-use Rattle.jsonb.specs.PathTree.{BinaryOp, and_op, or_op, Step, root, current, dot_wildcard, recursive_dot_wildcard, bracket_wildcard, dot_field, colon_field, object_field, array_indices, filter, whole_expression, Steps, no_steps, step, Expression, paths, value, raw, binary, unary, exists, steps_of}
-use Rattle.jsonb.specs.Values.{Value}
+use Rattle.jsonb.specs.PathTree.{BinaryOp, and_op, or_op, add, subtract, multiply, divide, modulo, Step, root, current, dot_wildcard, recursive_dot_wildcard, bracket_wildcard, dot_field, colon_field, object_field, array_indices, filter, whole_expression, Steps, no_steps, step, Expression, paths, value, raw, binary, unary, exists, steps_of}
 use Rattle.jsonb.specs.Compare.{Truth}
 use Rattle.jsonb.specs.PathArithmetic.{operation, two_numbers, each_signed}
 use Rattle.jsonb.specs.ItemSteps.{list_or, picked, elements_of, values_of}
-use Rattle.jsonb.specs.Meaning.{step_meaning, steps_meaning, operand_values, truth, start, condition, as_filter, expression_meaning, binary_meaning, truth_list, meaning, Means}
+use Rattle.jsonb.specs.Meaning.{step_meaning, steps_meaning, operand_values, truth, start, as_filter, expression_meaning, binary_meaning, truth_list, meaning, Means}
 use Rattle.jsonb.specs.declared.selector.document.Mode.TheVariants.{Lax, Strict}
 
 -- a value of the first is the second's
@@ -34,10 +33,6 @@ keeps_joined f g h (x ∷ xs) =
 list_kept : (otherwise : List Tree) (o : Option (List Tree)) → Keeps (list_or Strict otherwise o) (list_or Lax otherwise o)
 list_kept otherwise (Some ts) = refl
 list_kept otherwise None = tt
-
-condition_kept : (op : BinaryOp) (o : Option Operation) (l l' r r' : Outcome (List Value)) → Keeps l l' → Keeps r r' → Keeps (condition op o l r) (condition op o l' r')
-condition_kept op (Some a) l l' r r' h k = refl
-condition_kept op None l l' r r' h k = keeps_with l l' _ _ h (λ ls. keeps_with r r' _ _ k (λ rs. refl))
 
 mutual
   step_kept : (s : Step) (top item : Tree) → Keeps (step_meaning Strict s top item) (step_meaning Lax s top item)
@@ -70,7 +65,14 @@ mutual
       keeps_with (truth Strict l top item) (truth Lax l top item) _ _ (truth_kept l top item) (λ a. keeps_with (truth Strict r top item) (truth Lax r top item) _ _ (truth_kept r top item) (λ b. refl))
   truth_kept (binary or_op l r) top item =
       keeps_with (truth Strict l top item) (truth Lax l top item) _ _ (truth_kept l top item) (λ a. keeps_with (truth Strict r top item) (truth Lax r top item) _ _ (truth_kept r top item) (λ b. refl))
-  truth_kept (binary op l r) top item = condition_kept op (operation op) _ _ _ _ (operand_kept l top item) (operand_kept r top item)
+  truth_kept (binary add l r) top item = refl
+  truth_kept (binary subtract l r) top item = refl
+  truth_kept (binary multiply l r) top item = refl
+  truth_kept (binary divide l r) top item = refl
+  truth_kept (binary modulo l r) top item = refl
+  truth_kept (binary op l r) top item =
+      keeps_with (operand_values Strict l top item) (operand_values Lax l top item) _ _ (operand_kept l top item)
+      (λ ls. keeps_with (operand_values Strict r top item) (operand_values Lax r top item) _ _ (operand_kept r top item) (λ rs. refl))
   truth_kept (exists ss) top item =
       keeps_with (steps_meaning Strict ss top (start ss top item ∷ [])) (steps_meaning Lax ss top (start ss top item ∷ [])) _ _ (steps_kept ss top (start ss top item ∷ [])) (λ ts. refl)
   truth_kept _ top item = tt
@@ -78,15 +80,17 @@ mutual
 truth_list_kept : (a b : Outcome Truth) → Keeps a b → Keeps (truth_list a) (truth_list b)
 truth_list_kept a b h = keeps_with a b _ _ h (λ t. refl)
 
-binary_kept : (o : Option Operation) (l l' r r' : Outcome (List Value)) (t t' : Outcome Truth) → Keeps l l' → Keeps r r' → Keeps t t' → Keeps (binary_meaning o l r t) (binary_meaning o l' r' t')
-binary_kept (Some op) l l' r r' t t' h k m = keeps_with l l' _ _ h (λ ls. keeps_with r r' _ _ k (λ rs. keeps_same (two_numbers op ls rs)))
-binary_kept None l l' r r' t t' h k m = truth_list_kept t t' m
+binary_kept : (o : Option Operation) (op : BinaryOp) (l r : Expression) (top : Tree) → Keeps (binary_meaning Strict o op l r top) (binary_meaning Lax o op l r top)
+binary_kept (Some arithmetic) op l r top =
+    keeps_with (operand_values Strict l top top) (operand_values Lax l top top) _ _ (operand_kept l top top)
+    (λ ls. keeps_with (operand_values Strict r top top) (operand_values Lax r top top) _ _ (operand_kept r top top) (λ rs. keeps_same (two_numbers arithmetic ls rs)))
+binary_kept None op l r top = truth_list_kept (truth Strict (binary op l r) top top) (truth Lax (binary op l r) top top) (truth_kept (binary op l r) top top)
 
 expression_kept : (e : Expression) (top : Tree) → Keeps (expression_meaning Strict e top) (expression_meaning Lax e top)
 expression_kept (paths ss) top = tt
 expression_kept (value l) top = keeps_same (expression_meaning Lax (value l) top)
 expression_kept (unary op e) top = keeps_with (operand_values Strict e top top) (operand_values Lax e top top) (each_signed op) (each_signed op) (operand_kept e top top) (λ vs. keeps_same (each_signed op vs))
-expression_kept (binary op l r) top = binary_kept (operation op) _ _ _ _ _ _ (operand_kept l top top) (operand_kept r top top) (truth_kept (binary op l r) top top)
+expression_kept (binary op l r) top = binary_kept (operation op) op l r top
 expression_kept (exists ss) top = truth_list_kept (truth Strict (exists ss) top top) (truth Lax (exists ss) top top) (truth_kept (exists ss) top top)
 
 meaning_kept : (path : List Step) (top : Tree) → Keeps (meaning Strict path top) (meaning Lax path top)

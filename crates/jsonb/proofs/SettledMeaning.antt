@@ -18,7 +18,7 @@ use Rattle.jsonb.specs.Related.{AllRelated}
 use Rattle.jsonb.specs.Values.{Value, null, boolean, number, text, raw, literal_item, values_of_literal}
 use Rattle.jsonb.specs.Compare.{Truth, value_order, begins, is_raw, pair_truth, first_decisive, compare}
 use Rattle.jsonb.specs.PathArithmetic.{operation, all_numbers, two_numbers, signed_number, each_signed}
-use Rattle.jsonb.specs.Meaning.{start, compared, condition, step_meaning, steps_meaning, operand_values, truth, calculation, binary_meaning, literal_list, expression_meaning, as_filter, meaning, binary_predicate, expression_predicate, predicate}
+use Rattle.jsonb.specs.Meaning.{start, step_meaning, steps_meaning, operand_values, truth, calculation, binary_meaning, literal_list, expression_meaning, as_filter, meaning, truth_list, item_truth, list_truth, expression_predicate, predicate}
 use Rattle.jsonb.specs.SelectorLaws.{SameByValue, VariantsChangeNoMeaning, PrintsWithMeaning}
 use Rattle.jsonb.specs.declared.selector.document.Mode.{Mode}
 
@@ -107,6 +107,10 @@ compare-settled op vs ws = ap first_decisive (pairs-settled op vs ws)
 abbrev settled_values : Outcome (List Value) → Outcome (List Value)
 settled_values o = with_value o (λ vs. Ok (map settled_value vs))
 
+-- a comparison of the values of both sides
+abbrev compared : BinaryOp → Outcome (List Value) → Outcome (List Value) → Outcome Truth
+compared op left right = with_value left (λ ls. with_value right (λ rs. Ok (compare op ls rs)))
+
 compared-settled : (op : BinaryOp) (l r : Outcome (List Value)) → compared op (settled_values l) (settled_values r) ≡ compared op l r
 compared-settled op (Err e) r = refl
 compared-settled op (Ok ls) (Err e) = refl
@@ -114,10 +118,6 @@ compared-settled op (Ok ls) (Ok rs) = ap (λ (t : Truth). Ok t) (compare-settled
 
 same_compared : (op : BinaryOp) (l l' r r' : Outcome (List Value)) → settled_values l' ≡ settled_values l → settled_values r' ≡ settled_values r → compared op l' r' ≡ compared op l r
 same_compared op l l' r r' e f = sym (compared-settled op l' r') ∙ ap (λ (o : Outcome (List Value)). compared op o (settled_values r')) e ∙ ap (λ (o : Outcome (List Value)). compared op (settled_values l) o) f ∙ compared-settled op l r
-
-same_condition : (op : BinaryOp) (o : Option Operation) (l l' r r' : Outcome (List Value)) → settled_values l' ≡ settled_values l → settled_values r' ≡ settled_values r → condition op o l' r' ≡ condition op o l r
-same_condition op (Some arithmetic) l l' r r' e f = refl
-same_condition op None l l' r r' e f = same_compared op l l' r r' e f
 
 literal-settled : (l : Literal) → map settled_value (values_of_literal (literal_item (settled_literal l))) ≡ map settled_value (values_of_literal (literal_item l))
 literal-settled path.null = refl
@@ -167,13 +167,13 @@ exists-truth ss h mode top item = rw (start-settled ss top item, h mode top (sta
 binary-truth : (op : BinaryOp) (l r : Expression) → Values l → Values r → Truths l → Truths r → Truths (binary op l r)
 binary-truth and_op l r vl vr tl tr mode top item = rw (tl mode top item, tr mode top item) refl
 binary-truth or_op l r vl vr tl tr mode top item = rw (tl mode top item, tr mode top item) refl
-binary-truth eq l r vl vr tl tr mode top item = same_condition eq None _ _ _ _ (vl mode top item) (vr mode top item)
-binary-truth not_eq l r vl vr tl tr mode top item = same_condition not_eq None _ _ _ _ (vl mode top item) (vr mode top item)
-binary-truth lt l r vl vr tl tr mode top item = same_condition lt None _ _ _ _ (vl mode top item) (vr mode top item)
-binary-truth lte l r vl vr tl tr mode top item = same_condition lte None _ _ _ _ (vl mode top item) (vr mode top item)
-binary-truth gt l r vl vr tl tr mode top item = same_condition gt None _ _ _ _ (vl mode top item) (vr mode top item)
-binary-truth gte l r vl vr tl tr mode top item = same_condition gte None _ _ _ _ (vl mode top item) (vr mode top item)
-binary-truth starts_with_op l r vl vr tl tr mode top item = same_condition starts_with_op None _ _ _ _ (vl mode top item) (vr mode top item)
+binary-truth eq l r vl vr tl tr mode top item = same_compared eq _ _ _ _ (vl mode top item) (vr mode top item)
+binary-truth not_eq l r vl vr tl tr mode top item = same_compared not_eq _ _ _ _ (vl mode top item) (vr mode top item)
+binary-truth lt l r vl vr tl tr mode top item = same_compared lt _ _ _ _ (vl mode top item) (vr mode top item)
+binary-truth lte l r vl vr tl tr mode top item = same_compared lte _ _ _ _ (vl mode top item) (vr mode top item)
+binary-truth gt l r vl vr tl tr mode top item = same_compared gt _ _ _ _ (vl mode top item) (vr mode top item)
+binary-truth gte l r vl vr tl tr mode top item = same_compared gte _ _ _ _ (vl mode top item) (vr mode top item)
+binary-truth starts_with_op l r vl vr tl tr mode top item = same_compared starts_with_op _ _ _ _ (vl mode top item) (vr mode top item)
 binary-truth add l r vl vr tl tr mode top item = refl
 binary-truth subtract l r vl vr tl tr mode top item = refl
 binary-truth multiply l r vl vr tl tr mode top item = refl
@@ -302,11 +302,10 @@ scalar-settled (path.string bs) = refl
 scalar-settled (path.raw bytes) = refl
 
 binary-meaning : (op : BinaryOp) (l r : Expression) (mode : Mode) (top : Tree) → expression_meaning mode (settled (binary op l r)) top ≡ expression_meaning mode (binary op l r) top
-binary-meaning op l r mode top = rw ((expression_same (binary op l r)).1 mode top top) (go (operation op)) where
-  go : (o : Option Operation) → binary_meaning o (operand_values mode (settled l) top top) (operand_values mode (settled r) top top) (truth mode (binary op l r) top top)
-      ≡ binary_meaning o (operand_values mode l top top) (operand_values mode r top top) (truth mode (binary op l r) top top)
+binary-meaning op l r mode top = go (operation op) where
+  go : (o : Option Operation) → binary_meaning mode o op (settled l) (settled r) top ≡ binary_meaning mode o op l r top
   go (Some o) = same_calculation o _ _ _ _ ((expression_same l).0 mode top top) ((expression_same r).0 mode top top)
-  go None = refl
+  go None = ap truth_list ((expression_same (binary op l r)).1 mode top top)
 
 expression-meaning : (e : Expression) (mode : Mode) (top : Tree) → settled_outcome (expression_meaning mode (settled e) top) ≡ settled_outcome (expression_meaning mode e top)
 expression-meaning (paths ss) mode top = refl
@@ -392,25 +391,37 @@ same_by_value _ _ e = cc
 
 -- ---- predicates
 
-abbrev none : Outcome Truth
-none = Ok None
+item_truth-settled : (t : Tree) → item_truth (settled_tree t) ≡ item_truth t
+item_truth-settled tree.null = refl
+item_truth-settled (tree.boolean b) = refl
+item_truth-settled (tree.number n) = refl
+item_truth-settled (tree.text bs) = refl
+item_truth-settled (tree.extension x) = refl
+item_truth-settled (tree.array ts) = refl
+item_truth-settled (tree.object ps) = refl
 
-same_refusal : (o o' : Outcome (List Tree)) → settled_outcome o ≡ settled_outcome o' → with_value o (λ ts. none) ≡ with_value o' (λ ts. none)
-same_refusal (Ok ts) (Ok us) e = refl
-same_refusal (Err a) (Err b) e = ap Err (let k : a ≡ b = cc in k)
-same_refusal _ _ e = cc
+list_truth-settled : (ts : List Tree) → list_truth (map settled_tree ts) ≡ list_truth ts
+list_truth-settled [] = refl
+list_truth-settled (t ∷ []) = item_truth-settled t
+list_truth-settled (t ∷ u ∷ ts) = refl
+
+same_truth : (o o' : Outcome (List Tree)) → settled_outcome o ≡ settled_outcome o' → with_value o (λ ts. Ok (list_truth ts)) ≡ with_value o' (λ ts. Ok (list_truth ts))
+same_truth (Ok ts) (Ok us) e =
+    let k : map settled_tree ts ≡ map settled_tree us = cc in ap (λ (b : Truth). Ok b) (sym (list_truth-settled ts) ∙ ap list_truth k ∙ list_truth-settled us)
+same_truth (Err a) (Err b) e = ap Err (let k : a ≡ b = cc in k)
+same_truth _ _ e = cc
+
+-- what an expression that is no literal says
+told : (e : Expression) (mode : Mode) (top : Tree) →
+    with_value (expression_meaning mode (settled e) top) (λ ts. Ok (list_truth ts)) ≡ with_value (expression_meaning mode e top) (λ ts. Ok (list_truth ts))
+told e mode top = same_truth (expression_meaning mode (settled e) top) (expression_meaning mode e top) (expression-meaning e mode top)
 
 expression-predicate : (e : Expression) (mode : Mode) (top : Tree) → expression_predicate mode (settled e) top ≡ expression_predicate mode e top
-expression-predicate (paths ss) mode top = refl
+expression-predicate (paths ss) mode top = told (paths ss) mode top
 expression-predicate (value l) mode top = refl
-expression-predicate (unary op e) mode top =
-    same_refusal (expression_meaning mode (settled (unary op e)) top) (expression_meaning mode (unary op e) top) (expression-meaning (unary op e) mode top)
-expression-predicate (binary op l r) mode top = rw ((expression_same (binary op l r)).1 mode top top) (go (operation op)) where
-  go : (o : Option Operation) → binary_predicate o (operand_values mode (settled l) top top) (operand_values mode (settled r) top top) (truth mode (binary op l r) top top)
-      ≡ binary_predicate o (operand_values mode l top top) (operand_values mode r top top) (truth mode (binary op l r) top top)
-  go (Some o) = ap (λ (x : Outcome (List Tree)). with_value x (λ ts. none)) (same_calculation o _ _ _ _ ((expression_same l).0 mode top top) ((expression_same r).0 mode top top))
-  go None = refl
-expression-predicate (exists ss) mode top = (expression_same (exists ss)).1 mode top top
+expression-predicate (unary op e) mode top = told (unary op e) mode top
+expression-predicate (binary op l r) mode top = told (binary op l r) mode top
+expression-predicate (exists ss) mode top = told (exists ss) mode top
 
 predicate-settled : (p : List Step) (mode : Mode) (top : Tree) → predicate mode (map settled_step p) top ≡ predicate mode p top
 predicate-settled [] mode top = refl

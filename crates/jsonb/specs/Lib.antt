@@ -14,6 +14,7 @@ pub mod Preorder
 pub mod ItemSteps
 pub mod PathArithmetic
 pub mod Meaning
+pub mod SelectionErrors
 pub mod SelectorAnswers
 pub mod Selection
 pub mod SelectorLaws

@@ -7,7 +7,7 @@ use Rattle.jsonb_doc.specs.Payload.{Form}
 use Rattle.jsonb_doc.specs.Format.{Decodes}
 use Rattle.jsonb_doc.specs.Tree as tree
 use Rattle.jsonb_doc.specs.Tree.{Tree}
-use Rattle.jsonb.specs.PathTree.{raw, BinaryOp, and_op, or_op, Step, root, current, dot_wildcard, recursive_dot_wildcard, bracket_wildcard, dot_field, colon_field, object_field, array_indices, filter, whole_expression, Steps, no_steps, step, Expression, paths, value, binary, unary, exists, steps_of}
+use Rattle.jsonb.specs.PathTree.{raw, BinaryOp, and_op, or_op, add, subtract, multiply, divide, modulo, Step, root, current, dot_wildcard, recursive_dot_wildcard, bracket_wildcard, dot_field, colon_field, object_field, array_indices, filter, whole_expression, Steps, no_steps, step, Expression, paths, value, binary, unary, exists, steps_of}
 use Rattle.jsonb.specs.Values.{Value, values_of_item, literal_item, values_of_literal}
 use Rattle.jsonb.specs.Compare.{Truth, compare, both, either}
 use Rattle.jsonb.specs.PathArithmetic.{operation, two_numbers, each_signed}
@@ -28,14 +28,6 @@ start _ top item = top
 abbrev pub is_some_item : List Tree → Bool
 is_some_item [] = false
 is_some_item (t ∷ ts) = true
-
--- a comparison takes the values of both operands first; arithmetic in a filter is unknown, its operands not looked at
-abbrev pub compared : BinaryOp → Outcome (List Value) → Outcome (List Value) → Outcome Truth
-compared op left right = with_value left (λ ls. with_value right (λ rs. Ok (compare op ls rs)))
-
-abbrev pub condition : BinaryOp → Option Operation → Outcome (List Value) → Outcome (List Value) → Outcome Truth
-condition op (Some arithmetic) left right = Ok None
-condition op None left right = compared op left right
 
 abbrev mutual
   -- one step, of one item of the document `top`
@@ -68,7 +60,15 @@ abbrev mutual
   pub truth : Mode → Expression → Tree → Tree → Outcome Truth
   truth mode (binary and_op l r) top item = with_value (truth mode l top item) (λ a. with_value (truth mode r top item) (λ b. Ok (both a b)))
   truth mode (binary or_op l r) top item = with_value (truth mode l top item) (λ a. with_value (truth mode r top item) (λ b. Ok (either a b)))
-  truth mode (binary op l r) top item = condition op (operation op) (operand_values mode l top item) (operand_values mode r top item)
+  -- arithmetic is unknown, its operands not looked at
+  truth mode (binary add l r) top item = Ok None
+  truth mode (binary subtract l r) top item = Ok None
+  truth mode (binary multiply l r) top item = Ok None
+  truth mode (binary divide l r) top item = Ok None
+  truth mode (binary modulo l r) top item = Ok None
+  -- a comparison takes the values of both operands first
+  truth mode (binary op l r) top item =
+      with_value (operand_values mode l top item) (λ ls. with_value (operand_values mode r top item) (λ rs. Ok (compare op ls rs)))
   truth mode (exists steps) top item =
       with_value (steps_meaning mode steps top (start steps top item ∷ [])) (λ ts. Ok (Some (is_some_item ts)))
   truth mode _ top item = Err InvalidJsonPath
@@ -87,9 +87,10 @@ truth_list outcome = with_value outcome (λ b. Ok (truth_item b ∷ []))
 abbrev pub calculation : Operation → Outcome (List Value) → Outcome (List Value) → Outcome (List Tree)
 calculation op left right = with_value left (λ ls. with_value right (λ rs. two_numbers op ls rs))
 
-abbrev pub binary_meaning : Option Operation → Outcome (List Value) → Outcome (List Value) → Outcome Truth → Outcome (List Tree)
-binary_meaning (Some op) left right truth = calculation op left right
-binary_meaning None left right truth = truth_list truth
+-- a number where the operator is one of arithmetic, else a truth
+abbrev pub binary_meaning : Mode → Option Operation → BinaryOp → Expression → Expression → Tree → Outcome (List Tree)
+binary_meaning mode (Some arithmetic) op l r top = calculation arithmetic (operand_values mode l top top) (operand_values mode r top top)
+binary_meaning mode None op l r top = truth_list (truth mode (binary op l r) top top)
 
 -- an array of the literal; of a document as a literal `Means` says the list
 abbrev pub literal_list : Option Tree → Outcome (List Tree)
@@ -100,8 +101,7 @@ abbrev pub expression_meaning : Mode → Expression → Tree → Outcome (List T
 expression_meaning mode (paths steps) top = Err InvalidJsonPath
 expression_meaning mode (value l) top = literal_list (literal_item l)
 expression_meaning mode (unary op e) top = with_value (operand_values mode e top top) (each_signed op)
-expression_meaning mode (binary op l r) top =
-    binary_meaning (operation op) (operand_values mode l top top) (operand_values mode r top top) (truth mode (binary op l r) top top)
+expression_meaning mode (binary op l r) top = binary_meaning mode (operation op) op l r top
 expression_meaning mode (exists steps) top = truth_list (truth mode (exists steps) top top)
 
 -- ---- whole paths
@@ -125,17 +125,19 @@ Means form mode path top outcome = outcome ≡ meaning mode path top
 
 -- ---- what a path says as a predicate
 
--- a comparison, `&&`, `||` or `exists` its truth, and arithmetic nothing
-abbrev pub binary_predicate : Option Operation → Outcome (List Value) → Outcome (List Value) → Outcome Truth → Outcome Truth
-binary_predicate (Some op) left right truth = with_value (calculation op left right) (λ ts. Ok None)
-binary_predicate None left right truth = truth
+-- the truth that an item is, and that a list of one item is
+abbrev pub item_truth : Tree → Truth
+item_truth (tree.boolean b) = Some b
+item_truth _ = None
 
+abbrev pub list_truth : List Tree → Truth
+list_truth (t ∷ []) = item_truth t
+list_truth _ = None
+
+-- the truth that its list is; a literal says nothing
 abbrev pub expression_predicate : Mode → Expression → Tree → Outcome Truth
-expression_predicate mode (binary op l r) top =
-    binary_predicate (operation op) (operand_values mode l top top) (operand_values mode r top top) (truth mode (binary op l r) top top)
-expression_predicate mode (exists steps) top = truth mode (exists steps) top top
 expression_predicate mode (value l) top = Ok None
-expression_predicate mode e top = with_value (expression_meaning mode e top) (λ ts. Ok None)
+expression_predicate mode e top = with_value (expression_meaning mode e top) (λ ts. Ok (list_truth ts))
 
 -- nothing where the path is no single expression; unknown is none too
 abbrev pub predicate : Mode → List Step → Tree → Outcome Truth

@@ -1,8 +1,11 @@
 //! Laws of the definitions. These functions compute nothing; their contracts are the laws.
+//!
+//! Those of the crates below are here too: of documents and numbers in `documents`, of tokens and key paths in
+//! `key_paths`, and of what is asked of documents in `functions`.
 
 ghost use Rattle.std.specs.Prelude.{◌≡◌, ◌↔◌, ℕ, Bool, true, List, IfSome};
 ghost use Rattle.jsonb.specs.PathEquality.{SameLiteral, SameStep, SameExpression, SamePath, PrintsAsEqual};
-ghost use Rattle.jsonb.specs.PathGrammar.{json_path, another_entry, spaced_inner, path_step, another_atom, another_and, nested_or};
+ghost use Rattle.jsonb.specs.PathGrammar.{json_path, another_entry, spaced_inner, path_with, path_step, another_atom, another_and, nested_or};
 ghost use Rattle.jsonb.specs.PathLaws.{ReadsBack, RulesHold};
 ghost use Rattle.jsonb.specs.PathTree.{Literal, Step, raw};
 ghost use Rattle.jsonb.specs.PathViews.{place_view, entry_view, end_view, levels_view, literal_view, operator_view, sign_view, step_view, expression_view, path_view};
@@ -18,6 +21,11 @@ ghost use Rattle.jsonb.specs.contracts.path.RecursiveLevelPartialEq.TheImpl.{eq-
 ghost use Rattle.jsonb.specs.contracts.path.UnaryOperatorPartialEq.TheImpl.{eq-value as signs_equal};
 ghost use Rattle.jsonb.specs.contracts.path.compare.PathValuePartialEq.TheImpl.{eq-value as literals_equal};
 ghost use Rattle.jsonb_keypath.specs.TokenLaws.{ReadsSome};
+
+pub use jsonb_doc::laws as documents;
+pub use jsonb_keypath::laws as key_paths;
+pub use jsonb_raw::laws as functions;
+pub use jsonb_raw::laws::printed_key_paths_keep_their_place;
 
 use crate::path::{
     ArrayIndex, BinaryOperator, Expr, Index, JsonPath, Path, PathValue, RecursiveLevel,
@@ -36,12 +44,13 @@ pub fn rules_hold_without_bounds(text: &[u8])
     ensures { RulesHold text.now }
 {}
 
-/// Each rule that the grammar repeats reads a byte at least. So a repetition goes on until its rule
-/// fails.
+/// Each rule that the grammar repeats reads a byte at least, inside parentheses too. So a repetition goes on
+/// until its rule fails.
 pub fn repeated_rules_read_some()
     ensures entries { ReadsSome another_entry }
     ensures operand_steps { ReadsSome spaced_inner }
     ensures path_steps { ReadsSome path_step }
+    ensures nested_steps { (n : ℕ) → ReadsSome (path_with (nested_or n)) }
     ensures conditions { (n : ℕ) (is_in_filter : Bool) → ReadsSome (another_atom (nested_or n) is_in_filter) }
     ensures alternatives { (n : ℕ) (is_in_filter : Bool) → ReadsSome (another_and (nested_or n) is_in_filter) }
 {}

@@ -3,11 +3,13 @@
 //! A selection keeps a list of places in the bytes. Each step makes the next list of the one before;
 //! no item is copied before it is handed out.
 
-ghost use Rattle.std.specs.Prelude.{◌≡◌, List, IsOkAnd};
+ghost use Rattle.std.specs.Prelude.{◌≡◌, List, IsOkAnd, IfErr, OnOk};
 ghost use Rattle.jsonb_doc.specs.Payload.{Form};
 ghost use Rattle.jsonb_doc.specs.Tree.{Tree};
 ghost use Rattle.jsonb.specs.Meaning.{is_some_item};
 ghost use Rattle.jsonb_doc.specs.Format.{Decodes};
+ghost use Rattle.jsonb_doc.specs.View.{IsDecodingError};
+ghost use Rattle.jsonb.specs.SelectionErrors.{HasHeader};
 ghost use Rattle.jsonb.specs.Selection.{Selects, HasTree};
 ghost use Rattle.jsonb.specs.declared.selector.document.Document.{Document};
 
@@ -46,7 +48,7 @@ pub struct Selector<'a> {
 }
 
 impl<'a> Selector<'a> {
-    ghost use Rattle.std.specs.Prelude.{◌≡◌, List, Ok, None, false, IsOkAnd};
+    ghost use Rattle.std.specs.Prelude.{◌≡◌, List, Ok, None, true, false, IfErr, OnOk};
     ghost use Rattle.jsonb_doc.specs.Answer.{Gives, Outcome, WantsMemory};
     ghost use Rattle.jsonb_doc.specs.Payload.{Form};
     ghost use Rattle.jsonb_doc.specs.Format.{Decodes};
@@ -57,6 +59,7 @@ impl<'a> Selector<'a> {
     ghost use Rattle.jsonb.specs.PathViews.{path_view};
     ghost use Rattle.jsonb.specs.Meaning.{Means, is_some_item, predicate};
     ghost use Rattle.jsonb.specs.Selection.{HasTree};
+    ghost use Rattle.jsonb.specs.SelectionErrors.{IsSelectionError, IsDocumentError, HasHeader};
     ghost use Rattle.jsonb.specs.SelectorAnswers.{root_bytes, mode_of, HandsOut, AreDocuments, HasTooLarge, IsDocumentOf, IsPast, array_of, first_of, value_of};
     ghost use Rattle.jsonb.specs.declared.selector.document.Mode.TheVariants.{Lax, Strict};
 
@@ -94,13 +97,15 @@ impl<'a> Selector<'a> {
     /// It is refused as the path is on the document: with `InvalidJsonPath`, `Arithmetic`, or in strict mode
     /// `StrictPath`. `TooLarge` comes only where an item passes the limits of a document, `InvalidJsonb` and
     /// `UnsupportedNumber` only where the root or a document in the path doesn't decode, and `OutOfMemory` where
-    /// memory is refused. The calls below refuse for the same causes: `TooLarge` is there for what is handed out,
-    /// and never comes from `exists` and `predicate_match`.
+    /// memory is refused. Bytes that do not begin with a header are never answered. The calls below refuse for the same
+    /// causes: `TooLarge` is there for what is handed out, and never comes from `exists` and `predicate_match`.
     pub fn select_values(&mut self, path: &JsonPath<'_>) -> Result<Vec<OwnedJsonb>, Error>
         ensures kept { self.new ≡ self.old }
         ensures values { (form : Form) (top : Tree) (outcome : Outcome (List Tree)) → Decodes form (root_bytes self.old) top
             → Means form (mode_of self.old) (path_view path.now) top outcome
             → HandsOut (λ v ts. AreDocuments form v.items ts) (HasTooLarge form) result outcome }
+        ensures errors { IfErr result (IsDocumentError (mode_of self.old)) }
+        ensures readable { OnOk result (HasHeader (root_bytes self.old)) }
     {
         let bytes = self.root.as_bytes();
         let document = at_root(bytes)?;
@@ -114,6 +119,8 @@ impl<'a> Selector<'a> {
         ensures array { (form : Form) (top : Tree) (outcome : Outcome (List Tree)) → Decodes form (root_bytes self.old) top
             → Means form (mode_of self.old) (path_view path.now) top outcome
             → HandsOut (λ made ts. Decodes form made (array_of ts)) (λ ts. IsTooLarge form (array_of ts)) result outcome }
+        ensures errors { IfErr result (IsDocumentError (mode_of self.old)) }
+        ensures readable { OnOk result (HasHeader (root_bytes self.old)) }
     {
         let bytes = self.root.as_bytes();
         let document = at_root(bytes)?;
@@ -128,6 +135,8 @@ impl<'a> Selector<'a> {
         ensures first { (form : Form) (top : Tree) (outcome : Outcome (List Tree)) → Decodes form (root_bytes self.old) top
             → Means form (mode_of self.old) (path_view path.now) top outcome
             → HandsOut (λ found ts. IsDocumentOf form found (first_of ts)) (λ ts. IsPast form (first_of ts)) result outcome }
+        ensures errors { IfErr result (IsDocumentError (mode_of self.old)) }
+        ensures readable { OnOk result (HasHeader (root_bytes self.old)) }
     {
         let bytes = self.root.as_bytes();
         let document = at_root(bytes)?;
@@ -141,6 +150,8 @@ impl<'a> Selector<'a> {
         ensures value { (form : Form) (top : Tree) (outcome : Outcome (List Tree)) → Decodes form (root_bytes self.old) top
             → Means form (mode_of self.old) (path_view path.now) top outcome
             → HandsOut (λ found ts. IsDocumentOf form found (value_of ts)) (λ ts. IsPast form (value_of ts)) result outcome }
+        ensures errors { IfErr result (IsDocumentError (mode_of self.old)) }
+        ensures readable { OnOk result (HasHeader (root_bytes self.old)) }
     {
         let bytes = self.root.as_bytes();
         let document = at_root(bytes)?;
@@ -154,9 +165,10 @@ impl<'a> Selector<'a> {
         ensures exists { (form : Form) (top : Tree) (outcome : Outcome (List Tree)) → Decodes form (root_bytes self.old) top
             → Means form (mode_of self.old) (path_view path.now) top outcome
             → Gives (λ b ts. b ≡ is_some_item ts) WantsMemory result outcome }
+        ensures errors { IfErr result (IsSelectionError (mode_of self.old)) }
+        ensures readable { OnOk result (HasHeader (root_bytes self.old)) }
     {
-        let bytes = self.root.as_bytes();
-        let document = at_root(bytes)?;
+        let document = at_root(self.root.as_bytes())?;
         let selected = selection(self.alloc, self.mode, &path.paths, document)?;
         Ok(is_some(&selected))
     }
@@ -169,6 +181,8 @@ impl<'a> Selector<'a> {
         ensures other { is_predicate (path_view path.now) ≡ false → result ≡ Ok None }
         ensures truth { (form : Form) (top : Tree) → Decodes form (root_bytes self.old) top
             → Gives (λ b c. b ≡ c) WantsMemory result (predicate (mode_of self.old) (path_view path.now) top) }
+        ensures errors { IfErr result (IsSelectionError (mode_of self.old)) }
+        ensures readable { is_predicate (path_view path.now) ≡ true → OnOk result (HasHeader (root_bytes self.old)) }
     {
         match lone_expression(&path.paths) {
             Some(e) => {
@@ -181,11 +195,19 @@ impl<'a> Selector<'a> {
     }
 }
 
-// The bytes of a document, with the place of its root in them.
+// How long the header is that each document begins with.
+const HEADER: usize = 4;
+
+// The bytes of a document, with the place of its root in them. Bytes that do not begin with a header are refused.
 fn at_root(bytes: &[u8]) -> Result<Document<'_>, Error>
-    ensures { (form : Form) (top : Tree) → Decodes form bytes.now top
+    ensures meant { (form : Form) (top : Tree) → Decodes form bytes.now top
         → IsOkAnd result (λ document. (document.bytes.now ≡ bytes.now) × HasTree document top) }
+    ensures errors { IfErr result IsDecodingError }
+    ensures readable { OnOk result (HasHeader bytes.now) }
 {
+    if bytes.len() < HEADER {
+        return Err(Error::InvalidJsonb);
+    }
     let root = root_spot(bytes)?;
     Ok(Document { bytes, root })
 }

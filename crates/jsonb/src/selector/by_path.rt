@@ -1,6 +1,6 @@
 //! Paths on documents that are borrowed.
 
-ghost use Rattle.std.specs.Prelude.{◌≡◌, ℕ, false, List, None, Ok};
+ghost use Rattle.std.specs.Prelude.{◌≡◌, ℕ, true, false, List, None, Ok, IfErr, OnOk};
 ghost use Rattle.jsonb_doc.specs.Answer.{Outcome, Gives, WantsMemory};
 ghost use Rattle.jsonb_doc.specs.Format.{Decodes};
 ghost use Rattle.jsonb_doc.specs.Limits.{IsTooLarge};
@@ -10,6 +10,7 @@ ghost use Rattle.jsonb_raw.specs.Documents.{raw_bytes};
 ghost use Rattle.jsonb.specs.Meaning.{Means, is_some_item, predicate};
 ghost use Rattle.jsonb.specs.PathTree.{is_predicate};
 ghost use Rattle.jsonb.specs.PathViews.{path_view};
+ghost use Rattle.jsonb.specs.SelectionErrors.{IsSelectionError, IsDocumentError, HasHeader};
 ghost use Rattle.jsonb.specs.SelectorAnswers.{HandsOut, AreDocuments, HasTooLarge, IsDocumentOf, IsPast, array_of, first_of, value_of};
 ghost use Rattle.jsonb.specs.declared.selector.document.Mode.TheVariants.{Lax};
 
@@ -29,15 +30,19 @@ pub trait SelectByPath<'a> {
 
     /// The items that the path selects, each as a document, in their order and with repeats.
     fn select_by_path(&self, alloc: Global, path: &JsonPath<'_>) -> Result<Vec<OwnedJsonb>, Error>
-        ensures { (form : Form) (top : Tree) (outcome : Outcome (List Tree)) → Decodes form (document self.now) top
+        ensures values { (form : Form) (top : Tree) (outcome : Outcome (List Tree)) → Decodes form (document self.now) top
             → Means form Lax (path_view path.now) top outcome
-            → HandsOut (λ v ts. AreDocuments form v.items ts) (HasTooLarge form) result outcome };
+            → HandsOut (λ v ts. AreDocuments form v.items ts) (HasTooLarge form) result outcome }
+        ensures errors { IfErr result (IsDocumentError Lax) }
+        ensures readable { OnOk result (HasHeader (document self.now)) };
 
     /// One array of the items that the path selects.
     fn select_array_by_path(&self, alloc: Global, path: &JsonPath<'_>) -> Result<OwnedJsonb, Error>
-        ensures { (form : Form) (top : Tree) (outcome : Outcome (List Tree)) → Decodes form (document self.now) top
+        ensures array { (form : Form) (top : Tree) (outcome : Outcome (List Tree)) → Decodes form (document self.now) top
             → Means form Lax (path_view path.now) top outcome
-            → HandsOut (λ made ts. Decodes form made (array_of ts)) (λ ts. IsTooLarge form (array_of ts)) result outcome };
+            → HandsOut (λ made ts. Decodes form made (array_of ts)) (λ ts. IsTooLarge form (array_of ts)) result outcome }
+        ensures errors { IfErr result (IsDocumentError Lax) }
+        ensures readable { OnOk result (HasHeader (document self.now)) };
 
     /// The first item that the path selects; none where it selects nothing.
     fn select_first_by_path(
@@ -45,9 +50,11 @@ pub trait SelectByPath<'a> {
         alloc: Global,
         path: &JsonPath<'_>,
     ) -> Result<Option<OwnedJsonb>, Error>
-        ensures { (form : Form) (top : Tree) (outcome : Outcome (List Tree)) → Decodes form (document self.now) top
+        ensures first { (form : Form) (top : Tree) (outcome : Outcome (List Tree)) → Decodes form (document self.now) top
             → Means form Lax (path_view path.now) top outcome
-            → HandsOut (λ found ts. IsDocumentOf form found (first_of ts)) (λ ts. IsPast form (first_of ts)) result outcome };
+            → HandsOut (λ found ts. IsDocumentOf form found (first_of ts)) (λ ts. IsPast form (first_of ts)) result outcome }
+        ensures errors { IfErr result (IsDocumentError Lax) }
+        ensures readable { OnOk result (HasHeader (document self.now)) };
 
     /// The only item that the path selects, or one array of several; none where it selects nothing.
     fn select_value_by_path(
@@ -55,22 +62,28 @@ pub trait SelectByPath<'a> {
         alloc: Global,
         path: &JsonPath<'_>,
     ) -> Result<Option<OwnedJsonb>, Error>
-        ensures { (form : Form) (top : Tree) (outcome : Outcome (List Tree)) → Decodes form (document self.now) top
+        ensures value { (form : Form) (top : Tree) (outcome : Outcome (List Tree)) → Decodes form (document self.now) top
             → Means form Lax (path_view path.now) top outcome
-            → HandsOut (λ found ts. IsDocumentOf form found (value_of ts)) (λ ts. IsPast form (value_of ts)) result outcome };
+            → HandsOut (λ found ts. IsDocumentOf form found (value_of ts)) (λ ts. IsPast form (value_of ts)) result outcome }
+        ensures errors { IfErr result (IsDocumentError Lax) }
+        ensures readable { OnOk result (HasHeader (document self.now)) };
 
     /// Whether the path selects anything.
     fn path_exists(&self, alloc: Global, path: &JsonPath<'_>) -> Result<bool, Error>
-        ensures { (form : Form) (top : Tree) (outcome : Outcome (List Tree)) → Decodes form (document self.now) top
+        ensures exists { (form : Form) (top : Tree) (outcome : Outcome (List Tree)) → Decodes form (document self.now) top
             → Means form Lax (path_view path.now) top outcome
-            → Gives (λ b ts. b ≡ is_some_item ts) WantsMemory result outcome };
+            → Gives (λ b ts. b ≡ is_some_item ts) WantsMemory result outcome }
+        ensures errors { IfErr result (IsSelectionError Lax) }
+        ensures readable { OnOk result (HasHeader (document self.now)) };
 
     /// Whether a path that is a comparison, `&&`, `||` or `exists` is true of the document; none where that is unknown, and
     /// for every other path. One that is no single expression is not executed.
     fn path_match(&self, alloc: Global, path: &JsonPath<'_>) -> Result<Option<bool>, Error>
         ensures other { is_predicate (path_view path.now) ≡ false → result ≡ Ok None }
         ensures truth { (form : Form) (top : Tree) → Decodes form (document self.now) top
-            → Gives (λ b c. b ≡ c) WantsMemory result (predicate Lax (path_view path.now) top) };
+            → Gives (λ b c. b ≡ c) WantsMemory result (predicate Lax (path_view path.now) top) }
+        ensures errors { IfErr result (IsSelectionError Lax) }
+        ensures readable { is_predicate (path_view path.now) ≡ true → OnOk result (HasHeader (document self.now)) };
 }
 
 impl<'a> SelectByPath<'a> for RawJsonb<'a> {

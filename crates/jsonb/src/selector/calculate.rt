@@ -1,6 +1,6 @@
 //! Arithmetic of an expression that is the whole path.
 
-ghost use Rattle.std.specs.Prelude.{◌≡◌, ◌∷◌, [], Ok, Err, Some, option_map, map, is_some, MatchResult};
+ghost use Rattle.std.specs.Prelude.{◌≡◌, ◌∷◌, [], Ok, Err, Some, option_map, map, is_some, MatchResult, IfErr};
 ghost use Rattle.jsonb_doc.specs.Answer.{Gives, WantsMemory, joined};
 ghost use Rattle.jsonb_doc.specs.Arithmetic.{Operation, calculated, IsOutcome};
 ghost use Rattle.jsonb_doc.specs.Payload.{Form};
@@ -9,6 +9,8 @@ ghost use Rattle.jsonb.specs.PathArithmetic.{operation, two_numbers, all_numbers
 ghost use Rattle.jsonb.specs.PathViews.{operator_view, sign_view};
 ghost use Rattle.jsonb.specs.Related.{AllRelated};
 ghost use Rattle.jsonb.specs.Selection.{operand_value, lone_number, value_number, IsNumberTree, IsPart};
+ghost use Rattle.jsonb.specs.SelectionErrors.{IsPathError, IsSelectionError};
+ghost use Rattle.jsonb.specs.declared.selector.document.Mode.{Mode};
 
 use super::operand::Operand;
 use super::part::Part;
@@ -32,8 +34,9 @@ pub(crate) fn is_arithmetic(op: BinaryOperator) -> bool
 
 /// The number of two numbers. An operator that is none of arithmetic is refused.
 fn calculate(op: BinaryOperator, left: Number, right: Number) -> Result<Number, Error>
-    ensures { (o : Operation) → operation (operator_view op) ≡ Some o
+    ensures meant { (o : Operation) → operation (operator_view op) ≡ Some o
         → IsOutcome (calculated o (number_view left) (number_view right)) result }
+    ensures errors { (mode : Mode) → IfErr result (IsPathError mode) }
 {
     match op {
         BinaryOperator::Add => left.add(right),
@@ -62,8 +65,9 @@ pub(crate) fn binary_number(
     left: &[Operand<'_>],
     right: &[Operand<'_>],
 ) -> Result<Number, Error>
-    ensures { (o : Operation) → operation (operator_view op) ≡ Some o
+    ensures meant { (o : Operation) → operation (operator_view op) ≡ Some o
         → Gives IsNumberTree (λ _. ⊥) result (two_numbers o (map operand_value left.now) (map operand_value right.now)) }
+    ensures errors { (mode : Mode) → IfErr result (IsPathError mode) }
 {
     match (lone_number(left), lone_number(right)) {
         (Some(m), Some(n)) => calculate(op, m, n),
@@ -73,8 +77,9 @@ pub(crate) fn binary_number(
 
 /// The number that a value is. Another value is refused with `InvalidJsonPath`.
 fn number_of(value: &Operand<'_>) -> Result<Number, Error>
-    ensures { MatchResult result (λ n. value_number (operand_value value.now) ≡ Ok (number_view n ∷ []))
+    ensures meant { MatchResult result (λ n. value_number (operand_value value.now) ≡ Ok (number_view n ∷ []))
         (λ e. value_number (operand_value value.now) ≡ Err e) }
+    ensures errors { (mode : Mode) → IfErr result (IsPathError mode) }
 {
     match value {
         Operand::Number(number) => Ok(*number),
@@ -84,7 +89,8 @@ fn number_of(value: &Operand<'_>) -> Result<Number, Error>
 
 /// The numbers that the values are. A value that is none is refused with `InvalidJsonPath`.
 fn all_numbers(alloc: Global, values: &[Operand<'_>]) -> Result<Vec<Number>, Error>
-    ensures { Gives (λ v ns. map number_view v.items ≡ ns) WantsMemory result (all_numbers (map operand_value values.now)) }
+    ensures meant { Gives (λ v ns. map number_view v.items ≡ ns) WantsMemory result (all_numbers (map operand_value values.now)) }
+    ensures errors { (mode : Mode) → IfErr result (IsSelectionError mode) }
 {
     let mut numbers = Vec::new(alloc);
     for value in values {
@@ -95,7 +101,8 @@ fn all_numbers(alloc: Global, values: &[Operand<'_>]) -> Result<Vec<Number>, Err
 
 /// A number behind a sign.
 fn signed(op: UnaryOperator, number: Number) -> Result<Number, Error>
-    ensures { Gives IsNumberTree (λ _. ⊥) result (signed_number (sign_view op) (number_view number)) }
+    ensures meant { Gives IsNumberTree (λ _. ⊥) result (signed_number (sign_view op) (number_view number)) }
+    ensures errors { (mode : Mode) → IfErr result (IsPathError mode) }
 {
     match op {
         UnaryOperator::Add => Ok(number),
@@ -109,8 +116,9 @@ fn each_signed<'a>(
     op: UnaryOperator,
     numbers: &[Number],
 ) -> Result<Vec<Part<'a>>, Error>
-    ensures { (form : Form) → Gives (λ v ts. AllRelated (IsPart form) v.items ts) WantsMemory result
+    ensures meant { (form : Form) → Gives (λ v ts. AllRelated (IsPart form) v.items ts) WantsMemory result
         (joined (signed_number (sign_view op)) (map number_view numbers.now)) }
+    ensures errors { (mode : Mode) → IfErr result (IsSelectionError mode) }
 {
     let mut parts = Vec::new(alloc);
     for number in numbers {
@@ -126,8 +134,9 @@ pub(crate) fn unary_numbers<'a>(
     op: UnaryOperator,
     values: &[Operand<'_>],
 ) -> Result<Vec<Part<'a>>, Error>
-    ensures { (form : Form) → Gives (λ v ts. AllRelated (IsPart form) v.items ts) WantsMemory result
+    ensures meant { (form : Form) → Gives (λ v ts. AllRelated (IsPart form) v.items ts) WantsMemory result
         (each_signed (sign_view op) (map operand_value values.now)) }
+    ensures errors { (mode : Mode) → IfErr result (IsSelectionError mode) }
 {
     let numbers = all_numbers(alloc, values)?;
     each_signed(alloc, op, &numbers)

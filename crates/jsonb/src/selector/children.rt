@@ -11,6 +11,9 @@ ghost use Rattle.jsonb.specs.PathViews.{entry_view};
 ghost use Rattle.jsonb.specs.Related.{AllRelated};
 ghost use Rattle.jsonb.specs.ItemSteps.{elements_of, values_of, field_step, values_step, elements_step, indices_step, picked_by, picked};
 ghost use Rattle.jsonb.specs.Selection.{found_spots};
+ghost use Rattle.jsonb_doc.specs.View.{IsDecodingError};
+ghost use Rattle.jsonb_raw.specs.Documents.{IsReadingError};
+ghost use Rattle.jsonb.specs.SelectionErrors.{IsSelectionError};
 
 use super::document::Mode;
 use super::found::Found;
@@ -20,8 +23,9 @@ use std::alloc::Global;
 
 /// The elements of an array. `None` is for another item.
 pub(crate) fn elements<'a>(bytes: &'a [u8], item: Spot) -> Result<Option<SpotIter<'a>>, Error>
-    ensures { (t : Tree) → Marks bytes.now item t
+    ensures meant { (t : Tree) → Marks bytes.now item t
         → IsOkAnd result (λ found. SameOption (HasSpotsLeft bytes.now) found (elements_of t)) }
+    ensures errors { IfErr result IsDecodingError }
 {
     array_elements(bytes, item, &spot_item(bytes, item)?)
 }
@@ -32,8 +36,9 @@ pub(crate) fn array_elements<'a>(
     spot: Spot,
     item: &Item<'_>,
 ) -> Result<Option<SpotIter<'a>>, Error>
-    ensures { (t : Tree) → Marks bytes.now spot t → Stands any item.now t
+    ensures meant { (t : Tree) → Marks bytes.now spot t → Stands any item.now t
         → IsOkAnd result (λ found. SameOption (HasSpotsLeft bytes.now) found (elements_of t)) }
+    ensures errors { IfErr result IsDecodingError }
 {
     match item {
         Item::Array(_) => child_spots(bytes, spot),
@@ -43,8 +48,9 @@ pub(crate) fn array_elements<'a>(
 
 /// The values of an object, in the order of their keys. `None` is for another item.
 pub(crate) fn values<'a>(bytes: &'a [u8], item: Spot) -> Result<Option<SpotIter<'a>>, Error>
-    ensures { (t : Tree) → Marks bytes.now item t
+    ensures meant { (t : Tree) → Marks bytes.now item t
         → IsOkAnd result (λ found. SameOption (HasSpotsLeft bytes.now) found (values_of t)) }
+    ensures errors { IfErr result IsDecodingError }
 {
     match spot_item(bytes, item)? {
         Item::Object(_) => child_spots(bytes, item),
@@ -63,8 +69,9 @@ pub(crate) fn push_spot(queue: &mut Vec<Spot>, spot: Spot) -> Result<(), Error>
 
 /// One more place, where the condition holds.
 pub(crate) fn push_if(condition: bool, spot: Spot, queue: &mut Vec<Spot>) -> Result<(), Error>
-    ensures { (bytes : List ℕ) (t : Tree) (before : List Tree) → Marks bytes spot t → AllRelated (Marks bytes) queue.old.items before
+    ensures meant { (bytes : List ℕ) (t : Tree) (before : List Tree) → Marks bytes spot t → AllRelated (Marks bytes) queue.old.items before
         → Gives (λ _ us. AllRelated (Marks bytes) queue.new.items (before ++ us)) WantsMemory result (Ok (if condition then t ∷ [] else [])) }
+    ensures errors { IfErr result WantsMemory }
 {
     if condition {
         push_spot(queue, spot)
@@ -75,8 +82,9 @@ pub(crate) fn push_if(condition: bool, spot: Spot, queue: &mut Vec<Spot>) -> Res
 
 /// The places that are left in an iterator.
 pub(crate) fn push_spots(spots: SpotIter<'_>, queue: &mut Vec<Spot>) -> Result<(), Error>
-    ensures { (bytes : List ℕ) (ts before : List Tree) → HasSpotsLeft bytes spots.entry ts → AllRelated (Marks bytes) queue.old.items before
+    ensures meant { (bytes : List ℕ) (ts before : List Tree) → HasSpotsLeft bytes spots.entry ts → AllRelated (Marks bytes) queue.old.items before
         → Gives (λ _ us. AllRelated (Marks bytes) queue.new.items (before ++ us)) WantsMemory result (Ok ts) }
+    ensures errors { IfErr result IsReadingError }
 {
     for spot in spots {
         push_spot(queue, spot?)?;
@@ -92,8 +100,9 @@ pub(crate) fn field(
     name: &str,
     item: Spot,
 ) -> Result<Found, Error>
-    ensures { (t : Tree) → Marks bytes.now item t
+    ensures meant { (t : Tree) → Marks bytes.now item t
         → Gives (λ found us. AllRelated (Marks bytes.now) (found_spots found) us) WantsMemory result (field_step mode name.now t) }
+    ensures errors { IfErr result (IsSelectionError mode) }
 {
     match field_spot(bytes, item, name)? {
         Some(value) => Ok(Found::One(value)),
@@ -112,8 +121,9 @@ pub(crate) fn push_field(
     item: Spot,
     queue: &mut Vec<Spot>,
 ) -> Result<(), Error>
-    ensures { (t : Tree) (before : List Tree) → Marks bytes.now item t → AllRelated (Marks bytes.now) queue.old.items before
+    ensures meant { (t : Tree) (before : List Tree) → Marks bytes.now item t → AllRelated (Marks bytes.now) queue.old.items before
         → Gives (λ _ ts. AllRelated (Marks bytes.now) queue.new.items (before ++ ts)) WantsMemory result (field_step mode name.now t) }
+    ensures errors { IfErr result (IsSelectionError mode) }
 {
     match field_spot(bytes, item, name)? {
         Some(value) => push_spot(queue, value),
@@ -131,8 +141,9 @@ pub(crate) fn push_values(
     item: Spot,
     queue: &mut Vec<Spot>,
 ) -> Result<(), Error>
-    ensures { (t : Tree) (before : List Tree) → Marks bytes.now item t → AllRelated (Marks bytes.now) queue.old.items before
+    ensures meant { (t : Tree) (before : List Tree) → Marks bytes.now item t → AllRelated (Marks bytes.now) queue.old.items before
         → Gives (λ _ ts. AllRelated (Marks bytes.now) queue.new.items (before ++ ts)) WantsMemory result (values_step mode t) }
+    ensures errors { IfErr result (IsSelectionError mode) }
 {
     match values(bytes, item)? {
         Some(values) => push_spots(values, queue),
@@ -150,8 +161,9 @@ pub(crate) fn push_elements(
     item: Spot,
     queue: &mut Vec<Spot>,
 ) -> Result<(), Error>
-    ensures { (t : Tree) (before : List Tree) → Marks bytes.now item t → AllRelated (Marks bytes.now) queue.old.items before
+    ensures meant { (t : Tree) (before : List Tree) → Marks bytes.now item t → AllRelated (Marks bytes.now) queue.old.items before
         → Gives (λ _ ts. AllRelated (Marks bytes.now) queue.new.items (before ++ ts)) WantsMemory result (elements_step mode t) }
+    ensures errors { IfErr result (IsSelectionError mode) }
 {
     match elements(bytes, item)? {
         Some(elements) => push_spots(elements, queue),
@@ -171,8 +183,9 @@ pub(crate) fn push_positions(
     item: Spot,
     queue: &mut Vec<Spot>,
 ) -> Result<(), Error>
-    ensures { (t : Tree) (before : List Tree) → Marks bytes.now item t → AllRelated (Marks bytes.now) queue.old.items before
+    ensures meant { (t : Tree) (before : List Tree) → Marks bytes.now item t → AllRelated (Marks bytes.now) queue.old.items before
         → Gives (λ _ ts. AllRelated (Marks bytes.now) queue.new.items (before ++ ts)) WantsMemory result (indices_step mode (map entry_view entries.now) t) }
+    ensures errors { IfErr result (IsSelectionError mode) }
 {
     match elements(bytes, item)? {
         Some(elements) => push_picked(alloc, elements, entries, queue),
@@ -191,8 +204,9 @@ fn push_picked(
     entries: &[ArrayIndex],
     queue: &mut Vec<Spot>,
 ) -> Result<(), Error>
-    ensures { (bytes : List ℕ) (ts before : List Tree) → HasSpotsLeft bytes elements.entry ts → AllRelated (Marks bytes) queue.old.items before
+    ensures meant { (bytes : List ℕ) (ts before : List Tree) → HasSpotsLeft bytes elements.entry ts → AllRelated (Marks bytes) queue.old.items before
         → Gives (λ _ us. AllRelated (Marks bytes) queue.new.items (before ++ us)) WantsMemory result (Ok (picked (map entry_view entries.now) ts)) }
+    ensures errors { IfErr result IsReadingError }
 {
     if let Some(position) = plain_index(entries) {
         return push_nth(elements, position, queue);
@@ -214,8 +228,9 @@ fn plain_index(entries: &[ArrayIndex]) -> Option<usize>
 
 // The element at a position.
 fn push_nth(elements: SpotIter<'_>, position: usize, queue: &mut Vec<Spot>) -> Result<(), Error>
-    ensures { (bytes : List ℕ) (ts before : List Tree) → HasSpotsLeft bytes elements.entry ts → AllRelated (Marks bytes) queue.old.items before
+    ensures meant { (bytes : List ℕ) (ts before : List Tree) → HasSpotsLeft bytes elements.entry ts → AllRelated (Marks bytes) queue.old.items before
         → Gives (λ _ us. AllRelated (Marks bytes) queue.new.items (before ++ us)) WantsMemory result (Ok (filter_map (slice_get ts) (position ∷ []))) }
+    ensures errors { IfErr result IsReadingError }
 {
     let mut before = position;
     for element in elements {
@@ -234,8 +249,9 @@ fn push_entries(
     elements: &[Spot],
     queue: &mut Vec<Spot>,
 ) -> Result<(), Error>
-    ensures { (bytes : List ℕ) (ts before : List Tree) → AllRelated (Marks bytes) elements.now ts → AllRelated (Marks bytes) queue.old.items before
+    ensures meant { (bytes : List ℕ) (ts before : List Tree) → AllRelated (Marks bytes) elements.now ts → AllRelated (Marks bytes) queue.old.items before
         → Gives (λ _ us. AllRelated (Marks bytes) queue.new.items (before ++ us)) WantsMemory result (Ok (picked (map entry_view entries.now) ts)) }
+    ensures errors { IfErr result IsReadingError }
 {
     for entry in entries {
         push_entry(entry, elements, queue)?;
@@ -245,8 +261,9 @@ fn push_entries(
 
 // The elements at the positions of one entry, ascending.
 fn push_entry(entry: &ArrayIndex, elements: &[Spot], queue: &mut Vec<Spot>) -> Result<(), Error>
-    ensures { (bytes : List ℕ) (ts before : List Tree) → AllRelated (Marks bytes) elements.now ts → AllRelated (Marks bytes) queue.old.items before
+    ensures meant { (bytes : List ℕ) (ts before : List Tree) → AllRelated (Marks bytes) elements.now ts → AllRelated (Marks bytes) queue.old.items before
         → Gives (λ _ us. AllRelated (Marks bytes) queue.new.items (before ++ us)) WantsMemory result (Ok (picked_by (entry_view entry.now) ts)) }
+    ensures errors { IfErr result WantsMemory }
 {
     let (start, end) = entry.bounds(elements.len());
     queue.extend_from_slice(&elements[start..end])?;

@@ -1,6 +1,6 @@
 //! The steps of a path, one after the other, and the filters in them.
 
-ghost use Rattle.std.specs.Prelude.{◌≡◌, ◌++◌, ◌∷◌, [], List, Ok, map, flat_map, true};
+ghost use Rattle.std.specs.Prelude.{◌≡◌, ◌++◌, ◌∷◌, [], List, Ok, map, flat_map, true, IfErr};
 ghost use Rattle.jsonb_doc.specs.Answer.{Gives, WantsMemory, joined, with_value};
 ghost use Rattle.jsonb_doc.specs.Spots.{Marks};
 ghost use Rattle.jsonb_doc.specs.Tree.{Tree};
@@ -9,6 +9,7 @@ ghost use Rattle.jsonb.specs.PathViews.{step_view, steps_view, expression_view};
 ghost use Rattle.jsonb.specs.Related.{AllRelated};
 ghost use Rattle.jsonb.specs.Meaning.{step_meaning, steps_meaning, truth, operand_values, start};
 ghost use Rattle.jsonb.specs.Selection.{IsAt, HasTree, found_spots, values_view, IsKept};
+ghost use Rattle.jsonb.specs.SelectionErrors.{IsSelectionError};
 
 use super::children::{
     field, push_elements, push_field, push_if, push_positions, push_spot, push_values,
@@ -32,8 +33,9 @@ fn push_step<'a>(
     item: Spot,
     queue: &mut Vec<Spot>,
 ) -> Result<(), Error>
-    ensures { (top t : Tree) (before : List Tree) → HasTree document.entry top → IsAt document.entry item t → AllRelated (IsAt document.entry) queue.old.items before
+    ensures meant { (top t : Tree) (before : List Tree) → HasTree document.entry top → IsAt document.entry item t → AllRelated (IsAt document.entry) queue.old.items before
         → Gives (λ _ ts. AllRelated (IsAt document.entry) queue.new.items (before ++ ts)) WantsMemory result (step_meaning mode (step_view step.now) top t) }
+    ensures errors { IfErr result (IsSelectionError mode) }
 {
     match step {
         Path::DotWildcard => push_values(document.bytes, mode, item, queue),
@@ -68,8 +70,9 @@ fn step_item<'a>(
     document: Document<'a>,
     item: Spot,
 ) -> Result<Found, Error>
-    ensures { (top t : Tree) → HasTree document.entry top → IsAt document.entry item t
+    ensures meant { (top t : Tree) → HasTree document.entry top → IsAt document.entry item t
         → Gives (λ found ts. AllRelated (IsAt document.entry) (found_spots found) ts) WantsMemory result (step_meaning mode (step_view step.now) top t) }
+    ensures errors { IfErr result (IsSelectionError mode) }
 {
     match step {
         Path::DotField(name) => field(alloc, document.bytes, mode, name.as_str(), item),
@@ -96,8 +99,9 @@ pub(crate) fn step_list<'a>(
     document: Document<'a>,
     items: Found,
 ) -> Result<Found, Error>
-    ensures { (top : Tree) (ts : List Tree) → HasTree document.entry top → AllRelated (IsAt document.entry) (found_spots items) ts
+    ensures meant { (top : Tree) (ts : List Tree) → HasTree document.entry top → AllRelated (IsAt document.entry) (found_spots items) ts
         → Gives (λ found us. AllRelated (IsAt document.entry) (found_spots found) us) WantsMemory result (joined (step_meaning mode (step_view step.now) top) ts) }
+    ensures errors { IfErr result (IsSelectionError mode) }
 {
     match step {
         Path::Root | Path::Current => Ok(items),
@@ -117,8 +121,9 @@ fn step_many<'a>(
     document: Document<'a>,
     items: &[Spot],
 ) -> Result<Found, Error>
-    ensures { (top : Tree) (ts : List Tree) → HasTree document.entry top → AllRelated (IsAt document.entry) items.now ts
+    ensures meant { (top : Tree) (ts : List Tree) → HasTree document.entry top → AllRelated (IsAt document.entry) items.now ts
         → Gives (λ found us. AllRelated (IsAt document.entry) (found_spots found) us) WantsMemory result (joined (step_meaning mode (step_view step.now) top) ts) }
+    ensures errors { IfErr result (IsSelectionError mode) }
 {
     let mut queue = Vec::new(alloc);
     for item in items {
@@ -136,8 +141,9 @@ pub(crate) fn select_steps<'a>(
     document: Document<'a>,
     first: Spot,
 ) -> Result<Found, Error>
-    ensures { (top t : Tree) → HasTree document.entry top → IsAt document.entry first t
+    ensures meant { (top t : Tree) → HasTree document.entry top → IsAt document.entry first t
         → Gives (λ found us. AllRelated (IsAt document.entry) (found_spots found) us) WantsMemory result (steps_meaning mode (steps_of (steps_view steps.now)) top (t ∷ [])) }
+    ensures errors { IfErr result (IsSelectionError mode) }
 {
     let mut items = Found::One(first);
     for step in steps {
@@ -165,8 +171,9 @@ fn path_items<'a>(
     document: Document<'a>,
     item: Spot,
 ) -> Result<Found, Error>
-    ensures { (top t : Tree) → HasTree document.entry top → IsAt document.entry item t
+    ensures meant { (top t : Tree) → HasTree document.entry top → IsAt document.entry item t
         → Gives (λ found us. AllRelated (IsAt document.entry) (found_spots found) us) WantsMemory result (steps_meaning mode (steps_of (steps_view steps.now)) top (start (steps_of (steps_view steps.now)) top t ∷ [])) }
+    ensures errors { IfErr result (IsSelectionError mode) }
 {
     let first = first_item(steps, document, item);
     select_steps(alloc, mode, steps, document, first)
@@ -181,8 +188,9 @@ pub(crate) fn is_kept<'a>(
     document: Document<'a>,
     item: Spot,
 ) -> Result<bool, Error>
-    ensures { (top t : Tree) → HasTree document.entry top → IsAt document.entry item t
+    ensures meant { (top t : Tree) → HasTree document.entry top → IsAt document.entry item t
         → Gives (IsKept t) WantsMemory result (step_meaning mode (filter (expression_view e.now)) top t) }
+    ensures errors { IfErr result (IsSelectionError mode) }
 {
     match truth(alloc, mode, e, document, item)? {
         Some(keeps) => Ok(keeps),
@@ -199,8 +207,9 @@ pub(crate) fn truth<'a>(
     document: Document<'a>,
     item: Spot,
 ) -> Result<Option<bool>, Error>
-    ensures { (top t : Tree) → HasTree document.entry top → IsAt document.entry item t
+    ensures meant { (top t : Tree) → HasTree document.entry top → IsAt document.entry item t
         → Gives (λ b c. b ≡ c) WantsMemory result (truth mode (expression_view e.now) top t) }
+    ensures errors { IfErr result (IsSelectionError mode) }
 {
     match e {
         Expr::BinaryOp { op, left, right } => match op {
@@ -242,8 +251,9 @@ pub(crate) fn operand_values<'a>(
     document: Document<'a>,
     item: Spot,
 ) -> Result<Values<'a>, Error>
-    ensures { (top t : Tree) → HasTree document.entry top → IsAt document.entry item t
+    ensures meant { (top t : Tree) → HasTree document.entry top → IsAt document.entry item t
         → Gives (λ values vs. values_view values ≡ vs) WantsMemory result (operand_values mode (expression_view e.now) top t) }
+    ensures errors { IfErr result (IsSelectionError mode) }
 {
     match e {
         Expr::Paths(steps) => {

@@ -9,6 +9,7 @@ ghost use Rattle.jsonb_doc.specs.Tree.{Tree};
 ghost use Rattle.jsonb.specs.Related.{AllRelated};
 ghost use Rattle.jsonb.specs.Values.{values_of_item, value_of_item};
 ghost use Rattle.jsonb.specs.Selection.{found_spots, operand_value, values_view};
+ghost use Rattle.jsonb_raw.specs.Documents.{IsReadingError};
 
 use super::children::array_elements;
 use super::found::Found;
@@ -22,8 +23,9 @@ pub(crate) fn found_values<'a>(
     bytes: &'a [u8],
     items: Found,
 ) -> Result<Values<'a>, Error>
-    ensures { (ts : List Tree) → AllRelated (Marks bytes.now) (found_spots items) ts
+    ensures meant { (ts : List Tree) → AllRelated (Marks bytes.now) (found_spots items) ts
         → Gives (λ values vs. values_view values ≡ vs) WantsMemory result (Ok (flat_map values_of_item ts)) }
+    ensures errors { IfErr result IsReadingError }
 {
     match items {
         Found::One(item) => item_values(alloc, bytes, item),
@@ -33,8 +35,9 @@ pub(crate) fn found_values<'a>(
 
 /// The values of many items.
 fn many_values<'a>(alloc: Global, bytes: &'a [u8], items: &[Spot]) -> Result<Values<'a>, Error>
-    ensures { (ts : List Tree) → AllRelated (Marks bytes.now) items.now ts
+    ensures meant { (ts : List Tree) → AllRelated (Marks bytes.now) items.now ts
         → Gives (λ values vs. values_view values ≡ vs) WantsMemory result (Ok (flat_map values_of_item ts)) }
+    ensures errors { IfErr result IsReadingError }
 {
     let mut values = Vec::new(alloc);
     for item in items {
@@ -45,8 +48,9 @@ fn many_values<'a>(alloc: Global, bytes: &'a [u8], items: &[Spot]) -> Result<Val
 
 /// The values of one item. One value alone needs no memory.
 fn item_values<'a>(alloc: Global, bytes: &'a [u8], item: Spot) -> Result<Values<'a>, Error>
-    ensures { (t : Tree) → Marks bytes.now item t
+    ensures meant { (t : Tree) → Marks bytes.now item t
         → Gives (λ values vs. values_view values ≡ vs) WantsMemory result (Ok (values_of_item t)) }
+    ensures errors { IfErr result IsReadingError }
 {
     let found = spot_item(bytes, item)?;
     match array_elements(bytes, item, &found)? {
@@ -64,8 +68,9 @@ fn item_values<'a>(alloc: Global, bytes: &'a [u8], item: Spot) -> Result<Values<
 
 /// The values of an item, behind those that there are: an array gives those of its elements.
 fn push_values<'a>(bytes: &'a [u8], item: Spot, values: &mut Vec<Operand<'a>>) -> Result<(), Error>
-    ensures { (t : Tree) → Marks bytes.now item t
+    ensures meant { (t : Tree) → Marks bytes.now item t
         → Gives (λ _ vs. map operand_value values.new.items ≡ map operand_value values.old.items ++ vs) WantsMemory result (Ok (values_of_item t)) }
+    ensures errors { IfErr result IsReadingError }
 {
     let found = spot_item(bytes, item)?;
     match array_elements(bytes, item, &found)? {
@@ -80,8 +85,9 @@ fn push_each<'a>(
     elements: SpotIter<'_>,
     values: &mut Vec<Operand<'a>>,
 ) -> Result<(), Error>
-    ensures { (ts : List Tree) → HasSpotsLeft bytes.now elements.entry ts
+    ensures meant { (ts : List Tree) → HasSpotsLeft bytes.now elements.entry ts
         → Gives (λ _ vs. map operand_value values.new.items ≡ map operand_value values.old.items ++ vs) WantsMemory result (Ok (flat_map value_of_item ts)) }
+    ensures errors { IfErr result IsReadingError }
 {
     for element in elements {
         push_value(bytes, element?, values)?;
@@ -91,16 +97,18 @@ fn push_each<'a>(
 
 /// The value of an item that is no array, and of an element.
 fn push_value<'a>(bytes: &'a [u8], item: Spot, values: &mut Vec<Operand<'a>>) -> Result<(), Error>
-    ensures { (t : Tree) → Marks bytes.now item t
+    ensures meant { (t : Tree) → Marks bytes.now item t
         → Gives (λ _ vs. map operand_value values.new.items ≡ map operand_value values.old.items ++ vs) WantsMemory result (Ok (value_of_item t)) }
+    ensures errors { IfErr result IsReadingError }
 {
     push_item(spot_item(bytes, item)?, values)
 }
 
 /// The same for an item that was read.
 fn push_item<'a>(item: Item<'a>, values: &mut Vec<Operand<'a>>) -> Result<(), Error>
-    ensures { (t : Tree) → Stands any item.entry t
+    ensures meant { (t : Tree) → Stands any item.entry t
         → Gives (λ _ vs. map operand_value values.new.items ≡ map operand_value values.old.items ++ vs) WantsMemory result (Ok (value_of_item t)) }
+    ensures errors { IfErr result IsReadingError }
 {
     match item_operand(item) {
         Some(value) => push_operand(values, value),

@@ -1,6 +1,6 @@
 //! A path as a whole: its top steps, or one expression.
 
-ghost use Rattle.std.specs.Prelude.{◌≡◌, ◌++◌, ◌∷◌, [], List, Ok, Err, None, Some, MatchOption, map};
+ghost use Rattle.std.specs.Prelude.{◌≡◌, ◌++◌, ◌∷◌, [], List, Ok, Err, None, Some, MatchOption, map, IfErr};
 ghost use Rattle.jsonb_doc.specs.Answer.{Gives, Outcome, WantsMemory, joined, with_value};
 ghost use Rattle.jsonb_doc.specs.Arithmetic.{Operation};
 ghost use Rattle.jsonb_doc.specs.Payload.{Form};
@@ -13,6 +13,8 @@ ghost use Rattle.jsonb.specs.Meaning.{step_meaning, steps_meaning, operand_value
 ghost use Rattle.jsonb.specs.Selection.{IsAt, HasTree, found_spots, IsPart, IsNumberTree, Selects, step_expression, lone_expression, begins_with_current};
 ghost use Rattle.jsonb.specs.declared.selector.document.Mode.{Mode};
 ghost use Rattle.jsonb.specs.declared.selector.part.Part.TheVariants as part;
+ghost use Rattle.jsonb_raw.specs.Documents.{IsReadingError};
+ghost use Rattle.jsonb.specs.SelectionErrors.{IsSelectionError};
 
 use super::calculate::{binary_number, is_arithmetic, unary_numbers};
 use super::children::push_if;
@@ -31,8 +33,9 @@ pub(crate) fn selection<'a>(
     steps: &'a [Path<'_>],
     document: Document<'a>,
 ) -> Result<Selected<'a>, Error>
-    ensures { (form : Form) (top : Tree) (outcome : Outcome (List Tree)) → HasTree document.entry top → Means form mode (steps_view steps.now) top outcome
+    ensures meant { (form : Form) (top : Tree) (outcome : Outcome (List Tree)) → HasTree document.entry top → Means form mode (steps_view steps.now) top outcome
         → Gives (Selects form document.entry) WantsMemory result outcome }
+    ensures errors { IfErr result (IsSelectionError mode) }
 {
     if let Some(e) = lone_expression(steps) {
         let parts = expression_parts(alloc, mode, e, document)?;
@@ -83,8 +86,9 @@ fn top_steps<'a>(
     steps: &'a [Path<'_>],
     document: Document<'a>,
 ) -> Result<Found, Error>
-    ensures { (top : Tree) → HasTree document.entry top
+    ensures meant { (top : Tree) → HasTree document.entry top
         → Gives (λ found us. AllRelated (IsAt document.entry) (found_spots found) us) WantsMemory result (steps_meaning mode (steps_of (map as_filter (steps_view steps.now))) top (top ∷ [])) }
+    ensures errors { IfErr result (IsSelectionError mode) }
 {
     let mut items = Found::One(document.root);
     for step in steps {
@@ -101,8 +105,9 @@ fn top_step<'a>(
     document: Document<'a>,
     items: Found,
 ) -> Result<Found, Error>
-    ensures { (top : Tree) (ts : List Tree) → HasTree document.entry top → AllRelated (IsAt document.entry) (found_spots items) ts
+    ensures meant { (top : Tree) (ts : List Tree) → HasTree document.entry top → AllRelated (IsAt document.entry) (found_spots items) ts
         → Gives (λ found us. AllRelated (IsAt document.entry) (found_spots found) us) WantsMemory result (joined (step_meaning mode (as_filter (step_view step.now)) top) ts) }
+    ensures errors { IfErr result (IsSelectionError mode) }
 {
     match step {
         Path::Expr(e) => kept_items(alloc, mode, e, document, items.as_slice()),
@@ -118,8 +123,9 @@ fn kept_items<'a>(
     document: Document<'a>,
     items: &[Spot],
 ) -> Result<Found, Error>
-    ensures { (top : Tree) (ts : List Tree) → HasTree document.entry top → AllRelated (IsAt document.entry) items.now ts
+    ensures meant { (top : Tree) (ts : List Tree) → HasTree document.entry top → AllRelated (IsAt document.entry) items.now ts
         → Gives (λ found us. AllRelated (IsAt document.entry) (found_spots found) us) WantsMemory result (joined (step_meaning mode (filter (expression_view e.now)) top) ts) }
+    ensures errors { IfErr result (IsSelectionError mode) }
 {
     let mut queue = Vec::new(alloc);
     for item in items {
@@ -137,8 +143,9 @@ fn push_kept<'a>(
     item: Spot,
     queue: &mut Vec<Spot>,
 ) -> Result<(), Error>
-    ensures { (top t : Tree) (before : List Tree) → HasTree document.entry top → IsAt document.entry item t → AllRelated (IsAt document.entry) queue.old.items before
+    ensures meant { (top t : Tree) (before : List Tree) → HasTree document.entry top → IsAt document.entry item t → AllRelated (IsAt document.entry) queue.old.items before
         → Gives (λ _ ts. AllRelated (IsAt document.entry) queue.new.items (before ++ ts)) WantsMemory result (step_meaning mode (filter (expression_view e.now)) top t) }
+    ensures errors { IfErr result (IsSelectionError mode) }
 {
     let keeps = is_kept(alloc, mode, e, document, item)?;
     push_if(keeps, item, queue)
@@ -151,8 +158,9 @@ fn expression_parts<'a>(
     e: &'a Expr<'_>,
     document: Document<'a>,
 ) -> Result<Vec<Part<'a>>, Error>
-    ensures { (form : Form) (top : Tree) (outcome : Outcome (List Tree)) → HasTree document.entry top → Means form mode (whole_expression (expression_view e.now) ∷ []) top outcome
+    ensures meant { (form : Form) (top : Tree) (outcome : Outcome (List Tree)) → HasTree document.entry top → Means form mode (whole_expression (expression_view e.now) ∷ []) top outcome
         → Gives (λ v ts. AllRelated (IsPart form) v.items ts) WantsMemory result outcome }
+    ensures errors { IfErr result (IsSelectionError mode) }
 {
     match e {
         Expr::Paths(_) => Err(Error::InvalidJsonPath),
@@ -172,8 +180,9 @@ fn expression_parts<'a>(
 
 // A literal as the whole path: an array of it, and of a document the document.
 fn literal_parts<'a>(alloc: Global, literal: &'a PathValue<'_>) -> Result<Vec<Part<'a>>, Error>
-    ensures { (form : Form) (mode : Mode) (top : Tree) (outcome : Outcome (List Tree)) → Means form mode (whole_expression (value (literal_view literal.now)) ∷ []) top outcome
+    ensures meant { (form : Form) (mode : Mode) (top : Tree) (outcome : Outcome (List Tree)) → Means form mode (whole_expression (value (literal_view literal.now)) ∷ []) top outcome
         → Gives (λ v ts. AllRelated (IsPart form) v.items ts) WantsMemory result outcome }
+    ensures errors { (mode : Mode) → IfErr result (IsSelectionError mode) }
 {
     match literal {
         PathValue::Null => lone_part(alloc, Part::ArrayOf(Item::Null)),
@@ -195,8 +204,9 @@ fn whole_unary<'a>(
     operand: &'a Expr<'_>,
     document: Document<'a>,
 ) -> Result<Vec<Part<'a>>, Error>
-    ensures { (form : Form) (top : Tree) → HasTree document.entry top
+    ensures meant { (form : Form) (top : Tree) → HasTree document.entry top
         → Gives (λ v ts. AllRelated (IsPart form) v.items ts) WantsMemory result (with_value (operand_values mode (expression_view operand.now) top top) (each_signed (sign_view op))) }
+    ensures errors { IfErr result (IsSelectionError mode) }
 {
     let values = operand_values(alloc, mode, operand, document, document.root)?;
     unary_numbers(alloc, op, values.as_slice())
@@ -211,8 +221,9 @@ fn whole_binary<'a>(
     right: &'a Expr<'_>,
     document: Document<'a>,
 ) -> Result<Number, Error>
-    ensures { (top : Tree) (o : Operation) → HasTree document.entry top → operation (operator_view op) ≡ Some o
+    ensures meant { (top : Tree) (o : Operation) → HasTree document.entry top → operation (operator_view op) ≡ Some o
         → Gives IsNumberTree WantsMemory result (calculation o (operand_values mode (expression_view left.now) top top) (operand_values mode (expression_view right.now) top top)) }
+    ensures errors { IfErr result (IsSelectionError mode) }
 {
     let lefts = operand_values(alloc, mode, left, document, document.root)?;
     let rights = operand_values(alloc, mode, right, document, document.root)?;
@@ -226,8 +237,9 @@ fn whole_truth<'a>(
     e: &'a Expr<'_>,
     document: Document<'a>,
 ) -> Result<Vec<Part<'a>>, Error>
-    ensures { (form : Form) (top : Tree) → HasTree document.entry top
+    ensures meant { (form : Form) (top : Tree) → HasTree document.entry top
         → Gives (λ v ts. AllRelated (IsPart form) v.items ts) WantsMemory result (truth_list (truth mode (expression_view e.now) top top)) }
+    ensures errors { IfErr result (IsSelectionError mode) }
 {
     let truth = truth(alloc, mode, e, document, document.root)?;
     lone_part(alloc, Part::Item(truth_item(truth)))
@@ -244,7 +256,8 @@ fn truth_item<'a>(truth: Option<bool>) -> Item<'a>
 }
 
 fn lone_part<'a>(alloc: Global, part: Part<'a>) -> Result<Vec<Part<'a>>, Error>
-    ensures { (form : Form) (t : Tree) → IsPart form part.entry t → Gives (λ v ts. AllRelated (IsPart form) v.items ts) WantsMemory result (Ok (t ∷ [])) }
+    ensures meant { (form : Form) (t : Tree) → IsPart form part.entry t → Gives (λ v ts. AllRelated (IsPart form) v.items ts) WantsMemory result (Ok (t ∷ [])) }
+    ensures errors { IfErr result IsReadingError }
 {
     let mut parts = Vec::new(alloc);
     parts.push(part)?;
@@ -258,7 +271,8 @@ pub(crate) fn expression_truth<'a>(
     e: &'a Expr<'_>,
     document: Document<'a>,
 ) -> Result<Option<bool>, Error>
-    ensures { (top : Tree) → HasTree document.entry top → Gives (λ b c. b ≡ c) WantsMemory result (expression_predicate mode (expression_view e.now) top) }
+    ensures meant { (top : Tree) → HasTree document.entry top → Gives (λ b c. b ≡ c) WantsMemory result (expression_predicate mode (expression_view e.now) top) }
+    ensures errors { IfErr result (IsSelectionError mode) }
 {
     match e {
         Expr::Paths(_) => Err(Error::InvalidJsonPath),

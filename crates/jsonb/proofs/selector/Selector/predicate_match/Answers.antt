@@ -10,7 +10,7 @@ use Rattle.jsonb.proofs.selector.Selector.predicate_match.Goals as goal
 
 pub returns-in_ok-document-in-Some-clause-truth : goal.returns-in_ok-document-in-Some-clause-truth
 returns-in_ok-document-in-Some-clause-truth c = λ form top d.
-    let k = c.in_ok-document-in-Some.ensures form top (subst (λ b. Decodes form b top) (sym c.as_bytes-bytes.ensures) d) in
+    let k = c.in_ok-document-in-Some.ensures.meant form top (subst (λ b. Decodes form b top) (sym c.as_bytes-bytes.ensures) d) in
     same_outcome (ap (λ p. predicate (mode_of c.args.self.now) p top)
     (lone_is (path_view c.args.path.now) (expression_view c.in-Some.e.now) (ap (λ l. lone_expression (steps_view l)) (sym c.deref.ensures.value) ∙ c.in-Some.ensures)))
-    (c.expression_truth.ensures top k.1)
+    (c.expression_truth.ensures.meant top k.1)

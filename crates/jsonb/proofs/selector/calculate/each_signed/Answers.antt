@@ -16,22 +16,22 @@ loop-number-init c = λ form.
     (at_start (signed_number (sign_view c.args.op)) (AllRelated (Is number_view) c.args.numbers.now) (AllRelated (IsPart form) []) (map number_view c.args.numbers.now)
     (related_of_map number_view c.args.numbers.now (map number_view c.args.numbers.now) refl) tt)
 
-pub returns-in_err-signed : goal.returns-in_err-signed
-returns-in_err-signed c = λ form.
+pub returns-in_err-signed-clause-meant : goal.returns-in_err-signed-clause-meant
+returns-in_err-signed-clause-meant c = λ form.
     let p = err_from_is_err_and c.from_residual.result c.from_residual.ensures.1 in
     rw (p.1, p.2)
     (refused_in (signed_number (sign_view c.args.op)) (λ v ts. AllRelated (IsPart form) v.items ts) _ _ _ (AllRelated (IsPart form) c.loop-number.parts.items) _ _ _ (c.loop-number.invariant form)
     (list_first (Is number_view) c.args.numbers.now c.loop-number.number-index _ c.loop-number-test.true)
-    (λ n before is held. record { ok = tt; err = rw (← is) ((as_memory c.in_err-signed.ensures).err) }))
+    (λ n before is held. record { ok = tt; err = rw (← is) ((as_memory c.in_err-signed.ensures.meant).err) }))
 
 pub loop-number-preserved : goal.loop-number-preserved
 loop-number-preserved c = λ form.
     one_more (signed_number (sign_view c.args.op)) _ _ _ _ _ _ (c.loop-number.invariant form)
     (list_first (Is number_view) c.args.numbers.now c.loop-number.number-index _ c.loop-number-test.true)
-    (λ n before is held. rw (← is) (part_added form _ _ _ _ before c.in_ok-push.ensures.items (c.in_ok-signed.ensures.ok) held))
+    (λ n before is held. rw (← is) (part_added form _ _ _ _ before c.in_ok-push.ensures.items (c.in_ok-signed.ensures.meant.ok) held))
 
-pub returns : goal.returns
-returns c = λ form. record {
+pub returns-clause-meant : goal.returns-clause-meant
+returns-clause-meant c = λ form. record {
   ok = at_end (signed_number (sign_view c.args.op)) _ _ _ (c.loop-number.invariant form) (list_end (Is number_view) c.args.numbers.now c.loop-number.number-index c.loop-number-test.false);
   err = tt;
 }

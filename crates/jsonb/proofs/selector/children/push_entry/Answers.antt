@@ -7,8 +7,8 @@ use Rattle.jsonb.proofs.Outcomes.{pushed_all, same_outcome}
 use Rattle.jsonb.proofs.PickLemmas.{picked_between, AllRelated-length, AllRelated-between}
 use Rattle.jsonb.proofs.selector.children.push_entry.Goals as goal
 
-pub returns : goal.returns
-returns c = λ bytes ts before r a.
+pub returns-clause-meant : goal.returns-clause-meant
+returns-clause-meant c = λ bytes ts before r a.
     let start = c.bounds-start.result.0 in
     let end = c.bounds-start.result.1 in
     let len : length c.args.elements.now ≡ length ts = AllRelated-length (Marks bytes) c.args.elements.now ts r in

@@ -4,10 +4,10 @@ use Rattle.jsonb_doc.specs.Tree.{field_of}
 use Rattle.jsonb.proofs.Outcomes.{found_one, pushed}
 use Rattle.jsonb.proofs.selector.children.push_field.Goals as goal
 
-pub returns-in_err-value : goal.returns-in_err-value
-returns-in_err-value c = λ t before m a. absurd (c.in_err-value.ensures.field t m)
+pub returns-in_err-value-clause-meant : goal.returns-in_err-value-clause-meant
+returns-in_err-value-clause-meant c = λ t before m a. absurd (c.in_err-value.ensures.field t m)
 
-pub returns-in-Some : goal.returns-in-Some
-returns-in-Some c = λ t before m a.
+pub returns-in-Some-clause-meant : goal.returns-in-Some-clause-meant
+returns-in-Some-clause-meant c = λ t before m a.
     found_one c.args.mode [] (Marks c.args.bytes.now) (λ u. u ∷ []) c.in-Some.value (field_of c.args.name.now t) (rw c.in-Some.is at (c.in_ok-value.ensures.field t m))
     (λ u h. pushed (Marks c.args.bytes.now) c.push_spot.result c.args.queue.now.items c.push_spot.new.queue.items c.in-Some.value before u c.push_spot.ensures.ok c.push_spot.ensures.err a h)

@@ -14,13 +14,13 @@ loop-element-init c = record {
   left = λ bytes ts h. (ts, subst (λ it. HasSpotsLeft bytes it ts) (sym c.into_iter-element-iterator.ensures.into_iter_gives) h, refl);
 }
 
-pub returns-in_err-element : goal.returns-in_err-element
-returns-in_err-element c = λ bytes ts before h a.
+pub returns-in_err-element-clause-meant : goal.returns-in_err-element-clause-meant
+returns-in_err-element-clause-meant c = λ bytes ts before h a.
     let inv = c.loop-element.invariant.left bytes ts h in
     absurd (no_refusal bytes inv.0 c.in-Some.element _ c.next.new.self c.in_err-element.was (c.in-Some.ensures.steps.takes bytes inv.0 inv.1))
 
-pub returns-then-before-eq0 : goal.returns-then-before-eq0
-returns-then-before-eq0 c = λ bytes ts before h a.
+pub returns-then-before-eq0-clause-meant : goal.returns-then-before-eq0-clause-meant
+returns-then-before-eq0-clause-meant c = λ bytes ts before h a.
     let inv = c.loop-element.invariant.left bytes ts h in
     let k = spot_first bytes c.loop-element.element-iterator c.next.new.self c.in-Some.element _ c.in_ok-element.was c.in-Some.ensures.steps inv.0 inv.1 in
     same_outcome (ap (λ o. Ok (cons_option o [])) (sym inv.2 ∙ get_first inv.0 k.first k.others c.loop-element.before k.whole c.if-before-eq0.true))
@@ -36,8 +36,8 @@ loop-element-preserved c = record {
       (k.others, k.left, get_further inv.0 k.first k.others c.loop-element.before k.whole c.if-before-eq0.false ∙ inv.2);
 }
 
-pub returns : goal.returns
-returns c = λ bytes ts before h a.
+pub returns-clause-meant : goal.returns-clause-meant
+returns-clause-meant c = λ bytes ts before h a.
     let inv = c.loop-element.invariant.left bytes ts h in
     let none = spot_end bytes c.loop-element.element-iterator c.next.new.self c.in-None.ensures.steps inv.0 inv.1 in
     same_outcome (ap (λ o. Ok (cons_option o [])) (sym inv.2 ∙ get_none inv.0 c.loop-element.before none)) (unchanged (Marks bytes) c.loop-element.queue.items before (subst (λ l. AllRelated (Marks bytes) l before) (sym c.loop-element.invariant.same) a))

@@ -7,17 +7,17 @@ use Rattle.jsonb.proofs.Outcomes.{only_memory, same_answer, same_outcome}
 use Rattle.jsonb.proofs.PickLemmas.{picked_plain}
 use Rattle.jsonb.proofs.selector.children.push_picked.Goals as goal
 
-pub returns-in-Some : goal.returns-in-Some
-returns-in-Some c = λ bytes ts before h a.
-    same_outcome (ap Ok (ap (λ l. picked l ts) c.in-Some.ensures ∙ picked_plain c.in-Some.position ts)) (c.push_nth.ensures bytes ts before h a)
+pub returns-in-Some-clause-meant : goal.returns-in-Some-clause-meant
+returns-in-Some-clause-meant c = λ bytes ts before h a.
+    same_outcome (ap Ok (ap (λ l. picked l ts) c.in-Some.ensures ∙ picked_plain c.in-Some.position ts)) (c.push_nth.ensures.meant bytes ts before h a)
 
-pub returns-in_err-push_spots : goal.returns-in_err-push_spots
-returns-in_err-push_spots c = λ bytes ts before h a.
+pub returns-in_err-push_spots-clause-meant : goal.returns-in_err-push_spots-clause-meant
+returns-in_err-push_spots-clause-meant c = λ bytes ts before h a.
     let p = err_from_is_err_and c.from_residual.result c.from_residual.ensures.1 in
-    same_answer (p.1 ∙ ap Err p.2) (only_memory (c.in_err-push_spots.ensures bytes ts [] h (subst (λ l. AllRelated (Marks bytes) l []) (sym c.new-spots.ensures.items) tt)))
+    same_answer (p.1 ∙ ap Err p.2) (only_memory (c.in_err-push_spots.ensures.meant bytes ts [] h (subst (λ l. AllRelated (Marks bytes) l []) (sym c.new-spots.ensures.items) tt)))
 
-pub returns : goal.returns
-returns c = λ bytes ts before h a.
-    c.push_entries.ensures bytes ts before
+pub returns-clause-meant : goal.returns-clause-meant
+returns-clause-meant c = λ bytes ts before h a.
+    c.push_entries.ensures.meant bytes ts before
     (subst (λ l. AllRelated (Marks bytes) l ts) (sym c.deref.ensures.value)
-    (c.in_ok-push_spots.ensures bytes ts [] h (subst (λ l. AllRelated (Marks bytes) l []) (sym c.new-spots.ensures.items) tt)).ok) a
+    (c.in_ok-push_spots.ensures.meant bytes ts [] h (subst (λ l. AllRelated (Marks bytes) l []) (sym c.new-spots.ensures.items) tt)).ok) a

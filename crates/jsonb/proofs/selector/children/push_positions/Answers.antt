@@ -5,10 +5,10 @@ use Rattle.jsonb.specs.ItemSteps.{elements_of, picked}
 use Rattle.jsonb.proofs.Outcomes.{listed}
 use Rattle.jsonb.proofs.selector.children.push_positions.Goals as goal
 
-pub returns-in_err-elements : goal.returns-in_err-elements
-returns-in_err-elements c = λ t before m a. absurd (c.in_err-elements.ensures t m)
+pub returns-in_err-elements-clause-meant : goal.returns-in_err-elements-clause-meant
+returns-in_err-elements-clause-meant c = λ t before m a. absurd (c.in_err-elements.ensures.meant t m)
 
-pub returns-in-Some : goal.returns-in-Some
-returns-in-Some c = λ t before m a.
-    listed c.args.mode [] (HasSpotsLeft c.args.bytes.now) (picked (map entry_view c.args.entries.now)) c.in-Some.elements (elements_of t) (rw c.in-Some.is at (c.in_ok-elements.ensures t m))
-    (λ us h. c.push_picked.ensures c.args.bytes.now us before h a)
+pub returns-in-Some-clause-meant : goal.returns-in-Some-clause-meant
+returns-in-Some-clause-meant c = λ t before m a.
+    listed c.args.mode [] (HasSpotsLeft c.args.bytes.now) (picked (map entry_view c.args.entries.now)) c.in-Some.elements (elements_of t) (rw c.in-Some.is at (c.in_ok-elements.ensures.meant t m))
+    (λ us h. c.push_picked.ensures.meant c.args.bytes.now us before h a)

@@ -20,117 +20,117 @@ use Rattle.jsonb.proofs.selector.steps.+steps.Goals as goal
 
 -- ---- one step
 
-pub push_step-returns-in-DotWildcard : goal.push_step-returns-in-DotWildcard
-push_step-returns-in-DotWildcard t c = λ top u before r s a.
-    same_outcome (ap (λ x. step_meaning c.args.mode x top u) (values_is c.args.step.now c.in-DotWildcard.is)) (c.push_values.ensures u before s a)
+pub push_step-returns-in-DotWildcard-clause-meant : goal.push_step-returns-in-DotWildcard-clause-meant
+push_step-returns-in-DotWildcard-clause-meant t c = λ top u before r s a.
+    same_outcome (ap (λ x. step_meaning c.args.mode x top u) (values_is c.args.step.now c.in-DotWildcard.is)) (c.push_values.ensures.meant u before s a)
 
-pub push_step-returns-in-BracketWildcard : goal.push_step-returns-in-BracketWildcard
-push_step-returns-in-BracketWildcard t c = λ top u before r s a.
-    same_outcome (ap (λ x. step_meaning c.args.mode x top u) (elements_is c.args.step.now c.in-BracketWildcard.is)) (c.push_elements.ensures u before s a)
+pub push_step-returns-in-BracketWildcard-clause-meant : goal.push_step-returns-in-BracketWildcard-clause-meant
+push_step-returns-in-BracketWildcard-clause-meant t c = λ top u before r s a.
+    same_outcome (ap (λ x. step_meaning c.args.mode x top u) (elements_is c.args.step.now c.in-BracketWildcard.is)) (c.push_elements.ensures.meant u before s a)
 
-pub push_step-returns-in-ArrayIndices : goal.push_step-returns-in-ArrayIndices
-push_step-returns-in-ArrayIndices t c = λ top u before r s a.
+pub push_step-returns-in-ArrayIndices-clause-meant : goal.push_step-returns-in-ArrayIndices-clause-meant
+push_step-returns-in-ArrayIndices-clause-meant t c = λ top u before r s a.
     same_outcome (ap (λ x. step_meaning c.args.mode x top u) (indices_is c.args.step.now c.in-ArrayIndices.entries c.in-ArrayIndices.is) ∙ ap (λ l. indices_step c.args.mode (map entry_view l) u) (sym c.deref.ensures.value))
-    (c.push_positions.ensures u before s a)
+    (c.push_positions.ensures.meant u before s a)
 
-pub push_step-returns-in-RecursiveDotWildcard : goal.push_step-returns-in-RecursiveDotWildcard
-push_step-returns-in-RecursiveDotWildcard t c = λ top u before r s a.
-    same_outcome (ap (λ x. step_meaning c.args.mode x top u) (levels_is c.args.step.now c.in-RecursiveDotWildcard.levels c.in-RecursiveDotWildcard.is)) (c.push_levels.ensures u 0 before refl s a)
+pub push_step-returns-in-RecursiveDotWildcard-clause-meant : goal.push_step-returns-in-RecursiveDotWildcard-clause-meant
+push_step-returns-in-RecursiveDotWildcard-clause-meant t c = λ top u before r s a.
+    same_outcome (ap (λ x. step_meaning c.args.mode x top u) (levels_is c.args.step.now c.in-RecursiveDotWildcard.levels c.in-RecursiveDotWildcard.is)) (c.push_levels.ensures.meant u 0 before refl s a)
 
-pub push_step-returns-in-Root : goal.push_step-returns-in-Root
-push_step-returns-in-Root t c = λ top u before r s a.
+pub push_step-returns-in-Root-clause-meant : goal.push_step-returns-in-Root-clause-meant
+push_step-returns-in-Root-clause-meant t c = λ top u before r s a.
     let one = pushed (IsAt c.args.document) c.push_spot.result c.args.queue.now.items c.push_spot.new.queue.items c.args.item before u c.push_spot.ensures.ok c.push_spot.ensures.err a s in
     elim c.in-Root.is [
       | inl is ↦ same_outcome (ap (λ x. step_meaning c.args.mode x top u) (root_is c.args.step.now is)) one
       | inr is ↦ same_outcome (ap (λ x. step_meaning c.args.mode x top u) (current_is c.args.step.now is)) one
     ]
 
-pub push_step-returns-in-DotField : goal.push_step-returns-in-DotField
-push_step-returns-in-DotField t c = λ top u before r s a.
+pub push_step-returns-in-DotField-clause-meant : goal.push_step-returns-in-DotField-clause-meant
+push_step-returns-in-DotField-clause-meant t c = λ top u before r s a.
     same_outcome (ap (λ x. step_meaning c.args.mode x top u) (dot_field_is c.args.step.now c.in-DotField.name c.in-DotField.is) ∙ ap (λ n. field_step c.args.mode n u) (sym c.as_str.ensures.value))
-    (c.push_field.ensures u before s a)
+    (c.push_field.ensures.meant u before s a)
 
-pub push_step-returns-in-ColonField : goal.push_step-returns-in-ColonField
-push_step-returns-in-ColonField t c = λ top u before r s a.
+pub push_step-returns-in-ColonField-clause-meant : goal.push_step-returns-in-ColonField-clause-meant
+push_step-returns-in-ColonField-clause-meant t c = λ top u before r s a.
     same_outcome (ap (λ x. step_meaning c.args.mode x top u) (colon_field_is c.args.step.now c.in-ColonField.name c.in-ColonField.is) ∙ ap (λ n. field_step c.args.mode n u) (sym c.as_str-in-ColonField.ensures.value))
-    (c.push_field-in-ColonField.ensures u before s a)
+    (c.push_field-in-ColonField.ensures.meant u before s a)
 
-pub push_step-returns-in-ObjectField : goal.push_step-returns-in-ObjectField
-push_step-returns-in-ObjectField t c = λ top u before r s a.
+pub push_step-returns-in-ObjectField-clause-meant : goal.push_step-returns-in-ObjectField-clause-meant
+push_step-returns-in-ObjectField-clause-meant t c = λ top u before r s a.
     same_outcome (ap (λ x. step_meaning c.args.mode x top u) (object_field_is c.args.step.now c.in-ObjectField.name c.in-ObjectField.is) ∙ ap (λ n. field_step c.args.mode n u) (sym c.as_str-in-ObjectField.ensures.value))
-    (c.push_field-in-ObjectField.ensures u before s a)
+    (c.push_field-in-ObjectField.ensures.meant u before s a)
 
-pub push_step-returns-in_ok-keeps-in-FilterExpr : goal.push_step-returns-in_ok-keeps-in-FilterExpr
-push_step-returns-in_ok-keeps-in-FilterExpr t c = λ top u before r s a.
+pub push_step-returns-in_ok-keeps-in-FilterExpr-clause-meant : goal.push_step-returns-in_ok-keeps-in-FilterExpr-clause-meant
+push_step-returns-in_ok-keeps-in-FilterExpr-clause-meant t c = λ top u before r s a.
     same_outcome (ap (λ x. step_meaning c.args.mode x top u) (filter_is c.args.step.now c.in-FilterExpr.e c.in-FilterExpr.is)
     ∙ ap (λ x. step_meaning c.args.mode (math.filter (expression_view x)) top u) (sym c.deref-in-FilterExpr.ensures))
-    (given_by (c.in_ok-keeps-in-FilterExpr.ensures top u r s) (λ ts k. same_outcome (ap Ok k) (c.push_if.ensures c.args.document.bytes.now u before s a)))
+    (given_by (c.in_ok-keeps-in-FilterExpr.ensures.meant top u r s) (λ ts k. same_outcome (ap Ok k) (c.push_if.ensures.meant c.args.document.bytes.now u before s a)))
 
 -- ---- one step of one item
 
-pub step_item-returns-in-DotField : goal.step_item-returns-in-DotField
-step_item-returns-in-DotField t c = λ top u r s.
-    same_outcome (ap (λ x. step_meaning c.args.mode x top u) (dot_field_is c.args.step.now c.in-DotField.name c.in-DotField.is) ∙ ap (λ n. field_step c.args.mode n u) (sym c.as_str.ensures.value)) (c.field.ensures u s)
+pub step_item-returns-in-DotField-clause-meant : goal.step_item-returns-in-DotField-clause-meant
+step_item-returns-in-DotField-clause-meant t c = λ top u r s.
+    same_outcome (ap (λ x. step_meaning c.args.mode x top u) (dot_field_is c.args.step.now c.in-DotField.name c.in-DotField.is) ∙ ap (λ n. field_step c.args.mode n u) (sym c.as_str.ensures.value)) (c.field.ensures.meant u s)
 
-pub step_item-returns-in-ColonField : goal.step_item-returns-in-ColonField
-step_item-returns-in-ColonField t c = λ top u r s.
+pub step_item-returns-in-ColonField-clause-meant : goal.step_item-returns-in-ColonField-clause-meant
+step_item-returns-in-ColonField-clause-meant t c = λ top u r s.
     same_outcome (ap (λ x. step_meaning c.args.mode x top u) (colon_field_is c.args.step.now c.in-ColonField.name c.in-ColonField.is) ∙ ap (λ n. field_step c.args.mode n u) (sym c.as_str-in-ColonField.ensures.value))
-    (c.field-in-ColonField.ensures u s)
+    (c.field-in-ColonField.ensures.meant u s)
 
-pub step_item-returns-in-ObjectField : goal.step_item-returns-in-ObjectField
-step_item-returns-in-ObjectField t c = λ top u r s.
+pub step_item-returns-in-ObjectField-clause-meant : goal.step_item-returns-in-ObjectField-clause-meant
+step_item-returns-in-ObjectField-clause-meant t c = λ top u r s.
     same_outcome (ap (λ x. step_meaning c.args.mode x top u) (object_field_is c.args.step.now c.in-ObjectField.name c.in-ObjectField.is) ∙ ap (λ n. field_step c.args.mode n u) (sym c.as_str-in-ObjectField.ensures.value))
-    (c.field-in-ObjectField.ensures u s)
+    (c.field-in-ObjectField.ensures.meant u s)
 
-pub step_item-returns-in_ok-keeps-in-FilterExpr : goal.step_item-returns-in_ok-keeps-in-FilterExpr
-step_item-returns-in_ok-keeps-in-FilterExpr t c = λ top u r s.
+pub step_item-returns-in_ok-keeps-in-FilterExpr-clause-meant : goal.step_item-returns-in_ok-keeps-in-FilterExpr-clause-meant
+step_item-returns-in_ok-keeps-in-FilterExpr-clause-meant t c = λ top u r s.
     same_outcome (ap (λ x. step_meaning c.args.mode x top u) (filter_is c.args.step.now c.in-FilterExpr.e c.in-FilterExpr.is)
     ∙ ap (λ x. step_meaning c.args.mode (math.filter (expression_view x)) top u) (sym c.deref.ensures))
-    (given_by (c.in_ok-keeps-in-FilterExpr.ensures top u r s) (λ ts k. record {
+    (given_by (c.in_ok-keeps-in-FilterExpr.ensures.meant top u r s) (λ ts k. record {
       ok = subst (λ l. AllRelated (IsAt c.args.document) l ts) (sym c.at_most_one.ensures)
           (kept_found (IsAt c.args.document) c.in_ok-keeps-in-FilterExpr.keeps c.then_some.result c.args.item u ts c.then_some.ensures k s);
       err = tt;
     }))
 
-pub step_item-returns-in_err-push_step-in_default : goal.step_item-returns-in_err-push_step-in_default
-step_item-returns-in_err-push_step-in_default t c = λ top u r s.
+pub step_item-returns-in_err-push_step-in_default-clause-meant : goal.step_item-returns-in_err-push_step-in_default-clause-meant
+step_item-returns-in_err-push_step-in_default-clause-meant t c = λ top u r s.
     let p = err_from_is_err_and c.from_residual-in_err-push_step-in_default.result c.from_residual-in_err-push_step-in_default.ensures.1 in
-    same_answer (p.1 ∙ ap Err p.2) (refused_as (c.in_err-push_step-in_default.ensures top u [] r s (subst (λ l. AllRelated (IsAt c.args.document) l []) (sym c.new-queue.ensures.items) tt)))
+    same_answer (p.1 ∙ ap Err p.2) (refused_as (c.in_err-push_step-in_default.ensures.meant top u [] r s (subst (λ l. AllRelated (IsAt c.args.document) l []) (sym c.new-queue.ensures.items) tt)))
 
-pub step_item-returns-in_ok-push_step-in_default : goal.step_item-returns-in_ok-push_step-in_default
-step_item-returns-in_ok-push_step-in_default t c = λ top u r s. record {
-  ok = (c.in_ok-push_step-in_default.ensures top u [] r s (subst (λ l. AllRelated (IsAt c.args.document) l []) (sym c.new-queue.ensures.items) tt)).ok;
+pub step_item-returns-in_ok-push_step-in_default-clause-meant : goal.step_item-returns-in_ok-push_step-in_default-clause-meant
+step_item-returns-in_ok-push_step-in_default-clause-meant t c = λ top u r s. record {
+  ok = (c.in_ok-push_step-in_default.ensures.meant top u [] r s (subst (λ l. AllRelated (IsAt c.args.document) l []) (sym c.new-queue.ensures.items) tt)).ok;
   err = tt;
 }
 
 -- ---- one step of a list
 
-pub step_list-returns-in-Root : goal.step_list-returns-in-Root
-step_list-returns-in-Root t c = λ top ts r a.
+pub step_list-returns-in-Root-clause-meant : goal.step_list-returns-in-Root-clause-meant
+step_list-returns-in-Root-clause-meant t c = λ top ts r a.
     let kept : Gives (λ found us. AllRelated (IsAt c.args.document) (found_spots found) us) WantsMemory (Ok c.args.items) (Ok ts) = record { ok = a; err = tt } in
     elim c.in-Root.is [
       | inl is ↦ same_outcome (ap (λ x. joined (step_meaning c.args.mode x top) ts) (root_is c.args.step.now is) ∙ joined_singles ts) kept
       | inr is ↦ same_outcome (ap (λ x. joined (step_meaning c.args.mode x top) ts) (current_is c.args.step.now is) ∙ joined_singles ts) kept
     ]
 
-pub step_list-returns-in-One : goal.step_list-returns-in-One
-step_list-returns-in-One t c = λ top ts r a.
+pub step_list-returns-in-One-clause-meant : goal.step_list-returns-in-One-clause-meant
+step_list-returns-in-One-clause-meant t c = λ top ts r a.
     let one = only_one (IsAt c.args.document) c.in-One.item ts (subst (λ f. AllRelated (IsAt c.args.document) (found_spots f) ts) c.in-One.is a) in
-    same_outcome (ap (joined (step_meaning c.args.mode (step_view c.args.step.now) top)) one.1 ∙ joined_one (step_meaning c.args.mode (step_view c.args.step.now) top) one.0) (c.step_item.ensures top one.0 r one.2)
+    same_outcome (ap (joined (step_meaning c.args.mode (step_view c.args.step.now) top)) one.1 ∙ joined_one (step_meaning c.args.mode (step_view c.args.step.now) top) one.0) (c.step_item.ensures.meant top one.0 r one.2)
 
-pub step_list-returns-in-Many : goal.step_list-returns-in-Many
-step_list-returns-in-Many t c = λ top ts r a.
-    c.step_many.ensures top ts r
+pub step_list-returns-in-Many-clause-meant : goal.step_list-returns-in-Many-clause-meant
+step_list-returns-in-Many-clause-meant t c = λ top ts r a.
+    c.step_many.ensures.meant top ts r
     (subst (λ l. AllRelated (IsAt c.args.document) l ts) (sym c.deref.ensures.value) (subst (λ f. AllRelated (IsAt c.args.document) (found_spots f) ts) c.in-Many.is a))
 
-pub step_many-returns-in_err-push_step : goal.step_many-returns-in_err-push_step
-step_many-returns-in_err-push_step t c = λ top ts r a.
+pub step_many-returns-in_err-push_step-clause-meant : goal.step_many-returns-in_err-push_step-clause-meant
+step_many-returns-in_err-push_step-clause-meant t c = λ top ts r a.
     let p = err_from_is_err_and c.from_residual.result c.from_residual.ensures.1 in
     same_answer (p.1 ∙ ap Err p.2) (refused_in (step_meaning c.args.mode (step_view c.args.step.now) top) _
     (AllRelated (IsAt c.args.document) (drop c.loop-item.item-index c.args.items.now)) (AllRelated (IsAt c.args.document) (drop (c.loop-item.item-index + 1) c.args.items.now))
     (AllRelated (IsAt c.args.document) c.loop-item.queue.items) (AllRelated (IsAt c.args.document) c.push_step.new.queue.items) _ _ _ (c.loop-item.invariant top ts r a)
     (list_first (IsAt c.args.document) c.args.items.now c.loop-item.item-index no_spot c.loop-item-test.true)
-    (λ u before s b. c.in_err-push_step.ensures top u before r s b))
+    (λ u before s b. c.in_err-push_step.ensures.meant top u before r s b))
 
 pub step_many-loop-item-preserved : goal.step_many-loop-item-preserved
 step_many-loop-item-preserved t c = λ top ts r a.
@@ -138,10 +138,10 @@ step_many-loop-item-preserved t c = λ top ts r a.
     (AllRelated (IsAt c.args.document) (drop c.loop-item.item-index c.args.items.now)) (AllRelated (IsAt c.args.document) (drop (c.loop-item.item-index + 1) c.args.items.now))
     (AllRelated (IsAt c.args.document) c.loop-item.queue.items) (AllRelated (IsAt c.args.document) c.push_step.new.queue.items) _ _ (c.loop-item.invariant top ts r a)
     (list_first (IsAt c.args.document) c.args.items.now c.loop-item.item-index no_spot c.loop-item-test.true)
-    (λ u before s b. (c.in_ok-push_step.ensures top u before r s b).ok)
+    (λ u before s b. (c.in_ok-push_step.ensures.meant top u before r s b).ok)
 
-pub step_many-returns : goal.step_many-returns
-step_many-returns t c = λ top ts r a. record {
+pub step_many-returns-clause-meant : goal.step_many-returns-clause-meant
+step_many-returns-clause-meant t c = λ top ts r a. record {
   ok = at_end (step_meaning c.args.mode (step_view c.args.step.now) top) (AllRelated (IsAt c.args.document) (drop c.loop-item.item-index c.args.items.now))
       (AllRelated (IsAt c.args.document) c.loop-item.queue.items) _ (c.loop-item.invariant top ts r a) (list_end (IsAt c.args.document) c.args.items.now c.loop-item.item-index c.loop-item-test.false);
   err = tt;
@@ -152,101 +152,101 @@ step_many-returns t c = λ top ts r a. record {
 pub select_steps-loop-step-init : goal.select_steps-loop-step-init
 select_steps-loop-step-init t c = λ top u r s. (u ∷ [], (s, tt), refl)
 
-pub select_steps-returns-in_err-items : goal.select_steps-returns-in_err-items
-select_steps-returns-in_err-items t c = λ top u r s.
+pub select_steps-returns-in_err-items-clause-meant : goal.select_steps-returns-in_err-items-clause-meant
+select_steps-returns-in_err-items-clause-meant t c = λ top u r s.
     let inv = c.loop-step.invariant top u r s in
     let p = err_from_is_err_and c.from_residual.result c.from_residual.ensures.1 in
     same_answer (p.1 ∙ ap Err p.2) (same_outcome (inv.2 ∙ steps_at c.args.mode c.args.steps.now c.loop-step.step-index c.step-item.result top inv.0 c.loop-step-test.true c.step-item.is)
-    (first_refused (steps_meaning c.args.mode (steps_of (steps_view (drop (c.loop-step.step-index + 1) c.args.steps.now))) top) (c.in_err-items.ensures top inv.0 r inv.1)))
+    (first_refused (steps_meaning c.args.mode (steps_of (steps_view (drop (c.loop-step.step-index + 1) c.args.steps.now))) top) (c.in_err-items.ensures.meant top inv.0 r inv.1)))
 
 pub select_steps-loop-step-preserved : goal.select_steps-loop-step-preserved
 select_steps-loop-step-preserved t c = λ top u r s.
     let inv = c.loop-step.invariant top u r s in
     let next = continued (λ us. AllRelated (IsAt c.args.document) (found_spots c.in_ok-items.items) us) (joined (step_meaning c.args.mode (step_view c.step-item.result) top) inv.0)
-    (steps_meaning c.args.mode (steps_of (steps_view (drop (c.loop-step.step-index + 1) c.args.steps.now))) top) ((c.in_ok-items.ensures top inv.0 r inv.1).ok) in
+    (steps_meaning c.args.mode (steps_of (steps_view (drop (c.loop-step.step-index + 1) c.args.steps.now))) top) ((c.in_ok-items.ensures.meant top inv.0 r inv.1).ok) in
     (next.0, next.1, inv.2 ∙ steps_at c.args.mode c.args.steps.now c.loop-step.step-index c.step-item.result top inv.0 c.loop-step-test.true c.step-item.is ∙ next.2)
 
-pub select_steps-returns : goal.select_steps-returns
-select_steps-returns t c = λ top u r s.
+pub select_steps-returns-clause-meant : goal.select_steps-returns-clause-meant
+select_steps-returns-clause-meant t c = λ top u r s.
     let inv = c.loop-step.invariant top u r s in
     let none = inv.2 ∙ ap (λ l. steps_meaning c.args.mode (steps_of (steps_view l)) top inv.0) (drop_of_length-le c.args.steps.now c.loop-step-test.false) in
     record { ok = subst (λ o. IsOkAnd o (AllRelated (IsAt c.args.document) (found_spots c.loop-step.items))) (sym none) inv.1; err = tt }
 
-pub path_items-returns : goal.path_items-returns
-path_items-returns t c = λ top u r s. c.select_steps.ensures top _ r (c.first_item-first.ensures top u r s)
+pub path_items-returns-clause-meant : goal.path_items-returns-clause-meant
+path_items-returns-clause-meant t c = λ top u r s. c.select_steps.ensures.meant top _ r (c.first_item-first.ensures top u r s)
 
 -- ---- filters
 
-pub is_kept-returns-in-Some : goal.is_kept-returns-in-Some
-is_kept-returns-in-Some t c = λ top u r s.
-    one_ok (λ b. Ok (kept u b)) (c.in_ok-keeps.ensures top u r s) (λ b is. kept_known u b c.in-Some.keeps (sym is ∙ c.in-Some.is))
+pub is_kept-returns-in-Some-clause-meant : goal.is_kept-returns-in-Some-clause-meant
+is_kept-returns-in-Some-clause-meant t c = λ top u r s.
+    one_ok (λ b. Ok (kept u b)) (c.in_ok-keeps.ensures.meant top u r s) (λ b is. kept_known u b c.in-Some.keeps (sym is ∙ c.in-Some.is))
 
-pub is_kept-returns-in-None : goal.is_kept-returns-in-None
-is_kept-returns-in-None t c = λ top u r s.
-    one_ok (λ b. Ok (kept u b)) (c.in_ok-keeps.ensures top u r s) (λ b is. kept_unknown u b (sym is ∙ c.in-None.is))
+pub is_kept-returns-in-None-clause-meant : goal.is_kept-returns-in-None-clause-meant
+is_kept-returns-in-None-clause-meant t c = λ top u r s.
+    one_ok (λ b. Ok (kept u b)) (c.in_ok-keeps.ensures.meant top u r s) (λ b is. kept_unknown u b (sym is ∙ c.in-None.is))
 
 -- ---- operands
 
-pub operand_values-returns-in_err-found-in-Paths : goal.operand_values-returns-in_err-found-in-Paths
-operand_values-returns-in_err-found-in-Paths t c = λ top u r s. let p = err_from_is_err_and c.from_residual.result c.from_residual.ensures.1 in
+pub operand_values-returns-in_err-found-in-Paths-clause-meant : goal.operand_values-returns-in_err-found-in-Paths-clause-meant
+operand_values-returns-in_err-found-in-Paths-clause-meant t c = λ top u r s. let p = err_from_is_err_and c.from_residual.result c.from_residual.ensures.1 in
     same_answer (p.1 ∙ ap Err p.2) (same_outcome (ap (λ x. operand_values c.args.mode x top u) (paths_is c.args.e.now c.in-Paths.steps c.in-Paths.is)
     ∙ ap (λ o. with_value o (λ ts. Ok (flat_map values_of_item ts))) (from_start c.args.mode _ _ _ top u c.deref.ensures.value c.deref.ensures.value))
-    (first_refused (λ ts. Ok (flat_map values_of_item ts)) (c.in_err-found-in-Paths.ensures top u r s)))
+    (first_refused (λ ts. Ok (flat_map values_of_item ts)) (c.in_err-found-in-Paths.ensures.meant top u r s)))
 
-pub operand_values-returns-in_ok-found-in-Paths : goal.operand_values-returns-in_ok-found-in-Paths
-operand_values-returns-in_ok-found-in-Paths t c = λ top u r s.
+pub operand_values-returns-in_ok-found-in-Paths-clause-meant : goal.operand_values-returns-in_ok-found-in-Paths-clause-meant
+operand_values-returns-in_ok-found-in-Paths-clause-meant t c = λ top u r s.
     same_outcome (ap (λ x. operand_values c.args.mode x top u) (paths_is c.args.e.now c.in-Paths.steps c.in-Paths.is)
     ∙ ap (λ o. with_value o (λ ts. Ok (flat_map values_of_item ts))) (from_start c.args.mode _ _ _ top u c.deref.ensures.value c.deref.ensures.value))
-    (followed (λ ts. Ok (flat_map values_of_item ts)) (c.in_ok-found-in-Paths.ensures top u r s) (λ ts related. c.found_values.ensures ts related))
+    (followed (λ ts. Ok (flat_map values_of_item ts)) (c.in_ok-found-in-Paths.ensures.meant top u r s) (λ ts related. c.found_values.ensures.meant ts related))
 
 -- ---- truths
 
-pub truth-returns-in_err-found-in-ExistsFunc : goal.truth-returns-in_err-found-in-ExistsFunc
-truth-returns-in_err-found-in-ExistsFunc t c = λ top u r s. let p = err_from_is_err_and c.from_residual-in_err-found-in-ExistsFunc.result c.from_residual-in_err-found-in-ExistsFunc.ensures.1 in
+pub truth-returns-in_err-found-in-ExistsFunc-clause-meant : goal.truth-returns-in_err-found-in-ExistsFunc-clause-meant
+truth-returns-in_err-found-in-ExistsFunc-clause-meant t c = λ top u r s. let p = err_from_is_err_and c.from_residual-in_err-found-in-ExistsFunc.result c.from_residual-in_err-found-in-ExistsFunc.ensures.1 in
     same_answer (p.1 ∙ ap Err p.2) (same_outcome (ap (λ x. truth c.args.mode x top u) (exists_is c.args.e.now c.in-ExistsFunc.steps c.in-ExistsFunc.is)
     ∙ ap (λ o. with_value o (λ ts. Ok (Some (is_some_item ts)))) (from_start c.args.mode _ _ _ top u c.deref-in-ExistsFunc.ensures.value c.deref-in-ExistsFunc.ensures.value))
-    (first_refused (λ ts. Ok (Some (is_some_item ts))) (c.in_err-found-in-ExistsFunc.ensures top u r s)))
+    (first_refused (λ ts. Ok (Some (is_some_item ts))) (c.in_err-found-in-ExistsFunc.ensures.meant top u r s)))
 
-pub truth-returns-in_ok-found-in-ExistsFunc : goal.truth-returns-in_ok-found-in-ExistsFunc
-truth-returns-in_ok-found-in-ExistsFunc t c = λ top u r s.
+pub truth-returns-in_ok-found-in-ExistsFunc-clause-meant : goal.truth-returns-in_ok-found-in-ExistsFunc-clause-meant
+truth-returns-in_ok-found-in-ExistsFunc-clause-meant t c = λ top u r s.
     same_outcome (ap (λ x. truth c.args.mode x top u) (exists_is c.args.e.now c.in-ExistsFunc.steps c.in-ExistsFunc.is)
     ∙ ap (λ o. with_value o (λ ts. Ok (Some (is_some_item ts)))) (from_start c.args.mode _ _ _ top u c.deref-in-ExistsFunc.ensures.value c.deref-in-ExistsFunc.ensures.value))
-    (one_ok (λ ts. Ok (Some (is_some_item ts))) (c.in_ok-found-in-ExistsFunc.ensures top u r s) (λ ts related.
+    (one_ok (λ ts. Ok (Some (is_some_item ts))) (c.in_ok-found-in-ExistsFunc.ensures.meant top u r s) (λ ts related.
     ap Some (ap not c.is_empty.ensures ∙ ap (λ l. not (length l == 0)) c.as_slice-in-ExistsFunc.ensures ∙ some_related (IsAt c.args.document) _ ts related)))
 
-pub truth-returns-in_err-rights-in_default : goal.truth-returns-in_err-rights-in_default
-truth-returns-in_err-rights-in_default t c = λ top u r s. let p = err_from_is_err_and c.from_residual-in_err-rights-in_default.result c.from_residual-in_err-rights-in_default.ensures.1 in
+pub truth-returns-in_err-rights-in_default-clause-meant : goal.truth-returns-in_err-rights-in_default-clause-meant
+truth-returns-in_err-rights-in_default-clause-meant t c = λ top u r s. let p = err_from_is_err_and c.from_residual-in_err-rights-in_default.result c.from_residual-in_err-rights-in_default.ensures.1 in
     same_answer (p.1 ∙ ap Err p.2) (same_outcome (compared_is c.args.mode c.args.e.now c.in-BinaryOp.op c.in-BinaryOp.left c.in-BinaryOp.right top u _ _ c.in-BinaryOp.is c.deref-in_default.ensures c.deref-in_default-2.ensures
     c.in_default.not-And c.in_default.not-Or c.in_default.not-Add c.in_default.not-Subtract c.in_default.not-Multiply c.in_default.not-Divide c.in_default.not-Modulo)
-    (second_refused (λ ls rs. Ok (compare (operator_view c.in-BinaryOp.op) ls rs)) (c.in_ok-lefts-in_default.ensures top u r s) (c.in_err-rights-in_default.ensures top u r s)))
+    (second_refused (λ ls rs. Ok (compare (operator_view c.in-BinaryOp.op) ls rs)) (c.in_ok-lefts-in_default.ensures.meant top u r s) (c.in_err-rights-in_default.ensures.meant top u r s)))
 
-pub truth-returns-in_ok-rights-in_default : goal.truth-returns-in_ok-rights-in_default
-truth-returns-in_ok-rights-in_default t c = λ top u r s.
+pub truth-returns-in_ok-rights-in_default-clause-meant : goal.truth-returns-in_ok-rights-in_default-clause-meant
+truth-returns-in_ok-rights-in_default-clause-meant t c = λ top u r s.
     same_outcome (compared_is c.args.mode c.args.e.now c.in-BinaryOp.op c.in-BinaryOp.left c.in-BinaryOp.right top u _ _ c.in-BinaryOp.is c.deref-in_default.ensures c.deref-in_default-2.ensures
     c.in_default.not-And c.in_default.not-Or c.in_default.not-Add c.in_default.not-Subtract c.in_default.not-Multiply c.in_default.not-Divide c.in_default.not-Modulo)
-    (both_ok (λ ls rs. Ok (compare (operator_view c.in-BinaryOp.op) ls rs)) (c.in_ok-lefts-in_default.ensures top u r s) (c.in_ok-rights-in_default.ensures top u r s)
+    (both_ok (λ ls rs. Ok (compare (operator_view c.in-BinaryOp.op) ls rs)) (c.in_ok-lefts-in_default.ensures.meant top u r s) (c.in_ok-rights-in_default.ensures.meant top u r s)
     (λ ls rs p q. c.compare.ensures ∙ (λ i. compare (operator_view c.in-BinaryOp.op) (c.as_slice.ensures i) (c.as_slice-in_default.ensures i)) ∙ (λ i. compare (operator_view c.in-BinaryOp.op) (p i) (q i))))
 
-pub truth-returns-in_ok-b-in-And : goal.truth-returns-in_ok-b-in-And
-truth-returns-in_ok-b-in-And t c = λ top u r s.
+pub truth-returns-in_ok-b-in-And-clause-meant : goal.truth-returns-in_ok-b-in-And-clause-meant
+truth-returns-in_ok-b-in-And-clause-meant t c = λ top u r s.
     same_outcome (ap (λ x. truth c.args.mode x top u) (binary_is c.args.e.now c.in-BinaryOp.op c.in-BinaryOp.left c.in-BinaryOp.right c.in-BinaryOp.is
     ∙ (λ i. math.binary (operator_view (c.in-And.is i)) (expression_view (sym c.deref.ensures i)) (expression_view (sym c.deref-in-And.ensures i)))))
-    (both_ok (λ a b. Ok (both a b)) (c.in_ok-a-in-And.ensures top u r s) (c.in_ok-b-in-And.ensures top u r s) (λ a b p q. c.both.ensures ∙ (λ i. both (p i) (q i))))
+    (both_ok (λ a b. Ok (both a b)) (c.in_ok-a-in-And.ensures.meant top u r s) (c.in_ok-b-in-And.ensures.meant top u r s) (λ a b p q. c.both.ensures ∙ (λ i. both (p i) (q i))))
 
-pub truth-returns-in_err-b-in-And : goal.truth-returns-in_err-b-in-And
-truth-returns-in_err-b-in-And t c = λ top u r s. let p = err_from_is_err_and c.from_residual-in_err-b-in-And.result c.from_residual-in_err-b-in-And.ensures.1 in
+pub truth-returns-in_err-b-in-And-clause-meant : goal.truth-returns-in_err-b-in-And-clause-meant
+truth-returns-in_err-b-in-And-clause-meant t c = λ top u r s. let p = err_from_is_err_and c.from_residual-in_err-b-in-And.result c.from_residual-in_err-b-in-And.ensures.1 in
     same_answer (p.1 ∙ ap Err p.2) (same_outcome (ap (λ x. truth c.args.mode x top u) (binary_is c.args.e.now c.in-BinaryOp.op c.in-BinaryOp.left c.in-BinaryOp.right c.in-BinaryOp.is
     ∙ (λ i. math.binary (operator_view (c.in-And.is i)) (expression_view (sym c.deref.ensures i)) (expression_view (sym c.deref-in-And.ensures i)))))
-    (second_refused (λ a b. Ok (both a b)) (c.in_ok-a-in-And.ensures top u r s) (c.in_err-b-in-And.ensures top u r s)))
+    (second_refused (λ a b. Ok (both a b)) (c.in_ok-a-in-And.ensures.meant top u r s) (c.in_err-b-in-And.ensures.meant top u r s)))
 
-pub truth-returns-in_ok-b-in-Or : goal.truth-returns-in_ok-b-in-Or
-truth-returns-in_ok-b-in-Or t c = λ top u r s.
+pub truth-returns-in_ok-b-in-Or-clause-meant : goal.truth-returns-in_ok-b-in-Or-clause-meant
+truth-returns-in_ok-b-in-Or-clause-meant t c = λ top u r s.
     same_outcome (ap (λ x. truth c.args.mode x top u) (binary_is c.args.e.now c.in-BinaryOp.op c.in-BinaryOp.left c.in-BinaryOp.right c.in-BinaryOp.is
     ∙ (λ i. math.binary (operator_view (c.in-Or.is i)) (expression_view (sym c.deref-in-Or.ensures i)) (expression_view (sym c.deref-in-Or-2.ensures i)))))
-    (both_ok (λ a b. Ok (either a b)) (c.in_ok-a-in-Or.ensures top u r s) (c.in_ok-b-in-Or.ensures top u r s) (λ a b p q. c.either.ensures ∙ (λ i. either (p i) (q i))))
+    (both_ok (λ a b. Ok (either a b)) (c.in_ok-a-in-Or.ensures.meant top u r s) (c.in_ok-b-in-Or.ensures.meant top u r s) (λ a b p q. c.either.ensures ∙ (λ i. either (p i) (q i))))
 
-pub truth-returns-in_err-b-in-Or : goal.truth-returns-in_err-b-in-Or
-truth-returns-in_err-b-in-Or t c = λ top u r s. let p = err_from_is_err_and c.from_residual-in_err-b-in-Or.result c.from_residual-in_err-b-in-Or.ensures.1 in
+pub truth-returns-in_err-b-in-Or-clause-meant : goal.truth-returns-in_err-b-in-Or-clause-meant
+truth-returns-in_err-b-in-Or-clause-meant t c = λ top u r s. let p = err_from_is_err_and c.from_residual-in_err-b-in-Or.result c.from_residual-in_err-b-in-Or.ensures.1 in
     same_answer (p.1 ∙ ap Err p.2) (same_outcome (ap (λ x. truth c.args.mode x top u) (binary_is c.args.e.now c.in-BinaryOp.op c.in-BinaryOp.left c.in-BinaryOp.right c.in-BinaryOp.is
     ∙ (λ i. math.binary (operator_view (c.in-Or.is i)) (expression_view (sym c.deref-in-Or.ensures i)) (expression_view (sym c.deref-in-Or-2.ensures i)))))
-    (second_refused (λ a b. Ok (either a b)) (c.in_ok-a-in-Or.ensures top u r s) (c.in_err-b-in-Or.ensures top u r s)))
+    (second_refused (λ a b. Ok (either a b)) (c.in_ok-a-in-Or.ensures.meant top u r s) (c.in_err-b-in-Or.ensures.meant top u r s)))

@@ -8,25 +8,25 @@ use Rattle.jsonb.proofs.ItemKinds.{array_values, other_values}
 use Rattle.jsonb.proofs.Outcomes.{same_outcome, same_answer, only_memory}
 use Rattle.jsonb.proofs.selector.values.item_values.Goals as goal
 
-pub returns-in_err-found : goal.returns-in_err-found
-returns-in_err-found c = λ t m. absurd (c.in_err-found.ensures.item t m)
+pub returns-in_err-found-clause-meant : goal.returns-in_err-found-clause-meant
+returns-in_err-found-clause-meant c = λ t m. absurd (c.in_err-found.ensures.item t m)
 
-pub returns-in_err-elements : goal.returns-in_err-elements
-returns-in_err-elements c = λ t m. absurd (c.in_err-elements.ensures t m (c.in_ok-found.ensures.item t m))
+pub returns-in_err-elements-clause-meant : goal.returns-in_err-elements-clause-meant
+returns-in_err-elements-clause-meant c = λ t m. absurd (c.in_err-elements.ensures.meant t m (c.in_ok-found.ensures.item t m))
 
-pub returns-in_err-push_each-in-Some : goal.returns-in_err-push_each-in-Some
-returns-in_err-push_each-in-Some c = λ t m.
-    let found = some_spots c.args.bytes.now c.in-Some.elements (elements_of t) (rw c.in-Some.is at (c.in_ok-elements.ensures t m (c.in_ok-found.ensures.item t m))) in
+pub returns-in_err-push_each-in-Some-clause-meant : goal.returns-in_err-push_each-in-Some-clause-meant
+returns-in_err-push_each-in-Some-clause-meant c = λ t m.
+    let found = some_spots c.args.bytes.now c.in-Some.elements (elements_of t) (rw c.in-Some.is at (c.in_ok-elements.ensures.meant t m (c.in_ok-found.ensures.item t m))) in
     let p = err_from_is_err_and c.from_residual-in_err-push_each-in-Some.result c.from_residual-in_err-push_each-in-Some.ensures.1 in
-    same_answer (p.1 ∙ ap Err p.2) (only_memory (c.in_err-push_each-in-Some.ensures found.0 found.2))
+    same_answer (p.1 ∙ ap Err p.2) (only_memory (c.in_err-push_each-in-Some.ensures.meant found.0 found.2))
 
-pub returns-in_ok-push_each-in-Some : goal.returns-in_ok-push_each-in-Some
-returns-in_ok-push_each-in-Some c = λ t m.
-    let found = some_spots c.args.bytes.now c.in-Some.elements (elements_of t) (rw c.in-Some.is at (c.in_ok-elements.ensures t m (c.in_ok-found.ensures.item t m))) in
+pub returns-in_ok-push_each-in-Some-clause-meant : goal.returns-in_ok-push_each-in-Some-clause-meant
+returns-in_ok-push_each-in-Some-clause-meant c = λ t m.
+    let found = some_spots c.args.bytes.now c.in-Some.elements (elements_of t) (rw c.in-Some.is at (c.in_ok-elements.ensures.meant t m (c.in_ok-found.ensures.item t m))) in
     same_outcome (ap Ok (array_values t found.0 found.1))
-    (record { ok = (c.in_ok-push_each-in-Some.ensures found.0 found.2).ok ∙ ap (λ l. map operand_value l ++ flat_map value_of_item found.0) c.new-values.ensures.items; err = tt })
+    (record { ok = (c.in_ok-push_each-in-Some.ensures.meant found.0 found.2).ok ∙ ap (λ l. map operand_value l ++ flat_map value_of_item found.0) c.new-values.ensures.items; err = tt })
 
-pub returns-in-None : goal.returns-in-None
-returns-in-None c = λ t m.
-    let none = no_spots c.args.bytes.now (elements_of t) (rw c.in-None.is at (c.in_ok-elements.ensures t m (c.in_ok-found.ensures.item t m))) in
+pub returns-in-None-clause-meant : goal.returns-in-None-clause-meant
+returns-in-None-clause-meant c = λ t m.
+    let none = no_spots c.args.bytes.now (elements_of t) (rw c.in-None.is at (c.in_ok-elements.ensures.meant t m (c.in_ok-found.ensures.item t m))) in
     record { ok = c.at_most_one.ensures ∙ c.item_operand-value.ensures t (c.in_ok-found.ensures.item t m) ∙ sym (other_values t none); err = tt }

@@ -4,7 +4,7 @@ use Rattle.jsonb.specs.PathViews.{sign_view}
 use Rattle.jsonb.proofs.Outcomes.{followed, same_outcome}
 use Rattle.jsonb.proofs.selector.whole.whole_unary.Goals as goal
 
-pub returns : goal.returns
-returns c = λ form top r.
-    followed (each_signed (sign_view c.args.op)) (c.in_ok-values.ensures top top r r) (λ vs p.
-    same_outcome (ap (each_signed (sign_view c.args.op)) (sym p ∙ sym c.as_slice.ensures)) (c.unary_numbers.ensures form))
+pub returns-clause-meant : goal.returns-clause-meant
+returns-clause-meant c = λ form top r.
+    followed (each_signed (sign_view c.args.op)) (c.in_ok-values.ensures.meant top top r r) (λ vs p.
+    same_outcome (ap (each_signed (sign_view c.args.op)) (sym p ∙ sym c.as_slice.ensures)) (c.unary_numbers.ensures.meant form))

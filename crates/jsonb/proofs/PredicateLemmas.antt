@@ -1,0 +1,84 @@
+-- What an expression says as a predicate, by its kind.
+use Rattle.std.proofs.Common.{◌≡◌, List, [], ◌∷◌, ◌++◌, Option, Some, None, Ok, Err, refl, ap, ◌∙◌}
+use Rattle.jsonb_doc.specs.Answer.{Outcome, with_value, joined}
+use Rattle.jsonb_doc.specs.Arithmetic.{Operation, calculated, negated}
+use Rattle.jsonb_doc.specs.Number.{Number}
+use Rattle.jsonb_doc.specs.Tree.{Tree}
+use Rattle.jsonb.specs.PathTree.{BinaryOp, UnaryOp, plus, minus, Expression, paths, value, binary, unary, exists}
+use Rattle.jsonb.specs.PathArithmetic.{operation, number_list, two_numbers, all_numbers, signed_number, each_signed}
+use Rattle.jsonb.specs.Values.{Value, number}
+use Rattle.jsonb.specs.Compare.{Truth}
+use Rattle.jsonb.specs.Meaning.{operand_values, truth, truth_list, calculation, binary_meaning, expression_meaning, list_truth, expression_predicate}
+use Rattle.jsonb.specs.declared.selector.document.Mode.{Mode}
+
+-- what a list says, and what is run for its refusal alone
+abbrev said : List Tree → Outcome Truth
+said ts = Ok (list_truth ts)
+
+abbrev pub nothing_said : List Tree → Outcome Truth
+nothing_said ts = Ok None
+
+-- arithmetic says nothing, every other operator its truth
+abbrev pub binary_predicate : Mode → Option Operation → BinaryOp → Expression → Expression → Tree → Outcome Truth
+binary_predicate mode (Some arithmetic) op l r top = with_value (calculation arithmetic (operand_values mode l top top) (operand_values mode r top top)) nothing_said
+binary_predicate mode None op l r top = truth mode (binary op l r) top top
+
+abbrev pub predicate_of : Mode → Expression → Tree → Outcome Truth
+predicate_of mode (binary op l r) top = binary_predicate mode (operation op) op l r top
+predicate_of mode (exists steps) top = truth mode (exists steps) top top
+predicate_of mode (value l) top = Ok None
+predicate_of mode e top = with_value (expression_meaning mode e top) nothing_said
+
+-- a truth is said by its list
+truth_said : (o : Outcome Truth) → with_value (truth_list o) said ≡ o
+truth_said (Ok (Some b)) = refl
+truth_said (Ok None) = refl
+truth_said (Err e) = refl
+
+-- numbers say nothing
+number_said : (o : Outcome Number) → with_value (number_list o) said ≡ with_value (number_list o) nothing_said
+number_said (Ok n) = refl
+number_said (Err e) = refl
+
+two_said : (op : Operation) (ls rs : List Value) → with_value (two_numbers op ls rs) said ≡ with_value (two_numbers op ls rs) nothing_said
+two_said op (number m ∷ []) (number n ∷ []) = number_said (calculated op m n)
+two_said op _ _ = refl
+
+calculation_said : (op : Operation) (l r : Outcome (List Value)) → with_value (calculation op l r) said ≡ with_value (calculation op l r) nothing_said
+calculation_said op (Err e) r = refl
+calculation_said op (Ok ls) (Err e) = refl
+calculation_said op (Ok ls) (Ok rs) = two_said op ls rs
+
+-- the numbers behind signs: the first of them decides that no truth stands alone
+front_said : (o : Outcome Number) (back : Outcome (List Tree)) →
+    with_value (with_value (number_list o) (λ front. with_value back (λ ts. Ok (front ++ ts)))) said
+    ≡ with_value (with_value (number_list o) (λ front. with_value back (λ ts. Ok (front ++ ts)))) nothing_said
+front_said (Err e) back = refl
+front_said (Ok n) (Err e) = refl
+front_said (Ok n) (Ok []) = refl
+front_said (Ok n) (Ok (t ∷ ts)) = refl
+
+joined_said : (op : UnaryOp) (ns : List Number) → with_value (joined (signed_number op) ns) said ≡ with_value (joined (signed_number op) ns) nothing_said
+joined_said op [] = refl
+joined_said plus (n ∷ ns) = front_said (Ok n) (joined (signed_number plus) ns)
+joined_said minus (n ∷ ns) = front_said (negated n) (joined (signed_number minus) ns)
+
+signs_said : (op : UnaryOp) (o : Outcome (List Number)) → with_value (with_value o (joined (signed_number op))) said ≡ with_value (with_value o (joined (signed_number op))) nothing_said
+signs_said op (Ok ns) = joined_said op ns
+signs_said op (Err e) = refl
+
+unary_said : (op : UnaryOp) (o : Outcome (List Value)) → with_value (with_value o (each_signed op)) said ≡ with_value (with_value o (each_signed op)) nothing_said
+unary_said op (Ok vs) = signs_said op (all_numbers vs)
+unary_said op (Err e) = refl
+
+binary_said : (mode : Mode) (o : Option Operation) (op : BinaryOp) (l r : Expression) (top : Tree) →
+    with_value (binary_meaning mode o op l r top) said ≡ binary_predicate mode o op l r top
+binary_said mode (Some arithmetic) op l r top = calculation_said arithmetic (operand_values mode l top top) (operand_values mode r top top)
+binary_said mode None op l r top = truth_said (truth mode (binary op l r) top top)
+
+pub predicate_by_cases : (mode : Mode) (e : Expression) (top : Tree) → expression_predicate mode e top ≡ predicate_of mode e top
+predicate_by_cases mode (paths steps) top = refl
+predicate_by_cases mode (value l) top = refl
+predicate_by_cases mode (unary op e) top = unary_said op (operand_values mode e top top)
+predicate_by_cases mode (binary op l r) top = binary_said mode (operation op) op l r top
+predicate_by_cases mode (exists steps) top = truth_said (truth mode (exists steps) top top)
