@@ -13,6 +13,14 @@ pub fn setting(
     configuration.get_by_keypath(alloc, steps.paths.iter())
 }
 
+/// The port of the server, or none where it is missing or no whole number of 64 bits.
+pub fn port(alloc: Global, configuration: &RawJsonb<'_>) -> Result<Option<u64>, Error> {
+    match setting(alloc, configuration, "{server,port}")? {
+        Some(found) => found.as_raw().as_u64(),
+        None => Ok(None),
+    }
+}
+
 /// The configuration without the setting at a key path. It is the same where there is none.
 pub fn without_setting(
     alloc: Global,
@@ -41,9 +49,7 @@ pub fn with_setting(
 #[cfg(test)]
 mod tests {
     use super::*;
-    use crate::documents::{
-        CONFIGURATION, PORT_80, PORT_8080, WITH_PORT_80, WITHOUT_PORT, document,
-    };
+    use crate::documents::{CONFIGURATION, PORT_80, WITH_PORT_80, WITHOUT_PORT, document};
     use std::test::Fail;
 
     #[test]
@@ -51,8 +57,7 @@ mod tests {
         let alloc = rt.alloc();
         let file = document(alloc, CONFIGURATION)?;
         let configuration = file.as_raw();
-        let port = setting(alloc, &configuration, "{server,port}")?.ok_or("no port")?;
-        assert_eq!(rt; hex::encode(alloc, port.to_vec())?.as_str(), PORT_8080);
+        assert_eq!(rt; port(alloc, &configuration)?, Some(8080));
         let value = document(alloc, PORT_80)?;
         let set = with_setting(alloc, &configuration, "server", "port", &value.as_raw())?;
         assert_eq!(rt; hex::encode(alloc, set.to_vec())?.as_str(), WITH_PORT_80);

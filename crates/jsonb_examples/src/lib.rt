@@ -8,6 +8,9 @@ pub mod filter;
 #[cfg(test)]
 mod first;
 pub mod index;
+pub mod invoice;
 pub mod permission;
+#[cfg(test)]
+mod tables;
 pub mod tags;
 pub mod untrusted;
