@@ -1,0 +1,68 @@
+//! A configuration that is read and changed by key path.
+
+use jsonb::{Error, OwnedJsonb, RawJsonb, parse_key_paths};
+use std::alloc::Global;
+
+/// The setting at a key path such as `{server,port}`, or none.
+pub fn setting(
+    alloc: Global,
+    configuration: &RawJsonb<'_>,
+    path: &str,
+) -> Result<Option<OwnedJsonb>, Error> {
+    let steps = parse_key_paths(alloc, path.as_bytes())?;
+    configuration.get_by_keypath(alloc, steps.paths.iter())
+}
+
+/// The port of the server, or none where it is missing or no whole number of 64 bits.
+pub fn port(alloc: Global, configuration: &RawJsonb<'_>) -> Result<Option<u64>, Error> {
+    match setting(alloc, configuration, "{server,port}")? {
+        Some(found) => found.as_raw().as_u64(),
+        None => Ok(None),
+    }
+}
+
+/// The configuration without the setting at a key path. It is the same where there is none.
+pub fn without_setting(
+    alloc: Global,
+    configuration: &RawJsonb<'_>,
+    path: &str,
+) -> Result<OwnedJsonb, Error> {
+    let steps = parse_key_paths(alloc, path.as_bytes())?;
+    configuration.delete_by_keypath(alloc, steps.paths.iter())
+}
+
+/// The configuration with this value for a name in a section, new or in place of the old one.
+pub fn with_setting(
+    alloc: Global,
+    configuration: &RawJsonb<'_>,
+    section: &str,
+    name: &str,
+    value: &RawJsonb<'_>,
+) -> Result<OwnedJsonb, Error> {
+    let Some(old) = configuration.get_by_name(alloc, section, false)? else {
+        return Err(Error::InvalidObject);
+    };
+    let new = old.as_raw().object_insert(alloc, name, value, true)?;
+    configuration.object_insert(alloc, section, &new.as_raw(), true)
+}
+
+#[cfg(test)]
+mod tests {
+    use super::*;
+    use crate::documents::{CONFIGURATION, PORT_80, WITH_PORT_80, WITHOUT_PORT, document};
+    use std::test::Fail;
+
+    #[test]
+    fn a_port_is_read_set_and_taken_out(rt: HostRuntime) -> Result<(), Fail> {
+        let alloc = rt.alloc();
+        let file = document(alloc, CONFIGURATION)?;
+        let configuration = file.as_raw();
+        assert_eq!(rt; port(alloc, &configuration)?, Some(8080));
+        let value = document(alloc, PORT_80)?;
+        let set = with_setting(alloc, &configuration, "server", "port", &value.as_raw())?;
+        assert_eq!(rt; hex::encode(alloc, set.to_vec())?.as_str(), WITH_PORT_80);
+        let taken = without_setting(alloc, &configuration, "{server,port}")?;
+        assert_eq!(rt; hex::encode(alloc, taken.to_vec())?.as_str(), WITHOUT_PORT);
+        Ok(())
+    }
+}

@@ -1,0 +1,48 @@
+//! A path as a filter over a list of documents.
+
+use jsonb::{Error, RawJsonb, SelectByPath, parse_json_path};
+use std::alloc::Global;
+
+/// The documents of which the condition is true, in their order.
+///
+/// `InvalidJsonPath` where the text is no path; other refusals are those of the path on a document.
+pub fn matching<'a>(
+    alloc: Global,
+    documents: &[RawJsonb<'a>],
+    condition: &str,
+) -> Result<Vec<RawJsonb<'a>>, Error> {
+    let path = parse_json_path(alloc, condition.as_bytes())?;
+    let mut found = Vec::new(alloc);
+    for document in documents {
+        if document.path_match(alloc, &path)? == Some(true) {
+            found.push(*document)?;
+        }
+    }
+    Ok(found)
+}
+
+#[cfg(test)]
+mod tests {
+    use super::*;
+    use crate::documents::{ANN, BOB, CYD, document};
+    use std::test::Fail;
+
+    #[test]
+    fn people_of_fifty_or_more(rt: HostRuntime) -> Result<(), Fail> {
+        let alloc = rt.alloc();
+        let ann = document(alloc, ANN)?;
+        let bob = document(alloc, BOB)?;
+        let cyd = document(alloc, CYD)?;
+        let people = [ann.as_raw(), bob.as_raw(), cyd.as_raw()];
+        for (condition, count) in [
+            ("$.age >= 50", 1),
+            ("$.age < 50 || exists($.name)", 3),
+            ("$.name starts with \"B\"", 1),
+            ("$.shoe == 43", 0),
+        ] {
+            let found = matching(alloc, people.as_slice(), condition)?;
+            assert_eq!(rt; found.len(), count, "{condition}");
+        }
+        Ok(())
+    }
+}

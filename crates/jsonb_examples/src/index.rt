@@ -1,0 +1,107 @@
+//! An index of documents by two values, over sortable keys.
+//!
+//! Each key is the sortable key of the first value with that of the second one behind it. Such keys order as the pairs of
+//! values do. A value that is missing has the key `00 00`, which no value has and which sorts first.
+
+use jsonb::{Error, JsonPath, RawJsonb, SelectByPath, parse_json_path};
+use std::alloc::Global;
+use std::collections::BTreeMap;
+
+/// The key of a value that is missing: no kind of item has the number 0.
+const MISSING: [u8; 2] = [0, 0];
+
+/// Which documents have which values at two paths.
+#[derive(Drop)]
+pub struct Index<'p> {
+    first: JsonPath<'p>,
+    second: JsonPath<'p>,
+    entries: BTreeMap<Vec<u8>, Vec<u64>>,
+}
+
+impl<'p> Index<'p> {
+    /// An index on two paths, without documents.
+    pub fn new(alloc: Global, first: &'p str, second: &'p str) -> Result<Index<'p>, Error> {
+        Ok(Index {
+            first: parse_json_path(alloc, first.as_bytes())?,
+            second: parse_json_path(alloc, second.as_bytes())?,
+            entries: BTreeMap::new(alloc),
+        })
+    }
+
+    /// Files a document under its number.
+    pub fn insert(
+        &mut self,
+        alloc: Global,
+        number: u64,
+        document: &RawJsonb<'_>,
+    ) -> Result<(), Error> {
+        let mut key = Vec::new(alloc);
+        push_key(alloc, &mut key, document, &self.first)?;
+        push_key(alloc, &mut key, document, &self.second)?;
+        match self.entries.get_mut(&key) {
+            Some(numbers) => numbers.push(number)?,
+            None => {
+                self.entries.insert(key, vec![in alloc; number]?)?;
+            }
+        }
+        Ok(())
+    }
+
+    /// The numbers of the documents whose first value is at least `low` and below `high`, by rising values.
+    pub fn range(
+        &self,
+        alloc: Global,
+        low: &RawJsonb<'_>,
+        high: &RawJsonb<'_>,
+    ) -> Result<Vec<u64>, Error> {
+        let low = low.convert_to_comparable(alloc)?;
+        let high = high.convert_to_comparable(alloc)?;
+        let mut found = Vec::new(alloc);
+        for (key, numbers) in self.entries.range(low..) {
+            if *key >= high {
+                break;
+            }
+            found.extend_from_slice(numbers.as_slice())?;
+        }
+        Ok(found)
+    }
+}
+
+/// Puts the sortable key of the first item that a path selects behind a key.
+fn push_key(
+    alloc: Global,
+    key: &mut Vec<u8>,
+    document: &RawJsonb<'_>,
+    path: &JsonPath<'_>,
+) -> Result<(), Error> {
+    match document.select_first_by_path(alloc, path)? {
+        Some(value) => {
+            let value_key = value.as_raw().convert_to_comparable(alloc)?;
+            key.extend_from_slice(value_key.as_slice())?;
+        }
+        None => key.extend_from_slice(&MISSING)?,
+    }
+    Ok(())
+}
+
+#[cfg(test)]
+mod tests {
+    use super::*;
+    use crate::documents::{ANN, BOB, CYD, SEVENTY, THIRTY, document};
+    use std::test::Fail;
+
+    #[test]
+    fn people_by_age_and_name(rt: HostRuntime) -> Result<(), Fail> {
+        let alloc = rt.alloc();
+        let mut index = Index::new(alloc, "$.age", "$.name")?;
+        for (number, digits) in [(1, ANN), (2, BOB), (3, CYD), (4, BOB)] {
+            let person = document(alloc, digits)?;
+            index.insert(alloc, number, &person.as_raw())?;
+        }
+        let low = document(alloc, THIRTY)?;
+        let high = document(alloc, SEVENTY)?;
+        let found = index.range(alloc, &low.as_raw(), &high.as_raw())?;
+        assert_eq!(rt; found.as_slice(), [2, 4, 1].as_slice());
+        Ok(())
+    }
+}

@@ -1,0 +1,47 @@
+//! An invoice: amounts read item by item, added exactly, and a document built of them.
+
+use jsonb::{Error, Item, Number, ObjectBuilder, OwnedJsonb, RawJsonb, elements};
+use std::alloc::Global;
+
+/// The sum of an array of whole numbers.
+///
+/// `InvalidJsonType` where the root is no array or an element is no number, `Arithmetic` where the sum has no result.
+pub fn total(amounts: &RawJsonb<'_>) -> Result<Number, Error> {
+    let Some(items) = elements(amounts.as_bytes())? else {
+        return Err(Error::InvalidJsonType);
+    };
+    let mut sum = Number::UInt64(0);
+    for item in items {
+        let Item::Number(amount) = item? else {
+            return Err(Error::InvalidJsonType);
+        };
+        sum = sum.add(amount)?;
+    }
+    Ok(sum)
+}
+
+/// The object of the amounts and their sum.
+pub fn invoice(alloc: Global, amounts: &RawJsonb<'_>) -> Result<OwnedJsonb, Error> {
+    let mut builder = ObjectBuilder::new(alloc);
+    builder.push_document("amounts", amounts.as_bytes())?;
+    builder.push_item("total", &Item::Number(total(amounts)?))?;
+    Ok(OwnedJsonb::new(builder.build()?))
+}
+
+#[cfg(test)]
+mod tests {
+    use super::*;
+    use crate::documents::{AMOUNTS, INVOICE, OLD_TAGS, document};
+    use std::test::Fail;
+
+    #[test]
+    fn amounts_and_their_sum(rt: HostRuntime) -> Result<(), Fail> {
+        let alloc = rt.alloc();
+        let amounts = document(alloc, AMOUNTS)?;
+        let made = invoice(alloc, &amounts.as_raw())?;
+        assert_eq!(rt; hex::encode(alloc, made.to_vec())?.as_str(), INVOICE);
+        let tags = document(alloc, OLD_TAGS)?;
+        assert_eq!(rt; total(&tags.as_raw()), Err(Error::InvalidJsonType));
+        Ok(())
+    }
+}

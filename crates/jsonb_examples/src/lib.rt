@@ -1,0 +1,16 @@
+//! Small programs over documents, as a user writes them, and the tables of docs/ as tests.
+#![tactic(auto)]
+
+pub mod configuration;
+#[cfg(test)]
+mod documents;
+pub mod filter;
+#[cfg(test)]
+mod first;
+pub mod index;
+pub mod invoice;
+pub mod permission;
+#[cfg(test)]
+mod tables;
+pub mod tags;
+pub mod untrusted;

@@ -1,0 +1,34 @@
+//! Containment as a test of permissions.
+
+use jsonb::{Error, RawJsonb};
+
+/// Whether one of the grants contains what is asked for. It takes no memory.
+pub fn is_granted(grants: &[RawJsonb<'_>], request: &RawJsonb<'_>) -> Result<bool, Error> {
+    for grant in grants {
+        if grant.contains(request)? {
+            return Ok(true);
+        }
+    }
+    Ok(false)
+}
+
+#[cfg(test)]
+mod tests {
+    use super::*;
+    use crate::documents::{EDITOR, READER, WRITE_API, WRITE_GUIDE, document};
+    use std::test::Fail;
+
+    #[test]
+    fn an_editor_writes_the_guide_alone(rt: HostRuntime) -> Result<(), Fail> {
+        let alloc = rt.alloc();
+        let editor = document(alloc, EDITOR)?;
+        let reader = document(alloc, READER)?;
+        let grants = [reader.as_raw(), editor.as_raw()];
+        for (request, wanted) in [(WRITE_GUIDE, true), (WRITE_API, false), (READER, true)] {
+            let request = document(alloc, request)?;
+            let granted = is_granted(grants.as_slice(), &request.as_raw())?;
+            assert_eq!(rt; granted, wanted);
+        }
+        Ok(())
+    }
+}

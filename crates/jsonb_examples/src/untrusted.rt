@@ -1,0 +1,56 @@
+//! Documents and paths from strangers: checked first, and each refusal answered by name.
+
+use jsonb::{Error, OwnedJsonb, RawJsonb, SelectByPath, parse_json_path};
+use std::alloc::Global;
+
+/// Longer texts are refused unread: each open parenthesis of a path takes room on the stack.
+const LONGEST_PATH: usize = 1_000;
+
+/// What a path selects of bytes that anybody may have sent.
+pub fn selected(alloc: Global, path: &[u8], bytes: &[u8]) -> Result<Vec<OwnedJsonb>, Error> {
+    if path.len() > LONGEST_PATH {
+        return Err(Error::InvalidJsonPath);
+    }
+    let path = parse_json_path(alloc, path)?;
+    let document = RawJsonb::new(bytes);
+    document.check()?;
+    document.select_by_path(alloc, &path)
+}
+
+/// The status of HTTP that tells a refusal.
+pub fn status(refusal: Error) -> u16 {
+    match refusal {
+        Error::InvalidJsonb | Error::InvalidJsonPath | Error::InvalidKeyPath => 400,
+        Error::TooLarge => 413,
+        Error::UnsupportedNumber | Error::Arithmetic(_) => 422,
+        Error::OutOfMemory => 503,
+        _ => 500,
+    }
+}
+
+#[cfg(test)]
+mod tests {
+    use super::*;
+    use std::test::Fail;
+
+    #[test]
+    fn refusals_have_names(rt: HostRuntime) -> Result<(), Fail> {
+        let alloc = rt.alloc();
+        let fraction = b"\x20\0\0\0\x20\0\0\x09\x60\x3f\xf8\0\0\0\0\0\0".as_slice();
+        let five = b"\x20\0\0\0\x20\0\0\x02\x50\x05".as_slice();
+        for (path, bytes, wanted) in [
+            (b"$".as_slice(), b"\x80\0\0".as_slice(), 400),
+            (b"$[1,]".as_slice(), five, 400),
+            (b"$".as_slice(), fraction, 422),
+            (b"$ / 0".as_slice(), five, 422),
+            (b"$ + 1".as_slice(), five, 200),
+        ] {
+            let answer = match selected(alloc, path, bytes) {
+                Ok(_) => 200,
+                Err(refusal) => status(refusal),
+            };
+            assert_eq!(rt; answer, wanted, "{path:?}");
+        }
+        Ok(())
+    }
+}

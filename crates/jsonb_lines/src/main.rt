@@ -1,0 +1,41 @@
+//! Asks documents in hexadecimal, one a line of standard input, of any size: `jsonb_lines select '$.a' < documents`.
+#![tactic(auto)]
+
+mod answer;
+mod lines;
+mod question;
+
+use std::env::Env;
+use std::io::{BufReader, BufWriter, Write};
+use std::process::ExitCode;
+use std::{env, io};
+
+/// The status where reading or writing failed, or where memory was refused outside an answer.
+const FAULT: u8 = 3;
+
+fn main(rt: HostRuntime) -> ExitCode {
+    match run(&rt) {
+        Ok(status) => ExitCode::from(status),
+        Err(_) => ExitCode::from(FAULT),
+    }
+}
+
+/// Answers standard input line by line.
+fn run<R: Env + Input + Print + AllocGlobal>(rt: &R) -> io::Result<u8> {
+    let alloc = rt.alloc();
+    let words = words(rt)?;
+    let input = BufReader::new(alloc, rt.reader())?;
+    let mut out = BufWriter::new(alloc, io::writer(rt))?;
+    let status = lines::answer_lines(alloc, words.as_slice(), input, &mut out)?;
+    out.flush()?;
+    Ok(status)
+}
+
+/// The arguments, without the program's name.
+fn words<R: Env + AllocGlobal>(rt: &R) -> io::Result<Vec<String>> {
+    let mut words = Vec::new(rt.alloc());
+    for word in env::args(rt)?.skip(1) {
+        words.push(word)?;
+    }
+    Ok(words)
+}
