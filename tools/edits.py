@@ -1,0 +1,168 @@
+"""The must-fail edits of the crates: where they stand, and which functions they change."""
+import importlib.machinery
+import importlib.util
+import os
+import re
+import shutil
+import sys
+import threading
+from dataclasses import dataclass
+
+# What these programs call of rt, and of the module rtlib that it loads.
+CALLED = {
+    "rt": "must_fail checked edits_of read_edit edited processors free rtlib",
+    "rtlib": "RATTLE crates_below guarded",
+}
+
+FUNCTION = re.compile(r"( *)(?:pub(?:\([^)]*\))? |const |unsafe )*fn (\w+)")
+TRAIT = r"(?:\w+::)*(\w+)(?:<(?:(?:\w+::)*(\w+))?.*>)?"
+IMPL = re.compile(rf"( *)impl(?:<.*?>)? (?:{TRAIT} for )?&?(?:'\w+ )?(?:\w+::)*(\w+)")
+CYCLE = re.compile(r"#\[cycle\((\w+)")
+
+
+def stop(why):
+    sys.exit(f"{os.path.basename(sys.argv[0])}: {why}")
+
+
+printing = threading.Lock()
+
+
+def say(text):
+    with printing:
+        print(text, flush=True)
+
+
+def load_rt():
+    """Returns rt, which is a Python program, as a module: how an edit is read, checked and judged is its own word."""
+    file = shutil.which("rt") or stop("there is no rt on the PATH")
+    sys.dont_write_bytecode = True
+    loader = importlib.machinery.SourceFileLoader("rt_of_kit", os.path.realpath(file))
+    made = importlib.util.module_from_spec(importlib.util.spec_from_loader("rt_of_kit", loader))
+    loader.exec_module(made)
+    for module, names in CALLED.items():
+        owner = made if module == "rt" else made.rtlib
+        for name in names.split():
+            if not hasattr(owner, name):
+                stop(f"{module} of this kit has no {name}: read what it has in its place, and mend this program")
+    return made
+
+
+rt = load_rt()
+
+
+@dataclass(frozen=True)
+class Function:
+    """Where the prover's output speaks of a function: patterns of its module and its name, and its cycle of calls."""
+
+    module: str
+    name: str
+    cycle: str | None
+
+    def lines(self, crate, said):
+        """Returns what the prover says of the function and its closures: their paths in the crate, a verdict each."""
+        path = f"{self.module}(?:{self.name}|fn::{self.name}::\\S+)"
+        return re.findall(rf"^fn {crate}::({path}): (.*)$", said, re.M)
+
+    def __str__(self):
+        return f"{'' if '(?:' in self.module else self.module}{self.name}".replace(r"\w*", "")
+
+
+def indent(row):
+    return len(row) - len(row.lstrip(" "))
+
+
+def header_above(rows):
+    """Returns the index of the header of the function whose body the last row is in, or None where it is in none.
+
+    In rt fmt's layout a header stands further left than its body, which begins behind a row of the header's column that
+    ends in `{`, and ends at a row `}` of that column.
+    """
+    for at in reversed(range(len(rows) - 1)):
+        if FUNCTION.match(rows[at]) and indent(rows[at]) < indent(rows[-1]):
+            beside = [it.strip() for it in rows[at:-1] if it.strip() and indent(it) == indent(rows[at])]
+            return at if any(it.endswith("{") for it in beside) and "}" not in beside else None
+    return None
+
+
+def cycle_of(rows, header):
+    """Returns the cycle that an attribute right above the function's header names, if there is one."""
+    for row in reversed(rows[:header]):
+        if found := CYCLE.search(row):
+            return found[1]
+        if not row.lstrip().startswith(("#[", "//")):
+            return None
+    return None
+
+
+def function_of(path, text, old, new):
+    """Returns the function whose body a pair changes in a file's text, or None where it changes no body alone."""
+    end = text.find("\n", text.index(old) + indent(old))
+    rows = text[: end if end >= 0 else len(text)].split("\n")
+    begins_body = FUNCTION.match(rows[-1]) and old.endswith("{") and new.startswith(old)
+    header = len(rows) - 1 if begins_body else header_above(rows)
+    if header is None or not path.startswith("src/"):
+        return None
+    name, cycle = FUNCTION.match(rows[header])[2], cycle_of(rows, header)
+    if not indent(rows[header]):
+        module = path.removeprefix("src/").removesuffix(".rt").replace("/", "::")
+        return Function("" if module in ("lib", "main") else f"{module}::", name, cycle)
+    impls = (IMPL.match(it) for it in reversed(rows[:header]) if indent(it) < indent(rows[header]))
+    impl = next((it for it in impls if it), None)
+    if not impl:
+        return None
+    # A method stands under its type, whose module need not be the file's. One of a trait stands as in
+    # NumberPartialEq::eq, and of a trait with an argument as in ErrorFromAllocError::from.
+    _, trait, argument, owner = impl.groups()
+    owner += rf"{trait}{argument or ''}\w*" if trait else ""
+    return Function(r"(?:\w+::)*", f"{owner}::{name}", cycle)
+
+
+def functions_of(edit, folder):
+    """Returns the functions that an edit's text changes, each once; None stands for a pair outside of bodies."""
+    path, old, texts, found = "", "", {}, []
+    for row in edit.split("\n"):
+        if row.startswith("file: "):
+            path = row.removeprefix("file: ").strip()
+            if path not in texts:
+                with open(f"{folder}/{path}", encoding="utf-8") as it:
+                    texts[path] = it.read()
+        elif row.startswith("old: "):
+            old = row.removeprefix("old: ")
+        elif row.startswith("new:"):
+            new = row.removeprefix("new:").removeprefix(" ")
+            found.append(function_of(path, texts[path], old, new))
+            texts[path] = texts[path].replace(old, new)
+    return list(dict.fromkeys(found))
+
+
+def read(edit, folder):
+    """Returns the functions that an edit file changes, and why it can't be tried, if it can't."""
+    _, fault = rt.read_edit(edit, folder)
+    if fault:
+        return [], fault
+    with open(edit, encoding="utf-8") as it:
+        functions = functions_of(it.read(), folder)
+    if len(functions) > 1 and None in functions:
+        return functions, "a pair stands in no function's body: such an edit needs a file of its own"
+    cycles = [it.cycle for it in functions if it and it.cycle]
+    if len({*cycles}) < len(cycles):
+        return functions, "two of its functions are in one cycle of calls: each needs a file of its own"
+    return functions, None
+
+
+def edits_below(top, names):
+    """Returns the crates below a folder, the lowest first, each with the edits that can be tried; and the faults.
+
+    Where names are given, the edits of other crates are left out.
+    """
+    crates, faults = [], []
+    for crate in rt.rtlib.crates_below(top):
+        good, bad = rt.edits_of(crate) if not names or crate.name in names else ([], [])
+        why = {it: read(it, crate.folder)[1] for it in good}
+        why |= dict.fromkeys(bad, "this is no name or place for an edit")
+        faults += [f"{crate.name}/{os.path.basename(it)}: BAD EDIT: {fault}" for it, fault in why.items() if fault]
+        crates.append((crate, [it for it in good if not why[it]]))
+    faults += [f"crates.txt names no crate {it}" for it in {*names} - {crate.name for crate, _ in crates}]
+    if not any(edits for _, edits in crates):
+        faults.append("there is no edit to try")
+    return crates, faults
