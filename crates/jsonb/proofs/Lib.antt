@@ -40,4 +40,5 @@ pub mod EqualLiterals
 pub mod EqualPaths
 pub mod SamePathLaws
 pub mod EqualPrinted
+pub mod DocumentLemmas
 mod EqualRows

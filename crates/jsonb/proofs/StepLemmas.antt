@@ -1,5 +1,5 @@
 -- Parts of the meaning of steps and filters.
-use Rattle.std.proofs.Common.{◌≡◌, ◌≢◌, ℕ, ◌+◌, ◌<◌, List, [], ◌∷◌, ◌++◌, length, drop, get_or, suc, add-one, Bool, true, false, Option, Some, None, Ok, Err, refl, sym, ap, ◌∙◌, append-nil, Box, Global, if◌then◌else◌}
+use Rattle.std.proofs.Common.{◌≡◌, ◌≢◌, ℕ, ◌+◌, ◌<◌, List, [], ◌∷◌, ◌++◌, length, drop, get_or, suc, add-one, map, Bool, true, false, Option, Some, None, Ok, Err, refl, sym, ap, ◌∙◌, append-nil, Box, Global, if◌then◌else◌}
 use Rattle.std.specs.Bool.{then_some}
 use Rattle.std.proofs.Math.Seq.{drop-cons}
 use Rattle.jsonb_doc.specs.Answer.{Outcome, with_value, joined}
@@ -10,9 +10,11 @@ use Rattle.jsonb.specs.PathTree.{steps_of}
 use Rattle.jsonb.specs.PathViews.{step_view, steps_view, expression_view, operator_view}
 use Rattle.jsonb.specs.Related.{AllRelated}
 use Rattle.jsonb.specs.Compare.{compare}
-use Rattle.jsonb.specs.Meaning.{step_meaning, steps_meaning, truth, operand_values, start, kept}
-use Rattle.jsonb.specs.Selection.{IsKept, option_spots}
+use Rattle.jsonb.specs.Meaning.{step_meaning, steps_meaning, truth, operand_values, start, kept, as_filter}
+use Rattle.jsonb.specs.Selection.{IsKept, option_spots, taken_step}
 use Rattle.jsonb.specs.declared.selector.document.Mode.{Mode}
+use Rattle.jsonb.specs.declared.selector.document.Expressions.{Expressions}
+use Rattle.jsonb.specs.declared.selector.document.Expressions.TheVariants.{AreFilters, AreRefused}
 use Rattle.jsonb.specs.declared.path.Path.{Path}
 use Rattle.jsonb.specs.declared.path.Expr.{Expr}
 use Rattle.jsonb.specs.declared.path.Expr.TheVariants as expr
@@ -50,15 +52,37 @@ kept_found R true o item t ts is k r = rw (is, k) (r, tt)
 kept_found R false o item t ts is k r = rw (is, k) tt
 
 -- the steps from the i-th one on: that step, and those behind it
-pub steps_at : (mode : Mode) (steps : List Path) (i : ℕ) (s : Path) (top : Tree) (us : List Tree) → i < length steps → s ≡ get_or steps i s →
-    steps_meaning mode (steps_of (steps_view (drop i steps))) top us ≡ with_value (joined (step_meaning mode (step_view s) top) us) (steps_meaning mode (steps_of (steps_view (drop (i + 1) steps))) top)
-steps_at mode steps i s top us h is =
-    ap (λ l. steps_meaning mode (steps_of (steps_view l)) top us) (drop-cons steps i s h ∙ ap (λ x. x ∷ drop (suc i) steps) (sym is) ∙ ap (λ n. s ∷ drop n steps) (sym (add-one i)))
+pub steps_at : (mode : Mode) (expressions : Expressions) (steps : List Path) (i : ℕ) (s : Path) (top : Tree) (us : List Tree) → i < length steps → s ≡ get_or steps i s →
+    steps_meaning mode (steps_of (map (taken_step expressions) (steps_view (drop i steps)))) top us
+    ≡ with_value (joined (step_meaning mode (taken_step expressions (step_view s)) top) us) (steps_meaning mode (steps_of (map (taken_step expressions) (steps_view (drop (i + 1) steps)))) top)
+steps_at mode expressions steps i s top us h is =
+    ap (λ l. steps_meaning mode (steps_of (map (taken_step expressions) (steps_view l))) top us)
+    (drop-cons steps i s h ∙ ap (λ x. x ∷ drop (suc i) steps) (sym is) ∙ ap (λ n. s ∷ drop n steps) (sym (add-one i)))
+
+-- expressions that are refused stay as they are, and those that are filters are seen as filters
+refused_step : (s : math.Step) → taken_step AreRefused s ≡ s
+refused_step (math.whole_expression e) = refl
+refused_step _ = refl
+
+filter_step : (s : math.Step) → taken_step AreFilters s ≡ as_filter s
+filter_step (math.whole_expression e) = refl
+filter_step _ = refl
+
+pub refused_steps : (ss : List math.Step) → map (taken_step AreRefused) ss ≡ ss
+refused_steps [] = refl
+refused_steps (s ∷ ss) = λ i. refused_step s i ∷ refused_steps ss i
+
+pub filter_steps : (ss : List math.Step) → map (taken_step AreFilters) ss ≡ map as_filter ss
+filter_steps [] = refl
+filter_steps (s ∷ ss) = λ i. filter_step s i ∷ filter_steps ss i
 
 -- the path of an operand or of `exists`, by the slices that are passed on
 pub from_start : (mode : Mode) (vs d1 d2 : List Path) (top u : Tree) → d1 ≡ vs → d2 ≡ vs →
-    steps_meaning mode (steps_of (steps_view vs)) top (start (steps_of (steps_view vs)) top u ∷ []) ≡ steps_meaning mode (steps_of (steps_view d1)) top (start (steps_of (steps_view d2)) top u ∷ [])
-from_start mode vs d1 d2 top u p q = λ i. steps_meaning mode (steps_of (steps_view (sym p i))) top (start (steps_of (steps_view (sym q i))) top u ∷ [])
+    steps_meaning mode (steps_of (steps_view vs)) top (start (steps_of (steps_view vs)) top u ∷ [])
+    ≡ steps_meaning mode (steps_of (map (taken_step AreRefused) (steps_view d1))) top (start (steps_of (steps_view d2)) top u ∷ [])
+from_start mode vs d1 d2 top u p q =
+    (λ i. steps_meaning mode (steps_of (steps_view (sym p i))) top (start (steps_of (steps_view (sym q i))) top u ∷ []))
+    ∙ ap (λ l. steps_meaning mode (steps_of l) top (start (steps_of (steps_view d2)) top u ∷ [])) (sym (refused_steps (steps_view d1)))
 
 -- every other operator compares
 comparison : (mode : Mode) (op : BinaryOperator) (l r : math.Expression) (top u : Tree) → op ≢ And → op ≢ Or → op ≢ Add → op ≢ Subtract → op ≢ Multiply → op ≢ Divide → op ≢ Modulo →

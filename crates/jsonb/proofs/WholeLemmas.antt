@@ -38,9 +38,6 @@ others s (Path-F.ArrayIndices v) h n = (ap as_filter (step_is s _ h) ∙ sym (st
 others s (Path-F.FilterExpr e) h n = (ap as_filter (step_is s _ h) ∙ sym (step_is s _ h), ap step_expression (step_is s _ h))
 others s (Path-F.Expr e) h n = absurd (n e (sym (roll-out-Path s) ∙ ap roll-Path h ∙ step.rolls-Expr e))
 
-pub no_expression : (s : Path) → ((e : Box Expr Global) → s ≡ step.Expr e → ⊥) → as_filter (step_view s) ≡ step_view s
-no_expression s n = (others s (out-Path s) refl n).0
-
 pub no_step_expression : (s : Path) → ((e : Box Expr Global) → s ≡ step.Expr e → ⊥) → step_expression (step_view s) ≡ None
 no_step_expression s n = (others s (out-Path s) refl n).1
 
@@ -54,13 +51,6 @@ pub not_one_step : (steps : List Path) → (length steps ≡ 1 → ⊥) → lone
 not_one_step [] n = refl
 not_one_step (t ∷ []) n = absurd (n refl)
 not_one_step (t ∷ u ∷ rest) n = refl
-
--- the steps from the i-th one on: that step, and those behind it
-pub top_steps_at : (mode : Mode) (steps : List Path) (i : ℕ) (s : Path) (top : Tree) (us : List Tree) → i < length steps → s ≡ get_or steps i s →
-    steps_meaning mode (steps_of (map as_filter (steps_view (drop i steps)))) top us
-    ≡ with_value (joined (step_meaning mode (as_filter (step_view s)) top) us) (steps_meaning mode (steps_of (map as_filter (steps_view (drop (i + 1) steps)))) top)
-top_steps_at mode steps i s top us h is =
-    ap (λ l. steps_meaning mode (steps_of (map as_filter (steps_view l))) top us) (drop-cons steps i s h ∙ ap (λ x. x ∷ drop (suc i) steps) (sym is) ∙ ap (λ n. s ∷ drop n steps) (sym (add-one i)))
 
 -- the meaning of a path that is one expression, of one that begins with `@`, and of all others
 step_expression_is : (s : Step) (e : Expression) → step_expression s ≡ Some e → s ≡ math.whole_expression e

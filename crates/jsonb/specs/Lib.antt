@@ -20,6 +20,7 @@ pub mod Selection
 pub mod SelectorLaws
 pub mod Selected
 pub mod PathEquality
+pub mod PathDocuments
 -- what clauses cite of the crates below, for the crates above
 pub use Rattle.jsonb_doc.specs.declared.error.Error
 pub use Rattle.jsonb_doc.specs.ErrorText

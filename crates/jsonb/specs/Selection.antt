@@ -10,10 +10,12 @@ use Rattle.jsonb_doc.specs.Payload.{Form}
 use Rattle.jsonb_doc.specs.Item.{Stands}
 use Rattle.jsonb_doc.specs.Spots.{Marks}
 use Rattle.jsonb_doc.specs.Tree.{Tree, number, array, trees_of}
-use Rattle.jsonb.specs.PathTree.{Expression, Step, current, whole_expression}
+use Rattle.jsonb.specs.PathTree.{Expression, Step, current, filter, whole_expression}
 use Rattle.jsonb.specs.Related.{AllRelated}
 use Rattle.jsonb.specs.Values as val
 use Rattle.jsonb.specs.declared.selector.document.Document.{Document}
+use Rattle.jsonb.specs.declared.selector.document.Expressions.{Expressions}
+use Rattle.jsonb.specs.declared.selector.document.Expressions.TheVariants as expressions
 use Rattle.jsonb.specs.declared.selector.operand.Operand.{Operand}
 use Rattle.jsonb.specs.declared.selector.operand.Operand.TheVariants as operand
 use Rattle.jsonb.specs.declared.selector.operand.Values.{Values}
@@ -70,6 +72,15 @@ IsPart form (part.ArrayOf item) t = (u : Tree) × (t ≡ array (trees_of (u ∷ 
 abbrev pub Selects : Form → Document → Selected → List Tree → Type 0
 Selects form document (selected.Spots places) ts = AllRelated (IsAt document) (found_spots places) ts
 Selects form document (selected.Made v) ts = AllRelated (IsPart form) v.items ts
+
+-- what a step is where an expression is a filter, or refused
+abbrev pub taken_as : Expressions → Expression → Step
+taken_as expressions.AreFilters e = filter e
+taken_as expressions.AreRefused e = whole_expression e
+
+abbrev pub taken_step : Expressions → Step → Step
+taken_step all (whole_expression e) = taken_as all e
+taken_step all s = s
 
 -- the expression of a step, and the one that is the whole path
 abbrev pub step_expression : Step → Option Expression

@@ -3,7 +3,8 @@
 //! Those of the crates below are here too: of documents and numbers in `documents`, of tokens and key paths in
 //! `key_paths`, and of what is asked of documents in `functions`.
 
-ghost use Rattle.std.specs.Prelude.{◌≡◌, ◌↔◌, ℕ, Bool, true, List, IfSome};
+ghost use Rattle.std.specs.Prelude.{◌≡◌, ◌↔◌, ℕ, Bool, true, false, List, IfSome};
+ghost use Rattle.jsonb.specs.PathDocuments.{has_document};
 ghost use Rattle.jsonb.specs.PathEquality.{SameLiteral, SameStep, SameExpression, SamePath, PrintsAsEqual};
 ghost use Rattle.jsonb.specs.PathGrammar.{json_path, another_entry, spaced_inner, path_with, path_step, another_atom, another_and, nested_or};
 ghost use Rattle.jsonb.specs.PathLaws.{ReadsBack, RulesHold};
@@ -22,15 +23,14 @@ ghost use Rattle.jsonb.specs.contracts.path.UnaryOperatorPartialEq.TheImpl.{eq-v
 ghost use Rattle.jsonb.specs.contracts.path.compare.PathValuePartialEq.TheImpl.{eq-value as literals_equal};
 ghost use Rattle.jsonb_keypath.specs.TokenLaws.{ReadsSome};
 
-pub use jsonb_doc::laws as documents;
-pub use jsonb_keypath::laws as key_paths;
-pub use jsonb_raw::laws as functions;
-pub use jsonb_raw::laws::printed_key_paths_keep_their_place;
-
 use crate::path::{
     ArrayIndex, BinaryOperator, Expr, Index, JsonPath, Path, PathValue, RecursiveLevel,
     RecursiveLevelEnd, UnaryOperator,
 };
+pub use jsonb_doc::laws as documents;
+pub use jsonb_keypath::laws as key_paths;
+pub use jsonb_raw::laws as functions;
+pub use jsonb_raw::laws::printed_key_paths_keep_their_place;
 
 /// A JSON path that was read prints to a text that reads as the same path, but for which variant
 /// holds a whole number.
@@ -149,4 +149,9 @@ pub fn same_paths()
 pub fn read_json_path_equals_what_it_prints(text: &[u8])
     ensures itself { IfSome (json_path text.now) (λ p. SamePath p p) }
     ensures printed { IfSome (json_path text.now) PrintsAsEqual }
+{}
+
+/// A JSON path that was read has no document among its literals.
+pub fn read_json_path_has_no_document(text: &[u8])
+    ensures { IfSome (json_path text.now) (λ p. has_document p ≡ false) }
 {}

@@ -1,7 +1,9 @@
 //! `to_owned`: the same parts with texts of their own, which outlive the text that was read.
 
-ghost use Rattle.std.specs.Prelude.{◌≡◌, IfOk};
+ghost use Rattle.std.specs.Prelude.{◌≡◌, false, IfOk, IfErr, OnOk};
 ghost use Rattle.std.specs.Cow.{cow_str_bytes};
+ghost use Rattle.jsonb_doc.specs.Answer.{WantsMemory};
+ghost use Rattle.jsonb.specs.PathDocuments.{is_document, step_has_document, expression_has_document, has_document, IsOwningError};
 ghost use Rattle.jsonb.specs.PathViews.{literal_view, step_view, steps_view, expression_view, path_view};
 
 use super::{Expr, JsonPath, Path, PathValue};
@@ -11,9 +13,11 @@ use std::borrow::CowStr;
 
 impl JsonPath<'_> {
     /// The same steps, with texts of their own. `OutOfMemory` where memory is refused, and `InvalidJsonPath` where a
-    /// literal is a document, which borrows: no text has one.
+    /// literal is a document, which borrows its bytes. No path that was read from a text has one.
     pub fn to_owned(&self, alloc: Global) -> Result<JsonPath<'static>, Error>
-        ensures { IfOk result (λ copy. path_view copy ≡ path_view self.now) }
+        ensures copy { IfOk result (λ copy. path_view copy ≡ path_view self.now) }
+        ensures whole { OnOk result (has_document (path_view self.now) ≡ false) }
+        ensures errors { IfErr result (IsOwningError (has_document (path_view self.now))) }
     {
         let paths = owned_steps(&self.paths, alloc)?;
         Ok(JsonPath { paths })
@@ -21,10 +25,12 @@ impl JsonPath<'_> {
 }
 
 impl Path<'_> {
-    /// The same step. `OutOfMemory` where memory is refused.
+    /// The same step, with texts of its own. It is refused as a path of it is.
     #[cycle(own)]
     pub fn to_owned(&self, alloc: Global) -> Result<Path<'static>, Error>
-        ensures { IfOk result (λ copy. step_view copy ≡ step_view self.now) }
+        ensures copy { IfOk result (λ copy. step_view copy ≡ step_view self.now) }
+        ensures whole { OnOk result (step_has_document (step_view self.now) ≡ false) }
+        ensures errors { IfErr result (IsOwningError (step_has_document (step_view self.now))) }
     {
         match self {
             Path::Root => Ok(Path::Root),
@@ -49,10 +55,12 @@ impl Path<'_> {
 }
 
 impl Expr<'_> {
-    /// The same expression. `OutOfMemory` where memory is refused.
+    /// The same expression, with texts of its own. It is refused as a path of it is.
     #[cycle(own)]
     pub fn to_owned(&self, alloc: Global) -> Result<Expr<'static>, Error>
-        ensures { IfOk result (λ copy. expression_view copy ≡ expression_view self.now) }
+        ensures copy { IfOk result (λ copy. expression_view copy ≡ expression_view self.now) }
+        ensures whole { OnOk result (expression_has_document (expression_view self.now) ≡ false) }
+        ensures errors { IfErr result (IsOwningError (expression_has_document (expression_view self.now))) }
     {
         match self {
             Expr::Paths(steps) => Ok(Expr::Paths(owned_steps(steps, alloc)?)),
@@ -85,7 +93,9 @@ impl PathValue<'_> {
     /// The same literal, with a text of its own. `OutOfMemory` where memory is refused, and `InvalidJsonPath` for a
     /// document.
     pub fn to_owned(&self, alloc: Global) -> Result<PathValue<'static>, Error>
-        ensures { IfOk result (λ copy. literal_view copy ≡ literal_view self.now) }
+        ensures copy { IfOk result (λ copy. literal_view copy ≡ literal_view self.now) }
+        ensures whole { OnOk result (is_document (literal_view self.now) ≡ false) }
+        ensures errors { IfErr result (IsOwningError (is_document (literal_view self.now))) }
     {
         match self {
             PathValue::Null => Ok(PathValue::Null),
@@ -100,7 +110,9 @@ impl PathValue<'_> {
 // The same steps, one after the other.
 #[cycle(own)]
 fn owned_steps(steps: &Vec<Path<'_>>, alloc: Global) -> Result<Vec<Path<'static>>, Error>
-    ensures { IfOk result (λ copies. steps_view copies.items ≡ steps_view steps.now.items) }
+    ensures copy { IfOk result (λ copies. steps_view copies.items ≡ steps_view steps.now.items) }
+    ensures whole { OnOk result (has_document (steps_view steps.now.items) ≡ false) }
+    ensures errors { IfErr result (IsOwningError (has_document (steps_view steps.now.items))) }
 {
     let mut copies = Vec::with_capacity(alloc, steps.len())?;
     for step in steps {
@@ -110,7 +122,8 @@ fn owned_steps(steps: &Vec<Path<'_>>, alloc: Global) -> Result<Vec<Path<'static>
 }
 
 fn owned_text(text: &CowStr<'_, Global>, alloc: Global) -> Result<CowStr<'static, Global>, Error>
-    ensures { IfOk result (λ copy. cow_str_bytes copy ≡ cow_str_bytes text.now) }
+    ensures copy { IfOk result (λ copy. cow_str_bytes copy ≡ cow_str_bytes text.now) }
+    ensures errors { IfErr result WantsMemory }
 {
     Ok(CowStr::Owned(String::from_str(alloc, text.as_str())?))
 }

@@ -17,3 +17,12 @@ pub(crate) enum Mode {
     /// It is refused.
     Strict,
 }
+
+/// What an expression among the steps of a path is.
+#[derive(Clone, Copy)]
+pub(crate) enum Expressions {
+    /// A filter, as among the steps of a whole path.
+    AreFilters,
+    /// Refused, as within an operand or `exists`.
+    AreRefused,
+}

@@ -1,6 +1,6 @@
 //! The steps of a path, one after the other, and the filters in them.
 
-ghost use Rattle.std.specs.Prelude.{◌≡◌, ◌++◌, ◌∷◌, [], List, Ok, map, flat_map, true, IfErr};
+ghost use Rattle.std.specs.Prelude.{◌≡◌, ◌++◌, ◌∷◌, [], List, map, IfErr};
 ghost use Rattle.jsonb_doc.specs.Answer.{Gives, WantsMemory, joined, with_value};
 ghost use Rattle.jsonb_doc.specs.Spots.{Marks};
 ghost use Rattle.jsonb_doc.specs.Tree.{Tree};
@@ -8,13 +8,13 @@ ghost use Rattle.jsonb.specs.PathTree.{steps_of, filter};
 ghost use Rattle.jsonb.specs.PathViews.{step_view, steps_view, expression_view};
 ghost use Rattle.jsonb.specs.Related.{AllRelated};
 ghost use Rattle.jsonb.specs.Meaning.{step_meaning, steps_meaning, truth, operand_values, start};
-ghost use Rattle.jsonb.specs.Selection.{IsAt, HasTree, found_spots, values_view, IsKept};
+ghost use Rattle.jsonb.specs.Selection.{IsAt, HasTree, found_spots, values_view, IsKept, taken_step};
 ghost use Rattle.jsonb.specs.SelectionErrors.{IsSelectionError};
 
 use super::children::{
     field, push_elements, push_field, push_if, push_positions, push_spot, push_values,
 };
-use super::document::{Document, Mode};
+use super::document::{Document, Expressions, Mode};
 use super::found::Found;
 use super::levels::push_levels;
 use super::operand::{Values, both, compare, either, literal_operand};
@@ -28,13 +28,14 @@ use std::alloc::Global;
 fn push_step<'a>(
     alloc: Global,
     mode: Mode,
+    expressions: Expressions,
     step: &'a Path<'_>,
     document: Document<'a>,
     item: Spot,
     queue: &mut Vec<Spot>,
 ) -> Result<(), Error>
     ensures meant { (top t : Tree) (before : List Tree) → HasTree document.entry top → IsAt document.entry item t → AllRelated (IsAt document.entry) queue.old.items before
-        → Gives (λ _ ts. AllRelated (IsAt document.entry) queue.new.items (before ++ ts)) WantsMemory result (step_meaning mode (step_view step.now) top t) }
+        → Gives (λ _ ts. AllRelated (IsAt document.entry) queue.new.items (before ++ ts)) WantsMemory result (step_meaning mode (taken_step expressions (step_view step.now)) top t) }
     ensures errors { IfErr result (IsSelectionError mode) }
 {
     match step {
@@ -53,12 +54,32 @@ fn push_step<'a>(
         Path::DotField(name) => push_field(document.bytes, mode, name.as_str(), item, queue),
         Path::ColonField(name) => push_field(document.bytes, mode, name.as_str(), item, queue),
         Path::ObjectField(name) => push_field(document.bytes, mode, name.as_str(), item, queue),
-        Path::FilterExpr(e) => {
-            let keeps = is_kept(alloc, mode, e, document, item)?;
-            push_if(keeps, item, queue)
-        }
-        Path::Expr(_) => Err(Error::InvalidJsonPath),
+        Path::FilterExpr(e) => push_kept(alloc, mode, e, document, item, queue),
+        Path::Expr(e) => match expressions {
+            Expressions::AreFilters => push_kept(alloc, mode, e, document, item, queue),
+            Expressions::AreRefused => Err(Error::InvalidJsonPath),
+        },
     }
+}
+
+/// An item that a filter keeps, behind what the queue has.
+#[cycle(steps)]
+fn push_kept<'a>(
+    alloc: Global,
+    mode: Mode,
+    e: &'a Expr<'_>,
+    document: Document<'a>,
+    item: Spot,
+    queue: &mut Vec<Spot>,
+) -> Result<(), Error>
+    ensures meant { (top t : Tree) (before : List Tree) → HasTree document.entry top → IsAt document.entry item t
+        → AllRelated (IsAt document.entry) queue.old.items before
+        → Gives (λ _ ts. AllRelated (IsAt document.entry) queue.new.items (before ++ ts)) WantsMemory result
+            (step_meaning mode (filter (expression_view e.now)) top t) }
+    ensures errors { IfErr result (IsSelectionError mode) }
+{
+    let keeps = is_kept(alloc, mode, e, document, item)?;
+    push_if(keeps, item, queue)
 }
 
 /// One step of one item. What gives one item at most needs no memory.
@@ -66,12 +87,13 @@ fn push_step<'a>(
 fn step_item<'a>(
     alloc: Global,
     mode: Mode,
+    expressions: Expressions,
     step: &'a Path<'_>,
     document: Document<'a>,
     item: Spot,
 ) -> Result<Found, Error>
     ensures meant { (top t : Tree) → HasTree document.entry top → IsAt document.entry item t
-        → Gives (λ found ts. AllRelated (IsAt document.entry) (found_spots found) ts) WantsMemory result (step_meaning mode (step_view step.now) top t) }
+        → Gives (λ found ts. AllRelated (IsAt document.entry) (found_spots found) ts) WantsMemory result (step_meaning mode (taken_step expressions (step_view step.now)) top t) }
     ensures errors { IfErr result (IsSelectionError mode) }
 {
     match step {
@@ -84,7 +106,7 @@ fn step_item<'a>(
         }
         _ => {
             let mut queue = Vec::new(alloc);
-            push_step(alloc, mode, step, document, item, &mut queue)?;
+            push_step(alloc, mode, expressions, step, document, item, &mut queue)?;
             Ok(Found::Many(queue))
         }
     }
@@ -95,19 +117,20 @@ fn step_item<'a>(
 pub(crate) fn step_list<'a>(
     alloc: Global,
     mode: Mode,
+    expressions: Expressions,
     step: &'a Path<'_>,
     document: Document<'a>,
     items: Found,
 ) -> Result<Found, Error>
     ensures meant { (top : Tree) (ts : List Tree) → HasTree document.entry top → AllRelated (IsAt document.entry) (found_spots items) ts
-        → Gives (λ found us. AllRelated (IsAt document.entry) (found_spots found) us) WantsMemory result (joined (step_meaning mode (step_view step.now) top) ts) }
+        → Gives (λ found us. AllRelated (IsAt document.entry) (found_spots found) us) WantsMemory result (joined (step_meaning mode (taken_step expressions (step_view step.now)) top) ts) }
     ensures errors { IfErr result (IsSelectionError mode) }
 {
     match step {
         Path::Root | Path::Current => Ok(items),
         _ => match items {
-            Found::One(item) => step_item(alloc, mode, step, document, item),
-            Found::Many(items) => step_many(alloc, mode, step, document, &items),
+            Found::One(item) => step_item(alloc, mode, expressions, step, document, item),
+            Found::Many(items) => step_many(alloc, mode, expressions, step, document, &items),
         },
     }
 }
@@ -117,17 +140,18 @@ pub(crate) fn step_list<'a>(
 fn step_many<'a>(
     alloc: Global,
     mode: Mode,
+    expressions: Expressions,
     step: &'a Path<'_>,
     document: Document<'a>,
     items: &[Spot],
 ) -> Result<Found, Error>
     ensures meant { (top : Tree) (ts : List Tree) → HasTree document.entry top → AllRelated (IsAt document.entry) items.now ts
-        → Gives (λ found us. AllRelated (IsAt document.entry) (found_spots found) us) WantsMemory result (joined (step_meaning mode (step_view step.now) top) ts) }
+        → Gives (λ found us. AllRelated (IsAt document.entry) (found_spots found) us) WantsMemory result (joined (step_meaning mode (taken_step expressions (step_view step.now)) top) ts) }
     ensures errors { IfErr result (IsSelectionError mode) }
 {
     let mut queue = Vec::new(alloc);
     for item in items {
-        push_step(alloc, mode, step, document, *item, &mut queue)?;
+        push_step(alloc, mode, expressions, step, document, *item, &mut queue)?;
     }
     Ok(Found::Many(queue))
 }
@@ -137,17 +161,18 @@ fn step_many<'a>(
 pub(crate) fn select_steps<'a>(
     alloc: Global,
     mode: Mode,
+    expressions: Expressions,
     steps: &'a [Path<'_>],
     document: Document<'a>,
     first: Spot,
 ) -> Result<Found, Error>
     ensures meant { (top t : Tree) → HasTree document.entry top → IsAt document.entry first t
-        → Gives (λ found us. AllRelated (IsAt document.entry) (found_spots found) us) WantsMemory result (steps_meaning mode (steps_of (steps_view steps.now)) top (t ∷ [])) }
+        → Gives (λ found us. AllRelated (IsAt document.entry) (found_spots found) us) WantsMemory result (steps_meaning mode (steps_of (map (taken_step expressions) (steps_view steps.now))) top (t ∷ [])) }
     ensures errors { IfErr result (IsSelectionError mode) }
 {
     let mut items = Found::One(first);
     for step in steps {
-        items = step_list(alloc, mode, step, document, items)?;
+        items = step_list(alloc, mode, expressions, step, document, items)?;
     }
     Ok(items)
 }
@@ -160,23 +185,6 @@ fn first_item(steps: &[Path<'_>], document: Document<'_>, item: Spot) -> Spot
         Some(Path::Current) => item,
         _ => document.root,
     }
-}
-
-/// What a path within an expression gives of an item.
-#[cycle(steps)]
-fn path_items<'a>(
-    alloc: Global,
-    mode: Mode,
-    steps: &'a [Path<'_>],
-    document: Document<'a>,
-    item: Spot,
-) -> Result<Found, Error>
-    ensures meant { (top t : Tree) → HasTree document.entry top → IsAt document.entry item t
-        → Gives (λ found us. AllRelated (IsAt document.entry) (found_spots found) us) WantsMemory result (steps_meaning mode (steps_of (steps_view steps.now)) top (start (steps_of (steps_view steps.now)) top t ∷ [])) }
-    ensures errors { IfErr result (IsSelectionError mode) }
-{
-    let first = first_item(steps, document, item);
-    select_steps(alloc, mode, steps, document, first)
 }
 
 /// Whether a filter keeps an item.
@@ -235,7 +243,8 @@ pub(crate) fn truth<'a>(
             }
         },
         Expr::ExistsFunc(steps) => {
-            let found = path_items(alloc, mode, steps, document, item)?;
+            let first = first_item(steps, document, item);
+            let found = select_steps(alloc, mode, Expressions::AreRefused, steps, document, first)?;
             Ok(Some(!found.as_slice().is_empty()))
         }
         Expr::Paths(_) | Expr::Value(_) | Expr::UnaryOp { .. } => Err(Error::InvalidJsonPath),
@@ -257,7 +266,8 @@ pub(crate) fn operand_values<'a>(
 {
     match e {
         Expr::Paths(steps) => {
-            let found = path_items(alloc, mode, steps, document, item)?;
+            let first = first_item(steps, document, item);
+            let found = select_steps(alloc, mode, Expressions::AreRefused, steps, document, first)?;
             found_values(alloc, document.bytes, found)
         }
         Expr::Value(literal) => Ok(Values::One(literal_operand(literal))),

@@ -17,13 +17,11 @@ ghost use Rattle.jsonb_raw.specs.Documents.{IsReadingError};
 ghost use Rattle.jsonb.specs.SelectionErrors.{IsSelectionError};
 
 use super::calculate::{binary_number, is_arithmetic, unary_numbers};
-use super::children::push_if;
-use super::document::{Document, Mode};
-use super::found::Found;
+use super::document::{Document, Expressions, Mode};
 use super::part::{Part, Selected};
-use super::steps::{is_kept, operand_values, step_list, truth};
+use super::steps::{operand_values, select_steps, truth};
 use crate::path::{BinaryOperator, Expr, Path, PathValue, UnaryOperator};
-use jsonb_doc::{Error, Item, Number, Spot, root_item};
+use jsonb_doc::{Error, Item, Number, root_item};
 use std::alloc::Global;
 
 /// What a path selects.
@@ -44,7 +42,7 @@ pub(crate) fn selection<'a>(
     if begins_with_current(steps) {
         return Err(Error::InvalidJsonPath);
     }
-    let spots = top_steps(alloc, mode, steps, document)?;
+    let spots = select_steps(alloc, mode, Expressions::AreFilters, steps, document, document.root)?;
     Ok(Selected::Spots(spots))
 }
 
@@ -77,78 +75,6 @@ fn begins_with_current(steps: &[Path<'_>]) -> bool
         Some(Path::Current) => true,
         _ => false,
     }
-}
-
-// The steps of a path, one after the other, from the root.
-fn top_steps<'a>(
-    alloc: Global,
-    mode: Mode,
-    steps: &'a [Path<'_>],
-    document: Document<'a>,
-) -> Result<Found, Error>
-    ensures meant { (top : Tree) → HasTree document.entry top
-        → Gives (λ found us. AllRelated (IsAt document.entry) (found_spots found) us) WantsMemory result (steps_meaning mode (steps_of (map as_filter (steps_view steps.now))) top (top ∷ [])) }
-    ensures errors { IfErr result (IsSelectionError mode) }
-{
-    let mut items = Found::One(document.root);
-    for step in steps {
-        items = top_step(alloc, mode, step, document, items)?;
-    }
-    Ok(items)
-}
-
-// One step of the path of each item of a list. An expression is a filter there.
-fn top_step<'a>(
-    alloc: Global,
-    mode: Mode,
-    step: &'a Path<'_>,
-    document: Document<'a>,
-    items: Found,
-) -> Result<Found, Error>
-    ensures meant { (top : Tree) (ts : List Tree) → HasTree document.entry top → AllRelated (IsAt document.entry) (found_spots items) ts
-        → Gives (λ found us. AllRelated (IsAt document.entry) (found_spots found) us) WantsMemory result (joined (step_meaning mode (as_filter (step_view step.now)) top) ts) }
-    ensures errors { IfErr result (IsSelectionError mode) }
-{
-    match step {
-        Path::Expr(e) => kept_items(alloc, mode, e, document, items.as_slice()),
-        _ => step_list(alloc, mode, step, document, items),
-    }
-}
-
-// The items of a list that a filter keeps.
-fn kept_items<'a>(
-    alloc: Global,
-    mode: Mode,
-    e: &'a Expr<'_>,
-    document: Document<'a>,
-    items: &[Spot],
-) -> Result<Found, Error>
-    ensures meant { (top : Tree) (ts : List Tree) → HasTree document.entry top → AllRelated (IsAt document.entry) items.now ts
-        → Gives (λ found us. AllRelated (IsAt document.entry) (found_spots found) us) WantsMemory result (joined (step_meaning mode (filter (expression_view e.now)) top) ts) }
-    ensures errors { IfErr result (IsSelectionError mode) }
-{
-    let mut queue = Vec::new(alloc);
-    for item in items {
-        push_kept(alloc, mode, e, document, *item, &mut queue)?;
-    }
-    Ok(Found::Many(queue))
-}
-
-// An item that a filter keeps, behind what the queue has.
-fn push_kept<'a>(
-    alloc: Global,
-    mode: Mode,
-    e: &'a Expr<'_>,
-    document: Document<'a>,
-    item: Spot,
-    queue: &mut Vec<Spot>,
-) -> Result<(), Error>
-    ensures meant { (top t : Tree) (before : List Tree) → HasTree document.entry top → IsAt document.entry item t → AllRelated (IsAt document.entry) queue.old.items before
-        → Gives (λ _ ts. AllRelated (IsAt document.entry) queue.new.items (before ++ ts)) WantsMemory result (step_meaning mode (filter (expression_view e.now)) top t) }
-    ensures errors { IfErr result (IsSelectionError mode) }
-{
-    let keeps = is_kept(alloc, mode, e, document, item)?;
-    push_if(keeps, item, queue)
 }
 
 // What an expression makes that is the whole path.

@@ -1,7 +1,11 @@
-use Rattle.std.proofs.Common.{◌≡◌, take, map}
-use Rattle.jsonb.specs.PathViews.{step_view}
+use Rattle.std.proofs.Common.{◌≡◌, take, map, false}
+use Rattle.jsonb.specs.PathDocuments.{has_document}
+use Rattle.jsonb.specs.PathViews.{step_view, steps_view}
 use Rattle.jsonb.proofs.path.+own.Given as goal
 
--- the steps before the index are copied
+-- the steps before the index are copied, and have no document
 abbrev pub invariant-own::owned_steps-loop-step : goal.invariant-own::owned_steps-loop-step
-invariant-own::owned_steps-loop-step l = map step_view l.copies.items ≡ map step_view (take l.step-index l.step-items)
+invariant-own::owned_steps-loop-step l = record {
+  copied : map step_view l.copies.items ≡ map step_view (take l.step-index l.step-items);
+  whole : has_document (steps_view (take l.step-index l.step-items)) ≡ false;
+}

@@ -1,0 +1,86 @@
+-- Which paths have documents among their literals.
+use Rattle.std.proofs.Common.{◌≡◌, ℕ, ◌+◌, ◌<◌, Bool, true, false, List, [], ◌∷◌, ◌++◌, length, take, drop, get_or, suc, add-one, Option, Some, None, refl, sym, ap, ◌∙◌, inl, inr}
+use Rattle.std.specs.Prelude.{◌||◌, IfSome, map}
+use Rattle.std.proofs.Math.Seq.{drop-cons}
+use Rattle.std.proofs.lemmas.List.{take_more, take-append-drop, map-append}
+use Rattle.jsonb_doc.specs.declared.error.Error.{Error}
+use Rattle.jsonb.specs.PathDocuments.{is_document, step_has_document, steps_have_document, expression_has_document, has_document, IsOwningError}
+use Rattle.jsonb.specs.PathEquality.{SameLiteral, SameStep, SameSteps, SameExpression, SamePath}
+use Rattle.jsonb.specs.PathGrammar.{json_path}
+use Rattle.jsonb.specs.PathTree.{Literal, raw, Step, filter, whole_expression, Steps, no_steps, step, Expression, paths, value, binary, unary, exists, steps_of}
+use Rattle.jsonb.specs.PathViews.{step_view, steps_view}
+use Rattle.jsonb.specs.declared.path.Path.{Path}
+use Rattle.jsonb.proofs.EqualPrinted.{read_equals_itself}
+
+-- ---- what equals itself has none
+
+literal_none : (l : Literal) → SameLiteral l l → is_document l ≡ false
+literal_none (raw document) h = absurd h
+literal_none _ h = refl
+
+mutual
+  step_none : (s : Step) → SameStep s s → step_has_document s ≡ false
+  step_none (filter e) h = expression_none e h
+  step_none (whole_expression e) h = expression_none e h
+  step_none _ h = refl
+
+  steps_none : (ss : Steps) → SameSteps ss ss → steps_have_document ss ≡ false
+  steps_none no_steps h = refl
+  steps_none (step s rest) h = rw (step_none s h.0, steps_none rest h.1) refl
+
+  expression_none : (e : Expression) → SameExpression e e → expression_has_document e ≡ false
+  expression_none (paths ss) h = steps_none ss h
+  expression_none (value l) h = literal_none l h
+  expression_none (binary op l r) h = rw (expression_none l h.1, expression_none r h.2) refl
+  expression_none (unary op e) h = expression_none e h.1
+  expression_none (exists ss) h = steps_none ss h
+
+none_of : (o : Option (List Step)) → IfSome o (λ p. SamePath p p) → IfSome o (λ p. has_document p ≡ false)
+none_of (Some p) h = steps_none (steps_of p) h
+none_of None h = tt
+
+pub read_has_none : (text : List ℕ) → IfSome (json_path text) (λ p. has_document p ≡ false)
+read_has_none text = none_of (json_path text) (read_equals_itself text)
+
+-- ---- lists of steps
+
+or_assoc : (a b c : Bool) → a || (b || c) ≡ (a || b) || c
+or_assoc true b c = refl
+or_assoc false b c = refl
+
+or_true : (a : Bool) → a || true ≡ true
+or_true true = refl
+or_true false = refl
+
+has_document-append : (ss ts : List Step) → has_document (ss ++ ts) ≡ has_document ss || has_document ts
+has_document-append [] ts = refl
+has_document-append (s ∷ ss) ts = ap (λ b. step_has_document s || b) (has_document-append ss ts) ∙ or_assoc (step_has_document s) (has_document ss) (has_document ts)
+
+-- one more step without
+pub none_more : (xs : List Path) (i : ℕ) (s : Path) → i < length xs → s ≡ get_or xs i s → step_has_document (step_view s) ≡ false →
+    has_document (steps_view (take i xs)) ≡ false → has_document (steps_view (take (i + 1) xs)) ≡ false
+none_more xs i s short is none before =
+    ap (λ l. has_document (steps_view l)) (take_more xs i s short) ∙ ap has_document (map-append step_view (take i xs) (get_or xs i s ∷ []))
+    ∙ has_document-append (steps_view (take i xs)) (step_view (get_or xs i s) ∷ [])
+    ∙ (λ j. before j || (step_has_document (step_view (sym is j)) || false)) ∙ ap (λ b. b || false) none
+
+-- one more step that is copied
+pub copied_more : (old new : List Path) (copy : Path) (xs : List Path) (i : ℕ) (s : Path) → i < length xs → s ≡ get_or xs i s → new ≡ old ++ copy ∷ [] →
+    step_view copy ≡ step_view s → map step_view old ≡ map step_view (take i xs) → map step_view new ≡ map step_view (take (i + 1) xs)
+copied_more old new copy xs i s short is added same before =
+    ap (map step_view) added ∙ map-append step_view old (copy ∷ []) ∙ (λ j. before j ++ (same j ∷ [])) ∙ ap (λ z. map step_view (take i xs) ++ (step_view z ∷ [])) is
+    ∙ sym (ap (map step_view) (take_more xs i s short) ∙ map-append step_view (take i xs) (get_or xs i s ∷ []))
+
+-- a step with one
+pub some_at : (xs : List Path) (i : ℕ) (s : Path) → i < length xs → s ≡ get_or xs i s → step_has_document (step_view s) ≡ true → has_document (steps_view xs) ≡ true
+some_at xs i s short is some =
+    ap (λ l. has_document (steps_view l)) (sym (take-append-drop i xs)) ∙ ap has_document (map-append step_view (take i xs) (drop i xs))
+    ∙ has_document-append (steps_view (take i xs)) (steps_view (drop i xs))
+    ∙ ap (λ l. has_document (steps_view (take i xs)) || has_document (steps_view l)) (drop-cons xs i s short)
+    ∙ (λ j. has_document (steps_view (take i xs)) || (step_has_document (step_view (sym is j)) || has_document (steps_view (drop (suc i) xs))))
+    ∙ ap (λ b. has_document (steps_view (take i xs)) || (b || has_document (steps_view (drop (suc i) xs)))) some
+    ∙ or_true (has_document (steps_view (take i xs)))
+
+pub refused_at : (xs : List Path) (i : ℕ) (s : Path) (e : Error) → i < length xs → s ≡ get_or xs i s → IsOwningError (step_has_document (step_view s)) e → IsOwningError (has_document (steps_view xs)) e
+refused_at xs i s e short is (inl memory) = inl memory
+refused_at xs i s e short is (inr p) = inr (p.0, some_at xs i s short is p.1)
