@@ -1,8 +1,6 @@
 -- Containers, by their headers.
-use Rattle.std.proofs.Common.{◌≡◌, ◌≢◌, ℕ, suc, ◌+◌, ◌*◌, ◌/◌, ◌%◌, ◌^◌, ◌<◌, ◌≤◌, List, [], ◌∷◌, ◌++◌, length, take, drop, refl, sym, ap, ◌∙◌, arith, true, false, ◌↔◌, ◌⊎◌, inl, inr}
+use Rattle.std.proofs.Common.{◌≡◌, ◌≢◌, ℕ, suc, ◌+◌, ◌*◌, ◌^◌, ◌≤◌, List, [], ◌∷◌, ◌++◌, length, take, drop, refl, sym, ap, ◌∙◌, arith, true, false, ◌↔◌, ◌⊎◌, inl, inr}
 use Rattle.std.proofs.lemmas.List.{length-append, take_at, drop_at, append-nil}
-use Rattle.byteorder.specs.Endian.{big_number, big_bytes}
-use Rattle.jsonb_doc.specs.Bytes.{AreBytes}
 use Rattle.jsonb_doc.specs.Tree.{Tree, null, boolean, number, text, extension, array, object, Trees, no_trees, tree, Pairs, no_pairs, pair, count, keys, values}
 use Rattle.jsonb_doc.specs.Payload.{Reading, Form, reading}
 use Rattle.jsonb_doc.specs.Containers.{IsLoneEntry, IsCut, Holds, HoldsPairs}
@@ -14,21 +12,9 @@ use Rattle.jsonb_doc.specs.declared.container.Container.{Container}
 use Rattle.jsonb_doc.specs.declared.container.Container.TheVariants.{Scalar, Array, Object}
 use Rattle.jsonb_doc.specs.Format.{Decodes, HeadedBy, BeginWith, entry_word, Container as FormatContainer, Members, AreKeys, key_words, key_bytes, IsContent, AreEntries, AreValues, IsDocument}
 use Rattle.jsonb_doc.specs.Checking.{HasContent, HasEntries, HasDocument, HasKeys}
-use Rattle.jsonb_doc.proofs.Words.{word_again, word_cancel, append_cancel}
+use Rattle.jsonb_doc.proofs.Words.{word_cancel, append_cancel}
 use Rattle.jsonb_doc.proofs.Entries.{BeginWith-unique}
 use Rattle.jsonb_doc.proofs.KeysRead.{begin_key}
-
-pub HeadedBy-read : (bytes : List ℕ) (n : ℕ) → n ≡ big_number 4 bytes → 4 ≤ length bytes → AreBytes bytes → n < 2 ^ 32 → HeadedBy bytes (n / 2 ^ 29) (n % 2 ^ 29) (drop 4 bytes)
-HeadedBy-read bytes n is long fits small =
-    let whole : n / 2 ^ 29 * 2 ^ 29 + n % 2 ^ 29 ≡ big_number 4 bytes = omega (arith, is) in
-    record {
-      known = omega arith;
-      fits = omega arith;
-      joined = word_again bytes long fits ∙ ap (λ (m : ℕ). big_bytes 4 m ++ drop 4 bytes) (sym whole);
-    }
-
-pub HeadedBy-long : (bytes : List ℕ) (kind entries : ℕ) (rest : List ℕ) → HeadedBy bytes kind entries rest → 4 ≤ length bytes
-HeadedBy-long bytes kind entries rest h = omega (arith, ap length h.joined)
 
 -- a header is one
 pub HeadedBy-unique : (bytes : List ℕ) (k k' n n' : ℕ) (rest rest' : List ℕ) → HeadedBy bytes k n rest → HeadedBy bytes k' n' rest' → (k ≡ k') × (n ≡ n') × (rest ≡ rest')
@@ -92,10 +78,6 @@ length-key_words (key ∷ ks) = omega (arith, length-key_words ks)
 -- what follows the keys lies within
 pub HasKeys-room : (words bytes rest : List ℕ) → HasKeys words bytes rest → length rest ≤ length bytes
 HasKeys-room words bytes rest (ks, are, is, joined) = omega (arith, ap length joined, length-append (key_bytes ks) rest)
-
--- the rest is shorter by the header
-pub HeadedBy-length : (bytes : List ℕ) (kind entries : ℕ) (rest : List ℕ) → HeadedBy bytes kind entries rest → length bytes ≡ 4 + length rest
-HeadedBy-length bytes kind entries rest h = omega (arith, ap length h.joined)
 
 -- what follows the keys is one
 pub HasKeys-unique : (words bytes a b : List ℕ) → HasKeys words bytes a → HasKeys words bytes b → a ≡ b

@@ -215,9 +215,6 @@ module _ (bytes : List ℕ) (parent : Spot) (t : Tree) (m : Marks bytes parent t
 pub no_children : (bytes : List ℕ) (t : Tree) → children_of t ≡ None → SameOption (HasSpotsLeft bytes) None (children_of t)
 no_children bytes t none = rw none tt
 
-pub some_children : (bytes : List ℕ) (t : Tree) (it : SpotIter) (ts : List Tree) → children_of t ≡ Some ts → HasSpotsLeft bytes it ts → SameOption (HasSpotsLeft bytes) (Some it) (children_of t)
-some_children bytes t it ts is h = rw is h
-
 pub no_field : (bytes name : List ℕ) (t : Tree) → field_of name t ≡ None → SameOption (Marks bytes) None (field_of name t)
 no_field bytes name t none = rw none tt
 
