@@ -1,27 +1,20 @@
 -- Containers, by their headers.
-use Rattle.std.proofs.Common.{◌≡◌, ◌≢◌, ℕ, suc, ◌+◌, ◌*◌, ◌/◌, ◌%◌, ◌^◌, ◌<◌, ◌≤◌, List, [], ◌∷◌, ◌++◌, length, take, drop, refl, sym, ap, ◌∙◌, arith, true, false, ◌↔◌, ◌⊎◌, inl, inr}
-use Rattle.std.proofs.lemmas.List.{length-append, length-take-le, length-drop, take_at, drop_at, take-append-drop, nil_from_length}
-use Rattle.byteorder.specs.Endian.{big_number, big_bytes}
-use Rattle.jsonb_doc.specs.Bytes.{AreBytes}
+use Rattle.std.proofs.Common.{◌≡◌, ◌≢◌, ℕ, suc, ◌+◌, ◌*◌, ◌^◌, ◌≤◌, List, [], ◌∷◌, ◌++◌, length, take, drop, refl, sym, ap, ◌∙◌, arith, true, false, ◌↔◌, ◌⊎◌, inl, inr}
+use Rattle.std.proofs.lemmas.List.{length-append, take_at, drop_at, append-nil}
 use Rattle.jsonb_doc.specs.Tree.{Tree, null, boolean, number, text, extension, array, object, Trees, no_trees, tree, Pairs, no_pairs, pair, count, keys, values}
 use Rattle.jsonb_doc.specs.Payload.{Reading, Form, reading}
-use Rattle.jsonb_doc.specs.Format.{Decodes, HeadedBy, BeginWith, Container, Members, AreKeys, key_words, key_bytes, IsContent, AreEntries, AreValues, IsDocument}
+use Rattle.jsonb_doc.specs.Containers.{IsLoneEntry, IsCut, Holds, HoldsPairs}
+use Rattle.jsonb_doc.specs.Lengths.{HoldKeys}
+use Rattle.jsonb_doc.specs.declared.entry_iter.StoredEntry.{StoredEntry}
+use Rattle.jsonb_doc.specs.declared.container.ArrayParts.{ArrayParts}
+use Rattle.jsonb_doc.specs.declared.container.ObjectParts.{ObjectParts}
+use Rattle.jsonb_doc.specs.declared.container.Container.{Container}
+use Rattle.jsonb_doc.specs.declared.container.Container.TheVariants.{Scalar, Array, Object}
+use Rattle.jsonb_doc.specs.Format.{Decodes, HeadedBy, BeginWith, entry_word, Container as FormatContainer, Members, AreKeys, key_words, key_bytes, IsContent, AreEntries, AreValues, IsDocument}
 use Rattle.jsonb_doc.specs.Checking.{HasContent, HasEntries, HasDocument, HasKeys}
-use Rattle.jsonb_doc.proofs.Words.{word_again, word_cancel}
+use Rattle.jsonb_doc.proofs.Words.{word_cancel, append_cancel}
 use Rattle.jsonb_doc.proofs.Entries.{BeginWith-unique}
 use Rattle.jsonb_doc.proofs.KeysRead.{begin_key}
-
-pub HeadedBy-read : (bytes : List ℕ) (n : ℕ) → n ≡ big_number 4 bytes → 4 ≤ length bytes → AreBytes bytes → n < 2 ^ 32 → HeadedBy bytes (n / 2 ^ 29) (n % 2 ^ 29) (drop 4 bytes)
-HeadedBy-read bytes n is long fits small =
-    let whole : n / 2 ^ 29 * 2 ^ 29 + n % 2 ^ 29 ≡ big_number 4 bytes = omega (arith, is) in
-    record {
-      known = omega arith;
-      fits = omega arith;
-      joined = word_again bytes long fits ∙ ap (λ (m : ℕ). big_bytes 4 m ++ drop 4 bytes) (sym whole);
-    }
-
-pub HeadedBy-long : (bytes : List ℕ) (kind entries : ℕ) (rest : List ℕ) → HeadedBy bytes kind entries rest → 4 ≤ length bytes
-HeadedBy-long bytes kind entries rest h = omega (arith, ap length h.joined)
 
 -- a header is one
 pub HeadedBy-unique : (bytes : List ℕ) (k k' n n' : ℕ) (rest rest' : List ℕ) → HeadedBy bytes k n rest → HeadedBy bytes k' n' rest' → (k ≡ k') × (n ≡ n') × (rest ≡ rest')
@@ -86,10 +79,6 @@ length-key_words (key ∷ ks) = omega (arith, length-key_words ks)
 pub HasKeys-room : (words bytes rest : List ℕ) → HasKeys words bytes rest → length rest ≤ length bytes
 HasKeys-room words bytes rest (ks, are, is, joined) = omega (arith, ap length joined, length-append (key_bytes ks) rest)
 
--- the rest is shorter by the header
-pub HeadedBy-length : (bytes : List ℕ) (kind entries : ℕ) (rest : List ℕ) → HeadedBy bytes kind entries rest → length bytes ≡ 4 + length rest
-HeadedBy-length bytes kind entries rest h = omega (arith, ap length h.joined)
-
 -- what follows the keys is one
 pub HasKeys-unique : (words bytes a b : List ℕ) → HasKeys words bytes a → HasKeys words bytes b → a ≡ b
 HasKeys-unique words bytes a b x y = go x.0 y.0 words bytes x.1 y.1 x.2 y.2 x.3 y.3
@@ -104,7 +93,7 @@ HasKeys-unique words bytes a b x y = go x.0 y.0 words bytes x.1 y.1 x.2 y.2 x.3 
 
 -- the content of an entry for a container is an array or an object
 container_cases : (number_at : Reading) (bytes : List ℕ) → HasContent 5 bytes number_at
-    → ((ts : Trees) × Container 4 (count ts) (AreEntries number_at ts) bytes) ⊎ ((ps : Pairs) × Container 2 (length (keys ps)) (Members (keys ps) (AreValues number_at ps)) bytes)
+    → ((ts : Trees) × FormatContainer 4 (count ts) (AreEntries number_at ts) bytes) ⊎ ((ps : Pairs) × FormatContainer 2 (length (keys ps)) (Members (keys ps) (AreValues number_at ps)) bytes)
 container_cases number_at bytes (null, h) = absurd (omega arith)
 container_cases number_at bytes (boolean true, h) = absurd (omega arith)
 container_cases number_at bytes (boolean false, h) = absurd (omega arith)
@@ -128,84 +117,6 @@ module _ (number_at : Reading) (bytes : List ℕ) (kind n : ℕ) (rest : List �
         inl (HeadedBy-unique bytes kind 2 n (length (keys o.0)) rest (o.1.words ++ o.1.contents) h o.1.headed).0
   ]
 
-  pub HasArray-split : kind ≡ 4 → HasContent 5 bytes number_at → (4 * n ≤ length rest) × HasEntries (take (4 * n) rest) (drop (4 * n) rest) number_at
-  HasArray-split is content = elim (container_cases number_at bytes content) [
-    | inl a ↦
-        let (same_kind, same_n, same_rest) = HeadedBy-unique bytes kind 4 n (count a.0) rest (a.1.words ++ a.1.contents) h a.1.headed in
-        let len = length-words number_at a.0 a.1.words a.1.contents a.1.parts in
-        let taken : take (4 * n) rest ≡ a.1.words = ap (take (4 * n)) same_rest ∙ take_at a.1.words a.1.contents (4 * n) (omega (arith, len, same_n)) in
-        let dropped : drop (4 * n) rest ≡ a.1.contents = ap (drop (4 * n)) same_rest ∙ drop_at a.1.words a.1.contents (4 * n) (omega (arith, len, same_n)) in
-        rw (taken, dropped) (omega (arith, ap length same_rest, length-append a.1.words a.1.contents, len, same_n), (a.0, a.1.parts))
-    | inr o ↦
-        absurd (omega (arith, (HeadedBy-unique bytes kind 2 n (length (keys o.0)) rest (o.1.words ++ o.1.contents) h o.1.headed).0))
-  ]
-
-  pub HasArray-join : kind ≡ 4 → 4 * n ≤ length rest → HasEntries (take (4 * n) rest) (drop (4 * n) rest) number_at → HasContent 5 bytes number_at
-  HasArray-join is fits (ts, parts) =
-      let len = length-words number_at ts (take (4 * n) rest) (drop (4 * n) rest) parts in
-      let same : count ts ≡ n = omega (arith, len, length-take-le (4 * n) rest fits) in (
-        array ts,
-        (
-          refl,
-          record {
-            words = take (4 * n) rest;
-            contents = drop (4 * n) rest;
-            headed = rw (same, take-append-drop (4 * n) rest, ← is) h;
-            parts = parts;
-          },
-        ),
-      )
-
-  pub HasObject-split : kind ≡ 2 → HasContent 5 bytes number_at
-      → (2 * (4 * n) ≤ length rest) × (found : List ℕ) × HasKeys (take (4 * n) (take (2 * (4 * n)) rest)) (drop (2 * (4 * n)) rest) found × HasEntries (drop (4 * n) (take (2 * (4 * n)) rest)) found number_at
-  HasObject-split is content = elim (container_cases number_at bytes content) [
-    | inl a ↦
-        absurd (omega (arith, (HeadedBy-unique bytes kind 4 n (count a.0) rest (a.1.words ++ a.1.contents) h a.1.headed).0))
-    | inr (ps, c) ↦
-        let (same_kind, same_n, same_rest) = HeadedBy-unique bytes kind 2 n (length (keys ps)) rest (c.words ++ c.contents) h c.headed in
-        let m = c.parts in
-        let entries = entries_of number_at ps m.value_words m.value_contents m.values in
-        let len = length-words number_at (values ps) m.value_words m.value_contents entries in
-        let key_len = length-key_words (keys ps) in
-        let both = ap length m.words_joined ∙ length-append (key_words (keys ps)) m.value_words in
-        let counted = count-values ps in
-        let taken : take (2 * (4 * n)) rest ≡ c.words = ap (take (2 * (4 * n))) same_rest ∙ take_at c.words c.contents (2 * (4 * n)) (omega (arith, len, same_n, key_len, both, counted)) in
-        let dropped : drop (2 * (4 * n)) rest ≡ c.contents = ap (drop (2 * (4 * n))) same_rest ∙ drop_at c.words c.contents (2 * (4 * n)) (omega (arith, len, same_n, key_len, both, counted)) in
-        let first : take (4 * n) c.words ≡ key_words (keys ps) = ap (take (4 * n)) m.words_joined ∙ take_at (key_words (keys ps)) m.value_words (4 * n) (omega (arith, key_len, same_n)) in
-        let second : drop (4 * n) c.words ≡ m.value_words = ap (drop (4 * n)) m.words_joined ∙ drop_at (key_words (keys ps)) m.value_words (4 * n) (omega (arith, key_len, same_n)) in
-        rw (taken, dropped, first, second) (omega (arith, ap length same_rest, length-append c.words c.contents, len, same_n, key_len, both, counted), m.value_contents, (keys ps, m.are_keys, refl, m.contents_joined), (values ps, entries))
-  ]
-
-  pub HasObject-join : (found : List ℕ) → kind ≡ 2 → 2 * (4 * n) ≤ length rest → HasKeys (take (4 * n) (take (2 * (4 * n)) rest)) (drop (2 * (4 * n)) rest) found
-      → HasEntries (drop (4 * n) (take (2 * (4 * n)) rest)) found number_at → HasContent 5 bytes number_at
-  HasObject-join found is fits (ks, are, key_words_joined, key_bytes_joined) (ts, entries) =
-      let whole = length-take-le (2 * (4 * n)) rest fits in
-      let half = length-take-le (4 * n) (take (2 * (4 * n)) rest) (omega (arith, whole)) in
-      let len = length-words number_at ts (drop (4 * n) (take (2 * (4 * n)) rest)) found entries in
-      let other_half = length-drop (4 * n) (take (2 * (4 * n)) rest) in
-      let key_len = length-key_words ks in
-      let same_keys : length ks ≡ n = omega (arith, half, ap length key_words_joined, key_len) in
-      let same : length ks ≡ count ts = omega (arith, len, other_half, whole, same_keys) in
-      let (ps, same_ks, are_values) = values_of number_at ks ts (drop (4 * n) (take (2 * (4 * n)) rest)) found same entries in (
-        object ps,
-        (
-          refl,
-          record {
-            words = take (2 * (4 * n)) rest;
-            contents = drop (2 * (4 * n)) rest;
-            headed = rw (same_ks, same_keys, take-append-drop (2 * (4 * n)) rest, ← is) h;
-            parts = record {
-              value_words = drop (4 * n) (take (2 * (4 * n)) rest);
-              value_contents = found;
-              words_joined = rw same_ks (sym (take-append-drop (4 * n) (take (2 * (4 * n)) rest)) ∙ ap (λ (w : List ℕ). w ++ drop (4 * n) (take (2 * (4 * n)) rest)) key_words_joined);
-              contents_joined = rw same_ks key_bytes_joined;
-              are_keys = rw same_ks are;
-              values = are_values;
-            };
-          },
-        ),
-      )
-
 -- ---- documents
 
 pub HasDocument-headed : (number_at : Reading) (bytes : List ℕ) → HasDocument bytes number_at → (kind entries : ℕ) × (rest : List ℕ) × HeadedBy bytes kind entries rest
@@ -218,10 +129,6 @@ module _ (number_at : Reading) (bytes : List ℕ) (kind n : ℕ) (rest : List �
   container_document other t (inl c) = c
   container_document other t (inr s) =
       absurd (other (HeadedBy-unique bytes kind 1 n 0 rest (s.words ++ s.contents) h s.headed).0)
-
-  pub HasDocument-container : kind ≢ 1 → HasContent 5 bytes number_at ↔ HasDocument bytes number_at
-  HasDocument-container other =
-      (λ c. (c.0, inl c.1), λ d. (d.0, container_document other d.0 d.1))
 
   -- a document with a scalar's header has one entry
   pub scalar_document : (t : Tree) → kind ≡ 1 → IsDocument number_at t bytes
@@ -238,33 +145,6 @@ module _ (number_at : Reading) (bytes : List ℕ) (kind n : ℕ) (rest : List �
       let taken : take 4 rest ≡ s.words = ap (take 4) same_rest ∙ take_at s.words s.contents 4 len in
       let dropped : drop 4 rest ≡ s.contents = ap (drop 4) same_rest ∙ drop_at s.words s.contents 4 len in
       rw (taken, dropped) (same_n, omega (arith, ap length same_rest, length-append s.words s.contents, len), e.kind, e.content, begin, e.part.0, e.part.1)
-
-  pub HasDocument-split : kind ≡ 1 → HasDocument bytes number_at
-      → (n ≡ 0) × (4 ≤ length rest) × (k : ℕ) × (content : List ℕ) × BeginWith (take 4 rest) (drop 4 rest) k content [] [] × (k ≢ 5) × HasContent k content number_at
-  HasDocument-split is (t, d) =
-      let found = scalar_document t is d in
-      (found.0, found.1, found.2, found.3, found.4, found.5, (t, found.6))
-
-  pub HasDocument-join : (k : ℕ) (content ws cs : List ℕ) → kind ≡ 1 → n ≡ 0 → 4 ≤ length rest → BeginWith (take 4 rest) (drop 4 rest) k content ws cs → cs ≡ [] → k ≢ 5 → HasContent k content number_at → HasDocument bytes number_at
-  HasDocument-join k content ws cs is none long begin whole scalar part =
-      let len = ap length begin.words_joined in
-      let empty : ws ≡ [] = nil_from_length ws (omega (arith, len, length-take-le 4 rest long)) in (
-        part.0,
-        inr (record {
-          words = take 4 rest;
-          contents = drop 4 rest;
-          headed = rw (take-append-drop 4 rest, ← is, ← none) h;
-          parts = record {
-            kind = k;
-            content = content;
-            other_words = ws;
-            other_contents = cs;
-            begin = begin;
-            part = (scalar, part.1);
-            others = (empty, whole);
-          };
-        }),
-      )
 
 module _ (form : Form) (bytes : List ℕ) (kind n : ℕ) (rest : List ℕ) (h : HeadedBy bytes kind n rest) where
   -- a part with the header of an array is an array, and decodes by itself
@@ -284,16 +164,6 @@ module _ (form : Form) (bytes : List ℕ) (kind n : ℕ) (rest : List ℕ) (h : 
   object_content (object ps) is c = (ps, refl, record { document = inl c })
   object_content _ is c = absurd (omega (arith, c.0))
 
--- an array's elements are the entries behind its header
-pub array_elements : (number_at : Reading) (bytes : List ℕ) (kind n : ℕ) (rest : List ℕ) → HeadedBy bytes kind n rest → (ts : Trees) → IsContent number_at (array ts) 5 bytes
-    → (kind ≡ 4) × (4 * n ≤ length rest) × AreEntries number_at ts (take (4 * n) rest) (drop (4 * n) rest)
-array_elements number_at bytes kind n rest h ts (is, a) =
-    let (same_kind, same_n, same_rest) = HeadedBy-unique bytes kind 4 n (count ts) rest (a.words ++ a.contents) h a.headed in
-    let len = length-words number_at ts a.words a.contents a.parts in
-    let taken : take (4 * n) rest ≡ a.words = ap (take (4 * n)) same_rest ∙ take_at a.words a.contents (4 * n) (omega (arith, len, same_n)) in
-    let dropped : drop (4 * n) rest ≡ a.contents = ap (drop (4 * n)) same_rest ∙ drop_at a.words a.contents (4 * n) (omega (arith, len, same_n)) in
-    rw (taken, dropped) (same_kind, omega (arith, ap length same_rest, length-append a.words a.contents, len, same_n), a.parts)
-
 -- the document of a container is its content
 pub array_document : (number_at : Reading) (ts : Trees) (bytes : List ℕ) → IsDocument number_at (array ts) bytes → IsContent number_at (array ts) 5 bytes
 array_document number_at ts bytes (inl c) = c
@@ -302,3 +172,307 @@ array_document number_at ts bytes (inr s) = absurd (s.parts.part.0 s.parts.part.
 pub object_document : (number_at : Reading) (ps : Pairs) (bytes : List ℕ) → IsDocument number_at (object ps) bytes → IsContent number_at (object ps) 5 bytes
 object_document number_at ps bytes (inl c) = c
 object_document number_at ps bytes (inr s) = absurd (s.parts.part.0 s.parts.part.1.0)
+
+-- ---- documents, by their headers
+
+-- what a document with the header of a scalar holds: one entry
+pub record ScalarIn (number_at : Reading) (t : Tree) (n : ℕ) (rest : List ℕ) : Type 0 where
+  pub none : n ≡ 0
+  pub kind : ℕ
+  pub content : List ℕ
+  pub lone : IsLoneEntry rest kind content
+  pub part : IsContent number_at t kind content
+
+-- what one with the header of an array holds
+pub record ArrayIn (number_at : Reading) (t : Tree) (n : ℕ) (rest : List ℕ) : Type 0 where
+  pub ts : Trees
+  pub is : t ≡ array ts
+  pub words : List ℕ
+  pub contents : List ℕ
+  pub joined : rest ≡ words ++ contents
+  pub counted : length words ≡ 4 * n
+  pub entries : AreEntries number_at ts words contents
+
+-- what one with the header of an object holds
+pub record ObjectIn (number_at : Reading) (t : Tree) (n : ℕ) (rest : List ℕ) : Type 0 where
+  pub ps : Pairs
+  pub is : t ≡ object ps
+  pub value_words : List ℕ
+  pub value_contents : List ℕ
+  pub joined : rest ≡ (key_words (keys ps) ++ value_words) ++ (key_bytes (keys ps) ++ value_contents)
+  pub keys_counted : length (key_words (keys ps)) ≡ 4 * n
+  pub values_counted : length value_words ≡ 4 * n
+  pub are_keys : AreKeys (keys ps)
+  pub values : AreValues number_at ps value_words value_contents
+
+module _ (number_at : Reading) (bytes : List ℕ) where
+  -- the content of an entry of a container is that of a container alone
+  pub container_kind : (t : Tree) (kind : ℕ) (content : List ℕ) → IsContent number_at t 5 bytes → IsContent number_at t kind content → kind ≡ 5
+  container_kind (boolean true) kind content h k = absurd (omega (arith, h.0))
+  container_kind (boolean false) kind content h k = absurd (omega (arith, h.0))
+  container_kind (array ts) kind content h k = k.0
+  container_kind (object ps) kind content h k = k.0
+  container_kind _ kind content h k = absurd (omega (arith, h.0))
+
+  module _ (n : ℕ) (rest : List ℕ) where
+    pub document_scalar : HeadedBy bytes 1 n rest → (t : Tree) → IsDocument number_at t bytes → ScalarIn number_at t n rest
+    document_scalar h t (inl c) = elim (HasContent-kind number_at bytes 1 n rest h (t, c)) [
+      | inl two ↦ absurd (omega arith)
+      | inr four ↦ absurd (omega arith)
+    ]
+    document_scalar h t (inr s) =
+        let (same_kind, same_n, same_rest) = HeadedBy-unique bytes 1 1 n 0 rest (s.words ++ s.contents) h s.headed in
+        let e = s.parts in
+        let begin : BeginWith s.words s.contents e.kind e.content [] [] = rw (e.others.0, e.others.1) at e.begin in
+        record {
+          none = same_n;
+          kind = e.kind;
+          content = e.content;
+          lone = record {
+            start = record {
+              known = begin.known;
+              fits = begin.fits;
+              joined = same_rest ∙ ap (λ (w : List ℕ). w ++ s.contents) begin.words_joined ∙ ap (λ (w : List ℕ). entry_word e.kind (length e.content) ++ w) (begin.contents_joined ∙ append-nil e.content);
+            };
+            scalar = e.part.0;
+          };
+          part = e.part.1;
+        }
+
+    pub document_array : HeadedBy bytes 4 n rest → (t : Tree) → IsContent number_at t 5 bytes → ArrayIn number_at t n rest
+    document_array h (boolean true) c = absurd (omega (arith, c.0))
+    document_array h (boolean false) c = absurd (omega (arith, c.0))
+    document_array h (array ts) (is, c) =
+        let (same_kind, same_n, same_rest) = HeadedBy-unique bytes 4 4 n (count ts) rest (c.words ++ c.contents) h c.headed in
+        record {
+          ts = ts;
+          is = refl;
+          words = c.words;
+          contents = c.contents;
+          joined = same_rest;
+          counted = omega (arith, same_n, length-words number_at ts c.words c.contents c.parts);
+          entries = c.parts;
+        }
+    document_array h (object ps) (is, c) =
+        absurd (omega (arith, (HeadedBy-unique bytes 4 2 n (length (keys ps)) rest (c.words ++ c.contents) h c.headed).0))
+    document_array h _ c = absurd (omega (arith, c.0))
+
+    pub document_object : HeadedBy bytes 2 n rest → (t : Tree) → IsContent number_at t 5 bytes → ObjectIn number_at t n rest
+    document_object h (boolean true) c = absurd (omega (arith, c.0))
+    document_object h (boolean false) c = absurd (omega (arith, c.0))
+    document_object h (array ts) (is, c) =
+        absurd (omega (arith, (HeadedBy-unique bytes 2 4 n (count ts) rest (c.words ++ c.contents) h c.headed).0))
+    document_object h (object ps) (is, c) =
+        let (same_kind, same_n, same_rest) = HeadedBy-unique bytes 2 2 n (length (keys ps)) rest (c.words ++ c.contents) h c.headed in
+        let m = c.parts in
+        record {
+          ps = ps;
+          is = refl;
+          value_words = m.value_words;
+          value_contents = m.value_contents;
+          joined = same_rest ∙ ap (λ (w : List ℕ). w ++ c.contents) m.words_joined ∙ ap (λ (w : List ℕ). (key_words (keys ps) ++ m.value_words) ++ w) m.contents_joined;
+          keys_counted = omega (arith, same_n, length-key_words (keys ps));
+          values_counted = omega (arith, same_n, length-words number_at (values ps) m.value_words m.value_contents (entries_of number_at ps m.value_words m.value_contents m.values), count-values ps);
+          are_keys = m.are_keys;
+          values = m.values;
+        }
+    document_object h _ c = absurd (omega (arith, c.0))
+
+-- ---- documents that are cut
+
+-- the one entry of a scalar is one
+lone_unique : (bytes : List ℕ) (k k' : ℕ) (content content' : List ℕ) → IsLoneEntry bytes k content → IsLoneEntry bytes k' content' → (k ≡ k') × (content ≡ content')
+lone_unique bytes k k' content content' a b =
+    let known = a.start.known in
+    let fits = a.start.fits in
+    let known' = b.start.known in
+    let fits' = b.start.fits in
+    let both = word_cancel (k * 2 ^ 28 + length content) (k' * 2 ^ 28 + length content') content content' (omega arith) (omega arith) (sym a.start.joined ∙ b.start.joined) in
+    (omega (arith, both.0, ap length both.1), both.1)
+
+module _ (number_at : Reading) (bytes : List ℕ) where
+  -- the document of an array or an object
+  array_from : (p : ArrayParts) (n : ℕ) → HeadedBy bytes 4 n (p.words.now ++ p.contents.now) → length p.words.now ≡ 4 * n → (t : Tree) → Holds number_at t (Array p) → IsContent number_at t 5 bytes
+  array_from p n h len (array ts) entries =
+      let same : n ≡ count ts = omega (arith, len, length-words number_at ts p.words.now p.contents.now entries) in
+      (refl, record { words = p.words.now; contents = p.contents.now; headed = rw same at h; parts = entries })
+  array_from p n h len _ none = absurd none
+
+  object_from : (p : ObjectParts) (n : ℕ) → HeadedBy bytes 2 n ((p.key_words.now ++ p.value_words.now) ++ p.contents.now) → length p.key_words.now ≡ 4 * n → (t : Tree) → Holds number_at t (Object p) → IsContent number_at t 5 bytes
+  object_from p n h len (object ps) o =
+      let same : n ≡ length (keys ps) = omega (arith, len, ap length o.words, length-key_words (keys ps)) in (
+        refl,
+        record {
+          words = p.key_words.now ++ p.value_words.now;
+          contents = p.contents.now;
+          headed = rw same at h;
+          parts = record {
+            value_words = p.value_words.now;
+            value_contents = o.rest;
+            words_joined = ap (λ (w : List ℕ). w ++ p.value_words.now) o.words;
+            contents_joined = o.bytes;
+            are_keys = o.are_keys;
+            values = o.values;
+          };
+        },
+      )
+  object_from p n h len _ none = absurd none
+
+-- the parts of an array or an object are those of its document
+array_to : (number_at : Reading) (p : ArrayParts) (n : ℕ) → length p.words.now ≡ 4 * n → (t : Tree) → ArrayIn number_at t n (p.words.now ++ p.contents.now) → Holds number_at t (Array p)
+array_to number_at p n len t a =
+    let same = append_cancel p.words.now p.contents.now a.words a.contents (omega (arith, len, a.counted)) a.joined in
+    rw (a.is, same.0, same.1) a.entries
+
+object_to : (number_at : Reading) (p : ObjectParts) (n : ℕ) → length p.key_words.now ≡ 4 * n → length p.value_words.now ≡ 4 * n → (t : Tree)
+    → ObjectIn number_at t n ((p.key_words.now ++ p.value_words.now) ++ p.contents.now) → Holds number_at t (Object p)
+object_to number_at p n len value_len t o =
+    let words = p.key_words.now ++ p.value_words.now in
+    let other_words = key_words (keys o.ps) ++ o.value_words in
+    let long : length words ≡ length other_words = omega (arith, length-append p.key_words.now p.value_words.now, length-append (key_words (keys o.ps)) o.value_words, len, value_len, o.keys_counted, o.values_counted) in
+    let both = append_cancel words p.contents.now other_words (key_bytes (keys o.ps) ++ o.value_contents) long o.joined in
+    let cut = append_cancel p.key_words.now p.value_words.now (key_words (keys o.ps)) o.value_words (omega (arith, len, o.keys_counted)) both.0 in
+    rw o.is (record { rest = o.value_contents; are_keys = o.are_keys; words = cut.0; bytes = both.1; values = rw cut.1 o.values })
+
+-- the bytes are a document of a tree where their parts say so
+pub IsCut-same : (bytes : List ℕ) (found : Container) → IsCut bytes found → (number_at : Reading) (t : Tree) → IsDocument number_at t bytes ↔ Holds number_at t found
+IsCut-same bytes (Scalar e) (rest, h, lone) number_at t = (
+  λ d.
+      let s = document_scalar number_at bytes 0 rest h t d in
+      let same = lone_unique rest e.kind s.kind e.content.now s.content lone s.lone in
+      (lone.scalar, rw (same.0, same.1) s.part),
+  λ k. inr (record {
+    words = entry_word e.kind (length e.content.now);
+    contents = e.content.now;
+    headed = rw (← lone.start.joined) h;
+    parts = record {
+      kind = e.kind;
+      content = e.content.now;
+      other_words = [];
+      other_contents = [];
+      begin = record { known = lone.start.known; fits = lone.start.fits; words_joined = refl; contents_joined = sym (append-nil e.content.now) };
+      part = k;
+      others = (refl, refl);
+    };
+  }),
+)
+IsCut-same bytes (Array p) (n, h, len) number_at t = (
+  λ d. array_to number_at p n len t (document_array number_at bytes n _ h t (container_document number_at bytes 4 n _ h (omega arith) t d)),
+  λ k. inl (array_from number_at bytes p n h len t k),
+)
+IsCut-same bytes (Object p) (n, h, len, value_len) number_at t = (
+  λ d. object_to number_at p n len value_len t (document_object number_at bytes n _ h t (container_document number_at bytes 2 n _ h (omega arith) t d)),
+  λ k. inl (object_from number_at bytes p n h len t k),
+)
+
+-- a document has one of three headers
+pub document_kind : (number_at : Reading) (bytes : List ℕ) (kind n : ℕ) (rest : List ℕ) → HeadedBy bytes kind n rest → (t : Tree) → IsDocument number_at t bytes → (kind ≡ 1) ⊎ ((kind ≡ 2) ⊎ (kind ≡ 4))
+document_kind number_at bytes kind n rest h t (inl c) = inr (HasContent-kind number_at bytes kind n rest h (t, c))
+document_kind number_at bytes kind n rest h t (inr s) = inl (HeadedBy-unique bytes kind 1 n 0 rest (s.words ++ s.contents) h s.headed).0
+
+-- a document with the header of an array or an object has as many bytes as its words
+module _ (number_at : Reading) (bytes : List ℕ) (n : ℕ) (rest : List ℕ) (t : Tree) (d : IsDocument number_at t bytes) where
+  pub array_long : HeadedBy bytes 4 n rest → 4 * n ≤ length rest
+  array_long h =
+      let a = document_array number_at bytes n rest h t (container_document number_at bytes 4 n rest h (omega arith) t d) in
+      omega (arith, ap length a.joined, length-append a.words a.contents, a.counted)
+
+  pub object_long : HeadedBy bytes 2 n rest → 2 * (4 * n) ≤ length rest
+  object_long h =
+      let o = document_object number_at bytes n rest h t (container_document number_at bytes 2 n rest h (omega arith) t d) in
+      let words = key_words (keys o.ps) ++ o.value_words in
+      omega (arith, ap length o.joined, length-append words (key_bytes (keys o.ps) ++ o.value_contents), length-append (key_words (keys o.ps)) o.value_words, o.keys_counted, o.values_counted)
+
+-- ---- what the parts tell of a tree
+
+module _ (number_at : Reading) (bytes : List ℕ) where
+  -- the document of a tree that is cut into the parts of an array or an object is a container's
+  pub IsCut-container : (found : Container) → IsCut bytes found → ((e : StoredEntry) → found ≡ Scalar e → ⊥) → (t : Tree) → IsDocument number_at t bytes → IsContent number_at t 5 bytes
+  IsCut-container (Scalar e) cut other t d = absurd (other e refl)
+  IsCut-container (Array p) (n, h, len) other t d = container_document number_at bytes 4 n _ h (omega arith) t d
+  IsCut-container (Object p) (n, h, len, value_len) other t d = container_document number_at bytes 2 n _ h (omega arith) t d
+
+  -- the content of an entry of a container is no scalar document
+  pub IsCut-scalar : (e : StoredEntry) → IsCut bytes (Scalar e) → (t : Tree) → IsContent number_at t 5 bytes → ⊥
+  IsCut-scalar e cut t c =
+      let held = (IsCut-same bytes (Scalar e) cut number_at t).0 (inl c) in
+      held.0 (container_kind number_at bytes t e.kind e.content.now c held.1)
+
+module _ (form : Form) (bytes : List ℕ) where
+  -- a document that is cut into the parts of an array, or of an object, is one
+  pub Holds-elements : (t : Tree) (p : ArrayParts) → Holds (reading form) t (Array p) → Decodes form bytes t → (ts : Trees) × (t ≡ array ts) × Decodes form bytes (array ts)
+  Holds-elements (array ts) p held h = (ts, refl, h)
+  Holds-elements _ p held h = absurd held
+
+  pub Holds-pairs : (t : Tree) (p : ObjectParts) → Holds (reading form) t (Object p) → Decodes form bytes t → (ps : Pairs) × (t ≡ object ps) × Decodes form bytes (object ps)
+  Holds-pairs (object ps) p held h = (ps, refl, h)
+  Holds-pairs _ p held h = absurd held
+
+  -- the parts of a document are those of its tree
+  pub Decodes-scalar : (e : StoredEntry) → IsCut bytes (Scalar e) → (t : Tree) → Decodes form bytes t → IsContent (reading form) t e.kind e.content.now
+  Decodes-scalar e cut t h = ((IsCut-same bytes (Scalar e) cut (reading form) t).0 h.document).1
+
+  pub Decodes-array : (p : ArrayParts) → IsCut bytes (Array p) → (t : Tree) → Decodes form bytes t → Holds (reading form) t (Array p)
+  Decodes-array p cut t h = (IsCut-same bytes (Array p) cut (reading form) t).0 h.document
+
+  pub Decodes-object : (p : ObjectParts) → IsCut bytes (Object p) → (t : Tree) → Decodes form bytes t → Holds (reading form) t (Object p)
+  Decodes-object p cut t h = (IsCut-same bytes (Object p) cut (reading form) t).0 h.document
+
+-- an object's keys before its values
+pub HoldsPairs-keys : (number_at : Reading) (ps : Pairs) (p : ObjectParts) → (h : HoldsPairs number_at ps p) → HoldKeys (keys ps) p.key_words.now p.contents.now h.rest
+HoldsPairs-keys number_at ps p h = record { are_keys = h.are_keys; words_joined = h.words; bytes_joined = h.bytes }
+
+-- ---- what decodes at all
+
+module _ (bytes : List ℕ) where
+  -- a document decodes where its one entry does, or where it is the content of a container
+  pub HasDocument-scalar : (e : StoredEntry) → IsCut bytes (Scalar e) → (number_at : Reading) → HasContent e.kind e.content.now number_at ↔ HasDocument bytes number_at
+  HasDocument-scalar e cut number_at = (
+    λ h. (h.0, (IsCut-same bytes (Scalar e) cut number_at h.0).1 (cut.2.scalar, h.1)),
+    λ d. (d.0, ((IsCut-same bytes (Scalar e) cut number_at d.0).0 d.1).1),
+  )
+
+  pub HasDocument-container : (found : Container) → IsCut bytes found → ((e : StoredEntry) → found ≡ Scalar e → ⊥) → (number_at : Reading) → HasContent 5 bytes number_at ↔ HasDocument bytes number_at
+  HasDocument-container found cut other number_at =
+      (λ h. (h.0, inl h.1), λ d. (d.0, IsCut-container number_at bytes found cut other d.0 d.1))
+
+  -- an array's content decodes where its entries do
+  pub HasContent-array : (p : ArrayParts) → IsCut bytes (Array p) → (number_at : Reading) → HasContent 5 bytes number_at ↔ HasEntries p.words.now p.contents.now number_at
+  HasContent-array p cut number_at = (
+    λ h. held h.0 ((IsCut-same bytes (Array p) cut number_at h.0).0 (inl h.1)),
+    λ h. (array h.0, array_document number_at h.0 bytes ((IsCut-same bytes (Array p) cut number_at (array h.0)).1 h.1)),
+  )
+    where
+      held : (t : Tree) → Holds number_at t (Array p) → HasEntries p.words.now p.contents.now number_at
+      held (array ts) h = (ts, h)
+      held _ h = absurd h
+
+  module _ (p : ObjectParts) (cut : IsCut bytes (Object p)) where
+    -- an object's content decodes where its keys do, and the entries behind them
+    HoldsPairs-found : (number_at : Reading) (t : Tree) → Holds number_at t (Object p) → (rest : List ℕ) × HasKeys p.key_words.now p.contents.now rest × HasEntries p.value_words.now rest number_at
+    HoldsPairs-found number_at (object ps) h =
+        (h.rest, (keys ps, h.are_keys, h.words, h.bytes), (values ps, entries_of number_at ps p.value_words.now h.rest h.values))
+    HoldsPairs-found number_at _ h = absurd h
+
+    found_within : (number_at : Reading) → HasContent 5 bytes number_at → (rest : List ℕ) × HasKeys p.key_words.now p.contents.now rest × HasEntries p.value_words.now rest number_at
+    found_within number_at h = HoldsPairs-found number_at h.0 ((IsCut-same bytes (Object p) cut number_at h.0).0 (inl h.1))
+
+    pub HasContent-keys : (number_at : Reading) → ((rest : List ℕ) → HasKeys p.key_words.now p.contents.now rest → ⊥) → HasContent 5 bytes number_at → ⊥
+    HasContent-keys number_at none h = let found = found_within number_at h in none found.0 found.1
+
+    object_with : (number_at : Reading) (rest : List ℕ) → HasKeys p.key_words.now p.contents.now rest → HasEntries p.value_words.now rest number_at → HasContent 5 bytes number_at
+    object_with number_at rest (ks, are, words, joined) (ts, entries) =
+        let len = length-words number_at ts p.value_words.now rest entries in
+        let same : length ks ≡ count ts = omega (arith, len, cut.2, cut.3, ap length words, length-key_words ks) in
+        let (ps, same_ks, are_values) = values_of number_at ks ts p.value_words.now rest same entries in
+        let held : HoldsPairs number_at ps p = record { rest = rest; are_keys = rw same_ks are; words = rw same_ks words; bytes = rw same_ks joined; values = are_values } in
+        (object ps, object_document number_at ps bytes ((IsCut-same bytes (Object p) cut number_at (object ps)).1 held))
+
+    pub HasContent-object : (rest : List ℕ) → HasKeys p.key_words.now p.contents.now rest → (number_at : Reading) → HasContent 5 bytes number_at ↔ HasEntries p.value_words.now rest number_at
+    HasContent-object rest has number_at = (
+      λ h.
+          let found = found_within number_at h in
+          let same = HasKeys-unique p.key_words.now p.contents.now found.0 rest found.1 has in
+          rw same at found.2,
+      object_with number_at rest has,
+    )

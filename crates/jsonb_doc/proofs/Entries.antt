@@ -1,39 +1,14 @@
 -- Entries are taken apart and put together at their first one.
-use Rattle.std.proofs.Common.{◌≡◌, ℕ, ◌+◌, ◌*◌, ◌/◌, ◌%◌, ◌^◌, ◌<◌, ◌≤◌, List, [], ◌++◌, length, take, drop, refl, sym, ap, ◌∙◌, arith, Option, Some, None, Bool, true, false, if◌then◌else◌, ◌↔◌, inl, inr}
-use Rattle.std.proofs.lemmas.List.{length-append, length-take-le, take-append-drop}
-use Rattle.byteorder.specs.Endian.{big_number, big_bytes}
+use Rattle.std.proofs.Common.{◌≡◌, ℕ, ◌+◌, ◌*◌, ◌^◌, ◌<◌, ◌≤◌, List, [], length, refl, sym, ap, ◌∙◌, arith, Option, Some, None, Bool, true, false, if◌then◌else◌, ◌↔◌, inl, inr}
+use Rattle.std.proofs.lemmas.List.{length-append}
 use Rattle.jsonb_doc.specs.Number.{Number}
-use Rattle.jsonb_doc.specs.Bytes.{AreBytes}
 use Rattle.jsonb_doc.specs.Tree.{Tree, null, boolean, number, text, extension, array, object, Trees, no_trees, tree, Pairs, no_pairs, pair, count, keys}
 use Rattle.jsonb_doc.specs.Payload.{Reading, Form, any, canonical, reading, if_written, number_payload, number_of, number_or_unsupported}
 use Rattle.std.specs.Str.{bytes_eq}
 use Rattle.jsonb_doc.proofs.Words.{bytes_eq-true, bytes_eq-same}
 use Rattle.jsonb_doc.specs.Format.{BeginWith, Entry, Container, Members, array_header, object_header, scalar_header, IsDocument, IsContent, AreEntries, AreValues}
 use Rattle.jsonb_doc.specs.Checking.{HasContent, HasEntries}
-use Rattle.jsonb_doc.proofs.Words.{word_read, word_again, word_cancel, append_cancel}
-
--- the first entry, by its word n
-pub BeginWith-read : (words contents : List ℕ) (n : ℕ) → n ≡ big_number 4 words → 4 ≤ length words → AreBytes words → n / 2 ^ 28 < 8 → n % 2 ^ 28 ≤ length contents
-    → BeginWith words contents (n / 2 ^ 28) (take (n % 2 ^ 28) contents) (drop 4 words) (drop (n % 2 ^ 28) contents)
-BeginWith-read words contents n is long bytes known fits =
-    let len : length (take (n % 2 ^ 28) contents) ≡ n % 2 ^ 28 = length-take-le (n % 2 ^ 28) contents fits in
-    let whole : n / 2 ^ 28 * 2 ^ 28 + length (take (n % 2 ^ 28) contents) ≡ big_number 4 words = omega (arith, len, is) in
-    record {
-      known = known;
-      fits = omega (arith, len);
-      words_joined = word_again words long bytes ∙ ap (λ (m : ℕ). big_bytes 4 m ++ drop 4 words) (sym whole);
-      contents_joined = sym (take-append-drop (n % 2 ^ 28) contents);
-    }
-
--- what the first word tells of the first entry
-pub BeginWith-word : (words contents : List ℕ) (kind : ℕ) (content ws cs : List ℕ) (n : ℕ) → n ≡ big_number 4 words → BeginWith words contents kind content ws cs
-    → (n / 2 ^ 28 < 8) × (n % 2 ^ 28 ≤ length contents)
-BeginWith-word words contents kind content ws cs n is b =
-    let known = b.known in
-    let fits = b.fits in
-    let read : n ≡ kind * 2 ^ 28 + length content = is ∙ ap (big_number 4) b.words_joined ∙ word_read (kind * 2 ^ 28 + length content) ws (omega arith) in
-    let len = ap length b.contents_joined ∙ length-append content cs in
-    (omega arith, omega (arith, len))
+use Rattle.jsonb_doc.proofs.Words.{word_cancel, append_cancel}
 
 pub BeginWith-long : (words contents : List ℕ) (kind : ℕ) (content ws cs : List ℕ) → BeginWith words contents kind content ws cs → 4 ≤ length words
 BeginWith-long words contents kind content ws cs b = omega (arith, ap length b.words_joined)

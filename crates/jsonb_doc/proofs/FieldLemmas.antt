@@ -1,11 +1,11 @@
 -- The search for a key, and the value under it.
-use Rattle.std.proofs.Common.{◌≡◌, ◌≢◌, ℕ, suc, ◌-◌, ◌*◌, ◌<◌, ◌≤◌, List, [], ◌∷◌, ◌++◌, length, take, drop, refl, sym, ap, ◌∙◌, arith, Some, None, Bool, true, false, inl, inr, append_assoc}
-use Rattle.std.proofs.lemmas.List.{length-append, length-take-le, append-nil}
+use Rattle.std.proofs.Common.{◌≡◌, ◌≢◌, ℕ, suc, ◌-◌, ◌*◌, ◌<◌, ◌≤◌, List, [], ◌∷◌, ◌++◌, length, take, drop, refl, sym, ap, ◌∙◌, arith, Some, None, Bool, true, false, append_assoc}
+use Rattle.std.proofs.lemmas.List.{length-append, append-nil}
 use Rattle.std.specs.Str.{bytes_eq}
 use Rattle.std.specs.Bool.{Decides}
-use Rattle.jsonb_doc.specs.Tree.{Tree, Pairs, no_pairs, pair, keys, value_under, field_of}
+use Rattle.jsonb_doc.specs.Tree.{Tree, object, Pairs, no_pairs, pair, keys, value_under, field_of}
 use Rattle.jsonb_doc.specs.Payload.{Reading, Form, any, reading}
-use Rattle.jsonb_doc.specs.Format.{Decodes, HeadedBy, header, entry_word, BeginWith, AreValues, IsContent, key_words, key_bytes}
+use Rattle.jsonb_doc.specs.Format.{Decodes, header, entry_word, BeginWith, AreValues, IsContent, key_words, key_bytes}
 use Rattle.jsonb_doc.specs.Lengths.{StandBefore, HoldKeys, IsNoneOf, FoundKey}
 use Rattle.jsonb_doc.specs.Answer.{SameOption}
 use Rattle.jsonb_doc.specs.Spots.{Marks, spot_content}
@@ -14,9 +14,12 @@ use Rattle.jsonb_doc.proofs.Words.{bytes_eq-true, bytes_eq-same}
 use Rattle.jsonb_doc.proofs.Entries.{BeginWith-long, BeginWith-unique}
 use Rattle.jsonb_doc.proofs.KeysRead.{begin_key}
 use Rattle.jsonb_doc.proofs.Scalars.{some_injective}
-use Rattle.jsonb_doc.proofs.Containers.{length-key_words}
+use Rattle.jsonb_doc.proofs.Containers.{length-key_words, HoldsPairs-keys}
 use Rattle.jsonb_doc.proofs.LengthsLemmas.{StandBefore-joined, HoldKeys-before}
-use Rattle.jsonb_doc.proofs.SpotsLemmas.{Marks-kind, Marks-array, Marks-object, Marks-part, some_field, headed_end}
+use Rattle.jsonb_doc.specs.Containers.{IsCut, Holds}
+use Rattle.jsonb_doc.specs.declared.container.ObjectParts.{ObjectParts}
+use Rattle.jsonb_doc.specs.declared.container.Container.TheVariants.{Object}
+use Rattle.jsonb_doc.proofs.SpotsLemmas.{Marks-part, some_field, object_held, object_joined}
 
 -- ---- the search
 
@@ -172,67 +175,72 @@ pub record FieldAt (number_at : Reading) (name : List ℕ) (t : Tree) (words con
 
 -- ---- the spot of the value
 
-module _ (bytes : List ℕ) (parent : Spot) (t : Tree) (m : Marks bytes parent t) (content : List ℕ) (is : content ≡ spot_content bytes parent) (container : parent.kind ≡ 5) where
-  -- an array has no fields
-  pub Marks-other : (kind n : ℕ) (rest : List ℕ) → HeadedBy content kind n rest → kind ≢ 2 → (name : List ℕ) → field_of name t ≡ None
-  Marks-other kind n rest h other name = elim (Marks-kind bytes parent t m content is container kind n rest h) [
-    | inl two ↦ absurd (other two)
-    | inr four ↦ ap (field_of name) (Marks-array bytes parent t m content is container kind n rest h four).1
-  ]
+module _ (bytes : List ℕ) (parent : Spot) (t : Tree) (m : Marks bytes parent t) (content : List ℕ) (is : content ≡ spot_content bytes parent) (container : parent.kind ≡ 5)
+    (p : ObjectParts) (cut : IsCut content (Object p)) (name : List ℕ) where
+  -- no key of the object is the name
+  pub field_absent : ((ks : List (List ℕ)) (found : List ℕ) → HoldKeys ks p.key_words.now p.contents.now found → IsNoneOf name ks) → SameOption (Marks bytes) None (field_of name t)
+  field_absent none = go t (object_held bytes parent t m content is container p cut any m.whole m.decodes)
+    where
+      go : (u : Tree) → Holds (reading any) u (Object p) → SameOption (Marks bytes) None (field_of name u)
+      go (object ps) held = rw (no_value name ps (none (keys ps) held.rest (HoldsPairs-keys (reading any) ps p held))) tt
+      go _ held = absurd held
 
-  module _ (kind n : ℕ) (rest : List ℕ) (h : HeadedBy content kind n rest) (two : kind ≡ 2) (name : List ℕ) where
-    pub field_absent : ((ks : List (List ℕ)) (found : List ℕ) → HoldKeys ks (take (4 * n) (take (2 * (4 * n)) rest)) (drop (2 * (4 * n)) rest) found → IsNoneOf name ks) → field_of name t ≡ None
-    field_absent none =
-        let (ps, same, parts) = Marks-object bytes parent t m content is container kind n rest h two in
-        let p = parts any m.whole m.decodes in
-        ap (field_of name) same ∙ no_value name ps (none (keys ps) p.found p.holds)
+  -- its keys are searched
+  pub field_searched : ((ks : List (List ℕ)) (found : List ℕ) → HoldKeys ks p.key_words.now p.contents.now found → ⊥) → ⊥
+  field_searched none = go t (object_held bytes parent t m content is container p cut any m.whole m.decodes)
+    where
+      go : (u : Tree) → Holds (reading any) u (Object p) → ⊥
+      go (object ps) held = none (keys ps) held.rest (HoldsPairs-keys (reading any) ps p held)
+      go _ held = held
 
-    module _ (behind bytes_behind : List ℕ) (finds : (ks : List (List ℕ)) (found : List ℕ) → HoldKeys ks (take (4 * n) (take (2 * (4 * n)) rest)) (drop (2 * (4 * n)) rest) found → FoundKey name ks found behind bytes_behind) where
-      -- keys stand behind the one that was found
-      pub field_keys : (form : Form) (top : Tree) → Decodes form bytes top → (back : List (List ℕ)) × (found : List ℕ) × StandBefore back behind bytes_behind found
-      field_keys form top d =
-          let (ps, same, parts) = Marks-object bytes parent t m content is container kind n rest h two in
-          let p = parts form top d in
-          let f = finds (keys ps) p.found p.holds in
-          (f.back, p.found, HoldKeys-before f.back _ _ p.found f.behind)
+  module _ (behind bytes_behind : List ℕ) (finds : (ks : List (List ℕ)) (found : List ℕ) → HoldKeys ks p.key_words.now p.contents.now found → FoundKey name ks found behind bytes_behind) where
+    -- keys stand behind the one that was found
+    pub field_keys : (form : Form) (top : Tree) → Decodes form bytes top → (back : List (List ℕ)) × (found : List ℕ) × StandBefore back behind bytes_behind found
+    field_keys form top d = go t (object_held bytes parent t m content is container p cut form top d)
+      where
+        go : (u : Tree) → Holds (reading form) u (Object p) → (back : List (List ℕ)) × (found : List ℕ) × StandBefore back behind bytes_behind found
+        go (object ps) held =
+            let f = finds (keys ps) held.rest (HoldsPairs-keys (reading form) ps p held) in
+            (f.back, held.rest, HoldKeys-before f.back _ _ held.rest f.behind)
+        go _ held = absurd held
 
-      module _ (contents : List ℕ) (skips : (parts : List (List ℕ)) (others : List ℕ) → StandBefore parts behind bytes_behind others → contents ≡ others) (passed : ℕ) (place : passed ≡ 4 * n - length behind - 4) where
-        -- the field's value, as the bytes hold it
-        pub field_value : (form : Form) (top : Tree) → Decodes form bytes top → FieldAt (reading form) name t (drop (4 * n) (take (2 * (4 * n)) rest)) (drop (2 * (4 * n)) rest) contents passed
-        field_value form top d =
-            let (ps, same, parts) = Marks-object bytes parent t m content is container kind n rest h two in
-            let p = parts form top d in
-            let f = finds (keys ps) p.found p.holds in
-            let skipped = skips f.back p.found (HoldKeys-before f.back _ _ p.found f.behind) in
-            let (value, under, at) = value_at (reading form) name ps f.front f.back f.joined f.first _ p.found p.are_values in
-            let whole = length-take-le (2 * (4 * n)) rest p.fits in
-            let half = length-take-le (4 * n) (take (2 * (4 * n)) rest) (omega (arith, whole)) in
-            let all = ap length p.holds.words_joined ∙ length-key_words (keys ps) in
-            let split = ap length f.joined ∙ length-append f.front (name ∷ f.back) in
-            let others = ap length f.behind.words_joined ∙ length-key_words f.back in
-            let from : passed ≡ 4 * length f.front = omega (arith, half, all, split, others, place) in
-            record {
-              value = value;
-              under = ap (field_of name) same ∙ under;
-              front = key_bytes (keys ps);
-              ends = p.holds.bytes_joined ∙ ap (λ (w : List ℕ). key_bytes (keys ps) ++ w) (sym skipped);
-              at = rw (skipped, from) at;
-            }
+    module _ (contents : List ℕ) (skips : (parts : List (List ℕ)) (others : List ℕ) → StandBefore parts behind bytes_behind others → contents ≡ others) (passed : ℕ) (place : passed ≡ length p.key_words.now - length behind - 4) where
+      -- the field's value, as the bytes hold it
+      pub field_value : (form : Form) (top : Tree) → Decodes form bytes top → FieldAt (reading form) name t p.value_words.now p.contents.now contents passed
+      field_value form top d = go t (object_held bytes parent t m content is container p cut form top d)
+        where
+          go : (u : Tree) → Holds (reading form) u (Object p) → FieldAt (reading form) name u p.value_words.now p.contents.now contents passed
+          go (object ps) held =
+              let f = finds (keys ps) held.rest (HoldsPairs-keys (reading form) ps p held) in
+              let skipped = skips f.back held.rest (HoldKeys-before f.back _ _ held.rest f.behind) in
+              let (value, under, at) = value_at (reading form) name ps f.front f.back f.joined f.first _ held.rest held.values in
+              let all = ap length held.words ∙ length-key_words (keys ps) in
+              let split = ap length f.joined ∙ length-append f.front (name ∷ f.back) in
+              let others = ap length f.behind.words_joined ∙ length-key_words f.back in
+              let from : passed ≡ 4 * length f.front = omega (arith, all, split, others, place) in
+              record {
+                value = value;
+                under = under;
+                front = key_bytes (keys ps);
+                ends = held.bytes ∙ ap (λ (w : List ℕ). key_bytes (keys ps) ++ w) (sym skipped);
+                at = rw (skipped, from) at;
+              }
+          go _ held = absurd held
 
-        module _ (value_kind : ℕ) (value_content ws cs : List ℕ)
-            (entry : (parts : List (List ℕ)) (left : List ℕ) → StandBefore parts (take passed (drop (4 * n) (take (2 * (4 * n)) rest))) contents left → BeginWith (drop passed (drop (4 * n) (take (2 * (4 * n)) rest))) left value_kind value_content ws cs) where
-          -- the spot of the field's value
-          pub field_marks : (spot : Spot) → spot.kind ≡ value_kind → spot.end ≡ parent.end - length cs → spot.start ≡ spot.end - length value_content → SameOption (Marks bytes) (Some spot) (field_of name t)
-          field_marks spot k e s =
-              let one = field_value any m.whole m.decodes in
-              let before = StandBefore-joined one.at.parts _ contents one.at.left one.at.before in
-              let first = entry one.at.parts one.at.left one.at.before in
-              let header_words = header kind n ++ take (2 * (4 * n)) rest in
-              let joined : spot_content bytes parent ≡ ((header_words ++ one.front) ++ before.0) ++ (value_content ++ cs) =
-              sym is ∙ headed_end content rest kind n (2 * (4 * n)) h ∙ ap (λ (w : List ℕ). header_words ++ w) one.ends ∙ sym (append_assoc header_words one.front contents) ∙ ap (λ (w : List ℕ). (header_words ++ one.front) ++ w) (before.1 ∙ ap (λ (w : List ℕ). before.0 ++ w) first.contents_joined) ∙ sym (append_assoc (header_words ++ one.front) before.0 (value_content ++ cs)) in
-              some_field bytes name t one.value spot one.under (Marks-part bytes parent t m spot one.value value_kind ((header_words ++ one.front) ++ before.0) value_content cs joined k e s (λ form top d.
-              let other = field_value form top d in
-              let same : other.value ≡ one.value = some_injective (sym other.under ∙ one.under) in
-              let begin = entry other.at.parts other.at.left other.at.before in
-              let (same_kind, same_content, same_words, same_contents) = BeginWith-unique _ _ _ _ _ _ _ _ _ _ begin other.at.begin in
-              rw (same_kind, same_content, ← same) other.at.part))
+      module _ (value_kind : ℕ) (value_content ws cs : List ℕ)
+          (entry : (parts : List (List ℕ)) (left : List ℕ) → StandBefore parts (take passed p.value_words.now) contents left → BeginWith (drop passed p.value_words.now) left value_kind value_content ws cs) where
+        -- the spot of the field's value
+        pub field_marks : (spot : Spot) → spot.kind ≡ value_kind → spot.end ≡ parent.end - length cs → spot.start ≡ spot.end - length value_content → SameOption (Marks bytes) (Some spot) (field_of name t)
+        field_marks spot k e s =
+            let one = field_value any m.whole m.decodes in
+            let before = StandBefore-joined one.at.parts _ contents one.at.left one.at.before in
+            let first = entry one.at.parts one.at.left one.at.before in
+            let words = header 2 cut.0 ++ (p.key_words.now ++ p.value_words.now) in
+            let joined : spot_content bytes parent ≡ ((words ++ one.front) ++ before.0) ++ (value_content ++ cs) =
+            sym is ∙ object_joined bytes parent t m content is container p cut ∙ ap (λ (w : List ℕ). words ++ w) one.ends ∙ sym (append_assoc words one.front contents) ∙ ap (λ (w : List ℕ). (words ++ one.front) ++ w) (before.1 ∙ ap (λ (w : List ℕ). before.0 ++ w) first.contents_joined) ∙ sym (append_assoc (words ++ one.front) before.0 (value_content ++ cs)) in
+            some_field bytes name t one.value spot one.under (Marks-part bytes parent t m spot one.value value_kind ((words ++ one.front) ++ before.0) value_content cs joined k e s (λ form top d.
+            let other = field_value form top d in
+            let same : other.value ≡ one.value = some_injective (sym other.under ∙ one.under) in
+            let begin = entry other.at.parts other.at.left other.at.before in
+            let (same_kind, same_content, same_words, same_contents) = BeginWith-unique _ _ _ _ _ _ _ _ _ _ begin other.at.begin in
+            rw (same_kind, same_content, ← same) other.at.part))

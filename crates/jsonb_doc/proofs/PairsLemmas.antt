@@ -1,17 +1,36 @@
 -- The iterator over pairs and its first item.
-use Rattle.std.proofs.Common.{◌≡◌, ℕ, ◌*◌, ◌<◌, ◌≤◌, List, [], ◌∷◌, ◌++◌, length, take, drop, Some, ap, ◌∙◌, arith, refl}
+use Rattle.std.proofs.Common.{◌≡◌, ℕ, ◌<◌, List, [], ◌∷◌, ◌++◌, length, Some, ap, ◌∙◌, arith, refl}
 use Rattle.std.specs.Prelude.{IsUtf8}
-use Rattle.std.proofs.lemmas.List.{length-append, take_at, drop_at}
-use Rattle.jsonb_doc.specs.Tree.{Tree, object, Pairs, no_pairs, pair, keys, values}
+use Rattle.jsonb_doc.specs.Tree.{Tree, object, Pairs, no_pairs, pair, keys}
 use Rattle.jsonb_doc.specs.Payload.{Reading, Form, reading}
-use Rattle.jsonb_doc.specs.Format.{AreValues, AreKeys, key_words, key_bytes, BeginWith, Entry, HeadedBy, IsContent}
+use Rattle.jsonb_doc.specs.Format.{AreValues, AreKeys, key_words, key_bytes, BeginWith, Entry, IsContent}
 use Rattle.jsonb_doc.specs.ObjectPairs.{HasPairsLeft, IsPairsOf}
-use Rattle.jsonb_doc.specs.ObjectKeys.{HasKeysLeft, IsKeysOf, HasValuesLeft, IsValuesOf}
+use Rattle.jsonb_doc.specs.ObjectKeys.{HasKeysLeft, IsKeysOf, IsValuesOf}
 use Rattle.jsonb_doc.specs.declared.key_iter.KeyIter.{KeyIter}
 use Rattle.jsonb_doc.specs.declared.value_iter.ValueIter.{ValueIter}
 use Rattle.jsonb_doc.specs.declared.pair_iter.PairIter.{PairIter}
+use Rattle.jsonb_doc.specs.Lengths.{StandBefore}
+use Rattle.jsonb_doc.specs.Containers.{Holds, HoldsPairs}
+use Rattle.jsonb_doc.specs.declared.container.ObjectParts.{ObjectParts}
+use Rattle.jsonb_doc.specs.declared.container.Container.TheVariants.{Object}
 use Rattle.jsonb_doc.proofs.KeysRead.{begin_key}
-use Rattle.jsonb_doc.proofs.Containers.{HeadedBy-unique, entries_of, length-words, length-key_words, count-values}
+use Rattle.jsonb_doc.proofs.LengthsLemmas.{HoldKeys-before}
+use Rattle.jsonb_doc.proofs.Containers.{entries_of, HoldsPairs-keys}
+
+-- these bytes are what follows the keys of an object
+abbrev pub SkipsKeys : ObjectParts → List ℕ → Type 0
+SkipsKeys p found = (parts : List (List ℕ)) (rest : List ℕ) → StandBefore parts p.key_words.now p.contents.now rest → found ≡ rest
+
+module _ (form : Form) (p : ObjectParts) (none : (parts : List (List ℕ)) (rest : List ℕ) → StandBefore parts p.key_words.now p.contents.now rest → ⊥) where
+  pub HoldsPairs-skipped : (ps : Pairs) → HoldsPairs (reading form) ps p → ⊥
+  HoldsPairs-skipped ps h = none (keys ps) h.rest (HoldKeys-before (keys ps) _ _ h.rest (HoldsPairs-keys (reading form) ps p h))
+
+  pub Holds-skipped : (t : Tree) → Holds (reading form) t (Object p) → ⊥
+  Holds-skipped (object ps) held = HoldsPairs-skipped ps held
+  Holds-skipped _ held = held
+
+pub HoldsPairs-values : (number_at : Reading) (ps : Pairs) (p : ObjectParts) (found : List ℕ) → (h : HoldsPairs number_at ps p) → SkipsKeys p found → found ≡ h.rest
+HoldsPairs-values number_at ps p found h skips = skips (keys ps) h.rest (HoldKeys-before (keys ps) _ _ h.rest (HoldsPairs-keys number_at ps p h))
 
 -- the first of the pairs, as the bytes hold it
 pub record FirstPair (form : Form) (it : PairIter) (ps : Pairs) : Type 0 where
@@ -39,27 +58,33 @@ HasPairsLeft-first form it (pair key t ps) some h = record {
   entry = h.values;
 }
 
-pub IsPairsOf-some : (form : Form) (t : Tree) (it : PairIter) (ps : Pairs) → t ≡ object ps → HasPairsLeft form it ps → IsPairsOf form t (Some it)
-IsPairsOf-some form t it ps is left = rw is left
+-- the iterators of an object's parts
+pub HoldsPairs-left : (form : Form) (ps : Pairs) (it : PairIter) (p : ObjectParts) → it.key_words.now ≡ p.key_words.now → it.key_bytes.now ≡ p.contents.now → it.value_words.now ≡ p.value_words.now
+    → SkipsKeys p it.value_contents.now → HoldsPairs (reading form) ps p → HasPairsLeft form it ps
+HoldsPairs-left form ps it p key_words key_bytes value_words skips held = record {
+  rest = held.rest;
+  are_keys = held.are_keys;
+  words = key_words ∙ held.words;
+  bytes = key_bytes ∙ held.bytes;
+  values = rw (value_words, HoldsPairs-values (reading form) ps p _ held skips) held.values;
+}
 
--- an object's keys and values are where its header says
-pub object_pairs : (number_at : Reading) (bytes : List ℕ) (kind n : ℕ) (rest : List ℕ) → HeadedBy bytes kind n rest → (ps : Pairs) → IsContent number_at (object ps) 5 bytes
-    → (2 * (4 * n) ≤ length rest) × (found : List ℕ) × AreKeys (keys ps)
-    × (take (4 * n) (take (2 * (4 * n)) rest) ≡ key_words (keys ps)) × (drop (2 * (4 * n)) rest ≡ key_bytes (keys ps) ++ found)
-    × AreValues number_at ps (drop (4 * n) (take (2 * (4 * n)) rest)) found
-object_pairs number_at bytes kind n rest h ps (is, c) =
-    let (same_kind, same_n, same_rest) = HeadedBy-unique bytes kind 2 n (length (keys ps)) rest (c.words ++ c.contents) h c.headed in
-    let m = c.parts in
-    let entries = entries_of number_at ps m.value_words m.value_contents m.values in
-    let len = length-words number_at (values ps) m.value_words m.value_contents entries in
-    let key_len = length-key_words (keys ps) in
-    let both = ap length m.words_joined ∙ length-append (key_words (keys ps)) m.value_words in
-    let counted = count-values ps in
-    let taken : take (2 * (4 * n)) rest ≡ c.words = ap (take (2 * (4 * n))) same_rest ∙ take_at c.words c.contents (2 * (4 * n)) (omega (arith, len, same_n, key_len, both, counted)) in
-    let dropped : drop (2 * (4 * n)) rest ≡ c.contents = ap (drop (2 * (4 * n))) same_rest ∙ drop_at c.words c.contents (2 * (4 * n)) (omega (arith, len, same_n, key_len, both, counted)) in
-    let first : take (4 * n) c.words ≡ key_words (keys ps) = ap (take (4 * n)) m.words_joined ∙ take_at (key_words (keys ps)) m.value_words (4 * n) (omega (arith, key_len, same_n)) in
-    let second : drop (4 * n) c.words ≡ m.value_words = ap (drop (4 * n)) m.words_joined ∙ drop_at (key_words (keys ps)) m.value_words (4 * n) (omega (arith, key_len, same_n)) in
-    rw (taken, dropped, first, second) (omega (arith, ap length same_rest, length-append c.words c.contents, len, same_n, key_len, both, counted), m.value_contents, m.are_keys, refl, m.contents_joined, m.values)
+pub IsPairsOf-some : (form : Form) (t : Tree) (it : PairIter) (p : ObjectParts) → Holds (reading form) t (Object p)
+    → ((f : Form) (ps : Pairs) → HoldsPairs (reading f) ps p → HasPairsLeft f it ps) → IsPairsOf form t (Some it)
+IsPairsOf-some form (object ps) it p held left = left form ps held
+IsPairsOf-some form _ it p held left = absurd held
+
+pub IsPairsOf-refused : (form : Form) (t : Tree) (p : ObjectParts) → Holds (reading form) t (Object p) → ((f : Form) (ps : Pairs) → HoldsPairs (reading f) ps p → ⊥) → ⊥
+IsPairsOf-refused form (object ps) p held none = none form ps held
+IsPairsOf-refused form _ p held none = held
+
+pub IsKeysOf-some : (form : Form) (t : Tree) (it : KeyIter) (p : ObjectParts) → it.key_words.now ≡ p.key_words.now → it.key_bytes.now ≡ p.contents.now → Holds (reading form) t (Object p) → IsKeysOf t (Some it)
+IsKeysOf-some form (object ps) it p key_words key_bytes held = record { rest = held.rest; are_keys = held.are_keys; words = key_words ∙ held.words; bytes = key_bytes ∙ held.bytes }
+IsKeysOf-some form _ it p key_words key_bytes held = absurd held
+
+pub IsValuesOf-some : (form : Form) (t : Tree) (it : ValueIter) (p : ObjectParts) → it.elements.entries.words.now ≡ p.value_words.now → SkipsKeys p it.elements.entries.contents.now → Holds (reading form) t (Object p) → IsValuesOf form t (Some it)
+IsValuesOf-some form (object ps) it p words skips held = record { entries = rw (words, HoldsPairs-values (reading form) ps p _ held skips) (entries_of (reading form) ps _ _ held.values) }
+IsValuesOf-some form _ it p words skips held = absurd held
 
 -- the first of the keys, as the bytes hold it
 pub record FirstKey (it : KeyIter) (ks : List (List ℕ)) : Type 0 where
@@ -82,9 +107,3 @@ HasKeysLeft-first it (key ∷ ks) some h = record {
   are_keys = h.are_keys.2;
   begin = begin_key it.key_words.now it.key_bytes.now h.rest key ks h.are_keys.0.1 h.words h.bytes;
 }
-
-pub IsKeysOf-some : (t : Tree) (it : KeyIter) (ps : Pairs) → t ≡ object ps → HasKeysLeft it (keys ps) → IsKeysOf t (Some it)
-IsKeysOf-some t it ps is left = rw is left
-
-pub IsValuesOf-some : (form : Form) (t : Tree) (it : ValueIter) (ps : Pairs) → t ≡ object ps → HasValuesLeft form it (values ps) → IsValuesOf form t (Some it)
-IsValuesOf-some form t it ps is left = rw is left

@@ -98,12 +98,6 @@ Judges-along P Q same (Err UnsupportedNumber) h =
 Judges-along P Q same (Err InvalidJsonb) h = λ q. h ((same number_or_unsupported).1 q)
 Judges-along P Q same (Err _) h = absurd h
 
--- a refusal of a part, other than that of an unsupported number, is one of the whole
-pub Refuses-whole : (P Q : Reading → Type 0) (e : Error) → e ≢ UnsupportedNumber → (Q number_or_unsupported → P number_or_unsupported) → Refuses P e → Refuses Q e
-Refuses-whole P Q UnsupportedNumber other part h = absurd (other refl)
-Refuses-whole P Q InvalidJsonb other part h = λ q. h (part q)
-Refuses-whole P Q _ other part h = absurd h
-
 pub some_injective : {A : Type 0} {x y : A} → Some x ≡ Some y → x ≡ y
 some_injective e = cc
 

@@ -1,22 +1,26 @@
 -- Spots of children within the content of a spot.
-use Rattle.std.proofs.Common.{◌≡◌, ◌≢◌, ℕ, ◌+◌, ◌-◌, ◌*◌, ◌^◌, ◌<◌, ◌≤◌, List, [], ◌∷◌, ◌++◌, length, take, drop, refl, sym, ap, ◌∙◌, arith, ◌⊎◌, Some, None, Ok, append_assoc}
+use Rattle.std.proofs.Common.{◌≡◌, ◌≢◌, ℕ, ◌+◌, ◌-◌, ◌*◌, ◌^◌, ◌<◌, ◌≤◌, List, [], ◌∷◌, ◌++◌, length, take, drop, refl, sym, ap, ◌∙◌, arith, inl, Some, None, Ok, append_assoc}
 use Rattle.std.proofs.lemmas.List.{length-append, length-take-le, length-drop, drop_at, drop-take, drop-drop, take-append-drop, append-nil}
 use Rattle.std.proofs.Math.Seq.{take-add}
 use Rattle.std.proofs.lemmas.Slice.{between_to_end}
 use Rattle.std.specs.Prelude.{slice_range}
-use Rattle.jsonb_doc.specs.Tree.{Tree, null, boolean, number, text, extension, array, object, Trees, no_trees, tree, Pairs, trees_of, elements, values, keys, children_of, field_of}
+use Rattle.jsonb_doc.specs.Tree.{Tree, null, boolean, number, text, extension, array, object, Trees, no_trees, tree, trees_of, elements, values, keys, children_of, field_of}
 use Rattle.jsonb_doc.specs.Payload.{Reading, Form, any, reading, number_of}
-use Rattle.jsonb_doc.specs.Format.{Decodes, HeadedBy, header, entry_word, BeginWith, IsContent, AreEntries, AreValues, key_bytes}
+use Rattle.jsonb_doc.specs.Format.{Decodes, header, entry_word, BeginWith, IsContent, IsDocument, AreEntries, key_bytes}
 use Rattle.jsonb_doc.specs.Answer.{SameOption}
-use Rattle.jsonb_doc.specs.Lengths.{StartWith, StandBefore, HoldKeys}
+use Rattle.jsonb_doc.specs.Lengths.{StartWith, StandBefore}
 use Rattle.jsonb_doc.specs.Spots.{Marks, HasSpotsLeft, TakesSpot, spot_content}
 use Rattle.jsonb_doc.specs.declared.spot.Spot.{Spot}
 use Rattle.jsonb_doc.specs.declared.spot_iter.SpotIter.{SpotIter}
 use Rattle.jsonb_doc.proofs.Words.{append_cancel, word_cancel}
 use Rattle.jsonb_doc.proofs.Entries.{BeginWith-long, BeginWith-room, BeginWith-unique}
-use Rattle.jsonb_doc.proofs.Containers.{HasContent-headed, HasContent-kind, array_content, object_content, array_elements, entries_of}
-use Rattle.jsonb_doc.proofs.PairsLemmas.{object_pairs}
-use Rattle.jsonb_doc.proofs.LengthsLemmas.{HoldKeys-before}
+use Rattle.jsonb_doc.proofs.Containers.{IsCut-same, IsCut-scalar, entries_of}
+use Rattle.jsonb_doc.proofs.PairsLemmas.{SkipsKeys, HoldsPairs-values, Holds-skipped}
+use Rattle.jsonb_doc.specs.Containers.{IsCut, Holds}
+use Rattle.jsonb_doc.specs.declared.entry_iter.StoredEntry.{StoredEntry}
+use Rattle.jsonb_doc.specs.declared.container.ArrayParts.{ArrayParts}
+use Rattle.jsonb_doc.specs.declared.container.ObjectParts.{ObjectParts}
+use Rattle.jsonb_doc.specs.declared.container.Container.TheVariants.{Scalar, Array, Object}
 use Rattle.jsonb_doc.proofs.CanonicalLemmas.{in_any}
 use Rattle.jsonb_doc.proofs.Unique.{document_unique}
 
@@ -211,71 +215,71 @@ module _ (bytes : List ℕ) (parent : Spot) (t : Tree) (m : Marks bytes parent t
 pub no_children : (bytes : List ℕ) (t : Tree) → children_of t ≡ None → SameOption (HasSpotsLeft bytes) None (children_of t)
 no_children bytes t none = rw none tt
 
-pub some_children : (bytes : List ℕ) (t : Tree) (it : SpotIter) (ts : List Tree) → children_of t ≡ Some ts → HasSpotsLeft bytes it ts → SameOption (HasSpotsLeft bytes) (Some it) (children_of t)
-some_children bytes t it ts is h = rw is h
-
 pub no_field : (bytes name : List ℕ) (t : Tree) → field_of name t ≡ None → SameOption (Marks bytes) None (field_of name t)
 no_field bytes name t none = rw none tt
 
 pub some_field : (bytes name : List ℕ) (t u : Tree) (spot : Spot) → field_of name t ≡ Some u → Marks bytes spot u → SameOption (Marks bytes) (Some spot) (field_of name t)
 some_field bytes name t u spot is h = rw is h
 
--- what stands behind the header and the words
-pub headed_end : (content rest : List ℕ) (kind entries n : ℕ) → HeadedBy content kind entries rest → content ≡ (header kind entries ++ take n rest) ++ drop n rest
-headed_end content rest kind entries n h =
-    h.joined ∙ ap (λ (w : List ℕ). header kind entries ++ w) (sym (take-append-drop n rest)) ∙ sym (append_assoc (header kind entries) (take n rest) (drop n rest))
-
 -- ---- containers
 
--- the parts of an object behind its header
-pub record ObjectAt (number_at : Reading) (ps : Pairs) (n : ℕ) (rest : List ℕ) : Type 0 where
-  pub fits : 2 * (4 * n) ≤ length rest
-  pub found : List ℕ
-  pub holds : HoldKeys (keys ps) (take (4 * n) (take (2 * (4 * n)) rest)) (drop (2 * (4 * n)) rest) found
-  pub are_values : AreValues number_at ps (drop (4 * n) (take (2 * (4 * n)) rest)) found
+-- a scalar's content is the end of its document
+pub scalar_end : (bytes : List ℕ) (e : StoredEntry) → IsCut bytes (Scalar e) → (front : List ℕ) × (bytes ≡ front ++ (e.content.now ++ []))
+scalar_end bytes e (rest, h, lone) =
+    let word = entry_word e.kind (length e.content.now) in
+    (header 1 0 ++ word, h.joined ∙ ap (λ (w : List ℕ). header 1 0 ++ w) (lone.start.joined ∙ ap (λ (w : List ℕ). word ++ w) (sym (append-nil e.content.now))))
 
 module _ (bytes : List ℕ) (parent : Spot) (t : Tree) (m : Marks bytes parent t) (content : List ℕ) (is : content ≡ spot_content bytes parent) (container : parent.kind ≡ 5) where
   pub Marks-container : (form : Form) (top : Tree) → Decodes form bytes top → IsContent (reading form) t 5 content
   Marks-container form top d = rw (is, ← container) (m.content form top d)
 
-  pub Marks-headed : (kind entries : ℕ) × (rest : List ℕ) × HeadedBy content kind entries rest
-  Marks-headed = HasContent-headed (reading any) content (t, Marks-container any m.whole m.decodes)
+  pub Marks-document : IsDocument (reading any) t content
+  Marks-document = inl (Marks-container any m.whole m.decodes)
 
-  module _ (kind n : ℕ) (rest : List ℕ) (h : HeadedBy content kind n rest) where
-    pub Marks-kind : (kind ≡ 2) ⊎ (kind ≡ 4)
-    Marks-kind = HasContent-kind (reading any) content kind n rest h (t, Marks-container any m.whole m.decodes)
+  pub Marks-no-scalar : (e : StoredEntry) → IsCut content (Scalar e) → ⊥
+  Marks-no-scalar e cut = IsCut-scalar (reading any) content e cut t (Marks-container any m.whole m.decodes)
 
-    pub Marks-array : kind ≡ 4 → (ts : Trees) × (t ≡ array ts) × (4 * n ≤ length rest) × ((form : Form) (top : Tree) → Decodes form bytes top → AreEntries (reading form) ts (take (4 * n) rest) (drop (4 * n) rest))
-    Marks-array four =
-        let found = array_content any content kind n rest h t four (Marks-container any m.whole m.decodes) in
-        let at = λ (form : Form) (top : Tree) (d : Decodes form bytes top). array_elements (reading form) content kind n rest h found.0 (rw found.1 at (Marks-container form top d)) in
-        (found.0, found.1, (at any m.whole m.decodes).1, λ form top d. (at form top d).2)
+  module _ (p : ArrayParts) (cut : IsCut content (Array p)) where
+    array_held : (form : Form) (top : Tree) → Decodes form bytes top → Holds (reading form) t (Array p)
+    array_held form top d = (IsCut-same content (Array p) cut (reading form) t).0 (inl (Marks-container form top d))
 
-    pub Marks-object : kind ≡ 2 → (ps : Pairs) × (t ≡ object ps) × ((form : Form) (top : Tree) → Decodes form bytes top → ObjectAt (reading form) ps n rest)
-    Marks-object two =
-        let found = object_content any content kind n rest h t two (Marks-container any m.whole m.decodes) in (
-          found.0,
-          found.1,
-          λ form top d.
-              let parts = object_pairs (reading form) content kind n rest h found.0 (rw found.1 at (Marks-container form top d)) in
-              record {
-                fits = parts.0;
-                found = parts.1;
-                holds = record { are_keys = parts.2; words_joined = parts.3; bytes_joined = parts.4 };
-                are_values = parts.5;
-              },
-        )
+    -- an array has children and no fields
+    pub array_children : (it : SpotIter) → it.words.now ≡ p.words.now → it.start ≡ parent.end - length p.contents.now → it.end ≡ parent.end → SameOption (HasSpotsLeft bytes) (Some it) (children_of t)
+    array_children it words start end = go t m array_held
+      where
+        joined : content ≡ (header 4 cut.0 ++ p.words.now) ++ p.contents.now
+        joined = cut.1.joined ∙ sym (append_assoc (header 4 cut.0) p.words.now p.contents.now)
 
-    pub array_children : (it : SpotIter) → kind ≡ 4 → it.words.now ≡ take (4 * n) rest → it.start ≡ parent.end - length (drop (4 * n) rest) → it.end ≡ parent.end → SameOption (HasSpotsLeft bytes) (Some it) (children_of t)
-    array_children it four words start end =
-        let (ts, same, fits, entries) = Marks-array four in
-        some_children bytes t it (elements ts) (ap children_of same) (HasSpotsLeft-part bytes parent t m it ts (header kind n ++ take (4 * n) rest) (drop (4 * n) rest) (sym is ∙ headed_end content rest kind n (4 * n) h) start end (λ form top d. rw words (entries form top d)))
+        go : (u : Tree) → Marks bytes parent u → ((form : Form) (top : Tree) → Decodes form bytes top → Holds (reading form) u (Array p)) → SameOption (HasSpotsLeft bytes) (Some it) (children_of u)
+        go (array ts) k held = HasSpotsLeft-part bytes parent (array ts) k it ts (header 4 cut.0 ++ p.words.now) p.contents.now (sym is ∙ joined) start end (λ form top d. rw words (held form top d))
+        go _ k held = absurd (held any m.whole m.decodes)
 
-    pub object_children : (it : SpotIter) (found : List ℕ) → kind ≡ 2 → ((parts : List (List ℕ)) (others : List ℕ) → StandBefore parts (take (4 * n) (take (2 * (4 * n)) rest)) (drop (2 * (4 * n)) rest) others → found ≡ others)
-        → it.words.now ≡ drop (4 * n) (take (2 * (4 * n)) rest) → it.start ≡ parent.end - length found → it.end ≡ parent.end → SameOption (HasSpotsLeft bytes) (Some it) (children_of t)
-    object_children it found two skips words start end =
-        let (ps, same, parts) = Marks-object two in
-        let skipped = λ (form : Form) (top : Tree) (d : Decodes form bytes top). let p = parts form top d in skips (keys ps) p.found (HoldKeys-before (keys ps) _ _ p.found p.holds) in
-        let p = parts any m.whole m.decodes in
-        let joined = sym is ∙ headed_end content rest kind n (2 * (4 * n)) h ∙ ap (λ (w : List ℕ). (header kind n ++ take (2 * (4 * n)) rest) ++ w) (p.holds.bytes_joined ∙ ap (λ (w : List ℕ). key_bytes (keys ps) ++ w) (sym (skipped any m.whole m.decodes))) ∙ sym (append_assoc (header kind n ++ take (2 * (4 * n)) rest) (key_bytes (keys ps)) found) in
-        some_children bytes t it (elements (values ps)) (ap children_of same) (HasSpotsLeft-part bytes parent t m it (values ps) ((header kind n ++ take (2 * (4 * n)) rest) ++ key_bytes (keys ps)) found joined start end (λ form top d. rw (words, skipped form top d) (entries_of (reading form) ps _ _ (parts form top d).are_values)))
+    pub array_no_field : (name : List ℕ) → SameOption (Marks bytes) None (field_of name t)
+    array_no_field name = go t (array_held any m.whole m.decodes)
+      where
+        go : (u : Tree) → Holds (reading any) u (Array p) → SameOption (Marks bytes) None (field_of name u)
+        go (array ts) held = tt
+        go _ held = absurd held
+
+  module _ (p : ObjectParts) (cut : IsCut content (Object p)) where
+    pub object_held : (form : Form) (top : Tree) → Decodes form bytes top → Holds (reading form) t (Object p)
+    object_held form top d = (IsCut-same content (Object p) cut (reading form) t).0 (inl (Marks-container form top d))
+
+    -- the words and the contents stand behind the header
+    pub object_joined : content ≡ (header 2 cut.0 ++ (p.key_words.now ++ p.value_words.now)) ++ p.contents.now
+    object_joined = cut.1.joined ∙ sym (append_assoc (header 2 cut.0) (p.key_words.now ++ p.value_words.now) p.contents.now)
+
+    pub object_children : (it : SpotIter) (found : List ℕ) → SkipsKeys p found → it.words.now ≡ p.value_words.now → it.start ≡ parent.end - length found → it.end ≡ parent.end → SameOption (HasSpotsLeft bytes) (Some it) (children_of t)
+    object_children it found skips words start end = go t m object_held
+      where
+        go : (u : Tree) → Marks bytes parent u → ((form : Form) (top : Tree) → Decodes form bytes top → Holds (reading form) u (Object p)) → SameOption (HasSpotsLeft bytes) (Some it) (children_of u)
+        go (object ps) k held =
+            let h = held any m.whole m.decodes in
+            let front = header 2 cut.0 ++ (p.key_words.now ++ p.value_words.now) in
+            let joined = sym is ∙ object_joined ∙ ap (λ (w : List ℕ). front ++ w) (h.bytes ∙ ap (λ (w : List ℕ). key_bytes (keys ps) ++ w) (sym (HoldsPairs-values (reading any) ps p found h skips))) ∙ sym (append_assoc front (key_bytes (keys ps)) found) in
+            HasSpotsLeft-part bytes parent (object ps) k it (values ps) (front ++ key_bytes (keys ps)) found joined start end (λ form top d. let o = held form top d in rw (words, HoldsPairs-values (reading form) ps p found o skips) (entries_of (reading form) ps _ _ o.values))
+        go _ k held = absurd (held any m.whole m.decodes)
+
+    -- bytes that no keys can be passed over in
+    pub object_skipped : ((parts : List (List ℕ)) (rest : List ℕ) → StandBefore parts p.key_words.now p.contents.now rest → ⊥) → ⊥
+    object_skipped none = Holds-skipped any p none t (object_held any m.whole m.decodes)

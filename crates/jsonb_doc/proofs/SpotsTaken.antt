@@ -60,7 +60,3 @@ some_spot bytes spot None h = absurd h
 pub no_spot : (bytes : List ℕ) (found : Option Tree) → SameOption (Marks bytes) None found → found ≡ None
 no_spot bytes (Some t) h = absurd h
 no_spot bytes None h = refl
-
--- what is found is the spot of the part that is wanted
-pub same_found : (bytes : List ℕ) (r : Option Spot) (wanted found : Option Tree) → wanted ≡ found → SameOption (Marks bytes) r found → SameOption (Marks bytes) r wanted
-same_found bytes r wanted found is h = rw is h

@@ -25,6 +25,7 @@ pub mod Arithmetic
 pub mod ArrayBuilder
 pub mod ObjectBuilder
 pub mod Lengths
+pub mod Containers
 pub mod Spots
 pub mod Value
 pub mod Equal

@@ -6,12 +6,10 @@ ghost use Rattle.jsonb_doc.specs.Payload.{any, number_or_unsupported};
 ghost use Rattle.jsonb_doc.specs.Format.{Decodes, WouldDecode};
 ghost use Rattle.jsonb_doc.specs.Checking.{Judges, HasContent, HasEntries, HasDocument, HasKeys, IsNextKey, HasParts, HasLarge, IsWithin, Leaves};
 
+use crate::container::{Container, read_container};
 use crate::error::Error;
 use crate::extension::ExtensionValue;
-use crate::layout::{
-    ARRAY_HEADER, CONTAINER, EXTENSION, FALSE, NULL, NUMBER, OBJECT_HEADER, SCALAR_HEADER, TEXT,
-    TRUE, WORD, split_entry, split_header,
-};
+use crate::layout::{CONTAINER, EXTENSION, FALSE, NULL, NUMBER, TEXT, TRUE, split_entry};
 use crate::number::Number;
 use std::cmp::Ordering;
 
@@ -32,23 +30,13 @@ pub fn check(bytes: &[u8]) -> Result<(), Error>
 fn check_document(bytes: &[u8]) -> Result<(), Error>
     ensures { Judges (HasDocument bytes.now) result }
 {
-    let Some((kind, entries, rest)) = split_header(bytes) else {
+    let Ok(container) = read_container(bytes) else {
         return Err(Error::InvalidJsonb);
     };
-    if kind != SCALAR_HEADER {
-        return check_container(bytes);
+    match container {
+        Container::Scalar(entry) => check_scalar(entry.kind, entry.content),
+        _ => check_container(bytes),
     }
-    if entries != 0 || rest.len() < WORD {
-        return Err(Error::InvalidJsonb);
-    }
-    let (words, contents) = rest.split_at(WORD);
-    let Some(entry) = split_entry(words, contents) else {
-        return Err(Error::InvalidJsonb);
-    };
-    if entry.kind == CONTAINER || !entry.other_contents.is_empty() {
-        return Err(Error::InvalidJsonb);
-    }
-    check_content(entry.kind, entry.content)
 }
 
 #[cycle(check)]
@@ -130,17 +118,16 @@ fn check_container(bytes: &[u8]) -> Result<(), Error>
 fn split_container(bytes: &[u8]) -> Option<(&[u8], &[u8])>
     ensures { MatchOption result (HasContent 5 bytes.now number_or_unsupported → ⊥) (λ r. HasParts bytes.now r.0.now r.1.now) }
 {
-    let (kind, entries, rest) = split_header(bytes)?;
-    let len = WORD * entries;
-    match kind {
-        ARRAY_HEADER if len <= rest.len() => Some(rest.split_at(len)),
-        OBJECT_HEADER if 2 * len <= rest.len() => {
-            let (words, contents) = rest.split_at(2 * len);
-            let (key_words, value_words) = words.split_at(len);
-            let values = skip_keys(key_words, contents)?;
-            Some((value_words, values))
+    let Ok(container) = read_container(bytes) else {
+        return None;
+    };
+    match container {
+        Container::Scalar(_) => None,
+        Container::Array(parts) => Some((parts.words, parts.contents)),
+        Container::Object(parts) => {
+            let contents = skip_keys(parts.key_words, parts.contents)?;
+            Some((parts.value_words, contents))
         }
-        _ => None,
     }
 }
 

@@ -10,11 +10,10 @@ ghost use Rattle.jsonb_doc.specs.Lengths.{HoldKeys, FindsKey};
 ghost use Rattle.jsonb_doc.specs.Spots.{Marks, HasSpotsLeft, spot_size, spot_content, spots_bound, spots_room};
 ghost use Rattle.jsonb_doc.specs.View.{IsDecodingError};
 
+use crate::container::{Container, read_container};
 use crate::error::Error;
 use crate::item::Item;
-use crate::layout::{
-    ARRAY_HEADER, CONTAINER, OBJECT_HEADER, SCALAR_HEADER, WORD, split_entry, split_header,
-};
+use crate::layout::{CONTAINER, WORD, split_entry};
 use crate::lengths::{entry_behind, skip_contents};
 use crate::spot_iter::SpotIter;
 
@@ -54,21 +53,13 @@ pub fn root_spot(bytes: &[u8]) -> Result<Spot, Error>
     ensures size { IfOk result (λ spot. spot_size spot ≤ length bytes.now) }
     ensures errors { IfErr result IsDecodingError }
 {
-    let Some((kind, _, rest)) = split_header(bytes) else {
-        return Err(Error::InvalidJsonb);
-    };
-    if kind != SCALAR_HEADER {
-        return Ok(Spot::new(CONTAINER, 0, bytes.len()));
+    match read_container(bytes)? {
+        Container::Scalar(entry) => {
+            let start = bytes.len() - entry.content.len();
+            Ok(Spot::new(entry.kind, start, bytes.len()))
+        }
+        _ => Ok(Spot::new(CONTAINER, 0, bytes.len())),
     }
-    if rest.len() < WORD {
-        return Err(Error::InvalidJsonb);
-    }
-    let (words, contents) = rest.split_at(WORD);
-    let Some(entry) = split_entry(words, contents) else {
-        return Err(Error::InvalidJsonb);
-    };
-    let start = bytes.len() - contents.len();
-    Ok(Spot::new(entry.kind, start, start + entry.content.len()))
 }
 
 /// The item at a spot of these bytes, its slices borrowed from them. The spot of other bytes has some item here, or is
@@ -98,26 +89,16 @@ pub fn child_spots<'a>(bytes: &'a [u8], spot: Spot) -> Result<Option<SpotIter<'a
     if spot.kind != CONTAINER {
         return Ok(None);
     }
-    let Some((kind, entries, rest)) = split_header(content) else {
-        return Err(Error::InvalidJsonb);
-    };
-    let len = WORD * entries;
-    match kind {
-        ARRAY_HEADER if len <= rest.len() => {
-            let (words, contents) = rest.split_at(len);
-            let start = spot.end - contents.len();
-            Ok(Some(SpotIter::new(words, start, spot.end)))
+    match read_container(content)? {
+        Container::Scalar(_) => Err(Error::InvalidJsonb),
+        Container::Array(parts) => {
+            let start = spot.end - parts.contents.len();
+            Ok(Some(SpotIter::new(parts.words, start, spot.end)))
         }
-        OBJECT_HEADER if 2 * len <= rest.len() => {
-            let (words, contents) = rest.split_at(2 * len);
-            let (key_words, value_words) = words.split_at(len);
-            let Some(values) = skip_contents(key_words, contents) else {
-                return Err(Error::InvalidJsonb);
-            };
-            let start = spot.end - values.len();
-            Ok(Some(SpotIter::new(value_words, start, spot.end)))
+        Container::Object(parts) => {
+            let start = spot.end - parts.value_contents()?.len();
+            Ok(Some(SpotIter::new(parts.value_words, start, spot.end)))
         }
-        _ => Err(Error::InvalidJsonb),
     }
 }
 
@@ -133,25 +114,20 @@ pub fn field_spot(bytes: &[u8], spot: Spot, name: &str) -> Result<Option<Spot>, 
     if spot.kind != CONTAINER {
         return Ok(None);
     }
-    let Some((kind, entries, rest)) = split_header(object) else {
-        return Err(Error::InvalidJsonb);
+    let parts = match read_container(object)? {
+        Container::Scalar(_) => return Err(Error::InvalidJsonb),
+        Container::Array(_) => return Ok(None),
+        Container::Object(parts) => parts,
     };
-    if kind != OBJECT_HEADER {
-        return Ok(None);
-    }
-    let len = WORD * entries;
-    if rest.len() < 2 * len {
-        return Err(Error::InvalidJsonb);
-    }
-    let (words, contents) = rest.split_at(2 * len);
-    let (key_words, value_words) = words.split_at(len);
-    let Some((words_behind, bytes_behind)) = find_key(key_words, contents, name.as_bytes())? else {
+    let found = find_key(parts.key_words, parts.contents, name.as_bytes())?;
+    let Some((words_behind, bytes_behind)) = found else {
         return Ok(None);
     };
+    let passed = parts.key_words.len() - words_behind.len() - WORD;
     let Some(values) = skip_contents(words_behind, bytes_behind) else {
         return Err(Error::InvalidJsonb);
     };
-    let Some(value) = entry_behind(value_words, len - words_behind.len() - WORD, values) else {
+    let Some(value) = entry_behind(parts.value_words, passed, values) else {
         return Err(Error::InvalidJsonb);
     };
     let end = spot.end - value.other_contents.len();

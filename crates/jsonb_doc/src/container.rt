@@ -1,0 +1,103 @@
+//! Documents and containers, cut by their headers into entry words and contents.
+
+ghost use Rattle.std.specs.Prelude.{◌≡◌, ◌≤◌, ℕ, ◌*◌, ◌+◌, List, length, IfOk, MatchOption, MatchResult};
+ghost use Rattle.jsonb_doc.specs.Tree.{Tree};
+ghost use Rattle.jsonb_doc.specs.Payload.{Reading};
+ghost use Rattle.jsonb_doc.specs.Format.{HeadedBy, IsDocument};
+ghost use Rattle.jsonb_doc.specs.Containers.{IsLoneEntry, IsCut, container_words, container_room};
+
+use crate::entry_iter::StoredEntry;
+use crate::error::Error;
+use crate::layout::{ARRAY_HEADER, CONTAINER, OBJECT_HEADER, SCALAR_HEADER, WORD, split_header};
+use crate::lengths::{skip_contents, split_entry_word};
+
+/// The entry words of an array, and their contents.
+#[derive(Clone, Copy)]
+pub struct ArrayParts<'a> {
+    pub words: &'a [u8],
+    pub contents: &'a [u8],
+}
+
+/// The entry words of an object's keys and of its values, and their contents, the keys before the values.
+#[derive(Clone, Copy)]
+pub struct ObjectParts<'a> {
+    pub key_words: &'a [u8],
+    pub value_words: &'a [u8],
+    pub contents: &'a [u8],
+}
+
+impl<'a> ObjectParts<'a> {
+    ghost use Rattle.std.specs.Prelude.{◌≡◌, ◌^◌, ◌<◌, ◌≤◌, List, ℕ, length, IfErr, IfOk, IsOkAnd};
+    ghost use Rattle.jsonb_doc.specs.Lengths.{StandBefore};
+    ghost use Rattle.jsonb_doc.specs.View.{IsDecodingError};
+
+    /// The contents of the values, which are behind those of the keys.
+    pub fn value_contents(&self) -> Result<&'a [u8], Error>
+        requires { length self.now.key_words.now < 2 ^ 32 }
+        ensures contents { (parts : List (List ℕ)) (rest : List ℕ)
+            → StandBefore parts self.now.key_words.now self.now.contents.now rest → IsOkAnd result (λ r. r.now ≡ rest) }
+        ensures size { IfOk result (λ r. length r.now ≤ length self.now.contents.now) }
+        ensures errors { IfErr result IsDecodingError }
+    {
+        match skip_contents(self.key_words, self.contents) {
+            Some(contents) => Ok(contents),
+            None => Err(Error::InvalidJsonb),
+        }
+    }
+}
+
+/// A document or a container, cut by its header.
+#[derive(Clone, Copy)]
+pub enum Container<'a> {
+    /// The one entry of a root that is no container.
+    Scalar(StoredEntry<'a>),
+    Array(ArrayParts<'a>),
+    Object(ObjectParts<'a>),
+}
+
+/// The parts of a document or a container. Bytes that no header and its count fit are `InvalidJsonb`.
+pub fn read_container(bytes: &[u8]) -> Result<Container<'_>, Error>
+    ensures cut { MatchResult result (IsCut bytes.now)
+        (λ e. (e ≡ Error.InvalidJsonb) × ((number_at : Reading) (t : Tree) → IsDocument number_at t bytes.now → ⊥)) }
+    ensures bound { (kind entries : ℕ) (rest : List ℕ) → HeadedBy bytes.now kind entries rest
+        → IfOk result (λ found. container_words found ≡ 4 * entries) }
+    ensures room { IfOk result (λ found. 4 + container_room found ≤ length bytes.now) }
+{
+    let Some((kind, entries, rest)) = split_header(bytes) else {
+        return Err(Error::InvalidJsonb);
+    };
+    let len = WORD * entries;
+    match kind {
+        SCALAR_HEADER if entries == 0 => match lone_entry(rest) {
+            Some(entry) => Ok(Container::Scalar(entry)),
+            None => Err(Error::InvalidJsonb),
+        },
+        ARRAY_HEADER if len <= rest.len() => {
+            let (words, contents) = rest.split_at(len);
+            Ok(Container::Array(ArrayParts { words, contents }))
+        }
+        OBJECT_HEADER if 2 * len <= rest.len() => {
+            let (words, contents) = rest.split_at(2 * len);
+            let (key_words, value_words) = words.split_at(len);
+            Ok(Container::Object(ObjectParts {
+                key_words,
+                value_words,
+                contents,
+            }))
+        }
+        _ => Err(Error::InvalidJsonb),
+    }
+}
+
+/// The entry that is all of these bytes, its word and its content, where it is no container.
+fn lone_entry(bytes: &[u8]) -> Option<StoredEntry<'_>>
+    ensures { MatchOption result
+        ((kind : ℕ) (content : List ℕ) → IsLoneEntry bytes.now kind content → ⊥)
+        (λ e. IsLoneEntry bytes.now e.kind e.content.now) }
+{
+    let (kind, len, content) = split_entry_word(bytes)?;
+    if kind == CONTAINER || len != content.len() {
+        return None;
+    }
+    Some(StoredEntry { kind, content })
+}
