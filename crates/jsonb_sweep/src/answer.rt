@@ -1,0 +1,85 @@
+//! What a call answered, and what it is to answer.
+
+use jsonb::OwnedJsonb;
+
+/// What a call answered.
+#[derive(Drop)]
+pub enum Answer {
+    Nothing,
+    Truth(bool),
+    Bytes(Vec<u8>),
+    Text(String),
+    Document(OwnedJsonb),
+    Documents(Vec<OwnedJsonb>),
+}
+
+/// What it is to answer.
+#[derive(Clone, Copy)]
+pub enum Wanted<'a> {
+    Nothing,
+    Truth(bool),
+    Bytes(&'a [u8]),
+    Text(&'a str),
+    Document(&'a [u8]),
+    Documents(&'a [&'a [u8]]),
+    /// So many documents.
+    Count(u64),
+}
+
+impl Answer {
+    /// The document that was found, if there is one.
+    pub fn found(document: Option<OwnedJsonb>) -> Answer {
+        document.map_or(Answer::Nothing, Answer::Document)
+    }
+
+    /// The documents that were found, if there are any.
+    pub fn found_all(documents: Option<Vec<OwnedJsonb>>) -> Answer {
+        documents.map_or(Answer::Nothing, Answer::Documents)
+    }
+
+    /// The bytes that were found, if there are any.
+    pub fn found_bytes(bytes: Option<Vec<u8>>) -> Answer {
+        bytes.map_or(Answer::Nothing, Answer::Bytes)
+    }
+
+    /// The truth that was found, if there is one.
+    pub fn found_truth(truth: Option<bool>) -> Answer {
+        truth.map_or(Answer::Nothing, Answer::Truth)
+    }
+
+    /// What another answer has to be to be the same. Of several documents that is their number alone.
+    pub fn as_wanted(&self) -> Wanted<'_> {
+        match self {
+            Answer::Nothing => Wanted::Nothing,
+            Answer::Truth(truth) => Wanted::Truth(*truth),
+            Answer::Bytes(bytes) => Wanted::Bytes(bytes),
+            Answer::Text(text) => Wanted::Text(text.as_str()),
+            Answer::Document(document) => Wanted::Document(document.as_raw().as_bytes()),
+            Answer::Documents(documents) => Wanted::Count(documents.len() as u64),
+        }
+    }
+
+    /// Whether it is what is wanted.
+    pub fn is(&self, wanted: Wanted<'_>) -> bool {
+        match (self, wanted) {
+            (Answer::Nothing, Wanted::Nothing) => true,
+            (Answer::Truth(truth), Wanted::Truth(wanted)) => *truth == wanted,
+            (Answer::Bytes(bytes), Wanted::Bytes(wanted)) => bytes.as_slice() == wanted,
+            (Answer::Text(text), Wanted::Text(wanted)) => text.as_str() == wanted,
+            (Answer::Document(document), Wanted::Document(wanted)) => {
+                document.as_raw().as_bytes() == wanted
+            }
+            (Answer::Documents(documents), Wanted::Documents(wanted)) => are(documents, wanted),
+            (Answer::Documents(documents), Wanted::Count(wanted)) => documents.len() as u64
+                == wanted,
+            _ => false,
+        }
+    }
+}
+
+/// Whether these are the documents that are wanted.
+fn are(documents: &[OwnedJsonb], wanted: &[&[u8]]) -> bool {
+    documents.len() == wanted.len()
+        && documents.iter().zip(wanted.iter()).all(|(document, wanted)| document.as_raw().as_bytes()
+            == *wanted)
+}

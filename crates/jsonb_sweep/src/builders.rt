@@ -1,0 +1,142 @@
+//! The builders: pushes, after which a builder holds one more or is as before, and `build`.
+
+use crate::documents::*;
+use crate::mark::{begin, end, tell};
+use jsonb::{ArrayBuilder, Error, Item, Number, ObjectBuilder};
+use std::alloc::Global;
+use std::io;
+
+/// Makes each case of an array's builder, and tells what came of it.
+pub fn arrays(rt: &HostRuntime) -> io::Result<()> {
+    tell(rt, "ArrayBuilder::push_item", array_push_item(rt))?;
+    tell(rt, "ArrayBuilder::push_document", array_push_document(rt))?;
+    tell(rt, "ArrayBuilder::build", array_build(rt))
+}
+
+/// A builder of `[10,20]`.
+fn ten_and_twenty(alloc: Global) -> Result<ArrayBuilder, Error> {
+    let mut builder = ArrayBuilder::new(alloc);
+    builder.push_document(TEN)?;
+    builder.push_document(TWENTY)?;
+    Ok(builder)
+}
+
+/// Whether the builder holds that many elements, and builds this array.
+fn holds(builder: &ArrayBuilder, count: usize, array: &[u8]) -> Result<bool, Error> {
+    Ok(builder.build()?.as_slice() == array && builder.len() == count)
+}
+
+/// Whether a push of 30 was right, or was refused and left the builder as it was.
+fn has_thirty(builder: &ArrayBuilder, pushed: Result<(), Error>) -> Result<bool, Error> {
+    if pushed.is_ok() {
+        return holds(builder, 3, TENS);
+    }
+    if holds(builder, 2, TEN_AND_TWENTY)? {
+        pushed?;
+    }
+    Ok(false)
+}
+
+fn array_push_item(rt: &HostRuntime) -> Result<bool, Error> {
+    let mut builder = ten_and_twenty(rt.alloc())?;
+    let thirty = Item::Number(Number::UInt64(30));
+    begin(rt);
+    let pushed = builder.push_item(&thirty);
+    end(rt);
+    has_thirty(&builder, pushed)
+}
+
+fn array_push_document(rt: &HostRuntime) -> Result<bool, Error> {
+    let mut builder = ten_and_twenty(rt.alloc())?;
+    begin(rt);
+    let pushed = builder.push_document(THIRTY);
+    end(rt);
+    has_thirty(&builder, pushed)
+}
+
+fn array_build(rt: &HostRuntime) -> Result<bool, Error> {
+    let builder = ten_and_twenty(rt.alloc())?;
+    begin(rt);
+    let built = builder.build();
+    end(rt);
+    let is_kept = holds(&builder, 2, TEN_AND_TWENTY)?;
+    Ok(built?.as_slice() == TEN_AND_TWENTY && is_kept)
+}
+
+/// Makes each case of an object's builder, and tells what came of it.
+pub fn objects(rt: &HostRuntime) -> io::Result<()> {
+    tell(rt, "ObjectBuilder::push_item", object_push_item(rt))?;
+    tell(rt, "ObjectBuilder::push_document", object_push_document(rt))?;
+    tell(
+        rt,
+        "ObjectBuilder::push_document of a key that is there",
+        object_push_again(rt),
+    )?;
+    tell(rt, "ObjectBuilder::build", object_build(rt))
+}
+
+/// A builder of `{"a":1,"c":3}`.
+fn letters(alloc: Global) -> Result<ObjectBuilder, Error> {
+    let mut builder = ObjectBuilder::new(alloc);
+    builder.push_document("a", ONE)?;
+    builder.push_document("c", THREE)?;
+    Ok(builder)
+}
+
+/// Whether the builder holds the pairs of this object, with or without a `b`.
+fn holds_letters(builder: &ObjectBuilder, has_b: bool, object: &[u8]) -> Result<bool, Error> {
+    let count = if has_b { 3 } else { 2 };
+    let built = builder.build()?;
+    Ok(
+        built.as_slice() == object
+            && builder.len() == count
+            && builder.contains_key("b") == has_b
+            && builder.contains_key("a"),
+    )
+}
+
+/// Whether a push of 9 under `b` was right, or was refused and left the builder as it was.
+fn has_b(builder: &ObjectBuilder, pushed: Result<(), Error>) -> Result<bool, Error> {
+    if pushed.is_ok() {
+        return holds_letters(builder, true, MORE_LETTERS);
+    }
+    if holds_letters(builder, false, LETTERS)? {
+        pushed?;
+    }
+    Ok(false)
+}
+
+fn object_push_item(rt: &HostRuntime) -> Result<bool, Error> {
+    let mut builder = letters(rt.alloc())?;
+    let nine = Item::Number(Number::UInt64(9));
+    begin(rt);
+    let pushed = builder.push_item("b", &nine);
+    end(rt);
+    has_b(&builder, pushed)
+}
+
+fn object_push_document(rt: &HostRuntime) -> Result<bool, Error> {
+    let mut builder = letters(rt.alloc())?;
+    begin(rt);
+    let pushed = builder.push_document("b", NINE);
+    end(rt);
+    has_b(&builder, pushed)
+}
+
+/// The key is found before anything is copied.
+fn object_push_again(rt: &HostRuntime) -> Result<bool, Error> {
+    let mut builder = letters(rt.alloc())?;
+    begin(rt);
+    let pushed = builder.push_document("a", NINE);
+    end(rt);
+    Ok(holds_letters(&builder, false, LETTERS)? && pushed == Err(Error::ObjectDuplicateKey))
+}
+
+fn object_build(rt: &HostRuntime) -> Result<bool, Error> {
+    let builder = letters(rt.alloc())?;
+    begin(rt);
+    let built = builder.build();
+    end(rt);
+    let is_kept = holds_letters(&builder, false, LETTERS)?;
+    Ok(built?.as_slice() == LETTERS && is_kept)
+}

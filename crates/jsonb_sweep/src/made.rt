@@ -1,0 +1,52 @@
+//! Documents and texts of any size, made by the builders and by repeating a part.
+
+use jsonb::{ArrayBuilder, Error, Item, Number, ObjectBuilder};
+use std::alloc::Global;
+
+/// An array of that many objects of one pair, whose numbers rise from 0.
+pub fn elements(alloc: Global, count: u64) -> Result<Vec<u8>, Error> {
+    let mut array = ArrayBuilder::new(alloc);
+    for number in 0..count {
+        let mut object = ObjectBuilder::new(alloc);
+        object.push_item("number", &Item::Number(Number::UInt64(number)))?;
+        array.push_document(&object.build()?)?;
+    }
+    array.build()
+}
+
+/// An object of that many pairs, whose numbers rise from 0.
+pub fn pairs(alloc: Global, count: u64) -> Result<Vec<u8>, Error> {
+    let mut object = ObjectBuilder::new(alloc);
+    for number in 0..count {
+        let key = format!(in alloc; "key {number:06}")?;
+        object.push_item(key.as_str(), &Item::Number(Number::UInt64(number)))?;
+    }
+    object.build()
+}
+
+/// An empty array within that many arrays.
+pub fn nested(alloc: Global, depth: u8) -> Result<Vec<u8>, Error> {
+    let mut document = ArrayBuilder::new(alloc).build()?;
+    for _ in 0..depth {
+        let mut around = ArrayBuilder::new(alloc);
+        around.push_document(&document)?;
+        document = around.build()?;
+    }
+    Ok(document)
+}
+
+/// A text of a part that many times, with another one in front and one behind.
+pub fn repeated(
+    alloc: Global,
+    front: &str,
+    part: &str,
+    behind: &str,
+    count: u64,
+) -> Result<String, Error> {
+    let mut text = String::from_str(alloc, front)?;
+    for _ in 0..count {
+        text.push_str(part)?;
+    }
+    text.push_str(behind)?;
+    Ok(text)
+}

@@ -1,0 +1,113 @@
+//! The calls on numbers.
+
+use crate::free::{Free, ask_each};
+use jsonb::{ArithmeticFault, Decimal64, Decimal128, Error, Number};
+use std::alloc::AllocError;
+use std::cmp::Ordering;
+use std::io;
+
+/// Calls on numbers.
+#[derive(Clone, Copy)]
+enum Calculation {
+    Arithmetic,
+    Refusals,
+    Rounding,
+    Order,
+    OrderOfDecimals,
+}
+
+impl Free for Calculation {
+    fn are_right(&self) -> bool {
+        match self {
+            Calculation::Arithmetic => arithmetic(Number::UInt64(20), Number::Int64(-5)),
+            Calculation::Refusals => refusals(Number::UInt64(20), Number::UInt64(3)),
+            Calculation::Rounding => rounding(Number::Decimal64(PRICE)),
+            Calculation::Order => order(Number::UInt64(1), Number::Decimal64(PRICE)),
+            Calculation::OrderOfDecimals => order_of_decimals(PRICE, WIDE_PRICE),
+        }
+    }
+}
+
+/// Makes the calls, and tells what came of each kind.
+pub fn cases(rt: &HostRuntime) -> io::Result<()> {
+    ask_each(
+        rt,
+        &[
+            (
+                "Number::add, sub, mul, div, rem, neg",
+                Calculation::Arithmetic,
+            ),
+            ("Number::div, add that are refused", Calculation::Refusals),
+            (
+                "Number::as_i64, as_u64, to_i64, to_u64",
+                Calculation::Rounding,
+            ),
+            ("Number::eq, cmp, clone", Calculation::Order),
+            (
+                "Decimal64::cmp, Decimal128::cmp",
+                Calculation::OrderOfDecimals,
+            ),
+        ],
+    )
+}
+
+/// `12.34`
+const PRICE: Decimal64 = Decimal64 {
+    scale: 2,
+    value: 1234,
+};
+
+/// `12.345`
+const WIDE_PRICE: Decimal128 = Decimal128 {
+    scale: 3,
+    value: 12345,
+};
+
+/// On 20 and -5.
+fn arithmetic(twenty: Number, minus_five: Number) -> bool {
+    [
+        twenty.add(minus_five),
+        twenty.sub(minus_five),
+        twenty.mul(minus_five),
+        twenty.div(minus_five),
+        twenty.rem(minus_five),
+        twenty.neg(),
+    ] == [
+        Ok(Number::Int64(15)),
+        Ok(Number::Int64(25)),
+        Ok(Number::Int64(-100)),
+        Ok(Number::Int64(-4)),
+        Ok(Number::ZERO),
+        Ok(Number::Int64(-20)),
+    ]
+}
+
+/// On 20 and 3.
+fn refusals(twenty: Number, three: Number) -> bool {
+    [
+        twenty.div(three),
+        twenty.div(Number::ZERO),
+        Number::UInt64(u64::MAX).add(three),
+    ] == [
+        Err(Error::Arithmetic(ArithmeticFault::Inexact)),
+        Err(Error::Arithmetic(ArithmeticFault::ZeroDivisor)),
+        Err(Error::Arithmetic(ArithmeticFault::Overflow)),
+    ]
+}
+
+/// On 12.34.
+fn rounding(price: Number) -> bool {
+    [price.as_i64(), price.to_i64()] == [None, Some(12)]
+        && [price.as_u64(), price.to_u64()] == [None, Some(12)]
+}
+
+/// On 1 and 12.34.
+fn order(one: Number, price: Number) -> bool {
+    let copy: Result<Number, AllocError> = one.clone();
+    copy == Ok(one) && one.cmp(&price) == Ordering::Less
+}
+
+/// On 12.34 and 12.345.
+fn order_of_decimals(price: Decimal64, wide: Decimal128) -> bool {
+    price.cmp(&price) == Ordering::Equal && wide.cmp(&wide) == Ordering::Equal
+}

@@ -1,0 +1,162 @@
+#!/usr/bin/env bash
+# Refuses growths inside each call that the program jsonb_sweep makes: the first, then the second, and so on until a run
+# meets no refusal; once each alone, and once with all behind it. Then the same over the program jsonb_tool, whole, and
+# its standard output broken in three ways. Its last line is 'N passed, M failed'.
+#
+#   tools/sweep_memory.sh            compares the growths of each call with crates/jsonb_sweep/growths
+#   tools/sweep_memory.sh --write    writes that file anew: read what changed before it is committed
+#
+# It needs cc and rt. It sweeps the proved programs in crates/NAME/out/NAME, as rt ci and rt run leave them. Where one is
+# missing, or older than a source, rt run makes it: over kept proofs that is seconds, and from nothing every crate below
+# is proved first, half an hour of one processor. The sweep itself takes seconds.
+set -u
+top=$(cd "$(dirname "${BASH_SOURCE[0]}")/.." && pwd)
+stated=$top/crates/jsonb_sweep/growths
+sweep=$top/crates/jsonb_sweep/out/jsonb_sweep
+tool=$top/crates/jsonb_tool/out/jsonb_tool
+work=$(mktemp -d)
+trap 'rm -rf "$work"' EXIT
+passed=0 failed=0
+
+fault() { echo "sweep: $*"; failed=$((failed + 1)); }
+
+finish() {
+    echo "$passed passed, $failed failed"
+    [ "$failed" = 0 ] && [ "$passed" -gt 0 ]
+    exit
+}
+
+# build NAME WORDS..: makes the program of a crate, where it is not as new as the sources. The words are those of a run.
+build() {
+    local name=$1
+    local program=$top/crates/$name/out/$name
+    shift
+    if [ -x "$program" ] && [ -z "$(find "$top"/crates.txt "$top"/crates/*/{src,specs,proofs} -newer "$program" \
+        '(' -name '*.rt' -o -name '*.antt' -o -name crates.txt ')' 2> /dev/null | head -n 1)" ]; then
+        return
+    fi
+    (cd "$top/crates/$name" && rt run -- "$@") > "$work/build" 2>&1
+    [ -x "$program" ] || { tail -n 20 "$work/build"; fault "$name was not built"; finish; }
+}
+
+command -v cc > /dev/null || { fault "there is no cc on this machine"; finish; }
+command -v rt > /dev/null || { fault "there is no rt on this machine"; finish; }
+build jsonb_sweep
+build jsonb_tool get '{}' 20000000200000025001
+cc -O2 -Wall -shared -fPIC -o "$work/shim.so" "$top/tools/refuse_growth.c" || { fault "cc refused the shim"; finish; }
+
+# run NUMBER [BEHIND]: a run in which that growth of each call is refused. Each line of $work/run is that of a case:
+# growths refused held [] word name..
+run() {
+    local status
+    env REFUSE="$1" ${2:+REFUSE_BEHIND=1} LD_PRELOAD="$work/shim.so" "$sweep" 3> "$work/counts" > "$work/lines"
+    status=$?
+    paste -d ' ' "$work/counts" "$work/lines" > "$work/run"
+    [ "$status" = 0 ] && [ "$(wc -l < "$work/counts")" = "$(wc -l < "$work/lines")" ]
+}
+
+# faults_of LABEL NUMBER: tells each line of the run that is not as it has to be, and adds the name of its case to
+# $work/faulty. A case is right, or refused at that growth, which then ended the call; and it gives back what it held.
+# $work/met has the number of refusals.
+faults_of() {
+    awk -v label="$1" -v number="$2" -v faulty="$work/faulty" -v met="$work/met" '
+        function name(   i, text) { for (i = 6; i <= NF; i++) text = text (i > 6 ? " " : "") $i; return text }
+        {
+            why = ""
+            wanted = $2 > 0 ? "refused" : "right"
+            if ($5 != wanted) why = $5 " where " $2 " of " $1 " growths were refused"
+            else if ($2 > 0 && $1 != number) why = "it went on after a refusal: " $1 " growths, " $2 " refused"
+            else if ($3 != held) why = $3 - held " blocks kept"
+            held = $3
+            if (why != "") { print "sweep: " label ": " name() ": " why; print name() >> faulty }
+            if ($2 > 0) refusals++
+        }
+        END { print refusals + 0 > met }' "$work/run"
+}
+
+: > "$work/faulty"
+run 0 || fault "the run with memory broke off"
+faults_of "with memory" 0
+cut -d ' ' -f 1,6- "$work/run" > "$work/growths"
+[ "${1:-}" = --write ] && cp "$work/growths" "$stated"
+diff -u "$stated" "$work/growths" || fault "the growths are not those that $stated states"
+
+refusals=0
+for behind in '' yes; do
+    number=1
+    while :; do
+        label="growth $number${behind:+ and all behind}"
+        run "$number" $behind || { fault "$label: the run broke off"; break; }
+        faults_of "$label" "$number"
+        met=$(cat "$work/met")
+        [ "$met" = 0 ] && break
+        refusals=$((refusals + met)) number=$((number + 1))
+    done
+done
+cases=$(wc -l < "$work/growths")
+wrong=$(sort -u "$work/faulty" | wc -l)
+passed=$((passed + cases - wrong)) failed=$((failed + wrong))
+growths=$(awk '{ sum += $1 } END { print sum + 0 }' "$work/growths")
+# A shim that is not reached sees no growth, and would find nothing wrong.
+[ "$growths" -gt 0 ] && [ "$refusals" = $((2 * growths)) ] || fault "$growths growths, but $refusals refusals"
+echo "sweep: $cases cases, $growths growths, each refused alone and with all behind it"
+
+# With memory, and each call on what is large too.
+env LD_PRELOAD="$work/shim.so" "$sweep" large 3> /dev/null > "$work/lines" || fault "the run on what is large broke off"
+tail -n +"$((cases + 1))" "$work/lines" > "$work/large"
+while read -r _ word name; do
+    if [ "$word" = right ]; then passed=$((passed + 1)); else fault "$name: $word"; fi
+done < "$work/large"
+[ -s "$work/large" ] || fault "nothing large was asked"
+echo "sweep: $(wc -l < "$work/large") cases on what is large"
+
+# run_tool NUMBER BEHIND WORDS..: a run of jsonb_tool in which that growth is refused. Sets its status, what it wrote, and
+# the growths, the refusals and the blocks held.
+run_tool() {
+    local number=$1 behind=$2
+    shift 2
+    wrote=$(env REFUSE_ALL=1 REFUSE="$number" ${behind:+REFUSE_BEHIND=1} LD_PRELOAD="$work/shim.so" "$tool" "$@" \
+        3> "$work/counts")
+    status=$?
+    read -r grown refused held < <(tail -n 1 "$work/counts")
+}
+
+# sweep_tool LINES WORDS..: a run writes its lines where nothing was refused. Else it writes the one line of a refusal with
+# status 1, or ends with status 3 where the words themselves could not be read. It gives back what it held.
+sweep_tool() {
+    local lines=$1 behind number
+    shift
+    for behind in '' yes; do
+        number=0
+        while :; do
+            run_tool "$number" "$behind" "$@"
+            [ "$held" = 0 ] || { fault "jsonb_tool $1: growth $number: $held blocks kept"; return; }
+            case $((refused > 0))/$status/$wrote in
+            0/0/"$lines") [ "$number" = 0 ] || break ;;
+            1/1/'refused: OutOfMemory' | 1/3/) ;;
+            *) fault "jsonb_tool $1: growth $number: status $status, $refused refused, '$wrote'"; return ;;
+            esac
+            number=$((number + 1))
+        done
+        [ "$number" -gt 1 ] || { fault "jsonb_tool $1: no growth was seen"; return; }
+    done
+    passed=$((passed + 1))
+    echo "sweep: jsonb_tool $1: $grown growths, each refused alone and with all behind it"
+}
+
+mixed=8000000330000000200000025000000e500a4000000110000001100000016b76
+tens=80000003200000022000000220000002500a5014501e
+sweep_tool 200000001000000176 get '{2,k}' "$mixed"
+sweep_tool "$(printf '%s\n' '2000000030000000 {0}' '2000000020000002500a {1}' '200000001000000176 {2,k}')" leaves "$mixed"
+sweep_tool "$(printf '%s\n' 2000000020000002501e 2000000020000002500a)" select '$[last, 0]' "$tens"
+sweep_tool true match '$[*] > 25' "$tens"
+sweep_tool 00048103e90200 key 20000000200000025001
+
+# Standard output full, closed, and a pipe whose reader is gone: status 3, no crash.
+"$tool" get '{2,k}' "$mixed" > /dev/full; full=$?
+"$tool" get '{2,k}' "$mixed" >&-; closed=$?
+{ sleep 0.1; "$tool" get '{2,k}' "$mixed"; echo $? > "$work/gone"; } | true
+for word in "full: $full" "closed: $closed" "without a reader: $(cat "$work/gone")"; do
+    case $word in *' 3') passed=$((passed + 1)) ;; *) fault "standard output $word" ;; esac
+done
+finish
