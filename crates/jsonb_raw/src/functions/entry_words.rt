@@ -5,17 +5,7 @@ ghost use Rattle.jsonb_doc.specs.Encoding.{EntryParts};
 ghost use Rattle.jsonb_doc.specs.ObjectBuilder.{kept_words, kept_contents};
 ghost use Rattle.jsonb_raw.specs.Cuts.{AreWithin};
 
-pub const WORD: usize = 4;
-
-/// Counts in header words are below this.
-pub const COUNTS: u32 = 0x2000_0000;
-
-/// Lengths in entry words are below this.
-pub const LENGTHS: u32 = 0x1000_0000;
-
-pub const OBJECT_HEADER: u32 = 2;
-
-pub const ARRAY_HEADER: u32 = 4;
+use jsonb_doc::layout::{LENGTHS, WORD};
 
 /// How long the contents of these entry words are, all together.
 pub fn contents_len(words: &[u8]) -> usize

@@ -11,18 +11,14 @@ ghost use Rattle.jsonb_raw.specs.Documents.{Makes, IsMakingError};
 ghost use Rattle.jsonb_raw.specs.Inserts.{IsPairPlace, IsPlaceAmong, IsCutAt, AreBytesOf, AreKept, word_row, content_row};
 
 use super::pair_parts::{Entries, KeptEntries, PairPlace, RootEntry};
-use crate::functions::entry_words::{COUNTS, LENGTHS, OBJECT_HEADER, WORD, contents_len};
+use crate::functions::entry_words::contents_len;
 use crate::owned::OwnedJsonb;
+use jsonb_doc::layout::{
+    CONTAINER, COUNTS, KINDS, LENGTHS, MAX_CONTENT, MAX_ENTRIES, OBJECT_HEADER, TEXT, WORD,
+};
 use jsonb_doc::{Error, Item, keys, root_item};
 use std::alloc::{AllocError, Global};
 use std::cmp::Ordering;
-
-const STRING: u32 = 1;
-
-const CONTAINER: u32 = 5;
-
-/// Entry words with a kind that is not below this have their top bit set.
-const KINDS: u32 = 8;
 
 /// Where a pair with this key goes into the object, and `None` where the root is no object. The walk ends at the first
 /// key that is not below this one.
@@ -143,7 +139,7 @@ fn push_words(
     let header = OBJECT_HEADER * COUNTS + (kept.pairs + 1) as u32;
     document.extend_from_slice(&header.to_be_bytes())?;
     document.extend_from_slice(kept.before.words)?;
-    document.extend_from_slice(&word_of(STRING, key.len()))?;
+    document.extend_from_slice(&word_of(TEXT, key.len()))?;
     document.extend_from_slice(kept.between.words)?;
     document.extend_from_slice(&word_of(value.kind, value.content.len()))?;
     document.extend_from_slice(kept.behind.words)
@@ -181,8 +177,7 @@ pub fn object_with_pair(
     let Some(kept) = kept_entries(bytes, place) else {
         return Err(Error::InvalidJsonb);
     };
-    let longest = LENGTHS as usize - 1;
-    if key.len() > longest || value.content.len() > longest || kept.pairs >= COUNTS as usize - 1 {
+    if key.len() > MAX_CONTENT || value.content.len() > MAX_CONTENT || kept.pairs >= MAX_ENTRIES {
         return Err(Error::TooLarge);
     }
     let most = bytes.len() + 2 * WORD + key.len() + value.content.len();

@@ -15,7 +15,9 @@ use crate::functions::operator::merge::MergedPairs;
 use crate::functions::operator::repeat::no_repeat;
 use crate::owned::OwnedJsonb;
 use crate::raw::RawJsonb;
-use jsonb_doc::{ArrayBuilder, Error, Item, ObjectBuilder, elements, pairs, root_item};
+use jsonb_doc::{
+    ArrayBuilder, Error, Item, ObjectBuilder, array_elements, object_pairs, root_item,
+};
 use std::alloc::Global;
 
 impl RawJsonb<'_> {
@@ -56,12 +58,8 @@ fn joined_objects(alloc: Global, bytes: &[u8], others: &[u8]) -> Result<Vec<u8>,
         (λ made. Decodes form made.items (object (pairs_of (merged (members ps) (members qs))))) }
     ensures errors { IfErr result IsMakingError }
 {
-    let Some(first) = pairs(bytes)? else {
-        return Err(Error::InvalidJsonb);
-    };
-    let Some(second) = pairs(others)? else {
-        return Err(Error::InvalidJsonb);
-    };
+    let first = object_pairs(bytes)?;
+    let second = object_pairs(others)?;
     let mut builder = ObjectBuilder::new(alloc);
     for pair in MergedPairs::new(first, second) {
         let (key, value) = pair?;
@@ -105,9 +103,7 @@ fn push_elements(builder: &mut ArrayBuilder, bytes: &[u8]) -> Result<(), Error>
         (λ _. HoldsElements form builder.new (held ++ elements ts)) }
     ensures errors { IfErr result IsMakingError }
 {
-    let Some(found) = elements(bytes)? else {
-        return Err(Error::InvalidJsonb);
-    };
+    let found = array_elements(bytes)?;
     for item in found {
         builder.push_item(&item?)?;
     }

@@ -10,7 +10,7 @@ ghost use Rattle.jsonb_raw.specs.Documents.{raw_bytes};
 ghost use Rattle.jsonb_raw.specs.Texts.{texts, texts_of_trees, texts_of_pairs, Tells, LeavesTexts};
 
 use crate::raw::RawJsonb;
-use jsonb_doc::{Error, Item, elements, pairs, root_item};
+use jsonb_doc::{Error, Item, array_elements, object_pairs, root_item};
 
 impl RawJsonb<'_> {
     /// Asks `func` about the strings of the document and the keys of its objects, at every depth. `func` must be
@@ -94,9 +94,7 @@ fn array_tells<'a, F: Fn(&[u8]) -> bool>(bytes: &'a [u8], func: &F) -> Result<To
     ensures size { IfOk result (λ told. IfSome told.large (λ item. item_size item < length bytes.now)) }
     ensures errors { IfErr result IsDecodingError }
 {
-    let Some(found) = elements(bytes)? else {
-        return Err(Error::InvalidJsonb);
-    };
+    let found = array_elements(bytes)?;
     let mut large = None;
     for item in found {
         let item = item?;
@@ -124,9 +122,7 @@ fn object_tells<'a, F: Fn(&[u8]) -> bool>(bytes: &'a [u8], func: &F) -> Result<T
     ensures size { IfOk result (λ told. IfSome told.large (λ item. item_size item < length bytes.now)) }
     ensures errors { IfErr result IsDecodingError }
 {
-    let Some(found) = pairs(bytes)? else {
-        return Err(Error::InvalidJsonb);
-    };
+    let found = object_pairs(bytes)?;
     let mut large = None;
     for pair in found {
         let (key, value) = pair?;

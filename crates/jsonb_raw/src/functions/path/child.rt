@@ -22,8 +22,8 @@ use crate::functions::push::{push_elements, push_pair};
 use crate::owned::OwnedJsonb;
 use crate::raw::RawJsonb;
 use jsonb_doc::{
-    ArrayBuilder, ElementIter, Error, Item, ObjectBuilder, elements, encode_item, field_spot,
-    pairs, root_item, root_spot,
+    ArrayBuilder, ElementIter, Error, Item, ObjectBuilder, array_elements, elements, encode_item,
+    field_spot, object_pairs, pairs, root_item, root_spot,
 };
 use std::alloc::Global;
 
@@ -136,7 +136,7 @@ fn value_ignoring_case(alloc: Global, bytes: &[u8], name: &str) -> Result<Option
 }
 
 /// The position of the element that an index means in an array of this length.
-fn index_position(len: usize, index: i32) -> Option<usize>
+pub fn index_position(len: usize, index: i32) -> Option<usize>
     ensures { result ≡ index_position len index }
 {
     let distance = index.unsigned_abs() as usize;
@@ -187,9 +187,7 @@ fn array_without_text(alloc: Global, bytes: &[u8], name: &str) -> Result<OwnedJs
         → Makes form (array (trees_of (filter (λ t. not (is_text name.now t)) (element_list ts)))) result }
     ensures errors { IfErr result IsMakingError }
 {
-    let Some(elements) = elements(bytes)? else {
-        return Err(Error::InvalidJsonb);
-    };
+    let elements = array_elements(bytes)?;
     let mut builder = ArrayBuilder::new(alloc);
     for element in elements {
         let element = element?;
@@ -206,9 +204,7 @@ fn object_without_key(alloc: Global, bytes: &[u8], name: &str) -> Result<OwnedJs
         → Makes form (object (pairs_of (filter (λ p. not (bytes_eq p.0 name.now)) (members ps)))) result }
     ensures errors { IfErr result IsMakingError }
 {
-    let Some(pairs) = pairs(bytes)? else {
-        return Err(Error::InvalidJsonb);
-    };
+    let pairs = object_pairs(bytes)?;
     let mut builder = ObjectBuilder::new(alloc);
     for pair in pairs {
         let (key, value) = pair?;

@@ -14,13 +14,9 @@ ghost use Rattle.jsonb_raw.specs.Deletes.{take_out};
 ghost use Rattle.jsonb_raw.specs.Cuts.{AreWithin, HoldEntries, IsPlaceOf, AreInOrder, AreOfChild, around, without_child, IsPushed};
 
 use super::entry_place::{ChildEntries, EntryPlace};
-use crate::functions::entry_words::{
-    ARRAY_HEADER, COUNTS, LENGTHS, OBJECT_HEADER, WORD, contents_len,
-};
+use crate::functions::entry_words::contents_len;
 use jsonb_doc::Error;
-
-/// The entry word of a container without content.
-const CONTAINER: u32 = 0x5000_0000;
+use jsonb_doc::layout::{ARRAY_HEADER, CONTAINER, COUNTS, LENGTHS, OBJECT_HEADER, WORD};
 
 /// The place of the entry that so many others stand before, of so many in all.
 fn entry_place(container: &[u8], total: usize, passed: usize) -> Option<EntryPlace>
@@ -145,7 +141,7 @@ fn set_container_word(out: &mut Vec<u8>, word: usize, start: usize) -> Result<()
     if start > end || end - start >= LENGTHS as usize || end < WORD || word > end - WORD {
         return Err(Error::InvalidJsonb);
     }
-    set_word(out, word, CONTAINER + (end - start) as u32);
+    set_word(out, word, CONTAINER * LENGTHS + (end - start) as u32);
     Ok(())
 }
 

@@ -18,11 +18,12 @@ ghost use Rattle.jsonb_raw.specs.Deletes.{without, MeetNoPart, is_json_scalar};
 ghost use Rattle.jsonb_raw.specs.Iterators.{TellsWhatIsLeft};
 ghost use Rattle.jsonb_raw.specs.Places.{index_position, child_position, place};
 
+use super::child::index_position;
 use super::cut::push_without;
 use super::nth_child;
 use crate::owned::OwnedJsonb;
 use crate::raw::RawJsonb;
-use jsonb_doc::{Error, Item, Spot, elements, keys, root_item, root_spot, spot_item};
+use jsonb_doc::{Error, Item, Spot, array_elements, keys, root_item, root_spot, spot_item};
 use jsonb_keypath::KeyPath;
 use std::alloc::Global;
 
@@ -32,19 +33,8 @@ fn element_position(bytes: &[u8], index: i32) -> Result<Option<usize>, Error>
         → IsOkAnd result (λ found. found ≡ index_position (length (elements ts)) index) }
     ensures errors { IfErr result IsDecodingError }
 {
-    let Some(elements) = elements(bytes)? else {
-        return Ok(None);
-    };
-    let count = elements.len();
-    let distance = index.unsigned_abs() as usize;
-    let is_from_end = index < 0;
-    if is_from_end {
-        Ok(count.checked_sub(distance))
-    } else if distance < count {
-        Ok(Some(distance))
-    } else {
-        Ok(None)
-    }
+    let elements = array_elements(bytes)?;
+    Ok(index_position(elements.len(), index))
 }
 
 /// The position of the first key of an object that is this name.

@@ -1,6 +1,5 @@
-use Rattle.std.proofs.Common.{rules, arith, true, false, ◌++◌, ◌∷◌, [], None, ◌≡◌}
+use Rattle.std.proofs.Common.{rules, arith, true, false, ◌++◌, ◌∷◌, [], None, ◌≡◌, refl}
 use Rattle.std.specs.Fn.{FnReturnsAt}
-use Rattle.jsonb_doc.specs.Tree.{array, object}
 use Rattle.jsonb_raw.specs.Texts.{texts, texts_of_trees, texts_of_pairs}
 use Rattle.jsonb_raw.proofs.Told.{told_none, told_alone, told_first, told_head, told_after, leaves_all, leaves_after, leaves_aside, leaves_told}
 use Rattle.jsonb_raw.proofs.Left.{SomeElements-all, SomeElements-first, SomeElements-error, SomeElements-none, SomePairs-all, SomePairs-first, SomePairs-error, SomePairs-none}
@@ -51,10 +50,7 @@ part_tells-returns-in-Object-clause-told g t c = λ form tree stands.
 -- ---- arrays
 
 pub array_tells-returns-in_err-found-clause-told : goal.array_tells-returns-in_err-found-clause-told
-array_tells-returns-in_err-found-clause-told g t c = λ form ts d. absurd (c.in_err-found.ensures.decodes form (array ts) d)
-
-pub array_tells-returns-in_default-clause-told : goal.array_tells-returns-in_default-clause-told
-array_tells-returns-in_default-clause-told g t c = λ form ts d. absurd (rw c.in_default.is at (c.in_ok-found.ensures.decodes form (array ts) d))
+array_tells-returns-in_err-found-clause-told g t c = λ form ts d. absurd (c.in_err-found.ensures.decodes form ts d)
 
 pub array_tells-loop-item-init : goal.array_tells-loop-item-init
 array_tells-loop-item-init g t c = record {
@@ -62,7 +58,7 @@ array_tells-loop-item-init g t c = record {
   finite = tt;
   size = tt;
   room = search rules;
-  left = λ form ts d. SomeElements-all form ts _ _ _ _ c.in-Some.is c.into_iter-item-iterator.ensures.into_iter_gives (c.in_ok-found.ensures.decodes form (array ts) d) (leaves_all g.F.Fn c.args.func.now form (texts_of_trees ts));
+  left = λ form ts d. SomeElements-all form ts _ _ _ _ refl c.into_iter-item-iterator.ensures.into_iter_gives (c.in_ok-found.ensures.decodes form ts d) (leaves_all g.F.Fn c.args.func.now form (texts_of_trees ts));
 }
 
 pub array_tells-loop-item-preserved : goal.array_tells-loop-item-preserved
@@ -70,9 +66,9 @@ array_tells-loop-item-preserved g t c = record {
   can = tt;
   finite = tt;
   size = c.loop-item.invariant.size;
-  room = omega (arith, c.in-Some-item.ensures.steps.room);
+  room = omega (arith, c.in-Some.ensures.steps.room);
   left = λ form ts d.
-      SomeElements-first form _ _ _ _ _ c.in_ok-item.was c.in-Some-item.ensures.steps (c.loop-item.invariant.left form ts d)
+      SomeElements-first form _ _ _ _ _ c.in_ok-item.was c.in-Some.ensures.steps (c.loop-item.invariant.left form ts d)
       (λ first rest left stands fact. record {
         trees = rest;
         left = left;
@@ -82,16 +78,16 @@ array_tells-loop-item-preserved g t c = record {
 
 pub array_tells-returns-in_err-item-clause-told : goal.array_tells-returns-in_err-item-clause-told
 array_tells-returns-in_err-item-clause-told g t c = λ form ts d.
-    SomeElements-error form _ _ _ _ _ c.in_err-item.was c.in-Some-item.ensures.steps (c.loop-item.invariant.left form ts d)
+    SomeElements-error form _ _ _ _ _ c.in_err-item.was c.in-Some.ensures.steps (c.loop-item.invariant.left form ts d)
 
 pub array_tells-returns-in_err-item_tells-clause-told : goal.array_tells-returns-in_err-item_tells-clause-told
 array_tells-returns-in_err-item_tells-clause-told g t c = λ form ts d.
-    SomeElements-first form _ _ _ _ _ c.in_ok-item.was c.in-Some-item.ensures.steps (c.loop-item.invariant.left form ts d)
+    SomeElements-first form _ _ _ _ _ c.in_ok-item.was c.in-Some.ensures.steps (c.loop-item.invariant.left form ts d)
     (λ first rest left stands fact. absurd (c.in_err-item_tells.ensures.told form first stands))
 
 pub array_tells-returns-then-branch-clause-told : goal.array_tells-returns-then-branch-clause-told
 array_tells-returns-then-branch-clause-told g t c = λ form ts d.
-    SomeElements-first form _ _ _ _ _ c.in_ok-item.was c.in-Some-item.ensures.steps (c.loop-item.invariant.left form ts d)
+    SomeElements-first form _ _ _ _ _ c.in_ok-item.was c.in-Some.ensures.steps (c.loop-item.invariant.left form ts d)
     (λ first rest left stands fact. fact.found (told_first g.F.Fn c.args.func.now (texts first) (texts_of_trees rest) (rw c.if-branch.true at (c.in_ok-item_tells.ensures.told form first stands))))
 
 pub array_tells-returns-clause-told : goal.array_tells-returns-clause-told
@@ -101,24 +97,21 @@ array_tells-returns-clause-told g t c = λ form ts d.
 pub array_tells-loop-item-preserved-then-container_len-bytes : goal.array_tells-loop-item-preserved-then-container_len-bytes
 array_tells-loop-item-preserved-then-container_len-bytes g t c =
     let none : c.loop-item.large ≡ None = search rules in
-    let size = rw c.in_ok-item.was at c.in-Some-item.ensures.steps.size in
+    let size = rw c.in_ok-item.was at c.in-Some.ensures.steps.size in
     record {
       can = tt;
       finite = tt;
       size = omega (arith, size, c.loop-item.invariant.room);
-      room = omega (arith, c.in-Some-item.ensures.steps.room);
+      room = omega (arith, c.in-Some.ensures.steps.room);
       left = λ form ts d.
-          SomeElements-first form _ _ _ _ _ c.in_ok-item.was c.in-Some-item.ensures.steps (rw none at (c.loop-item.invariant.left form ts d))
+          SomeElements-first form _ _ _ _ _ c.in_ok-item.was c.in-Some.ensures.steps (rw none at (c.loop-item.invariant.left form ts d))
           (λ first rest left stands fact. record { trees = rest; left = left; fact = leaves_aside g.F.Fn c.args.func.now form (texts_of_trees ts) c.in_ok-item.item first (texts_of_trees rest) stands fact });
     }
 
 -- ---- objects
 
 pub object_tells-returns-in_err-found-clause-told : goal.object_tells-returns-in_err-found-clause-told
-object_tells-returns-in_err-found-clause-told g t c = λ form ps d. absurd (c.in_err-found.ensures.decodes form (object ps) d)
-
-pub object_tells-returns-in_default-clause-told : goal.object_tells-returns-in_default-clause-told
-object_tells-returns-in_default-clause-told g t c = λ form ps d. absurd (rw c.in_default.is at (c.in_ok-found.ensures.decodes form (object ps) d))
+object_tells-returns-in_err-found-clause-told g t c = λ form ps d. absurd (c.in_err-found.ensures.decodes form ps d)
 
 pub object_tells-loop-pair-init : goal.object_tells-loop-pair-init
 object_tells-loop-pair-init g t c = record {
@@ -126,28 +119,28 @@ object_tells-loop-pair-init g t c = record {
   finite = tt;
   size = tt;
   room = search rules;
-  left = λ form ps d. SomePairs-all form ps _ _ _ _ c.in-Some.is c.into_iter-pair-iterator.ensures.into_iter_gives (c.in_ok-found.ensures.decodes form (object ps) d) (leaves_all g.F.Fn c.args.func.now form (texts_of_pairs ps));
+  left = λ form ps d. SomePairs-all form ps _ _ _ _ refl c.into_iter-pair-iterator.ensures.into_iter_gives (c.in_ok-found.ensures.decodes form ps d) (leaves_all g.F.Fn c.args.func.now form (texts_of_pairs ps));
 }
 
 pub object_tells-returns-in_err-key-clause-told : goal.object_tells-returns-in_err-key-clause-told
 object_tells-returns-in_err-key-clause-told g t c = λ form ps d.
-    SomePairs-error form _ _ _ _ _ c.in_err-key.was c.in-Some-pair.ensures.steps (c.loop-pair.invariant.left form ps d)
+    SomePairs-error form _ _ _ _ _ c.in_err-key.was c.in-Some.ensures.steps (c.loop-pair.invariant.left form ps d)
 
 pub object_tells-returns-in_err-item_tells-clause-told : goal.object_tells-returns-in_err-item_tells-clause-told
 object_tells-returns-in_err-item_tells-clause-told g t c = λ form ps d.
-    SomePairs-first form _ _ _ _ _ c.in_ok-key.was c.in-Some-pair.ensures.steps (c.loop-pair.invariant.left form ps d)
+    SomePairs-first form _ _ _ _ _ c.in_ok-key.was c.in-Some.ensures.steps (c.loop-pair.invariant.left form ps d)
     (λ value rest left stands fact. absurd (c.in_err-item_tells.ensures.told form value stands))
 
 pub object_tells-returns-then-func-clause-told : goal.object_tells-returns-then-func-clause-told
 object_tells-returns-then-func-clause-told g t c = λ form ps d.
-    SomePairs-first form _ _ _ _ _ c.in_ok-key.was c.in-Some-pair.ensures.steps (c.loop-pair.invariant.left form ps d)
+    SomePairs-first form _ _ _ _ _ c.in_ok-key.was c.in-Some.ensures.steps (c.loop-pair.invariant.left form ps d)
     (λ value rest left stands fact.
     let told : FnReturnsAt g.F.Fn c.args.func.now c.in_ok-key.key.now true = record { shown = c.as_bytes.result; shows = c.as_bytes.ensures.value; says = record { met = rw c.if-func.true at c.func.ensures } } in
     fact.found (told_head g.F.Fn c.args.func.now c.in_ok-key.key.now (texts value ++ texts_of_pairs rest) told))
 
 pub object_tells-returns-then-branch-clause-told : goal.object_tells-returns-then-branch-clause-told
 object_tells-returns-then-branch-clause-told g t c = λ form ps d.
-    SomePairs-first form _ _ _ _ _ c.in_ok-key.was c.in-Some-pair.ensures.steps (c.loop-pair.invariant.left form ps d)
+    SomePairs-first form _ _ _ _ _ c.in_ok-key.was c.in-Some.ensures.steps (c.loop-pair.invariant.left form ps d)
     (λ value rest left stands fact.
     let told : FnReturnsAt g.F.Fn c.args.func.now c.in_ok-key.key.now false = record { shown = c.as_bytes.result; shows = c.as_bytes.ensures.value; says = record { met = rw c.if-func.false at c.func.ensures } } in
     fact.found (told_after g.F.Fn c.args.func.now c.in_ok-key.key.now (texts value ++ texts_of_pairs rest) told true
@@ -158,9 +151,9 @@ object_tells-loop-pair-preserved g t c = record {
   can = tt;
   finite = tt;
   size = c.loop-pair.invariant.size;
-  room = omega (arith, c.in-Some-pair.ensures.steps.room);
+  room = omega (arith, c.in-Some.ensures.steps.room);
   left = λ form ps d.
-      SomePairs-first form _ _ _ _ _ c.in_ok-key.was c.in-Some-pair.ensures.steps (c.loop-pair.invariant.left form ps d)
+      SomePairs-first form _ _ _ _ _ c.in_ok-key.was c.in-Some.ensures.steps (c.loop-pair.invariant.left form ps d)
       (λ value rest left stands fact.
       let told : FnReturnsAt g.F.Fn c.args.func.now c.in_ok-key.key.now false = record { shown = c.as_bytes.result; shows = c.as_bytes.ensures.value; says = record { met = rw c.if-func.false at c.func.ensures } } in
       let none = told_alone g.F.Fn c.args.func.now c.in_ok-key.key.now false told in
@@ -175,14 +168,14 @@ object_tells-loop-pair-preserved g t c = record {
 pub object_tells-loop-pair-preserved-then-container_len-bytes : goal.object_tells-loop-pair-preserved-then-container_len-bytes
 object_tells-loop-pair-preserved-then-container_len-bytes g t c =
     let none : c.loop-pair.large ≡ None = search rules in
-    let size = rw c.in_ok-key.was at c.in-Some-pair.ensures.steps.size in
+    let size = rw c.in_ok-key.was at c.in-Some.ensures.steps.size in
     record {
       can = tt;
       finite = tt;
       size = omega (arith, size, c.loop-pair.invariant.room);
-      room = omega (arith, c.in-Some-pair.ensures.steps.room);
+      room = omega (arith, c.in-Some.ensures.steps.room);
       left = λ form ps d.
-          SomePairs-first form _ _ _ _ _ c.in_ok-key.was c.in-Some-pair.ensures.steps (rw none at (c.loop-pair.invariant.left form ps d))
+          SomePairs-first form _ _ _ _ _ c.in_ok-key.was c.in-Some.ensures.steps (rw none at (c.loop-pair.invariant.left form ps d))
           (λ value rest left stands fact.
           let told : FnReturnsAt g.F.Fn c.args.func.now c.in_ok-key.key.now false = record { shown = c.as_bytes.result; shows = c.as_bytes.ensures.value; says = record { met = rw c.if-func.false at c.func.ensures } } in
           let none = told_alone g.F.Fn c.args.func.now c.in_ok-key.key.now false told in
