@@ -171,9 +171,9 @@ leaf_found seen ignore_array found found' around n key p ps others whole path va
     record {
       joined =
           ap (λ (ls : List Leaf). ls ++ (behind steps left ++ outside))
-              (ap (leaves_seen seen) pushed ∙ map-append (λ (leaf : KeyPaths × Value). (key_paths_view leaf.0, seen leaf.1)) found ((path, value) ∷ [])
-                ∙ ap (λ (ss : List Key). front ++ (ss, seen value) ∷ []) (led ∙ ap (λ s. steps ++ s ∷ []) (keyed_step key p.0 n keyed))
-                ∙ ap (λ u. front ++ (steps ++ step ∷ [], u) ∷ []) same)
+          (ap (leaves_seen seen) pushed ∙ map-append (λ (leaf : KeyPaths × Value). (key_paths_view leaf.0, seen leaf.1)) found ((path, value) ∷ [])
+          ∙ ap (λ (ss : List Key). front ++ (ss, seen value) ∷ []) (led ∙ ap (λ s. steps ++ s ∷ []) (keyed_step key p.0 n keyed))
+          ∙ ap (λ u. front ++ (steps ++ step ∷ [], u) ∷ []) same)
           ∙ append_assoc front ((steps ++ step ∷ [], p.1) ∷ []) (behind steps left ++ outside)
           ∙ ap (λ (ls : List Leaf). front ++ (behind steps (ls ++ left) ++ outside)) (sym (at_leaf step p.1 (leaves ignore_array p.1) leaf))
           ∙ h.joined;
@@ -199,7 +199,7 @@ part_entered seen ignore_array found around around' e p ps others whole h entere
           ∙ ap (λ (es : List Entered). front ++ (behind (steps_into (around ++ e ∷ [])) inner ++ leaves_around ignore_array es (ps ∷ others))) (innermost around e)
           ∙ ap (λ (es : List Entered). front ++ (behind (steps_into (around ++ e ∷ [])) inner ++ (behind (steps_into es) left ++ outside))) (reverse-reverse around)
           ∙ ap (λ (ss : List Key). front ++ (behind ss inner ++ (behind steps left ++ outside)))
-              (map-append (λ (x : Entered). step_at x.key x.index) around (e ∷ []) ∙ ap (λ s. steps ++ s ∷ []) (keyed_step e.key p.0 e.index keyed))
+          (map-append (λ (x : Entered). step_at x.key x.index) around (e ∷ []) ∙ ap (λ s. steps ++ s ∷ []) (keyed_step e.key p.0 e.index keyed))
           ∙ ap (λ (ls : List Leaf). front ++ (ls ++ (behind steps left ++ outside))) (behind-step steps step inner)
           ∙ ap (λ (ls : List Leaf). front ++ ls) (sym (append_assoc (behind steps (behind (step ∷ []) inner)) (behind steps left) outside))
           ∙ ap (λ (ls : List Leaf). front ++ (ls ++ outside)) (sym (behind-append steps (behind (step ∷ []) inner) left))

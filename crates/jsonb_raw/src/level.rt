@@ -8,7 +8,16 @@ ghost use Rattle.jsonb_doc.specs.Format.{Decodes};
 ghost use Rattle.jsonb_doc.specs.Item.{Stands, IsNormal, item_size};
 ghost use Rattle.jsonb_doc.specs.View.{IsDecodingError};
 ghost use Rattle.jsonb_raw.specs.Levels.{
-    Part, parts_of_trees, parts_of_pairs, HasPartsLeft, IsLevelOf, TakesPart, IsSmaller, level_room, level_bound};
+  Part,
+  parts_of_trees,
+  parts_of_pairs,
+  HasPartsLeft,
+  IsLevelOf,
+  TakesPart,
+  IsSmaller,
+  level_room,
+  level_bound,
+};
 
 use jsonb_doc::{ElementIter, Error, Item, PairIter, elements, pairs};
 

@@ -40,10 +40,13 @@ fn word(within: u32, bytes: u32) -> u32 {
 /// How many steps lead to the only leaf, which is the text `x`, and whether each is of the kind that is wanted.
 fn leaf_depth(alloc: Global, document: &[u8], indexes: bool) -> Result<Option<usize>, Error> {
     let found = RawJsonb::new(document).extract_scalar_key_values(alloc, false)?;
-    let [(path, Value::String(text))] = found.as_slice() else {
+    let [leaf] = found.as_slice() else {
         return Ok(None);
     };
-    for step in &path.paths {
+    let Value::String(text) = &leaf.1 else {
+        return Ok(None);
+    };
+    for step in &leaf.0.paths {
         let is_wanted = match step {
             KeyPath::Index(index) => indexes && *index == 0,
             KeyPath::Name(name) => !indexes && name.as_str() == "a",
@@ -56,7 +59,7 @@ fn leaf_depth(alloc: Global, document: &[u8], indexes: bool) -> Result<Option<us
     if text.as_str() != "x" {
         return Ok(None);
     }
-    Ok(Some(path.paths.len()))
+    Ok(Some(leaf.0.paths.len()))
 }
 
 #[test]
