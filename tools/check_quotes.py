@@ -22,15 +22,14 @@ ROWS = ROOT / "crates/jsonb_examples/src/tables/rows.rt"
 EXAMPLE_DOCUMENTS = ROOT / "crates/jsonb_examples/src/documents.rt"
 PAGES = [ROOT / "README.md", *sorted((ROOT / "docs").glob("*.md"))]
 
-# Each kind of table: its constant, and what the constant says.
+# Each kind of table, and what the rows of the tests call it.
 KINDS = {
-    "selections": ("SELECTIONS", "A JSON path, a document, and what the path selects in lax and in strict mode."),
-    "truths": ("TRUTHS", "A JSON path, a document, and the truth of the path."),
-    "printed": ("PRINTED", "The text of a JSON path, and what it prints."),
-    "places": ("PLACES", "A key path, a document, and the document at the place."),
-    "printed key paths": ("PRINTED_KEY_PATHS", "The text of a key path, and what it prints."),
-    "sortable keys": ("SORTABLE_KEYS", "A document, and its sortable key."),
-    "equality keys": ("EQUALITY_KEYS", "A document, and its equality key."),
+    "truths": "truth",
+    "printed": "path",
+    "places": "place",
+    "printed key paths": "key path",
+    "sortable keys": "sortable key",
+    "equality keys": "equality key",
 }
 
 
@@ -110,22 +109,23 @@ def answer(gives, digits):
     return text
 
 
-def row_texts(kind, row, named):
-    """The texts of a row of the tests, of a row of a table."""
+def test_rows(kind, row, named):
+    """The rows of the tests of a row of a table: what is asked, of which text, of which document, and the answer."""
     if kind in ("printed", "printed key paths"):
-        return [code(row[0]), row[1] if row[1] == "refused" else code(row[1])]
+        return [(KINDS[kind], code(row[0]), "", row[1] if row[1] == "refused" else code(row[1]))]
     if kind in ("sortable keys", "equality keys"):
-        return [documents.hexadecimal(code(row[0])), code(row[1]).replace(" ", "")]
+        return [(KINDS[kind], "", documents.hexadecimal(code(row[0])), code(row[1]).replace(" ", ""))]
     document = code(row[1])
     if document not in named:
         raise Problem(f"{document} is none of the documents of the page")
-    texts = [code(row[0]), named[document]]
+    asked = (code(row[0]), named[document])
     if kind == "truths":
-        return texts + [row[2]]
-    texts.append(answer(row[2], row[3]))
-    if kind == "selections":
-        texts.append(texts[2] if row[4] == "the same" else answer(row[4], None))
-    return texts
+        return [(KINDS[kind], *asked, row[2])]
+    lax = answer(row[2], row[3])
+    if kind == "places":
+        return [(KINDS[kind], *asked, lax)]
+    strict = lax if row[4] == "the same" else answer(row[4], None)
+    return [("lax", *asked, lax), ("strict", *asked, strict)]
 
 
 def named_documents(page):
@@ -141,8 +141,8 @@ def named_documents(page):
 
 
 def rows_of(pages):
-    """The rows of all tables of answers, by their kind."""
-    found = {kind: [] for kind in KINDS}
+    """The rows of all tables of answers."""
+    found = []
     for page in pages:
         named = named_documents(page)
         for number, kind, rows in tables(page, "rows"):
@@ -150,22 +150,19 @@ def rows_of(pages):
                 continue
             for place, row in enumerate(rows, number + 3):
                 try:
-                    found[kind].append(row_texts(kind, row, named))
+                    found += test_rows(kind, row, named)
                 except Problem as problem:
                     raise Problem(f"{page.relative_to(ROOT)}:{place}: {problem}") from None
     return found
 
 
 def rows_file(found):
-    """The file of rows: a text for each kind of table, with a line for each row and tabs between its parts."""
-    lines = ["//! The rows of the tables of answers in docs/, as tools/check_quotes.py --write writes them.",
-             "//!", "//! A text is a table, a line of it a row, and tabs part a row."]
-    for kind, rows in found.items():
-        name, says = KINDS[kind]
-        lines += ["", f"/// {says}", f'pub const {name}: &str = "']
-        lines += ["\t".join(row).replace("\\", "\\\\").replace('"', '\\"').replace("\t", "\\t") for row in rows]
-        lines.append('";')
-    return "\n".join(lines) + "\n"
+    """The file of rows: one text, a line for each row, and tabs between its parts."""
+    lines = ["\t".join(row).replace("\\", "\\\\").replace('"', '\\"').replace("\t", "\\t") for row in found]
+    return "\n".join([
+        "//! The rows of the tables of answers in docs/, as tools/check_quotes.py --write writes them.", "",
+        "/// A line for each row, with tabs between: what is asked, the text of a path, a document, and the answer.",
+        'pub const ROWS: &str = "', *lines, '";', ""])
 
 
 def check_rows():
@@ -181,15 +178,21 @@ def check_bytes(text, rows):
 
 
 def constants():
-    """The documents of the examples: the JSON text above each, and its hexadecimal."""
+    """The documents of the examples: the JSON text above each, and its bytes."""
     text = EXAMPLE_DOCUMENTS.read_text()
-    for found in re.finditer(r'/// `(.*)`\npub const (\w+): &str =\s*"((?:[^"\\]|\\\n)*)";', text):
-        yield found[2], found[1], re.sub(r"\\\n\s*", "", found[3])
+    for found in re.finditer(r'/// `(.*)`\npub const (\w+): &\[u8\] =\s*b"((?:[^"\\]|\\.|\\\n)*)";', text):
+        yield found[2], found[1], bytes_of(re.sub(r"\\\n\s*", "", found[3]))
 
 
-def check_constant(text, digits):
-    if documents.hexadecimal(text) != digits:
-        raise Problem(f"the hexadecimal of {text} is {documents.hexadecimal(text)}")
+def bytes_of(literal):
+    """The bytes of a byte string's text."""
+    units = re.findall(r'\\x([0-9a-f]{2})|\\(0)|\\?(.)', literal)
+    return b"".join(bytes([int(x, 16)]) if x else b"\0" if zero else char.encode() for x, zero, char in units)
+
+
+def check_constant(text, bytes_):
+    if documents.encode(documents.read(text)) != bytes_:
+        raise Problem(f"the document of {text} is {documents.hexadecimal(text)}")
 
 
 def checks():
@@ -200,8 +203,8 @@ def checks():
             yield f"{name}:{number}", lambda file=file, lines=lines: check_block(file, lines)
         for number, text, rows in tables(page, "bytes"):
             yield f"{name}:{number}", lambda text=text, rows=rows: check_bytes(text, rows)
-    for name, text, digits in constants():
-        yield f"{EXAMPLE_DOCUMENTS.name}: {name}", lambda text=text, digits=digits: check_constant(text, digits)
+    for name, text, bytes_ in constants():
+        yield f"{EXAMPLE_DOCUMENTS.name}: {name}", lambda text=text, bytes_=bytes_: check_constant(text, bytes_)
     yield "tables of answers", check_rows
 
 

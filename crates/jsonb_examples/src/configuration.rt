@@ -49,20 +49,18 @@ pub fn with_setting(
 #[cfg(test)]
 mod tests {
     use super::*;
-    use crate::documents::{CONFIGURATION, PORT_80, WITH_PORT_80, WITHOUT_PORT, document};
+    use crate::documents::{CONFIGURATION, PORT_80, WITH_PORT_80, WITHOUT_PORT};
     use std::test::Fail;
 
     #[test]
     fn a_port_is_read_set_and_taken_out(rt: HostRuntime) -> Result<(), Fail> {
         let alloc = rt.alloc();
-        let file = document(alloc, CONFIGURATION)?;
-        let configuration = file.as_raw();
-        assert_eq!(rt; port(alloc, &configuration)?, Some(8080));
-        let value = document(alloc, PORT_80)?;
-        let set = with_setting(alloc, &configuration, "server", "port", &value.as_raw())?;
-        assert_eq!(rt; hex::encode(alloc, set.to_vec())?.as_str(), WITH_PORT_80);
-        let taken = without_setting(alloc, &configuration, "{server,port}")?;
-        assert_eq!(rt; hex::encode(alloc, taken.to_vec())?.as_str(), WITHOUT_PORT);
+        let file = RawJsonb::new(CONFIGURATION);
+        assert_eq!(rt; port(alloc, &file)?, Some(8080));
+        let set = with_setting(alloc, &file, "server", "port", &RawJsonb::new(PORT_80))?;
+        assert_eq!(rt; set.as_raw().as_bytes(), WITH_PORT_80);
+        let taken = without_setting(alloc, &file, "{server,port}")?;
+        assert_eq!(rt; taken.as_raw().as_bytes(), WITHOUT_PORT);
         Ok(())
     }
 }

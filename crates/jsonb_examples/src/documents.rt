@@ -1,92 +1,90 @@
-//! The documents of the examples, in hexadecimal.
-
-use jsonb::OwnedJsonb;
-use std::alloc::Global;
-use std::test::Fail;
-
-/// The document of some hexadecimal.
-pub fn document(alloc: Global, digits: &str) -> Result<OwnedJsonb, Fail> {
-    Ok(OwnedJsonb::new(hex::decode(alloc, digits)?))
-}
+//! The documents of the examples.
 
 /// `{"name":"Fred","phones":[{"number":3720453,"type":"home"},{"number":5062051,"type":"work"}]}`
-pub const FRED: &str = "\
-    400000021000000410000006100000045000005a6e616d6570686f6e6573467265648000000250000027500000274000\
-    0002100000061000000420000005100000046e756d62657274797065500038c505686f6d654000000210000006100000\
-    0420000005100000046e756d6265727479706550004d3da3776f726b";
+pub const FRED: &[u8] = b"\
+    \x40\0\0\x02\x10\0\0\x04\x10\0\0\x06\x10\0\0\x04\x50\0\0\x5anamephonesFred\x80\0\0\x02\x50\0\
+    \0\x27\x50\0\0\x27\x40\0\0\x02\x10\0\0\x06\x10\0\0\x04\x20\0\0\x05\x10\0\0\x04numbertype\x50\
+    \0\x38\xc5\x05home\x40\0\0\x02\x10\0\0\x06\x10\0\0\x04\x20\0\0\x05\x10\0\0\x04numbertype\x50\
+    \0\x4d\x3d\xa3work";
 
 /// `{"age":62,"name":"Ann"}`
-pub const ANN: &str = "40000002100000031000000420000002100000036167656e616d65503e416e6e";
+pub const ANN: &[u8] =
+    b"\x40\0\0\x02\x10\0\0\x03\x10\0\0\x04\x20\0\0\x02\x10\0\0\x03agename\x50\x3eAnn";
 
 /// `{"age":31,"name":"Bob"}`
-pub const BOB: &str = "40000002100000031000000420000002100000036167656e616d65501f426f62";
+pub const BOB: &[u8] =
+    b"\x40\0\0\x02\x10\0\0\x03\x10\0\0\x04\x20\0\0\x02\x10\0\0\x03agename\x50\x1fBob";
 
 /// `{"name":"Cyd"}`
-pub const CYD: &str = "4000000110000004100000036e616d65437964";
+pub const CYD: &[u8] = b"\x40\0\0\x01\x10\0\0\x04\x10\0\0\x03nameCyd";
 
 /// `{"log":{"level":"info"},"server":{"host":"localhost","port":8080}}`
-pub const CONFIGURATION: &str = "\
-    40000002100000031000000650000015500000286c6f677365727665724000000110000005100000046c6576656c696e\
-    666f4000000210000004100000041000000920000003686f7374706f72746c6f63616c686f7374501f90";
+pub const CONFIGURATION: &[u8] = b"\
+    \x40\0\0\x02\x10\0\0\x03\x10\0\0\x06\x50\0\0\x15\x50\0\0\x28logserver\x40\0\0\x01\x10\0\0\
+    \x05\x10\0\0\x04levelinfo\x40\0\0\x02\x10\0\0\x04\x10\0\0\x04\x10\0\0\x09\x20\0\0\x03hostpor\
+    tlocalhost\x50\x1f\x90";
 
 /// `{"log":{"level":"info"},"server":{"host":"localhost","port":80}}`
-pub const WITH_PORT_80: &str = "\
-    40000002100000031000000650000015500000276c6f677365727665724000000110000005100000046c6576656c696e\
-    666f4000000210000004100000041000000920000002686f7374706f72746c6f63616c686f73745050";
+pub const WITH_PORT_80: &[u8] = b"\
+    \x40\0\0\x02\x10\0\0\x03\x10\0\0\x06\x50\0\0\x15\x50\0\0\x27logserver\x40\0\0\x01\x10\0\0\
+    \x05\x10\0\0\x04levelinfo\x40\0\0\x02\x10\0\0\x04\x10\0\0\x04\x10\0\0\x09\x20\0\0\x02hostpor\
+    tlocalhost\x50\x50";
 
 /// `{"log":{"level":"info"},"server":{"host":"localhost"}}`
-pub const WITHOUT_PORT: &str = "\
-    40000002100000031000000650000015500000196c6f677365727665724000000110000005100000046c6576656c696e\
-    666f400000011000000410000009686f73746c6f63616c686f7374";
+pub const WITHOUT_PORT: &[u8] = b"\
+    \x40\0\0\x02\x10\0\0\x03\x10\0\0\x06\x50\0\0\x15\x50\0\0\x19logserver\x40\0\0\x01\x10\0\0\
+    \x05\x10\0\0\x04levelinfo\x40\0\0\x01\x10\0\0\x04\x10\0\0\x09hostlocalhost";
 
 /// `80`
-pub const PORT_80: &str = "20000000200000025050";
+pub const PORT_80: &[u8] = b"\x20\0\0\0\x20\0\0\x02\x50\x50";
 
 /// `{"may":["read","write"],"site":{"name":"docs","part":"guide"}}`
-pub const EDITOR: &str = "\
-    40000002100000031000000450000015500000256d617973697465800000021000000410000005726561647772697465\
-    40000002100000041000000410000004100000056e616d6570617274646f63736775696465";
+pub const EDITOR: &[u8] = b"\
+    \x40\0\0\x02\x10\0\0\x03\x10\0\0\x04\x50\0\0\x15\x50\0\0\x25maysite\x80\0\0\x02\x10\0\0\x04\
+    \x10\0\0\x05readwrite\x40\0\0\x02\x10\0\0\x04\x10\0\0\x04\x10\0\0\x04\x10\0\0\x05namepartdoc\
+    sguide";
 
 /// `{"may":["read"],"site":{"name":"docs"}}`
-pub const READER: &str = "\
-    4000000210000003100000045000000c500000146d617973697465800000011000000472656164400000011000000410\
-    0000046e616d65646f6373";
+pub const READER: &[u8] = b"\
+    \x40\0\0\x02\x10\0\0\x03\x10\0\0\x04\x50\0\0\x0c\x50\0\0\x14maysite\x80\0\0\x01\x10\0\0\x04r\
+    ead\x40\0\0\x01\x10\0\0\x04\x10\0\0\x04namedocs";
 
 /// `{"may":["write"],"site":{"name":"docs","part":"guide"}}`
-pub const WRITE_GUIDE: &str = "\
-    4000000210000003100000045000000d500000256d617973697465800000011000000577726974654000000210000004\
-    1000000410000004100000056e616d6570617274646f63736775696465";
+pub const WRITE_GUIDE: &[u8] = b"\
+    \x40\0\0\x02\x10\0\0\x03\x10\0\0\x04\x50\0\0\x0d\x50\0\0\x25maysite\x80\0\0\x01\x10\0\0\x05w\
+    rite\x40\0\0\x02\x10\0\0\x04\x10\0\0\x04\x10\0\0\x04\x10\0\0\x05namepartdocsguide";
 
 /// `{"may":["write"],"site":{"name":"docs","part":"api"}}`
-pub const WRITE_API: &str = "\
-    4000000210000003100000045000000d500000236d617973697465800000011000000577726974654000000210000004\
-    1000000410000004100000036e616d6570617274646f6373617069";
+pub const WRITE_API: &[u8] = b"\
+    \x40\0\0\x02\x10\0\0\x03\x10\0\0\x04\x50\0\0\x0d\x50\0\0\x23maysite\x80\0\0\x01\x10\0\0\x05w\
+    rite\x40\0\0\x02\x10\0\0\x04\x10\0\0\x04\x10\0\0\x04\x10\0\0\x03namepartdocsapi";
 
 /// `["news","sport"]`
-pub const OLD_TAGS: &str = "8000000210000004100000056e65777373706f7274";
+pub const OLD_TAGS: &[u8] = b"\x80\0\0\x02\x10\0\0\x04\x10\0\0\x05newssport";
 
 /// `["sport","weather"]`
-pub const NEW_TAGS: &str = "80000002100000051000000773706f727477656174686572";
+pub const NEW_TAGS: &[u8] = b"\x80\0\0\x02\x10\0\0\x05\x10\0\0\x07sportweather";
 
 /// `["news","sport","weather"]`
-pub const ALL_TAGS: &str = "800000031000000410000005100000076e65777373706f727477656174686572";
+pub const ALL_TAGS: &[u8] = b"\x80\0\0\x03\x10\0\0\x04\x10\0\0\x05\x10\0\0\x07newssportweather";
 
 /// `["weather"]`
-pub const ADDED_TAGS: &str = "800000011000000777656174686572";
+pub const ADDED_TAGS: &[u8] = b"\x80\0\0\x01\x10\0\0\x07weather";
 
 /// `["news"]`
-pub const REMOVED_TAGS: &str = "80000001100000046e657773";
+pub const REMOVED_TAGS: &[u8] = b"\x80\0\0\x01\x10\0\0\x04news";
 
 /// `[10,20,-5]`
-pub const AMOUNTS: &str = "80000003200000022000000220000002500a501440fb";
+pub const AMOUNTS: &[u8] =
+    b"\x80\0\0\x03\x20\0\0\x02\x20\0\0\x02\x20\0\0\x02\x50\x0a\x50\x14\x40\xfb";
 
 /// `{"amounts":[10,20,-5],"total":25}`
-pub const INVOICE: &str = "\
-    4000000210000007100000055000001620000002616d6f756e7473746f74616c80000003200000022000000220000002\
-    500a501440fb5019";
+pub const INVOICE: &[u8] = b"\
+    \x40\0\0\x02\x10\0\0\x07\x10\0\0\x05\x50\0\0\x16\x20\0\0\x02amountstotal\x80\0\0\x03\x20\0\0\
+    \x02\x20\0\0\x02\x20\0\0\x02\x50\x0a\x50\x14\x40\xfb\x50\x19";
 
 /// `30`
-pub const THIRTY: &str = "2000000020000002501e";
+pub const THIRTY: &[u8] = b"\x20\0\0\0\x20\0\0\x02\x50\x1e";
 
 /// `70`
-pub const SEVENTY: &str = "20000000200000025046";
+pub const SEVENTY: &[u8] = b"\x20\0\0\0\x20\0\0\x02\x50\x46";

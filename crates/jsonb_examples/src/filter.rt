@@ -24,16 +24,13 @@ pub fn matching<'a>(
 #[cfg(test)]
 mod tests {
     use super::*;
-    use crate::documents::{ANN, BOB, CYD, document};
+    use crate::documents::{ANN, BOB, CYD};
     use std::test::Fail;
 
     #[test]
     fn people_of_fifty_or_more(rt: HostRuntime) -> Result<(), Fail> {
         let alloc = rt.alloc();
-        let ann = document(alloc, ANN)?;
-        let bob = document(alloc, BOB)?;
-        let cyd = document(alloc, CYD)?;
-        let people = [ann.as_raw(), bob.as_raw(), cyd.as_raw()];
+        let people = [ANN, BOB, CYD].map(RawJsonb::new);
         for (condition, count) in [
             ("$.age >= 50", 1),
             ("$.age < 50 || exists($.name)", 3),

@@ -7,8 +7,7 @@ use std::test::Fail;
 #[test]
 fn first_example(rt: HostRuntime) -> Result<(), Fail> {
     let alloc = rt.alloc();
-    let bytes = hex::decode(alloc, FRED)?;
-    let fred = RawJsonb::new(bytes.as_slice());
+    let fred = RawJsonb::new(FRED);
     fred.check()?; // bytes from outside: checked once
 
     let home = parse_json_path(alloc, b"$.phones[*]?(@.type == \"home\").number")?;

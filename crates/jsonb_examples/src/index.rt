@@ -87,20 +87,17 @@ fn push_key(
 #[cfg(test)]
 mod tests {
     use super::*;
-    use crate::documents::{ANN, BOB, CYD, SEVENTY, THIRTY, document};
+    use crate::documents::{ANN, BOB, CYD, SEVENTY, THIRTY};
     use std::test::Fail;
 
     #[test]
     fn people_by_age_and_name(rt: HostRuntime) -> Result<(), Fail> {
         let alloc = rt.alloc();
         let mut index = Index::new(alloc, "$.age", "$.name")?;
-        for (number, digits) in [(1, ANN), (2, BOB), (3, CYD), (4, BOB)] {
-            let person = document(alloc, digits)?;
-            index.insert(alloc, number, &person.as_raw())?;
+        for (number, person) in [(1, ANN), (2, BOB), (3, CYD), (4, BOB)] {
+            index.insert(alloc, number, &RawJsonb::new(person))?;
         }
-        let low = document(alloc, THIRTY)?;
-        let high = document(alloc, SEVENTY)?;
-        let found = index.range(alloc, &low.as_raw(), &high.as_raw())?;
+        let found = index.range(alloc, &RawJsonb::new(THIRTY), &RawJsonb::new(SEVENTY))?;
         assert_eq!(rt; found.as_slice(), [2, 4, 1].as_slice());
         Ok(())
     }

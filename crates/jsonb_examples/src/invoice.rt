@@ -31,17 +31,15 @@ pub fn invoice(alloc: Global, amounts: &RawJsonb<'_>) -> Result<OwnedJsonb, Erro
 #[cfg(test)]
 mod tests {
     use super::*;
-    use crate::documents::{AMOUNTS, INVOICE, OLD_TAGS, document};
+    use crate::documents::{AMOUNTS, INVOICE, OLD_TAGS};
     use std::test::Fail;
 
     #[test]
     fn amounts_and_their_sum(rt: HostRuntime) -> Result<(), Fail> {
-        let alloc = rt.alloc();
-        let amounts = document(alloc, AMOUNTS)?;
-        let made = invoice(alloc, &amounts.as_raw())?;
-        assert_eq!(rt; hex::encode(alloc, made.to_vec())?.as_str(), INVOICE);
-        let tags = document(alloc, OLD_TAGS)?;
-        assert_eq!(rt; total(&tags.as_raw()), Err(Error::InvalidJsonType));
+        let made = invoice(rt.alloc(), &RawJsonb::new(AMOUNTS))?;
+        assert_eq!(rt; made.as_raw().as_bytes(), INVOICE);
+        let texts = RawJsonb::new(OLD_TAGS);
+        assert_eq!(rt; total(&texts), Err(Error::InvalidJsonType));
         Ok(())
     }
 }

@@ -15,18 +15,14 @@ pub fn is_granted(grants: &[RawJsonb<'_>], request: &RawJsonb<'_>) -> Result<boo
 #[cfg(test)]
 mod tests {
     use super::*;
-    use crate::documents::{EDITOR, READER, WRITE_API, WRITE_GUIDE, document};
+    use crate::documents::{EDITOR, READER, WRITE_API, WRITE_GUIDE};
     use std::test::Fail;
 
     #[test]
     fn an_editor_writes_the_guide_alone(rt: HostRuntime) -> Result<(), Fail> {
-        let alloc = rt.alloc();
-        let editor = document(alloc, EDITOR)?;
-        let reader = document(alloc, READER)?;
-        let grants = [reader.as_raw(), editor.as_raw()];
+        let grants = [READER, EDITOR].map(RawJsonb::new);
         for (request, wanted) in [(WRITE_GUIDE, true), (WRITE_API, false), (READER, true)] {
-            let request = document(alloc, request)?;
-            let granted = is_granted(grants.as_slice(), &request.as_raw())?;
+            let granted = is_granted(grants.as_slice(), &RawJsonb::new(request))?;
             assert_eq!(rt; granted, wanted);
         }
         Ok(())

@@ -2,16 +2,15 @@
 
 mod rows;
 
-use self::rows::{
-    EQUALITY_KEYS, PLACES, PRINTED, PRINTED_KEY_PATHS, SELECTIONS, SORTABLE_KEYS, TRUTHS,
+use self::rows::ROWS;
+use jsonb::{
+    Error, OwnedJsonb, RawJsonb, SelectByPath, Selector, parse_json_path, parse_key_paths,
 };
-use crate::documents::document;
-use jsonb::{Error, OwnedJsonb, SelectByPath, Selector, parse_json_path, parse_key_paths};
-use std::alloc::{AllocError, Global};
+use std::alloc::Global;
 use std::test::Fail;
 
 /// Documents in hexadecimal with spaces between, or `none`.
-fn documents_text(alloc: Global, found: &[OwnedJsonb]) -> Result<String, AllocError> {
+fn documents_text(alloc: Global, found: &[OwnedJsonb]) -> Result<String, Error> {
     let mut text = String::new(alloc);
     for document in found {
         if !text.is_empty() {
@@ -26,33 +25,17 @@ fn documents_text(alloc: Global, found: &[OwnedJsonb]) -> Result<String, AllocEr
     Ok(text)
 }
 
-/// What a selector answers to a path's text: documents, `none`, or the refusal.
-fn answer(alloc: Global, mut selector: Selector<'_>, text: &str) -> Result<String, AllocError> {
-    let path = match parse_json_path(alloc, text.as_bytes()) {
-        Ok(path) => path,
-        Err(error) => return format!(in alloc; "refused: {error}"),
-    };
-    match selector.select_values(&path) {
-        Ok(found) => documents_text(alloc, found.as_slice()),
-        Err(error) => format!(in alloc; "refused: {error}"),
-    }
-}
-
-fn lax_answer(alloc: Global, digits: &str, text: &str) -> Result<String, Fail> {
-    let whole = document(alloc, digits)?;
-    Ok(answer(alloc, Selector::new(alloc, whole.as_raw()), text)?)
-}
-
-fn strict_answer(alloc: Global, digits: &str, text: &str) -> Result<String, Fail> {
-    let whole = document(alloc, digits)?;
-    Ok(answer(alloc, Selector::new_strict(alloc, whole.as_raw()), text)?)
+/// What a selector answers to a path's text.
+fn selected(alloc: Global, mut selector: Selector<'_>, text: &str) -> Result<String, Error> {
+    let path = parse_json_path(alloc, text.as_bytes())?;
+    let found = selector.select_values(&path)?;
+    documents_text(alloc, found.as_slice())
 }
 
 /// `true`, `false` or `unknown`.
-fn truth(alloc: Global, digits: &str, text: &str) -> Result<&'static str, Fail> {
-    let whole = document(alloc, digits)?;
+fn truth(alloc: Global, whole: &RawJsonb<'_>, text: &str) -> Result<&'static str, Error> {
     let path = parse_json_path(alloc, text.as_bytes())?;
-    Ok(match whole.as_raw().path_match(alloc, &path)? {
+    Ok(match whole.path_match(alloc, &path)? {
         Some(true) => "true",
         Some(false) => "false",
         None => "unknown",
@@ -60,43 +43,42 @@ fn truth(alloc: Global, digits: &str, text: &str) -> Result<&'static str, Fail> 
 }
 
 /// The document at the place of a key path, or `none`.
-fn part_at(alloc: Global, digits: &str, text: &str) -> Result<String, Fail> {
-    let whole = document(alloc, digits)?;
+fn part_at(alloc: Global, whole: &RawJsonb<'_>, text: &str) -> Result<String, Error> {
     let steps = parse_key_paths(alloc, text.as_bytes())?;
-    Ok(
-        match whole.as_raw().get_by_keypath(alloc, steps.paths.iter())? {
-            Some(part) => hex::encode(alloc, part.to_vec())?,
-            None => String::from_str(alloc, "none")?,
-        },
-    )
+    Ok(match whole.get_by_keypath(alloc, steps.paths.iter())? {
+        Some(part) => hex::encode(alloc, part.to_vec())?,
+        None => String::from_str(alloc, "none")?,
+    })
 }
 
 /// What a path's text prints, or `refused`.
-fn printed(alloc: Global, text: &str) -> Result<String, AllocError> {
-    match parse_json_path(alloc, text.as_bytes()) {
-        Ok(path) => format!(in alloc; "{path}"),
-        Err(_) => String::from_str(alloc, "refused"),
-    }
+fn printed(alloc: Global, text: &str) -> Result<String, Error> {
+    Ok(match parse_json_path(alloc, text.as_bytes()) {
+        Ok(path) => format!(in alloc; "{path}")?,
+        Err(_) => String::from_str(alloc, "refused")?,
+    })
 }
 
 /// What a key path's text prints, or `refused`.
-fn printed_key_path(alloc: Global, text: &str) -> Result<String, AllocError> {
-    match parse_key_paths(alloc, text.as_bytes()) {
-        Ok(path) => format!(in alloc; "{path}"),
-        Err(_) => String::from_str(alloc, "refused"),
+fn printed_key_path(alloc: Global, text: &str) -> Result<String, Error> {
+    Ok(match parse_key_paths(alloc, text.as_bytes()) {
+        Ok(path) => format!(in alloc; "{path}")?,
+        Err(_) => String::from_str(alloc, "refused")?,
+    })
+}
+
+/// The answer to a question of a row.
+fn answer(alloc: Global, asked: &str, text: &str, whole: &RawJsonb<'_>) -> Result<String, Error> {
+    match asked {
+        "lax" => selected(alloc, Selector::new(alloc, *whole), text),
+        "strict" => selected(alloc, Selector::new_strict(alloc, *whole), text),
+        "truth" => Ok(String::from_str(alloc, truth(alloc, whole, text)?)?),
+        "place" => part_at(alloc, whole, text),
+        "path" => printed(alloc, text),
+        "key path" => printed_key_path(alloc, text),
+        "sortable key" => Ok(hex::encode(alloc, whole.convert_to_comparable(alloc)?)?),
+        _ => Ok(hex::encode(alloc, whole.equality_key(alloc)?)?),
     }
-}
-
-fn sortable_key(alloc: Global, digits: &str) -> Result<String, Fail> {
-    let whole = document(alloc, digits)?;
-    let key = whole.as_raw().convert_to_comparable(alloc)?;
-    Ok(hex::encode(alloc, key)?)
-}
-
-fn equality_key(alloc: Global, digits: &str) -> Result<String, Fail> {
-    let whole = document(alloc, digits)?;
-    let key = whole.as_raw().equality_key(alloc)?;
-    Ok(hex::encode(alloc, key)?)
 }
 
 /// The first part of a row, and the others.
@@ -104,75 +86,24 @@ fn cut(row: &str) -> Result<(&str, &str), Fail> {
     Ok(row.split_once('\t').ok_or("a row without a tab")?)
 }
 
-fn selects(alloc: Global, row: &str) -> Result<bool, Fail> {
-    let (path, rest) = cut(row)?;
-    let (digits, answers) = cut(rest)?;
-    let (lax, strict) = cut(answers)?;
+/// Whether a row says what is answered.
+fn holds(alloc: Global, row: &str) -> Result<bool, Fail> {
+    let (asked, rest) = cut(row)?;
+    let (text, rest) = cut(rest)?;
+    let (digits, wanted) = cut(rest)?;
+    let bytes = hex::decode(alloc, digits)?;
     Ok(
-        lax_answer(alloc, digits, path)?.as_str() == lax
-            && strict_answer(alloc, digits, path)?.as_str() == strict,
+        match answer(alloc, asked, text, &RawJsonb::new(bytes.as_slice())) {
+            Ok(found) => found.as_str() == wanted,
+            Err(error) => format!(in alloc; "refused: {error}")?.as_str() == wanted,
+        },
     )
 }
 
-fn has_truth(alloc: Global, row: &str) -> Result<bool, Fail> {
-    let (path, rest) = cut(row)?;
-    let (digits, wanted) = cut(rest)?;
-    Ok(truth(alloc, digits, path)? == wanted)
-}
-
-fn has_part(alloc: Global, row: &str) -> Result<bool, Fail> {
-    let (path, rest) = cut(row)?;
-    let (digits, wanted) = cut(rest)?;
-    Ok(part_at(alloc, digits, path)?.as_str() == wanted)
-}
-
-fn prints(alloc: Global, row: &str) -> Result<bool, Fail> {
-    let (text, wanted) = cut(row)?;
-    Ok(printed(alloc, text)?.as_str() == wanted)
-}
-
-fn prints_key_path(alloc: Global, row: &str) -> Result<bool, Fail> {
-    let (text, wanted) = cut(row)?;
-    Ok(printed_key_path(alloc, text)?.as_str() == wanted)
-}
-
-fn has_sortable_key(alloc: Global, row: &str) -> Result<bool, Fail> {
-    let (digits, wanted) = cut(row)?;
-    Ok(sortable_key(alloc, digits)?.as_str() == wanted)
-}
-
-fn has_equality_key(alloc: Global, row: &str) -> Result<bool, Fail> {
-    let (digits, wanted) = cut(row)?;
-    Ok(equality_key(alloc, digits)?.as_str() == wanted)
-}
-
 #[test]
-fn paths_answer_as_their_tables_say(rt: HostRuntime) -> Result<(), Fail> {
-    for row in SELECTIONS.lines().skip(1) {
-        assert!(rt; selects(rt.alloc(), row)?, "{row}");
-    }
-    for row in TRUTHS.lines().skip(1) {
-        assert!(rt; has_truth(rt.alloc(), row)?, "{row}");
-    }
-    for row in PLACES.lines().skip(1) {
-        assert!(rt; has_part(rt.alloc(), row)?, "{row}");
-    }
-    Ok(())
-}
-
-#[test]
-fn texts_and_keys_are_as_their_tables_say(rt: HostRuntime) -> Result<(), Fail> {
-    for row in PRINTED.lines().skip(1) {
-        assert!(rt; prints(rt.alloc(), row)?, "{row}");
-    }
-    for row in PRINTED_KEY_PATHS.lines().skip(1) {
-        assert!(rt; prints_key_path(rt.alloc(), row)?, "{row}");
-    }
-    for row in SORTABLE_KEYS.lines().skip(1) {
-        assert!(rt; has_sortable_key(rt.alloc(), row)?, "{row}");
-    }
-    for row in EQUALITY_KEYS.lines().skip(1) {
-        assert!(rt; has_equality_key(rt.alloc(), row)?, "{row}");
+fn answers_are_as_the_tables_say(rt: HostRuntime) -> Result<(), Fail> {
+    for row in ROWS.lines().skip(1) {
+        assert!(rt; holds(rt.alloc(), row)?, "{row}");
     }
     Ok(())
 }

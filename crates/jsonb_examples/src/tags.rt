@@ -27,23 +27,20 @@ pub fn changes(
 #[cfg(test)]
 mod tests {
     use super::*;
-    use crate::documents::{ADDED_TAGS, ALL_TAGS, NEW_TAGS, OLD_TAGS, REMOVED_TAGS, document};
+    use crate::documents::{ADDED_TAGS, ALL_TAGS, NEW_TAGS, OLD_TAGS, REMOVED_TAGS};
     use std::test::Fail;
 
     #[test]
     fn tags_are_joined_and_compared(rt: HostRuntime) -> Result<(), Fail> {
         let alloc = rt.alloc();
-        let old = document(alloc, OLD_TAGS)?;
-        let new = document(alloc, NEW_TAGS)?;
-        assert!(rt; old.as_raw().array_overlap(&new.as_raw())?);
-        let all = all_tags(alloc, &old.as_raw(), &new.as_raw())?;
-        assert_eq!(rt; hex::encode(alloc, all.to_vec())?.as_str(), ALL_TAGS);
-        let (added, removed) = changes(alloc, &old.as_raw(), &new.as_raw())?;
-        assert_eq!(rt; hex::encode(alloc, added.to_vec())?.as_str(), ADDED_TAGS);
-        assert_eq!(rt;
-            hex::encode(alloc, removed.to_vec())?.as_str(),
-            REMOVED_TAGS
-        );
+        let old = RawJsonb::new(OLD_TAGS);
+        let new = RawJsonb::new(NEW_TAGS);
+        assert!(rt; old.array_overlap(&new)?);
+        let all = all_tags(alloc, &old, &new)?;
+        assert_eq!(rt; all.as_raw().as_bytes(), ALL_TAGS);
+        let (added, removed) = changes(alloc, &old, &new)?;
+        assert_eq!(rt; added.as_raw().as_bytes(), ADDED_TAGS);
+        assert_eq!(rt; removed.as_raw().as_bytes(), REMOVED_TAGS);
         Ok(())
     }
 }
