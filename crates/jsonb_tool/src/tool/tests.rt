@@ -258,20 +258,40 @@ fn other_words_get_usage(rt: HostRuntime) -> Result<(), Fail> {
     Ok(())
 }
 
-/// Takes 4 bytes at a write, and refuses each write past the first ones.
+/// How a writer does not take what it is given.
+#[derive(Clone, Copy, Debug)]
+enum Break {
+    /// Each write is refused.
+    Full,
+    /// No byte is taken.
+    Zero,
+    /// One write is interrupted, and then all are taken.
+    Interrupted,
+}
+
+/// Takes so many bytes at a write, and breaks behind the first writes.
 #[derive(Drop)]
-struct Failing {
+struct Breaking {
+    at_a_time: usize,
     writes: u32,
+    how: Break,
     bytes: Vec<u8>,
 }
 
-impl Write for Failing {
+impl Write for Breaking {
     fn write(&mut self, buf: &[u8]) -> io::Result<usize> {
-        if self.writes == 0 {
-            return Err(io::Error::from(ErrorKind::StorageFull));
+        if self.writes > 0 {
+            self.writes -= 1;
+            return self.bytes.write(&buf[..buf.len().min(self.at_a_time)]);
         }
-        self.writes -= 1;
-        self.bytes.write(&buf[..buf.len().min(4)])
+        match self.how {
+            Break::Full => Err(io::Error::from(ErrorKind::StorageFull)),
+            Break::Zero => Ok(0),
+            Break::Interrupted => {
+                self.writes = u32::MAX;
+                Err(io::Error::from(ErrorKind::Interrupted))
+            }
+        }
     }
 
     fn flush(&mut self) -> io::Result<()> {
@@ -279,25 +299,53 @@ impl Write for Failing {
     }
 }
 
-/// The first write fails, then the second, and so on, until a run meets no failure.
+/// What a run over a breaking writer answers, and what was written.
+fn run_over(
+    alloc: Global,
+    at_a_time: usize,
+    writes: u32,
+    how: Break,
+) -> Result<(Result<u8, ToolFault>, Vec<u8>), AllocError> {
+    let words = words_of(alloc, &["get", "{2,k}", ARRAY])?;
+    let mut out = Breaking {
+        at_a_time,
+        writes,
+        how,
+        bytes: Vec::new(alloc),
+    };
+    let answer = run(alloc, words.as_slice(), &mut out);
+    let Breaking { bytes, .. } = out;
+    Ok((answer, bytes))
+}
+
+const LINE: &[u8] = b"200000001000000176\n";
+
+/// The first write fails, then the second, and so on, until a run meets no failure and has written the line.
 #[test]
 fn a_failing_write_is_a_fault(rt: HostRuntime) -> Result<(), Fail> {
-    let words = words_of(rt.alloc(), &["get", "{2,k}", ARRAY])?;
-    let mut faults = 0u32;
-    for writes in 0u32..100 {
-        let mut out = Failing {
-            writes,
-            bytes: Vec::new(rt.alloc()),
-        };
-        match run(rt.alloc(), words.as_slice(), &mut out) {
-            Err(ToolFault::Write) => faults = faults.saturating_add(1),
-            Ok(status) => {
-                assert_eq!(rt; status, 0);
-                assert_eq!(rt; out.bytes.as_slice(), b"200000001000000176\n".as_slice());
-                break;
+    for (at_a_time, wanted) in [(1, 19u32), (4, 5), (100, 1)] {
+        for how in [Break::Full, Break::Zero] {
+            for writes in 0..wanted {
+                let (answer, _) = run_over(rt.alloc(), at_a_time, writes, how)?;
+                assert_eq!(rt; answer, Err(ToolFault::Write), "{how:?} behind {writes}");
             }
+            let (answer, bytes) = run_over(rt.alloc(), at_a_time, wanted, how)?;
+            assert_eq!(rt; answer, Ok(0), "{at_a_time} at a time");
+            assert_eq!(rt; bytes.as_slice(), LINE);
         }
     }
-    assert_eq!(rt; faults, 5, "19 bytes take five writes");
+    Ok(())
+}
+
+/// A write that is interrupted is made again.
+#[test]
+fn an_interrupted_write_is_no_fault(rt: HostRuntime) -> Result<(), Fail> {
+    for at_a_time in [1, 4, 100] {
+        for writes in 0..20 {
+            let (answer, bytes) = run_over(rt.alloc(), at_a_time, writes, Break::Interrupted)?;
+            assert_eq!(rt; answer, Ok(0), "behind {writes}");
+            assert_eq!(rt; bytes.as_slice(), LINE);
+        }
+    }
     Ok(())
 }
