@@ -13,24 +13,24 @@ ghost use Rattle.jsonb.specs.SelectionErrors.{HasHeader};
 ghost use Rattle.jsonb.specs.Selection.{Selects, HasTree};
 ghost use Rattle.jsonb.specs.declared.selector.document.Document.{Document};
 
+mod atom;
 mod by_path;
 mod calculate;
 mod children;
 mod document;
 mod documents;
-mod found;
 mod levels;
-mod operand;
-mod part;
+mod node_list;
+mod selected;
 mod steps;
 mod values;
-mod whole;
+mod whole_path;
 
 pub use self::by_path::SelectByPath;
 use self::document::{Document, Mode};
 use self::documents::{array_document, documents, first_document, value_document};
-use self::part::Selected;
-use self::whole::{expression_truth, lone_expression, selection};
+use self::selected::Selected;
+use self::whole_path::{expression_truth, only_expression, selection};
 use crate::path::JsonPath;
 use jsonb_doc::{Error, root_spot};
 use jsonb_raw::{OwnedJsonb, RawJsonb};
@@ -184,7 +184,7 @@ impl<'a> Selector<'a> {
         ensures errors { IfErr result (IsSelectionError (mode_of self.old)) }
         ensures readable { is_predicate (path_view path.now) ≡ true → OnOk result (HasHeader (root_bytes self.old)) }
     {
-        match lone_expression(&path.paths) {
+        match only_expression(&path.paths) {
             Some(e) => {
                 let bytes = self.root.as_bytes();
                 let document = at_root(bytes)?;
@@ -217,7 +217,7 @@ fn is_some(selected: &Selected<'_>) -> bool
     ensures { (form : Form) (document : Document) (ts : List Tree) → Selects form document selected.now ts → result ≡ is_some_item ts }
 {
     match selected {
-        Selected::Spots(spots) => !spots.as_slice().is_empty(),
-        Selected::Made(parts) => !parts.is_empty(),
+        Selected::Nodes(spots) => !spots.as_slice().is_empty(),
+        Selected::Items(parts) => !parts.is_empty(),
     }
 }
