@@ -89,7 +89,8 @@ fn number_of(value: &Atom<'_>) -> Result<Number, Error>
 
 /// The numbers that the values are. A value that is none is refused with `InvalidJsonPath`.
 fn all_numbers(alloc: Global, values: &[Atom<'_>]) -> Result<Vec<Number>, Error>
-    ensures meant { Gives (λ v ns. map number_view v.items ≡ ns) WantsMemory result (all_numbers (map atom_value values.now)) }
+    ensures meant { Gives (λ v ns. map number_view v.items ≡ ns) WantsMemory result
+        (all_numbers (map atom_value values.now)) }
     ensures errors { (mode : Mode) → IfErr result (IsSelectionError mode) }
 {
     let mut numbers = Vec::new(alloc);

@@ -69,8 +69,10 @@ pub(crate) fn push_spot(nodes: &mut Vec<Spot>, spot: Spot) -> Result<(), Error>
 
 /// One more place, where the condition holds.
 pub(crate) fn push_if(condition: bool, spot: Spot, nodes: &mut Vec<Spot>) -> Result<(), Error>
-    ensures meant { (bytes : List ℕ) (t : Tree) (before : List Tree) → Marks bytes spot t → AllRelated (Marks bytes) nodes.old.items before
-        → Gives (λ _ us. AllRelated (Marks bytes) nodes.new.items (before ++ us)) WantsMemory result (Ok (if condition then t ∷ [] else [])) }
+    ensures meant { (bytes : List ℕ) (t : Tree) (before : List Tree) → Marks bytes spot t
+        → AllRelated (Marks bytes) nodes.old.items before
+        → Gives (λ _ us. AllRelated (Marks bytes) nodes.new.items (before ++ us)) WantsMemory result
+        (Ok (if condition then t ∷ [] else [])) }
     ensures errors { IfErr result WantsMemory }
 {
     if condition {
@@ -82,7 +84,8 @@ pub(crate) fn push_if(condition: bool, spot: Spot, nodes: &mut Vec<Spot>) -> Res
 
 /// The places that are left in an iterator.
 pub(crate) fn push_spots(spots: SpotIter<'_>, nodes: &mut Vec<Spot>) -> Result<(), Error>
-    ensures meant { (bytes : List ℕ) (ts before : List Tree) → HasSpotsLeft bytes spots.entry ts → AllRelated (Marks bytes) nodes.old.items before
+    ensures meant { (bytes : List ℕ) (ts before : List Tree) → HasSpotsLeft bytes spots.entry ts
+        → AllRelated (Marks bytes) nodes.old.items before
         → Gives (λ _ us. AllRelated (Marks bytes) nodes.new.items (before ++ us)) WantsMemory result (Ok ts) }
     ensures errors { IfErr result IsReadingError }
 {
@@ -101,7 +104,8 @@ pub(crate) fn field(
     item: Spot,
 ) -> Result<NodeList, Error>
     ensures meant { (t : Tree) → Marks bytes.now item t
-        → Gives (λ found us. AllRelated (Marks bytes.now) (node_spots found) us) WantsMemory result (field_step mode name.now t) }
+        → Gives (λ found us. AllRelated (Marks bytes.now) (node_spots found) us) WantsMemory result
+        (field_step mode name.now t) }
     ensures errors { IfErr result (IsSelectionError mode) }
 {
     match field_spot(bytes, item, name)? {
@@ -121,8 +125,10 @@ pub(crate) fn push_field(
     item: Spot,
     nodes: &mut Vec<Spot>,
 ) -> Result<(), Error>
-    ensures meant { (t : Tree) (before : List Tree) → Marks bytes.now item t → AllRelated (Marks bytes.now) nodes.old.items before
-        → Gives (λ _ ts. AllRelated (Marks bytes.now) nodes.new.items (before ++ ts)) WantsMemory result (field_step mode name.now t) }
+    ensures meant { (t : Tree) (before : List Tree) → Marks bytes.now item t
+        → AllRelated (Marks bytes.now) nodes.old.items before
+        → Gives (λ _ ts. AllRelated (Marks bytes.now) nodes.new.items (before ++ ts))
+        WantsMemory result (field_step mode name.now t) }
     ensures errors { IfErr result (IsSelectionError mode) }
 {
     match field_spot(bytes, item, name)? {
@@ -141,8 +147,10 @@ pub(crate) fn push_values(
     item: Spot,
     nodes: &mut Vec<Spot>,
 ) -> Result<(), Error>
-    ensures meant { (t : Tree) (before : List Tree) → Marks bytes.now item t → AllRelated (Marks bytes.now) nodes.old.items before
-        → Gives (λ _ ts. AllRelated (Marks bytes.now) nodes.new.items (before ++ ts)) WantsMemory result (values_step mode t) }
+    ensures meant { (t : Tree) (before : List Tree) → Marks bytes.now item t
+        → AllRelated (Marks bytes.now) nodes.old.items before
+        → Gives (λ _ ts. AllRelated (Marks bytes.now) nodes.new.items (before ++ ts))
+        WantsMemory result (values_step mode t) }
     ensures errors { IfErr result (IsSelectionError mode) }
 {
     match values(bytes, item)? {
@@ -161,8 +169,10 @@ pub(crate) fn push_elements(
     item: Spot,
     nodes: &mut Vec<Spot>,
 ) -> Result<(), Error>
-    ensures meant { (t : Tree) (before : List Tree) → Marks bytes.now item t → AllRelated (Marks bytes.now) nodes.old.items before
-        → Gives (λ _ ts. AllRelated (Marks bytes.now) nodes.new.items (before ++ ts)) WantsMemory result (elements_step mode t) }
+    ensures meant { (t : Tree) (before : List Tree) → Marks bytes.now item t
+        → AllRelated (Marks bytes.now) nodes.old.items before
+        → Gives (λ _ ts. AllRelated (Marks bytes.now) nodes.new.items (before ++ ts))
+        WantsMemory result (elements_step mode t) }
     ensures errors { IfErr result (IsSelectionError mode) }
 {
     match elements(bytes, item)? {
@@ -183,8 +193,10 @@ pub(crate) fn push_positions(
     item: Spot,
     nodes: &mut Vec<Spot>,
 ) -> Result<(), Error>
-    ensures meant { (t : Tree) (before : List Tree) → Marks bytes.now item t → AllRelated (Marks bytes.now) nodes.old.items before
-        → Gives (λ _ ts. AllRelated (Marks bytes.now) nodes.new.items (before ++ ts)) WantsMemory result (indices_step mode (map entry_view entries.now) t) }
+    ensures meant { (t : Tree) (before : List Tree) → Marks bytes.now item t
+        → AllRelated (Marks bytes.now) nodes.old.items before
+        → Gives (λ _ ts. AllRelated (Marks bytes.now) nodes.new.items (before ++ ts))
+        WantsMemory result (indices_step mode (map entry_view entries.now) t) }
     ensures errors { IfErr result (IsSelectionError mode) }
 {
     match elements(bytes, item)? {
@@ -204,8 +216,10 @@ fn push_picked(
     entries: &[ArrayIndex],
     nodes: &mut Vec<Spot>,
 ) -> Result<(), Error>
-    ensures meant { (bytes : List ℕ) (ts before : List Tree) → HasSpotsLeft bytes elements.entry ts → AllRelated (Marks bytes) nodes.old.items before
-        → Gives (λ _ us. AllRelated (Marks bytes) nodes.new.items (before ++ us)) WantsMemory result (Ok (picked (map entry_view entries.now) ts)) }
+    ensures meant { (bytes : List ℕ) (ts before : List Tree) → HasSpotsLeft bytes elements.entry ts
+        → AllRelated (Marks bytes) nodes.old.items before
+        → Gives (λ _ us. AllRelated (Marks bytes) nodes.new.items (before ++ us)) WantsMemory result
+        (Ok (picked (map entry_view entries.now) ts)) }
     ensures errors { IfErr result IsReadingError }
 {
     if let Some(position) = plain_index(entries) {
@@ -228,8 +242,10 @@ fn plain_index(entries: &[ArrayIndex]) -> Option<usize>
 
 // The element at a position.
 fn push_nth(elements: SpotIter<'_>, position: usize, nodes: &mut Vec<Spot>) -> Result<(), Error>
-    ensures meant { (bytes : List ℕ) (ts before : List Tree) → HasSpotsLeft bytes elements.entry ts → AllRelated (Marks bytes) nodes.old.items before
-        → Gives (λ _ us. AllRelated (Marks bytes) nodes.new.items (before ++ us)) WantsMemory result (Ok (filter_map (slice_get ts) (position ∷ []))) }
+    ensures meant { (bytes : List ℕ) (ts before : List Tree) → HasSpotsLeft bytes elements.entry ts
+        → AllRelated (Marks bytes) nodes.old.items before
+        → Gives (λ _ us. AllRelated (Marks bytes) nodes.new.items (before ++ us)) WantsMemory result
+        (Ok (filter_map (slice_get ts) (position ∷ []))) }
     ensures errors { IfErr result IsReadingError }
 {
     let mut before = position;
@@ -249,8 +265,10 @@ fn push_entries(
     elements: &[Spot],
     nodes: &mut Vec<Spot>,
 ) -> Result<(), Error>
-    ensures meant { (bytes : List ℕ) (ts before : List Tree) → AllRelated (Marks bytes) elements.now ts → AllRelated (Marks bytes) nodes.old.items before
-        → Gives (λ _ us. AllRelated (Marks bytes) nodes.new.items (before ++ us)) WantsMemory result (Ok (picked (map entry_view entries.now) ts)) }
+    ensures meant { (bytes : List ℕ) (ts before : List Tree) → AllRelated (Marks bytes) elements.now ts
+        → AllRelated (Marks bytes) nodes.old.items before
+        → Gives (λ _ us. AllRelated (Marks bytes) nodes.new.items (before ++ us)) WantsMemory result
+        (Ok (picked (map entry_view entries.now) ts)) }
     ensures errors { IfErr result IsReadingError }
 {
     for entry in entries {
@@ -261,8 +279,10 @@ fn push_entries(
 
 // The elements at the positions of one entry, ascending.
 fn push_entry(entry: &ArrayIndex, elements: &[Spot], nodes: &mut Vec<Spot>) -> Result<(), Error>
-    ensures meant { (bytes : List ℕ) (ts before : List Tree) → AllRelated (Marks bytes) elements.now ts → AllRelated (Marks bytes) nodes.old.items before
-        → Gives (λ _ us. AllRelated (Marks bytes) nodes.new.items (before ++ us)) WantsMemory result (Ok (picked_by (entry_view entry.now) ts)) }
+    ensures meant { (bytes : List ℕ) (ts before : List Tree) → AllRelated (Marks bytes) elements.now ts
+        → AllRelated (Marks bytes) nodes.old.items before
+        → Gives (λ _ us. AllRelated (Marks bytes) nodes.new.items (before ++ us)) WantsMemory result
+        (Ok (picked_by (entry_view entry.now) ts)) }
     ensures errors { IfErr result WantsMemory }
 {
     let (start, end) = entry.bounds(elements.len());

@@ -38,7 +38,8 @@ fn part_at<'a>(
 ) -> Result<MadeItem<'a>, Error>
     requires { position < selected_len selected.now }
     ensures part { (form : Form) (top : Tree) (ts : List Tree) → Decodes form document.entry.bytes.now top
-        → Selects form document.entry selected.now ts → IsOkAnd result (λ part. HoldsAt (IsMadeItem form part) ts position) }
+        → Selects form document.entry selected.now ts
+        → IsOkAnd result (λ part. HoldsAt (IsMadeItem form part) ts position) }
     ensures errors { IfErr result IsDecodingError }
 {
     match selected {
@@ -74,7 +75,8 @@ fn part_document(alloc: Global, part: &MadeItem<'_>) -> Result<OwnedJsonb, Error
 
 /// Adds a part behind the other elements of an array.
 fn push_part(alloc: Global, builder: &mut ArrayBuilder, part: &MadeItem<'_>) -> Result<(), Error>
-    ensures pushed { (form : Form) (ts : List Tree) (t : Tree) → HoldsElements form builder.old ts → IsMadeItem form part.now t
+    ensures pushed { (form : Form) (ts : List Tree) (t : Tree) → HoldsElements form builder.old ts
+        → IsMadeItem form part.now t
         → Builds form (array_of (ts ++ t ∷ [])) result (λ _. HoldsElements form builder.new (ts ++ t ∷ [])) }
     ensures errors { IfErr result HasNoRoom }
 {

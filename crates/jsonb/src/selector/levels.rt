@@ -22,8 +22,10 @@ pub(crate) fn push_levels(
     item: Spot,
     nodes: &mut Vec<Spot>,
 ) -> Result<(), Error>
-    ensures meant { (t : Tree) (n : ℕ) (before : List Tree) → level ≡ min n 256 → Marks bytes.now item t → AllRelated (Marks bytes.now) nodes.old.items before
-        → Gives (λ _ ts. AllRelated (Marks bytes.now) nodes.new.items (before ++ ts)) WantsMemory result (Ok (preorder (option_map levels_view levels) n t)) }
+    ensures meant { (t : Tree) (n : ℕ) (before : List Tree) → level ≡ min n 256 → Marks bytes.now item t
+        → AllRelated (Marks bytes.now) nodes.old.items before
+        → Gives (λ _ ts. AllRelated (Marks bytes.now) nodes.new.items (before ++ ts))
+        WantsMemory result (Ok (preorder (option_map levels_view levels) n t)) }
     ensures errors { IfErr result IsReadingError }
 {
     let (is_taken, goes_on) = answer_at(levels, level);

@@ -34,8 +34,10 @@ fn push_step<'a>(
     item: Spot,
     nodes: &mut Vec<Spot>,
 ) -> Result<(), Error>
-    ensures meant { (top t : Tree) (before : List Tree) → HasTree document.entry top → IsAt document.entry item t → AllRelated (IsAt document.entry) nodes.old.items before
-        → Gives (λ _ ts. AllRelated (IsAt document.entry) nodes.new.items (before ++ ts)) WantsMemory result (step_meaning mode (taken_step expressions (step_view step.now)) top t) }
+    ensures meant { (top t : Tree) (before : List Tree) → HasTree document.entry top → IsAt document.entry item t
+        → AllRelated (IsAt document.entry) nodes.old.items before
+        → Gives (λ _ ts. AllRelated (IsAt document.entry) nodes.new.items (before ++ ts))
+        WantsMemory result (step_meaning mode (taken_step expressions (step_view step.now)) top t) }
     ensures errors { IfErr result (IsSelectionError mode) }
 {
     match step {
@@ -93,7 +95,8 @@ fn step_item<'a>(
     item: Spot,
 ) -> Result<NodeList, Error>
     ensures meant { (top t : Tree) → HasTree document.entry top → IsAt document.entry item t
-        → Gives (λ found ts. AllRelated (IsAt document.entry) (node_spots found) ts) WantsMemory result (step_meaning mode (taken_step expressions (step_view step.now)) top t) }
+        → Gives (λ found ts. AllRelated (IsAt document.entry) (node_spots found) ts)
+        WantsMemory result (step_meaning mode (taken_step expressions (step_view step.now)) top t) }
     ensures errors { IfErr result (IsSelectionError mode) }
 {
     match step {
@@ -122,8 +125,10 @@ pub(crate) fn step_list<'a>(
     document: Document<'a>,
     items: NodeList,
 ) -> Result<NodeList, Error>
-    ensures meant { (top : Tree) (ts : List Tree) → HasTree document.entry top → AllRelated (IsAt document.entry) (node_spots items) ts
-        → Gives (λ found us. AllRelated (IsAt document.entry) (node_spots found) us) WantsMemory result (joined (step_meaning mode (taken_step expressions (step_view step.now)) top) ts) }
+    ensures meant { (top : Tree) (ts : List Tree) → HasTree document.entry top
+        → AllRelated (IsAt document.entry) (node_spots items) ts
+        → Gives (λ found us. AllRelated (IsAt document.entry) (node_spots found) us)
+        WantsMemory result (joined (step_meaning mode (taken_step expressions (step_view step.now)) top) ts) }
     ensures errors { IfErr result (IsSelectionError mode) }
 {
     match step {
@@ -145,8 +150,10 @@ fn step_many<'a>(
     document: Document<'a>,
     items: &[Spot],
 ) -> Result<NodeList, Error>
-    ensures meant { (top : Tree) (ts : List Tree) → HasTree document.entry top → AllRelated (IsAt document.entry) items.now ts
-        → Gives (λ found us. AllRelated (IsAt document.entry) (node_spots found) us) WantsMemory result (joined (step_meaning mode (taken_step expressions (step_view step.now)) top) ts) }
+    ensures meant { (top : Tree) (ts : List Tree) → HasTree document.entry top
+        → AllRelated (IsAt document.entry) items.now ts
+        → Gives (λ found us. AllRelated (IsAt document.entry) (node_spots found) us)
+        WantsMemory result (joined (step_meaning mode (taken_step expressions (step_view step.now)) top) ts) }
     ensures errors { IfErr result (IsSelectionError mode) }
 {
     let mut nodes = Vec::new(alloc);
@@ -167,7 +174,9 @@ pub(crate) fn select_steps<'a>(
     first: Spot,
 ) -> Result<NodeList, Error>
     ensures meant { (top t : Tree) → HasTree document.entry top → IsAt document.entry first t
-        → Gives (λ found us. AllRelated (IsAt document.entry) (node_spots found) us) WantsMemory result (steps_meaning mode (steps_of (map (taken_step expressions) (steps_view steps.now))) top (t ∷ [])) }
+        → Gives (λ found us. AllRelated (IsAt document.entry) (node_spots found) us)
+        WantsMemory result
+        (steps_meaning mode (steps_of (map (taken_step expressions) (steps_view steps.now))) top (t ∷ [])) }
     ensures errors { IfErr result (IsSelectionError mode) }
 {
     let mut items = NodeList::One(first);
@@ -179,7 +188,8 @@ pub(crate) fn select_steps<'a>(
 
 /// Where a path within an expression starts.
 fn first_item(steps: &[Path<'_>], document: Document<'_>, item: Spot) -> Spot
-    ensures { (top t : Tree) → HasTree document.entry top → IsAt document.entry item t → IsAt document.entry result (start (steps_of (steps_view steps.now)) top t) }
+    ensures { (top t : Tree) → HasTree document.entry top → IsAt document.entry item t
+        → IsAt document.entry result (start (steps_of (steps_view steps.now)) top t) }
 {
     match steps.first() {
         Some(Path::Current) => item,
@@ -261,7 +271,8 @@ pub(crate) fn operand_values<'a>(
     item: Spot,
 ) -> Result<Atoms<'a>, Error>
     ensures meant { (top t : Tree) → HasTree document.entry top → IsAt document.entry item t
-        → Gives (λ values vs. atoms_view values ≡ vs) WantsMemory result (operand_values mode (expression_view e.now) top t) }
+        → Gives (λ values vs. atoms_view values ≡ vs) WantsMemory result
+        (operand_values mode (expression_view e.now) top t) }
     ensures errors { IfErr result (IsSelectionError mode) }
 {
     match e {

@@ -69,7 +69,8 @@ fn item_values<'a>(alloc: Global, bytes: &'a [u8], item: Spot) -> Result<Atoms<'
 /// The values of an item, behind those that there are: an array gives those of its elements.
 fn push_values<'a>(bytes: &'a [u8], item: Spot, values: &mut Vec<Atom<'a>>) -> Result<(), Error>
     ensures meant { (t : Tree) → Marks bytes.now item t
-        → Gives (λ _ vs. map atom_value values.new.items ≡ map atom_value values.old.items ++ vs) WantsMemory result (Ok (values_of_item t)) }
+        → Gives (λ _ vs. map atom_value values.new.items ≡ map atom_value values.old.items ++ vs)
+        WantsMemory result (Ok (values_of_item t)) }
     ensures errors { IfErr result IsReadingError }
 {
     let found = spot_item(bytes, item)?;
@@ -86,7 +87,8 @@ fn push_each<'a>(
     values: &mut Vec<Atom<'a>>,
 ) -> Result<(), Error>
     ensures meant { (ts : List Tree) → HasSpotsLeft bytes.now elements.entry ts
-        → Gives (λ _ vs. map atom_value values.new.items ≡ map atom_value values.old.items ++ vs) WantsMemory result (Ok (flat_map value_of_item ts)) }
+        → Gives (λ _ vs. map atom_value values.new.items ≡ map atom_value values.old.items ++ vs)
+        WantsMemory result (Ok (flat_map value_of_item ts)) }
     ensures errors { IfErr result IsReadingError }
 {
     for element in elements {
@@ -98,7 +100,8 @@ fn push_each<'a>(
 /// The value of an item that is no array, and of an element.
 fn push_value<'a>(bytes: &'a [u8], item: Spot, values: &mut Vec<Atom<'a>>) -> Result<(), Error>
     ensures meant { (t : Tree) → Marks bytes.now item t
-        → Gives (λ _ vs. map atom_value values.new.items ≡ map atom_value values.old.items ++ vs) WantsMemory result (Ok (value_of_item t)) }
+        → Gives (λ _ vs. map atom_value values.new.items ≡ map atom_value values.old.items ++ vs)
+        WantsMemory result (Ok (value_of_item t)) }
     ensures errors { IfErr result IsReadingError }
 {
     push_item(spot_item(bytes, item)?, values)
@@ -107,7 +110,8 @@ fn push_value<'a>(bytes: &'a [u8], item: Spot, values: &mut Vec<Atom<'a>>) -> Re
 /// The same for an item that was read.
 fn push_item<'a>(item: Item<'a>, values: &mut Vec<Atom<'a>>) -> Result<(), Error>
     ensures meant { (t : Tree) → Stands any item.entry t
-        → Gives (λ _ vs. map atom_value values.new.items ≡ map atom_value values.old.items ++ vs) WantsMemory result (Ok (value_of_item t)) }
+        → Gives (λ _ vs. map atom_value values.new.items ≡ map atom_value values.old.items ++ vs)
+        WantsMemory result (Ok (value_of_item t)) }
     ensures errors { IfErr result IsReadingError }
 {
     match item_atom(item) {

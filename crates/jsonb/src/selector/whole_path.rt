@@ -31,7 +31,8 @@ pub(crate) fn selection<'a>(
     steps: &'a [Path<'_>],
     document: Document<'a>,
 ) -> Result<Selected<'a>, Error>
-    ensures meant { (form : Form) (top : Tree) (outcome : Outcome (List Tree)) → HasTree document.entry top → Means form mode (steps_view steps.now) top outcome
+    ensures meant { (form : Form) (top : Tree) (outcome : Outcome (List Tree)) → HasTree document.entry top
+        → Means form mode (steps_view steps.now) top outcome
         → Gives (Selects form document.entry) WantsMemory result outcome }
     ensures errors { IfErr result (IsSelectionError mode) }
 {
@@ -55,7 +56,8 @@ pub(crate) fn selection<'a>(
 
 /// The expression that is the whole path.
 pub(crate) fn only_expression<'s, 'a>(steps: &'s [Path<'a>]) -> Option<&'s Expr<'a>>
-    ensures { MatchOption result (only_expression (steps_view steps.now) ≡ None) (λ e. only_expression (steps_view steps.now) ≡ Some (expression_view e.now)) }
+    ensures { MatchOption result (only_expression (steps_view steps.now) ≡ None)
+        (λ e. only_expression (steps_view steps.now) ≡ Some (expression_view e.now)) }
 {
     if steps.len() == 1 {
         step_expression(&steps[0])
@@ -66,7 +68,8 @@ pub(crate) fn only_expression<'s, 'a>(steps: &'s [Path<'a>]) -> Option<&'s Expr<
 
 // The expression of a step.
 fn step_expression<'s, 'a>(step: &'s Path<'a>) -> Option<&'s Expr<'a>>
-    ensures { MatchOption result (step_expression (step_view step.now) ≡ None) (λ e. step_expression (step_view step.now) ≡ Some (expression_view e.now)) }
+    ensures { MatchOption result (step_expression (step_view step.now) ≡ None)
+        (λ e. step_expression (step_view step.now) ≡ Some (expression_view e.now)) }
 {
     match step {
         Path::Expr(e) => Some(e),
@@ -91,7 +94,8 @@ fn expression_parts<'a>(
     e: &'a Expr<'_>,
     document: Document<'a>,
 ) -> Result<Vec<MadeItem<'a>>, Error>
-    ensures meant { (form : Form) (top : Tree) (outcome : Outcome (List Tree)) → HasTree document.entry top → Means form mode (whole_expression (expression_view e.now) ∷ []) top outcome
+    ensures meant { (form : Form) (top : Tree) (outcome : Outcome (List Tree)) → HasTree document.entry top
+        → Means form mode (whole_expression (expression_view e.now) ∷ []) top outcome
         → Gives (λ v ts. AllRelated (IsMadeItem form) v.items ts) WantsMemory result outcome }
     ensures errors { IfErr result (IsSelectionError mode) }
 {
@@ -113,7 +117,8 @@ fn expression_parts<'a>(
 
 // A literal as the whole path: an array of it, and of a document the document.
 fn literal_parts<'a>(alloc: Global, literal: &'a PathValue<'_>) -> Result<Vec<MadeItem<'a>>, Error>
-    ensures meant { (form : Form) (mode : Mode) (top : Tree) (outcome : Outcome (List Tree)) → Means form mode (whole_expression (value (literal_view literal.now)) ∷ []) top outcome
+    ensures meant { (form : Form) (mode : Mode) (top : Tree) (outcome : Outcome (List Tree))
+        → Means form mode (whole_expression (value (literal_view literal.now)) ∷ []) top outcome
         → Gives (λ v ts. AllRelated (IsMadeItem form) v.items ts) WantsMemory result outcome }
     ensures errors { (mode : Mode) → IfErr result (IsSelectionError mode) }
 {
@@ -138,7 +143,8 @@ fn whole_unary<'a>(
     document: Document<'a>,
 ) -> Result<Vec<MadeItem<'a>>, Error>
     ensures meant { (form : Form) (top : Tree) → HasTree document.entry top
-        → Gives (λ v ts. AllRelated (IsMadeItem form) v.items ts) WantsMemory result (with_value (operand_values mode (expression_view operand.now) top top) (each_signed (sign_view op))) }
+        → Gives (λ v ts. AllRelated (IsMadeItem form) v.items ts) WantsMemory result
+        (with_value (operand_values mode (expression_view operand.now) top top) (each_signed (sign_view op))) }
     ensures errors { IfErr result (IsSelectionError mode) }
 {
     let values = operand_values(alloc, mode, operand, document, document.root)?;
@@ -155,7 +161,9 @@ fn whole_binary<'a>(
     document: Document<'a>,
 ) -> Result<Number, Error>
     ensures meant { (top : Tree) (o : Operation) → HasTree document.entry top → operation (operator_view op) ≡ Some o
-        → Gives IsNumberTree WantsMemory result (calculation o (operand_values mode (expression_view left.now) top top) (operand_values mode (expression_view right.now) top top)) }
+        → Gives IsNumberTree WantsMemory result
+        (calculation o (operand_values mode (expression_view left.now) top top)
+        (operand_values mode (expression_view right.now) top top)) }
     ensures errors { IfErr result (IsSelectionError mode) }
 {
     let lefts = operand_values(alloc, mode, left, document, document.root)?;
@@ -171,7 +179,8 @@ fn whole_truth<'a>(
     document: Document<'a>,
 ) -> Result<Vec<MadeItem<'a>>, Error>
     ensures meant { (form : Form) (top : Tree) → HasTree document.entry top
-        → Gives (λ v ts. AllRelated (IsMadeItem form) v.items ts) WantsMemory result (truth_list (truth mode (expression_view e.now) top top)) }
+        → Gives (λ v ts. AllRelated (IsMadeItem form) v.items ts) WantsMemory result
+        (truth_list (truth mode (expression_view e.now) top top)) }
     ensures errors { IfErr result (IsSelectionError mode) }
 {
     let truth = truth(alloc, mode, e, document, document.root)?;
@@ -189,7 +198,8 @@ fn truth_item<'a>(truth: Option<bool>) -> Item<'a>
 }
 
 fn one_item<'a>(alloc: Global, part: MadeItem<'a>) -> Result<Vec<MadeItem<'a>>, Error>
-    ensures meant { (form : Form) (t : Tree) → IsMadeItem form part.entry t → Gives (λ v ts. AllRelated (IsMadeItem form) v.items ts) WantsMemory result (Ok (t ∷ [])) }
+    ensures meant { (form : Form) (t : Tree) → IsMadeItem form part.entry t
+        → Gives (λ v ts. AllRelated (IsMadeItem form) v.items ts) WantsMemory result (Ok (t ∷ [])) }
     ensures errors { IfErr result IsReadingError }
 {
     let mut parts = Vec::new(alloc);
@@ -204,7 +214,8 @@ pub(crate) fn expression_truth<'a>(
     e: &'a Expr<'_>,
     document: Document<'a>,
 ) -> Result<Option<bool>, Error>
-    ensures meant { (top : Tree) → HasTree document.entry top → Gives (λ b c. b ≡ c) WantsMemory result (expression_predicate mode (expression_view e.now) top) }
+    ensures meant { (top : Tree) → HasTree document.entry top
+        → Gives (λ b c. b ≡ c) WantsMemory result (expression_predicate mode (expression_view e.now) top) }
     ensures errors { IfErr result (IsSelectionError mode) }
 {
     match e {
