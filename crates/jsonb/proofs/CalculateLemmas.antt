@@ -16,12 +16,12 @@ use Rattle.jsonb_doc.specs.declared.number.Number.{Number as CodeNumber}
 use Rattle.jsonb_doc.specs.declared.item.Item.TheVariants as item
 use Rattle.jsonb.specs.PathArithmetic.{number_list, two_numbers, all_numbers}
 use Rattle.jsonb.specs.Related.{AllRelated}
-use Rattle.jsonb.specs.Selection.{lone_number, value_number, IsNumberTree, IsPart}
+use Rattle.jsonb.specs.Selection.{only_number, value_number, IsNumberTree, IsMadeItem}
 use Rattle.jsonb.specs.SelectionErrors.{IsPathError, IsSelectionError}
 use Rattle.jsonb.specs.Values.{Value, number}
 use Rattle.jsonb.specs.declared.selector.document.Mode.{Mode}
-use Rattle.jsonb.specs.declared.selector.part.Part.{Part}
-use Rattle.jsonb.specs.declared.selector.part.Part.TheVariants as part
+use Rattle.jsonb.specs.declared.selector.selected.MadeItem.{MadeItem}
+use Rattle.jsonb.specs.declared.selector.selected.MadeItem.TheVariants as made_item
 use Rattle.jsonb.proofs.Outcomes.{AllRelated-append}
 
 -- what is never refused for want of memory
@@ -98,16 +98,16 @@ outcome_given o (Err e) normal is = record { ok = tt; err = inr (rw is refl) }
 
 -- ---- operands
 
-lone_is : (vs : List Value) (n : Number) → lone_number vs ≡ Some n → vs ≡ number n ∷ []
+lone_is : (vs : List Value) (n : Number) → only_number vs ≡ Some n → vs ≡ number n ∷ []
 lone_is (number m ∷ []) n h = let k : m ≡ n = cc in ap (λ z. number z ∷ []) k
 lone_is _ n h = cc
 
-two_are : (o : Operation) (ls rs : List Value) (m n : Number) → Some m ≡ lone_number ls → Some n ≡ lone_number rs
+two_are : (o : Operation) (ls rs : List Value) (m n : Number) → Some m ≡ only_number ls → Some n ≡ only_number rs
     → two_numbers o ls rs ≡ number_list (calculated o m n)
 two_are o ls rs m n p q = λ i. two_numbers o (lone_is ls m (sym p) i) (lone_is rs n (sym q) i)
 
 -- two operands of one number each
-pub two_given : (o : Operation) (ls rs : List Value) (m n : CodeNumber) (r : Outcome CodeNumber) → Some (number_view m) ≡ lone_number ls → Some (number_view n) ≡ lone_number rs
+pub two_given : (o : Operation) (ls rs : List Value) (m n : CodeNumber) (r : Outcome CodeNumber) → Some (number_view m) ≡ only_number ls → Some (number_view n) ≡ only_number rs
     → IsOutcome (calculated o (number_view m) (number_view n)) r → Gives IsNumberTree (λ _. ⊥) r (two_numbers o ls rs)
 two_given o ls rs m n r p q is = rw (two_are o ls rs _ _ p q) (outcome_given _ r (calculated_normal o (number_view m) (number_view n)) is)
 
@@ -122,8 +122,8 @@ pub number_added : (old new : List CodeNumber) (n : CodeNumber) (v : Value) (bef
 number_added old new n v before added is held = rw is (rw (added, map-append, held) refl)
 
 -- one more part
-pub part_added : (form : Form) (old new : List Part) (n : CodeNumber) (o : Outcome (List Tree)) (before : List Tree)
-    → new ≡ old ++ part.Item (item.Number n) ∷ [] → IsOkAnd o (IsNumberTree n) → AllRelated (IsPart form) old before
-    → IsOkAnd o (λ us. AllRelated (IsPart form) new (before ++ us))
-part_added form old new n (Ok us) before added is held = rw (added, ← is) (AllRelated-append (IsPart form) old _ before _ held (refl, tt))
+pub part_added : (form : Form) (old new : List MadeItem) (n : CodeNumber) (o : Outcome (List Tree)) (before : List Tree)
+    → new ≡ old ++ made_item.Item (item.Number n) ∷ [] → IsOkAnd o (IsNumberTree n) → AllRelated (IsMadeItem form) old before
+    → IsOkAnd o (λ us. AllRelated (IsMadeItem form) new (before ++ us))
+part_added form old new n (Ok us) before added is held = rw (added, ← is) (AllRelated-append (IsMadeItem form) old _ before _ held (refl, tt))
 part_added form old new n (Err e) before added is held = absurd is

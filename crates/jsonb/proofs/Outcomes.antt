@@ -41,7 +41,7 @@ related_of_map {A} f xs ys is = subst (λ l. AllRelated (Is f) xs l) is (each xs
     each [] = tt
     each (x ∷ l) = (refl, each l)
 
--- ---- what is pushed behind a queue
+-- ---- what is pushed behind a nodes
 
 pub pushed_all : {A B : Type 0} (R : A → B → Type 0) (r : Result (Unit {0}) Error) (old new more : List A) (before us : List B) →
     OnOk r (new ≡ old ++ more) → IfErr r WantsMemory → AllRelated R old before → AllRelated R more us →

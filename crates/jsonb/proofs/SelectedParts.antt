@@ -11,17 +11,17 @@ use Rattle.jsonb_doc.specs.Answer.{WantsRoom}
 use Rattle.jsonb_doc.specs.declared.error.Error.{Error}
 use Rattle.jsonb_doc.specs.declared.spot.Spot.{Spot}
 use Rattle.jsonb_doc.proofs.LimitLemmas.{array_too_large-element}
-use Rattle.jsonb.specs.declared.selector.part.Part.{Part}
+use Rattle.jsonb.specs.declared.selector.selected.MadeItem.{MadeItem}
 use Rattle.std.specs.Prelude.{Vec}
 use Rattle.std.specs.declared.alloc.Global.{Global}
 use Rattle.jsonb.specs.Related.{AllRelated}
 use Rattle.jsonb.specs.Selected.{selected_len}
-use Rattle.jsonb.specs.Selection.{IsAt, IsPart, Selects, found_spots}
+use Rattle.jsonb.specs.Selection.{IsAt, IsMadeItem, Selects, node_spots}
 use Rattle.jsonb.specs.SelectorAnswers.{HasTooLarge, LacksRoom, first_of, value_of, array_of}
 use Rattle.jsonb.specs.declared.selector.document.Document.{Document}
-use Rattle.jsonb.specs.declared.selector.found.Found.{Found}
-use Rattle.jsonb.specs.declared.selector.part.Selected.{Selected}
-use Rattle.jsonb.specs.declared.selector.part.Selected.TheVariants as selected
+use Rattle.jsonb.specs.declared.selector.node_list.NodeList.{NodeList}
+use Rattle.jsonb.specs.declared.selector.selected.Selected.{Selected}
+use Rattle.jsonb.specs.declared.selector.selected.Selected.TheVariants as selected
 
 -- ---- related lists
 
@@ -48,20 +48,20 @@ related_more R (u ∷ xs) (v ∷ ys) x y h r = (h.0, related_more R xs ys x y h.
 -- ---- what is selected
 
 pub Selects-length : (form : Form) (document : Document) (s : Selected) (ts : List Tree) → Selects form document s ts → selected_len s ≡ length ts
-Selects-length form document (selected.Spots spots) ts h = related_length (IsAt document) (found_spots spots) ts h
-Selects-length form document (selected.Made parts) ts h = related_length (IsPart form) parts.items ts h
+Selects-length form document (selected.Nodes spots) ts h = related_length (IsAt document) (node_spots spots) ts h
+Selects-length form document (selected.Items parts) ts h = related_length (IsMadeItem form) parts.items ts h
 
 -- the spot at a position, and the part
-pub Selects-spot : (form : Form) (document : Document) (s : Selected) (found : Found) (spots : List Spot) (ts : List Tree) (k : ℕ) (d : Spot) (e : Tree)
-    → s ≡ selected.Spots found → spots ≡ found_spots found → k < selected_len s → Selects form document s ts
+pub Selects-spot : (form : Form) (document : Document) (s : Selected) (found : NodeList) (spots : List Spot) (ts : List Tree) (k : ℕ) (d : Spot) (e : Tree)
+    → s ≡ selected.Nodes found → spots ≡ node_spots found → k < selected_len s → Selects form document s ts
     → Marks document.bytes.now (get_or spots k d) (get_or ts k e)
 Selects-spot form document s found spots ts k d e is same short h =
-    rw same (related_at (IsAt document) (found_spots found) ts k d e (rw is at short) (rw is at h))
+    rw same (related_at (IsAt document) (node_spots found) ts k d e (rw is at short) (rw is at h))
 
-pub Selects-part : (form : Form) (document : Document) (s : Selected) (parts : Vec Part Global) (ts : List Tree) (k : ℕ) (d : Part) (e : Tree)
-    → s ≡ selected.Made parts → k < selected_len s → Selects form document s ts → IsPart form (get_or parts.items k d) (get_or ts k e)
+pub Selects-part : (form : Form) (document : Document) (s : Selected) (parts : Vec MadeItem Global) (ts : List Tree) (k : ℕ) (d : MadeItem) (e : Tree)
+    → s ≡ selected.Items parts → k < selected_len s → Selects form document s ts → IsMadeItem form (get_or parts.items k d) (get_or ts k e)
 Selects-part form document s parts ts k d e is short h =
-    related_at (IsPart form) parts.items ts k d e (rw is at short) (rw is at h)
+    related_at (IsMadeItem form) parts.items ts k d e (rw is at short) (rw is at h)
 
 -- the trees from a position on
 pub left_first : (ts : List Tree) (k : ℕ) (e : Tree) → k < length ts → drop k ts ≡ get_or ts k e ∷ drop (k + 1) ts

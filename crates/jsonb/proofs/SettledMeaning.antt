@@ -16,7 +16,7 @@ use Rattle.jsonb.specs.PathLaws.{settled_literal, settled_step, settled_steps, s
 use Rattle.jsonb.specs.PathGrammar.{json_path}
 use Rattle.jsonb.specs.Related.{AllRelated}
 use Rattle.jsonb.specs.Values.{Value, null, boolean, number, text, raw, literal_item, values_of_literal}
-use Rattle.jsonb.specs.Compare.{Truth, value_order, begins, is_raw, pair_truth, first_decisive, compare}
+use Rattle.jsonb.specs.Compare.{Truth, value_order, starts_with_truth, is_raw, pair_truth, first_decisive, compare}
 use Rattle.jsonb.specs.PathArithmetic.{operation, all_numbers, two_numbers, signed_number, each_signed}
 use Rattle.jsonb.specs.Meaning.{start, step_meaning, steps_meaning, operand_values, truth, calculation, binary_meaning, literal_list, expression_meaning, as_filter, meaning, truth_list, item_truth, list_truth, expression_predicate, predicate}
 use Rattle.jsonb.specs.SelectorLaws.{SameByValue, VariantsChangeNoMeaning, PrintsWithMeaning}
@@ -73,13 +73,13 @@ order-settled (text a) (text b) = refl
 order-settled raw raw = refl
 order-settled _ _ = refl
 
-begins-settled : (v w : Value) → begins (settled_value v) (settled_value w) ≡ begins v w
-begins-settled null null = refl
-begins-settled (boolean a) (boolean b) = refl
-begins-settled (number m) (number n) = refl
-begins-settled (text a) (text b) = refl
-begins-settled raw raw = refl
-begins-settled _ _ = refl
+starts_with_truth-settled : (v w : Value) → starts_with_truth (settled_value v) (settled_value w) ≡ starts_with_truth v w
+starts_with_truth-settled null null = refl
+starts_with_truth-settled (boolean a) (boolean b) = refl
+starts_with_truth-settled (number m) (number n) = refl
+starts_with_truth-settled (text a) (text b) = refl
+starts_with_truth-settled raw raw = refl
+starts_with_truth-settled _ _ = refl
 
 raw-settled : (v : Value) → is_raw (settled_value v) ≡ is_raw v
 raw-settled null = refl
@@ -89,7 +89,7 @@ raw-settled (text bs) = refl
 raw-settled raw = refl
 
 pair-settled : (op : BinaryOp) (v w : Value) → pair_truth op (settled_value v) (settled_value w) ≡ pair_truth op v w
-pair-settled starts_with_op v w = begins-settled v w
+pair-settled starts_with_op v w = starts_with_truth-settled v w
 pair-settled _ v w = rw (raw-settled v, raw-settled w, order-settled v w) refl
 
 row-settled : (op : BinaryOp) (v : Value) (ws : List Value) → map (λ w. pair_truth op (settled_value v) w) (map settled_value ws) ≡ map (λ w. pair_truth op v w) ws

@@ -14,7 +14,7 @@ use Rattle.jsonb.specs.PathTree as math
 use Rattle.jsonb.specs.PathTree.{Step, Expression, steps_of}
 use Rattle.jsonb.specs.PathViews.{step_view, steps_view, number_literal, literal_view}
 use Rattle.jsonb.specs.Meaning.{step_meaning, steps_meaning, as_filter, Means, predicate}
-use Rattle.jsonb.specs.Selection.{step_expression, lone_expression, begins_with_current}
+use Rattle.jsonb.specs.Selection.{step_expression, only_expression, begins_with_current}
 use Rattle.jsonb.specs.declared.selector.document.Mode.{Mode}
 use Rattle.jsonb.specs.declared.path.PathValue.{PathValue}
 use Rattle.jsonb.specs.declared.path.Expr.{Expr}
@@ -42,12 +42,12 @@ pub no_step_expression : (s : Path) → ((e : Box Expr Global) → s ≡ step.Ex
 no_step_expression s n = (others s (out-Path s) refl n).1
 
 -- one step alone, and all other lists
-pub one_step : (steps : List Path) (s : Path) → length steps ≡ 1 → s ≡ get_or steps 0 s → lone_expression (steps_view steps) ≡ step_expression (step_view s)
+pub one_step : (steps : List Path) (s : Path) → length steps ≡ 1 → s ≡ get_or steps 0 s → only_expression (steps_view steps) ≡ step_expression (step_view s)
 one_step [] s l is = cc
 one_step (t ∷ []) s l is = ap (λ x. step_expression (step_view x)) (sym is)
 one_step (t ∷ u ∷ rest) s l is = absurd (omega (arith, l))
 
-pub not_one_step : (steps : List Path) → (length steps ≡ 1 → ⊥) → lone_expression (steps_view steps) ≡ None
+pub not_one_step : (steps : List Path) → (length steps ≡ 1 → ⊥) → only_expression (steps_view steps) ≡ None
 not_one_step [] n = refl
 not_one_step (t ∷ []) n = absurd (n refl)
 not_one_step (t ∷ u ∷ rest) n = refl
@@ -57,7 +57,7 @@ step_expression_is : (s : Step) (e : Expression) → step_expression s ≡ Some 
 step_expression_is (math.whole_expression x) e h = let k : x ≡ e = cc in ap math.whole_expression k
 step_expression_is _ e h = cc
 
-pub lone_is : (path : List Step) (e : Expression) → lone_expression path ≡ Some e → path ≡ math.whole_expression e ∷ []
+pub lone_is : (path : List Step) (e : Expression) → only_expression path ≡ Some e → path ≡ math.whole_expression e ∷ []
 lone_is [] e h = cc
 lone_is (s ∷ []) e h = ap (λ x. x ∷ []) (step_expression_is s e h)
 lone_is (s ∷ t ∷ rest) e h = cc
@@ -67,7 +67,7 @@ module _ (form : Form) (mode : Mode) (top : Tree) (outcome : Outcome (List Tree)
   refused_current (math.current ∷ rest) b h = h
   refused_current _ b h = cc
 
-  pub by_steps : (path : List Step) → lone_expression path ≡ None → begins_with_current path ≡ false → Means form mode path top outcome → outcome ≡ steps_meaning mode (steps_of (map as_filter path)) top (top ∷ [])
+  pub by_steps : (path : List Step) → only_expression path ≡ None → begins_with_current path ≡ false → Means form mode path top outcome → outcome ≡ steps_meaning mode (steps_of (map as_filter path)) top (top ∷ [])
   by_steps (math.current ∷ rest) n b h = cc
   by_steps (math.whole_expression (math.value (math.raw document)) ∷ s ∷ rest) n b h = h
   by_steps (math.whole_expression e ∷ []) n b h = cc
@@ -105,13 +105,13 @@ without_memory {A} {B} {R} {r = Ok x} {o} h = record { ok = h.ok; err = tt }
 without_memory {A} {B} {R} {r = Err e} {o} h = record { ok = tt; err = elim h.err [ inl none ↦ absurd none | inr is ↦ inr is ] }
 
 -- a path that is no single expression says nothing
-pub no_lone : (path : List Step) → math.is_predicate path ≡ false → (e : Expression) → lone_expression path ≡ Some e → ⊥
+pub no_lone : (path : List Step) → math.is_predicate path ≡ false → (e : Expression) → only_expression path ≡ Some e → ⊥
 no_lone [] p e h = cc
 no_lone (math.whole_expression x ∷ []) p e h = cc
 no_lone (s ∷ []) p e h = cc
 no_lone (s ∷ t ∷ rest) p e h = cc
 
-pub no_predicate : (mode : Mode) (path : List Step) (top : Tree) → lone_expression path ≡ None → predicate mode path top ≡ Ok None
+pub no_predicate : (mode : Mode) (path : List Step) (top : Tree) → only_expression path ≡ None → predicate mode path top ≡ Ok None
 no_predicate mode [] top h = refl
 no_predicate mode (math.whole_expression x ∷ []) top h = cc
 no_predicate mode (math.whole_expression x ∷ t ∷ rest) top h = refl

@@ -22,25 +22,25 @@ value_order (text a) (text b) = Some (slice_cmp nat_cmp a b)
 value_order _ _ = None
 
 -- whether the operator holds of two values in this order
-abbrev pub holds : BinaryOp → Ordering → Bool
-holds eq o = is_eq o
-holds not_eq o = not (is_eq o)
-holds lt o = is_lt o
-holds lte o = not (is_gt o)
-holds gt o = is_gt o
-holds gte o = not (is_lt o)
-holds _ o = false
+abbrev pub is_met_by : BinaryOp → Ordering → Bool
+is_met_by eq o = is_eq o
+is_met_by not_eq o = not (is_eq o)
+is_met_by lt o = is_lt o
+is_met_by lte o = not (is_gt o)
+is_met_by gt o = is_gt o
+is_met_by gte o = not (is_lt o)
+is_met_by _ o = false
 
 -- values of two kinds differ, and else nothing is known of them
-abbrev pub decided : BinaryOp → Option Ordering → Truth
-decided op (Some o) = Some (holds op o)
-decided not_eq None = Some true
-decided op None = None
+abbrev pub truth_of_order : BinaryOp → Option Ordering → Truth
+truth_of_order op (Some o) = Some (is_met_by op o)
+truth_of_order not_eq None = Some true
+truth_of_order op None = None
 
 -- whether the right text begins the left one
-abbrev pub begins : Value → Value → Truth
-begins (text a) (text b) = Some (starts_with nat_eq a b)
-begins _ _ = None
+abbrev pub starts_with_truth : Value → Value → Truth
+starts_with_truth (text a) (text b) = Some (starts_with nat_eq a b)
+starts_with_truth _ _ = None
 
 abbrev pub is_raw : Value → Bool
 is_raw raw = true
@@ -48,8 +48,8 @@ is_raw _ = false
 
 -- of one pair: with a container it is unknown
 abbrev pub pair_truth : BinaryOp → Value → Value → Truth
-pair_truth starts_with_op a b = begins a b
-pair_truth op a b = if is_raw a || is_raw b then None else decided op (value_order a b)
+pair_truth starts_with_op a b = starts_with_truth a b
+pair_truth op a b = if is_raw a || is_raw b then None else truth_of_order op (value_order a b)
 
 -- the first that is true or unknown decides; where none is, it is false
 abbrev pub first_decisive : List Truth → Truth
@@ -62,10 +62,10 @@ abbrev pub compare : BinaryOp → List Value → List Value → Truth
 compare op ls rs = first_decisive (flat_map (λ l. map (λ r. pair_truth op l r) rs) ls)
 
 -- unknown where either side is
-abbrev pub both : Truth → Truth → Truth
-both (Some a) (Some b) = Some (a && b)
-both _ _ = None
+abbrev pub and_truth : Truth → Truth → Truth
+and_truth (Some a) (Some b) = Some (a && b)
+and_truth _ _ = None
 
-abbrev pub either : Truth → Truth → Truth
-either (Some a) (Some b) = Some (a || b)
-either _ _ = None
+abbrev pub or_truth : Truth → Truth → Truth
+or_truth (Some a) (Some b) = Some (a || b)
+or_truth _ _ = None

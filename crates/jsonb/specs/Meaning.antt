@@ -9,7 +9,7 @@ use Rattle.jsonb_doc.specs.Tree as tree
 use Rattle.jsonb_doc.specs.Tree.{Tree}
 use Rattle.jsonb.specs.PathTree.{raw, BinaryOp, and_op, or_op, add, subtract, multiply, divide, modulo, Step, root, current, dot_wildcard, recursive_dot_wildcard, bracket_wildcard, dot_field, colon_field, object_field, array_indices, filter, whole_expression, Steps, no_steps, step, Expression, paths, value, binary, unary, exists, steps_of}
 use Rattle.jsonb.specs.Values.{Value, values_of_item, literal_item, values_of_literal}
-use Rattle.jsonb.specs.Compare.{Truth, compare, both, either}
+use Rattle.jsonb.specs.Compare.{Truth, compare, and_truth, or_truth}
 use Rattle.jsonb.specs.PathArithmetic.{operation, two_numbers, each_signed}
 use Rattle.jsonb.specs.Preorder.{preorder}
 use Rattle.jsonb.specs.ItemSteps.{field_step, values_step, elements_step, indices_step}
@@ -58,8 +58,8 @@ abbrev mutual
 
   -- whether an expression is true of an item
   pub truth : Mode → Expression → Tree → Tree → Outcome Truth
-  truth mode (binary and_op l r) top item = with_value (truth mode l top item) (λ a. with_value (truth mode r top item) (λ b. Ok (both a b)))
-  truth mode (binary or_op l r) top item = with_value (truth mode l top item) (λ a. with_value (truth mode r top item) (λ b. Ok (either a b)))
+  truth mode (binary and_op l r) top item = with_value (truth mode l top item) (λ a. with_value (truth mode r top item) (λ b. Ok (and_truth a b)))
+  truth mode (binary or_op l r) top item = with_value (truth mode l top item) (λ a. with_value (truth mode r top item) (λ b. Ok (or_truth a b)))
   -- arithmetic is unknown, its operands not looked at
   truth mode (binary add l r) top item = Ok None
   truth mode (binary subtract l r) top item = Ok None

@@ -16,16 +16,16 @@ use Rattle.jsonb.specs.Values as val
 use Rattle.jsonb.specs.declared.selector.document.Document.{Document}
 use Rattle.jsonb.specs.declared.selector.document.Expressions.{Expressions}
 use Rattle.jsonb.specs.declared.selector.document.Expressions.TheVariants as expressions
-use Rattle.jsonb.specs.declared.selector.operand.Operand.{Operand}
-use Rattle.jsonb.specs.declared.selector.operand.Operand.TheVariants as operand
-use Rattle.jsonb.specs.declared.selector.operand.Values.{Values}
-use Rattle.jsonb.specs.declared.selector.operand.Values.TheVariants as values
-use Rattle.jsonb.specs.declared.selector.found.Found.{Found}
-use Rattle.jsonb.specs.declared.selector.found.Found.TheVariants as found
-use Rattle.jsonb.specs.declared.selector.part.Part.{Part}
-use Rattle.jsonb.specs.declared.selector.part.Part.TheVariants as part
-use Rattle.jsonb.specs.declared.selector.part.Selected.{Selected}
-use Rattle.jsonb.specs.declared.selector.part.Selected.TheVariants as selected
+use Rattle.jsonb.specs.declared.selector.atom.Atom.{Atom}
+use Rattle.jsonb.specs.declared.selector.atom.Atom.TheVariants as atom
+use Rattle.jsonb.specs.declared.selector.atom.Atoms.{Atoms}
+use Rattle.jsonb.specs.declared.selector.atom.Atoms.TheVariants as atoms
+use Rattle.jsonb.specs.declared.selector.node_list.NodeList.{NodeList}
+use Rattle.jsonb.specs.declared.selector.node_list.NodeList.TheVariants as node_list
+use Rattle.jsonb.specs.declared.selector.selected.MadeItem.{MadeItem}
+use Rattle.jsonb.specs.declared.selector.selected.MadeItem.TheVariants as made_item
+use Rattle.jsonb.specs.declared.selector.selected.Selected.{Selected}
+use Rattle.jsonb.specs.declared.selector.selected.Selected.TheVariants as selected
 
 -- the tree is the one at this place of the document
 abbrev pub IsAt : Document → Spot → Tree → Type 0
@@ -35,43 +35,43 @@ abbrev pub HasTree : Document → Tree → Type 0
 HasTree document t = IsAt document document.root t
 
 -- the value that an operand's value is
-abbrev pub operand_value : Operand → val.Value
-operand_value operand.Null = val.null
-operand_value (operand.Boolean b) = val.boolean b
-operand_value (operand.Number n) = val.number (number_view n)
-operand_value (operand.String s) = val.text s.now
-operand_value operand.Raw = val.raw
+abbrev pub atom_value : Atom → val.Value
+atom_value atom.Null = val.null
+atom_value (atom.Boolean b) = val.boolean b
+atom_value (atom.Number n) = val.number (number_view n)
+atom_value (atom.String s) = val.text s.now
+atom_value atom.Raw = val.raw
 
-abbrev pub option_values : Option Operand → List val.Value
-option_values (Some o) = operand_value o ∷ []
-option_values None = []
+abbrev pub option_atoms : Option Atom → List val.Value
+option_atoms (Some o) = atom_value o ∷ []
+option_atoms None = []
 
-abbrev pub values_view : Values → List val.Value
-values_view (values.One o) = operand_value o ∷ []
-values_view (values.Many v) = map operand_value v.items
+abbrev pub atoms_view : Atoms → List val.Value
+atoms_view (atoms.One o) = atom_value o ∷ []
+atoms_view (atoms.Many v) = map atom_value v.items
 
 abbrev pub option_spots : Option Spot → List Spot
 option_spots (Some spot) = spot ∷ []
 option_spots None = []
 
 -- the places that were found
-abbrev pub found_spots : Found → List Spot
-found_spots (found.One spot) = spot ∷ []
-found_spots (found.Many v) = v.items
+abbrev pub node_spots : NodeList → List Spot
+node_spots (node_list.One spot) = spot ∷ []
+node_spots (node_list.Many v) = v.items
 
 -- the list of an item that a filter keeps, or does not
 abbrev pub IsKept : Tree → Bool → List Tree → Type 0
 IsKept t keeps ts = ts ≡ (if keeps then t ∷ [] else [])
 
 -- the part is the tree: an item, or an array of one
-abbrev pub IsPart : Form → Part → Tree → Type 0
-IsPart form (part.Item item) t = Stands form item t
-IsPart form (part.ArrayOf item) t = (u : Tree) × (t ≡ array (trees_of (u ∷ []))) × Stands form item u
+abbrev pub IsMadeItem : Form → MadeItem → Tree → Type 0
+IsMadeItem form (made_item.Item item) t = Stands form item t
+IsMadeItem form (made_item.ArrayOf item) t = (u : Tree) × (t ≡ array (trees_of (u ∷ []))) × Stands form item u
 
 -- what is selected are these trees
 abbrev pub Selects : Form → Document → Selected → List Tree → Type 0
-Selects form document (selected.Spots places) ts = AllRelated (IsAt document) (found_spots places) ts
-Selects form document (selected.Made v) ts = AllRelated (IsPart form) v.items ts
+Selects form document (selected.Nodes places) ts = AllRelated (IsAt document) (node_spots places) ts
+Selects form document (selected.Items v) ts = AllRelated (IsMadeItem form) v.items ts
 
 -- what a step is where an expression is a filter, or refused
 abbrev pub taken_as : Expressions → Expression → Step
@@ -87,9 +87,9 @@ abbrev pub step_expression : Step → Option Expression
 step_expression (whole_expression e) = Some e
 step_expression _ = None
 
-abbrev pub lone_expression : List Step → Option Expression
-lone_expression (s ∷ []) = step_expression s
-lone_expression _ = None
+abbrev pub only_expression : List Step → Option Expression
+only_expression (s ∷ []) = step_expression s
+only_expression _ = None
 
 abbrev pub begins_with_current : List Step → Bool
 begins_with_current (current ∷ rest) = true
@@ -105,6 +105,6 @@ value_number (val.number n) = Ok (n ∷ [])
 value_number _ = Err InvalidJsonPath
 
 -- the one value, where it is one number
-abbrev pub lone_number : List val.Value → Option Number
-lone_number (val.number n ∷ []) = Some n
-lone_number _ = None
+abbrev pub only_number : List val.Value → Option Number
+only_number (val.number n ∷ []) = Some n
+only_number _ = None

@@ -13,24 +13,24 @@ ghost use Rattle.jsonb.specs.SelectionErrors.{HasHeader};
 ghost use Rattle.jsonb.specs.Selection.{Selects, HasTree};
 ghost use Rattle.jsonb.specs.declared.selector.document.Document.{Document};
 
+mod atom;
 mod by_path;
 mod calculate;
 mod children;
 mod document;
 mod documents;
-mod found;
 mod levels;
-mod operand;
-mod part;
+mod node_list;
+mod selected;
 mod steps;
 mod values;
-mod whole;
+mod whole_path;
 
 pub use self::by_path::SelectByPath;
 use self::document::{Document, Mode};
 use self::documents::{array_document, documents, first_document, value_document};
-use self::part::Selected;
-use self::whole::{expression_truth, lone_expression, selection};
+use self::selected::Selected;
+use self::whole_path::{expression_truth, only_expression, selection};
 use crate::path::JsonPath;
 use jsonb_doc::{Error, root_spot};
 use jsonb_raw::{OwnedJsonb, RawJsonb};
@@ -101,7 +101,8 @@ impl<'a> Selector<'a> {
     /// causes: `TooLarge` is there for what is handed out, and never comes from `exists` and `predicate_match`.
     pub fn select_values(&mut self, path: &JsonPath<'_>) -> Result<Vec<OwnedJsonb>, Error>
         ensures kept { self.new ≡ self.old }
-        ensures values { (form : Form) (top : Tree) (outcome : Outcome (List Tree)) → Decodes form (root_bytes self.old) top
+        ensures values { (form : Form) (top : Tree) (outcome : Outcome (List Tree))
+            → Decodes form (root_bytes self.old) top
             → Means form (mode_of self.old) (path_view path.now) top outcome
             → HandsOut (λ v ts. AreDocuments form v.items ts) (HasTooLarge form) result outcome }
         ensures errors { IfErr result (IsDocumentError (mode_of self.old)) }
@@ -116,9 +117,11 @@ impl<'a> Selector<'a> {
     /// One array of the path's list.
     pub fn select_array(&mut self, path: &JsonPath<'_>) -> Result<OwnedJsonb, Error>
         ensures kept { self.new ≡ self.old }
-        ensures array { (form : Form) (top : Tree) (outcome : Outcome (List Tree)) → Decodes form (root_bytes self.old) top
+        ensures array { (form : Form) (top : Tree) (outcome : Outcome (List Tree))
+            → Decodes form (root_bytes self.old) top
             → Means form (mode_of self.old) (path_view path.now) top outcome
-            → HandsOut (λ made ts. Decodes form made (array_of ts)) (λ ts. IsTooLarge form (array_of ts)) result outcome }
+            → HandsOut (λ made ts. Decodes form made (array_of ts))
+            (λ ts. IsTooLarge form (array_of ts)) result outcome }
         ensures errors { IfErr result (IsDocumentError (mode_of self.old)) }
         ensures readable { OnOk result (HasHeader (root_bytes self.old)) }
     {
@@ -132,9 +135,11 @@ impl<'a> Selector<'a> {
     /// item is the answer.
     pub fn select_first(&mut self, path: &JsonPath<'_>) -> Result<Option<OwnedJsonb>, Error>
         ensures kept { self.new ≡ self.old }
-        ensures first { (form : Form) (top : Tree) (outcome : Outcome (List Tree)) → Decodes form (root_bytes self.old) top
+        ensures first { (form : Form) (top : Tree) (outcome : Outcome (List Tree))
+            → Decodes form (root_bytes self.old) top
             → Means form (mode_of self.old) (path_view path.now) top outcome
-            → HandsOut (λ found ts. IsDocumentOf form found (first_of ts)) (λ ts. IsPast form (first_of ts)) result outcome }
+            → HandsOut (λ found ts. IsDocumentOf form found (first_of ts))
+            (λ ts. IsPast form (first_of ts)) result outcome }
         ensures errors { IfErr result (IsDocumentError (mode_of self.old)) }
         ensures readable { OnOk result (HasHeader (root_bytes self.old)) }
     {
@@ -147,9 +152,11 @@ impl<'a> Selector<'a> {
     /// None for an empty list, its only item, or one array of several.
     pub fn select_value(&mut self, path: &JsonPath<'_>) -> Result<Option<OwnedJsonb>, Error>
         ensures kept { self.new ≡ self.old }
-        ensures value { (form : Form) (top : Tree) (outcome : Outcome (List Tree)) → Decodes form (root_bytes self.old) top
+        ensures value { (form : Form) (top : Tree) (outcome : Outcome (List Tree))
+            → Decodes form (root_bytes self.old) top
             → Means form (mode_of self.old) (path_view path.now) top outcome
-            → HandsOut (λ found ts. IsDocumentOf form found (value_of ts)) (λ ts. IsPast form (value_of ts)) result outcome }
+            → HandsOut (λ found ts. IsDocumentOf form found (value_of ts))
+            (λ ts. IsPast form (value_of ts)) result outcome }
         ensures errors { IfErr result (IsDocumentError (mode_of self.old)) }
         ensures readable { OnOk result (HasHeader (root_bytes self.old)) }
     {
@@ -162,7 +169,8 @@ impl<'a> Selector<'a> {
     /// Whether the path's list has an item. So it is true of every comparison that is not refused.
     pub fn exists(&mut self, path: &JsonPath<'_>) -> Result<bool, Error>
         ensures kept { self.new ≡ self.old }
-        ensures exists { (form : Form) (top : Tree) (outcome : Outcome (List Tree)) → Decodes form (root_bytes self.old) top
+        ensures exists { (form : Form) (top : Tree) (outcome : Outcome (List Tree))
+            → Decodes form (root_bytes self.old) top
             → Means form (mode_of self.old) (path_view path.now) top outcome
             → Gives (λ b ts. b ≡ is_some_item ts) WantsMemory result outcome }
         ensures errors { IfErr result (IsSelectionError (mode_of self.old)) }
@@ -184,7 +192,7 @@ impl<'a> Selector<'a> {
         ensures errors { IfErr result (IsSelectionError (mode_of self.old)) }
         ensures readable { is_predicate (path_view path.now) ≡ true → OnOk result (HasHeader (root_bytes self.old)) }
     {
-        match lone_expression(&path.paths) {
+        match only_expression(&path.paths) {
             Some(e) => {
                 let bytes = self.root.as_bytes();
                 let document = at_root(bytes)?;
@@ -214,10 +222,11 @@ fn at_root(bytes: &[u8]) -> Result<Document<'_>, Error>
 
 // Whether anything is selected.
 fn is_some(selected: &Selected<'_>) -> bool
-    ensures { (form : Form) (document : Document) (ts : List Tree) → Selects form document selected.now ts → result ≡ is_some_item ts }
+    ensures { (form : Form) (document : Document) (ts : List Tree) → Selects form document selected.now ts
+        → result ≡ is_some_item ts }
 {
     match selected {
-        Selected::Spots(spots) => !spots.as_slice().is_empty(),
-        Selected::Made(parts) => !parts.is_empty(),
+        Selected::Nodes(spots) => !spots.as_slice().is_empty(),
+        Selected::Items(parts) => !parts.is_empty(),
     }
 }

@@ -30,7 +30,8 @@ pub trait SelectByPath<'a> {
 
     /// The items that the path selects, each as a document, in their order and with repeats.
     fn select_by_path(&self, alloc: Global, path: &JsonPath<'_>) -> Result<Vec<OwnedJsonb>, Error>
-        ensures values { (form : Form) (top : Tree) (outcome : Outcome (List Tree)) → Decodes form (document self.now) top
+        ensures values { (form : Form) (top : Tree) (outcome : Outcome (List Tree))
+            → Decodes form (document self.now) top
             → Means form Lax (path_view path.now) top outcome
             → HandsOut (λ v ts. AreDocuments form v.items ts) (HasTooLarge form) result outcome }
         ensures errors { IfErr result (IsDocumentError Lax) }
@@ -38,9 +39,11 @@ pub trait SelectByPath<'a> {
 
     /// One array of the items that the path selects.
     fn select_array_by_path(&self, alloc: Global, path: &JsonPath<'_>) -> Result<OwnedJsonb, Error>
-        ensures array { (form : Form) (top : Tree) (outcome : Outcome (List Tree)) → Decodes form (document self.now) top
+        ensures array { (form : Form) (top : Tree) (outcome : Outcome (List Tree))
+            → Decodes form (document self.now) top
             → Means form Lax (path_view path.now) top outcome
-            → HandsOut (λ made ts. Decodes form made (array_of ts)) (λ ts. IsTooLarge form (array_of ts)) result outcome }
+            → HandsOut (λ made ts. Decodes form made (array_of ts))
+            (λ ts. IsTooLarge form (array_of ts)) result outcome }
         ensures errors { IfErr result (IsDocumentError Lax) }
         ensures readable { OnOk result (HasHeader (document self.now)) };
 
@@ -50,9 +53,11 @@ pub trait SelectByPath<'a> {
         alloc: Global,
         path: &JsonPath<'_>,
     ) -> Result<Option<OwnedJsonb>, Error>
-        ensures first { (form : Form) (top : Tree) (outcome : Outcome (List Tree)) → Decodes form (document self.now) top
+        ensures first { (form : Form) (top : Tree) (outcome : Outcome (List Tree))
+            → Decodes form (document self.now) top
             → Means form Lax (path_view path.now) top outcome
-            → HandsOut (λ found ts. IsDocumentOf form found (first_of ts)) (λ ts. IsPast form (first_of ts)) result outcome }
+            → HandsOut (λ found ts. IsDocumentOf form found (first_of ts))
+            (λ ts. IsPast form (first_of ts)) result outcome }
         ensures errors { IfErr result (IsDocumentError Lax) }
         ensures readable { OnOk result (HasHeader (document self.now)) };
 
@@ -62,15 +67,18 @@ pub trait SelectByPath<'a> {
         alloc: Global,
         path: &JsonPath<'_>,
     ) -> Result<Option<OwnedJsonb>, Error>
-        ensures value { (form : Form) (top : Tree) (outcome : Outcome (List Tree)) → Decodes form (document self.now) top
+        ensures value { (form : Form) (top : Tree) (outcome : Outcome (List Tree))
+            → Decodes form (document self.now) top
             → Means form Lax (path_view path.now) top outcome
-            → HandsOut (λ found ts. IsDocumentOf form found (value_of ts)) (λ ts. IsPast form (value_of ts)) result outcome }
+            → HandsOut (λ found ts. IsDocumentOf form found (value_of ts))
+            (λ ts. IsPast form (value_of ts)) result outcome }
         ensures errors { IfErr result (IsDocumentError Lax) }
         ensures readable { OnOk result (HasHeader (document self.now)) };
 
     /// Whether the path selects anything.
     fn path_exists(&self, alloc: Global, path: &JsonPath<'_>) -> Result<bool, Error>
-        ensures exists { (form : Form) (top : Tree) (outcome : Outcome (List Tree)) → Decodes form (document self.now) top
+        ensures exists { (form : Form) (top : Tree) (outcome : Outcome (List Tree))
+            → Decodes form (document self.now) top
             → Means form Lax (path_view path.now) top outcome
             → Gives (λ b ts. b ≡ is_some_item ts) WantsMemory result outcome }
         ensures errors { IfErr result (IsSelectionError Lax) }

@@ -8,12 +8,12 @@ ghost use Rattle.jsonb_doc.specs.View.{number_view};
 ghost use Rattle.jsonb.specs.PathArithmetic.{operation, two_numbers, all_numbers, signed_number, each_signed};
 ghost use Rattle.jsonb.specs.PathViews.{operator_view, sign_view};
 ghost use Rattle.jsonb.specs.Related.{AllRelated};
-ghost use Rattle.jsonb.specs.Selection.{operand_value, lone_number, value_number, IsNumberTree, IsPart};
+ghost use Rattle.jsonb.specs.Selection.{atom_value, only_number, value_number, IsNumberTree, IsMadeItem};
 ghost use Rattle.jsonb.specs.SelectionErrors.{IsPathError, IsSelectionError};
 ghost use Rattle.jsonb.specs.declared.selector.document.Mode.{Mode};
 
-use super::operand::Operand;
-use super::part::Part;
+use super::atom::Atom;
+use super::selected::MadeItem;
 use crate::path::{BinaryOperator, UnaryOperator};
 use jsonb_doc::{Error, Item, Number};
 use std::alloc::Global;
@@ -49,11 +49,11 @@ fn calculate(op: BinaryOperator, left: Number, right: Number) -> Result<Number, 
 }
 
 /// The one value, where it is a number.
-fn lone_number(values: &[Operand<'_>]) -> Option<Number>
-    ensures { option_map number_view result ≡ lone_number (map operand_value values.now) }
+fn only_number(values: &[Atom<'_>]) -> Option<Number>
+    ensures { option_map number_view result ≡ only_number (map atom_value values.now) }
 {
     match values {
-        [Operand::Number(number)] => Some(*number),
+        [Atom::Number(number)] => Some(*number),
         _ => None,
     }
 }
@@ -62,34 +62,35 @@ fn lone_number(values: &[Operand<'_>]) -> Option<Number>
 /// and else `Arithmetic` for numbers without a result.
 pub(crate) fn binary_number(
     op: BinaryOperator,
-    left: &[Operand<'_>],
-    right: &[Operand<'_>],
+    left: &[Atom<'_>],
+    right: &[Atom<'_>],
 ) -> Result<Number, Error>
     ensures meant { (o : Operation) → operation (operator_view op) ≡ Some o
-        → Gives IsNumberTree (λ _. ⊥) result (two_numbers o (map operand_value left.now) (map operand_value right.now)) }
+        → Gives IsNumberTree (λ _. ⊥) result (two_numbers o (map atom_value left.now) (map atom_value right.now)) }
     ensures errors { (mode : Mode) → IfErr result (IsPathError mode) }
 {
-    match (lone_number(left), lone_number(right)) {
+    match (only_number(left), only_number(right)) {
         (Some(m), Some(n)) => calculate(op, m, n),
         _ => Err(Error::InvalidJsonPath),
     }
 }
 
 /// The number that a value is. Another value is refused with `InvalidJsonPath`.
-fn number_of(value: &Operand<'_>) -> Result<Number, Error>
-    ensures meant { MatchResult result (λ n. value_number (operand_value value.now) ≡ Ok (number_view n ∷ []))
-        (λ e. value_number (operand_value value.now) ≡ Err e) }
+fn number_of(value: &Atom<'_>) -> Result<Number, Error>
+    ensures meant { MatchResult result (λ n. value_number (atom_value value.now) ≡ Ok (number_view n ∷ []))
+        (λ e. value_number (atom_value value.now) ≡ Err e) }
     ensures errors { (mode : Mode) → IfErr result (IsPathError mode) }
 {
     match value {
-        Operand::Number(number) => Ok(*number),
+        Atom::Number(number) => Ok(*number),
         _ => Err(Error::InvalidJsonPath),
     }
 }
 
 /// The numbers that the values are. A value that is none is refused with `InvalidJsonPath`.
-fn all_numbers(alloc: Global, values: &[Operand<'_>]) -> Result<Vec<Number>, Error>
-    ensures meant { Gives (λ v ns. map number_view v.items ≡ ns) WantsMemory result (all_numbers (map operand_value values.now)) }
+fn all_numbers(alloc: Global, values: &[Atom<'_>]) -> Result<Vec<Number>, Error>
+    ensures meant { Gives (λ v ns. map number_view v.items ≡ ns) WantsMemory result
+        (all_numbers (map atom_value values.now)) }
     ensures errors { (mode : Mode) → IfErr result (IsSelectionError mode) }
 {
     let mut numbers = Vec::new(alloc);
@@ -115,14 +116,14 @@ fn each_signed<'a>(
     alloc: Global,
     op: UnaryOperator,
     numbers: &[Number],
-) -> Result<Vec<Part<'a>>, Error>
-    ensures meant { (form : Form) → Gives (λ v ts. AllRelated (IsPart form) v.items ts) WantsMemory result
+) -> Result<Vec<MadeItem<'a>>, Error>
+    ensures meant { (form : Form) → Gives (λ v ts. AllRelated (IsMadeItem form) v.items ts) WantsMemory result
         (joined (signed_number (sign_view op)) (map number_view numbers.now)) }
     ensures errors { (mode : Mode) → IfErr result (IsSelectionError mode) }
 {
     let mut parts = Vec::new(alloc);
     for number in numbers {
-        parts.push(Part::Item(Item::Number(signed(op, *number)?)))?;
+        parts.push(MadeItem::Item(Item::Number(signed(op, *number)?)))?;
     }
     Ok(parts)
 }
@@ -132,10 +133,10 @@ fn each_signed<'a>(
 pub(crate) fn unary_numbers<'a>(
     alloc: Global,
     op: UnaryOperator,
-    values: &[Operand<'_>],
-) -> Result<Vec<Part<'a>>, Error>
-    ensures meant { (form : Form) → Gives (λ v ts. AllRelated (IsPart form) v.items ts) WantsMemory result
-        (each_signed (sign_view op) (map operand_value values.now)) }
+    values: &[Atom<'_>],
+) -> Result<Vec<MadeItem<'a>>, Error>
+    ensures meant { (form : Form) → Gives (λ v ts. AllRelated (IsMadeItem form) v.items ts) WantsMemory result
+        (each_signed (sign_view op) (map atom_value values.now)) }
     ensures errors { (mode : Mode) → IfErr result (IsSelectionError mode) }
 {
     let numbers = all_numbers(alloc, values)?;

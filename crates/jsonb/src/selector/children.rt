@@ -10,13 +10,13 @@ ghost use Rattle.jsonb.specs.PathTree.{single, from_front};
 ghost use Rattle.jsonb.specs.PathViews.{entry_view};
 ghost use Rattle.jsonb.specs.Related.{AllRelated};
 ghost use Rattle.jsonb.specs.ItemSteps.{elements_of, values_of, field_step, values_step, elements_step, indices_step, picked_by, picked};
-ghost use Rattle.jsonb.specs.Selection.{found_spots};
+ghost use Rattle.jsonb.specs.Selection.{node_spots};
 ghost use Rattle.jsonb_doc.specs.View.{IsDecodingError};
 ghost use Rattle.jsonb_raw.specs.Documents.{IsReadingError};
 ghost use Rattle.jsonb.specs.SelectionErrors.{IsSelectionError};
 
 use super::document::Mode;
-use super::found::Found;
+use super::node_list::NodeList;
 use crate::path::{ArrayIndex, Index};
 use jsonb_doc::{Error, Item, Spot, SpotIter, child_spots, field_spot, spot_item};
 use std::alloc::Global;
@@ -59,35 +59,38 @@ pub(crate) fn values<'a>(bytes: &'a [u8], item: Spot) -> Result<Option<SpotIter<
 }
 
 /// One more place.
-pub(crate) fn push_spot(queue: &mut Vec<Spot>, spot: Spot) -> Result<(), Error>
-    ensures ok { OnOk result (queue.new.items ≡ queue.old.items ++ spot ∷ []) }
+pub(crate) fn push_spot(nodes: &mut Vec<Spot>, spot: Spot) -> Result<(), Error>
+    ensures ok { OnOk result (nodes.new.items ≡ nodes.old.items ++ spot ∷ []) }
     ensures err { IfErr result WantsMemory }
 {
-    queue.push(spot)?;
+    nodes.push(spot)?;
     Ok(())
 }
 
 /// One more place, where the condition holds.
-pub(crate) fn push_if(condition: bool, spot: Spot, queue: &mut Vec<Spot>) -> Result<(), Error>
-    ensures meant { (bytes : List ℕ) (t : Tree) (before : List Tree) → Marks bytes spot t → AllRelated (Marks bytes) queue.old.items before
-        → Gives (λ _ us. AllRelated (Marks bytes) queue.new.items (before ++ us)) WantsMemory result (Ok (if condition then t ∷ [] else [])) }
+pub(crate) fn push_if(condition: bool, spot: Spot, nodes: &mut Vec<Spot>) -> Result<(), Error>
+    ensures meant { (bytes : List ℕ) (t : Tree) (before : List Tree) → Marks bytes spot t
+        → AllRelated (Marks bytes) nodes.old.items before
+        → Gives (λ _ us. AllRelated (Marks bytes) nodes.new.items (before ++ us)) WantsMemory result
+        (Ok (if condition then t ∷ [] else [])) }
     ensures errors { IfErr result WantsMemory }
 {
     if condition {
-        push_spot(queue, spot)
+        push_spot(nodes, spot)
     } else {
         Ok(())
     }
 }
 
 /// The places that are left in an iterator.
-pub(crate) fn push_spots(spots: SpotIter<'_>, queue: &mut Vec<Spot>) -> Result<(), Error>
-    ensures meant { (bytes : List ℕ) (ts before : List Tree) → HasSpotsLeft bytes spots.entry ts → AllRelated (Marks bytes) queue.old.items before
-        → Gives (λ _ us. AllRelated (Marks bytes) queue.new.items (before ++ us)) WantsMemory result (Ok ts) }
+pub(crate) fn push_spots(spots: SpotIter<'_>, nodes: &mut Vec<Spot>) -> Result<(), Error>
+    ensures meant { (bytes : List ℕ) (ts before : List Tree) → HasSpotsLeft bytes spots.entry ts
+        → AllRelated (Marks bytes) nodes.old.items before
+        → Gives (λ _ us. AllRelated (Marks bytes) nodes.new.items (before ++ us)) WantsMemory result (Ok ts) }
     ensures errors { IfErr result IsReadingError }
 {
     for spot in spots {
-        push_spot(queue, spot?)?;
+        push_spot(nodes, spot?)?;
     }
     Ok(())
 }
@@ -99,34 +102,37 @@ pub(crate) fn field(
     mode: Mode,
     name: &str,
     item: Spot,
-) -> Result<Found, Error>
+) -> Result<NodeList, Error>
     ensures meant { (t : Tree) → Marks bytes.now item t
-        → Gives (λ found us. AllRelated (Marks bytes.now) (found_spots found) us) WantsMemory result (field_step mode name.now t) }
+        → Gives (λ found us. AllRelated (Marks bytes.now) (node_spots found) us) WantsMemory result
+        (field_step mode name.now t) }
     ensures errors { IfErr result (IsSelectionError mode) }
 {
     match field_spot(bytes, item, name)? {
-        Some(value) => Ok(Found::One(value)),
+        Some(value) => Ok(NodeList::One(value)),
         None => match mode {
-            Mode::Lax => Ok(Found::Many(Vec::new(alloc))),
+            Mode::Lax => Ok(NodeList::Many(Vec::new(alloc))),
             Mode::Strict => Err(Error::StrictPath),
         },
     }
 }
 
-/// The value under a key of an object, behind what the queue has.
+/// The value under a key of an object, behind what the nodes has.
 pub(crate) fn push_field(
     bytes: &[u8],
     mode: Mode,
     name: &str,
     item: Spot,
-    queue: &mut Vec<Spot>,
+    nodes: &mut Vec<Spot>,
 ) -> Result<(), Error>
-    ensures meant { (t : Tree) (before : List Tree) → Marks bytes.now item t → AllRelated (Marks bytes.now) queue.old.items before
-        → Gives (λ _ ts. AllRelated (Marks bytes.now) queue.new.items (before ++ ts)) WantsMemory result (field_step mode name.now t) }
+    ensures meant { (t : Tree) (before : List Tree) → Marks bytes.now item t
+        → AllRelated (Marks bytes.now) nodes.old.items before
+        → Gives (λ _ ts. AllRelated (Marks bytes.now) nodes.new.items (before ++ ts))
+        WantsMemory result (field_step mode name.now t) }
     ensures errors { IfErr result (IsSelectionError mode) }
 {
     match field_spot(bytes, item, name)? {
-        Some(value) => push_spot(queue, value),
+        Some(value) => push_spot(nodes, value),
         None => match mode {
             Mode::Lax => Ok(()),
             Mode::Strict => Err(Error::StrictPath),
@@ -134,19 +140,21 @@ pub(crate) fn push_field(
     }
 }
 
-/// The values of an object, behind what the queue has.
+/// The values of an object, behind what the nodes has.
 pub(crate) fn push_values(
     bytes: &[u8],
     mode: Mode,
     item: Spot,
-    queue: &mut Vec<Spot>,
+    nodes: &mut Vec<Spot>,
 ) -> Result<(), Error>
-    ensures meant { (t : Tree) (before : List Tree) → Marks bytes.now item t → AllRelated (Marks bytes.now) queue.old.items before
-        → Gives (λ _ ts. AllRelated (Marks bytes.now) queue.new.items (before ++ ts)) WantsMemory result (values_step mode t) }
+    ensures meant { (t : Tree) (before : List Tree) → Marks bytes.now item t
+        → AllRelated (Marks bytes.now) nodes.old.items before
+        → Gives (λ _ ts. AllRelated (Marks bytes.now) nodes.new.items (before ++ ts))
+        WantsMemory result (values_step mode t) }
     ensures errors { IfErr result (IsSelectionError mode) }
 {
     match values(bytes, item)? {
-        Some(values) => push_spots(values, queue),
+        Some(values) => push_spots(values, nodes),
         None => match mode {
             Mode::Lax => Ok(()),
             Mode::Strict => Err(Error::StrictPath),
@@ -154,41 +162,45 @@ pub(crate) fn push_values(
     }
 }
 
-/// The elements of an array, behind what the queue has.
+/// The elements of an array, behind what the nodes has.
 pub(crate) fn push_elements(
     bytes: &[u8],
     mode: Mode,
     item: Spot,
-    queue: &mut Vec<Spot>,
+    nodes: &mut Vec<Spot>,
 ) -> Result<(), Error>
-    ensures meant { (t : Tree) (before : List Tree) → Marks bytes.now item t → AllRelated (Marks bytes.now) queue.old.items before
-        → Gives (λ _ ts. AllRelated (Marks bytes.now) queue.new.items (before ++ ts)) WantsMemory result (elements_step mode t) }
+    ensures meant { (t : Tree) (before : List Tree) → Marks bytes.now item t
+        → AllRelated (Marks bytes.now) nodes.old.items before
+        → Gives (λ _ ts. AllRelated (Marks bytes.now) nodes.new.items (before ++ ts))
+        WantsMemory result (elements_step mode t) }
     ensures errors { IfErr result (IsSelectionError mode) }
 {
     match elements(bytes, item)? {
-        Some(elements) => push_spots(elements, queue),
+        Some(elements) => push_spots(elements, nodes),
         None => match mode {
-            Mode::Lax => push_spot(queue, item),
+            Mode::Lax => push_spot(nodes, item),
             Mode::Strict => Err(Error::StrictPath),
         },
     }
 }
 
-/// The elements at the positions of the entries, behind what the queue has.
+/// The elements at the positions of the entries, behind what the nodes has.
 pub(crate) fn push_positions(
     alloc: Global,
     bytes: &[u8],
     mode: Mode,
     entries: &[ArrayIndex],
     item: Spot,
-    queue: &mut Vec<Spot>,
+    nodes: &mut Vec<Spot>,
 ) -> Result<(), Error>
-    ensures meant { (t : Tree) (before : List Tree) → Marks bytes.now item t → AllRelated (Marks bytes.now) queue.old.items before
-        → Gives (λ _ ts. AllRelated (Marks bytes.now) queue.new.items (before ++ ts)) WantsMemory result (indices_step mode (map entry_view entries.now) t) }
+    ensures meant { (t : Tree) (before : List Tree) → Marks bytes.now item t
+        → AllRelated (Marks bytes.now) nodes.old.items before
+        → Gives (λ _ ts. AllRelated (Marks bytes.now) nodes.new.items (before ++ ts))
+        WantsMemory result (indices_step mode (map entry_view entries.now) t) }
     ensures errors { IfErr result (IsSelectionError mode) }
 {
     match elements(bytes, item)? {
-        Some(elements) => push_picked(alloc, elements, entries, queue),
+        Some(elements) => push_picked(alloc, elements, entries, nodes),
         None => match mode {
             Mode::Lax => Ok(()),
             Mode::Strict => Err(Error::StrictPath),
@@ -202,18 +214,20 @@ fn push_picked(
     alloc: Global,
     elements: SpotIter<'_>,
     entries: &[ArrayIndex],
-    queue: &mut Vec<Spot>,
+    nodes: &mut Vec<Spot>,
 ) -> Result<(), Error>
-    ensures meant { (bytes : List ℕ) (ts before : List Tree) → HasSpotsLeft bytes elements.entry ts → AllRelated (Marks bytes) queue.old.items before
-        → Gives (λ _ us. AllRelated (Marks bytes) queue.new.items (before ++ us)) WantsMemory result (Ok (picked (map entry_view entries.now) ts)) }
+    ensures meant { (bytes : List ℕ) (ts before : List Tree) → HasSpotsLeft bytes elements.entry ts
+        → AllRelated (Marks bytes) nodes.old.items before
+        → Gives (λ _ us. AllRelated (Marks bytes) nodes.new.items (before ++ us)) WantsMemory result
+        (Ok (picked (map entry_view entries.now) ts)) }
     ensures errors { IfErr result IsReadingError }
 {
     if let Some(position) = plain_index(entries) {
-        return push_nth(elements, position, queue);
+        return push_nth(elements, position, nodes);
     }
     let mut spots = Vec::new(alloc);
     push_spots(elements, &mut spots)?;
-    push_entries(entries, &spots, queue)
+    push_entries(entries, &spots, nodes)
 }
 
 // The position of one index that counts from the front.
@@ -227,16 +241,18 @@ fn plain_index(entries: &[ArrayIndex]) -> Option<usize>
 }
 
 // The element at a position.
-fn push_nth(elements: SpotIter<'_>, position: usize, queue: &mut Vec<Spot>) -> Result<(), Error>
-    ensures meant { (bytes : List ℕ) (ts before : List Tree) → HasSpotsLeft bytes elements.entry ts → AllRelated (Marks bytes) queue.old.items before
-        → Gives (λ _ us. AllRelated (Marks bytes) queue.new.items (before ++ us)) WantsMemory result (Ok (filter_map (slice_get ts) (position ∷ []))) }
+fn push_nth(elements: SpotIter<'_>, position: usize, nodes: &mut Vec<Spot>) -> Result<(), Error>
+    ensures meant { (bytes : List ℕ) (ts before : List Tree) → HasSpotsLeft bytes elements.entry ts
+        → AllRelated (Marks bytes) nodes.old.items before
+        → Gives (λ _ us. AllRelated (Marks bytes) nodes.new.items (before ++ us)) WantsMemory result
+        (Ok (filter_map (slice_get ts) (position ∷ []))) }
     ensures errors { IfErr result IsReadingError }
 {
     let mut before = position;
     for element in elements {
         let element = element?;
         if before == 0 {
-            return push_spot(queue, element);
+            return push_spot(nodes, element);
         }
         before -= 1;
     }
@@ -247,25 +263,29 @@ fn push_nth(elements: SpotIter<'_>, position: usize, queue: &mut Vec<Spot>) -> R
 fn push_entries(
     entries: &[ArrayIndex],
     elements: &[Spot],
-    queue: &mut Vec<Spot>,
+    nodes: &mut Vec<Spot>,
 ) -> Result<(), Error>
-    ensures meant { (bytes : List ℕ) (ts before : List Tree) → AllRelated (Marks bytes) elements.now ts → AllRelated (Marks bytes) queue.old.items before
-        → Gives (λ _ us. AllRelated (Marks bytes) queue.new.items (before ++ us)) WantsMemory result (Ok (picked (map entry_view entries.now) ts)) }
+    ensures meant { (bytes : List ℕ) (ts before : List Tree) → AllRelated (Marks bytes) elements.now ts
+        → AllRelated (Marks bytes) nodes.old.items before
+        → Gives (λ _ us. AllRelated (Marks bytes) nodes.new.items (before ++ us)) WantsMemory result
+        (Ok (picked (map entry_view entries.now) ts)) }
     ensures errors { IfErr result IsReadingError }
 {
     for entry in entries {
-        push_entry(entry, elements, queue)?;
+        push_entry(entry, elements, nodes)?;
     }
     Ok(())
 }
 
 // The elements at the positions of one entry, ascending.
-fn push_entry(entry: &ArrayIndex, elements: &[Spot], queue: &mut Vec<Spot>) -> Result<(), Error>
-    ensures meant { (bytes : List ℕ) (ts before : List Tree) → AllRelated (Marks bytes) elements.now ts → AllRelated (Marks bytes) queue.old.items before
-        → Gives (λ _ us. AllRelated (Marks bytes) queue.new.items (before ++ us)) WantsMemory result (Ok (picked_by (entry_view entry.now) ts)) }
+fn push_entry(entry: &ArrayIndex, elements: &[Spot], nodes: &mut Vec<Spot>) -> Result<(), Error>
+    ensures meant { (bytes : List ℕ) (ts before : List Tree) → AllRelated (Marks bytes) elements.now ts
+        → AllRelated (Marks bytes) nodes.old.items before
+        → Gives (λ _ us. AllRelated (Marks bytes) nodes.new.items (before ++ us)) WantsMemory result
+        (Ok (picked_by (entry_view entry.now) ts)) }
     ensures errors { IfErr result WantsMemory }
 {
     let (start, end) = entry.bounds(elements.len());
-    queue.extend_from_slice(&elements[start..end])?;
+    nodes.extend_from_slice(&elements[start..end])?;
     Ok(())
 }

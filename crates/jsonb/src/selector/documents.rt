@@ -10,12 +10,12 @@ ghost use Rattle.jsonb_doc.specs.View.{IsDecodingError};
 ghost use Rattle.jsonb_doc.specs.Answer.{Builds, HasNoRoom};
 ghost use Rattle.jsonb_doc.specs.ArrayBuilder.{HoldsElements};
 ghost use Rattle.jsonb_raw.specs.Documents.{Makes, MakesOption, IsMakingError};
-ghost use Rattle.jsonb.specs.Selection.{IsPart, Selects};
+ghost use Rattle.jsonb.specs.Selection.{IsMadeItem, Selects};
 ghost use Rattle.jsonb.specs.SelectorAnswers.{HandsOut, AreDocuments, HasTooLarge, array_of, first_of, value_of};
 ghost use Rattle.jsonb.specs.Selected.{selected_len};
 
 use super::document::Document;
-use super::part::{Part, Selected};
+use super::selected::{MadeItem, Selected};
 use jsonb_doc::{ArrayBuilder, Error, Item, encode_item, spot_item};
 use jsonb_raw::OwnedJsonb;
 use std::alloc::Global;
@@ -25,8 +25,8 @@ pub(crate) fn selected_len(selected: &Selected<'_>) -> usize
     ensures { result ≡ selected_len selected.now }
 {
     match selected {
-        Selected::Spots(spots) => spots.as_slice().len(),
-        Selected::Made(parts) => parts.len(),
+        Selected::Nodes(spots) => spots.as_slice().len(),
+        Selected::Items(parts) => parts.len(),
     }
 }
 
@@ -35,18 +35,19 @@ fn part_at<'a>(
     document: Document<'a>,
     selected: &Selected<'a>,
     position: usize,
-) -> Result<Part<'a>, Error>
+) -> Result<MadeItem<'a>, Error>
     requires { position < selected_len selected.now }
     ensures part { (form : Form) (top : Tree) (ts : List Tree) → Decodes form document.entry.bytes.now top
-        → Selects form document.entry selected.now ts → IsOkAnd result (λ part. HoldsAt (IsPart form part) ts position) }
+        → Selects form document.entry selected.now ts
+        → IsOkAnd result (λ part. HoldsAt (IsMadeItem form part) ts position) }
     ensures errors { IfErr result IsDecodingError }
 {
     match selected {
-        Selected::Spots(spots) => {
+        Selected::Nodes(spots) => {
             let spot = spots.as_slice()[position];
-            Ok(Part::Item(spot_item(document.bytes, spot)?))
+            Ok(MadeItem::Item(spot_item(document.bytes, spot)?))
         },
-        Selected::Made(parts) => Ok(parts[position]),
+        Selected::Items(parts) => Ok(parts[position]),
     }
 }
 
@@ -62,25 +63,26 @@ fn array_of_one(alloc: Global, item: &Item<'_>) -> Result<Vec<u8>, Error>
 }
 
 /// A part as a document.
-fn part_document(alloc: Global, part: &Part<'_>) -> Result<OwnedJsonb, Error>
-    ensures document { (form : Form) (t : Tree) → IsPart form part.now t → Makes form t result }
+fn part_document(alloc: Global, part: &MadeItem<'_>) -> Result<OwnedJsonb, Error>
+    ensures document { (form : Form) (t : Tree) → IsMadeItem form part.now t → Makes form t result }
     ensures errors { IfErr result HasNoRoom }
 {
     match part {
-        Part::Item(item) => Ok(OwnedJsonb::new(encode_item(alloc, item)?)),
-        Part::ArrayOf(item) => Ok(OwnedJsonb::new(array_of_one(alloc, item)?)),
+        MadeItem::Item(item) => Ok(OwnedJsonb::new(encode_item(alloc, item)?)),
+        MadeItem::ArrayOf(item) => Ok(OwnedJsonb::new(array_of_one(alloc, item)?)),
     }
 }
 
 /// Adds a part behind the other elements of an array.
-fn push_part(alloc: Global, builder: &mut ArrayBuilder, part: &Part<'_>) -> Result<(), Error>
-    ensures pushed { (form : Form) (ts : List Tree) (t : Tree) → HoldsElements form builder.old ts → IsPart form part.now t
+fn push_part(alloc: Global, builder: &mut ArrayBuilder, part: &MadeItem<'_>) -> Result<(), Error>
+    ensures pushed { (form : Form) (ts : List Tree) (t : Tree) → HoldsElements form builder.old ts
+        → IsMadeItem form part.now t
         → Builds form (array_of (ts ++ t ∷ [])) result (λ _. HoldsElements form builder.new (ts ++ t ∷ [])) }
     ensures errors { IfErr result HasNoRoom }
 {
     match part {
-        Part::Item(item) => builder.push_item(item),
-        Part::ArrayOf(item) => {
+        MadeItem::Item(item) => builder.push_item(item),
+        MadeItem::ArrayOf(item) => {
             let array = array_of_one(alloc, item)?;
             builder.push_item(&Item::Array(array.as_slice()))
         }

@@ -13,21 +13,23 @@ use super::children::push_if;
 use crate::path::RecursiveLevel;
 use jsonb_doc::{Error, Spot, child_spots};
 
-/// The items from this one down, each before its children, behind what the queue has. A level past 255,
+/// The items from this one down, each before its children, behind what the nodes has. A level past 255,
 /// which no range names, counts as 256.
 pub(crate) fn push_levels(
     bytes: &[u8],
     levels: Option<RecursiveLevel>,
     level: u16,
     item: Spot,
-    queue: &mut Vec<Spot>,
+    nodes: &mut Vec<Spot>,
 ) -> Result<(), Error>
-    ensures meant { (t : Tree) (n : ℕ) (before : List Tree) → level ≡ min n 256 → Marks bytes.now item t → AllRelated (Marks bytes.now) queue.old.items before
-        → Gives (λ _ ts. AllRelated (Marks bytes.now) queue.new.items (before ++ ts)) WantsMemory result (Ok (preorder (option_map levels_view levels) n t)) }
+    ensures meant { (t : Tree) (n : ℕ) (before : List Tree) → level ≡ min n 256 → Marks bytes.now item t
+        → AllRelated (Marks bytes.now) nodes.old.items before
+        → Gives (λ _ ts. AllRelated (Marks bytes.now) nodes.new.items (before ++ ts))
+        WantsMemory result (Ok (preorder (option_map levels_view levels) n t)) }
     ensures errors { IfErr result IsReadingError }
 {
     let (is_taken, goes_on) = answer_at(levels, level);
-    push_if(is_taken, item, queue)?;
+    push_if(is_taken, item, nodes)?;
     if !goes_on {
         return Ok(());
     }
@@ -36,7 +38,7 @@ pub(crate) fn push_levels(
     };
     let next = next_level(level);
     for child in children {
-        push_levels(bytes, levels, next, child?, queue)?;
+        push_levels(bytes, levels, next, child?, nodes)?;
     }
     Ok(())
 }

@@ -8,22 +8,22 @@ ghost use Rattle.jsonb.specs.PathTree.{steps_of, filter};
 ghost use Rattle.jsonb.specs.PathViews.{step_view, steps_view, expression_view};
 ghost use Rattle.jsonb.specs.Related.{AllRelated};
 ghost use Rattle.jsonb.specs.Meaning.{step_meaning, steps_meaning, truth, operand_values, start};
-ghost use Rattle.jsonb.specs.Selection.{IsAt, HasTree, found_spots, values_view, IsKept, taken_step};
+ghost use Rattle.jsonb.specs.Selection.{IsAt, HasTree, node_spots, atoms_view, IsKept, taken_step};
 ghost use Rattle.jsonb.specs.SelectionErrors.{IsSelectionError};
 
+use super::atom::{Atoms, and_truth, compare, literal_atom, or_truth};
 use super::children::{
     field, push_elements, push_field, push_if, push_positions, push_spot, push_values,
 };
 use super::document::{Document, Expressions, Mode};
-use super::found::Found;
 use super::levels::push_levels;
-use super::operand::{Values, both, compare, either, literal_operand};
+use super::node_list::NodeList;
 use super::values::found_values;
 use crate::path::{BinaryOperator, Expr, Path};
 use jsonb_doc::{Error, Spot};
 use std::alloc::Global;
 
-/// One step of one item, behind what the queue has.
+/// One step of one item, behind what the nodes has.
 #[cycle(steps)]
 fn push_step<'a>(
     alloc: Global,
@@ -32,37 +32,39 @@ fn push_step<'a>(
     step: &'a Path<'_>,
     document: Document<'a>,
     item: Spot,
-    queue: &mut Vec<Spot>,
+    nodes: &mut Vec<Spot>,
 ) -> Result<(), Error>
-    ensures meant { (top t : Tree) (before : List Tree) → HasTree document.entry top → IsAt document.entry item t → AllRelated (IsAt document.entry) queue.old.items before
-        → Gives (λ _ ts. AllRelated (IsAt document.entry) queue.new.items (before ++ ts)) WantsMemory result (step_meaning mode (taken_step expressions (step_view step.now)) top t) }
+    ensures meant { (top t : Tree) (before : List Tree) → HasTree document.entry top → IsAt document.entry item t
+        → AllRelated (IsAt document.entry) nodes.old.items before
+        → Gives (λ _ ts. AllRelated (IsAt document.entry) nodes.new.items (before ++ ts))
+        WantsMemory result (step_meaning mode (taken_step expressions (step_view step.now)) top t) }
     ensures errors { IfErr result (IsSelectionError mode) }
 {
     match step {
-        Path::DotWildcard => push_values(document.bytes, mode, item, queue),
-        Path::BracketWildcard => push_elements(document.bytes, mode, item, queue),
+        Path::DotWildcard => push_values(document.bytes, mode, item, nodes),
+        Path::BracketWildcard => push_elements(document.bytes, mode, item, nodes),
         Path::ArrayIndices(entries) => push_positions(
             alloc,
             document.bytes,
             mode,
             entries,
             item,
-            queue,
+            nodes,
         ),
-        Path::RecursiveDotWildcard(levels) => push_levels(document.bytes, *levels, 0, item, queue),
-        Path::Root | Path::Current => push_spot(queue, item),
-        Path::DotField(name) => push_field(document.bytes, mode, name.as_str(), item, queue),
-        Path::ColonField(name) => push_field(document.bytes, mode, name.as_str(), item, queue),
-        Path::ObjectField(name) => push_field(document.bytes, mode, name.as_str(), item, queue),
-        Path::FilterExpr(e) => push_kept(alloc, mode, e, document, item, queue),
+        Path::RecursiveDotWildcard(levels) => push_levels(document.bytes, *levels, 0, item, nodes),
+        Path::Root | Path::Current => push_spot(nodes, item),
+        Path::DotField(name) => push_field(document.bytes, mode, name.as_str(), item, nodes),
+        Path::ColonField(name) => push_field(document.bytes, mode, name.as_str(), item, nodes),
+        Path::ObjectField(name) => push_field(document.bytes, mode, name.as_str(), item, nodes),
+        Path::FilterExpr(e) => push_kept(alloc, mode, e, document, item, nodes),
         Path::Expr(e) => match expressions {
-            Expressions::AreFilters => push_kept(alloc, mode, e, document, item, queue),
+            Expressions::AreFilters => push_kept(alloc, mode, e, document, item, nodes),
             Expressions::AreRefused => Err(Error::InvalidJsonPath),
         },
     }
 }
 
-/// An item that a filter keeps, behind what the queue has.
+/// An item that a filter keeps, behind what the nodes has.
 #[cycle(steps)]
 fn push_kept<'a>(
     alloc: Global,
@@ -70,16 +72,16 @@ fn push_kept<'a>(
     e: &'a Expr<'_>,
     document: Document<'a>,
     item: Spot,
-    queue: &mut Vec<Spot>,
+    nodes: &mut Vec<Spot>,
 ) -> Result<(), Error>
     ensures meant { (top t : Tree) (before : List Tree) → HasTree document.entry top → IsAt document.entry item t
-        → AllRelated (IsAt document.entry) queue.old.items before
-        → Gives (λ _ ts. AllRelated (IsAt document.entry) queue.new.items (before ++ ts)) WantsMemory result
-            (step_meaning mode (filter (expression_view e.now)) top t) }
+        → AllRelated (IsAt document.entry) nodes.old.items before
+        → Gives (λ _ ts. AllRelated (IsAt document.entry) nodes.new.items (before ++ ts)) WantsMemory result
+        (step_meaning mode (filter (expression_view e.now)) top t) }
     ensures errors { IfErr result (IsSelectionError mode) }
 {
     let keeps = is_kept(alloc, mode, e, document, item)?;
-    push_if(keeps, item, queue)
+    push_if(keeps, item, nodes)
 }
 
 /// One step of one item. What gives one item at most needs no memory.
@@ -91,9 +93,10 @@ fn step_item<'a>(
     step: &'a Path<'_>,
     document: Document<'a>,
     item: Spot,
-) -> Result<Found, Error>
+) -> Result<NodeList, Error>
     ensures meant { (top t : Tree) → HasTree document.entry top → IsAt document.entry item t
-        → Gives (λ found ts. AllRelated (IsAt document.entry) (found_spots found) ts) WantsMemory result (step_meaning mode (taken_step expressions (step_view step.now)) top t) }
+        → Gives (λ found ts. AllRelated (IsAt document.entry) (node_spots found) ts)
+        WantsMemory result (step_meaning mode (taken_step expressions (step_view step.now)) top t) }
     ensures errors { IfErr result (IsSelectionError mode) }
 {
     match step {
@@ -102,12 +105,12 @@ fn step_item<'a>(
         Path::ObjectField(name) => field(alloc, document.bytes, mode, name.as_str(), item),
         Path::FilterExpr(e) => {
             let keeps = is_kept(alloc, mode, e, document, item)?;
-            Ok(Found::at_most_one(alloc, keeps.then_some(item)))
+            Ok(NodeList::at_most_one(alloc, keeps.then_some(item)))
         }
         _ => {
-            let mut queue = Vec::new(alloc);
-            push_step(alloc, mode, expressions, step, document, item, &mut queue)?;
-            Ok(Found::Many(queue))
+            let mut nodes = Vec::new(alloc);
+            push_step(alloc, mode, expressions, step, document, item, &mut nodes)?;
+            Ok(NodeList::Many(nodes))
         }
     }
 }
@@ -120,17 +123,19 @@ pub(crate) fn step_list<'a>(
     expressions: Expressions,
     step: &'a Path<'_>,
     document: Document<'a>,
-    items: Found,
-) -> Result<Found, Error>
-    ensures meant { (top : Tree) (ts : List Tree) → HasTree document.entry top → AllRelated (IsAt document.entry) (found_spots items) ts
-        → Gives (λ found us. AllRelated (IsAt document.entry) (found_spots found) us) WantsMemory result (joined (step_meaning mode (taken_step expressions (step_view step.now)) top) ts) }
+    items: NodeList,
+) -> Result<NodeList, Error>
+    ensures meant { (top : Tree) (ts : List Tree) → HasTree document.entry top
+        → AllRelated (IsAt document.entry) (node_spots items) ts
+        → Gives (λ found us. AllRelated (IsAt document.entry) (node_spots found) us)
+        WantsMemory result (joined (step_meaning mode (taken_step expressions (step_view step.now)) top) ts) }
     ensures errors { IfErr result (IsSelectionError mode) }
 {
     match step {
         Path::Root | Path::Current => Ok(items),
         _ => match items {
-            Found::One(item) => step_item(alloc, mode, expressions, step, document, item),
-            Found::Many(items) => step_many(alloc, mode, expressions, step, document, &items),
+            NodeList::One(item) => step_item(alloc, mode, expressions, step, document, item),
+            NodeList::Many(items) => step_many(alloc, mode, expressions, step, document, &items),
         },
     }
 }
@@ -144,16 +149,18 @@ fn step_many<'a>(
     step: &'a Path<'_>,
     document: Document<'a>,
     items: &[Spot],
-) -> Result<Found, Error>
-    ensures meant { (top : Tree) (ts : List Tree) → HasTree document.entry top → AllRelated (IsAt document.entry) items.now ts
-        → Gives (λ found us. AllRelated (IsAt document.entry) (found_spots found) us) WantsMemory result (joined (step_meaning mode (taken_step expressions (step_view step.now)) top) ts) }
+) -> Result<NodeList, Error>
+    ensures meant { (top : Tree) (ts : List Tree) → HasTree document.entry top
+        → AllRelated (IsAt document.entry) items.now ts
+        → Gives (λ found us. AllRelated (IsAt document.entry) (node_spots found) us)
+        WantsMemory result (joined (step_meaning mode (taken_step expressions (step_view step.now)) top) ts) }
     ensures errors { IfErr result (IsSelectionError mode) }
 {
-    let mut queue = Vec::new(alloc);
+    let mut nodes = Vec::new(alloc);
     for item in items {
-        push_step(alloc, mode, expressions, step, document, *item, &mut queue)?;
+        push_step(alloc, mode, expressions, step, document, *item, &mut nodes)?;
     }
-    Ok(Found::Many(queue))
+    Ok(NodeList::Many(nodes))
 }
 
 /// Several steps, one after the other, from one item.
@@ -165,12 +172,14 @@ pub(crate) fn select_steps<'a>(
     steps: &'a [Path<'_>],
     document: Document<'a>,
     first: Spot,
-) -> Result<Found, Error>
+) -> Result<NodeList, Error>
     ensures meant { (top t : Tree) → HasTree document.entry top → IsAt document.entry first t
-        → Gives (λ found us. AllRelated (IsAt document.entry) (found_spots found) us) WantsMemory result (steps_meaning mode (steps_of (map (taken_step expressions) (steps_view steps.now))) top (t ∷ [])) }
+        → Gives (λ found us. AllRelated (IsAt document.entry) (node_spots found) us)
+        WantsMemory result
+        (steps_meaning mode (steps_of (map (taken_step expressions) (steps_view steps.now))) top (t ∷ [])) }
     ensures errors { IfErr result (IsSelectionError mode) }
 {
-    let mut items = Found::One(first);
+    let mut items = NodeList::One(first);
     for step in steps {
         items = step_list(alloc, mode, expressions, step, document, items)?;
     }
@@ -179,7 +188,8 @@ pub(crate) fn select_steps<'a>(
 
 /// Where a path within an expression starts.
 fn first_item(steps: &[Path<'_>], document: Document<'_>, item: Spot) -> Spot
-    ensures { (top t : Tree) → HasTree document.entry top → IsAt document.entry item t → IsAt document.entry result (start (steps_of (steps_view steps.now)) top t) }
+    ensures { (top t : Tree) → HasTree document.entry top → IsAt document.entry item t
+        → IsAt document.entry result (start (steps_of (steps_view steps.now)) top t) }
 {
     match steps.first() {
         Some(Path::Current) => item,
@@ -224,12 +234,12 @@ pub(crate) fn truth<'a>(
             BinaryOperator::And => {
                 let a = truth(alloc, mode, left, document, item)?;
                 let b = truth(alloc, mode, right, document, item)?;
-                Ok(both(a, b))
+                Ok(and_truth(a, b))
             }
             BinaryOperator::Or => {
                 let a = truth(alloc, mode, left, document, item)?;
                 let b = truth(alloc, mode, right, document, item)?;
-                Ok(either(a, b))
+                Ok(or_truth(a, b))
             }
             BinaryOperator::Add
             | BinaryOperator::Subtract
@@ -259,9 +269,10 @@ pub(crate) fn operand_values<'a>(
     e: &'a Expr<'_>,
     document: Document<'a>,
     item: Spot,
-) -> Result<Values<'a>, Error>
+) -> Result<Atoms<'a>, Error>
     ensures meant { (top t : Tree) → HasTree document.entry top → IsAt document.entry item t
-        → Gives (λ values vs. values_view values ≡ vs) WantsMemory result (operand_values mode (expression_view e.now) top t) }
+        → Gives (λ values vs. atoms_view values ≡ vs) WantsMemory result
+        (operand_values mode (expression_view e.now) top t) }
     ensures errors { IfErr result (IsSelectionError mode) }
 {
     match e {
@@ -270,7 +281,7 @@ pub(crate) fn operand_values<'a>(
             let found = select_steps(alloc, mode, Expressions::AreRefused, steps, document, first)?;
             found_values(alloc, document.bytes, found)
         }
-        Expr::Value(literal) => Ok(Values::One(literal_operand(literal))),
+        Expr::Value(literal) => Ok(Atoms::One(literal_atom(literal))),
         Expr::BinaryOp { .. } | Expr::UnaryOp { .. } | Expr::ExistsFunc(_) => Err(
             Error::InvalidJsonPath,
         ),

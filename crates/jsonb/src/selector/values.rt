@@ -8,12 +8,12 @@ ghost use Rattle.jsonb_doc.specs.Item.{Stands};
 ghost use Rattle.jsonb_doc.specs.Tree.{Tree};
 ghost use Rattle.jsonb.specs.Related.{AllRelated};
 ghost use Rattle.jsonb.specs.Values.{values_of_item, value_of_item};
-ghost use Rattle.jsonb.specs.Selection.{found_spots, operand_value, values_view};
+ghost use Rattle.jsonb.specs.Selection.{node_spots, atom_value, atoms_view};
 ghost use Rattle.jsonb_raw.specs.Documents.{IsReadingError};
 
+use super::atom::{Atom, Atoms, item_atom};
 use super::children::array_elements;
-use super::found::Found;
-use super::operand::{Operand, Values, item_operand};
+use super::node_list::NodeList;
 use jsonb_doc::{Error, Item, Spot, SpotIter, spot_item};
 use std::alloc::Global;
 
@@ -21,35 +21,35 @@ use std::alloc::Global;
 pub(crate) fn found_values<'a>(
     alloc: Global,
     bytes: &'a [u8],
-    items: Found,
-) -> Result<Values<'a>, Error>
-    ensures meant { (ts : List Tree) → AllRelated (Marks bytes.now) (found_spots items) ts
-        → Gives (λ values vs. values_view values ≡ vs) WantsMemory result (Ok (flat_map values_of_item ts)) }
+    items: NodeList,
+) -> Result<Atoms<'a>, Error>
+    ensures meant { (ts : List Tree) → AllRelated (Marks bytes.now) (node_spots items) ts
+        → Gives (λ values vs. atoms_view values ≡ vs) WantsMemory result (Ok (flat_map values_of_item ts)) }
     ensures errors { IfErr result IsReadingError }
 {
     match items {
-        Found::One(item) => item_values(alloc, bytes, item),
-        Found::Many(items) => many_values(alloc, bytes, &items),
+        NodeList::One(item) => item_values(alloc, bytes, item),
+        NodeList::Many(items) => many_values(alloc, bytes, &items),
     }
 }
 
 /// The values of many items.
-fn many_values<'a>(alloc: Global, bytes: &'a [u8], items: &[Spot]) -> Result<Values<'a>, Error>
+fn many_values<'a>(alloc: Global, bytes: &'a [u8], items: &[Spot]) -> Result<Atoms<'a>, Error>
     ensures meant { (ts : List Tree) → AllRelated (Marks bytes.now) items.now ts
-        → Gives (λ values vs. values_view values ≡ vs) WantsMemory result (Ok (flat_map values_of_item ts)) }
+        → Gives (λ values vs. atoms_view values ≡ vs) WantsMemory result (Ok (flat_map values_of_item ts)) }
     ensures errors { IfErr result IsReadingError }
 {
     let mut values = Vec::new(alloc);
     for item in items {
         push_values(bytes, *item, &mut values)?;
     }
-    Ok(Values::Many(values))
+    Ok(Atoms::Many(values))
 }
 
 /// The values of one item. One value alone needs no memory.
-fn item_values<'a>(alloc: Global, bytes: &'a [u8], item: Spot) -> Result<Values<'a>, Error>
+fn item_values<'a>(alloc: Global, bytes: &'a [u8], item: Spot) -> Result<Atoms<'a>, Error>
     ensures meant { (t : Tree) → Marks bytes.now item t
-        → Gives (λ values vs. values_view values ≡ vs) WantsMemory result (Ok (values_of_item t)) }
+        → Gives (λ values vs. atoms_view values ≡ vs) WantsMemory result (Ok (values_of_item t)) }
     ensures errors { IfErr result IsReadingError }
 {
     let found = spot_item(bytes, item)?;
@@ -57,19 +57,20 @@ fn item_values<'a>(alloc: Global, bytes: &'a [u8], item: Spot) -> Result<Values<
         Some(elements) => {
             let mut values = Vec::new(alloc);
             push_each(bytes, elements, &mut values)?;
-            Ok(Values::Many(values))
+            Ok(Atoms::Many(values))
         }
         None => {
-            let value = item_operand(found);
-            Ok(Values::at_most_one(alloc, value))
+            let value = item_atom(found);
+            Ok(Atoms::at_most_one(alloc, value))
         }
     }
 }
 
 /// The values of an item, behind those that there are: an array gives those of its elements.
-fn push_values<'a>(bytes: &'a [u8], item: Spot, values: &mut Vec<Operand<'a>>) -> Result<(), Error>
+fn push_values<'a>(bytes: &'a [u8], item: Spot, values: &mut Vec<Atom<'a>>) -> Result<(), Error>
     ensures meant { (t : Tree) → Marks bytes.now item t
-        → Gives (λ _ vs. map operand_value values.new.items ≡ map operand_value values.old.items ++ vs) WantsMemory result (Ok (values_of_item t)) }
+        → Gives (λ _ vs. map atom_value values.new.items ≡ map atom_value values.old.items ++ vs)
+        WantsMemory result (Ok (values_of_item t)) }
     ensures errors { IfErr result IsReadingError }
 {
     let found = spot_item(bytes, item)?;
@@ -83,10 +84,11 @@ fn push_values<'a>(bytes: &'a [u8], item: Spot, values: &mut Vec<Operand<'a>>) -
 fn push_each<'a>(
     bytes: &'a [u8],
     elements: SpotIter<'_>,
-    values: &mut Vec<Operand<'a>>,
+    values: &mut Vec<Atom<'a>>,
 ) -> Result<(), Error>
     ensures meant { (ts : List Tree) → HasSpotsLeft bytes.now elements.entry ts
-        → Gives (λ _ vs. map operand_value values.new.items ≡ map operand_value values.old.items ++ vs) WantsMemory result (Ok (flat_map value_of_item ts)) }
+        → Gives (λ _ vs. map atom_value values.new.items ≡ map atom_value values.old.items ++ vs)
+        WantsMemory result (Ok (flat_map value_of_item ts)) }
     ensures errors { IfErr result IsReadingError }
 {
     for element in elements {
@@ -96,28 +98,30 @@ fn push_each<'a>(
 }
 
 /// The value of an item that is no array, and of an element.
-fn push_value<'a>(bytes: &'a [u8], item: Spot, values: &mut Vec<Operand<'a>>) -> Result<(), Error>
+fn push_value<'a>(bytes: &'a [u8], item: Spot, values: &mut Vec<Atom<'a>>) -> Result<(), Error>
     ensures meant { (t : Tree) → Marks bytes.now item t
-        → Gives (λ _ vs. map operand_value values.new.items ≡ map operand_value values.old.items ++ vs) WantsMemory result (Ok (value_of_item t)) }
+        → Gives (λ _ vs. map atom_value values.new.items ≡ map atom_value values.old.items ++ vs)
+        WantsMemory result (Ok (value_of_item t)) }
     ensures errors { IfErr result IsReadingError }
 {
     push_item(spot_item(bytes, item)?, values)
 }
 
 /// The same for an item that was read.
-fn push_item<'a>(item: Item<'a>, values: &mut Vec<Operand<'a>>) -> Result<(), Error>
+fn push_item<'a>(item: Item<'a>, values: &mut Vec<Atom<'a>>) -> Result<(), Error>
     ensures meant { (t : Tree) → Stands any item.entry t
-        → Gives (λ _ vs. map operand_value values.new.items ≡ map operand_value values.old.items ++ vs) WantsMemory result (Ok (value_of_item t)) }
+        → Gives (λ _ vs. map atom_value values.new.items ≡ map atom_value values.old.items ++ vs)
+        WantsMemory result (Ok (value_of_item t)) }
     ensures errors { IfErr result IsReadingError }
 {
-    match item_operand(item) {
-        Some(value) => push_operand(values, value),
+    match item_atom(item) {
+        Some(value) => push_atom(values, value),
         None => Ok(()),
     }
 }
 
 /// One more value.
-fn push_operand<'a>(values: &mut Vec<Operand<'a>>, value: Operand<'a>) -> Result<(), Error>
+fn push_atom<'a>(values: &mut Vec<Atom<'a>>, value: Atom<'a>) -> Result<(), Error>
     ensures ok { OnOk result (values.new.items ≡ values.old.items ++ value.entry ∷ []) }
     ensures err { IfErr result WantsMemory }
 {

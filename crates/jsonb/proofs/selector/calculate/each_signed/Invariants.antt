@@ -5,11 +5,11 @@ use Rattle.jsonb_doc.specs.View.{number_view}
 use Rattle.jsonb.specs.PathArithmetic.{signed_number}
 use Rattle.jsonb.specs.PathViews.{sign_view}
 use Rattle.jsonb.specs.Related.{AllRelated}
-use Rattle.jsonb.specs.Selection.{IsPart}
+use Rattle.jsonb.specs.Selection.{IsMadeItem}
 use Rattle.jsonb.proofs.Outcomes.{Is}
 use Rattle.jsonb.proofs.Progress.{Progress}
 use Rattle.jsonb.proofs.selector.calculate.each_signed.Given as goal
 
 abbrev pub invariant-loop-number : goal.invariant-loop-number
-invariant-loop-number l = (form : Form) → Progress (AllRelated (Is number_view) (drop l.number-index l.numbers)) (AllRelated (IsPart form) l.parts.items)
+invariant-loop-number l = (form : Form) → Progress (AllRelated (Is number_view) (drop l.number-index l.numbers)) (AllRelated (IsMadeItem form) l.parts.items)
     (signed_number (sign_view l.op)) (joined (signed_number (sign_view l.op)) (map number_view l.numbers))

@@ -15,4 +15,4 @@ returns-in-Some-clause-meant c = λ t before m a.
 pub returns-in-Lax-clause-meant : goal.returns-in-Lax-clause-meant
 returns-in-Lax-clause-meant c = λ t before m a.
     unlisted c.args.mode (t ∷ []) (HasSpotsLeft c.args.bytes.now) (elements_of t) (rw c.in-None.is at (c.in_ok-elements.ensures.meant t m))
-    (rw c.in-Lax.is (pushed (Marks c.args.bytes.now) c.push_spot.result c.args.queue.now.items c.push_spot.new.queue.items c.args.item before t c.push_spot.ensures.ok c.push_spot.ensures.err a m))
+    (rw c.in-Lax.is (pushed (Marks c.args.bytes.now) c.push_spot.result c.args.nodes.now.items c.push_spot.new.nodes.items c.args.item before t c.push_spot.ensures.ok c.push_spot.ensures.err a m))

@@ -9,5 +9,5 @@ use Rattle.jsonb.proofs.selector.children.push_entries.Given as goal
 -- what the entries so far picked, and what those that are left pick, is what all pick
 abbrev pub invariant-loop-entry : goal.invariant-loop-entry
 invariant-loop-entry l =
-    (bytes : List ℕ) (ts before : List Tree) → AllRelated (Marks bytes) l.elements ts → AllRelated (Marks bytes) l.fn.queue.items before →
-    (given : List Tree) × AllRelated (Marks bytes) l.queue.items given × (before ++ picked (map entry_view l.entries) ts ≡ given ++ picked (map entry_view (drop l.entry-index l.entries)) ts)
+    (bytes : List ℕ) (ts before : List Tree) → AllRelated (Marks bytes) l.elements ts → AllRelated (Marks bytes) l.fn.nodes.items before →
+    (given : List Tree) × AllRelated (Marks bytes) l.nodes.items given × (before ++ picked (map entry_view l.entries) ts ≡ given ++ picked (map entry_view (drop l.entry-index l.entries)) ts)

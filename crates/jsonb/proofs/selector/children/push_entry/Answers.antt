@@ -14,5 +14,5 @@ returns-clause-meant c = λ bytes ts before r a.
     let len : length c.args.elements.now ≡ length ts = AllRelated-length (Marks bytes) c.args.elements.now ts r in
     same_outcome (ap Ok (picked_between (entry_view c.args.entry.now) ts start end c.bounds-start.ensures.within.0 (subst (λ n. end ≤ n) len c.bounds-start.ensures.within.1)
     (subst (λ n. (k : ℕ) → k < n → ((start ≤ k) × (k < end)) ↔ IsPosition (entry_view c.args.entry.now) n k) len c.bounds-start.ensures.meant)))
-    (pushed_all (Marks bytes) (Ok tt) c.args.queue.now.items c.extend_from_slice.new.self.items (slice_range c.args.elements.now start end) before (slice_range ts start end)
+    (pushed_all (Marks bytes) (Ok tt) c.args.nodes.now.items c.extend_from_slice.new.self.items (slice_range c.args.elements.now start end) before (slice_range ts start end)
     c.in_ok-extend_from_slice.ensures.items tt a (AllRelated-between (Marks bytes) start end c.args.elements.now ts r))

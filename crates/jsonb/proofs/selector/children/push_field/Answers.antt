@@ -10,4 +10,4 @@ returns-in_err-value-clause-meant c = λ t before m a. absurd (c.in_err-value.en
 pub returns-in-Some-clause-meant : goal.returns-in-Some-clause-meant
 returns-in-Some-clause-meant c = λ t before m a.
     found_one c.args.mode [] (Marks c.args.bytes.now) (λ u. u ∷ []) c.in-Some.value (field_of c.args.name.now t) (rw c.in-Some.is at (c.in_ok-value.ensures.field t m))
-    (λ u h. pushed (Marks c.args.bytes.now) c.push_spot.result c.args.queue.now.items c.push_spot.new.queue.items c.in-Some.value before u c.push_spot.ensures.ok c.push_spot.ensures.err a h)
+    (λ u h. pushed (Marks c.args.bytes.now) c.push_spot.result c.args.nodes.now.items c.push_spot.new.nodes.items c.in-Some.value before u c.push_spot.ensures.ok c.push_spot.ensures.err a h)

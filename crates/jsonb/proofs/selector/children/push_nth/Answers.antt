@@ -24,7 +24,7 @@ returns-then-before-eq0-clause-meant c = λ bytes ts before h a.
     let inv = c.loop-element.invariant.left bytes ts h in
     let k = spot_first bytes c.loop-element.element-iterator c.next.new.self c.in-Some.element _ c.in_ok-element.was c.in-Some.ensures.steps inv.0 inv.1 in
     same_outcome (ap (λ o. Ok (cons_option o [])) (sym inv.2 ∙ get_first inv.0 k.first k.others c.loop-element.before k.whole c.if-before-eq0.true))
-    (pushed (Marks bytes) c.push_spot.result _ c.push_spot.new.queue.items _ before k.first c.push_spot.ensures.ok c.push_spot.ensures.err
+    (pushed (Marks bytes) c.push_spot.result _ c.push_spot.new.nodes.items _ before k.first c.push_spot.ensures.ok c.push_spot.ensures.err
     (subst (λ l. AllRelated (Marks bytes) l before) (sym c.loop-element.invariant.same) a) k.holds)
 
 pub loop-element-preserved : goal.loop-element-preserved
@@ -40,4 +40,4 @@ pub returns-clause-meant : goal.returns-clause-meant
 returns-clause-meant c = λ bytes ts before h a.
     let inv = c.loop-element.invariant.left bytes ts h in
     let none = spot_end bytes c.loop-element.element-iterator c.next.new.self c.in-None.ensures.steps inv.0 inv.1 in
-    same_outcome (ap (λ o. Ok (cons_option o [])) (sym inv.2 ∙ get_none inv.0 c.loop-element.before none)) (unchanged (Marks bytes) c.loop-element.queue.items before (subst (λ l. AllRelated (Marks bytes) l before) (sym c.loop-element.invariant.same) a))
+    same_outcome (ap (λ o. Ok (cons_option o [])) (sym inv.2 ∙ get_none inv.0 c.loop-element.before none)) (unchanged (Marks bytes) c.loop-element.nodes.items before (subst (λ l. AllRelated (Marks bytes) l before) (sym c.loop-element.invariant.same) a))

@@ -6,7 +6,7 @@ use Rattle.jsonb.proofs.selector.children.push_nth.Given as goal
 -- of the elements that are left, so many stand before the one at the position
 abbrev pub invariant-loop-element : goal.invariant-loop-element
 invariant-loop-element l = record {
-  same : l.queue.items ≡ l.fn.queue.items;
+  same : l.nodes.items ≡ l.fn.nodes.items;
   left : (bytes : List ℕ) (ts : List Tree) → HasSpotsLeft bytes l.fn.elements ts →
       (rest : List Tree) × HasSpotsLeft bytes l.element-iterator rest × (slice_get rest l.before ≡ slice_get ts l.position);
 }

@@ -6,5 +6,5 @@ use Rattle.jsonb.proofs.Progress.{Progress}
 use Rattle.jsonb.proofs.selector.children.push_spots.Given as goal
 
 abbrev pub invariant-loop-spot : goal.invariant-loop-spot
-invariant-loop-spot l = (bytes : List ℕ) (ts before : List Tree) → HasSpotsLeft bytes l.fn.spots ts → AllRelated (Marks bytes) l.fn.queue.items before →
-    Progress (HasSpotsLeft bytes l.spot-iterator) (AllRelated (Marks bytes) l.queue.items) (λ t. Ok (t ∷ [])) (Ok (before ++ ts))
+invariant-loop-spot l = (bytes : List ℕ) (ts before : List Tree) → HasSpotsLeft bytes l.fn.spots ts → AllRelated (Marks bytes) l.fn.nodes.items before →
+    Progress (HasSpotsLeft bytes l.spot-iterator) (AllRelated (Marks bytes) l.nodes.items) (λ t. Ok (t ∷ [])) (Ok (before ++ ts))

@@ -14,7 +14,7 @@ decreases-push_levels l = spot_size l.item
 abbrev pub invariant-loop-child : goal.invariant-loop-child
 invariant-loop-child l = record {
   room : spots_room l.child-iterator ≤ spots_room l.initial.child-iterator;
-  whole : (t : Tree) (n : ℕ) (before : List Tree) → l.level ≡ min n 256 → Marks l.bytes l.fn.item t → AllRelated (Marks l.bytes) l.fn.queue.items before →
-      Progress (HasSpotsLeft l.bytes l.child-iterator) (AllRelated (Marks l.bytes) l.queue.items) (λ child. Ok (preorder (option_map levels_view l.levels) (n + 1) child))
+  whole : (t : Tree) (n : ℕ) (before : List Tree) → l.level ≡ min n 256 → Marks l.bytes l.fn.item t → AllRelated (Marks l.bytes) l.fn.nodes.items before →
+      Progress (HasSpotsLeft l.bytes l.child-iterator) (AllRelated (Marks l.bytes) l.nodes.items) (λ child. Ok (preorder (option_map levels_view l.levels) (n + 1) child))
       (Ok (before ++ preorder (option_map levels_view l.levels) n t));
 }

@@ -8,8 +8,8 @@ use Rattle.jsonb.specs.PathTree.{steps_of}
 use Rattle.jsonb.specs.PathViews.{step_view, steps_view, expression_view, operator_view, entry_view}
 use Rattle.jsonb.specs.Related.{AllRelated}
 use Rattle.jsonb.specs.Values.{values_of_item}
-use Rattle.jsonb.specs.Compare.{compare, both, either}
-use Rattle.jsonb.specs.Selection.{IsAt, found_spots, taken_as, taken_step}
+use Rattle.jsonb.specs.Compare.{compare, and_truth, or_truth}
+use Rattle.jsonb.specs.Selection.{IsAt, node_spots, taken_as, taken_step}
 use Rattle.jsonb.specs.ItemSteps.{field_step, indices_step}
 use Rattle.jsonb.specs.Meaning.{step_meaning, steps_meaning, truth, operand_values, kept, is_some_item}
 use Rattle.jsonb.proofs.Outcomes.{same_outcome, same_answer, refused_as, pushed, one_ok, both_ok, first_refused, second_refused, followed, given_by, continued, some_related}
@@ -39,7 +39,7 @@ push_step-returns-in-RecursiveDotWildcard-clause-meant t c = λ top u before r s
 
 pub push_step-returns-in-Root-clause-meant : goal.push_step-returns-in-Root-clause-meant
 push_step-returns-in-Root-clause-meant t c = λ top u before r s a.
-    let one = pushed (IsAt c.args.document) c.push_spot.result c.args.queue.now.items c.push_spot.new.queue.items c.args.item before u c.push_spot.ensures.ok c.push_spot.ensures.err a s in
+    let one = pushed (IsAt c.args.document) c.push_spot.result c.args.nodes.now.items c.push_spot.new.nodes.items c.args.item before u c.push_spot.ensures.ok c.push_spot.ensures.err a s in
     elim c.in-Root.is [
       | inl is ↦ same_outcome (ap (λ x. step_meaning c.args.mode (taken_step c.args.expressions x) top u) (root_is c.args.step.now is)) one
       | inr is ↦ same_outcome (ap (λ x. step_meaning c.args.mode (taken_step c.args.expressions x) top u) (current_is c.args.step.now is)) one
@@ -106,11 +106,11 @@ step_item-returns-in_ok-keeps-in-FilterExpr-clause-meant t c = λ top u r s.
 pub step_item-returns-in_err-push_step-in_default-clause-meant : goal.step_item-returns-in_err-push_step-in_default-clause-meant
 step_item-returns-in_err-push_step-in_default-clause-meant t c = λ top u r s.
     let p = err_from_is_err_and c.from_residual-in_err-push_step-in_default.result c.from_residual-in_err-push_step-in_default.ensures.1 in
-    same_answer (p.1 ∙ ap Err p.2) (refused_as (c.in_err-push_step-in_default.ensures.meant top u [] r s (subst (λ l. AllRelated (IsAt c.args.document) l []) (sym c.new-queue.ensures.items) tt)))
+    same_answer (p.1 ∙ ap Err p.2) (refused_as (c.in_err-push_step-in_default.ensures.meant top u [] r s (subst (λ l. AllRelated (IsAt c.args.document) l []) (sym c.new-nodes.ensures.items) tt)))
 
 pub step_item-returns-in_ok-push_step-in_default-clause-meant : goal.step_item-returns-in_ok-push_step-in_default-clause-meant
 step_item-returns-in_ok-push_step-in_default-clause-meant t c = λ top u r s. record {
-  ok = (c.in_ok-push_step-in_default.ensures.meant top u [] r s (subst (λ l. AllRelated (IsAt c.args.document) l []) (sym c.new-queue.ensures.items) tt)).ok;
+  ok = (c.in_ok-push_step-in_default.ensures.meant top u [] r s (subst (λ l. AllRelated (IsAt c.args.document) l []) (sym c.new-nodes.ensures.items) tt)).ok;
   err = tt;
 }
 
@@ -118,7 +118,7 @@ step_item-returns-in_ok-push_step-in_default-clause-meant t c = λ top u r s. re
 
 pub step_list-returns-in-Root-clause-meant : goal.step_list-returns-in-Root-clause-meant
 step_list-returns-in-Root-clause-meant t c = λ top ts r a.
-    let kept : Gives (λ found us. AllRelated (IsAt c.args.document) (found_spots found) us) WantsMemory (Ok c.args.items) (Ok ts) = record { ok = a; err = tt } in
+    let kept : Gives (λ found us. AllRelated (IsAt c.args.document) (node_spots found) us) WantsMemory (Ok c.args.items) (Ok ts) = record { ok = a; err = tt } in
     elim c.in-Root.is [
       | inl is ↦ same_outcome (ap (λ x. joined (step_meaning c.args.mode (taken_step c.args.expressions x) top) ts) (root_is c.args.step.now is) ∙ joined_singles ts) kept
       | inr is ↦ same_outcome (ap (λ x. joined (step_meaning c.args.mode (taken_step c.args.expressions x) top) ts) (current_is c.args.step.now is) ∙ joined_singles ts) kept
@@ -126,20 +126,20 @@ step_list-returns-in-Root-clause-meant t c = λ top ts r a.
 
 pub step_list-returns-in-One-clause-meant : goal.step_list-returns-in-One-clause-meant
 step_list-returns-in-One-clause-meant t c = λ top ts r a.
-    let one = only_one (IsAt c.args.document) c.in-One.item ts (subst (λ f. AllRelated (IsAt c.args.document) (found_spots f) ts) c.in-One.is a) in
+    let one = only_one (IsAt c.args.document) c.in-One.item ts (subst (λ f. AllRelated (IsAt c.args.document) (node_spots f) ts) c.in-One.is a) in
     same_outcome (ap (joined (step_meaning c.args.mode (taken_step c.args.expressions (step_view c.args.step.now)) top)) one.1 ∙ joined_one (step_meaning c.args.mode (taken_step c.args.expressions (step_view c.args.step.now)) top) one.0) (c.step_item.ensures.meant top one.0 r one.2)
 
 pub step_list-returns-in-Many-clause-meant : goal.step_list-returns-in-Many-clause-meant
 step_list-returns-in-Many-clause-meant t c = λ top ts r a.
     c.step_many.ensures.meant top ts r
-    (subst (λ l. AllRelated (IsAt c.args.document) l ts) (sym c.deref.ensures.value) (subst (λ f. AllRelated (IsAt c.args.document) (found_spots f) ts) c.in-Many.is a))
+    (subst (λ l. AllRelated (IsAt c.args.document) l ts) (sym c.deref.ensures.value) (subst (λ f. AllRelated (IsAt c.args.document) (node_spots f) ts) c.in-Many.is a))
 
 pub step_many-returns-in_err-push_step-clause-meant : goal.step_many-returns-in_err-push_step-clause-meant
 step_many-returns-in_err-push_step-clause-meant t c = λ top ts r a.
     let p = err_from_is_err_and c.from_residual.result c.from_residual.ensures.1 in
     same_answer (p.1 ∙ ap Err p.2) (refused_in (step_meaning c.args.mode (taken_step c.args.expressions (step_view c.args.step.now)) top) _
     (AllRelated (IsAt c.args.document) (drop c.loop-item.item-index c.args.items.now)) (AllRelated (IsAt c.args.document) (drop (c.loop-item.item-index + 1) c.args.items.now))
-    (AllRelated (IsAt c.args.document) c.loop-item.queue.items) (AllRelated (IsAt c.args.document) c.push_step.new.queue.items) _ _ _ (c.loop-item.invariant top ts r a)
+    (AllRelated (IsAt c.args.document) c.loop-item.nodes.items) (AllRelated (IsAt c.args.document) c.push_step.new.nodes.items) _ _ _ (c.loop-item.invariant top ts r a)
     (list_first (IsAt c.args.document) c.args.items.now c.loop-item.item-index no_spot c.loop-item-test.true)
     (λ u before s b. c.in_err-push_step.ensures.meant top u before r s b))
 
@@ -147,14 +147,14 @@ pub step_many-loop-item-preserved : goal.step_many-loop-item-preserved
 step_many-loop-item-preserved t c = λ top ts r a.
     one_more (step_meaning c.args.mode (taken_step c.args.expressions (step_view c.args.step.now)) top)
     (AllRelated (IsAt c.args.document) (drop c.loop-item.item-index c.args.items.now)) (AllRelated (IsAt c.args.document) (drop (c.loop-item.item-index + 1) c.args.items.now))
-    (AllRelated (IsAt c.args.document) c.loop-item.queue.items) (AllRelated (IsAt c.args.document) c.push_step.new.queue.items) _ _ (c.loop-item.invariant top ts r a)
+    (AllRelated (IsAt c.args.document) c.loop-item.nodes.items) (AllRelated (IsAt c.args.document) c.push_step.new.nodes.items) _ _ (c.loop-item.invariant top ts r a)
     (list_first (IsAt c.args.document) c.args.items.now c.loop-item.item-index no_spot c.loop-item-test.true)
     (λ u before s b. (c.in_ok-push_step.ensures.meant top u before r s b).ok)
 
 pub step_many-returns-clause-meant : goal.step_many-returns-clause-meant
 step_many-returns-clause-meant t c = λ top ts r a. record {
   ok = at_end (step_meaning c.args.mode (taken_step c.args.expressions (step_view c.args.step.now)) top) (AllRelated (IsAt c.args.document) (drop c.loop-item.item-index c.args.items.now))
-      (AllRelated (IsAt c.args.document) c.loop-item.queue.items) _ (c.loop-item.invariant top ts r a) (list_end (IsAt c.args.document) c.args.items.now c.loop-item.item-index c.loop-item-test.false);
+      (AllRelated (IsAt c.args.document) c.loop-item.nodes.items) _ (c.loop-item.invariant top ts r a) (list_end (IsAt c.args.document) c.args.items.now c.loop-item.item-index c.loop-item-test.false);
   err = tt;
 }
 
@@ -173,7 +173,7 @@ select_steps-returns-in_err-items-clause-meant t c = λ top u r s.
 pub select_steps-loop-step-preserved : goal.select_steps-loop-step-preserved
 select_steps-loop-step-preserved t c = λ top u r s.
     let inv = c.loop-step.invariant top u r s in
-    let next = continued (λ us. AllRelated (IsAt c.args.document) (found_spots c.in_ok-items.items) us) (joined (step_meaning c.args.mode (taken_step c.args.expressions (step_view c.step-item.result)) top) inv.0)
+    let next = continued (λ us. AllRelated (IsAt c.args.document) (node_spots c.in_ok-items.items) us) (joined (step_meaning c.args.mode (taken_step c.args.expressions (step_view c.step-item.result)) top) inv.0)
     (steps_meaning c.args.mode (steps_of (map (taken_step c.args.expressions) (steps_view (drop (c.loop-step.step-index + 1) c.args.steps.now)))) top) ((c.in_ok-items.ensures.meant top inv.0 r inv.1).ok) in
     (next.0, next.1, inv.2 ∙ steps_at c.args.mode c.args.expressions c.args.steps.now c.loop-step.step-index c.step-item.result top inv.0 c.loop-step-test.true c.step-item.is ∙ next.2)
 
@@ -181,7 +181,7 @@ pub select_steps-returns-clause-meant : goal.select_steps-returns-clause-meant
 select_steps-returns-clause-meant t c = λ top u r s.
     let inv = c.loop-step.invariant top u r s in
     let none = inv.2 ∙ ap (λ l. steps_meaning c.args.mode (steps_of (map (taken_step c.args.expressions) (steps_view l))) top inv.0) (drop_of_length-le c.args.steps.now c.loop-step-test.false) in
-    record { ok = subst (λ o. IsOkAnd o (AllRelated (IsAt c.args.document) (found_spots c.loop-step.items))) (sym none) inv.1; err = tt }
+    record { ok = subst (λ o. IsOkAnd o (AllRelated (IsAt c.args.document) (node_spots c.loop-step.items))) (sym none) inv.1; err = tt }
 
 -- ---- filters
 
@@ -239,22 +239,22 @@ pub truth-returns-in_ok-b-in-And-clause-meant : goal.truth-returns-in_ok-b-in-An
 truth-returns-in_ok-b-in-And-clause-meant t c = λ top u r s.
     same_outcome (ap (λ x. truth c.args.mode x top u) (binary_is c.args.e.now c.in-BinaryOp.op c.in-BinaryOp.left c.in-BinaryOp.right c.in-BinaryOp.is
     ∙ (λ i. math.binary (operator_view (c.in-And.is i)) (expression_view (sym c.deref.ensures i)) (expression_view (sym c.deref-in-And.ensures i)))))
-    (both_ok (λ a b. Ok (both a b)) (c.in_ok-a-in-And.ensures.meant top u r s) (c.in_ok-b-in-And.ensures.meant top u r s) (λ a b p q. c.both.ensures ∙ (λ i. both (p i) (q i))))
+    (both_ok (λ a b. Ok (and_truth a b)) (c.in_ok-a-in-And.ensures.meant top u r s) (c.in_ok-b-in-And.ensures.meant top u r s) (λ a b p q. c.and_truth.ensures ∙ (λ i. and_truth (p i) (q i))))
 
 pub truth-returns-in_err-b-in-And-clause-meant : goal.truth-returns-in_err-b-in-And-clause-meant
 truth-returns-in_err-b-in-And-clause-meant t c = λ top u r s. let p = err_from_is_err_and c.from_residual-in_err-b-in-And.result c.from_residual-in_err-b-in-And.ensures.1 in
     same_answer (p.1 ∙ ap Err p.2) (same_outcome (ap (λ x. truth c.args.mode x top u) (binary_is c.args.e.now c.in-BinaryOp.op c.in-BinaryOp.left c.in-BinaryOp.right c.in-BinaryOp.is
     ∙ (λ i. math.binary (operator_view (c.in-And.is i)) (expression_view (sym c.deref.ensures i)) (expression_view (sym c.deref-in-And.ensures i)))))
-    (second_refused (λ a b. Ok (both a b)) (c.in_ok-a-in-And.ensures.meant top u r s) (c.in_err-b-in-And.ensures.meant top u r s)))
+    (second_refused (λ a b. Ok (and_truth a b)) (c.in_ok-a-in-And.ensures.meant top u r s) (c.in_err-b-in-And.ensures.meant top u r s)))
 
 pub truth-returns-in_ok-b-in-Or-clause-meant : goal.truth-returns-in_ok-b-in-Or-clause-meant
 truth-returns-in_ok-b-in-Or-clause-meant t c = λ top u r s.
     same_outcome (ap (λ x. truth c.args.mode x top u) (binary_is c.args.e.now c.in-BinaryOp.op c.in-BinaryOp.left c.in-BinaryOp.right c.in-BinaryOp.is
     ∙ (λ i. math.binary (operator_view (c.in-Or.is i)) (expression_view (sym c.deref-in-Or.ensures i)) (expression_view (sym c.deref-in-Or-2.ensures i)))))
-    (both_ok (λ a b. Ok (either a b)) (c.in_ok-a-in-Or.ensures.meant top u r s) (c.in_ok-b-in-Or.ensures.meant top u r s) (λ a b p q. c.either.ensures ∙ (λ i. either (p i) (q i))))
+    (both_ok (λ a b. Ok (or_truth a b)) (c.in_ok-a-in-Or.ensures.meant top u r s) (c.in_ok-b-in-Or.ensures.meant top u r s) (λ a b p q. c.or_truth.ensures ∙ (λ i. or_truth (p i) (q i))))
 
 pub truth-returns-in_err-b-in-Or-clause-meant : goal.truth-returns-in_err-b-in-Or-clause-meant
 truth-returns-in_err-b-in-Or-clause-meant t c = λ top u r s. let p = err_from_is_err_and c.from_residual-in_err-b-in-Or.result c.from_residual-in_err-b-in-Or.ensures.1 in
     same_answer (p.1 ∙ ap Err p.2) (same_outcome (ap (λ x. truth c.args.mode x top u) (binary_is c.args.e.now c.in-BinaryOp.op c.in-BinaryOp.left c.in-BinaryOp.right c.in-BinaryOp.is
     ∙ (λ i. math.binary (operator_view (c.in-Or.is i)) (expression_view (sym c.deref-in-Or.ensures i)) (expression_view (sym c.deref-in-Or-2.ensures i)))))
-    (second_refused (λ a b. Ok (either a b)) (c.in_ok-a-in-Or.ensures.meant top u r s) (c.in_err-b-in-Or.ensures.meant top u r s)))
+    (second_refused (λ a b. Ok (or_truth a b)) (c.in_ok-a-in-Or.ensures.meant top u r s) (c.in_err-b-in-Or.ensures.meant top u r s)))

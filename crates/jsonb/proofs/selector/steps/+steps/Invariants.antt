@@ -4,7 +4,7 @@ use Rattle.jsonb_doc.specs.Tree.{Tree}
 use Rattle.jsonb.specs.PathTree.{steps_of}
 use Rattle.jsonb.specs.PathViews.{step_view, steps_view}
 use Rattle.jsonb.specs.Related.{AllRelated}
-use Rattle.jsonb.specs.Selection.{IsAt, HasTree, found_spots, taken_step}
+use Rattle.jsonb.specs.Selection.{IsAt, HasTree, node_spots, taken_step}
 use Rattle.jsonb.specs.Meaning.{step_meaning, steps_meaning}
 use Rattle.jsonb.proofs.Progress.{Progress}
 use Rattle.jsonb.proofs.selector.steps.+steps.Given as goal
@@ -13,11 +13,11 @@ use Rattle.jsonb.proofs.selector.steps.+steps.Given as goal
 abbrev pub invariant-select_steps-loop-step : goal.invariant-select_steps-loop-step
 invariant-select_steps-loop-step l =
     (top t : Tree) → HasTree l.document top → IsAt l.document l.fn.first t →
-    (us : List Tree) × AllRelated (IsAt l.document) (found_spots l.items) us
+    (us : List Tree) × AllRelated (IsAt l.document) (node_spots l.items) us
     × (steps_meaning l.mode (steps_of (map (taken_step l.expressions) (steps_view l.steps))) top (t ∷ []) ≡ steps_meaning l.mode (steps_of (map (taken_step l.expressions) (steps_view (drop l.step-index l.steps)))) top us)
 
 abbrev pub invariant-step_many-loop-item : goal.invariant-step_many-loop-item
 invariant-step_many-loop-item l =
     (top : Tree) (ts : List Tree) → HasTree l.document top → AllRelated (IsAt l.document) l.items ts →
-    Progress (AllRelated (IsAt l.document) (drop l.item-index l.items)) (AllRelated (IsAt l.document) l.queue.items) (step_meaning l.mode (taken_step l.expressions (step_view l.step)) top)
+    Progress (AllRelated (IsAt l.document) (drop l.item-index l.items)) (AllRelated (IsAt l.document) l.nodes.items) (step_meaning l.mode (taken_step l.expressions (step_view l.step)) top)
     (joined (step_meaning l.mode (taken_step l.expressions (step_view l.step)) top) ts)

@@ -11,7 +11,7 @@ use Rattle.jsonb.proofs.Outcomes.{same_outcome, same_answer, first_refused, one_
 use Rattle.jsonb.proofs.PredicateLemmas.{binary_predicate, predicate_by_cases}
 use Rattle.jsonb.proofs.PathNodes.{unary_is, binary_is, exists_is}
 use Rattle.jsonb.proofs.WholeLemmas.{some_of, none_of}
-use Rattle.jsonb.proofs.selector.whole.expression_truth.Goals as goal
+use Rattle.jsonb.proofs.selector.whole_path.expression_truth.Goals as goal
 
 pub returns-in_err-_parts-in-UnaryOp-clause-meant : goal.returns-in_err-_parts-in-UnaryOp-clause-meant
 returns-in_err-_parts-in-UnaryOp-clause-meant c = λ top r.

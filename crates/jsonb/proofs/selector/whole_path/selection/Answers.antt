@@ -6,7 +6,7 @@ use Rattle.jsonb.specs.PathViews.{steps_view}
 use Rattle.jsonb.proofs.Outcomes.{same_outcome, same_answer, refused_as}
 use Rattle.jsonb.proofs.StepLemmas.{filter_steps}
 use Rattle.jsonb.proofs.WholeLemmas.{by_steps}
-use Rattle.jsonb.proofs.selector.whole.selection.Goals as goal
+use Rattle.jsonb.proofs.selector.whole_path.selection.Goals as goal
 
 pub returns-in_err-spots-clause-meant : goal.returns-in_err-spots-clause-meant
 returns-in_err-spots-clause-meant c = λ form top outcome r h.

@@ -9,7 +9,7 @@ use Rattle.jsonb.specs.Meaning.{operand_values, truth, truth_list, binary_meanin
 use Rattle.jsonb.proofs.Outcomes.{same_outcome, same_answer, refused_as}
 use Rattle.jsonb.proofs.PathNodes.{unary_is, binary_is, exists_is}
 use Rattle.jsonb.proofs.WholeLemmas.{meant, some_of, none_of, is_outcome}
-use Rattle.jsonb.proofs.selector.whole.expression_parts.Goals as goal
+use Rattle.jsonb.proofs.selector.whole_path.expression_parts.Goals as goal
 
 pub returns-in-UnaryOp-clause-meant : goal.returns-in-UnaryOp-clause-meant
 returns-in-UnaryOp-clause-meant c = λ form top outcome r h.
@@ -32,7 +32,7 @@ returns-in_ok-number-in-BinaryOp-clause-meant c = λ form top outcome r h.
     ∙ ap (λ x. binary_meaning c.args.mode x (operator_view c.in-BinaryOp.op) (expression_view c.in-BinaryOp.left.value) (expression_view c.in-BinaryOp.right.value) top) o.1
     ∙ (λ i. calculation o.0 (operand_values c.args.mode (expression_view (sym c.deref-then-is_arithmetic.ensures i)) top top) (operand_values c.args.mode (expression_view (sym c.deref-then-is_arithmetic-2.ensures i)) top top))
     ∙ is_outcome _ (number (number_view c.in_ok-number-in-BinaryOp.number) ∷ []) ((c.in_ok-number-in-BinaryOp.ensures.meant top o.0 r o.1).ok))
-    (c.lone_part.ensures.meant form (number (number_view c.in_ok-number-in-BinaryOp.number)) refl)
+    (c.one_item.ensures.meant form (number (number_view c.in_ok-number-in-BinaryOp.number)) refl)
 
 pub returns-else-is_arithmetic-clause-meant : goal.returns-else-is_arithmetic-clause-meant
 returns-else-is_arithmetic-clause-meant c = λ form top outcome r h.

@@ -3,7 +3,7 @@ use Rattle.jsonb.specs.PathArithmetic.{two_numbers}
 use Rattle.jsonb.proofs.Outcomes.{followed, same_outcome}
 use Rattle.jsonb.proofs.CalculateLemmas.{refused_as_path}
 use Rattle.jsonb.proofs.WholeLemmas.{without_memory}
-use Rattle.jsonb.proofs.selector.whole.whole_binary.Goals as goal
+use Rattle.jsonb.proofs.selector.whole_path.whole_binary.Goals as goal
 
 pub returns-clause-meant : goal.returns-clause-meant
 returns-clause-meant c = λ top o r h.

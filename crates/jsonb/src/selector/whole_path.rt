@@ -10,15 +10,15 @@ ghost use Rattle.jsonb.specs.PathViews.{step_view, steps_view, expression_view, 
 ghost use Rattle.jsonb.specs.Related.{AllRelated};
 ghost use Rattle.jsonb.specs.PathArithmetic.{operation, each_signed};
 ghost use Rattle.jsonb.specs.Meaning.{step_meaning, steps_meaning, operand_values, truth, as_filter, Means, truth_item, truth_list, calculation, expression_predicate};
-ghost use Rattle.jsonb.specs.Selection.{IsAt, HasTree, found_spots, IsPart, IsNumberTree, Selects, step_expression, lone_expression, begins_with_current};
+ghost use Rattle.jsonb.specs.Selection.{IsAt, HasTree, node_spots, IsMadeItem, IsNumberTree, Selects, step_expression, only_expression, begins_with_current};
 ghost use Rattle.jsonb.specs.declared.selector.document.Mode.{Mode};
-ghost use Rattle.jsonb.specs.declared.selector.part.Part.TheVariants as part;
+ghost use Rattle.jsonb.specs.declared.selector.selected.MadeItem.TheVariants as made_item;
 ghost use Rattle.jsonb_raw.specs.Documents.{IsReadingError};
 ghost use Rattle.jsonb.specs.SelectionErrors.{IsSelectionError};
 
 use super::calculate::{binary_number, is_arithmetic, unary_numbers};
 use super::document::{Document, Expressions, Mode};
-use super::part::{Part, Selected};
+use super::selected::{MadeItem, Selected};
 use super::steps::{operand_values, select_steps, truth};
 use crate::path::{BinaryOperator, Expr, Path, PathValue, UnaryOperator};
 use jsonb_doc::{Error, Item, Number, root_item};
@@ -31,24 +31,33 @@ pub(crate) fn selection<'a>(
     steps: &'a [Path<'_>],
     document: Document<'a>,
 ) -> Result<Selected<'a>, Error>
-    ensures meant { (form : Form) (top : Tree) (outcome : Outcome (List Tree)) → HasTree document.entry top → Means form mode (steps_view steps.now) top outcome
+    ensures meant { (form : Form) (top : Tree) (outcome : Outcome (List Tree)) → HasTree document.entry top
+        → Means form mode (steps_view steps.now) top outcome
         → Gives (Selects form document.entry) WantsMemory result outcome }
     ensures errors { IfErr result (IsSelectionError mode) }
 {
-    if let Some(e) = lone_expression(steps) {
+    if let Some(e) = only_expression(steps) {
         let parts = expression_parts(alloc, mode, e, document)?;
-        return Ok(Selected::Made(parts));
+        return Ok(Selected::Items(parts));
     }
     if begins_with_current(steps) {
         return Err(Error::InvalidJsonPath);
     }
-    let spots = select_steps(alloc, mode, Expressions::AreFilters, steps, document, document.root)?;
-    Ok(Selected::Spots(spots))
+    let spots = select_steps(
+        alloc,
+        mode,
+        Expressions::AreFilters,
+        steps,
+        document,
+        document.root,
+    )?;
+    Ok(Selected::Nodes(spots))
 }
 
 /// The expression that is the whole path.
-pub(crate) fn lone_expression<'s, 'a>(steps: &'s [Path<'a>]) -> Option<&'s Expr<'a>>
-    ensures { MatchOption result (lone_expression (steps_view steps.now) ≡ None) (λ e. lone_expression (steps_view steps.now) ≡ Some (expression_view e.now)) }
+pub(crate) fn only_expression<'s, 'a>(steps: &'s [Path<'a>]) -> Option<&'s Expr<'a>>
+    ensures { MatchOption result (only_expression (steps_view steps.now) ≡ None)
+        (λ e. only_expression (steps_view steps.now) ≡ Some (expression_view e.now)) }
 {
     if steps.len() == 1 {
         step_expression(&steps[0])
@@ -59,7 +68,8 @@ pub(crate) fn lone_expression<'s, 'a>(steps: &'s [Path<'a>]) -> Option<&'s Expr<
 
 // The expression of a step.
 fn step_expression<'s, 'a>(step: &'s Path<'a>) -> Option<&'s Expr<'a>>
-    ensures { MatchOption result (step_expression (step_view step.now) ≡ None) (λ e. step_expression (step_view step.now) ≡ Some (expression_view e.now)) }
+    ensures { MatchOption result (step_expression (step_view step.now) ≡ None)
+        (λ e. step_expression (step_view step.now) ≡ Some (expression_view e.now)) }
 {
     match step {
         Path::Expr(e) => Some(e),
@@ -83,9 +93,10 @@ fn expression_parts<'a>(
     mode: Mode,
     e: &'a Expr<'_>,
     document: Document<'a>,
-) -> Result<Vec<Part<'a>>, Error>
-    ensures meant { (form : Form) (top : Tree) (outcome : Outcome (List Tree)) → HasTree document.entry top → Means form mode (whole_expression (expression_view e.now) ∷ []) top outcome
-        → Gives (λ v ts. AllRelated (IsPart form) v.items ts) WantsMemory result outcome }
+) -> Result<Vec<MadeItem<'a>>, Error>
+    ensures meant { (form : Form) (top : Tree) (outcome : Outcome (List Tree)) → HasTree document.entry top
+        → Means form mode (whole_expression (expression_view e.now) ∷ []) top outcome
+        → Gives (λ v ts. AllRelated (IsMadeItem form) v.items ts) WantsMemory result outcome }
     ensures errors { IfErr result (IsSelectionError mode) }
 {
     match e {
@@ -95,7 +106,7 @@ fn expression_parts<'a>(
         Expr::BinaryOp { op, left, right } => {
             if is_arithmetic(*op) {
                 let number = whole_binary(alloc, mode, *op, left, right, document)?;
-                lone_part(alloc, Part::Item(Item::Number(number)))
+                one_item(alloc, MadeItem::Item(Item::Number(number)))
             } else {
                 whole_truth(alloc, mode, e, document)
             }
@@ -105,19 +116,20 @@ fn expression_parts<'a>(
 }
 
 // A literal as the whole path: an array of it, and of a document the document.
-fn literal_parts<'a>(alloc: Global, literal: &'a PathValue<'_>) -> Result<Vec<Part<'a>>, Error>
-    ensures meant { (form : Form) (mode : Mode) (top : Tree) (outcome : Outcome (List Tree)) → Means form mode (whole_expression (value (literal_view literal.now)) ∷ []) top outcome
-        → Gives (λ v ts. AllRelated (IsPart form) v.items ts) WantsMemory result outcome }
+fn literal_parts<'a>(alloc: Global, literal: &'a PathValue<'_>) -> Result<Vec<MadeItem<'a>>, Error>
+    ensures meant { (form : Form) (mode : Mode) (top : Tree) (outcome : Outcome (List Tree))
+        → Means form mode (whole_expression (value (literal_view literal.now)) ∷ []) top outcome
+        → Gives (λ v ts. AllRelated (IsMadeItem form) v.items ts) WantsMemory result outcome }
     ensures errors { (mode : Mode) → IfErr result (IsSelectionError mode) }
 {
     match literal {
-        PathValue::Null => lone_part(alloc, Part::ArrayOf(Item::Null)),
-        PathValue::Boolean(b) => lone_part(alloc, Part::ArrayOf(Item::Boolean(*b))),
-        PathValue::Number(n) => lone_part(alloc, Part::ArrayOf(Item::Number(*n))),
-        PathValue::String(s) => lone_part(alloc, Part::ArrayOf(Item::String(s.as_str()))),
+        PathValue::Null => one_item(alloc, MadeItem::ArrayOf(Item::Null)),
+        PathValue::Boolean(b) => one_item(alloc, MadeItem::ArrayOf(Item::Boolean(*b))),
+        PathValue::Number(n) => one_item(alloc, MadeItem::ArrayOf(Item::Number(*n))),
+        PathValue::String(s) => one_item(alloc, MadeItem::ArrayOf(Item::String(s.as_str()))),
         PathValue::Raw(raw) => {
             let item = root_item(raw.as_bytes())?;
-            lone_part(alloc, Part::Item(item))
+            one_item(alloc, MadeItem::Item(item))
         }
     }
 }
@@ -129,9 +141,10 @@ fn whole_unary<'a>(
     op: UnaryOperator,
     operand: &'a Expr<'_>,
     document: Document<'a>,
-) -> Result<Vec<Part<'a>>, Error>
+) -> Result<Vec<MadeItem<'a>>, Error>
     ensures meant { (form : Form) (top : Tree) → HasTree document.entry top
-        → Gives (λ v ts. AllRelated (IsPart form) v.items ts) WantsMemory result (with_value (operand_values mode (expression_view operand.now) top top) (each_signed (sign_view op))) }
+        → Gives (λ v ts. AllRelated (IsMadeItem form) v.items ts) WantsMemory result
+        (with_value (operand_values mode (expression_view operand.now) top top) (each_signed (sign_view op))) }
     ensures errors { IfErr result (IsSelectionError mode) }
 {
     let values = operand_values(alloc, mode, operand, document, document.root)?;
@@ -148,7 +161,9 @@ fn whole_binary<'a>(
     document: Document<'a>,
 ) -> Result<Number, Error>
     ensures meant { (top : Tree) (o : Operation) → HasTree document.entry top → operation (operator_view op) ≡ Some o
-        → Gives IsNumberTree WantsMemory result (calculation o (operand_values mode (expression_view left.now) top top) (operand_values mode (expression_view right.now) top top)) }
+        → Gives IsNumberTree WantsMemory result
+        (calculation o (operand_values mode (expression_view left.now) top top)
+        (operand_values mode (expression_view right.now) top top)) }
     ensures errors { IfErr result (IsSelectionError mode) }
 {
     let lefts = operand_values(alloc, mode, left, document, document.root)?;
@@ -162,18 +177,19 @@ fn whole_truth<'a>(
     mode: Mode,
     e: &'a Expr<'_>,
     document: Document<'a>,
-) -> Result<Vec<Part<'a>>, Error>
+) -> Result<Vec<MadeItem<'a>>, Error>
     ensures meant { (form : Form) (top : Tree) → HasTree document.entry top
-        → Gives (λ v ts. AllRelated (IsPart form) v.items ts) WantsMemory result (truth_list (truth mode (expression_view e.now) top top)) }
+        → Gives (λ v ts. AllRelated (IsMadeItem form) v.items ts) WantsMemory result
+        (truth_list (truth mode (expression_view e.now) top top)) }
     ensures errors { IfErr result (IsSelectionError mode) }
 {
     let truth = truth(alloc, mode, e, document, document.root)?;
-    lone_part(alloc, Part::Item(truth_item(truth)))
+    one_item(alloc, MadeItem::Item(truth_item(truth)))
 }
 
 // A truth as an item: unknown is null.
 fn truth_item<'a>(truth: Option<bool>) -> Item<'a>
-    ensures { (form : Form) → IsPart form (part.Item result) (truth_item truth) }
+    ensures { (form : Form) → IsMadeItem form (made_item.Item result) (truth_item truth) }
 {
     match truth {
         Some(b) => Item::Boolean(b),
@@ -181,8 +197,9 @@ fn truth_item<'a>(truth: Option<bool>) -> Item<'a>
     }
 }
 
-fn lone_part<'a>(alloc: Global, part: Part<'a>) -> Result<Vec<Part<'a>>, Error>
-    ensures meant { (form : Form) (t : Tree) → IsPart form part.entry t → Gives (λ v ts. AllRelated (IsPart form) v.items ts) WantsMemory result (Ok (t ∷ [])) }
+fn one_item<'a>(alloc: Global, part: MadeItem<'a>) -> Result<Vec<MadeItem<'a>>, Error>
+    ensures meant { (form : Form) (t : Tree) → IsMadeItem form part.entry t
+        → Gives (λ v ts. AllRelated (IsMadeItem form) v.items ts) WantsMemory result (Ok (t ∷ [])) }
     ensures errors { IfErr result IsReadingError }
 {
     let mut parts = Vec::new(alloc);
@@ -197,7 +214,8 @@ pub(crate) fn expression_truth<'a>(
     e: &'a Expr<'_>,
     document: Document<'a>,
 ) -> Result<Option<bool>, Error>
-    ensures meant { (top : Tree) → HasTree document.entry top → Gives (λ b c. b ≡ c) WantsMemory result (expression_predicate mode (expression_view e.now) top) }
+    ensures meant { (top : Tree) → HasTree document.entry top
+        → Gives (λ b c. b ≡ c) WantsMemory result (expression_predicate mode (expression_view e.now) top) }
     ensures errors { IfErr result (IsSelectionError mode) }
 {
     match e {

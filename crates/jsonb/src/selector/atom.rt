@@ -1,0 +1,193 @@
+//! The values of operands, and how they compare.
+
+ghost use Rattle.std.specs.Prelude.{◌≡◌, map, Some};
+ghost use Rattle.jsonb_doc.specs.Payload.{any};
+ghost use Rattle.jsonb_doc.specs.Tree.{Tree};
+ghost use Rattle.jsonb_doc.specs.Item.{Stands};
+ghost use Rattle.jsonb.specs.PathViews.{operator_view, literal_view};
+ghost use Rattle.jsonb.specs.Values.{value_of_item, literal_item, values_of_literal};
+ghost use Rattle.jsonb.specs.Compare.{compare, pair_truth, value_order, is_met_by, truth_of_order, starts_with_truth, and_truth, or_truth, is_raw};
+ghost use Rattle.jsonb.specs.Selection.{atom_value, atoms_view, option_atoms};
+
+use crate::path::{BinaryOperator, PathValue};
+use jsonb_doc::{Item, Number};
+use std::alloc::Global;
+use std::cmp::Ordering;
+use std::slice;
+
+/// A value of an operand: a scalar, or a container, of which nothing is compared.
+#[derive(Clone, Copy)]
+pub(crate) enum Atom<'a> {
+    Null,
+    Boolean(bool),
+    Number(Number),
+    String(&'a str),
+    Raw,
+}
+
+/// The values of an operand. One alone needs no memory.
+#[derive(Drop)]
+pub(crate) enum Atoms<'a> {
+    One(Atom<'a>),
+    Many(Vec<Atom<'a>>),
+}
+
+impl<'a> Atoms<'a> {
+    pub(crate) fn at_most_one(alloc: Global, value: Option<Atom<'a>>) -> Atoms<'a>
+        ensures { atoms_view result ≡ option_atoms value.entry }
+    {
+        match value {
+            Some(value) => Atoms::One(value),
+            None => Atoms::Many(Vec::new(alloc)),
+        }
+    }
+
+    pub(crate) fn as_slice(&self) -> &[Atom<'a>]
+        ensures { map atom_value result.now ≡ atoms_view self.now }
+    {
+        match self {
+            Atoms::One(value) => slice::from_ref(value),
+            Atoms::Many(values) => values.as_slice(),
+        }
+    }
+}
+
+/// The value of an item that is no array, and of an element. An extension has none.
+pub(crate) fn item_atom<'a>(item: Item<'a>) -> Option<Atom<'a>>
+    ensures { (t : Tree) → Stands any item.entry t → option_atoms result ≡ value_of_item t }
+{
+    match item {
+        Item::Null => Some(Atom::Null),
+        Item::Boolean(b) => Some(Atom::Boolean(b)),
+        Item::Number(n) => Some(Atom::Number(n)),
+        Item::String(s) => Some(Atom::String(s)),
+        Item::Extension(_) => None,
+        Item::Array(_) | Item::Object(_) => Some(Atom::Raw),
+    }
+}
+
+/// The value of a literal.
+pub(crate) fn literal_atom<'a>(literal: &'a PathValue<'_>) -> Atom<'a>
+    ensures { option_atoms (Some result) ≡ values_of_literal (literal_item (literal_view literal.now)) }
+{
+    match literal {
+        PathValue::Null => Atom::Null,
+        PathValue::Boolean(b) => Atom::Boolean(*b),
+        PathValue::Number(n) => Atom::Number(*n),
+        PathValue::String(s) => Atom::String(s.as_str()),
+        PathValue::Raw(_) => Atom::Raw,
+    }
+}
+
+/// Whether both sides are true, unknown where either is.
+pub(crate) fn and_truth(a: Option<bool>, b: Option<bool>) -> Option<bool>
+    ensures { result ≡ and_truth a b }
+{
+    match (a, b) {
+        (Some(a), Some(b)) => Some(a && b),
+        _ => None,
+    }
+}
+
+/// Whether one side is true, unknown where either is.
+pub(crate) fn or_truth(a: Option<bool>, b: Option<bool>) -> Option<bool>
+    ensures { result ≡ or_truth a b }
+{
+    match (a, b) {
+        (Some(a), Some(b)) => Some(a || b),
+        _ => None,
+    }
+}
+
+/// All pairs, for each left value all right values: the first that is true or unknown decides.
+pub(crate) fn compare(op: BinaryOperator, ls: &[Atom<'_>], rs: &[Atom<'_>]) -> Option<bool>
+    ensures { result ≡ compare (operator_view op) (map atom_value ls.now) (map atom_value rs.now) }
+{
+    for l in ls {
+        for r in rs {
+            let truth = pair_truth(op, l, r);
+            if truth != Some(false) {
+                return truth;
+            }
+        }
+    }
+    Some(false)
+}
+
+// Of one pair: with a container it is unknown.
+fn pair_truth(op: BinaryOperator, l: &Atom<'_>, r: &Atom<'_>) -> Option<bool>
+    ensures { result ≡ pair_truth (operator_view op) (atom_value l.now) (atom_value r.now) }
+{
+    if op == BinaryOperator::StartsWith {
+        return starts_with_truth(l, r);
+    }
+    if is_raw(l) || is_raw(r) {
+        return None;
+    }
+    truth_of_order(op, value_order(l, r))
+}
+
+// Whether the right text begins the left one.
+fn starts_with_truth(l: &Atom<'_>, r: &Atom<'_>) -> Option<bool>
+    ensures { result ≡ starts_with_truth (atom_value l.now) (atom_value r.now) }
+{
+    match (l, r) {
+        (Atom::String(l), Atom::String(r)) => Some(l.as_bytes().starts_with(r.as_bytes())),
+        _ => None,
+    }
+}
+
+fn is_raw(value: &Atom<'_>) -> bool
+    ensures { result ≡ is_raw (atom_value value.now) }
+{
+    match value {
+        Atom::Raw => true,
+        _ => false,
+    }
+}
+
+// The order of two values of one kind.
+fn value_order(l: &Atom<'_>, r: &Atom<'_>) -> Option<Ordering>
+    ensures { result ≡ value_order (atom_value l.now) (atom_value r.now) }
+{
+    match (l, r) {
+        (Atom::Null, Atom::Null) => Some(Ordering::Equal),
+        (Atom::Boolean(l), Atom::Boolean(r)) => Some(l.cmp(r)),
+        (Atom::Number(l), Atom::Number(r)) => Some(l.cmp(r)),
+        (Atom::String(l), Atom::String(r)) => Some(l.cmp(r)),
+        _ => None,
+    }
+}
+
+// Atoms of two kinds differ, and else nothing is known of them.
+fn truth_of_order(op: BinaryOperator, order: Option<Ordering>) -> Option<bool>
+    ensures { result ≡ truth_of_order (operator_view op) order }
+{
+    match order {
+        Some(order) => Some(is_met_by(op, order)),
+        None if op == BinaryOperator::NotEq => Some(true),
+        None => None,
+    }
+}
+
+// Whether the operator holds of two values in this order.
+fn is_met_by(op: BinaryOperator, order: Ordering) -> bool
+    ensures { result ≡ is_met_by (operator_view op) order }
+{
+    match op {
+        BinaryOperator::Eq => order == Ordering::Equal,
+        BinaryOperator::NotEq => order != Ordering::Equal,
+        BinaryOperator::Lt => order == Ordering::Less,
+        BinaryOperator::Lte => order != Ordering::Greater,
+        BinaryOperator::Gt => order == Ordering::Greater,
+        BinaryOperator::Gte => order != Ordering::Less,
+        BinaryOperator::And
+        | BinaryOperator::Or
+        | BinaryOperator::StartsWith
+        | BinaryOperator::Add
+        | BinaryOperator::Subtract
+        | BinaryOperator::Multiply
+        | BinaryOperator::Divide
+        | BinaryOperator::Modulo => false,
+    }
+}
