@@ -42,6 +42,8 @@ from edits import rt, say
 MEMORY_OF_A_CHECK = 4_500_000_000
 # What the prover says of a proof that names something which the edit took away: that says nothing of the contract.
 NAMES_WHAT_IS_GONE = re.compile(r"has no field|is not in scope|has no `|was not admitted")
+# Where it says that a goal without a written proof is open.
+OPEN_GOAL = re.compile(r"^note: (src/\S+?):(\d+):\d+: it is not proved that", re.M)
 
 
 # ---- whether an edit is refused
@@ -67,8 +69,11 @@ def remember_check(*given):
 rt.checked = remember_check
 
 
-def fault_of_refusal(crate, function, said):
-    """Returns why the prover's output does not refuse the function for itself, or None where it does."""
+def fault_of_refusal(crate, function, said, texts):
+    """Returns why the prover's output does not refuse the function for itself, or None where it does.
+
+    The texts are those of the files that the edit changes, by their path.
+    """
     lines = function.lines(crate, said)
     names = {name for name, _ in lines if "fn::" not in name}
     if len(names) != 1:
@@ -77,11 +82,16 @@ def fault_of_refusal(crate, function, said):
         return f"{names.pop()} is still proved"
     if any("did not prove" in verdict for _, verdict in lines):
         return None
+    places = [(path, int(line)) for path, line in OPEN_GOAL.findall(said) if path in texts]
+    if function in [edits.function_at(path, texts[path], line) for path, line in places]:
+        return None
     folders = [re.escape(name.replace("::", "/")) for name, verdict in lines if not verdict.startswith("proved")]
     folders += [rf"(?:[\w/]+/)?\+{function.cycle}"] if function.cycle else []
     errors = re.findall(rf"^\./proofs/(?:{'|'.join(folders)})/.*: error: .*$", said, re.M)
     if any(not NAMES_WHAT_IS_GONE.search(it) for it in errors):
         return None
+    if errors:
+        return f"{names.pop()} is refused only because its proof names what the edit took away: keep the names"
     return f"{names.pop()} is refused only for what it calls: {lines[0][1][:120]}"
 
 
@@ -94,11 +104,12 @@ def try_edit(crate, edit, kept):
         return Result(0, len(functions), text)
     if functions == [None]:
         return Result(1, 0, text)
-    faults = [fault_of_refusal(crate.name, it, this_thread.check.stdout) for it in functions]
-    texts = [text, *(f"{name}: NOT REFUSED FOR ITSELF: {it}" for it in faults if it)]
+    texts, said = rt.read_edit(edit, crate.folder)[0], this_thread.check.stdout
+    faults = [fault_of_refusal(crate.name, it, said, texts) for it in functions]
+    told = [text, *(f"{name}: NOT REFUSED FOR ITSELF: {it}" for it in faults if it)]
     if len(functions) > 1 and not any(faults):
-        texts.append(f"{name}: each of its {len(functions)} functions is refused for itself")
-    return Result(faults.count(None), len(faults) - faults.count(None), "\n".join(texts))
+        told.append(f"{name}: each of its {len(functions)} functions is refused for itself")
+    return Result(faults.count(None), len(faults) - faults.count(None), "\n".join(told))
 
 
 def prove(crate):

@@ -94,14 +94,8 @@ def cycle_of(rows, header):
     return None
 
 
-def function_of(path, text, old, new):
-    """Returns the function whose body a pair changes in a file's text, or None where it changes no body alone."""
-    end = text.find("\n", text.index(old) + indent(old))
-    rows = text[: end if end >= 0 else len(text)].split("\n")
-    begins_body = FUNCTION.match(rows[-1]) and old.endswith("{") and new.startswith(old)
-    header = len(rows) - 1 if begins_body else header_above(rows)
-    if header is None or not path.startswith("src/"):
-        return None
+def function_below(path, rows, header):
+    """Returns the function with this header in a file's rows, or None where it is a method of no known type."""
     name, cycle = FUNCTION.match(rows[header])[2], cycle_of(rows, header)
     if not indent(rows[header]):
         module = path.removeprefix("src/").removesuffix(".rt").replace("/", "::")
@@ -115,6 +109,25 @@ def function_of(path, text, old, new):
     _, trait, argument, owner = impl.groups()
     owner += rf"{trait}{argument or ''}\w*" if trait else ""
     return Function(r"(?:\w+::)*", f"{owner}::{name}", cycle)
+
+
+def function_of(path, text, old, new):
+    """Returns the function whose body a pair changes in a file's text, or None where it changes no body alone."""
+    end = text.find("\n", text.index(old) + indent(old))
+    rows = text[: end if end >= 0 else len(text)].split("\n")
+    begins_body = FUNCTION.match(rows[-1]) and old.endswith("{") and new.startswith(old)
+    header = len(rows) - 1 if begins_body else header_above(rows)
+    return function_below(path, rows, header) if header is not None and path.startswith("src/") else None
+
+
+def function_at(path, text, line):
+    """Returns the function that a line belongs to, which may be in its body, its header or an attribute above that."""
+    rows = text.split("\n")
+    at = line - 1
+    while rows[at].lstrip().startswith("#["):
+        at += 1
+    header = at if FUNCTION.match(rows[at]) else header_above(rows[: at + 1])
+    return function_below(path, rows, header) if header is not None else None
 
 
 def functions_of(edit, folder):
