@@ -1,6 +1,5 @@
 -- What a selection answers on any bytes, whether they decode or not.
-use Rattle.std.specs.Prelude.{◌≡◌, ◌⊎◌, ℕ, List, ⊤}
-use Rattle.jsonb_doc.specs.Format.{HeadedBy}
+use Rattle.std.specs.Prelude.{◌≡◌, ◌⊎◌, ⊤}
 use Rattle.jsonb_doc.specs.declared.error.Error.{Error}
 use Rattle.jsonb_doc.specs.declared.error.Error.TheVariants.{InvalidJsonPath, Arithmetic, StrictPath, TooLarge}
 use Rattle.jsonb_raw.specs.Documents.{IsReadingError}
@@ -21,7 +20,3 @@ IsSelectionError mode e = IsReadingError e ⊎ IsPathError mode e
 -- the same of a call that hands out documents, which may pass the limits
 abbrev pub IsDocumentError : Mode → Error → Type 0
 IsDocumentError mode e = IsSelectionError mode e ⊎ (e ≡ TooLarge)
-
--- the bytes begin with a header: a kind and a count
-abbrev pub HasHeader : List ℕ → Type 0
-HasHeader bytes = (kind : ℕ) × (entries : ℕ) × (rest : List ℕ) × HeadedBy bytes kind entries rest

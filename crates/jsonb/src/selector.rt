@@ -9,7 +9,7 @@ ghost use Rattle.jsonb_doc.specs.Tree.{Tree};
 ghost use Rattle.jsonb.specs.Meaning.{is_some_item};
 ghost use Rattle.jsonb_doc.specs.Format.{Decodes};
 ghost use Rattle.jsonb_doc.specs.View.{IsDecodingError};
-ghost use Rattle.jsonb.specs.SelectionErrors.{HasHeader};
+ghost use Rattle.jsonb_doc.specs.Containers.{HasReadableRoot};
 ghost use Rattle.jsonb.specs.Selection.{Selects, HasTree};
 ghost use Rattle.jsonb.specs.declared.selector.document.Document.{Document};
 
@@ -59,7 +59,8 @@ impl<'a> Selector<'a> {
     ghost use Rattle.jsonb.specs.PathViews.{path_view};
     ghost use Rattle.jsonb.specs.Meaning.{Means, is_some_item, predicate};
     ghost use Rattle.jsonb.specs.Selection.{HasTree};
-    ghost use Rattle.jsonb.specs.SelectionErrors.{IsSelectionError, IsDocumentError, HasHeader};
+    ghost use Rattle.jsonb.specs.SelectionErrors.{IsSelectionError, IsDocumentError};
+    ghost use Rattle.jsonb_doc.specs.Containers.{HasReadableRoot};
     ghost use Rattle.jsonb.specs.SelectorAnswers.{root_bytes, mode_of, HandsOut, AreDocuments, HasTooLarge, IsDocumentOf, IsPast, array_of, first_of, value_of};
     ghost use Rattle.jsonb.specs.declared.selector.document.Mode.TheVariants.{Lax, Strict};
 
@@ -97,7 +98,7 @@ impl<'a> Selector<'a> {
     /// It is refused as the path is on the document: with `InvalidJsonPath`, `Arithmetic`, or in strict mode
     /// `StrictPath`. `TooLarge` comes only where an item passes the limits of a document, `InvalidJsonb` and
     /// `UnsupportedNumber` only where the root or a document in the path doesn't decode, and `OutOfMemory` where
-    /// memory is refused. Bytes that do not begin with a header are never answered. The calls below refuse for the same
+    /// memory is refused. Bytes whose root can't be read are never answered. The calls below refuse for the same
     /// causes: `TooLarge` is there for what is handed out, and never comes from `exists` and `predicate_match`.
     pub fn select_values(&mut self, path: &JsonPath<'_>) -> Result<Vec<OwnedJsonb>, Error>
         ensures kept { self.new ≡ self.old }
@@ -106,7 +107,7 @@ impl<'a> Selector<'a> {
             → Means form (mode_of self.old) (path_view path.now) top outcome
             → HandsOut (λ v ts. AreDocuments form v.items ts) (HasTooLarge form) result outcome }
         ensures errors { IfErr result (IsDocumentError (mode_of self.old)) }
-        ensures readable { OnOk result (HasHeader (root_bytes self.old)) }
+        ensures readable { OnOk result (HasReadableRoot (root_bytes self.old)) }
     {
         let bytes = self.root.as_bytes();
         let document = at_root(bytes)?;
@@ -123,7 +124,7 @@ impl<'a> Selector<'a> {
             → HandsOut (λ made ts. Decodes form made (array_of ts))
             (λ ts. IsTooLarge form (array_of ts)) result outcome }
         ensures errors { IfErr result (IsDocumentError (mode_of self.old)) }
-        ensures readable { OnOk result (HasHeader (root_bytes self.old)) }
+        ensures readable { OnOk result (HasReadableRoot (root_bytes self.old)) }
     {
         let bytes = self.root.as_bytes();
         let document = at_root(bytes)?;
@@ -141,7 +142,7 @@ impl<'a> Selector<'a> {
             → HandsOut (λ found ts. IsDocumentOf form found (first_of ts))
             (λ ts. IsPast form (first_of ts)) result outcome }
         ensures errors { IfErr result (IsDocumentError (mode_of self.old)) }
-        ensures readable { OnOk result (HasHeader (root_bytes self.old)) }
+        ensures readable { OnOk result (HasReadableRoot (root_bytes self.old)) }
     {
         let bytes = self.root.as_bytes();
         let document = at_root(bytes)?;
@@ -158,7 +159,7 @@ impl<'a> Selector<'a> {
             → HandsOut (λ found ts. IsDocumentOf form found (value_of ts))
             (λ ts. IsPast form (value_of ts)) result outcome }
         ensures errors { IfErr result (IsDocumentError (mode_of self.old)) }
-        ensures readable { OnOk result (HasHeader (root_bytes self.old)) }
+        ensures readable { OnOk result (HasReadableRoot (root_bytes self.old)) }
     {
         let bytes = self.root.as_bytes();
         let document = at_root(bytes)?;
@@ -174,7 +175,7 @@ impl<'a> Selector<'a> {
             → Means form (mode_of self.old) (path_view path.now) top outcome
             → Gives (λ b ts. b ≡ is_some_item ts) WantsMemory result outcome }
         ensures errors { IfErr result (IsSelectionError (mode_of self.old)) }
-        ensures readable { OnOk result (HasHeader (root_bytes self.old)) }
+        ensures readable { OnOk result (HasReadableRoot (root_bytes self.old)) }
     {
         let document = at_root(self.root.as_bytes())?;
         let selected = selection(self.alloc, self.mode, &path.paths, document)?;
@@ -190,7 +191,7 @@ impl<'a> Selector<'a> {
         ensures truth { (form : Form) (top : Tree) → Decodes form (root_bytes self.old) top
             → Gives (λ b c. b ≡ c) WantsMemory result (predicate (mode_of self.old) (path_view path.now) top) }
         ensures errors { IfErr result (IsSelectionError (mode_of self.old)) }
-        ensures readable { is_predicate (path_view path.now) ≡ true → OnOk result (HasHeader (root_bytes self.old)) }
+        ensures readable { is_predicate (path_view path.now) ≡ true → OnOk result (HasReadableRoot (root_bytes self.old)) }
     {
         match only_expression(&path.paths) {
             Some(e) => {
@@ -203,19 +204,13 @@ impl<'a> Selector<'a> {
     }
 }
 
-// How long the header is that each document begins with.
-const HEADER: usize = 4;
-
-// The bytes of a document, with the place of its root in them. Bytes that do not begin with a header are refused.
+// The bytes of a document, with the place of its root in them. Bytes whose root can't be read are refused.
 fn at_root(bytes: &[u8]) -> Result<Document<'_>, Error>
     ensures meant { (form : Form) (top : Tree) → Decodes form bytes.now top
         → IsOkAnd result (λ document. (document.bytes.now ≡ bytes.now) × HasTree document top) }
     ensures errors { IfErr result IsDecodingError }
-    ensures readable { OnOk result (HasHeader bytes.now) }
+    ensures readable { OnOk result (HasReadableRoot bytes.now) }
 {
-    if bytes.len() < HEADER {
-        return Err(Error::InvalidJsonb);
-    }
     let root = root_spot(bytes)?;
     Ok(Document { bytes, root })
 }

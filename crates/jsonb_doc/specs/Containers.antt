@@ -20,6 +20,10 @@ IsCut bytes (Array p) = (n : ℕ) × HeadedBy bytes array_header n (p.words.now 
 IsCut bytes (Object p) = (n : ℕ) × HeadedBy bytes object_header n ((p.key_words.now ++ p.value_words.now) ++ p.contents.now)
     × (length p.key_words.now ≡ 4 * n) × (length p.value_words.now ≡ 4 * n)
 
+-- The root can be read: behind a header of a kind that there is stand as many entry words as it counts, or the one entry of a scalar.
+abbrev pub HasReadableRoot : List ℕ → Type 0
+HasReadableRoot bytes = (root : Container) × IsCut bytes root
+
 -- these are the words and the contents of an object's pairs
 pub record HoldsPairs (number_at : Reading) (ps : Pairs) (p : ObjectParts) : Type 0 where
   pub rest : List ℕ

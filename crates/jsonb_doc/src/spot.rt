@@ -1,11 +1,12 @@
 //! Items by their places in the bytes of a document.
 
-ghost use Rattle.std.specs.Prelude.{◌≡◌, ℕ, ◌+◌, ◌*◌, ◌^◌, ◌<◌, ◌≤◌, List, length, slice_range, IsOkAnd, IfOk, IfErr, IfSome, MatchResult};
+ghost use Rattle.std.specs.Prelude.{◌≡◌, ℕ, ◌+◌, ◌*◌, ◌^◌, ◌<◌, ◌≤◌, List, length, slice_range, IsOkAnd, IfOk, IfErr, IfSome, MatchResult, OnOk};
 ghost use Rattle.jsonb_doc.specs.Tree.{Tree, children_of, field_of};
 ghost use Rattle.jsonb_doc.specs.Payload.{Form, any};
 ghost use Rattle.jsonb_doc.specs.Format.{Decodes, HeadedBy};
 ghost use Rattle.jsonb_doc.specs.Item.{Stands, IsNormal, item_size};
 ghost use Rattle.jsonb_doc.specs.Answer.{SameOption};
+ghost use Rattle.jsonb_doc.specs.Containers.{HasReadableRoot};
 ghost use Rattle.jsonb_doc.specs.Lengths.{HoldKeys, FindsKey};
 ghost use Rattle.jsonb_doc.specs.Spots.{Marks, HasSpotsLeft, spot_size, spot_content, spots_bound, spots_room};
 ghost use Rattle.jsonb_doc.specs.View.{IsDecodingError};
@@ -51,6 +52,7 @@ impl Spot {
 pub fn root_spot(bytes: &[u8]) -> Result<Spot, Error>
     ensures marks { (t : Tree) → Decodes any bytes.now t → IsOkAnd result (λ spot. Marks bytes.now spot t) }
     ensures size { IfOk result (λ spot. spot_size spot ≤ length bytes.now) }
+    ensures readable { OnOk result (HasReadableRoot bytes.now) }
     ensures errors { IfErr result IsDecodingError }
 {
     match read_container(bytes)? {

@@ -10,7 +10,8 @@ ghost use Rattle.jsonb_raw.specs.Documents.{raw_bytes};
 ghost use Rattle.jsonb.specs.Meaning.{Means, is_some_item, predicate};
 ghost use Rattle.jsonb.specs.PathTree.{is_predicate};
 ghost use Rattle.jsonb.specs.PathViews.{path_view};
-ghost use Rattle.jsonb.specs.SelectionErrors.{IsSelectionError, IsDocumentError, HasHeader};
+ghost use Rattle.jsonb_doc.specs.Containers.{HasReadableRoot};
+ghost use Rattle.jsonb.specs.SelectionErrors.{IsSelectionError, IsDocumentError};
 ghost use Rattle.jsonb.specs.SelectorAnswers.{HandsOut, AreDocuments, HasTooLarge, IsDocumentOf, IsPast, array_of, first_of, value_of};
 ghost use Rattle.jsonb.specs.declared.selector.document.Mode.TheVariants.{Lax};
 
@@ -35,7 +36,7 @@ pub trait SelectByPath<'a> {
             → Means form Lax (path_view path.now) top outcome
             → HandsOut (λ v ts. AreDocuments form v.items ts) (HasTooLarge form) result outcome }
         ensures errors { IfErr result (IsDocumentError Lax) }
-        ensures readable { OnOk result (HasHeader (document self.now)) };
+        ensures readable { OnOk result (HasReadableRoot (document self.now)) };
 
     /// One array of the items that the path selects.
     fn select_array_by_path(&self, alloc: Global, path: &JsonPath<'_>) -> Result<OwnedJsonb, Error>
@@ -45,7 +46,7 @@ pub trait SelectByPath<'a> {
             → HandsOut (λ made ts. Decodes form made (array_of ts))
             (λ ts. IsTooLarge form (array_of ts)) result outcome }
         ensures errors { IfErr result (IsDocumentError Lax) }
-        ensures readable { OnOk result (HasHeader (document self.now)) };
+        ensures readable { OnOk result (HasReadableRoot (document self.now)) };
 
     /// The first item that the path selects; none where it selects nothing.
     fn select_first_by_path(
@@ -59,7 +60,7 @@ pub trait SelectByPath<'a> {
             → HandsOut (λ found ts. IsDocumentOf form found (first_of ts))
             (λ ts. IsPast form (first_of ts)) result outcome }
         ensures errors { IfErr result (IsDocumentError Lax) }
-        ensures readable { OnOk result (HasHeader (document self.now)) };
+        ensures readable { OnOk result (HasReadableRoot (document self.now)) };
 
     /// The only item that the path selects, or one array of several; none where it selects nothing.
     fn select_value_by_path(
@@ -73,7 +74,7 @@ pub trait SelectByPath<'a> {
             → HandsOut (λ found ts. IsDocumentOf form found (value_of ts))
             (λ ts. IsPast form (value_of ts)) result outcome }
         ensures errors { IfErr result (IsDocumentError Lax) }
-        ensures readable { OnOk result (HasHeader (document self.now)) };
+        ensures readable { OnOk result (HasReadableRoot (document self.now)) };
 
     /// Whether the path selects anything.
     fn path_exists(&self, alloc: Global, path: &JsonPath<'_>) -> Result<bool, Error>
@@ -82,7 +83,7 @@ pub trait SelectByPath<'a> {
             → Means form Lax (path_view path.now) top outcome
             → Gives (λ b ts. b ≡ is_some_item ts) WantsMemory result outcome }
         ensures errors { IfErr result (IsSelectionError Lax) }
-        ensures readable { OnOk result (HasHeader (document self.now)) };
+        ensures readable { OnOk result (HasReadableRoot (document self.now)) };
 
     /// Whether a path that is a comparison, `&&`, `||` or `exists` is true of the document; none where that is unknown, and
     /// for every other path. One that is no single expression is not executed.
@@ -91,7 +92,7 @@ pub trait SelectByPath<'a> {
         ensures truth { (form : Form) (top : Tree) → Decodes form (document self.now) top
             → Gives (λ b c. b ≡ c) WantsMemory result (predicate Lax (path_view path.now) top) }
         ensures errors { IfErr result (IsSelectionError Lax) }
-        ensures readable { is_predicate (path_view path.now) ≡ true → OnOk result (HasHeader (document self.now)) };
+        ensures readable { is_predicate (path_view path.now) ≡ true → OnOk result (HasReadableRoot (document self.now)) };
 }
 
 impl<'a> SelectByPath<'a> for RawJsonb<'a> {

@@ -21,5 +21,9 @@ returns-in_default c =
           Marks-root c.args.bytes.now c.new-in_default.result t 5 [] c.args.bytes.now [] (sym (append-nil c.args.bytes.now)) new.kind (omega (arith, new.end)) (omega (arith, new.start, new.end)) h
           (λ form top d. IsCut-container (reading form) c.args.bytes.now c.in_ok-entry.field-0 c.in_ok-entry.ensures.cut c.in_default.not-Scalar top d.document);
       size = omega (arith, new.start, new.end);
+      readable = (c.in_ok-entry.field-0, c.in_ok-entry.ensures.cut);
       errors = tt;
     }
+
+pub returns-in-Scalar-clause-readable : goal.returns-in-Scalar-clause-readable
+returns-in-Scalar-clause-readable c = (c.in_ok-entry.field-0, c.in_ok-entry.ensures.cut)
