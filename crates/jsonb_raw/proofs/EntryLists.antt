@@ -8,6 +8,7 @@ use Rattle.jsonb_doc.specs.Encoding.{EntryParts}
 use Rattle.jsonb_doc.specs.ObjectBuilder.{kept_words, kept_contents}
 use Rattle.jsonb_raw.specs.Deletes.{put_tree, put_pair, change_tree, change_value}
 use Rattle.jsonb_raw.specs.Cuts.{AreWithin}
+pub use Rattle.jsonb_raw.specs.Stripping.{key_entries}
 
 -- ---- entries
 
@@ -36,10 +37,6 @@ within-both [] ys h g = g
 within-both (e ∷ xs) ys h g = (h.0, within-both xs ys h.1 g)
 
 -- ---- keys as entries
-
-abbrev pub key_entries : List (List ℕ) → List EntryParts
-key_entries [] = []
-key_entries (key ∷ ks) = (text_entry, key) ∷ key_entries ks
 
 pub key-words : (ks : List (List ℕ)) → kept_words (key_entries ks) ≡ key_words ks
 key-words [] = refl

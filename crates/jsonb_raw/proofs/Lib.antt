@@ -27,6 +27,8 @@ pub mod ScalarLemmas
 pub mod TextChunks
 pub mod Told
 pub mod Stripped
+pub mod StripLists
+pub mod StripWalk
 pub mod Inserted
 pub mod InsertPlaces
 pub mod InsertEntries

@@ -12,7 +12,7 @@ use Rattle.jsonb_raw.specs.Scalars.{is_null}
 use Rattle.jsonb_raw.specs.Strip.{strip, strip_pairs}
 
 -- a key below those of all pairs is below those of the pairs that stay
-below_stripped : (low : List ℕ) (ps : Pairs) → IsBelowFirst low (keys ps) → AreRising (keys ps) → IsBelowFirst low (keys (strip_pairs ps))
+pub below_stripped : (low : List ℕ) (ps : Pairs) → IsBelowFirst low (keys ps) → AreRising (keys ps) → IsBelowFirst low (keys (strip_pairs ps))
 below_stripped low no_pairs below rising = tt
 below_stripped low (pair key t ps) below rising = by (is_null t) (below_stripped low ps (further ps rising.0) rising.1)
   where

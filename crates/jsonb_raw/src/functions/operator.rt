@@ -16,6 +16,7 @@ mod merge;
 mod repeat;
 mod step;
 mod strip;
+mod stripping;
 #[cfg(test)]
 mod tests;
 mod traverse;

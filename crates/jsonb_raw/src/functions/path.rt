@@ -16,7 +16,7 @@ ghost use Rattle.jsonb_raw.specs.Places.{children, child_met, index_position, tr
 ghost use Rattle.jsonb_raw.specs.Iterators.{TellsWhatIsLeft};
 
 mod child;
-mod cut;
+pub(crate) mod cut;
 mod delete;
 mod entry_place;
 mod exists;

@@ -101,6 +101,17 @@ fn leaves_of_deep_documents(rt: HostRuntime) -> Result<(), Fail> {
 }
 
 #[test]
+fn stripped_deep_documents(rt: HostRuntime) -> Result<(), Fail> {
+    let array = arrays(rt.alloc(), 200_000)?;
+    let made = RawJsonb::new(&array).strip_nulls(rt.alloc())?;
+    assert_eq!(rt; made.as_raw().as_bytes(), array.as_slice());
+    let object = objects(rt.alloc(), 200_000)?;
+    let made = RawJsonb::new(&object).strip_nulls(rt.alloc())?;
+    assert_eq!(rt; made.as_raw().as_bytes(), object.as_slice());
+    Ok(())
+}
+
+#[test]
 fn wide_keys_of_deep_documents(rt: HostRuntime) -> Result<(), Fail> {
     // A depth in two bytes and a kind a level, and the text's end.
     let deepest = arrays(rt.alloc(), 65_535)?;

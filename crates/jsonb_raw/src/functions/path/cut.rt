@@ -131,7 +131,7 @@ fn set_word(out: &mut Vec<u8>, at: usize, word: u32)
 }
 
 /// Writes the entry word of a container that goes from here to the end over the word at a place.
-fn set_container_word(out: &mut Vec<u8>, word: usize, start: usize) -> Result<(), Error>
+pub fn set_container_word(out: &mut Vec<u8>, word: usize, start: usize) -> Result<(), Error>
     ensures set { (front old between content : List ℕ) → out.old.items ≡ front ++ (old ++ (between ++ content))
         → length old ≡ 4 → word ≡ length front → start ≡ length front + 4 + length between → length content < 2 ^ 28
         → IsOkAnd result (λ _. out.new.items ≡ front ++ (entry_word container_entry (length content) ++ (between ++ content))) }

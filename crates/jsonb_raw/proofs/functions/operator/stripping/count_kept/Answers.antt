@@ -1,0 +1,26 @@
+use Rattle.std.proofs.Common.{arith, length}
+use Rattle.jsonb_raw.specs.Stripping.{beside}
+use Rattle.jsonb_raw.proofs.StripLists.{count_null, count_other, count_done}
+use Rattle.jsonb_raw.proofs.functions.operator.stripping.count_kept.Goals as goal
+
+pub loop-word-init : goal.loop-word-init
+loop-word-init c = record { few = omega arith; left = λ es within words. record { entries = es; within = within; words = words; sum = omega arith } }
+
+pub loop-word-preserved-then-from_be_bytes-ne-NULL : goal.loop-word-preserved-then-from_be_bytes-ne-NULL
+loop-word-preserved-then-from_be_bytes-ne-NULL c =
+    let h = c.in-Some.ensures.cases in
+    record {
+      few = omega (arith, h.2, c.loop-word.invariant.few);
+      left = λ es within words. count_other _ _ _ _ h.0 h.1 h.2 c.from_be_bytes.ensures _ (length (beside es es)) c.if-from_be_bytes-ne-NULL.true (c.loop-word.invariant.left es within words);
+    }
+
+pub loop-word-preserved : goal.loop-word-preserved
+loop-word-preserved c =
+    let h = c.in-Some.ensures.cases in
+    record {
+      few = omega (arith, h.2, c.loop-word.invariant.few);
+      left = λ es within words. count_null _ _ _ _ h.0 h.1 h.2 c.from_be_bytes.ensures _ (length (beside es es)) c.if-from_be_bytes-ne-NULL.false (c.loop-word.invariant.left es within words);
+    }
+
+pub returns-clause-count : goal.returns-clause-count
+returns-clause-count c = λ es within words. count_done _ _ _ c.in_default.ensures.cases (c.loop-word.invariant.left es within words)
