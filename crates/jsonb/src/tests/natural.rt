@@ -88,12 +88,6 @@ impl<'a> Asked<'a> {
     }
 }
 
-/// A path that is lent for as long as the document.
-fn has<'a>(alloc: Global, document: &'a [u8], path: &'a JsonPath<'a>) -> Result<bool, Error> {
-    let mut selector = Selector::new(alloc, RawJsonb::new(document));
-    selector.exists(path)
-}
-
 #[test]
 fn paths_are_parsed_where_they_are_used(rt: HostRuntime) -> Result<(), Fail> {
     let alloc = rt.alloc();
@@ -107,8 +101,6 @@ fn paths_are_parsed_where_they_are_used(rt: HostRuntime) -> Result<(), Fail> {
     let documents = [TENS.as_slice(), ONE.as_slice()];
     assert_eq!(rt; count(alloc, &documents, b"$[2]")?, 1);
     assert_eq!(rt; count(alloc, &documents, b"$[0]")?, 2);
-    let path = parse_json_path(alloc, b"$[2]")?;
-    assert!(rt; has(alloc, &TENS, &path)?);
     Ok(())
 }
 
