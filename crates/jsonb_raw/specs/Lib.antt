@@ -16,6 +16,7 @@ pub mod SetCounts
 pub mod SetLaws
 pub mod Texts
 pub mod Strip
+pub mod Compared
 pub mod Contains
 pub mod Concat
 pub mod PairSteps

@@ -9,6 +9,7 @@ ghost use Rattle.jsonb_raw.specs.Places.{tree_at_steps};
 
 mod arrays;
 mod child;
+mod deep;
 mod deletes;
 pub(crate) mod documents;
 mod exists;
