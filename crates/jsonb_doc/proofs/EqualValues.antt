@@ -1,9 +1,11 @@
 -- Equality of values part by part.
-use Rattle.std.proofs.Common.{◌≡◌, ℕ, zero, suc, ◌*◌, ◌^◌, ℤ, pos, negsuc, refl, ap, ◌∙◌, arith, Equal}
-use Rattle.std.specs.Ordering.{eq_by_cmp, is_eq, int_cmp}
+use Rattle.std.proofs.Common.{◌≡◌, ℕ, zero, suc, ◌*◌, ◌^◌, ◌≤◌, ℤ, pos, negsuc, refl, sym, ap, ◌∙◌, arith, Equal}
+use Rattle.std.specs.Ordering.{eq_by_cmp, is_eq, int_cmp, int_eq}
+use native.Mathlib.Nat.{one-le-pow}
 use Rattle.std.proofs.lemmas.Cmp.{tied_itself, alike_right}
-use Rattle.jsonb_doc.specs.Number.{Variant, number_cmp, number_from}
-use Rattle.jsonb_doc.specs.NumberOrder.{number_cmp_total}
+use Rattle.jsonb_doc.specs.Number.{Variant, decimal64, number_cmp, number_from}
+use Rattle.jsonb_doc.specs.Number.{Number as Number'}
+use Rattle.jsonb_doc.specs.NumberOrder.{number_cmp_total, int_cmp_scaled}
 use Rattle.jsonb_doc.specs.View.{number_parts, number_view}
 use Rattle.jsonb_doc.specs.declared.number.Number.{Number}
 
@@ -15,6 +17,16 @@ same_value variant (pos zero) scale = by (0 * 10 ^ scale) (0 * 10 ^ 0) (omega ar
     by m n e f = rw (e, f) refl
 same_value variant (pos (suc n)) scale = tied_itself number_cmp_total (record { variant = variant; whole = pos (suc n); scale = scale })
 same_value variant (negsuc n) scale = tied_itself number_cmp_total (record { variant = variant; whole = negsuc n; scale = scale })
+
+-- decimals of one scale compare as their digits do
+pub decimals_tied : (a b : ℤ) (scale : ℕ) → int_eq a b ≡ eq_by_cmp number_cmp (number_from decimal64 a scale) (number_from decimal64 b scale)
+decimals_tied a b scale =
+    let m : Number' = record { variant = decimal64; whole = a; scale = scale } in
+    let n : Number' = record { variant = decimal64; whole = b; scale = scale } in
+    ap is_eq (
+    sym (int_cmp_scaled a b (10 ^ scale) (let h : 1 ≤ 10 ^ scale = one-le-pow scale 10 (omega arith) in omega arith))
+    ∙ sym (number_cmp_total.congr (number_from decimal64 a scale) m (number_from decimal64 b scale) (same_value decimal64 a scale) ∙ alike_right number_cmp_total (number_from decimal64 b scale) n m (same_value decimal64 b scale))
+    )
 
 -- numbers compare as those of their trees do
 pub number_cmp-number_view : (m n : Number) → number_cmp (number_view m) (number_view n) ≡ number_cmp (number_parts m) (number_parts n)

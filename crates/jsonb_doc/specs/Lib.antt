@@ -5,6 +5,7 @@ pub mod Comparing
 pub mod NumberOrder
 pub mod NumberText
 pub mod Rounding
+pub mod Short
 pub mod Extension
 pub mod Stored
 pub mod Tree

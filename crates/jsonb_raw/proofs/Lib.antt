@@ -74,4 +74,7 @@ pub mod ConcatLaws
 mod DeleteRows
 pub mod Copies
 pub mod EntriesLeft
-pub mod EntryMatches
+pub mod EntryEquals
+pub mod Aside
+pub mod TextTrees
+pub mod EqualAny

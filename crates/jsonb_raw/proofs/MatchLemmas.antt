@@ -1,5 +1,7 @@
 -- Which pairs match as two objects are walked in step, and which items match.
-use Rattle.std.proofs.Common.{◌≡◌, ℕ, Bool, true, false, ◌&&◌, ◌||◌, List, ◌∷◌, Option, Some, None, refl, sym, ap, ap₂, ◌∙◌, Ordering, Less, Equal, Greater}
+use Rattle.std.proofs.Common.{◌≡◌, ℕ, Bool, true, false, ◌&&◌, ◌||◌, List, [], ◌∷◌, arith, Option, Some, None, refl, sym, ap, ap₂, ◌∙◌, Ordering, Less, Equal, Greater}
+use Rattle.std.specs.Prelude.{◌==◌}
+use Rattle.std.proofs.lemmas.Bool.Decides.{nat_tests}
 use Rattle.std.specs.Option.{option_map_or}
 use Rattle.std.specs.Ordering.{nat_cmp, is_eq}
 use Rattle.std.specs.Cmp.Lexicographic.{slice_cmp}
@@ -11,8 +13,10 @@ use Rattle.jsonb_doc.specs.declared.item.Item.{Item}
 use Rattle.jsonb_doc.specs.declared.item.Item.TheVariants as item
 use Rattle.jsonb_doc.specs.Payload.{Form}
 use Rattle.jsonb_doc.specs.Item.{Stands}
+use Rattle.jsonb_doc.specs.Stored.{Stores}
+use Rattle.jsonb_doc.specs.declared.entry_iter.StoredEntry.{StoredEntry}
 use Rattle.jsonb_doc.specs.Answer.{SameOption}
-use Rattle.jsonb_doc.specs.Tree.{Tree, Pairs, no_pairs, pair, keys, members, value_under}
+use Rattle.jsonb_doc.specs.Tree.{Tree, null, boolean, number, text, extension, array, object, Pairs, no_pairs, pair, keys, members, value_under}
 use Rattle.jsonb_doc.specs.Equal.{is_equal}
 use Rattle.jsonb_doc.specs.Format.{IsBelowFirst}
 use Rattle.jsonb_doc.proofs.BuilderSteps.{AreRising}
@@ -77,6 +81,39 @@ module _ (key : List ℕ) (y : Tree) (qs ps : Pairs) (rising : AreRising (keys p
   pub matched_value : (v : Tree) → value_under key ps ≡ Some v → is_matched_by y v ≡ true → AreRising (key ∷ keys qs) → each_pair_is_matched (pair key y qs) (members ps) ≡ each_pair_is_matched qs (members (pairs_above key ps))
   matched_value v some matches wanted =
       rw (any_by_value key (is_matched_by y) ps rising, some, matches) (each_above key qs ps wanted.0 wanted.1)
+
+  -- the value under the key decides with the pairs above
+  pub matched_pair : (v : Tree) → value_under key ps ≡ Some v → AreRising (key ∷ keys qs) → each_pair_is_matched (pair key y qs) (members ps) ≡ (is_matched_by y v && each_pair_is_matched qs (members (pairs_above key ps)))
+  matched_pair v some wanted =
+      rw (any_by_value key (is_matched_by y) ps rising, some) (ap (λ (b : Bool). is_matched_by y v && b) (each_above key qs ps wanted.0 wanted.1))
+
+-- ---- entries
+
+no_container : (kind : ℕ) → (kind == 5) ≡ false → kind ≡ 5 → ⊥
+no_container kind other is = grind (arith, nat_tests)
+
+-- what the search for a key answers
+pub no_entry_found : (form : Form) (o : Option Tree) → SameOption (Stores form) None o → o ≡ None
+no_entry_found form None h = refl
+no_entry_found form (Some t) h = absurd h
+
+pub entry_found : (form : Form) (e : StoredEntry) (o : Option Tree) → SameOption (Stores form) (Some e) o → (t : Tree) × (o ≡ Some t) × Stores form e t
+entry_found form e None h = absurd h
+entry_found form e (Some t) h = (t, refl, h)
+
+-- what is no container matches where it is equal
+pub scalar_match : (form : Form) (e : StoredEntry) (y : Tree) → Stores form e y → (e.kind == 5) ≡ false → (x : Tree) → is_equal x y ≡ is_matched_by y x
+scalar_match form e null h k x = refl
+scalar_match form e (boolean b) h k x = refl
+scalar_match form e (number n) h k x = refl
+scalar_match form e (text s) h k x = refl
+scalar_match form e (extension z) h k x = refl
+scalar_match form e (array ys) h k x = absurd (no_container e.kind k h.content.0)
+scalar_match form e (object qs) h k x = absurd (no_container e.kind k h.content.0)
+
+pub scalar_matches : (form : Form) (e : StoredEntry) (y : Tree) → Stores form e y → (e.kind == 5) ≡ false → (xs : List Tree) → list_any (λ x. is_equal x y) xs ≡ list_any (is_matched_by y) xs
+scalar_matches form e y h k [] = refl
+scalar_matches form e y h k (x ∷ xs) = ap₂ (λ a b. a || b) (scalar_match form e y h k x) (scalar_matches form e y h k xs)
 
 -- ---- items
 

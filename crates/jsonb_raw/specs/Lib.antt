@@ -17,6 +17,7 @@ pub mod SetLaws
 pub mod Texts
 pub mod Strip
 pub mod Stripping
+pub mod Compared
 pub mod Contains
 pub mod Concat
 pub mod PairSteps

@@ -1,16 +1,23 @@
-//! Equality of items by value. It takes no memory.
+//! Equality by value, of items and of stored entries. It takes no memory, and calls nest no deeper than the length can be halved.
 
-ghost use Rattle.std.specs.Prelude.{◌≡◌, IsOkAnd, IfErr};
+ghost use Rattle.std.specs.Prelude.{◌≡◌, ◌+◌, ℕ, List, length, IsOkAnd, IfOk, IfErr, IfSome};
+ghost use Rattle.std.specs.List.{list_any};
 ghost use Rattle.std.specs.Ordering.{eq_by_cmp};
 ghost use Rattle.jsonb_doc.specs.Number.{number_cmp};
-ghost use Rattle.jsonb_doc.specs.Tree.{Tree, Trees, Pairs};
+ghost use Rattle.jsonb_doc.specs.Tree.{Tree, Trees, Pairs, elements};
 ghost use Rattle.jsonb_doc.specs.Equal.{is_equal, are_equal, pairs_are_equal, is_same_extension};
 ghost use Rattle.jsonb_doc.specs.Payload.{Form};
 ghost use Rattle.jsonb_doc.specs.Format.{Decodes};
-ghost use Rattle.jsonb_doc.specs.Item.{Stands};
+ghost use Rattle.jsonb_doc.specs.Item.{Stands, item_size};
+ghost use Rattle.jsonb_doc.specs.Stored.{HasEntriesLeft, Stores, entries_room, key_trees};
 ghost use Rattle.jsonb_doc.specs.View.{number_view, extension_view, IsDecodingError};
+ghost use Rattle.jsonb_raw.specs.Compared.{Decides, IsShorter, IsShortOf, PassesOver};
 
-use jsonb_doc::{Error, ExtensionValue, Item, Number, elements, pairs};
+use crate::compared::Compared;
+use jsonb_doc::{
+    EntryIter, Error, ExtensionValue, Item, Number, ShortNumber, StoredEntry, array_entries,
+    digits_tell, object_entries,
+};
 
 /// Whether two numbers have one exact value.
 fn numbers_equal(number: &Number, other: &Number) -> bool
@@ -29,6 +36,7 @@ fn extensions_equal(value: &ExtensionValue<'_>, other: &ExtensionValue<'_>) -> b
 /// Whether two items are equal by value: of one shape, with numbers of one exact value and extensions of the same
 /// fields.
 ///
+/// It goes into a pair of parts that is longer than half of all by this loop, and into the others by a call.
 /// `InvalidJsonb` or `UnsupportedNumber` only where an item's bytes don't decode.
 #[cycle(equal)]
 pub(crate) fn items_equal(item: &Item<'_>, other: &Item<'_>) -> Result<bool, Error>
@@ -36,70 +44,173 @@ pub(crate) fn items_equal(item: &Item<'_>, other: &Item<'_>) -> Result<bool, Err
         → IsOkAnd result (λ b. b ≡ is_equal t u) }
     ensures errors { IfErr result IsDecodingError }
 {
-    match (item, other) {
-        (Item::Null, Item::Null) => Ok(true),
-        (Item::Boolean(a), Item::Boolean(b)) => Ok(a == b),
-        (Item::Number(a), Item::Number(b)) => Ok(numbers_equal(a, b)),
-        (Item::String(a), Item::String(b)) => Ok(a == b),
-        (Item::Extension(a), Item::Extension(b)) => Ok(extensions_equal(a, b)),
-        (Item::Array(a), Item::Array(b)) => arrays_equal(a, b),
-        (Item::Object(a), Item::Object(b)) => objects_equal(a, b),
-        _ => Ok(false),
-    }
-}
-
-/// Whether the elements of two arrays are equal, one by one.
-#[cycle(equal)]
-fn arrays_equal(bytes: &[u8], others: &[u8]) -> Result<bool, Error>
-    ensures equal { (form other_form : Form) (ts us : Trees)
-        → Decodes form bytes.now (Tree.array ts) → Decodes other_form others.now (Tree.array us)
-        → IsOkAnd result (λ b. b ≡ are_equal ts us) }
-    ensures errors { IfErr result IsDecodingError }
-{
-    let Some(found) = elements(bytes)? else {
-        return Err(Error::InvalidJsonb);
-    };
-    let Some(mut rest) = elements(others)? else {
-        return Err(Error::InvalidJsonb);
-    };
-    for item in found {
-        let item = item?;
-        let Some(other) = rest.next() else {
-            return Ok(false);
-        };
-        if !items_equal(&item, &other?)? {
-            return Ok(false);
+    let mut left = *item;
+    let mut right = *other;
+    loop {
+        match parts_equal(&left, &right)? {
+            Compared::Known(answer) => return Ok(answer),
+            Compared::AsOf(part, other_part) => {
+                left = part;
+                right = other_part;
+            }
         }
     }
-    Ok(rest.next().is_none())
 }
 
-/// Whether the pairs of two objects are equal, one by one.
+/// The same of two items, but for a pair of parts of theirs.
 #[cycle(equal)]
-fn objects_equal(bytes: &[u8], others: &[u8]) -> Result<bool, Error>
+fn parts_equal<'a>(item: &Item<'a>, other: &Item<'a>) -> Result<Compared<'a>, Error>
+    ensures equal { (form other_form : Form) (t u : Tree) → Stands form item.now t → Stands other_form other.now u
+        → IsOkAnd result (λ told. Decides is_equal form other_form told (is_equal t u)) }
+    ensures shorter { IfOk result (λ told. IsShorter told (item_size item.now)) }
+    ensures errors { IfErr result IsDecodingError }
+{
+    match (item, other) {
+        (Item::Null, Item::Null) => Ok(Compared::Known(true)),
+        (Item::Boolean(a), Item::Boolean(b)) => Ok(Compared::Known(a == b)),
+        (Item::Number(a), Item::Number(b)) => Ok(Compared::Known(numbers_equal(a, b))),
+        (Item::String(a), Item::String(b)) => Ok(Compared::Known(a == b)),
+        (Item::Extension(a), Item::Extension(b)) => Ok(Compared::Known(extensions_equal(a, b))),
+        (Item::Array(a), Item::Array(b)) => {
+            entries_equal(array_entries(a)?, array_entries(b)?, a.len() / 2)
+        }
+        (Item::Object(a), Item::Object(b)) => objects_equal(a, b),
+        _ => Ok(Compared::Known(false)),
+    }
+}
+
+/// Whether two objects have the same keys, and equal values under them, but for a pair of values.
+#[cycle(equal)]
+fn objects_equal<'a>(bytes: &'a [u8], others: &'a [u8]) -> Result<Compared<'a>, Error>
     ensures equal { (form other_form : Form) (ps qs : Pairs)
         → Decodes form bytes.now (Tree.object ps) → Decodes other_form others.now (Tree.object qs)
-        → IsOkAnd result (λ b. b ≡ pairs_are_equal ps qs) }
+        → IsOkAnd result (λ told. Decides is_equal form other_form told (pairs_are_equal ps qs)) }
+    ensures shorter { IfOk result (λ told. IsShorter told (length bytes.now)) }
     ensures errors { IfErr result IsDecodingError }
 {
-    let Some(found) = pairs(bytes)? else {
-        return Err(Error::InvalidJsonb);
-    };
-    let Some(mut rest) = pairs(others)? else {
-        return Err(Error::InvalidJsonb);
-    };
-    for pair in found {
-        let (key, value) = pair?;
+    let found = object_entries(bytes)?;
+    let wanted = object_entries(others)?;
+    if !texts_equal(found.keys(), wanted.keys())? {
+        return Ok(Compared::Known(false));
+    }
+    entries_equal(found.values(), wanted.values(), bytes.len() / 2)
+}
+
+/// Whether the entries of texts that are left are equal, one by one.
+fn texts_equal(found: EntryIter<'_>, others: EntryIter<'_>) -> Result<bool, Error>
+    ensures equal { (form other_form : Form) (ks ls : List (List ℕ))
+        → HasEntriesLeft form found.entry (key_trees ks) → HasEntriesLeft other_form others.entry (key_trees ls)
+        → IsOkAnd result (λ b. b ≡ are_equal (key_trees ks) (key_trees ls)) }
+    ensures errors { IfErr result IsDecodingError }
+{
+    let mut rest = others;
+    for entry in found {
+        let entry = entry?;
         let Some(other) = rest.next() else {
             return Ok(false);
         };
-        let (name, other) = other?;
-        if key != name {
-            return Ok(false);
-        }
-        if !items_equal(&value, &other)? {
+        let other = other?;
+        if entry.content != other.content {
             return Ok(false);
         }
     }
     Ok(rest.next().is_none())
+}
+
+/// Whether the entries that are left are equal, one by one, but for a pair of containers whose first is longer than `half`.
+#[cycle(equal)]
+fn entries_equal<'a>(
+    found: EntryIter<'a>,
+    others: EntryIter<'a>,
+    half: usize,
+) -> Result<Compared<'a>, Error>
+    ensures equal { (form other_form : Form) (ts us : Trees)
+        → HasEntriesLeft form found.entry ts → HasEntriesLeft other_form others.entry us
+        → IsOkAnd result (λ told. Decides is_equal form other_form told (are_equal ts us)) }
+    ensures shorter { IfOk result (λ told. IsShorter told (entries_room found.entry + 1)) }
+    ensures errors { IfErr result IsDecodingError }
+{
+    let mut rest = others;
+    let mut large = None;
+    for entry in found {
+        let entry = entry?;
+        let Some(other) = rest.next() else {
+            return Ok(Compared::Known(false));
+        };
+        let other = other?;
+        if large.is_none() && entry.is_container() && entry.content.len() > half {
+            large = Some((entry, other));
+        } else if !stored_equal(&entry, &other, other.short_number())? {
+            return Ok(Compared::Known(false));
+        }
+    }
+    if rest.next().is_some() {
+        return Ok(Compared::Known(false));
+    }
+    let Some((entry, other)) = large else {
+        return Ok(Compared::Known(true));
+    };
+    Ok(Compared::AsOf(entry.item()?, other.item()?))
+}
+
+/// Whether an entry equals the wanted one, which is this number where it is a short one. Items are made of them only where the
+/// bytes don't tell.
+#[cycle(equal)]
+#[inline(always)]
+pub(crate) fn stored_equal(
+    entry: &StoredEntry<'_>,
+    wanted: &StoredEntry<'_>,
+    short: Option<ShortNumber>,
+) -> Result<bool, Error>
+    requires { IsShortOf wanted.now short }
+    ensures equal { (form other_form : Form) (t u : Tree) → Stores form entry.now t → Stores other_form wanted.now u
+        → IsOkAnd result (λ b. b ≡ is_equal t u) }
+    ensures errors { IfErr result IsDecodingError }
+{
+    match bytes_tell(entry, wanted, short) {
+        Some(answer) => Ok(answer),
+        None => items_equal(&entry.item()?, &wanted.item()?),
+    }
+}
+
+/// Whether an entry equals the wanted one, where their bytes tell it.
+#[inline(always)]
+fn bytes_tell(
+    entry: &StoredEntry<'_>,
+    wanted: &StoredEntry<'_>,
+    short: Option<ShortNumber>,
+) -> Option<bool>
+    requires { IsShortOf wanted.now short }
+    ensures { (form other_form : Form) (t u : Tree) → Stores form entry.now t → Stores other_form wanted.now u
+        → IfSome result (λ b. b ≡ is_equal t u) }
+{
+    if entry.kind != wanted.kind {
+        return Some(false);
+    }
+    if entry.has_one_spelling() {
+        return Some(entry.content == wanted.content);
+    }
+    if let (Some(number), Some(other)) = (entry.short_number(), short) {
+        return digits_tell(number, other);
+    }
+    if entry.content == wanted.content {
+        return Some(true);
+    }
+    None
+}
+
+/// Whether one of the entries that are left equals the wanted one. It stops behind the first that does.
+pub(crate) fn find_equal(found: &mut EntryIter<'_>, wanted: &StoredEntry<'_>) -> Result<bool, Error>
+    ensures found { (form other_form : Form) (ts : Trees) (u : Tree) → HasEntriesLeft form found.old ts
+        → Stores other_form wanted.now u → IsOkAnd result (λ b. b ≡ list_any (λ t. is_equal t u) (elements ts)) }
+    ensures passed { IfOk result (λ _. PassesOver found.old found.new) }
+    ensures errors { IfErr result IsDecodingError }
+{
+    let short = wanted.short_number();
+    while let Some(entry) = found.next() {
+        if stored_equal(&entry?, wanted, short)? {
+            return Ok(true);
+        }
+    }
+    Ok(false)
 }

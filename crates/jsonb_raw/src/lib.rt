@@ -1,6 +1,7 @@
 //! Documents as bytes, borrowed or owned, and what is asked of them without decoding them whole.
 #![tactic(auto)]
 
+mod compared;
 mod equal_items;
 mod equality_key;
 mod functions;

@@ -14,6 +14,7 @@ mod deletes;
 pub(crate) mod documents;
 mod exists;
 mod leaves;
+mod nested;
 mod objects;
 mod operators;
 mod sets;

@@ -1,178 +1,181 @@
-use Rattle.std.proofs.Common.{◌≡◌, true, false, arith, rules, refl, sym, ◌∙◌}
-use Rattle.std.specs.Str.{bytes_eq}
-use Rattle.jsonb_doc.specs.Tree.{Tree}
-use Rattle.jsonb_doc.specs.Equal.{is_equal}
-use Rattle.jsonb_raw.proofs.Left.{SomeElements-all, SomeElements-first, SomeElements-error, SomeElements-none, SomePairs-all, SomePairs-first, SomePairs-error, SomePairs-none}
-use Rattle.jsonb_raw.proofs.InStep.{told_none, told_some, elements_ended, pairs_ended}
+use Rattle.std.proofs.Common.{◌≡◌, Bool, Some, None, true, false, arith, rules, refl, sym, subst, ◌∙◌}
+use Rattle.std.specs.Prelude.{IsOkAnd}
+use Rattle.jsonb_doc.specs.Tree.{keys, values}
+use Rattle.jsonb_doc.specs.Equal.{is_equal, are_equal, pairs_are_equal}
+use Rattle.jsonb_doc.specs.Stored.{key_trees}
+use Rattle.jsonb_raw.specs.Compared.{Decides}
+use Rattle.jsonb_raw.proofs.EntriesLeft.{SomeEntries-first, SomeEntries-error, SomeEntries-none}
+use Rattle.jsonb_raw.proofs.Aside.{Aside, IsAnswer, put_aside, part_holds, part_fails, rest_fails, entries_ended, shorter_than}
+use Rattle.jsonb_raw.proofs.TextTrees.{equal_by_parts}
 use Rattle.jsonb_raw.proofs.equal_items.+equal.Goals as goal
 
--- ---- arrays
+-- ---- entries
 
-pub arrays_equal-returns-in_err-found-clause-equal : goal.arrays_equal-returns-in_err-found-clause-equal
-arrays_equal-returns-in_err-found-clause-equal t c = λ form other_form ts us d e. absurd (c.in_err-found.ensures.decodes form (Tree.array ts) d)
+pub entries_equal-returns-in_err-entry-clause-equal : goal.entries_equal-returns-in_err-entry-clause-equal
+entries_equal-returns-in_err-entry-clause-equal t c = λ form other_form ts us d e.
+    SomeEntries-error form _ _ _ _ _ c.in_err-entry.was c.in-Some.ensures.steps (c.loop-entry.invariant.left form other_form ts us d e)
 
-pub arrays_equal-returns-in_default-clause-equal : goal.arrays_equal-returns-in_default-clause-equal
-arrays_equal-returns-in_default-clause-equal t c = λ form other_form ts us d e. absurd (rw c.in_default.is at (c.in_ok-found.ensures.decodes form (Tree.array ts) d))
+pub entries_equal-returns-in_default-clause-equal : goal.entries_equal-returns-in_default-clause-equal
+entries_equal-returns-in_default-clause-equal t c = λ form other_form ts us d e.
+    SomeEntries-first form _ _ _ _ _ c.in_ok-entry.was c.in-Some.ensures.steps (c.loop-entry.invariant.left form other_form ts us d e)
+    (λ first rest left stored fact. rest_fails _ _ (SomeEntries-none other_form _ _ _ c.in_default.ensures.steps fact))
 
-pub arrays_equal-returns-in_err-rest-clause-equal : goal.arrays_equal-returns-in_err-rest-clause-equal
-arrays_equal-returns-in_err-rest-clause-equal t c = λ form other_form ts us d e. absurd (c.in_err-rest.ensures.decodes other_form (Tree.array us) e)
+pub entries_equal-returns-in_err-other-clause-equal : goal.entries_equal-returns-in_err-other-clause-equal
+entries_equal-returns-in_err-other-clause-equal t c = λ form other_form ts us d e.
+    SomeEntries-first form _ _ _ _ _ c.in_ok-entry.was c.in-Some.ensures.steps (c.loop-entry.invariant.left form other_form ts us d e)
+    (λ first rest left stored fact. SomeEntries-error other_form _ _ _ _ _ c.in_err-other.was c.in-Some-next.ensures.steps fact)
 
-pub arrays_equal-returns-in_default-2-clause-equal : goal.arrays_equal-returns-in_default-2-clause-equal
-arrays_equal-returns-in_default-2-clause-equal t c = λ form other_form ts us d e. absurd (rw c.in_default-2.is at (c.in_ok-rest.ensures.decodes other_form (Tree.array us) e))
+pub entries_equal-loop-entry-preserved-then-entry-half : goal.entries_equal-loop-entry-preserved-then-entry-half
+entries_equal-loop-entry-preserved-then-entry-half t c =
+    let none : c.loop-entry.large ≡ None = search rules in
+    let size = rw c.in_ok-entry.was at c.in-Some.ensures.steps.size in
+    record {
+      can = tt;
+      finite = tt;
+      room = omega (arith, c.in-Some.ensures.steps.room, c.loop-entry.invariant.room);
+      size = omega (arith, size, c.loop-entry.invariant.room);
+      left = λ form other_form ts us d e.
+          SomeEntries-first form _ _ _ _ _ c.in_ok-entry.was c.in-Some.ensures.steps (rw none at (c.loop-entry.invariant.left form other_form ts us d e))
+          (λ first rest left stored fact.
+          SomeEntries-first other_form _ _ _ _ _ c.in_ok-other.was c.in-Some-next.ensures.steps fact
+          (λ second others right means both. record {
+            trees = rest;
+            left = left;
+            fact = record {
+              trees = others;
+              left = right;
+              fact = put_aside (IsAnswer is_equal form other_form None) (IsAnswer is_equal form other_form (Some (c.in_ok-entry.entry, c.in_ok-other.other))) (is_equal first second) (are_equal rest others) (are_equal ts us) (λ b h. h) (first, second, stored, means, refl) both;
+            };
+          }));
+    }
 
-pub arrays_equal-loop-item-init : goal.arrays_equal-loop-item-init
-arrays_equal-loop-item-init t c = record {
+pub entries_equal-returns-in_err-stored_equal-clause-equal : goal.entries_equal-returns-in_err-stored_equal-clause-equal
+entries_equal-returns-in_err-stored_equal-clause-equal t c = λ form other_form ts us d e.
+    SomeEntries-first form _ _ _ _ _ c.in_ok-entry.was c.in-Some.ensures.steps (c.loop-entry.invariant.left form other_form ts us d e)
+    (λ first rest left stored fact.
+    SomeEntries-first other_form _ _ _ _ _ c.in_ok-other.was c.in-Some-next.ensures.steps fact
+    (λ second others right means both. absurd (c.in_err-stored_equal.ensures.equal form other_form first second stored means)))
+
+pub entries_equal-returns-then-not-branch-clause-equal : goal.entries_equal-returns-then-not-branch-clause-equal
+entries_equal-returns-then-not-branch-clause-equal t c = λ form other_form ts us d e.
+    SomeEntries-first form _ _ _ _ _ c.in_ok-entry.was c.in-Some.ensures.steps (c.loop-entry.invariant.left form other_form ts us d e)
+    (λ first rest left stored fact.
+    SomeEntries-first other_form _ _ _ _ _ c.in_ok-other.was c.in-Some-next.ensures.steps fact
+    (λ second others right means both.
+    let fails : is_equal first second ≡ false = sym (c.in_ok-stored_equal.ensures.equal form other_form first second stored means) ∙ c.if-not-branch.true in
+    part_fails _ (is_equal first second) (are_equal rest others) (are_equal ts us) fails both))
+
+pub entries_equal-loop-entry-preserved : goal.entries_equal-loop-entry-preserved
+entries_equal-loop-entry-preserved t c = record {
   can = tt;
   finite = tt;
-  room = search rules;
+  room = omega (arith, c.in-Some.ensures.steps.room, c.loop-entry.invariant.room);
+  size = c.loop-entry.invariant.size;
   left = λ form other_form ts us d e.
-      SomeElements-all form ts _ _ _ _ c.in-Some.is c.into_iter-item-iterator.ensures.into_iter_gives (c.in_ok-found.ensures.decodes form (Tree.array ts) d)
-      (SomeElements-all other_form us _ _ _ _ c.in-Some-2.is refl (c.in_ok-rest.ensures.decodes other_form (Tree.array us) e) refl);
-}
-
-pub arrays_equal-returns-in_err-item-clause-equal : goal.arrays_equal-returns-in_err-item-clause-equal
-arrays_equal-returns-in_err-item-clause-equal t c = λ form other_form ts us d e.
-    SomeElements-error form _ _ _ _ _ c.in_err-item.was c.in-Some-item.ensures.steps (c.loop-item.invariant.left form other_form ts us d e)
-
-pub arrays_equal-returns-in_default-next-clause-equal : goal.arrays_equal-returns-in_default-next-clause-equal
-arrays_equal-returns-in_default-next-clause-equal t c = λ form other_form ts us d e.
-    SomeElements-first form _ _ _ _ _ c.in_ok-item.was c.in-Some-item.ensures.steps (c.loop-item.invariant.left form other_form ts us d e)
-    (λ first rest left stands fact. SomeElements-none other_form _ _ _ c.in_default-next.ensures.steps fact)
-
-pub arrays_equal-returns-in_err-other-clause-equal : goal.arrays_equal-returns-in_err-other-clause-equal
-arrays_equal-returns-in_err-other-clause-equal t c = λ form other_form ts us d e.
-    SomeElements-first form _ _ _ _ _ c.in_ok-item.was c.in-Some-item.ensures.steps (c.loop-item.invariant.left form other_form ts us d e)
-    (λ first rest left stands fact. SomeElements-error other_form _ _ _ _ _ c.in_err-other.was c.in-Some-next.ensures.steps fact)
-
-pub arrays_equal-returns-in_err-items_equal-clause-equal : goal.arrays_equal-returns-in_err-items_equal-clause-equal
-arrays_equal-returns-in_err-items_equal-clause-equal t c = λ form other_form ts us d e.
-    SomeElements-first form _ _ _ _ _ c.in_ok-item.was c.in-Some-item.ensures.steps (c.loop-item.invariant.left form other_form ts us d e)
-    (λ first rest left stands fact.
-    SomeElements-first other_form _ _ _ _ _ c.in_ok-other.was c.in-Some-next.ensures.steps fact
-    (λ second others right means both. absurd (c.in_err-items_equal.ensures.equal form other_form first second stands means)))
-
-pub arrays_equal-returns-then-not-branch-clause-equal : goal.arrays_equal-returns-then-not-branch-clause-equal
-arrays_equal-returns-then-not-branch-clause-equal t c = λ form other_form ts us d e.
-    SomeElements-first form _ _ _ _ _ c.in_ok-item.was c.in-Some-item.ensures.steps (c.loop-item.invariant.left form other_form ts us d e)
-    (λ first rest left stands fact.
-    SomeElements-first other_form _ _ _ _ _ c.in_ok-other.was c.in-Some-next.ensures.steps fact
-    (λ second others right means both.
-    let no : is_equal first second ≡ false = sym (c.in_ok-items_equal.ensures.equal form other_form first second stands means) ∙ c.if-not-branch.true in
-    rw no at both))
-
-pub arrays_equal-loop-item-preserved : goal.arrays_equal-loop-item-preserved
-arrays_equal-loop-item-preserved t c = record {
-  can = tt;
-  finite = tt;
-  room = omega (arith, c.in-Some-item.ensures.steps.room);
-  left = λ form other_form ts us d e.
-      SomeElements-first form _ _ _ _ _ c.in_ok-item.was c.in-Some-item.ensures.steps (c.loop-item.invariant.left form other_form ts us d e)
-      (λ first rest left stands fact.
-      SomeElements-first other_form _ _ _ _ _ c.in_ok-other.was c.in-Some-next.ensures.steps fact
+      SomeEntries-first form _ _ _ _ _ c.in_ok-entry.was c.in-Some.ensures.steps (c.loop-entry.invariant.left form other_form ts us d e)
+      (λ first rest left stored fact.
+      SomeEntries-first other_form _ _ _ _ _ c.in_ok-other.was c.in-Some-next.ensures.steps fact
       (λ second others right means both.
-      let yes : is_equal first second ≡ true = sym (c.in_ok-items_equal.ensures.equal form other_form first second stands means) ∙ c.if-not-branch.false in
-      record { trees = rest; left = left; fact = record { trees = others; left = right; fact = rw yes at both } }));
+      let holds : is_equal first second ≡ true = sym (c.in_ok-stored_equal.ensures.equal form other_form first second stored means) ∙ c.if-not-branch.false in
+      record {
+        trees = rest;
+        left = left;
+        fact = record { trees = others; left = right; fact = part_holds _ (is_equal first second) (are_equal rest others) (are_equal ts us) holds both };
+      }));
 }
 
-pub arrays_equal-returns-clause-equal : goal.arrays_equal-returns-clause-equal
-arrays_equal-returns-clause-equal t c = λ form other_form ts us d e.
-    elements_ended other_form _ _ _ _ _ c.is_none.ensures c.next-2.ensures.steps
-    (SomeElements-none form _ _ _ c.in-None.ensures.steps (c.loop-item.invariant.left form other_form ts us d e))
+pub entries_equal-returns-then-is_some-clause-equal : goal.entries_equal-returns-then-is_some-clause-equal
+entries_equal-returns-then-is_some-clause-equal t c = λ form other_form ts us d e.
+    let s = SomeEntries-none form _ _ _ c.in-None.ensures.steps (c.loop-entry.invariant.left form other_form ts us d e) in
+    rest_fails _ _ (entries_ended other_form _ _ _ false (λ (b : Bool). Aside (IsAnswer is_equal form other_form c.loop-entry.large) b (are_equal ts us)) (sym c.is_some.ensures ∙ c.if-is_some.true) c.next-2.ensures.steps s)
 
--- ---- objects
+pub entries_equal-returns-in_default-large-clause-equal : goal.entries_equal-returns-in_default-large-clause-equal
+entries_equal-returns-in_default-large-clause-equal t c = λ form other_form ts us d e.
+    let s = SomeEntries-none form _ _ _ c.in-None.ensures.steps (c.loop-entry.invariant.left form other_form ts us d e) in
+    let a = rw c.in_default-large.is at (entries_ended other_form _ _ _ true (λ (b : Bool). Aside (IsAnswer is_equal form other_form c.loop-entry.large) b (are_equal ts us)) (sym c.is_some.ensures ∙ c.if-is_some.false) c.next-2.ensures.steps s) in
+    sym a.is ∙ a.fact
 
-pub objects_equal-returns-in_err-found-clause-equal : goal.objects_equal-returns-in_err-found-clause-equal
-objects_equal-returns-in_err-found-clause-equal t c = λ form other_form ps qs d e. absurd (c.in_err-found.ensures.decodes form (Tree.object ps) d)
+pub entries_equal-returns-in_err-item-clause-equal : goal.entries_equal-returns-in_err-item-clause-equal
+entries_equal-returns-in_err-item-clause-equal t c = λ form other_form ts us d e.
+    let s = SomeEntries-none form _ _ _ c.in-None.ensures.steps (c.loop-entry.invariant.left form other_form ts us d e) in
+    let a = rw c.in-Some-large.is at (entries_ended other_form _ _ _ true (λ (b : Bool). Aside (IsAnswer is_equal form other_form c.loop-entry.large) b (are_equal ts us)) (sym c.is_some.ensures ∙ c.if-is_some.false) c.next-2.ensures.steps s) in
+    absurd (c.in_err-item.ensures.decodes form a.is.0 a.is.2.content)
 
-pub objects_equal-returns-in_default-clause-equal : goal.objects_equal-returns-in_default-clause-equal
-objects_equal-returns-in_default-clause-equal t c = λ form other_form ps qs d e. absurd (rw c.in_default.is at (c.in_ok-found.ensures.decodes form (Tree.object ps) d))
+pub entries_equal-returns-in_err-item-2-clause-equal : goal.entries_equal-returns-in_err-item-2-clause-equal
+entries_equal-returns-in_err-item-2-clause-equal t c = λ form other_form ts us d e.
+    let s = SomeEntries-none form _ _ _ c.in-None.ensures.steps (c.loop-entry.invariant.left form other_form ts us d e) in
+    let a = rw c.in-Some-large.is at (entries_ended other_form _ _ _ true (λ (b : Bool). Aside (IsAnswer is_equal form other_form c.loop-entry.large) b (are_equal ts us)) (sym c.is_some.ensures ∙ c.if-is_some.false) c.next-2.ensures.steps s) in
+    absurd (c.in_err-item-2.ensures.decodes other_form a.is.1 a.is.3.content)
 
-pub objects_equal-returns-in_err-rest-clause-equal : goal.objects_equal-returns-in_err-rest-clause-equal
-objects_equal-returns-in_err-rest-clause-equal t c = λ form other_form ps qs d e. absurd (c.in_err-rest.ensures.decodes other_form (Tree.object qs) e)
-
-pub objects_equal-returns-in_default-2-clause-equal : goal.objects_equal-returns-in_default-2-clause-equal
-objects_equal-returns-in_default-2-clause-equal t c = λ form other_form ps qs d e. absurd (rw c.in_default-2.is at (c.in_ok-rest.ensures.decodes other_form (Tree.object qs) e))
-
-pub objects_equal-loop-pair-init : goal.objects_equal-loop-pair-init
-objects_equal-loop-pair-init t c = record {
-  can = tt;
-  finite = tt;
-  room = search rules;
-  left = λ form other_form ps qs d e.
-      SomePairs-all form ps _ _ _ _ c.in-Some.is c.into_iter-pair-iterator.ensures.into_iter_gives (c.in_ok-found.ensures.decodes form (Tree.object ps) d)
-      (SomePairs-all other_form qs _ _ _ _ c.in-Some-2.is refl (c.in_ok-rest.ensures.decodes other_form (Tree.object qs) e) refl);
-}
-
-pub objects_equal-returns-in_err-key-clause-equal : goal.objects_equal-returns-in_err-key-clause-equal
-objects_equal-returns-in_err-key-clause-equal t c = λ form other_form ps qs d e.
-    SomePairs-error form _ _ _ _ _ c.in_err-key.was c.in-Some-pair.ensures.steps (c.loop-pair.invariant.left form other_form ps qs d e)
-
-pub objects_equal-returns-in_default-next-clause-equal : goal.objects_equal-returns-in_default-next-clause-equal
-objects_equal-returns-in_default-next-clause-equal t c = λ form other_form ps qs d e.
-    SomePairs-first form _ _ _ _ _ c.in_ok-key.was c.in-Some-pair.ensures.steps (c.loop-pair.invariant.left form other_form ps qs d e)
-    (λ value rest left stands fact. SomePairs-none other_form _ _ _ c.in_default-next.ensures.steps fact)
-
-pub objects_equal-returns-in_err-name-clause-equal : goal.objects_equal-returns-in_err-name-clause-equal
-objects_equal-returns-in_err-name-clause-equal t c = λ form other_form ps qs d e.
-    SomePairs-first form _ _ _ _ _ c.in_ok-key.was c.in-Some-pair.ensures.steps (c.loop-pair.invariant.left form other_form ps qs d e)
-    (λ value rest left stands fact. SomePairs-error other_form _ _ _ _ _ c.in_err-name.was c.in-Some-next.ensures.steps fact)
-
-pub objects_equal-returns-in_err-items_equal-clause-equal : goal.objects_equal-returns-in_err-items_equal-clause-equal
-objects_equal-returns-in_err-items_equal-clause-equal t c = λ form other_form ps qs d e.
-    SomePairs-first form _ _ _ _ _ c.in_ok-key.was c.in-Some-pair.ensures.steps (c.loop-pair.invariant.left form other_form ps qs d e)
-    (λ value rest left stands fact.
-    SomePairs-first other_form _ _ _ _ _ c.in_ok-name.was c.in-Some-next.ensures.steps fact
-    (λ second others right means both. absurd (c.in_err-items_equal.ensures.equal form other_form value second stands means)))
-
-pub objects_equal-returns-then-ne-clause-equal : goal.objects_equal-returns-then-ne-clause-equal
-objects_equal-returns-then-ne-clause-equal t c = λ form other_form ps qs d e.
-    SomePairs-first form _ _ _ _ _ c.in_ok-key.was c.in-Some-pair.ensures.steps (c.loop-pair.invariant.left form other_form ps qs d e)
-    (λ value rest left stands fact.
-    SomePairs-first other_form _ _ _ _ _ c.in_ok-name.was c.in-Some-next.ensures.steps fact
-    (λ second others right means both.
-    let no : bytes_eq c.in_ok-key.key.now c.in_ok-name.name.now ≡ false = told_some _ (sym c.if-ne.true ∙ c.ne.ensures) in
-    rw no at both))
-
-pub objects_equal-returns-then-not-branch-clause-equal : goal.objects_equal-returns-then-not-branch-clause-equal
-objects_equal-returns-then-not-branch-clause-equal t c = λ form other_form ps qs d e.
-    SomePairs-first form _ _ _ _ _ c.in_ok-key.was c.in-Some-pair.ensures.steps (c.loop-pair.invariant.left form other_form ps qs d e)
-    (λ value rest left stands fact.
-    SomePairs-first other_form _ _ _ _ _ c.in_ok-name.was c.in-Some-next.ensures.steps fact
-    (λ second others right means both.
-    let no : is_equal value second ≡ false = sym (c.in_ok-items_equal.ensures.equal form other_form value second stands means) ∙ c.if-not-branch.true in
-    let same : bytes_eq c.in_ok-key.key.now c.in_ok-name.name.now ≡ true = told_none _ (sym c.if-ne.false ∙ c.ne.ensures) in
-    rw (same, no) at both))
-
-pub objects_equal-loop-pair-preserved : goal.objects_equal-loop-pair-preserved
-objects_equal-loop-pair-preserved t c = record {
-  can = tt;
-  finite = tt;
-  room = omega (arith, c.in-Some-pair.ensures.steps.room);
-  left = λ form other_form ps qs d e.
-      SomePairs-first form _ _ _ _ _ c.in_ok-key.was c.in-Some-pair.ensures.steps (c.loop-pair.invariant.left form other_form ps qs d e)
-      (λ value rest left stands fact.
-      SomePairs-first other_form _ _ _ _ _ c.in_ok-name.was c.in-Some-next.ensures.steps fact
-      (λ second others right means both.
-      let yes : is_equal value second ≡ true = sym (c.in_ok-items_equal.ensures.equal form other_form value second stands means) ∙ c.if-not-branch.false in
-      let same : bytes_eq c.in_ok-key.key.now c.in_ok-name.name.now ≡ true = told_none _ (sym c.if-ne.false ∙ c.ne.ensures) in
-      record { pairs = rest; left = left; fact = record { pairs = others; left = right; fact = rw (same, yes) at both } }));
-}
-
-pub objects_equal-returns-clause-equal : goal.objects_equal-returns-clause-equal
-objects_equal-returns-clause-equal t c = λ form other_form ps qs d e.
-    pairs_ended other_form _ _ _ _ _ c.is_none.ensures c.next-2.ensures.steps
-    (SomePairs-none form _ _ _ c.in-None.ensures.steps (c.loop-pair.invariant.left form other_form ps qs d e))
+pub entries_equal-returns-clause-equal : goal.entries_equal-returns-clause-equal
+entries_equal-returns-clause-equal t c = λ form other_form ts us d e.
+    let s = SomeEntries-none form _ _ _ c.in-None.ensures.steps (c.loop-entry.invariant.left form other_form ts us d e) in
+    let a = rw c.in-Some-large.is at (entries_ended other_form _ _ _ true (λ (b : Bool). Aside (IsAnswer is_equal form other_form c.loop-entry.large) b (are_equal ts us)) (sym c.is_some.ensures ∙ c.if-is_some.false) c.next-2.ensures.steps s) in
+    (a.is.0, a.is.1, c.in_ok-item.ensures.decodes form a.is.0 a.is.2.content, c.in_ok-item-2.ensures.decodes other_form a.is.1 a.is.3.content, a.is.4 ∙ a.fact)
 
 -- ---- items
 
-pub items_equal-returns-in-Array-Array-clause-equal : goal.items_equal-returns-in-Array-Array-clause-equal
-items_equal-returns-in-Array-Array-clause-equal t c = λ form other_form s u h i.
+pub items_equal-returns-in-Known-clause-equal : goal.items_equal-returns-in-Known-clause-equal
+items_equal-returns-in-Known-clause-equal t c = λ form other_form s u h i.
+    let l = c.loop-answer.invariant.left form other_form s u h i in
+    let told = rw c.in-Known.is at (c.in_ok-answer.ensures.equal form other_form l.0 l.1 l.2 l.3) in
+    told ∙ l.4
+
+pub items_equal-loop-answer-preserved : goal.items_equal-loop-answer-preserved
+items_equal-loop-answer-preserved t c = record {
+  shorter = let size = rw c.in-AsOf.is at c.in_ok-answer.ensures.shorter in omega (arith, size, c.loop-answer.invariant.shorter);
+  left = λ form other_form s u h i.
+      let l = c.loop-answer.invariant.left form other_form s u h i in
+      let m = rw c.in-AsOf.is at (c.in_ok-answer.ensures.equal form other_form l.0 l.1 l.2 l.3) in
+      (m.0, m.1, m.2, m.3, m.4 ∙ l.4);
+}
+
+pub objects_equal-returns-in_err-found-clause-equal : goal.objects_equal-returns-in_err-found-clause-equal
+objects_equal-returns-in_err-found-clause-equal t c = λ form other_form ps qs d e. absurd (c.in_err-found.ensures.decodes form ps d)
+
+pub objects_equal-returns-in_err-wanted-clause-equal : goal.objects_equal-returns-in_err-wanted-clause-equal
+objects_equal-returns-in_err-wanted-clause-equal t c = λ form other_form ps qs d e. absurd (c.in_err-wanted.ensures.decodes other_form qs e)
+
+pub objects_equal-returns-in_err-texts_equal-clause-equal : goal.objects_equal-returns-in_err-texts_equal-clause-equal
+objects_equal-returns-in_err-texts_equal-clause-equal t c = λ form other_form ps qs d e.
+    let found = c.keys.ensures.entries form ps (c.in_ok-found.ensures.decodes form ps d) in
+    let wanted = c.keys-2.ensures.entries other_form qs (c.in_ok-wanted.ensures.decodes other_form qs e) in
+    absurd (c.in_err-texts_equal.ensures.equal form other_form (keys ps) (keys qs) found wanted)
+
+pub objects_equal-returns-then-not-branch-clause-equal : goal.objects_equal-returns-then-not-branch-clause-equal
+objects_equal-returns-then-not-branch-clause-equal t c = λ form other_form ps qs d e.
+    let found = c.keys.ensures.entries form ps (c.in_ok-found.ensures.decodes form ps d) in
+    let wanted = c.keys-2.ensures.entries other_form qs (c.in_ok-wanted.ensures.decodes other_form qs e) in
+    let fails : are_equal (key_trees (keys ps)) (key_trees (keys qs)) ≡ false = sym (c.in_ok-texts_equal.ensures.equal form other_form (keys ps) (keys qs) found wanted) ∙ c.if-not-branch.true in
+    rw fails at (equal_by_parts ps qs)
+
+pub objects_equal-returns-clause-equal : goal.objects_equal-returns-clause-equal
+objects_equal-returns-clause-equal t c = λ form other_form ps qs d e.
+    let left = c.in_ok-found.ensures.decodes form ps d in
+    let right = c.in_ok-wanted.ensures.decodes other_form qs e in
+    let holds : are_equal (key_trees (keys ps)) (key_trees (keys qs)) ≡ true =
+    sym (c.in_ok-texts_equal.ensures.equal form other_form (keys ps) (keys qs) (c.keys.ensures.entries form ps left) (c.keys-2.ensures.entries other_form qs right)) ∙ c.if-not-branch.false in
+    let same : are_equal (values ps) (values qs) ≡ pairs_are_equal ps qs = rw holds at (equal_by_parts ps qs) in
+    subst (λ (b : Bool). IsOkAnd c.entries_equal.result (λ told. Decides is_equal form other_form told b)) same
+    (c.entries_equal.ensures.equal form other_form (values ps) (values qs) (c.values.ensures.entries form ps left) (c.values-2.ensures.entries other_form qs right))
+
+pub objects_equal-returns-clause-shorter : goal.objects_equal-returns-clause-shorter
+objects_equal-returns-clause-shorter t c =
+    shorter_than _ _ _ (omega (arith, c.in_ok-found.ensures.room, c.values.ensures.room)) c.entries_equal.ensures.shorter
+
+pub parts_equal-returns-in_err-array_entries-in-Array-Array-clause-equal : goal.parts_equal-returns-in_err-array_entries-in-Array-Array-clause-equal
+parts_equal-returns-in_err-array_entries-in-Array-Array-clause-equal t c = λ form other_form s u h i.
+    let p = rw c.in-Array-Array.is-0 at h in
+    absurd (c.in_err-array_entries-in-Array-Array.ensures.decodes form p.0 p.2)
+
+pub parts_equal-returns-in_ok-array_entries-in-Array-Array-2-clause-equal : goal.parts_equal-returns-in_ok-array_entries-in-Array-Array-2-clause-equal
+parts_equal-returns-in_ok-array_entries-in-Array-Array-2-clause-equal t c = λ form other_form s u h i.
     let p = rw c.in-Array-Array.is-0 at h in
     let q = rw c.in-Array-Array.is-1 at i in
-    rw (p.1, q.1) (c.arrays_equal.ensures.equal form other_form p.0 q.0 p.2 q.2)
+    rw (p.1, q.1) (c.entries_equal.ensures.equal form other_form p.0 q.0 (c.in_ok-array_entries-in-Array-Array.ensures.decodes form p.0 p.2) (c.in_ok-array_entries-in-Array-Array-2.ensures.decodes other_form q.0 q.2))
 
-pub items_equal-returns-in-Object-Object-clause-equal : goal.items_equal-returns-in-Object-Object-clause-equal
-items_equal-returns-in-Object-Object-clause-equal t c = λ form other_form s u h i.
+pub parts_equal-returns-in-Object-Object-clause-equal : goal.parts_equal-returns-in-Object-Object-clause-equal
+parts_equal-returns-in-Object-Object-clause-equal t c = λ form other_form s u h i.
     let p = rw c.in-Object-Object.is-0 at h in
     let q = rw c.in-Object-Object.is-1 at i in
     rw (p.1, q.1) (c.objects_equal.ensures.equal form other_form p.0 q.0 p.2 q.2)

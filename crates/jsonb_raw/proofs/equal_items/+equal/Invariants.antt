@@ -1,38 +1,47 @@
-use Rattle.std.proofs.Common.{◌≡◌, ◌<◌, ◌+◌, ◌*◌, length}
-use Rattle.jsonb_doc.specs.Tree.{Tree, Trees, Pairs}
-use Rattle.jsonb_doc.specs.Equal.{are_equal, pairs_are_equal}
+use Rattle.std.proofs.Common.{◌≡◌, ◌≤◌, ◌+◌, ◌*◌, length}
+use Rattle.std.specs.Prelude.{IfSome}
+use Rattle.jsonb_doc.specs.Tree.{Tree, Trees}
+use Rattle.jsonb_doc.specs.Equal.{is_equal, are_equal}
 use Rattle.jsonb_doc.specs.Payload.{Form}
-use Rattle.jsonb_doc.specs.Format.{Decodes}
-use Rattle.jsonb_doc.specs.Item.{item_size}
-use Rattle.jsonb_doc.specs.Elements.{elements_room}
-use Rattle.jsonb_doc.specs.ObjectPairs.{pairs_room}
-use Rattle.jsonb_raw.proofs.Left.{SomeElements, SomePairs}
+use Rattle.jsonb_doc.specs.Item.{Stands, item_size}
+use Rattle.jsonb_doc.specs.Stored.{HasEntriesLeft, entries_room}
+use Rattle.jsonb_raw.proofs.EntriesLeft.{SomeEntries}
+use Rattle.jsonb_raw.proofs.Aside.{Aside, IsAnswer}
 use Rattle.jsonb_raw.proofs.equal_items.+equal.Given as goal
 
 abbrev pub decreases-items_equal : goal.decreases-items_equal
-decreases-items_equal l = 2 * item_size l.item.now + 1
+decreases-items_equal l = 8 * item_size l.item.now + 4
 
-abbrev pub decreases-arrays_equal : goal.decreases-arrays_equal
-decreases-arrays_equal l = 2 * length l.bytes.now
+abbrev pub decreases-parts_equal : goal.decreases-parts_equal
+decreases-parts_equal l = 8 * item_size l.item.now + 3
 
 abbrev pub decreases-objects_equal : goal.decreases-objects_equal
-decreases-objects_equal l = 2 * length l.bytes.now
+decreases-objects_equal l = 8 * length l.bytes.now + 2
 
--- what is left of both decides what all decides
-abbrev pub invariant-arrays_equal-loop-item : goal.invariant-arrays_equal-loop-item
-invariant-arrays_equal-loop-item l = record {
-  can : (goal.iterator-arrays_equal-loop-item).can_next l.item-iterator;
-  finite : (goal.iterator-arrays_equal-loop-item).is_finite l.item-iterator;
-  room : elements_room l.item-iterator < length l.fn.bytes;
-  left : (form other_form : Form) (ts us : Trees) → Decodes form l.fn.bytes (Tree.array ts) → Decodes other_form l.fn.others (Tree.array us)
-      → SomeElements form l.item-iterator (λ left. SomeElements other_form l.rest (λ right. are_equal left right ≡ are_equal ts us));
+abbrev pub decreases-entries_equal : goal.decreases-entries_equal
+decreases-entries_equal l = 8 * entries_room l.found + 6
+
+abbrev pub decreases-stored_equal : goal.decreases-stored_equal
+decreases-stored_equal l = 8 * length l.entry.now.content.now + 5
+
+-- the parts that are left decide the whole
+abbrev pub invariant-items_equal-loop-answer : goal.invariant-items_equal-loop-answer
+invariant-items_equal-loop-answer l = record {
+  shorter : item_size l.left ≤ item_size l.fn.item;
+  left : (form other_form : Form) (t u : Tree) → Stands form l.fn.item t → Stands other_form l.fn.other u
+      → (x : Tree) × (y : Tree) × Stands form l.left x × Stands other_form l.right y × (is_equal x y ≡ is_equal t u);
 }
 
-abbrev pub invariant-objects_equal-loop-pair : goal.invariant-objects_equal-loop-pair
-invariant-objects_equal-loop-pair l = record {
-  can : (goal.iterator-objects_equal-loop-pair).can_next l.pair-iterator;
-  finite : (goal.iterator-objects_equal-loop-pair).is_finite l.pair-iterator;
-  room : pairs_room l.pair-iterator < length l.fn.bytes;
-  left : (form other_form : Form) (ps qs : Pairs) → Decodes form l.fn.bytes (Tree.object ps) → Decodes other_form l.fn.others (Tree.object qs)
-      → SomePairs form l.pair-iterator (λ left. SomePairs other_form l.rest (λ right. pairs_are_equal left right ≡ pairs_are_equal ps qs));
+abbrev pub decreases-items_equal-loop-answer : goal.decreases-items_equal-loop-answer
+decreases-items_equal-loop-answer l = item_size l.left
+
+-- what is left of both decides what all decides, with the pair that was put aside
+abbrev pub invariant-entries_equal-loop-entry : goal.invariant-entries_equal-loop-entry
+invariant-entries_equal-loop-entry l = record {
+  can : (goal.iterator-entries_equal-loop-entry).can_next l.entry-iterator;
+  finite : (goal.iterator-entries_equal-loop-entry).is_finite l.entry-iterator;
+  room : entries_room l.entry-iterator ≤ entries_room l.fn.found;
+  size : IfSome l.large (λ pair. length pair.0.content.now ≤ entries_room l.fn.found);
+  left : (form other_form : Form) (ts us : Trees) → HasEntriesLeft form l.fn.found ts → HasEntriesLeft other_form l.fn.others us
+      → SomeEntries form l.entry-iterator (λ left. SomeEntries other_form l.rest (λ right. Aside (IsAnswer is_equal form other_form l.large) (are_equal left right) (are_equal ts us)));
 }

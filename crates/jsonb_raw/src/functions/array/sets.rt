@@ -9,6 +9,7 @@ ghost use Rattle.jsonb_doc.specs.Payload.{Form};
 ghost use Rattle.jsonb_doc.specs.Format.{Decodes};
 ghost use Rattle.jsonb_doc.specs.Item.{Stands};
 ghost use Rattle.jsonb_doc.specs.Elements.{HasElementsLeft};
+ghost use Rattle.jsonb_doc.specs.Stored.{HasEntriesLeft};
 ghost use Rattle.jsonb_doc.specs.ArrayBuilder.{HoldsElements};
 ghost use Rattle.jsonb_doc.specs.Answer.{Answers, Builds, WantsMemory};
 ghost use Rattle.jsonb_doc.specs.View.{IsDecodingError};
@@ -19,11 +20,13 @@ ghost use Rattle.jsonb_raw.specs.Sets.{kept, distinct, shared, unshared, overlap
 ghost use Rattle.jsonb_raw.specs.SetCounts.{CountsKeys, StandsBehind, keeps, kept_one};
 
 use super::counts::KeyCounts;
-use crate::equal_items::items_equal;
+use crate::equal_items::{find_equal, items_equal};
 use crate::equality_key::item_key;
 use crate::owned::OwnedJsonb;
 use crate::raw::RawJsonb;
-use jsonb_doc::{ArrayBuilder, ElementIter, Error, Item, elements, root_item};
+use jsonb_doc::{
+    ArrayBuilder, ElementIter, EntryIter, Error, Item, array_entries, elements, root_item,
+};
 use std::alloc::Global;
 
 /// Which elements of an array are kept.
@@ -211,12 +214,31 @@ fn elements_overlap(found: ElementIter<'_>, other: &[u8]) -> Result<bool, Error>
     Ok(false)
 }
 
+/// Whether an entry that is left equals one of the others.
+fn entries_overlap(found: EntryIter<'_>, others: EntryIter<'_>) -> Result<bool, Error>
+    ensures overlap { (form other_form : Form) (ts us : Trees) → HasEntriesLeft form found.entry ts
+        → HasEntriesLeft other_form others.entry us
+        → IsOkAnd result (λ b. b ≡ overlap (elements_of ts) (elements_of us)) }
+    ensures errors { IfErr result IsDecodingError }
+{
+    for entry in found {
+        let mut rest = others;
+        if find_equal(&mut rest, &entry?)? {
+            return Ok(true);
+        }
+    }
+    Ok(false)
+}
+
 /// The same of a document, where a root that is no array counts as one element.
 fn documents_overlap(bytes: &[u8], other: &[u8]) -> Result<bool, Error>
     ensures overlap { (form other_form : Form) (t u : Tree) → Decodes form bytes.now t
         → Decodes other_form other.now u → IsOkAnd result (λ b. b ≡ overlap (as_elements t) (as_elements u)) }
     ensures errors { IfErr result IsDecodingError }
 {
+    if let (Item::Array(_), Item::Array(_)) = (root_item(bytes)?, root_item(other)?) {
+        return entries_overlap(array_entries(bytes)?, array_entries(other)?);
+    }
     match elements(bytes)? {
         Some(found) => elements_overlap(found, other),
         None => document_has(other, &root_item(bytes)?),
@@ -272,7 +294,7 @@ impl RawJsonb<'_> {
     }
 
     /// Whether an element equals one of the other document by value, where a document that is no array counts as
-    /// one element. It takes no memory.
+    /// one element. It takes no memory, and its calls nest no deeper than the lengths can be halved.
     ///
     /// `InvalidJsonb` and `UnsupportedNumber` come only where the bytes of one don't decode.
     pub fn array_overlap(&self, other: &RawJsonb<'_>) -> Result<bool, Error>

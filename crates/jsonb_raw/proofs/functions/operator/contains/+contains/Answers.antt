@@ -1,227 +1,369 @@
-use Rattle.std.proofs.Common.{rules, arith, ℕ, List, true, false, ◌≡◌, refl, sym, ◌∙◌, subst}
+use Rattle.std.proofs.Common.{rules, arith, ℕ, List, Bool, Some, None, true, false, ◌≡◌, refl, sym, ◌∙◌, subst}
 use Rattle.std.specs.Prelude.{IsOkAnd}
-use Rattle.std.specs.Prelude.{◌==◌}
 use Rattle.std.proofs.lemmas.Slice.Eq.{bytes_eq-Decides}
-use Rattle.std.proofs.lemmas.Bool.Decides.{nat_tests}
 use Rattle.std.specs.List.{list_any}
 use Rattle.std.specs.Borrow.{Bor}
 use Rattle.jsonb_doc.specs.declared.item.Item.TheVariants as item
-use Rattle.jsonb_doc.specs.Tree.{array, object, keys, elements}
+use Rattle.jsonb_doc.specs.Tree.{keys, elements, members}
+use Rattle.jsonb_doc.specs.Equal.{is_equal}
 use Rattle.jsonb_doc.proofs.BuilderSteps.{keys_rise}
-use Rattle.jsonb_raw.specs.Contains.{is_matched_by}
-use Rattle.jsonb_raw.proofs.EntriesLeft.{SomeEntries-first, SomeEntries-error, SomeEntries-none}
-use Rattle.jsonb_raw.proofs.EntryMatches.{kinds_tell, bytes_tell, texts_tell, wholes_tell}
-use Rattle.jsonb_raw.proofs.Left.{SomePairs-all, SomePairs-first, SomePairs-error, SomePairs-none}
 use Rattle.jsonb_raw.specs.PairSteps.{pairs_above}
-use Rattle.jsonb_raw.proofs.MatchLemmas.{unmatched_key, unmatched_value, matched_value, no_value_found, value_found, matches_if_equal, no_object}
+use Rattle.jsonb_raw.specs.Contains.{is_matched_by, each_is_matched, each_pair_is_matched}
+use Rattle.jsonb_raw.specs.Compared.{matches}
+use Rattle.jsonb_raw.proofs.ContainsLaws.{matched_refl}
+use Rattle.jsonb_raw.proofs.EntriesLeft.{SomeEntries-first, SomeEntries-error, SomeEntries-none, SomePairEntries-first, SomePairEntries-error, SomePairEntries-none, passes_none}
+use Rattle.jsonb_raw.proofs.EntryEquals.{same_tree}
+use Rattle.jsonb_raw.proofs.Aside.{IsAnswer, IsItemAnswer, none_aside, put_aside, part_holds, part_fails, whole_fails, aside_along, IsOneAnswer, put_one_aside, one_holds, one_fails}
+use Rattle.jsonb_raw.proofs.MatchLemmas.{unmatched_key, matched_pair, no_entry_found, entry_found, scalar_match, scalar_matches, matches_if_equal, no_object}
 use Rattle.jsonb_raw.proofs.functions.operator.contains.+contains.Goals as goal
-use Rattle.jsonb_raw.proofs.functions.operator.contains.+contains.Goals.{item_matches-in_default-via-in-Array+in_default, item_matches-in_default-via-in-Object+in_default, item_matches-in_default-via-in_default}
+use Rattle.jsonb_raw.proofs.functions.operator.contains.+contains.Goals.{parts_match-in_default-via-in-Array+in_default, parts_match-in_default-via-in-Object+in_default, parts_match-in_default-via-in_default}
 
 -- ---- items
 
-pub item_matches-returns-in-Array-Array-clause-answer : goal.item_matches-returns-in-Array-Array-clause-answer
-item_matches-returns-in-Array-Array-clause-answer t c = λ form other_form x y stands wanted.
+pub item_matches-returns-in-Known-clause-answer : goal.item_matches-returns-in-Known-clause-answer
+item_matches-returns-in-Known-clause-answer t c = λ form other_form x y h i.
+    let l = c.loop-answer.invariant.left form other_form x y h i in
+    let told = rw c.in-Known.is at (c.in_ok-answer.ensures.answer form other_form l.0 l.1 l.2 l.3) in
+    told ∙ l.4
+
+pub item_matches-loop-answer-preserved : goal.item_matches-loop-answer-preserved
+item_matches-loop-answer-preserved t c = record {
+  shorter = let size = rw c.in-AsOf.is at c.in_ok-answer.ensures.within in omega (arith, size.0, size.1, c.loop-answer.invariant.shorter);
+  left = λ form other_form x y h i.
+      let l = c.loop-answer.invariant.left form other_form x y h i in
+      let m = rw c.in-AsOf.is at (c.in_ok-answer.ensures.answer form other_form l.0 l.1 l.2 l.3) in
+      (m.0, m.1, m.2, m.3, m.4 ∙ l.4);
+}
+
+pub parts_match-returns-in-Array-Array-clause-answer : goal.parts_match-returns-in-Array-Array-clause-answer
+parts_match-returns-in-Array-Array-clause-answer t c = λ form other_form x y stands wanted.
     let (xs, is, d) = rw c.in-Array-Array.is-0 at stands in
     let (ys, same, e) = rw c.in-Array-Array.is-1 at wanted in
     rw (is, same) (c.array_contains.ensures.answer form other_form xs ys d e)
 
-pub item_matches-returns-in-Object-Object-clause-answer : goal.item_matches-returns-in-Object-Object-clause-answer
-item_matches-returns-in-Object-Object-clause-answer t c = λ form other_form x y stands wanted.
+pub parts_match-returns-in-Object-Object-clause-answer : goal.parts_match-returns-in-Object-Object-clause-answer
+parts_match-returns-in-Object-Object-clause-answer t c = λ form other_form x y stands wanted.
     let (ps, is, d) = rw c.in-Object-Object.is-0 at stands in
     let (qs, same, e) = rw c.in-Object-Object.is-1 at wanted in
     rw (is, same) (c.object_contains.ensures.answer form other_form ps qs d e)
 
-pub item_matches-returns-in_default-clause-answer : goal.item_matches-returns-in_default-clause-answer
-item_matches-returns-in_default-clause-answer t c = λ form other_form x y stands wanted.
+pub parts_match-returns-in-Ok-clause-answer : goal.parts_match-returns-in-Ok-clause-answer
+parts_match-returns-in-Ok-clause-answer t c = λ form other_form x y stands wanted.
     let same = λ (arrays : (b d : Bor (List ℕ)) → c.args.item.now ≡ item.Array b → c.args.wanted.now ≡ item.Array d → ⊥) (objects : (b d : Bor (List ℕ)) → c.args.item.now ≡ item.Object b → c.args.wanted.now ≡ item.Object d → ⊥).
-    subst (λ a. IsOkAnd c.items_equal.result (λ b. b ≡ a)) (matches_if_equal form other_form c.args.item.now c.args.wanted.now x y stands wanted arrays objects) (c.items_equal.ensures.equal form other_form x y stands wanted) in
+    c.in-Ok.ensures.equal form other_form x y stands wanted ∙ matches_if_equal form other_form c.args.item.now c.args.wanted.now x y stands wanted arrays objects in
     elim c.in_default.branch [
-      | item_matches-in_default-via-in-Array+in_default w ↦ same (λ b d p q. w.in_default.not-Array-1 d q) (λ b d p q. no_object c.args.item.now _ b w.in_default.is-0 p)
-      | item_matches-in_default-via-in-Object+in_default w ↦ same (λ b d p q. no_object c.args.item.now b _ p w.in_default.is-0) (λ b d p q. w.in_default.not-Object-1 d q)
-      | item_matches-in_default-via-in_default w ↦ same (λ b d p q. w.in_default.not-Array-0 b p) (λ b d p q. w.in_default.not-Object-0 b p)
+      | parts_match-in_default-via-in-Array+in_default w ↦ same (λ b d p q. w.in_default.not-Array-1 d q) (λ b d p q. no_object c.args.item.now _ b w.in_default.is-0 p)
+      | parts_match-in_default-via-in-Object+in_default w ↦ same (λ b d p q. no_object c.args.item.now b _ p w.in_default.is-0) (λ b d p q. w.in_default.not-Object-1 d q)
+      | parts_match-in_default-via-in_default w ↦ same (λ b d p q. w.in_default.not-Array-0 b p) (λ b d p q. w.in_default.not-Object-0 b p)
     ]
 
 -- ---- arrays
 
-pub array_contains-returns-in_err-found-clause-answer : goal.array_contains-returns-in_err-found-clause-answer
-array_contains-returns-in_err-found-clause-answer t c = λ form other_form xs ys d e. absurd (c.in_err-found.ensures.decodes form xs d)
+pub array_contains-returns-in_err-all-clause-answer : goal.array_contains-returns-in_err-all-clause-answer
+array_contains-returns-in_err-all-clause-answer t c = λ form other_form xs ys d e. absurd (c.in_err-all.ensures.decodes form xs d)
 
 pub array_contains-loop-wanted-init : goal.array_contains-loop-wanted-init
 array_contains-loop-wanted-init t c = record {
   can = tt;
   finite = tt;
   room = search rules;
-  left = λ form other_form xs ys d e. record { trees = ys; left = rw c.into_iter-wanted-iterator.ensures.into_iter_gives (c.in_ok-wanted-items.ensures.decodes other_form ys e); fact = refl };
-}
-
-pub array_contains-loop-wanted-preserved : goal.array_contains-loop-wanted-preserved
-array_contains-loop-wanted-preserved t c = record {
-  can = tt;
-  finite = tt;
-  room = omega (arith, c.in-Some.ensures.steps.room);
-  left = λ form other_form xs ys d e.
-      SomeEntries-first other_form _ _ _ _ _ c.in_ok-wanted.was c.in-Some.ensures.steps (c.loop-wanted.invariant.left form other_form xs ys d e)
-      (λ first rest left stored fact.
-      let yes : list_any (is_matched_by first) (elements xs) ≡ true = sym (c.in_ok-has_match.ensures.answer form other_form xs first (c.in_ok-found.ensures.decodes form xs d) stored (c.in_ok-item.ensures.decodes other_form first stored.content)) ∙ c.if-not-branch.false in
-      record { trees = rest; left = left; fact = rw yes at fact });
+  passed = passes_none _;
+  size = tt;
+  left = λ form other_form xs ys d e. record {
+    trees = ys;
+    left = rw c.into_iter-wanted-iterator.ensures.into_iter_gives (c.in_ok-wanted-items.ensures.decodes other_form ys e);
+    fact = none_aside (IsItemAnswer matches form other_form None) (each_is_matched ys (elements xs)) refl;
+  };
 }
 
 pub array_contains-returns-in_err-wanted-clause-answer : goal.array_contains-returns-in_err-wanted-clause-answer
 array_contains-returns-in_err-wanted-clause-answer t c = λ form other_form xs ys d e.
     SomeEntries-error other_form _ _ _ _ _ c.in_err-wanted.was c.in-Some.ensures.steps (c.loop-wanted.invariant.left form other_form xs ys d e)
 
-pub array_contains-returns-in_err-item-clause-answer : goal.array_contains-returns-in_err-item-clause-answer
-array_contains-returns-in_err-item-clause-answer t c = λ form other_form xs ys d e.
+pub array_contains-returns-in_err-element_match-clause-answer : goal.array_contains-returns-in_err-element_match-clause-answer
+array_contains-returns-in_err-element_match-clause-answer t c = λ form other_form xs ys d e.
     SomeEntries-first other_form _ _ _ _ _ c.in_ok-wanted.was c.in-Some.ensures.steps (c.loop-wanted.invariant.left form other_form xs ys d e)
-    (λ first rest left stored fact. absurd (c.in_err-item.ensures.decodes other_form first stored.content))
+    (λ first rest left stored fact. absurd (c.in_err-element_match.ensures.answer form other_form xs first (c.in_ok-all.ensures.decodes form xs d) stored))
 
-pub array_contains-returns-in_err-has_match-clause-answer : goal.array_contains-returns-in_err-has_match-clause-answer
-array_contains-returns-in_err-has_match-clause-answer t c = λ form other_form xs ys d e.
+pub array_contains-loop-wanted-preserved-in-Known-true : goal.array_contains-loop-wanted-preserved-in-Known-true
+array_contains-loop-wanted-preserved-in-Known-true t c = record {
+  can = tt;
+  finite = tt;
+  room = omega (arith, c.in-Some.ensures.steps.room, c.loop-wanted.invariant.room);
+  passed = c.in_ok-element_match.ensures.passed;
+  size = c.loop-wanted.invariant.size;
+  left = λ form other_form xs ys d e.
+      SomeEntries-first other_form _ _ _ _ _ c.in_ok-wanted.was c.in-Some.ensures.steps (c.loop-wanted.invariant.left form other_form xs ys d e)
+      (λ first rest left stored fact.
+      let told = rw c.in-Known-true.is at (c.in_ok-element_match.ensures.answer form other_form xs first (c.in_ok-all.ensures.decodes form xs d) stored) in
+      let holds : list_any (is_matched_by first) (elements xs) ≡ true = sym told ∙ c.in-Known-true.field-0-test in
+      record { trees = rest; left = left; fact = part_holds _ (list_any (is_matched_by first) (elements xs)) (each_is_matched rest (elements xs)) (each_is_matched ys (elements xs)) holds fact });
+}
+
+pub array_contains-returns-in-Known-false-clause-answer : goal.array_contains-returns-in-Known-false-clause-answer
+array_contains-returns-in-Known-false-clause-answer t c = λ form other_form xs ys d e.
     SomeEntries-first other_form _ _ _ _ _ c.in_ok-wanted.was c.in-Some.ensures.steps (c.loop-wanted.invariant.left form other_form xs ys d e)
-    (λ first rest left stored fact. absurd (c.in_err-has_match.ensures.answer form other_form xs first (c.in_ok-found.ensures.decodes form xs d) stored (c.in_ok-item.ensures.decodes other_form first stored.content)))
+    (λ first rest left stored fact.
+    let told = rw c.in-Known-false.is at (c.in_ok-element_match.ensures.answer form other_form xs first (c.in_ok-all.ensures.decodes form xs d) stored) in
+    let fails : list_any (is_matched_by first) (elements xs) ≡ false = sym told ∙ c.in-Known-false.field-0-test in
+    part_fails _ (list_any (is_matched_by first) (elements xs)) (each_is_matched rest (elements xs)) (each_is_matched ys (elements xs)) fails fact)
+
+pub array_contains-loop-wanted-preserved-then-wanted-others : goal.array_contains-loop-wanted-preserved-then-wanted-others
+array_contains-loop-wanted-preserved-then-wanted-others t c =
+    let none : c.loop-wanted.large ≡ None = search rules in
+    let size = rw c.in_ok-wanted.was at c.in-Some.ensures.steps.size in
+    let within = rw c.in-AsOf.is at c.in_ok-element_match.ensures.within in
+    record {
+      can = tt;
+      finite = tt;
+      room = omega (arith, c.in-Some.ensures.steps.room, c.loop-wanted.invariant.room);
+      passed = c.in_ok-element_match.ensures.passed;
+      size = (omega (arith, within.0, c.in_ok-all.ensures.room), omega (arith, within.1, size, c.loop-wanted.invariant.room));
+      left = λ form other_form xs ys d e.
+          SomeEntries-first other_form _ _ _ _ _ c.in_ok-wanted.was c.in-Some.ensures.steps (rw none at (c.loop-wanted.invariant.left form other_form xs ys d e))
+          (λ first rest left stored fact.
+          let m = rw c.in-AsOf.is at (c.in_ok-element_match.ensures.answer form other_form xs first (c.in_ok-all.ensures.decodes form xs d) stored) in
+          record {
+            trees = rest;
+            left = left;
+            fact = put_aside (IsItemAnswer matches form other_form None) (IsItemAnswer matches form other_form (Some (c.in-AsOf.item, c.in-AsOf.other))) (list_any (is_matched_by first) (elements xs)) (each_is_matched rest (elements xs)) (each_is_matched ys (elements xs)) (λ b h. h) (m.0, m.1, m.2, m.3, m.4) fact;
+          });
+    }
+
+pub array_contains-returns-in_err-item_matches-in-AsOf-clause-answer : goal.array_contains-returns-in_err-item_matches-in-AsOf-clause-answer
+array_contains-returns-in_err-item_matches-in-AsOf-clause-answer t c = λ form other_form xs ys d e.
+    SomeEntries-first other_form _ _ _ _ _ c.in_ok-wanted.was c.in-Some.ensures.steps (c.loop-wanted.invariant.left form other_form xs ys d e)
+    (λ first rest left stored fact.
+    let m = rw c.in-AsOf.is at (c.in_ok-element_match.ensures.answer form other_form xs first (c.in_ok-all.ensures.decodes form xs d) stored) in
+    absurd (c.in_err-item_matches-in-AsOf.ensures.answer form other_form m.0 m.1 m.2 m.3))
 
 pub array_contains-returns-then-not-branch-clause-answer : goal.array_contains-returns-then-not-branch-clause-answer
 array_contains-returns-then-not-branch-clause-answer t c = λ form other_form xs ys d e.
     SomeEntries-first other_form _ _ _ _ _ c.in_ok-wanted.was c.in-Some.ensures.steps (c.loop-wanted.invariant.left form other_form xs ys d e)
     (λ first rest left stored fact.
-    let no : list_any (is_matched_by first) (elements xs) ≡ false = sym (c.in_ok-has_match.ensures.answer form other_form xs first (c.in_ok-found.ensures.decodes form xs d) stored (c.in_ok-item.ensures.decodes other_form first stored.content)) ∙ c.if-not-branch.true in
-    rw no at fact)
+    let m = rw c.in-AsOf.is at (c.in_ok-element_match.ensures.answer form other_form xs first (c.in_ok-all.ensures.decodes form xs d) stored) in
+    let fails : list_any (is_matched_by first) (elements xs) ≡ false = sym m.4 ∙ sym (c.in_ok-item_matches-in-AsOf.ensures.answer form other_form m.0 m.1 m.2 m.3) ∙ c.if-not-branch.true in
+    part_fails _ (list_any (is_matched_by first) (elements xs)) (each_is_matched rest (elements xs)) (each_is_matched ys (elements xs)) fails fact)
 
-pub array_contains-returns-clause-answer : goal.array_contains-returns-clause-answer
-array_contains-returns-clause-answer t c = λ form other_form xs ys d e.
-    SomeEntries-none other_form _ _ _ c.in-None.ensures.steps (c.loop-wanted.invariant.left form other_form xs ys d e)
+pub array_contains-loop-wanted-preserved : goal.array_contains-loop-wanted-preserved
+array_contains-loop-wanted-preserved t c = record {
+  can = tt;
+  finite = tt;
+  room = omega (arith, c.in-Some.ensures.steps.room, c.loop-wanted.invariant.room);
+  passed = c.in_ok-element_match.ensures.passed;
+  size = c.loop-wanted.invariant.size;
+  left = λ form other_form xs ys d e.
+      SomeEntries-first other_form _ _ _ _ _ c.in_ok-wanted.was c.in-Some.ensures.steps (c.loop-wanted.invariant.left form other_form xs ys d e)
+      (λ first rest left stored fact.
+      let m = rw c.in-AsOf.is at (c.in_ok-element_match.ensures.answer form other_form xs first (c.in_ok-all.ensures.decodes form xs d) stored) in
+      let holds : list_any (is_matched_by first) (elements xs) ≡ true = sym m.4 ∙ sym (c.in_ok-item_matches-in-AsOf.ensures.answer form other_form m.0 m.1 m.2 m.3) ∙ c.if-not-branch.false in
+      record { trees = rest; left = left; fact = part_holds _ (list_any (is_matched_by first) (elements xs)) (each_is_matched rest (elements xs)) (each_is_matched ys (elements xs)) holds fact });
+}
+
+pub array_contains-returns-in-Some-large-clause-answer : goal.array_contains-returns-in-Some-large-clause-answer
+array_contains-returns-in-Some-large-clause-answer t c = λ form other_form xs ys d e.
+    let a = rw c.in-Some-large.is at (SomeEntries-none other_form _ _ _ c.in-None.ensures.steps (c.loop-wanted.invariant.left form other_form xs ys d e)) in
+    (a.is.0, a.is.1, a.is.2, a.is.3, a.is.4 ∙ a.fact)
+
+pub array_contains-returns-in-None-large-clause-answer : goal.array_contains-returns-in-None-large-clause-answer
+array_contains-returns-in-None-large-clause-answer t c = λ form other_form xs ys d e.
+    let a = rw c.in-None-large.is at (SomeEntries-none other_form _ _ _ c.in-None.ensures.steps (c.loop-wanted.invariant.left form other_form xs ys d e)) in
+    sym a.is ∙ a.fact
 
 -- ---- entries
 
-pub has_match-returns-in_err-entry-clause-answer : goal.has_match-returns-in_err-entry-clause-answer
-has_match-returns-in_err-entry-clause-answer t c = λ form other_form xs y d s k.
-    SomeEntries-error form _ _ _ _ _ c.in_err-entry.was c.in-Some.ensures.steps (c.loop-entry.invariant.left form other_form xs y d s k)
+pub element_match-returns-then-branch-clause-answer : goal.element_match-returns-then-branch-clause-answer
+element_match-returns-then-branch-clause-answer t c = λ form other_form xs y h k.
+    let others = c.requires.others form xs h in
+    let found = sym (c.in_ok-find_equal.ensures.found form other_form others.0 y others.1 k) ∙ c.if-branch.true in
+    let scalar = scalar_matches other_form c.args.wanted.now y k (sym c.is_container.ensures ∙ c.if-is_container.false) (elements xs) in
+    sym (others.2 (λ x. is_equal x y) found) ∙ scalar
 
-pub has_match-returns-in_err-entry_matches-clause-answer : goal.has_match-returns-in_err-entry_matches-clause-answer
-has_match-returns-in_err-entry_matches-clause-answer t c = λ form other_form xs y d s k.
-    SomeEntries-first form _ _ _ _ _ c.in_ok-entry.was c.in-Some.ensures.steps (c.loop-entry.invariant.left form other_form xs y d s k)
-    (λ first rest left stored fact. absurd (c.in_err-entry_matches.ensures.answer form other_form first y stored s k))
+pub element_match-returns-clause-answer : goal.element_match-returns-clause-answer
+element_match-returns-clause-answer t c = λ form other_form xs y h k.
+    let scalar = scalar_matches other_form c.args.wanted.now y k (sym c.is_container.ensures ∙ c.if-is_container.false) (elements xs) in
+    c.in_ok-find_equal-2.ensures.found form other_form xs y h k ∙ scalar
 
-pub has_match-returns-then-branch-clause-answer : goal.has_match-returns-then-branch-clause-answer
-has_match-returns-then-branch-clause-answer t c = λ form other_form xs y d s k.
-    SomeEntries-first form _ _ _ _ _ c.in_ok-entry.was c.in-Some.ensures.steps (c.loop-entry.invariant.left form other_form xs y d s k)
+pub container_match-returns-in_err-entry-clause-answer : goal.container_match-returns-in_err-entry-clause-answer
+container_match-returns-in_err-entry-clause-answer t c = λ form other_form xs y h k.
+    SomeEntries-error form _ _ _ _ _ c.in_err-entry.was c.in-Some.ensures.steps (c.loop-entry.invariant.left form other_form xs y h k)
+
+pub container_match-loop-entry-preserved-then-entry-half : goal.container_match-loop-entry-preserved-then-entry-half
+container_match-loop-entry-preserved-then-entry-half t c =
+    let none : c.loop-entry.large ≡ None = search rules in
+    let size = rw c.in_ok-entry.was at c.in-Some.ensures.steps.size in
+    record {
+      can = tt;
+      finite = tt;
+      room = omega (arith, c.in-Some.ensures.steps.room, c.loop-entry.invariant.room);
+      size = omega (arith, size, c.loop-entry.invariant.room);
+      left = λ form other_form xs y h k.
+          SomeEntries-first form _ _ _ _ _ c.in_ok-entry.was c.in-Some.ensures.steps (rw none at (c.loop-entry.invariant.left form other_form xs y h k))
+          (λ first rest left stored fact. record {
+            trees = rest;
+            left = left;
+            fact = put_one_aside (IsOneAnswer (is_matched_by y) form None) (IsOneAnswer (is_matched_by y) form (Some c.in_ok-entry.entry)) (is_matched_by y first) (list_any (is_matched_by y) (elements rest)) (list_any (is_matched_by y) (elements xs)) (λ b i. i) (first, stored, refl) fact;
+          });
+    }
+
+pub container_match-returns-in_err-entry_matches-clause-answer : goal.container_match-returns-in_err-entry_matches-clause-answer
+container_match-returns-in_err-entry_matches-clause-answer t c = λ form other_form xs y h k.
+    SomeEntries-first form _ _ _ _ _ c.in_ok-entry.was c.in-Some.ensures.steps (c.loop-entry.invariant.left form other_form xs y h k)
+    (λ first rest left stored fact. absurd (c.in_err-entry_matches.ensures.answer form other_form first y stored k))
+
+pub container_match-returns-then-branch-clause-answer : goal.container_match-returns-then-branch-clause-answer
+container_match-returns-then-branch-clause-answer t c = λ form other_form xs y h k.
+    SomeEntries-first form _ _ _ _ _ c.in_ok-entry.was c.in-Some.ensures.steps (c.loop-entry.invariant.left form other_form xs y h k)
     (λ first rest left stored fact.
-    let yes : is_matched_by y first ≡ true = sym (c.in_ok-entry_matches.ensures.answer form other_form first y stored s k) ∙ c.if-branch.true in
-    rw yes at fact)
+    one_holds _ (is_matched_by y first) (list_any (is_matched_by y) (elements rest)) (list_any (is_matched_by y) (elements xs)) (sym (c.in_ok-entry_matches.ensures.answer form other_form first y stored k) ∙ c.if-branch.true) fact)
 
-pub has_match-loop-entry-preserved : goal.has_match-loop-entry-preserved
-has_match-loop-entry-preserved t c = record {
+pub container_match-loop-entry-preserved : goal.container_match-loop-entry-preserved
+container_match-loop-entry-preserved t c = record {
   can = tt;
   finite = tt;
-  room = omega (arith, c.in-Some.ensures.steps.room);
-  left = λ form other_form xs y d s k.
-      SomeEntries-first form _ _ _ _ _ c.in_ok-entry.was c.in-Some.ensures.steps (c.loop-entry.invariant.left form other_form xs y d s k)
-      (λ first rest left stored fact.
-      let no : is_matched_by y first ≡ false = sym (c.in_ok-entry_matches.ensures.answer form other_form first y stored s k) ∙ c.if-branch.false in
-      record { trees = rest; left = left; fact = rw no at fact });
+  room = omega (arith, c.in-Some.ensures.steps.room, c.loop-entry.invariant.room);
+  size = c.loop-entry.invariant.size;
+  left = λ form other_form xs y h k.
+      SomeEntries-first form _ _ _ _ _ c.in_ok-entry.was c.in-Some.ensures.steps (c.loop-entry.invariant.left form other_form xs y h k)
+      (λ first rest left stored fact. record {
+        trees = rest;
+        left = left;
+        fact = one_fails _ (is_matched_by y first) (list_any (is_matched_by y) (elements rest)) (list_any (is_matched_by y) (elements xs)) (sym (c.in_ok-entry_matches.ensures.answer form other_form first y stored k) ∙ c.if-branch.false) fact;
+      });
 }
 
-pub has_match-returns-clause-answer : goal.has_match-returns-clause-answer
-has_match-returns-clause-answer t c = λ form other_form xs y d s k.
-    SomeEntries-none form _ _ _ c.in-None.ensures.steps (c.loop-entry.invariant.left form other_form xs y d s k)
+pub container_match-returns-in_err-item-in-Some-large-clause-answer : goal.container_match-returns-in_err-item-in-Some-large-clause-answer
+container_match-returns-in_err-item-in-Some-large-clause-answer t c = λ form other_form xs y h k.
+    let a = rw c.in-Some-large.is at (SomeEntries-none form _ _ _ c.in-None.ensures.steps (c.loop-entry.invariant.left form other_form xs y h k)) in
+    absurd (c.in_err-item-in-Some-large.ensures.decodes form a.is.0 a.is.1.content)
 
-pub entry_matches-returns-then-entry-wanted-clause-answer : goal.entry_matches-returns-then-entry-wanted-clause-answer
-entry_matches-returns-then-entry-wanted-clause-answer t c = λ form other_form x y h k i. kinds_tell form other_form _ _ x y h k c.if-entry-wanted.true
+pub container_match-returns-in_ok-item-in-Some-large-2-clause-answer : goal.container_match-returns-in_ok-item-in-Some-large-2-clause-answer
+container_match-returns-in_ok-item-in-Some-large-2-clause-answer t c = λ form other_form xs y h k.
+    let a = rw c.in-Some-large.is at (SomeEntries-none form _ _ _ c.in-None.ensures.steps (c.loop-entry.invariant.left form other_form xs y h k)) in
+    (a.is.0, y, c.in_ok-item-in-Some-large.ensures.decodes form a.is.0 a.is.1.content, c.in_ok-item-in-Some-large-2.ensures.decodes other_form y k.content, a.is.2 ∙ a.fact)
 
-pub entry_matches-returns-in-Some-Some-clause-answer : goal.entry_matches-returns-in-Some-Some-clause-answer
-entry_matches-returns-in-Some-Some-clause-answer t c = λ form other_form x y h k i.
-    wholes_tell form other_form _ _ x y h k c.in-Some-Some.number c.in-Some-Some.other c.in-Some-Some.ensures.kind c.in-Some-Some.ensures'.kind c.in-Some-Some.ensures.number c.in-Some-Some.ensures'.number
+pub container_match-returns-in-None-large-clause-answer : goal.container_match-returns-in-None-large-clause-answer
+container_match-returns-in-None-large-clause-answer t c = λ form other_form xs y h k.
+    let a = rw c.in-None-large.is at (SomeEntries-none form _ _ _ c.in-None.ensures.steps (c.loop-entry.invariant.left form other_form xs y h k)) in
+    sym a.is ∙ a.fact
+
+pub entry_matches-returns-then-not-is_container-clause-answer : goal.entry_matches-returns-then-not-is_container-clause-answer
+entry_matches-returns-then-not-is_container-clause-answer t c = λ form other_form x y h k.
+    let same = scalar_match other_form c.args.wanted.now y k (sym c.is_container.ensures ∙ c.if-not-is_container.true) x in
+    subst (λ (a : Bool). IsOkAnd c.stored_equal.result (λ b. b ≡ a)) same (c.stored_equal.ensures.equal form other_form x y h k)
 
 pub entry_matches-returns-then-eq-clause-answer : goal.entry_matches-returns-then-eq-clause-answer
-entry_matches-returns-then-eq-clause-answer t c = λ form other_form x y h k i.
-    bytes_tell form other_form _ _ x y h k c.if-entry-wanted.false ((bytes_eq-Decides _ _).0 (sym c.eq.ensures ∙ c.if-eq.true))
-
-pub entry_matches-returns-then-is_text-clause-answer : goal.entry_matches-returns-then-is_text-clause-answer
-entry_matches-returns-then-is_text-clause-answer t c = λ form other_form x y h k i.
-    let is_text : (c.args.entry.now.kind == 1) ≡ true = sym c.is_text.ensures ∙ c.if-is_text.true in
-    let is : c.args.entry.now.kind ≡ 1 = grind (arith, nat_tests, is_text) in
-    sym c.if-eq.false ∙ c.eq.ensures ∙ texts_tell form other_form _ _ x y h k c.if-entry-wanted.false is
-
-pub entry_matches-returns-in_err-item-clause-answer : goal.entry_matches-returns-in_err-item-clause-answer
-entry_matches-returns-in_err-item-clause-answer t c = λ form other_form x y h k i. absurd (c.in_err-item.ensures.decodes form x h.content)
-
-pub entry_matches-returns-clause-answer : goal.entry_matches-returns-clause-answer
-entry_matches-returns-clause-answer t c = λ form other_form x y h k i.
-    c.item_matches.ensures.answer form other_form x y (c.in_ok-item.ensures.decodes form x h.content) i
+entry_matches-returns-then-eq-clause-answer t c = λ form other_form x y h k.
+    let one : x ≡ y = same_tree form other_form _ _ x y h k c.if-entry-wanted.false ((bytes_eq-Decides _ _).0 (sym c.eq.ensures ∙ c.if-eq.true)) in
+    rw one (sym (matched_refl y))
 
 -- ---- objects
 
 pub object_contains-returns-in_err-left-clause-answer : goal.object_contains-returns-in_err-left-clause-answer
-object_contains-returns-in_err-left-clause-answer t c = λ form other_form ps qs d e. absurd (c.in_err-left.ensures.decodes form (object ps) d)
+object_contains-returns-in_err-left-clause-answer t c = λ form other_form ps qs d e. absurd (c.in_err-left.ensures.decodes form ps d)
 
-pub object_contains-returns-in_default-clause-answer : goal.object_contains-returns-in_default-clause-answer
-object_contains-returns-in_default-clause-answer t c = λ form other_form ps qs d e. absurd (rw c.in_default.is at (c.in_ok-left.ensures.decodes form (object ps) d))
-
-pub object_contains-returns-in_err-wanted-clause-answer : goal.object_contains-returns-in_err-wanted-clause-answer
-object_contains-returns-in_err-wanted-clause-answer t c = λ form other_form ps qs d e. absurd (c.in_err-wanted.ensures.decodes other_form (object qs) e)
-
-pub object_contains-returns-in_default-2-clause-answer : goal.object_contains-returns-in_default-2-clause-answer
-object_contains-returns-in_default-2-clause-answer t c = λ form other_form ps qs d e. absurd (rw c.in_default-2.is at (c.in_ok-wanted.ensures.decodes other_form (object qs) e))
+pub object_contains-returns-in_err-pair-items-clause-answer : goal.object_contains-returns-in_err-pair-items-clause-answer
+object_contains-returns-in_err-pair-items-clause-answer t c = λ form other_form ps qs d e. absurd (c.in_err-pair-items.ensures.decodes other_form qs e)
 
 pub object_contains-loop-pair-init : goal.object_contains-loop-pair-init
 object_contains-loop-pair-init t c = record {
   can = tt;
   finite = tt;
-  room = search rules;
-  room_left = search rules;
+  room = rw c.into_iter-pair-iterator.ensures.into_iter_gives c.in_ok-pair-items.ensures.room.1;
+  room_left = c.in_ok-left.ensures.room.1;
+  size = tt;
   left = λ form other_form ps qs d e.
-      let wanted = c.in_ok-wanted.ensures.decodes other_form (object qs) e in
-      let found = c.in_ok-left.ensures.decodes form (object ps) d in
-      SomePairs-all other_form qs _ _ _ _ c.in-Some-2.is c.into_iter-pair-iterator.ensures.into_iter_gives wanted
-      (keys_rise (keys qs) (rw c.in-Some-2.is at wanted).are_keys, record { pairs = ps; left = rw c.in-Some.is at found; fact = refl });
+      let wanted = c.in_ok-pair-items.ensures.decodes other_form qs e in
+      record {
+        pairs = qs;
+        left = rw c.into_iter-pair-iterator.ensures.into_iter_gives wanted;
+        fact = (
+          keys_rise (keys qs) wanted.are_keys,
+          record { pairs = ps; left = c.in_ok-left.ensures.decodes form ps d; fact = none_aside (IsAnswer matches form other_form None) (each_pair_is_matched qs (members ps)) refl },
+        );
+      };
 }
 
 pub object_contains-returns-in_err-key-clause-answer : goal.object_contains-returns-in_err-key-clause-answer
 object_contains-returns-in_err-key-clause-answer t c = λ form other_form ps qs d e.
-    SomePairs-error other_form _ _ _ _ _ c.in_err-key.was c.in-Some-pair.ensures.steps (c.loop-pair.invariant.left form other_form ps qs d e)
+    SomePairEntries-error other_form _ _ _ _ _ c.in_err-key.was c.in-Some.ensures.steps (c.loop-pair.invariant.left form other_form ps qs d e)
 
-pub object_contains-returns-in_err-value-clause-answer : goal.object_contains-returns-in_err-value-clause-answer
-object_contains-returns-in_err-value-clause-answer t c = λ form other_form ps qs d e.
-    SomePairs-first other_form _ _ _ _ _ c.in_ok-key.was c.in-Some-pair.ensures.steps (c.loop-pair.invariant.left form other_form ps qs d e)
-    (λ value rest left stands fact. absurd (c.in_err-value.ensures.value form fact.1.pairs fact.1.left))
+pub object_contains-returns-in_err-entry-clause-answer : goal.object_contains-returns-in_err-entry-clause-answer
+object_contains-returns-in_err-entry-clause-answer t c = λ form other_form ps qs d e.
+    SomePairEntries-first other_form _ _ _ _ _ c.in_ok-key.was c.in-Some.ensures.steps (c.loop-pair.invariant.left form other_form ps qs d e)
+    (λ value rest left stored fact. absurd (c.in_err-entry.ensures.value form fact.1.pairs fact.1.left))
 
-pub object_contains-returns-in_default-3-clause-answer : goal.object_contains-returns-in_default-3-clause-answer
-object_contains-returns-in_default-3-clause-answer t c = λ form other_form ps qs d e.
-    SomePairs-first other_form _ _ _ _ _ c.in_ok-key.was c.in-Some-pair.ensures.steps (c.loop-pair.invariant.left form other_form ps qs d e)
-    (λ value rest left stands fact.
+pub object_contains-returns-in_default-clause-answer : goal.object_contains-returns-in_default-clause-answer
+object_contains-returns-in_default-clause-answer t c = λ form other_form ps qs d e.
+    SomePairEntries-first other_form _ _ _ _ _ c.in_ok-key.was c.in-Some.ensures.steps (c.loop-pair.invariant.left form other_form ps qs d e)
+    (λ value rest left stored fact.
     let some = fact.1 in
-    let none = rw c.in_default-3.is at (c.in_ok-value.ensures.value form some.pairs some.left) in
-    sym (unmatched_key c.in_ok-key.key.now value rest some.pairs (keys_rise (keys some.pairs) some.left.are_keys) (no_value_found form _ none)) ∙ some.fact)
+    let none = no_entry_found form _ (rw c.in_default.is at (c.in_ok-entry.ensures.value form some.pairs some.left)) in
+    whole_fails _ _ _ (unmatched_key c.in_ok-key.key.now value rest some.pairs (keys_rise (keys some.pairs) some.left.are_keys) none) some.fact)
 
-pub object_contains-returns-in_err-item_matches-clause-answer : goal.object_contains-returns-in_err-item_matches-clause-answer
-object_contains-returns-in_err-item_matches-clause-answer t c = λ form other_form ps qs d e.
-    SomePairs-first other_form _ _ _ _ _ c.in_ok-key.was c.in-Some-pair.ensures.steps (c.loop-pair.invariant.left form other_form ps qs d e)
-    (λ value rest left stands fact.
+pub object_contains-loop-pair-preserved-then-is_beyond-2 : goal.object_contains-loop-pair-preserved-then-is_beyond-2
+object_contains-loop-pair-preserved-then-is_beyond-2 t c =
+    let none : c.loop-pair.large ≡ None = search rules in
+    let size = rw c.in-Some-2.is at c.in_ok-entry.ensures.size in
+    let wanted_size = rw c.in_ok-key.was at c.in-Some.ensures.steps.size in
+    record {
+      can = tt;
+      finite = tt;
+      room = omega (arith, c.in-Some.ensures.steps.room, c.loop-pair.invariant.room);
+      room_left = omega (arith, c.take_entry.ensures.room, c.loop-pair.invariant.room_left);
+      size = (omega (arith, size, c.loop-pair.invariant.room_left), omega (arith, wanted_size, c.loop-pair.invariant.room));
+      left = λ form other_form ps qs d e.
+          SomePairEntries-first other_form _ _ _ _ _ c.in_ok-key.was c.in-Some.ensures.steps (rw none at (c.loop-pair.invariant.left form other_form ps qs d e))
+          (λ value rest left stored fact.
+          let some = fact.1 in
+          let found = entry_found form _ _ (rw c.in-Some-2.is at (c.in_ok-entry.ensures.value form some.pairs some.left)) in
+          let step = matched_pair c.in_ok-key.key.now value rest some.pairs (keys_rise (keys some.pairs) some.left.are_keys) found.0 found.1 fact.0 in
+          record {
+            pairs = rest;
+            left = left;
+            fact = (
+              fact.0.1,
+              record {
+                pairs = pairs_above c.in_ok-key.key.now some.pairs;
+                left = rw c.in-Some-2.is at (c.in_ok-entry.ensures.above form some.pairs some.left);
+                fact = put_aside (IsAnswer matches form other_form None) (IsAnswer matches form other_form (Some (c.in-Some-2.entry, c.in_ok-key.wanted))) (is_matched_by value found.0) (each_pair_is_matched rest (members (pairs_above c.in_ok-key.key.now some.pairs))) (each_pair_is_matched qs (members ps)) (λ b h. h) (found.0, value, found.2, stored, refl) (aside_along _ _ _ _ step some.fact);
+              },
+            );
+          });
+    }
+
+pub object_contains-returns-in_err-entry_matches-clause-answer : goal.object_contains-returns-in_err-entry_matches-clause-answer
+object_contains-returns-in_err-entry_matches-clause-answer t c = λ form other_form ps qs d e.
+    SomePairEntries-first other_form _ _ _ _ _ c.in_ok-key.was c.in-Some.ensures.steps (c.loop-pair.invariant.left form other_form ps qs d e)
+    (λ value rest left stored fact.
     let some = fact.1 in
-    let found = value_found form _ _ (rw c.in-Some-3.is at (c.in_ok-value.ensures.value form some.pairs some.left)) in
-    absurd (c.in_err-item_matches.ensures.answer form other_form found.0 value found.2 stands))
+    let found = entry_found form _ _ (rw c.in-Some-2.is at (c.in_ok-entry.ensures.value form some.pairs some.left)) in
+    absurd (c.in_err-entry_matches.ensures.answer form other_form found.0 value found.2 stored))
 
 pub object_contains-returns-then-not-branch-clause-answer : goal.object_contains-returns-then-not-branch-clause-answer
 object_contains-returns-then-not-branch-clause-answer t c = λ form other_form ps qs d e.
-    SomePairs-first other_form _ _ _ _ _ c.in_ok-key.was c.in-Some-pair.ensures.steps (c.loop-pair.invariant.left form other_form ps qs d e)
-    (λ value rest left stands fact.
+    SomePairEntries-first other_form _ _ _ _ _ c.in_ok-key.was c.in-Some.ensures.steps (c.loop-pair.invariant.left form other_form ps qs d e)
+    (λ value rest left stored fact.
     let some = fact.1 in
-    let found = value_found form _ _ (rw c.in-Some-3.is at (c.in_ok-value.ensures.value form some.pairs some.left)) in
-    let differs : is_matched_by value found.0 ≡ false = sym (c.in_ok-item_matches.ensures.answer form other_form found.0 value found.2 stands) ∙ c.if-not-branch.true in
-    sym (unmatched_value c.in_ok-key.key.now value rest some.pairs (keys_rise (keys some.pairs) some.left.are_keys) found.0 found.1 differs) ∙ some.fact)
+    let found = entry_found form _ _ (rw c.in-Some-2.is at (c.in_ok-entry.ensures.value form some.pairs some.left)) in
+    let step = matched_pair c.in_ok-key.key.now value rest some.pairs (keys_rise (keys some.pairs) some.left.are_keys) found.0 found.1 fact.0 in
+    let fails : is_matched_by value found.0 ≡ false = sym (c.in_ok-entry_matches.ensures.answer form other_form found.0 value found.2 stored) ∙ c.if-not-branch.true in
+    part_fails _ (is_matched_by value found.0) (each_pair_is_matched rest (members (pairs_above c.in_ok-key.key.now some.pairs))) (each_pair_is_matched qs (members ps)) fails (aside_along _ _ _ _ step some.fact))
 
 pub object_contains-loop-pair-preserved : goal.object_contains-loop-pair-preserved
 object_contains-loop-pair-preserved t c = record {
   can = tt;
   finite = tt;
-  room = omega (arith, c.in-Some-pair.ensures.steps.room);
-  room_left = omega (arith, c.take_value.ensures.room);
+  room = omega (arith, c.in-Some.ensures.steps.room, c.loop-pair.invariant.room);
+  room_left = omega (arith, c.take_entry.ensures.room, c.loop-pair.invariant.room_left);
+  size = c.loop-pair.invariant.size;
   left = λ form other_form ps qs d e.
-      SomePairs-first other_form _ _ _ _ _ c.in_ok-key.was c.in-Some-pair.ensures.steps (c.loop-pair.invariant.left form other_form ps qs d e)
-      (λ value rest left stands fact.
+      SomePairEntries-first other_form _ _ _ _ _ c.in_ok-key.was c.in-Some.ensures.steps (c.loop-pair.invariant.left form other_form ps qs d e)
+      (λ value rest left stored fact.
       let some = fact.1 in
-      let found = value_found form _ _ (rw c.in-Some-3.is at (c.in_ok-value.ensures.value form some.pairs some.left)) in
-      let matches : is_matched_by value found.0 ≡ true = sym (c.in_ok-item_matches.ensures.answer form other_form found.0 value found.2 stands) ∙ c.if-not-branch.false in
+      let found = entry_found form _ _ (rw c.in-Some-2.is at (c.in_ok-entry.ensures.value form some.pairs some.left)) in
+      let step = matched_pair c.in_ok-key.key.now value rest some.pairs (keys_rise (keys some.pairs) some.left.are_keys) found.0 found.1 fact.0 in
+      let holds : is_matched_by value found.0 ≡ true = sym (c.in_ok-entry_matches.ensures.answer form other_form found.0 value found.2 stored) ∙ c.if-not-branch.false in
       record {
         pairs = rest;
         left = left;
@@ -229,14 +371,29 @@ object_contains-loop-pair-preserved t c = record {
           fact.0.1,
           record {
             pairs = pairs_above c.in_ok-key.key.now some.pairs;
-            left = rw c.in-Some-3.is at (c.in_ok-value.ensures.above form some.pairs some.left);
-            fact = sym (matched_value c.in_ok-key.key.now value rest some.pairs (keys_rise (keys some.pairs) some.left.are_keys) found.0 found.1 matches fact.0) ∙ some.fact;
+            left = rw c.in-Some-2.is at (c.in_ok-entry.ensures.above form some.pairs some.left);
+            fact = part_holds _ (is_matched_by value found.0) (each_pair_is_matched rest (members (pairs_above c.in_ok-key.key.now some.pairs))) (each_pair_is_matched qs (members ps)) holds (aside_along _ _ _ _ step some.fact);
           },
         );
       });
 }
 
-pub object_contains-returns-clause-answer : goal.object_contains-returns-clause-answer
-object_contains-returns-clause-answer t c = λ form other_form ps qs d e.
-    let s = SomePairs-none other_form _ _ _ c.in-None.ensures.steps (c.loop-pair.invariant.left form other_form ps qs d e) in
-    s.1.fact
+pub object_contains-returns-in_err-item-in-Some-large-clause-answer : goal.object_contains-returns-in_err-item-in-Some-large-clause-answer
+object_contains-returns-in_err-item-in-Some-large-clause-answer t c = λ form other_form ps qs d e.
+    let a = rw c.in-Some-large.is at (SomePairEntries-none other_form _ _ _ c.in-None.ensures.steps (c.loop-pair.invariant.left form other_form ps qs d e)).1.fact in
+    absurd (c.in_err-item-in-Some-large.ensures.decodes form a.is.0 a.is.2.content)
+
+pub object_contains-returns-in_err-item-in-Some-large-2-clause-answer : goal.object_contains-returns-in_err-item-in-Some-large-2-clause-answer
+object_contains-returns-in_err-item-in-Some-large-2-clause-answer t c = λ form other_form ps qs d e.
+    let a = rw c.in-Some-large.is at (SomePairEntries-none other_form _ _ _ c.in-None.ensures.steps (c.loop-pair.invariant.left form other_form ps qs d e)).1.fact in
+    absurd (c.in_err-item-in-Some-large-2.ensures.decodes other_form a.is.1 a.is.3.content)
+
+pub object_contains-returns-in_ok-item-in-Some-large-2-clause-answer : goal.object_contains-returns-in_ok-item-in-Some-large-2-clause-answer
+object_contains-returns-in_ok-item-in-Some-large-2-clause-answer t c = λ form other_form ps qs d e.
+    let a = rw c.in-Some-large.is at (SomePairEntries-none other_form _ _ _ c.in-None.ensures.steps (c.loop-pair.invariant.left form other_form ps qs d e)).1.fact in
+    (a.is.0, a.is.1, c.in_ok-item-in-Some-large.ensures.decodes form a.is.0 a.is.2.content, c.in_ok-item-in-Some-large-2.ensures.decodes other_form a.is.1 a.is.3.content, a.is.4 ∙ a.fact)
+
+pub object_contains-returns-in-None-large-clause-answer : goal.object_contains-returns-in-None-large-clause-answer
+object_contains-returns-in-None-large-clause-answer t c = λ form other_form ps qs d e.
+    let a = rw c.in-None-large.is at (SomePairEntries-none other_form _ _ _ c.in-None.ensures.steps (c.loop-pair.invariant.left form other_form ps qs d e)).1.fact in
+    sym a.is ∙ a.fact

@@ -1,56 +1,82 @@
 use Rattle.std.proofs.Common.{◌≡◌, ◌<◌, ◌≤◌, ◌+◌, ◌*◌, length}
+use Rattle.std.specs.Prelude.{IfSome}
 use Rattle.std.specs.List.{list_any}
 use Rattle.jsonb_doc.specs.Tree.{Tree, Trees, Pairs, array, object, keys, elements, members}
 use Rattle.jsonb_doc.specs.Payload.{Form}
 use Rattle.jsonb_doc.specs.Format.{Decodes}
 use Rattle.jsonb_doc.specs.Item.{Stands, item_size}
-use Rattle.jsonb_doc.specs.ObjectPairs.{pairs_room}
+use Rattle.jsonb_doc.specs.Stored.{HasEntriesLeft, Stores, entries_room}
 use Rattle.jsonb_doc.proofs.BuilderSteps.{AreRising}
 use Rattle.jsonb_raw.specs.Contains.{is_matched_by, each_is_matched, each_pair_is_matched}
-use Rattle.jsonb_doc.specs.Stored.{HasEntriesLeft, Stores, entries_room}
-use Rattle.jsonb_raw.proofs.EntriesLeft.{SomeEntries}
-use Rattle.jsonb_raw.proofs.Left.{SomePairs}
+use Rattle.jsonb_raw.specs.Compared.{PassesOver, matches}
+use Rattle.jsonb_raw.proofs.EntriesLeft.{SomeEntries, SomePairEntries}
+use Rattle.jsonb_raw.proofs.Aside.{Aside, IsAnswer, IsItemAnswer, OneAside, IsOneAnswer}
 use Rattle.jsonb_raw.proofs.functions.operator.contains.+contains.Given as goal
 
 abbrev pub decreases-item_matches : goal.decreases-item_matches
-decreases-item_matches l = 2 * (item_size l.item.now + item_size l.wanted.now) + 1
+decreases-item_matches l = 8 * (item_size l.item.now + item_size l.wanted.now) + 4
+
+abbrev pub decreases-parts_match : goal.decreases-parts_match
+decreases-parts_match l = 8 * (item_size l.item.now + item_size l.wanted.now) + 3
 
 abbrev pub decreases-array_contains : goal.decreases-array_contains
-decreases-array_contains l = 2 * (length l.bytes.now + length l.others.now)
-
-abbrev pub decreases-has_match : goal.decreases-has_match
-decreases-has_match l = 2 * (entries_room l.found + item_size l.item.now) + 3
-
-abbrev pub decreases-entry_matches : goal.decreases-entry_matches
-decreases-entry_matches l = 2 * (length l.entry.now.content.now + item_size l.item.now) + 2
+decreases-array_contains l = 8 * (length l.bytes.now + length l.others.now) + 2
 
 abbrev pub decreases-object_contains : goal.decreases-object_contains
-decreases-object_contains l = 2 * (length l.bytes.now + length l.others.now)
+decreases-object_contains l = 8 * (length l.bytes.now + length l.others.now) + 2
 
--- the wanted elements so far are matched, so those that are left decide
+abbrev pub decreases-element_match : goal.decreases-element_match
+decreases-element_match l = 8 * (entries_room l.all + length l.wanted.now.content.now) + 9
+
+abbrev pub decreases-container_match : goal.decreases-container_match
+decreases-container_match l = 8 * (entries_room l.found + length l.wanted.now.content.now) + 8
+
+abbrev pub decreases-entry_matches : goal.decreases-entry_matches
+decreases-entry_matches l = 8 * (length l.entry.now.content.now + length l.wanted.now.content.now) + 7
+
+-- the parts that are left decide the whole
+abbrev pub invariant-item_matches-loop-answer : goal.invariant-item_matches-loop-answer
+invariant-item_matches-loop-answer l = record {
+  shorter : item_size l.left + item_size l.right ≤ item_size l.fn.item + item_size l.fn.wanted;
+  left : (form other_form : Form) (x y : Tree) → Stands form l.fn.item x → Stands other_form l.fn.wanted y
+      → (t : Tree) × (u : Tree) × Stands form l.left t × Stands other_form l.right u × (matches t u ≡ matches x y);
+}
+
+abbrev pub decreases-item_matches-loop-answer : goal.decreases-item_matches-loop-answer
+decreases-item_matches-loop-answer l = item_size l.left + item_size l.right
+
+-- the wanted elements that are left decide, with the pair that was put aside
 abbrev pub invariant-array_contains-loop-wanted : goal.invariant-array_contains-loop-wanted
 invariant-array_contains-loop-wanted l = record {
   can : (goal.iterator-array_contains-loop-wanted).can_next l.wanted-iterator;
   finite : (goal.iterator-array_contains-loop-wanted).is_finite l.wanted-iterator;
   room : entries_room l.wanted-iterator < length l.fn.others;
-  left : (form other_form : Form) (xs ys : Trees) → Decodes form l.fn.bytes (array xs) → Decodes other_form l.fn.others (array ys) → SomeEntries other_form l.wanted-iterator (λ left. each_is_matched left (elements xs) ≡ each_is_matched ys (elements xs));
+  passed : PassesOver l.all l.left;
+  size : IfSome l.large (λ pair. (item_size pair.0 < length l.fn.bytes) × (item_size pair.1 < length l.fn.others));
+  left : (form other_form : Form) (xs ys : Trees) → Decodes form l.fn.bytes (array xs) → Decodes other_form l.fn.others (array ys)
+      → SomeEntries other_form l.wanted-iterator (λ left. Aside (IsItemAnswer matches form other_form l.large) (each_is_matched left (elements xs)) (each_is_matched ys (elements xs)));
 }
 
--- no entry so far matches, so those that are left decide
-abbrev pub invariant-has_match-loop-entry : goal.invariant-has_match-loop-entry
-invariant-has_match-loop-entry l = record {
-  can : (goal.iterator-has_match-loop-entry).can_next l.entry-iterator;
-  finite : (goal.iterator-has_match-loop-entry).is_finite l.entry-iterator;
+-- the entries that are left decide, with the one that was put aside
+abbrev pub invariant-container_match-loop-entry : goal.invariant-container_match-loop-entry
+invariant-container_match-loop-entry l = record {
+  can : (goal.iterator-container_match-loop-entry).can_next l.entry-iterator;
+  finite : (goal.iterator-container_match-loop-entry).is_finite l.entry-iterator;
   room : entries_room l.entry-iterator ≤ entries_room l.fn.found;
-  left : (form other_form : Form) (xs : Trees) (y : Tree) → HasEntriesLeft form l.fn.found xs → Stores other_form l.fn.wanted y → Stands other_form l.fn.item y → SomeEntries form l.entry-iterator (λ left. list_any (is_matched_by y) (elements left) ≡ list_any (is_matched_by y) (elements xs));
+  size : IfSome l.large (λ entry. length entry.content.now ≤ entries_room l.fn.found);
+  left : (form other_form : Form) (xs : Trees) (y : Tree) → HasEntriesLeft form l.fn.found xs → Stores other_form l.fn.wanted y
+      → SomeEntries form l.entry-iterator (λ left. OneAside (IsOneAnswer (is_matched_by y) form l.large) (list_any (is_matched_by y) (elements left)) (list_any (is_matched_by y) (elements xs)));
 }
 
--- the wanted pairs so far are matched, so those that are left decide, by the pairs that are left
+-- the wanted pairs that are left decide, by the pairs that are left, with the pair of values that was put aside
 abbrev pub invariant-object_contains-loop-pair : goal.invariant-object_contains-loop-pair
 invariant-object_contains-loop-pair l = record {
   can : (goal.iterator-object_contains-loop-pair).can_next l.pair-iterator;
   finite : (goal.iterator-object_contains-loop-pair).is_finite l.pair-iterator;
-  room : pairs_room l.pair-iterator < length l.fn.others;
-  room_left : pairs_room l.left < length l.fn.bytes;
-  left : (form other_form : Form) (ps qs : Pairs) → Decodes form l.fn.bytes (object ps) → Decodes other_form l.fn.others (object qs) → SomePairs other_form l.pair-iterator (λ wanted. AreRising (keys wanted) × SomePairs form l.left (λ left. each_pair_is_matched wanted (members left) ≡ each_pair_is_matched qs (members ps)));
+  room : entries_room l.pair-iterator.values < length l.fn.others;
+  room_left : entries_room l.left.values < length l.fn.bytes;
+  size : IfSome l.large (λ pair. (length pair.0.content.now < length l.fn.bytes) × (length pair.1.content.now < length l.fn.others));
+  left : (form other_form : Form) (ps qs : Pairs) → Decodes form l.fn.bytes (object ps) → Decodes other_form l.fn.others (object qs)
+      → SomePairEntries other_form l.pair-iterator (λ wanted. AreRising (keys wanted)
+      × SomePairEntries form l.left (λ left. Aside (IsAnswer matches form other_form l.large) (each_pair_is_matched wanted (members left)) (each_pair_is_matched qs (members ps))));
 }

@@ -1,0 +1,88 @@
+//! Numbers whose digits are stored in at most 64 bits, which are compared without the exact order.
+
+ghost use Rattle.std.specs.Prelude.{◌≡◌, ◌∷◌, IfSome, Some};
+ghost use Rattle.std.specs.Ordering.{eq_by_cmp};
+ghost use Rattle.jsonb_doc.specs.Number.{number_cmp, number_from, decimal64};
+ghost use Rattle.jsonb_doc.specs.Payload.{number_of};
+ghost use Rattle.jsonb_doc.specs.Short.{short_value};
+
+use crate::layout::DECIMAL64_LEN;
+use byteorder::{BigEndian, ByteOrder};
+
+/// A number as it is stored, where its digits take at most 64 bits.
+#[derive(Clone, Copy, Debug)]
+pub enum ShortNumber {
+    /// A whole number that is not negative.
+    Unsigned(u64),
+    /// A whole number with a sign.
+    Signed(i64),
+    /// A decimal: its digits, and how many of them stand behind the point.
+    Decimal(i64, u8),
+}
+
+/// Whether two decimals of this scale are equal by value.
+#[inline(always)]
+#[tactic(auto, using(crate::proofs::EqualValues::decimals_tied))]
+fn decimals_equal(a: i64, b: i64, scale: u8) -> bool
+    ensures { result ≡ eq_by_cmp number_cmp (number_from decimal64 a scale) (number_from decimal64 b scale) }
+{
+    a == b
+}
+
+/// Whether two numbers are equal by value, where they are stored alike, so that their digits tell it.
+#[inline(always)]
+pub fn digits_tell(number: ShortNumber, other: ShortNumber) -> Option<bool>
+    ensures { IfSome result (λ b. b ≡ eq_by_cmp number_cmp (short_value number) (short_value other)) }
+{
+    match (number, other) {
+        (ShortNumber::Unsigned(a), ShortNumber::Unsigned(b)) => Some(a == b),
+        (ShortNumber::Signed(a), ShortNumber::Signed(b)) => Some(a == b),
+        (ShortNumber::Decimal(a, scale), ShortNumber::Decimal(b, other_scale)) => {
+            if scale == other_scale {
+                Some(decimals_equal(a, b, scale))
+            } else {
+                None
+            }
+        }
+        _ => None,
+    }
+}
+
+/// The number whose payload has these bytes behind the tag of a whole number that is not negative.
+#[inline(always)]
+#[tactic(auto, unfolding(crate::specs::Payload::number_of))]
+pub(crate) fn unsigned_digits(rest: &[u8]) -> Option<ShortNumber>
+    ensures { IfSome result (λ n. number_of (0x50 ∷ rest.now) ≡ Some (short_value n)) }
+{
+    match rest.len() {
+        1 => Some(ShortNumber::Unsigned(u64::from(rest[0]))),
+        2 => Some(ShortNumber::Unsigned(u64::from(BigEndian::read_u16(rest)))),
+        4 => Some(ShortNumber::Unsigned(u64::from(BigEndian::read_u32(rest)))),
+        8 => Some(ShortNumber::Unsigned(BigEndian::read_u64(rest))),
+        _ => None,
+    }
+}
+
+/// The same behind the tag of a whole number with a sign.
+#[inline(always)]
+#[tactic(auto, unfolding(crate::specs::Payload::number_of))]
+pub(crate) fn signed_digits(rest: &[u8]) -> Option<ShortNumber>
+    ensures { IfSome result (λ n. number_of (0x40 ∷ rest.now) ≡ Some (short_value n)) }
+{
+    match rest.len() {
+        1 | 2 | 4 | 8 => Some(ShortNumber::Signed(BigEndian::read_int(rest, rest.len()))),
+        _ => None,
+    }
+}
+
+/// The same behind the tag of a decimal.
+#[inline(always)]
+#[tactic(auto, unfolding(crate::specs::Payload::number_of))]
+pub(crate) fn decimal_digits(rest: &[u8]) -> Option<ShortNumber>
+    ensures { IfSome result (λ n. number_of (0x70 ∷ rest.now) ≡ Some (short_value n)) }
+{
+    if rest.len() != DECIMAL64_LEN {
+        return None;
+    }
+    Some(ShortNumber::Decimal(BigEndian::read_i64(rest), rest[8]))
+}

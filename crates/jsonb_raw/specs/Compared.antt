@@ -1,0 +1,44 @@
+-- What walks along two containers tell, and which parts they leave.
+use Rattle.std.specs.Prelude.{◌≡◌, ℕ, ◌<◌, Bool, true, Option, Some, IfSome, ⊤}
+use Rattle.std.specs.List.{list_any}
+use Rattle.jsonb_doc.specs.Tree.{Tree, Trees, elements}
+use Rattle.jsonb_doc.specs.Payload.{Form, number_of}
+use Rattle.jsonb_doc.specs.Item.{Stands, item_size}
+use Rattle.jsonb_doc.specs.Short.{short_value}
+use Rattle.jsonb_doc.specs.Stored.{HasEntriesLeft}
+use Rattle.jsonb_doc.specs.declared.short_number.ShortNumber.{ShortNumber}
+use Rattle.jsonb_doc.specs.declared.entry_iter.StoredEntry.{StoredEntry}
+use Rattle.jsonb_doc.specs.declared.entry_iter.EntryIter.{EntryIter}
+use Rattle.jsonb_raw.specs.Contains.{is_matched_by}
+use Rattle.jsonb_raw.specs.declared.compared.Compared.{Compared}
+use Rattle.jsonb_raw.specs.declared.compared.Compared.TheVariants.{Known, AsOf}
+
+-- the answer of a test for two trees is the one that is known, or that for the two parts
+abbrev pub Decides : (Tree → Tree → Bool) → Form → Form → Compared → Bool → Type 0
+Decides test form other_form (Known b) answer = b ≡ answer
+Decides test form other_form (AsOf x y) answer =
+    (t : Tree) × (u : Tree) × Stands form x t × Stands other_form y u × (test t u ≡ answer)
+
+-- the first of the parts is shorter than this
+abbrev pub IsShorter : Compared → ℕ → Type 0
+IsShorter (Known b) len = ⊤
+IsShorter (AsOf x y) len = item_size x < len
+
+-- the first of the parts is shorter than the one length, and the second than the other
+abbrev pub IsWithin : Compared → ℕ → ℕ → Type 0
+IsWithin (Known b) len other_len = ⊤
+IsWithin (AsOf x y) len other_len = (item_size x < len) × (item_size y < other_len)
+
+-- the first tree matches the second
+abbrev pub matches : Tree → Tree → Bool
+matches x y = is_matched_by y x
+
+-- the entry is this number, where it is given
+pub record IsShortOf (entry : StoredEntry) (short : Option ShortNumber) : Type 0 where
+  pub kind : IfSome short (λ n. entry.kind ≡ 2)
+  pub number : IfSome short (λ n. number_of entry.content.now ≡ Some (short_value n))
+
+-- what is left afterwards was left before
+pub record PassesOver (before after : EntryIter) : Type 0 where
+  pub others : (form : Form) (ts : Trees) → HasEntriesLeft form before ts
+      → (us : Trees) × HasEntriesLeft form after us × ((test : Tree → Bool) → list_any test (elements us) ≡ true → list_any test (elements ts) ≡ true)

@@ -1,0 +1,13 @@
+//! The answer of a walk along two containers that leaves a pair of parts to its caller.
+
+use jsonb_doc::Item;
+
+/// What a walk along two containers answers. It goes into all pairs of their parts but one, so that calls nest no deeper than the
+/// lengths can be halved.
+#[derive(Clone, Copy)]
+pub(crate) enum Compared<'a> {
+    /// The answer.
+    Known(bool),
+    /// The answer is that for these two, a pair of parts that was not compared since it is longer than half of all.
+    AsOf(Item<'a>, Item<'a>),
+}
