@@ -2,6 +2,7 @@
 
 mod calls;
 mod damage;
+mod entries;
 
 use crate::documents::{DOCUMENTS, Document};
 use jsonb_keypath::parse_key_paths;

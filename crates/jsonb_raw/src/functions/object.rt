@@ -2,7 +2,7 @@
 //!
 //! On bytes that don't decode each call returns; which answer or refusal it gives is not fixed.
 
-ghost use Rattle.std.specs.Prelude.{◌≡◌, ◌⊎◌, ◌||◌, false, not, IsTrue, IfErr, IsErrOf};
+ghost use Rattle.std.specs.Prelude.{◌≡◌, ◌⊎◌, ◌||◌, false, not, None, Ok, IsTrue, IfErr, IsErrOf};
 ghost use Rattle.jsonb_doc.specs.Tree.{Tree};
 ghost use Rattle.jsonb_doc.specs.Payload.{Form};
 ghost use Rattle.jsonb_doc.specs.Format.{Decodes};
@@ -77,6 +77,8 @@ impl RawJsonb<'_> {
     pub fn object_keys(&self, alloc: Global) -> Result<Option<OwnedJsonb>, Error>
         ensures keys { (form : Form) (t : Tree) → Decodes form (raw_bytes self.now) t
             → MakesOption form (object_keys t) result }
+        ensures none { (form : Form) (t : Tree) → Decodes form (raw_bytes self.now) t → object_keys t ≡ None
+            → result ≡ Ok None }
         ensures errors { IfErr result IsMakingError }
     {
         let Some(keys) = keys(self.as_bytes())? else {

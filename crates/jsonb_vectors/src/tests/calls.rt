@@ -190,7 +190,9 @@ pub(super) fn ask_items(
         let _count = found.count();
     }
     if let Ok(Some(found)) = values(bytes) {
-        let _count = found.count();
+        for value in found {
+            let _value = value;
+        }
     }
     if let Ok(Some(found)) = pairs(bytes) {
         let _count = found.count();

@@ -88,11 +88,11 @@ fn a_byte_behind_a_document_is_refused(rt: HostRuntime) -> Result<(), Fail> {
     Ok(())
 }
 
-/// The bytes with another one at a place.
-fn with_byte(alloc: Global, bytes: &[u8], at: usize, byte: u8) -> Result<Vec<u8>, Fail> {
+/// The bytes with others from a place on.
+fn with_bytes(alloc: Global, bytes: &[u8], at: usize, others: &[u8]) -> Result<Vec<u8>, Fail> {
     let mut changed = Vec::from_slice(alloc, bytes)?;
-    if let Some(old) = changed.get_mut(at) {
-        *old = byte;
+    for (old, other) in changed.iter_mut().skip(at).zip(others.iter()) {
+        *old = *other;
     }
     Ok(changed)
 }
@@ -103,9 +103,90 @@ fn all_calls_return_where_a_byte_is_changed(rt: HostRuntime) -> Result<(), Fail>
         let bytes = bytes_of(rt.alloc(), document)?;
         for (at, byte) in bytes.iter().enumerate() {
             for other in [0x00, 0xff, *byte ^ 1] {
-                let changed = with_byte(rt.alloc(), &bytes, at, other)?;
+                let changed = with_bytes(rt.alloc(), &bytes, at, &[other])?;
                 assert!(rt; answers_decode(rt.alloc(), &changed)?, "{changed:?}");
             }
+        }
+    }
+    Ok(())
+}
+
+#[test]
+fn all_calls_return_where_two_bytes_are_changed(rt: HostRuntime) -> Result<(), Fail> {
+    for document in DOCUMENTS {
+        let bytes = bytes_of(rt.alloc(), document)?;
+        for (at, (first, second)) in bytes.iter().zip(bytes.iter().skip(1)).enumerate() {
+            for pair in [[0, 0], [0xff, 0xff], [*second, *first]] {
+                let changed = with_bytes(rt.alloc(), &bytes, at, &pair)?;
+                assert!(rt; answers_decode(rt.alloc(), &changed)?, "{changed:?}");
+            }
+        }
+    }
+    Ok(())
+}
+
+/// Other words in the place of one. As an entry word: of each kind, and of the lengths 0, 1, one more, one less, and the
+/// largest. As a header: of each kind, and of those counts.
+fn other_words(word: u32) -> [u32; 26] {
+    let (length, count) = (word & 0x0fff_ffff, word & 0x1fff_ffff);
+    let (entry, header) = (word & 0xf000_0000, word & 0xe000_0000);
+    [
+        length,
+        0x1000_0000 | length,
+        0x2000_0000 | length,
+        0x3000_0000 | length,
+        0x4000_0000 | length,
+        0x5000_0000 | length,
+        0x6000_0000 | length,
+        0x7000_0000 | length,
+        entry,
+        entry | 1,
+        entry | (length.wrapping_add(1) & 0x0fff_ffff),
+        entry | (length.wrapping_sub(1) & 0x0fff_ffff),
+        entry | 0x0fff_ffff,
+        count,
+        0x2000_0000 | count,
+        0x4000_0000 | count,
+        0x6000_0000 | count,
+        0x8000_0000 | count,
+        0xa000_0000 | count,
+        0xc000_0000 | count,
+        0xe000_0000 | count,
+        header,
+        header | 1,
+        header | (count.wrapping_add(1) & 0x1fff_ffff),
+        header | (count.wrapping_sub(1) & 0x1fff_ffff),
+        header | 0x1fff_ffff,
+    ]
+}
+
+/// How many answers on a document with another word at a place don't decode, though it does.
+fn wrong_answers(alloc: Global, bytes: &[u8], at: usize) -> Result<usize, Fail> {
+    let Some(word) = bytes.get(at..).and_then(|rest| rest.first_chunk::<4>()) else {
+        return Ok(0);
+    };
+    let mut wrong = 0usize;
+    for other in other_words(u32::from_be_bytes(*word)) {
+        let changed = with_bytes(alloc, bytes, at, &other.to_be_bytes())?;
+        if !answers_decode(alloc, &changed)? {
+            wrong = wrong.saturating_add(1);
+        }
+    }
+    Ok(wrong)
+}
+
+/// The words are the parts of eight digits; a content of four bytes is changed as a word too.
+#[test]
+fn all_calls_return_where_a_word_is_changed(rt: HostRuntime) -> Result<(), Fail> {
+    for document in DOCUMENTS {
+        let bytes = bytes_of(rt.alloc(), document)?;
+        let mut at = 0usize;
+        for part in document.digits.split(' ') {
+            if part.len() == 8 {
+                let wrong = wrong_answers(rt.alloc(), &bytes, at)?;
+                assert_eq!(rt; wrong, 0, "{} at {at}", document.value);
+            }
+            at = at.saturating_add(part.len() / 2);
         }
     }
     Ok(())

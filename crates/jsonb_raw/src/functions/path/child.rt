@@ -2,7 +2,7 @@
 //!
 //! On bytes that don't decode each call returns; which answer or refusal it gives is not fixed.
 
-ghost use Rattle.std.specs.Prelude.{◌≡◌, not, None, filter, length, IfErr};
+ghost use Rattle.std.specs.Prelude.{◌≡◌, not, None, Ok, filter, length, IfErr};
 ghost use Rattle.std.specs.List.{remove};
 ghost use Rattle.std.specs.Str.{bytes_eq};
 ghost use Rattle.jsonb_doc.specs.Tree.{Tree, Trees, Pairs, array, object, elements as element_list, members, trees_of, pairs_of};
@@ -35,6 +35,8 @@ impl RawJsonb<'_> {
     pub fn get_by_index(&self, alloc: Global, index: usize) -> Result<Option<OwnedJsonb>, Error>
         ensures element { (form : Form) (t : Tree) → Decodes form (raw_bytes self.now) t
             → MakesOption form (element_at index t) result }
+        ensures none { (form : Form) (t : Tree) → Decodes form (raw_bytes self.now) t → element_at index t ≡ None
+            → result ≡ Ok None }
         ensures errors { IfErr result IsMakingError }
     {
         let bytes = self.as_bytes();
@@ -62,6 +64,8 @@ impl RawJsonb<'_> {
     ) -> Result<Option<OwnedJsonb>, Error>
         ensures value { (form : Form) (t : Tree) → Decodes form (raw_bytes self.now) t
             → MakesOption form (named_child name.now ignore_case t) result }
+        ensures none { (form : Form) (t : Tree) → Decodes form (raw_bytes self.now) t
+            → named_child name.now ignore_case t ≡ None → result ≡ Ok None }
         ensures errors { IfErr result IsMakingError }
     {
         let bytes = self.as_bytes();
@@ -121,6 +125,8 @@ impl RawJsonb<'_> {
 fn value_ignoring_case(alloc: Global, bytes: &[u8], name: &str) -> Result<Option<OwnedJsonb>, Error>
     ensures value { (form : Form) (t : Tree) → Decodes form bytes.now t
         → MakesOption form (field_ignoring_case name.now t) result }
+    ensures none { (form : Form) (t : Tree) → Decodes form bytes.now t → field_ignoring_case name.now t ≡ None
+        → result ≡ Ok None }
     ensures errors { IfErr result IsMakingError }
 {
     let Some(pairs) = pairs(bytes)? else {

@@ -1,4 +1,5 @@
 use Rattle.std.proofs.Common.{◌≡◌, None, refl, sym, ◌∙◌}
+use Rattle.std.proofs.lemmas.Option.{none-some}
 use Rattle.std.proofs.lemmas.Result.{err_from_is_err_and}
 use Rattle.jsonb_doc.specs.Format.{Decodes}
 use Rattle.jsonb_doc.proofs.SpotsTaken.{decodes_any, some_spot, no_spot}
@@ -39,3 +40,27 @@ returns-clause-element c = λ form t d.
     let s = some_spot _ _ _ (rw c.in-Some.is at (c.in_ok-spot.ensures.child t (c.in_ok-root.ensures.marks t (decodes_any form _ t d')))) in
     let same = child_is_element form _ _ t c.args.index c.in-Array.is (c.in_ok-root_item.ensures.decodes form t d') in
     rw (sym same ∙ s.1) (c.in_ok-from_spot.ensures.document form t s.0 d' s.2)
+
+pub returns-in_err-root-clause-none : goal.returns-in_err-root-clause-none
+returns-in_err-root-clause-none c = λ form t d none.
+    let d' : Decodes form c.as_bytes-bytes.result.now t = rw c.as_bytes-bytes.ensures d in
+    absurd (c.in_err-root.ensures.marks t (decodes_any form _ t d'))
+
+pub returns-in_err-spot-clause-none : goal.returns-in_err-spot-clause-none
+returns-in_err-spot-clause-none c = λ form t d none.
+    let d' : Decodes form c.as_bytes-bytes.result.now t = rw c.as_bytes-bytes.ensures d in
+    absurd (c.in_err-spot.ensures.child t (c.in_ok-root.ensures.marks t (decodes_any form _ t d')))
+
+pub returns-in_err-from_spot-clause-none : goal.returns-in_err-from_spot-clause-none
+returns-in_err-from_spot-clause-none c = λ form t d none.
+    let d' : Decodes form c.as_bytes-bytes.result.now t = rw c.as_bytes-bytes.ensures d in
+    let s = some_spot _ _ _ (rw c.in-Some.is at (c.in_ok-spot.ensures.child t (c.in_ok-root.ensures.marks t (decodes_any form _ t d')))) in
+    let same = child_is_element form _ _ t c.args.index c.in-Array.is (c.in_ok-root_item.ensures.decodes form t d') in
+    absurd (none-some s.0 (sym none ∙ (sym same ∙ s.1)))
+
+pub returns-clause-none : goal.returns-clause-none
+returns-clause-none c = λ form t d none.
+    let d' : Decodes form c.as_bytes-bytes.result.now t = rw c.as_bytes-bytes.ensures d in
+    let s = some_spot _ _ _ (rw c.in-Some.is at (c.in_ok-spot.ensures.child t (c.in_ok-root.ensures.marks t (decodes_any form _ t d')))) in
+    let same = child_is_element form _ _ t c.args.index c.in-Array.is (c.in_ok-root_item.ensures.decodes form t d') in
+    absurd (none-some s.0 (sym none ∙ (sym same ∙ s.1)))

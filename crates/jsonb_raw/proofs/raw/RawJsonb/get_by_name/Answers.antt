@@ -1,4 +1,5 @@
 use Rattle.std.proofs.Common.{◌≡◌, None, Some, refl, sym, ap, ◌∙◌}
+use Rattle.std.proofs.lemmas.Option.{none-some}
 use Rattle.std.proofs.lemmas.Result.{err_from_is_err_and}
 use Rattle.jsonb_doc.specs.Tree.{field_of}
 use Rattle.jsonb_doc.specs.Format.{Decodes}
@@ -45,3 +46,34 @@ returns-else-ignore_case-clause-value c = λ form t d.
     let none : field_of c.args.name.now t ≡ None = no_spot c.as_bytes-bytes.result.now _ (rw c.in_default.is at (c.in_ok-spot.ensures.field t (c.in_ok-root.ensures.marks t (decodes_any form _ t d')))) in
     let is : named_child c.args.name.now c.args.ignore_case t ≡ None = ap (λ b. named_child c.args.name.now b t) c.if-ignore_case.false ∙ named_nowhere c.args.name.now t none in
     rw is refl
+
+pub returns-in_err-root-clause-none : goal.returns-in_err-root-clause-none
+returns-in_err-root-clause-none c = λ form t d none.
+    let d' : Decodes form c.as_bytes-bytes.result.now t = rw c.as_bytes-bytes.ensures d in
+    absurd (c.in_err-root.ensures.marks t (decodes_any form _ t d'))
+
+pub returns-in_err-spot-clause-none : goal.returns-in_err-spot-clause-none
+returns-in_err-spot-clause-none c = λ form t d none.
+    let d' : Decodes form c.as_bytes-bytes.result.now t = rw c.as_bytes-bytes.ensures d in
+    absurd (c.in_err-spot.ensures.field t (c.in_ok-root.ensures.marks t (decodes_any form _ t d')))
+
+pub returns-in_err-from_spot-clause-none : goal.returns-in_err-from_spot-clause-none
+returns-in_err-from_spot-clause-none c = λ form t d none.
+    let d' : Decodes form c.as_bytes-bytes.result.now t = rw c.as_bytes-bytes.ensures d in
+    let s = some_spot _ _ _ (rw c.in-Some.is at (c.in_ok-spot.ensures.field t (c.in_ok-root.ensures.marks t (decodes_any form _ t d')))) in
+    absurd (none-some s.0 (sym none ∙ named_there c.args.name.now c.args.ignore_case t s.0 s.1))
+
+pub returns-in-Some-clause-none : goal.returns-in-Some-clause-none
+returns-in-Some-clause-none c = λ form t d none.
+    let d' : Decodes form c.as_bytes-bytes.result.now t = rw c.as_bytes-bytes.ensures d in
+    let s = some_spot _ _ _ (rw c.in-Some.is at (c.in_ok-spot.ensures.field t (c.in_ok-root.ensures.marks t (decodes_any form _ t d')))) in
+    absurd (none-some s.0 (sym none ∙ named_there c.args.name.now c.args.ignore_case t s.0 s.1))
+
+pub returns-then-ignore_case-clause-none : goal.returns-then-ignore_case-clause-none
+returns-then-ignore_case-clause-none c = λ form t d none.
+    let d' : Decodes form c.as_bytes-bytes.result.now t = rw c.as_bytes-bytes.ensures d in
+    let nowhere : field_of c.args.name.now t ≡ None =
+        no_spot c.as_bytes-bytes.result.now _ (rw c.in_default.is at (c.in_ok-spot.ensures.field t (c.in_ok-root.ensures.marks t (decodes_any form _ t d')))) in
+    let is : named_child c.args.name.now c.args.ignore_case t ≡ field_ignoring_case c.args.name.now t =
+        ap (λ b. named_child c.args.name.now b t) c.if-ignore_case.true ∙ named_otherwise c.args.name.now t nowhere in
+    c.value_ignoring_case.ensures.none form t d' (sym is ∙ none)

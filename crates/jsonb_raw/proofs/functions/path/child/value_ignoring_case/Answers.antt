@@ -1,6 +1,7 @@
 use Rattle.std.proofs.Common.{◌≡◌, true, false, Some, None, refl, sym, ap, ◌∙◌}
 use Rattle.std.specs.Prelude.{option_map}
 use Rattle.std.specs.List.{find}
+use Rattle.std.proofs.lemmas.Option.{none-some}
 use Rattle.std.proofs.lemmas.Result.{err_from_is_err_and}
 use Rattle.jsonb_doc.specs.Tree.{object, members}
 use Rattle.jsonb_raw.specs.Children.{same_ignoring_case, field_ignoring_case}
@@ -49,3 +50,28 @@ returns-clause-value c = λ form t d.
     let same = SomePairs-none form _ _ _ c.in-None.ensures.steps (c.loop-pair.invariant form o.0 (rw o.1 at d)) in
     let is : field_ignoring_case c.args.name.now t ≡ None = ap (field_ignoring_case c.args.name.now) o.1 ∙ ap (option_map (λ p. p.1)) (sym same) in
     rw is refl
+
+pub returns-in_err-key-clause-none : goal.returns-in_err-key-clause-none
+returns-in_err-key-clause-none c = λ form t d none.
+    let o = object_of form t _ _ c.in-Some.is (c.in_ok-pairs.ensures.decodes form t d) in
+    absurd (SomePairs-error form _ _ _ _ _ c.in_err-key.was c.in-Some-pair.ensures.steps (c.loop-pair.invariant form o.0 (rw o.1 at d)))
+
+pub returns-in_err-encode_item-clause-none : goal.returns-in_err-encode_item-clause-none
+returns-in_err-encode_item-clause-none c = λ form t d none.
+    let o = object_of form t _ _ c.in-Some.is (c.in_ok-pairs.ensures.decodes form t d) in
+    let passes : same_ignoring_case c.in_ok-key.key.now c.args.name.now ≡ true =
+        decided _ _ _ c.eq_ignore_ascii_case.ensures.test ∙ c.if-eq_ignore_ascii_case.true in
+    let nowhere : field_ignoring_case c.args.name.now (object o.0) ≡ None = rw o.1 at none in
+    SomePairs-first form _ _ _ _ _ c.in_ok-key.was c.in-Some-pair.ensures.steps (c.loop-pair.invariant form o.0 (rw o.1 at d))
+    (λ value rest left stands same.
+    absurd (none-some value (sym nowhere ∙ found_here c.args.name.now c.in_ok-key.key.now value (members rest) o.0 passes same)))
+
+pub returns-then-eq_ignore_ascii_case-clause-none : goal.returns-then-eq_ignore_ascii_case-clause-none
+returns-then-eq_ignore_ascii_case-clause-none c = λ form t d none.
+    let o = object_of form t _ _ c.in-Some.is (c.in_ok-pairs.ensures.decodes form t d) in
+    let passes : same_ignoring_case c.in_ok-key.key.now c.args.name.now ≡ true =
+        decided _ _ _ c.eq_ignore_ascii_case.ensures.test ∙ c.if-eq_ignore_ascii_case.true in
+    let nowhere : field_ignoring_case c.args.name.now (object o.0) ≡ None = rw o.1 at none in
+    SomePairs-first form _ _ _ _ _ c.in_ok-key.was c.in-Some-pair.ensures.steps (c.loop-pair.invariant form o.0 (rw o.1 at d))
+    (λ value rest left stands same.
+    absurd (none-some value (sym nowhere ∙ found_here c.args.name.now c.in_ok-key.key.now value (members rest) o.0 passes same)))
