@@ -76,3 +76,4 @@ pub mod EntryEquals
 pub mod Aside
 pub mod TextTrees
 pub mod EqualAny
+pub mod CursorSteps

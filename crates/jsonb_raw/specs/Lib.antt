@@ -26,6 +26,7 @@ pub mod KeyParts
 pub mod LeafViews
 pub mod LeavesLaws
 pub mod Exists
+pub mod Cursors
 pub mod ExistsLaws
 pub mod Deletes
 pub mod DeletesLaws
