@@ -78,3 +78,4 @@ pub mod EntryEquals
 pub mod Aside
 pub mod TextTrees
 pub mod EqualAny
+pub mod CursorSteps

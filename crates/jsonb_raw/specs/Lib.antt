@@ -28,6 +28,7 @@ pub mod EqualityParts
 pub mod LeafViews
 pub mod LeavesLaws
 pub mod Exists
+pub mod Cursors
 pub mod ExistsLaws
 pub mod Deletes
 pub mod DeletesLaws

@@ -1,29 +1,81 @@
 //! Which texts a document has.
 
-ghost use Rattle.std.specs.Prelude.{◌≡◌, ℕ, List, IsOkAnd, IfErr};
+ghost use Rattle.std.specs.Prelude.{◌≡◌, ℕ, List, IsOkAnd, IfOk, IfErr};
 ghost use Rattle.std.specs.List.{list_any};
 ghost use Rattle.std.specs.Iterator.{IsFinite};
 ghost use Rattle.std.specs.Str.{bytes_eq};
-ghost use Rattle.jsonb_doc.specs.Tree.{Tree, Trees, Pairs, array, object, elements, keys};
+ghost use Rattle.jsonb_doc.specs.Tree.{Tree, Trees, array, elements};
 ghost use Rattle.jsonb_doc.specs.Payload.{Form};
-ghost use Rattle.jsonb_doc.specs.Format.{Decodes};
-ghost use Rattle.jsonb_doc.specs.Item.{Stands};
+ghost use Rattle.jsonb_doc.specs.Format.{Decodes, AreKeys};
+ghost use Rattle.jsonb_doc.specs.Stored.{HasEntriesLeft, key_trees};
 ghost use Rattle.jsonb_doc.specs.View.{IsDecodingError};
 ghost use Rattle.jsonb_raw.specs.Documents.{raw_bytes};
 ghost use Rattle.jsonb_raw.specs.Exists.{is_text, has_text, has_all, has_any};
+ghost use Rattle.jsonb_raw.specs.Cursors.{IsCursorOf, IsPassed, HoldsTexts};
 ghost use Rattle.jsonb_raw.specs.Iterators.{TellsWhatIsLeft};
 
 use crate::raw::RawJsonb;
-use jsonb_doc::{Error, Item, elements, field_spot, root_item, root_spot};
+use jsonb_doc::{EntryIter, Error, Item, elements, object_entries, root_item};
+use std::cmp::Ordering;
 
-/// Whether an object has this key.
-fn object_has(bytes: &[u8], name: &str) -> Result<bool, Error>
-    ensures has { (form : Form) (ps : Pairs) → Decodes form bytes.now (object ps)
-        → IsOkAnd result (λ b. b ≡ list_any (λ key. bytes_eq key name.now) (keys ps)) }
-    ensures errors { IfErr result IsDecodingError }
-{
-    let value = field_spot(bytes, root_spot(bytes)?, name)?;
-    Ok(value.is_some())
+/// The keys of an object, in which names are looked up: all, and those that are left behind the last one that was passed.
+///
+/// Entry words hold lengths and no places, so that a key is reached only along those before it. A name that is above the key
+/// that was passed last is looked up from there, and another from the front.
+#[derive(Clone, Copy)]
+pub(crate) struct KeyCursor<'a> {
+    all: EntryIter<'a>,
+    left: EntryIter<'a>,
+    passed: Option<&'a [u8]>,
+}
+
+impl<'a> KeyCursor<'a> {
+    fn new(keys: EntryIter<'a>) -> KeyCursor<'a>
+        ensures { (form : Form) (ks : List (List ℕ)) → AreKeys ks → HasEntriesLeft form keys.entry (key_trees ks) → IsCursorOf form result ks }
+    {
+        KeyCursor {
+            all: keys,
+            left: keys,
+            passed: None,
+        }
+    }
+
+    /// Goes back to the front, unless the key that was passed last is below the name.
+    fn rewind(&mut self, name: &[u8])
+        ensures cursor { (form : Form) (ks : List (List ℕ)) → IsCursorOf form self.old ks → IsCursorOf form self.new ks }
+        ensures passed { IsPassed self.new.passed name.now }
+    {
+        let Some(passed) = self.passed else {
+            return;
+        };
+        if let Ordering::Less = passed.cmp(&name) {
+            return;
+        }
+        self.left = self.all;
+        self.passed = None;
+    }
+
+    /// Whether a key is this name.
+    fn has(&mut self, name: &[u8]) -> Result<bool, Error>
+        ensures has { (form : Form) (ks : List (List ℕ)) → IsCursorOf form self.old ks
+            → IsOkAnd result (λ b. b ≡ list_any (λ key. bytes_eq key name.now) ks) }
+        ensures cursor { (form : Form) (ks : List (List ℕ)) → IsCursorOf form self.old ks → IfOk result (λ _. IsCursorOf form self.new ks) }
+        ensures errors { IfErr result IsDecodingError }
+    {
+        self.rewind(name);
+        let mut ahead = self.left;
+        while let Some(entry) = ahead.next() {
+            let key = entry?.content;
+            match key.cmp(&name) {
+                Ordering::Less => {}
+                Ordering::Equal => return Ok(true),
+                Ordering::Greater => return Ok(false),
+            }
+            self.left = ahead;
+            self.passed = Some(key);
+        }
+        Ok(false)
+    }
 }
 
 /// Whether an array has this text as an element.
@@ -44,17 +96,43 @@ fn array_has(bytes: &[u8], name: &str) -> Result<bool, Error>
     Ok(false)
 }
 
-/// Whether an item has this text: as a key, as an element, or as itself.
-fn item_has(item: &Item<'_>, name: &str) -> Result<bool, Error>
-    ensures has { (form : Form) (t : Tree) → Stands form item.now t
-        → IsOkAnd result (λ b. b ≡ has_text name.now t) }
+/// The texts of a document.
+#[derive(Clone, Copy)]
+pub(crate) enum Texts<'a> {
+    /// The keys of an object.
+    Keys(KeyCursor<'a>),
+    /// Those among the elements of an array, which are read as items, so that floats are refused.
+    Elements(&'a [u8]),
+    /// The root.
+    Root(&'a str),
+    /// There are none.
+    Without,
+}
+
+/// The texts of a document.
+fn document_texts(bytes: &[u8]) -> Result<Texts<'_>, Error>
+    ensures texts { (form : Form) (t : Tree) → Decodes form bytes.now t → IsOkAnd result (λ texts. HoldsTexts form texts t) }
     ensures errors { IfErr result IsDecodingError }
 {
-    match item {
-        Item::Object(bytes) => object_has(bytes, name),
-        Item::Array(bytes) => array_has(bytes, name),
-        Item::String(text) => Ok(*text == name),
-        _ => Ok(false),
+    match root_item(bytes)? {
+        Item::Object(object) => Ok(Texts::Keys(KeyCursor::new(object_entries(object)?.keys()))),
+        Item::Array(array) => Ok(Texts::Elements(array)),
+        Item::String(text) => Ok(Texts::Root(text)),
+        _ => Ok(Texts::Without),
+    }
+}
+
+/// Whether this text is one of them.
+fn texts_have(texts: &mut Texts<'_>, name: &str) -> Result<bool, Error>
+    ensures has { (form : Form) (t : Tree) → HoldsTexts form texts.old t → IsOkAnd result (λ b. b ≡ has_text name.now t) }
+    ensures texts { (form : Form) (t : Tree) → HoldsTexts form texts.old t → IfOk result (λ _. HoldsTexts form texts.new t) }
+    ensures errors { IfErr result IsDecodingError }
+{
+    match texts {
+        Texts::Keys(keys) => keys.has(name.as_bytes()),
+        Texts::Elements(bytes) => array_has(bytes, name),
+        Texts::Root(text) => Ok(*text == name),
+        Texts::Without => Ok(false),
     }
 }
 
@@ -74,9 +152,9 @@ impl RawJsonb<'_> {
             → IsOkAnd result (λ b. b ≡ has_all (left names) t) }
         ensures errors { IfErr result IsDecodingError }
     {
-        let root = root_item(self.as_bytes())?;
+        let mut texts = document_texts(self.as_bytes())?;
         for name in names {
-            if !item_has(&root, name)? {
+            if !texts_have(&mut texts, name)? {
                 return Ok(false);
             }
         }
@@ -98,9 +176,9 @@ impl RawJsonb<'_> {
             → IsOkAnd result (λ b. b ≡ has_any (left names) t) }
         ensures errors { IfErr result IsDecodingError }
     {
-        let root = root_item(self.as_bytes())?;
+        let mut texts = document_texts(self.as_bytes())?;
         for name in names {
-            if item_has(&root, name)? {
+            if texts_have(&mut texts, name)? {
                 return Ok(true);
             }
         }

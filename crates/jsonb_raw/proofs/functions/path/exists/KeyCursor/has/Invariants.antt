@@ -1,0 +1,16 @@
+use Rattle.std.proofs.Common.{◌≡◌, ℕ, List}
+use Rattle.jsonb_doc.specs.Payload.{Form}
+use Rattle.jsonb_doc.specs.Stored.{entries_bound}
+use Rattle.jsonb_raw.specs.Cursors.{IsCursorOf, IsPassed}
+use Rattle.jsonb_raw.proofs.functions.path.exists.KeyCursor.has.Given as goal
+
+-- the cursor stands in front of what is looked at next, and the keys it has passed are below the name
+abbrev pub invariant-loop-entry : goal.invariant-loop-entry
+invariant-loop-entry l = record {
+  ahead : l.ahead ≡ l.self.left;
+  passed : IsPassed l.self.passed l.name;
+  cursor : (form : Form) (ks : List (List ℕ)) → IsCursorOf form l.fn.self ks → IsCursorOf form l.self ks;
+}
+
+abbrev pub decreases-loop-entry : goal.decreases-loop-entry
+decreases-loop-entry l = entries_bound l.ahead

@@ -1,0 +1,12 @@
+use Rattle.jsonb_doc.specs.Tree.{keys}
+use Rattle.jsonb_raw.proofs.functions.path.exists.texts_have.Goals as goal
+
+pub returns-in-Keys-clause-has : goal.returns-in-Keys-clause-has
+returns-in-Keys-clause-has c = λ form t h.
+    let s = rw c.in-Keys.is at h in
+    rw s.1 (rw c.as_bytes.ensures.value at (c.has.ensures.has form (keys s.0) s.2))
+
+pub returns-in-Elements-clause-has : goal.returns-in-Elements-clause-has
+returns-in-Elements-clause-has c = λ form t h.
+    let s = rw c.in-Elements.is at h in
+    rw s.1 (c.array_has.ensures.has form s.0 s.2)

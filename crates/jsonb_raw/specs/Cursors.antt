@@ -1,0 +1,43 @@
+-- Where names are looked up among the texts of a document.
+use Rattle.std.specs.Prelude.{◌≡◌, ℕ, false, List, Option, Some, None, ⊤}
+use Rattle.std.specs.Borrow.{Bor}
+use Rattle.std.specs.List.{list_any}
+use Rattle.std.specs.Ordering.{nat_cmp}
+use Rattle.std.specs.Cmp.Lexicographic.{slice_cmp}
+use Rattle.std.specs.Str.{bytes_eq}
+use Rattle.std.specs.declared.cmp.Ordering.TheVariants.{Less}
+use Rattle.jsonb_doc.specs.Tree.{Tree, text, array, object, Trees, Pairs, keys}
+use Rattle.jsonb_doc.specs.Payload.{Form}
+use Rattle.jsonb_doc.specs.Format.{Decodes, AreKeys, IsBelowFirst}
+use Rattle.jsonb_doc.specs.Stored.{HasEntriesLeft, key_trees}
+use Rattle.jsonb_raw.specs.Exists.{has_text}
+use Rattle.jsonb_raw.specs.declared.functions.path.exists.KeyCursor.{KeyCursor}
+use Rattle.jsonb_raw.specs.declared.functions.path.exists.Texts.{Texts}
+use Rattle.jsonb_raw.specs.declared.functions.path.exists.Texts.TheVariants.{Keys, Elements, Root, Without}
+
+-- the key that was passed last, where there is one, is below the name
+abbrev pub IsPassed : Option (Bor (List ℕ)) → List ℕ → Type 0
+IsPassed None name = ⊤
+IsPassed (Some key) name = slice_cmp nat_cmp key.now name ≡ Less
+
+-- and below the first of these
+abbrev pub IsBefore : Option (Bor (List ℕ)) → List (List ℕ) → Type 0
+IsBefore None ks = ⊤
+IsBefore (Some key) ks = IsBelowFirst key.now ks
+
+-- The cursor stands among these keys. Names above the one that was passed last are looked up behind it.
+pub record IsCursorOf (form : Form) (c : KeyCursor) (ks : List (List ℕ)) : Type 0 where
+  pub all_keys : AreKeys ks
+  pub all : HasEntriesLeft form c.all (key_trees ks)
+  pub behind : List (List ℕ)
+  pub are_keys : AreKeys behind
+  pub left : HasEntriesLeft form c.left (key_trees behind)
+  pub before : IsBefore c.passed behind
+  pub decides : (name : List ℕ) → IsPassed c.passed name → list_any (λ key. bytes_eq key name) behind ≡ list_any (λ key. bytes_eq key name) ks
+
+-- these are the texts of the tree
+abbrev pub HoldsTexts : Form → Texts → Tree → Type 0
+HoldsTexts form (Keys c) t = (ps : Pairs) × (t ≡ object ps) × IsCursorOf form c (keys ps)
+HoldsTexts form (Elements bytes) t = (ts : Trees) × (t ≡ array ts) × Decodes form bytes.now (array ts)
+HoldsTexts form (Root s) t = t ≡ text s.now
+HoldsTexts form Without t = (name : List ℕ) → has_text name t ≡ false
