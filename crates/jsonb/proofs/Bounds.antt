@@ -4,7 +4,7 @@ use Rattle.std.specs.Prelude.{nat_eq, nat_lt, codes, if◌then◌else◌}
 use Rattle.std.specs.List.{starts_with}
 use Rattle.std.specs.Option.{option_and_then}
 use Rattle.std.proofs.lemmas.Bool.Decides.{Decides-ltb}
-use Rattle.jsonb_keypath.specs.Rules.{Outcome, Rule, give, ◌>>=◌, ◌>>◌, ◌</>◌, outcome_map, bytes, literal, turn, up_to, repeat, list_of}
+use Rattle.jsonb_keypath.specs.Rules.{Parsed, Rule, give, ◌>>=◌, ◌>>◌, ◌</>◌, parsed_map, bytes, literal, turn, up_to, repeat, list_of}
 use Rattle.jsonb_keypath.specs.Tokens.{ws}
 use Rattle.jsonb_keypath.proofs.ReadsLemmas.{NeverGrows, some-no_more}
 use Rattle.jsonb_keypath.proofs.CutLemmas.{some-literal}
@@ -21,7 +21,7 @@ Agree k r s = (input : List ℕ) → length input < k → r input ≡ s input
 agree-next : {A B : Type 0} (k : ℕ) (rule : Rule A) (next other : A → Rule B) → NeverGrows rule → ((a : A) → Agree k (next a) (other a)) →
     Agree k (rule >>= next) (rule >>= other)
 agree-next {A} {B} k rule next other h same input short = go (rule input) refl where
-  go : (o : Outcome A) → rule input ≡ o → option_and_then (λ (p : A × List ℕ). next p.0 p.1) o ≡ option_and_then
+  go : (o : Parsed A) → rule input ≡ o → option_and_then (λ (p : A × List ℕ). next p.0 p.1) o ≡ option_and_then
       (λ (p : A × List ℕ). other p.0 p.1) o
   go None at = refl
   go (Some p) at = same p.0 p.1 (omega (arith, h input p.0 p.1 at))
@@ -55,13 +55,13 @@ agree-up_to : {A : Type 0} (k : ℕ) (rule rule' : Rule A) → Agree k rule rule
 unfolding up_to
 agree-up_to {A} k rule rule' h zero input short = refl
 agree-up_to {A} k rule rule' h (suc n) input short = rw (h input short) (go (agree-up_to k rule rule' h n) (rule' input)) where
-  go : Agree k (up_to n rule) (up_to n rule') → (o : Outcome A) → turn (up_to n rule) input o ≡ turn (up_to n rule') input o
+  go : Agree k (up_to n rule) (up_to n rule') → (o : Parsed A) → turn (up_to n rule) input o ≡ turn (up_to n rule') input o
   go more None = refl
   go more (Some p) = pick (nat_lt (length p.1) (length input)) refl where
     pick : (t : Bool) → nat_lt (length p.1) (length input) ≡ t →
-        cond t (outcome_map (λ (os : List A). p.0 ∷ os) (up_to n rule p.1)) (Some ([], input)) ≡ cond t (outcome_map
+        cond t (parsed_map (λ (os : List A). p.0 ∷ os) (up_to n rule p.1)) (Some ([], input)) ≡ cond t (parsed_map
         (λ (os : List A). p.0 ∷ os) (up_to n rule' p.1)) (Some ([], input))
-    pick true at = ap (outcome_map (λ (os : List A). p.0 ∷ os)) (more p.1 (omega (arith, (Decides-ltb (length p.1) (length input)).0 at)))
+    pick true at = ap (parsed_map (λ (os : List A). p.0 ∷ os)) (more p.1 (omega (arith, (Decides-ltb (length p.1) (length input)).0 at)))
     pick false at = refl
 
 agree-repeat : {A : Type 0} (k : ℕ) (rule rule' : Rule A) → Agree k rule rule' → Agree k (repeat rule) (repeat rule')

@@ -2,9 +2,9 @@
 use Rattle.std.specs.Prelude.{◌+ℤ◌, ◌-ℤ◌, ◌*ℤ◌, int_div, int_rem, nat_lt, ◌||◌, ◌^◌}
 use Rattle.std.proofs.Common.{◌≡◌, zero, suc, ℤ, pos, negsuc, Bool, true, false, if◌then◌else◌, IfOk, IfErr, subst, List, [], ◌∷◌, ◌++◌, map, Some, Ok, Err, IsOkAnd, refl, sym, ap, inl, inr}
 use Rattle.std.proofs.lemmas.List.{map-append}
-use Rattle.jsonb_doc.specs.Answer.{Outcome, Gives, WantsMemory, with_value, joined}
+use Rattle.jsonb_doc.specs.Answer.{Outcome, Gives, and_then, try_flat_map, IsOutOfMemory}
 use Rattle.jsonb_doc.specs.Arithmetic as op
-use Rattle.jsonb_doc.specs.Arithmetic.{Operation, calculated, integer, on_integers, IsOutcome}
+use Rattle.jsonb_doc.specs.Arithmetic.{Operation, calculated, integer, on_integers, IsResultOf}
 use Rattle.jsonb_doc.specs.Number.{Number, number_from, int64, uint64}
 use Rattle.jsonb_doc.specs.declared.error.Error.TheVariants.{Arithmetic}
 use Rattle.jsonb_doc.specs.declared.error.ArithmeticFault.TheVariants.{Overflow, ZeroDivisor, Inexact, DecimalOperand}
@@ -16,16 +16,16 @@ use Rattle.jsonb_doc.specs.declared.number.Number.{Number as CodeNumber}
 use Rattle.jsonb_doc.specs.declared.item.Item.TheVariants as item
 use Rattle.jsonb.specs.PathArithmetic.{number_list, two_numbers, all_numbers}
 use Rattle.jsonb.specs.Related.{AllRelated}
-use Rattle.jsonb.specs.Selection.{only_number, value_number, IsNumberTree, IsMadeItem}
+use Rattle.jsonb.specs.Private.Selection.{only_number, value_number, IsNumberTree, IsMadeItem}
 use Rattle.jsonb.specs.SelectionErrors.{IsPathError, IsSelectionError}
 use Rattle.jsonb.specs.Values.{Value, number}
 use Rattle.jsonb.specs.declared.selector.document.Mode.{Mode}
 use Rattle.jsonb.specs.declared.selector.selected.MadeItem.{MadeItem}
 use Rattle.jsonb.specs.declared.selector.selected.MadeItem.TheVariants as made_item
-use Rattle.jsonb.proofs.Outcomes.{AllRelated-append}
+use Rattle.jsonb.proofs.GivesLemmas.{AllRelated-append}
 
 -- what is never refused for want of memory
-pub as_memory : {A B : Type 0} {R : A → B → Type 0} {r : Outcome A} {o : Outcome B} → Gives R (λ _. ⊥) r o → Gives R WantsMemory r o
+pub as_memory : {A B : Type 0} {R : A → B → Type 0} {r : Outcome A} {o : Outcome B} → Gives R (λ _. ⊥) r o → Gives R IsOutOfMemory r o
 as_memory {r = Ok x} h = record { ok = h.ok; err = tt }
 as_memory {r = Err e} h = record { ok = tt; err = inr (elim h.err [ inl none ↦ absurd none | inr is ↦ is ]) }
 
@@ -40,7 +40,8 @@ chosen false o p h k = k
 
 integer_normal : (z : ℤ) → IfOk (integer z) IsNormal
 integer_normal (pos zero) = chosen (nat_lt 0 (2 ^ 64)) (Ok (record { variant = uint64; whole = pos 0; scale = 0 })) (Err (Arithmetic Overflow)) refl tt
-integer_normal (pos (suc n)) = chosen (nat_lt (suc n) (2 ^ 64)) (Ok (record { variant = uint64; whole = pos (suc n); scale = 0 })) (Err (Arithmetic Overflow)) refl tt
+integer_normal (pos (suc n)) = chosen (nat_lt (suc n) (2 ^ 64)) (Ok (record { variant = uint64; whole = pos (suc n); scale = 0 }))
+    (Err (Arithmetic Overflow)) refl tt
 integer_normal (negsuc n) = chosen (nat_lt n (2 ^ 63)) (Ok (record { variant = int64; whole = negsuc n; scale = 0 })) (Err (Arithmetic Overflow)) refl tt
 
 on_integers_normal : (o : Operation) (x y : ℤ) → IfOk (on_integers o x y) IsNormal
@@ -54,7 +55,8 @@ on_integers_normal op.modulo x y = chosen (op.is_zero y) (Err (Arithmetic ZeroDi
 
 calculated_normal : (o : Operation) (m n : Number) → IfOk (calculated o m n) IsNormal
 calculated_normal o m n =
-    chosen (op.is_decimal m.variant || op.is_decimal n.variant) (Err (Arithmetic DecimalOperand)) (on_integers o m.whole n.whole) tt (on_integers_normal o m.whole n.whole)
+    chosen (op.is_decimal m.variant || op.is_decimal n.variant) (Err (Arithmetic DecimalOperand)) (on_integers o m.whole n.whole) tt
+    (on_integers_normal o m.whole n.whole)
 
 -- arithmetic is refused by an arithmetic fault alone
 module _ (mode : Mode) where
@@ -64,7 +66,8 @@ module _ (mode : Mode) where
 
   integer_refused : (z : ℤ) → IfErr (integer z) (IsPathError mode)
   integer_refused (pos zero) = one_of (nat_lt 0 (2 ^ 64)) (Ok (record { variant = uint64; whole = pos 0; scale = 0 })) (Err (Arithmetic Overflow)) tt tt
-  integer_refused (pos (suc n)) = one_of (nat_lt (suc n) (2 ^ 64)) (Ok (record { variant = uint64; whole = pos (suc n); scale = 0 })) (Err (Arithmetic Overflow)) tt tt
+  integer_refused (pos (suc n)) = one_of (nat_lt (suc n) (2 ^ 64)) (Ok (record { variant = uint64; whole = pos (suc n); scale = 0 }))
+      (Err (Arithmetic Overflow)) tt tt
   integer_refused (negsuc n) = one_of (nat_lt n (2 ^ 63)) (Ok (record { variant = int64; whole = negsuc n; scale = 0 })) (Err (Arithmetic Overflow)) tt tt
 
   on_integers_refused : (o : Operation) (x y : ℤ) → IfErr (on_integers o x y) (IsPathError mode)
@@ -78,13 +81,14 @@ module _ (mode : Mode) where
 
   calculated_refused : (o : Operation) (m n : Number) → IfErr (calculated o m n) (IsPathError mode)
   calculated_refused o m n =
-      one_of (op.is_decimal m.variant || op.is_decimal n.variant) (Err (Arithmetic DecimalOperand)) (on_integers o m.whole n.whole) tt (on_integers_refused o m.whole n.whole)
+      one_of (op.is_decimal m.variant || op.is_decimal n.variant) (Err (Arithmetic DecimalOperand)) (on_integers o m.whole n.whole) tt
+      (on_integers_refused o m.whole n.whole)
 
-  refused_so : (o : Outcome Number) (r : Outcome CodeNumber) → IsOutcome o r → IfErr o (IsPathError mode) → IfErr r (IsPathError mode)
+  refused_so : (o : Outcome Number) (r : Outcome CodeNumber) → IsResultOf o r → IfErr o (IsPathError mode) → IfErr r (IsPathError mode)
   refused_so o (Ok n) is h = tt
   refused_so o (Err e) is h = subst (λ q. IfErr q (IsPathError mode)) is h
 
-  pub calculation_refused : (o : Operation) (m n : Number) (r : Outcome CodeNumber) → IsOutcome (calculated o m n) r → IfErr r (IsPathError mode)
+  pub calculation_refused : (o : Operation) (m n : Number) (r : Outcome CodeNumber) → IsResultOf (calculated o m n) r → IfErr r (IsPathError mode)
   calculation_refused o m n r is = refused_so (calculated o m n) r is (calculated_refused o m n)
 
   -- a path's refusal is one of a selection
@@ -92,7 +96,7 @@ module _ (mode : Mode) where
   refused_as_path (Ok x) h = tt
   refused_as_path (Err e) h = inr h
 
-outcome_given : (o : Outcome Number) (r : Outcome CodeNumber) → IfOk o IsNormal → IsOutcome o r → Gives IsNumberTree (λ _. ⊥) r (number_list o)
+outcome_given : (o : Outcome Number) (r : Outcome CodeNumber) → IfOk o IsNormal → IsResultOf o r → Gives IsNumberTree (λ _. ⊥) r (number_list o)
 outcome_given o (Ok n) normal is = record { ok = rw is (ap (λ k. tree.number k ∷ []) (rw is at normal)); err = tt }
 outcome_given o (Err e) normal is = record { ok = tt; err = inr (rw is refl) }
 
@@ -107,13 +111,14 @@ two_are : (o : Operation) (ls rs : List Value) (m n : Number) → Some m ≡ onl
 two_are o ls rs m n p q = λ i. two_numbers o (lone_is ls m (sym p) i) (lone_is rs n (sym q) i)
 
 -- two operands of one number each
-pub two_given : (o : Operation) (ls rs : List Value) (m n : CodeNumber) (r : Outcome CodeNumber) → Some (number_view m) ≡ only_number ls → Some (number_view n) ≡ only_number rs
-    → IsOutcome (calculated o (number_view m) (number_view n)) r → Gives IsNumberTree (λ _. ⊥) r (two_numbers o ls rs)
+pub two_given : (o : Operation) (ls rs : List Value) (m n : CodeNumber) (r : Outcome CodeNumber) → Some (number_view m) ≡ only_number ls
+    → Some (number_view n) ≡ only_number rs
+    → IsResultOf (calculated o (number_view m) (number_view n)) r → Gives IsNumberTree (λ _. ⊥) r (two_numbers o ls rs)
 two_given o ls rs m n r p q is = rw (two_are o ls rs _ _ p q) (outcome_given _ r (calculated_normal o (number_view m) (number_view n)) is)
 
-pub all_numbers-joined : (vs : List Value) → all_numbers vs ≡ joined value_number vs
+pub all_numbers-joined : (vs : List Value) → all_numbers vs ≡ try_flat_map value_number vs
 all_numbers-joined [] = refl
-all_numbers-joined (number n ∷ rest) = ap (λ o. with_value o (λ ns. Ok (n ∷ ns))) (all_numbers-joined rest)
+all_numbers-joined (number n ∷ rest) = ap (λ o. and_then o (λ ns. Ok (n ∷ ns))) (all_numbers-joined rest)
 all_numbers-joined (v ∷ rest) = refl
 
 -- one more number

@@ -2,7 +2,7 @@
 use Rattle.std.proofs.Common.{◌≡◌, ℕ, zero, suc, ◌<◌, ◌≤◌, List, [], ◌∷◌, ◌++◌, length, Bool, true, false, Some, None, refl, sym, ◌∙◌, ap, subst, arith, append_assoc, length-append}
 use Rattle.std.specs.Prelude.{◌==◌, ◌||◌, codes, MatchBool}
 use Rattle.std.proofs.lemmas.Bool.Decides.{nat_tests}
-use Rattle.jsonb_keypath.specs.Rules.{Rule, give, ◌>>=◌, ◌>>◌, outcome_map, literal, repeat, list_of}
+use Rattle.jsonb_keypath.specs.Rules.{Rule, give, ◌>>=◌, ◌>>◌, parsed_map, literal, repeat, list_of}
 use Rattle.jsonb_keypath.specs.Tokens.{ws, past, is_space}
 use Rattle.jsonb_keypath.proofs.ReadBackLemmas.{front, stops, front-stops, front-implies, begins, begins-implies, begins-excludes, stops-from_begins, in_sequence}
 use Rattle.jsonb_keypath.proofs.RepeatLemmas.{repeat-goes, repeat-ends}
@@ -52,7 +52,7 @@ list-pair {A} rule separator input a b between middle rest r s t short h =
           (λ (xs : List ℕ). length xs) r.same,
     ) in
     let all : repeat (spaced separator >> rule) r.after ≡ Some (b ∷ [], t.after) =
-    repeat-goes (spaced separator >> rule) r.after b t.after again shorter ∙ ap (outcome_map
+    repeat-goes (spaced separator >> rule) r.after b t.after again shorter ∙ ap (parsed_map
     (λ (others : List A). b ∷ others)) (repeat-ends (spaced separator >> rule) t.after ends) in
     record { after = t.after; reads = rw (r.reads, all) refl; same = t.same; no_longer = t.no_longer }
 
@@ -467,7 +467,7 @@ steps-more s ss one more n rest are h short =
       length-append
           (step_text s) tail,
     ))
-    ∙ ap (outcome_map (λ (others : List Step). settled_step s ∷ others)) (more n rest are.1 h (omega (
+    ∙ ap (parsed_map (λ (others : List Step). settled_step s ∷ others)) (more n rest are.1 h (omega (
       arith,
       length-append
           (step_text s) tail,

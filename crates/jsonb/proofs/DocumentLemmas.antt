@@ -54,7 +54,8 @@ or_true false = refl
 
 has_document-append : (ss ts : List Step) → has_document (ss ++ ts) ≡ has_document ss || has_document ts
 has_document-append [] ts = refl
-has_document-append (s ∷ ss) ts = ap (λ b. step_has_document s || b) (has_document-append ss ts) ∙ or_assoc (step_has_document s) (has_document ss) (has_document ts)
+has_document-append (s ∷ ss) ts = ap (λ b. step_has_document s || b) (has_document-append ss ts)
+    ∙ or_assoc (step_has_document s) (has_document ss) (has_document ts)
 
 -- one more step without
 pub none_more : (xs : List Path) (i : ℕ) (s : Path) → i < length xs → s ≡ get_or xs i s → step_has_document (step_view s) ≡ false →
@@ -68,11 +69,13 @@ none_more xs i s short is none before =
 pub copied_more : (old new : List Path) (copy : Path) (xs : List Path) (i : ℕ) (s : Path) → i < length xs → s ≡ get_or xs i s → new ≡ old ++ copy ∷ [] →
     step_view copy ≡ step_view s → map step_view old ≡ map step_view (take i xs) → map step_view new ≡ map step_view (take (i + 1) xs)
 copied_more old new copy xs i s short is added same before =
-    ap (map step_view) added ∙ map-append step_view old (copy ∷ []) ∙ (λ j. before j ++ (same j ∷ [])) ∙ ap (λ z. map step_view (take i xs) ++ (step_view z ∷ [])) is
+    ap (map step_view) added ∙ map-append step_view old (copy ∷ []) ∙ (λ j. before j ++ (same j ∷ []))
+    ∙ ap (λ z. map step_view (take i xs) ++ (step_view z ∷ [])) is
     ∙ sym (ap (map step_view) (take_more xs i s short) ∙ map-append step_view (take i xs) (get_or xs i s ∷ []))
 
 -- a step with one
-pub some_at : (xs : List Path) (i : ℕ) (s : Path) → i < length xs → s ≡ get_or xs i s → step_has_document (step_view s) ≡ true → has_document (steps_view xs) ≡ true
+pub some_at : (xs : List Path) (i : ℕ) (s : Path) → i < length xs → s ≡ get_or xs i s → step_has_document (step_view s) ≡ true
+    → has_document (steps_view xs) ≡ true
 some_at xs i s short is some =
     ap (λ l. has_document (steps_view l)) (sym (take-append-drop i xs)) ∙ ap has_document (map-append step_view (take i xs) (drop i xs))
     ∙ has_document-append (steps_view (take i xs)) (steps_view (drop i xs))
@@ -81,6 +84,7 @@ some_at xs i s short is some =
     ∙ ap (λ b. has_document (steps_view (take i xs)) || (b || has_document (steps_view (drop (suc i) xs)))) some
     ∙ or_true (has_document (steps_view (take i xs)))
 
-pub refused_at : (xs : List Path) (i : ℕ) (s : Path) (e : Error) → i < length xs → s ≡ get_or xs i s → IsOwningError (step_has_document (step_view s)) e → IsOwningError (has_document (steps_view xs)) e
+pub refused_at : (xs : List Path) (i : ℕ) (s : Path) (e : Error) → i < length xs → s ≡ get_or xs i s → IsOwningError (step_has_document (step_view s)) e
+    → IsOwningError (has_document (steps_view xs)) e
 refused_at xs i s e short is (inl memory) = inl memory
 refused_at xs i s e short is (inr p) = inr (p.0, some_at xs i s short is p.1)

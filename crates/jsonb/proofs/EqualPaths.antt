@@ -74,7 +74,8 @@ seen_expression-is e = expression_is e (block.view-Expr e) refl
 done : (s t : Path) → Decides (path_equal_unfolded s t) (SameStep (seen s) (seen t)) → Decides (path_equal.it s t) (SameStep (step_view s) (step_view t))
 done s t d = rw (path_equal_is s t, seen-is s, seen-is t) d
 
-done_expression : (e f : Expr) → Decides (expr_equal_unfolded e f) (SameExpression (seen_expression e) (seen_expression f)) → Decides (expr_equal.it e f) (SameExpression (expression_view e) (expression_view f))
+done_expression : (e f : Expr) → Decides (expr_equal_unfolded e f) (SameExpression (seen_expression e) (seen_expression f))
+    → Decides (expr_equal.it e f) (SameExpression (expression_view e) (expression_view f))
 done_expression e f d = rw (expr_equal_is e f, seen_expression-is e, seen_expression-is f) d
 
 mutual
@@ -86,12 +87,14 @@ mutual
   step-equal block.DotWildcard block.DotWildcard = done _ _ (λ h. refl, λ e. refl)
   step-equal block.BracketWildcard block.BracketWildcard = done _ _ (λ h. refl, λ e. refl)
   step-equal (block.RecursiveDotWildcard l) (block.RecursiveDotWildcard m) =
-      done _ _ (around tree.recursive_dot_wildcard (option_map levels_view l) (option_map levels_view m) _ (λ e. cc) (maybe-equal level_equal.it levels_view level-equal l m))
+      done _ _ (around tree.recursive_dot_wildcard (option_map levels_view l) (option_map levels_view m) _ (λ e. cc)
+      (maybe-equal level_equal.it levels_view level-equal l m))
   step-equal (block.DotField n) (block.DotField o) = done _ _ (named tree.dot_field n o (λ e. cc))
   step-equal (block.ColonField n) (block.ColonField o) = done _ _ (named tree.colon_field n o (λ e. cc))
   step-equal (block.ObjectField n) (block.ObjectField o) = done _ _ (named tree.object_field n o (λ e. cc))
   step-equal (block.ArrayIndices es) (block.ArrayIndices fs) =
-      done _ _ (around tree.array_indices (map entry_view es.items) (map entry_view fs.items) _ (λ e. cc) (list-equal array_index_equal.it entry_view array_index-equal es.items fs.items))
+      done _ _ (around tree.array_indices (map entry_view es.items) (map entry_view fs.items) _ (λ e. cc)
+      (list-equal array_index_equal.it entry_view array_index-equal es.items fs.items))
   step-equal (block.FilterExpr' b e) (block.FilterExpr' c f) = done _ _ (expression-equal e f)
   step-equal (block.Expr' b e) (block.Expr' c f) = done _ _ (expression-equal e f)
   step-equal s t = done s t (apart (seen s) (seen t) refl)

@@ -3,7 +3,7 @@ use Rattle.std.proofs.Common.{◌≡◌, ℕ, List, [], ◌∷◌, Bool, true, f
 use Rattle.std.specs.Prelude.{IfSome, MatchBool}
 use Rattle.std.proofs.lemmas.Cmp.{tied_itself}
 use Rattle.jsonb_doc.specs.Number.{Number, int64, uint64, number_from, number_cmp}
-use Rattle.jsonb_doc.specs.NumberOrder.{number_cmp_total}
+use Rattle.jsonb_doc.specs.Proofs.NumberOrder.{number_cmp_total}
 use Rattle.jsonb_keypath.specs.Each.{Each}
 use Rattle.jsonb.specs.PathEquality.{SameLiteral, SameStep, SameSteps, SameExpression, SamePath, PrintsAsEqual}
 use Rattle.jsonb.specs.PathGrammar.{json_path}
@@ -67,7 +67,8 @@ mutual
 
   condition-settled : (is_in_filter : Bool) (e : Expression) → IsCondition is_in_filter e → SameExpression e (settled e)
   condition-settled f (binary op left right) h =
-      elim (joins op) as (λ b. MatchBool b (IsCondition f left × IsCondition f right) ((is_signed left ≡ false) × IsOperand f left × IsOperand f right) → SameExpression (binary op left right) (settled (binary op left right))) [
+      elim (joins op) as (λ b. MatchBool b (IsCondition f left × IsCondition f right) ((is_signed left ≡ false) × IsOperand f left × IsOperand f right)
+      → SameExpression (binary op left right) (settled (binary op left right))) [
         | true ↦ λ both. (refl, condition-settled f left both.0, condition-settled f right both.1)
         | false ↦ λ sides. (refl, operand-settled f left sides.1, operand-settled f right sides.2)
       ] h

@@ -6,7 +6,7 @@ use Rattle.std.specs.Char.{is_ascii_digit}
 use Rattle.std.proofs.lemmas.Option.{same_Some}
 use Rattle.std.proofs.lemmas.Bool.Decides.{nat_tests, Decides-ltb, Decides-eqb}
 use Rattle.jsonb_keypath.specs.Each.{Each}
-use Rattle.jsonb_keypath.specs.Rules.{Outcome, Rule, give, ◌>>=◌, ◌>>◌, ◌</>◌, first_of, optional, only_if, literal, repeat, list_of}
+use Rattle.jsonb_keypath.specs.Rules.{Parsed, Rule, give, ◌>>=◌, ◌>>◌, ◌</>◌, or_else_parsed, optional, only_if, literal, repeat, list_of}
 use Rattle.jsonb_keypath.specs.Tokens.{ws, past, is_space, is_within, int32, int64, nat8, nat64, sign, natural, natural_below, integer, integer_within, with_sign, name, quoted}
 use Rattle.jsonb_keypath.proofs.ReadBackLemmas.{begins, begins-excludes, stops-from_begins, is_sign, sign-none, natural-none}
 use Rattle.jsonb_keypath.proofs.YieldsLemmas.{Yields, IsName, yields-give, yields-then, yields-behind, yields-choice, yields-repeat, yields-list_of, yields-integer_within, yields-natural_below, yields-name, yields-quoted}
@@ -219,7 +219,7 @@ inside_sequence : {A B : Type 0} (Q : Type 0) (rule : Rule A) (next : A → Rule
     (rule >>= next) input ≡ Some (b, rest) →
     ((a : A) (middle : List ℕ) → rule input ≡ Some (a, middle) → next a middle ≡ Some (b, rest) → Q) → Q
 inside_sequence {A} {B} Q rule next input b rest e k = go (rule input) refl e where
-  go : (o : Outcome A) → rule input ≡ o → option_and_then (λ (p : A × List ℕ). next p.0 p.1) o ≡ Some (b, rest) → Q
+  go : (o : Parsed A) → rule input ≡ o → option_and_then (λ (p : A × List ℕ). next p.0 p.1) o ≡ Some (b, rest) → Q
   go None at e' = cc
   go (Some p) at e' = k p.0 p.1 at e'
 
@@ -227,7 +227,7 @@ inside_choice : {A : Type 0} (Q : Type 0) (first second : Rule A) (input : List 
     (first </> second) input ≡ Some (a, rest) →
     (first input ≡ Some (a, rest) → Q) → (first input ≡ None → second input ≡ Some (a, rest) → Q) → Q
 inside_choice {A} Q first second input a rest e k l = go (first input) refl e where
-  go : (o : Outcome A) → first input ≡ o → first_of o (second input) ≡ Some (a, rest) → Q
+  go : (o : Parsed A) → first input ≡ o → or_else_parsed o (second input) ≡ Some (a, rest) → Q
   go None at e' = l at e'
   go (Some p) at e' = k (at ∙ e')
 
@@ -358,7 +358,7 @@ no_signed_number f input none no_natural s = go (begins is_sign input) refl wher
 abbrev IsUnsigned : Literal → Type 0
 IsUnsigned l = is_signed_literal l ≡ false
 
-mapped-none : {A B : Type 0} (g : A → B) (o : Outcome A) → option_and_then (λ (p : A × List ℕ). give (g p.0) p.1) o ≡ None → o ≡ None
+mapped-none : {A B : Type 0} (g : A → B) (o : Parsed A) → option_and_then (λ (p : A × List ℕ). give (g p.0) p.1) o ≡ None → o ≡ None
 mapped-none g None e = refl
 mapped-none g (Some p) e = cc
 
@@ -517,7 +517,7 @@ atom_is_condition nested f h =
 spaced-leaves : {A : Type 0} (rule : Rule A) (input : List ℕ) (a : A) (rest : List ℕ) → spaced rule input ≡ Some (a, rest) → IsUnspaced rest
 unfolding ws
 spaced-leaves {A} rule input a rest e = go (rule (past is_space input)) e where
-  go : (o : Outcome A) → option_and_then {U = A × List ℕ} (λ (p : A × List ℕ). Some (p.0, past is_space p.1)) o ≡ Some (a, rest) →
+  go : (o : Parsed A) → option_and_then {U = A × List ℕ} (λ (p : A × List ℕ). Some (p.0, past is_space p.1)) o ≡ Some (a, rest) →
       IsUnspaced rest
   go None e' = cc
   go (Some p) e' = subst IsUnspaced (ap (λ (q : A × List ℕ). q.1) (same_Some (p.0, past is_space p.1) (a, rest) e')) (past-none is_space

@@ -8,7 +8,7 @@ use Rattle.std.proofs.lemmas.Grind.{common_steps}
 use Rattle.std.specs.Fmt.{decimal, signed_decimal}
 use Rattle.std.proofs.lemmas.Bool.Decides.{Decides-ltb, nat_tests}
 use Rattle.jsonb_keypath.specs.Each.{Each}
-use Rattle.jsonb_keypath.specs.Rules.{Rule, ◌>>◌, outcome_map, optional, literal, repeat}
+use Rattle.jsonb_keypath.specs.Rules.{Rule, ◌>>◌, parsed_map, optional, literal, repeat}
 use Rattle.jsonb_keypath.specs.Tokens.{ws, past, is_space, is_quote, is_stop, int32, nat8}
 use Rattle.jsonb_keypath.specs.KeyPathText.{is_plain_name, is_word_byte, quoted_text, name_text}
 use Rattle.jsonb_keypath.proofs.ReadBackLemmas.{front, stops, front-stops, front-implies, begins, begins-implies, begins-excludes, stops-from_begins, begins-decimal, is_number_start, is_sign, past-run, natural_below-decimal, natural_below-none, integer_within-signed_decimal, integer_within-none}
@@ -208,7 +208,7 @@ more_entries (e ∷ es) rest are =
     rw (append_assoc (entry_text e) (flat_map other_entry_text es) (93 ∷ rest))
     (repeat-goes (literal "," >> spaced entry) (44 ∷ 32 ∷ entry_text e ++ tail) e tail (spaced_entry-behind_space e tail are.0
     (behind_others es rest)) (omega (arith, length-append (entry_text e) tail))
-    ∙ ap (outcome_map (λ (others : List Entry). e ∷ others)) (more_entries es rest are.1))
+    ∙ ap (parsed_map (λ (others : List Entry). e ∷ others)) (more_entries es rest are.1))
 
 entries-text : (es : List Entry) (rest : List ℕ) → 0 < length es → Each IsEntry es →
     entries (91 ∷ entries_text es ++ 93 ∷ rest) ≡ Some (es, rest)

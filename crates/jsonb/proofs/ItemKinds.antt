@@ -4,20 +4,20 @@ use Rattle.std.specs.Borrow.{Bor}
 use Rattle.jsonb_doc.specs.Tree as tree
 use Rattle.jsonb_doc.specs.Tree.{Tree, children_of}
 use Rattle.jsonb_doc.specs.Payload.{any}
-use Rattle.jsonb_doc.specs.Item.{Stands}
+use Rattle.jsonb_doc.specs.Item.{StandsFor}
 use Rattle.jsonb_doc.specs.declared.item.Item.{Item}
 use Rattle.jsonb_doc.specs.declared.item.Item.TheVariants.{Null, Boolean, Number, String, Extension, Array, Object}
 use Rattle.jsonb.specs.ItemSteps.{elements_of, values_of}
 use Rattle.jsonb.specs.Values.{values_of_item, value_of_item}
 
 -- the elements of an array are its children, and so are the values of an object
-pub array_children : (item : Item) (bytes : Bor (List ℕ)) (t : Tree) → item ≡ Array bytes → Stands any item t → children_of t ≡ elements_of t
+pub array_children : (item : Item) (bytes : Bor (List ℕ)) (t : Tree) → item ≡ Array bytes → StandsFor any item t → children_of t ≡ elements_of t
 array_children item bytes t is h = let s = rw is at h in rw s.1 refl
 
-pub object_children : (item : Item) (bytes : Bor (List ℕ)) (t : Tree) → item ≡ Object bytes → Stands any item t → children_of t ≡ values_of t
+pub object_children : (item : Item) (bytes : Bor (List ℕ)) (t : Tree) → item ≡ Object bytes → StandsFor any item t → children_of t ≡ values_of t
 object_children item bytes t is h = let s = rw is at h in rw s.1 refl
 
-pub no_elements : (item : Item) (t : Tree) → ((bytes : Bor (List ℕ)) → item ≡ Array bytes → ⊥) → Stands any item t → elements_of t ≡ None
+pub no_elements : (item : Item) (t : Tree) → ((bytes : Bor (List ℕ)) → item ≡ Array bytes → ⊥) → StandsFor any item t → elements_of t ≡ None
 no_elements Null t n h = rw h refl
 no_elements (Boolean b) t n h = rw h refl
 no_elements (Number m) t n h = rw h refl
@@ -26,7 +26,7 @@ no_elements (Extension x) t n h = rw h refl
 no_elements (Array bytes) t n h = absurd (n bytes refl)
 no_elements (Object bytes) t n h = rw h.1 refl
 
-pub no_values : (item : Item) (t : Tree) → ((bytes : Bor (List ℕ)) → item ≡ Object bytes → ⊥) → Stands any item t → values_of t ≡ None
+pub no_values : (item : Item) (t : Tree) → ((bytes : Bor (List ℕ)) → item ≡ Object bytes → ⊥) → StandsFor any item t → values_of t ≡ None
 no_values Null t n h = rw h refl
 no_values (Boolean b) t n h = rw h refl
 no_values (Number m) t n h = rw h refl

@@ -15,7 +15,8 @@ module _ (levels : Option Levels) where
   values-is n (pair key t ps) = ap (λ l. preorder levels n t ++ l) (values-is n ps)
 
   -- where the children are looked at
-  pub preorder-entered : (n : ℕ) (t : Tree) (ts : List Tree) → (answer_at levels n).1 ≡ true → children_of t ≡ Some ts → preorder levels n t ≡ own levels n t ++ flat_map (preorder levels (n + 1)) ts
+  pub preorder-entered : (n : ℕ) (t : Tree) (ts : List Tree) → (answer_at levels n).1 ≡ true → children_of t ≡ Some ts
+      → preorder levels n t ≡ own levels n t ++ flat_map (preorder levels (n + 1)) ts
   preorder-entered n (array us) ts h is =
       ap (λ b. own levels n (array us) ++ (if b then preorder_elements levels (n + 1) us else [])) h
       ∙ ap (λ l. own levels n (array us) ++ l) (elements-is (n + 1) us ∙ ap (flat_map (preorder levels (n + 1))) (let e : elements us ≡ ts = cc in e))

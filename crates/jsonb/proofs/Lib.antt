@@ -1,7 +1,5 @@
-mod Rows
 pub mod ExpressionLemmas
 pub mod ViewLemmas
-pub mod Texts
 pub mod PositionLemmas
 pub mod EntryReadsSome
 pub mod InnerReadsSome
@@ -15,7 +13,6 @@ pub mod PathLaw
 pub mod Bounds
 pub mod ExpressionReadsSome
 pub mod SelectedParts
-pub mod Outcomes
 pub mod Progress
 pub mod ItemKinds
 pub mod PickLemmas
@@ -23,11 +20,10 @@ pub mod LevelLemmas
 pub mod PathNodes
 pub mod StepLemmas
 pub mod CalculateLemmas
-pub mod Handed
 pub mod ReadMeans
 -- lemmas of the crates below, for the crates above
 pub use Rattle.jsonb_doc.proofs.DecodedFits
-pub use Rattle.jsonb_raw.proofs.Iterated
+pub use Rattle.jsonb_raw.proofs.IteratorLemmas
 pub use Rattle.jsonb_raw.proofs.LeafPlaces
 pub use Rattle.jsonb_raw.proofs.LeafLimits
 pub mod WholeLemmas
@@ -42,3 +38,7 @@ pub mod SamePathLaws
 pub mod EqualPrinted
 pub mod DocumentLemmas
 mod EqualRows
+pub mod GivesLemmas
+pub mod DocumentAnswers
+pub mod TextLemmas
+pub mod GrammarRows

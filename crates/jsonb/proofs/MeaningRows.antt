@@ -79,7 +79,8 @@ last_and_first : of (p.root ∷ p.array_indices (p.single (p.from_last (pos 0)) 
 last_and_first = refl
 
 -- `$[0, 0 to 1]`
-repeats : of (p.root ∷ p.array_indices (p.single (p.from_front (pos 0)) ∷ p.slice (p.from_front (pos 0)) (p.from_front (pos 1)) ∷ []) ∷ []) tens ≡ Ok (whole 10 ∷ whole 10 ∷ whole 20 ∷ [])
+repeats : of (p.root ∷ p.array_indices (p.single (p.from_front (pos 0)) ∷ p.slice (p.from_front (pos 0)) (p.from_front (pos 1)) ∷ []) ∷ []) tens
+    ≡ Ok (whole 10 ∷ whole 10 ∷ whole 20 ∷ [])
 repeats = refl
 
 -- `$[0 to 1]` on an empty array
@@ -135,11 +136,15 @@ remainder_of_negative : of (p.whole_expression (p.binary p.modulo (from []) (lit
 remainder_of_negative = refl
 
 -- `$[0] == 1 || $[1] == 1`
-or_with_unknown : of (p.whole_expression (p.binary p.or_op (p.binary p.eq (from (p.array_indices (p.single (p.from_front (pos 0)) ∷ []) ∷ [])) (lit 1)) (p.binary p.eq (from (p.array_indices (p.single (p.from_front (pos 1)) ∷ []) ∷ [])) (lit 1))) ∷ []) number_then_text ≡ Ok (null ∷ [])
+or_with_unknown : of (p.whole_expression
+    (p.binary p.or_op (p.binary p.eq (from (p.array_indices (p.single (p.from_front (pos 0)) ∷ []) ∷ [])) (lit 1))
+    (p.binary p.eq (from (p.array_indices (p.single (p.from_front (pos 1)) ∷ []) ∷ [])) (lit 1))) ∷ []) number_then_text ≡ Ok (null ∷ [])
 or_with_unknown = refl
 
 -- the same as a predicate
-match_unknown : predicate Lax (p.whole_expression (p.binary p.or_op (p.binary p.eq (from (p.array_indices (p.single (p.from_front (pos 0)) ∷ []) ∷ [])) (lit 1)) (p.binary p.eq (from (p.array_indices (p.single (p.from_front (pos 1)) ∷ []) ∷ [])) (lit 1))) ∷ []) number_then_text ≡ Ok None
+match_unknown : predicate Lax
+    (p.whole_expression (p.binary p.or_op (p.binary p.eq (from (p.array_indices (p.single (p.from_front (pos 0)) ∷ []) ∷ [])) (lit 1))
+    (p.binary p.eq (from (p.array_indices (p.single (p.from_front (pos 1)) ∷ []) ∷ [])) (lit 1))) ∷ []) number_then_text ≡ Ok None
 match_unknown = refl
 
 -- `$ != null` of 5
@@ -147,7 +152,8 @@ kinds_differ : of (p.whole_expression (p.binary p.not_eq (from []) (p.value p.nu
 kinds_differ = refl
 
 -- `$.p[*]?(@.n == 3720453)`
-filtered_object : of (p.root ∷ p.dot_field (112 ∷ []) ∷ p.bracket_wildcard ∷ p.filter (p.binary p.eq (at (p.dot_field (110 ∷ []) ∷ [])) (lit 3720453)) ∷ []) phones ≡ Ok (home_phone ∷ [])
+filtered_object : of (p.root ∷ p.dot_field (112 ∷ []) ∷ p.bracket_wildcard ∷ p.filter (p.binary p.eq (at (p.dot_field (110 ∷ []) ∷ [])) (lit 3720453))
+    ∷ []) phones ≡ Ok (home_phone ∷ [])
 filtered_object = refl
 
 -- `$.**`
@@ -159,7 +165,8 @@ one_level : of (p.root ∷ p.recursive_dot_wildcard (Some (record { start = 1; e
 one_level = refl
 
 -- `$[*]?(@ starts with "a")`
-begins_with : of (p.root ∷ p.bracket_wildcard ∷ p.filter (p.binary p.starts_with_op (at []) (p.value (p.string (97 ∷ [])))) ∷ []) number_then_text ≡ Ok (text (97 ∷ []) ∷ [])
+begins_with : of (p.root ∷ p.bracket_wildcard ∷ p.filter (p.binary p.starts_with_op (at []) (p.value (p.string (97 ∷ [])))) ∷ []) number_then_text
+    ≡ Ok (text (97 ∷ []) ∷ [])
 begins_with = refl
 
 -- `$.*`
@@ -167,7 +174,8 @@ object_values : of (p.root ∷ p.dot_wildcard ∷ []) nulls ≡ Ok (null ∷ arr
 object_values = refl
 
 -- `$[*]?(exists(@.k))`
-that_exists : of (p.root ∷ p.bracket_wildcard ∷ p.filter (p.exists (steps_of (p.current ∷ p.dot_field (107 ∷ []) ∷ []))) ∷ []) mixed_array ≡ Ok (obj ((107 ∷ [], text (118 ∷ [])) ∷ []) ∷ [])
+that_exists : of (p.root ∷ p.bracket_wildcard ∷ p.filter (p.exists (steps_of (p.current ∷ p.dot_field (107 ∷ []) ∷ []))) ∷ []) mixed_array
+    ≡ Ok (obj ((107 ∷ [], text (118 ∷ [])) ∷ []) ∷ [])
 that_exists = refl
 
 -- `$[*] > 25` as a predicate
@@ -191,7 +199,8 @@ negated_least : of (p.whole_expression (p.unary p.minus (from [])) ∷ []) (numb
 negated_least = refl
 
 -- `$ % 0` of 12.34
-decimal_operand : of (p.whole_expression (p.binary p.modulo (from []) (lit 0)) ∷ []) (number (record { variant = decimal64; whole = pos 1234; scale = 2 })) ≡ Err (Arithmetic DecimalOperand)
+decimal_operand : of (p.whole_expression (p.binary p.modulo (from []) (lit 0)) ∷ []) (number (record { variant = decimal64; whole = pos 1234; scale = 2 }))
+    ≡ Err (Arithmetic DecimalOperand)
 decimal_operand = refl
 
 -- `$[*] + 1`
@@ -199,7 +208,8 @@ many_operands : of (p.whole_expression (p.binary p.add (from (p.bracket_wildcard
 many_operands = refl
 
 -- `-$[*]` where the second overflows
-refused_behind_first : of (p.whole_expression (p.unary p.minus (from (p.bracket_wildcard ∷ []))) ∷ []) (arr (whole 1 ∷ whole 18446744073709551615 ∷ [])) ≡ Err (Arithmetic Overflow)
+refused_behind_first : of (p.whole_expression (p.unary p.minus (from (p.bracket_wildcard ∷ []))) ∷ []) (arr (whole 1 ∷ whole 18446744073709551615 ∷ []))
+    ≡ Err (Arithmetic Overflow)
 refused_behind_first = refl
 
 -- `$.c` in strict mode
@@ -215,7 +225,9 @@ strict_past_end : of_strict (p.root ∷ p.array_indices (p.single (p.from_front 
 strict_past_end = refl
 
 -- `$[*]?(@.k == "v")` in strict mode
-strict_filter : of_strict (p.root ∷ p.bracket_wildcard ∷ p.filter (p.binary p.eq (at (p.dot_field (107 ∷ []) ∷ [])) (p.value (p.string (118 ∷ [])))) ∷ []) mixed_array ≡ Err StrictPath
+strict_filter : of_strict
+    (p.root ∷ p.bracket_wildcard ∷ p.filter (p.binary p.eq (at (p.dot_field (107 ∷ []) ∷ [])) (p.value (p.string (118 ∷ [])))) ∷ []) mixed_array
+    ≡ Err StrictPath
 strict_filter = refl
 
 -- `$.**` in strict mode
@@ -223,7 +235,8 @@ strict_levels : of_strict (p.root ∷ p.recursive_dot_wildcard None ∷ []) nest
 strict_levels = refl
 
 -- `$[*] + $.c` in strict mode
-strict_before_number : of_strict (p.whole_expression (p.binary p.add (from (p.bracket_wildcard ∷ [])) (from (p.dot_field (99 ∷ []) ∷ []))) ∷ []) tens ≡ Err StrictPath
+strict_before_number : of_strict (p.whole_expression (p.binary p.add (from (p.bracket_wildcard ∷ [])) (from (p.dot_field (99 ∷ []) ∷ []))) ∷ []) tens
+    ≡ Err StrictPath
 strict_before_number = refl
 
 -- `$[*]?(@.a + 1)` in strict mode
@@ -247,11 +260,15 @@ lax_sign : of (p.whole_expression (p.unary p.minus (from (p.dot_field (99 ∷ []
 lax_sign = refl
 
 -- `$.a == 1 || $.c == 1` in strict mode
-strict_or : of_strict (p.whole_expression (p.binary p.or_op (p.binary p.eq (from (p.dot_field (97 ∷ []) ∷ [])) (lit 1)) (p.binary p.eq (from (p.dot_field (99 ∷ []) ∷ [])) (lit 1))) ∷ []) nulls ≡ Err StrictPath
+strict_or : of_strict (p.whole_expression
+    (p.binary p.or_op (p.binary p.eq (from (p.dot_field (97 ∷ []) ∷ [])) (lit 1)) (p.binary p.eq (from (p.dot_field (99 ∷ []) ∷ [])) (lit 1))) ∷ []) nulls
+    ≡ Err StrictPath
 strict_or = refl
 
 -- `$.a == 1 || $.c == 1`
-lax_or : of (p.whole_expression (p.binary p.or_op (p.binary p.eq (from (p.dot_field (97 ∷ []) ∷ [])) (lit 1)) (p.binary p.eq (from (p.dot_field (99 ∷ []) ∷ [])) (lit 1))) ∷ []) nulls ≡ Ok (null ∷ [])
+lax_or : of (p.whole_expression
+    (p.binary p.or_op (p.binary p.eq (from (p.dot_field (97 ∷ []) ∷ [])) (lit 1)) (p.binary p.eq (from (p.dot_field (99 ∷ []) ∷ [])) (lit 1))) ∷ []) nulls
+    ≡ Ok (null ∷ [])
 lax_or = refl
 
 -- `@` as the first step
@@ -275,11 +292,13 @@ signed_operand : of (p.root ∷ p.filter (p.binary p.eq (p.unary p.plus (lit 1))
 signed_operand = refl
 
 -- an expression in the path of an exists
-expression_in_exists : of (p.bracket_wildcard ∷ p.filter (p.exists (steps_of (p.current ∷ p.whole_expression (p.value p.null) ∷ []))) ∷ []) one_element ≡ Err InvalidJsonPath
+expression_in_exists : of (p.bracket_wildcard ∷ p.filter (p.exists (steps_of (p.current ∷ p.whole_expression (p.value p.null) ∷ []))) ∷ []) one_element
+    ≡ Err InvalidJsonPath
 expression_in_exists = refl
 
 -- the same on an empty array
-expression_in_exists_of_none : of (p.bracket_wildcard ∷ p.filter (p.exists (steps_of (p.current ∷ p.whole_expression (p.value p.null) ∷ []))) ∷ []) (arr []) ≡ Ok []
+expression_in_exists_of_none : of (p.bracket_wildcard ∷ p.filter (p.exists (steps_of (p.current ∷ p.whole_expression (p.value p.null) ∷ []))) ∷ []) (arr [])
+    ≡ Ok []
 expression_in_exists_of_none = refl
 
 -- `$[last + 2147483647]`
@@ -287,5 +306,6 @@ far_past_last : of (p.root ∷ p.array_indices (p.single (p.from_last (pos 21474
 far_past_last = refl
 
 -- `$[-2147483648 to 2147483647]`
-widest_slice : of (p.root ∷ p.array_indices (p.slice (p.from_front (negsuc 2147483647)) (p.from_front (pos 2147483647)) ∷ []) ∷ []) tens ≡ Ok (whole 10 ∷ whole 20 ∷ whole 30 ∷ [])
+widest_slice : of (p.root ∷ p.array_indices (p.slice (p.from_front (negsuc 2147483647)) (p.from_front (pos 2147483647)) ∷ []) ∷ []) tens
+    ≡ Ok (whole 10 ∷ whole 20 ∷ whole 30 ∷ [])
 widest_slice = refl

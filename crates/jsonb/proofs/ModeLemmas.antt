@@ -1,6 +1,6 @@
 -- What strict mode gives, lax mode gives too.
 use Rattle.std.proofs.Common.{◌≡◌, List, [], ◌∷◌, ◌++◌, map, Option, Some, None, option_map, Ok, Err, refl, sym, subst, ◌∙◌}
-use Rattle.jsonb_doc.specs.Answer.{Outcome, with_value, joined}
+use Rattle.jsonb_doc.specs.Answer.{Outcome, and_then, try_flat_map}
 use Rattle.jsonb_doc.specs.Arithmetic.{Operation}
 use Rattle.jsonb_doc.specs.Payload.{Form}
 use Rattle.jsonb_doc.specs.Tree.{Tree, field_of}
@@ -20,15 +20,17 @@ keeps_same : {A : Type 0} (o : Outcome A) → Keeps o o
 keeps_same (Ok x) = refl
 keeps_same (Err e) = tt
 
-keeps_with : {A B : Type 0} (o p : Outcome A) (f g : A → Outcome B) → Keeps o p → ((x : A) → Keeps (f x) (g x)) → Keeps (with_value o f) (with_value p g)
-keeps_with (Ok x) p f g h k = subst (λ q. Keeps (f x) (with_value q g)) (sym h) (k x)
+keeps_with : {A B : Type 0} (o p : Outcome A) (f g : A → Outcome B) → Keeps o p → ((x : A) → Keeps (f x) (g x)) → Keeps (and_then o f) (and_then p g)
+keeps_with (Ok x) p f g h k = subst (λ q. Keeps (f x) (and_then q g)) (sym h) (k x)
 keeps_with (Err e) p f g h k = tt
 
-keeps_joined : {A B : Type 0} (f g : A → Outcome (List B)) → ((x : A) → Keeps (f x) (g x)) → (xs : List A) → Keeps (joined f xs) (joined g xs)
+keeps_joined : {A B : Type 0} (f g : A → Outcome (List B)) → ((x : A) → Keeps (f x) (g x)) → (xs : List A) → Keeps (try_flat_map f xs) (try_flat_map g xs)
 keeps_joined f g h [] = refl
 keeps_joined f g h (x ∷ xs) =
-    keeps_with (f x) (g x) (λ front. with_value (joined f xs) (λ back. Ok (front ++ back))) (λ front. with_value (joined g xs) (λ back. Ok (front ++ back))) (h x)
-    (λ front. keeps_with (joined f xs) (joined g xs) (λ back. Ok (front ++ back)) (λ back. Ok (front ++ back)) (keeps_joined f g h xs) (λ back. refl))
+    keeps_with (f x) (g x) (λ front. and_then (try_flat_map f xs) (λ back. Ok (front ++ back)))
+    (λ front. and_then (try_flat_map g xs) (λ back. Ok (front ++ back))) (h x)
+    (λ front. keeps_with (try_flat_map f xs) (try_flat_map g xs) (λ back. Ok (front ++ back)) (λ back. Ok (front ++ back)) (keeps_joined f g h xs)
+    (λ back. refl))
 
 list_kept : (otherwise : List Tree) (o : Option (List Tree)) → Keeps (list_or Strict otherwise o) (list_or Lax otherwise o)
 list_kept otherwise (Some ts) = refl
@@ -51,20 +53,24 @@ mutual
   steps_kept : (ss : Steps) (top : Tree) (items : List Tree) → Keeps (steps_meaning Strict ss top items) (steps_meaning Lax ss top items)
   steps_kept no_steps top items = refl
   steps_kept (step s rest) top items =
-      keeps_with (joined (step_meaning Strict s top) items) (joined (step_meaning Lax s top) items) (steps_meaning Strict rest top) (steps_meaning Lax rest top)
+      keeps_with (try_flat_map (step_meaning Strict s top) items) (try_flat_map (step_meaning Lax s top) items) (steps_meaning Strict rest top)
+      (steps_meaning Lax rest top)
       (keeps_joined (step_meaning Strict s top) (step_meaning Lax s top) (λ item. step_kept s top item) items) (λ ts. steps_kept rest top ts)
 
   operand_kept : (e : Expression) (top item : Tree) → Keeps (operand_values Strict e top item) (operand_values Lax e top item)
   operand_kept (paths ss) top item =
-      keeps_with (steps_meaning Strict ss top (start ss top item ∷ [])) (steps_meaning Lax ss top (start ss top item ∷ [])) _ _ (steps_kept ss top (start ss top item ∷ [])) (λ ts. refl)
+      keeps_with (steps_meaning Strict ss top (start ss top item ∷ [])) (steps_meaning Lax ss top (start ss top item ∷ [])) _ _
+      (steps_kept ss top (start ss top item ∷ [])) (λ ts. refl)
   operand_kept (value l) top item = refl
   operand_kept _ top item = tt
 
   truth_kept : (e : Expression) (top item : Tree) → Keeps (truth Strict e top item) (truth Lax e top item)
   truth_kept (binary and_op l r) top item =
-      keeps_with (truth Strict l top item) (truth Lax l top item) _ _ (truth_kept l top item) (λ a. keeps_with (truth Strict r top item) (truth Lax r top item) _ _ (truth_kept r top item) (λ b. refl))
+      keeps_with (truth Strict l top item) (truth Lax l top item) _ _ (truth_kept l top item)
+      (λ a. keeps_with (truth Strict r top item) (truth Lax r top item) _ _ (truth_kept r top item) (λ b. refl))
   truth_kept (binary or_op l r) top item =
-      keeps_with (truth Strict l top item) (truth Lax l top item) _ _ (truth_kept l top item) (λ a. keeps_with (truth Strict r top item) (truth Lax r top item) _ _ (truth_kept r top item) (λ b. refl))
+      keeps_with (truth Strict l top item) (truth Lax l top item) _ _ (truth_kept l top item)
+      (λ a. keeps_with (truth Strict r top item) (truth Lax r top item) _ _ (truth_kept r top item) (λ b. refl))
   truth_kept (binary add l r) top item = refl
   truth_kept (binary subtract l r) top item = refl
   truth_kept (binary multiply l r) top item = refl
@@ -74,22 +80,26 @@ mutual
       keeps_with (operand_values Strict l top item) (operand_values Lax l top item) _ _ (operand_kept l top item)
       (λ ls. keeps_with (operand_values Strict r top item) (operand_values Lax r top item) _ _ (operand_kept r top item) (λ rs. refl))
   truth_kept (exists ss) top item =
-      keeps_with (steps_meaning Strict ss top (start ss top item ∷ [])) (steps_meaning Lax ss top (start ss top item ∷ [])) _ _ (steps_kept ss top (start ss top item ∷ [])) (λ ts. refl)
+      keeps_with (steps_meaning Strict ss top (start ss top item ∷ [])) (steps_meaning Lax ss top (start ss top item ∷ [])) _ _
+      (steps_kept ss top (start ss top item ∷ [])) (λ ts. refl)
   truth_kept _ top item = tt
 
 truth_list_kept : (a b : Outcome Truth) → Keeps a b → Keeps (truth_list a) (truth_list b)
 truth_list_kept a b h = keeps_with a b _ _ h (λ t. refl)
 
-binary_kept : (o : Option Operation) (op : BinaryOp) (l r : Expression) (top : Tree) → Keeps (binary_meaning Strict o op l r top) (binary_meaning Lax o op l r top)
+binary_kept : (o : Option Operation) (op : BinaryOp) (l r : Expression) (top : Tree)
+    → Keeps (binary_meaning Strict o op l r top) (binary_meaning Lax o op l r top)
 binary_kept (Some arithmetic) op l r top =
     keeps_with (operand_values Strict l top top) (operand_values Lax l top top) _ _ (operand_kept l top top)
-    (λ ls. keeps_with (operand_values Strict r top top) (operand_values Lax r top top) _ _ (operand_kept r top top) (λ rs. keeps_same (two_numbers arithmetic ls rs)))
+    (λ ls. keeps_with (operand_values Strict r top top) (operand_values Lax r top top) _ _ (operand_kept r top top)
+    (λ rs. keeps_same (two_numbers arithmetic ls rs)))
 binary_kept None op l r top = truth_list_kept (truth Strict (binary op l r) top top) (truth Lax (binary op l r) top top) (truth_kept (binary op l r) top top)
 
 expression_kept : (e : Expression) (top : Tree) → Keeps (expression_meaning Strict e top) (expression_meaning Lax e top)
 expression_kept (paths ss) top = tt
 expression_kept (value l) top = keeps_same (expression_meaning Lax (value l) top)
-expression_kept (unary op e) top = keeps_with (operand_values Strict e top top) (operand_values Lax e top top) (each_signed op) (each_signed op) (operand_kept e top top) (λ vs. keeps_same (each_signed op vs))
+expression_kept (unary op e) top = keeps_with (operand_values Strict e top top) (operand_values Lax e top top) (each_signed op) (each_signed op)
+    (operand_kept e top top) (λ vs. keeps_same (each_signed op vs))
 expression_kept (binary op l r) top = binary_kept (operation op) op l r top
 expression_kept (exists ss) top = truth_list_kept (truth Strict (exists ss) top top) (truth Lax (exists ss) top top) (truth_kept (exists ss) top top)
 

@@ -5,7 +5,7 @@ use Rattle.std.specs.List.{prefix_len}
 use Rattle.std.specs.Char.{is_ascii_digit}
 use Rattle.std.specs.Fmt.{decimal, signed_decimal}
 use Rattle.std.proofs.lemmas.Bool.Decides.{Decides-ltb, nat_tests}
-use Rattle.jsonb_keypath.specs.Rules.{Rule, outcome_map, repeat}
+use Rattle.jsonb_keypath.specs.Rules.{Rule, parsed_map, repeat}
 use Rattle.jsonb_keypath.specs.Tokens.{past, is_space, is_quote, nat64}
 use Rattle.jsonb_keypath.specs.KeyPathText.{quoted_text}
 use Rattle.jsonb_keypath.proofs.ReadBackLemmas.{neither, front, stops, front-stops, front-implies, begins, begins-implies, begins-excludes, stops-from_begins, begins-decimal, is_number_start, is_sign, natural_below-decimal, natural_below-none, integer_within-signed_decimal, integer_within-none}
@@ -139,7 +139,7 @@ inners_past-text (step s ss) rest are h =
     rw (append_assoc (step_text s) (steps_text ss) rest, no_space-inner s tail are.0)
     (repeat-goes spaced_inner (step_text s ++ tail) s (past is_space tail) (spaced_inner-text s tail are.0
     (front-inners ss rest are.1 h.0)) (omega (arith, length-append (step_text s) tail, length-past is_space tail))
-    ∙ ap (outcome_map (λ (others : List Step). s ∷ others)) (inners_past-text ss rest are.1 h))
+    ∙ ap (parsed_map (λ (others : List Step). s ∷ others)) (inners_past-text ss rest are.1 h))
 
 inners-text : (ss : Steps) (rest : List ℕ) → AreInner ss → IsBehindOperand rest →
     ReadsTo (repeat spaced_inner) (steps_text ss ++ rest) (steps_list ss) rest

@@ -16,11 +16,14 @@ use Rattle.jsonb.specs.declared.path.Expr.TheVariants as expr
 use Rattle.jsonb.specs.declared.path.Expr.{Expr, out-Expr, map-Expr, fold_out-Expr}
 use Rattle.jsonb.specs.declared.path.Expr.TheOpen.{Expr-F, Path-F}
 
-pub expression_is : (e : Expr) (x : Expr-F Expr Path) → out-Expr e ≡ x → expression_view e ≡ expression_layer (map-Expr Expr Path Expression Step expression_view step_view x)
-expression_is e x h = fold_out-Expr Expression Step expression_layer step_layer e ∙ ap (λ y. expression_layer (map-Expr Expr Path Expression Step expression_view step_view y)) h
+pub expression_is : (e : Expr) (x : Expr-F Expr Path) → out-Expr e ≡ x
+    → expression_view e ≡ expression_layer (map-Expr Expr Path Expression Step expression_view step_view x)
+expression_is e x h = fold_out-Expr Expression Step expression_layer step_layer e
+    ∙ ap (λ y. expression_layer (map-Expr Expr Path Expression Step expression_view step_view y)) h
 
 pub step_is : (s : Path) (x : Path-F Expr Path) → out-Path s ≡ x → step_view s ≡ step_layer (map-Path Expr Path Expression Step expression_view step_view x)
-step_is s x h = fold_out-Path Expression Step expression_layer step_layer s ∙ ap (λ y. step_layer (map-Path Expr Path Expression Step expression_view step_view y)) h
+step_is s x h = fold_out-Path Expression Step expression_layer step_layer s
+    ∙ ap (λ y. step_layer (map-Path Expr Path Expression Step expression_view step_view y)) h
 
 -- ---- steps
 
@@ -36,7 +39,8 @@ values_is s h = ap step_view h ∙ step_is _ _ step.outs-DotWildcard
 pub elements_is : (s : Path) → s ≡ step.BracketWildcard → step_view s ≡ math.bracket_wildcard
 elements_is s h = ap step_view h ∙ step_is _ _ step.outs-BracketWildcard
 
-pub levels_is : (s : Path) (levels : Option RecursiveLevel) → s ≡ step.RecursiveDotWildcard levels → step_view s ≡ math.recursive_dot_wildcard (option_map levels_view levels)
+pub levels_is : (s : Path) (levels : Option RecursiveLevel) → s ≡ step.RecursiveDotWildcard levels
+    → step_view s ≡ math.recursive_dot_wildcard (option_map levels_view levels)
 levels_is s levels h = ap step_view h ∙ step_is _ _ (step.outs-RecursiveDotWildcard levels)
 
 pub dot_field_is : (s : Path) (name : CowStr Global) → s ≡ step.DotField name → step_view s ≡ math.dot_field (cow_str_bytes name)
@@ -65,10 +69,12 @@ paths_is e steps h = ap expression_view h ∙ expression_is _ _ (expr.outs-Paths
 pub literal_is : (e : Expr) (l : Box PathValue Global) → e ≡ expr.Value l → expression_view e ≡ math.value (literal_view l.value)
 literal_is e l h = ap expression_view h ∙ expression_is _ _ (expr.outs-Value l)
 
-pub binary_is : (e : Expr) (op : BinaryOperator) (l r : Box Expr Global) → e ≡ expr.BinaryOp op l r → expression_view e ≡ math.binary (operator_view op) (expression_view l.value) (expression_view r.value)
+pub binary_is : (e : Expr) (op : BinaryOperator) (l r : Box Expr Global) → e ≡ expr.BinaryOp op l r
+    → expression_view e ≡ math.binary (operator_view op) (expression_view l.value) (expression_view r.value)
 binary_is e op l r h = ap expression_view h ∙ expression_is _ _ (expr.outs-BinaryOp op l r)
 
-pub unary_is : (e : Expr) (op : UnaryOperator) (x : Box Expr Global) → e ≡ expr.UnaryOp op x → expression_view e ≡ math.unary (sign_view op) (expression_view x.value)
+pub unary_is : (e : Expr) (op : UnaryOperator) (x : Box Expr Global) → e ≡ expr.UnaryOp op x
+    → expression_view e ≡ math.unary (sign_view op) (expression_view x.value)
 unary_is e op x h = ap expression_view h ∙ expression_is _ _ (expr.outs-UnaryOp op x)
 
 pub exists_is : (e : Expr) (steps : Vec Path Global) → e ≡ expr.ExistsFunc steps → expression_view e ≡ math.exists (steps_of (steps_view steps.items))

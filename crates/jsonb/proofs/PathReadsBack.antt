@@ -3,7 +3,7 @@ use Rattle.std.proofs.Common.{◌≡◌, ℕ, ◌+◌, ◌<◌, List, [], ◌∷
 use Rattle.std.specs.Prelude.{◌==◌, flat_map, map}
 use Rattle.std.proofs.lemmas.Bool.Decides.{nat_tests, Decides-eqb}
 use Rattle.jsonb_keypath.specs.Each.{Each}
-use Rattle.jsonb_keypath.specs.Rules.{Outcome, Rule, ◌</>◌, outcome_map, literal, repeat, list_of, whole}
+use Rattle.jsonb_keypath.specs.Rules.{Parsed, Rule, ◌</>◌, parsed_map, literal, repeat, list_of, all_consuming}
 use Rattle.jsonb_keypath.specs.Tokens.{ws, past, is_space, is_stop, name}
 use Rattle.jsonb_keypath.proofs.ReadBackLemmas.{front, front-stops, front-implies, begins, begins-excludes, stops-from_begins, is_sign}
 use Rattle.jsonb_keypath.proofs.NameLemmas.{name-none}
@@ -38,7 +38,7 @@ root_expression-text e is = rw (spaced-to (expression false) (expression_text e 
 whole_path : (input : List ℕ) (p : List Step) → past is_space input ≡ input → (root_expression </> plain_path) input ≡ Some (p, []) →
     json_path input ≡ Some p
 unfolding json_path
-whole_path input p no_space h = ap (λ (o : Outcome (List Step)). whole o) (spaced-reads (root_expression </> plain_path) input p []
+whole_path input p no_space h = ap (λ (o : Parsed (List Step)). all_consuming o) (spaced-reads (root_expression </> plain_path) input p []
     (rw no_space h))
 
 path-of_expression : (e : Expression) → IsCondition false e → json_path (path_text (whole_expression e ∷ [])) ≡ Some (whole_expression
@@ -154,7 +154,7 @@ leading (s ∷ ss) are = go (leading ss are.1) (inner_or_filter s (flat_map step
         found = s ∷ more.found;
         after = more.after;
         reads = repeat-goes spaced_inner (step_text s ++ tail) s tail here (omega (arith, length-append (step_text s) tail))
-            ∙ ap (outcome_map (λ (others : List Step). s ∷ others)) more.reads;
+            ∙ ap (parsed_map (λ (others : List Step). s ∷ others)) more.reads;
         ends = more.ends;
       }
   go more (inr question) =
@@ -219,7 +219,7 @@ path_steps-text (s ∷ ss) are =
     let some : 0 < length (step_text s) = begins-some is_step_start (step_text s) (begins-step s [] are.0) in
     repeat-goes path_step (step_text s ++ flat_map step_text ss) (settled_step s) (flat_map step_text ss)
     (path_step-text s ss are.0 are.1) (omega (arith, length-append (step_text s) (flat_map step_text ss)))
-    ∙ ap (outcome_map (λ (others : List Step). settled_step s ∷ others)) (path_steps-text ss are.1)
+    ∙ ap (parsed_map (λ (others : List Step). settled_step s ∷ others)) (path_steps-text ss are.1)
 
 plain_path-root : (ss : List Step) → Each IsPathStep ss → plain_path (36 ∷ flat_map step_text ss) ≡ Some (root ∷ map settled_step ss, [])
 unfolding plain_path front_steps first_step

@@ -24,7 +24,8 @@ pub meant_decides : (entry : Entry) (n k : ℕ) → k < n → Decides (is_meant 
 meant_decides (single place) n k h =
     let d = Decides-int_eq (pos k) (position n place) in (λ is. (h, d.0 is), λ is. d.1 is.1)
 meant_decides (slice first last) n k h =
-    let d = both_decide (int_le (position n first) (pos k)) (int_le (pos k) (position n last)) (le_decides (position n first) (pos k)) (le_decides (pos k) (position n last)) in
+    let d = both_decide (int_le (position n first) (pos k)) (int_le (pos k) (position n last)) (le_decides (position n first) (pos k))
+    (le_decides (pos k) (position n last)) in
     (λ is. let b = d.0 is in (h, b.0, b.1), λ b. d.1 (b.1, b.2))
 
 not_meant : (entry : Entry) (n k : ℕ) (b : Bool) → is_meant n entry k ≡ b → (b ≡ true → ⊥) → is_meant n entry k ≡ false
@@ -96,7 +97,8 @@ picked_between entry ts start end h k meant =
     (λ i low high. let short : i < length ts = omega arith in (meant_decides entry (length ts) i short).1 ((meant i short).0 (low, high)))
     (λ i high. let short : i < length ts = omega arith in
     not_meant entry (length ts) i _ refl (λ is. let b = (meant i short).1 ((meant_decides entry (length ts) i short).0 is) in absurd (omega (arith, b.0))))
-    (λ i low short. not_meant entry (length ts) i _ refl (λ is. let b = (meant i short).1 ((meant_decides entry (length ts) i short).0 is) in absurd (omega (arith, b.1))))
+    (λ i low short. not_meant entry (length ts) i _ refl
+    (λ is. let b = (meant i short).1 ((meant_decides entry (length ts) i short).0 is) in absurd (omega (arith, b.1))))
 
 -- ---- related lists, cut at the same places
 
@@ -129,7 +131,8 @@ module _ {A B : Type 0} (R : A → B → Type 0) where
 pub get_first : {B : Type 0} (ts : List B) (first : B) (others : List B) (k : ℕ) → ts ≡ first ∷ others → k ≡ 0 → slice_get ts k ≡ Some first
 get_first ts first others k whole none = rw (whole, none) refl
 
-pub get_further : {B : Type 0} (ts : List B) (first : B) (others : List B) (k : ℕ) → ts ≡ first ∷ others → (k ≡ 0 → ⊥) → slice_get others (k - 1) ≡ slice_get ts k
+pub get_further : {B : Type 0} (ts : List B) (first : B) (others : List B) (k : ℕ) → ts ≡ first ∷ others → (k ≡ 0 → ⊥)
+    → slice_get others (k - 1) ≡ slice_get ts k
 get_further ts first others k whole later = rw whole (go k later)
   where
     go : (j : ℕ) → (j ≡ 0 → ⊥) → slice_get others (j - 1) ≡ slice_get (first ∷ others) j

@@ -1,6 +1,6 @@
 -- What an expression says as a predicate, by its kind.
 use Rattle.std.proofs.Common.{◌≡◌, List, [], ◌∷◌, ◌++◌, Option, Some, None, Ok, Err, refl, ap, ◌∙◌}
-use Rattle.jsonb_doc.specs.Answer.{Outcome, with_value, joined}
+use Rattle.jsonb_doc.specs.Answer.{Outcome, and_then, try_flat_map}
 use Rattle.jsonb_doc.specs.Arithmetic.{Operation, calculated, negated}
 use Rattle.jsonb_doc.specs.Number.{Number}
 use Rattle.jsonb_doc.specs.Tree.{Tree}
@@ -20,59 +20,62 @@ nothing_said ts = Ok None
 
 -- arithmetic says nothing, every other operator its truth
 abbrev pub binary_predicate : Mode → Option Operation → BinaryOp → Expression → Expression → Tree → Outcome Truth
-binary_predicate mode (Some arithmetic) op l r top = with_value (calculation arithmetic (operand_values mode l top top) (operand_values mode r top top)) nothing_said
+binary_predicate mode (Some arithmetic) op l r top = and_then
+    (calculation arithmetic (operand_values mode l top top) (operand_values mode r top top)) nothing_said
 binary_predicate mode None op l r top = truth mode (binary op l r) top top
 
 abbrev pub predicate_of : Mode → Expression → Tree → Outcome Truth
 predicate_of mode (binary op l r) top = binary_predicate mode (operation op) op l r top
 predicate_of mode (exists steps) top = truth mode (exists steps) top top
 predicate_of mode (value l) top = Ok None
-predicate_of mode e top = with_value (expression_meaning mode e top) nothing_said
+predicate_of mode e top = and_then (expression_meaning mode e top) nothing_said
 
 -- a truth is said by its list
-truth_said : (o : Outcome Truth) → with_value (truth_list o) said ≡ o
+truth_said : (o : Outcome Truth) → and_then (truth_list o) said ≡ o
 truth_said (Ok (Some b)) = refl
 truth_said (Ok None) = refl
 truth_said (Err e) = refl
 
 -- numbers say nothing
-number_said : (o : Outcome Number) → with_value (number_list o) said ≡ with_value (number_list o) nothing_said
+number_said : (o : Outcome Number) → and_then (number_list o) said ≡ and_then (number_list o) nothing_said
 number_said (Ok n) = refl
 number_said (Err e) = refl
 
-two_said : (op : Operation) (ls rs : List Value) → with_value (two_numbers op ls rs) said ≡ with_value (two_numbers op ls rs) nothing_said
+two_said : (op : Operation) (ls rs : List Value) → and_then (two_numbers op ls rs) said ≡ and_then (two_numbers op ls rs) nothing_said
 two_said op (number m ∷ []) (number n ∷ []) = number_said (calculated op m n)
 two_said op _ _ = refl
 
-calculation_said : (op : Operation) (l r : Outcome (List Value)) → with_value (calculation op l r) said ≡ with_value (calculation op l r) nothing_said
+calculation_said : (op : Operation) (l r : Outcome (List Value)) → and_then (calculation op l r) said ≡ and_then (calculation op l r) nothing_said
 calculation_said op (Err e) r = refl
 calculation_said op (Ok ls) (Err e) = refl
 calculation_said op (Ok ls) (Ok rs) = two_said op ls rs
 
 -- the numbers behind signs: the first of them decides that no truth stands alone
 front_said : (o : Outcome Number) (back : Outcome (List Tree)) →
-    with_value (with_value (number_list o) (λ front. with_value back (λ ts. Ok (front ++ ts)))) said
-    ≡ with_value (with_value (number_list o) (λ front. with_value back (λ ts. Ok (front ++ ts)))) nothing_said
+    and_then (and_then (number_list o) (λ front. and_then back (λ ts. Ok (front ++ ts)))) said
+    ≡ and_then (and_then (number_list o) (λ front. and_then back (λ ts. Ok (front ++ ts)))) nothing_said
 front_said (Err e) back = refl
 front_said (Ok n) (Err e) = refl
 front_said (Ok n) (Ok []) = refl
 front_said (Ok n) (Ok (t ∷ ts)) = refl
 
-joined_said : (op : UnaryOp) (ns : List Number) → with_value (joined (signed_number op) ns) said ≡ with_value (joined (signed_number op) ns) nothing_said
+joined_said : (op : UnaryOp) (ns : List Number)
+    → and_then (try_flat_map (signed_number op) ns) said ≡ and_then (try_flat_map (signed_number op) ns) nothing_said
 joined_said op [] = refl
-joined_said plus (n ∷ ns) = front_said (Ok n) (joined (signed_number plus) ns)
-joined_said minus (n ∷ ns) = front_said (negated n) (joined (signed_number minus) ns)
+joined_said plus (n ∷ ns) = front_said (Ok n) (try_flat_map (signed_number plus) ns)
+joined_said minus (n ∷ ns) = front_said (negated n) (try_flat_map (signed_number minus) ns)
 
-signs_said : (op : UnaryOp) (o : Outcome (List Number)) → with_value (with_value o (joined (signed_number op))) said ≡ with_value (with_value o (joined (signed_number op))) nothing_said
+signs_said : (op : UnaryOp) (o : Outcome (List Number))
+    → and_then (and_then o (try_flat_map (signed_number op))) said ≡ and_then (and_then o (try_flat_map (signed_number op))) nothing_said
 signs_said op (Ok ns) = joined_said op ns
 signs_said op (Err e) = refl
 
-unary_said : (op : UnaryOp) (o : Outcome (List Value)) → with_value (with_value o (each_signed op)) said ≡ with_value (with_value o (each_signed op)) nothing_said
+unary_said : (op : UnaryOp) (o : Outcome (List Value)) → and_then (and_then o (each_signed op)) said ≡ and_then (and_then o (each_signed op)) nothing_said
 unary_said op (Ok vs) = signs_said op (all_numbers vs)
 unary_said op (Err e) = refl
 
 binary_said : (mode : Mode) (o : Option Operation) (op : BinaryOp) (l r : Expression) (top : Tree) →
-    with_value (binary_meaning mode o op l r top) said ≡ binary_predicate mode o op l r top
+    and_then (binary_meaning mode o op l r top) said ≡ binary_predicate mode o op l r top
 binary_said mode (Some arithmetic) op l r top = calculation_said arithmetic (operand_values mode l top top) (operand_values mode r top top)
 binary_said mode None op l r top = truth_said (truth mode (binary op l r) top top)
 

@@ -2,26 +2,26 @@
 use Rattle.std.proofs.Common.{◌≡◌, List, [], ◌∷◌, ◌++◌, Some, None, Result, Ok, Err, IsOkAnd, refl, inl, inr, subst, sym, ap, ◌∙◌, append_assoc, append-nil, ◌⊎◌, ℕ, ◌+◌, ◌<◌, ◌≤◌, length, drop, get_or, add-one, flat_map}
 use Rattle.std.proofs.Math.Seq.{drop-cons}
 use Rattle.std.proofs.Math.ListN.{drop_of_length-le}
-use Rattle.jsonb_doc.specs.Answer.{Outcome, with_value, joined, Gives, WantsMemory}
+use Rattle.jsonb_doc.specs.Answer.{Outcome, and_then, try_flat_map, Gives, IsOutOfMemory}
 use Rattle.jsonb_doc.specs.declared.error.Error.{Error}
 use Rattle.jsonb_doc.specs.declared.error.Error.TheVariants.{OutOfMemory}
 use Rattle.jsonb_doc.specs.declared.spot.Spot.{Spot}
 use Rattle.jsonb_doc.specs.declared.spot_iter.SpotIter.{SpotIter}
 use Rattle.jsonb_doc.specs.Tree.{Tree}
-use Rattle.jsonb_doc.specs.Spots.{Marks, HasSpotsLeft, GivesSpot}
+use Rattle.jsonb_doc.specs.Spots.{Locates, HasSpotsLeft, GivesSpot}
 use Rattle.jsonb_doc.proofs.SpotsTaken.{taken_spot, no_refusal, no_spots_left}
 use Rattle.jsonb.specs.Related.{AllRelated}
 
 -- a list in front of a list, or its refusal
 abbrev pub behind : {C : Type 0} → List C → Outcome (List C) → Outcome (List C)
-behind front o = with_value o (λ back. Ok (front ++ back))
+behind front o = and_then o (λ back. Ok (front ++ back))
 
 pub record Progress {B C : Type 0} (Left : List B → Type 0) (Done : List C → Type 0) (f : B → Outcome (List C)) (outcome : Outcome (List C)) : Type 0 where
   pub rest : List B
   pub given : List C
   pub left : Left rest
   pub done : Done given
-  pub is : outcome ≡ behind given (joined f rest)
+  pub is : outcome ≡ behind given (try_flat_map f rest)
 
 -- what is left is a first one, of which P holds, and others
 pub record First {B : Type 0} (Others : List B → Type 0) (P : B → Type 0) (rest : List B) : Type 0 where
@@ -40,42 +40,55 @@ behind-behind a b (Ok x) = ap Ok (sym (append_assoc a b x))
 behind-behind a b (Err e) = refl
 
 -- parts that are never refused
-pub joined_total : {B C : Type 0} (g : B → List C) (ts : List B) → joined (λ t. Ok (g t)) ts ≡ Ok (flat_map g ts)
+pub joined_total : {B C : Type 0} (g : B → List C) (ts : List B) → try_flat_map (λ t. Ok (g t)) ts ≡ Ok (flat_map g ts)
 joined_total g [] = refl
-joined_total g (t ∷ ts) = ap (λ o. with_value o (λ back. Ok (g t ++ back))) (joined_total g ts)
+joined_total g (t ∷ ts) = ap (λ o. and_then o (λ back. Ok (g t ++ back))) (joined_total g ts)
 
 module _ {B C : Type 0} (f : B → Outcome (List C)) where
-  pub at_start : (Left : List B → Type 0) (Done : List C → Type 0) (ts : List B) → Left ts → Done [] → Progress Left Done f (joined f ts)
-  at_start Left Done ts l d = record { rest = ts; given = []; left = l; done = d; is = behind-nil (joined f ts) }
+  pub at_start : (Left : List B → Type 0) (Done : List C → Type 0) (ts : List B) → Left ts → Done [] → Progress Left Done f (try_flat_map f ts)
+  at_start Left Done ts l d = record { rest = ts; given = []; left = l; done = d; is = behind-nil (try_flat_map f ts) }
 
   -- one turn
   pub one_more : (Left Left' : List B → Type 0) (Done Done' : List C → Type 0) (P : B → Type 0) (outcome : Outcome (List C)) → Progress Left Done f outcome →
-      ((rest : List B) → Left rest → First Left' P rest) → ((t : B) (before : List C) → P t → Done before → IsOkAnd (f t) (λ us. Done' (before ++ us))) → Progress Left' Done' f outcome
-  one_more Left Left' Done Done' P outcome p first one = let k = first p.rest p.left in added p.given k.first k.others (f k.first) refl k.left (one k.first p.given k.holds p.done) (p.is ∙ ap (λ l. behind p.given (joined f l)) k.whole)
+      ((rest : List B) → Left rest → First Left' P rest) → ((t : B) (before : List C) → P t → Done before → IsOkAnd (f t) (λ us. Done' (before ++ us)))
+      → Progress Left' Done' f outcome
+  one_more Left Left' Done Done' P outcome p first one = let k = first p.rest p.left in added p.given k.first k.others (f k.first) refl k.left
+      (one k.first p.given k.holds p.done) (p.is ∙ ap (λ l. behind p.given (try_flat_map f l)) k.whole)
     where
-      added : (given : List C) (t : B) (rest : List B) (o : Outcome (List C)) → f t ≡ o → Left' rest → IsOkAnd o (λ us. Done' (given ++ us)) → outcome ≡ behind given (joined f (t ∷ rest)) → Progress Left' Done' f outcome
+      added : (given : List C) (t : B) (rest : List B) (o : Outcome (List C)) → f t ≡ o → Left' rest → IsOkAnd o (λ us. Done' (given ++ us))
+          → outcome ≡ behind given (try_flat_map f (t ∷ rest)) → Progress Left' Done' f outcome
       added given t rest (Ok us) e l h is = record {
         rest = rest;
         given = given ++ us;
         left = l;
         done = h;
-        is = is ∙ ap (λ o. behind given (with_value o (λ front. behind front (joined f rest)))) e ∙ behind-behind given us (joined f rest);
+        is = is ∙ ap (λ o. behind given (and_then o (λ front. behind front (try_flat_map f rest)))) e ∙ behind-behind given us (try_flat_map f rest);
       }
       added given t rest (Err e) eq l h is = absurd h
 
   -- a refusal
-  pub refused_in : {G : Type 0} (Q : G → List C → Type 0) (Left Left' : List B → Type 0) (Done Done' : List C → Type 0) (P : B → Type 0) (e : Error) (outcome : Outcome (List C)) → Progress Left Done f outcome →
-      ((rest : List B) → Left rest → First Left' P rest) → ((t : B) (before : List C) → P t → Done before → Gives (λ (_ : Unit {0}) us. Done' (before ++ us)) WantsMemory (Err e) (f t)) → Gives Q WantsMemory (Err e) outcome
+  pub refused_in : {G : Type 0} (Q : G → List C → Type 0) (Left Left' : List B → Type 0) (Done Done' : List C → Type 0) (P : B → Type 0) (e : Error)
+      (outcome : Outcome (List C)) → Progress Left Done f outcome →
+      ((rest : List B) → Left rest → First Left' P rest)
+      → ((t : B) (before : List C) → P t → Done before → Gives (λ (_ : Unit {0}) us. Done' (before ++ us)) IsOutOfMemory (Err e) (f t))
+      → Gives Q IsOutOfMemory (Err e) outcome
   refused_in Q Left Left' Done Done' P e outcome p first one =
-      let k = first p.rest p.left in go k.first k.others ((one k.first p.given k.holds p.done).err) (p.is ∙ ap (λ l. behind p.given (joined f l)) k.whole)
+      let k = first p.rest p.left in go k.first k.others ((one k.first p.given k.holds p.done).err) (p.is ∙ ap (λ l. behind p.given (try_flat_map f l)) k.whole)
     where
-      go : (t : B) (rest : List B) → (e ≡ OutOfMemory) ⊎ (f t ≡ Err e) → outcome ≡ behind p.given (joined f (t ∷ rest)) → Gives Q WantsMemory (Err e) outcome
+      go : (t : B) (rest : List B) → (e ≡ OutOfMemory) ⊎ (f t ≡ Err e) → outcome ≡ behind p.given (try_flat_map f (t ∷ rest))
+          → Gives Q IsOutOfMemory (Err e) outcome
       go t rest (inl memory) is = record { ok = tt; err = inl memory }
-      go t rest (inr refusal) is = record { ok = tt; err = inr (is ∙ ap (λ v. behind p.given (with_value v (λ front. behind front (joined f rest)))) refusal) }
+      go t rest (inr refusal) is = record {
+        ok = tt;
+        err = inr
+            (is ∙ ap (λ v. behind p.given (and_then v (λ front. behind front (try_flat_map f rest)))) refusal);
+      }
 
   -- the end
-  pub at_end : (Left : List B → Type 0) (Done : List C → Type 0) (outcome : Outcome (List C)) → Progress Left Done f outcome → ((rest : List B) → Left rest → rest ≡ []) → IsOkAnd outcome Done
-  at_end Left Done outcome p none = subst (λ o. IsOkAnd o Done) (sym (p.is ∙ ap (λ l. behind p.given (joined f l)) (none p.rest p.left) ∙ ap Ok (append-nil p.given))) p.done
+  pub at_end : (Left : List B → Type 0) (Done : List C → Type 0) (outcome : Outcome (List C)) → Progress Left Done f outcome
+      → ((rest : List B) → Left rest → rest ≡ []) → IsOkAnd outcome Done
+  at_end Left Done outcome p none = subst (λ o. IsOkAnd o Done)
+      (sym (p.is ∙ ap (λ l. behind p.given (try_flat_map f l)) (none p.rest p.left) ∙ ap Ok (append-nil p.given))) p.done
 
 -- parts that are never refused, behind what there was
 pub total_start : {B C : Type 0} (g : B → List C) (Left : List B → Type 0) (Done : List C → Type 0) (ts : List B) (before : List C) → Left ts → Done before →
@@ -83,11 +96,12 @@ pub total_start : {B C : Type 0} (g : B → List C) (Left : List B → Type 0) (
 total_start g Left Done ts before l d = record { rest = ts; given = before; left = l; done = d; is = sym (ap (behind before) (joined_total g ts)) }
 
 -- parts that are one item each
-pub joined_singles : {B : Type 0} (ts : List B) → joined (λ t. Ok (t ∷ [])) ts ≡ Ok ts
+pub joined_singles : {B : Type 0} (ts : List B) → try_flat_map (λ t. Ok (t ∷ [])) ts ≡ Ok ts
 joined_singles [] = refl
-joined_singles (t ∷ ts) = ap (λ o. with_value o (λ back. Ok (t ∷ back))) (joined_singles ts)
+joined_singles (t ∷ ts) = ap (λ o. and_then o (λ back. Ok (t ∷ back))) (joined_singles ts)
 
-pub singles_start : {B : Type 0} (Left Done : List B → Type 0) (ts before : List B) → Left ts → Done before → Progress Left Done (λ t. Ok (t ∷ [])) (Ok (before ++ ts))
+pub singles_start : {B : Type 0} (Left Done : List B → Type 0) (ts before : List B) → Left ts → Done before
+    → Progress Left Done (λ t. Ok (t ∷ [])) (Ok (before ++ ts))
 singles_start Left Done ts before l d = record { rest = ts; given = before; left = l; done = d; is = sym (ap (behind before) (joined_singles ts)) }
 
 -- ---- over a list
@@ -97,7 +111,8 @@ abbrev pub no_spot : Spot
 no_spot = record { kind = 0; start = 0; end = 0 }
 
 module _ {A B : Type 0} (R : A → B → Type 0) (xs : List A) where
-  pub list_first : (i : ℕ) (d : A) → i < length xs → (rest : List B) → AllRelated R (drop i xs) rest → First (AllRelated R (drop (i + 1) xs)) (R (get_or xs i d)) rest
+  pub list_first : (i : ℕ) (d : A) → i < length xs → (rest : List B) → AllRelated R (drop i xs) rest
+      → First (AllRelated R (drop (i + 1) xs)) (R (get_or xs i d)) rest
   list_first i d h rest a = go rest (subst (λ l. AllRelated R l rest) (drop-cons xs i d h ∙ ap (λ n. get_or xs i d ∷ drop n xs) (sym (add-one i))) a)
     where
       go : (rest : List B) → AllRelated R (get_or xs i d ∷ drop (i + 1) xs) rest → First (AllRelated R (drop (i + 1) xs)) (R (get_or xs i d)) rest
@@ -113,7 +128,8 @@ module _ {A B : Type 0} (R : A → B → Type 0) (xs : List A) where
 
 -- ---- over the children of an item
 
-pub spot_first : (bytes : List ℕ) (it it' : SpotIter) (r : Result Spot Error) (spot : Spot) → r ≡ Ok spot → GivesSpot it (Some r) it' → (rest : List Tree) → HasSpotsLeft bytes it rest → First (HasSpotsLeft bytes it') (Marks bytes spot) rest
+pub spot_first : (bytes : List ℕ) (it it' : SpotIter) (r : Result Spot Error) (spot : Spot) → r ≡ Ok spot → GivesSpot it (Some r) it' → (rest : List Tree)
+    → HasSpotsLeft bytes it rest → First (HasSpotsLeft bytes it') (Locates bytes spot) rest
 spot_first bytes it it' r spot is g rest l =
     let k = taken_spot bytes rest r spot it' is (g.takes bytes rest l) in
     record { first = k.first; others = k.others; whole = k.whole; holds = k.marks; left = k.left }
@@ -122,6 +138,7 @@ pub spot_end : (bytes : List ℕ) (it it' : SpotIter) → GivesSpot it None it' 
 spot_end bytes it it' g rest l = no_spots_left bytes rest it' (g.takes bytes rest l)
 
 -- an iterator of bytes that decode refuses nothing
-pub spot_refused : {G : Type 0} {C : Type 0} (f : Tree → Outcome (List C)) (Done : List C → Type 0) (outcome : Outcome (List C)) (bytes : List ℕ) (it it' : SpotIter) (r : Result Spot Error) (e : Error) →
+pub spot_refused : {G : Type 0} {C : Type 0} (f : Tree → Outcome (List C)) (Done : List C → Type 0) (outcome : Outcome (List C)) (bytes : List ℕ)
+    (it it' : SpotIter) (r : Result Spot Error) (e : Error) →
     r ≡ Err e → GivesSpot it (Some r) it' → Progress (HasSpotsLeft bytes it) Done f outcome → G
 spot_refused f Done outcome bytes it it' r e is g p = absurd (no_refusal bytes p.rest r e it' is (g.takes bytes p.rest p.left))

@@ -1,6 +1,6 @@
 -- Paths of the same parts: a symmetric and transitive relation.
 use Rattle.std.proofs.Common.{List, Option, Some, None, refl, sym, ◌∙◌, subst}
-use Rattle.jsonb_doc.specs.EqualLaws.{is_equal_equiv, is_equal-IsEqual}
+use Rattle.jsonb_doc.specs.Proofs.Equality.{is_equal_equiv, is_equal-IsEqual}
 use Rattle.jsonb_doc.specs.Order.{IsEqual}
 use Rattle.jsonb_doc.specs.Tree.{Tree}
 use Rattle.jsonb.specs.PathEquality.{AreEqualItems, SameLiteral, SameStep, SameSteps, SameExpression, SamePath}
@@ -50,7 +50,8 @@ mutual
   expression-symmetric : (e f : Expression) → SameExpression e f → SameExpression f e
   expression-symmetric (paths ss) (paths ts) h = steps-symmetric ss ts h
   expression-symmetric (value l) (value m) h = literal-symmetric l m h
-  expression-symmetric (binary op left right) (binary op' left' right') h = (sym h.0, expression-symmetric left left' h.1, expression-symmetric right right' h.2)
+  expression-symmetric (binary op left right) (binary op' left' right') h =
+      (sym h.0, expression-symmetric left left' h.1, expression-symmetric right right' h.2)
   expression-symmetric (unary op e) (unary op' f) h = (sym h.0, expression-symmetric e f h.1)
   expression-symmetric (exists ss) (exists ts) h = steps-symmetric ss ts h
   expression-symmetric e f h = absurd h

@@ -5,9 +5,9 @@ use Rattle.std.proofs.Math.ListN.{drop_of_length-le}
 use Rattle.jsonb_doc.specs.Tree.{Tree}
 use Rattle.jsonb_doc.specs.Payload.{Form}
 use Rattle.jsonb_doc.specs.Limits.{IsTooLarge}
-use Rattle.jsonb_doc.specs.Spots.{Marks}
+use Rattle.jsonb_doc.specs.Spots.{Locates}
 use Rattle.jsonb_doc.specs.ArrayBuilder.{Parts, no_parts, HoldsElements}
-use Rattle.jsonb_doc.specs.Answer.{WantsRoom}
+use Rattle.jsonb_doc.specs.Answer.{IsOutOfMemoryOrTooLarge, IsOutOfMemory, ◌or◌when◌}
 use Rattle.jsonb_doc.specs.declared.error.Error.{Error}
 use Rattle.jsonb_doc.specs.declared.spot.Spot.{Spot}
 use Rattle.jsonb_doc.proofs.LimitLemmas.{array_too_large-element}
@@ -15,9 +15,10 @@ use Rattle.jsonb.specs.declared.selector.selected.MadeItem.{MadeItem}
 use Rattle.std.specs.Prelude.{Vec}
 use Rattle.std.specs.declared.alloc.Global.{Global}
 use Rattle.jsonb.specs.Related.{AllRelated}
-use Rattle.jsonb.specs.Selected.{selected_len}
-use Rattle.jsonb.specs.Selection.{IsAt, IsMadeItem, Selects, node_spots}
-use Rattle.jsonb.specs.SelectorAnswers.{HasTooLarge, LacksRoom, first_of, value_of, array_of}
+use Rattle.jsonb.specs.Private.Selected.{selected_len}
+use Rattle.jsonb.specs.Private.Selection.{IsAt, IsMadeItem, AreSelected, node_spots}
+use Rattle.jsonb.specs.SelectorAnswers.{HasTooLarge, first_item, single_or_array, array_of}
+use Rattle.jsonb_doc.specs.declared.error.Error.TheVariants.{TooLarge}
 use Rattle.jsonb.specs.declared.selector.document.Document.{Document}
 use Rattle.jsonb.specs.declared.selector.node_list.NodeList.{NodeList}
 use Rattle.jsonb.specs.declared.selector.selected.Selected.{Selected}
@@ -47,19 +48,19 @@ related_more R (u ∷ xs) (v ∷ ys) x y h r = (h.0, related_more R xs ys x y h.
 
 -- ---- what is selected
 
-pub Selects-length : (form : Form) (document : Document) (s : Selected) (ts : List Tree) → Selects form document s ts → selected_len s ≡ length ts
+pub Selects-length : (form : Form) (document : Document) (s : Selected) (ts : List Tree) → AreSelected form document s ts → selected_len s ≡ length ts
 Selects-length form document (selected.Nodes spots) ts h = related_length (IsAt document) (node_spots spots) ts h
 Selects-length form document (selected.Items parts) ts h = related_length (IsMadeItem form) parts.items ts h
 
 -- the spot at a position, and the part
 pub Selects-spot : (form : Form) (document : Document) (s : Selected) (found : NodeList) (spots : List Spot) (ts : List Tree) (k : ℕ) (d : Spot) (e : Tree)
-    → s ≡ selected.Nodes found → spots ≡ node_spots found → k < selected_len s → Selects form document s ts
-    → Marks document.bytes.now (get_or spots k d) (get_or ts k e)
+    → s ≡ selected.Nodes found → spots ≡ node_spots found → k < selected_len s → AreSelected form document s ts
+    → Locates document.bytes.now (get_or spots k d) (get_or ts k e)
 Selects-spot form document s found spots ts k d e is same short h =
     rw same (related_at (IsAt document) (node_spots found) ts k d e (rw is at short) (rw is at h))
 
 pub Selects-part : (form : Form) (document : Document) (s : Selected) (parts : Vec MadeItem Global) (ts : List Tree) (k : ℕ) (d : MadeItem) (e : Tree)
-    → s ≡ selected.Items parts → k < selected_len s → Selects form document s ts → IsMadeItem form (get_or parts.items k d) (get_or ts k e)
+    → s ≡ selected.Items parts → k < selected_len s → AreSelected form document s ts → IsMadeItem form (get_or parts.items k d) (get_or ts k e)
 Selects-part form document s parts ts k d e is short h =
     related_at (IsMadeItem form) parts.items ts k d e (rw is at short) (rw is at h)
 
@@ -83,31 +84,32 @@ too_large_at form (t ∷ ts) zero e short h = inl h
 too_large_at form (t ∷ ts) (suc k) e short h = inr (too_large_at form ts k e (omega (arith, short)) h)
 
 -- at most one tree is its own first
-pub value_few : (ts : List Tree) → length ts ≤ 1 → value_of ts ≡ first_of ts
+pub value_few : (ts : List Tree) → length ts ≤ 1 → single_or_array ts ≡ first_item ts
 value_few [] h = refl
 value_few (t ∷ []) h = refl
 value_few (t ∷ u ∷ ts) h = absurd (omega (arith, h))
 
-pub value_many : (ts : List Tree) → 1 < length ts → value_of ts ≡ Some (array_of ts)
+pub value_many : (ts : List Tree) → 1 < length ts → single_or_array ts ≡ Some (array_of ts)
 value_many [] h = absurd (omega (arith, h))
 value_many (t ∷ []) h = absurd (omega (arith, h))
 value_many (t ∷ u ∷ ts) h = refl
 
-pub first_none : (ts : List Tree) → length ts ≡ 0 → first_of ts ≡ None
+pub first_none : (ts : List Tree) → length ts ≡ 0 → first_item ts ≡ None
 first_none [] h = refl
 first_none (t ∷ ts) h = cc
 
-pub first_some : (ts : List Tree) (e : Tree) → 0 < length ts → first_of ts ≡ Some (get_or ts 0 e)
+pub first_some : (ts : List Tree) (e : Tree) → 0 < length ts → first_item ts ≡ Some (get_or ts 0 e)
 first_some [] e h = absurd (omega (arith, h))
 first_some (t ∷ ts) e h = refl
 
 -- the refusal of a part is one of the array that it goes into
-pub part_refused : (form : Form) (ts : List Tree) (t u : Tree) (e : Error) → t ≡ u → WantsRoom form u e → WantsRoom form (array_of (ts ++ t ∷ [])) e
+pub part_refused : (form : Form) (ts : List Tree) (t u : Tree) (e : Error) → t ≡ u → IsOutOfMemoryOrTooLarge form u e
+    → IsOutOfMemoryOrTooLarge form (array_of (ts ++ t ∷ [])) e
 part_refused form ts t u e is (inl memory) = inl memory
 part_refused form ts t u e is (inr (large, past)) = inr (large, array_too_large-element form ts [] t (rw is past))
 
 -- the refusal of a part is one of the list
-pub list_refused : (form : Form) (ts : List Tree) (k : ℕ) (d : Tree) (e : Error) → k < length ts → WantsRoom form (get_or ts k d) e
-    → LacksRoom (HasTooLarge form) (Ok ts) e
+pub list_refused : (form : Form) (ts : List Tree) (k : ℕ) (d : Tree) (e : Error) → k < length ts → IsOutOfMemoryOrTooLarge form (get_or ts k d) e
+    → (IsOutOfMemory or TooLarge when HasTooLarge form ts) e
 list_refused form ts k d e short (inl memory) = inl memory
 list_refused form ts k d e short (inr (large, past)) = inr (large, too_large_at form ts k d short past)

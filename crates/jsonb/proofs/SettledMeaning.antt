@@ -3,8 +3,8 @@ use Rattle.std.proofs.Common.{◌≡◌, ℕ, zero, suc, List, [], ◌∷◌, Op
 use Rattle.std.specs.Prelude.{ℤ, pos, negsuc, IfSome}
 use Rattle.std.specs.declared.cmp.Ordering.TheVariants.{Equal}
 use Rattle.std.proofs.lemmas.Cmp.{tied_itself}
-use Rattle.jsonb_doc.specs.NumberOrder.{number_cmp_total}
-use Rattle.jsonb_doc.specs.Answer.{Outcome, with_value, joined}
+use Rattle.jsonb_doc.specs.Proofs.NumberOrder.{number_cmp_total}
+use Rattle.jsonb_doc.specs.Answer.{Outcome, and_then, try_flat_map}
 use Rattle.jsonb_doc.specs.Arithmetic.{Operation, is_decimal, calculated, negated}
 use Rattle.jsonb_doc.specs.Number.{Variant, int64, uint64, decimal64, decimal128, Number, number_cmp}
 use Rattle.jsonb_doc.specs.Order.{IsEqual, AreEqual, PairsAreEqual}
@@ -61,7 +61,7 @@ abbrev mutual
 
 -- the list with each tree settled, or the same refusal
 abbrev settled_outcome : Outcome (List Tree) → Outcome (List Tree)
-settled_outcome o = with_value o (λ ts. Ok (map settled_tree ts))
+settled_outcome o = and_then o (λ ts. Ok (map settled_tree ts))
 
 -- ---- comparisons see no variant
 
@@ -92,11 +92,13 @@ pair-settled : (op : BinaryOp) (v w : Value) → pair_truth op (settled_value v)
 pair-settled starts_with_op v w = starts_with_truth-settled v w
 pair-settled _ v w = rw (raw-settled v, raw-settled w, order-settled v w) refl
 
-row-settled : (op : BinaryOp) (v : Value) (ws : List Value) → map (λ w. pair_truth op (settled_value v) w) (map settled_value ws) ≡ map (λ w. pair_truth op v w) ws
+row-settled : (op : BinaryOp) (v : Value) (ws : List Value)
+    → map (λ w. pair_truth op (settled_value v) w) (map settled_value ws) ≡ map (λ w. pair_truth op v w) ws
 row-settled op v [] = refl
 row-settled op v (w ∷ ws) = rw (pair-settled op v w, row-settled op v ws) refl
 
-pairs-settled : (op : BinaryOp) (vs ws : List Value) → flat_map (λ v. map (λ w. pair_truth op v w) (map settled_value ws)) (map settled_value vs) ≡ flat_map (λ v. map (λ w. pair_truth op v w) ws) vs
+pairs-settled : (op : BinaryOp) (vs ws : List Value)
+    → flat_map (λ v. map (λ w. pair_truth op v w) (map settled_value ws)) (map settled_value vs) ≡ flat_map (λ v. map (λ w. pair_truth op v w) ws) vs
 pairs-settled op [] ws = refl
 pairs-settled op (v ∷ vs) ws = rw (row-settled op v ws, pairs-settled op vs ws) refl
 
@@ -105,21 +107,24 @@ compare-settled op vs ws = ap first_decisive (pairs-settled op vs ws)
 
 -- the values with each settled
 abbrev settled_values : Outcome (List Value) → Outcome (List Value)
-settled_values o = with_value o (λ vs. Ok (map settled_value vs))
+settled_values o = and_then o (λ vs. Ok (map settled_value vs))
 
 -- a comparison of the values of both sides
 abbrev compared : BinaryOp → Outcome (List Value) → Outcome (List Value) → Outcome Truth
-compared op left right = with_value left (λ ls. with_value right (λ rs. Ok (compare op ls rs)))
+compared op left right = and_then left (λ ls. and_then right (λ rs. Ok (compare op ls rs)))
 
 compared-settled : (op : BinaryOp) (l r : Outcome (List Value)) → compared op (settled_values l) (settled_values r) ≡ compared op l r
 compared-settled op (Err e) r = refl
 compared-settled op (Ok ls) (Err e) = refl
 compared-settled op (Ok ls) (Ok rs) = ap (λ (t : Truth). Ok t) (compare-settled op ls rs)
 
-same_compared : (op : BinaryOp) (l l' r r' : Outcome (List Value)) → settled_values l' ≡ settled_values l → settled_values r' ≡ settled_values r → compared op l' r' ≡ compared op l r
-same_compared op l l' r r' e f = sym (compared-settled op l' r') ∙ ap (λ (o : Outcome (List Value)). compared op o (settled_values r')) e ∙ ap (λ (o : Outcome (List Value)). compared op (settled_values l) o) f ∙ compared-settled op l r
+same_compared : (op : BinaryOp) (l l' r r' : Outcome (List Value)) → settled_values l' ≡ settled_values l → settled_values r' ≡ settled_values r
+    → compared op l' r' ≡ compared op l r
+same_compared op l l' r r' e f = sym (compared-settled op l' r') ∙ ap (λ (o : Outcome (List Value)). compared op o (settled_values r')) e
+    ∙ ap (λ (o : Outcome (List Value)). compared op (settled_values l) o) f ∙ compared-settled op l r
 
-literal-settled : (l : Literal) → map settled_value (values_of_literal (literal_item (settled_literal l))) ≡ map settled_value (values_of_literal (literal_item l))
+literal-settled : (l : Literal)
+    → map settled_value (values_of_literal (literal_item (settled_literal l))) ≡ map settled_value (values_of_literal (literal_item l))
 literal-settled path.null = refl
 literal-settled (path.boolean b) = refl
 literal-settled (path.unsigned n) = refl
@@ -133,7 +138,7 @@ literal-settled (path.raw bytes) = refl
 
 -- ---- steps, operands and truths
 
-joined-same : {A B : Type 0} (f g : A → Outcome (List B)) → ((a : A) → f a ≡ g a) → (xs : List A) → joined f xs ≡ joined g xs
+joined-same : {A B : Type 0} (f g : A → Outcome (List B)) → ((a : A) → f a ≡ g a) → (xs : List A) → try_flat_map f xs ≡ try_flat_map g xs
 joined-same f g h [] = refl
 joined-same f g h (x ∷ xs) = rw (h x, joined-same f g h xs) refl
 
@@ -142,7 +147,7 @@ start-settled no_steps top item = refl
 start-settled (step current rest) top item = refl
 start-settled (step _ rest) top item = refl
 
-with-same : {A B : Type 0} (o : Outcome A) (f g : A → Outcome B) → ((a : A) → f a ≡ g a) → with_value o f ≡ with_value o g
+with-same : {A B : Type 0} (o : Outcome A) (f g : A → Outcome B) → ((a : A) → f a ≡ g a) → and_then o f ≡ and_then o g
 with-same (Ok a) f g h = h a
 with-same (Err e) f g h = refl
 
@@ -183,7 +188,7 @@ binary-truth modulo l r vl vr tl tr mode top item = refl
 steps-same : (s : Step) (ss : Steps) → StepSame s → StepsSame ss → StepsSame (step s ss)
 steps-same s ss one more mode top items =
     rw (joined-same (step_meaning mode (settled_step s) top) (step_meaning mode s top) (one mode top) items)
-    (with-same (joined (step_meaning mode s top) items) (steps_meaning mode (settled_steps ss) top) (steps_meaning mode ss top) (more mode top))
+    (with-same (try_flat_map (step_meaning mode s top) items) (steps_meaning mode (settled_steps ss) top) (steps_meaning mode ss top) (more mode top))
 
 mutual
   step_same : (s : Step) → StepSame s
@@ -202,7 +207,8 @@ mutual
   expression_same : (e : Expression) → Values e × Truths e
   expression_same (paths ss) = (path-values ss (steps_same ss), λ mode top item. refl)
   expression_same (value l) = (λ mode top item. ap (λ (vs : List Value). Ok vs) (literal-settled l), λ mode top item. refl)
-  expression_same (binary op l r) = (λ mode top item. refl, binary-truth op l r (expression_same l).0 (expression_same r).0 (expression_same l).1 (expression_same r).1)
+  expression_same (binary op l r) =
+      (λ mode top item. refl, binary-truth op l r (expression_same l).0 (expression_same r).0 (expression_same l).1 (expression_same r).1)
   expression_same (unary op e) = (λ mode top item. refl, λ mode top item. refl)
   expression_same (exists ss) = (λ mode top item. refl, exists-truth ss (steps_same ss))
 
@@ -236,29 +242,32 @@ negated-settled : (n : Number) → negated (settled_number n) ≡ negated n
 negated-settled n = rw (decimal-settled n.variant n.whole) refl
 
 -- a function of the values that sees no variant, but for those in its answer
-same_answer : (f : List Value → Outcome (List Tree)) → ((vs : List Value) → settled_outcome (f (map settled_value vs)) ≡ settled_outcome (f vs)) → (o o' : Outcome (List Value)) → settled_values o' ≡ settled_values o →
-    settled_outcome (with_value o' f) ≡ settled_outcome (with_value o f)
-same_answer f h o o' e = sym (through o') ∙ ap (λ (x : Outcome (List Value)). settled_outcome (with_value x f)) e ∙ through o where
-  through : (x : Outcome (List Value)) → settled_outcome (with_value (settled_values x) f) ≡ settled_outcome (with_value x f)
+same_answer : (f : List Value → Outcome (List Tree)) → ((vs : List Value) → settled_outcome (f (map settled_value vs)) ≡ settled_outcome (f vs))
+    → (o o' : Outcome (List Value)) → settled_values o' ≡ settled_values o →
+    settled_outcome (and_then o' f) ≡ settled_outcome (and_then o f)
+same_answer f h o o' e = sym (through o') ∙ ap (λ (x : Outcome (List Value)). settled_outcome (and_then x f)) e ∙ through o where
+  through : (x : Outcome (List Value)) → settled_outcome (and_then (settled_values x) f) ≡ settled_outcome (and_then x f)
   through (Ok vs) = h vs
   through (Err er) = refl
 
-numbers-settled : (vs : List Value) → all_numbers (map settled_value vs) ≡ with_value (all_numbers vs) (λ ns. Ok (map settled_number ns))
+numbers-settled : (vs : List Value) → all_numbers (map settled_value vs) ≡ and_then (all_numbers vs) (λ ns. Ok (map settled_number ns))
 numbers-settled [] = refl
 numbers-settled (null ∷ vs) = refl
 numbers-settled (boolean b ∷ vs) = refl
 numbers-settled (text bs ∷ vs) = refl
 numbers-settled (raw ∷ vs) = refl
 numbers-settled (number n ∷ vs) = rw (numbers-settled vs) (go (all_numbers vs)) where
-  go : (o : Outcome (List Number)) → with_value (with_value o (λ ns. Ok (map settled_number ns))) (λ ns. Ok (settled_number n ∷ ns)) ≡ with_value (with_value o (λ ns. Ok (n ∷ ns))) (λ ns. Ok (map settled_number ns))
+  go : (o : Outcome (List Number))
+      → and_then (and_then o (λ ns. Ok (map settled_number ns))) (λ ns. Ok (settled_number n ∷ ns))
+      ≡ and_then (and_then o (λ ns. Ok (n ∷ ns))) (λ ns. Ok (map settled_number ns))
   go (Ok ns) = refl
   go (Err e) = refl
 
-joined-minus : (ns : List Number) → joined (signed_number minus) (map settled_number ns) ≡ joined (signed_number minus) ns
+joined-minus : (ns : List Number) → try_flat_map (signed_number minus) (map settled_number ns) ≡ try_flat_map (signed_number minus) ns
 joined-minus [] = refl
 joined-minus (n ∷ ns) = rw (negated-settled n, joined-minus ns) refl
 
-plus_is : (ns : List Number) → joined (signed_number plus) ns ≡ Ok (map tree.number ns)
+plus_is : (ns : List Number) → try_flat_map (signed_number plus) ns ≡ Ok (map tree.number ns)
 plus_is [] = refl
 plus_is (n ∷ ns) = rw (plus_is ns) refl
 
@@ -266,12 +275,15 @@ trees-settled : (ns : List Number) → map settled_tree (map tree.number (map se
 trees-settled [] = refl
 trees-settled (n ∷ ns) = rw (settled_number-twice n, trees-settled ns) refl
 
-joined-plus : (ns : List Number) → settled_outcome (joined (signed_number plus) (map settled_number ns)) ≡ settled_outcome (joined (signed_number plus) ns)
+joined-plus : (ns : List Number)
+    → settled_outcome (try_flat_map (signed_number plus) (map settled_number ns)) ≡ settled_outcome (try_flat_map (signed_number plus) ns)
 joined-plus ns = rw (plus_is (map settled_number ns), plus_is ns, trees-settled ns) refl
 
 signed-settled : (op : UnaryOp) (vs : List Value) → settled_outcome (each_signed op (map settled_value vs)) ≡ settled_outcome (each_signed op vs)
 signed-settled op vs = rw (numbers-settled vs) (go op (all_numbers vs)) where
-  go : (op : UnaryOp) (o : Outcome (List Number)) → settled_outcome (with_value (with_value o (λ ns. Ok (map settled_number ns))) (joined (signed_number op))) ≡ settled_outcome (with_value o (joined (signed_number op)))
+  go : (op : UnaryOp) (o : Outcome (List Number))
+      → settled_outcome (and_then (and_then o (λ ns. Ok (map settled_number ns))) (try_flat_map (signed_number op)))
+      ≡ settled_outcome (and_then o (try_flat_map (signed_number op)))
   go op (Err e) = refl
   go plus (Ok ns) = joined-plus ns
   go minus (Ok ns) = ap settled_outcome (joined-minus ns)
@@ -280,9 +292,11 @@ two-settled : (op : Operation) (ls rs : List Value) → two_numbers op (map sett
 two-settled op (number m ∷ []) (number n ∷ []) = rw (calculated-settled op m n) refl
 two-settled op _ _ = refl
 
-same_calculation : (op : Operation) (l l' r r' : Outcome (List Value)) → settled_values l' ≡ settled_values l → settled_values r' ≡ settled_values r → calculation op l' r' ≡ calculation op l r
+same_calculation : (op : Operation) (l l' r r' : Outcome (List Value)) → settled_values l' ≡ settled_values l → settled_values r' ≡ settled_values r
+    → calculation op l' r' ≡ calculation op l r
 same_calculation op l l' r r' e f =
-    sym (through l' r') ∙ ap (λ (o : Outcome (List Value)). calculation op o (settled_values r')) e ∙ ap (λ (o : Outcome (List Value)). calculation op (settled_values l) o) f ∙ through l r
+    sym (through l' r') ∙ ap (λ (o : Outcome (List Value)). calculation op o (settled_values r')) e
+    ∙ ap (λ (o : Outcome (List Value)). calculation op (settled_values l) o) f ∙ through l r
   where
     through : (x y : Outcome (List Value)) → calculation op (settled_values x) (settled_values y) ≡ calculation op x y
     through (Err er) y = refl
@@ -301,13 +315,15 @@ scalar-settled (path.decimal128 w s) = refl
 scalar-settled (path.string bs) = refl
 scalar-settled (path.raw bytes) = refl
 
-binary-meaning : (op : BinaryOp) (l r : Expression) (mode : Mode) (top : Tree) → expression_meaning mode (settled (binary op l r)) top ≡ expression_meaning mode (binary op l r) top
+binary-meaning : (op : BinaryOp) (l r : Expression) (mode : Mode) (top : Tree)
+    → expression_meaning mode (settled (binary op l r)) top ≡ expression_meaning mode (binary op l r) top
 binary-meaning op l r mode top = go (operation op) where
   go : (o : Option Operation) → binary_meaning mode o op (settled l) (settled r) top ≡ binary_meaning mode o op l r top
   go (Some o) = same_calculation o _ _ _ _ ((expression_same l).0 mode top top) ((expression_same r).0 mode top top)
   go None = ap truth_list ((expression_same (binary op l r)).1 mode top top)
 
-expression-meaning : (e : Expression) (mode : Mode) (top : Tree) → settled_outcome (expression_meaning mode (settled e) top) ≡ settled_outcome (expression_meaning mode e top)
+expression-meaning : (e : Expression) (mode : Mode) (top : Tree)
+    → settled_outcome (expression_meaning mode (settled e) top) ≡ settled_outcome (expression_meaning mode e top)
 expression-meaning (paths ss) mode top = refl
 expression-meaning (value l) mode top = scalar-settled l
 expression-meaning (unary op e) mode top = same_answer (each_signed op) (signed-settled op) _ _ ((expression_same e).0 mode top top)
@@ -331,7 +347,8 @@ filters-settled : (p : List Step) → steps_of (map as_filter (map settled_step 
 filters-settled [] = refl
 filters-settled (s ∷ p) = rw (filter-settled s, filters-settled p) refl
 
-plain-meaning : (p : List Step) (mode : Mode) (top : Tree) → steps_meaning mode (steps_of (map as_filter (map settled_step p))) top (top ∷ []) ≡ steps_meaning mode (steps_of (map as_filter p)) top (top ∷ [])
+plain-meaning : (p : List Step) (mode : Mode) (top : Tree)
+    → steps_meaning mode (steps_of (map as_filter (map settled_step p))) top (top ∷ []) ≡ steps_meaning mode (steps_of (map as_filter p)) top (top ∷ [])
 plain-meaning p mode top = rw (filters-settled p) (steps_same (steps_of (map as_filter p)) mode top (top ∷ []))
 
 meaning-settled : (p : List Step) (mode : Mode) (top : Tree) → settled_outcome (meaning mode (map settled_step p) top) ≡ settled_outcome (meaning mode p top)
@@ -374,8 +391,12 @@ mutual
 
   same_pairs : (ps qs : Pairs) → settled_pairs ps ≡ settled_pairs qs → PairsAreEqual ps qs
   same_pairs tree.no_pairs tree.no_pairs e = tt
-  same_pairs (tree.pair a t ps) (tree.pair b u qs) e =
-      (let k : a ≡ b = cc in k, same_tree t u (let k : settled_tree t ≡ settled_tree u = cc in k), same_pairs ps qs (let k : settled_pairs ps ≡ settled_pairs qs = cc in k))
+  same_pairs (tree.pair a t ps) (tree.pair b u qs) e = (
+    let k : a ≡ b = cc in k,
+    same_tree t u (let k : settled_tree t ≡ settled_tree u = cc in k),
+    same_pairs ps qs
+        (let k : settled_pairs ps ≡ settled_pairs qs = cc in k),
+  )
   same_pairs _ _ e = cc
 
 same_lists : (ts us : List Tree) → map settled_tree ts ≡ map settled_tree us → AllRelated IsEqual ts us
@@ -405,7 +426,8 @@ list_truth-settled [] = refl
 list_truth-settled (t ∷ []) = item_truth-settled t
 list_truth-settled (t ∷ u ∷ ts) = refl
 
-same_truth : (o o' : Outcome (List Tree)) → settled_outcome o ≡ settled_outcome o' → with_value o (λ ts. Ok (list_truth ts)) ≡ with_value o' (λ ts. Ok (list_truth ts))
+same_truth : (o o' : Outcome (List Tree)) → settled_outcome o ≡ settled_outcome o'
+    → and_then o (λ ts. Ok (list_truth ts)) ≡ and_then o' (λ ts. Ok (list_truth ts))
 same_truth (Ok ts) (Ok us) e =
     let k : map settled_tree ts ≡ map settled_tree us = cc in ap (λ (b : Truth). Ok b) (sym (list_truth-settled ts) ∙ ap list_truth k ∙ list_truth-settled us)
 same_truth (Err a) (Err b) e = ap Err (let k : a ≡ b = cc in k)
@@ -413,7 +435,7 @@ same_truth _ _ e = cc
 
 -- what an expression that is no literal says
 told : (e : Expression) (mode : Mode) (top : Tree) →
-    with_value (expression_meaning mode (settled e) top) (λ ts. Ok (list_truth ts)) ≡ with_value (expression_meaning mode e top) (λ ts. Ok (list_truth ts))
+    and_then (expression_meaning mode (settled e) top) (λ ts. Ok (list_truth ts)) ≡ and_then (expression_meaning mode e top) (λ ts. Ok (list_truth ts))
 told e mode top = same_truth (expression_meaning mode (settled e) top) (expression_meaning mode e top) (expression-meaning e mode top)
 
 expression-predicate : (e : Expression) (mode : Mode) (top : Tree) → expression_predicate mode (settled e) top ≡ expression_predicate mode e top

@@ -2,7 +2,7 @@
 use Rattle.std.proofs.Common.{◌≡◌, ◌≢◌, ℕ, ◌+◌, ◌<◌, List, [], ◌∷◌, ◌++◌, length, drop, get_or, suc, add-one, map, Bool, true, false, Option, Some, None, Ok, Err, refl, sym, ap, ◌∙◌, append-nil, Box, Global, if◌then◌else◌}
 use Rattle.std.specs.Bool.{then_some}
 use Rattle.std.proofs.Math.Seq.{drop-cons}
-use Rattle.jsonb_doc.specs.Answer.{Outcome, with_value, joined}
+use Rattle.jsonb_doc.specs.Answer.{Outcome, and_then, try_flat_map}
 use Rattle.jsonb_doc.specs.Tree.{Tree}
 use Rattle.jsonb_doc.specs.declared.spot.Spot.{Spot}
 use Rattle.jsonb.specs.PathTree as math
@@ -10,8 +10,8 @@ use Rattle.jsonb.specs.PathTree.{steps_of}
 use Rattle.jsonb.specs.PathViews.{step_view, steps_view, expression_view, operator_view}
 use Rattle.jsonb.specs.Related.{AllRelated}
 use Rattle.jsonb.specs.Compare.{compare}
-use Rattle.jsonb.specs.Meaning.{step_meaning, steps_meaning, truth, operand_values, start, kept, as_filter}
-use Rattle.jsonb.specs.Selection.{IsKept, option_spots, taken_step}
+use Rattle.jsonb.specs.Meaning.{step_meaning, steps_meaning, truth, operand_values, start, filtered, as_filter}
+use Rattle.jsonb.specs.Private.Selection.{IsKept, option_spots, taken_step}
 use Rattle.jsonb.specs.declared.selector.document.Mode.{Mode}
 use Rattle.jsonb.specs.declared.selector.document.Expressions.{Expressions}
 use Rattle.jsonb.specs.declared.selector.document.Expressions.TheVariants.{AreFilters, AreRefused}
@@ -23,10 +23,10 @@ use Rattle.jsonb.specs.declared.path.BinaryOperator.TheVariants.{And, Or, Eq, No
 use Rattle.jsonb.proofs.PathNodes.{binary_is}
 
 -- one item alone
-pub joined_one : {B C : Type 0} (f : B → Outcome (List C)) (t : B) → joined f (t ∷ []) ≡ f t
+pub joined_one : {B C : Type 0} (f : B → Outcome (List C)) (t : B) → try_flat_map f (t ∷ []) ≡ f t
 joined_one {B} {C} f t = go (f t)
   where
-    go : (o : Outcome (List C)) → with_value o (λ front. Ok (front ++ [])) ≡ o
+    go : (o : Outcome (List C)) → and_then o (λ front. Ok (front ++ [])) ≡ o
     go (Ok us) = ap Ok (append-nil us)
     go (Err e) = refl
 
@@ -36,15 +36,15 @@ only_one R item (t ∷ []) a = (t, refl, a.0)
 only_one R item (t ∷ u ∷ ts) a = absurd a.1
 
 -- whether a filter keeps an item
-kept_if : (t : Tree) (keeps : Bool) → kept t (Some keeps) ≡ (if keeps then t ∷ [] else [])
+kept_if : (t : Tree) (keeps : Bool) → filtered t (Some keeps) ≡ (if keeps then t ∷ [] else [])
 kept_if t true = refl
 kept_if t false = refl
 
-pub kept_known : (t : Tree) (b : Option Bool) (keeps : Bool) → b ≡ Some keeps → IsKept t keeps (kept t b)
-kept_known t b keeps is = ap (kept t) is ∙ kept_if t keeps
+pub kept_known : (t : Tree) (b : Option Bool) (keeps : Bool) → b ≡ Some keeps → IsKept t keeps (filtered t b)
+kept_known t b keeps is = ap (filtered t) is ∙ kept_if t keeps
 
-pub kept_unknown : (t : Tree) (b : Option Bool) → b ≡ None → IsKept t false (kept t b)
-kept_unknown t b is = ap (kept t) is
+pub kept_unknown : (t : Tree) (b : Option Bool) → b ≡ None → IsKept t false (filtered t b)
+kept_unknown t b is = ap (filtered t) is
 
 pub kept_found : (R : Spot → Tree → Type 0) (keeps : Bool) (o : Option Spot) (item : Spot) (t : Tree) (ts : List Tree) →
     o ≡ then_some keeps item → IsKept t keeps ts → R item t → AllRelated R (option_spots o) ts
@@ -52,9 +52,11 @@ kept_found R true o item t ts is k r = rw (is, k) (r, tt)
 kept_found R false o item t ts is k r = rw (is, k) tt
 
 -- the steps from the i-th one on: that step, and those behind it
-pub steps_at : (mode : Mode) (expressions : Expressions) (steps : List Path) (i : ℕ) (s : Path) (top : Tree) (us : List Tree) → i < length steps → s ≡ get_or steps i s →
+pub steps_at : (mode : Mode) (expressions : Expressions) (steps : List Path) (i : ℕ) (s : Path) (top : Tree) (us : List Tree) → i < length steps
+    → s ≡ get_or steps i s →
     steps_meaning mode (steps_of (map (taken_step expressions) (steps_view (drop i steps)))) top us
-    ≡ with_value (joined (step_meaning mode (taken_step expressions (step_view s)) top) us) (steps_meaning mode (steps_of (map (taken_step expressions) (steps_view (drop (i + 1) steps)))) top)
+    ≡ and_then (try_flat_map (step_meaning mode (taken_step expressions (step_view s)) top) us)
+    (steps_meaning mode (steps_of (map (taken_step expressions) (steps_view (drop (i + 1) steps)))) top)
 steps_at mode expressions steps i s top us h is =
     ap (λ l. steps_meaning mode (steps_of (map (taken_step expressions) (steps_view l))) top us)
     (drop-cons steps i s h ∙ ap (λ x. x ∷ drop (suc i) steps) (sym is) ∙ ap (λ n. s ∷ drop n steps) (sym (add-one i)))
@@ -85,8 +87,10 @@ from_start mode vs d1 d2 top u p q =
     ∙ ap (λ l. steps_meaning mode (steps_of l) top (start (steps_of (steps_view d2)) top u ∷ [])) (sym (refused_steps (steps_view d1)))
 
 -- every other operator compares
-comparison : (mode : Mode) (op : BinaryOperator) (l r : math.Expression) (top u : Tree) → op ≢ And → op ≢ Or → op ≢ Add → op ≢ Subtract → op ≢ Multiply → op ≢ Divide → op ≢ Modulo →
-    truth mode (math.binary (operator_view op) l r) top u ≡ with_value (operand_values mode l top u) (λ ls. with_value (operand_values mode r top u) (λ rs. Ok (compare (operator_view op) ls rs)))
+comparison : (mode : Mode) (op : BinaryOperator) (l r : math.Expression) (top u : Tree) → op ≢ And → op ≢ Or → op ≢ Add → op ≢ Subtract → op ≢ Multiply
+    → op ≢ Divide → op ≢ Modulo →
+    truth mode (math.binary (operator_view op) l r) top u
+    ≡ and_then (operand_values mode l top u) (λ ls. and_then (operand_values mode r top u) (λ rs. Ok (compare (operator_view op) ls rs)))
 comparison mode And l r top u a b c d e f g = absurd (a refl)
 comparison mode Or l r top u a b c d e f g = absurd (b refl)
 comparison mode Add l r top u a b c d e f g = absurd (c refl)
@@ -102,9 +106,12 @@ comparison mode Gt l r top u a b c d e f g = refl
 comparison mode Gte l r top u a b c d e f g = refl
 comparison mode StartsWith l r top u a b c d e f g = refl
 
-pub compared_is : (mode : Mode) (e : Expr) (op : BinaryOperator) (l r : Box Expr Global) (top u : Tree) (x y : Expr) → e ≡ expr.BinaryOp op l r → x ≡ l.value → y ≡ r.value →
+pub compared_is : (mode : Mode) (e : Expr) (op : BinaryOperator) (l r : Box Expr Global) (top u : Tree) (x y : Expr) → e ≡ expr.BinaryOp op l r → x ≡ l.value
+    → y ≡ r.value →
     op ≢ And → op ≢ Or → op ≢ Add → op ≢ Subtract → op ≢ Multiply → op ≢ Divide → op ≢ Modulo →
-    truth mode (expression_view e) top u ≡ with_value (operand_values mode (expression_view x) top u) (λ ls. with_value (operand_values mode (expression_view y) top u) (λ rs. Ok (compare (operator_view op) ls rs)))
+    truth mode (expression_view e) top u
+    ≡ and_then (operand_values mode (expression_view x) top u)
+    (λ ls. and_then (operand_values mode (expression_view y) top u) (λ rs. Ok (compare (operator_view op) ls rs)))
 compared_is mode e op l r top u x y is p q na nor n1 n2 n3 n4 n5 =
     ap (λ z. truth mode z top u) (binary_is e op l r is ∙ (λ i. math.binary (operator_view op) (expression_view (sym p i)) (expression_view (sym q i))))
     ∙ comparison mode op (expression_view x) (expression_view y) top u na nor n1 n2 n3 n4 n5

@@ -1,7 +1,7 @@
 -- Paths that are one expression, and all others.
 use Rattle.std.proofs.Common.{◌≡◌, ◌+◌, ◌<◌, List, [], ◌∷◌, map, Some, None, is_some, subst, Option, true, false, Ok, Err, IsOkAnd, ℕ, suc, length, drop, get_or, add-one, arith, refl, ap, sym, ◌∙◌, inl, inr, Box, Global}
 use Rattle.std.proofs.Math.Seq.{drop-cons}
-use Rattle.jsonb_doc.specs.Answer.{Outcome, with_value, joined, Gives, WantsMemory}
+use Rattle.jsonb_doc.specs.Answer.{Outcome, and_then, try_flat_map, Gives, IsOutOfMemory}
 use Rattle.jsonb_doc.specs.Payload.{Form}
 use Rattle.jsonb_doc.specs.View.{number_view}
 use Rattle.jsonb_doc.specs.Tree as tree
@@ -14,7 +14,7 @@ use Rattle.jsonb.specs.PathTree as math
 use Rattle.jsonb.specs.PathTree.{Step, Expression, steps_of}
 use Rattle.jsonb.specs.PathViews.{step_view, steps_view, number_literal, literal_view}
 use Rattle.jsonb.specs.Meaning.{step_meaning, steps_meaning, as_filter, Means, predicate}
-use Rattle.jsonb.specs.Selection.{step_expression, only_expression, begins_with_current}
+use Rattle.jsonb.specs.Private.Selection.{step_expression, only_expression, begins_with_current}
 use Rattle.jsonb.specs.declared.selector.document.Mode.{Mode}
 use Rattle.jsonb.specs.declared.path.PathValue.{PathValue}
 use Rattle.jsonb.specs.declared.path.Expr.{Expr}
@@ -25,7 +25,8 @@ use Rattle.jsonb.specs.declared.path.Path.TheVariants as step
 use Rattle.jsonb.proofs.PathNodes.{step_is}
 
 -- a step that is no expression is the same as a filter
-others : (s : Path) (x : Path-F Expr Path) → out-Path s ≡ x → ((e : Box Expr Global) → s ≡ step.Expr e → ⊥) → (as_filter (step_view s) ≡ step_view s) × (step_expression (step_view s) ≡ None)
+others : (s : Path) (x : Path-F Expr Path) → out-Path s ≡ x → ((e : Box Expr Global) → s ≡ step.Expr e → ⊥)
+    → (as_filter (step_view s) ≡ step_view s) × (step_expression (step_view s) ≡ None)
 others s Path-F.Root h n = (ap as_filter (step_is s _ h) ∙ sym (step_is s _ h), ap step_expression (step_is s _ h))
 others s Path-F.Current h n = (ap as_filter (step_is s _ h) ∙ sym (step_is s _ h), ap step_expression (step_is s _ h))
 others s Path-F.DotWildcard h n = (ap as_filter (step_is s _ h) ∙ sym (step_is s _ h), ap step_expression (step_is s _ h))
@@ -67,20 +68,24 @@ module _ (form : Form) (mode : Mode) (top : Tree) (outcome : Outcome (List Tree)
   refused_current (math.current ∷ rest) b h = h
   refused_current _ b h = cc
 
-  pub by_steps : (path : List Step) → only_expression path ≡ None → begins_with_current path ≡ false → Means form mode path top outcome → outcome ≡ steps_meaning mode (steps_of (map as_filter path)) top (top ∷ [])
+  pub by_steps : (path : List Step) → only_expression path ≡ None → begins_with_current path ≡ false → Means form mode path top outcome
+      → outcome ≡ steps_meaning mode (steps_of (map as_filter path)) top (top ∷ [])
   by_steps (math.current ∷ rest) n b h = cc
   by_steps (math.whole_expression (math.value (math.raw document)) ∷ s ∷ rest) n b h = h
   by_steps (math.whole_expression e ∷ []) n b h = cc
   by_steps _ n b h = h
 
   -- an expression that is seen as another
-  pub meant : (x y : Expression) → x ≡ y → Means form mode (math.whole_expression x ∷ []) top outcome → Means form mode (math.whole_expression y ∷ []) top outcome
+  pub meant : (x y : Expression) → x ≡ y → Means form mode (math.whole_expression x ∷ []) top outcome
+      → Means form mode (math.whole_expression y ∷ []) top outcome
   meant x y is h = subst (λ z. Means form mode (math.whole_expression z ∷ []) top outcome) is h
 
-  pub literal_meant : (v w : PathValue) → v ≡ w → Means form mode (math.whole_expression (math.value (literal_view v)) ∷ []) top outcome → Means form mode (math.whole_expression (math.value (literal_view w)) ∷ []) top outcome
+  pub literal_meant : (v w : PathValue) → v ≡ w → Means form mode (math.whole_expression (math.value (literal_view v)) ∷ []) top outcome
+      → Means form mode (math.whole_expression (math.value (literal_view w)) ∷ []) top outcome
   literal_meant v w is h = subst (λ x. Means form mode (math.whole_expression (math.value (literal_view x)) ∷ []) top outcome) is h
 
-  pub number_meant : (n : Number) → Means form mode (math.whole_expression (math.value (number_literal n)) ∷ []) top outcome → outcome ≡ Ok (tree.array (tree.trees_of (tree.number (number_view n) ∷ [])) ∷ [])
+  pub number_meant : (n : Number) → Means form mode (math.whole_expression (math.value (number_literal n)) ∷ []) top outcome
+      → outcome ≡ Ok (tree.array (tree.trees_of (tree.number (number_view n) ∷ [])) ∷ [])
   number_meant (Int64 z) h = h
   number_meant (UInt64 z) h = h
   number_meant (Decimal64 d) h = h
@@ -100,7 +105,7 @@ is_outcome (Ok y) x h = ap Ok (sym h)
 is_outcome (Err e) x h = absurd h
 
 -- a call without memory
-pub without_memory : {A B : Type 0} {R : A → B → Type 0} {r : Outcome A} {o : Outcome B} → Gives R (λ (_ : Error). ⊥) r o → Gives R WantsMemory r o
+pub without_memory : {A B : Type 0} {R : A → B → Type 0} {r : Outcome A} {o : Outcome B} → Gives R (λ (_ : Error). ⊥) r o → Gives R IsOutOfMemory r o
 without_memory {A} {B} {R} {r = Ok x} {o} h = record { ok = h.ok; err = tt }
 without_memory {A} {B} {R} {r = Err e} {o} h = record { ok = tt; err = elim h.err [ inl none ↦ absurd none | inr is ↦ inr is ] }
 

@@ -21,14 +21,14 @@ values_of (object ps) = Some (tree.elements (tree.values ps))
 values_of _ = None
 
 -- what a step gives of an item that it doesn't fit
-abbrev pub misfit : Mode → List Tree → Outcome (List Tree)
-misfit Lax otherwise = Ok otherwise
-misfit Strict otherwise = Err StrictPath
+abbrev pub on_mismatch : Mode → List Tree → Outcome (List Tree)
+on_mismatch Lax otherwise = Ok otherwise
+on_mismatch Strict otherwise = Err StrictPath
 
 -- the list, or a misfit where there is none
 abbrev pub list_or : Mode → List Tree → Option (List Tree) → Outcome (List Tree)
 list_or mode otherwise (Some ts) = Ok ts
-list_or mode otherwise None = misfit mode otherwise
+list_or mode otherwise None = on_mismatch mode otherwise
 
 -- the value under the key of an object
 abbrev pub field_step : Mode → List ℕ → Tree → Outcome (List Tree)

@@ -3,7 +3,6 @@ pub mod PathGrammar
 pub mod PathViews
 pub mod PathText
 pub mod PathOrder
-pub mod PathOrderLaws
 pub mod Positions
 pub mod LevelTable
 pub mod PathLaws
@@ -16,9 +15,7 @@ pub mod PathArithmetic
 pub mod Meaning
 pub mod SelectionErrors
 pub mod SelectorAnswers
-pub mod Selection
 pub mod SelectorLaws
-pub mod Selected
 pub mod PathEquality
 pub mod PathDocuments
 -- what clauses cite of the crates below, for the crates above
@@ -44,3 +41,5 @@ pub use Rattle.jsonb_raw.specs.LeafViews
 pub use Rattle.jsonb_raw.specs.Places
 pub use Rattle.jsonb_raw.specs.SortableKey
 pub use Rattle.jsonb_raw.specs.KeyAnswer
+pub mod Proofs
+pub mod Private

@@ -1,6 +1,6 @@
 -- What a path means on a tree: a list of items, or the first refusal.
 use Rattle.std.specs.Prelude.{◌≡◌, Bool, true, false, List, [], ◌∷◌, map, flat_map, Option, Some, None, Ok, Err}
-use Rattle.jsonb_doc.specs.Answer.{Outcome, with_value, joined}
+use Rattle.jsonb_doc.specs.Answer.{Outcome, and_then, try_flat_map}
 use Rattle.jsonb_doc.specs.Arithmetic.{Operation}
 use Rattle.jsonb_doc.specs.declared.error.Error.TheVariants.{InvalidJsonPath}
 use Rattle.jsonb_doc.specs.Payload.{Form}
@@ -16,9 +16,9 @@ use Rattle.jsonb.specs.ItemSteps.{field_step, values_step, elements_step, indice
 use Rattle.jsonb.specs.declared.selector.document.Mode.{Mode}
 
 -- the item, where the filter is true
-abbrev pub kept : Tree → Truth → List Tree
-kept item (Some true) = item ∷ []
-kept item _ = []
+abbrev pub filtered : Tree → Truth → List Tree
+filtered item (Some true) = item ∷ []
+filtered item _ = []
 
 -- where a path within an expression starts: at the item where it begins with `@`, else at the root
 abbrev pub start : Steps → Tree → Tree → Tree
@@ -41,25 +41,25 @@ abbrev mutual
   step_meaning mode (colon_field name) top item = field_step mode name item
   step_meaning mode (object_field name) top item = field_step mode name item
   step_meaning mode (array_indices entries) top item = indices_step mode entries item
-  step_meaning mode (filter e) top item = with_value (truth mode e top item) (λ b. Ok (kept item b))
+  step_meaning mode (filter e) top item = and_then (truth mode e top item) (λ b. Ok (filtered item b))
   step_meaning mode (whole_expression e) top item = Err InvalidJsonPath
 
   -- one step after the other, each of all the items
   pub steps_meaning : Mode → Steps → Tree → List Tree → Outcome (List Tree)
   steps_meaning mode no_steps top items = Ok items
-  steps_meaning mode (step s rest) top items = with_value (joined (step_meaning mode s top) items) (steps_meaning mode rest top)
+  steps_meaning mode (step s rest) top items = and_then (try_flat_map (step_meaning mode s top) items) (steps_meaning mode rest top)
 
   -- the values of an operand
   pub operand_values : Mode → Expression → Tree → Tree → Outcome (List Value)
   operand_values mode (paths steps) top item =
-      with_value (steps_meaning mode steps top (start steps top item ∷ [])) (λ ts. Ok (flat_map values_of_item ts))
+      and_then (steps_meaning mode steps top (start steps top item ∷ [])) (λ ts. Ok (flat_map values_of_item ts))
   operand_values mode (value l) top item = Ok (values_of_literal (literal_item l))
   operand_values mode _ top item = Err InvalidJsonPath
 
   -- whether an expression is true of an item
   pub truth : Mode → Expression → Tree → Tree → Outcome Truth
-  truth mode (binary and_op l r) top item = with_value (truth mode l top item) (λ a. with_value (truth mode r top item) (λ b. Ok (and_truth a b)))
-  truth mode (binary or_op l r) top item = with_value (truth mode l top item) (λ a. with_value (truth mode r top item) (λ b. Ok (or_truth a b)))
+  truth mode (binary and_op l r) top item = and_then (truth mode l top item) (λ a. and_then (truth mode r top item) (λ b. Ok (and_truth a b)))
+  truth mode (binary or_op l r) top item = and_then (truth mode l top item) (λ a. and_then (truth mode r top item) (λ b. Ok (or_truth a b)))
   -- arithmetic is unknown, its operands not looked at
   truth mode (binary add l r) top item = Ok None
   truth mode (binary subtract l r) top item = Ok None
@@ -68,9 +68,9 @@ abbrev mutual
   truth mode (binary modulo l r) top item = Ok None
   -- a comparison takes the values of both operands first
   truth mode (binary op l r) top item =
-      with_value (operand_values mode l top item) (λ ls. with_value (operand_values mode r top item) (λ rs. Ok (compare op ls rs)))
+      and_then (operand_values mode l top item) (λ ls. and_then (operand_values mode r top item) (λ rs. Ok (compare op ls rs)))
   truth mode (exists steps) top item =
-      with_value (steps_meaning mode steps top (start steps top item ∷ [])) (λ ts. Ok (Some (is_some_item ts)))
+      and_then (steps_meaning mode steps top (start steps top item ∷ [])) (λ ts. Ok (Some (is_some_item ts)))
   truth mode _ top item = Err InvalidJsonPath
 
 -- ---- one expression as the whole path; the root is the item
@@ -81,11 +81,11 @@ truth_item (Some b) = tree.boolean b
 truth_item None = tree.null
 
 abbrev pub truth_list : Outcome Truth → Outcome (List Tree)
-truth_list outcome = with_value outcome (λ b. Ok (truth_item b ∷ []))
+truth_list outcome = and_then outcome (λ b. Ok (truth_item b ∷ []))
 
 -- arithmetic takes the values of both operands first
 abbrev pub calculation : Operation → Outcome (List Value) → Outcome (List Value) → Outcome (List Tree)
-calculation op left right = with_value left (λ ls. with_value right (λ rs. two_numbers op ls rs))
+calculation op left right = and_then left (λ ls. and_then right (λ rs. two_numbers op ls rs))
 
 -- a number where the operator is one of arithmetic, else a truth
 abbrev pub binary_meaning : Mode → Option Operation → BinaryOp → Expression → Expression → Tree → Outcome (List Tree)
@@ -100,7 +100,7 @@ literal_list None = Err InvalidJsonPath
 abbrev pub expression_meaning : Mode → Expression → Tree → Outcome (List Tree)
 expression_meaning mode (paths steps) top = Err InvalidJsonPath
 expression_meaning mode (value l) top = literal_list (literal_item l)
-expression_meaning mode (unary op e) top = with_value (operand_values mode e top top) (each_signed op)
+expression_meaning mode (unary op e) top = and_then (operand_values mode e top top) (each_signed op)
 expression_meaning mode (binary op l r) top = binary_meaning mode (operation op) op l r top
 expression_meaning mode (exists steps) top = truth_list (truth mode (exists steps) top top)
 
@@ -137,7 +137,7 @@ list_truth _ = None
 -- the truth that its list is; a literal says nothing
 abbrev pub expression_predicate : Mode → Expression → Tree → Outcome Truth
 expression_predicate mode (value l) top = Ok None
-expression_predicate mode e top = with_value (expression_meaning mode e top) (λ ts. Ok (list_truth ts))
+expression_predicate mode e top = and_then (expression_meaning mode e top) (λ ts. Ok (list_truth ts))
 
 -- nothing where the path is no single expression; unknown is none too
 abbrev pub predicate : Mode → List Step → Tree → Outcome Truth

@@ -1,6 +1,6 @@
 -- Arithmetic of an expression that is the whole path.
 use Rattle.std.specs.Prelude.{List, [], ◌∷◌, Option, Some, None, Ok, Err}
-use Rattle.jsonb_doc.specs.Answer.{Outcome, with_value, joined}
+use Rattle.jsonb_doc.specs.Answer.{Outcome, and_then, try_flat_map}
 use Rattle.jsonb_doc.specs.Arithmetic as arith
 use Rattle.jsonb_doc.specs.Arithmetic.{Operation, calculated, negated}
 use Rattle.jsonb_doc.specs.declared.error.Error.TheVariants.{InvalidJsonPath}
@@ -21,7 +21,7 @@ operation _ = None
 
 -- a number as a list of one item
 abbrev pub number_list : Outcome Number → Outcome (List Tree)
-number_list outcome = with_value outcome (λ n. Ok (tree.number n ∷ []))
+number_list outcome = and_then outcome (λ n. Ok (tree.number n ∷ []))
 
 -- two operands, of one number each
 abbrev pub two_numbers : Operation → List Value → List Value → Outcome (List Tree)
@@ -31,7 +31,7 @@ two_numbers op _ _ = Err InvalidJsonPath
 -- the numbers that the values are; another value is refused
 abbrev pub all_numbers : List Value → Outcome (List Number)
 all_numbers [] = Ok []
-all_numbers (number n ∷ rest) = with_value (all_numbers rest) (λ ns. Ok (n ∷ ns))
+all_numbers (number n ∷ rest) = and_then (all_numbers rest) (λ ns. Ok (n ∷ ns))
 all_numbers (value ∷ rest) = Err InvalidJsonPath
 
 -- a sign in front of a number
@@ -41,4 +41,4 @@ signed_number minus n = number_list (negated n)
 
 -- a sign in front of each value: first all have to be numbers, then the results are taken from left to right
 abbrev pub each_signed : UnaryOp → List Value → Outcome (List Tree)
-each_signed op values = with_value (all_numbers values) (joined (signed_number op))
+each_signed op values = and_then (all_numbers values) (try_flat_map (signed_number op))

@@ -20,14 +20,6 @@ root_bytes s = raw_bytes s.root
 abbrev pub mode_of : Selector → Mode
 mode_of s = s.mode
 
--- memory was refused, or what is to be handed out passes the limits
-abbrev pub LacksRoom : {B : Type 0} → (B → Type 0) → Outcome B → Error → Type 0
-LacksRoom IsPastLimits outcome e = (e ≡ OutOfMemory) ⊎ ((e ≡ TooLarge) × IsOkAnd outcome IsPastLimits)
-
--- the answer hands out the outcome: what stands for its value, or its refusal, where there is room
-abbrev pub HandsOut : {A B : Type 0} → (A → B → Type 0) → (B → Type 0) → Outcome A → Outcome B → Type 0
-HandsOut R IsPastLimits answer outcome = Gives R (LacksRoom IsPastLimits outcome) answer outcome
-
 -- each document decodes to its tree
 abbrev pub AreDocuments : Form → List OwnedJsonb → List Tree → Type 0
 AreDocuments form documents ts = AllRelated (Decodes form) documents ts
@@ -42,15 +34,15 @@ abbrev pub array_of : List Tree → Tree
 array_of ts = array (trees_of ts)
 
 -- the first
-abbrev pub first_of : List Tree → Option Tree
-first_of [] = None
-first_of (t ∷ ts) = Some t
+abbrev pub first_item : List Tree → Option Tree
+first_item [] = None
+first_item (t ∷ ts) = Some t
 
 -- none, the only one, or one array of several
-abbrev pub value_of : List Tree → Option Tree
-value_of [] = None
-value_of (t ∷ []) = Some t
-value_of (t ∷ u ∷ ts) = Some (array_of (t ∷ u ∷ ts))
+abbrev pub single_or_array : List Tree → Option Tree
+single_or_array [] = None
+single_or_array (t ∷ []) = Some t
+single_or_array (t ∷ u ∷ ts) = Some (array_of (t ∷ u ∷ ts))
 
 -- a document of the tree, or none where there is none
 abbrev pub IsDocumentOf : Form → Option OwnedJsonb → Option Tree → Type 0

@@ -21,6 +21,7 @@ ghost use Rattle.jsonb_doc.specs.declared.error.Error.TheVariants.{OutOfMemory, 
 ghost use Rattle.jsonb.specs.PathGrammar.{root_expression, first_step, front_steps, path_step, plain_path, json_path};
 ghost use Rattle.jsonb_keypath.specs.Views.{read_as, LeavesLess};
 ghost use Rattle.jsonb.specs.PathViews.{step_view, steps_view, path_view};
+ghost use Rattle.jsonb_doc.specs.Answer.{IsOutOfMemory, ◌or◌when◌};
 
 use self::expression::{expression_at, path_at};
 use self::token::name_at;
@@ -31,7 +32,7 @@ use std::alloc::{AllocError, Global};
 
 mod expression;
 mod index;
-mod inner;
+mod inner_path;
 mod operand;
 mod token;
 
@@ -52,7 +53,7 @@ type Reading<'a, T> = Result<Option<(T, &'a [u8])>, AllocError>;
 pub fn parse_json_path(alloc: Global, input: &[u8]) -> Result<JsonPath<'_>, Error>
     ensures { MatchResult result
         (λ found. json_path input.now ≡ Some (path_view found))
-        (λ e. (e ≡ OutOfMemory) ⊎ ((e ≡ InvalidJsonPath) × (json_path input.now ≡ None))) }
+        (IsOutOfMemory or InvalidJsonPath when (json_path input.now ≡ None)) }
 {
     let start = skip_space(input);
     let (paths, rest) = match root_expression_at(alloc, start)? {

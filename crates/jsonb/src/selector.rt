@@ -8,9 +8,9 @@ ghost use Rattle.jsonb_doc.specs.Payload.{Form};
 ghost use Rattle.jsonb_doc.specs.Tree.{Tree};
 ghost use Rattle.jsonb.specs.Meaning.{is_some_item};
 ghost use Rattle.jsonb_doc.specs.Format.{Decodes};
-ghost use Rattle.jsonb_doc.specs.View.{IsDecodingError};
-ghost use Rattle.jsonb_doc.specs.Containers.{HasReadableRoot};
-ghost use Rattle.jsonb.specs.Selection.{Selects, HasTree};
+ghost use Rattle.jsonb_doc.specs.Answer.{IsDecodingError};
+ghost use Rattle.jsonb_doc.specs.Private.Containers.{HasReadableRoot};
+ghost use Rattle.jsonb.specs.Private.Selection.{AreSelected, HasTree};
 ghost use Rattle.jsonb.specs.declared.selector.document.Document.{Document};
 
 mod atom;
@@ -49,7 +49,8 @@ pub struct Selector<'a> {
 
 impl<'a> Selector<'a> {
     ghost use Rattle.std.specs.Prelude.{◌≡◌, List, Ok, None, true, false, IfErr, OnOk};
-    ghost use Rattle.jsonb_doc.specs.Answer.{Gives, Outcome, WantsMemory};
+    ghost use Rattle.jsonb_doc.specs.Answer.{Gives, Outcome, IsOutOfMemory, ◌or◌when◌};
+    ghost use Rattle.jsonb_doc.specs.declared.error.Error.TheVariants.{TooLarge};
     ghost use Rattle.jsonb_doc.specs.Payload.{Form};
     ghost use Rattle.jsonb_doc.specs.Format.{Decodes};
     ghost use Rattle.jsonb_doc.specs.Limits.{IsTooLarge};
@@ -58,10 +59,10 @@ impl<'a> Selector<'a> {
     ghost use Rattle.jsonb.specs.PathTree.{is_predicate};
     ghost use Rattle.jsonb.specs.PathViews.{path_view};
     ghost use Rattle.jsonb.specs.Meaning.{Means, is_some_item, predicate};
-    ghost use Rattle.jsonb.specs.Selection.{HasTree};
+    ghost use Rattle.jsonb.specs.Private.Selection.{HasTree};
     ghost use Rattle.jsonb.specs.SelectionErrors.{IsSelectionError, IsDocumentError};
-    ghost use Rattle.jsonb_doc.specs.Containers.{HasReadableRoot};
-    ghost use Rattle.jsonb.specs.SelectorAnswers.{root_bytes, mode_of, HandsOut, AreDocuments, HasTooLarge, IsDocumentOf, IsPast, array_of, first_of, value_of};
+    ghost use Rattle.jsonb_doc.specs.Private.Containers.{HasReadableRoot};
+    ghost use Rattle.jsonb.specs.SelectorAnswers.{root_bytes, mode_of, AreDocuments, HasTooLarge, IsDocumentOf, IsPast, array_of, first_item, single_or_array};
     ghost use Rattle.jsonb.specs.declared.selector.document.Mode.TheVariants.{Lax, Strict};
 
     /// A lax selector: a step that does not fit an item gives nothing of it, and `[*]` gives the item itself.
@@ -105,7 +106,8 @@ impl<'a> Selector<'a> {
         ensures values { (form : Form) (top : Tree) (outcome : Outcome (List Tree))
             → Decodes form (root_bytes self.old) top
             → Means form (mode_of self.old) (path_view path.now) top outcome
-            → HandsOut (λ v ts. AreDocuments form v.items ts) (HasTooLarge form) result outcome }
+            → Gives (λ v ts. AreDocuments form v.items ts)
+            (IsOutOfMemory or TooLarge when IsOkAnd outcome (HasTooLarge form)) result outcome }
         ensures errors { IfErr result (IsDocumentError (mode_of self.old)) }
         ensures readable { OnOk result (HasReadableRoot (root_bytes self.old)) }
     {
@@ -121,8 +123,8 @@ impl<'a> Selector<'a> {
         ensures array { (form : Form) (top : Tree) (outcome : Outcome (List Tree))
             → Decodes form (root_bytes self.old) top
             → Means form (mode_of self.old) (path_view path.now) top outcome
-            → HandsOut (λ made ts. Decodes form made (array_of ts))
-            (λ ts. IsTooLarge form (array_of ts)) result outcome }
+            → Gives (λ made ts. Decodes form made (array_of ts))
+            (IsOutOfMemory or TooLarge when IsOkAnd outcome (λ ts. IsTooLarge form (array_of ts))) result outcome }
         ensures errors { IfErr result (IsDocumentError (mode_of self.old)) }
         ensures readable { OnOk result (HasReadableRoot (root_bytes self.old)) }
     {
@@ -139,8 +141,8 @@ impl<'a> Selector<'a> {
         ensures first { (form : Form) (top : Tree) (outcome : Outcome (List Tree))
             → Decodes form (root_bytes self.old) top
             → Means form (mode_of self.old) (path_view path.now) top outcome
-            → HandsOut (λ found ts. IsDocumentOf form found (first_of ts))
-            (λ ts. IsPast form (first_of ts)) result outcome }
+            → Gives (λ found ts. IsDocumentOf form found (first_item ts))
+            (IsOutOfMemory or TooLarge when IsOkAnd outcome (λ ts. IsPast form (first_item ts))) result outcome }
         ensures errors { IfErr result (IsDocumentError (mode_of self.old)) }
         ensures readable { OnOk result (HasReadableRoot (root_bytes self.old)) }
     {
@@ -156,8 +158,8 @@ impl<'a> Selector<'a> {
         ensures value { (form : Form) (top : Tree) (outcome : Outcome (List Tree))
             → Decodes form (root_bytes self.old) top
             → Means form (mode_of self.old) (path_view path.now) top outcome
-            → HandsOut (λ found ts. IsDocumentOf form found (value_of ts))
-            (λ ts. IsPast form (value_of ts)) result outcome }
+            → Gives (λ found ts. IsDocumentOf form found (single_or_array ts))
+            (IsOutOfMemory or TooLarge when IsOkAnd outcome (λ ts. IsPast form (single_or_array ts))) result outcome }
         ensures errors { IfErr result (IsDocumentError (mode_of self.old)) }
         ensures readable { OnOk result (HasReadableRoot (root_bytes self.old)) }
     {
@@ -173,7 +175,7 @@ impl<'a> Selector<'a> {
         ensures exists { (form : Form) (top : Tree) (outcome : Outcome (List Tree))
             → Decodes form (root_bytes self.old) top
             → Means form (mode_of self.old) (path_view path.now) top outcome
-            → Gives (λ b ts. b ≡ is_some_item ts) WantsMemory result outcome }
+            → Gives (λ b ts. b ≡ is_some_item ts) IsOutOfMemory result outcome }
         ensures errors { IfErr result (IsSelectionError (mode_of self.old)) }
         ensures readable { OnOk result (HasReadableRoot (root_bytes self.old)) }
     {
@@ -189,9 +191,10 @@ impl<'a> Selector<'a> {
         ensures kept { self.new ≡ self.old }
         ensures other { is_predicate (path_view path.now) ≡ false → result ≡ Ok None }
         ensures truth { (form : Form) (top : Tree) → Decodes form (root_bytes self.old) top
-            → Gives (λ b c. b ≡ c) WantsMemory result (predicate (mode_of self.old) (path_view path.now) top) }
+            → Gives (λ b c. b ≡ c) IsOutOfMemory result (predicate (mode_of self.old) (path_view path.now) top) }
         ensures errors { IfErr result (IsSelectionError (mode_of self.old)) }
-        ensures readable { is_predicate (path_view path.now) ≡ true → OnOk result (HasReadableRoot (root_bytes self.old)) }
+        ensures readable { is_predicate (path_view path.now) ≡ true
+            → OnOk result (HasReadableRoot (root_bytes self.old)) }
     {
         match only_expression(&path.paths) {
             Some(e) => {
@@ -217,7 +220,7 @@ fn at_root(bytes: &[u8]) -> Result<Document<'_>, Error>
 
 // Whether anything is selected.
 fn is_some(selected: &Selected<'_>) -> bool
-    ensures { (form : Form) (document : Document) (ts : List Tree) → Selects form document selected.now ts
+    ensures { (form : Form) (document : Document) (ts : List Tree) → AreSelected form document selected.now ts
         → result ≡ is_some_item ts }
 {
     match selected {

@@ -2,12 +2,12 @@
 use Rattle.std.proofs.Common.{◌≡◌, ℕ, ◌<◌, ◌^◌, List, [], ◌∷◌, ◌++◌, length, refl, sym, ap, ◌∙◌, arith, inl, inr, append_assoc}
 use Rattle.std.proofs.lemmas.List.{append-nil, length-append}
 use Rattle.jsonb_doc.specs.Tree.{Tree, array, trees_of, count}
-use Rattle.jsonb_doc.specs.Payload.{Reading, Form, reading}
+use Rattle.jsonb_doc.specs.Payload.{NumberReader, Form, number_reader}
 use Rattle.jsonb_doc.specs.Format.{IsContent, AreEntries, entry_word, header, array_header, Decodes}
 use Rattle.jsonb_doc.specs.Limits.{HasShortElements, content_size, IsTooLarge}
-use Rattle.jsonb_doc.specs.Item.{Stands}
+use Rattle.jsonb_doc.specs.Item.{StandsFor}
 use Rattle.jsonb_doc.specs.Encoding.{EntryParts, item_kind, item_content, entry_of, FitsItem}
-use Rattle.jsonb_doc.specs.ArrayBuilder.{Parts, entry_count, HoldsElements, ElementPasses}
+use Rattle.jsonb_doc.specs.ArrayBuilder.{Parts, entry_count, HoldsElements, IsTooLargeElement}
 use Rattle.jsonb_doc.specs.declared.item.Item.{Item}
 use Rattle.jsonb_doc.proofs.Entries.{kind_below}
 use Rattle.jsonb_doc.proofs.Containers.{length-words}
@@ -17,10 +17,11 @@ use Rattle.jsonb_doc.proofs.Encoded.{content_stands, long_content}
 -- the builder's entries are as many as the trees that it holds
 pub held_count : (form : Form) (parts : Parts) (ts : List Tree) → HoldsElements form parts ts → entry_count parts ≡ length ts
 held_count form parts ts holds =
-    omega (arith, length-words (reading form) (trees_of ts) parts.words parts.contents holds, count-trees_of ts)
+    omega (arith, length-words (number_reader form) (trees_of ts) parts.words parts.contents holds, count-trees_of ts)
 
 -- entries with one more behind them
-AreEntries-added : (number_at : Reading) (ts : List Tree) (t : Tree) (ws cs : List ℕ) (kind : ℕ) (content : List ℕ) → length content < 2 ^ 28 → IsContent number_at t kind content
+AreEntries-added : (number_at : NumberReader) (ts : List Tree) (t : Tree) (ws cs : List ℕ) (kind : ℕ) (content : List ℕ) → length content < 2 ^ 28
+    → IsContent number_at t kind content
     → AreEntries number_at (trees_of ts) ws cs → AreEntries number_at (trees_of (ts ++ t ∷ [])) (ws ++ entry_word kind (length content)) (cs ++ content)
 AreEntries-added number_at [] t ws cs kind content short part h = record {
   kind = kind;
@@ -44,7 +45,8 @@ AreEntries-added number_at (u ∷ us) t ws cs kind content short part e = record
   begin = record {
     known = e.begin.known;
     fits = e.begin.fits;
-    words_joined = ap (λ (w : List ℕ). w ++ entry_word kind (length content)) e.begin.words_joined ∙ append_assoc (entry_word e.kind (length e.content)) e.other_words (entry_word kind (length content));
+    words_joined = ap (λ (w : List ℕ). w ++ entry_word kind (length content)) e.begin.words_joined
+        ∙ append_assoc (entry_word e.kind (length e.content)) e.other_words (entry_word kind (length content));
     contents_joined = ap (λ (w : List ℕ). w ++ content) e.begin.contents_joined ∙ append_assoc e.content e.other_contents content;
   };
   part = e.part;
@@ -57,17 +59,20 @@ with_entry parts entry =
     record { words = parts.words ++ entry_word entry.0 (length entry.1); contents = parts.contents ++ entry.1 }
 
 -- with the entry of an item behind the others its tree is held
-pub element_held : (form : Form) (before after : Parts) (ts : List Tree) (item : Item) (t : Tree) → HoldsElements form before ts → Stands form item t → FitsItem item
+pub element_held : (form : Form) (before after : Parts) (ts : List Tree) (item : Item) (t : Tree) → HoldsElements form before ts → StandsFor form item t
+    → FitsItem item
     → length (item_content item) < 2 ^ 28 → after ≡ with_entry before (entry_of item) → HoldsElements form after (ts ++ t ∷ [])
 element_held form before after ts item t holds stands fits short is =
-    rw is (AreEntries-added (reading form) ts t before.words before.contents (item_kind item) (item_content item) short (content_stands form item t stands fits) holds)
+    rw is (AreEntries-added (number_reader form) ts t before.words before.contents (item_kind item) (item_content item) short
+    (content_stands form item t stands fits) holds)
 
 last_is_short : (form : Form) (ts : List Tree) (t : Tree) → HasShortElements form (trees_of (ts ++ t ∷ [])) → content_size form t < 2 ^ 28
 last_is_short form [] t h = h.0
 last_is_short form (u ∷ us) t h = last_is_short form us t h.2
 
 -- where one more element passes the limits, an array with it does
-pub element_too_large : (form : Form) (parts : Parts) (ts : List Tree) (item : Item) (t : Tree) → HoldsElements form parts ts → Stands form item t → ElementPasses parts item
+pub element_too_large : (form : Form) (parts : Parts) (ts : List Tree) (item : Item) (t : Tree) → HoldsElements form parts ts → StandsFor form item t
+    → IsTooLargeElement parts item
     → IsTooLarge form (array (trees_of (ts ++ t ∷ [])))
 element_too_large form parts ts item t holds stands (inl long) =
     λ within. omega (arith, last_is_short form ts t within.1, long_content form item t stands long)

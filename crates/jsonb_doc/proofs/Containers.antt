@@ -2,22 +2,23 @@
 use Rattle.std.proofs.Common.{◌≡◌, ◌≢◌, ℕ, suc, ◌+◌, ◌*◌, ◌^◌, ◌≤◌, List, [], ◌∷◌, ◌++◌, length, take, drop, refl, sym, ap, ◌∙◌, arith, true, false, ◌↔◌, ◌⊎◌, inl, inr}
 use Rattle.std.proofs.lemmas.List.{length-append, take_at, drop_at, append-nil}
 use Rattle.jsonb_doc.specs.Tree.{Tree, null, boolean, number, text, extension, array, object, Trees, no_trees, tree, Pairs, no_pairs, pair, count, keys, values}
-use Rattle.jsonb_doc.specs.Payload.{Reading, Form, reading}
-use Rattle.jsonb_doc.specs.Containers.{IsLoneEntry, IsCut, Holds, HoldsPairs}
-use Rattle.jsonb_doc.specs.Lengths.{HoldKeys}
+use Rattle.jsonb_doc.specs.Payload.{NumberReader, Form, number_reader}
+use Rattle.jsonb_doc.specs.Private.Containers.{IsLoneEntry, IsCut, Holds, HasPairParts}
+use Rattle.jsonb_doc.specs.Private.Lengths.{HoldKeys}
 use Rattle.jsonb_doc.specs.declared.entry_iter.StoredEntry.{StoredEntry}
 use Rattle.jsonb_doc.specs.declared.container.ArrayParts.{ArrayParts}
 use Rattle.jsonb_doc.specs.declared.container.ObjectParts.{ObjectParts}
 use Rattle.jsonb_doc.specs.declared.container.Container.{Container}
 use Rattle.jsonb_doc.specs.declared.container.Container.TheVariants.{Scalar, Array, Object}
-use Rattle.jsonb_doc.specs.Format.{Decodes, HeadedBy, BeginWith, entry_word, Container as FormatContainer, Members, AreKeys, key_words, key_bytes, IsContent, AreEntries, AreValues, IsDocument}
-use Rattle.jsonb_doc.specs.Checking.{HasContent, HasEntries, HasDocument, HasKeys}
-use Rattle.jsonb_doc.proofs.Words.{word_cancel, append_cancel}
+use Rattle.jsonb_doc.specs.Format.{Decodes, HeadedBy, BeginWith, entry_word, IsContainer as FormatContainer, AreMembers, AreKeys, key_words, key_bytes, IsContent, AreEntries, AreValues, IsDocument}
+use Rattle.jsonb_doc.specs.Private.Checking.{HasContent, HasEntries, HasDocument, HasKeys}
+use Rattle.jsonb_doc.proofs.WordLemmas.{word_cancel, append_cancel}
 use Rattle.jsonb_doc.proofs.Entries.{BeginWith-unique}
 use Rattle.jsonb_doc.proofs.KeysRead.{begin_key}
 
 -- a header is one
-pub HeadedBy-unique : (bytes : List ℕ) (k k' n n' : ℕ) (rest rest' : List ℕ) → HeadedBy bytes k n rest → HeadedBy bytes k' n' rest' → (k ≡ k') × (n ≡ n') × (rest ≡ rest')
+pub HeadedBy-unique : (bytes : List ℕ) (k k' n n' : ℕ) (rest rest' : List ℕ) → HeadedBy bytes k n rest → HeadedBy bytes k' n' rest'
+    → (k ≡ k') × (n ≡ n') × (rest ≡ rest')
 HeadedBy-unique bytes k k' n n' rest rest' h h' =
     let known = h.known in
     let known' = h'.known in
@@ -27,7 +28,7 @@ HeadedBy-unique bytes k k' n n' rest rest' h h' =
     (omega (arith, both.0), omega (arith, both.0), both.1)
 
 -- the words are as long as their count says
-module _ (number_at : Reading) where
+module _ (number_at : NumberReader) where
   pub length-words : (ts : Trees) (words contents : List ℕ) → AreEntries number_at ts words contents → length words ≡ 4 * count ts
   length-words no_trees words contents h = ap length h.0
   length-words (tree t ts) words contents e =
@@ -48,7 +49,8 @@ module _ (number_at : Reading) where
     others = entries_of ps e.other_words e.other_contents e.others;
   }
 
-  values_of : (ks : List (List ℕ)) (ts : Trees) (words contents : List ℕ) → length ks ≡ count ts → AreEntries number_at ts words contents → (ps : Pairs) × (keys ps ≡ ks) × AreValues number_at ps words contents
+  values_of : (ks : List (List ℕ)) (ts : Trees) (words contents : List ℕ) → length ks ≡ count ts → AreEntries number_at ts words contents
+      → (ps : Pairs) × (keys ps ≡ ks) × AreValues number_at ps words contents
   values_of [] no_trees words contents same h = (no_pairs, refl, h)
   values_of [] (tree t ts) words contents same h = absurd (omega arith)
   values_of (key ∷ ks) no_trees words contents same h = absurd (omega arith)
@@ -83,17 +85,20 @@ HasKeys-room words bytes rest (ks, are, is, joined) = omega (arith, ap length jo
 pub HasKeys-unique : (words bytes a b : List ℕ) → HasKeys words bytes a → HasKeys words bytes b → a ≡ b
 HasKeys-unique words bytes a b x y = go x.0 y.0 words bytes x.1 y.1 x.2 y.2 x.3 y.3
   where
-    go : (ks ls : List (List ℕ)) (words bytes : List ℕ) → AreKeys ks → AreKeys ls → words ≡ key_words ks → words ≡ key_words ls → bytes ≡ key_bytes ks ++ a → bytes ≡ key_bytes ls ++ b → a ≡ b
+    go : (ks ls : List (List ℕ)) (words bytes : List ℕ) → AreKeys ks → AreKeys ls → words ≡ key_words ks → words ≡ key_words ls → bytes ≡ key_bytes ks ++ a
+        → bytes ≡ key_bytes ls ++ b → a ≡ b
     go [] [] words bytes p q e f g h = sym g ∙ h
     go [] (l ∷ ls) words bytes p q e f g h = absurd (omega (arith, ap length e, ap length f))
     go (k ∷ ks) [] words bytes p q e f g h = absurd (omega (arith, ap length e, ap length f))
     go (k ∷ ks) (l ∷ ls) words bytes p q e f g h =
-        let same = BeginWith-unique words bytes 1 1 k l (key_words ks) (key_words ls) (key_bytes ks ++ a) (key_bytes ls ++ b) (begin_key words bytes a k ks p.0.1 e g) (begin_key words bytes b l ls q.0.1 f h) in
+        let same = BeginWith-unique words bytes 1 1 k l (key_words ks) (key_words ls) (key_bytes ks ++ a) (key_bytes ls ++ b)
+        (begin_key words bytes a k ks p.0.1 e g) (begin_key words bytes b l ls q.0.1 f h) in
         go ks ls (key_words ks) (key_bytes ks ++ a) p.2 q.2 refl same.2 refl same.3
 
 -- the content of an entry for a container is an array or an object
-container_cases : (number_at : Reading) (bytes : List ℕ) → HasContent 5 bytes number_at
-    → ((ts : Trees) × FormatContainer 4 (count ts) (AreEntries number_at ts) bytes) ⊎ ((ps : Pairs) × FormatContainer 2 (length (keys ps)) (Members (keys ps) (AreValues number_at ps)) bytes)
+container_cases : (number_at : NumberReader) (bytes : List ℕ) → HasContent 5 bytes number_at
+    → ((ts : Trees) × FormatContainer 4 (count ts) (AreEntries number_at ts) bytes)
+    ⊎ ((ps : Pairs) × FormatContainer 2 (length (keys ps)) (AreMembers (keys ps) (AreValues number_at ps)) bytes)
 container_cases number_at bytes (null, h) = absurd (omega arith)
 container_cases number_at bytes (boolean true, h) = absurd (omega arith)
 container_cases number_at bytes (boolean false, h) = absurd (omega arith)
@@ -103,13 +108,14 @@ container_cases number_at bytes (extension x, h) = absurd (omega arith)
 container_cases number_at bytes (array ts, h) = inl (ts, h.1)
 container_cases number_at bytes (object ps, h) = inr (ps, h.1)
 
-pub HasContent-headed : (number_at : Reading) (bytes : List ℕ) → HasContent 5 bytes number_at → (kind entries : ℕ) × (rest : List ℕ) × HeadedBy bytes kind entries rest
+pub HasContent-headed : (number_at : NumberReader) (bytes : List ℕ) → HasContent 5 bytes number_at
+    → (kind entries : ℕ) × (rest : List ℕ) × HeadedBy bytes kind entries rest
 HasContent-headed number_at bytes h = elim (container_cases number_at bytes h) [
   | inl a ↦ (4, count a.0, a.1.words ++ a.1.contents, a.1.headed)
   | inr o ↦ (2, length (keys o.0), o.1.words ++ o.1.contents, o.1.headed)
 ]
 
-module _ (number_at : Reading) (bytes : List ℕ) (kind n : ℕ) (rest : List ℕ) (h : HeadedBy bytes kind n rest) where
+module _ (number_at : NumberReader) (bytes : List ℕ) (kind n : ℕ) (rest : List ℕ) (h : HeadedBy bytes kind n rest) where
   pub HasContent-kind : HasContent 5 bytes number_at → (kind ≡ 2) ⊎ (kind ≡ 4)
   HasContent-kind content = elim (container_cases number_at bytes content) [
     | inl a ↦ inr (HeadedBy-unique bytes kind 4 n (count a.0) rest (a.1.words ++ a.1.contents) h a.1.headed).0
@@ -119,11 +125,12 @@ module _ (number_at : Reading) (bytes : List ℕ) (kind n : ℕ) (rest : List �
 
 -- ---- documents
 
-pub HasDocument-headed : (number_at : Reading) (bytes : List ℕ) → HasDocument bytes number_at → (kind entries : ℕ) × (rest : List ℕ) × HeadedBy bytes kind entries rest
+pub HasDocument-headed : (number_at : NumberReader) (bytes : List ℕ) → HasDocument bytes number_at
+    → (kind entries : ℕ) × (rest : List ℕ) × HeadedBy bytes kind entries rest
 HasDocument-headed number_at bytes (t, inl h) = HasContent-headed number_at bytes (t, h)
 HasDocument-headed number_at bytes (t, inr s) = (1, 0, s.words ++ s.contents, s.headed)
 
-module _ (number_at : Reading) (bytes : List ℕ) (kind n : ℕ) (rest : List ℕ) (h : HeadedBy bytes kind n rest) where
+module _ (number_at : NumberReader) (bytes : List ℕ) (kind n : ℕ) (rest : List ℕ) (h : HeadedBy bytes kind n rest) where
   -- a document with another header than a scalar's is a container
   pub container_document : kind ≢ 1 → (t : Tree) → IsDocument number_at t bytes → IsContent number_at t 5 bytes
   container_document other t (inl c) = c
@@ -132,7 +139,8 @@ module _ (number_at : Reading) (bytes : List ℕ) (kind n : ℕ) (rest : List �
 
   -- a document with a scalar's header has one entry
   pub scalar_document : (t : Tree) → kind ≡ 1 → IsDocument number_at t bytes
-      → (n ≡ 0) × (4 ≤ length rest) × (k : ℕ) × (content : List ℕ) × BeginWith (take 4 rest) (drop 4 rest) k content [] [] × (k ≢ 5) × IsContent number_at t k content
+      → (n ≡ 0) × (4 ≤ length rest) × (k : ℕ) × (content : List ℕ) × BeginWith (take 4 rest) (drop 4 rest) k content [] [] × (k ≢ 5)
+      × IsContent number_at t k content
   scalar_document t is (inl c) = elim (HasContent-kind number_at bytes kind n rest h (t, c)) [
     | inl two ↦ absurd (omega arith)
     | inr four ↦ absurd (omega arith)
@@ -148,7 +156,7 @@ module _ (number_at : Reading) (bytes : List ℕ) (kind n : ℕ) (rest : List �
 
 module _ (form : Form) (bytes : List ℕ) (kind n : ℕ) (rest : List ℕ) (h : HeadedBy bytes kind n rest) where
   -- a part with the header of an array is an array, and decodes by itself
-  pub array_content : (t : Tree) → kind ≡ 4 → IsContent (reading form) t 5 bytes → (ts : Trees) × (t ≡ array ts) × Decodes form bytes (array ts)
+  pub array_content : (t : Tree) → kind ≡ 4 → IsContent (number_reader form) t 5 bytes → (ts : Trees) × (t ≡ array ts) × Decodes form bytes (array ts)
   array_content (boolean true) is c = absurd (omega arith)
   array_content (boolean false) is c = absurd (omega arith)
   array_content (array ts) is c = (ts, refl, record { document = inl c })
@@ -156,7 +164,7 @@ module _ (form : Form) (bytes : List ℕ) (kind n : ℕ) (rest : List ℕ) (h : 
       absurd (omega (arith, (HeadedBy-unique bytes kind 2 n (length (keys ps)) rest (c.1.words ++ c.1.contents) h c.1.headed).0))
   array_content _ is c = absurd (omega (arith, c.0))
 
-  pub object_content : (t : Tree) → kind ≡ 2 → IsContent (reading form) t 5 bytes → (ps : Pairs) × (t ≡ object ps) × Decodes form bytes (object ps)
+  pub object_content : (t : Tree) → kind ≡ 2 → IsContent (number_reader form) t 5 bytes → (ps : Pairs) × (t ≡ object ps) × Decodes form bytes (object ps)
   object_content (boolean true) is c = absurd (omega arith)
   object_content (boolean false) is c = absurd (omega arith)
   object_content (array ts) is c =
@@ -165,18 +173,19 @@ module _ (form : Form) (bytes : List ℕ) (kind n : ℕ) (rest : List ℕ) (h : 
   object_content _ is c = absurd (omega (arith, c.0))
 
 -- the document of a container is its content
-pub array_document : (number_at : Reading) (ts : Trees) (bytes : List ℕ) → IsDocument number_at (array ts) bytes → IsContent number_at (array ts) 5 bytes
+pub array_document : (number_at : NumberReader) (ts : Trees) (bytes : List ℕ) → IsDocument number_at (array ts) bytes → IsContent number_at (array ts) 5 bytes
 array_document number_at ts bytes (inl c) = c
 array_document number_at ts bytes (inr s) = absurd (s.parts.part.0 s.parts.part.1.0)
 
-pub object_document : (number_at : Reading) (ps : Pairs) (bytes : List ℕ) → IsDocument number_at (object ps) bytes → IsContent number_at (object ps) 5 bytes
+pub object_document : (number_at : NumberReader) (ps : Pairs) (bytes : List ℕ) → IsDocument number_at (object ps) bytes
+    → IsContent number_at (object ps) 5 bytes
 object_document number_at ps bytes (inl c) = c
 object_document number_at ps bytes (inr s) = absurd (s.parts.part.0 s.parts.part.1.0)
 
 -- ---- documents, by their headers
 
 -- what a document with the header of a scalar holds: one entry
-pub record ScalarIn (number_at : Reading) (t : Tree) (n : ℕ) (rest : List ℕ) : Type 0 where
+pub record ScalarIn (number_at : NumberReader) (t : Tree) (n : ℕ) (rest : List ℕ) : Type 0 where
   pub none : n ≡ 0
   pub kind : ℕ
   pub content : List ℕ
@@ -184,7 +193,7 @@ pub record ScalarIn (number_at : Reading) (t : Tree) (n : ℕ) (rest : List ℕ)
   pub part : IsContent number_at t kind content
 
 -- what one with the header of an array holds
-pub record ArrayIn (number_at : Reading) (t : Tree) (n : ℕ) (rest : List ℕ) : Type 0 where
+pub record ArrayIn (number_at : NumberReader) (t : Tree) (n : ℕ) (rest : List ℕ) : Type 0 where
   pub ts : Trees
   pub is : t ≡ array ts
   pub words : List ℕ
@@ -194,7 +203,7 @@ pub record ArrayIn (number_at : Reading) (t : Tree) (n : ℕ) (rest : List ℕ) 
   pub entries : AreEntries number_at ts words contents
 
 -- what one with the header of an object holds
-pub record ObjectIn (number_at : Reading) (t : Tree) (n : ℕ) (rest : List ℕ) : Type 0 where
+pub record ObjectIn (number_at : NumberReader) (t : Tree) (n : ℕ) (rest : List ℕ) : Type 0 where
   pub ps : Pairs
   pub is : t ≡ object ps
   pub value_words : List ℕ
@@ -205,7 +214,7 @@ pub record ObjectIn (number_at : Reading) (t : Tree) (n : ℕ) (rest : List ℕ)
   pub are_keys : AreKeys (keys ps)
   pub values : AreValues number_at ps value_words value_contents
 
-module _ (number_at : Reading) (bytes : List ℕ) where
+module _ (number_at : NumberReader) (bytes : List ℕ) where
   -- the content of an entry of a container is that of a container alone
   pub container_kind : (t : Tree) (kind : ℕ) (content : List ℕ) → IsContent number_at t 5 bytes → IsContent number_at t kind content → kind ≡ 5
   container_kind (boolean true) kind content h k = absurd (omega (arith, h.0))
@@ -232,7 +241,8 @@ module _ (number_at : Reading) (bytes : List ℕ) where
             start = record {
               known = begin.known;
               fits = begin.fits;
-              joined = same_rest ∙ ap (λ (w : List ℕ). w ++ s.contents) begin.words_joined ∙ ap (λ (w : List ℕ). entry_word e.kind (length e.content) ++ w) (begin.contents_joined ∙ append-nil e.content);
+              joined = same_rest ∙ ap (λ (w : List ℕ). w ++ s.contents) begin.words_joined
+                  ∙ ap (λ (w : List ℕ). entry_word e.kind (length e.content) ++ w) (begin.contents_joined ∙ append-nil e.content);
             };
             scalar = e.part.0;
           };
@@ -270,9 +280,16 @@ module _ (number_at : Reading) (bytes : List ℕ) where
           is = refl;
           value_words = m.value_words;
           value_contents = m.value_contents;
-          joined = same_rest ∙ ap (λ (w : List ℕ). w ++ c.contents) m.words_joined ∙ ap (λ (w : List ℕ). (key_words (keys ps) ++ m.value_words) ++ w) m.contents_joined;
+          joined = same_rest ∙ ap (λ (w : List ℕ). w ++ c.contents) m.words_joined
+              ∙ ap (λ (w : List ℕ). (key_words (keys ps) ++ m.value_words) ++ w) m.contents_joined;
           keys_counted = omega (arith, same_n, length-key_words (keys ps));
-          values_counted = omega (arith, same_n, length-words number_at (values ps) m.value_words m.value_contents (entries_of number_at ps m.value_words m.value_contents m.values), count-values ps);
+          values_counted = omega (
+            arith,
+            same_n,
+            length-words number_at (values ps) m.value_words m.value_contents
+                (entries_of number_at ps m.value_words m.value_contents m.values),
+            count-values ps,
+          );
           are_keys = m.are_keys;
           values = m.values;
         }
@@ -281,24 +298,28 @@ module _ (number_at : Reading) (bytes : List ℕ) where
 -- ---- documents that are cut
 
 -- the one entry of a scalar is one
-lone_unique : (bytes : List ℕ) (k k' : ℕ) (content content' : List ℕ) → IsLoneEntry bytes k content → IsLoneEntry bytes k' content' → (k ≡ k') × (content ≡ content')
+lone_unique : (bytes : List ℕ) (k k' : ℕ) (content content' : List ℕ) → IsLoneEntry bytes k content → IsLoneEntry bytes k' content'
+    → (k ≡ k') × (content ≡ content')
 lone_unique bytes k k' content content' a b =
     let known = a.start.known in
     let fits = a.start.fits in
     let known' = b.start.known in
     let fits' = b.start.fits in
-    let both = word_cancel (k * 2 ^ 28 + length content) (k' * 2 ^ 28 + length content') content content' (omega arith) (omega arith) (sym a.start.joined ∙ b.start.joined) in
+    let both = word_cancel (k * 2 ^ 28 + length content) (k' * 2 ^ 28 + length content') content content' (omega arith) (omega arith)
+    (sym a.start.joined ∙ b.start.joined) in
     (omega (arith, both.0, ap length both.1), both.1)
 
-module _ (number_at : Reading) (bytes : List ℕ) where
+module _ (number_at : NumberReader) (bytes : List ℕ) where
   -- the document of an array or an object
-  array_from : (p : ArrayParts) (n : ℕ) → HeadedBy bytes 4 n (p.words.now ++ p.contents.now) → length p.words.now ≡ 4 * n → (t : Tree) → Holds number_at t (Array p) → IsContent number_at t 5 bytes
+  array_from : (p : ArrayParts) (n : ℕ) → HeadedBy bytes 4 n (p.words.now ++ p.contents.now) → length p.words.now ≡ 4 * n → (t : Tree)
+      → Holds number_at t (Array p) → IsContent number_at t 5 bytes
   array_from p n h len (array ts) entries =
       let same : n ≡ count ts = omega (arith, len, length-words number_at ts p.words.now p.contents.now entries) in
       (refl, record { words = p.words.now; contents = p.contents.now; headed = rw same at h; parts = entries })
   array_from p n h len _ none = absurd none
 
-  object_from : (p : ObjectParts) (n : ℕ) → HeadedBy bytes 2 n ((p.key_words.now ++ p.value_words.now) ++ p.contents.now) → length p.key_words.now ≡ 4 * n → (t : Tree) → Holds number_at t (Object p) → IsContent number_at t 5 bytes
+  object_from : (p : ObjectParts) (n : ℕ) → HeadedBy bytes 2 n ((p.key_words.now ++ p.value_words.now) ++ p.contents.now) → length p.key_words.now ≡ 4 * n
+      → (t : Tree) → Holds number_at t (Object p) → IsContent number_at t 5 bytes
   object_from p n h len (object ps) o =
       let same : n ≡ length (keys ps) = omega (arith, len, ap length o.words, length-key_words (keys ps)) in (
         refl,
@@ -319,23 +340,34 @@ module _ (number_at : Reading) (bytes : List ℕ) where
   object_from p n h len _ none = absurd none
 
 -- the parts of an array or an object are those of its document
-array_to : (number_at : Reading) (p : ArrayParts) (n : ℕ) → length p.words.now ≡ 4 * n → (t : Tree) → ArrayIn number_at t n (p.words.now ++ p.contents.now) → Holds number_at t (Array p)
+array_to : (number_at : NumberReader) (p : ArrayParts) (n : ℕ) → length p.words.now ≡ 4 * n → (t : Tree)
+    → ArrayIn number_at t n (p.words.now ++ p.contents.now) → Holds number_at t (Array p)
 array_to number_at p n len t a =
     let same = append_cancel p.words.now p.contents.now a.words a.contents (omega (arith, len, a.counted)) a.joined in
     rw (a.is, same.0, same.1) a.entries
 
-object_to : (number_at : Reading) (p : ObjectParts) (n : ℕ) → length p.key_words.now ≡ 4 * n → length p.value_words.now ≡ 4 * n → (t : Tree)
+object_to : (number_at : NumberReader) (p : ObjectParts) (n : ℕ) → length p.key_words.now ≡ 4 * n → length p.value_words.now ≡ 4 * n → (t : Tree)
     → ObjectIn number_at t n ((p.key_words.now ++ p.value_words.now) ++ p.contents.now) → Holds number_at t (Object p)
 object_to number_at p n len value_len t o =
     let words = p.key_words.now ++ p.value_words.now in
     let other_words = key_words (keys o.ps) ++ o.value_words in
-    let long : length words ≡ length other_words = omega (arith, length-append p.key_words.now p.value_words.now, length-append (key_words (keys o.ps)) o.value_words, len, value_len, o.keys_counted, o.values_counted) in
+    let long : length words ≡ length other_words = omega (
+      arith,
+      length-append p.key_words.now p.value_words.now,
+      length-append
+          (key_words (keys o.ps)) o.value_words,
+      len,
+      value_len,
+      o.keys_counted,
+      o.values_counted,
+    ) in
     let both = append_cancel words p.contents.now other_words (key_bytes (keys o.ps) ++ o.value_contents) long o.joined in
     let cut = append_cancel p.key_words.now p.value_words.now (key_words (keys o.ps)) o.value_words (omega (arith, len, o.keys_counted)) both.0 in
     rw o.is (record { rest = o.value_contents; are_keys = o.are_keys; words = cut.0; bytes = both.1; values = rw cut.1 o.values })
 
 -- the bytes are a document of a tree where their parts say so
-pub IsCut-same : (bytes : List ℕ) (found : Container) → IsCut bytes found → (number_at : Reading) (t : Tree) → IsDocument number_at t bytes ↔ Holds number_at t found
+pub IsCut-same : (bytes : List ℕ) (found : Container) → IsCut bytes found → (number_at : NumberReader) (t : Tree)
+    → IsDocument number_at t bytes ↔ Holds number_at t found
 IsCut-same bytes (Scalar e) (rest, h, lone) number_at t = (
   λ d.
       let s = document_scalar number_at bytes 0 rest h t d in
@@ -366,12 +398,13 @@ IsCut-same bytes (Object p) (n, h, len, value_len) number_at t = (
 )
 
 -- a document has one of three headers
-pub document_kind : (number_at : Reading) (bytes : List ℕ) (kind n : ℕ) (rest : List ℕ) → HeadedBy bytes kind n rest → (t : Tree) → IsDocument number_at t bytes → (kind ≡ 1) ⊎ ((kind ≡ 2) ⊎ (kind ≡ 4))
+pub document_kind : (number_at : NumberReader) (bytes : List ℕ) (kind n : ℕ) (rest : List ℕ) → HeadedBy bytes kind n rest → (t : Tree)
+    → IsDocument number_at t bytes → (kind ≡ 1) ⊎ ((kind ≡ 2) ⊎ (kind ≡ 4))
 document_kind number_at bytes kind n rest h t (inl c) = inr (HasContent-kind number_at bytes kind n rest h (t, c))
 document_kind number_at bytes kind n rest h t (inr s) = inl (HeadedBy-unique bytes kind 1 n 0 rest (s.words ++ s.contents) h s.headed).0
 
 -- a document with the header of an array or an object has as many bytes as its words
-module _ (number_at : Reading) (bytes : List ℕ) (n : ℕ) (rest : List ℕ) (t : Tree) (d : IsDocument number_at t bytes) where
+module _ (number_at : NumberReader) (bytes : List ℕ) (n : ℕ) (rest : List ℕ) (t : Tree) (d : IsDocument number_at t bytes) where
   pub array_long : HeadedBy bytes 4 n rest → 4 * n ≤ length rest
   array_long h =
       let a = document_array number_at bytes n rest h t (container_document number_at bytes 4 n rest h (omega arith) t d) in
@@ -381,13 +414,22 @@ module _ (number_at : Reading) (bytes : List ℕ) (n : ℕ) (rest : List ℕ) (t
   object_long h =
       let o = document_object number_at bytes n rest h t (container_document number_at bytes 2 n rest h (omega arith) t d) in
       let words = key_words (keys o.ps) ++ o.value_words in
-      omega (arith, ap length o.joined, length-append words (key_bytes (keys o.ps) ++ o.value_contents), length-append (key_words (keys o.ps)) o.value_words, o.keys_counted, o.values_counted)
+      omega (
+        arith,
+        ap length o.joined,
+        length-append words (key_bytes (keys o.ps) ++ o.value_contents),
+        length-append
+            (key_words (keys o.ps)) o.value_words,
+        o.keys_counted,
+        o.values_counted,
+      )
 
 -- ---- what the parts tell of a tree
 
-module _ (number_at : Reading) (bytes : List ℕ) where
+module _ (number_at : NumberReader) (bytes : List ℕ) where
   -- the document of a tree that is cut into the parts of an array or an object is a container's
-  pub IsCut-container : (found : Container) → IsCut bytes found → ((e : StoredEntry) → found ≡ Scalar e → ⊥) → (t : Tree) → IsDocument number_at t bytes → IsContent number_at t 5 bytes
+  pub IsCut-container : (found : Container) → IsCut bytes found → ((e : StoredEntry) → found ≡ Scalar e → ⊥) → (t : Tree) → IsDocument number_at t bytes
+      → IsContent number_at t 5 bytes
   IsCut-container (Scalar e) cut other t d = absurd (other e refl)
   IsCut-container (Array p) (n, h, len) other t d = container_document number_at bytes 4 n _ h (omega arith) t d
   IsCut-container (Object p) (n, h, len, value_len) other t d = container_document number_at bytes 2 n _ h (omega arith) t d
@@ -400,44 +442,50 @@ module _ (number_at : Reading) (bytes : List ℕ) where
 
 module _ (form : Form) (bytes : List ℕ) where
   -- a document that is cut into the parts of an array, or of an object, is one
-  pub Holds-elements : (t : Tree) (p : ArrayParts) → Holds (reading form) t (Array p) → Decodes form bytes t → (ts : Trees) × (t ≡ array ts) × Decodes form bytes (array ts)
+  pub Holds-elements : (t : Tree) (p : ArrayParts) → Holds (number_reader form) t (Array p) → Decodes form bytes t
+      → (ts : Trees) × (t ≡ array ts) × Decodes form bytes (array ts)
   Holds-elements (array ts) p held h = (ts, refl, h)
   Holds-elements _ p held h = absurd held
 
-  pub Holds-pairs : (t : Tree) (p : ObjectParts) → Holds (reading form) t (Object p) → Decodes form bytes t → (ps : Pairs) × (t ≡ object ps) × Decodes form bytes (object ps)
+  pub Holds-pairs : (t : Tree) (p : ObjectParts) → Holds (number_reader form) t (Object p) → Decodes form bytes t
+      → (ps : Pairs) × (t ≡ object ps) × Decodes form bytes (object ps)
   Holds-pairs (object ps) p held h = (ps, refl, h)
   Holds-pairs _ p held h = absurd held
 
   -- the parts of a document are those of its tree
-  pub Decodes-scalar : (e : StoredEntry) → IsCut bytes (Scalar e) → (t : Tree) → Decodes form bytes t → IsContent (reading form) t e.kind e.content.now
-  Decodes-scalar e cut t h = ((IsCut-same bytes (Scalar e) cut (reading form) t).0 h.document).1
+  pub Decodes-scalar : (e : StoredEntry) → IsCut bytes (Scalar e) → (t : Tree) → Decodes form bytes t → IsContent (number_reader form) t e.kind e.content.now
+  Decodes-scalar e cut t h = ((IsCut-same bytes (Scalar e) cut (number_reader form) t).0 h.document).1
 
-  pub Decodes-array : (p : ArrayParts) → IsCut bytes (Array p) → (t : Tree) → Decodes form bytes t → Holds (reading form) t (Array p)
-  Decodes-array p cut t h = (IsCut-same bytes (Array p) cut (reading form) t).0 h.document
+  pub Decodes-array : (p : ArrayParts) → IsCut bytes (Array p) → (t : Tree) → Decodes form bytes t → Holds (number_reader form) t (Array p)
+  Decodes-array p cut t h = (IsCut-same bytes (Array p) cut (number_reader form) t).0 h.document
 
-  pub Decodes-object : (p : ObjectParts) → IsCut bytes (Object p) → (t : Tree) → Decodes form bytes t → Holds (reading form) t (Object p)
-  Decodes-object p cut t h = (IsCut-same bytes (Object p) cut (reading form) t).0 h.document
+  pub Decodes-object : (p : ObjectParts) → IsCut bytes (Object p) → (t : Tree) → Decodes form bytes t → Holds (number_reader form) t (Object p)
+  Decodes-object p cut t h = (IsCut-same bytes (Object p) cut (number_reader form) t).0 h.document
 
 -- an object's keys before its values
-pub HoldsPairs-keys : (number_at : Reading) (ps : Pairs) (p : ObjectParts) → (h : HoldsPairs number_at ps p) → HoldKeys (keys ps) p.key_words.now p.contents.now h.rest
+pub HoldsPairs-keys : (number_at : NumberReader) (ps : Pairs) (p : ObjectParts) → (h : HasPairParts number_at ps p)
+    → HoldKeys (keys ps) p.key_words.now p.contents.now h.rest
 HoldsPairs-keys number_at ps p h = record { are_keys = h.are_keys; words_joined = h.words; bytes_joined = h.bytes }
 
 -- ---- what decodes at all
 
 module _ (bytes : List ℕ) where
   -- a document decodes where its one entry does, or where it is the content of a container
-  pub HasDocument-scalar : (e : StoredEntry) → IsCut bytes (Scalar e) → (number_at : Reading) → HasContent e.kind e.content.now number_at ↔ HasDocument bytes number_at
+  pub HasDocument-scalar : (e : StoredEntry) → IsCut bytes (Scalar e) → (number_at : NumberReader)
+      → HasContent e.kind e.content.now number_at ↔ HasDocument bytes number_at
   HasDocument-scalar e cut number_at = (
     λ h. (h.0, (IsCut-same bytes (Scalar e) cut number_at h.0).1 (cut.2.scalar, h.1)),
     λ d. (d.0, ((IsCut-same bytes (Scalar e) cut number_at d.0).0 d.1).1),
   )
 
-  pub HasDocument-container : (found : Container) → IsCut bytes found → ((e : StoredEntry) → found ≡ Scalar e → ⊥) → (number_at : Reading) → HasContent 5 bytes number_at ↔ HasDocument bytes number_at
+  pub HasDocument-container : (found : Container) → IsCut bytes found → ((e : StoredEntry) → found ≡ Scalar e → ⊥) → (number_at : NumberReader)
+      → HasContent 5 bytes number_at ↔ HasDocument bytes number_at
   HasDocument-container found cut other number_at =
       (λ h. (h.0, inl h.1), λ d. (d.0, IsCut-container number_at bytes found cut other d.0 d.1))
 
   -- an array's content decodes where its entries do
-  pub HasContent-array : (p : ArrayParts) → IsCut bytes (Array p) → (number_at : Reading) → HasContent 5 bytes number_at ↔ HasEntries p.words.now p.contents.now number_at
+  pub HasContent-array : (p : ArrayParts) → IsCut bytes (Array p) → (number_at : NumberReader)
+      → HasContent 5 bytes number_at ↔ HasEntries p.words.now p.contents.now number_at
   HasContent-array p cut number_at = (
     λ h. held h.0 ((IsCut-same bytes (Array p) cut number_at h.0).0 (inl h.1)),
     λ h. (array h.0, array_document number_at h.0 bytes ((IsCut-same bytes (Array p) cut number_at (array h.0)).1 h.1)),
@@ -449,26 +497,30 @@ module _ (bytes : List ℕ) where
 
   module _ (p : ObjectParts) (cut : IsCut bytes (Object p)) where
     -- an object's content decodes where its keys do, and the entries behind them
-    HoldsPairs-found : (number_at : Reading) (t : Tree) → Holds number_at t (Object p) → (rest : List ℕ) × HasKeys p.key_words.now p.contents.now rest × HasEntries p.value_words.now rest number_at
+    HoldsPairs-found : (number_at : NumberReader) (t : Tree) → Holds number_at t (Object p)
+        → (rest : List ℕ) × HasKeys p.key_words.now p.contents.now rest × HasEntries p.value_words.now rest number_at
     HoldsPairs-found number_at (object ps) h =
         (h.rest, (keys ps, h.are_keys, h.words, h.bytes), (values ps, entries_of number_at ps p.value_words.now h.rest h.values))
     HoldsPairs-found number_at _ h = absurd h
 
-    found_within : (number_at : Reading) → HasContent 5 bytes number_at → (rest : List ℕ) × HasKeys p.key_words.now p.contents.now rest × HasEntries p.value_words.now rest number_at
+    found_within : (number_at : NumberReader) → HasContent 5 bytes number_at
+        → (rest : List ℕ) × HasKeys p.key_words.now p.contents.now rest × HasEntries p.value_words.now rest number_at
     found_within number_at h = HoldsPairs-found number_at h.0 ((IsCut-same bytes (Object p) cut number_at h.0).0 (inl h.1))
 
-    pub HasContent-keys : (number_at : Reading) → ((rest : List ℕ) → HasKeys p.key_words.now p.contents.now rest → ⊥) → HasContent 5 bytes number_at → ⊥
+    pub HasContent-keys : (number_at : NumberReader) → ((rest : List ℕ) → HasKeys p.key_words.now p.contents.now rest → ⊥) → HasContent 5 bytes number_at → ⊥
     HasContent-keys number_at none h = let found = found_within number_at h in none found.0 found.1
 
-    object_with : (number_at : Reading) (rest : List ℕ) → HasKeys p.key_words.now p.contents.now rest → HasEntries p.value_words.now rest number_at → HasContent 5 bytes number_at
+    object_with : (number_at : NumberReader) (rest : List ℕ) → HasKeys p.key_words.now p.contents.now rest → HasEntries p.value_words.now rest number_at
+        → HasContent 5 bytes number_at
     object_with number_at rest (ks, are, words, joined) (ts, entries) =
         let len = length-words number_at ts p.value_words.now rest entries in
         let same : length ks ≡ count ts = omega (arith, len, cut.2, cut.3, ap length words, length-key_words ks) in
         let (ps, same_ks, are_values) = values_of number_at ks ts p.value_words.now rest same entries in
-        let held : HoldsPairs number_at ps p = record { rest = rest; are_keys = rw same_ks are; words = rw same_ks words; bytes = rw same_ks joined; values = are_values } in
+        let held : HasPairParts number_at ps p = record { rest = rest; are_keys = rw same_ks are; words = rw same_ks words; bytes = rw same_ks joined; values = are_values } in
         (object ps, object_document number_at ps bytes ((IsCut-same bytes (Object p) cut number_at (object ps)).1 held))
 
-    pub HasContent-object : (rest : List ℕ) → HasKeys p.key_words.now p.contents.now rest → (number_at : Reading) → HasContent 5 bytes number_at ↔ HasEntries p.value_words.now rest number_at
+    pub HasContent-object : (rest : List ℕ) → HasKeys p.key_words.now p.contents.now rest → (number_at : NumberReader)
+        → HasContent 5 bytes number_at ↔ HasEntries p.value_words.now rest number_at
     HasContent-object rest has number_at = (
       λ h.
           let found = found_within number_at h in

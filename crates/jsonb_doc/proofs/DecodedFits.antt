@@ -60,25 +60,71 @@ mutual
   canonical_is_shortest (extension x) kind bytes all h = omega (arith, extension_size bytes x h.1)
   canonical_is_shortest (array ts) kind bytes all (is, c) =
       let inner = headed_bytes bytes 4 (count ts) c.words c.contents c.headed all in
-      omega (arith, ap length c.headed.joined, length-append c.words c.contents, length-append (words ts) (contents ts), length-words number_of ts c.words c.contents c.parts, length-canonical_words ts, entries_are_shortest ts c.words c.contents inner c.parts)
+      omega (
+        arith,
+        ap length c.headed.joined,
+        length-append c.words c.contents,
+        length-append (words ts)
+            (contents ts),
+        length-words number_of ts c.words c.contents c.parts,
+        length-canonical_words ts,
+        entries_are_shortest ts c.words c.contents inner c.parts,
+      )
   canonical_is_shortest (object ps) kind bytes all (is, c) =
       let m = c.parts in
       let inner = headed_bytes bytes 2 (length (keys ps)) c.words c.contents c.headed all in
       let rest = joined_bytes c.contents (key_bytes (keys ps)) m.value_contents m.contents_joined inner in
       let entries = entries_of number_of ps m.value_words m.value_contents m.values in
-      omega (arith, ap length c.headed.joined, length-append c.words c.contents, ap length m.words_joined, length-append (key_words (keys ps)) m.value_words, ap length m.contents_joined, length-append (key_bytes (keys ps)) m.value_contents, length-key_words (keys ps), length-words number_of (values ps) m.value_words m.value_contents entries, count-values ps, length-append (key_words (keys ps) ++ value_words ps) (key_bytes (keys ps) ++ value_contents ps), length-append (key_words (keys ps)) (value_words ps), length-append (key_bytes (keys ps)) (value_contents ps), length-value_words ps, values_are_shortest ps m.value_words m.value_contents rest.1 m.values)
+      omega (
+        arith,
+        ap length c.headed.joined,
+        length-append c.words c.contents,
+        ap length m.words_joined,
+        length-append
+            (key_words (keys ps)) m.value_words,
+        ap length m.contents_joined,
+        length-append (key_bytes (keys ps)) m.value_contents,
+        length-key_words
+            (keys ps),
+        length-words number_of (values ps) m.value_words m.value_contents entries,
+        count-values ps,
+        length-append
+            (key_words (keys ps) ++ value_words ps) (key_bytes (keys ps) ++ value_contents ps),
+        length-append (key_words (keys ps))
+            (value_words ps),
+        length-append (key_bytes (keys ps))
+            (value_contents ps),
+        length-value_words ps,
+        values_are_shortest ps m.value_words m.value_contents rest.1 m.values,
+      )
 
   entries_are_shortest : (ts : Trees) (ws cs : List ℕ) → AreBytes cs → AreEntries number_of ts ws cs → length (contents ts) ≤ length cs
   entries_are_shortest no_trees ws cs all h = omega arith
   entries_are_shortest (tree t ts) ws cs all e =
       let rest = joined_bytes cs e.content e.other_contents e.begin.contents_joined all in
-      omega (arith, ap length e.begin.contents_joined, length-append e.content e.other_contents, length-append (content t) (contents ts), canonical_is_shortest t e.kind e.content rest.0 e.part, entries_are_shortest ts e.other_words e.other_contents rest.1 e.others)
+      omega (
+        arith,
+        ap length e.begin.contents_joined,
+        length-append e.content e.other_contents,
+        length-append (content t)
+            (contents ts),
+        canonical_is_shortest t e.kind e.content rest.0 e.part,
+        entries_are_shortest ts e.other_words e.other_contents rest.1 e.others,
+      )
 
   values_are_shortest : (ps : Pairs) (ws cs : List ℕ) → AreBytes cs → AreValues number_of ps ws cs → length (value_contents ps) ≤ length cs
   values_are_shortest no_pairs ws cs all h = omega arith
   values_are_shortest (pair key t ps) ws cs all e =
       let rest = joined_bytes cs e.content e.other_contents e.begin.contents_joined all in
-      omega (arith, ap length e.begin.contents_joined, length-append e.content e.other_contents, length-append (content t) (value_contents ps), canonical_is_shortest t e.kind e.content rest.0 e.part, values_are_shortest ps e.other_words e.other_contents rest.1 e.others)
+      omega (
+        arith,
+        ap length e.begin.contents_joined,
+        length-append e.content e.other_contents,
+        length-append (content t)
+            (value_contents ps),
+        canonical_is_shortest t e.kind e.content rest.0 e.part,
+        values_are_shortest ps e.other_words e.other_contents rest.1 e.others,
+      )
 
 short_keys : (ks : List (List ℕ)) → AreKeys ks → AreShortKeys ks
 short_keys [] h = tt

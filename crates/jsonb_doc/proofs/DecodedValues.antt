@@ -7,15 +7,15 @@ use Rattle.std.specs.Ordering.{ordering_reverse}
 use Rattle.std.specs.Cmp.Lexicographic.{slice_cmp}
 use Rattle.std.proofs.lemmas.Cmp.{nat_list_cmp_total}
 use Rattle.std.proofs.lemmas.List.{map-append}
-use Rattle.std.proofs.Common.{append-nil}
+use Rattle.std.proofs.Common.{append-nil, MatchResult}
 use Rattle.jsonb_doc.specs.Number as spec
 use Rattle.jsonb_doc.specs.Tree.{Tree, Trees, no_trees, tree, Pairs, no_pairs, pair, elements, members, keys, trees_of, pairs_of}
 use Rattle.jsonb_doc.specs.Payload.{Form}
 use Rattle.jsonb_doc.specs.Format.{AreKeys, IsBelowFirst}
-use Rattle.jsonb_doc.specs.Item.{Stands, IsNormal}
+use Rattle.jsonb_doc.specs.Item.{StandsFor, IsNormal}
 use Rattle.jsonb_doc.specs.Elements.{HasElementsLeft, TakesElement}
 use Rattle.jsonb_doc.specs.ObjectPairs.{HasPairsLeft, TakesPair}
-use Rattle.jsonb_doc.specs.Answer.{Answers}
+use Rattle.jsonb_doc.specs.Answer.{IsOutOfMemory}
 use Rattle.jsonb_doc.specs.ObjectBuilder.{insert_pair}
 use Rattle.jsonb_doc.specs.View.{number_view}
 use Rattle.jsonb_doc.specs.Value.{tree_seen, trees_seen, members_seen, KeepsNormal, SeesItem}
@@ -35,17 +35,19 @@ pub record FirstElement (form : Form) (before : Trees) (x : Item) (after : Eleme
   pub first : Tree
   pub others : Trees
   pub whole : before ≡ tree first others
-  pub stands : Stands form x first
+  pub stands : StandsFor form x first
   pub left : HasElementsLeft form after others
 
-pub first_element : (form : Form) (before : Trees) (r : Result Item Error) (x : Item) (after : ElementIter) → r ≡ Ok x → TakesElement form before (Some r) after → FirstElement form before x after
+pub first_element : (form : Form) (before : Trees) (r : Result Item Error) (x : Item) (after : ElementIter) → r ≡ Ok x
+    → TakesElement form before (Some r) after → FirstElement form before x after
 first_element form before r x after is h = go before (rw is at h)
   where
     go : (before : Trees) → TakesElement form before (Some (Ok x)) after → FirstElement form before x after
     go no_trees h = absurd h
     go (tree t ts) h = record { first = t; others = ts; whole = refl; stands = h.0; left = h.1 }
 
-pub element_read : (form : Form) (before : Trees) (r : Result Item Error) (e : Error) (after : ElementIter) → r ≡ Err e → TakesElement form before (Some r) after → ⊥
+pub element_read : (form : Form) (before : Trees) (r : Result Item Error) (e : Error) (after : ElementIter) → r ≡ Err e
+    → TakesElement form before (Some r) after → ⊥
 element_read form before r e after is h = go before (rw is at h)
   where
     go : (before : Trees) → TakesElement form before (Some (Err e)) after → ⊥
@@ -61,17 +63,19 @@ pub record FirstMember (form : Form) (before : Pairs) (x : Bor (List ℕ) × Ite
   pub value : Tree
   pub others : Pairs
   pub whole : before ≡ pair x.0.now value others
-  pub stands : Stands form x.1 value
+  pub stands : StandsFor form x.1 value
   pub left : HasPairsLeft form after others
 
-pub first_member : (form : Form) (before : Pairs) (r : Result (Bor (List ℕ) × Item) Error) (x : Bor (List ℕ) × Item) (after : PairIter) → r ≡ Ok x → TakesPair form before (Some r) after → FirstMember form before x after
+pub first_member : (form : Form) (before : Pairs) (r : Result (Bor (List ℕ) × Item) Error) (x : Bor (List ℕ) × Item) (after : PairIter) → r ≡ Ok x
+    → TakesPair form before (Some r) after → FirstMember form before x after
 first_member form before r x after is h = go before (rw is at h)
   where
     go : (before : Pairs) → TakesPair form before (Some (Ok x)) after → FirstMember form before x after
     go no_pairs h = absurd h
     go (pair key t ps) h = record { value = t; others = ps; whole = ap (λ k. pair k t ps) (sym h.0); stands = h.1; left = h.2 }
 
-pub member_read : (form : Form) (before : Pairs) (r : Result (Bor (List ℕ) × Item) Error) (e : Error) (after : PairIter) → r ≡ Err e → TakesPair form before (Some r) after → ⊥
+pub member_read : (form : Form) (before : Pairs) (r : Result (Bor (List ℕ) × Item) Error) (e : Error) (after : PairIter) → r ≡ Err e
+    → TakesPair form before (Some r) after → ⊥
 member_read form before r e after is h = go before (rw is at h)
   where
     go : (before : Pairs) → TakesPair form before (Some (Err e)) after → ⊥
@@ -91,14 +95,15 @@ sees_normal seen keeps r x is h = go x (rw is at h)
     go (item.Number n) h = keeps n h
     go _ h = tt
 
-pub sees_normal_member : (seen : Number → spec.Number) → KeepsNormal seen → (r : Result (Bor (List ℕ) × Item) Error) (x : Bor (List ℕ) × Item) → r ≡ Ok x → IfOk r (λ given. IsNormal given.1) → SeesItem seen x.1
+pub sees_normal_member : (seen : Number → spec.Number) → KeepsNormal seen → (r : Result (Bor (List ℕ) × Item) Error) (x : Bor (List ℕ) × Item) → r ≡ Ok x
+    → IfOk r (λ given. IsNormal given.1) → SeesItem seen x.1
 sees_normal_member seen keeps r x is h = sees_normal seen keeps (Ok x.1) x.1 refl (rw is at h)
 
 pub sees_view : (x : Item) → SeesItem number_view x
 sees_view (item.Number n) = refl
 sees_view _ = tt
 
-pub ok_of_Answers : {A : Type 0} (P : A → Type 0) (r : Result A Error) → Answers r P → IfOk r P
+pub ok_of_Answers : {A : Type 0} (P : A → Type 0) (r : Result A Error) → MatchResult r P IsOutOfMemory → IfOk r P
 ok_of_Answers P (Ok x) h = h
 ok_of_Answers P (Err e) h = tt
 
@@ -118,7 +123,8 @@ module _ (seen : Number → spec.Number) where
   elements_begin vs ts none = rw none (trees_of-elements ts)
 
   -- one more element is made
-  pub elements_go_on : (vs vs' : List Value) (v : Value) (left others ts : Trees) (t : Tree) → trees_of (trees_seen seen vs ++ elements left) ≡ ts → left ≡ tree t others → vs' ≡ vs ++ v ∷ [] → tree_seen seen v ≡ t
+  pub elements_go_on : (vs vs' : List Value) (v : Value) (left others ts : Trees) (t : Tree) → trees_of (trees_seen seen vs ++ elements left) ≡ ts
+      → left ≡ tree t others → vs' ≡ vs ++ v ∷ [] → tree_seen seen v ≡ t
       → trees_of (trees_seen seen vs' ++ elements others) ≡ ts
   elements_go_on vs vs' v left others ts t joined whole is same =
       ap trees_of
@@ -129,34 +135,41 @@ module _ (seen : Number → spec.Number) where
       ∙ joined
 
   -- at last all is made
-  pub elements_end : (vs : List Value) (left ts : Trees) → trees_of (trees_seen seen vs ++ elements left) ≡ ts → left ≡ no_trees → trees_of (trees_seen seen vs) ≡ ts
+  pub elements_end : (vs : List Value) (left ts : Trees) → trees_of (trees_seen seen vs ++ elements left) ≡ ts → left ≡ no_trees
+      → trees_of (trees_seen seen vs) ≡ ts
   elements_end vs left ts joined none =
       ap trees_of (sym (append-nil (trees_seen seen vs)) ∙ ap (λ us. trees_seen seen vs ++ elements us) (sym none)) ∙ joined
 
   pub members_begin : (es : List Entry) (ps : Pairs) → es ≡ [] → pairs_of (members_seen seen es ++ members ps) ≡ ps
   members_begin es ps none = rw none (pairs_of-members ps)
 
-  pub members_end : (es : List Entry) (left ps : Pairs) → pairs_of (members_seen seen es ++ members left) ≡ ps → left ≡ no_pairs → pairs_of (members_seen seen es) ≡ ps
+  pub members_end : (es : List Entry) (left ps : Pairs) → pairs_of (members_seen seen es ++ members left) ≡ ps → left ≡ no_pairs
+      → pairs_of (members_seen seen es) ≡ ps
   members_end es left ps joined none =
       ap pairs_of (sym (append-nil (members_seen seen es)) ∙ ap (λ qs. members_seen seen es ++ members qs) (sym none)) ∙ joined
 
-  below_key : (low : List ℕ) (done : List (List ℕ × Tree)) (key : List ℕ) (t : Tree) (more : List (List ℕ × Tree)) → IsBelowFirst low (keys (pairs_of (done ++ (key, t) ∷ more))) → AreKeys (keys (pairs_of (done ++ (key, t) ∷ more)))
+  below_key : (low : List ℕ) (done : List (List ℕ × Tree)) (key : List ℕ) (t : Tree) (more : List (List ℕ × Tree))
+      → IsBelowFirst low (keys (pairs_of (done ++ (key, t) ∷ more))) → AreKeys (keys (pairs_of (done ++ (key, t) ∷ more)))
       → slice_cmp nat_cmp low key ≡ Less
   below_key low [] key t more h rising = h
   below_key low (p ∷ done) key t more h rising = nat_list_cmp_total.trans low p.0 key h (below_key p.0 done key t more rising.1 rising.2)
 
   -- a key that is above those before it goes last
-  insert_behind : (done : List (List ℕ × Tree)) (key : List ℕ) (t : Tree) (more : List (List ℕ × Tree)) → AreKeys (keys (pairs_of (done ++ (key, t) ∷ more))) → insert_pair key t done ≡ done ++ (key, t) ∷ []
+  insert_behind : (done : List (List ℕ × Tree)) (key : List ℕ) (t : Tree) (more : List (List ℕ × Tree)) → AreKeys (keys (pairs_of (done ++ (key, t) ∷ more)))
+      → insert_pair key t done ≡ done ++ (key, t) ∷ []
   insert_behind [] key t more rising = refl
   insert_behind (p ∷ done) key t more rising =
-      let above : slice_cmp nat_cmp key p.0 ≡ Greater = nat_list_cmp_total.antisymm key p.0 ∙ ap ordering_reverse (below_key p.0 done key t more rising.1 rising.2) in
+      let above : slice_cmp nat_cmp key p.0 ≡ Greater = nat_list_cmp_total.antisymm key p.0
+      ∙ ap ordering_reverse (below_key p.0 done key t more rising.1 rising.2) in
       rw above (ap (λ ps. p ∷ ps) (insert_behind done key t more rising.2))
 
-  pub members_go_on : (es es' : List Entry) (name : String Global) (v : Value) (key : List ℕ) (left others ps : Pairs) (t : Tree) → pairs_of (members_seen seen es ++ members left) ≡ ps → left ≡ pair key t others → AreKeys (keys ps)
+  pub members_go_on : (es es' : List Entry) (name : String Global) (v : Value) (key : List ℕ) (left others ps : Pairs) (t : Tree)
+      → pairs_of (members_seen seen es ++ members left) ≡ ps → left ≡ pair key t others → AreKeys (keys ps)
       → es' ≡ insert_entry string_cmp es name v → string_bytes name ≡ key → tree_seen seen v ≡ t → pairs_of (members_seen seen es' ++ members others) ≡ ps
   members_go_on es es' name v key left others ps t joined whole rising is named same =
       let before = members_seen seen es in
       let split : pairs_of (before ++ (key, t) ∷ members others) ≡ ps = ap (λ qs. pairs_of (before ++ members qs)) (sym whole) ∙ joined in
       let last = insert_behind before key t (members others) (subst (λ qs. AreKeys (keys qs)) (sym split) rising) in
-      let made : members_seen seen es' ≡ before ++ (key, t) ∷ [] = ap (members_seen seen) is ∙ members_seen-insert_entry seen es name v ∙ rw (named, same) last in
+      let made : members_seen seen es' ≡ before ++ (key, t) ∷ [] = ap (members_seen seen) is ∙ members_seen-insert_entry seen es name v
+      ∙ rw (named, same) last in
       ap (λ qs. pairs_of (qs ++ members others)) made ∙ ap pairs_of (append_assoc before ((key, t) ∷ []) (members others)) ∙ split

@@ -3,24 +3,26 @@ use Rattle.std.proofs.Common.{◌≡◌, ℕ, ◌+◌, ◌*◌, ◌^◌, ◌<◌
 use Rattle.std.proofs.lemmas.List.{length-append}
 use Rattle.jsonb_doc.specs.Number.{Number}
 use Rattle.jsonb_doc.specs.Tree.{Tree, null, boolean, number, text, extension, array, object, Trees, no_trees, tree, Pairs, no_pairs, pair, count, keys}
-use Rattle.jsonb_doc.specs.Payload.{Reading, Form, any, canonical, reading, if_written, number_payload, number_of, number_or_unsupported}
+use Rattle.jsonb_doc.specs.Payload.{NumberReader, Form, any, canonical, number_reader, if_written, number_payload, number_of, number_or_unsupported}
 use Rattle.std.specs.Str.{bytes_eq}
-use Rattle.jsonb_doc.proofs.Words.{bytes_eq-true, bytes_eq-same}
-use Rattle.jsonb_doc.specs.Format.{BeginWith, Entry, Container, Members, array_header, object_header, scalar_header, IsDocument, IsContent, AreEntries, AreValues}
-use Rattle.jsonb_doc.specs.Checking.{HasContent, HasEntries}
-use Rattle.jsonb_doc.proofs.Words.{word_cancel, append_cancel}
+use Rattle.jsonb_doc.proofs.WordLemmas.{bytes_eq-true, bytes_eq-same}
+use Rattle.jsonb_doc.specs.Format.{BeginWith, HasFirstEntry, IsContainer, AreMembers, array_header, object_header, scalar_header, IsDocument, IsContent, AreEntries, AreValues}
+use Rattle.jsonb_doc.specs.Private.Checking.{HasContent, HasEntries}
+use Rattle.jsonb_doc.proofs.WordLemmas.{word_cancel, append_cancel}
 
 pub BeginWith-long : (words contents : List ℕ) (kind : ℕ) (content ws cs : List ℕ) → BeginWith words contents kind content ws cs → 4 ≤ length words
 BeginWith-long words contents kind content ws cs b = omega (arith, ap length b.words_joined)
 
 -- the first entry and the others lie within the contents
-pub BeginWith-room : (words contents : List ℕ) (kind : ℕ) (content ws cs : List ℕ) → BeginWith words contents kind content ws cs → (length content ≤ length contents) × (length cs ≤ length contents)
+pub BeginWith-room : (words contents : List ℕ) (kind : ℕ) (content ws cs : List ℕ) → BeginWith words contents kind content ws cs
+    → (length content ≤ length contents) × (length cs ≤ length contents)
 BeginWith-room words contents kind content ws cs b =
     let len = ap length b.contents_joined ∙ length-append content cs in
     (omega (arith, len), omega (arith, len))
 
 -- there is one first entry at most
-pub BeginWith-unique : (words contents : List ℕ) (k k' : ℕ) (x x' ws ws' cs cs' : List ℕ) → BeginWith words contents k x ws cs → BeginWith words contents k' x' ws' cs'
+pub BeginWith-unique : (words contents : List ℕ) (k k' : ℕ) (x x' ws ws' cs cs' : List ℕ) → BeginWith words contents k x ws cs
+    → BeginWith words contents k' x' ws' cs'
     → (k ≡ k') × (x ≡ x') × (ws ≡ ws') × (cs ≡ cs')
 BeginWith-unique words contents k k' x x' ws ws' cs cs' b b' =
     let known = b.known in
@@ -32,17 +34,18 @@ BeginWith-unique words contents k k' x x' ws ws' cs cs' b b' =
     let rests = append_cancel x cs x' cs' same (sym b.contents_joined ∙ b'.contents_joined) in
     (omega (arith, both.0), rests.0, both.1, rests.1)
 
-module _ {P : ℕ → List ℕ → Type 0} {Q : List ℕ → List ℕ → Type 0} (words contents : List ℕ) (kind : ℕ) (content ws cs : List ℕ) (b : BeginWith words contents kind content ws cs) where
-  Entry-split : Entry P Q words contents → P kind content × Q ws cs
+module _ {P : ℕ → List ℕ → Type 0} {Q : List ℕ → List ℕ → Type 0} (words contents : List ℕ) (kind : ℕ) (content ws cs : List ℕ)
+    (b : BeginWith words contents kind content ws cs) where
+  Entry-split : HasFirstEntry P Q words contents → P kind content × Q ws cs
   Entry-split e =
       let (same_kind, same_content, same_words, same_contents) = BeginWith-unique words contents kind e.kind content e.content ws e.other_words cs e.other_contents b e.begin in
       rw (same_kind, same_content, same_words, same_contents) (e.part, e.others)
 
-  Entry-join : P kind content → Q ws cs → Entry P Q words contents
+  Entry-join : P kind content → Q ws cs → HasFirstEntry P Q words contents
   Entry-join part others =
       record { kind = kind; content = content; other_words = ws; other_contents = cs; begin = b; part = part; others = others }
 
-module _ (number_at : Reading) where
+module _ (number_at : NumberReader) where
   pub kind_below : (t : Tree) (kind : ℕ) (bytes : List ℕ) → IsContent number_at t kind bytes → kind < 7
   kind_below null kind bytes h = omega arith
   kind_below (boolean true) kind bytes h = omega arith
@@ -62,7 +65,8 @@ module _ (number_at : Reading) where
       absurd (omega (arith, BeginWith-long words contents n.kind n.content n.other_words n.other_contents n.begin, ap length e))
 
   -- entries that aren't empty begin with an entry
-  pub HasEntries-stop : (words contents : List ℕ) → 0 < length words → ((kind : ℕ) (content ws cs : List ℕ) → BeginWith words contents kind content ws cs → ⊥) → HasEntries words contents number_at → ⊥
+  pub HasEntries-stop : (words contents : List ℕ) → 0 < length words → ((kind : ℕ) (content ws cs : List ℕ) → BeginWith words contents kind content ws cs → ⊥)
+      → HasEntries words contents number_at → ⊥
   HasEntries-stop words contents some none (no_trees, h) = omega (arith, ap length h.0)
   HasEntries-stop words contents some none (tree t ts, n) =
       none n.kind n.content n.other_words n.other_contents n.begin
@@ -82,7 +86,8 @@ module _ (number_at : Reading) where
       join h = (tree h.0.0 h.1.0, Entry-join {P = IsContent number_at h.0.0} {Q = AreEntries number_at h.1.0} words contents kind content ws cs b h.0.1 h.1.1)
 
   -- the first tree is that of the first entry
-  pub AreEntries-first : (ts : Trees) (words contents : List ℕ) (kind : ℕ) (content ws cs : List ℕ) → BeginWith words contents kind content ws cs → AreEntries number_at ts words contents
+  pub AreEntries-first : (ts : Trees) (words contents : List ℕ) (kind : ℕ) (content ws cs : List ℕ) → BeginWith words contents kind content ws cs
+      → AreEntries number_at ts words contents
       → (t : Tree) × (others : Trees) × (ts ≡ tree t others) × IsContent number_at t kind content × AreEntries number_at others ws cs
   AreEntries-first no_trees words contents kind content ws cs b h =
       absurd (omega (arith, BeginWith-long words contents kind content ws cs b, ap length h.0))
@@ -92,7 +97,8 @@ module _ (number_at : Reading) where
 
 -- what is said of entries may be replaced by what follows from it
 Entry-map : {P P' : ℕ → List ℕ → Type 0} {Q Q' : List ℕ → List ℕ → Type 0} → ((kind : ℕ) (content : List ℕ) → P kind content → P' kind content)
-    → ((words contents : List ℕ) → Q words contents → Q' words contents) → (words contents : List ℕ) → Entry P Q words contents → Entry P' Q' words contents
+    → ((words contents : List ℕ) → Q words contents → Q' words contents) → (words contents : List ℕ) → HasFirstEntry P Q words contents
+    → HasFirstEntry P' Q' words contents
 Entry-map f g words contents e = record {
   kind = e.kind;
   content = e.content;
@@ -103,11 +109,13 @@ Entry-map f g words contents e = record {
   others = g e.other_words e.other_contents e.others;
 }
 
-Container-map : {Q Q' : List ℕ → List ℕ → Type 0} (kind n : ℕ) → ((words contents : List ℕ) → Q words contents → Q' words contents) → (bytes : List ℕ) → Container kind n Q bytes → Container kind n Q' bytes
+Container-map : {Q Q' : List ℕ → List ℕ → Type 0} (kind n : ℕ) → ((words contents : List ℕ) → Q words contents → Q' words contents) → (bytes : List ℕ)
+    → IsContainer kind n Q bytes → IsContainer kind n Q' bytes
 Container-map kind n g bytes a =
     record { words = a.words; contents = a.contents; headed = a.headed; parts = g a.words a.contents a.parts }
 
-Members-map : {Q Q' : List ℕ → List ℕ → Type 0} (ks : List (List ℕ)) → ((words contents : List ℕ) → Q words contents → Q' words contents) → (words contents : List ℕ) → Members ks Q words contents → Members ks Q' words contents
+Members-map : {Q Q' : List ℕ → List ℕ → Type 0} (ks : List (List ℕ)) → ((words contents : List ℕ) → Q words contents → Q' words contents)
+    → (words contents : List ℕ) → AreMembers ks Q words contents → AreMembers ks Q' words contents
 Members-map ks g words contents o = record {
   value_words = o.value_words;
   value_contents = o.value_contents;
@@ -118,7 +126,7 @@ Members-map ks g words contents o = record {
 }
 
 -- what decodes where numbers are read in one way decodes so where they are read in another, which reads as many
-module _ (strict lenient : Reading) (more : (bytes : List ℕ) (n : Number) → strict bytes ≡ Some n → lenient bytes ≡ Some n) where
+module _ (strict lenient : NumberReader) (more : (bytes : List ℕ) (n : Number) → strict bytes ≡ Some n → lenient bytes ≡ Some n) where
   mutual
     pub content_map : (t : Tree) (kind : ℕ) (bytes : List ℕ) → IsContent strict t kind bytes → IsContent lenient t kind bytes
     content_map null kind bytes h = h
@@ -165,17 +173,17 @@ if_written-some payload (Some m) n e = go (bytes_eq payload (number_payload m)) 
     go false is k = absurd (cc)
 
 -- what a form reads is a number in each document
-pub reads_number : (form : Form) (bytes : List ℕ) (n : Number) → reading form bytes ≡ Some n → number_of bytes ≡ Some n
+pub reads_number : (form : Form) (bytes : List ℕ) (n : Number) → number_reader form bytes ≡ Some n → number_of bytes ≡ Some n
 reads_number any bytes n e = e
 reads_number canonical bytes n e = (if_written-some bytes (number_of bytes) n e).0
 
-pub canonical_payload : (bytes : List ℕ) (n : Number) → reading canonical bytes ≡ Some n → bytes ≡ number_payload n
+pub canonical_payload : (bytes : List ℕ) (n : Number) → number_reader canonical bytes ≡ Some n → bytes ≡ number_payload n
 canonical_payload bytes n e = (if_written-some bytes (number_of bytes) n e).1
 
 -- a canonical payload is read in each form
-pub reads_canonical : (form : Form) (bytes : List ℕ) (n : Number) → reading canonical bytes ≡ Some n → reading form bytes ≡ Some n
+pub reads_canonical : (form : Form) (bytes : List ℕ) (n : Number) → number_reader canonical bytes ≡ Some n → number_reader form bytes ≡ Some n
 reads_canonical any bytes n e = reads_number canonical bytes n e
 reads_canonical canonical bytes n e = e
 
-pub reads_written : (n : Number) → number_of (number_payload n) ≡ Some n → reading canonical (number_payload n) ≡ Some n
+pub reads_written : (n : Number) → number_of (number_payload n) ≡ Some n → number_reader canonical (number_payload n) ≡ Some n
 reads_written n e = rw (e, bytes_eq-same (number_payload n)) refl

@@ -5,12 +5,13 @@ use native.Mathlib.Nat.{one-le-pow}
 use Rattle.std.proofs.lemmas.Cmp.{tied_itself, alike_right}
 use Rattle.jsonb_doc.specs.Number.{Variant, decimal64, number_cmp, number_from}
 use Rattle.jsonb_doc.specs.Number.{Number as Number'}
-use Rattle.jsonb_doc.specs.NumberOrder.{number_cmp_total, int_cmp_scaled}
+use Rattle.jsonb_doc.specs.Proofs.NumberOrder.{number_cmp_total, int_cmp_scaled}
 use Rattle.jsonb_doc.specs.View.{number_parts, number_view}
 use Rattle.jsonb_doc.specs.declared.number.Number.{Number}
 
 -- a number of these parts has their value, whichever zero it is
-same_value : (variant : Variant) (whole : ℤ) (scale : ℕ) → number_cmp (number_from variant whole scale) (record { variant = variant; whole = whole; scale = scale }) ≡ Equal
+same_value : (variant : Variant) (whole : ℤ) (scale : ℕ)
+    → number_cmp (number_from variant whole scale) (record { variant = variant; whole = whole; scale = scale }) ≡ Equal
 same_value variant (pos zero) scale = by (0 * 10 ^ scale) (0 * 10 ^ 0) (omega arith) (omega arith)
   where
     by : (m n : ℕ) → m ≡ 0 → n ≡ 0 → int_cmp (pos m) (pos n) ≡ Equal
@@ -25,13 +26,15 @@ decimals_tied a b scale =
     let n : Number' = record { variant = decimal64; whole = b; scale = scale } in
     ap is_eq (
     sym (int_cmp_scaled a b (10 ^ scale) (let h : 1 ≤ 10 ^ scale = one-le-pow scale 10 (omega arith) in omega arith))
-    ∙ sym (number_cmp_total.congr (number_from decimal64 a scale) m (number_from decimal64 b scale) (same_value decimal64 a scale) ∙ alike_right number_cmp_total (number_from decimal64 b scale) n m (same_value decimal64 b scale))
+    ∙ sym (number_cmp_total.congr (number_from decimal64 a scale) m (number_from decimal64 b scale) (same_value decimal64 a scale)
+    ∙ alike_right number_cmp_total (number_from decimal64 b scale) n m (same_value decimal64 b scale))
     )
 
 -- numbers compare as those of their trees do
 pub number_cmp-number_view : (m n : Number) → number_cmp (number_view m) (number_view n) ≡ number_cmp (number_parts m) (number_parts n)
 number_cmp-number_view m n =
-    number_cmp_total.congr (number_view m) (number_parts m) (number_view n) (same m) ∙ alike_right number_cmp_total (number_view n) (number_parts n) (number_parts m) (same n)
+    number_cmp_total.congr (number_view m) (number_parts m) (number_view n) (same m)
+    ∙ alike_right number_cmp_total (number_view n) (number_parts n) (number_parts m) (same n)
   where
     same : (n : Number) → number_cmp (number_view n) (number_parts n) ≡ Equal
     same n = same_value (number_parts n).variant (number_parts n).whole (number_parts n).scale

@@ -4,22 +4,22 @@ use Rattle.std.proofs.lemmas.List.{length-append, append-nil}
 use Rattle.std.specs.Str.{bytes_eq}
 use Rattle.std.specs.Bool.{Decides}
 use Rattle.jsonb_doc.specs.Tree.{Tree, object, Pairs, no_pairs, pair, keys, value_under, field_of}
-use Rattle.jsonb_doc.specs.Payload.{Reading, Form, any, reading}
+use Rattle.jsonb_doc.specs.Payload.{NumberReader, Form, any, number_reader}
 use Rattle.jsonb_doc.specs.Format.{Decodes, header, entry_word, BeginWith, AreValues, IsContent, key_words, key_bytes}
-use Rattle.jsonb_doc.specs.Lengths.{StandBefore, HoldKeys, IsNoneOf, FoundKey}
+use Rattle.jsonb_doc.specs.Private.Lengths.{StandBefore, HoldKeys, IsNoneOf, FoundKey}
 use Rattle.jsonb_doc.specs.Answer.{SameOption}
-use Rattle.jsonb_doc.specs.Spots.{Marks, spot_content}
+use Rattle.jsonb_doc.specs.Spots.{Locates, spot_content}
 use Rattle.jsonb_doc.specs.declared.spot.Spot.{Spot}
-use Rattle.jsonb_doc.proofs.Words.{bytes_eq-true, bytes_eq-same}
+use Rattle.jsonb_doc.proofs.WordLemmas.{bytes_eq-true, bytes_eq-same}
 use Rattle.jsonb_doc.proofs.Entries.{BeginWith-long, BeginWith-unique}
 use Rattle.jsonb_doc.proofs.KeysRead.{begin_key}
-use Rattle.jsonb_doc.proofs.Scalars.{some_injective}
+use Rattle.jsonb_doc.proofs.ScalarLemmas.{some_injective}
 use Rattle.jsonb_doc.proofs.Containers.{length-key_words, HoldsPairs-keys}
 use Rattle.jsonb_doc.proofs.LengthsLemmas.{StandBefore-joined, HoldKeys-before}
-use Rattle.jsonb_doc.specs.Containers.{IsCut, Holds}
+use Rattle.jsonb_doc.specs.Private.Containers.{IsCut, Holds}
 use Rattle.jsonb_doc.specs.declared.container.ObjectParts.{ObjectParts}
 use Rattle.jsonb_doc.specs.declared.container.Container.TheVariants.{Object}
-use Rattle.jsonb_doc.proofs.SpotsLemmas.{Marks-part, some_field, object_held, object_joined}
+use Rattle.jsonb_doc.proofs.SpotsLemmas.{Locates-part, some_field, object_held, object_joined}
 
 -- ---- the search
 
@@ -38,7 +38,8 @@ IsNoneOf-append name key (k ∷ front) h other = (h.0, IsNoneOf-append name key 
 pub KeysLeft-start : (name : List ℕ) (ks : List (List ℕ)) (rest words bytes : List ℕ) → HoldKeys ks words bytes rest → KeysLeft name ks rest words bytes
 KeysLeft-start name ks rest words bytes h = record { front = []; back = ks; joined = refl; first = tt; behind = h }
 
-pub KeysLeft-stop : (name : List ℕ) (ks : List (List ℕ)) (rest words bytes : List ℕ) → 0 < length words → ((kind : ℕ) (content ws cs : List ℕ) → BeginWith words bytes kind content ws cs → ⊥) → KeysLeft name ks rest words bytes → ⊥
+pub KeysLeft-stop : (name : List ℕ) (ks : List (List ℕ)) (rest words bytes : List ℕ) → 0 < length words
+    → ((kind : ℕ) (content ws cs : List ℕ) → BeginWith words bytes kind content ws cs → ⊥) → KeysLeft name ks rest words bytes → ⊥
 KeysLeft-stop name ks rest words bytes some none l = go l.back l.behind
   where
     go : (back : List (List ℕ)) → HoldKeys back words bytes rest → ⊥
@@ -54,7 +55,8 @@ KeysLeft-end name ks rest words bytes none l = go l.back l.joined l.behind
 
 module _ (words bytes : List ℕ) (kind : ℕ) (key ws bs : List ℕ) (b : BeginWith words bytes kind key ws bs) where
   -- the first of the keys is the first entry
-  first_key : (back : List (List ℕ)) (rest : List ℕ) → HoldKeys back words bytes rest → (others : List (List ℕ)) × (back ≡ key ∷ others) × HoldKeys others ws bs rest
+  first_key : (back : List (List ℕ)) (rest : List ℕ) → HoldKeys back words bytes rest
+      → (others : List (List ℕ)) × (back ≡ key ∷ others) × HoldKeys others ws bs rest
   first_key [] rest h = absurd (omega (arith, BeginWith-long words bytes kind key ws bs b, ap length h.words_joined))
   first_key (first ∷ others) rest h =
       let same = BeginWith-unique _ _ _ _ _ _ _ _ _ _ b (begin_key words bytes rest first others h.are_keys.0.1 h.words_joined h.bytes_joined) in
@@ -91,7 +93,7 @@ is_other decides differ p = let same = decides.1 p in cc (same, differ)
 -- ---- the value
 
 -- where a value stands behind this many bytes of words
-pub record ValueAt (number_at : Reading) (value : Tree) (passed : ℕ) (words contents : List ℕ) : Type 0 where
+pub record ValueAt (number_at : NumberReader) (value : Tree) (passed : ℕ) (words contents : List ℕ) : Type 0 where
   pub parts : List (List ℕ)
   pub left : List ℕ
   pub before : StandBefore parts (take passed words) contents left
@@ -102,10 +104,12 @@ pub record ValueAt (number_at : Reading) (value : Tree) (passed : ℕ) (words co
   pub begin : BeginWith (drop passed words) left kind content ws cs
   pub part : IsContent number_at value kind content
 
-ValueAt-more : (number_at : Reading) (value : Tree) (n : ℕ) (words contents : List ℕ) (kind : ℕ) (content ws cs : List ℕ) → BeginWith words contents kind content ws cs → ValueAt number_at value (4 * n) ws cs → ValueAt number_at value (4 * suc n) words contents
+ValueAt-more : (number_at : NumberReader) (value : Tree) (n : ℕ) (words contents : List ℕ) (kind : ℕ) (content ws cs : List ℕ)
+    → BeginWith words contents kind content ws cs → ValueAt number_at value (4 * n) ws cs → ValueAt number_at value (4 * suc n) words contents
 ValueAt-more number_at value n words contents kind content ws cs b v =
     let four : 4 * suc n ≡ suc (suc (suc (suc (4 * n)))) = omega arith in
-    let taken : take (4 * suc n) words ≡ entry_word kind (length content) ++ take (4 * n) ws = ap (λ (m : ℕ). take m words) four ∙ ap (take (suc (suc (suc (suc (4 * n)))))) b.words_joined in
+    let taken : take (4 * suc n) words ≡ entry_word kind (length content) ++ take (4 * n) ws = ap (λ (m : ℕ). take m words) four
+    ∙ ap (take (suc (suc (suc (suc (4 * n)))))) b.words_joined in
     let dropped : drop (4 * suc n) words ≡ drop (4 * n) ws = ap (λ (m : ℕ). drop m words) four ∙ ap (drop (suc (suc (suc (suc (4 * n)))))) b.words_joined in
     record {
       parts = content ∷ v.parts;
@@ -139,7 +143,8 @@ no_value name no_pairs none = refl
 no_value name (pair key t ps) none = rw (bytes_eq-other key name none.0) (no_value name ps none.1)
 
 -- the value under the name is behind as many others as its key
-pub value_at : (number_at : Reading) (name : List ℕ) (ps : Pairs) (front back : List (List ℕ)) → keys ps ≡ front ++ name ∷ back → IsNoneOf name front → (words contents : List ℕ) → AreValues number_at ps words contents
+pub value_at : (number_at : NumberReader) (name : List ℕ) (ps : Pairs) (front back : List (List ℕ)) → keys ps ≡ front ++ name ∷ back → IsNoneOf name front
+    → (words contents : List ℕ) → AreValues number_at ps words contents
     → (value : Tree) × (value_under name ps ≡ Some value) × ValueAt number_at value (4 * length front) words contents
 value_at number_at name no_pairs [] back joined none words contents e = absurd (cc joined)
 value_at number_at name no_pairs (k ∷ front) back joined none words contents e = absurd (cc joined)
@@ -162,11 +167,15 @@ value_at number_at name (pair key t ps) [] back joined none words contents e =
 value_at number_at name (pair key t ps) (k ∷ front) back joined none words contents e =
     let same : key ≡ k = cc joined in
     let others : keys ps ≡ front ++ name ∷ back = cc joined in
-    let (value, is, at) = value_at number_at name ps front back others none.1 e.other_words e.other_contents e.others in
-    (value, rw (same, bytes_eq-other k name none.0) is, ValueAt-more number_at value (length front) words contents e.kind e.content e.other_words e.other_contents e.begin at)
+    let (value, is, at) = value_at number_at name ps front back others none.1 e.other_words e.other_contents e.others in (
+      value,
+      rw (same, bytes_eq-other k name none.0) is,
+      ValueAt-more number_at value
+          (length front) words contents e.kind e.content e.other_words e.other_contents e.begin at,
+    )
 
 -- the value of a field, whose contents are the end of the object's
-pub record FieldAt (number_at : Reading) (name : List ℕ) (t : Tree) (words contents values : List ℕ) (passed : ℕ) : Type 0 where
+pub record FieldAt (number_at : NumberReader) (name : List ℕ) (t : Tree) (words contents values : List ℕ) (passed : ℕ) : Type 0 where
   pub value : Tree
   pub under : field_of name t ≡ Some value
   pub front : List ℕ
@@ -175,45 +184,51 @@ pub record FieldAt (number_at : Reading) (name : List ℕ) (t : Tree) (words con
 
 -- ---- the spot of the value
 
-module _ (bytes : List ℕ) (parent : Spot) (t : Tree) (m : Marks bytes parent t) (content : List ℕ) (is : content ≡ spot_content bytes parent) (container : parent.kind ≡ 5)
+module _ (bytes : List ℕ) (parent : Spot) (t : Tree) (m : Locates bytes parent t) (content : List ℕ) (is : content ≡ spot_content bytes parent)
+    (container : parent.kind ≡ 5)
     (p : ObjectParts) (cut : IsCut content (Object p)) (name : List ℕ) where
   -- no key of the object is the name
-  pub field_absent : ((ks : List (List ℕ)) (found : List ℕ) → HoldKeys ks p.key_words.now p.contents.now found → IsNoneOf name ks) → SameOption (Marks bytes) None (field_of name t)
+  pub field_absent : ((ks : List (List ℕ)) (found : List ℕ) → HoldKeys ks p.key_words.now p.contents.now found → IsNoneOf name ks)
+      → SameOption (Locates bytes) None (field_of name t)
   field_absent none = go t (object_held bytes parent t m content is container p cut any m.whole m.decodes)
     where
-      go : (u : Tree) → Holds (reading any) u (Object p) → SameOption (Marks bytes) None (field_of name u)
-      go (object ps) held = rw (no_value name ps (none (keys ps) held.rest (HoldsPairs-keys (reading any) ps p held))) tt
+      go : (u : Tree) → Holds (number_reader any) u (Object p) → SameOption (Locates bytes) None (field_of name u)
+      go (object ps) held = rw (no_value name ps (none (keys ps) held.rest (HoldsPairs-keys (number_reader any) ps p held))) tt
       go _ held = absurd held
 
   -- its keys are searched
   pub field_searched : ((ks : List (List ℕ)) (found : List ℕ) → HoldKeys ks p.key_words.now p.contents.now found → ⊥) → ⊥
   field_searched none = go t (object_held bytes parent t m content is container p cut any m.whole m.decodes)
     where
-      go : (u : Tree) → Holds (reading any) u (Object p) → ⊥
-      go (object ps) held = none (keys ps) held.rest (HoldsPairs-keys (reading any) ps p held)
+      go : (u : Tree) → Holds (number_reader any) u (Object p) → ⊥
+      go (object ps) held = none (keys ps) held.rest (HoldsPairs-keys (number_reader any) ps p held)
       go _ held = held
 
-  module _ (behind bytes_behind : List ℕ) (finds : (ks : List (List ℕ)) (found : List ℕ) → HoldKeys ks p.key_words.now p.contents.now found → FoundKey name ks found behind bytes_behind) where
+  module _ (behind bytes_behind : List ℕ)
+      (finds : (ks : List (List ℕ)) (found : List ℕ) → HoldKeys ks p.key_words.now p.contents.now found → FoundKey name ks found behind bytes_behind) where
     -- keys stand behind the one that was found
-    pub field_keys : (form : Form) (top : Tree) → Decodes form bytes top → (back : List (List ℕ)) × (found : List ℕ) × StandBefore back behind bytes_behind found
+    pub field_keys : (form : Form) (top : Tree) → Decodes form bytes top
+        → (back : List (List ℕ)) × (found : List ℕ) × StandBefore back behind bytes_behind found
     field_keys form top d = go t (object_held bytes parent t m content is container p cut form top d)
       where
-        go : (u : Tree) → Holds (reading form) u (Object p) → (back : List (List ℕ)) × (found : List ℕ) × StandBefore back behind bytes_behind found
+        go : (u : Tree) → Holds (number_reader form) u (Object p) → (back : List (List ℕ)) × (found : List ℕ) × StandBefore back behind bytes_behind found
         go (object ps) held =
-            let f = finds (keys ps) held.rest (HoldsPairs-keys (reading form) ps p held) in
+            let f = finds (keys ps) held.rest (HoldsPairs-keys (number_reader form) ps p held) in
             (f.back, held.rest, HoldKeys-before f.back _ _ held.rest f.behind)
         go _ held = absurd held
 
-    module _ (contents : List ℕ) (skips : (parts : List (List ℕ)) (others : List ℕ) → StandBefore parts behind bytes_behind others → contents ≡ others) (passed : ℕ) (place : passed ≡ length p.key_words.now - length behind - 4) where
+    module _ (contents : List ℕ) (skips : (parts : List (List ℕ)) (others : List ℕ) → StandBefore parts behind bytes_behind others → contents ≡ others)
+        (passed : ℕ) (place : passed ≡ length p.key_words.now - length behind - 4) where
       -- the field's value, as the bytes hold it
-      pub field_value : (form : Form) (top : Tree) → Decodes form bytes top → FieldAt (reading form) name t p.value_words.now p.contents.now contents passed
+      pub field_value : (form : Form) (top : Tree) → Decodes form bytes top
+          → FieldAt (number_reader form) name t p.value_words.now p.contents.now contents passed
       field_value form top d = go t (object_held bytes parent t m content is container p cut form top d)
         where
-          go : (u : Tree) → Holds (reading form) u (Object p) → FieldAt (reading form) name u p.value_words.now p.contents.now contents passed
+          go : (u : Tree) → Holds (number_reader form) u (Object p) → FieldAt (number_reader form) name u p.value_words.now p.contents.now contents passed
           go (object ps) held =
-              let f = finds (keys ps) held.rest (HoldsPairs-keys (reading form) ps p held) in
+              let f = finds (keys ps) held.rest (HoldsPairs-keys (number_reader form) ps p held) in
               let skipped = skips f.back held.rest (HoldKeys-before f.back _ _ held.rest f.behind) in
-              let (value, under, at) = value_at (reading form) name ps f.front f.back f.joined f.first _ held.rest held.values in
+              let (value, under, at) = value_at (number_reader form) name ps f.front f.back f.joined f.first _ held.rest held.values in
               let all = ap length held.words ∙ length-key_words (keys ps) in
               let split = ap length f.joined ∙ length-append f.front (name ∷ f.back) in
               let others = ap length f.behind.words_joined ∙ length-key_words f.back in
@@ -228,17 +243,23 @@ module _ (bytes : List ℕ) (parent : Spot) (t : Tree) (m : Marks bytes parent t
           go _ held = absurd held
 
       module _ (value_kind : ℕ) (value_content ws cs : List ℕ)
-          (entry : (parts : List (List ℕ)) (left : List ℕ) → StandBefore parts (take passed p.value_words.now) contents left → BeginWith (drop passed p.value_words.now) left value_kind value_content ws cs) where
+          (entry : (parts : List (List ℕ)) (left : List ℕ) → StandBefore parts (take passed p.value_words.now) contents left
+          → BeginWith (drop passed p.value_words.now) left value_kind value_content ws cs) where
         -- the spot of the field's value
-        pub field_marks : (spot : Spot) → spot.kind ≡ value_kind → spot.end ≡ parent.end - length cs → spot.start ≡ spot.end - length value_content → SameOption (Marks bytes) (Some spot) (field_of name t)
+        pub field_marks : (spot : Spot) → spot.kind ≡ value_kind → spot.end ≡ parent.end - length cs → spot.start ≡ spot.end - length value_content
+            → SameOption (Locates bytes) (Some spot) (field_of name t)
         field_marks spot k e s =
             let one = field_value any m.whole m.decodes in
             let before = StandBefore-joined one.at.parts _ contents one.at.left one.at.before in
             let first = entry one.at.parts one.at.left one.at.before in
             let words = header 2 cut.0 ++ (p.key_words.now ++ p.value_words.now) in
             let joined : spot_content bytes parent ≡ ((words ++ one.front) ++ before.0) ++ (value_content ++ cs) =
-            sym is ∙ object_joined bytes parent t m content is container p cut ∙ ap (λ (w : List ℕ). words ++ w) one.ends ∙ sym (append_assoc words one.front contents) ∙ ap (λ (w : List ℕ). (words ++ one.front) ++ w) (before.1 ∙ ap (λ (w : List ℕ). before.0 ++ w) first.contents_joined) ∙ sym (append_assoc (words ++ one.front) before.0 (value_content ++ cs)) in
-            some_field bytes name t one.value spot one.under (Marks-part bytes parent t m spot one.value value_kind ((words ++ one.front) ++ before.0) value_content cs joined k e s (λ form top d.
+            sym is ∙ object_joined bytes parent t m content is container p cut ∙ ap (λ (w : List ℕ). words ++ w) one.ends
+            ∙ sym (append_assoc words one.front contents)
+            ∙ ap (λ (w : List ℕ). (words ++ one.front) ++ w) (before.1 ∙ ap (λ (w : List ℕ). before.0 ++ w) first.contents_joined)
+            ∙ sym (append_assoc (words ++ one.front) before.0 (value_content ++ cs)) in
+            some_field bytes name t one.value spot one.under
+            (Locates-part bytes parent t m spot one.value value_kind ((words ++ one.front) ++ before.0) value_content cs joined k e s (λ form top d.
             let other = field_value form top d in
             let same : other.value ≡ one.value = some_injective (sym other.under ∙ one.under) in
             let begin = entry other.at.parts other.at.left other.at.before in

@@ -4,7 +4,7 @@ use Rattle.std.specs.Prelude.{if◌then◌else◌, nat_lt, filter}
 use Rattle.jsonb_doc.specs.Number.{Number, int64, uint64, decimal64, decimal128, zero_number}
 use Rattle.jsonb_doc.specs.Extension.{binary, date, timestamp, timestamp_tz, interval}
 use Rattle.jsonb_doc.specs.Tree.{Tree, null, boolean, number, text, extension, array, object, trees_of, pairs_of}
-use Rattle.jsonb_doc.specs.Payload.{canonical, reading, number_of, is_unsupported, extension_of}
+use Rattle.jsonb_doc.specs.Payload.{canonical, number_reader, number_of, is_unsupported, extension_of}
 use Rattle.jsonb_doc.specs.Canonical.{document}
 
 -- ---- bytes in hexadecimal, which spaces may divide
@@ -165,7 +165,8 @@ home : document (phone 3720453 (codes "home"))
 home = refl
 
 -- {"name":"Fred","phones":[{"number":3720453,"type":"home"},{"number":5062051,"type":"work"}]}
-person : document (fields ((codes "name", text (codes "Fred")) ∷ (codes "phones", list (phone 3720453 (codes "home") ∷ phone 5062051 (codes "work") ∷ [])) ∷ []))
+person : document (fields
+    ((codes "name", text (codes "Fred")) ∷ (codes "phones", list (phone 3720453 (codes "home") ∷ phone 5062051 (codes "work") ∷ [])) ∷ []))
     ≡ hex (codes "40000002 10000004 10000006 10000004 5000005a 6e616d65 70686f6e6573 46726564 80000002 50000027 50000027")
     ++ hex (codes "40000002 10000006 10000004 20000005 10000004 6e756d626572 74797065 500038c505 686f6d65")
     ++ hex (codes "40000002 10000006 10000004 20000005 10000004 6e756d626572 74797065 50004d3da3 776f726b")
@@ -346,43 +347,43 @@ none_is_invalid = refl
 
 -- ---- canonical numbers: the shortest width, and zero in one byte
 
-shortest_signed : reading canonical (hex (codes "409c")) ≡ Some (below_zero 100)
+shortest_signed : number_reader canonical (hex (codes "409c")) ≡ Some (below_zero 100)
 unfolding number_of
 shortest_signed = refl
 
-longer_signed : reading canonical (hex (codes "40ff9c")) ≡ None
+longer_signed : number_reader canonical (hex (codes "40ff9c")) ≡ None
 unfolding number_of
 longer_signed = refl
 
-signed_byte : reading canonical (hex (codes "4080")) ≡ Some (below_zero 128)
+signed_byte : number_reader canonical (hex (codes "4080")) ≡ Some (below_zero 128)
 unfolding number_of
 signed_byte = refl
 
-signed_two_bytes : reading canonical (hex (codes "40ff7f")) ≡ Some (below_zero 129)
+signed_two_bytes : number_reader canonical (hex (codes "40ff7f")) ≡ Some (below_zero 129)
 unfolding number_of
 signed_two_bytes = refl
 
-shortest_unsigned : reading canonical (hex (codes "5005")) ≡ Some (whole 5)
+shortest_unsigned : number_reader canonical (hex (codes "5005")) ≡ Some (whole 5)
 unfolding number_of
 shortest_unsigned = refl
 
-longer_unsigned : reading canonical (hex (codes "5000000005")) ≡ None
+longer_unsigned : number_reader canonical (hex (codes "5000000005")) ≡ None
 unfolding number_of
 longer_unsigned = refl
 
-shortest_zero : reading canonical (hex (codes "00")) ≡ Some zero_number
+shortest_zero : number_reader canonical (hex (codes "00")) ≡ Some zero_number
 unfolding number_of
 shortest_zero = refl
 
-unsigned_zero_is_longer : reading canonical (hex (codes "5000")) ≡ None
+unsigned_zero_is_longer : number_reader canonical (hex (codes "5000")) ≡ None
 unfolding number_of
 unsigned_zero_is_longer = refl
 
-decimal_zero_is_longer : reading canonical (hex (codes "70000000000000000002")) ≡ None
+decimal_zero_is_longer : number_reader canonical (hex (codes "70000000000000000002")) ≡ None
 unfolding number_of
 decimal_zero_is_longer = refl
 
-decimal_as_written : reading canonical (hex (codes "7000000000000004d202")) ≡ Some (decimal (pos 1234) 2)
+decimal_as_written : number_reader canonical (hex (codes "7000000000000004d202")) ≡ Some (decimal (pos 1234) 2)
 unfolding number_of
 decimal_as_written = refl
 

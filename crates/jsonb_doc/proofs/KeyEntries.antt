@@ -1,11 +1,11 @@
 -- The keys of an object as entries of texts.
 use Rattle.std.proofs.Common.{◌≡◌, ℕ, ◌-◌, List, [], ◌∷◌, ◌++◌, length, take, refl, ap, ◌∙◌, arith}
 use Rattle.std.proofs.lemmas.List.{length-append, take_at}
-use Rattle.jsonb_doc.specs.Payload.{Reading}
+use Rattle.jsonb_doc.specs.Payload.{NumberReader}
 use Rattle.jsonb_doc.specs.Format.{AreKeys, AreEntries, key_words, key_bytes}
-use Rattle.jsonb_doc.specs.Stored.{key_trees}
+use Rattle.jsonb_doc.specs.Private.Stored.{key_trees}
 
-pub key_entries : (number_at : Reading) (ks : List (List ℕ)) → AreKeys ks → AreEntries number_at (key_trees ks) (key_words ks) (key_bytes ks)
+pub key_entries : (number_at : NumberReader) (ks : List (List ℕ)) → AreKeys ks → AreEntries number_at (key_trees ks) (key_words ks) (key_bytes ks)
 key_entries number_at [] are = (refl, refl)
 key_entries number_at (key ∷ ks) are = record {
   kind = 1;
@@ -20,4 +20,5 @@ key_entries number_at (key ∷ ks) are = record {
 -- what stands before the rest
 pub front_of : (contents front rest : List ℕ) → contents ≡ front ++ rest → take (length contents - length rest) contents ≡ front
 front_of contents front rest joined =
-    ap (take (length contents - length rest)) joined ∙ take_at front rest (length contents - length rest) (omega (arith, ap length joined, length-append front rest))
+    ap (take (length contents - length rest)) joined
+    ∙ take_at front rest (length contents - length rest) (omega (arith, ap length joined, length-append front rest))

@@ -3,7 +3,7 @@ use Rattle.std.proofs.Common.{◌≡◌, ℕ, ◌^◌, ◌<◌, List, [], ◌∷
 use Rattle.std.specs.Prelude.{⊤}
 use Rattle.jsonb_doc.proofs.Entries.{BeginWith-long, BeginWith-unique}
 use Rattle.jsonb_doc.specs.Format.{BeginWith, AreKeys, IsBelowFirst, key_words, key_bytes, entry_word}
-use Rattle.jsonb_doc.specs.Checking.{HasKeys, IsAbove, IsNextKey}
+use Rattle.jsonb_doc.specs.Private.Checking.{HasKeys, IsAbove, IsNextKey}
 
 -- the first of these keys may follow this key, where there are both
 abbrev pub Follow : Option (List ℕ) → List (List ℕ) → Type 0
@@ -48,7 +48,8 @@ begin_key words bytes rest key ks fits e f =
     record { known = omega arith; fits = fits; words_joined = e; contents_joined = f ∙ append_assoc key (key_bytes ks) rest }
 
 -- keys that aren't none begin with an entry
-pub KeysAfter-stop : (last : Option (List ℕ)) (words bytes rest : List ℕ) → 0 < length words → ((kind : ℕ) (content ws cs : List ℕ) → BeginWith words bytes kind content ws cs → ⊥) → KeysAfter last words bytes rest → ⊥
+pub KeysAfter-stop : (last : Option (List ℕ)) (words bytes rest : List ℕ) → 0 < length words
+    → ((kind : ℕ) (content ws cs : List ℕ) → BeginWith words bytes kind content ws cs → ⊥) → KeysAfter last words bytes rest → ⊥
 KeysAfter-stop last words bytes rest some none k = go k.ks k.are_keys k.words_joined k.bytes_joined
   where
     go : (ks : List (List ℕ)) → AreKeys ks → words ≡ key_words ks → bytes ≡ key_bytes ks ++ rest → ⊥
@@ -59,11 +60,14 @@ module _ (last : Option (List ℕ)) (words bytes : List ℕ) (kind : ℕ) (key w
   pub KeysAfter-split : (rest : List ℕ) → KeysAfter last words bytes rest → (kind ≡ 1) × IsNextKey last key × KeysAfter (Some key) ws bs rest
   KeysAfter-split rest k = go k.ks k.are_keys k.follow k.words_joined k.bytes_joined
     where
-      go : (ks : List (List ℕ)) → AreKeys ks → Follow last ks → words ≡ key_words ks → bytes ≡ key_bytes ks ++ rest → (kind ≡ 1) × IsNextKey last key × KeysAfter (Some key) ws bs rest
+      go : (ks : List (List ℕ)) → AreKeys ks → Follow last ks → words ≡ key_words ks → bytes ≡ key_bytes ks ++ rest
+          → (kind ≡ 1) × IsNextKey last key × KeysAfter (Some key) ws bs rest
       go [] are follow e f = absurd (omega (arith, BeginWith-long words bytes kind key ws bs b, ap length e))
       go (first ∷ ks) are follow e f =
-          let (same_kind, same_key, same_words, same_bytes) = BeginWith-unique words bytes kind 1 key first ws (key_words ks) bs (key_bytes ks ++ rest) b (begin_key words bytes rest first ks are.0.1 e f) in
-          let after : KeysAfter (Some first) (key_words ks) (key_bytes ks ++ rest) rest = record { ks = ks; are_keys = are.2; follow = are.1; words_joined = refl; bytes_joined = refl } in
+          let (same_kind, same_key, same_words, same_bytes) = BeginWith-unique words bytes kind 1 key first ws (key_words ks) bs (key_bytes ks ++ rest) b
+          (begin_key words bytes rest first ks are.0.1 e f) in
+          let after : KeysAfter (Some first) (key_words ks)
+          (key_bytes ks ++ rest) rest = record { ks = ks; are_keys = are.2; follow = are.1; words_joined = refl; bytes_joined = refl } in
           rw (same_key, same_words, same_bytes) (same_kind, (are.0.0, Follow-first last first ks follow), after)
 
   pub KeysAfter-join : (rest : List ℕ) → kind ≡ 1 → IsNextKey last key → KeysAfter (Some key) ws bs rest → KeysAfter last words bytes rest

@@ -2,7 +2,7 @@
 use Rattle.std.specs.Prelude.{ℕ, ◌≤◌, List, [], ◌∷◌, ◌++◌, length}
 use Rattle.std.proofs.Common.{arith, true, false}
 use Rattle.jsonb_doc.specs.Tree.{Tree, null, boolean, number, text, extension, array, object, Pairs, count, keys, members, trees_of, pairs_of}
-use Rattle.jsonb_doc.specs.Payload.{Form, reading}
+use Rattle.jsonb_doc.specs.Payload.{Form, number_reader}
 use Rattle.jsonb_doc.specs.Format.{AreKeys, Decodes}
 use Rattle.std.specs.Map.{keys_of}
 use Rattle.jsonb_doc.proofs.TreeLists.{keys_of-members}
@@ -54,21 +54,24 @@ short_front_values form [] qs h = tt
 short_front_values form (p ∷ ps) qs h = (h.0, h.1, short_front_values form ps qs h.2)
 
 -- an object that passes the limits still does with more pairs behind it
-pub object_too_large-more : (form : Form) (ps qs : List (List ℕ × Tree)) → IsTooLarge form (object (pairs_of ps)) → IsTooLarge form (object (pairs_of (ps ++ qs)))
+pub object_too_large-more : (form : Form) (ps qs : List (List ℕ × Tree)) → IsTooLarge form (object (pairs_of ps))
+    → IsTooLarge form (object (pairs_of (ps ++ qs)))
 object_too_large-more form ps qs large =
     λ short. large (omega (arith, short.0, fewer_pairs ps qs), short_front_keys ps qs short.1, short_front_values form ps qs short.2)
 
-short_value : (form : Form) (ps qs : List (List ℕ × Tree)) (key : List ℕ) (t : Tree) → HasShortValues form (pairs_of (ps ++ (key, t) ∷ qs)) → IsWithinLimits form t
+short_value : (form : Form) (ps qs : List (List ℕ × Tree)) (key : List ℕ) (t : Tree) → HasShortValues form (pairs_of (ps ++ (key, t) ∷ qs))
+    → IsWithinLimits form t
 short_value form [] qs key t h = short_part form t h.0 h.1
 short_value form (p ∷ ps) qs key t h = short_value form ps qs key t h.2
 
 -- an object passes the limits where a value does
-pub object_too_large-value : (form : Form) (ps qs : List (List ℕ × Tree)) (key : List ℕ) (t : Tree) → IsTooLarge form t → IsTooLarge form (object (pairs_of (ps ++ (key, t) ∷ qs)))
+pub object_too_large-value : (form : Form) (ps qs : List (List ℕ × Tree)) (key : List ℕ) (t : Tree) → IsTooLarge form t
+    → IsTooLarge form (object (pairs_of (ps ++ (key, t) ∷ qs)))
 object_too_large-value form ps qs key t large = λ short. large (short_value form ps qs key t short.2)
 
 -- the keys of an object that bytes decode to rise
 pub decoded_keys : (form : Form) (bytes : List ℕ) (ps : Pairs) → Decodes form bytes (object ps) → AreKeys (keys ps)
-decoded_keys form bytes ps d = (object_document (reading form) ps bytes d.document).1.parts.are_keys
+decoded_keys form bytes ps d = (object_document (number_reader form) ps bytes d.document).1.parts.are_keys
 
 pub decoded_members : (form : Form) (bytes : List ℕ) (ps : Pairs) → Decodes form bytes (object ps) → AreKeys (keys_of (members ps))
 decoded_members form bytes ps h = rw (keys_of-members ps) (decoded_keys form bytes ps h)

@@ -3,7 +3,7 @@ use Rattle.std.proofs.Common.{◌≡◌, ℕ, ◌∙◌, List, ◌++◌, length,
 use Rattle.std.proofs.lemmas.List.{append-nil}
 use Rattle.jsonb_doc.specs.Bytes.{AreBytes}
 use Rattle.jsonb_doc.specs.Tree.{Tree, null, boolean, number, text, extension, array, object, Trees, no_trees, tree, Pairs, no_pairs, pair, count, keys}
-use Rattle.jsonb_doc.specs.Payload.{canonical, reading}
+use Rattle.jsonb_doc.specs.Payload.{canonical, number_reader}
 use Rattle.jsonb_doc.specs.Format.{header, entry_word, scalar_header, array_header, object_header, key_words, key_bytes, IsContent, AreEntries, AreValues, Decodes, IsDocument}
 use Rattle.jsonb_doc.specs.Canonical.{kind_of, content, words, contents, value_words, value_contents, scalar_document, document}
 use Rattle.jsonb_doc.proofs.Entries.{canonical_payload}
@@ -12,7 +12,8 @@ use Rattle.jsonb_doc.proofs.DecodedFits.{headed_bytes, joined_bytes}
 
 mutual
   -- what a canonical content is
-  canonical_content : (t : Tree) (kind : ℕ) (bytes : List ℕ) → AreBytes bytes → IsContent (reading canonical) t kind bytes → (kind ≡ kind_of t) × (bytes ≡ content t)
+  canonical_content : (t : Tree) (kind : ℕ) (bytes : List ℕ) → AreBytes bytes → IsContent (number_reader canonical) t kind bytes
+      → (kind ≡ kind_of t) × (bytes ≡ content t)
   canonical_content null kind bytes all h = h
   canonical_content (boolean true) kind bytes all h = h
   canonical_content (boolean false) kind bytes all h = h
@@ -32,24 +33,33 @@ mutual
       let all_contents = m.contents_joined ∙ ap (λ cs. key_bytes (keys ps) ++ cs) same.1 in
       (is, c.headed.joined ∙ ap₂ (λ ws cs. header object_header (length (keys ps)) ++ (ws ++ cs)) all_words all_contents)
 
-  canonical_entries : (ts : Trees) (ws cs : List ℕ) → AreBytes cs → AreEntries (reading canonical) ts ws cs → (ws ≡ words ts) × (cs ≡ contents ts)
+  canonical_entries : (ts : Trees) (ws cs : List ℕ) → AreBytes cs → AreEntries (number_reader canonical) ts ws cs → (ws ≡ words ts) × (cs ≡ contents ts)
   canonical_entries no_trees ws cs all h = h
   canonical_entries (tree t ts) ws cs all e =
       let rest = joined_bytes cs e.content e.other_contents e.begin.contents_joined all in
       let first = canonical_content t e.kind e.content rest.0 e.part in
-      let others = canonical_entries ts e.other_words e.other_contents rest.1 e.others in
-      (e.begin.words_joined ∙ ap₂ (λ word ws. word ++ ws) (ap₂ (λ kind bytes. entry_word kind (length bytes)) first.0 first.1) others.0, e.begin.contents_joined ∙ ap₂ (λ bytes cs. bytes ++ cs) first.1 others.1)
+      let others = canonical_entries ts e.other_words e.other_contents rest.1 e.others in (
+        e.begin.words_joined ∙ ap₂ (λ word ws. word ++ ws)
+            (ap₂ (λ kind bytes. entry_word kind (length bytes)) first.0 first.1) others.0,
+        e.begin.contents_joined
+            ∙ ap₂ (λ bytes cs. bytes ++ cs) first.1 others.1,
+      )
 
-  canonical_values : (ps : Pairs) (ws cs : List ℕ) → AreBytes cs → AreValues (reading canonical) ps ws cs → (ws ≡ value_words ps) × (cs ≡ value_contents ps)
+  canonical_values : (ps : Pairs) (ws cs : List ℕ) → AreBytes cs → AreValues (number_reader canonical) ps ws cs
+      → (ws ≡ value_words ps) × (cs ≡ value_contents ps)
   canonical_values no_pairs ws cs all h = h
   canonical_values (pair key t ps) ws cs all e =
       let rest = joined_bytes cs e.content e.other_contents e.begin.contents_joined all in
       let first = canonical_content t e.kind e.content rest.0 e.part in
-      let others = canonical_values ps e.other_words e.other_contents rest.1 e.others in
-      (e.begin.words_joined ∙ ap₂ (λ word ws. word ++ ws) (ap₂ (λ kind bytes. entry_word kind (length bytes)) first.0 first.1) others.0, e.begin.contents_joined ∙ ap₂ (λ bytes cs. bytes ++ cs) first.1 others.1)
+      let others = canonical_values ps e.other_words e.other_contents rest.1 e.others in (
+        e.begin.words_joined ∙ ap₂ (λ word ws. word ++ ws)
+            (ap₂ (λ kind bytes. entry_word kind (length bytes)) first.0 first.1) others.0,
+        e.begin.contents_joined
+            ∙ ap₂ (λ bytes cs. bytes ++ cs) first.1 others.1,
+      )
 
 -- the document of a tree that is no container
-document_of_scalar : (t : Tree) (kind : ℕ) (bytes : List ℕ) → (kind ≡ 5 → ⊥) → IsContent (reading canonical) t kind bytes → scalar_document t ≡ document t
+document_of_scalar : (t : Tree) (kind : ℕ) (bytes : List ℕ) → (kind ≡ 5 → ⊥) → IsContent (number_reader canonical) t kind bytes → scalar_document t ≡ document t
 document_of_scalar null kind bytes other h = refl
 document_of_scalar (boolean b) kind bytes other h = refl
 document_of_scalar (number n) kind bytes other h = refl
@@ -59,7 +69,7 @@ document_of_scalar (array ts) kind bytes other h = absurd (other h.0)
 document_of_scalar (object ps) kind bytes other h = absurd (other h.0)
 
 -- the document of a container
-document_of_container : (t : Tree) (bytes : List ℕ) → IsContent (reading canonical) t 5 bytes → content t ≡ document t
+document_of_container : (t : Tree) (bytes : List ℕ) → IsContent (number_reader canonical) t 5 bytes → content t ≡ document t
 document_of_container (array ts) bytes h = refl
 document_of_container (object ps) bytes h = refl
 document_of_container null bytes h = absurd (omega (arith, h.0))
@@ -69,7 +79,7 @@ document_of_container (number n) bytes h = absurd (omega (arith, h.0))
 document_of_container (text s) bytes h = absurd (omega (arith, h.0))
 document_of_container (extension x) bytes h = absurd (omega (arith, h.0))
 
-canonical_bytes : (bytes : List ℕ) (t : Tree) → AreBytes bytes → IsDocument (reading canonical) t bytes → bytes ≡ document t
+canonical_bytes : (bytes : List ℕ) (t : Tree) → AreBytes bytes → IsDocument (number_reader canonical) t bytes → bytes ≡ document t
 canonical_bytes bytes t all (inl h) =
     (canonical_content t 5 bytes all h).1 ∙ document_of_container t bytes h
 canonical_bytes bytes t all (inr c) =
@@ -78,7 +88,9 @@ canonical_bytes bytes t all (inr c) =
     let inner = headed_bytes bytes 1 0 c.words c.contents c.headed all in
     let rest = joined_bytes c.contents e.content e.other_contents b.contents_joined inner in
     let same = canonical_content t e.kind e.content rest.0 e.part.1 in
-    let word : c.words ≡ entry_word (kind_of t) (length (content t)) = b.words_joined ∙ ap₂ (λ front ws. front ++ ws) (ap₂ (λ kind bytes. entry_word kind (length bytes)) same.0 same.1) e.others.0 ∙ append-nil (entry_word (kind_of t) (length (content t))) in
+    let word : c.words ≡ entry_word (kind_of t) (length (content t)) = b.words_joined
+    ∙ ap₂ (λ front ws. front ++ ws) (ap₂ (λ kind bytes. entry_word kind (length bytes)) same.0 same.1) e.others.0
+    ∙ append-nil (entry_word (kind_of t) (length (content t))) in
     let last : c.contents ≡ content t = b.contents_joined ∙ ap₂ (λ front cs. front ++ cs) same.1 e.others.1 ∙ append-nil (content t) in
     c.headed.joined ∙ ap₂ (λ ws cs. header scalar_header 0 ++ (ws ++ cs)) word last ∙ document_of_scalar t e.kind e.content e.part.0 e.part.1
 

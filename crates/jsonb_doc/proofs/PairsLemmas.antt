@@ -2,15 +2,15 @@
 use Rattle.std.proofs.Common.{◌≡◌, ℕ, ◌<◌, List, [], ◌∷◌, ◌++◌, length, Some, ap, ◌∙◌, arith, refl}
 use Rattle.std.specs.Prelude.{IsUtf8}
 use Rattle.jsonb_doc.specs.Tree.{Tree, object, Pairs, no_pairs, pair, keys}
-use Rattle.jsonb_doc.specs.Payload.{Reading, Form, reading}
-use Rattle.jsonb_doc.specs.Format.{AreValues, AreKeys, key_words, key_bytes, BeginWith, Entry, IsContent}
+use Rattle.jsonb_doc.specs.Payload.{NumberReader, Form, number_reader}
+use Rattle.jsonb_doc.specs.Format.{AreValues, AreKeys, key_words, key_bytes, BeginWith, HasFirstEntry, IsContent}
 use Rattle.jsonb_doc.specs.ObjectPairs.{HasPairsLeft, IsPairsOf}
 use Rattle.jsonb_doc.specs.ObjectKeys.{HasKeysLeft, IsKeysOf, IsValuesOf}
 use Rattle.jsonb_doc.specs.declared.key_iter.KeyIter.{KeyIter}
 use Rattle.jsonb_doc.specs.declared.value_iter.ValueIter.{ValueIter}
 use Rattle.jsonb_doc.specs.declared.pair_iter.PairIter.{PairIter}
-use Rattle.jsonb_doc.specs.Lengths.{StandBefore}
-use Rattle.jsonb_doc.specs.Containers.{Holds, HoldsPairs}
+use Rattle.jsonb_doc.specs.Private.Lengths.{StandBefore}
+use Rattle.jsonb_doc.specs.Private.Containers.{Holds, HasPairParts}
 use Rattle.jsonb_doc.specs.declared.container.ObjectParts.{ObjectParts}
 use Rattle.jsonb_doc.specs.declared.container.Container.TheVariants.{Object}
 use Rattle.jsonb_doc.proofs.KeysRead.{begin_key}
@@ -22,14 +22,15 @@ abbrev pub SkipsKeys : ObjectParts → List ℕ → Type 0
 SkipsKeys p found = (parts : List (List ℕ)) (rest : List ℕ) → StandBefore parts p.key_words.now p.contents.now rest → found ≡ rest
 
 module _ (form : Form) (p : ObjectParts) (none : (parts : List (List ℕ)) (rest : List ℕ) → StandBefore parts p.key_words.now p.contents.now rest → ⊥) where
-  pub HoldsPairs-skipped : (ps : Pairs) → HoldsPairs (reading form) ps p → ⊥
-  HoldsPairs-skipped ps h = none (keys ps) h.rest (HoldKeys-before (keys ps) _ _ h.rest (HoldsPairs-keys (reading form) ps p h))
+  pub HoldsPairs-skipped : (ps : Pairs) → HasPairParts (number_reader form) ps p → ⊥
+  HoldsPairs-skipped ps h = none (keys ps) h.rest (HoldKeys-before (keys ps) _ _ h.rest (HoldsPairs-keys (number_reader form) ps p h))
 
-  pub Holds-skipped : (t : Tree) → Holds (reading form) t (Object p) → ⊥
+  pub Holds-skipped : (t : Tree) → Holds (number_reader form) t (Object p) → ⊥
   Holds-skipped (object ps) held = HoldsPairs-skipped ps held
   Holds-skipped _ held = held
 
-pub HoldsPairs-values : (number_at : Reading) (ps : Pairs) (p : ObjectParts) (found : List ℕ) → (h : HoldsPairs number_at ps p) → SkipsKeys p found → found ≡ h.rest
+pub HoldsPairs-values : (number_at : NumberReader) (ps : Pairs) (p : ObjectParts) (found : List ℕ) → (h : HasPairParts number_at ps p) → SkipsKeys p found
+    → found ≡ h.rest
 HoldsPairs-values number_at ps p found h skips = skips (keys ps) h.rest (HoldKeys-before (keys ps) _ _ h.rest (HoldsPairs-keys number_at ps p h))
 
 -- the first of the pairs, as the bytes hold it
@@ -42,7 +43,7 @@ pub record FirstPair (form : Form) (it : PairIter) (ps : Pairs) : Type 0 where
   pub utf8 : IsUtf8 key
   pub are_keys : AreKeys (keys others)
   pub begin : BeginWith it.key_words.now it.key_bytes.now 1 key (key_words (keys others)) (key_bytes (keys others) ++ rest)
-  pub entry : Entry (IsContent (reading form) value) (AreValues (reading form) others) it.value_words.now it.value_contents.now
+  pub entry : HasFirstEntry (IsContent (number_reader form) value) (AreValues (number_reader form) others) it.value_words.now it.value_contents.now
 
 pub HasPairsLeft-first : (form : Form) (it : PairIter) (ps : Pairs) → 0 < length it.key_words.now → HasPairsLeft form it ps → FirstPair form it ps
 HasPairsLeft-first form it no_pairs some h = absurd (omega (arith, ap length h.words))
@@ -59,31 +60,44 @@ HasPairsLeft-first form it (pair key t ps) some h = record {
 }
 
 -- the iterators of an object's parts
-pub HoldsPairs-left : (form : Form) (ps : Pairs) (it : PairIter) (p : ObjectParts) → it.key_words.now ≡ p.key_words.now → it.key_bytes.now ≡ p.contents.now → it.value_words.now ≡ p.value_words.now
-    → SkipsKeys p it.value_contents.now → HoldsPairs (reading form) ps p → HasPairsLeft form it ps
+pub HoldsPairs-left : (form : Form) (ps : Pairs) (it : PairIter) (p : ObjectParts) → it.key_words.now ≡ p.key_words.now → it.key_bytes.now ≡ p.contents.now
+    → it.value_words.now ≡ p.value_words.now
+    → SkipsKeys p it.value_contents.now → HasPairParts (number_reader form) ps p → HasPairsLeft form it ps
 HoldsPairs-left form ps it p key_words key_bytes value_words skips held = record {
   rest = held.rest;
   are_keys = held.are_keys;
   words = key_words ∙ held.words;
   bytes = key_bytes ∙ held.bytes;
-  values = rw (value_words, HoldsPairs-values (reading form) ps p _ held skips) held.values;
+  values = rw (value_words, HoldsPairs-values (number_reader form) ps p _ held skips) held.values;
 }
 
-pub IsPairsOf-some : (form : Form) (t : Tree) (it : PairIter) (p : ObjectParts) → Holds (reading form) t (Object p)
-    → ((f : Form) (ps : Pairs) → HoldsPairs (reading f) ps p → HasPairsLeft f it ps) → IsPairsOf form t (Some it)
+pub IsPairsOf-some : (form : Form) (t : Tree) (it : PairIter) (p : ObjectParts) → Holds (number_reader form) t (Object p)
+    → ((f : Form) (ps : Pairs) → HasPairParts (number_reader f) ps p → HasPairsLeft f it ps) → IsPairsOf form t (Some it)
 IsPairsOf-some form (object ps) it p held left = left form ps held
 IsPairsOf-some form _ it p held left = absurd held
 
-pub IsPairsOf-refused : (form : Form) (t : Tree) (p : ObjectParts) → Holds (reading form) t (Object p) → ((f : Form) (ps : Pairs) → HoldsPairs (reading f) ps p → ⊥) → ⊥
+pub IsPairsOf-refused : (form : Form) (t : Tree) (p : ObjectParts) → Holds (number_reader form) t (Object p)
+    → ((f : Form) (ps : Pairs) → HasPairParts (number_reader f) ps p → ⊥) → ⊥
 IsPairsOf-refused form (object ps) p held none = none form ps held
 IsPairsOf-refused form _ p held none = held
 
-pub IsKeysOf-some : (form : Form) (t : Tree) (it : KeyIter) (p : ObjectParts) → it.key_words.now ≡ p.key_words.now → it.key_bytes.now ≡ p.contents.now → Holds (reading form) t (Object p) → IsKeysOf t (Some it)
-IsKeysOf-some form (object ps) it p key_words key_bytes held = record { rest = held.rest; are_keys = held.are_keys; words = key_words ∙ held.words; bytes = key_bytes ∙ held.bytes }
+pub IsKeysOf-some : (form : Form) (t : Tree) (it : KeyIter) (p : ObjectParts) → it.key_words.now ≡ p.key_words.now → it.key_bytes.now ≡ p.contents.now
+    → Holds (number_reader form) t (Object p) → IsKeysOf t (Some it)
+IsKeysOf-some form (object ps) it p key_words key_bytes held = record {
+  rest = held.rest;
+  are_keys = held.are_keys;
+  words = key_words
+      ∙ held.words;
+  bytes = key_bytes ∙ held.bytes;
+}
 IsKeysOf-some form _ it p key_words key_bytes held = absurd held
 
-pub IsValuesOf-some : (form : Form) (t : Tree) (it : ValueIter) (p : ObjectParts) → it.elements.entries.words.now ≡ p.value_words.now → SkipsKeys p it.elements.entries.contents.now → Holds (reading form) t (Object p) → IsValuesOf form t (Some it)
-IsValuesOf-some form (object ps) it p words skips held = record { entries = rw (words, HoldsPairs-values (reading form) ps p _ held skips) (entries_of (reading form) ps _ _ held.values) }
+pub IsValuesOf-some : (form : Form) (t : Tree) (it : ValueIter) (p : ObjectParts) → it.elements.entries.words.now ≡ p.value_words.now
+    → SkipsKeys p it.elements.entries.contents.now → Holds (number_reader form) t (Object p) → IsValuesOf form t (Some it)
+IsValuesOf-some form (object ps) it p words skips held = record {
+  entries = rw (words, HoldsPairs-values (number_reader form) ps p _ held skips)
+      (entries_of (number_reader form) ps _ _ held.values);
+}
 IsValuesOf-some form _ it p words skips held = absurd held
 
 -- the first of the keys, as the bytes hold it

@@ -55,7 +55,8 @@ bytes_from (suc n) xs [] hx hy bx by e = absurd (omega arith)
 bytes_from (suc n) (x ∷ xs) (y ∷ ys) hx hy bx by e =
     let fx = AreBytes-tail x xs bx in
     let fy = AreBytes-tail y ys by in
-    let both = digits (256 ^ n) x y (big_number n xs) (big_number n ys) (big_from-lt 0 n xs fx) (big_from-lt 0 n ys fy) (rw (big_from-cons 0 n x xs, big_from-cons 0 n y ys) at e) in
+    let both = digits (256 ^ n) x y (big_number n xs) (big_number n ys) (big_from-lt 0 n xs fx) (big_from-lt 0 n ys fy)
+    (rw (big_from-cons 0 n x xs, big_from-cons 0 n y ys) at e) in
     let others : xs ≡ ys = bytes_from n xs ys (omega arith) (omega arith) fx fy both.1 in
     cc (both.0, others)
 
@@ -75,16 +76,19 @@ written_are_bytes (suc n) x = at_place _ (big_bytes n x) (first_is_byte n x) (wr
 pub bytes_again : (n : ℕ) (xs : List ℕ) → length xs ≡ n → AreBytes xs → big_bytes n (big_number n xs) ≡ xs
 bytes_again n xs len bytes =
     let small = big_from-lt 0 n xs bytes in
-    bytes_from n (big_bytes n (big_number n xs)) xs (length-bytes_high_first n (big_number n xs)) len (written_are_bytes n (big_number n xs)) bytes (ap (big_number n) (sym (append-nil (big_bytes n (big_number n xs)))) ∙ big_number-reads_back n (big_number n xs) [] small)
+    bytes_from n (big_bytes n (big_number n xs)) xs (length-bytes_high_first n (big_number n xs)) len (written_are_bytes n (big_number n xs)) bytes
+    (ap (big_number n) (sym (append-nil (big_bytes n (big_number n xs)))) ∙ big_number-reads_back n (big_number n xs) [] small)
 
 -- ---- fields of fixed width
 
 -- the field in front is written as it is read
-field_again : (w : Width) (xs : List ℕ) → cast_unsigned w (cast_signed w (big_number (byte_len w) xs)) ≡ big_number (byte_len w) xs → byte_len w ≤ length xs → AreBytes xs
+field_again : (w : Width) (xs : List ℕ) → cast_unsigned w (cast_signed w (big_number (byte_len w) xs)) ≡ big_number (byte_len w) xs → byte_len w ≤ length xs
+    → AreBytes xs
     → fixed_bytes w (fixed w xs) ++ drop (byte_len w) xs ≡ xs
 field_again w xs back long bytes =
     let same : big_number (byte_len w) (take (byte_len w) xs) ≡ big_number (byte_len w) xs = big_from-take 0 (byte_len w) (byte_len w) xs (omega arith) in
-    let written : fixed_bytes w (fixed w xs) ≡ take (byte_len w) xs = ap (big_bytes (byte_len w)) (back ∙ sym same) ∙ bytes_again (byte_len w) (take (byte_len w) xs) (length-take-le (byte_len w) xs long) (AreBytes-take (byte_len w) xs bytes) in
+    let written : fixed_bytes w (fixed w xs) ≡ take (byte_len w) xs = ap (big_bytes (byte_len w)) (back ∙ sym same)
+    ∙ bytes_again (byte_len w) (take (byte_len w) xs) (length-take-le (byte_len w) xs long) (AreBytes-take (byte_len w) xs bytes) in
     ap (λ ys. ys ++ drop (byte_len w) xs) written ∙ take-append-drop (byte_len w) xs
 
 field32 : (xs : List ℕ) → 4 ≤ length xs → AreBytes xs → fixed_bytes w32 (fixed w32 xs) ++ drop 4 xs ≡ xs
@@ -180,7 +184,8 @@ unsigned_within k xs is bytes = elim (width_cases k is) [
 -- ---- numbers
 
 -- a number is written in as many bytes as its parts, or in one
-length-from : (variant : Variant) (whole : ℤ) (scale k : ℕ) → 1 ≤ k → length (number_payload_of variant whole scale) ≤ k → length (number_payload (number_from variant whole scale)) ≤ k
+length-from : (variant : Variant) (whole : ℤ) (scale k : ℕ) → 1 ≤ k → length (number_payload_of variant whole scale) ≤ k
+    → length (number_payload (number_from variant whole scale)) ≤ k
 length-from variant (pos zero) scale k some h = omega arith
 length-from variant (pos (suc n)) scale k some h = h
 length-from variant (negsuc n) scale k some h = h
@@ -212,20 +217,38 @@ unfolding number_of
 number_within [] n all e = absurd (cc)
 number_within (first ∷ rest) n all e =
     let bytes = AreBytes-tail first rest all in
-    elim (number_cases (first == 0x00) (first == 0x40) (first == 0x50) (first == 0x70) (length rest == 0) (is_width (length rest)) (length rest == 9) (length rest == 17) zero_number (number_from int64 (signed (length rest) rest) 0) (number_from uint64 (pos (big_number (length rest) rest)) 0) (number_from decimal64 (fixed w64 rest) (slice_index rest 8)) (number_from decimal128 (fixed w128 rest) (slice_index rest 16)) n e) [
+    elim (number_cases (first == 0x00) (first == 0x40) (first == 0x50) (first == 0x70) (length rest == 0) (is_width (length rest)) (length rest == 9)
+    (length rest == 17) zero_number (number_from int64 (signed (length rest) rest) 0) (number_from uint64 (pos (big_number (length rest) rest)) 0)
+    (number_from decimal64 (fixed w64 rest) (slice_index rest 8)) (number_from decimal128 (fixed w128 rest) (slice_index rest 16)) n e) [
       | inl f ↦ rw (← f.1) (fits_from uint64 (pos 0) 0 (omega arith, refl), omega arith)
       | inr (inl f) ↦
           let within = signed_within (length rest) rest f.0 bytes in
-          rw (← f.1) (fits_from int64 (signed (length rest) rest) 0 (within.0, refl), length-from int64 (signed (length rest) rest) 0 (suc (length rest)) (omega arith) (length-int64 (signed (length rest) rest) (length rest) within.1))
+          rw (← f.1) (
+            fits_from int64 (signed (length rest) rest) 0 (within.0, refl),
+            length-from int64 (signed (length rest) rest) 0 (suc (length rest))
+                (omega arith) (length-int64 (signed (length rest) rest) (length rest) within.1),
+          )
       | inr (inr (inl f)) ↦
           let within = unsigned_within (length rest) rest f.0 bytes in
-          rw (← f.1) (fits_from uint64 (pos (big_number (length rest) rest)) 0 (within.0, refl), length-from uint64 (pos (big_number (length rest) rest)) 0 (suc (length rest)) (omega arith) (length-uint64 (big_number (length rest) rest) (length rest) within.1))
+          rw (← f.1) (
+            fits_from uint64 (pos (big_number (length rest) rest)) 0 (within.0, refl),
+            length-from uint64 (pos (big_number (length rest) rest)) 0
+                (suc (length rest)) (omega arith) (length-uint64 (big_number (length rest) rest) (length rest) within.1),
+          )
       | inr (inr (inr (inl f))) ↦
           let len = same_length (length rest) 9 f.0 in
-          rw (← f.1) (fits_from decimal64 (fixed w64 rest) (slice_index rest 8) (fits64 rest bytes, bytes 8), length-from decimal64 (fixed w64 rest) (slice_index rest 8) (suc (length rest)) (omega arith) (omega (arith, len, length-decimal64 (fixed w64 rest) (slice_index rest 8))))
+          rw (← f.1) (
+            fits_from decimal64 (fixed w64 rest) (slice_index rest 8) (fits64 rest bytes, bytes 8),
+            length-from decimal64 (fixed w64 rest)
+                (slice_index rest 8) (suc (length rest)) (omega arith) (omega (arith, len, length-decimal64 (fixed w64 rest) (slice_index rest 8))),
+          )
       | inr (inr (inr (inr f))) ↦
           let len = same_length (length rest) 17 f.0 in
-          rw (← f.1) (fits_from decimal128 (fixed w128 rest) (slice_index rest 16) (fits128 rest bytes, bytes 16), length-from decimal128 (fixed w128 rest) (slice_index rest 16) (suc (length rest)) (omega arith) (omega (arith, len, length-decimal128 (fixed w128 rest) (slice_index rest 16))))
+          rw (← f.1) (
+            fits_from decimal128 (fixed w128 rest) (slice_index rest 16) (fits128 rest bytes, bytes 16),
+            length-from decimal128 (fixed w128 rest)
+                (slice_index rest 16) (suc (length rest)) (omega arith) (omega (arith, len, length-decimal128 (fixed w128 rest) (slice_index rest 16))),
+          )
     ]
 
 -- ---- extension values
@@ -263,7 +286,9 @@ unfolding extension_of
 extension_within [] x all e = absurd (cc)
 extension_within (first ∷ rest) x all e =
     let bytes = AreBytes-tail first rest all in
-    elim (extension_cases (first == 0x00) (first == 0x10) (first == 0x20) (first == 0x30) (first == 0x40) (length rest == 4) (length rest == 8) (length rest == 12) (length rest == 16) (binary rest) (date (fixed w32 rest)) (timestamp (fixed w64 rest)) (timestamp_tz (fixed w32 rest) (fixed w64 (drop 4 rest))) (interval (fixed w32 rest) (fixed w32 (drop 4 rest)) (fixed w64 (drop 8 rest))) x e) [
+    elim (extension_cases (first == 0x00) (first == 0x10) (first == 0x20) (first == 0x30) (first == 0x40) (length rest == 4) (length rest == 8)
+    (length rest == 12) (length rest == 16) (binary rest) (date (fixed w32 rest)) (timestamp (fixed w64 rest))
+    (timestamp_tz (fixed w32 rest) (fixed w64 (drop 4 rest))) (interval (fixed w32 rest) (fixed w32 (drop 4 rest)) (fixed w64 (drop 8 rest))) x e) [
       | inl f ↦ rw (← f.1, first_is first 0x00 f.0) (bytes, refl)
       | inr (inl f) ↦
           let written = last32 rest (same_length (length rest) 4 f.1) bytes in

@@ -5,24 +5,24 @@ use Rattle.std.proofs.Math.Seq.{take-add}
 use Rattle.std.proofs.lemmas.Slice.{between_to_end}
 use Rattle.std.specs.Prelude.{slice_range}
 use Rattle.jsonb_doc.specs.Tree.{Tree, null, boolean, number, text, extension, array, object, Trees, no_trees, tree, trees_of, elements, values, keys, children_of, field_of}
-use Rattle.jsonb_doc.specs.Payload.{Reading, Form, any, reading, number_of}
+use Rattle.jsonb_doc.specs.Payload.{NumberReader, Form, any, number_reader, number_of}
 use Rattle.jsonb_doc.specs.Format.{Decodes, header, entry_word, BeginWith, IsContent, IsDocument, AreEntries, key_bytes}
 use Rattle.jsonb_doc.specs.Answer.{SameOption}
-use Rattle.jsonb_doc.specs.Lengths.{StartWith, StandBefore}
-use Rattle.jsonb_doc.specs.Spots.{Marks, HasSpotsLeft, TakesSpot, spot_content}
+use Rattle.jsonb_doc.specs.Private.Lengths.{StartWith, StandBefore}
+use Rattle.jsonb_doc.specs.Spots.{Locates, HasSpotsLeft, TakesSpot, spot_content}
 use Rattle.jsonb_doc.specs.declared.spot.Spot.{Spot}
 use Rattle.jsonb_doc.specs.declared.spot_iter.SpotIter.{SpotIter}
-use Rattle.jsonb_doc.proofs.Words.{append_cancel, word_cancel}
+use Rattle.jsonb_doc.proofs.WordLemmas.{append_cancel, word_cancel}
 use Rattle.jsonb_doc.proofs.Entries.{BeginWith-long, BeginWith-room, BeginWith-unique}
 use Rattle.jsonb_doc.proofs.Containers.{IsCut-same, IsCut-scalar, entries_of}
 use Rattle.jsonb_doc.proofs.PairsLemmas.{SkipsKeys, HoldsPairs-values, Holds-skipped}
-use Rattle.jsonb_doc.specs.Containers.{IsCut, Holds}
+use Rattle.jsonb_doc.specs.Private.Containers.{IsCut, Holds}
 use Rattle.jsonb_doc.specs.declared.entry_iter.StoredEntry.{StoredEntry}
 use Rattle.jsonb_doc.specs.declared.container.ArrayParts.{ArrayParts}
 use Rattle.jsonb_doc.specs.declared.container.ObjectParts.{ObjectParts}
 use Rattle.jsonb_doc.specs.declared.container.Container.TheVariants.{Scalar, Array, Object}
 use Rattle.jsonb_doc.proofs.CanonicalLemmas.{in_any}
-use Rattle.jsonb_doc.proofs.Unique.{document_unique}
+use Rattle.jsonb_doc.proofs.OneTree.{document_unique}
 
 -- ---- parts of bytes
 
@@ -30,7 +30,8 @@ length_range : (bytes : List ℕ) (s e : ℕ) → s ≤ e → e ≤ length bytes
 length_range bytes s e ordered within = length-take-le (e - s) (drop s bytes) (omega (arith, length-drop s bytes))
 
 -- a part of a range of bytes is a range of them
-pub range_part : (bytes : List ℕ) (s e a b : ℕ) (front part back : List ℕ) → s ≤ e → e ≤ length bytes → slice_range bytes s e ≡ front ++ (part ++ back) → b ≡ e - length back → a ≡ b - length part
+pub range_part : (bytes : List ℕ) (s e a b : ℕ) (front part back : List ℕ) → s ≤ e → e ≤ length bytes → slice_range bytes s e ≡ front ++ (part ++ back)
+    → b ≡ e - length back → a ≡ b - length part
     → (a ≤ b) × (b ≤ e) × (slice_range bytes a b ≡ part)
 range_part bytes s e a b front part back ordered within joined ends begins =
     let whole = length_range bytes s e ordered within in
@@ -39,11 +40,13 @@ range_part bytes s e a b front part back ordered within joined ends begins =
     let from : s + length front ≡ a = omega (arith, whole, sum, both) in
     let size : e - s ≡ length front + (length part + length back) = omega (arith, whole, sum, both) in
     let behind : take (length part + length back) (drop (length front) (drop s bytes)) ≡ part ++ back =
-    sym (drop-take (length front) (length part + length back) (drop s bytes)) ∙ ap (λ (n : ℕ). drop (length front) (take n (drop s bytes))) (sym size) ∙ ap (drop (length front)) joined ∙ drop_at front (part ++ back) (length front) refl in
+    sym (drop-take (length front) (length part + length back) (drop s bytes)) ∙ ap (λ (n : ℕ). drop (length front) (take n (drop s bytes))) (sym size)
+    ∙ ap (drop (length front)) joined ∙ drop_at front (part ++ back) (length front) refl in
     let there : drop (length front) (drop s bytes) ≡ drop a bytes = drop-drop (length front) s bytes ∙ ap (λ (n : ℕ). drop n bytes) from in
     let split : part ++ back ≡ take (length part) (drop a bytes) ++ take (length back) (drop (length part) (drop a bytes)) =
     sym behind ∙ ap (take (length part + length back)) there ∙ take-add (length part) (length back) (drop a bytes) in
-    let long : length (take (length part) (drop a bytes)) ≡ length part = length-take-le (length part) (drop a bytes) (omega (arith, length-drop a bytes, whole, sum, both)) in
+    let long : length (take (length part) (drop a bytes))
+    ≡ length part = length-take-le (length part) (drop a bytes) (omega (arith, length-drop a bytes, whole, sum, both)) in
     let cut = append_cancel part back (take (length part) (drop a bytes)) (take (length back) (drop (length part) (drop a bytes))) (sym long) split in
     let wide : b - a ≡ length part = omega (arith, whole, sum, both) in
     (omega arith, omega arith, ap (λ (n : ℕ). take n (drop a bytes)) wide ∙ sym cut.0)
@@ -54,20 +57,25 @@ range_front bytes s e n fits within =
     let whole = length_range bytes s e (omega arith) within in
     let len = length-take-le n (slice_range bytes s e) (omega (arith, whole)) in
     let rest = length-drop n (slice_range bytes s e) in
-    (range_part bytes s e s (s + n) [] (take n (slice_range bytes s e)) (drop n (slice_range bytes s e)) (omega arith) within (sym (take-append-drop n (slice_range bytes s e))) (omega (arith, whole, rest)) (omega (arith, len))).2
+    (range_part bytes s e s (s + n) [] (take n (slice_range bytes s e)) (drop n (slice_range bytes s e)) (omega arith) within
+    (sym (take-append-drop n (slice_range bytes s e))) (omega (arith, whole, rest)) (omega (arith, len))).2
 
 pub range_rest : (bytes : List ℕ) (s e n : ℕ) → s + n ≤ e → e ≤ length bytes → slice_range bytes (s + n) e ≡ drop n (slice_range bytes s e)
 range_rest bytes s e n fits within =
     let whole = length_range bytes s e (omega arith) within in
     let rest = length-drop n (slice_range bytes s e) in
-    let joined : slice_range bytes s e ≡ take n (slice_range bytes s e) ++ (drop n (slice_range bytes s e) ++ []) = sym (take-append-drop n (slice_range bytes s e)) ∙ ap (λ (w : List ℕ). take n (slice_range bytes s e) ++ w) (sym (append-nil (drop n (slice_range bytes s e)))) in
-    (range_part bytes s e (s + n) e (take n (slice_range bytes s e)) (drop n (slice_range bytes s e)) [] (omega arith) within joined (omega arith) (omega (arith, whole, rest))).2
+    let joined : slice_range bytes s e
+    ≡ take n (slice_range bytes s e) ++ (drop n (slice_range bytes s e) ++ []) = sym (take-append-drop n (slice_range bytes s e))
+    ∙ ap (λ (w : List ℕ). take n (slice_range bytes s e) ++ w) (sym (append-nil (drop n (slice_range bytes s e)))) in
+    (range_part bytes s e (s + n) e (take n (slice_range bytes s e)) (drop n (slice_range bytes s e)) [] (omega arith) within joined (omega arith)
+    (omega (arith, whole, rest))).2
 
 -- the end of a range
 pub range_end : (bytes : List ℕ) (s e : ℕ) (front back : List ℕ) → s ≤ e → e ≤ length bytes → slice_range bytes s e ≡ front ++ back
     → (e - length back ≤ e) × (slice_range bytes (e - length back) e ≡ back)
 range_end bytes s e front back ordered within joined =
-    let found = range_part bytes s e (e - length back) e front back [] ordered within (joined ∙ ap (λ (w : List ℕ). front ++ w) (sym (append-nil back))) (omega arith) refl in
+    let found = range_part bytes s e (e - length back) e front back [] ordered within (joined ∙ ap (λ (w : List ℕ). front ++ w) (sym (append-nil back)))
+    (omega arith) refl in
     (found.0, found.2)
 
 pub trees_of-elements : (ts : Trees) → trees_of (elements ts) ≡ ts
@@ -77,7 +85,8 @@ trees_of-elements (tree t ts) = ap (tree t) (trees_of-elements ts)
 -- ---- an iterator and its first spot
 
 -- the first entry, by its word, where the contents are long enough
-StartWith-begin : (words contents others : List ℕ) (kind len : ℕ) → StartWith words kind len others → len ≤ length contents → BeginWith words contents kind (take len contents) others (drop len contents)
+StartWith-begin : (words contents others : List ℕ) (kind len : ℕ) → StartWith words kind len others → len ≤ length contents
+    → BeginWith words contents kind (take len contents) others (drop len contents)
 StartWith-begin words contents others kind len w fits =
     let same = length-take-le len contents fits in
     record {
@@ -88,7 +97,8 @@ StartWith-begin words contents others kind len w fits =
     }
 
 -- the word of the first entry tells how long it is
-StartWith-length : (words contents others : List ℕ) (kind len : ℕ) (k : ℕ) (content ws cs : List ℕ) → StartWith words kind len others → BeginWith words contents k content ws cs → len ≤ length contents
+StartWith-length : (words contents others : List ℕ) (kind len : ℕ) (k : ℕ) (content ws cs : List ℕ) → StartWith words kind len others
+    → BeginWith words contents k content ws cs → len ≤ length contents
 StartWith-length words contents others kind len k content ws cs w b =
     let known = w.known in
     let fits = w.fits in
@@ -97,7 +107,8 @@ StartWith-length words contents others kind len k content ws cs w b =
     let both = word_cancel (kind * 2 ^ 28 + len) (k * 2 ^ 28 + length content) others ws (omega arith) (omega arith) (sym w.joined ∙ b.words_joined) in
     omega (arith, both.0, BeginWith-room words contents k content ws cs b)
 
-first_part : (number_at : Reading) (t : Tree) (ts : Trees) (words contents : List ℕ) (kind : ℕ) (content ws cs : List ℕ) → BeginWith words contents kind content ws cs → AreEntries number_at (tree t ts) words contents
+first_part : (number_at : NumberReader) (t : Tree) (ts : Trees) (words contents : List ℕ) (kind : ℕ) (content ws cs : List ℕ)
+    → BeginWith words contents kind content ws cs → AreEntries number_at (tree t ts) words contents
     → IsContent number_at t kind content × AreEntries number_at ts ws cs
 first_part number_at t ts words contents kind content ws cs b e =
     let (same_kind, same_content, same_words, same_contents) = BeginWith-unique words contents kind e.kind content e.content ws e.other_words cs e.other_contents b e.begin in
@@ -111,7 +122,8 @@ module _ (bytes : List ℕ) (it : SpotIter) where
       absurd (omega (arith, BeginWith-long _ _ e.kind e.content e.other_words e.other_contents e.begin))
 
   -- words that aren't none begin with one
-  pub HasSpotsLeft-word : (ts : List Tree) → 0 < length it.words.now → ((kind len : ℕ) (others : List ℕ) → StartWith it.words.now kind len others → ⊥) → HasSpotsLeft bytes it ts → ⊥
+  pub HasSpotsLeft-word : (ts : List Tree) → 0 < length it.words.now → ((kind len : ℕ) (others : List ℕ) → StartWith it.words.now kind len others → ⊥)
+      → HasSpotsLeft bytes it ts → ⊥
   HasSpotsLeft-word [] some none h = omega (arith, ap length (h.entries any h.whole h.decodes).0)
   HasSpotsLeft-word (t ∷ ts) some none h =
       let e = h.entries any h.whole h.decodes in
@@ -135,7 +147,8 @@ module _ (bytes : List ℕ) (it : SpotIter) where
         let within = h.within in
         let fits = HasSpotsLeft-fits (t ∷ ts) h in
         let long : len ≤ length (slice_range bytes it.start it.end) = omega (arith, fits, length_range bytes it.start it.end h.ordered h.within) in
-        let first = λ (form : Form) (top : Tree) (d : Decodes form bytes top). first_part (reading form) t (trees_of ts) _ _ kind _ _ _ (StartWith-begin _ _ others kind len w long) (h.entries form top d) in (
+        let first = λ (form : Form) (top : Tree) (d : Decodes form bytes top). first_part (number_reader form) t (trees_of ts) _ _ kind _ _ _
+        (StartWith-begin _ _ others kind len w long) (h.entries form top d) in (
           record {
             whole = h.whole;
             decodes = h.decodes;
@@ -155,9 +168,10 @@ module _ (bytes : List ℕ) (it : SpotIter) where
 -- ---- spots
 
 -- the spot of a part of all the bytes
-pub Marks-root : (bytes : List ℕ) (spot : Spot) (t : Tree) (kind : ℕ) (front content back : List ℕ) → bytes ≡ front ++ (content ++ back) → spot.kind ≡ kind → spot.end ≡ length bytes - length back → spot.start ≡ spot.end - length content
-    → Decodes any bytes t → ((form : Form) (top : Tree) → Decodes form bytes top → IsContent (reading form) top kind content) → Marks bytes spot t
-Marks-root bytes spot t kind front content back joined k e s h part =
+pub Locates-root : (bytes : List ℕ) (spot : Spot) (t : Tree) (kind : ℕ) (front content back : List ℕ) → bytes ≡ front ++ (content ++ back) → spot.kind ≡ kind
+    → spot.end ≡ length bytes - length back → spot.start ≡ spot.end - length content
+    → Decodes any bytes t → ((form : Form) (top : Tree) → Decodes form bytes top → IsContent (number_reader form) top kind content) → Locates bytes spot t
+Locates-root bytes spot t kind front content back joined k e s h part =
     let all : slice_range bytes 0 (length bytes) ≡ bytes = between_to_end bytes 0 (length bytes) (omega arith) in
     let found = range_part bytes 0 (length bytes) spot.start spot.end front content back (omega arith) (omega arith) (all ∙ joined) e s in
     record {
@@ -170,11 +184,12 @@ Marks-root bytes spot t kind front content back joined k e s h part =
           rw (k, found.2, ← same) (part form top d);
     }
 
-module _ (bytes : List ℕ) (parent : Spot) (t : Tree) (m : Marks bytes parent t) where
+module _ (bytes : List ℕ) (parent : Spot) (t : Tree) (m : Locates bytes parent t) where
   -- the spot of a part of a content
-  pub Marks-part : (spot : Spot) (u : Tree) (kind : ℕ) (front content back : List ℕ) → spot_content bytes parent ≡ front ++ (content ++ back) → spot.kind ≡ kind → spot.end ≡ parent.end - length back → spot.start ≡ spot.end - length content
-      → ((form : Form) (top : Tree) → Decodes form bytes top → IsContent (reading form) u kind content) → Marks bytes spot u
-  Marks-part spot u kind front content back joined k e s part =
+  pub Locates-part : (spot : Spot) (u : Tree) (kind : ℕ) (front content back : List ℕ) → spot_content bytes parent ≡ front ++ (content ++ back)
+      → spot.kind ≡ kind → spot.end ≡ parent.end - length back → spot.start ≡ spot.end - length content
+      → ((form : Form) (top : Tree) → Decodes form bytes top → IsContent (number_reader form) u kind content) → Locates bytes spot u
+  Locates-part spot u kind front content back joined k e s part =
       let within = m.within in
       let found = range_part bytes parent.start parent.end spot.start spot.end front content back m.ordered m.within joined e s in
       record {
@@ -186,8 +201,9 @@ module _ (bytes : List ℕ) (parent : Spot) (t : Tree) (m : Marks bytes parent t
       }
 
   -- the spots of the entries at the end of a content
-  pub HasSpotsLeft-part : (it : SpotIter) (ts : Trees) (front contents : List ℕ) → spot_content bytes parent ≡ front ++ contents → it.start ≡ parent.end - length contents → it.end ≡ parent.end
-      → ((form : Form) (top : Tree) → Decodes form bytes top → AreEntries (reading form) ts it.words.now contents) → HasSpotsLeft bytes it (elements ts)
+  pub HasSpotsLeft-part : (it : SpotIter) (ts : Trees) (front contents : List ℕ) → spot_content bytes parent ≡ front ++ contents
+      → it.start ≡ parent.end - length contents → it.end ≡ parent.end
+      → ((form : Form) (top : Tree) → Decodes form bytes top → AreEntries (number_reader form) ts it.words.now contents) → HasSpotsLeft bytes it (elements ts)
   HasSpotsLeft-part it ts front contents joined s e entries =
       let found = range_end bytes parent.start parent.end front contents m.ordered m.within joined in
       let within = m.within in
@@ -200,8 +216,8 @@ module _ (bytes : List ℕ) (parent : Spot) (t : Tree) (m : Marks bytes parent t
       }
 
   -- a scalar has no children and no fields
-  pub Marks-scalar : parent.kind ≢ 5 → (children_of t ≡ None) × ((name : List ℕ) → field_of name t ≡ None)
-  Marks-scalar scalar = go t (m.content any m.whole m.decodes)
+  pub Locates-scalar : parent.kind ≢ 5 → (children_of t ≡ None) × ((name : List ℕ) → field_of name t ≡ None)
+  Locates-scalar scalar = go t (m.content any m.whole m.decodes)
     where
       go : (u : Tree) → IsContent number_of u parent.kind (spot_content bytes parent) → (children_of u ≡ None) × ((name : List ℕ) → field_of name u ≡ None)
       go (array ts) h = absurd (scalar h.0)
@@ -215,10 +231,11 @@ module _ (bytes : List ℕ) (parent : Spot) (t : Tree) (m : Marks bytes parent t
 pub no_children : (bytes : List ℕ) (t : Tree) → children_of t ≡ None → SameOption (HasSpotsLeft bytes) None (children_of t)
 no_children bytes t none = rw none tt
 
-pub no_field : (bytes name : List ℕ) (t : Tree) → field_of name t ≡ None → SameOption (Marks bytes) None (field_of name t)
+pub no_field : (bytes name : List ℕ) (t : Tree) → field_of name t ≡ None → SameOption (Locates bytes) None (field_of name t)
 no_field bytes name t none = rw none tt
 
-pub some_field : (bytes name : List ℕ) (t u : Tree) (spot : Spot) → field_of name t ≡ Some u → Marks bytes spot u → SameOption (Marks bytes) (Some spot) (field_of name t)
+pub some_field : (bytes name : List ℕ) (t u : Tree) (spot : Spot) → field_of name t ≡ Some u → Locates bytes spot u
+    → SameOption (Locates bytes) (Some spot) (field_of name t)
 some_field bytes name t u spot is h = rw is h
 
 -- ---- containers
@@ -229,55 +246,66 @@ scalar_end bytes e (rest, h, lone) =
     let word = entry_word e.kind (length e.content.now) in
     (header 1 0 ++ word, h.joined ∙ ap (λ (w : List ℕ). header 1 0 ++ w) (lone.start.joined ∙ ap (λ (w : List ℕ). word ++ w) (sym (append-nil e.content.now))))
 
-module _ (bytes : List ℕ) (parent : Spot) (t : Tree) (m : Marks bytes parent t) (content : List ℕ) (is : content ≡ spot_content bytes parent) (container : parent.kind ≡ 5) where
-  pub Marks-container : (form : Form) (top : Tree) → Decodes form bytes top → IsContent (reading form) t 5 content
-  Marks-container form top d = rw (is, ← container) (m.content form top d)
+module _ (bytes : List ℕ) (parent : Spot) (t : Tree) (m : Locates bytes parent t) (content : List ℕ) (is : content ≡ spot_content bytes parent)
+    (container : parent.kind ≡ 5) where
+  pub Locates-container : (form : Form) (top : Tree) → Decodes form bytes top → IsContent (number_reader form) t 5 content
+  Locates-container form top d = rw (is, ← container) (m.content form top d)
 
-  pub Marks-document : IsDocument (reading any) t content
-  Marks-document = inl (Marks-container any m.whole m.decodes)
+  pub Locates-document : IsDocument (number_reader any) t content
+  Locates-document = inl (Locates-container any m.whole m.decodes)
 
-  pub Marks-no-scalar : (e : StoredEntry) → IsCut content (Scalar e) → ⊥
-  Marks-no-scalar e cut = IsCut-scalar (reading any) content e cut t (Marks-container any m.whole m.decodes)
+  pub Locates-no-scalar : (e : StoredEntry) → IsCut content (Scalar e) → ⊥
+  Locates-no-scalar e cut = IsCut-scalar (number_reader any) content e cut t (Locates-container any m.whole m.decodes)
 
   module _ (p : ArrayParts) (cut : IsCut content (Array p)) where
-    array_held : (form : Form) (top : Tree) → Decodes form bytes top → Holds (reading form) t (Array p)
-    array_held form top d = (IsCut-same content (Array p) cut (reading form) t).0 (inl (Marks-container form top d))
+    array_held : (form : Form) (top : Tree) → Decodes form bytes top → Holds (number_reader form) t (Array p)
+    array_held form top d = (IsCut-same content (Array p) cut (number_reader form) t).0 (inl (Locates-container form top d))
 
     -- an array has children and no fields
-    pub array_children : (it : SpotIter) → it.words.now ≡ p.words.now → it.start ≡ parent.end - length p.contents.now → it.end ≡ parent.end → SameOption (HasSpotsLeft bytes) (Some it) (children_of t)
+    pub array_children : (it : SpotIter) → it.words.now ≡ p.words.now → it.start ≡ parent.end - length p.contents.now → it.end ≡ parent.end
+        → SameOption (HasSpotsLeft bytes) (Some it) (children_of t)
     array_children it words start end = go t m array_held
       where
         joined : content ≡ (header 4 cut.0 ++ p.words.now) ++ p.contents.now
         joined = cut.1.joined ∙ sym (append_assoc (header 4 cut.0) p.words.now p.contents.now)
 
-        go : (u : Tree) → Marks bytes parent u → ((form : Form) (top : Tree) → Decodes form bytes top → Holds (reading form) u (Array p)) → SameOption (HasSpotsLeft bytes) (Some it) (children_of u)
-        go (array ts) k held = HasSpotsLeft-part bytes parent (array ts) k it ts (header 4 cut.0 ++ p.words.now) p.contents.now (sym is ∙ joined) start end (λ form top d. rw words (held form top d))
+        go : (u : Tree) → Locates bytes parent u → ((form : Form) (top : Tree) → Decodes form bytes top → Holds (number_reader form) u (Array p))
+            → SameOption (HasSpotsLeft bytes) (Some it) (children_of u)
+        go (array ts) k held = HasSpotsLeft-part bytes parent (array ts) k it ts (header 4 cut.0 ++ p.words.now) p.contents.now (sym is ∙ joined) start end
+            (λ form top d. rw words (held form top d))
         go _ k held = absurd (held any m.whole m.decodes)
 
-    pub array_no_field : (name : List ℕ) → SameOption (Marks bytes) None (field_of name t)
+    pub array_no_field : (name : List ℕ) → SameOption (Locates bytes) None (field_of name t)
     array_no_field name = go t (array_held any m.whole m.decodes)
       where
-        go : (u : Tree) → Holds (reading any) u (Array p) → SameOption (Marks bytes) None (field_of name u)
+        go : (u : Tree) → Holds (number_reader any) u (Array p) → SameOption (Locates bytes) None (field_of name u)
         go (array ts) held = tt
         go _ held = absurd held
 
   module _ (p : ObjectParts) (cut : IsCut content (Object p)) where
-    pub object_held : (form : Form) (top : Tree) → Decodes form bytes top → Holds (reading form) t (Object p)
-    object_held form top d = (IsCut-same content (Object p) cut (reading form) t).0 (inl (Marks-container form top d))
+    pub object_held : (form : Form) (top : Tree) → Decodes form bytes top → Holds (number_reader form) t (Object p)
+    object_held form top d = (IsCut-same content (Object p) cut (number_reader form) t).0 (inl (Locates-container form top d))
 
     -- the words and the contents stand behind the header
     pub object_joined : content ≡ (header 2 cut.0 ++ (p.key_words.now ++ p.value_words.now)) ++ p.contents.now
     object_joined = cut.1.joined ∙ sym (append_assoc (header 2 cut.0) (p.key_words.now ++ p.value_words.now) p.contents.now)
 
-    pub object_children : (it : SpotIter) (found : List ℕ) → SkipsKeys p found → it.words.now ≡ p.value_words.now → it.start ≡ parent.end - length found → it.end ≡ parent.end → SameOption (HasSpotsLeft bytes) (Some it) (children_of t)
+    pub object_children : (it : SpotIter) (found : List ℕ) → SkipsKeys p found → it.words.now ≡ p.value_words.now → it.start ≡ parent.end - length found
+        → it.end ≡ parent.end → SameOption (HasSpotsLeft bytes) (Some it) (children_of t)
     object_children it found skips words start end = go t m object_held
       where
-        go : (u : Tree) → Marks bytes parent u → ((form : Form) (top : Tree) → Decodes form bytes top → Holds (reading form) u (Object p)) → SameOption (HasSpotsLeft bytes) (Some it) (children_of u)
+        go : (u : Tree) → Locates bytes parent u → ((form : Form) (top : Tree) → Decodes form bytes top → Holds (number_reader form) u (Object p))
+            → SameOption (HasSpotsLeft bytes) (Some it) (children_of u)
         go (object ps) k held =
             let h = held any m.whole m.decodes in
             let front = header 2 cut.0 ++ (p.key_words.now ++ p.value_words.now) in
-            let joined = sym is ∙ object_joined ∙ ap (λ (w : List ℕ). front ++ w) (h.bytes ∙ ap (λ (w : List ℕ). key_bytes (keys ps) ++ w) (sym (HoldsPairs-values (reading any) ps p found h skips))) ∙ sym (append_assoc front (key_bytes (keys ps)) found) in
-            HasSpotsLeft-part bytes parent (object ps) k it (values ps) (front ++ key_bytes (keys ps)) found joined start end (λ form top d. let o = held form top d in rw (words, HoldsPairs-values (reading form) ps p found o skips) (entries_of (reading form) ps _ _ o.values))
+            let joined = sym is ∙ object_joined
+            ∙ ap (λ (w : List ℕ). front ++ w)
+            (h.bytes ∙ ap (λ (w : List ℕ). key_bytes (keys ps) ++ w) (sym (HoldsPairs-values (number_reader any) ps p found h skips)))
+            ∙ sym (append_assoc front (key_bytes (keys ps)) found) in
+            HasSpotsLeft-part bytes parent (object ps) k it (values ps) (front ++ key_bytes (keys ps)) found joined start end
+            (λ form top d. let o = held form top d in rw (words, HoldsPairs-values (number_reader form) ps p found o skips)
+            (entries_of (number_reader form) ps _ _ o.values))
         go _ k held = absurd (held any m.whole m.decodes)
 
     -- bytes that no keys can be passed over in

@@ -4,7 +4,7 @@ use Rattle.jsonb_doc.specs.Tree.{Tree}
 use Rattle.jsonb_doc.specs.Payload.{Form, any}
 use Rattle.jsonb_doc.specs.Format.{Decodes}
 use Rattle.jsonb_doc.specs.Answer.{SameOption}
-use Rattle.jsonb_doc.specs.Spots.{Marks, HasSpotsLeft, TakesSpot}
+use Rattle.jsonb_doc.specs.Spots.{Locates, HasSpotsLeft, TakesSpot}
 use Rattle.jsonb_doc.specs.declared.spot.Spot.{Spot}
 use Rattle.jsonb_doc.specs.declared.spot_iter.SpotIter.{SpotIter}
 use Rattle.jsonb_doc.specs.declared.error.Error.{Error}
@@ -19,10 +19,11 @@ pub record TakenSpot (bytes : List ℕ) (ts : List Tree) (spot : Spot) (after : 
   pub first : Tree
   pub others : List Tree
   pub whole : ts ≡ first ∷ others
-  pub marks : Marks bytes spot first
+  pub marks : Locates bytes spot first
   pub left : HasSpotsLeft bytes after others
 
-pub taken_spot : (bytes : List ℕ) (ts : List Tree) (r : Result Spot Error) (spot : Spot) (after : SpotIter) → r ≡ Ok spot → TakesSpot bytes ts (Some r) after → TakenSpot bytes ts spot after
+pub taken_spot : (bytes : List ℕ) (ts : List Tree) (r : Result Spot Error) (spot : Spot) (after : SpotIter) → r ≡ Ok spot → TakesSpot bytes ts (Some r) after
+    → TakenSpot bytes ts spot after
 taken_spot bytes ts r spot after is h = go ts (rw is at h)
   where
     go : (us : List Tree) → TakesSpot bytes us (Some (Ok spot)) after → TakenSpot bytes us spot after
@@ -43,7 +44,8 @@ no_spots_left bytes [] after h = refl
 no_spots_left bytes (t ∷ ts) after h = absurd h
 
 -- a container has an iterator over its children
-pub some_spots : (bytes : List ℕ) (it : SpotIter) (found : Option (List Tree)) → SameOption (HasSpotsLeft bytes) (Some it) found → (ts : List Tree) × (found ≡ Some ts) × HasSpotsLeft bytes it ts
+pub some_spots : (bytes : List ℕ) (it : SpotIter) (found : Option (List Tree)) → SameOption (HasSpotsLeft bytes) (Some it) found
+    → (ts : List Tree) × (found ≡ Some ts) × HasSpotsLeft bytes it ts
 some_spots bytes it (Some ts) h = (ts, refl, h)
 some_spots bytes it None h = absurd h
 
@@ -53,10 +55,11 @@ no_spots bytes (Some ts) h = absurd h
 no_spots bytes None h = refl
 
 -- a spot of a part that is there
-pub some_spot : (bytes : List ℕ) (spot : Spot) (found : Option Tree) → SameOption (Marks bytes) (Some spot) found → (t : Tree) × (found ≡ Some t) × Marks bytes spot t
+pub some_spot : (bytes : List ℕ) (spot : Spot) (found : Option Tree) → SameOption (Locates bytes) (Some spot) found
+    → (t : Tree) × (found ≡ Some t) × Locates bytes spot t
 some_spot bytes spot (Some t) h = (t, refl, h)
 some_spot bytes spot None h = absurd h
 
-pub no_spot : (bytes : List ℕ) (found : Option Tree) → SameOption (Marks bytes) None found → found ≡ None
+pub no_spot : (bytes : List ℕ) (found : Option Tree) → SameOption (Locates bytes) None found → found ≡ None
 no_spot bytes (Some t) h = absurd h
 no_spot bytes None h = refl

@@ -24,12 +24,14 @@ module _ (seen : Number → spec.Number) where
   pub tree_seen-Object : (m : BTreeMap (String Global) Value) → tree_seen seen (Object m) ≡ object (pairs_of (members_seen seen m.entries))
   tree_seen-Object m = search (rules, the_lemmas)
 
-  through : (o : Ordering) (a b c : List Entry) → members_seen seen (match_ordering o a b c) ≡ match_ordering o (members_seen seen a) (members_seen seen b) (members_seen seen c)
+  through : (o : Ordering) (a b c : List Entry)
+      → members_seen seen (match_ordering o a b c) ≡ match_ordering o (members_seen seen a) (members_seen seen b) (members_seen seen c)
   through Less a b c = refl
   through Equal a b c = refl
   through Greater a b c = refl
 
-  pub members_seen-insert_entry : (es : List Entry) (k : String Global) (v : Value) → members_seen seen (insert_entry string_cmp es k v) ≡ insert_pair (string_bytes k) (tree_seen seen v) (members_seen seen es)
+  pub members_seen-insert_entry : (es : List Entry) (k : String Global) (v : Value)
+      → members_seen seen (insert_entry string_cmp es k v) ≡ insert_pair (string_bytes k) (tree_seen seen v) (members_seen seen es)
   members_seen-insert_entry [] k v = refl
   members_seen-insert_entry (e ∷ es) k v = through (string_cmp k e.0) _ _ _ ∙ rw (members_seen-insert_entry es k v)
 

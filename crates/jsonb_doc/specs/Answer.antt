@@ -1,30 +1,37 @@
--- What a call answers: the value that is wanted, or one of the refusals that it may have.
-use Rattle.std.specs.Prelude.{◌≡◌, ◌⊎◌, List, [], ◌∷◌, ◌++◌, Option, Some, None, Result, Ok, Err, MatchResult, IfOk, IfErr, IsOkAnd, ⊤}
+-- What a call answers: what is right, or a refusal out of a stated set.
+--
+-- A clause `MatchResult result P Refusals` says of a call that either it is `Ok` with a value of which P holds, or it is
+-- `Err` with one of the refusals. `Gives` says it of a call whose meaning may itself be a refusal.
+use Rattle.std.specs.Prelude.{◌≡◌, ◌⊎◌, List, [], ◌∷◌, ◌++◌, Option, Some, None, Result, Ok, Err, IfOk, IfErr, IsOkAnd, ⊤}
 use Rattle.jsonb_doc.specs.declared.error.Error.{Error}
-use Rattle.jsonb_doc.specs.declared.error.Error.TheVariants.{OutOfMemory, TooLarge}
+use Rattle.jsonb_doc.specs.declared.error.Error.TheVariants.{InvalidJsonb, UnsupportedNumber, OutOfMemory, TooLarge}
 use Rattle.jsonb_doc.specs.Tree.{Tree}
 use Rattle.jsonb_doc.specs.Payload.{Form}
 use Rattle.jsonb_doc.specs.Limits.{IsTooLarge}
 
--- the refusal of a call that takes memory
-abbrev pub WantsMemory : Error → Type 0
-WantsMemory e = e ≡ OutOfMemory
+-- ---- sets of refusals
 
--- memory was refused, or the format has no place for more
-abbrev pub HasNoRoom : Error → Type 0
-HasNoRoom e = (e ≡ OutOfMemory) ⊎ (e ≡ TooLarge)
+-- memory was refused
+abbrev pub IsOutOfMemory : Error → Type 0
+IsOutOfMemory e = e ≡ OutOfMemory
 
--- the refusals of a call that makes a document of the tree
-abbrev pub WantsRoom : Form → Tree → Error → Type 0
-WantsRoom form t e = (e ≡ OutOfMemory) ⊎ ((e ≡ TooLarge) × IsTooLarge form t)
+-- the bytes don't decode
+abbrev pub IsDecodingError : Error → Type 0
+IsDecodingError e = (e ≡ InvalidJsonb) ⊎ (e ≡ UnsupportedNumber)
 
--- the answer is right, or memory was refused
-abbrev pub Answers : {A : Type 0} → Result A Error → (A → Type 0) → Type 0
-Answers r P = MatchResult r P WantsMemory
+-- one of these refusals, or this one: `IsDecodingError or OutOfMemory`
+infixl 5 ◌or◌
+abbrev pub ◌or◌ : (Error → Type 0) → Error → Error → Type 0
+(Refusals or refusal) e = Refusals e ⊎ (e ≡ refusal)
 
--- the answer is right, or memory was refused, or a document of the tree passes the limits
-abbrev pub Builds : {A : Type 0} → Form → Tree → Result A Error → (A → Type 0) → Type 0
-Builds form t r P = MatchResult r P (WantsRoom form t)
+-- one of these refusals, or this one and the fact: `IsOutOfMemory or TooLarge when IsTooLarge form t`
+infixl 5 ◌or◌when◌
+abbrev pub ◌or◌when◌ : (Error → Type 0) → Error → Type 0 → Error → Type 0
+(Refusals or refusal when Fact) e = Refusals e ⊎ ((e ≡ refusal) × Fact)
+
+-- memory was refused, or a document of the tree passes the limits
+abbrev pub IsOutOfMemoryOrTooLarge : Form → Tree → Error → Type 0
+IsOutOfMemoryOrTooLarge form t e = (e ≡ OutOfMemory) ⊎ ((e ≡ TooLarge) × IsTooLarge form t)
 
 -- ---- meanings that refuse
 
@@ -33,14 +40,14 @@ abbrev pub Outcome : Type 0 → Type 0
 Outcome A = Result A Error
 
 -- goes on with the value
-abbrev pub with_value : {A B : Type 0} → Outcome A → (A → Outcome B) → Outcome B
-with_value (Ok x) next = next x
-with_value (Err e) next = Err e
+abbrev pub and_then : {A B : Type 0} → Outcome A → (A → Outcome B) → Outcome B
+and_then (Ok x) next = next x
+and_then (Err e) next = Err e
 
 -- the lists of all elements, joined; the first refusal in their order
-abbrev pub joined : {A B : Type 0} → (A → Outcome (List B)) → List A → Outcome (List B)
-joined f [] = Ok []
-joined f (x ∷ xs) = with_value (f x) (λ front. with_value (joined f xs) (λ back. Ok (front ++ back)))
+abbrev pub try_flat_map : {A B : Type 0} → (A → Outcome (List B)) → List A → Outcome (List B)
+try_flat_map f [] = Ok []
+try_flat_map f (x ∷ xs) = and_then (f x) (λ front. and_then (try_flat_map f xs) (λ back. Ok (front ++ back)))
 
 -- The answer is that of the meaning: a value that stands for its value, or its refusal. The other refusals are those of the call.
 pub record Gives {A B : Type 0} (R : A → B → Type 0) (Other : Error → Type 0) (answer : Outcome A) (meaning : Outcome B) : Type 0 where

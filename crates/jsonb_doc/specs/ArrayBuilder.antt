@@ -1,7 +1,7 @@
 -- What an array's builder holds.
 use Rattle.std.specs.Prelude.{ℕ, ◌+◌, ◌/◌, ◌^◌, ◌≤◌, ◌⊎◌, List, [], length}
 use Rattle.jsonb_doc.specs.Tree.{Tree, trees_of}
-use Rattle.jsonb_doc.specs.Payload.{Form, reading}
+use Rattle.jsonb_doc.specs.Payload.{Form, number_reader}
 use Rattle.jsonb_doc.specs.Format.{AreEntries}
 use Rattle.jsonb_doc.specs.Encoding.{IsTooLong, item_content}
 use Rattle.jsonb_doc.specs.declared.item.Item.{Item}
@@ -20,8 +20,8 @@ entry_count parts = length parts.words / 4
 
 -- the builder holds the trees, in order
 abbrev pub HoldsElements : Form → Parts → List Tree → Type 0
-HoldsElements form parts ts = AreEntries (reading form) (trees_of ts) parts.words parts.contents
+HoldsElements form parts ts = AreEntries (number_reader form) (trees_of ts) parts.words parts.contents
 
 -- one more entry for the item passes the limits
-abbrev pub ElementPasses : Parts → Item → Type 0
-ElementPasses parts item = IsTooLong (item_content item) ⊎ (2 ^ 29 ≤ entry_count parts + 1)
+abbrev pub IsTooLargeElement : Parts → Item → Type 0
+IsTooLargeElement parts item = IsTooLong (item_content item) ⊎ (2 ^ 29 ≤ entry_count parts + 1)

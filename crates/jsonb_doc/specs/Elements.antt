@@ -1,17 +1,17 @@
 -- The iterator over the elements of an array.
 use Rattle.std.specs.Prelude.{◌≡◌, ℕ, ◌+◌, ◌/◌, ◌≤◌, length, Option, Some, None, Result, Ok, Err, IfSome, IfNone, IfOk, IfErr, ⊤}
 use Rattle.jsonb_doc.specs.Tree.{Tree, array, Trees, no_trees, tree}
-use Rattle.jsonb_doc.specs.Payload.{Form, reading}
+use Rattle.jsonb_doc.specs.Payload.{Form, number_reader}
 use Rattle.jsonb_doc.specs.Format.{AreEntries}
-use Rattle.jsonb_doc.specs.Item.{Stands, IsNormal, item_size}
-use Rattle.jsonb_doc.specs.View.{IsDecodingError}
+use Rattle.jsonb_doc.specs.Item.{StandsFor, IsNormal, item_size}
+use Rattle.jsonb_doc.specs.Answer.{IsDecodingError}
 use Rattle.jsonb_doc.specs.declared.item.Item.{Item}
 use Rattle.jsonb_doc.specs.declared.element_iter.ElementIter.{ElementIter}
 use Rattle.jsonb_doc.specs.declared.error.Error.{Error}
 
 -- these trees are left in the iterator
 pub record HasElementsLeft (form : Form) (it : ElementIter) (ts : Trees) : Type 0 where
-  pub entries : AreEntries (reading form) ts it.entries.words.now it.entries.contents.now
+  pub entries : AreEntries (number_reader form) ts it.entries.words.now it.entries.contents.now
 
 -- at most how many items the iterator gives, on any bytes
 abbrev pub elements_bound : ElementIter → ℕ
@@ -27,7 +27,7 @@ TakesElement form no_trees None after = HasElementsLeft form after no_trees
 TakesElement form no_trees (Some r) after = ⊥
 TakesElement form (tree t ts) None after = ⊥
 TakesElement form (tree t ts) (Some (Err e)) after = ⊥
-TakesElement form (tree t ts) (Some (Ok item)) after = Stands form item t × HasElementsLeft form after ts
+TakesElement form (tree t ts) (Some (Ok item)) after = StandsFor form item t × HasElementsLeft form after ts
 
 -- What a call of `next` does. On any bytes it gives an item, an error or `None`, and after `None` nothing more.
 pub record GivesElement (before : ElementIter) (r : Option (Result Item Error)) (after : ElementIter) : Type 0 where

@@ -56,10 +56,10 @@ abbrev pub IsTooLong : List ℕ → Type 0
 IsTooLong content = 2 ^ 28 ≤ length content
 
 -- A document of the item passes the limits. The root of a container may be longer than an entry's content.
-abbrev pub PassesAlone : Item → Type 0
-PassesAlone (Array bytes) = ⊥
-PassesAlone (Object bytes) = ⊥
-PassesAlone item = IsTooLong (item_content item)
+abbrev pub IsTooLargeItem : Item → Type 0
+IsTooLargeItem (Array bytes) = ⊥
+IsTooLargeItem (Object bytes) = ⊥
+IsTooLargeItem item = IsTooLong (item_content item)
 
 -- what was there stays in front
 abbrev pub StaysInFront : List ℕ → List ℕ → Type 0

@@ -8,7 +8,7 @@ use Rattle.std.specs.Ordering.{nat_cmp, match_ordering}
 use Rattle.std.specs.Cmp.Lexicographic.{slice_cmp}
 use Rattle.std.specs.Str.{bytes_eq}
 use Rattle.jsonb_doc.specs.Tree.{Tree}
-use Rattle.jsonb_doc.specs.Payload.{Form, reading}
+use Rattle.jsonb_doc.specs.Payload.{Form, number_reader}
 use Rattle.jsonb_doc.specs.Format.{header, object_header, entry_word, key_words, key_bytes, IsContent}
 use Rattle.jsonb_doc.specs.Encoding.{EntryParts, IsTooLong, item_content}
 use Rattle.jsonb_doc.specs.declared.item.Item.{Item}
@@ -28,16 +28,16 @@ insert_pair key x (p ∷ ps) =
 
 -- ---- entries
 
-abbrev pub kept : KeptEntry → EntryParts
-kept e = (e.kind, e.content.items)
+abbrev pub entry_parts : KeptEntry → EntryParts
+entry_parts e = (e.kind, e.content.items)
 
 -- the entry has its place in the format
-abbrev pub IsWithin : EntryParts → Type 0
-IsWithin e = (e.0 < 8) × (length e.1 < 2 ^ 28)
+abbrev pub FitsEntry : EntryParts → Type 0
+FitsEntry e = (e.0 < 8) × (length e.1 < 2 ^ 28)
 
 -- the entry is one of the tree, in a document of this form
 abbrev pub IsEntryOf : Form → EntryParts → Tree → Type 0
-IsEntryOf form e t = IsContent (reading form) t e.0 e.1
+IsEntryOf form e t = IsContent (number_reader form) t e.0 e.1
 
 -- the keys are the same, and the entry is one of the tree
 abbrev pub IsMemberOf : Form → List ℕ × EntryParts → List ℕ × Tree → Type 0
@@ -49,25 +49,26 @@ HoldsPairs form es ps = AllZip (IsMemberOf form) es ps
 
 -- the pair that an entry of a map is
 abbrev pub member : String Global × KeptEntry → List ℕ × EntryParts
-member e = (string_bytes e.0, kept e.1)
+member e = (string_bytes e.0, entry_parts e.1)
 
 -- the key and the entry have their place in the format
-abbrev pub IsMemberWithin : String Global × KeptEntry → Type 0
-IsMemberWithin e = (length (string_bytes e.0) < 2 ^ 28) × IsWithin (kept e.1)
+abbrev pub FitsMember : String Global × KeptEntry → Type 0
+FitsMember e = (length (string_bytes e.0) < 2 ^ 28) × FitsEntry (entry_parts e.1)
 
 -- one more pair of the key and the item passes the limits
-abbrev pub PairPasses : List (List ℕ × EntryParts) → List ℕ → Item → Type 0
-PairPasses es key item = IsTooLong key ⊎ (IsTooLong (item_content item) ⊎ (2 ^ 29 ≤ length es + 1))
+abbrev pub IsTooLargePair : List (List ℕ × EntryParts) → List ℕ → Item → Type 0
+IsTooLargePair es key item = IsTooLong key ⊎ (IsTooLong (item_content item) ⊎ (2 ^ 29 ≤ length es + 1))
 
 -- ---- bytes
 
-abbrev pub kept_words : List EntryParts → List ℕ
-kept_words es = flat_map (λ e. entry_word e.0 (length e.1)) es
+abbrev pub words_of_entries : List EntryParts → List ℕ
+words_of_entries es = flat_map (λ e. entry_word e.0 (length e.1)) es
 
-abbrev pub kept_contents : List EntryParts → List ℕ
-kept_contents es = flat_map (λ e. e.1) es
+abbrev pub contents_of_entries : List EntryParts → List ℕ
+contents_of_entries es = flat_map (λ e. e.1) es
 
 -- the object of these keys with their entries
 abbrev pub object_bytes : List (List ℕ × EntryParts) → List ℕ
 object_bytes es =
-    header object_header (length es) ++ ((key_words (keys_of es) ++ kept_words (values_of es)) ++ (key_bytes (keys_of es) ++ kept_contents (values_of es)))
+    header object_header (length es)
+    ++ ((key_words (keys_of es) ++ words_of_entries (values_of es)) ++ (key_bytes (keys_of es) ++ contents_of_entries (values_of es)))

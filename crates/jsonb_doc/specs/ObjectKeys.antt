@@ -5,7 +5,7 @@ use Rattle.jsonb_doc.specs.Tree.{Tree, object, Trees, keys, values}
 use Rattle.jsonb_doc.specs.Payload.{Form}
 use Rattle.jsonb_doc.specs.Format.{AreKeys, key_words, key_bytes}
 use Rattle.jsonb_doc.specs.Elements.{HasElementsLeft, GivesElement, elements_bound, elements_room}
-use Rattle.jsonb_doc.specs.View.{IsDecodingError}
+use Rattle.jsonb_doc.specs.Answer.{IsDecodingError}
 use Rattle.jsonb_doc.specs.declared.item.Item.{Item}
 use Rattle.jsonb_doc.specs.declared.key_iter.KeyIter.{KeyIter}
 use Rattle.jsonb_doc.specs.declared.value_iter.ValueIter.{ValueIter}

@@ -2,10 +2,10 @@
 use Rattle.std.specs.Prelude.{◌≡◌, ℕ, ◌+◌, ◌/◌, ◌≤◌, List, ◌++◌, length, Option, Some, None, Result, Ok, Err, IfSome, IfNone, IfOk, IfErr, ⊤}
 use Rattle.std.specs.Borrow.{Bor}
 use Rattle.jsonb_doc.specs.Tree.{Tree, object, Pairs, no_pairs, pair, keys}
-use Rattle.jsonb_doc.specs.Payload.{Form, reading}
+use Rattle.jsonb_doc.specs.Payload.{Form, number_reader}
 use Rattle.jsonb_doc.specs.Format.{AreKeys, AreValues, key_words, key_bytes}
-use Rattle.jsonb_doc.specs.Item.{Stands, IsNormal, item_size}
-use Rattle.jsonb_doc.specs.View.{IsDecodingError}
+use Rattle.jsonb_doc.specs.Item.{StandsFor, IsNormal, item_size}
+use Rattle.jsonb_doc.specs.Answer.{IsDecodingError}
 use Rattle.jsonb_doc.specs.declared.item.Item.{Item}
 use Rattle.jsonb_doc.specs.declared.pair_iter.PairIter.{PairIter}
 use Rattle.jsonb_doc.specs.declared.error.Error.{Error}
@@ -16,7 +16,7 @@ pub record HasPairsLeft (form : Form) (it : PairIter) (ps : Pairs) : Type 0 wher
   pub are_keys : AreKeys (keys ps)
   pub words : it.key_words.now ≡ key_words (keys ps)
   pub bytes : it.key_bytes.now ≡ key_bytes (keys ps) ++ rest
-  pub values : AreValues (reading form) ps it.value_words.now it.value_contents.now
+  pub values : AreValues (number_reader form) ps it.value_words.now it.value_contents.now
 
 -- at most how many pairs the iterator gives, on any bytes
 abbrev pub pairs_bound : PairIter → ℕ
@@ -32,7 +32,7 @@ TakesPair form no_pairs None after = HasPairsLeft form after no_pairs
 TakesPair form no_pairs (Some r) after = ⊥
 TakesPair form (pair key t ps) None after = ⊥
 TakesPair form (pair key t ps) (Some (Err e)) after = ⊥
-TakesPair form (pair key t ps) (Some (Ok given)) after = (given.0.now ≡ key) × Stands form given.1 t × HasPairsLeft form after ps
+TakesPair form (pair key t ps) (Some (Ok given)) after = (given.0.now ≡ key) × StandsFor form given.1 t × HasPairsLeft form after ps
 
 -- What a call of `next` does. On any bytes it gives a pair, an error or `None`, and after `None` nothing more.
 pub record GivesPair (before : PairIter) (r : Option (Result (Bor (List ℕ) × Item) Error)) (after : PairIter) : Type 0 where

@@ -1,9 +1,9 @@
 -- Places of trees within the bytes of a document.
 use Rattle.std.specs.Prelude.{ℕ, ◌+◌, ◌-◌, ◌/◌, ◌≤◌, List, [], ◌∷◌, length, slice_range, Option, Some, None, Result, Ok, Err, IfSome, IfOk, IfErr}
 use Rattle.jsonb_doc.specs.Tree.{Tree, trees_of}
-use Rattle.jsonb_doc.specs.Payload.{Form, any, reading}
+use Rattle.jsonb_doc.specs.Payload.{Form, any, number_reader}
 use Rattle.jsonb_doc.specs.Format.{Decodes, IsContent, AreEntries}
-use Rattle.jsonb_doc.specs.View.{IsDecodingError}
+use Rattle.jsonb_doc.specs.Answer.{IsDecodingError}
 use Rattle.jsonb_doc.specs.declared.error.Error.{Error}
 use Rattle.jsonb_doc.specs.declared.spot.Spot.{Spot}
 use Rattle.jsonb_doc.specs.declared.spot_iter.SpotIter.{SpotIter}
@@ -17,12 +17,12 @@ abbrev pub spot_content : List ℕ → Spot → List ℕ
 spot_content bytes spot = slice_range bytes spot.start spot.end
 
 -- The spot is a place of the tree in bytes that decode, in each form in which they do.
-pub record Marks (bytes : List ℕ) (spot : Spot) (t : Tree) : Type 0 where
+pub record Locates (bytes : List ℕ) (spot : Spot) (t : Tree) : Type 0 where
   pub whole : Tree
   pub decodes : Decodes any bytes whole
   pub ordered : spot.start ≤ spot.end
   pub within : spot.end ≤ length bytes
-  pub content : (form : Form) (top : Tree) → Decodes form bytes top → IsContent (reading form) t spot.kind (spot_content bytes spot)
+  pub content : (form : Form) (top : Tree) → Decodes form bytes top → IsContent (number_reader form) t spot.kind (spot_content bytes spot)
 
 -- These trees are left in the iterator, for spots of these bytes.
 pub record HasSpotsLeft (bytes : List ℕ) (it : SpotIter) (ts : List Tree) : Type 0 where
@@ -30,7 +30,8 @@ pub record HasSpotsLeft (bytes : List ℕ) (it : SpotIter) (ts : List Tree) : Ty
   pub decodes : Decodes any bytes whole
   pub ordered : it.start ≤ it.end
   pub within : it.end ≤ length bytes
-  pub entries : (form : Form) (top : Tree) → Decodes form bytes top → AreEntries (reading form) (trees_of ts) it.words.now (slice_range bytes it.start it.end)
+  pub entries : (form : Form) (top : Tree) → Decodes form bytes top
+      → AreEntries (number_reader form) (trees_of ts) it.words.now (slice_range bytes it.start it.end)
 
 -- at most how many spots the iterator gives, on any bytes
 abbrev pub spots_bound : SpotIter → ℕ
@@ -46,7 +47,7 @@ TakesSpot bytes [] None after = HasSpotsLeft bytes after []
 TakesSpot bytes [] (Some r) after = ⊥
 TakesSpot bytes (t ∷ ts) None after = ⊥
 TakesSpot bytes (t ∷ ts) (Some (Err e)) after = ⊥
-TakesSpot bytes (t ∷ ts) (Some (Ok spot)) after = Marks bytes spot t × HasSpotsLeft bytes after ts
+TakesSpot bytes (t ∷ ts) (Some (Ok spot)) after = Locates bytes spot t × HasSpotsLeft bytes after ts
 
 -- what a call of `next` does
 pub record GivesSpot (before : SpotIter) (r : Option (Result Spot Error)) (after : SpotIter) : Type 0 where

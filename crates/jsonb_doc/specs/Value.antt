@@ -17,22 +17,22 @@ abbrev pub keyed : List (String Global × Tree) → List (List ℕ × Tree)
 keyed es = map (λ e. (string_bytes e.0, e.1)) es
 
 -- one level, with each value inside already as its tree
-abbrev pub level : (Number → spec.Number) → Value-F Tree → Tree
-level seen Value-F.Null = null
-level seen (Value-F.Bool b) = boolean b
-level seen (Value-F.String s) = text (cow_str_bytes s)
-level seen (Value-F.Number n) = number (seen n)
-level seen (Value-F.Binary bytes) = extension (binary bytes.now)
-level seen (Value-F.Date d) = extension (date d.value)
-level seen (Value-F.Timestamp t) = extension (timestamp t.value)
-level seen (Value-F.TimestampTz t) = extension (timestamp_tz t.offset t.value)
-level seen (Value-F.Interval i) = extension (interval i.months i.days i.micros)
-level seen (Value-F.Array v) = array (trees_of v.items)
-level seen (Value-F.Object m) = object (pairs_of (keyed m.entries))
+abbrev pub value_layer : (Number → spec.Number) → Value-F Tree → Tree
+value_layer seen Value-F.Null = null
+value_layer seen (Value-F.Bool b) = boolean b
+value_layer seen (Value-F.String s) = text (cow_str_bytes s)
+value_layer seen (Value-F.Number n) = number (seen n)
+value_layer seen (Value-F.Binary bytes) = extension (binary bytes.now)
+value_layer seen (Value-F.Date d) = extension (date d.value)
+value_layer seen (Value-F.Timestamp t) = extension (timestamp t.value)
+value_layer seen (Value-F.TimestampTz t) = extension (timestamp_tz t.offset t.value)
+value_layer seen (Value-F.Interval i) = extension (interval i.months i.days i.micros)
+value_layer seen (Value-F.Array v) = array (trees_of v.items)
+value_layer seen (Value-F.Object m) = object (pairs_of (keyed m.entries))
 
 -- the tree of a value, where each number is seen so
 abbrev pub tree_seen : (Number → spec.Number) → Value → Tree
-tree_seen seen = fold-Value Tree (level seen)
+tree_seen seen = fold-Value Tree (value_layer seen)
 
 -- the same for the values of an array
 abbrev pub trees_seen : (Number → spec.Number) → List Value → List Tree

@@ -4,7 +4,7 @@ ghost use Rattle.std.specs.Prelude.{◌≡◌, ◌≢◌, ◌↔◌, IsOk, IsErr
 ghost use Rattle.jsonb_doc.specs.Tree.{Tree};
 ghost use Rattle.jsonb_doc.specs.Payload.{any, number_or_unsupported};
 ghost use Rattle.jsonb_doc.specs.Format.{Decodes, WouldDecode};
-ghost use Rattle.jsonb_doc.specs.Checking.{Judges, HasContent, HasEntries, HasDocument, HasKeys, IsNextKey, HasParts, HasLarge, IsWithin, Leaves};
+ghost use Rattle.jsonb_doc.specs.Private.Checking.{Validates, HasContent, HasEntries, HasDocument, HasKeys, IsNextKey, HasParts, HasLarge, IsNoLonger, ReducesTo};
 
 use crate::container::{Container, read_container};
 use crate::error::Error;
@@ -28,7 +28,7 @@ pub fn check(bytes: &[u8]) -> Result<(), Error>
 }
 
 fn check_document(bytes: &[u8]) -> Result<(), Error>
-    ensures { Judges (HasDocument bytes.now) result }
+    ensures { Validates (HasDocument bytes.now) result }
 {
     let Ok(container) = read_container(bytes) else {
         return Err(Error::InvalidJsonb);
@@ -41,7 +41,7 @@ fn check_document(bytes: &[u8]) -> Result<(), Error>
 
 #[cycle(check)]
 fn check_content(kind: u32, content: &[u8]) -> Result<(), Error>
-    ensures { Judges (HasContent kind content.now) result }
+    ensures { Validates (HasContent kind content.now) result }
 {
     if kind == CONTAINER {
         check_container(content)
@@ -52,7 +52,7 @@ fn check_content(kind: u32, content: &[u8]) -> Result<(), Error>
 
 fn check_scalar(kind: u32, content: &[u8]) -> Result<(), Error>
     requires { kind ≢ 5 }
-    ensures { Judges (HasContent kind content.now) result }
+    ensures { Validates (HasContent kind content.now) result }
 {
     match kind {
         NULL => check_empty(content),
@@ -90,7 +90,7 @@ fn check_empty(content: &[u8]) -> Result<(), Error>
 /// than the length can be halved.
 #[cycle(check)]
 fn check_container(bytes: &[u8]) -> Result<(), Error>
-    ensures { Judges (HasContent 5 bytes.now) result }
+    ensures { Validates (HasContent 5 bytes.now) result }
 {
     let mut container = bytes;
     let mut is_supported = true;
@@ -116,7 +116,8 @@ fn check_container(bytes: &[u8]) -> Result<(), Error>
 
 /// The entry words and the contents of an array's elements or of an object's values.
 fn split_container(bytes: &[u8]) -> Option<(&[u8], &[u8])>
-    ensures { MatchOption result (HasContent 5 bytes.now number_or_unsupported → ⊥) (λ r. HasParts bytes.now r.0.now r.1.now) }
+    ensures { MatchOption result (HasContent 5 bytes.now number_or_unsupported → ⊥)
+        (λ r. HasParts bytes.now r.0.now r.1.now) }
 {
     let Ok(container) = read_container(bytes) else {
         return None;
@@ -144,8 +145,8 @@ struct Entries<'a> {
 #[cycle(check)]
 fn check_entries<'a>(words: &[u8], contents: &'a [u8]) -> Option<Entries<'a>>
     ensures { MatchOption result (HasEntries words.now contents.now number_or_unsupported → ⊥)
-        (λ r. IsWithin (option_copied r.large) contents.now
-        × Leaves r.is_supported (HasEntries words.now contents.now) (HasLarge (option_copied r.large))) }
+        (λ r. IsNoLonger (option_copied r.large) contents.now
+        × ReducesTo r.is_supported (HasEntries words.now contents.now) (HasLarge (option_copied r.large))) }
 {
     let half = contents.len() / 2;
     let mut words_left = words;
@@ -181,7 +182,8 @@ fn check_entries<'a>(words: &[u8], contents: &'a [u8]) -> Option<Entries<'a>>
 
 /// The bytes behind the keys that these entry words tell.
 pub fn skip_keys<'a>(words: &[u8], bytes: &'a [u8]) -> Option<&'a [u8]>
-    ensures { MatchOption result ((rest : List ℕ) → HasKeys words.now bytes.now rest → ⊥) (λ rest. HasKeys words.now bytes.now rest.now) }
+    ensures { MatchOption result ((rest : List ℕ) → HasKeys words.now bytes.now rest → ⊥)
+        (λ rest. HasKeys words.now bytes.now rest.now) }
 {
     let mut words_left = words;
     let mut bytes_left = bytes;

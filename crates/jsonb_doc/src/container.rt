@@ -2,9 +2,9 @@
 
 ghost use Rattle.std.specs.Prelude.{◌≡◌, ◌≤◌, ℕ, ◌*◌, ◌+◌, List, length, IfOk, MatchOption, MatchResult};
 ghost use Rattle.jsonb_doc.specs.Tree.{Tree};
-ghost use Rattle.jsonb_doc.specs.Payload.{Reading};
+ghost use Rattle.jsonb_doc.specs.Payload.{NumberReader};
 ghost use Rattle.jsonb_doc.specs.Format.{HeadedBy, IsDocument};
-ghost use Rattle.jsonb_doc.specs.Containers.{IsLoneEntry, IsCut, container_words, container_room};
+ghost use Rattle.jsonb_doc.specs.Private.Containers.{IsLoneEntry, IsCut, container_words, container_room};
 
 use crate::entry_iter::StoredEntry;
 use crate::error::Error;
@@ -28,8 +28,8 @@ pub struct ObjectParts<'a> {
 
 impl<'a> ObjectParts<'a> {
     ghost use Rattle.std.specs.Prelude.{◌≡◌, ◌^◌, ◌<◌, ◌≤◌, List, ℕ, length, IfErr, IfOk, IsOkAnd};
-    ghost use Rattle.jsonb_doc.specs.Lengths.{StandBefore};
-    ghost use Rattle.jsonb_doc.specs.View.{IsDecodingError};
+    ghost use Rattle.jsonb_doc.specs.Private.Lengths.{StandBefore};
+    ghost use Rattle.jsonb_doc.specs.Answer.{IsDecodingError};
 
     /// The contents of the values, which are behind those of the keys.
     pub fn value_contents(&self) -> Result<&'a [u8], Error>
@@ -58,7 +58,8 @@ pub enum Container<'a> {
 /// The parts of a document or a container. Bytes that no header and its count fit are `InvalidJsonb`.
 pub fn read_container(bytes: &[u8]) -> Result<Container<'_>, Error>
     ensures cut { MatchResult result (IsCut bytes.now)
-        (λ e. (e ≡ Error.InvalidJsonb) × ((number_at : Reading) (t : Tree) → IsDocument number_at t bytes.now → ⊥)) }
+        (λ e. (e ≡ Error.InvalidJsonb)
+        × ((number_at : NumberReader) (t : Tree) → IsDocument number_at t bytes.now → ⊥)) }
     ensures bound { (kind entries : ℕ) (rest : List ℕ) → HeadedBy bytes.now kind entries rest
         → IfOk result (λ found. container_words found ≡ 4 * entries) }
     ensures room { IfOk result (λ found. 4 + container_room found ≤ length bytes.now) }

@@ -131,7 +131,8 @@ pub fn split_header(bytes: &[u8]) -> Option<(u32, usize, &[u8])>
 #[inline(always)]
 pub fn split_entry<'w, 'c>(words: &'w [u8], contents: &'c [u8]) -> Option<Entry<'w, 'c>>
     ensures { MatchOption result
-        ((kind : ℕ) (content other_words other_contents : List ℕ) → BeginWith words.now contents.now kind content other_words other_contents → ⊥)
+        ((kind : ℕ) (content other_words other_contents : List ℕ)
+        → BeginWith words.now contents.now kind content other_words other_contents → ⊥)
         (λ e. BeginWith words.now contents.now e.kind e.content.now e.other_words.now e.other_contents.now) }
 {
     let (entry, other_words) = split_word(words)?;

@@ -2,7 +2,7 @@
 
 ghost use Rattle.std.specs.Prelude.{◌≡◌, ℕ, ◌+◌, ◌^◌, ◌<◌, ◌≤◌, List, MatchOption, IsSomeAnd, IfSome, length, take, drop};
 ghost use Rattle.jsonb_doc.specs.Format.{BeginWith};
-ghost use Rattle.jsonb_doc.specs.Lengths.{StandBefore, StartWith};
+ghost use Rattle.jsonb_doc.specs.Private.Lengths.{StandBefore, StartWith};
 
 use crate::layout::{Entry, KINDS, LENGTHS, split_entry, split_word};
 
@@ -39,7 +39,8 @@ pub fn entry_behind<'w, 'c>(
 ) -> Option<Entry<'w, 'c>>
     requires within { passed ≤ length words.now }
     requires short { length words.now < 2 ^ 32 }
-    ensures entry { (parts : List (List ℕ)) (left : List ℕ) → StandBefore parts (take passed words.now) contents.now left
+    ensures entry { (parts : List (List ℕ)) (left : List ℕ)
+        → StandBefore parts (take passed words.now) contents.now left
         → MatchOption result
         ((kind : ℕ) (content ws cs : List ℕ) → BeginWith (drop passed words.now) left kind content ws cs → ⊥)
         (λ e. BeginWith (drop passed words.now) left e.kind e.content.now e.other_words.now e.other_contents.now) }

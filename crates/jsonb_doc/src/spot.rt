@@ -4,12 +4,11 @@ ghost use Rattle.std.specs.Prelude.{◌≡◌, ℕ, ◌+◌, ◌*◌, ◌^◌, �
 ghost use Rattle.jsonb_doc.specs.Tree.{Tree, children_of, field_of};
 ghost use Rattle.jsonb_doc.specs.Payload.{Form, any};
 ghost use Rattle.jsonb_doc.specs.Format.{Decodes, HeadedBy};
-ghost use Rattle.jsonb_doc.specs.Item.{Stands, IsNormal, item_size};
-ghost use Rattle.jsonb_doc.specs.Answer.{SameOption};
-ghost use Rattle.jsonb_doc.specs.Containers.{HasReadableRoot};
-ghost use Rattle.jsonb_doc.specs.Lengths.{HoldKeys, FindsKey};
-ghost use Rattle.jsonb_doc.specs.Spots.{Marks, HasSpotsLeft, spot_size, spot_content, spots_bound, spots_room};
-ghost use Rattle.jsonb_doc.specs.View.{IsDecodingError};
+ghost use Rattle.jsonb_doc.specs.Item.{StandsFor, IsNormal, item_size};
+ghost use Rattle.jsonb_doc.specs.Answer.{SameOption, IsDecodingError};
+ghost use Rattle.jsonb_doc.specs.Private.Containers.{HasReadableRoot};
+ghost use Rattle.jsonb_doc.specs.Private.Lengths.{HoldKeys, FindsKey};
+ghost use Rattle.jsonb_doc.specs.Spots.{Locates, HasSpotsLeft, spot_size, spot_content, spots_bound, spots_room};
 
 use crate::container::{Container, read_container};
 use crate::error::Error;
@@ -38,7 +37,8 @@ impl Spot {
     /// Its content within these bytes. Bytes in which it has no place are `InvalidJsonb`.
     fn content<'a>(self, bytes: &'a [u8]) -> Result<&'a [u8], Error>
         ensures { MatchResult result
-            (λ content. (self.start ≤ self.end) × (self.end ≤ length bytes.now) × (content.now ≡ spot_content bytes.now self))
+            (λ content. (self.start ≤ self.end) × (self.end ≤ length bytes.now)
+            × (content.now ≡ spot_content bytes.now self))
             (λ e. (e ≡ Error.InvalidJsonb) × (self.start ≤ self.end → self.end ≤ length bytes.now → ⊥)) }
     {
         match bytes.get(self.start..self.end) {
@@ -50,7 +50,7 @@ impl Spot {
 
 /// The spot of a document's root. Bytes that don't decode are `InvalidJsonb` or `UnsupportedNumber`, or have some spot.
 pub fn root_spot(bytes: &[u8]) -> Result<Spot, Error>
-    ensures marks { (t : Tree) → Decodes any bytes.now t → IsOkAnd result (λ spot. Marks bytes.now spot t) }
+    ensures marks { (t : Tree) → Decodes any bytes.now t → IsOkAnd result (λ spot. Locates bytes.now spot t) }
     ensures size { IfOk result (λ spot. spot_size spot ≤ length bytes.now) }
     ensures readable { OnOk result (HasReadableRoot bytes.now) }
     ensures errors { IfErr result IsDecodingError }
@@ -67,9 +67,9 @@ pub fn root_spot(bytes: &[u8]) -> Result<Spot, Error>
 /// The item at a spot of these bytes, its slices borrowed from them. The spot of other bytes has some item here, or is
 /// refused as bytes that don't decode.
 pub fn spot_item<'a>(bytes: &'a [u8], spot: Spot) -> Result<Item<'a>, Error>
-    ensures item { (t : Tree) → Marks bytes.now spot t → IsOkAnd result (λ item. Stands any item t) }
-    ensures in_form { (form : Form) (top t : Tree) → Decodes form bytes.now top → Marks bytes.now spot t
-        → IsOkAnd result (λ item. Stands form item t) }
+    ensures item { (t : Tree) → Locates bytes.now spot t → IsOkAnd result (λ item. StandsFor any item t) }
+    ensures in_form { (form : Form) (top t : Tree) → Decodes form bytes.now top → Locates bytes.now spot t
+        → IsOkAnd result (λ item. StandsFor form item t) }
     ensures normal { IfOk result IsNormal }
     ensures size { IfOk result (λ item. item_size item ≤ spot_size spot) }
     ensures errors { IfErr result IsDecodingError }
@@ -80,7 +80,7 @@ pub fn spot_item<'a>(bytes: &'a [u8], spot: Spot) -> Result<Item<'a>, Error>
 /// The spots of an array's elements or of an object's values, in stored order. `None` is for a scalar.
 /// The spot of other bytes gives some spots here, or is refused as bytes that don't decode.
 pub fn child_spots<'a>(bytes: &'a [u8], spot: Spot) -> Result<Option<SpotIter<'a>>, Error>
-    ensures spots { (t : Tree) → Marks bytes.now spot t
+    ensures spots { (t : Tree) → Locates bytes.now spot t
         → IsOkAnd result (λ found. SameOption (HasSpotsLeft bytes.now) found (children_of t)) }
     ensures room { IfOk result (λ found. IfSome found (λ it. spots_room it < spot_size spot)) }
     ensures bound { (kind entries : ℕ) (rest : List ℕ) → HeadedBy (spot_content bytes.now spot) kind entries rest
@@ -107,8 +107,8 @@ pub fn child_spots<'a>(bytes: &'a [u8], spot: Spot) -> Result<Option<SpotIter<'a
 /// The spot of the value under this key. `None` is for an object without the key, and for another item.
 /// The spot of other bytes gives some spot here, or is refused as bytes that don't decode.
 pub fn field_spot(bytes: &[u8], spot: Spot, name: &str) -> Result<Option<Spot>, Error>
-    ensures field { (t : Tree) → Marks bytes.now spot t
-        → IsOkAnd result (λ found. SameOption (Marks bytes.now) found (field_of name.now t)) }
+    ensures field { (t : Tree) → Locates bytes.now spot t
+        → IsOkAnd result (λ found. SameOption (Locates bytes.now) found (field_of name.now t)) }
     ensures size { IfOk result (λ found. IfSome found (λ child. spot_size child < spot_size spot)) }
     ensures errors { IfErr result IsDecodingError }
 {
@@ -144,7 +144,8 @@ fn find_key<'w, 'k>(
 ) -> Result<Option<(&'w [u8], &'k [u8])>, Error>
     ensures found { (ks : List (List ℕ)) (rest : List ℕ) → HoldKeys ks words.now bytes.now rest
         → IsOkAnd result (λ found. FindsKey name.now ks rest found) }
-    ensures size { IfOk result (λ found. IfSome found (λ r. (length r.0.now + 4 ≤ length words.now) × (length r.1.now ≤ length bytes.now))) }
+    ensures size { IfOk result
+        (λ found. IfSome found (λ r. (length r.0.now + 4 ≤ length words.now) × (length r.1.now ≤ length bytes.now))) }
     ensures errors { IfErr result IsDecodingError }
 {
     let mut words_left = words;

@@ -47,8 +47,8 @@ pub enum Value<'a> {
 }
 
 impl<'a> Value<'a> {
-    ghost use Rattle.std.specs.Prelude.{◌≡◌, IfOk};
-    ghost use Rattle.jsonb_doc.specs.Answer.{Answers};
+    ghost use Rattle.std.specs.Prelude.{◌≡◌, IfOk, MatchResult};
+    ghost use Rattle.jsonb_doc.specs.Answer.{IsOutOfMemory};
     ghost use Rattle.jsonb_doc.specs.Value.{value_tree, value_parts};
 
     /// The same value, with its own copy of each text, list and map that it owns. What it borrows, the copy borrows.
@@ -57,7 +57,7 @@ impl<'a> Value<'a> {
     ///
     /// `OutOfMemory` where memory is refused.
     pub fn clone(&self, alloc: Global) -> Result<Value<'a>, Error>
-        ensures tree { Answers result (λ copy. value_tree copy ≡ value_tree self.now) }
+        ensures tree { MatchResult result (λ copy. value_tree copy ≡ value_tree self.now) IsOutOfMemory }
         ensures parts { IfOk result (λ copy. value_parts copy ≡ value_parts self.now) }
     {
         Ok(copy(alloc, self)?)

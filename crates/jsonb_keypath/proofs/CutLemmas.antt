@@ -5,15 +5,15 @@ use Rattle.std.specs.List.{concat, starts_with}
 use Rattle.std.specs.Str.{is_utf8}
 use Rattle.std.proofs.lemmas.List.{length-drop}
 use Rattle.std.proofs.lemmas.Bool.Decides.{nat_tests}
-use Rattle.jsonb_keypath.specs.Rules.{Outcome, Rule, give, ◌>>◌, only_if, literal, bytes, repeat}
-use Rattle.jsonb_keypath.specs.Tokens.{unit, units, text, name, quoted, escape, escaped, numbered, code_unit, four_hex, hex_digit, byte_as, plain, is_stop, is_quote, is_high_surrogate, is_low_surrogate, joined, ahead}
+use Rattle.jsonb_keypath.specs.Rules.{Parsed, Rule, give, ◌>>◌, only_if, literal, bytes, repeat}
+use Rattle.jsonb_keypath.specs.Tokens.{unit, units, text, name, quoted, escape, escaped, numbered, code_unit, four_hex, hex_digit, byte_as, unescaped, is_stop, is_quote, is_high_surrogate, is_low_surrogate, surrogate_pair, ahead}
 use Rattle.jsonb_keypath.specs.TokenLaws.{ReadsSome, IsRepeated, IsRun, IsText, is_at, IsName, IsQuoted}
 use Rattle.jsonb_keypath.proofs.TextLemmas.{unit-byte, unit-end}
 use Rattle.jsonb_keypath.proofs.ReadsLemmas.{NeverGrows, parts, given, passed, some-no_more, grows-give, grows-then, some-then, some-choice, grows-choice, grows-only_if, repeat-repeated, repeated-repeat}
 
 -- ---- each unit reads a byte at least
 
-pub nothing : {A : Type 0} (a : A) (rest : List ℕ) → ◌≡◌ {A = Outcome A} None (Some (a, rest)) → ⊥
+pub nothing : {A : Type 0} (a : A) (rest : List ℕ) → ◌≡◌ {A = Parsed A} None (Some (a, rest)) → ⊥
 nothing a rest e = cc
 
 pub some-byte_as : {A : Type 0} (value : ℕ → Option A) → ReadsSome (byte_as value)
@@ -30,7 +30,8 @@ pub some-literal : (b : ℕ) (text : List ℕ) → ReadsSome (bytes (b ∷ text)
 some-literal b text [] a rest e = cc
 some-literal b text (c ∷ input) a rest e = go (starts_with nat_eq (c ∷ input) (b ∷ text)) refl where
   go : (t : Bool) → starts_with nat_eq (c ∷ input) (b ∷ text) ≡ t → length rest < length (c ∷ input)
-  go true at = rw (← (given tt a (drop (length (b ∷ text)) (c ∷ input)) rest (rw at at e)).1) (shorter (length (b ∷ text)) (c ∷ input) (omega arith) (omega arith))
+  go true at = rw (← (given tt a (drop (length (b ∷ text)) (c ∷ input)) rest (rw at at e)).1)
+      (shorter (length (b ∷ text)) (c ∷ input) (omega arith) (omega arith))
   go false at = absurd (nothing a rest (rw at at e))
 
 grows-if : {A : Type 0} (test : Bool) (first second : Rule A) → NeverGrows first → NeverGrows second → NeverGrows (cond test first second)
@@ -56,7 +57,8 @@ some-numbered : ReadsSome numbered
 unfolding numbered
 some-numbered =
     some-then code_unit _ some-code_unit (λ n. grows-if (is_high_surrogate n) _ _
-    (grows-then code_unit _ (some-no_more code_unit some-code_unit) (λ low. grows-then (only_if (is_low_surrogate low)) _ (grows-only_if (is_low_surrogate low)) (λ _. grows-give (joined n low))))
+    (grows-then code_unit _ (some-no_more code_unit some-code_unit)
+    (λ low. grows-then (only_if (is_low_surrogate low)) _ (grows-only_if (is_low_surrogate low)) (λ _. grows-give (surrogate_pair n low))))
     (grows-then (only_if (not (is_low_surrogate n))) _ (grows-only_if (not (is_low_surrogate n))) (λ _. grows-give n)))
 
 some-escape : ReadsSome escape
@@ -66,7 +68,7 @@ some-escape =
 
 pub some-unit : (e : ℕ → Bool) → ReadsSome (unit e)
 unfolding unit
-some-unit e = some-choice _ (byte_as (plain e)) (some-then escape _ some-escape (λ c. grows-give (encode_utf8 c))) (some-byte_as (plain e))
+some-unit e = some-choice _ (byte_as (unescaped e)) (some-then escape _ some-escape (λ c. grows-give (encode_utf8 c))) (some-byte_as (unescaped e))
 
 -- ---- runs of units
 
@@ -74,7 +76,8 @@ run : (e : ℕ → Bool) (input : List ℕ) (texts : List (List ℕ)) (rest : Li
 run e input [] rest h = h.0
 run e input (t ∷ texts) rest h = (h.0, h.1, run e h.0 texts rest h.2)
 
-repeated : (e : ℕ → Bool) (input : List ℕ) (texts : List (List ℕ)) (rest : List ℕ) → IsRun e input texts rest → unit e rest ≡ None → IsRepeated (unit e) input texts rest
+repeated : (e : ℕ → Bool) (input : List ℕ) (texts : List (List ℕ)) (rest : List ℕ) → IsRun e input texts rest → unit e rest ≡ None
+    → IsRepeated (unit e) input texts rest
 repeated e input [] rest h ends = (h, ends)
 repeated e input (t ∷ texts) rest h ends = (h.0, h.1, repeated e h.0 texts rest h.2 ends)
 
@@ -88,7 +91,8 @@ text-cut e input found rest h =
     let first = parts (unit e) _ input whole.0 whole.1 whole.2 in
     let others = parts (repeat (unit e)) _ first.1 whole.0 whole.1 first.3 in
     let joined_up = given (first.0 ++ concat others.0) whole.0 others.1 whole.1 others.3 in
-    let ran : IsRun e first.1 others.0 others.1 = run e first.1 others.0 others.1 (repeated-repeat (unit e) (some-unit e) first.1 others.0 others.1 others.2) in (
+    let ran : IsRun e first.1 others.0 others.1 = run e first.1 others.0 others.1
+    (repeated-repeat (unit e) (some-unit e) first.1 others.0 others.1 others.2) in (
       first.0 ∷ others.0,
       omega arith,
       (first.1, first.2, subst (IsRun e first.1 others.0) (joined_up.1 ∙ same.1) ran),
@@ -103,7 +107,8 @@ cut-text e input found rest cut ends = go cut.0 cut.1 cut.2 cut.3 where
   go : (texts : List (List ℕ)) → 0 < length texts → IsRun e input texts rest → concat texts ≡ found → text e input ≡ Some (found, rest)
   go [] some ran same = absurd (omega arith)
   go (t ∷ texts) some ran same =
-      let others : repeat (unit e) ran.0 ≡ Some (texts, rest) = repeat-repeated (unit e) (some-unit e) ran.0 texts rest (repeated e ran.0 texts rest ran.2 ends) in
+      let others : repeat (unit e) ran.0
+      ≡ Some (texts, rest) = repeat-repeated (unit e) (some-unit e) ran.0 texts rest (repeated e ran.0 texts rest ran.2 ends) in
       let valid : is_utf8 (t ++ concat texts) ≡ true = rw same cut.4 in
       rw (ran.1, others, valid) (ap (λ (found : List ℕ). Some (found, rest)) same)
 
@@ -118,10 +123,11 @@ unit-at_stop (b ∷ rest) h = unit-byte is_stop b rest (stop_is_no_backslash b h
 
 ahead-is_at : (test : ℕ → Bool) (input : List ℕ) (u : Unit {0}) (rest : List ℕ) → ahead test input ≡ Some (u, rest) → (is_at test input ≡ true) × (input ≡ rest)
 ahead-is_at test [] u rest e = (refl, (given tt u [] rest e).1)
-ahead-is_at test (b ∷ input) u rest e = let p = passed (test b) (give tt) (b ∷ input) u rest (again (test b) e) in (p.0, (given tt u (b ∷ input) rest p.1).1) where
-  again : (t : Bool) → cond {A = Outcome (Unit {0})} t (Some (tt, b ∷ input)) None ≡ Some (u, rest) → (only_if t >> give tt) (b ∷ input) ≡ Some (u, rest)
-  again true e' = e'
-  again false e' = cc
+ahead-is_at test (b ∷ input) u rest e = let p = passed (test b) (give tt) (b ∷ input) u rest (again (test b) e) in
+    (p.0, (given tt u (b ∷ input) rest p.1).1) where
+      again : (t : Bool) → cond {A = Parsed (Unit {0})} t (Some (tt, b ∷ input)) None ≡ Some (u, rest) → (only_if t >> give tt) (b ∷ input) ≡ Some (u, rest)
+      again true e' = e'
+      again false e' = cc
 
 is_at-ahead : (test : ℕ → Bool) (rest : List ℕ) → is_at test rest ≡ true → ahead test rest ≡ Some (tt, rest)
 is_at-ahead test [] h = refl
@@ -134,8 +140,11 @@ name-cut input found rest h =
     let end = parts (ahead is_stop) _ whole.1 found rest whole.3 in
     let at = ahead-is_at is_stop whole.1 end.0 end.1 end.2 in
     let same = given whole.0 found end.1 rest end.3 in
-    let cut = text-cut is_stop input whole.0 whole.1 whole.2 in
-    (subst (λ (f : List ℕ). IsText is_stop input f rest) same.0 (subst (IsText is_stop input whole.0) (at.1 ∙ same.1) cut), subst (λ (r : List ℕ). is_at is_stop r ≡ true) (at.1 ∙ same.1) at.0)
+    let cut = text-cut is_stop input whole.0 whole.1 whole.2 in (
+      subst (λ (f : List ℕ). IsText is_stop input f rest) same.0 (subst (IsText is_stop input whole.0) (at.1 ∙ same.1) cut),
+      subst
+          (λ (r : List ℕ). is_at is_stop r ≡ true) (at.1 ∙ same.1) at.0,
+    )
 
 pub cut-name : (input found rest : List ℕ) → IsName input found rest → name input ≡ Some (found, rest)
 unfolding name
@@ -158,8 +167,12 @@ quoted-cut input found rest h =
     let close = parts (literal "\"") _ inside.1 found rest inside.3 in
     let same = given inside.0 found close.1 rest close.3 in
     let at : inside.1 ≡ 34 ∷ rest = quote-inside inside.1 close.0 close.1 close.2 ∙ ap (λ (r : List ℕ). 34 ∷ r) same.1 in
-    let cut = text-cut is_quote opened.1 inside.0 inside.1 inside.2 in
-    (opened.1, quote-inside input opened.0 opened.1 opened.2, subst (λ (f : List ℕ). IsText is_quote opened.1 f (34 ∷ rest)) same.0 (subst (IsText is_quote opened.1 inside.0) at cut))
+    let cut = text-cut is_quote opened.1 inside.0 inside.1 inside.2 in (
+      opened.1,
+      quote-inside input opened.0 opened.1 opened.2,
+      subst (λ (f : List ℕ). IsText is_quote opened.1 f (34 ∷ rest)) same.0
+          (subst (IsText is_quote opened.1 inside.0) at cut),
+    )
 
 pub cut-quoted : (input found rest : List ℕ) → IsQuoted input found rest → quoted input ≡ Some (found, rest)
 unfolding quoted

@@ -13,7 +13,7 @@ use Rattle.jsonb_keypath.specs.declared.key_path.KeyPaths.{KeyPaths}
 use Rattle.jsonb_keypath.specs.declared.owned.OwnedKeyPath.{OwnedKeyPath}
 use Rattle.jsonb_keypath.specs.declared.owned.OwnedKeyPath.TheVariants as owned
 use Rattle.jsonb_keypath.specs.declared.owned.OwnedKeyPaths.{OwnedKeyPaths}
-use Rattle.jsonb_keypath.specs.KeyPathGrammar.{Key, index, quoted_name, plain_name}
+use Rattle.jsonb_keypath.specs.KeyPathGrammar.{Key, index, quoted_name, unquoted_name}
 use Rattle.jsonb_keypath.specs.KeyPathViews.{key_view, key_paths_view, owned_key_view, owned_key_paths_view}
 use Rattle.jsonb_keypath.specs.contracts.key_path.KeyPathPartialEq.TheImpl.{eq-value as key_equal}
 use Rattle.jsonb_keypath.specs.contracts.key_path.KeyPathsPartialEq.TheImpl.{eq-value as key_paths_equal}
@@ -33,7 +33,7 @@ index_of _ = None
 text_of : Key → List ℕ
 text_of (index i) = []
 text_of (quoted_name text) = text
-text_of (plain_name text) = text
+text_of (unquoted_name text) = text
 
 same_index : (i j : ℤ) → index i ≡ index j → i ≡ j
 unfolding index_of
@@ -43,7 +43,7 @@ same_quoted : (s t : List ℕ) → quoted_name s ≡ quoted_name t → s ≡ t
 unfolding text_of
 same_quoted s t e = ap text_of e
 
-same_plain : (s t : List ℕ) → plain_name s ≡ plain_name t → s ≡ t
+same_plain : (s t : List ℕ) → unquoted_name s ≡ unquoted_name t → s ≡ t
 unfolding text_of
 same_plain s t e = ap text_of e
 
@@ -54,7 +54,7 @@ key-equal (QuotedName s) (QuotedName t) =
     (λ h. ap (λ (text : List ℕ). quoted_name text) (d.0 h), λ e. d.1 (same_quoted (cow_str_bytes s) (cow_str_bytes t) e))
 key-equal (Name s) (Name t) =
     let d = texts (cow_str_bytes s) (cow_str_bytes t) in
-    (λ h. ap (λ (text : List ℕ). plain_name text) (d.0 h), λ e. d.1 (same_plain (cow_str_bytes s) (cow_str_bytes t) e))
+    (λ h. ap (λ (text : List ℕ). unquoted_name text) (d.0 h), λ e. d.1 (same_plain (cow_str_bytes s) (cow_str_bytes t) e))
 key-equal (Index i) (QuotedName t) = (λ h. cc, λ e. cc)
 key-equal (Index i) (Name t) = (λ h. cc, λ e. cc)
 key-equal (QuotedName s) (Index j) = (λ h. cc, λ e. cc)
@@ -69,7 +69,7 @@ owned_key-equal (owned.QuotedName s) (owned.QuotedName t) =
     (λ h. ap (λ (text : List ℕ). quoted_name text) (d.0 h), λ e. d.1 (same_quoted (string_bytes s) (string_bytes t) e))
 owned_key-equal (owned.Name s) (owned.Name t) =
     let d = texts (string_bytes s) (string_bytes t) in
-    (λ h. ap (λ (text : List ℕ). plain_name text) (d.0 h), λ e. d.1 (same_plain (string_bytes s) (string_bytes t) e))
+    (λ h. ap (λ (text : List ℕ). unquoted_name text) (d.0 h), λ e. d.1 (same_plain (string_bytes s) (string_bytes t) e))
 owned_key-equal (owned.Index i) (owned.QuotedName t) = (λ h. cc, λ e. cc)
 owned_key-equal (owned.Index i) (owned.Name t) = (λ h. cc, λ e. cc)
 owned_key-equal (owned.QuotedName s) (owned.Index j) = (λ h. cc, λ e. cc)
@@ -101,13 +101,18 @@ unfolding tail_of
 same_tail k l ks ls e = ap tail_of e
 
 -- lists are equal where their members are, one by one
-members : {A : Type 0} (view : A → Key) (E : A → A → Bool) → ((a b : A) → Decides (E a b) (view a ≡ view b)) → (xs ys : List A) → Decides (pointwise E xs ys) (map view xs ≡ map view ys)
+members : {A : Type 0} (view : A → Key) (E : A → A → Bool) → ((a b : A) → Decides (E a b) (view a ≡ view b)) → (xs ys : List A)
+    → Decides (pointwise E xs ys) (map view xs ≡ map view ys)
 members view E d [] [] = (λ h. refl, λ e. refl)
 members view E d [] (y ∷ ys) = (λ h. cc, λ e. cc)
 members view E d (x ∷ xs) [] = (λ h. cc, λ e. cc)
 members view E d (x ∷ xs) (y ∷ ys) = (
   λ h. (let parts = both (E x y) (pointwise E xs ys) h in rw ((d x y).0 parts.0, (members view E d xs ys).0 parts.1) refl),
-  λ e. rw ((d x y).1 (same_head (view x) (view y) (map view xs) (map view ys) e), (members view E d xs ys).1 (same_tail (view x) (view y) (map view xs) (map view ys) e)) refl,
+  λ e. rw (
+    (d x y).1 (same_head (view x) (view y) (map view xs) (map view ys) e),
+    (members view E d xs ys).1
+        (same_tail (view x) (view y) (map view xs) (map view ys) e),
+  ) refl,
 )
 
 pub key_paths-equal : (a b : KeyPaths) → Decides (key_paths_equal.it a b) (key_paths_view a ≡ key_paths_view b)

@@ -9,7 +9,7 @@ use Rattle.std.proofs.lemmas.Bool.Decides.{nat_tests}
 use Rattle.std.proofs.lemmas.List.{length-drop}
 use Rattle.jsonb_keypath.specs.Rules.{only_if, literal}
 use Rattle.jsonb_keypath.specs.Tokens.{past, is_space, ws, sign, with_sign, natural, natural_below, integer, integer_within, is_within, int32, name, quoted, is_stop, is_quote}
-use Rattle.jsonb_keypath.specs.KeyPathGrammar.{key, index, quoted_name, plain_name, spaced_key, another_key}
+use Rattle.jsonb_keypath.specs.KeyPathGrammar.{key, index, quoted_name, unquoted_name, spaced_key, another_key}
 use Rattle.jsonb_keypath.specs.TokenLaws.{ReadsSome, IsRun}
 use Rattle.jsonb_keypath.proofs.ReadsLemmas.{NeverGrows, given, some-no_more, grows-give, grows-then, some-then, then-some, grows-choice, some-choice, grows-only_if}
 use Rattle.jsonb_keypath.proofs.CutLemmas.{nothing, some-literal, some-unit, name-cut, quoted-cut}
@@ -39,11 +39,13 @@ shorter n input some fits = rw (length-drop n input) (omega arith)
 
 run-no_more : (e : ℕ → Bool) (input : List ℕ) (texts : List (List ℕ)) (rest : List ℕ) → IsRun e input texts rest → length rest ≤ length input
 run-no_more e input [] rest h = rw h (omega arith)
-run-no_more e input (t ∷ texts) rest h = let first = some-unit e input t h.0 h.1 in let others = run-no_more e h.0 texts rest h.2 in omega (arith, first, others)
+run-no_more e input (t ∷ texts) rest h = let first = some-unit e input t h.0 h.1 in let others = run-no_more e h.0 texts rest h.2 in omega
+    (arith, first, others)
 
 run-some : (e : ℕ → Bool) (input : List ℕ) (texts : List (List ℕ)) (rest : List ℕ) → 0 < length texts → IsRun e input texts rest → length rest < length input
 run-some e input [] rest some h = absurd (omega arith)
-run-some e input (t ∷ texts) rest some h = let first = some-unit e input t h.0 h.1 in let others = run-no_more e h.0 texts rest h.2 in omega (arith, first, others)
+run-some e input (t ∷ texts) rest some h = let first = some-unit e input t h.0 h.1 in let others = run-no_more e h.0 texts rest h.2 in omega
+    (arith, first, others)
 
 pub some-name : ReadsSome name
 some-name input found rest e = let cut = name-cut input found rest e in run-some is_stop input cut.0.0 rest cut.0.1 cut.0.2
@@ -73,7 +75,8 @@ pub some-key : ReadsSome key
 unfolding key
 some-key =
     some-choice _ _ (some-then int32 _ (some-integer_within (2 ^ 31)) (λ i. grows-give (index i)))
-    (some-choice _ _ (some-then quoted _ some-quoted (λ found. grows-give (quoted_name found))) (some-then name _ some-name (λ found. grows-give (plain_name found))))
+    (some-choice _ _ (some-then quoted _ some-quoted (λ found. grows-give (quoted_name found)))
+    (some-then name _ some-name (λ found. grows-give (unquoted_name found))))
 
 pub some-spaced_key : ReadsSome spaced_key
 unfolding spaced_key

@@ -7,7 +7,7 @@ use Rattle.std.specs.Str.{is_utf8, IsAscii}
 use Rattle.std.proofs.lemmas.Bool.Decides.{nat_tests}
 use Rattle.std.proofs.lemmas.Str.{is_utf8-from_IsUtf8, IsUtf8-from_ascii}
 use Rattle.jsonb_keypath.specs.Each.{Each}
-use Rattle.jsonb_keypath.specs.KeyPathGrammar.{Key, index, quoted_name, plain_name, key_path}
+use Rattle.jsonb_keypath.specs.KeyPathGrammar.{Key, index, quoted_name, unquoted_name, key_path}
 use Rattle.jsonb_keypath.specs.KeyPathText.{is_word_byte, is_plain_name, key_path_text}
 use Rattle.jsonb_keypath.specs.KeyPathLaws.{IsPlainKey}
 use Rattle.jsonb_keypath.proofs.ReadBackLemmas.{both}
@@ -34,7 +34,7 @@ plain_is_utf8 (b ∷ text) h =
 plain_is_readable : (k : Key) → IsPlainKey k → IsReadable k
 plain_is_readable (index i) is = is
 plain_is_readable (quoted_name text) is = (is.0, is.1)
-plain_is_readable (plain_name text) is = (plain_is_some text is, plain_is_utf8 text is)
+plain_is_readable (unquoted_name text) is = (plain_is_some text is, plain_is_utf8 text is)
 
 plain_are_readable : (keys : List Key) → Each IsPlainKey keys → Each IsReadable keys
 plain_are_readable [] are = tt
@@ -43,7 +43,7 @@ plain_are_readable (k ∷ keys) are = (plain_is_readable k are.0, plain_are_read
 reread-plain : (k : Key) → IsPlainKey k → reread k ≡ k
 reread-plain (index i) is = refl
 reread-plain (quoted_name text) is = refl
-reread-plain (plain_name text) is = rw is refl
+reread-plain (unquoted_name text) is = rw is refl
 
 map-reread : (keys : List Key) → Each IsPlainKey keys → map reread keys ≡ keys
 map-reread [] are = refl

@@ -4,7 +4,7 @@ use Rattle.std.specs.Prelude.{nat_lt}
 use Rattle.std.specs.Option.{option_and_then}
 use Rattle.std.proofs.lemmas.Option.{same_Some}
 use Rattle.std.proofs.lemmas.Bool.Decides.{Decides-ltb}
-use Rattle.jsonb_keypath.specs.Rules.{Outcome, Rule, give, ◌>>=◌, ◌>>◌, ◌</>◌, outcome_map, first_of, only_if, turn, up_to, repeat}
+use Rattle.jsonb_keypath.specs.Rules.{Parsed, Rule, give, ◌>>=◌, ◌>>◌, ◌</>◌, parsed_map, or_else_parsed, only_if, turn, up_to, repeat}
 use Rattle.jsonb_keypath.specs.TokenLaws.{ReadsSome, IsRepeated}
 use Rattle.jsonb_keypath.proofs.RepeatLemmas.{enough, repeat-goes, repeat-ends}
 
@@ -17,7 +17,7 @@ NeverGrows {A} rule = (input : List ℕ) (a : A) (rest : List ℕ) → rule inpu
 pub parts : {A B : Type 0} (rule : Rule A) (next : A → Rule B) (input : List ℕ) (b : B) (rest : List ℕ) → (rule >>= next) input ≡ Some (b, rest) →
     (a : A) × (middle : List ℕ) × (rule input ≡ Some (a, middle)) × (next a middle ≡ Some (b, rest))
 parts {A} {B} rule next input b rest e = go (rule input) refl e where
-  go : (o : Outcome A) → rule input ≡ o → option_and_then (λ (p : A × List ℕ). next p.0 p.1) o ≡ Some (b, rest) →
+  go : (o : Parsed A) → rule input ≡ o → option_and_then (λ (p : A × List ℕ). next p.0 p.1) o ≡ Some (b, rest) →
       (a : A) × (middle : List ℕ) × (rule input ≡ Some (a, middle)) × (next a middle ≡ Some (b, rest))
   go None at e' = cc
   go (Some p) at e' = (p.0, p.1, at, e')
@@ -61,13 +61,13 @@ then-some rule next h k input b rest e =
 
 pub grows-choice : {A : Type 0} (first second : Rule A) → NeverGrows first → NeverGrows second → NeverGrows (first </> second)
 grows-choice {A} first second h k input a rest e = go (first input) refl e where
-  go : (o : Outcome A) → first input ≡ o → first_of o (second input) ≡ Some (a, rest) → length rest ≤ length input
+  go : (o : Parsed A) → first input ≡ o → or_else_parsed o (second input) ≡ Some (a, rest) → length rest ≤ length input
   go None at e' = k input a rest e'
   go (Some p) at e' = h input a rest (at ∙ e')
 
 pub some-choice : {A : Type 0} (first second : Rule A) → ReadsSome first → ReadsSome second → ReadsSome (first </> second)
 some-choice {A} first second h k input a rest e = go (first input) refl e where
-  go : (o : Outcome A) → first input ≡ o → first_of o (second input) ≡ Some (a, rest) → length rest < length input
+  go : (o : Parsed A) → first input ≡ o → or_else_parsed o (second input) ≡ Some (a, rest) → length rest < length input
   go None at e' = k input a rest e'
   go (Some p) at e' = h input a rest (at ∙ e')
 
@@ -77,31 +77,39 @@ grows-only_if false input a rest e = cc
 
 -- ---- the paper's repetition
 
-repeated-up_to : {A : Type 0} (rule : Rule A) (n : ℕ) (input : List ℕ) (values : List A) (rest : List ℕ) → ReadsSome rule → length input < n → up_to n rule input ≡ Some (values, rest) → IsRepeated rule input values rest
+repeated-up_to : {A : Type 0} (rule : Rule A) (n : ℕ) (input : List ℕ) (values : List A) (rest : List ℕ) → ReadsSome rule → length input < n
+    → up_to n rule input ≡ Some (values, rest) → IsRepeated rule input values rest
 unfolding up_to
 repeated-up_to rule zero input values rest reads lt e = absurd (omega arith)
-repeated-up_to {A} rule (suc n) input values rest reads lt e = go (λ middle q r short e'. repeated-up_to rule n middle q r reads (omega (arith, short)) e') (rule input) refl e where
-  Again : Type 0
-  Again = (middle : List ℕ) (found : List A) (end : List ℕ) → length middle < length input → up_to n rule middle ≡ Some (found, end) → IsRepeated rule middle found end
+repeated-up_to {A} rule (suc n) input values rest reads lt e = go (λ middle q r short e'. repeated-up_to rule n middle q r reads (omega (arith, short)) e')
+    (rule input) refl e where
+      Again : Type 0
+      Again = (middle : List ℕ) (found : List A) (end : List ℕ) → length middle < length input → up_to n rule middle ≡ Some (found, end)
+          → IsRepeated rule middle found end
 
-  others : Again → (a : A) (middle : List ℕ) → rule input ≡ Some (a, middle) → (o : Outcome (List A)) → up_to n rule middle ≡ o → outcome_map (λ (os : List A). a ∷ os) o ≡ Some (values, rest) → IsRepeated rule input values rest
-  others again a middle at None e' e'' = cc
-  others again a middle at (Some q) e' e'' =
-      let same = same_Some (a ∷ q.0, q.1) (values, rest) e'' in
-      subst (λ (p : List A × List ℕ). IsRepeated rule input p.0 p.1) same (middle, at, again middle q.0 q.1 (reads input a middle at) e')
+      others : Again → (a : A) (middle : List ℕ) → rule input ≡ Some (a, middle) → (o : Parsed (List A)) → up_to n rule middle ≡ o
+          → parsed_map (λ (os : List A). a ∷ os) o ≡ Some (values, rest) → IsRepeated rule input values rest
+      others again a middle at None e' e'' = cc
+      others again a middle at (Some q) e' e'' =
+          let same = same_Some (a ∷ q.0, q.1) (values, rest) e'' in
+          subst (λ (p : List A × List ℕ). IsRepeated rule input p.0 p.1) same (middle, at, again middle q.0 q.1 (reads input a middle at) e')
 
-  go : Again → (o : Outcome A) → rule input ≡ o → turn (up_to n rule) input o ≡ Some (values, rest) → IsRepeated rule input values rest
-  go again None at e' = subst (λ (p : List A × List ℕ). IsRepeated rule input p.0 p.1) (same_Some ([], input) (values, rest) e') (refl, at)
-  go again (Some p) at e' =
-      let reads_on : nat_lt (length p.1) (length input) ≡ true = (Decides-ltb (length p.1) (length input)).1 (reads input p.0 p.1 at) in
-      others again p.0 p.1 at (up_to n rule p.1) refl (rw reads_on at e')
+      go : Again → (o : Parsed A) → rule input ≡ o → turn (up_to n rule) input o ≡ Some (values, rest) → IsRepeated rule input values rest
+      go again None at e' = subst (λ (p : List A × List ℕ). IsRepeated rule input p.0 p.1) (same_Some ([], input) (values, rest) e') (refl, at)
+      go again (Some p) at e' =
+          let reads_on : nat_lt (length p.1) (length input) ≡ true = (Decides-ltb (length p.1) (length input)).1 (reads input p.0 p.1 at) in
+          others again p.0 p.1 at (up_to n rule p.1) refl (rw reads_on at e')
 
-pub repeat-repeated : {A : Type 0} (rule : Rule A) → ReadsSome rule → (input : List ℕ) (values : List A) (rest : List ℕ) → IsRepeated rule input values rest → repeat rule input ≡ Some (values, rest)
+pub repeat-repeated : {A : Type 0} (rule : Rule A) → ReadsSome rule → (input : List ℕ) (values : List A) (rest : List ℕ) → IsRepeated rule input values rest
+    → repeat rule input ≡ Some (values, rest)
 repeat-repeated {A} rule reads input [] rest h = subst (λ (i : List ℕ). repeat rule i ≡ Some ([], rest)) (sym h.0) (repeat-ends rule rest h.1)
 repeat-repeated {A} rule reads input (a ∷ values) rest h =
-    repeat-goes rule input a h.0 h.1 (reads input a h.0 h.1) ∙ ap (outcome_map (λ (others : List A). a ∷ others)) (repeat-repeated rule reads h.0 values rest h.2)
+    repeat-goes rule input a h.0 h.1 (reads input a h.0 h.1)
+    ∙ ap (parsed_map (λ (others : List A). a ∷ others)) (repeat-repeated rule reads h.0 values rest h.2)
 
-pub repeated-repeat : {A : Type 0} (rule : Rule A) → ReadsSome rule → (input : List ℕ) (values : List A) (rest : List ℕ) → repeat rule input ≡ Some (values, rest) → IsRepeated rule input values rest
+pub repeated-repeat : {A : Type 0} (rule : Rule A) → ReadsSome rule → (input : List ℕ) (values : List A) (rest : List ℕ)
+    → repeat rule input ≡ Some (values, rest) → IsRepeated rule input values rest
 unfolding repeat
 repeated-repeat rule reads input values rest e =
-    repeated-up_to rule (suc (length input)) input values rest reads (omega arith) (enough rule (suc (length input)) (length input) input (omega arith) (omega arith) ∙ e)
+    repeated-up_to rule (suc (length input)) input values rest reads (omega arith)
+    (enough rule (suc (length input)) (length input) input (omega arith) (omega arith) ∙ e)

@@ -4,9 +4,9 @@ use Rattle.std.specs.Prelude.{codes, pos, negsuc, option_map}
 use Rattle.std.specs.Fmt.{digits}
 use Rattle.std.specs.Str.{is_utf8, chars}
 use lib.Utf8.{encode}
-use Rattle.jsonb_keypath.specs.Rules.{Outcome, up_to, repeat}
+use Rattle.jsonb_keypath.specs.Rules.{Parsed, up_to, repeat}
 use Rattle.jsonb_keypath.specs.Tokens.{ws, natural, natural_below, sign, integer, integer_within, four_hex, code_unit, numbered, escape, unit, units, text, name, quoted}
-use Rattle.jsonb_keypath.specs.KeyPathGrammar.{Key, index, quoted_name, plain_name, key, spaced_key, some_keys, no_keys, key_path}
+use Rattle.jsonb_keypath.specs.KeyPathGrammar.{Key, index, quoted_name, unquoted_name, key, spaced_key, some_keys, no_keys, key_path}
 use Rattle.jsonb_keypath.specs.KeyPathText.{key_path_text}
 
 -- ---- reading; `unfolding read` opens all that it takes
@@ -43,11 +43,11 @@ plus : read (codes "{+1}") ≡ Some (index (pos 1) ∷ [])
 unfolding read
 plus = refl
 
-long_digits : read (codes "{99999999999}") ≡ Some (plain_name (codes "99999999999") ∷ [])
+long_digits : read (codes "{99999999999}") ≡ Some (unquoted_name (codes "99999999999") ∷ [])
 unfolding read
 long_digits = refl
 
-white_space : read (codes " { 1, a } ") ≡ Some (index (pos 1) ∷ plain_name (codes "a") ∷ [])
+white_space : read (codes " { 1, a } ") ≡ Some (index (pos 1) ∷ unquoted_name (codes "a") ∷ [])
 unfolding read
 white_space = refl
 
@@ -55,13 +55,13 @@ quotes : read (codes "{\"a b\",-2}") ≡ Some (quoted_name (codes "a b") ∷ ind
 unfolding read
 quotes = refl
 
-escaped : read (codes "{\\u{0061}}") ≡ Some (plain_name (codes "a") ∷ [])
+escaped : read (codes "{\\u{0061}}") ≡ Some (unquoted_name (codes "a") ∷ [])
 unfolding read
 escaped = refl
 
 -- ---- names
 
-name_at : List ℕ → Outcome (List ℕ)
+name_at : List ℕ → Parsed (List ℕ)
 unfolding name units text unit escape numbered code_unit four_hex repeat up_to is_utf8 chars encode
 name_at input = name input
 

@@ -1,20 +1,20 @@
 -- Which texts are key paths, and which steps they have.
 use Rattle.std.specs.Prelude.{ℕ, List, [], Option, ℤ}
-use Rattle.jsonb_keypath.specs.Rules.{Rule, give, ◌>>=◌, ◌>>◌, ◌</>◌, literal, list_of, whole}
+use Rattle.jsonb_keypath.specs.Rules.{Rule, give, ◌>>=◌, ◌>>◌, ◌</>◌, literal, list_of, all_consuming}
 use Rattle.jsonb_keypath.specs.Tokens.{ws, int32, name, quoted}
 
 -- one step; a text is its bytes
 pub data Key : Type 0 where
   index : ℤ → Key
   quoted_name : List ℕ → Key
-  plain_name : List ℕ → Key
+  unquoted_name : List ℕ → Key
 
 -- an index, or else a quoted name, or else a name
 unfoldable pub key : Rule Key
 key =
     (int32 >>= λ i. give (index i))
     </> (quoted >>= λ text. give (quoted_name text))
-    </> (name >>= λ text. give (plain_name text))
+    </> (name >>= λ text. give (unquoted_name text))
 
 -- a step with white space around it
 unfoldable pub spaced_key : Rule Key
@@ -54,4 +54,4 @@ no_keys = do
 
 -- the steps of the key path that a text is, where it is one
 unfoldable pub key_path : List ℕ → Option (List Key)
-key_path text = whole ((some_keys </> no_keys) text)
+key_path text = all_consuming ((some_keys </> no_keys) text)

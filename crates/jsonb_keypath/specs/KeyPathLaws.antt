@@ -4,20 +4,20 @@ use Rattle.std.specs.List.{list_all}
 use Rattle.std.specs.Str.{is_utf8}
 use Rattle.jsonb_keypath.specs.Each.{Each}
 use Rattle.jsonb_keypath.specs.Tokens.{is_within}
-use Rattle.jsonb_keypath.specs.KeyPathGrammar.{Key, index, quoted_name, plain_name, key_path}
+use Rattle.jsonb_keypath.specs.KeyPathGrammar.{Key, index, quoted_name, unquoted_name, key_path}
 use Rattle.jsonb_keypath.specs.KeyPathText.{is_plain_name, needs_no_escape, key_path_text}
 
 -- Both steps lead to the same place from everywhere: the same index, or the same text.
 abbrev pub SamePlace : Key → Key → Type 0
 SamePlace (index i) (index j) = i ≡ j
 SamePlace (quoted_name s) (quoted_name t) = s ≡ t
-SamePlace (quoted_name s) (plain_name t) = s ≡ t
-SamePlace (plain_name s) (quoted_name t) = s ≡ t
-SamePlace (plain_name s) (plain_name t) = s ≡ t
+SamePlace (quoted_name s) (unquoted_name t) = s ≡ t
+SamePlace (unquoted_name s) (quoted_name t) = s ≡ t
+SamePlace (unquoted_name s) (unquoted_name t) = s ≡ t
 SamePlace (index i) (quoted_name t) = ⊥
-SamePlace (index i) (plain_name t) = ⊥
+SamePlace (index i) (unquoted_name t) = ⊥
 SamePlace (quoted_name s) (index j) = ⊥
-SamePlace (plain_name s) (index j) = ⊥
+SamePlace (unquoted_name s) (index j) = ⊥
 
 abbrev pub SamePlaces : List Key → List Key → Type 0
 SamePlaces [] [] = ⊤
@@ -36,7 +36,7 @@ abbrev pub IsPlainKey : Key → Type 0
 IsPlainKey (index i) = is_within (2 ^ 31) i ≡ true
 IsPlainKey (quoted_name text) =
     (0 < length text) × (is_utf8 text ≡ true) × (list_all needs_no_escape text ≡ true)
-IsPlainKey (plain_name text) = is_plain_name text ≡ true
+IsPlainKey (unquoted_name text) = is_plain_name text ≡ true
 
 -- such key paths read back as they are
 abbrev pub PlainKeyPathsReadBack : Type 0

@@ -3,7 +3,7 @@ use Rattle.std.specs.Prelude.{ℕ, Bool, false, not, ◌&&◌, ◌||◌, ◌==�
 use Rattle.std.specs.List.{list_all}
 use Rattle.std.specs.Char.{is_ascii_digit, is_ascii_alphanumeric}
 use Rattle.std.specs.Fmt.{signed_decimal}
-use Rattle.jsonb_keypath.specs.KeyPathGrammar.{Key, index, quoted_name, plain_name}
+use Rattle.jsonb_keypath.specs.KeyPathGrammar.{Key, index, quoted_name, unquoted_name}
 
 -- a letter or digit of ASCII, or an underscore
 abbrev pub is_word_byte : ℕ → Bool
@@ -34,7 +34,7 @@ name_text text = if is_plain_name text then text else quoted_text text
 abbrev pub key_text : Key → List ℕ
 key_text (index i) = signed_decimal i
 key_text (quoted_name text) = quoted_text text
-key_text (plain_name text) = name_text text
+key_text (unquoted_name text) = name_text text
 
 -- a step behind another one
 abbrev pub other_key_text : Key → List ℕ

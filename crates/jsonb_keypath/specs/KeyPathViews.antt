@@ -7,13 +7,13 @@ use Rattle.jsonb_keypath.specs.declared.key_path.KeyPaths.{KeyPaths}
 use Rattle.jsonb_keypath.specs.declared.owned.OwnedKeyPath.{OwnedKeyPath}
 use Rattle.jsonb_keypath.specs.declared.owned.OwnedKeyPath.TheVariants as owned
 use Rattle.jsonb_keypath.specs.declared.owned.OwnedKeyPaths.{OwnedKeyPaths}
-use Rattle.jsonb_keypath.specs.KeyPathGrammar.{Key, index, quoted_name, plain_name}
+use Rattle.jsonb_keypath.specs.KeyPathGrammar.{Key, index, quoted_name, unquoted_name}
 
 -- a step; a text is its bytes, borrowed or not
 abbrev pub key_view : KeyPath → Key
 key_view (Index i) = index i
 key_view (QuotedName text) = quoted_name (cow_str_bytes text)
-key_view (Name text) = plain_name (cow_str_bytes text)
+key_view (Name text) = unquoted_name (cow_str_bytes text)
 
 abbrev pub keys_view : List KeyPath → List Key
 keys_view keys = map key_view keys
@@ -25,7 +25,7 @@ key_paths_view k = keys_view k.paths.items
 abbrev pub owned_key_view : OwnedKeyPath → Key
 owned_key_view (owned.Index i) = index i
 owned_key_view (owned.QuotedName text) = quoted_name (string_bytes text)
-owned_key_view (owned.Name text) = plain_name (string_bytes text)
+owned_key_view (owned.Name text) = unquoted_name (string_bytes text)
 
 abbrev pub owned_keys_view : List OwnedKeyPath → List Key
 owned_keys_view keys = map owned_key_view keys

@@ -4,15 +4,15 @@ use Rattle.std.specs.List.{starts_with}
 use Prim.Native.String.{String}
 
 -- what a rule makes of an input: a value and the rest, or that it fails
-abbrev pub Outcome : Type 0 → Type 0
-Outcome A = Option (A × List ℕ)
+abbrev pub Parsed : Type 0 → Type 0
+Parsed A = Option (A × List ℕ)
 
 abbrev pub Rule : Type 0 → Type 0
-Rule A = List ℕ → Outcome A
+Rule A = List ℕ → Parsed A
 
 -- the outcome with its value changed
-abbrev pub outcome_map : {A B : Type 0} → (A → B) → Outcome A → Outcome B
-outcome_map f o = option_map (λ p. (f p.0, p.1)) o
+abbrev pub parsed_map : {A B : Type 0} → (A → B) → Parsed A → Parsed B
+parsed_map f o = option_map (λ p. (f p.0, p.1)) o
 
 -- reads nothing, and has this value
 abbrev pub give : {A : Type 0} → A → Rule A
@@ -32,14 +32,14 @@ abbrev pub ◌>>◌ : {A B : Type 0} → Rule A → Rule B → Rule B
 rule >> next = rule >>= λ _. next
 
 -- the first outcome, where it is no failure
-abbrev pub first_of : {A : Type 0} → Outcome A → Outcome A → Outcome A
-first_of (Some found) other = Some found
-first_of None other = other
+abbrev pub or_else_parsed : {A : Type 0} → Parsed A → Parsed A → Parsed A
+or_else_parsed (Some found) other = Some found
+or_else_parsed None other = other
 
 -- an ordered choice: the second rule counts only where the first fails
 infixr 8 ◌</>◌
 abbrev pub ◌</>◌ : {A : Type 0} → Rule A → Rule A → Rule A
-first </> second = λ input. first_of (first input) (second input)
+first </> second = λ input. or_else_parsed (first input) (second input)
 
 -- the rule, or nothing where it fails
 abbrev pub optional : {A : Type 0} → Rule A → Rule (Option A)
@@ -58,11 +58,11 @@ abbrev pub literal : String → Rule (Unit {0})
 literal text = bytes (codes text)
 
 -- one turn of a repetition. A turn that reads nothing ends it.
-abbrev pub turn : {A : Type 0} → Rule (List A) → List ℕ → Outcome A → Outcome (List A)
+abbrev pub turn : {A : Type 0} → Rule (List A) → List ℕ → Parsed A → Parsed (List A)
 turn more input None = Some ([], input)
 turn more input (Some (a, rest)) =
     if nat_lt (length rest) (length input)
-    then outcome_map (λ others. a ∷ others) (more rest) else Some ([], input)
+    then parsed_map (λ others. a ∷ others) (more rest) else Some ([], input)
 
 -- the rule at most so many times
 unfoldable pub up_to : {A : Type 0} → ℕ → Rule A → Rule (List A)
@@ -83,7 +83,7 @@ list_of rule separator = do
   give (first ∷ others)
 
 -- the value where the rule reads the whole input
-abbrev pub whole : {A : Type 0} → Outcome A → Option A
-whole None = None
-whole (Some (a, [])) = Some a
-whole (Some (a, b ∷ rest)) = None
+abbrev pub all_consuming : {A : Type 0} → Parsed A → Option A
+all_consuming None = None
+all_consuming (Some (a, [])) = Some a
+all_consuming (Some (a, b ∷ rest)) = None

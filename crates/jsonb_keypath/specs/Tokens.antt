@@ -120,8 +120,8 @@ abbrev pub is_low_surrogate : ℕ → Bool
 is_low_surrogate n = nat_le 0xDC00 n && nat_lt n 0xE000
 
 -- the character beyond U+FFFF that two surrogates stand for
-abbrev pub joined : ℕ → ℕ → ℕ
-joined high low = 0x10000 + (high - 0xD800) * 0x400 + (low - 0xDC00)
+abbrev pub surrogate_pair : ℕ → ℕ → ℕ
+surrogate_pair high low = 0x10000 + (high - 0xD800) * 0x400 + (low - 0xDC00)
 
 -- a character by its number; a high surrogate and a low one behind it are one character, and else a
 -- surrogate fails
@@ -131,7 +131,7 @@ numbered = do
   if is_high_surrogate n then (do
     low ← code_unit
     only_if (is_low_surrogate low)
-    give (joined n low)) else (do
+    give (surrogate_pair n low)) else (do
       only_if (not (is_low_surrogate n))
       give n)
 
@@ -142,15 +142,15 @@ escape = (literal "\\" >> byte_as escaped) </> numbered
 -- ---- texts
 
 -- the byte stands for itself: it is no backslash, and not excluded
-abbrev pub is_plain : (ℕ → Bool) → ℕ → Bool
-is_plain is_excluded b = not (b == 92) && not (is_excluded b)
+abbrev pub is_unescaped : (ℕ → Bool) → ℕ → Bool
+is_unescaped is_excluded b = not (b == 92) && not (is_excluded b)
 
-abbrev pub plain : (ℕ → Bool) → ℕ → Option (List ℕ)
-plain is_excluded b = if is_plain is_excluded b then Some (b ∷ []) else None
+abbrev pub unescaped : (ℕ → Bool) → ℕ → Option (List ℕ)
+unescaped is_excluded b = if is_unescaped is_excluded b then Some (b ∷ []) else None
 
 -- one unit, as the bytes that it stands for: an escape, or a byte that stands for itself
 unfoldable pub unit : (ℕ → Bool) → Rule (List ℕ)
-unit is_excluded = (escape >>= λ c. give (encode_utf8 c)) </> byte_as (plain is_excluded)
+unit is_excluded = (escape >>= λ c. give (encode_utf8 c)) </> byte_as (unescaped is_excluded)
 
 -- the longest run of units, one at least, as the bytes that it stands for
 unfoldable pub units : (ℕ → Bool) → Rule (List ℕ)

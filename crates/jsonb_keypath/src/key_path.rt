@@ -1,7 +1,7 @@
 //! Key paths and their steps, with texts borrowed where that is possible.
 
-ghost use Rattle.std.specs.Prelude.{◌≡◌};
-ghost use Rattle.jsonb_doc.specs.Answer.{Answers};
+ghost use Rattle.std.specs.Prelude.{◌≡◌, MatchResult};
+ghost use Rattle.jsonb_doc.specs.Answer.{IsOutOfMemory};
 ghost use Rattle.jsonb_keypath.specs.KeyPathViews.{key_view, key_paths_view, owned_key_view, owned_key_paths_view};
 
 use crate::owned::{OwnedKeyPath, OwnedKeyPaths};
@@ -40,7 +40,7 @@ impl<'a> KeyPaths<'a> {
     ///
     /// Refused with `OutOfMemory` alone.
     pub fn clone(&self, alloc: Global) -> Result<KeyPaths<'a>, Error>
-        ensures { Answers result (λ copy. key_paths_view copy ≡ key_paths_view self.now) }
+        ensures { MatchResult result (λ copy. key_paths_view copy ≡ key_paths_view self.now) IsOutOfMemory }
     {
         let mut paths = Vec::with_capacity(alloc, self.paths.len())?;
         for step in &self.paths {
@@ -53,7 +53,7 @@ impl<'a> KeyPaths<'a> {
     ///
     /// Refused with `OutOfMemory` alone.
     pub fn to_owned(&self, alloc: Global) -> Result<OwnedKeyPaths, Error>
-        ensures { Answers result (λ copy. owned_key_paths_view copy ≡ key_paths_view self.now) }
+        ensures { MatchResult result (λ copy. owned_key_paths_view copy ≡ key_paths_view self.now) IsOutOfMemory }
     {
         let mut paths = Vec::with_capacity(alloc, self.paths.len())?;
         for step in &self.paths {
@@ -68,7 +68,7 @@ impl<'a> KeyPath<'a> {
     ///
     /// Refused with `OutOfMemory` alone.
     pub fn clone(&self, _alloc: Global) -> Result<KeyPath<'a>, Error>
-        ensures { Answers result (λ copy. key_view copy ≡ key_view self.now) }
+        ensures { MatchResult result (λ copy. key_view copy ≡ key_view self.now) IsOutOfMemory }
     {
         match self {
             KeyPath::Index(index) => Ok(KeyPath::Index(*index)),
@@ -81,7 +81,7 @@ impl<'a> KeyPath<'a> {
     ///
     /// Refused with `OutOfMemory` alone.
     pub fn to_owned(&self, alloc: Global) -> Result<OwnedKeyPath, Error>
-        ensures { Answers result (λ copy. owned_key_view copy ≡ key_view self.now) }
+        ensures { MatchResult result (λ copy. owned_key_view copy ≡ key_view self.now) IsOutOfMemory }
     {
         match self {
             KeyPath::Index(index) => Ok(OwnedKeyPath::Index(*index)),

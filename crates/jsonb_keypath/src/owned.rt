@@ -1,7 +1,7 @@
 //! Key paths with texts of their own.
 
-ghost use Rattle.std.specs.Prelude.{◌≡◌};
-ghost use Rattle.jsonb_doc.specs.Answer.{Answers};
+ghost use Rattle.std.specs.Prelude.{◌≡◌, MatchResult};
+ghost use Rattle.jsonb_doc.specs.Answer.{IsOutOfMemory};
 ghost use Rattle.jsonb_keypath.specs.KeyPathViews.{key_view, key_paths_view, owned_key_view, owned_key_paths_view};
 
 use crate::key_path::{KeyPath, KeyPaths};
@@ -38,7 +38,7 @@ impl OwnedKeyPaths {
     ///
     /// Refused with `OutOfMemory` alone.
     pub fn clone(&self, alloc: Global) -> Result<OwnedKeyPaths, Error>
-        ensures { Answers result (λ copy. owned_key_paths_view copy ≡ owned_key_paths_view self.now) }
+        ensures { MatchResult result (λ copy. owned_key_paths_view copy ≡ owned_key_paths_view self.now) IsOutOfMemory }
     {
         let mut paths = Vec::with_capacity(alloc, self.paths.len())?;
         for step in &self.paths {
@@ -51,7 +51,7 @@ impl OwnedKeyPaths {
     ///
     /// Refused with `OutOfMemory` alone.
     pub fn as_key_paths(&self, alloc: Global) -> Result<KeyPaths<'_>, Error>
-        ensures { Answers result (λ same. key_paths_view same ≡ owned_key_paths_view self.now) }
+        ensures { MatchResult result (λ same. key_paths_view same ≡ owned_key_paths_view self.now) IsOutOfMemory }
     {
         let mut paths = Vec::with_capacity(alloc, self.paths.len())?;
         for step in &self.paths {
@@ -66,7 +66,7 @@ impl OwnedKeyPath {
     ///
     /// Refused with `OutOfMemory` alone.
     pub fn clone(&self, alloc: Global) -> Result<OwnedKeyPath, Error>
-        ensures { Answers result (λ copy. owned_key_view copy ≡ owned_key_view self.now) }
+        ensures { MatchResult result (λ copy. owned_key_view copy ≡ owned_key_view self.now) IsOutOfMemory }
     {
         self.as_key_path().to_owned(alloc)
     }

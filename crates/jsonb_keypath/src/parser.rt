@@ -8,6 +8,7 @@ ghost use Rattle.jsonb_doc.specs.declared.error.Error.TheVariants.{OutOfMemory, 
 ghost use Rattle.jsonb_keypath.specs.KeyPathGrammar.{key, spaced_key, another_key, key_list, some_keys, no_keys, key_path};
 ghost use Rattle.jsonb_keypath.specs.KeyPathViews.{key_view, keys_view, key_paths_view};
 ghost use Rattle.jsonb_keypath.specs.Views.{read_as, LeavesLess};
+ghost use Rattle.jsonb_doc.specs.Answer.{IsOutOfMemory, ◌or◌when◌};
 
 use crate::key_path::{KeyPath, KeyPaths};
 use crate::token::{int32, literal, name_at, quoted_at, skip_space};
@@ -27,7 +28,7 @@ use std::alloc::{AllocError, Global};
 pub fn parse_key_paths(alloc: Global, input: &[u8]) -> Result<KeyPaths<'_>, Error>
     ensures { MatchResult result
         (λ found. key_path input.now ≡ Some (key_paths_view found))
-        (λ e. (e ≡ OutOfMemory) ⊎ ((e ≡ InvalidKeyPath) × (key_path input.now ≡ None))) }
+        (IsOutOfMemory or InvalidKeyPath when (key_path input.now ≡ None)) }
 {
     if let Some((paths, rest)) = some_keys_at(alloc, input)? {
         if !rest.is_empty() {

@@ -4,8 +4,8 @@ use Rattle.std.specs.Prelude.{is_some, IfOk}
 use Rattle.jsonb_doc.specs.Tree.{Tree, Trees, no_trees, tree}
 use Rattle.jsonb_doc.specs.Equal.{are_equal}
 use Rattle.jsonb_doc.specs.Payload.{Form}
-use Rattle.jsonb_doc.specs.Item.{Stands}
-use Rattle.jsonb_doc.specs.Stored.{Stores, GivesEntry, TakesEntry}
+use Rattle.jsonb_doc.specs.Item.{StandsFor}
+use Rattle.jsonb_doc.specs.Private.Stored.{Stores, GivesEntry, TakesEntry}
 use Rattle.jsonb_doc.specs.declared.error.Error.{Error}
 use Rattle.jsonb_doc.specs.declared.item.Item.{Item}
 use Rattle.jsonb_doc.specs.declared.entry_iter.EntryIter.{EntryIter}
@@ -23,7 +23,7 @@ IsAnswer test form other_form (Some p) b = (t : Tree) × (u : Tree) × Stores fo
 -- the same for items
 abbrev pub IsItemAnswer : (Tree → Tree → Bool) → Form → Form → Option (Item × Item) → Bool → Type 0
 IsItemAnswer test form other_form None b = b ≡ true
-IsItemAnswer test form other_form (Some p) b = (t : Tree) × (u : Tree) × Stands form p.0 t × Stands other_form p.1 u × (test t u ≡ b)
+IsItemAnswer test form other_form (Some p) b = (t : Tree) × (u : Tree) × StandsFor form p.0 t × StandsFor other_form p.1 u × (test t u ≡ b)
 
 -- what is left and what was put aside decide the whole together
 pub record Aside (Large : Bool → Type 0) (rest whole : Bool) : Type 0 where
@@ -45,7 +45,8 @@ pub none_aside : (Large : Bool → Type 0) (rest : Bool) → Large true → Asid
 none_aside Large rest is = record { answer = true; is = is; fact = and_true rest }
 
 -- a part is put aside where none was
-pub put_aside : (Large Larger : Bool → Type 0) (part rest whole : Bool) → ((b : Bool) → Large b → b ≡ true) → Larger part → Aside Large (part && rest) whole → Aside Larger rest whole
+pub put_aside : (Large Larger : Bool → Type 0) (part rest whole : Bool) → ((b : Bool) → Large b → b ≡ true) → Larger part → Aside Large (part && rest) whole
+    → Aside Larger rest whole
 put_aside Large Larger part rest whole none is a = record {
   answer = part;
   is = is;
@@ -70,7 +71,8 @@ whole_fails Large rest whole fails a = rw fails at a.fact
 pub aside_along : (Large : Bool → Type 0) (rest other whole : Bool) → rest ≡ other → Aside Large rest whole → Aside Large other whole
 aside_along Large rest other whole same a = record { answer = a.answer; is = a.is; fact = rw same at a.fact }
 
-none_left : (form : Form) (it' : EntryIter) (r : Option (Result StoredEntry Error)) (b : Bool) (us : Trees) → is_some r ≡ not b → TakesEntry form us r it' → are_equal no_trees us ≡ b
+none_left : (form : Form) (it' : EntryIter) (r : Option (Result StoredEntry Error)) (b : Bool) (us : Trees) → is_some r ≡ not b → TakesEntry form us r it'
+    → are_equal no_trees us ≡ b
 none_left form it' None true no_trees e h = refl
 none_left form it' None false no_trees e h = cc
 none_left form it' (Some r) b no_trees e h = absurd h
@@ -79,7 +81,8 @@ none_left form it' (Some r) true (tree u us) e h = cc
 none_left form it' (Some r) false (tree u us) e h = refl
 
 -- where the first of two walks in step has ended, they are equal exactly where the second gives none
-pub entries_ended : (form : Form) (it it' : EntryIter) (r : Option (Result StoredEntry Error)) (b : Bool) (Q : Bool → Type 0) → is_some r ≡ not b → GivesEntry it r it'
+pub entries_ended : (form : Form) (it it' : EntryIter) (r : Option (Result StoredEntry Error)) (b : Bool) (Q : Bool → Type 0) → is_some r ≡ not b
+    → GivesEntry it r it'
     → SomeEntries form it (λ right. Q (are_equal no_trees right)) → Q b
 entries_ended form it it' r b Q e n s = subst Q (none_left form it' r b s.trees e (n.takes form s.trees s.left)) s.fact
 
@@ -115,7 +118,8 @@ or_turned false false = refl
 pub no_one_aside : (Large : Bool → Type 0) (rest : Bool) → Large false → OneAside Large rest rest
 no_one_aside Large rest is = record { answer = false; is = is; fact = or_false rest }
 
-pub put_one_aside : (Large Larger : Bool → Type 0) (part rest whole : Bool) → ((b : Bool) → Large b → b ≡ false) → Larger part → OneAside Large (part || rest) whole → OneAside Larger rest whole
+pub put_one_aside : (Large Larger : Bool → Type 0) (part rest whole : Bool) → ((b : Bool) → Large b → b ≡ false) → Larger part
+    → OneAside Large (part || rest) whole → OneAside Larger rest whole
 put_one_aside Large Larger part rest whole none is a = record {
   answer = part;
   is = is;

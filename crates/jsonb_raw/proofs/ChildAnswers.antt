@@ -7,7 +7,7 @@ use Rattle.std.proofs.lemmas.Slice.Eq.{bytes_eq-Decides}
 use Rattle.jsonb_doc.specs.Tree.{Tree, array, object, Trees, Pairs, elements, members, trees_of, field_of}
 use Rattle.jsonb_doc.specs.Payload.{Form}
 use Rattle.jsonb_doc.specs.Format.{Decodes}
-use Rattle.jsonb_doc.specs.Item.{Stands}
+use Rattle.jsonb_doc.specs.Item.{StandsFor}
 use Rattle.jsonb_doc.specs.Elements.{HasElementsLeft, TakesElement}
 use Rattle.jsonb_doc.specs.declared.error.Error.{Error}
 use Rattle.jsonb_doc.specs.declared.element_iter.ElementIter.{ElementIter}
@@ -19,14 +19,17 @@ use Rattle.jsonb_raw.specs.Children.{element_at, same_ignoring_case, field_ignor
 
 -- ---- arrays and objects by their items
 
-pub array_item : (form : Form) (x : Item) (b : Bor (List ℕ)) (t : Tree) → x ≡ item.Array b → Stands form x t → (ts : Trees) × (t ≡ array ts) × Decodes form b.now (array ts)
+pub array_item : (form : Form) (x : Item) (b : Bor (List ℕ)) (t : Tree) → x ≡ item.Array b → StandsFor form x t
+    → (ts : Trees) × (t ≡ array ts) × Decodes form b.now (array ts)
 array_item form x b t is stands = rw is at stands
 
-pub object_item : (form : Form) (x : Item) (b : Bor (List ℕ)) (t : Tree) → x ≡ item.Object b → Stands form x t → (ps : Pairs) × (t ≡ object ps) × Decodes form b.now (object ps)
+pub object_item : (form : Form) (x : Item) (b : Bor (List ℕ)) (t : Tree) → x ≡ item.Object b → StandsFor form x t
+    → (ps : Pairs) × (t ≡ object ps) × Decodes form b.now (object ps)
 object_item form x b t is stands = rw is at stands
 
 -- an item that is no container has no children with a name
-pub no_names : (form : Form) (x : Item) (t : Tree) (name : List ℕ) → Stands form x t → ((b : Bor (List ℕ)) → x ≡ item.Array b → ⊥) → ((b : Bor (List ℕ)) → x ≡ item.Object b → ⊥) → without_name name t ≡ None
+pub no_names : (form : Form) (x : Item) (t : Tree) (name : List ℕ) → StandsFor form x t → ((b : Bor (List ℕ)) → x ≡ item.Array b → ⊥)
+    → ((b : Bor (List ℕ)) → x ≡ item.Object b → ⊥) → without_name name t ≡ None
 no_names form item.Null t name stands not_array not_object = rw stands refl
 no_names form (item.Boolean b) t name stands not_array not_object = rw stands refl
 no_names form (item.Number n) t name stands not_array not_object = rw stands refl
@@ -36,7 +39,8 @@ no_names form (item.Array b) t name stands not_array not_object = absurd (not_ar
 no_names form (item.Object b) t name stands not_array not_object = absurd (not_object b refl)
 
 -- the child at a position of an array is its element
-pub child_is_element : (form : Form) (x : Item) (b : Bor (List ℕ)) (t : Tree) (i : ℕ) → x ≡ item.Array b → Stands form x t → slice_get (children t) i ≡ element_at i t
+pub child_is_element : (form : Form) (x : Item) (b : Bor (List ℕ)) (t : Tree) (i : ℕ) → x ≡ item.Array b → StandsFor form x t
+    → slice_get (children t) i ≡ element_at i t
 child_is_element form x b t i is stands = let s = array_item form x b t is stands in rw s.1 refl
 
 -- ---- an element less
@@ -47,7 +51,8 @@ drop_one_more zero (x ∷ xs) = refl
 drop_one_more (suc n) [] = refl
 drop_one_more (suc n) (x ∷ xs) = drop_one_more n xs
 
-without_first : (form : Form) (ts : List Tree) (r : Option (Result Item Error)) (after : ElementIter) → TakesElement form (trees_of ts) r after → HasElementsLeft form after (trees_of (drop 1 ts))
+without_first : (form : Form) (ts : List Tree) (r : Option (Result Item Error)) (after : ElementIter) → TakesElement form (trees_of ts) r after
+    → HasElementsLeft form after (trees_of (drop 1 ts))
 without_first form [] None after h = h
 without_first form [] (Some r) after h = absurd h
 without_first form (t ∷ ts) None after h = absurd h
@@ -55,12 +60,14 @@ without_first form (t ∷ ts) (Some (Ok x)) after h = h.1
 without_first form (t ∷ ts) (Some (Err e)) after h = absurd h
 
 -- behind the elements in front one is passed over
-pub one_skipped : (form : Form) (n : ℕ) (ts : List Tree) (r : Option (Result Item Error)) (after : ElementIter) → TakesElement form (trees_of (drop n ts)) r after → HasElementsLeft form after (trees_of (drop (suc n) ts))
+pub one_skipped : (form : Form) (n : ℕ) (ts : List Tree) (r : Option (Result Item Error)) (after : ElementIter)
+    → TakesElement form (trees_of (drop n ts)) r after → HasElementsLeft form after (trees_of (drop (suc n) ts))
 one_skipped form n ts r after h =
     subst (λ (us : List Tree). HasElementsLeft form after (trees_of us)) (drop_one_more n ts) (without_first form (drop n ts) r after h)
 
 -- an index that means an element, or none
-pub without_some : (i : ℤ) (ts : Trees) (n : ℕ) → index_position (length (elements ts)) i ≡ Some n → without_index i (array ts) ≡ Some (array (trees_of (remove (elements ts) n)))
+pub without_some : (i : ℤ) (ts : Trees) (n : ℕ) → index_position (length (elements ts)) i ≡ Some n
+    → without_index i (array ts) ≡ Some (array (trees_of (remove (elements ts) n)))
 without_some i ts n is = rw is refl
 
 pub without_none : (i : ℤ) (ts : Trees) → index_position (length (elements ts)) i ≡ None → without_index i (array ts) ≡ Some (array ts)
@@ -88,7 +95,8 @@ decided a b false test = go (same_ignoring_case a b) refl
 
 -- the value of the first pair that passes, or the search goes on behind it
 pub found_here : (name key : List ℕ) (t : Tree) (rest : List (List ℕ × Tree)) (ps : Pairs) → same_ignoring_case key name ≡ true
-    → find (λ p. same_ignoring_case p.0 name) ((key, t) ∷ rest) ≡ find (λ p. same_ignoring_case p.0 name) (members ps) → field_ignoring_case name (object ps) ≡ Some t
+    → find (λ p. same_ignoring_case p.0 name) ((key, t) ∷ rest) ≡ find (λ p. same_ignoring_case p.0 name) (members ps)
+    → field_ignoring_case name (object ps) ≡ Some t
 found_here name key t rest ps passes same = ap (option_map (λ p. p.1)) (sym (rw passes at same))
 
 pub found_behind : (name key : List ℕ) (t : Tree) (rest : List (List ℕ × Tree)) (wanted : Option (List ℕ × Tree)) → same_ignoring_case key name ≡ false

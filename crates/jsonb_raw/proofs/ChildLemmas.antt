@@ -5,7 +5,7 @@ use lib.Signed.{lt_z}
 use Rattle.std.proofs.lemmas.Bool.Decides.{nat_tests}
 use Rattle.jsonb_doc.specs.Tree.{Tree}
 use Rattle.jsonb_doc.specs.Answer.{SameOption}
-use Rattle.jsonb_doc.specs.Spots.{Marks, HasSpotsLeft, TakesSpot}
+use Rattle.jsonb_doc.specs.Spots.{Locates, HasSpotsLeft, TakesSpot}
 use Rattle.jsonb_doc.specs.declared.error.Error.{Error}
 use Rattle.jsonb_doc.specs.declared.spot.Spot.{Spot}
 use Rattle.jsonb_doc.specs.declared.spot_iter.SpotIter.{SpotIter}
@@ -26,7 +26,7 @@ pub record FirstLeft (bytes : List ℕ) (ts : List Tree) (r : Result Spot Error)
   pub first : Tree
   pub rest : List Tree
   pub split : ts ≡ first ∷ rest
-  pub marks : IsOkAnd r (λ spot. Marks bytes spot first)
+  pub marks : IsOkAnd r (λ spot. Locates bytes spot first)
   pub left : HasSpotsLeft bytes after rest
 
 pub first_left : (bytes : List ℕ) (ts : List Tree) (r : Result Spot Error) (after : SpotIter) → TakesSpot bytes ts (Some r) after
@@ -70,15 +70,15 @@ at_end (t ∷ ts) zero inside e = cc
 at_end (t ∷ ts) (suc k) inside e = let h : k ≤ length ts = omega arith in ap suc (at_end ts k h e)
 
 marks_of : (bytes : List ℕ) (t : Tree) (r : Result Spot Error) (spot : Spot) → r ≡ Ok spot
-    → IsOkAnd r (λ spot. Marks bytes spot t) → Marks bytes spot t
+    → IsOkAnd r (λ spot. Locates bytes spot t) → Locates bytes spot t
 marks_of bytes t r spot e h = rw e at h
 
 no_marks : (bytes : List ℕ) (t : Tree) (r : Result Spot Error) (error : Error) → r ≡ Err error
-    → IsOkAnd r (λ spot. Marks bytes spot t) → ⊥
+    → IsOkAnd r (λ spot. Locates bytes spot t) → ⊥
 no_marks bytes t r error e h = rw e at h
 
 pub first_marked : {bytes : List ℕ} {ts : List Tree} {r : Result Spot Error} {after : SpotIter} (f : FirstLeft bytes ts r after) (spot : Spot)
-    → r ≡ Ok spot → Marks bytes spot f.first
+    → r ≡ Ok spot → Locates bytes spot f.first
 first_marked {bytes} {ts} {r} {after} f spot e = marks_of bytes f.first r spot e f.marks
 
 -- where a tree is left, its spot is given

@@ -45,7 +45,8 @@ insert_front key x [] below = refl
 insert_front key x (p ∷ ps) below = insert_less key x p ps below
 
 -- pairs of two keys may be inserted in either order
-insert_swap : (a : List ℕ) (x : Tree) (b : List ℕ) (y : Tree) (ps : List Member) → slice_cmp nat_cmp a b ≡ Less → insert_pair a x (insert_pair b y ps) ≡ insert_pair b y (insert_pair a x ps)
+insert_swap : (a : List ℕ) (x : Tree) (b : List ℕ) (y : Tree) (ps : List Member) → slice_cmp nat_cmp a b ≡ Less
+    → insert_pair a x (insert_pair b y ps) ≡ insert_pair b y (insert_pair a x ps)
 insert_swap a x b y [] less =
     insert_less a x (b, y) [] less ∙ sym (insert_greater b y (a, x) [] (above_key b a less))
 insert_swap a x b y (p ∷ ps) less =
@@ -55,12 +56,14 @@ insert_swap a x b y (p ∷ ps) less =
     greater = above_key b a less
 
     -- a is below all of them
-    first : (after : List Member) → slice_cmp nat_cmp a p.0 ≡ Less → insert_pair b y (p ∷ ps) ≡ after → insert_pair a x after ≡ (a, x) ∷ after → insert_pair a x (insert_pair b y (p ∷ ps)) ≡ insert_pair b y (insert_pair a x (p ∷ ps))
+    first : (after : List Member) → slice_cmp nat_cmp a p.0 ≡ Less → insert_pair b y (p ∷ ps) ≡ after → insert_pair a x after ≡ (a, x) ∷ after
+        → insert_pair a x (insert_pair b y (p ∷ ps)) ≡ insert_pair b y (insert_pair a x (p ∷ ps))
     first after f is front =
         ap (insert_pair a x) is ∙ front
         ∙ sym (ap (insert_pair b y) (insert_less a x p ps f) ∙ insert_greater b y (a, x) (p ∷ ps) greater ∙ ap (λ rest. (a, x) ∷ rest) is)
 
-    go : (o s : Ordering) → slice_cmp nat_cmp b p.0 ≡ o → slice_cmp nat_cmp a p.0 ≡ s → insert_pair a x (insert_pair b y ps) ≡ insert_pair b y (insert_pair a x ps)
+    go : (o s : Ordering) → slice_cmp nat_cmp b p.0 ≡ o → slice_cmp nat_cmp a p.0 ≡ s
+        → insert_pair a x (insert_pair b y ps) ≡ insert_pair b y (insert_pair a x ps)
         → insert_pair a x (insert_pair b y (p ∷ ps)) ≡ insert_pair b y (insert_pair a x (p ∷ ps))
     go Less s e f rest =
         first ((b, y) ∷ p ∷ ps) (nat_list_cmp_total.trans a b p.0 less e) (insert_less b y p ps e) (insert_less a x (b, y) (p ∷ ps) less)
@@ -84,13 +87,15 @@ insert_again : (k : List ℕ) (x y : Tree) (ps : List Member) → insert_pair k 
 insert_again k x y [] = insert_equal k x (k, y) [] (same_key k)
 insert_again k x y (p ∷ ps) = go (slice_cmp nat_cmp k p.0) refl (insert_again k x y ps)
   where
-    go : (o : Ordering) → slice_cmp nat_cmp k p.0 ≡ o → insert_pair k x (insert_pair k y ps) ≡ insert_pair k x ps → insert_pair k x (insert_pair k y (p ∷ ps)) ≡ insert_pair k x (p ∷ ps)
+    go : (o : Ordering) → slice_cmp nat_cmp k p.0 ≡ o → insert_pair k x (insert_pair k y ps) ≡ insert_pair k x ps
+        → insert_pair k x (insert_pair k y (p ∷ ps)) ≡ insert_pair k x (p ∷ ps)
     go Less e rest =
         ap (insert_pair k x) (insert_less k y p ps e) ∙ insert_equal k x (k, y) (p ∷ ps) (same_key k) ∙ sym (insert_less k x p ps e)
     go Equal e rest =
         ap (insert_pair k x) (insert_equal k y p ps e) ∙ insert_equal k x (p.0, y) ps e ∙ sym (insert_equal k x p ps e)
     go Greater e rest =
-        ap (insert_pair k x) (insert_greater k y p ps e) ∙ insert_greater k x p (insert_pair k y ps) e ∙ ap (λ qs. p ∷ qs) rest ∙ sym (insert_greater k x p ps e)
+        ap (insert_pair k x) (insert_greater k y p ps e) ∙ insert_greater k x p (insert_pair k y ps) e ∙ ap (λ qs. p ∷ qs) rest
+        ∙ sym (insert_greater k x p ps e)
 
 -- a pair may be inserted before the others are put together, or after
 insert_merged : (key : List ℕ) (x : Tree) (ps qs : List Member) → AreRising (keys_of qs) → insert_pair key x (merged ps qs) ≡ merged ps (insert_pair key x qs)
@@ -98,7 +103,8 @@ insert_merged key x ps [] rising = refl
 insert_merged key x ps (q ∷ qs) rising =
     go (slice_cmp nat_cmp key q.0) refl (insert_merged key x (insert_pair q.0 q.1 ps) qs rising.1)
   where
-    go : (o : Ordering) → slice_cmp nat_cmp key q.0 ≡ o → insert_pair key x (merged (insert_pair q.0 q.1 ps) qs) ≡ merged (insert_pair q.0 q.1 ps) (insert_pair key x qs)
+    go : (o : Ordering) → slice_cmp nat_cmp key q.0 ≡ o
+        → insert_pair key x (merged (insert_pair q.0 q.1 ps) qs) ≡ merged (insert_pair q.0 q.1 ps) (insert_pair key x qs)
         → insert_pair key x (merged ps (q ∷ qs)) ≡ merged ps (insert_pair key x (q ∷ qs))
     go Less e rest =
         rest

@@ -9,8 +9,9 @@ use Rattle.jsonb_doc.specs.Extension.{Extension}
 use Rattle.jsonb_doc.specs.Tree.{Tree, null, boolean, number, text, extension, array, object, Trees, Pairs, elements}
 use Rattle.jsonb_doc.specs.Equal.{is_equal}
 use Rattle.jsonb_doc.specs.Payload.{Form}
-use Rattle.jsonb_doc.specs.Item.{Stands}
-use Rattle.jsonb_raw.specs.Contains.{contains, is_plain, is_matched_by}
+use Rattle.jsonb_doc.specs.Item.{StandsFor}
+use Rattle.jsonb_raw.specs.Contains.{contains, is_part_of}
+use Rattle.jsonb_raw.specs.Scalars.{is_json_scalar}
 
 pub contains-extension : (t : Tree) (x : Extension) → contains t (extension x) ≡ false
 contains-extension null x = refl
@@ -22,7 +23,7 @@ contains-extension (array ts) x = refl
 contains-extension (object ps) x = refl
 
 -- a container is contained where it is matched
-pub contains-array : (t : Tree) (ys : Trees) → contains t (array ys) ≡ is_matched_by (array ys) t
+pub contains-array : (t : Tree) (ys : Trees) → contains t (array ys) ≡ is_part_of (array ys) t
 contains-array null ys = refl
 contains-array (boolean true) ys = refl
 contains-array (boolean false) ys = refl
@@ -32,7 +33,7 @@ contains-array (extension y) ys = refl
 contains-array (array ts) ys = refl
 contains-array (object ps) ys = refl
 
-pub contains-object : (t : Tree) (qs : Pairs) → contains t (object qs) ≡ is_matched_by (object qs) t
+pub contains-object : (t : Tree) (qs : Pairs) → contains t (object qs) ≡ is_part_of (object qs) t
 contains-object null qs = refl
 contains-object (boolean true) qs = refl
 contains-object (boolean false) qs = refl
@@ -43,7 +44,8 @@ contains-object (array ts) qs = refl
 contains-object (object ps) qs = refl
 
 -- an item that is no extension and no container
-pub plain_item : (form : Form) (y : Item) (u : Tree) → Stands form y u → ((x : ExtensionValue) → y ≡ item.Extension x → ⊥) → ((b : Bor (List ℕ)) → y ≡ item.Array b → ⊥) → ((b : Bor (List ℕ)) → y ≡ item.Object b → ⊥) → is_plain u ≡ true
+pub plain_item : (form : Form) (y : Item) (u : Tree) → StandsFor form y u → ((x : ExtensionValue) → y ≡ item.Extension x → ⊥)
+    → ((b : Bor (List ℕ)) → y ≡ item.Array b → ⊥) → ((b : Bor (List ℕ)) → y ≡ item.Object b → ⊥) → is_json_scalar u ≡ true
 plain_item form item.Null u h e a o = rw h refl
 plain_item form (item.Boolean b) u h e a o = rw h refl
 plain_item form (item.Number n) u h e a o = rw h refl
@@ -53,7 +55,7 @@ plain_item form (item.Array b) u h e a o = absurd (a b refl)
 plain_item form (item.Object b) u h e a o = absurd (o b refl)
 
 -- an array contains what one of its elements equals
-pub array_contains_plain : (ts : Trees) (u : Tree) → is_plain u ≡ true → list_any (is_matched_by u) (elements ts) ≡ contains (array ts) u
+pub array_contains_plain : (ts : Trees) (u : Tree) → is_json_scalar u ≡ true → list_any (is_part_of u) (elements ts) ≡ contains (array ts) u
 array_contains_plain ts null h = refl
 array_contains_plain ts (boolean b) h = refl
 array_contains_plain ts (number n) h = refl
@@ -62,7 +64,7 @@ array_contains_plain ts (extension x) h = absurd (cc)
 array_contains_plain ts (array us) h = absurd (cc)
 array_contains_plain ts (object qs) h = absurd (cc)
 
-pub object_equals_no_plain : (ps : Pairs) (u : Tree) → is_plain u ≡ true → is_equal (object ps) u ≡ contains (object ps) u
+pub object_equals_no_plain : (ps : Pairs) (u : Tree) → is_json_scalar u ≡ true → is_equal (object ps) u ≡ contains (object ps) u
 object_equals_no_plain ps null h = refl
 object_equals_no_plain ps (boolean true) h = refl
 object_equals_no_plain ps (boolean false) h = refl
@@ -72,7 +74,7 @@ object_equals_no_plain ps (extension x) h = absurd (cc)
 object_equals_no_plain ps (array us) h = absurd (cc)
 object_equals_no_plain ps (object qs) h = absurd (cc)
 
-pub extension_equals_no_plain : (x : Extension) (u : Tree) → is_plain u ≡ true → is_equal (extension x) u ≡ false
+pub extension_equals_no_plain : (x : Extension) (u : Tree) → is_json_scalar u ≡ true → is_equal (extension x) u ≡ false
 extension_equals_no_plain x null h = refl
 extension_equals_no_plain x (boolean b) h = refl
 extension_equals_no_plain x (number n) h = refl
@@ -82,7 +84,8 @@ extension_equals_no_plain x (array us) h = absurd (cc)
 extension_equals_no_plain x (object qs) h = absurd (cc)
 
 -- another tree contains what it equals
-pub other_contains_plain : (form : Form) (x : Item) (t u : Tree) → Stands form x t → ((b : Bor (List ℕ)) → x ≡ item.Array b → ⊥) → is_plain u ≡ true → is_equal t u ≡ contains t u
+pub other_contains_plain : (form : Form) (x : Item) (t u : Tree) → StandsFor form x t → ((b : Bor (List ℕ)) → x ≡ item.Array b → ⊥) → is_json_scalar u ≡ true
+    → is_equal t u ≡ contains t u
 other_contains_plain form item.Null t u h a plain = rw (h, plain) refl
 other_contains_plain form (item.Boolean b) t u h a plain = rw (h, plain) refl
 other_contains_plain form (item.Number n) t u h a plain = rw (h, plain) refl

@@ -5,10 +5,10 @@ use Rattle.std.specs.Str.{bytes_eq}
 use Rattle.std.proofs.lemmas.Slice.Eq.{bytes_eq-Decides}
 use Rattle.jsonb_doc.specs.Tree.{Tree, null, boolean, number, text, extension, array, object, Trees, no_trees, tree, Pairs, no_pairs, pair, elements, members}
 use Rattle.jsonb_doc.specs.Equal.{is_equal}
-use Rattle.jsonb_doc.specs.EqualLaws.{is_equal_equiv}
+use Rattle.jsonb_doc.specs.Proofs.Equality.{is_equal_equiv}
 use Rattle.std.specs.Cmp.{partial_equiv_from_equiv}
-use Rattle.jsonb_raw.specs.Scalars.{is_extension_value}
-use Rattle.jsonb_raw.specs.Contains.{contains, is_plain, is_matched_by, each_is_matched, each_pair_is_matched}
+use Rattle.jsonb_raw.specs.Scalars.{is_extension_value, is_json_scalar}
+use Rattle.jsonb_raw.specs.Contains.{contains, is_part_of, each_is_matched, each_pair_is_matched}
 use Rattle.jsonb_raw.proofs.ContainLemmas.{contains-extension, contains-array, contains-object, array_contains_plain, object_equals_no_plain, extension_equals_no_plain}
 
 both : (a b : Bool) → a ≡ true → b ≡ true → (a && b) ≡ true
@@ -54,31 +54,38 @@ any_more {A = A} p q (x ∷ xs) h f = by (p x) refl h (any_more p q xs)
     or_second true c h = refl
     or_second false c h = h
 
-    by : (b : Bool) → p x ≡ b → (b || list_any p xs) ≡ true → (list_any p xs ≡ true → ((x : A) → p x ≡ true → q x ≡ true) → list_any q xs ≡ true) → (q x || list_any q xs) ≡ true
+    by : (b : Bool) → p x ≡ b → (b || list_any p xs) ≡ true → (list_any p xs ≡ true → ((x : A) → p x ≡ true → q x ≡ true) → list_any q xs ≡ true)
+        → (q x || list_any q xs) ≡ true
     by true e k more = rw (f x e) refl
     by false e k more = or_second (q x) _ (more k f)
 
 -- one of the elements passes p, so what matches it passes q
-each_any : (us : Trees) (xs : List Tree) (p q : Tree → Bool) → each_is_matched us xs ≡ true → list_any p (elements us) ≡ true → ((u x : Tree) → p u ≡ true → is_matched_by u x ≡ true → q x ≡ true) → list_any q xs ≡ true
+each_any : (us : Trees) (xs : List Tree) (p q : Tree → Bool) → each_is_matched us xs ≡ true → list_any p (elements us) ≡ true
+    → ((u x : Tree) → p u ≡ true → is_part_of u x ≡ true → q x ≡ true) → list_any q xs ≡ true
 each_any no_trees xs p q h k f = absurd (cc)
-each_any (tree u us) xs p q h k f = by (p u) refl k (each_any us xs p q (second_of_both (list_any (is_matched_by u) xs) _ h))
+each_any (tree u us) xs p q h k f = by (p u) refl k (each_any us xs p q (second_of_both (list_any (is_part_of u) xs) _ h))
   where
-    by : (b : Bool) → p u ≡ b → (b || list_any p (elements us)) ≡ true → (list_any p (elements us) ≡ true → ((u x : Tree) → p u ≡ true → is_matched_by u x ≡ true → q x ≡ true) → list_any q xs ≡ true) → list_any q xs ≡ true
-    by true e k more = any_more (is_matched_by u) q xs (first_of_both _ _ h) (λ x. f u x e)
+    by : (b : Bool) → p u ≡ b → (b || list_any p (elements us)) ≡ true
+        → (list_any p (elements us) ≡ true → ((u x : Tree) → p u ≡ true → is_part_of u x ≡ true → q x ≡ true) → list_any q xs ≡ true) → list_any q xs ≡ true
+    by true e k more = any_more (is_part_of u) q xs (first_of_both _ _ h) (λ x. f u x e)
     by false e k more = more k f
 
-each_pair_any : (us : Pairs) (xs : List (List ℕ × Tree)) (p q : List ℕ × Tree → Bool) → each_pair_is_matched us xs ≡ true → list_any p (members us) ≡ true → ((u x : List ℕ × Tree) → p u ≡ true → (bytes_eq x.0 u.0 && is_matched_by u.1 x.1) ≡ true → q x ≡ true) → list_any q xs ≡ true
+each_pair_any : (us : Pairs) (xs : List (List ℕ × Tree)) (p q : List ℕ × Tree → Bool) → each_pair_is_matched us xs ≡ true → list_any p (members us) ≡ true
+    → ((u x : List ℕ × Tree) → p u ≡ true → (bytes_eq x.0 u.0 && is_part_of u.1 x.1) ≡ true → q x ≡ true) → list_any q xs ≡ true
 each_pair_any no_pairs xs p q h k f = absurd (cc)
-each_pair_any (pair l u us) xs p q h k f = by (p (l, u)) refl k (each_pair_any us xs p q (second_of_both (list_any (λ x. bytes_eq x.0 l && is_matched_by u x.1) xs) _ h))
+each_pair_any (pair l u us) xs p q h k f = by (p (l, u)) refl k
+    (each_pair_any us xs p q (second_of_both (list_any (λ x. bytes_eq x.0 l && is_part_of u x.1) xs) _ h))
   where
-    by : (b : Bool) → p (l, u) ≡ b → (b || list_any p (members us)) ≡ true → (list_any p (members us) ≡ true → ((u x : List ℕ × Tree) → p u ≡ true → (bytes_eq x.0 u.0 && is_matched_by u.1 x.1) ≡ true → q x ≡ true) → list_any q xs ≡ true) → list_any q xs ≡ true
-    by true e k more = any_more (λ x. bytes_eq x.0 l && is_matched_by u x.1) q xs (first_of_both _ _ h) (λ x. f (l, u) x e)
+    by : (b : Bool) → p (l, u) ≡ b → (b || list_any p (members us)) ≡ true
+        → (list_any p (members us) ≡ true → ((u x : List ℕ × Tree) → p u ≡ true → (bytes_eq x.0 u.0 && is_part_of u.1 x.1) ≡ true → q x ≡ true)
+        → list_any q xs ≡ true) → list_any q xs ≡ true
+    by true e k more = any_more (λ x. bytes_eq x.0 l && is_part_of u x.1) q xs (first_of_both _ _ h) (λ x. f (l, u) x e)
     by false e k more = more k f
 
 -- ---- a tree matches itself
 
 mutual
-  pub matched_refl : (t : Tree) → is_matched_by t t ≡ true
+  pub matched_refl : (t : Tree) → is_part_of t t ≡ true
   matched_refl null = refl
   matched_refl (boolean b) = equal_refl (boolean b)
   matched_refl (number n) = equal_refl (number n)
@@ -91,13 +98,13 @@ mutual
   each_refl : (ts : Trees) (whole before : List Tree) → whole ≡ before ++ elements ts → each_is_matched ts whole ≡ true
   each_refl no_trees whole before e = refl
   each_refl (tree t ts) whole before e = both _ _
-      (rw e (any_middle (is_matched_by t) before (elements ts) t (matched_refl t)))
+      (rw e (any_middle (is_part_of t) before (elements ts) t (matched_refl t)))
       (each_refl ts whole (before ++ t ∷ []) (e ∙ sym (append_assoc before (t ∷ []) (elements ts))))
 
   each_pair_refl : (ps : Pairs) (whole before : List (List ℕ × Tree)) → whole ≡ before ++ members ps → each_pair_is_matched ps whole ≡ true
   each_pair_refl no_pairs whole before e = refl
   each_pair_refl (pair k t ps) whole before e = both _ _
-      (rw e (any_middle (λ p. bytes_eq p.0 k && is_matched_by t p.1) before (members ps) (k, t) (both _ _ (same_bytes k) (matched_refl t))))
+      (rw e (any_middle (λ p. bytes_eq p.0 k && is_part_of t p.1) before (members ps) (k, t) (both _ _ (same_bytes k) (matched_refl t))))
       (each_pair_refl ps whole (before ++ (k, t) ∷ []) (e ∙ sym (append_assoc before ((k, t) ∷ []) (members ps))))
 
 pub contains_refl : (t : Tree) → IsTrue (not (is_extension_value t)) → contains t t ≡ true
@@ -128,7 +135,7 @@ like (array us) _ h e = absurd (cc)
 like (object us) (object ys) h e = absurd (cc)
 like (object us) _ h e = absurd (cc)
 
-matched_equal : (u x : Tree) → not_container u ≡ true → is_matched_by u x ≡ is_equal x u
+matched_equal : (u x : Tree) → not_container u ≡ true → is_part_of u x ≡ is_equal x u
 matched_equal null x e = refl
 matched_equal (boolean b) x e = refl
 matched_equal (number n) x e = refl
@@ -137,11 +144,11 @@ matched_equal (extension y) x e = refl
 matched_equal (array us) x e = absurd (cc)
 matched_equal (object us) x e = absurd (cc)
 
-equal_passed : (y u x : Tree) → not_container y ≡ true → is_equal u y ≡ true → is_matched_by u x ≡ true → is_equal x y ≡ true
+equal_passed : (y u x : Tree) → not_container y ≡ true → is_equal u y ≡ true → is_part_of u x ≡ true → is_equal x y ≡ true
 equal_passed y u x e h k = equal_trans x u y (sym (matched_equal u x (like u y h e)) ∙ k) h
 
 -- an array is matched by arrays alone, and an object by objects
-from_array : (us : Trees) (x : Tree) → is_matched_by (array us) x ≡ true → (xs : Trees) × (x ≡ array xs)
+from_array : (us : Trees) (x : Tree) → is_part_of (array us) x ≡ true → (xs : Trees) × (x ≡ array xs)
 from_array us null h = absurd (cc)
 from_array us (boolean true) h = absurd (cc)
 from_array us (boolean false) h = absurd (cc)
@@ -151,7 +158,7 @@ from_array us (extension x) h = absurd (cc)
 from_array us (array xs) h = (xs, refl)
 from_array us (object xs) h = absurd (cc)
 
-from_object : (us : Pairs) (x : Tree) → is_matched_by (object us) x ≡ true → (xs : Pairs) × (x ≡ object xs)
+from_object : (us : Pairs) (x : Tree) → is_part_of (object us) x ≡ true → (xs : Pairs) × (x ≡ object xs)
 from_object us null h = absurd (cc)
 from_object us (boolean true) h = absurd (cc)
 from_object us (boolean false) h = absurd (cc)
@@ -162,7 +169,7 @@ from_object us (array xs) h = absurd (cc)
 from_object us (object xs) h = (xs, refl)
 
 mutual
-  matched_trans : (y u x : Tree) → is_matched_by y u ≡ true → is_matched_by u x ≡ true → is_matched_by y x ≡ true
+  matched_trans : (y u x : Tree) → is_part_of y u ≡ true → is_part_of u x ≡ true → is_part_of y x ≡ true
   matched_trans (array ys) u x h k =
       let (us, e) = from_array ys u h in
       let k' = rw e at k in
@@ -182,19 +189,21 @@ mutual
   each_trans : (ys us : Trees) (xs : List Tree) → each_is_matched ys (elements us) ≡ true → each_is_matched us xs ≡ true → each_is_matched ys xs ≡ true
   each_trans no_trees us xs h k = refl
   each_trans (tree y ys) us xs h k = both _ _
-      (each_any us xs (is_matched_by y) (is_matched_by y) k (first_of_both _ _ h) (λ u x a b. matched_trans y u x a b))
-      (each_trans ys us xs (second_of_both (list_any (is_matched_by y) (elements us)) _ h) k)
+      (each_any us xs (is_part_of y) (is_part_of y) k (first_of_both _ _ h) (λ u x a b. matched_trans y u x a b))
+      (each_trans ys us xs (second_of_both (list_any (is_part_of y) (elements us)) _ h) k)
 
-  each_pair_trans : (ys us : Pairs) (xs : List (List ℕ × Tree)) → each_pair_is_matched ys (members us) ≡ true → each_pair_is_matched us xs ≡ true → each_pair_is_matched ys xs ≡ true
+  each_pair_trans : (ys us : Pairs) (xs : List (List ℕ × Tree)) → each_pair_is_matched ys (members us) ≡ true → each_pair_is_matched us xs ≡ true
+      → each_pair_is_matched ys xs ≡ true
   each_pair_trans no_pairs us xs h k = refl
   each_pair_trans (pair l y ys) us xs h k = both _ _
-      (each_pair_any us xs (λ p. bytes_eq p.0 l && is_matched_by y p.1) (λ p. bytes_eq p.0 l && is_matched_by y p.1) k (first_of_both _ _ h)
-      (λ u x a b. both _ _ (bytes_trans x.0 u.0 l (first_of_both _ _ b) (first_of_both _ _ a)) (matched_trans y u.1 x.1 (second_of_both (bytes_eq u.0 l) _ a) (second_of_both (bytes_eq x.0 u.0) _ b))))
-      (each_pair_trans ys us xs (second_of_both (list_any (λ p. bytes_eq p.0 l && is_matched_by y p.1) (members us)) _ h) k)
+      (each_pair_any us xs (λ p. bytes_eq p.0 l && is_part_of y p.1) (λ p. bytes_eq p.0 l && is_part_of y p.1) k (first_of_both _ _ h)
+      (λ u x a b. both _ _ (bytes_trans x.0 u.0 l (first_of_both _ _ b) (first_of_both _ _ a))
+      (matched_trans y u.1 x.1 (second_of_both (bytes_eq u.0 l) _ a) (second_of_both (bytes_eq x.0 u.0) _ b))))
+      (each_pair_trans ys us xs (second_of_both (list_any (λ p. bytes_eq p.0 l && is_part_of y p.1) (members us)) _ h) k)
 
 -- ---- what is contained is passed on
 
-plain_matched : (v t : Tree) → is_plain v ≡ true → is_matched_by v t ≡ is_equal t v
+plain_matched : (v t : Tree) → is_json_scalar v ≡ true → is_part_of v t ≡ is_equal t v
 plain_matched null t h = refl
 plain_matched (boolean b) t h = refl
 plain_matched (number n) t h = refl
@@ -205,10 +214,10 @@ plain_matched (object us) t h = absurd (cc)
 
 -- a plain value is matched by an element of an array, or by the tree
 abbrev plain_in : Tree → Tree → Bool
-plain_in v (array ts) = list_any (is_matched_by v) (elements ts)
-plain_in v t = is_matched_by v t
+plain_in v (array ts) = list_any (is_part_of v) (elements ts)
+plain_in v t = is_part_of v t
 
-contains_plain : (t v : Tree) → is_plain v ≡ true → contains t v ≡ plain_in v t
+contains_plain : (t v : Tree) → is_json_scalar v ≡ true → contains t v ≡ plain_in v t
 contains_plain null v h = rw h (sym (plain_matched v null h))
 contains_plain (boolean b) v h = rw h (sym (plain_matched v (boolean b) h))
 contains_plain (number n) v h = rw h (sym (plain_matched v (number n) h))
@@ -217,26 +226,26 @@ contains_plain (extension x) v h = sym (plain_matched v (extension x) h ∙ exte
 contains_plain (array ts) v h = sym (array_contains_plain ts v h)
 contains_plain (object ps) v h = sym (plain_matched v (object ps) h ∙ object_equals_no_plain ps v h)
 
-plain_in_trans : (v u t : Tree) → is_matched_by v u ≡ true → plain_in u t ≡ true → plain_in v t ≡ true
+plain_in_trans : (v u t : Tree) → is_part_of v u ≡ true → plain_in u t ≡ true → plain_in v t ≡ true
 plain_in_trans v u null h k = matched_trans v u null h k
 plain_in_trans v u (boolean b) h k = matched_trans v u (boolean b) h k
 plain_in_trans v u (number n) h k = matched_trans v u (number n) h k
 plain_in_trans v u (text s) h k = matched_trans v u (text s) h k
 plain_in_trans v u (extension x) h k = matched_trans v u (extension x) h k
 plain_in_trans v u (object ps) h k = matched_trans v u (object ps) h k
-plain_in_trans v u (array ts) h k = any_more (is_matched_by u) (is_matched_by v) (elements ts) k (λ x a. matched_trans v u x h a)
+plain_in_trans v u (array ts) h k = any_more (is_part_of u) (is_part_of v) (elements ts) k (λ x a. matched_trans v u x h a)
 
 no_true : (b : Bool) → b ≡ false → b ≡ true → ⊥
 no_true b e h = cc
 
-plain_trans : (t u v : Tree) → is_plain v ≡ true → contains t u ≡ true → contains u v ≡ true → plain_in v t ≡ true
+plain_trans : (t u v : Tree) → is_json_scalar v ≡ true → contains t u ≡ true → contains u v ≡ true → plain_in v t ≡ true
 plain_trans t (array us) v p h k =
     let m = sym (contains-array t us) ∙ h in
     let (ts, e) = from_array us t m in
-    rw e (each_any us (elements ts) (is_matched_by v) (is_matched_by v) (rw e at m) (sym (contains_plain (array us) v p) ∙ k) (λ u x a b. matched_trans v u x a b))
+    rw e (each_any us (elements ts) (is_part_of v) (is_part_of v) (rw e at m) (sym (contains_plain (array us) v p) ∙ k) (λ u x a b. matched_trans v u x a b))
 plain_trans t (object us) v p h k = absurd (no_true _ (sym (object_equals_no_plain us v p) ∙ none us v p) k)
   where
-    none : (us : Pairs) (v : Tree) → is_plain v ≡ true → is_equal (object us) v ≡ false
+    none : (us : Pairs) (v : Tree) → is_json_scalar v ≡ true → is_equal (object us) v ≡ false
     none us null p = refl
     none us (boolean b) p = refl
     none us (number n) p = refl

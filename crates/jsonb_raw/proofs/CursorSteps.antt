@@ -11,14 +11,15 @@ use Rattle.jsonb_doc.specs.declared.entry_iter.EntryIter.{EntryIter}
 use Rattle.jsonb_doc.specs.declared.entry_iter.StoredEntry.{StoredEntry}
 use Rattle.jsonb_doc.specs.Payload.{Form}
 use Rattle.jsonb_doc.specs.Format.{AreKeys, IsBelowFirst}
-use Rattle.jsonb_doc.specs.Stored.{HasEntriesLeft, Stores, GivesEntry, TakesEntry, key_trees}
+use Rattle.jsonb_doc.specs.Private.Stored.{HasEntriesLeft, Stores, GivesEntry, TakesEntry, key_trees}
 use Rattle.jsonb_doc.proofs.BuilderSteps.{AreRising, keys_rise}
 use Rattle.jsonb_raw.specs.Cursors.{IsCursorOf, IsPassed, IsBefore}
 use Rattle.jsonb_raw.specs.declared.functions.path.exists.KeyCursor.{KeyCursor}
 use Rattle.jsonb_raw.proofs.PairStepLemmas.{test_of_order, below_further, below_key, above_key}
 
 -- a cursor in front of all keys
-pub cursor_in_front : (form : Form) (it : EntryIter) (ks : List (List ℕ)) → AreKeys ks → HasEntriesLeft form it (key_trees ks) → IsCursorOf form (record { all = it; left = it; passed = None }) ks
+pub cursor_in_front : (form : Form) (it : EntryIter) (ks : List (List ℕ)) → AreKeys ks → HasEntriesLeft form it (key_trees ks)
+    → IsCursorOf form (record { all = it; left = it; passed = None }) ks
 cursor_in_front form it ks are h = record {
   all_keys = are;
   all = h;
@@ -35,7 +36,8 @@ none_below key [] below rising = refl
 none_below key (k ∷ ks) below rising =
     rw (test_of_order k key Greater (above_key k key below)) (none_below key ks (below_further key k ks below rising.0) rising.1)
 
-passed_before : (passed : Option (Bor (List ℕ))) (k name : List ℕ) (ks : List (List ℕ)) → IsBefore passed (k ∷ ks) → slice_cmp nat_cmp k name ≡ Less → IsPassed passed name
+passed_before : (passed : Option (Bor (List ℕ))) (k name : List ℕ) (ks : List (List ℕ)) → IsBefore passed (k ∷ ks) → slice_cmp nat_cmp k name ≡ Less
+    → IsPassed passed name
 passed_before None k name ks before less = tt
 passed_before (Some key) k name ks before less = nat_list_cmp_total.trans key.now k name before less
 
@@ -48,7 +50,8 @@ module _ (form : Form) (ks : List (List ℕ)) (c : KeyCursor) (ahead' : EntryIte
       pub left : HasEntriesLeft form ahead' (key_trees others)
 
     pub first_key : FirstKey
-    first_key = go h.behind refl (subst (λ (y : Result StoredEntry Error). TakesEntry form (key_trees h.behind) (Some y) ahead') e (n.takes form (key_trees h.behind) h.left))
+    first_key = go h.behind refl
+        (subst (λ (y : Result StoredEntry Error). TakesEntry form (key_trees h.behind) (Some y) ahead') e (n.takes form (key_trees h.behind) h.left))
       where
         go : (behind : List (List ℕ)) → h.behind ≡ behind → TakesEntry form (key_trees behind) (Some (Ok x)) ahead' → FirstKey
         go [] is t = absurd t
@@ -67,7 +70,8 @@ module _ (form : Form) (ks : List (List ℕ)) (c : KeyCursor) (ahead' : EntryIte
           left = f.left;
           before = are.1;
           decides = λ name less.
-              let whole = rw (f.whole, test_of_order x.content.now name Less less) at (h.decides name (passed_before c.passed x.content.now name f.others before less)) in
+              let whole = rw (f.whole, test_of_order x.content.now name Less less) at
+              (h.decides name (passed_before c.passed x.content.now name f.others before less)) in
               whole;
         }
 
@@ -78,18 +82,21 @@ module _ (form : Form) (ks : List (List ℕ)) (c : KeyCursor) (ahead' : EntryIte
         rw (f.whole, test_of_order x.content.now name Equal same) at (h.decides name passed)
 
     -- the key is above the name, and so are those behind it
-    pub cursor_misses : (name : List ℕ) → IsPassed c.passed name → slice_cmp nat_cmp x.content.now name ≡ Greater → false ≡ list_any (λ key. bytes_eq key name) ks
+    pub cursor_misses : (name : List ℕ) → IsPassed c.passed name → slice_cmp nat_cmp x.content.now name ≡ Greater
+        → false ≡ list_any (λ key. bytes_eq key name) ks
     cursor_misses name passed above =
         let f = first_key in
         let rising = keys_rise (x.content.now ∷ f.others) (rw f.whole at h.are_keys) in
-        let none : list_any (λ key. bytes_eq key name) (x.content.now ∷ f.others) ≡ false = none_below name (x.content.now ∷ f.others) (below_key x.content.now name above) rising in
+        let none : list_any (λ key. bytes_eq key name) (x.content.now ∷ f.others)
+        ≡ false = none_below name (x.content.now ∷ f.others) (below_key x.content.now name above) rising in
         sym none ∙ (rw f.whole at (h.decides name passed))
 
   -- no key is behind the cursor
   pub cursor_ends : GivesEntry c.left None ahead' → (name : List ℕ) → IsPassed c.passed name → false ≡ list_any (λ key. bytes_eq key name) ks
   cursor_ends n name passed = go h.behind (n.takes form (key_trees h.behind) h.left) (h.decides name passed)
     where
-      go : (behind : List (List ℕ)) → TakesEntry form (key_trees behind) None ahead' → list_any (λ key. bytes_eq key name) behind ≡ list_any (λ key. bytes_eq key name) ks → false ≡ list_any (λ key. bytes_eq key name) ks
+      go : (behind : List (List ℕ)) → TakesEntry form (key_trees behind) None ahead'
+          → list_any (λ key. bytes_eq key name) behind ≡ list_any (λ key. bytes_eq key name) ks → false ≡ list_any (λ key. bytes_eq key name) ks
       go [] t whole = whole
       go (k ∷ rest) t whole = absurd t
 
@@ -100,4 +107,5 @@ module _ (form : Form) (ks : List (List ℕ)) (c : KeyCursor) (ahead' : EntryIte
   -- no error is given while keys are left
   pub cursor_error : {G : Type 0} (r : Result StoredEntry Error) (error : Error) → r ≡ Err error → GivesEntry c.left (Some r) ahead' → G
   cursor_error r error e n =
-      no_error error h.behind (subst (λ (y : Result StoredEntry Error). TakesEntry form (key_trees h.behind) (Some y) ahead') e (n.takes form (key_trees h.behind) h.left))
+      no_error error h.behind (subst (λ (y : Result StoredEntry Error). TakesEntry form (key_trees h.behind) (Some y) ahead') e
+      (n.takes form (key_trees h.behind) h.left))

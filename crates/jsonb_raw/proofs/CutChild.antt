@@ -5,21 +5,22 @@ use Rattle.std.proofs.lemmas.Cmp.{nat_list_cmp_total}
 use Rattle.std.proofs.lemmas.List.{length-append}
 use Rattle.std.proofs.lemmas.Nat.{from_be_bytes-to_be_bytes_4}
 use Rattle.jsonb_doc.specs.Tree.{Tree, array, object, Trees, Pairs, elements, count, keys, values}
-use Rattle.jsonb_doc.specs.Payload.{Reading}
-use Rattle.jsonb_doc.specs.Format.{header, array_header, object_header, container_entry, text_entry, entry_word, key_words, key_bytes, IsBelowFirst, AreKeys, HeadedBy, Container, Members, AreEntries, AreValues}
+use Rattle.jsonb_doc.specs.Payload.{NumberReader}
+use Rattle.jsonb_doc.specs.Format.{header, array_header, object_header, container_entry, text_entry, entry_word, key_words, key_bytes, IsBelowFirst, AreKeys, HeadedBy, IsContainer, AreMembers, AreEntries, AreValues}
 use Rattle.jsonb_doc.specs.Encoding.{EntryParts}
-use Rattle.jsonb_doc.specs.ObjectBuilder.{kept_words, kept_contents}
+use Rattle.jsonb_doc.specs.ObjectBuilder.{words_of_entries, contents_of_entries}
 use Rattle.jsonb_doc.proofs.Containers.{entries_of, count-values}
 use Rattle.jsonb_raw.specs.declared.functions.path.entry_place.EntryPlace.{EntryPlace}
 use Rattle.jsonb_raw.specs.Deletes.{change_tree, change_value}
-use Rattle.jsonb_raw.specs.Cuts.{AreWithin, HoldEntries, IsPlaceOf, AreInOrder, AreOfChild, around}
+use Rattle.jsonb_raw.specs.Private.Cuts.{FitEntries, HoldEntries, IsPlaceOf, AreInOrder, AreOfChild, around}
 use Rattle.jsonb_raw.proofs.EntryLists.{Listed, Split, SplitKeys, listed, joined, joined_values, count_are, split, split_keys, values_changed, key_entries, key-words, key-contents, key-within, key-count, keys-append, words-append, contents-append, length-kept_words, within-front, within-back, within-both}
 use Rattle.jsonb_raw.proofs.CutLemmas.{content_there, content_replaced, entry_within, entry_in_order, entry_left_out, replaced_no_longer, left_out_shorter, both_left_out, both_in_order, both_shorter}
 
 -- ---- headers
 
 -- the word of a header is its kind and its count
-pub header_read : (bytes word rest : List ℕ) (kind n m : ℕ) → HeadedBy bytes kind n rest → word ≡ take 4 bytes → m ≡ from_be_bytes w32 word → m ≡ kind * 2 ^ 29 + n
+pub header_read : (bytes word rest : List ℕ) (kind n m : ℕ) → HeadedBy bytes kind n rest → word ≡ take 4 bytes → m ≡ from_be_bytes w32 word
+    → m ≡ kind * 2 ^ 29 + n
 header_read bytes word rest kind n m h first read =
     let known = h.known in
     let fits = h.fits in
@@ -33,24 +34,28 @@ both : (a b x y : List ℕ) → a ≡ x → b ≡ y → a ++ b ≡ x ++ y
 both a b x y e f = rw (e, f) refl
 
 -- the same bytes, with the entries as they are split
-regrouped : (bytes head words contents : List ℕ) (es others : List EntryParts) → bytes ≡ head ++ (words ++ contents) → words ≡ kept_words es → contents ≡ kept_contents es → es ≡ others
-    → bytes ≡ head ++ (kept_words others ++ kept_contents others)
+regrouped : (bytes head words contents : List ℕ) (es others : List EntryParts) → bytes ≡ head ++ (words ++ contents) → words ≡ words_of_entries es
+    → contents ≡ contents_of_entries es → es ≡ others
+    → bytes ≡ head ++ (words_of_entries others ++ contents_of_entries others)
 regrouped bytes head words contents es others is words_are contents_are same = is ∙ rw (words_are, contents_are, same) refl
 
 -- ---- arrays
 
-module _ (number_at : Reading) (ts : Trees) (bytes : List ℕ) (h : Container array_header (count ts) (AreEntries number_at ts) bytes) (n : ℕ) (child : Tree) (at : slice_get (elements ts) n ≡ Some child) where
+module _ (number_at : NumberReader) (ts : Trees) (bytes : List ℕ) (h : IsContainer array_header (count ts) (AreEntries number_at ts) bytes) (n : ℕ)
+    (child : Tree) (at : slice_get (elements ts) n ≡ Some child) where
   pub all : Listed number_at ts h.words h.contents
   all = listed number_at ts h.words h.contents h.parts
 
   pub cut_entries : Split number_at ts all.entries n child
   cut_entries = split number_at ts all.entries n child all.are at
 
-  whole : bytes ≡ header array_header (count ts) ++ (kept_words (cut_entries.front ++ cut_entries.entry ∷ cut_entries.back) ++ kept_contents (cut_entries.front ++ cut_entries.entry ∷ cut_entries.back))
+  whole : bytes ≡ header array_header (count ts)
+      ++ (words_of_entries (cut_entries.front ++ cut_entries.entry ∷ cut_entries.back)
+      ++ contents_of_entries (cut_entries.front ++ cut_entries.entry ∷ cut_entries.back))
   whole = regrouped bytes (header array_header (count ts)) h.words h.contents all.entries _ h.headed.joined all.words_are all.contents_are cut_entries.whole
 
-  within : AreWithin (cut_entries.front ++ cut_entries.entry ∷ cut_entries.back)
-  within = subst AreWithin cut_entries.whole all.within
+  within : FitEntries (cut_entries.front ++ cut_entries.entry ∷ cut_entries.back)
+  within = subst FitEntries cut_entries.whole all.within
 
   pub element_total : count ts ≡ length (cut_entries.front ++ cut_entries.entry ∷ cut_entries.back)
   element_total = count_are number_at ts all.entries all.are ∙ ap length cut_entries.whole
@@ -61,11 +66,13 @@ module _ (number_at : Reading) (ts : Trees) (bytes : List ℕ) (h : Container ar
   pub element_held : HoldEntries bytes (cut_entries.front ++ cut_entries.entry ∷ cut_entries.back)
   element_held = record { head = header array_header (count ts); four = refl; within = within; joined = whole }
 
-  pub element_of : (word : List ℕ) (m : ℕ) (place : EntryPlace) → word ≡ take 4 bytes → m ≡ from_be_bytes w32 word → IsPlaceOf place (count ts) cut_entries.front cut_entries.entry
+  pub element_of : (word : List ℕ) (m : ℕ) (place : EntryPlace) → word ≡ take 4 bytes → m ≡ from_be_bytes w32 word
+      → IsPlaceOf place (count ts) cut_entries.front cut_entries.entry
       → AreOfChild number_at bytes (array ts) n child (record { header = m - 1; key = None; value = place })
   element_of word m place first read is =
       let word_is = header_read bytes word (h.words ++ h.contents) array_header (count ts) m h.headed first read in
-      let there = content_there bytes (header array_header (count ts)) cut_entries.front cut_entries.back cut_entries.entry place (count ts) whole refl element_total is in
+      let there = content_there bytes (header array_header (count ts)) cut_entries.front cut_entries.back cut_entries.entry place
+      (count ts) whole refl element_total is in
       let fits = (within-back cut_entries.front (cut_entries.entry ∷ cut_entries.back) within).0 in
       let within_front = within-front cut_entries.front (cut_entries.entry ∷ cut_entries.back) within in
       let within_back = (within-back cut_entries.front (cut_entries.entry ∷ cut_entries.back) within).1 in
@@ -74,44 +81,74 @@ module _ (number_at : Reading) (ts : Trees) (bytes : List ℕ) (h : Container ar
         kind = cut_entries.entry.0;
         content = rw there cut_entries.is;
         short = rw there fits.1;
-        within = entry_within bytes (header array_header (count ts)) cut_entries.front cut_entries.back cut_entries.entry place (count ts) whole refl element_total is;
-        ordered = entry_in_order bytes (header array_header (count ts)) cut_entries.front cut_entries.back cut_entries.entry place (count ts) whole refl element_total is;
+        within = entry_within bytes (header array_header (count ts)) cut_entries.front cut_entries.back cut_entries.entry place
+            (count ts) whole refl element_total is;
+        ordered = entry_in_order bytes (header array_header (count ts)) cut_entries.front cut_entries.back cut_entries.entry place
+            (count ts) whole refl element_total is;
         cut = λ change gone.
             let are = cut_entries.without change gone in
             let left = count_are number_at (change_tree n change ts) (cut_entries.front ++ cut_entries.back) are in
-            let more : count ts ≡ suc (count (change_tree n change ts)) = omega (arith, element_total, left, length-append cut_entries.front cut_entries.back, length-append cut_entries.front (cut_entries.entry ∷ cut_entries.back)) in (
+            let more : count ts ≡ suc (count (change_tree n change ts)) = omega (
+              arith,
+              element_total,
+              left,
+              length-append cut_entries.front cut_entries.back,
+              length-append cut_entries.front
+                  (cut_entries.entry ∷ cut_entries.back),
+            ) in (
               refl,
               record {
-                words = kept_words (cut_entries.front ++ cut_entries.back);
-                contents = kept_contents (cut_entries.front ++ cut_entries.back);
+                words = words_of_entries (cut_entries.front ++ cut_entries.back);
+                contents = contents_of_entries (cut_entries.front ++ cut_entries.back);
                 headed = record {
                   known = omega arith;
                   fits = omega (arith, counted, more);
-                  joined = both _ _ _ _ (header_less array_header (count ts) (count (change_tree n change ts)) m word_is more) (entry_left_out bytes (header array_header (count ts)) cut_entries.front cut_entries.back cut_entries.entry place (count ts) whole refl element_total is);
+                  joined = both _ _ _ _ (header_less array_header (count ts) (count (change_tree n change ts)) m word_is more)
+                      (entry_left_out bytes (header array_header (count ts)) cut_entries.front cut_entries.back cut_entries.entry place
+                      (count ts) whole refl element_total is);
                 };
-                parts = joined number_at (change_tree n change ts) (cut_entries.front ++ cut_entries.back) (within-both cut_entries.front cut_entries.back within_front within_back) are;
+                parts = joined number_at (change_tree n change ts) (cut_entries.front ++ cut_entries.back)
+                    (within-both cut_entries.front cut_entries.back within_front within_back) are;
               },
             );
-        shorter = omega (arith, left_out_shorter bytes (header array_header (count ts)) cut_entries.front cut_entries.back cut_entries.entry place (count ts) whole refl element_total is);
+        shorter = omega (
+          arith,
+          left_out_shorter bytes (header array_header (count ts)) cut_entries.front cut_entries.back cut_entries.entry place
+              (count ts) whole refl element_total is,
+        );
         changed = λ change child' content' made is' no_longer.
             let are = cut_entries.changed change child' (container_entry, content') made is' in
             let left = count_are number_at (change_tree n change ts) (cut_entries.front ++ (container_entry, content') ∷ cut_entries.back) are in
-            let same : count (change_tree n change ts) ≡ count ts = omega (arith, element_total, left, length-append cut_entries.front ((container_entry, content') ∷ cut_entries.back), length-append cut_entries.front (cut_entries.entry ∷ cut_entries.back)) in
+            let same : count (change_tree n change ts)
+            ≡ count ts = omega (
+              arith,
+              element_total,
+              left,
+              length-append cut_entries.front
+                  ((container_entry, content') ∷ cut_entries.back),
+              length-append cut_entries.front (cut_entries.entry ∷ cut_entries.back),
+            ) in
             let short : length content' < 2 ^ 28 = omega (arith, fits.1, no_longer, ap length there) in (
               refl,
               record {
-                words = kept_words (cut_entries.front ++ (container_entry, content') ∷ cut_entries.back);
-                contents = kept_contents (cut_entries.front ++ (container_entry, content') ∷ cut_entries.back);
+                words = words_of_entries (cut_entries.front ++ (container_entry, content') ∷ cut_entries.back);
+                contents = contents_of_entries (cut_entries.front ++ (container_entry, content') ∷ cut_entries.back);
                 headed = record {
                   known = omega arith;
                   fits = omega (arith, counted, same);
-                  joined = rw (same, content_replaced bytes (header array_header (count ts)) cut_entries.front cut_entries.back cut_entries.entry place (count ts) whole refl element_total is content') refl;
+                  joined = rw (
+                    same,
+                    content_replaced bytes (header array_header (count ts)) cut_entries.front cut_entries.back cut_entries.entry place
+                        (count ts) whole refl element_total is content',
+                  ) refl;
                 };
-                parts = joined number_at (change_tree n change ts) (cut_entries.front ++ (container_entry, content') ∷ cut_entries.back) (within-both cut_entries.front ((container_entry, content') ∷ cut_entries.back) within_front ((omega arith, short), within_back)) are;
+                parts = joined number_at (change_tree n change ts) (cut_entries.front ++ (container_entry, content') ∷ cut_entries.back)
+                    (within-both cut_entries.front ((container_entry, content') ∷ cut_entries.back) within_front ((omega arith, short), within_back)) are;
               },
             );
         no_longer = λ content' no_longer.
-            replaced_no_longer bytes (header array_header (count ts)) cut_entries.front cut_entries.back cut_entries.entry place (count ts) whole refl element_total is content' (omega (arith, no_longer, ap length there));
+            replaced_no_longer bytes (header array_header (count ts)) cut_entries.front cut_entries.back cut_entries.entry place
+            (count ts) whole refl element_total is content' (omega (arith, no_longer, ap length there));
       }
 
 -- ---- objects
@@ -127,23 +164,48 @@ keys_without (low ∷ []) key back h = (h.0, lower back h.2.1, h.2.2)
 keys_without (low ∷ next ∷ front) key back h = (h.0, h.1, keys_without (next ∷ front) key back h.2)
 
 -- the keys and the values of an object as entries in a row
-key_words_are : (bytes head vw vc words contents : List ℕ) (ks : List (List ℕ)) (es : List EntryParts) → bytes ≡ head ++ (words ++ contents) → words ≡ key_words ks ++ vw → contents ≡ key_bytes ks ++ vc
-    → vw ≡ kept_words es → vc ≡ kept_contents es → bytes ≡ head ++ (kept_words (key_entries ks ++ es) ++ kept_contents (key_entries ks ++ es))
+key_words_are : (bytes head vw vc words contents : List ℕ) (ks : List (List ℕ)) (es : List EntryParts) → bytes ≡ head ++ (words ++ contents)
+    → words ≡ key_words ks ++ vw → contents ≡ key_bytes ks ++ vc
+    → vw ≡ words_of_entries es → vc ≡ contents_of_entries es
+    → bytes ≡ head ++ (words_of_entries (key_entries ks ++ es) ++ contents_of_entries (key_entries ks ++ es))
 key_words_are bytes head vw vc words contents ks es is words_are contents_are values_are value_contents_are =
-    is ∙ rw (words_are, contents_are, values_are, value_contents_are, words-append (key_entries ks) es, contents-append (key_entries ks) es, key-words ks, key-contents ks) refl
+    is ∙ rw (
+      words_are,
+      contents_are,
+      values_are,
+      value_contents_are,
+      words-append (key_entries ks) es,
+      contents-append
+          (key_entries ks) es,
+      key-words ks,
+      key-contents ks,
+    ) refl
 
 -- the same with other contents behind the keys
 row_of : (ks changed : List (List ℕ)) (front es : List EntryParts) → changed ≡ ks
-    → kept_words ((key_entries ks ++ front) ++ es) ++ kept_contents ((key_entries ks ++ front) ++ es) ≡ (key_words changed ++ kept_words (front ++ es)) ++ (key_bytes changed ++ kept_contents (front ++ es))
+    → words_of_entries ((key_entries ks ++ front) ++ es) ++ contents_of_entries ((key_entries ks ++ front) ++ es)
+    ≡ (key_words changed ++ words_of_entries (front ++ es)) ++ (key_bytes changed ++ contents_of_entries (front ++ es))
 row_of ks changed front es same =
-    rw (same, append_assoc (key_entries ks) front es, words-append (key_entries ks) (front ++ es), contents-append (key_entries ks) (front ++ es), key-words ks, key-contents ks) refl
+    rw (
+      same,
+      append_assoc (key_entries ks) front es,
+      words-append (key_entries ks) (front ++ es),
+      contents-append (key_entries ks)
+          (front ++ es),
+      key-words ks,
+      key-contents ks,
+    ) refl
 
 -- a key's entry and its value's in the row
-module _ (bytes head : List ℕ) (kf kb ks : List (List ℕ)) (k : List ℕ) (vf vb : List EntryParts) (e : EntryParts) (key value : EntryPlace) (total : ℕ) (keys_are : ks ≡ kf ++ k ∷ kb) (four : length head ≡ 4)
-    (is : bytes ≡ head ++ (kept_words (key_entries kf ++ (text_entry, k) ∷ ((key_entries kb ++ vf) ++ e ∷ vb)) ++ kept_contents (key_entries kf ++ (text_entry, k) ∷ ((key_entries kb ++ vf) ++ e ∷ vb))))
-    (same : total ≡ length (key_entries kf ++ (text_entry, k) ∷ ((key_entries kb ++ vf) ++ e ∷ vb))) (key_at : IsPlaceOf key total (key_entries kf) (text_entry, k)) (value_at : IsPlaceOf value total (key_entries ks ++ vf) e) where
-  in_two : bytes ≡ head ++ ((kept_words (key_entries kf) ++ (entry_word text_entry (length k) ++ (kept_words (key_entries kb ++ vf) ++ (entry_word e.0 (length e.1) ++ kept_words vb))))
-      ++ (kept_contents (key_entries kf) ++ (k ++ (kept_contents (key_entries kb ++ vf) ++ (e.1 ++ kept_contents vb)))))
+module _ (bytes head : List ℕ) (kf kb ks : List (List ℕ)) (k : List ℕ) (vf vb : List EntryParts) (e : EntryParts) (key value : EntryPlace) (total : ℕ)
+    (keys_are : ks ≡ kf ++ k ∷ kb) (four : length head ≡ 4)
+    (is : bytes ≡ head ++ (words_of_entries (key_entries kf ++ (text_entry, k) ∷ ((key_entries kb ++ vf) ++ e ∷ vb))
+    ++ contents_of_entries (key_entries kf ++ (text_entry, k) ∷ ((key_entries kb ++ vf) ++ e ∷ vb))))
+    (same : total ≡ length (key_entries kf ++ (text_entry, k) ∷ ((key_entries kb ++ vf) ++ e ∷ vb)))
+    (key_at : IsPlaceOf key total (key_entries kf) (text_entry, k)) (value_at : IsPlaceOf value total (key_entries ks ++ vf) e) where
+  in_two : bytes ≡ head ++ ((words_of_entries (key_entries kf)
+      ++ (entry_word text_entry (length k) ++ (words_of_entries (key_entries kb ++ vf) ++ (entry_word e.0 (length e.1) ++ words_of_entries vb))))
+      ++ (contents_of_entries (key_entries kf) ++ (k ++ (contents_of_entries (key_entries kb ++ vf) ++ (e.1 ++ contents_of_entries vb)))))
   in_two = is ∙ rw (
     words-append (key_entries kf) ((text_entry, k) ∷ ((key_entries kb ++ vf) ++ e ∷ vb)),
     contents-append (key_entries kf) ((text_entry, k) ∷ ((key_entries kb ++ vf) ++ e ∷ vb)),
@@ -151,40 +213,67 @@ module _ (bytes head : List ℕ) (kf kb ks : List (List ℕ)) (k : List ℕ) (vf
     contents-append (key_entries kb ++ vf) (e ∷ vb),
   ) refl
 
-  before_contents : length (kept_contents (key_entries ks ++ vf)) ≡ length (kept_contents (key_entries kf)) + length k + length (kept_contents (key_entries kb ++ vf))
-  before_contents = rw (keys_are, keys-append kf (k ∷ kb), contents-append (key_entries kf ++ (text_entry, k) ∷ key_entries kb) vf, contents-append (key_entries kf) ((text_entry, k) ∷ key_entries kb), contents-append (key_entries kb) vf)
+  before_contents : length (contents_of_entries (key_entries ks ++ vf))
+      ≡ length (contents_of_entries (key_entries kf)) + length k + length (contents_of_entries (key_entries kb ++ vf))
+  before_contents = rw (
+    keys_are,
+    keys-append kf (k ∷ kb),
+    contents-append (key_entries kf ++ (text_entry, k) ∷ key_entries kb) vf,
+    contents-append
+        (key_entries kf) ((text_entry, k) ∷ key_entries kb),
+    contents-append (key_entries kb) vf,
+  )
       (simp length-append (omega arith))
 
   before_count : length (key_entries ks ++ vf) ≡ length (key_entries kf) + 1 + length (key_entries kb ++ vf)
-  before_count = omega (arith, key-count ks, key-count kf, key-count kb, ap length keys_are, length-append kf (k ∷ kb), length-append (key_entries ks) vf, length-append (key_entries kb) vf)
+  before_count = omega (
+    arith,
+    key-count ks,
+    key-count kf,
+    key-count kb,
+    ap length keys_are,
+    length-append kf (k ∷ kb),
+    length-append
+        (key_entries ks) vf,
+    length-append (key_entries kb) vf,
+  )
 
   all_count : total ≡ length (key_entries kf) + 1 + length (key_entries kb ++ vf) + 1 + length vb
-  all_count = omega (arith, same, length-append (key_entries kf) ((text_entry, k) ∷ ((key_entries kb ++ vf) ++ e ∷ vb)), length-append (key_entries kb ++ vf) (e ∷ vb))
+  all_count = omega (
+    arith,
+    same,
+    length-append (key_entries kf) ((text_entry, k) ∷ ((key_entries kb ++ vf) ++ e ∷ vb)),
+    length-append (key_entries kb ++ vf)
+        (e ∷ vb),
+  )
 
-  key_word_at : key.word ≡ 4 + length (kept_words (key_entries kf))
+  key_word_at : key.word ≡ 4 + length (words_of_entries (key_entries kf))
   key_word_at = omega (arith, key_at.word, length-kept_words (key_entries kf))
 
-  value_word_at : value.word ≡ 8 + length (kept_words (key_entries kf)) + length (kept_words (key_entries kb ++ vf))
+  value_word_at : value.word ≡ 8 + length (words_of_entries (key_entries kf)) + length (words_of_entries (key_entries kb ++ vf))
   value_word_at = omega (arith, value_at.word, before_count, length-kept_words (key_entries kf), length-kept_words (key_entries kb ++ vf))
 
-  words_count : 4 * total ≡ 8 + length (kept_words (key_entries kf)) + length (kept_words (key_entries kb ++ vf)) + length (kept_words vb)
+  words_count : 4 * total ≡ 8 + length (words_of_entries (key_entries kf)) + length (words_of_entries (key_entries kb ++ vf)) + length (words_of_entries vb)
   words_count = omega (arith, all_count, length-kept_words (key_entries kf), length-kept_words (key_entries kb ++ vf), length-kept_words vb)
 
-  key_start_at : key.start ≡ 12 + length (kept_words (key_entries kf)) + length (kept_words (key_entries kb ++ vf)) + length (kept_words vb) + length (kept_contents (key_entries kf))
+  key_start_at : key.start ≡ 12 + length (words_of_entries (key_entries kf)) + length (words_of_entries (key_entries kb ++ vf)) + length
+      (words_of_entries vb) + length (contents_of_entries (key_entries kf))
   key_start_at = omega (arith, key_at.start, words_count)
 
   key_end_at : key.end ≡ key.start + length k
   key_end_at = omega (arith, key_at.start, key_at.end)
 
-  value_start_at : value.start ≡ key.end + length (kept_contents (key_entries kb ++ vf))
+  value_start_at : value.start ≡ key.end + length (contents_of_entries (key_entries kb ++ vf))
   value_start_at = omega (arith, value_at.start, before_contents, key_at.end)
 
   value_end_at : value.end ≡ value.start + length e.1
   value_end_at = omega (arith, value_at.start, value_at.end)
 
   left_row : (left : List (List ℕ)) → left ≡ kf ++ kb
-      → kept_words (key_entries kf) ++ (kept_words (key_entries kb ++ vf) ++ ((kept_words vb ++ kept_contents (key_entries kf)) ++ (kept_contents (key_entries kb ++ vf) ++ kept_contents vb)))
-      ≡ (key_words left ++ kept_words (vf ++ vb)) ++ (key_bytes left ++ kept_contents (vf ++ vb))
+      → words_of_entries (key_entries kf)
+      ++ (words_of_entries (key_entries kb ++ vf)
+      ++ ((words_of_entries vb ++ contents_of_entries (key_entries kf)) ++ (contents_of_entries (key_entries kb ++ vf) ++ contents_of_entries vb)))
+      ≡ (key_words left ++ words_of_entries (vf ++ vb)) ++ (key_bytes left ++ contents_of_entries (vf ++ vb))
   left_row left left_is =
       rw (
         left_is,
@@ -199,22 +288,32 @@ module _ (bytes head : List ℕ) (kf kb ks : List (List ℕ)) (k : List ℕ) (vf
         contents-append vf vb,
       ) (simp append_assoc)
 
-  pub pair_left_out : (left : List (List ℕ)) → left ≡ kf ++ kb → around bytes (Some key) value ≡ (key_words left ++ kept_words (vf ++ vb)) ++ (key_bytes left ++ kept_contents (vf ++ vb))
+  pub pair_left_out : (left : List (List ℕ)) → left ≡ kf ++ kb
+      → around bytes (Some key) value ≡ (key_words left ++ words_of_entries (vf ++ vb)) ++ (key_bytes left ++ contents_of_entries (vf ++ vb))
   pair_left_out left left_is =
-      both_left_out bytes head (kept_words (key_entries kf)) (entry_word text_entry (length k)) (kept_words (key_entries kb ++ vf)) (entry_word e.0 (length e.1)) (kept_words vb) (kept_contents (key_entries kf)) k (kept_contents (key_entries kb ++ vf)) e.1 (kept_contents vb) key value in_two four refl refl key_word_at value_word_at key_start_at key_end_at value_start_at value_end_at
+      both_left_out bytes head (words_of_entries (key_entries kf)) (entry_word text_entry (length k)) (words_of_entries (key_entries kb ++ vf))
+      (entry_word e.0 (length e.1)) (words_of_entries vb) (contents_of_entries (key_entries kf)) k (contents_of_entries (key_entries kb ++ vf)) e.1
+      (contents_of_entries vb) key value in_two four refl refl key_word_at value_word_at key_start_at key_end_at value_start_at value_end_at
       ∙ left_row left left_is
 
   pub pair_in_order : AreInOrder (Some key) value (length bytes)
   pair_in_order =
-      both_in_order bytes head (kept_words (key_entries kf)) (entry_word text_entry (length k)) (kept_words (key_entries kb ++ vf)) (entry_word e.0 (length e.1)) (kept_words vb) (kept_contents (key_entries kf)) k (kept_contents (key_entries kb ++ vf)) e.1 (kept_contents vb) key value in_two four refl refl key_word_at value_word_at key_start_at key_end_at value_start_at value_end_at
+      both_in_order bytes head (words_of_entries (key_entries kf)) (entry_word text_entry (length k)) (words_of_entries (key_entries kb ++ vf))
+      (entry_word e.0 (length e.1)) (words_of_entries vb) (contents_of_entries (key_entries kf)) k (contents_of_entries (key_entries kb ++ vf)) e.1
+      (contents_of_entries vb) key value in_two four refl refl key_word_at value_word_at key_start_at key_end_at value_start_at value_end_at
 
   pub pair_shorter : length (around bytes (Some key) value) + 4 ≤ length bytes
   pair_shorter =
-      both_shorter bytes head (kept_words (key_entries kf)) (entry_word text_entry (length k)) (kept_words (key_entries kb ++ vf)) (entry_word e.0 (length e.1)) (kept_words vb) (kept_contents (key_entries kf)) k (kept_contents (key_entries kb ++ vf)) e.1 (kept_contents vb) key value in_two four refl refl key_word_at value_word_at key_start_at key_end_at value_start_at value_end_at
+      both_shorter bytes head (words_of_entries (key_entries kf)) (entry_word text_entry (length k)) (words_of_entries (key_entries kb ++ vf))
+      (entry_word e.0 (length e.1)) (words_of_entries vb) (contents_of_entries (key_entries kf)) k (contents_of_entries (key_entries kb ++ vf)) e.1
+      (contents_of_entries vb) key value in_two four refl refl key_word_at value_word_at key_start_at key_end_at value_start_at value_end_at
 
-module _ (number_at : Reading) (ps : Pairs) (bytes : List ℕ) (h : Container object_header (length (keys ps)) (Members (keys ps) (AreValues number_at ps)) bytes) (n : ℕ) (child : Tree) (at : slice_get (elements (values ps)) n ≡ Some child) where
+module _ (number_at : NumberReader) (ps : Pairs) (bytes : List ℕ)
+    (h : IsContainer object_header (length (keys ps)) (AreMembers (keys ps) (AreValues number_at ps)) bytes) (n : ℕ) (child : Tree)
+    (at : slice_get (elements (values ps)) n ≡ Some child) where
   pub all_values : Listed number_at (values ps) h.parts.value_words h.parts.value_contents
-  all_values = listed number_at (values ps) h.parts.value_words h.parts.value_contents (entries_of number_at ps h.parts.value_words h.parts.value_contents h.parts.values)
+  all_values = listed number_at (values ps) h.parts.value_words h.parts.value_contents
+      (entries_of number_at ps h.parts.value_words h.parts.value_contents h.parts.values)
 
   pub cut_values : Split number_at (values ps) all_values.entries n child
   cut_values = split number_at (values ps) all_values.entries n child all_values.are at
@@ -229,30 +328,62 @@ module _ (number_at : Reading) (ps : Pairs) (bytes : List ℕ) (h : Container ob
   abbrev pub behind_key : List EntryParts
   behind_key = key_entries cut_keys.back ++ all_values.entries
 
-  in_a_row : bytes ≡ header object_header (length (keys ps)) ++ (kept_words (key_entries (keys ps) ++ all_values.entries) ++ kept_contents (key_entries (keys ps) ++ all_values.entries))
-  in_a_row = key_words_are bytes (header object_header (length (keys ps))) h.parts.value_words h.parts.value_contents h.words h.contents (keys ps) all_values.entries h.headed.joined h.parts.words_joined h.parts.contents_joined all_values.words_are all_values.contents_are
+  in_a_row : bytes ≡ header object_header (length (keys ps))
+      ++ (words_of_entries (key_entries (keys ps) ++ all_values.entries) ++ contents_of_entries (key_entries (keys ps) ++ all_values.entries))
+  in_a_row = key_words_are bytes (header object_header (length (keys ps))) h.parts.value_words h.parts.value_contents h.words h.contents
+      (keys ps) all_values.entries h.headed.joined h.parts.words_joined h.parts.contents_joined all_values.words_are all_values.contents_are
 
-  row_within : AreWithin (key_entries (keys ps) ++ all_values.entries)
+  row_within : FitEntries (key_entries (keys ps) ++ all_values.entries)
   row_within = within-both (key_entries (keys ps)) all_values.entries (key-within (keys ps) h.parts.are_keys) all_values.within
 
   by_value : key_entries (keys ps) ++ all_values.entries ≡ before_value ++ cut_values.entry ∷ cut_values.back
-  by_value = ap (λ es. key_entries (keys ps) ++ es) cut_values.whole ∙ sym (append_assoc (key_entries (keys ps)) cut_values.front (cut_values.entry ∷ cut_values.back))
+  by_value = ap (λ es. key_entries (keys ps) ++ es) cut_values.whole
+      ∙ sym (append_assoc (key_entries (keys ps)) cut_values.front (cut_values.entry ∷ cut_values.back))
 
   by_key : key_entries (keys ps) ++ all_values.entries ≡ key_entries cut_keys.front ++ (text_entry, cut_keys.key) ∷ behind_key
-  by_key = ap (λ ks. key_entries ks ++ all_values.entries) cut_keys.whole ∙ ap (λ es. es ++ all_values.entries) (keys-append cut_keys.front (cut_keys.key ∷ cut_keys.back))
+  by_key = ap (λ ks. key_entries ks ++ all_values.entries) cut_keys.whole
+      ∙ ap (λ es. es ++ all_values.entries) (keys-append cut_keys.front (cut_keys.key ∷ cut_keys.back))
       ∙ append_assoc (key_entries cut_keys.front) ((text_entry, cut_keys.key) ∷ key_entries cut_keys.back) all_values.entries
 
   pub value_total : 2 * length (keys ps) ≡ length (before_value ++ cut_values.entry ∷ cut_values.back)
-  value_total = omega (arith, ap length by_value, length-append (key_entries (keys ps)) all_values.entries, key-count (keys ps), count_are number_at (values ps) all_values.entries all_values.are, count-values ps)
+  value_total = omega (
+    arith,
+    ap length by_value,
+    length-append (key_entries (keys ps)) all_values.entries,
+    key-count (keys ps),
+    count_are number_at
+        (values ps) all_values.entries all_values.are,
+    count-values ps,
+  )
 
   pub key_total : 2 * length (keys ps) ≡ length (key_entries cut_keys.front ++ (text_entry, cut_keys.key) ∷ behind_key)
-  key_total = omega (arith, ap length by_key, length-append (key_entries (keys ps)) all_values.entries, key-count (keys ps), count_are number_at (values ps) all_values.entries all_values.are, count-values ps)
+  key_total = omega (
+    arith,
+    ap length by_key,
+    length-append (key_entries (keys ps)) all_values.entries,
+    key-count (keys ps),
+    count_are number_at
+        (values ps) all_values.entries all_values.are,
+    count-values ps,
+  )
 
   pub value_held : HoldEntries bytes (before_value ++ cut_values.entry ∷ cut_values.back)
-  value_held = record { head = header object_header (length (keys ps)); four = refl; within = subst AreWithin by_value row_within; joined = regrouped bytes (header object_header (length (keys ps))) _ _ _ _ in_a_row refl refl by_value }
+  value_held = record {
+    head = header object_header (length (keys ps));
+    four = refl;
+    within = subst FitEntries by_value row_within;
+    joined = regrouped bytes
+        (header object_header (length (keys ps))) _ _ _ _ in_a_row refl refl by_value;
+  }
 
   pub key_held : HoldEntries bytes (key_entries cut_keys.front ++ (text_entry, cut_keys.key) ∷ behind_key)
-  key_held = record { head = header object_header (length (keys ps)); four = refl; within = subst AreWithin by_key row_within; joined = regrouped bytes (header object_header (length (keys ps))) _ _ _ _ in_a_row refl refl by_key }
+  key_held = record {
+    head = header object_header (length (keys ps));
+    four = refl;
+    within = subst FitEntries by_key row_within;
+    joined = regrouped bytes
+        (header object_header (length (keys ps))) _ _ _ _ in_a_row refl refl by_key;
+  }
 
   pub value_passed : length (keys ps) + n ≡ length before_value
   value_passed = omega (arith, cut_values.passed, key-count (keys ps), length-append (key_entries (keys ps)) cut_values.front)
@@ -260,26 +391,37 @@ module _ (number_at : Reading) (ps : Pairs) (bytes : List ℕ) (h : Container ob
   pub key_passed : n ≡ length (key_entries cut_keys.front)
   key_passed = omega (arith, cut_keys.passed, key-count cut_keys.front)
 
-  by_both : key_entries (keys ps) ++ all_values.entries ≡ key_entries cut_keys.front ++ (text_entry, cut_keys.key) ∷ ((key_entries cut_keys.back ++ cut_values.front) ++ cut_values.entry ∷ cut_values.back)
+  by_both : key_entries (keys ps) ++ all_values.entries
+      ≡ key_entries cut_keys.front ++ (text_entry, cut_keys.key) ∷ ((key_entries cut_keys.back ++ cut_values.front) ++ cut_values.entry ∷ cut_values.back)
   by_both = by_key ∙ ap (λ es. key_entries cut_keys.front ++ (text_entry, cut_keys.key) ∷ es)
-      (ap (λ es. key_entries cut_keys.back ++ es) cut_values.whole ∙ sym (append_assoc (key_entries cut_keys.back) cut_values.front (cut_values.entry ∷ cut_values.back)))
+      (ap (λ es. key_entries cut_keys.back ++ es) cut_values.whole
+      ∙ sym (append_assoc (key_entries cut_keys.back) cut_values.front (cut_values.entry ∷ cut_values.back)))
 
-  both_total : 2 * length (keys ps) ≡ length (key_entries cut_keys.front ++ (text_entry, cut_keys.key) ∷ ((key_entries cut_keys.back ++ cut_values.front) ++ cut_values.entry ∷ cut_values.back))
+  both_total : 2 * length (keys ps)
+      ≡ length (key_entries cut_keys.front ++ (text_entry, cut_keys.key)
+      ∷ ((key_entries cut_keys.back ++ cut_values.front) ++ cut_values.entry ∷ cut_values.back))
   both_total = key_total ∙ ap length (sym by_key ∙ by_both)
 
-  both_joined : bytes ≡ header object_header (length (keys ps)) ++ (kept_words (key_entries cut_keys.front ++ (text_entry, cut_keys.key) ∷ ((key_entries cut_keys.back ++ cut_values.front) ++ cut_values.entry ∷ cut_values.back)) ++ kept_contents (key_entries cut_keys.front ++ (text_entry, cut_keys.key) ∷ ((key_entries cut_keys.back ++ cut_values.front) ++ cut_values.entry ∷ cut_values.back)))
+  both_joined : bytes ≡ header object_header (length (keys ps))
+      ++ (words_of_entries (key_entries cut_keys.front ++ (text_entry, cut_keys.key)
+      ∷ ((key_entries cut_keys.back ++ cut_values.front) ++ cut_values.entry ∷ cut_values.back))
+      ++ contents_of_entries (key_entries cut_keys.front ++ (text_entry, cut_keys.key)
+      ∷ ((key_entries cut_keys.back ++ cut_values.front) ++ cut_values.entry ∷ cut_values.back)))
   both_joined = regrouped bytes (header object_header (length (keys ps))) _ _ _ _ in_a_row refl refl by_both
 
-  value_joined : bytes ≡ header object_header (length (keys ps)) ++ (kept_words (before_value ++ cut_values.entry ∷ cut_values.back) ++ kept_contents (before_value ++ cut_values.entry ∷ cut_values.back))
+  value_joined : bytes ≡ header object_header (length (keys ps))
+      ++ (words_of_entries (before_value ++ cut_values.entry ∷ cut_values.back) ++ contents_of_entries (before_value ++ cut_values.entry ∷ cut_values.back))
   value_joined = regrouped bytes (header object_header (length (keys ps))) _ _ _ _ in_a_row refl refl by_value
 
   pub member_of : (word : List ℕ) (m : ℕ) (key value : EntryPlace) → word ≡ take 4 bytes → m ≡ from_be_bytes w32 word
-      → IsPlaceOf key (2 * length (keys ps)) (key_entries cut_keys.front) (text_entry, cut_keys.key) → IsPlaceOf value (2 * length (keys ps)) before_value cut_values.entry
+      → IsPlaceOf key (2 * length (keys ps)) (key_entries cut_keys.front) (text_entry, cut_keys.key)
+      → IsPlaceOf value (2 * length (keys ps)) before_value cut_values.entry
       → AreOfChild number_at bytes (object ps) n child (record { header = m - 1; key = Some key; value = value })
   member_of word m key value first read key_is value_is =
       let word_is = header_read bytes word (h.words ++ h.contents) object_header (length (keys ps)) m h.headed first read in
-      let there = content_there bytes (header object_header (length (keys ps))) before_value cut_values.back cut_values.entry value (2 * length (keys ps)) value_joined refl value_total value_is in
-      let cut_within = subst AreWithin cut_values.whole all_values.within in
+      let there = content_there bytes (header object_header (length (keys ps))) before_value cut_values.back cut_values.entry value
+      (2 * length (keys ps)) value_joined refl value_total value_is in
+      let cut_within = subst FitEntries cut_values.whole all_values.within in
       let fits = (within-back cut_values.front (cut_values.entry ∷ cut_values.back) cut_within).0 in
       let within_front = within-front cut_values.front (cut_values.entry ∷ cut_values.back) cut_within in
       let within_back = (within-back cut_values.front (cut_values.entry ∷ cut_values.back) cut_within).1 in
@@ -288,58 +430,81 @@ module _ (number_at : Reading) (ps : Pairs) (bytes : List ℕ) (h : Container ob
         kind = cut_values.entry.0;
         content = rw there cut_values.is;
         short = rw there fits.1;
-        within = entry_within bytes (header object_header (length (keys ps))) before_value cut_values.back cut_values.entry value (2 * length (keys ps)) value_joined refl value_total value_is;
-        ordered = pair_in_order bytes (header object_header (length (keys ps))) cut_keys.front cut_keys.back (keys ps) cut_keys.key cut_values.front cut_values.back cut_values.entry key value (2 * length (keys ps)) cut_keys.whole refl both_joined both_total key_is value_is;
+        within = entry_within bytes (header object_header (length (keys ps))) before_value cut_values.back cut_values.entry value
+            (2 * length (keys ps)) value_joined refl value_total value_is;
+        ordered = pair_in_order bytes (header object_header (length (keys ps))) cut_keys.front cut_keys.back
+            (keys ps) cut_keys.key cut_values.front cut_values.back cut_values.entry key value
+            (2 * length (keys ps)) cut_keys.whole refl both_joined both_total key_is value_is;
         cut = λ change gone.
             let are = rw (← values_changed ps n change) at (cut_values.without change gone) in
             let keys_left = cut_keys.without change gone in
             let more : length (keys ps) ≡ suc (length (keys (change_value n change ps))) =
-            omega (arith, ap length keys_left, ap length cut_keys.whole, length-append cut_keys.front cut_keys.back, length-append cut_keys.front (cut_keys.key ∷ cut_keys.back)) in (
+            omega (
+              arith,
+              ap length keys_left,
+              ap length cut_keys.whole,
+              length-append cut_keys.front cut_keys.back,
+              length-append cut_keys.front
+                  (cut_keys.key ∷ cut_keys.back),
+            ) in (
               refl,
               record {
-                words = key_words (keys (change_value n change ps)) ++ kept_words (cut_values.front ++ cut_values.back);
-                contents = key_bytes (keys (change_value n change ps)) ++ kept_contents (cut_values.front ++ cut_values.back);
+                words = key_words (keys (change_value n change ps)) ++ words_of_entries (cut_values.front ++ cut_values.back);
+                contents = key_bytes (keys (change_value n change ps)) ++ contents_of_entries (cut_values.front ++ cut_values.back);
                 headed = record {
                   known = omega arith;
                   fits = omega (arith, counted, more);
                   joined = both _ _ _ _ (header_less object_header (length (keys ps)) (length (keys (change_value n change ps))) m word_is more)
-                      (pair_left_out bytes (header object_header (length (keys ps))) cut_keys.front cut_keys.back (keys ps) cut_keys.key cut_values.front cut_values.back cut_values.entry key value (2 * length (keys ps)) cut_keys.whole refl both_joined both_total key_is value_is (keys (change_value n change ps)) keys_left);
+                      (pair_left_out bytes (header object_header (length (keys ps))) cut_keys.front cut_keys.back
+                      (keys ps) cut_keys.key cut_values.front cut_values.back cut_values.entry key value
+                      (2 * length (keys ps)) cut_keys.whole refl both_joined both_total key_is value_is (keys (change_value n change ps)) keys_left);
                 };
                 parts = record {
-                  value_words = kept_words (cut_values.front ++ cut_values.back);
-                  value_contents = kept_contents (cut_values.front ++ cut_values.back);
+                  value_words = words_of_entries (cut_values.front ++ cut_values.back);
+                  value_contents = contents_of_entries (cut_values.front ++ cut_values.back);
                   words_joined = refl;
                   contents_joined = refl;
                   are_keys = rw keys_left (keys_without cut_keys.front cut_keys.key cut_keys.back (rw cut_keys.whole at h.parts.are_keys));
-                  values = joined_values number_at (change_value n change ps) (cut_values.front ++ cut_values.back) (within-both cut_values.front cut_values.back within_front within_back) are;
+                  values = joined_values number_at (change_value n change ps) (cut_values.front ++ cut_values.back)
+                      (within-both cut_values.front cut_values.back within_front within_back) are;
                 };
               },
             );
-        shorter = omega (arith, pair_shorter bytes (header object_header (length (keys ps))) cut_keys.front cut_keys.back (keys ps) cut_keys.key cut_values.front cut_values.back cut_values.entry key value (2 * length (keys ps)) cut_keys.whole refl both_joined both_total key_is value_is);
+        shorter = omega (
+          arith,
+          pair_shorter bytes (header object_header (length (keys ps))) cut_keys.front cut_keys.back
+              (keys ps) cut_keys.key cut_values.front cut_values.back cut_values.entry key value
+              (2 * length (keys ps)) cut_keys.whole refl both_joined both_total key_is value_is,
+        );
         changed = λ change child' content' made is' no_longer.
             let are = rw (← values_changed ps n change) at (cut_values.changed change child' (container_entry, content') made is') in
             let keys_same = cut_keys.changed change child' made in
             let short : length content' < 2 ^ 28 = omega (arith, fits.1, no_longer, ap length there) in (
               refl,
               record {
-                words = key_words (keys (change_value n change ps)) ++ kept_words (cut_values.front ++ (container_entry, content') ∷ cut_values.back);
-                contents = key_bytes (keys (change_value n change ps)) ++ kept_contents (cut_values.front ++ (container_entry, content') ∷ cut_values.back);
+                words = key_words (keys (change_value n change ps)) ++ words_of_entries (cut_values.front ++ (container_entry, content') ∷ cut_values.back);
+                contents = key_bytes (keys (change_value n change ps))
+                    ++ contents_of_entries (cut_values.front ++ (container_entry, content') ∷ cut_values.back);
                 headed = record {
                   known = omega arith;
                   fits = omega (arith, counted, ap length keys_same);
-                  joined = content_replaced bytes (header object_header (length (keys ps))) before_value cut_values.back cut_values.entry value (2 * length (keys ps)) value_joined refl value_total value_is content'
-                      ∙ both _ _ _ _ (ap (λ ks. header object_header (length ks)) (sym keys_same)) (row_of (keys ps) (keys (change_value n change ps)) cut_values.front ((container_entry, content') ∷ cut_values.back) keys_same);
+                  joined = content_replaced bytes (header object_header (length (keys ps))) before_value cut_values.back cut_values.entry value
+                      (2 * length (keys ps)) value_joined refl value_total value_is content'
+                      ∙ both _ _ _ _ (ap (λ ks. header object_header (length ks)) (sym keys_same))
+                      (row_of (keys ps) (keys (change_value n change ps)) cut_values.front ((container_entry, content') ∷ cut_values.back) keys_same);
                 };
                 parts = record {
-                  value_words = kept_words (cut_values.front ++ (container_entry, content') ∷ cut_values.back);
-                  value_contents = kept_contents (cut_values.front ++ (container_entry, content') ∷ cut_values.back);
+                  value_words = words_of_entries (cut_values.front ++ (container_entry, content') ∷ cut_values.back);
+                  value_contents = contents_of_entries (cut_values.front ++ (container_entry, content') ∷ cut_values.back);
                   words_joined = refl;
                   contents_joined = refl;
                   are_keys = rw keys_same h.parts.are_keys;
-                  values = joined_values number_at (change_value n change ps) (cut_values.front ++ (container_entry, content') ∷ cut_values.back) (within-both cut_values.front ((container_entry, content') ∷ cut_values.back) within_front ((omega arith, short), within_back)) are;
+                  values = joined_values number_at (change_value n change ps) (cut_values.front ++ (container_entry, content') ∷ cut_values.back)
+                      (within-both cut_values.front ((container_entry, content') ∷ cut_values.back) within_front ((omega arith, short), within_back)) are;
                 };
               },
             );
         no_longer = λ content' no_longer.
-            replaced_no_longer bytes (header object_header (length (keys ps))) before_value cut_values.back cut_values.entry value (2 * length (keys ps)) value_joined refl value_total value_is content' (omega (arith, no_longer, ap length there));
+            replaced_no_longer bytes (header object_header (length (keys ps))) before_value cut_values.back cut_values.entry value
+            (2 * length (keys ps)) value_joined refl value_total value_is content' (omega (arith, no_longer, ap length there));
       }

@@ -9,7 +9,7 @@ use Rattle.std.specs.Int.Digits.{digits_of, number_from_digits, number_from_digi
 use Rattle.std.proofs.lemmas.Bool.{cases_order, cases_lt, cases_Bool, eqb-true, eqb-false, and_parts, and_cases}
 use Rattle.std.proofs.lemmas.Bool.Decides.{nat_tests}
 use Rattle.std.proofs.lemmas.Int.Digits.{number_lt, number_digits_of, all_below_base_digits_of, length-digits_of-le}
-use Rattle.jsonb_doc.specs.Comparing.{nat_cmp-lt, nat_cmp-gt, nat_cmp_refl, nat_cmp_places, nat_cmp_scaled}
+use Rattle.jsonb_doc.specs.Proofs.Orderings.{nat_cmp-lt, nat_cmp-gt, nat_cmp_refl, nat_cmp_places, nat_cmp_scaled}
 use Rattle.jsonb_raw.proofs.Ranking.{Ranks, Ranks-nil, Ranks-head, Ranks-append, Ranks-lower, Ranks-higher, Ranks-same_head, Ranks-bytes_high_first}
 use Rattle.jsonb_raw.specs.SortableKey.{significant, magnitude_bytes}
 
@@ -39,14 +39,18 @@ View d ds = ((value (d ∷ ds) ≡ 0) × (marked (d ∷ ds) ≡ 0 ∷ [])) ⊎ (
 
 pub all_zero : (ds : List ℕ) → list_all (λ d. d == 0) ds ≡ true → value ds ≡ 0
 all_zero [] h = refl
-all_zero (d ∷ ds) h = value-cons d ds ∙ nothing d (10 ^ length ds) (value ds) (eqb-true d 0 (and_parts (d == 0) (list_all (λ d. d == 0) ds) h).0) (all_zero ds (and_parts (d == 0) (list_all (λ d. d == 0) ds) h).1)
+all_zero (d ∷ ds) h = value-cons d ds
+    ∙ nothing d (10 ^ length ds) (value ds) (eqb-true d 0 (and_parts (d == 0) (list_all (λ d. d == 0) ds) h).0)
+    (all_zero ds (and_parts (d == 0) (list_all (λ d. d == 0) ds) h).1)
   where
     nothing : (d p v : ℕ) → d ≡ 0 → v ≡ 0 → d * p + v ≡ 0
     nothing d p v e f = rw (e, f) (omega arith)
 
 not_all_zero : (ds : List ℕ) → list_all (λ d. d == 0) ds ≡ false → 0 < value ds
 not_all_zero [] h = absurd (true≢false h)
-not_all_zero (d ∷ ds) h = subst (λ v. 0 < v) (sym (value-cons d ds)) (⊎_elim (λ (e : (d == 0) ≡ false). by_first e) (λ (e : list_all (λ d. d == 0) ds ≡ false). by_rest (not_all_zero ds e)) (and_cases (d == 0) (list_all (λ d. d == 0) ds) h))
+not_all_zero (d ∷ ds) h = subst (λ v. 0 < v) (sym (value-cons d ds))
+    (⊎_elim (λ (e : (d == 0) ≡ false). by_first e) (λ (e : list_all (λ d. d == 0) ds ≡ false). by_rest (not_all_zero ds e))
+    (and_cases (d == 0) (list_all (λ d. d == 0) ds) h))
   where
     by_first : (d == 0) ≡ false → 0 < d * 10 ^ length ds + value ds
     by_first e =
@@ -58,7 +62,8 @@ not_all_zero (d ∷ ds) h = subst (λ v. 0 < v) (sym (value-cons d ds)) (⊎_eli
     by_rest h = omega arith
 
 view : (d : ℕ) (ds : List ℕ) → View d ds
-view d ds = ⊎_elim (λ (e : list_all (λ d. d == 0) (d ∷ ds) ≡ true). inl (all_zero (d ∷ ds) e, rw e)) (λ (e : list_all (λ d. d == 0) (d ∷ ds) ≡ false). inr (not_all_zero (d ∷ ds) e, rw e)) (cases_Bool (list_all (λ d. d == 0) (d ∷ ds)))
+view d ds = ⊎_elim (λ (e : list_all (λ d. d == 0) (d ∷ ds) ≡ true). inl (all_zero (d ∷ ds) e, rw e))
+    (λ (e : list_all (λ d. d == 0) (d ∷ ds) ≡ false). inr (not_all_zero (d ∷ ds) e, rw e)) (cases_Bool (list_all (λ d. d == 0) (d ∷ ds)))
 
 both_end : (xs ys : List ℕ) (a b : ℕ) → xs ≡ 0 ∷ [] → ys ≡ 0 ∷ [] → a ≡ 0 → b ≡ 0 → Ranks xs ys (nat_cmp a b)
 both_end xs ys a b ex ey ea eb = rw (ex, ey, ea, eb) (Ranks-same_head 0 [] [] Equal Ranks-nil)
@@ -77,7 +82,8 @@ scaled_pos : (v k : ℕ) → 0 < v → 0 < v * 10 ^ k
 scaled_pos v k h = mul-pos h (one-le-pow k 10 (omega arith))
 
 -- the first digits decide, and else the other digits, here with the fractions' common scale
-first_digits : (x y v w p q : ℕ) → v < p → w < q → nat_cmp ((x * p + v) * (q * 10)) ((y * q + w) * (p * 10)) ≡ ordering_then (nat_cmp (suc x) (suc y)) (nat_cmp (v * q) (w * p))
+first_digits : (x y v w p q : ℕ) → v < p → w < q
+    → nat_cmp ((x * p + v) * (q * 10)) ((y * q + w) * (p * 10)) ≡ ordering_then (nat_cmp (suc x) (suc y)) (nat_cmp (v * q) (w * p))
 first_digits x y v w p q hv hw =
     ap₂ nat_cmp (regroup x v p q) (regroup y w q p ∙ ap (λ z. (y * z + w * p) * 10) (mul_comm q p))
     ∙ nat_cmp_scaled 10 (x * (p * q) + v * q) (y * (p * q) + w * p) (omega arith)
@@ -88,24 +94,45 @@ first_digits x y v w p q hv hw =
     regroup x v p q = omega arith
 
 -- Two fractions, of the digits behind a point, in one scale.
-pub Ranks-marked : (xs ys : List ℕ) → AllBelowBase 10 xs → AllBelowBase 10 ys → Ranks (marked xs) (marked ys) (nat_cmp (value xs * 10 ^ length ys) (value ys * 10 ^ length xs))
+pub Ranks-marked : (xs ys : List ℕ) → AllBelowBase 10 xs → AllBelowBase 10 ys
+    → Ranks (marked xs) (marked ys) (nat_cmp (value xs * 10 ^ length ys) (value ys * 10 ^ length xs))
 Ranks-marked [] [] hx hy = Ranks-same_head 0 [] [] Equal Ranks-nil
 Ranks-marked [] (y ∷ ys) hx hy = elim (view y ys) [
-  | inl h ↦ both_end (marked []) (marked (y ∷ ys)) (value [] * 10 ^ suc (length ys)) (value (y ∷ ys) * 1) refl h.1 (no_product 0 (10 ^ suc (length ys)) refl) (no_product (value (y ∷ ys)) 1 h.0)
-  | inr h ↦ first_ends (marked []) (marked (y ∷ ys)) (marked ys) y (value [] * 10 ^ suc (length ys)) (value (y ∷ ys) * 1) refl h.1 (no_product 0 (10 ^ suc (length ys)) refl) (scaled_pos (value (y ∷ ys)) 0 h.0)
+  | inl h ↦ both_end (marked []) (marked (y ∷ ys)) (value [] * 10 ^ suc (length ys)) (value (y ∷ ys) * 1) refl h.1 (no_product 0 (10 ^ suc (length ys)) refl)
+      (no_product (value (y ∷ ys)) 1 h.0)
+  | inr h ↦ first_ends (marked []) (marked (y ∷ ys)) (marked ys) y (value [] * 10 ^ suc (length ys)) (value (y ∷ ys) * 1) refl h.1
+      (no_product 0 (10 ^ suc (length ys)) refl) (scaled_pos (value (y ∷ ys)) 0 h.0)
 ]
 Ranks-marked (x ∷ xs) [] hx hy = elim (view x xs) [
-  | inl h ↦ both_end (marked (x ∷ xs)) (marked []) (value (x ∷ xs) * 1) (value [] * 10 ^ suc (length xs)) h.1 refl (no_product (value (x ∷ xs)) 1 h.0) (no_product 0 (10 ^ suc (length xs)) refl)
-  | inr h ↦ second_ends (marked (x ∷ xs)) (marked []) (marked xs) x (value (x ∷ xs) * 1) (value [] * 10 ^ suc (length xs)) h.1 refl (scaled_pos (value (x ∷ xs)) 0 h.0) (no_product 0 (10 ^ suc (length xs)) refl)
+  | inl h ↦ both_end (marked (x ∷ xs)) (marked []) (value (x ∷ xs) * 1) (value [] * 10 ^ suc (length xs)) h.1 refl (no_product (value (x ∷ xs)) 1 h.0)
+      (no_product 0 (10 ^ suc (length xs)) refl)
+  | inr h ↦ second_ends (marked (x ∷ xs)) (marked []) (marked xs) x (value (x ∷ xs) * 1) (value [] * 10 ^ suc (length xs)) h.1 refl
+      (scaled_pos (value (x ∷ xs)) 0 h.0) (no_product 0 (10 ^ suc (length xs)) refl)
 ]
 Ranks-marked (x ∷ xs) (y ∷ ys) hx hy = by_views (view x xs) (view y ys) (Ranks-marked xs ys hx.1 hy.1)
   where
-    by_views : View x xs → View y ys → Ranks (marked xs) (marked ys) (nat_cmp (value xs * 10 ^ length ys) (value ys * 10 ^ length xs)) → Ranks (marked (x ∷ xs)) (marked (y ∷ ys)) (nat_cmp (value (x ∷ xs) * 10 ^ suc (length ys)) (value (y ∷ ys) * 10 ^ suc (length xs)))
-    by_views (inl h) (inl k) more = both_end (marked (x ∷ xs)) (marked (y ∷ ys)) (value (x ∷ xs) * 10 ^ suc (length ys)) (value (y ∷ ys) * 10 ^ suc (length xs)) h.1 k.1 (no_product (value (x ∷ xs)) (10 ^ suc (length ys)) h.0) (no_product (value (y ∷ ys)) (10 ^ suc (length xs)) k.0)
-    by_views (inl h) (inr k) more = first_ends (marked (x ∷ xs)) (marked (y ∷ ys)) (marked ys) y (value (x ∷ xs) * 10 ^ suc (length ys)) (value (y ∷ ys) * 10 ^ suc (length xs)) h.1 k.1 (no_product (value (x ∷ xs)) (10 ^ suc (length ys)) h.0) (scaled_pos (value (y ∷ ys)) (suc (length xs)) k.0)
-    by_views (inr h) (inl k) more = second_ends (marked (x ∷ xs)) (marked (y ∷ ys)) (marked xs) x (value (x ∷ xs) * 10 ^ suc (length ys)) (value (y ∷ ys) * 10 ^ suc (length xs)) h.1 k.1 (scaled_pos (value (x ∷ xs)) (suc (length ys)) h.0) (no_product (value (y ∷ ys)) (10 ^ suc (length xs)) k.0)
+    by_views : View x xs → View y ys → Ranks (marked xs) (marked ys) (nat_cmp (value xs * 10 ^ length ys) (value ys * 10 ^ length xs))
+        → Ranks (marked (x ∷ xs)) (marked (y ∷ ys)) (nat_cmp (value (x ∷ xs) * 10 ^ suc (length ys)) (value (y ∷ ys) * 10 ^ suc (length xs)))
+    by_views (inl h) (inl k) more = both_end (marked (x ∷ xs)) (marked (y ∷ ys)) (value (x ∷ xs) * 10 ^ suc (length ys))
+        (value (y ∷ ys) * 10 ^ suc (length xs)) h.1 k.1 (no_product (value (x ∷ xs)) (10 ^ suc (length ys)) h.0)
+        (no_product (value (y ∷ ys)) (10 ^ suc (length xs)) k.0)
+    by_views (inl h) (inr k) more = first_ends (marked (x ∷ xs)) (marked (y ∷ ys)) (marked ys) y (value (x ∷ xs) * 10 ^ suc (length ys))
+        (value (y ∷ ys) * 10 ^ suc (length xs)) h.1 k.1 (no_product (value (x ∷ xs)) (10 ^ suc (length ys)) h.0)
+        (scaled_pos (value (y ∷ ys)) (suc (length xs)) k.0)
+    by_views (inr h) (inl k) more = second_ends (marked (x ∷ xs)) (marked (y ∷ ys)) (marked xs) x (value (x ∷ xs) * 10 ^ suc (length ys))
+        (value (y ∷ ys) * 10 ^ suc (length xs)) h.1 k.1 (scaled_pos (value (x ∷ xs)) (suc (length ys)) h.0)
+        (no_product (value (y ∷ ys)) (10 ^ suc (length xs)) k.0)
     by_views (inr h) (inr k) more =
-        rw (h.1, k.1, value-cons x xs, value-cons y ys, pow-suc 10 (length xs), pow-suc 10 (length ys), first_digits x y (value xs) (value ys) (10 ^ length xs) (10 ^ length ys) (number_lt 10 xs hx.1) (number_lt 10 ys hy.1))
+        rw (
+          h.1,
+          k.1,
+          value-cons x xs,
+          value-cons y ys,
+          pow-suc 10 (length xs),
+          pow-suc 10 (length ys),
+          first_digits x y (value xs) (value ys) (10 ^ length xs)
+              (10 ^ length ys) (number_lt 10 xs hx.1) (number_lt 10 ys hy.1),
+        )
         (Ranks-head (suc x) (suc y) (marked xs) (marked ys) (nat_cmp (value xs * 10 ^ length ys) (value ys * 10 ^ length xs)) more)
 
 -- a number below its decade, times a power of ten, is below one that begins a later decade
@@ -122,43 +149,66 @@ decades_apart m n s t l k mu nl h =
 pub number_order : (m n s t l k : ℕ) → 10 ^ l ≤ m → m < 10 ^ suc l → 10 ^ k ≤ n → n < 10 ^ suc k → s ≤ 1000 → t ≤ 1000
     → nat_cmp (m * 10 ^ t) (n * 10 ^ s) ≡ ordering_then (nat_cmp (suc l + 1000 - s) (suc k + 1000 - t)) (nat_cmp (m * 10 ^ suc k) (n * 10 ^ suc l))
 number_order m n s t l k ml mu nl nu hs ht =
-    ⊎_elim (λ (e : suc l + t ≡ suc k + s). same e) (λ h. ⊎_elim (λ (h : suc l + t < suc k + s). below h) (λ (h : suc k + s < suc l + t). above h) h) (cases_order (suc l + t) (suc k + s))
+    ⊎_elim (λ (e : suc l + t ≡ suc k + s). same e) (λ h. ⊎_elim (λ (h : suc l + t < suc k + s). below h) (λ (h : suc k + s < suc l + t). above h) h)
+    (cases_order (suc l + t) (suc k + s))
   where
-    below : suc l + t < suc k + s → nat_cmp (m * 10 ^ t) (n * 10 ^ s) ≡ ordering_then (nat_cmp (suc l + 1000 - s) (suc k + 1000 - t)) (nat_cmp (m * 10 ^ suc k) (n * 10 ^ suc l))
-    below h = rw (nat_cmp-lt (m * 10 ^ t) (n * 10 ^ s) (decades_apart m n s t l k mu nl (omega arith)), nat_cmp-lt (suc l + 1000 - s) (suc k + 1000 - t) (omega arith)) refl
+    below : suc l + t < suc k + s
+        → nat_cmp (m * 10 ^ t) (n * 10 ^ s) ≡ ordering_then (nat_cmp (suc l + 1000 - s) (suc k + 1000 - t)) (nat_cmp (m * 10 ^ suc k) (n * 10 ^ suc l))
+    below h = rw (
+      nat_cmp-lt (m * 10 ^ t) (n * 10 ^ s) (decades_apart m n s t l k mu nl (omega arith)),
+      nat_cmp-lt (suc l + 1000 - s) (suc k + 1000 - t)
+          (omega arith),
+    ) refl
 
-    above : suc k + s < suc l + t → nat_cmp (m * 10 ^ t) (n * 10 ^ s) ≡ ordering_then (nat_cmp (suc l + 1000 - s) (suc k + 1000 - t)) (nat_cmp (m * 10 ^ suc k) (n * 10 ^ suc l))
-    above h = rw (nat_cmp-gt (m * 10 ^ t) (n * 10 ^ s) (decades_apart n m t s k l nu ml (omega arith)), nat_cmp-gt (suc l + 1000 - s) (suc k + 1000 - t) (omega arith)) refl
+    above : suc k + s < suc l + t
+        → nat_cmp (m * 10 ^ t) (n * 10 ^ s) ≡ ordering_then (nat_cmp (suc l + 1000 - s) (suc k + 1000 - t)) (nat_cmp (m * 10 ^ suc k) (n * 10 ^ suc l))
+    above h = rw (
+      nat_cmp-gt (m * 10 ^ t) (n * 10 ^ s) (decades_apart n m t s k l nu ml (omega arith)),
+      nat_cmp-gt (suc l + 1000 - s) (suc k + 1000 - t)
+          (omega arith),
+    ) refl
 
     regroup : suc l + t ≡ suc k + s → m * 10 ^ t * 10 ^ suc l ≡ m * 10 ^ suc k * 10 ^ s
-    regroup e = mul_assoc m (10 ^ t) (10 ^ suc l) ∙ ap (λ x. m * x) (sym (pow-add 10 t (suc l)) ∙ ap (λ x. 10 ^ x) (add_comm t (suc l) ∙ e) ∙ pow-add 10 (suc k) s) ∙ sym (mul_assoc m (10 ^ suc k) (10 ^ s))
+    regroup e = mul_assoc m (10 ^ t) (10 ^ suc l)
+        ∙ ap (λ x. m * x) (sym (pow-add 10 t (suc l)) ∙ ap (λ x. 10 ^ x) (add_comm t (suc l) ∙ e) ∙ pow-add 10 (suc k) s)
+        ∙ sym (mul_assoc m (10 ^ suc k) (10 ^ s))
 
-    same : suc l + t ≡ suc k + s → nat_cmp (m * 10 ^ t) (n * 10 ^ s) ≡ ordering_then (nat_cmp (suc l + 1000 - s) (suc k + 1000 - t)) (nat_cmp (m * 10 ^ suc k) (n * 10 ^ suc l))
+    same : suc l + t ≡ suc k + s
+        → nat_cmp (m * 10 ^ t) (n * 10 ^ s) ≡ ordering_then (nat_cmp (suc l + 1000 - s) (suc k + 1000 - t)) (nat_cmp (m * 10 ^ suc k) (n * 10 ^ suc l))
     same e =
         let exponents : suc l + 1000 - s ≡ suc k + 1000 - t = omega arith in
         sym (nat_cmp_scaled (10 ^ suc l) (m * 10 ^ t) (n * 10 ^ s) (one-le-pow (suc l) 10 (omega arith)))
         ∙ ap₂ nat_cmp (regroup e) (mul_right_comm n (10 ^ s) (10 ^ suc l))
         ∙ nat_cmp_scaled (10 ^ s) (m * 10 ^ suc k) (n * 10 ^ suc l) (one-le-pow s 10 (omega arith))
-        ∙ sym (ap (λ o. ordering_then o (nat_cmp (m * 10 ^ suc k) (n * 10 ^ suc l))) (ap (λ x. nat_cmp x (suc k + 1000 - t)) exponents ∙ nat_cmp_refl (suc k + 1000 - t)))
+        ∙ sym (ap (λ o. ordering_then o (nat_cmp (m * 10 ^ suc k) (n * 10 ^ suc l)))
+        (ap (λ x. nat_cmp x (suc k + 1000 - t)) exponents ∙ nat_cmp_refl (suc k + 1000 - t)))
 
 -- the count of a number's digits says between which powers of ten it lies
 decade : (m : ℕ) → 0 < m → (l : ℕ) × (length (digits_of 10 m) ≡ suc l) × (10 ^ l ≤ m) × (m < 10 ^ suc l)
 decade m h = of_length (length (digits_of 10 m)) refl
   where
     upper : m < 10 ^ length (digits_of 10 m)
-    upper = subst (λ x. x < 10 ^ length (digits_of 10 m)) (number_digits_of 10 m (omega arith)) (number_lt 10 (digits_of 10 m) (all_below_base_digits_of 10 m (omega arith)))
+    upper = subst (λ x. x < 10 ^ length (digits_of 10 m)) (number_digits_of 10 m (omega arith))
+        (number_lt 10 (digits_of 10 m) (all_below_base_digits_of 10 m (omega arith)))
 
     of_length : (j : ℕ) → length (digits_of 10 m) ≡ j → (l : ℕ) × (length (digits_of 10 m) ≡ suc l) × (10 ^ l ≤ m) × (m < 10 ^ suc l)
     of_length zero e = absurd (let u : m < 10 ^ zero = subst (λ j. m < 10 ^ j) e upper in omega arith)
-    of_length (suc l) e =
-        (l, e, ⊎_elim (λ (b : m < 10 ^ l). absurd (let c : length (digits_of 10 m) ≤ l = length-digits_of-le 10 l m (omega arith) b in omega arith)) (λ (b : 10 ^ l ≤ m). b) (cases_lt m (10 ^ l)), subst (λ j. m < 10 ^ j) e upper)
+    of_length (suc l) e = (
+      l,
+      e,
+      ⊎_elim (λ (b : m < 10 ^ l). absurd (let c : length (digits_of 10 m) ≤ l = length-digits_of-le 10 l m (omega arith) b in omega arith))
+          (λ (b : 10 ^ l ≤ m). b) (cases_lt m (10 ^ l)),
+      subst (λ j. m < 10 ^ j) e upper,
+    )
 
-pub Ranks-magnitude_bytes : (m n s t : ℕ) → 0 < m → 0 < n → m < 2 ^ 128 → n < 2 ^ 128 → s < 2 ^ 8 → t < 2 ^ 8 → Ranks (magnitude_bytes m s) (magnitude_bytes n t) (nat_cmp (m * 10 ^ t) (n * 10 ^ s))
+pub Ranks-magnitude_bytes : (m n s t : ℕ) → 0 < m → 0 < n → m < 2 ^ 128 → n < 2 ^ 128 → s < 2 ^ 8 → t < 2 ^ 8
+    → Ranks (magnitude_bytes m s) (magnitude_bytes n t) (nat_cmp (m * 10 ^ t) (n * 10 ^ s))
 unfolding magnitude_bytes
 Ranks-magnitude_bytes m n s t m0 n0 hm hn hs ht =
     subst (Ranks (magnitude_bytes m s) (magnitude_bytes n t)) exact
     (Ranks-append (to_be_bytes w16 (count m + 1000 - s)) (to_be_bytes w16 (count n + 1000 - t)) (marked (digits_of 10 m)) (marked (digits_of 10 n))
-    (nat_cmp ((count m + 1000 - s) % 256 ^ 2) ((count n + 1000 - t) % 256 ^ 2)) (nat_cmp (value (digits_of 10 m) * 10 ^ count n) (value (digits_of 10 n) * 10 ^ count m))
+    (nat_cmp ((count m + 1000 - s) % 256 ^ 2) ((count n + 1000 - t) % 256 ^ 2))
+    (nat_cmp (value (digits_of 10 m) * 10 ^ count n) (value (digits_of 10 n) * 10 ^ count m))
     (Ranks-bytes_high_first 2 (count m + 1000 - s) (count n + 1000 - t))
     (Ranks-marked (digits_of 10 m) (digits_of 10 n) (all_below_base_digits_of 10 m (omega arith)) (all_below_base_digits_of 10 n (omega arith))))
   where
@@ -171,7 +221,8 @@ Ranks-magnitude_bytes m n s t m0 n0 hm hn hs ht =
     fits : (x r : ℕ) → x < 2 ^ 128 → (count x + 1000 - r) % 256 ^ 2 ≡ count x + 1000 - r
     fits x r h = let b : count x ≤ 39 = small x h in omega arith
 
-    exact : ordering_then (nat_cmp ((count m + 1000 - s) % 256 ^ 2) ((count n + 1000 - t) % 256 ^ 2)) (nat_cmp (value (digits_of 10 m) * 10 ^ count n) (value (digits_of 10 n) * 10 ^ count m)) ≡ nat_cmp (m * 10 ^ t) (n * 10 ^ s)
+    exact : ordering_then (nat_cmp ((count m + 1000 - s) % 256 ^ 2) ((count n + 1000 - t) % 256 ^ 2))
+        (nat_cmp (value (digits_of 10 m) * 10 ^ count n) (value (digits_of 10 n) * 10 ^ count m)) ≡ nat_cmp (m * 10 ^ t) (n * 10 ^ s)
     exact =
         let d = decade m m0 in
         let e = decade n n0 in

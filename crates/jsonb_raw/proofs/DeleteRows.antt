@@ -2,7 +2,7 @@
 use Rattle.std.specs.Prelude.{◌≡◌, ℕ, pos, negsuc, true, false, List, [], ◌∷◌, refl}
 use Rattle.jsonb_doc.specs.Number.{number_from, uint64}
 use Rattle.jsonb_doc.specs.Tree.{Tree, boolean, number, text, array, object, trees_of, pairs_of}
-use Rattle.jsonb_keypath.specs.KeyPathGrammar.{index, plain_name}
+use Rattle.jsonb_keypath.specs.KeyPathGrammar.{index, unquoted_name}
 use Rattle.jsonb_raw.specs.Deletes.{without}
 use Rattle.jsonb_raw.specs.Exists.{has_all, has_any}
 
@@ -21,7 +21,7 @@ pair = object (pairs_of ((k, text v) ∷ []))
 abbrev row : Tree
 row = array (trees_of (boolean false ∷ ten ∷ pair ∷ []))
 
-without_the_pair : without (index (pos 2) ∷ plain_name k ∷ []) row ≡ array (trees_of (boolean false ∷ ten ∷ object (pairs_of []) ∷ []))
+without_the_pair : without (index (pos 2) ∷ unquoted_name k ∷ []) row ≡ array (trees_of (boolean false ∷ ten ∷ object (pairs_of []) ∷ []))
 without_the_pair = refl
 
 without_the_first : without (index (pos 0) ∷ []) row ≡ array (trees_of (ten ∷ pair ∷ []))

@@ -6,9 +6,9 @@ use Rattle.std.specs.Int.Digits.{digits_of}
 use Rattle.std.proofs.lemmas.List.{map-append}
 use Rattle.std.proofs.lemmas.Bool.{ne_eqb}
 use Rattle.std.proofs.lemmas.Int.Digits.{digits_of_step, length-digits_of_step, length-digits_of-le}
-use Rattle.jsonb_doc.specs.Comparing.{nat_cmp-lt}
+use Rattle.jsonb_doc.specs.Proofs.Orderings.{nat_cmp-lt}
 use Rattle.jsonb_raw.specs.SortableKey.{significant}
-use Rattle.jsonb_raw.specs.Spelling.{signed_byte, signed_bytes}
+use Rattle.jsonb_raw.specs.Private.Complements.{complement_byte, complement_bytes}
 
 pub count_step : (n : ℕ) → 0 < n → length (digits_of 10 (n / 10)) + 1 ≡ length (digits_of 10 n)
 count_step n h = sym (length-digits_of_step 10 n (omega arith) h)
@@ -16,12 +16,15 @@ count_step n h = sym (length-digits_of_step 10 n (omega arith) h)
 pub count_few : (n : ℕ) → n < 2 ^ 128 → length (digits_of 10 n) ≤ 39
 count_few n h = length-digits_of-le 10 39 n (omega arith) (omega arith)
 
-pub digits_pushed : (negative : Bool) (old : List ℕ) (n : ℕ) → 0 < n → (old ++ signed_bytes negative (map suc (digits_of 10 (n / 10)))) ++ signed_byte negative (suc (n % 10)) ∷ [] ≡ old ++ signed_bytes negative (map suc (digits_of 10 n))
+pub digits_pushed : (negative : Bool) (old : List ℕ) (n : ℕ) → 0 < n
+    → (old ++ complement_bytes negative (map suc (digits_of 10 (n / 10)))) ++ complement_byte negative (suc (n % 10)) ∷ []
+    ≡ old ++ complement_bytes negative (map suc (digits_of 10 n))
 digits_pushed negative old n h =
-    append_assoc old (signed_bytes negative (map suc (digits_of 10 (n / 10)))) (signed_byte negative (suc (n % 10)) ∷ [])
+    append_assoc old (complement_bytes negative (map suc (digits_of 10 (n / 10)))) (complement_byte negative (suc (n % 10)) ∷ [])
     ∙ ap (λ x. old ++ x)
-    (sym (map-append (signed_byte negative) (map suc (digits_of 10 (n / 10))) (suc (n % 10) ∷ []))
-    ∙ ap (map (signed_byte negative)) (sym (map-append suc (digits_of 10 (n / 10)) (n % 10 ∷ [])) ∙ ap (map suc) (sym (digits_of_step 10 n (omega arith) h))))
+    (sym (map-append (complement_byte negative) (map suc (digits_of 10 (n / 10))) (suc (n % 10) ∷ []))
+    ∙ ap (map (complement_byte negative))
+    (sym (map-append suc (digits_of 10 (n / 10)) (n % 10 ∷ [])) ∙ ap (map suc) (sym (digits_of_step 10 n (omega arith) h))))
 
 all_zero_behind : (ds : List ℕ) → list_all (λ d. d == 0) (ds ++ 0 ∷ []) ≡ list_all (λ d. d == 0) ds
 all_zero_behind [] = refl
@@ -44,7 +47,8 @@ significant-behind c [] h = ap (λ b. cond (b && true) [] (c ∷ [])) (ne_eqb c 
 significant-behind c (d ∷ ds) h = ap₂ (λ b x. cond b [] (d ∷ x)) (not_all_zero_behind c (d ∷ ds) h) (significant-behind c ds h)
 
 pub significant_step : (n : ℕ) → 0 < n → n % 10 ≡ 0 → significant (digits_of 10 (n / 10)) ≡ significant (digits_of 10 n)
-significant_step n h e = sym (significant-zero_behind (digits_of 10 (n / 10))) ∙ ap (λ d. significant (digits_of 10 (n / 10) ++ d ∷ [])) (sym e) ∙ ap significant (sym (digits_of_step 10 n (omega arith) h))
+significant_step n h e = sym (significant-zero_behind (digits_of 10 (n / 10))) ∙ ap (λ d. significant (digits_of 10 (n / 10) ++ d ∷ [])) (sym e)
+    ∙ ap significant (sym (digits_of_step 10 n (omega arith) h))
 
 pub significant_whole : (n : ℕ) → n % 10 ≢ 0 → significant (digits_of 10 n) ≡ digits_of 10 n
 significant_whole n ne =
@@ -60,7 +64,8 @@ significant-nothing (suc n) e = absurd (omega arith)
 
 pub power_step : (b k : ℕ) → 0 < k → b * 10 * 10 ^ (k - 1) ≡ b * 10 ^ k
 power_step b zero h = absurd (omega arith)
-power_step b (suc k) h = mul_assoc b 10 (10 ^ (suc k - 1)) ∙ ap (λ x. b * x) (ap (λ j. 10 * 10 ^ j) (let e : suc k - 1 ≡ k = omega arith in e) ∙ mul_comm 10 (10 ^ k) ∙ sym (pow-suc 10 k))
+power_step b (suc k) h = mul_assoc b 10 (10 ^ (suc k - 1))
+    ∙ ap (λ x. b * x) (ap (λ j. 10 * 10 ^ j) (let e : suc k - 1 ≡ k = omega arith in e) ∙ mul_comm 10 (10 ^ k) ∙ sym (pow-suc 10 k))
 
 -- a number of 128 bits is below one whose tenfold passes them
 pub below_scaled : (a b k : ℕ) → 0 < k → a < 2 ^ 128 → 2 ^ 128 ≤ b * 10 → Less ≡ nat_cmp a (b * 10 ^ k)

@@ -2,51 +2,52 @@
 use Rattle.std.proofs.Common.{◌≡◌, ℕ, zero, suc, ◌*◌, List, [], ◌∷◌, ◌++◌, length, Option, Some, None, refl, sym, ap, subst, ◌∙◌, arith, append_assoc, slice_get}
 use Rattle.std.specs.Prelude.{⊤}
 use Rattle.jsonb_doc.specs.Tree.{Tree, Trees, no_trees, tree, Pairs, no_pairs, pair, elements, count, keys, values}
-use Rattle.jsonb_doc.specs.Payload.{Reading}
+use Rattle.jsonb_doc.specs.Payload.{NumberReader}
 use Rattle.jsonb_doc.specs.Format.{entry_word, text_entry, key_words, key_bytes, AreKeys, IsContent, AreEntries, AreValues}
 use Rattle.jsonb_doc.specs.Encoding.{EntryParts}
-use Rattle.jsonb_doc.specs.ObjectBuilder.{kept_words, kept_contents}
+use Rattle.jsonb_doc.specs.ObjectBuilder.{words_of_entries, contents_of_entries}
 use Rattle.jsonb_raw.specs.Deletes.{put_tree, put_pair, change_tree, change_value}
-use Rattle.jsonb_raw.specs.Cuts.{AreWithin}
+use Rattle.jsonb_raw.specs.Private.Cuts.{FitEntries}
 pub use Rattle.jsonb_raw.specs.Stripping.{key_entries}
 
 -- ---- entries
 
-pub words-append : (xs ys : List EntryParts) → kept_words (xs ++ ys) ≡ kept_words xs ++ kept_words ys
+pub words-append : (xs ys : List EntryParts) → words_of_entries (xs ++ ys) ≡ words_of_entries xs ++ words_of_entries ys
 words-append [] ys = refl
-words-append (e ∷ xs) ys = ap (λ (w : List ℕ). entry_word e.0 (length e.1) ++ w) (words-append xs ys) ∙ sym (append_assoc (entry_word e.0 (length e.1)) (kept_words xs) (kept_words ys))
+words-append (e ∷ xs) ys = ap (λ (w : List ℕ). entry_word e.0 (length e.1) ++ w) (words-append xs ys)
+    ∙ sym (append_assoc (entry_word e.0 (length e.1)) (words_of_entries xs) (words_of_entries ys))
 
-pub contents-append : (xs ys : List EntryParts) → kept_contents (xs ++ ys) ≡ kept_contents xs ++ kept_contents ys
+pub contents-append : (xs ys : List EntryParts) → contents_of_entries (xs ++ ys) ≡ contents_of_entries xs ++ contents_of_entries ys
 contents-append [] ys = refl
-contents-append (e ∷ xs) ys = ap (λ (w : List ℕ). e.1 ++ w) (contents-append xs ys) ∙ sym (append_assoc e.1 (kept_contents xs) (kept_contents ys))
+contents-append (e ∷ xs) ys = ap (λ (w : List ℕ). e.1 ++ w) (contents-append xs ys) ∙ sym (append_assoc e.1 (contents_of_entries xs) (contents_of_entries ys))
 
-pub length-kept_words : (es : List EntryParts) → length (kept_words es) ≡ 4 * length es
+pub length-kept_words : (es : List EntryParts) → length (words_of_entries es) ≡ 4 * length es
 length-kept_words [] = refl
 length-kept_words (e ∷ es) = omega (arith, length-kept_words es)
 
-pub within-front : (xs ys : List EntryParts) → AreWithin (xs ++ ys) → AreWithin xs
+pub within-front : (xs ys : List EntryParts) → FitEntries (xs ++ ys) → FitEntries xs
 within-front [] ys h = tt
 within-front (e ∷ xs) ys h = (h.0, within-front xs ys h.1)
 
-pub within-back : (xs ys : List EntryParts) → AreWithin (xs ++ ys) → AreWithin ys
+pub within-back : (xs ys : List EntryParts) → FitEntries (xs ++ ys) → FitEntries ys
 within-back [] ys h = h
 within-back (e ∷ xs) ys h = within-back xs ys h.1
 
-pub within-both : (xs ys : List EntryParts) → AreWithin xs → AreWithin ys → AreWithin (xs ++ ys)
+pub within-both : (xs ys : List EntryParts) → FitEntries xs → FitEntries ys → FitEntries (xs ++ ys)
 within-both [] ys h g = g
 within-both (e ∷ xs) ys h g = (h.0, within-both xs ys h.1 g)
 
 -- ---- keys as entries
 
-pub key-words : (ks : List (List ℕ)) → kept_words (key_entries ks) ≡ key_words ks
+pub key-words : (ks : List (List ℕ)) → words_of_entries (key_entries ks) ≡ key_words ks
 key-words [] = refl
 key-words (key ∷ ks) = ap (λ (w : List ℕ). entry_word text_entry (length key) ++ w) (key-words ks)
 
-pub key-contents : (ks : List (List ℕ)) → kept_contents (key_entries ks) ≡ key_bytes ks
+pub key-contents : (ks : List (List ℕ)) → contents_of_entries (key_entries ks) ≡ key_bytes ks
 key-contents [] = refl
 key-contents (key ∷ ks) = ap (λ (w : List ℕ). key ++ w) (key-contents ks)
 
-pub key-within : (ks : List (List ℕ)) → AreKeys ks → AreWithin (key_entries ks)
+pub key-within : (ks : List (List ℕ)) → AreKeys ks → FitEntries (key_entries ks)
 key-within [] h = tt
 key-within (key ∷ ks) h = ((omega arith, h.0.1), key-within ks h.2)
 
@@ -60,7 +61,7 @@ keys-append (key ∷ xs) ys = ap (λ es. (text_entry, key) ∷ es) (keys-append 
 
 -- ---- the entries of trees
 
-module _ (number_at : Reading) where
+module _ (number_at : NumberReader) where
   -- one by one, the entries are those of the trees
   abbrev pub AreOf : Trees → List EntryParts → Type 0
   AreOf no_trees [] = ⊤
@@ -70,10 +71,10 @@ module _ (number_at : Reading) where
 
   pub record Listed (ts : Trees) (words contents : List ℕ) : Type 0 where
     pub entries : List EntryParts
-    pub within : AreWithin entries
+    pub within : FitEntries entries
     pub are : AreOf ts entries
-    pub words_are : words ≡ kept_words entries
-    pub contents_are : contents ≡ kept_contents entries
+    pub words_are : words ≡ words_of_entries entries
+    pub contents_are : contents ≡ contents_of_entries entries
 
   pub listed : (ts : Trees) (words contents : List ℕ) → AreEntries number_at ts words contents → Listed ts words contents
   listed no_trees words contents h = record { entries = []; within = tt; are = tt; words_are = h.0; contents_are = h.1 }
@@ -87,29 +88,30 @@ module _ (number_at : Reading) where
         contents_are = h.begin.contents_joined ∙ ap (λ (w : List ℕ). h.content ++ w) rest.contents_are;
       }
 
-  pub joined : (ts : Trees) (es : List EntryParts) → AreWithin es → AreOf ts es → AreEntries number_at ts (kept_words es) (kept_contents es)
+  pub joined : (ts : Trees) (es : List EntryParts) → FitEntries es → AreOf ts es → AreEntries number_at ts (words_of_entries es) (contents_of_entries es)
   joined no_trees [] within h = (refl, refl)
   joined no_trees (e ∷ es) within h = absurd h
   joined (tree t ts) [] within h = absurd h
   joined (tree t ts) (e ∷ es) within h = record {
     kind = e.0;
     content = e.1;
-    other_words = kept_words es;
-    other_contents = kept_contents es;
+    other_words = words_of_entries es;
+    other_contents = contents_of_entries es;
     begin = record { known = within.0.0; fits = within.0.1; words_joined = refl; contents_joined = refl };
     part = h.0;
     others = joined ts es within.1 h.1;
   }
 
-  pub joined_values : (ps : Pairs) (es : List EntryParts) → AreWithin es → AreOf (values ps) es → AreValues number_at ps (kept_words es) (kept_contents es)
+  pub joined_values : (ps : Pairs) (es : List EntryParts) → FitEntries es → AreOf (values ps) es
+      → AreValues number_at ps (words_of_entries es) (contents_of_entries es)
   joined_values no_pairs [] within h = (refl, refl)
   joined_values no_pairs (e ∷ es) within h = absurd h
   joined_values (pair key t ps) [] within h = absurd h
   joined_values (pair key t ps) (e ∷ es) within h = record {
     kind = e.0;
     content = e.1;
-    other_words = kept_words es;
-    other_contents = kept_contents es;
+    other_words = words_of_entries es;
+    other_contents = contents_of_entries es;
     begin = record { known = within.0.0; fits = within.0.1; words_joined = refl; contents_joined = refl };
     part = h.0;
     others = joined_values ps es within.1 h.1;

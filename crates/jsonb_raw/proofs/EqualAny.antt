@@ -3,7 +3,7 @@ use Rattle.std.proofs.Common.{◌≡◌, ◌||◌, List, [], ◌∷◌, refl, ap
 use Rattle.std.specs.List.{list_any}
 use Rattle.jsonb_doc.specs.Tree.{Tree}
 use Rattle.jsonb_doc.specs.Equal.{is_equal}
-use Rattle.jsonb_doc.specs.EqualLaws.{is_equal_equiv}
+use Rattle.jsonb_doc.specs.Proofs.Equality.{is_equal_equiv}
 
 -- from either side
 pub equals_one : (t : Tree) (us : List Tree) → list_any (is_equal t) us ≡ list_any (λ u. is_equal u t) us

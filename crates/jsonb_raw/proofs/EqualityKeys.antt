@@ -2,12 +2,12 @@
 use Rattle.std.proofs.Common.{◌≡◌, ℕ, suc, ◌%◌, ◌^◌, ◌<◌, List, [], ◌∷◌, ◌++◌, length, refl, sym, ap, ap₂, ◌∙◌, arith, nat_cmp, Bool, true, false, Ordering, Less, Equal, Greater, append_assoc, mod-eq_of_lt}
 use Rattle.std.specs.Int.{bytes_high_first}
 use Rattle.std.specs.Ordering.{ordering_then}
-use Rattle.jsonb_doc.specs.Comparing.{nat_cmp-equal}
+use Rattle.jsonb_doc.specs.Proofs.Orderings.{nat_cmp-equal}
 use Rattle.jsonb_raw.proofs.Ranking.{Ranks, bytes_cmp, same_from_bytes_cmp, bytes_cmp_refl, Ranks-bytes_high_first, Ranks-text_bytes}
 use Rattle.jsonb_raw.proofs.NumberKeys.{Ranks-number_bytes, bounded_from_fits, ranks_alone}
 use Rattle.jsonb_raw.proofs.TreeKeys.{rank_boolean}
 use Rattle.jsonb_doc.proofs.CanonicalLemmas.{extension_back}
-use Rattle.jsonb_doc.proofs.Scalars.{some_injective}
+use Rattle.jsonb_doc.proofs.ScalarLemmas.{some_injective}
 use Rattle.jsonb_doc.specs.Extension.{FitsExtension}
 use Rattle.jsonb_doc.specs.Payload.{canonical, extension_of, extension_payload}
 use Rattle.jsonb_doc.specs.Limits.{Fits, IsShort, HasShortParts, HasShortElements, HasShortValues, IsInRange, AreInRange, ValuesAreInRange}
@@ -88,8 +88,10 @@ same_count k m n r s hm hn e =
     let h = ranks_apart (bytes_high_first k m) (bytes_high_first k n) r s (nat_cmp (m % 256 ^ k) (n % 256 ^ k)) (Ranks-bytes_high_first k m n) e in
     (sym (mod-eq_of_lt hm) ∙ nat_cmp-equal (m % 256 ^ k) (n % 256 ^ k) h.0 ∙ mod-eq_of_lt hn, h.1)
 
-counted : (k m n : ℕ) (xs ys r s : List ℕ) → m < 256 ^ k → n < 256 ^ k → (bytes_high_first k m ++ xs) ++ r ≡ (bytes_high_first k n ++ ys) ++ s → (m ≡ n) × (xs ++ r ≡ ys ++ s)
-counted k m n xs ys r s hm hn e = same_count k m n (xs ++ r) (ys ++ s) hm hn (sym (append_assoc (bytes_high_first k m) xs r) ∙ e ∙ append_assoc (bytes_high_first k n) ys s)
+counted : (k m n : ℕ) (xs ys r s : List ℕ) → m < 256 ^ k → n < 256 ^ k → (bytes_high_first k m ++ xs) ++ r ≡ (bytes_high_first k n ++ ys) ++ s
+    → (m ≡ n) × (xs ++ r ≡ ys ++ s)
+counted k m n xs ys r s hm hn e = same_count k m n (xs ++ r) (ys ++ s) hm hn
+    (sym (append_assoc (bytes_high_first k m) xs r) ∙ e ∙ append_assoc (bytes_high_first k n) ys s)
 
 -- fronts of one length
 same_front : (xs ys r s : List ℕ) → length xs ≡ length ys → xs ++ r ≡ ys ++ s → (xs ≡ ys) × (r ≡ s)
@@ -104,51 +106,63 @@ same_front (x ∷ xs) (y ∷ ys) r s l e =
 mutual
   pub equal_from_keys : (t u : Tree) (r s : List ℕ) → IsKeyable t → IsKeyable u → equality_key t ++ r ≡ equality_key u ++ s → IsEqual t u × (r ≡ s)
   equal_from_keys Tree.null Tree.null r s ht hu e = (tt, (heads 8 8 r s e).1)
-  equal_from_keys (Tree.boolean a) (Tree.boolean b) r s ht hu e = let h = heads (rank (Tree.boolean a)) (rank (Tree.boolean b)) r s e in (same_rank_boolean a b h.0, h.1)
+  equal_from_keys (Tree.boolean a) (Tree.boolean b) r s ht hu e = let h = heads (rank (Tree.boolean a)) (rank (Tree.boolean b)) r s e in
+      (same_rank_boolean a b h.0, h.1)
   equal_from_keys (Tree.number m) (Tree.number n) r s ht hu e =
-      ranks_apart (number_bytes m.whole m.scale) (number_bytes n.whole n.scale) r s (number_cmp m n) (Ranks-number_bytes m.whole n.whole m.scale n.scale (bounded_from_fits m ht) (bounded_from_fits n hu)) (heads 4 4 _ _ e).1
+      ranks_apart (number_bytes m.whole m.scale) (number_bytes n.whole n.scale) r s (number_cmp m n)
+      (Ranks-number_bytes m.whole n.whole m.scale n.scale (bounded_from_fits m ht) (bounded_from_fits n hu)) (heads 4 4 _ _ e).1
   equal_from_keys (Tree.text a) (Tree.text b) r s ht hu e =
       let h = ranks_apart (text_bytes a) (text_bytes b) r s (bytes_cmp a b) (Ranks-text_bytes a b) (heads 5 5 _ _ e).1 in
       (same_from_bytes_cmp a b h.0, h.1)
   equal_from_keys (Tree.extension a) (Tree.extension b) r s ht hu e =
-      let h = counted 8 (length (extension_payload a)) (length (extension_payload b)) (extension_payload a) (extension_payload b) r s (omega (arith, ht.1)) (omega (arith, hu.1)) (heads 1 1 _ _ e).1 in
+      let h = counted 8 (length (extension_payload a)) (length (extension_payload b)) (extension_payload a) (extension_payload b) r s (omega (arith, ht.1))
+      (omega (arith, hu.1)) (heads 1 1 _ _ e).1 in
       let same = same_front (extension_payload a) (extension_payload b) r s h.0 h.1 in
       (some_injective (sym (extension_back a ht.0) ∙ ap extension_of same.0 ∙ extension_back b hu.0), same.1)
   equal_from_keys (Tree.array ts) (Tree.array us) r s ht hu e =
       let h = counted 4 (count ts) (count us) (equality_keys_of_trees ts) (equality_keys_of_trees us) r s (omega arith) (omega arith) (heads 7 7 _ _ e).1 in
       equal_from_keys_of_trees ts us r s ht.1 hu.1 h.0 h.1
   equal_from_keys (Tree.object ps) (Tree.object qs) r s ht hu e =
-      let h = counted 4 (length (keys ps)) (length (keys qs)) (equality_keys_of_pairs ps) (equality_keys_of_pairs qs) r s (omega arith) (omega arith) (heads 6 6 _ _ e).1 in
+      let h = counted 4 (length (keys ps)) (length (keys qs)) (equality_keys_of_pairs ps) (equality_keys_of_pairs qs) r s (omega arith) (omega arith)
+      (heads 6 6 _ _ e).1 in
       equal_from_keys_of_pairs ps qs r s ht.1 hu.1 h.0 h.1
   equal_from_keys t u r s ht hu e = absurd (let h = heads (rank t) (rank u) _ _ e in omega (arith, h.0, rank_boolean))
 
-  pub equal_from_keys_of_trees : (ts us : Trees) (r s : List ℕ) → AreKeyable ts → AreKeyable us → count ts ≡ count us → equality_keys_of_trees ts ++ r ≡ equality_keys_of_trees us ++ s → AreEqual ts us × (r ≡ s)
+  pub equal_from_keys_of_trees : (ts us : Trees) (r s : List ℕ) → AreKeyable ts → AreKeyable us → count ts ≡ count us
+      → equality_keys_of_trees ts ++ r ≡ equality_keys_of_trees us ++ s → AreEqual ts us × (r ≡ s)
   equal_from_keys_of_trees Trees.no_trees Trees.no_trees r s ht hu c e = (tt, e)
   equal_from_keys_of_trees Trees.no_trees (Trees.tree u us) r s ht hu c e = absurd (omega arith)
   equal_from_keys_of_trees (Trees.tree t ts) Trees.no_trees r s ht hu c e = absurd (omega arith)
   equal_from_keys_of_trees (Trees.tree t ts) (Trees.tree u us) r s ht hu c e =
-      let h = equal_from_keys t u (equality_keys_of_trees ts ++ r) (equality_keys_of_trees us ++ s) ht.0 hu.0 (sym (append_assoc (equality_key t) (equality_keys_of_trees ts) r) ∙ e ∙ append_assoc (equality_key u) (equality_keys_of_trees us) s) in
+      let h = equal_from_keys t u (equality_keys_of_trees ts ++ r) (equality_keys_of_trees us ++ s) ht.0 hu.0
+      (sym (append_assoc (equality_key t) (equality_keys_of_trees ts) r) ∙ e ∙ append_assoc (equality_key u) (equality_keys_of_trees us) s) in
       let k = equal_from_keys_of_trees ts us r s ht.1 hu.1 (omega arith) h.1 in
       ((h.0, k.0), k.1)
 
-  pub equal_from_keys_of_pairs : (ps qs : Pairs) (r s : List ℕ) → HasKeyableValues ps → HasKeyableValues qs → length (keys ps) ≡ length (keys qs) → equality_keys_of_pairs ps ++ r ≡ equality_keys_of_pairs qs ++ s → PairsAreEqual ps qs × (r ≡ s)
+  pub equal_from_keys_of_pairs : (ps qs : Pairs) (r s : List ℕ) → HasKeyableValues ps → HasKeyableValues qs → length (keys ps) ≡ length (keys qs)
+      → equality_keys_of_pairs ps ++ r ≡ equality_keys_of_pairs qs ++ s → PairsAreEqual ps qs × (r ≡ s)
   equal_from_keys_of_pairs Pairs.no_pairs Pairs.no_pairs r s ht hu c e = (tt, e)
   equal_from_keys_of_pairs Pairs.no_pairs (Pairs.pair l u qs) r s ht hu c e = absurd (omega arith)
   equal_from_keys_of_pairs (Pairs.pair k t ps) Pairs.no_pairs r s ht hu c e = absurd (omega arith)
   equal_from_keys_of_pairs (Pairs.pair k t ps) (Pairs.pair l u qs) r s ht hu c e =
-      let f = ranks_apart (text_bytes k) (text_bytes l) (equality_key t ++ (equality_keys_of_pairs ps ++ r)) (equality_key u ++ (equality_keys_of_pairs qs ++ s)) (bytes_cmp k l) (Ranks-text_bytes k l) (heads 5 5 _ _ (sym (apart k t ps r) ∙ e ∙ apart l u qs s)).1 in
+      let f = ranks_apart (text_bytes k) (text_bytes l) (equality_key t ++ (equality_keys_of_pairs ps ++ r))
+      (equality_key u ++ (equality_keys_of_pairs qs ++ s)) (bytes_cmp k l) (Ranks-text_bytes k l)
+      (heads 5 5 _ _ (sym (apart k t ps r) ∙ e ∙ apart l u qs s)).1 in
       let h = equal_from_keys t u (equality_keys_of_pairs ps ++ r) (equality_keys_of_pairs qs ++ s) ht.0 hu.0 f.1 in
       let g = equal_from_keys_of_pairs ps qs r s ht.1 hu.1 (omega arith) h.1 in
       ((same_from_bytes_cmp k l f.0, h.0, g.0), g.1)
     where
-      apart : (k : List ℕ) (t : Tree) (ps : Pairs) (r : List ℕ) → equality_keys_of_pairs (Pairs.pair k t ps) ++ r ≡ (5 ∷ text_bytes k) ++ (equality_key t ++ (equality_keys_of_pairs ps ++ r))
-      apart k t ps r = append_assoc (5 ∷ text_bytes k) (equality_key t ++ equality_keys_of_pairs ps) r ∙ ap (λ x. (5 ∷ text_bytes k) ++ x) (append_assoc (equality_key t) (equality_keys_of_pairs ps) r)
+      apart : (k : List ℕ) (t : Tree) (ps : Pairs) (r : List ℕ)
+          → equality_keys_of_pairs (Pairs.pair k t ps) ++ r ≡ (5 ∷ text_bytes k) ++ (equality_key t ++ (equality_keys_of_pairs ps ++ r))
+      apart k t ps r = append_assoc (5 ∷ text_bytes k) (equality_key t ++ equality_keys_of_pairs ps) r
+          ∙ ap (λ x. (5 ∷ text_bytes k) ++ x) (append_assoc (equality_key t) (equality_keys_of_pairs ps) r)
 
 -- numbers of one exact value have one spelling
 same_number : (m n : Number) → FitsNumber m → FitsNumber n → number_cmp m n ≡ Equal → number_bytes m.whole m.scale ≡ number_bytes n.whole n.scale
 same_number m n hm hn e =
     same_from_bytes_cmp (number_bytes m.whole m.scale) (number_bytes n.whole n.scale)
-    (ranks_alone (number_bytes m.whole m.scale) (number_bytes n.whole n.scale) (number_cmp m n) (Ranks-number_bytes m.whole n.whole m.scale n.scale (bounded_from_fits m hm) (bounded_from_fits n hn)) ∙ e)
+    (ranks_alone (number_bytes m.whole m.scale) (number_bytes n.whole n.scale) (number_cmp m n)
+    (Ranks-number_bytes m.whole n.whole m.scale n.scale (bounded_from_fits m hm) (bounded_from_fits n hn)) ∙ e)
 
 same_count_of_trees : (ts us : Trees) → AreEqual ts us → count ts ≡ count us
 same_count_of_trees Trees.no_trees Trees.no_trees h = refl
@@ -167,8 +181,10 @@ mutual
   same_key (Tree.number m) (Tree.number n) ht hu h = ap (λ x. 4 ∷ x) (same_number m n ht hu h)
   same_key (Tree.text a) (Tree.text b) ht hu h = ap (λ b. equality_key (Tree.text b)) h
   same_key (Tree.extension a) (Tree.extension b) ht hu h = ap (λ b. equality_key (Tree.extension b)) h
-  same_key (Tree.array ts) (Tree.array us) ht hu h = ap₂ (λ c x. 7 ∷ bytes_high_first 4 c ++ x) (same_count_of_trees ts us h) (same_keys_of_trees ts us ht.1 hu.1 h)
-  same_key (Tree.object ps) (Tree.object qs) ht hu h = ap₂ (λ c x. 6 ∷ bytes_high_first 4 c ++ x) (same_count_of_pairs ps qs h) (same_keys_of_pairs ps qs ht.1 hu.1 h)
+  same_key (Tree.array ts) (Tree.array us) ht hu h = ap₂ (λ c x. 7 ∷ bytes_high_first 4 c ++ x) (same_count_of_trees ts us h)
+      (same_keys_of_trees ts us ht.1 hu.1 h)
+  same_key (Tree.object ps) (Tree.object qs) ht hu h = ap₂ (λ c x. 6 ∷ bytes_high_first 4 c ++ x) (same_count_of_pairs ps qs h)
+      (same_keys_of_pairs ps qs ht.1 hu.1 h)
   same_key t u ht hu h = absurd h
 
   pub same_keys_of_trees : (ts us : Trees) → AreKeyable ts → AreKeyable us → AreEqual ts us → equality_keys_of_trees ts ≡ equality_keys_of_trees us
@@ -176,7 +192,8 @@ mutual
   same_keys_of_trees (Trees.tree t ts) (Trees.tree u us) ht hu h = ap₂ (λ x y. x ++ y) (same_key t u ht.0 hu.0 h.0) (same_keys_of_trees ts us ht.1 hu.1 h.1)
   same_keys_of_trees ts us ht hu h = absurd h
 
-  pub same_keys_of_pairs : (ps qs : Pairs) → HasKeyableValues ps → HasKeyableValues qs → PairsAreEqual ps qs → equality_keys_of_pairs ps ≡ equality_keys_of_pairs qs
+  pub same_keys_of_pairs : (ps qs : Pairs) → HasKeyableValues ps → HasKeyableValues qs → PairsAreEqual ps qs
+      → equality_keys_of_pairs ps ≡ equality_keys_of_pairs qs
   same_keys_of_pairs Pairs.no_pairs Pairs.no_pairs ht hu h = refl
   same_keys_of_pairs (Pairs.pair k t ps) (Pairs.pair l u qs) ht hu h =
       ap₂ (λ x y. (5 ∷ text_bytes x) ++ y) h.0 (ap₂ (λ x y. x ++ y) (same_key t u ht.0 hu.0 h.1) (same_keys_of_pairs ps qs ht.1 hu.1 h.2))

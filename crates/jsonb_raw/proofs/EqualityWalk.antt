@@ -6,7 +6,7 @@ use Rattle.jsonb_doc.specs.Tree.{Tree, Trees, Pairs, count, keys}
 use Rattle.jsonb_raw.specs.SortableKey.{text_bytes}
 use Rattle.jsonb_raw.specs.EqualityKey.{equality_key, equality_keys_of_trees, equality_keys_of_pairs}
 use Rattle.jsonb_raw.specs.EqualityParts.{equality_start, equality_part_start}
-use Rattle.jsonb_raw.specs.Levels.{Part, parts, parts_of_trees, parts_of_pairs}
+use Rattle.jsonb_raw.specs.Private.Levels.{Part, parts, parts_of_trees, parts_of_pairs}
 use Rattle.jsonb_raw.proofs.LevelLemmas.{count_of_trees, count_of_pairs}
 
 -- ---- the key of a tree by its parts
@@ -54,7 +54,8 @@ walk_begun t old out e =
     ∙ append_assoc old (equality_start t) (keys_of_parts (parts t)) ∙ ap (λ x. old ++ x) (sym (key_split t))
 
 -- a part's start is written, and its own parts are left within
-pub part_begun : (p : Part) (ps : List Part) (ls : List (List Part)) (out out' whole : List ℕ) → out ++ keys_of_levels ((p ∷ ps) ∷ ls) ≡ whole → out' ≡ out ++ equality_part_start p
+pub part_begun : (p : Part) (ps : List Part) (ls : List (List Part)) (out out' whole : List ℕ) → out ++ keys_of_levels ((p ∷ ps) ∷ ls) ≡ whole
+    → out' ≡ out ++ equality_part_start p
     → out' ++ keys_of_levels (parts p.1 ∷ ps ∷ ls) ≡ whole
 part_begun p ps ls out out' whole h e =
     let s = equality_part_start p in
@@ -62,7 +63,8 @@ part_begun p ps ls out out' whole h e =
     let others = keys_of_parts ps in
     let r = keys_of_levels ls in
     ap (λ x. x ++ (k ++ (others ++ r))) e ∙ append_assoc out s (k ++ (others ++ r))
-    ∙ ap (λ x. out ++ x) (sym (append_assoc s k (others ++ r)) ∙ ap (λ x. x ++ (others ++ r)) (sym (part_split p)) ∙ sym (append_assoc (part_key p) others r)) ∙ h
+    ∙ ap (λ x. out ++ x) (sym (append_assoc s k (others ++ r)) ∙ ap (λ x. x ++ (others ++ r)) (sym (part_split p)) ∙ sym (append_assoc (part_key p) others r))
+    ∙ h
 
 -- a part without parts
 pub part_done : (p : Part) (ps : List Part) (ls : List (List Part)) (out out' whole : List ℕ) → parts p.1 ≡ [] → out ++ keys_of_levels ((p ∷ ps) ∷ ls) ≡ whole
@@ -78,8 +80,10 @@ pub only_start : (t : Tree) (old out : List ℕ) → parts t ≡ [] → out ≡ 
 only_start t old out none e = walk_done out (old ++ equality_key t) (rw none at (walk_begun t old out e))
 
 -- the start of a container, whose count is that of its parts
-pub array_started : (old out : List ℕ) (n : ℕ) (ts : Trees) → out ≡ old ++ 7 ∷ to_be_bytes w32 n → n ≡ length (parts_of_trees ts) → out ≡ old ++ equality_start (Tree.array ts)
+pub array_started : (old out : List ℕ) (n : ℕ) (ts : Trees) → out ≡ old ++ 7 ∷ to_be_bytes w32 n → n ≡ length (parts_of_trees ts)
+    → out ≡ old ++ equality_start (Tree.array ts)
 array_started old out n ts e is = e ∙ ap (λ m. old ++ 7 ∷ to_be_bytes w32 m) (is ∙ sym (count_of_trees ts))
 
-pub object_started : (old out : List ℕ) (n : ℕ) (ps : Pairs) → out ≡ old ++ 6 ∷ to_be_bytes w32 n → n ≡ length (parts_of_pairs ps) → out ≡ old ++ equality_start (Tree.object ps)
+pub object_started : (old out : List ℕ) (n : ℕ) (ps : Pairs) → out ≡ old ++ 6 ∷ to_be_bytes w32 n → n ≡ length (parts_of_pairs ps)
+    → out ≡ old ++ equality_start (Tree.object ps)
 object_started old out n ps e is = e ∙ ap (λ m. old ++ 6 ∷ to_be_bytes w32 m) (is ∙ sym (count_of_pairs ps))

@@ -5,7 +5,7 @@ use Rattle.std.specs.Borrow.{Bor}
 use Rattle.std.specs.Str.{bytes_eq}
 use Rattle.jsonb_doc.specs.Tree.{Tree, text, Pairs, no_pairs, pair, keys, value_under}
 use Rattle.jsonb_doc.specs.Payload.{Form}
-use Rattle.jsonb_doc.specs.Item.{Stands}
+use Rattle.jsonb_doc.specs.Item.{StandsFor}
 use Rattle.jsonb_doc.specs.Answer.{SameOption}
 use Rattle.jsonb_doc.specs.declared.item.Item.{Item}
 use Rattle.jsonb_doc.specs.declared.item.Item.TheVariants as item
@@ -35,10 +35,12 @@ key_there {A} R found name ps h = by found (value_under name ps) h ∙ value_the
 
 -- ---- elements
 
-pub text_item : (form : Form) (x : Item) (s : Bor (List ℕ)) (t : Tree) (name : List ℕ) → x ≡ item.String s → Stands form x t → is_text name t ≡ bytes_eq s.now name
+pub text_item : (form : Form) (x : Item) (s : Bor (List ℕ)) (t : Tree) (name : List ℕ) → x ≡ item.String s → StandsFor form x t
+    → is_text name t ≡ bytes_eq s.now name
 text_item form x s t name is stands = let e : t ≡ text s.now = rw is at stands in rw e refl
 
-pub no_text_item : (form : Form) (x : Item) (t : Tree) (name : List ℕ) → ((s : Bor (List ℕ)) → x ≡ item.String s → ⊥) → Stands form x t → is_text name t ≡ false
+pub no_text_item : (form : Form) (x : Item) (t : Tree) (name : List ℕ) → ((s : Bor (List ℕ)) → x ≡ item.String s → ⊥) → StandsFor form x t
+    → is_text name t ≡ false
 no_text_item form item.Null t name not_text h = rw h refl
 no_text_item form (item.Boolean b) t name not_text h = rw h refl
 no_text_item form (item.Number n) t name not_text h = rw h refl

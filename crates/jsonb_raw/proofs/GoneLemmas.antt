@@ -8,10 +8,10 @@ use Rattle.std.proofs.lemmas.Map.Text.{is_eq-slice_cmp}
 use Rattle.jsonb_doc.specs.Tree.{Tree, null, boolean, number, text, extension, array, object, Trees, no_trees, tree, Pairs, no_pairs, pair, elements, keys, values}
 use Rattle.jsonb_doc.specs.Format.{IsBelowFirst, AreKeys}
 use Rattle.jsonb_doc.specs.Limits.{IsInRange, AreInRange, ValuesAreInRange}
-use Rattle.jsonb_doc.proofs.Words.{bytes_eq-true}
-use Rattle.jsonb_keypath.specs.KeyPathGrammar.{Key, index, quoted_name, plain_name}
-use Rattle.jsonb_raw.specs.Places.{children, asked_key, child_position, place, tree_at_steps, index_position}
-use Rattle.jsonb_raw.specs.Deletes.{change_tree, change_value, change_child, take_out}
+use Rattle.jsonb_doc.proofs.WordLemmas.{bytes_eq-true}
+use Rattle.jsonb_keypath.specs.KeyPathGrammar.{Key, index, quoted_name, unquoted_name}
+use Rattle.jsonb_raw.specs.Places.{children, asked_key, child_position, location, tree_at_steps, index_position}
+use Rattle.jsonb_raw.specs.Deletes.{change_tree, change_value, change_child, remove_at}
 use Rattle.jsonb_raw.specs.DeletesLaws.{PairsAreGone}
 use Rattle.jsonb_raw.proofs.PlaceLemmas.{position-cons, step_by_step}
 use Rattle.jsonb_raw.proofs.PositionLemmas.{position_in_object}
@@ -38,26 +38,28 @@ below_all name (key ∷ ks) below rising =
 
 -- where the pair of a key is taken out, no key is that key
 key_gone : (name : List ℕ) (ps : Pairs) (n : ℕ) → AreKeys (keys ps) → position (λ k. bytes_eq k name) (keys ps) ≡ Some n
-    → position (λ k. bytes_eq k name) (keys (change_value n (take_out []) ps)) ≡ None
+    → position (λ k. bytes_eq k name) (keys (change_value n (remove_at []) ps)) ≡ None
 key_gone name no_pairs n rising at = let bad : None ≡ Some n = at in absurd (cc)
 key_gone name (pair key t ps) n rising at = by (λ m e. key_gone name ps m rising.2 e) (bytes_eq key name) refl
   where
     others_gone : Type 0
-    others_gone = (m : ℕ) → position (λ k. bytes_eq k name) (keys ps) ≡ Some m → position (λ k. bytes_eq k name) (keys (change_value m (take_out []) ps)) ≡ None
+    others_gone = (m : ℕ) → position (λ k. bytes_eq k name) (keys ps) ≡ Some m
+        → position (λ k. bytes_eq k name) (keys (change_value m (remove_at []) ps)) ≡ None
 
     behind : others_gone → (o : Option ℕ) → position (λ k. bytes_eq k name) (keys ps) ≡ o → bytes_eq key name ≡ false → option_map suc o ≡ Some n
-        → position (λ k. bytes_eq k name) (keys (change_value n (take_out []) (pair key t ps))) ≡ None
+        → position (λ k. bytes_eq k name) (keys (change_value n (remove_at []) (pair key t ps))) ≡ None
     behind rest None is other e = let bad : None ≡ Some n = e in absurd (cc)
     behind rest (Some m) is other e =
         let e' : suc m ≡ n = cc e in
-        rw (← e') (none_in_front name key (keys (change_value m (take_out []) ps)) other (rest m is))
+        rw (← e') (none_in_front name key (keys (change_value m (remove_at []) ps)) other (rest m is))
 
-    by : others_gone → (b : Bool) → bytes_eq key name ≡ b → position (λ k. bytes_eq k name) (keys (change_value n (take_out []) (pair key t ps))) ≡ None
+    by : others_gone → (b : Bool) → bytes_eq key name ≡ b → position (λ k. bytes_eq k name) (keys (change_value n (remove_at []) (pair key t ps))) ≡ None
     by rest true same =
         let first : 0 ≡ n = cc (sym (position-cons (λ k. bytes_eq k name) key (keys ps) true same) ∙ at) in
         let is : key ≡ name = bytes_eq-true key name same in
         rw (← first, ← is) (below_all key (keys ps) rising.1 rising.2)
-    by rest false other = behind rest (position (λ k. bytes_eq k name) (keys ps)) refl other (sym (position-cons (λ k. bytes_eq k name) key (keys ps) false other) ∙ at)
+    by rest false other = behind rest (position (λ k. bytes_eq k name) (keys ps)) refl other
+        (sym (position-cons (λ k. bytes_eq k name) key (keys ps) false other) ∙ at)
 
 -- ---- a child that is changed, and not taken out
 
@@ -77,7 +79,8 @@ module _ (change : Tree → Option Tree) (child child' : Tree) (changed : change
   element_there (tree t ts) zero at = let e : t ≡ child = cc at in rw (e, changed) refl
   element_there (tree t ts) (suc n) at = element_there ts n at
 
-  value_there : (ps : Pairs) (n : ℕ) → slice_get (elements (values ps)) n ≡ Some child → slice_get (elements (values (change_value n change ps))) n ≡ Some child'
+  value_there : (ps : Pairs) (n : ℕ) → slice_get (elements (values ps)) n ≡ Some child
+      → slice_get (elements (values (change_value n change ps))) n ≡ Some child'
   value_there no_pairs n at = let bad : None ≡ Some child = at in absurd (cc)
   value_there (pair key t ps) zero at = let e : t ≡ child = cc at in rw (e, changed) refl
   value_there (pair key t ps) (suc n) at = value_there ps n at
@@ -92,12 +95,14 @@ module _ (change : Tree → Option Tree) (child child' : Tree) (changed : change
   child_there (extension x) n at = let bad : None ≡ Some child = at in absurd (cc)
 
   -- a step meets the child at the position that it met before
-  same_position : (step : Key) (t : Tree) (n : ℕ) → slice_get (children t) n ≡ Some child → child_position step (change_child n change t) ≡ child_position step t
+  same_position : (step : Key) (t : Tree) (n : ℕ) → slice_get (children t) n ≡ Some child
+      → child_position step (change_child n change t) ≡ child_position step t
   same_position (index i) (array ts) n at = ap (λ len. index_position len i) (same_count ts n at)
   same_position (quoted_name name) (array ts) n at = refl
-  same_position (plain_name name) (array ts) n at = refl
+  same_position (unquoted_name name) (array ts) n at = refl
   same_position step (object ps) n at =
-      position_in_object step (change_value n change ps) ∙ ap (position (λ key. bytes_eq key (asked_key step))) (same_keys ps n at) ∙ sym (position_in_object step ps)
+      position_in_object step (change_value n change ps) ∙ ap (position (λ key. bytes_eq key (asked_key step))) (same_keys ps n at)
+      ∙ sym (position_in_object step ps)
   same_position step null n at = refl
   same_position step (boolean b) n at = refl
   same_position step (number m) n at = refl
@@ -135,73 +140,76 @@ pub record FirstMet (step : Key) (steps : List Key) (t : Tree) (ns : List ℕ) :
   pub split : ns ≡ at ∷ others
   pub meets : child_position step t ≡ Some at
   pub is : slice_get (children t) at ≡ Some child
-  pub placed : place steps child ≡ Some others
+  pub placed : location steps child ≡ Some others
 
-pub first_met : (step : Key) (steps : List Key) (t : Tree) (ns : List ℕ) → place (step ∷ steps) t ≡ Some ns → FirstMet step steps t ns
+pub first_met : (step : Key) (steps : List Key) (t : Tree) (ns : List ℕ) → location (step ∷ steps) t ≡ Some ns → FirstMet step steps t ns
 first_met step steps t ns e = at_position (child_position step t) refl e
   where
-    placed : (n : ℕ) (child : Tree) (o : Option (List ℕ)) → child_position step t ≡ Some n → slice_get (children t) n ≡ Some child → place steps child ≡ o
+    placed : (n : ℕ) (child : Tree) (o : Option (List ℕ)) → child_position step t ≡ Some n → slice_get (children t) n ≡ Some child → location steps child ≡ o
         → option_map (λ ms. n ∷ ms) o ≡ Some ns → FirstMet step steps t ns
     placed n child None meets is at h = let bad : None ≡ Some ns = h in absurd (cc)
     placed n child (Some ms) meets is at h =
         record { at = n; child = child; others = ms; split = cc h; meets = meets; is = is; placed = at }
 
     at_child : (n : ℕ) (o : Option Tree) → child_position step t ≡ Some n → slice_get (children t) n ≡ o
-        → option_map (λ ms. n ∷ ms) (option_and_then (place steps) o) ≡ Some ns → FirstMet step steps t ns
+        → option_map (λ ms. n ∷ ms) (option_and_then (location steps) o) ≡ Some ns → FirstMet step steps t ns
     at_child n None meets is h = let bad : None ≡ Some ns = h in absurd (cc)
-    at_child n (Some child) meets is h = placed n child (place steps child) meets is refl h
+    at_child n (Some child) meets is h = placed n child (location steps child) meets is refl h
 
     at_position : (o : Option ℕ) → child_position step t ≡ o
-        → option_and_then (λ n. option_map (λ ms. n ∷ ms) (option_and_then (place steps) (slice_get (children t) n))) o ≡ Some ns → FirstMet step steps t ns
+        → option_and_then (λ n. option_map (λ ms. n ∷ ms) (option_and_then (location steps) (slice_get (children t) n))) o ≡ Some ns → FirstMet step steps t ns
     at_position None meets h = let bad : None ≡ Some ns = h in absurd (cc)
     at_position (Some n) meets h = at_child n (slice_get (children t) n) meets refl h
 
 -- ---- the law
 
-taken_last : (n : ℕ) (ns others : List ℕ) (t t' : Tree) → ns ≡ n ∷ others → [] ≡ others → take_out ns t ≡ Some t' → change_child n (take_out []) t ≡ t'
+taken_last : (n : ℕ) (ns others : List ℕ) (t t' : Tree) → ns ≡ n ∷ others → [] ≡ others → remove_at ns t ≡ Some t' → change_child n (remove_at []) t ≡ t'
 taken_last n ns others t t' split end out = cc (rw (split, ← end) at out)
 
-taken_first : (n : ℕ) (ns others : List ℕ) (t t' : Tree) → ns ≡ n ∷ others → take_out ns t ≡ Some t' → change_child n (take_out others) t ≡ t'
+taken_first : (n : ℕ) (ns others : List ℕ) (t t' : Tree) → ns ≡ n ∷ others → remove_at ns t ≡ Some t' → change_child n (remove_at others) t ≡ t'
 taken_first n ns others t t' split out = cc (rw split at out)
 
-taken_some : (n : ℕ) (ns others : List ℕ) (t : Tree) → ns ≡ n ∷ others → take_out ns t ≡ Some (change_child n (take_out others) t)
+taken_some : (n : ℕ) (ns others : List ℕ) (t : Tree) → ns ≡ n ∷ others → remove_at ns t ≡ Some (change_child n (remove_at others) t)
 taken_some n ns others t split = rw split refl
 
-in_object : (last : Key) (t : Tree) (ps : Pairs) (n : ℕ) → t ≡ object ps → child_position last t ≡ Some n → position (λ key. bytes_eq key (asked_key last)) (keys ps) ≡ Some n
+in_object : (last : Key) (t : Tree) (ps : Pairs) (n : ℕ) → t ≡ object ps → child_position last t ≡ Some n
+    → position (λ key. bytes_eq key (asked_key last)) (keys ps) ≡ Some n
 in_object last t ps n is at = sym (position_in_object last ps) ∙ rw is at at
 
-object_left : (t t' : Tree) (ps : Pairs) (n : ℕ) → t ≡ object ps → change_child n (take_out []) t ≡ t' → object (change_value n (take_out []) ps) ≡ t'
+object_left : (t t' : Tree) (ps : Pairs) (n : ℕ) → t ≡ object ps → change_child n (remove_at []) t ≡ t' → object (change_value n (remove_at []) ps) ≡ t'
 object_left t t' ps n is left = rw is at left
 
-inner_parent : (step : Key) (steps : List Key) (t child : Tree) (n : ℕ) (wanted : Option Tree) → child_position step t ≡ Some n → slice_get (children t) n ≡ Some child
+inner_parent : (step : Key) (steps : List Key) (t child : Tree) (n : ℕ) (wanted : Option Tree) → child_position step t ≡ Some n
+    → slice_get (children t) n ≡ Some child
     → tree_at_steps (step ∷ steps) t ≡ wanted → tree_at_steps steps child ≡ wanted
 inner_parent step steps t child n wanted meets is e = rw (meets, is) at (sym (step_by_step step steps t) ∙ e)
 
-goes_on : (step : Key) (steps : List Key) (t child : Tree) (n : ℕ) → child_position step t ≡ Some n → slice_get (children t) n ≡ Some child → place steps child ≡ None
-    → place (step ∷ steps) t ≡ None
+goes_on : (step : Key) (steps : List Key) (t child : Tree) (n : ℕ) → child_position step t ≡ Some n → slice_get (children t) n ≡ Some child
+    → location steps child ≡ None
+    → location (step ∷ steps) t ≡ None
 goes_on step steps t child n meets is none = rw (meets, is, none) refl
 
 -- the last step meets no key of the object any more
-last_gone : (last : Key) (t : Tree) (ps : Pairs) (ns : List ℕ) → AreKeys (keys ps) → t ≡ object ps → place (last ∷ []) t ≡ Some ns → (t' : Tree)
-    → take_out ns t ≡ Some t' → place (last ∷ []) t' ≡ None
+last_gone : (last : Key) (t : Tree) (ps : Pairs) (ns : List ℕ) → AreKeys (keys ps) → t ≡ object ps → location (last ∷ []) t ≡ Some ns → (t' : Tree)
+    → remove_at ns t ≡ Some t' → location (last ∷ []) t' ≡ None
 last_gone last t ps ns rising is met t' out =
     let f = first_met last [] t ns met in
     let end : [] ≡ f.others = cc f.placed in
     let left = object_left t t' ps f.at is (taken_last f.at ns f.others t t' f.split end out) in
     let gone = key_gone (asked_key last) ps f.at rising (in_object last t ps f.at is f.meets) in
-    let none = position_in_object last (change_value f.at (take_out []) ps) ∙ gone in
-    subst (λ (u : Tree). place (last ∷ []) u ≡ None) left (no_child (object (change_value f.at (take_out []) ps)) none)
+    let none = position_in_object last (change_value f.at (remove_at []) ps) ∙ gone in
+    subst (λ (u : Tree). location (last ∷ []) u ≡ None) left (no_child (object (change_value f.at (remove_at []) ps)) none)
   where
-    no_child : (u : Tree) → child_position last u ≡ None → place (last ∷ []) u ≡ None
+    no_child : (u : Tree) → child_position last u ≡ None → location (last ∷ []) u ≡ None
     no_child u none = rw none refl
 
 -- places of some steps have a position
-some_positions : (front : List Key) (last : Key) (t : Tree) (ns : List ℕ) → place (front ++ last ∷ []) t ≡ Some ns → (n : ℕ) × (ms : List ℕ) × (ns ≡ n ∷ ms)
+some_positions : (front : List Key) (last : Key) (t : Tree) (ns : List ℕ) → location (front ++ last ∷ []) t ≡ Some ns → (n : ℕ) × (ms : List ℕ) × (ns ≡ n ∷ ms)
 some_positions [] last t ns met = let f = first_met last [] t ns met in (f.at, f.others, f.split)
 some_positions (step ∷ front) last t ns met = let f = first_met step (front ++ last ∷ []) t ns met in (f.at, f.others, f.split)
 
 gone : (front : List Key) (last : Key) (t : Tree) (ps : Pairs) (ns : List ℕ) → IsInRange t → tree_at_steps front t ≡ Some (object ps)
-    → place (front ++ last ∷ []) t ≡ Some ns → (t' : Tree) → take_out ns t ≡ Some t' → place (front ++ last ∷ []) t' ≡ None
+    → location (front ++ last ∷ []) t ≡ Some ns → (t' : Tree) → remove_at ns t ≡ Some t' → location (front ++ last ∷ []) t' ≡ None
 gone [] last t ps ns fits parent met t' out =
     let is : t ≡ object ps = cc parent in
     let fits' : IsInRange (object ps) = rw is at fits in
@@ -212,20 +220,22 @@ gone (step ∷ front) last t ps ns fits parent met t' out =
     let taken = taken_some some.0 f.others some.1 f.child some.2 in
     let below = inner_parent step front t f.child f.at _ f.meets f.is parent in
     let rest = gone front last f.child ps f.others (child_in_range t f.at f.child fits f.is) below f.placed _ taken in
-    let meets = same_position (take_out f.others) f.child _ taken step t f.at f.is ∙ f.meets in
-    let there = child_there (take_out f.others) f.child _ taken t f.at f.is in
+    let meets = same_position (remove_at f.others) f.child _ taken step t f.at f.is ∙ f.meets in
+    let there = child_there (remove_at f.others) f.child _ taken t f.at f.is in
     let here = goes_on step (front ++ last ∷ []) _ _ f.at meets there rest in
-    subst (λ (u : Tree). place (step ∷ (front ++ last ∷ [])) u ≡ None) (taken_first f.at ns f.others t t' f.split out) here
+    subst (λ (u : Tree). location (step ∷ (front ++ last ∷ [])) u ≡ None) (taken_first f.at ns f.others t t' f.split out) here
 
 pub pairs_are_gone : PairsAreGone
-pairs_are_gone t fits front last ps parent = by (place (front ++ last ∷ []) t) refl
+pairs_are_gone t fits front last ps parent = by (location (front ++ last ∷ []) t) refl
   where
-    left : (o : Option Tree) (ns : List ℕ) → take_out ns t ≡ o → place (front ++ last ∷ []) t ≡ Some ns → place (front ++ last ∷ []) (unwrap_or o t) ≡ None
+    left : (o : Option Tree) (ns : List ℕ) → remove_at ns t ≡ o → location (front ++ last ∷ []) t ≡ Some ns
+        → location (front ++ last ∷ []) (unwrap_or o t) ≡ None
     left None ns out met =
         let some = some_positions front last t ns met in
-        let bad : Some (change_child some.0 (take_out some.1) t) ≡ None = rw some.2 at out in absurd (cc)
+        let bad : Some (change_child some.0 (remove_at some.1) t) ≡ None = rw some.2 at out in absurd (cc)
     left (Some t') ns out met = gone front last t ps ns fits.0 parent met t' out
 
-    by : (o : Option (List ℕ)) → place (front ++ last ∷ []) t ≡ o → place (front ++ last ∷ []) (unwrap_or (option_and_then (λ ns. take_out ns t) o) t) ≡ None
+    by : (o : Option (List ℕ)) → location (front ++ last ∷ []) t ≡ o
+        → location (front ++ last ∷ []) (unwrap_or (option_and_then (λ ns. remove_at ns t) o) t) ≡ None
     by None none = none
-    by (Some ns) met = left (take_out ns t) ns refl met
+    by (Some ns) met = left (remove_at ns t) ns refl met

@@ -11,7 +11,7 @@ use Rattle.jsonb_doc.specs.Equal.{are_equal, pairs_are_equal}
 use Rattle.jsonb_doc.specs.Payload.{Form}
 use Rattle.jsonb_doc.specs.Elements.{TakesElement, GivesElement}
 use Rattle.jsonb_doc.specs.ObjectPairs.{TakesPair, GivesPair}
-use Rattle.jsonb_raw.proofs.Left.{SomeElements, SomePairs}
+use Rattle.jsonb_raw.proofs.IteratorItems.{SomeElements, SomePairs}
 
 pub told_none : (b : Bool) → false ≡ not b → b ≡ true
 told_none true e = refl
@@ -21,7 +21,8 @@ pub told_some : (b : Bool) → true ≡ not b → b ≡ false
 told_some true e = absurd (cc)
 told_some false e = refl
 
-none_are_equal : (form : Form) (it' : ElementIter) (r : Option (Result Item Error)) (b : Bool) (us : Trees) → is_some r ≡ not b → TakesElement form us r it' → b ≡ are_equal no_trees us
+none_are_equal : (form : Form) (it' : ElementIter) (r : Option (Result Item Error)) (b : Bool) (us : Trees) → is_some r ≡ not b → TakesElement form us r it'
+    → b ≡ are_equal no_trees us
 none_are_equal form it' None b no_trees e h = told_none b e
 none_are_equal form it' (Some r) b no_trees e h = absurd h
 none_are_equal form it' None b (tree u us) e h = absurd h
@@ -32,7 +33,8 @@ pub elements_ended : (form : Form) (it it' : ElementIter) (r : Option (Result It
     → SomeElements form it (λ right. are_equal no_trees right ≡ whole) → b ≡ whole
 elements_ended form it it' r b whole e n s = none_are_equal form it' r b s.trees e (n.takes form s.trees s.left) ∙ s.fact
 
-no_pairs_are_equal : (form : Form) (it' : PairIter) (r : Option (Result (Bor (List ℕ) × Item) Error)) (b : Bool) (qs : Pairs) → is_some r ≡ not b → TakesPair form qs r it' → b ≡ pairs_are_equal no_pairs qs
+no_pairs_are_equal : (form : Form) (it' : PairIter) (r : Option (Result (Bor (List ℕ) × Item) Error)) (b : Bool) (qs : Pairs) → is_some r ≡ not b
+    → TakesPair form qs r it' → b ≡ pairs_are_equal no_pairs qs
 no_pairs_are_equal form it' None b no_pairs e h = told_none b e
 no_pairs_are_equal form it' (Some r) b no_pairs e h = absurd h
 no_pairs_are_equal form it' None b (pair k u qs) e h = absurd h

@@ -7,11 +7,11 @@ use Rattle.std.proofs.lemmas.List.{length-append}
 use Rattle.std.proofs.lemmas.List.Elements.{All-cons, All-nil}
 use Rattle.std.proofs.lemmas.Map.Entries.{length-keys_of, length-values_of}
 use Rattle.jsonb_doc.specs.Tree.{Tree, object, Pairs, no_pairs, pair, keys, members, pairs_of}
-use Rattle.jsonb_doc.specs.Payload.{Form, reading}
-use Rattle.jsonb_doc.specs.Format.{Decodes, IsContent, AreValues, AreKeys, Container, Members, header, object_header, text_entry, entry_word, key_words, key_bytes}
+use Rattle.jsonb_doc.specs.Payload.{Form, number_reader}
+use Rattle.jsonb_doc.specs.Format.{Decodes, IsContent, AreValues, AreKeys, IsContainer, AreMembers, header, object_header, text_entry, entry_word, key_words, key_bytes}
 use Rattle.jsonb_doc.specs.Limits.{IsShort, AreShortKeys, HasShortValues, IsTooLarge}
 use Rattle.jsonb_doc.specs.Encoding.{EntryParts}
-use Rattle.jsonb_doc.specs.ObjectBuilder.{IsWithin, HoldsPairs, insert_pair, kept_words, kept_contents, object_bytes}
+use Rattle.jsonb_doc.specs.ObjectBuilder.{FitsEntry, HoldsPairs, insert_pair, words_of_entries, contents_of_entries, object_bytes}
 use Rattle.jsonb_doc.proofs.Containers.{object_document}
 use Rattle.jsonb_doc.proofs.ObjectLemmas.{held_inserted, object_decodes}
 use Rattle.jsonb_doc.proofs.Sizes.{size_within}
@@ -19,8 +19,8 @@ use Rattle.jsonb_doc.proofs.TreeLists.{keys-pairs_of, keys_of-members}
 use Rattle.jsonb_raw.specs.declared.functions.object.pair_parts.PairPlace.{PairPlace}
 use Rattle.jsonb_raw.specs.declared.functions.object.pair_parts.KeptEntries.{KeptEntries}
 use Rattle.jsonb_raw.specs.declared.functions.object.pair_parts.RootEntry.{RootEntry}
-use Rattle.jsonb_raw.specs.Cuts.{AreWithin}
-use Rattle.jsonb_raw.specs.Inserts.{IsPlaceAmong, IsCutAt, AreKept, word_row, content_row}
+use Rattle.jsonb_raw.specs.Private.Cuts.{FitEntries}
+use Rattle.jsonb_raw.specs.Private.Inserts.{IsPlaceAmong, IsCutAt, AreKept, word_row, content_row}
 use Rattle.jsonb_raw.proofs.EntryLists.{words-append, contents-append, within-front, within-back, within-both, key_entries, key-words, key-contents, key-within, key-count, keys-append}
 use Rattle.jsonb_raw.proofs.InsertPlaces.{inserted_at, keys_at}
 
@@ -30,11 +30,11 @@ pub record HeldEntries (form : Form) (ps : Pairs) (words contents : List ℕ) : 
   pub entries : List (List ℕ × EntryParts)
   pub holds : HoldsPairs form entries (members ps)
   pub keys_are : keys_of entries ≡ keys ps
-  pub within : AreWithin (values_of entries)
-  pub words_are : words ≡ kept_words (values_of entries)
-  pub contents_are : contents ≡ kept_contents (values_of entries)
+  pub within : FitEntries (values_of entries)
+  pub words_are : words ≡ words_of_entries (values_of entries)
+  pub contents_are : contents ≡ contents_of_entries (values_of entries)
 
-held_entries : (form : Form) (ps : Pairs) (words contents : List ℕ) → AreValues (reading form) ps words contents → HeldEntries form ps words contents
+held_entries : (form : Form) (ps : Pairs) (words contents : List ℕ) → AreValues (number_reader form) ps words contents → HeldEntries form ps words contents
 held_entries form no_pairs words contents h =
     record { entries = []; holds = tt; keys_are = refl; within = tt; words_are = h.0; contents_are = h.1 }
 held_entries form (pair key t ps) words contents h =
@@ -48,9 +48,9 @@ held_entries form (pair key t ps) words contents h =
       contents_are = h.begin.contents_joined ∙ ap (λ (w : List ℕ). h.content ++ w) rest.contents_are;
     }
 
-all_within : (es : List EntryParts) → AreWithin es → All IsWithin es
-all_within [] within = All-nil IsWithin
-all_within (e ∷ es) within = All-cons IsWithin e es within.0 (all_within es within.1)
+all_within : (es : List EntryParts) → FitEntries es → All FitsEntry es
+all_within [] within = All-nil FitsEntry
+all_within (e ∷ es) within = All-cons FitsEntry e es within.0 (all_within es within.1)
 
 -- ---- pairs split by their keys
 
@@ -86,7 +86,8 @@ pub record SplitAround {A : Type 0} (ps : List (List ℕ × A)) (front_keys ther
   pub there_are : keys_of there ≡ there_keys
   pub back_are : keys_of back ≡ back_keys
 
-split_around : {A : Type 0} (ps : List (List ℕ × A)) (front there back : List (List ℕ)) → keys_of ps ≡ front ++ (there ++ back) → SplitAround ps front there back
+split_around : {A : Type 0} (ps : List (List ℕ × A)) (front there back : List (List ℕ)) → keys_of ps ≡ front ++ (there ++ back)
+    → SplitAround ps front there back
 split_around ps front there back e =
     let first = split_at ps front (there ++ back) e in
     let second = split_at first.back there back first.back_are in
@@ -120,7 +121,8 @@ in_order : (h wa wk wm wn wv wb ca k cm cn v cb : List ℕ)
 in_order h wa wk wm wn wv wb ca k cm cn v cb = simp append_assoc
 
 parts_same : (h wk wv k v : List ℕ) {wa wm wb ca cm cb wa' wm' wb' ca' cm' cb' : List ℕ} → wa ≡ wa' → wm ≡ wm' → wb ≡ wb' → ca ≡ ca' → cm ≡ cm' → cb ≡ cb'
-    → (h ++ (wa ++ (wk ++ (wm ++ (wv ++ wb))))) ++ (ca ++ (k ++ (cm ++ (v ++ cb)))) ≡ (h ++ (wa' ++ (wk ++ (wm' ++ (wv ++ wb'))))) ++ (ca' ++ (k ++ (cm' ++ (v ++ cb'))))
+    → (h ++ (wa ++ (wk ++ (wm ++ (wv ++ wb))))) ++ (ca ++ (k ++ (cm ++ (v ++ cb))))
+    ≡ (h ++ (wa' ++ (wk ++ (wm' ++ (wv ++ wb'))))) ++ (ca' ++ (k ++ (cm' ++ (v ++ cb'))))
 parts_same h wk wv k v a b c d e f = rw (a, b, c, d, e, f) refl
 
 halves_same : {h a b c d h' a' b' c' d' : List ℕ} → h ≡ h' → a ≡ a' → b ≡ b' → c ≡ c' → d ≡ d' → h ++ ((a ++ b) ++ (c ++ d)) ≡ h' ++ ((a' ++ b') ++ (c' ++ d'))
@@ -132,15 +134,17 @@ short_key : (key : List ℕ) (t : Tree) (front back : List (List ℕ × Tree)) �
 short_key key t [] back h = h.0
 short_key key t (p ∷ front) back h = short_key key t front back h.1
 
-short_value : (form : Form) (key : List ℕ) (t : Tree) (front back : List (List ℕ × Tree)) → HasShortValues form (pairs_of (front ++ (key, t) ∷ back)) → IsShort form t
+short_value : (form : Form) (key : List ℕ) (t : Tree) (front back : List (List ℕ × Tree)) → HasShortValues form (pairs_of (front ++ (key, t) ∷ back))
+    → IsShort form t
 short_value form key t [] back h = h.0
 short_value form key t (p ∷ front) back h = short_value form key t front back h.2
 
 -- ---- an object with a pair more
 
-module _ (form : Form) (bytes : List ℕ) (ps : Pairs) (d : Decodes form bytes (object ps)) (place : PairPlace) (name : List ℕ) (at : IsPlaceAmong place name (keys ps)) where
-  pub container : Container object_header (length (keys ps)) (Members (keys ps) (AreValues (reading form) ps)) bytes
-  container = (object_document (reading form) ps bytes d.document).1
+module _ (form : Form) (bytes : List ℕ) (ps : Pairs) (d : Decodes form bytes (object ps)) (place : PairPlace) (name : List ℕ)
+    (at : IsPlaceAmong place name (keys ps)) where
+  pub container : IsContainer object_header (length (keys ps)) (AreMembers (keys ps) (AreValues (number_reader form) ps)) bytes
+  container = (object_document (number_reader form) ps bytes d.document).1
 
   pub held : HeldEntries form ps container.parts.value_words container.parts.value_contents
   held = held_entries form ps container.parts.value_words container.parts.value_contents container.parts.values
@@ -180,13 +184,22 @@ module _ (form : Form) (bytes : List ℕ) (ps : Pairs) (d : Decodes form bytes (
   between_count = omega (arith, length-append (key_entries at.back) (values_of split.front), key-count at.back, length-values_of split.front, front_count)
 
   row : key_entries (keys ps) ++ values_of held.entries ≡ before ++ (key_there ++ (between ++ (value_there ++ behind)))
-  row = rw (at.joined, split.joined, keys-append at.front (at.there ++ at.back), keys-append at.there at.back, values-append split.front (split.there ++ split.back), values-append split.there split.back)
+  row = rw (
+    at.joined,
+    split.joined,
+    keys-append at.front (at.there ++ at.back),
+    keys-append at.there at.back,
+    values-append split.front
+        (split.there ++ split.back),
+    values-append split.there split.back,
+  )
       (simp append_assoc)
 
-  row_within : AreWithin (key_entries (keys ps) ++ values_of held.entries)
+  row_within : FitEntries (key_entries (keys ps) ++ values_of held.entries)
   row_within = within-both (key_entries (keys ps)) (values_of held.entries) (key-within (keys ps) container.parts.are_keys) held.within
 
-  row_bytes : bytes ≡ header object_header (length (keys ps)) ++ (kept_words (key_entries (keys ps) ++ values_of held.entries) ++ kept_contents (key_entries (keys ps) ++ values_of held.entries))
+  row_bytes : bytes ≡ header object_header (length (keys ps))
+      ++ (words_of_entries (key_entries (keys ps) ++ values_of held.entries) ++ contents_of_entries (key_entries (keys ps) ++ values_of held.entries))
   row_bytes = container.headed.joined ∙ rw (
     container.parts.words_joined,
     container.parts.contents_joined,
@@ -198,7 +211,8 @@ module _ (form : Form) (bytes : List ℕ) (ps : Pairs) (d : Decodes form bytes (
     key-contents (keys ps),
   ) refl
 
-  cut_bytes : (es : List EntryParts) (n : ℕ) → key_entries (keys ps) ++ values_of held.entries ≡ es → length (keys ps) ≡ n → bytes ≡ header object_header n ++ (kept_words es ++ kept_contents es)
+  cut_bytes : (es : List EntryParts) (n : ℕ) → key_entries (keys ps) ++ values_of held.entries ≡ es → length (keys ps) ≡ n
+      → bytes ≡ header object_header n ++ (words_of_entries es ++ contents_of_entries es)
   cut_bytes es n same count = row_bytes ∙ rw (same, count) refl
 
   pub is_cut : IsCutAt bytes place before key_there between value_there behind
@@ -206,7 +220,7 @@ module _ (form : Form) (bytes : List ℕ) (ps : Pairs) (d : Decodes form bytes (
       let fits = container.headed.fits in
       let count : length (keys ps) ≡ length key_there + length between = omega (arith, key_count, between_count, key-count at.there) in
       record {
-        within = subst AreWithin row row_within;
+        within = subst FitEntries row row_within;
         joined = cut_bytes _ _ row count;
         fits = omega (arith, fits, count);
         passed = omega (arith, at.passed, key-count at.front);
@@ -215,25 +229,39 @@ module _ (form : Form) (bytes : List ℕ) (ps : Pairs) (d : Decodes form bytes (
         pairs = omega (arith, key-count at.front, length-values_of split.back, back_count, between_count);
       }
 
-  module _ (t : Tree) (kept : KeptEntries) (kept_are : AreKept kept before between behind) (value : RootEntry) (is : IsContent (reading form) t value.kind value.content.now) where
+  module _ (t : Tree) (kept : KeptEntries) (kept_are : AreKept kept before between behind) (value : RootEntry)
+      (is : IsContent (number_reader form) t value.kind value.content.now) where
     entries_are : insert_pair name (value.kind, value.content.now) held.entries ≡ split.front ++ (name, (value.kind, value.content.now)) ∷ split.back
     entries_are = ap (insert_pair name (value.kind, value.content.now)) split.joined
-        ∙ inserted_at name (value.kind, value.content.now) split.front split.there split.back (rw split.front_are at.below) (rw (split.there_are, split.back_are) at.is_place)
+        ∙ inserted_at name (value.kind, value.content.now) split.front split.there split.back (rw split.front_are at.below)
+        (rw (split.there_are, split.back_are) at.is_place)
 
     keys_are : keys_of (split.front ++ (name, (value.kind, value.content.now)) ∷ split.back) ≡ at.front ++ name ∷ at.back
     keys_are = keys_of-append split.front ((name, (value.kind, value.content.now)) ∷ split.back) ∙ rw (split.front_are, split.back_are) refl
 
     count_is : length (split.front ++ (name, (value.kind, value.content.now)) ∷ split.back) ≡ kept.pairs + 1
-    count_is = omega (arith, length-append split.front ((name, (value.kind, value.content.now)) ∷ split.back), front_count, back_count, between_count, kept_are.pairs)
+    count_is = omega (
+      arith,
+      length-append split.front
+          ((name, (value.kind, value.content.now)) ∷ split.back),
+      front_count,
+      back_count,
+      between_count,
+      kept_are.pairs,
+    )
 
-    all_values : values_of (split.front ++ (name, (value.kind, value.content.now)) ∷ split.back) ≡ values_of split.front ++ (value.kind, value.content.now) ∷ values_of split.back
+    all_values : values_of (split.front ++ (name, (value.kind, value.content.now)) ∷ split.back)
+        ≡ values_of split.front ++ (value.kind, value.content.now) ∷ values_of split.back
     all_values = values-append split.front ((name, (value.kind, value.content.now)) ∷ split.back)
 
-    all_are_within : length value.content.now < 2 ^ 28 → AreWithin (values_of split.front ++ (value.kind, value.content.now) ∷ values_of split.back)
+    all_are_within : length value.content.now < 2 ^ 28 → FitEntries (values_of split.front ++ (value.kind, value.content.now) ∷ values_of split.back)
     all_are_within short =
-        let old = subst AreWithin (ap values_of split.joined ∙ values-append split.front (split.there ++ split.back) ∙ ap (λ es. values_of split.front ++ es) (values-append split.there split.back)) held.within in
+        let old = subst FitEntries
+        (ap values_of split.joined ∙ values-append split.front (split.there ++ split.back)
+        ∙ ap (λ es. values_of split.front ++ es) (values-append split.there split.back)) held.within in
         let rest = within-back (values_of split.front) (values_of split.there ++ values_of split.back) old in
-        within-both (values_of split.front) ((value.kind, value.content.now) ∷ values_of split.back) (within-front (values_of split.front) (values_of split.there ++ values_of split.back) old)
+        within-both (values_of split.front) ((value.kind, value.content.now) ∷ values_of split.back)
+        (within-front (values_of split.front) (values_of split.there ++ values_of split.back) old)
         ((value.known, short), within-back (values_of split.there) (values_of split.back) rest)
 
     made_bytes : word_row kept name value ++ content_row kept name value ≡ object_bytes (split.front ++ (name, (value.kind, value.content.now)) ∷ split.back)
@@ -242,21 +270,29 @@ module _ (form : Form) (bytes : List ℕ) (ps : Pairs) (d : Decodes form bytes (
         let vf = values_of split.front in
         let e : EntryParts = (value.kind, value.content.now) in
         let es : List (List ℕ × EntryParts) = split.front ++ (name, e) ∷ split.back in
-        let middle_words : kept.between.words.now ≡ kept_words kb ++ kept_words vf = kept_are.between_are.words ∙ words-append kb vf in
-        let middle_contents : kept.between.contents.now ≡ kept_contents kb ++ kept_contents vf = kept_are.between_are.contents ∙ contents-append kb vf in
-        let kw : key_words (keys_of es) ≡ kept_words before ++ (entry_word text_entry (length name) ++ kept_words kb) =
-        ap key_words keys_are ∙ sym (key-words (at.front ++ name ∷ at.back)) ∙ ap kept_words (keys-append at.front (name ∷ at.back)) ∙ words-append before ((text_entry, name) ∷ kb) in
-        let kc : key_bytes (keys_of es) ≡ kept_contents before ++ (name ++ kept_contents kb) =
-        ap key_bytes keys_are ∙ sym (key-contents (at.front ++ name ∷ at.back)) ∙ ap kept_contents (keys-append at.front (name ∷ at.back)) ∙ contents-append before ((text_entry, name) ∷ kb) in
-        let vw : kept_words (values_of es) ≡ kept_words vf ++ (entry_word value.kind (length value.content.now) ++ kept_words behind) =
-        ap kept_words all_values ∙ words-append vf (e ∷ behind) in
-        let vc : kept_contents (values_of es) ≡ kept_contents vf ++ (value.content.now ++ kept_contents behind) =
-        ap kept_contents all_values ∙ contents-append vf (e ∷ behind) in
-        parts_same (header object_header (kept.pairs + 1)) (entry_word text_entry (length name)) (entry_word value.kind (length value.content.now)) name value.content.now kept_are.before_are.words middle_words kept_are.behind_are.words kept_are.before_are.contents middle_contents kept_are.behind_are.contents
-        ∙ in_order (header object_header (kept.pairs + 1)) (kept_words before) (entry_word text_entry (length name)) (kept_words kb) (kept_words vf) (entry_word value.kind (length value.content.now)) (kept_words behind) (kept_contents before) name (kept_contents kb) (kept_contents vf) value.content.now (kept_contents behind)
+        let middle_words : kept.between.words.now ≡ words_of_entries kb ++ words_of_entries vf = kept_are.between_are.words ∙ words-append kb vf in
+        let middle_contents : kept.between.contents.now ≡ contents_of_entries kb ++ contents_of_entries vf = kept_are.between_are.contents
+        ∙ contents-append kb vf in
+        let kw : key_words (keys_of es) ≡ words_of_entries before ++ (entry_word text_entry (length name) ++ words_of_entries kb) =
+        ap key_words keys_are ∙ sym (key-words (at.front ++ name ∷ at.back)) ∙ ap words_of_entries (keys-append at.front (name ∷ at.back))
+        ∙ words-append before ((text_entry, name) ∷ kb) in
+        let kc : key_bytes (keys_of es) ≡ contents_of_entries before ++ (name ++ contents_of_entries kb) =
+        ap key_bytes keys_are ∙ sym (key-contents (at.front ++ name ∷ at.back)) ∙ ap contents_of_entries (keys-append at.front (name ∷ at.back))
+        ∙ contents-append before ((text_entry, name) ∷ kb) in
+        let vw : words_of_entries (values_of es) ≡ words_of_entries vf ++ (entry_word value.kind (length value.content.now) ++ words_of_entries behind) =
+        ap words_of_entries all_values ∙ words-append vf (e ∷ behind) in
+        let vc : contents_of_entries (values_of es) ≡ contents_of_entries vf ++ (value.content.now ++ contents_of_entries behind) =
+        ap contents_of_entries all_values ∙ contents-append vf (e ∷ behind) in
+        parts_same (header object_header (kept.pairs + 1)) (entry_word text_entry (length name))
+        (entry_word value.kind
+        (length value.content.now)) name value.content.now kept_are.before_are.words middle_words kept_are.behind_are.words kept_are.before_are.contents middle_contents kept_are.behind_are.contents
+        ∙ in_order (header object_header (kept.pairs + 1)) (words_of_entries before) (entry_word text_entry (length name)) (words_of_entries kb)
+        (words_of_entries vf) (entry_word value.kind (length value.content.now)) (words_of_entries behind) (contents_of_entries before) name
+        (contents_of_entries kb) (contents_of_entries vf) value.content.now (contents_of_entries behind)
         ∙ sym (halves_same (ap (header object_header) count_is) kw vw kc vc)
 
-    pub made_decodes : (made : List ℕ) → made ≡ word_row kept name value ++ content_row kept name value → IsUtf8 name → length name < 2 ^ 28 → length value.content.now < 2 ^ 28 → kept.pairs + 1 < 2 ^ 29
+    pub made_decodes : (made : List ℕ) → made ≡ word_row kept name value ++ content_row kept name value → IsUtf8 name → length name < 2 ^ 28
+        → length value.content.now < 2 ^ 28 → kept.pairs + 1 < 2 ^ 29
         → Decodes form made (object (pairs_of (insert_pair name t (members ps))))
     made_decodes made made_is utf8 short_name short_content fits =
         let e : EntryParts = (value.kind, value.content.now) in
@@ -264,13 +300,15 @@ module _ (form : Form) (bytes : List ℕ) (ps : Pairs) (d : Decodes form bytes (
         let holds' = subst (λ (es : List (List ℕ × EntryParts)). HoldsPairs form es (insert_pair name t (members ps))) entries_are holds in
         let are = keys_at name at.front at.there at.back (subst AreKeys at.joined container.parts.are_keys) (utf8, short_name) at.below at.is_place in
         subst (λ (bs : List ℕ). Decodes form bs (object (pairs_of (insert_pair name t (members ps))))) (sym (made_is ∙ made_bytes))
-        (object_decodes form (split.front ++ (name, e) ∷ split.back) (insert_pair name t (members ps)) (omega (arith, count_is, fits)) (rw keys_are are) (rw all_values (all_within _ (all_are_within short_content))) holds')
+        (object_decodes form (split.front ++ (name, e) ∷ split.back) (insert_pair name t (members ps)) (omega (arith, count_is, fits)) (rw keys_are are)
+        (rw all_values (all_within _ (all_are_within short_content))) holds')
 
     tree_split : SplitAround (members ps) at.front at.there at.back
     tree_split = split_around (members ps) at.front at.there at.back (keys_of-members ps ∙ at.joined)
 
     -- where the key, the content or the count has no place in the format, the object with the pair has no document
-    pub made_too_large : (2 ^ 28 ≤ length name) ⊎ ((2 ^ 28 ≤ length value.content.now) ⊎ (2 ^ 29 ≤ kept.pairs + 1)) → IsTooLarge form (object (pairs_of (insert_pair name t (members ps))))
+    pub made_too_large : (2 ^ 28 ≤ length name) ⊎ ((2 ^ 28 ≤ length value.content.now) ⊎ (2 ^ 29 ≤ kept.pairs + 1))
+        → IsTooLarge form (object (pairs_of (insert_pair name t (members ps))))
     made_too_large passes =
         let f = tree_split.front in
         let b = tree_split.back in
@@ -285,5 +323,6 @@ module _ (form : Form) (bytes : List ℕ) (ps : Pairs) (d : Decodes form bytes (
               let size = size_within form t value.kind value.content.now is in
               omega (arith, long, small, size)
           | inr (inr many) ↦
-              omega (arith, many, short.0, count, count_of f at.front tree_split.front_are, count_of b at.back tree_split.back_are, between_count, kept_are.pairs)
+              omega
+              (arith, many, short.0, count, count_of f at.front tree_split.front_are, count_of b at.back tree_split.back_are, between_count, kept_are.pairs)
         ])

@@ -18,7 +18,7 @@ use Rattle.jsonb_doc.specs.declared.key_iter.KeyIter.{KeyIter}
 use Rattle.jsonb_doc.proofs.BuilderSteps.{keys_rise}
 use Rattle.jsonb_doc.proofs.LimitLemmas.{decoded_keys}
 use Rattle.jsonb_raw.specs.declared.functions.object.pair_parts.PairPlace.{PairPlace}
-use Rattle.jsonb_raw.specs.Inserts.{AreBelow, IsInPlace, IsPlaceAmong, IsPairPlace}
+use Rattle.jsonb_raw.specs.Private.Inserts.{AreBelow, IsInPlace, IsPlaceAmong, IsPairPlace}
 use Rattle.jsonb_raw.specs.Objects.{has_name}
 use Rattle.jsonb_raw.proofs.PairStepLemmas.{above_key, below_key, no_value, value_after_less, value_at_equal}
 
@@ -33,7 +33,8 @@ same_key key name e = (Equal-is (slice_cmp nat_cmp name key)).0 (is_eq-slice_cmp
 -- ---- a pair at its place
 
 -- a pair goes behind those with lower keys, in place of the one with its key
-pub inserted_at : {A : Type 0} (name : List ℕ) (x : A) (front there back : List (List ℕ × A)) → AreBelow name (keys_of front) → IsInPlace name (keys_of there) (keys_of back)
+pub inserted_at : {A : Type 0} (name : List ℕ) (x : A) (front there back : List (List ℕ × A)) → AreBelow name (keys_of front)
+    → IsInPlace name (keys_of there) (keys_of back)
     → insert_pair name x (front ++ (there ++ back)) ≡ front ++ (name, x) ∷ back
 inserted_at name x (p ∷ front) there back below at =
     rw (above_key name p.0 below.0) (ap (λ qs. p ∷ qs) (inserted_at name x front there back below.1 at))
@@ -44,7 +45,8 @@ inserted_at name x [] (p ∷ []) back below at =
 inserted_at name x [] (p ∷ q ∷ there) back below at = absurd at
 
 -- rising keys with the name at its place rise
-pub keys_at : (name : List ℕ) (front there back : List (List ℕ)) → AreKeys (front ++ (there ++ back)) → IsKey name → AreBelow name front → IsInPlace name there back → AreKeys (front ++ name ∷ back)
+pub keys_at : (name : List ℕ) (front there back : List (List ℕ)) → AreKeys (front ++ (there ++ back)) → IsKey name → AreBelow name front
+    → IsInPlace name there back → AreKeys (front ++ name ∷ back)
 keys_at name [] [] back are is below at = (is, at, are)
 keys_at name [] (key ∷ []) back are is below at = subst (λ (k : List ℕ). AreKeys (k ∷ back)) at are
 keys_at name [] (key ∷ next ∷ there) back are is below at = absurd at
@@ -55,7 +57,8 @@ keys_at name (low ∷ next ∷ front) there back are is below at =
 
 -- ---- whether the name is there
 
-value_behind : (name : List ℕ) (ps : Pairs) (front there back : List (List ℕ)) → AreKeys (keys ps) → keys ps ≡ front ++ (there ++ back) → AreBelow name front → IsInPlace name there back
+value_behind : (name : List ℕ) (ps : Pairs) (front there back : List (List ℕ)) → AreKeys (keys ps) → keys ps ≡ front ++ (there ++ back) → AreBelow name front
+    → IsInPlace name there back
     → (there ≡ [] → value_under name ps ≡ None) × (length there ≡ 1 → is_some (value_under name ps) ≡ true)
 value_behind name no_pairs front there back are e below at =
     (λ none. refl, λ one. absurd (omega (arith, one, ap length e, length-append front (there ++ back), length-append there back)))
@@ -65,8 +68,11 @@ value_behind name (pair key t ps) (low ∷ front) there back are e below at =
     let less : slice_cmp nat_cmp key name ≡ Less = rw same below.0 in
     let found = value_behind name ps front there back are.2 rest below.1 at in
     (λ none. value_after_less name key t ps less ∙ found.0 none, λ one. ap is_some (value_after_less name key t ps less) ∙ found.1 one)
-value_behind name (pair key t ps) [] [] back are e below at =
-    (λ none. no_value name (pair key t ps) (subst (λ (ks : List (List ℕ)). IsBelowFirst name ks) (sym e) at) (keys_rise (key ∷ keys ps) are), λ one. absurd (omega (arith, one)))
+value_behind name (pair key t ps) [] [] back are e below at = (
+  λ none. no_value name (pair key t ps) (subst (λ (ks : List (List ℕ)). IsBelowFirst name ks) (sym e) at) (keys_rise (key ∷ keys ps) are),
+  λ one. absurd
+      (omega (arith, one)),
+)
 value_behind name (pair key t ps) [] (other ∷ []) back are e below at =
     let same : other ≡ key = cc e in
     let equal : slice_cmp nat_cmp key name ≡ Equal = same_key name key (sym at ∙ same) in
@@ -89,7 +95,8 @@ module _ (place : PairPlace) (name : List ℕ) (ps : Pairs) (are : AreKeys (keys
   pub is_there : 0 < place.taken → is_some (value_under name ps) ≡ true
   is_there some = go at.there (at.taken) at.is_place found.1
     where
-      go : (there : List (List ℕ)) → place.taken ≡ length there → IsInPlace name there at.back → (length there ≡ 1 → is_some (value_under name ps) ≡ true) → is_some (value_under name ps) ≡ true
+      go : (there : List (List ℕ)) → place.taken ≡ length there → IsInPlace name there at.back → (length there ≡ 1 → is_some (value_under name ps) ≡ true)
+          → is_some (value_under name ps) ≡ true
       go [] is in_place found = absurd (omega (arith, some, is))
       go (key ∷ []) is in_place found = found refl
       go (key ∷ next ∷ there) is in_place found = absurd in_place
@@ -114,7 +121,8 @@ AreBelow-append name key (low ∷ front) below less = (below.0, AreBelow-append 
 
 module _ (name : List ℕ) (ks : List (List ℕ)) (passed : ℕ) (it : KeyIter) (h : KeysPassed name ks passed it) where
   -- a key below the name is passed
-  pub key_passed : (key : List ℕ) (rest : List (List ℕ)) (after : KeyIter) → h.left ≡ key ∷ rest → HasKeysLeft after rest → slice_cmp nat_cmp key name ≡ Less → KeysPassed name ks (passed + 1) after
+  pub key_passed : (key : List ℕ) (rest : List (List ℕ)) (after : KeyIter) → h.left ≡ key ∷ rest → HasKeysLeft after rest → slice_cmp nat_cmp key name ≡ Less
+      → KeysPassed name ks (passed + 1) after
   key_passed key rest after split left less = record {
     front = h.front ++ key ∷ [];
     left = rest;
@@ -125,7 +133,8 @@ module _ (name : List ℕ) (ks : List (List ℕ)) (passed : ℕ) (it : KeyIter) 
   }
 
   -- the name itself is there
-  pub place_there : (key : List ℕ) (rest : List (List ℕ)) → h.left ≡ key ∷ rest → slice_cmp nat_cmp key name ≡ Equal → IsPlaceAmong (record { passed = passed; taken = 1 }) name ks
+  pub place_there : (key : List ℕ) (rest : List (List ℕ)) → h.left ≡ key ∷ rest → slice_cmp nat_cmp key name ≡ Equal
+      → IsPlaceAmong (record { passed = passed; taken = 1 }) name ks
   place_there key rest split equal = record {
     front = h.front;
     there = key ∷ [];
@@ -138,7 +147,8 @@ module _ (name : List ℕ) (ks : List (List ℕ)) (passed : ℕ) (it : KeyIter) 
   }
 
   -- the next key is above the name
-  pub place_before : (key : List ℕ) (rest : List (List ℕ)) → h.left ≡ key ∷ rest → slice_cmp nat_cmp key name ≡ Greater → IsPlaceAmong (record { passed = passed; taken = 0 }) name ks
+  pub place_before : (key : List ℕ) (rest : List (List ℕ)) → h.left ≡ key ∷ rest → slice_cmp nat_cmp key name ≡ Greater
+      → IsPlaceAmong (record { passed = passed; taken = 0 }) name ks
   place_before key rest split greater = record {
     front = h.front;
     there = [];
@@ -163,12 +173,14 @@ module _ (name : List ℕ) (ks : List (List ℕ)) (passed : ℕ) (it : KeyIter) 
     is_place = tt;
   }
 
-pub in_object : (name : List ℕ) (t : Tree) (ps : Pairs) (place : PairPlace) → t ≡ object ps → IsPlaceAmong place name (keys ps) → IsPairPlace name t (Some place)
+pub in_object : (name : List ℕ) (t : Tree) (ps : Pairs) (place : PairPlace) → t ≡ object ps → IsPlaceAmong place name (keys ps)
+    → IsPairPlace name t (Some place)
 in_object name t ps place is at = rw is at
 
 -- ---- the answer on a name
 
-object_at : (name : List ℕ) (t : Tree) (place : PairPlace) → IsPairPlace name t (Some place) → (ps : Pairs) × (t ≡ object ps) × IsPlaceAmong place name (keys ps)
+object_at : (name : List ℕ) (t : Tree) (place : PairPlace) → IsPairPlace name t (Some place)
+    → (ps : Pairs) × (t ≡ object ps) × IsPlaceAmong place name (keys ps)
 object_at name (object ps) place at = (ps, refl, at)
 object_at name spec.null place at = absurd at
 object_at name (spec.boolean b) place at = absurd at

@@ -5,7 +5,7 @@ use Rattle.jsonb_doc.specs.Tree.{Tree, null, boolean, number, text, extension, a
 use Rattle.jsonb_doc.specs.Payload.{Form, any, canonical}
 use Rattle.jsonb_doc.specs.Limits.{IsShort, HasShortParts, HasShortElements, HasShortValues, IsWithinLimits, Fits, widest_number}
 use Rattle.jsonb_keypath.specs.Each.{Each}
-use Rattle.jsonb_keypath.specs.KeyPathGrammar.{Key, index, plain_name}
+use Rattle.jsonb_keypath.specs.KeyPathGrammar.{Key, index, unquoted_name}
 use Rattle.jsonb_raw.specs.Leaves.{Leaf, behind, is_leaf, leaves_at, leaves, leaves_of_trees, leaves_of_pairs}
 use Rattle.jsonb_raw.proofs.LeafPlaces.{Each-append}
 
@@ -70,7 +70,7 @@ module _ (form : Form) where
     pairs_small : (ps : Pairs) → HasShortValues canonical ps → Each IsSmall (leaves_of_pairs false ps)
     pairs_small no_pairs h = tt
     pairs_small (pair key t ps) h =
-        Each-append IsSmall _ _ (small_at (plain_name key) t (leaves false t) h.0 (each_small t h.1)) (pairs_small ps h.2)
+        Each-append IsSmall _ _ (small_at (unquoted_name key) t (leaves false t) h.0 (each_small t h.1)) (pairs_small ps h.2)
 
   -- the leaves of a tree that fits are within the limits
   pub each_within_limits : (t : Tree) → Fits t → Each (λ leaf. IsWithinLimits form leaf.1) (leaves false t)

@@ -7,9 +7,9 @@ use Rattle.std.proofs.lemmas.Cmp.{nat_list_cmp_total}
 use Rattle.jsonb_doc.specs.Tree.{Tree, null, boolean, number, text, extension, array, object, Trees, no_trees, tree, Pairs, no_pairs, pair, elements, keys, value_under}
 use Rattle.jsonb_doc.specs.Format.{AreKeys, IsBelowFirst}
 use Rattle.jsonb_doc.specs.Limits.{IsInRange, AreInRange, ValuesAreInRange}
-use Rattle.jsonb_doc.proofs.Words.{bytes_eq-true, bytes_eq-same}
+use Rattle.jsonb_doc.proofs.WordLemmas.{bytes_eq-true, bytes_eq-same}
 use Rattle.jsonb_keypath.specs.Each.{Each}
-use Rattle.jsonb_keypath.specs.KeyPathGrammar.{Key, index, plain_name}
+use Rattle.jsonb_keypath.specs.KeyPathGrammar.{Key, index, unquoted_name}
 use Rattle.jsonb_raw.specs.Leaves.{Leaf, behind, is_leaf, leaves_at, leaves, leaves_of_trees, leaves_of_pairs}
 use Rattle.jsonb_raw.specs.LeavesLaws.{LeavesAreInPlace}
 use Rattle.jsonb_raw.specs.Places.{child_met, tree_at_steps}
@@ -27,10 +27,14 @@ Each-append P (x ∷ xs) ys h k = (h.0, Each-append P xs ys h.1 k)
 -- ---- one step
 
 -- leaves of a child, one step further in
-further_in : (whole t : Tree) (step : Key) (within : List Leaf) → child_met step whole ≡ Some t → Each (IsInPlace t) within → Each (IsInPlace whole) (behind (step ∷ []) within)
+further_in : (whole t : Tree) (step : Key) (within : List Leaf) → child_met step whole ≡ Some t → Each (IsInPlace t) within
+    → Each (IsInPlace whole) (behind (step ∷ []) within)
 further_in whole t step [] met h = tt
-further_in whole t step (leaf ∷ within) met h =
-    (step_by_step step leaf.0 whole ∙ ap (λ (child : Option Tree). option_and_then (tree_at_steps leaf.0) child) met ∙ h.0, further_in whole t step within met h.1)
+further_in whole t step (leaf ∷ within) met h = (
+  step_by_step step leaf.0 whole ∙ ap (λ (child : Option Tree). option_and_then (tree_at_steps leaf.0) child) met
+      ∙ h.0,
+  further_in whole t step within met h.1,
+)
 
 at_child : (ignore_array : Bool) (whole t : Tree) (step : Key) (within : List Leaf) → child_met step whole ≡ Some t → Each (IsInPlace t) within
     → Each (IsInPlace whole) (leaves_at ignore_array step t within)
@@ -86,7 +90,8 @@ mutual
   each_in_place false (array ts) r = trees_in_place false ts 0 ts refl r
   each_in_place ignore_array (object ps) r = pairs_in_place ignore_array ps ps (λ name among. refl) r.0 r.1
 
-  trees_in_place : (ignore_array : Bool) (all : Trees) (n : ℕ) (ts : Trees) → drop n (elements all) ≡ elements ts → AreInRange ts → Each (IsInPlace (array all)) (leaves_of_trees ignore_array n ts)
+  trees_in_place : (ignore_array : Bool) (all : Trees) (n : ℕ) (ts : Trees) → drop n (elements all) ≡ elements ts → AreInRange ts
+      → Each (IsInPlace (array all)) (leaves_of_trees ignore_array n ts)
   trees_in_place ignore_array all n no_trees left r = tt
   trees_in_place ignore_array all n (tree t ts) left r =
       let s = split_at (elements all) n t (elements ts) left in
@@ -94,11 +99,13 @@ mutual
       (at_child ignore_array (array all) t (index (pos n)) (leaves ignore_array t) (from_front (elements all) n ∙ s.at) (each_in_place ignore_array t r.0))
       (trees_in_place ignore_array all (suc n) ts s.behind r.1)
 
-  pairs_in_place : (ignore_array : Bool) (all ps : Pairs) → IsBack all ps → AreKeys (keys ps) → ValuesAreInRange ps → Each (IsInPlace (object all)) (leaves_of_pairs ignore_array ps)
+  pairs_in_place : (ignore_array : Bool) (all ps : Pairs) → IsBack all ps → AreKeys (keys ps) → ValuesAreInRange ps
+      → Each (IsInPlace (object all)) (leaves_of_pairs ignore_array ps)
   pairs_in_place ignore_array all no_pairs back rising r = tt
   pairs_in_place ignore_array all (pair key t ps) back rising r =
       Each-append (IsInPlace (object all)) _ _
-      (at_child ignore_array (object all) t (plain_name key) (leaves ignore_array t) (field_met (plain_name key) all ∙ first_of_back all ps key t back) (each_in_place ignore_array t r.0))
+      (at_child ignore_array (object all) t (unquoted_name key) (leaves ignore_array t) (field_met (unquoted_name key) all ∙ first_of_back all ps key t back)
+      (each_in_place ignore_array t r.0))
       (pairs_in_place ignore_array all ps (behind_first all ps key t rising.1 rising.2 back) rising.2 r.1)
 
 of_Each : {A : Type 0} (P : A → Type 0) (xs : List A) (x : A) → Each P xs → Contains xs x → P x

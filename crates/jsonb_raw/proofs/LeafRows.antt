@@ -2,7 +2,7 @@
 use Rattle.std.specs.Prelude.{◌≡◌, ℕ, pos, true, false, List, [], ◌∷◌, refl}
 use Rattle.jsonb_doc.specs.Number.{number_from, uint64}
 use Rattle.jsonb_doc.specs.Tree.{Tree, null, boolean, number, text, array, object, trees_of, pairs_of}
-use Rattle.jsonb_keypath.specs.KeyPathGrammar.{index, plain_name}
+use Rattle.jsonb_keypath.specs.KeyPathGrammar.{index, unquoted_name}
 use Rattle.jsonb_raw.specs.Leaves.{leaves}
 
 abbrev a : List ℕ
@@ -34,20 +34,21 @@ mixed = array (trees_of (boolean false ∷ ten ∷ object (pairs_of ((k, v) ∷ 
 abbrev nulls : Tree
 nulls = object (pairs_of ((a, null) ∷ (b, array (trees_of (null ∷ []))) ∷ []))
 
-in_mixed : leaves false mixed ≡ (index (pos 0) ∷ [], boolean false) ∷ (index (pos 1) ∷ [], ten) ∷ (index (pos 2) ∷ plain_name k ∷ [], v) ∷ []
+in_mixed : leaves false mixed ≡ (index (pos 0) ∷ [], boolean false) ∷ (index (pos 1) ∷ [], ten) ∷ (index (pos 2) ∷ unquoted_name k ∷ [], v) ∷ []
 in_mixed = refl
 
 none_in_an_ignored_root : leaves true mixed ≡ []
 none_in_an_ignored_root = refl
 
-in_nulls : leaves false nulls ≡ (plain_name a ∷ [], null) ∷ (plain_name b ∷ index (pos 0) ∷ [], null) ∷ []
+in_nulls : leaves false nulls ≡ (unquoted_name a ∷ [], null) ∷ (unquoted_name b ∷ index (pos 0) ∷ [], null) ∷ []
 in_nulls = refl
 
 -- an array that is ignored is a leaf
-with_ignored_array : leaves true nulls ≡ (plain_name a ∷ [], null) ∷ (plain_name b ∷ [], array (trees_of (null ∷ []))) ∷ []
+with_ignored_array : leaves true nulls ≡ (unquoted_name a ∷ [], null) ∷ (unquoted_name b ∷ [], array (trees_of (null ∷ []))) ∷ []
 with_ignored_array = refl
 
-empty_containers : leaves false (array (trees_of (empty_array ∷ empty_object ∷ []))) ≡ (index (pos 0) ∷ [], empty_array) ∷ (index (pos 1) ∷ [], empty_object) ∷ []
+empty_containers : leaves false (array (trees_of (empty_array ∷ empty_object ∷ [])))
+    ≡ (index (pos 0) ∷ [], empty_array) ∷ (index (pos 1) ∷ [], empty_object) ∷ []
 empty_containers = refl
 
 none_in_an_empty_array : leaves false empty_array ≡ []

@@ -8,18 +8,18 @@ use Rattle.std.proofs.lemmas.List.{map-append, reverse-reverse}
 use Rattle.std.proofs.lemmas.Int.{ints}
 use Rattle.jsonb_doc.specs.Tree as spec
 use Rattle.jsonb_doc.specs.Tree.{Tree, Trees, no_trees, tree, Pairs, no_pairs, pair, count, keys}
-use Rattle.jsonb_doc.specs.Payload.{Form, reading}
-use Rattle.jsonb_doc.specs.Item.{Stands}
+use Rattle.jsonb_doc.specs.Payload.{Form, number_reader}
+use Rattle.jsonb_doc.specs.Item.{StandsFor}
 use Rattle.jsonb_doc.specs.declared.item.Item.{Item}
 use Rattle.jsonb_doc.specs.declared.item.Item.TheVariants as item
 use Rattle.jsonb_doc.specs.declared.value.Value.{Value}
 use Rattle.jsonb_doc.proofs.Containers.{array_document, object_document}
 use Rattle.jsonb_keypath.specs.declared.key_path.KeyPaths.{KeyPaths}
-use Rattle.jsonb_keypath.specs.KeyPathGrammar.{Key, index, plain_name}
+use Rattle.jsonb_keypath.specs.KeyPathGrammar.{Key, index, unquoted_name}
 use Rattle.jsonb_keypath.specs.KeyPathViews.{key_paths_view}
 use Rattle.jsonb_raw.specs.declared.functions.path.leaves.Entered.{Entered}
 use Rattle.jsonb_raw.specs.declared.level.Level.{Level}
-use Rattle.jsonb_raw.specs.Levels.{Part, parts, parts_of_trees, parts_of_pairs, IsKeyOf}
+use Rattle.jsonb_raw.specs.Private.Levels.{Part, parts, parts_of_trees, parts_of_pairs, IsKeyOf}
 use Rattle.jsonb_raw.specs.Leaves.{Leaf, behind, is_leaf, leaves_at, leaves, leaves_of_trees, leaves_of_pairs}
 use Rattle.jsonb_raw.specs.LeafViews.{leaves_seen, step_at, steps_into}
 use Rattle.jsonb_raw.proofs.LevelLemmas.{count_of_trees, count_of_pairs, innermost}
@@ -38,7 +38,8 @@ empty_leaf ignore_array (spec.array (tree t ts)) n is none = absurd (omega (arit
 empty_leaf ignore_array (spec.object no_pairs) n is none = refl
 empty_leaf ignore_array (spec.object (pair k t ps)) n is none = absurd (omega (arith, is, none))
 
-pub full_array : (ignore_array : Bool) (ts : Trees) (n : ℕ) → ignore_array ≡ false → n ≡ length (parts_of_trees ts) → (n ≡ 0 → ⊥) → is_leaf ignore_array (spec.array ts) ≡ false
+pub full_array : (ignore_array : Bool) (ts : Trees) (n : ℕ) → ignore_array ≡ false → n ≡ length (parts_of_trees ts) → (n ≡ 0 → ⊥)
+    → is_leaf ignore_array (spec.array ts) ≡ false
 full_array ignore_array no_trees n entered is some = absurd (some is)
 full_array ignore_array (tree t ts) n entered is some = entered
 
@@ -67,7 +68,7 @@ next n = (n + 1) % 2 ^ 32
 -- the step to a part of this key, if any, and at this position
 abbrev pub part_step : Option (List ℕ) → ℕ → Key
 part_step None n = index (cast_signed w32 n)
-part_step (Some k) n = plain_name k
+part_step (Some k) n = unquoted_name k
 
 abbrev pub leaves_of_parts : Bool → ℕ → List Part → List Leaf
 leaves_of_parts ignore_array n [] = []
@@ -79,7 +80,8 @@ signed n small = omega (arith, ints)
 next_is : (n : ℕ) → n < 2 ^ 31 → next n ≡ suc n
 next_is n small = omega arith
 
-trees_leaves : (ignore_array : Bool) (n : ℕ) (ts : Trees) → n + count ts < 2 ^ 31 → leaves_of_parts ignore_array n (parts_of_trees ts) ≡ leaves_of_trees ignore_array n ts
+trees_leaves : (ignore_array : Bool) (n : ℕ) (ts : Trees) → n + count ts < 2 ^ 31
+    → leaves_of_parts ignore_array n (parts_of_trees ts) ≡ leaves_of_trees ignore_array n ts
 trees_leaves ignore_array n no_trees few = refl
 trees_leaves ignore_array n (tree t ts) few =
     let small : n < 2 ^ 31 = omega arith in
@@ -90,10 +92,10 @@ trees_leaves ignore_array n (tree t ts) few =
 pairs_leaves : (ignore_array : Bool) (n : ℕ) (ps : Pairs) → leaves_of_parts ignore_array n (parts_of_pairs ps) ≡ leaves_of_pairs ignore_array ps
 pairs_leaves ignore_array n no_pairs = refl
 pairs_leaves ignore_array n (pair k t ps) =
-    ap (λ (ls : List Leaf). leaves_at ignore_array (plain_name k) t (leaves ignore_array t) ++ ls) (pairs_leaves ignore_array (next n) ps)
+    ap (λ (ls : List Leaf). leaves_at ignore_array (unquoted_name k) t (leaves ignore_array t) ++ ls) (pairs_leaves ignore_array (next n) ps)
 
 -- bytes decode to less parts than an index can count
-few_parts : (form : Form) (x : Item) (t : Tree) → Stands form x t → length (parts t) < 2 ^ 31
+few_parts : (form : Form) (x : Item) (t : Tree) → StandsFor form x t → length (parts t) < 2 ^ 31
 few_parts form item.Null t stands = rw stands (omega arith)
 few_parts form (item.Boolean b) t stands = rw stands (omega arith)
 few_parts form (item.Number n) t stands = rw stands (omega arith)
@@ -101,14 +103,15 @@ few_parts form (item.String s) t stands = rw stands (omega arith)
 few_parts form (item.Extension x) t stands = rw stands (omega arith)
 few_parts form (item.Array bytes) t stands =
     let (ts, is, d) = stands in
-    let fits = (array_document (reading form) ts bytes.now d.document).1.headed.fits in
+    let fits = (array_document (number_reader form) ts bytes.now d.document).1.headed.fits in
     rw is (omega (arith, fits, count_of_trees ts))
 few_parts form (item.Object bytes) t stands =
     let (ps, is, d) = stands in
-    let fits = (object_document (reading form) ps bytes.now d.document).1.headed.fits in
+    let fits = (object_document (number_reader form) ps bytes.now d.document).1.headed.fits in
     rw is (omega (arith, fits, count_of_pairs ps))
 
-parts_leaves : (ignore_array : Bool) (t : Tree) → length (parts t) < 2 ^ 31 → is_leaf ignore_array t ≡ false → leaves ignore_array t ≡ leaves_of_parts ignore_array 0 (parts t)
+parts_leaves : (ignore_array : Bool) (t : Tree) → length (parts t) < 2 ^ 31 → is_leaf ignore_array t ≡ false
+    → leaves ignore_array t ≡ leaves_of_parts ignore_array 0 (parts t)
 parts_leaves ignore_array spec.null few entered = cc
 parts_leaves ignore_array (spec.boolean b) few entered = cc
 parts_leaves ignore_array (spec.number m) few entered = cc
@@ -119,14 +122,15 @@ parts_leaves true (spec.array (tree t ts)) few entered = cc
 parts_leaves false (spec.array (tree t ts)) few entered = sym (trees_leaves false 0 (tree t ts) (omega (arith, few, count_of_trees ts)))
 parts_leaves ignore_array (spec.object ps) few entered = sym (pairs_leaves ignore_array 0 ps)
 
-pub item_leaves : (form : Form) (x : Item) (ignore_array : Bool) (t : Tree) → Stands form x t → is_leaf ignore_array t ≡ false → leaves ignore_array t ≡ leaves_of_parts ignore_array 0 (parts t)
+pub item_leaves : (form : Form) (x : Item) (ignore_array : Bool) (t : Tree) → StandsFor form x t → is_leaf ignore_array t ≡ false
+    → leaves ignore_array t ≡ leaves_of_parts ignore_array 0 (parts t)
 item_leaves form x ignore_array t stands entered = parts_leaves ignore_array t (few_parts form x t stands) entered
 
 pub keyed_step : (key : Option (Bor (List ℕ))) (k : Option (List ℕ)) (n : ℕ) → IsKeyOf key k → step_at key n ≡ part_step k n
 keyed_step None None n h = refl
 keyed_step None (Some k) n h = absurd h
 keyed_step (Some key) None n h = absurd h
-keyed_step (Some key) (Some k) n h = ap plain_name h
+keyed_step (Some key) (Some k) n h = ap unquoted_name h
 
 -- ---- what is left at levels
 
@@ -134,7 +138,8 @@ keyed_step (Some key) (Some k) n h = ap plain_name h
 behind-step : (path : List Key) (step : Key) (within : List Leaf) → behind (path ++ step ∷ []) within ≡ behind path (behind (step ∷ []) within)
 behind-step path step [] = refl
 behind-step path step (leaf ∷ within) =
-    ap (λ (steps : List Key). (steps, leaf.1) ∷ behind (path ++ step ∷ []) within) (append_assoc path (step ∷ []) leaf.0) ∙ ap (λ (ls : List Leaf). (path ++ step ∷ leaf.0, leaf.1) ∷ ls) (behind-step path step within)
+    ap (λ (steps : List Key). (steps, leaf.1) ∷ behind (path ++ step ∷ []) within) (append_assoc path (step ∷ []) leaf.0)
+    ∙ ap (λ (ls : List Leaf). (path ++ step ∷ leaf.0, leaf.1) ∷ ls) (behind-step path step within)
 
 behind-append : (path : List Key) (xs ys : List Leaf) → behind path (xs ++ ys) ≡ behind path xs ++ behind path ys
 behind-append path xs ys = map-append (λ (leaf : Leaf). (path ++ leaf.0, leaf.1)) xs ys
@@ -145,22 +150,29 @@ behind-none (leaf ∷ found) = ap (λ (ls : List Leaf). leaf ∷ ls) (behind-non
 
 -- the leaves of what the containers around have left, the innermost first
 abbrev pub leaves_around : Bool → List Entered → List (List Part) → List Leaf
-leaves_around ignore_array (e ∷ es) (ps ∷ ls) = behind (steps_into (reverse es)) (leaves_of_parts ignore_array (next e.index) ps) ++ leaves_around ignore_array es ls
+leaves_around ignore_array (e ∷ es) (ps ∷ ls) = behind (steps_into (reverse es)) (leaves_of_parts ignore_array (next e.index) ps)
+    ++ leaves_around ignore_array es ls
 leaves_around ignore_array _ _ = []
 
 -- what is found, and then the leaves of what each level has left, are all
-pub record LeavesToward (seen : Value → Tree) (ignore_array : Bool) (found : List (KeyPaths × Value)) (around : List Entered) (n : ℕ) (here : List Part) (others : List (List Part)) (whole : List Leaf) : Type 0 where
-  pub joined : leaves_seen seen found ++ (behind (steps_into around) (leaves_of_parts ignore_array n here) ++ leaves_around ignore_array (reverse around) others) ≡ whole
+pub record LeavesToward (seen : Value → Tree) (ignore_array : Bool) (found : List (KeyPaths × Value)) (around : List Entered) (n : ℕ) (here : List Part)
+    (others : List (List Part)) (whole : List Leaf) : Type 0 where
+  pub joined : leaves_seen seen found
+      ++ (behind (steps_into around) (leaves_of_parts ignore_array n here) ++ leaves_around ignore_array (reverse around) others) ≡ whole
 
-pub walk_begun : (seen : Value → Tree) (ignore_array : Bool) (found : List (KeyPaths × Value)) (around : List Entered) (t : Tree) → found ≡ [] → around ≡ [] → leaves ignore_array t ≡ leaves_of_parts ignore_array 0 (parts t)
+pub walk_begun : (seen : Value → Tree) (ignore_array : Bool) (found : List (KeyPaths × Value)) (around : List Entered) (t : Tree) → found ≡ [] → around ≡ []
+    → leaves ignore_array t ≡ leaves_of_parts ignore_array 0 (parts t)
     → LeavesToward seen ignore_array found around 0 (parts t) [] (leaves ignore_array t)
 walk_begun seen ignore_array found around t none root is = record {
-  joined = rw (none, root) (append-nil (behind [] (leaves_of_parts ignore_array 0 (parts t))) ∙ behind-none (leaves_of_parts ignore_array 0 (parts t)) ∙ sym is);
+  joined = rw (none, root) (append-nil (behind [] (leaves_of_parts ignore_array 0 (parts t))) ∙ behind-none (leaves_of_parts ignore_array 0 (parts t))
+      ∙ sym is);
 }
 
 -- a part that is a leaf is found
-pub leaf_found : (seen : Value → Tree) (ignore_array : Bool) (found found' : List (KeyPaths × Value)) (around : List Entered) (n : ℕ) (key : Option (Bor (List ℕ))) (p : Part) (ps : List Part) (others : List (List Part)) (whole : List Leaf) (path : KeyPaths) (value : Value)
-    → LeavesToward seen ignore_array found around n (p ∷ ps) others whole → is_leaf ignore_array p.1 ≡ true → IsKeyOf key p.0 → key_paths_view path ≡ steps_into around ++ step_at key n ∷ [] → seen value ≡ p.1 → found' ≡ found ++ (path, value) ∷ []
+pub leaf_found : (seen : Value → Tree) (ignore_array : Bool) (found found' : List (KeyPaths × Value)) (around : List Entered) (n : ℕ)
+    (key : Option (Bor (List ℕ))) (p : Part) (ps : List Part) (others : List (List Part)) (whole : List Leaf) (path : KeyPaths) (value : Value)
+    → LeavesToward seen ignore_array found around n (p ∷ ps) others whole → is_leaf ignore_array p.1 ≡ true → IsKeyOf key p.0
+    → key_paths_view path ≡ steps_into around ++ step_at key n ∷ [] → seen value ≡ p.1 → found' ≡ found ++ (path, value) ∷ []
     → LeavesToward seen ignore_array found' around (next n) ps others whole
 leaf_found seen ignore_array found found' around n key p ps others whole path value h leaf keyed led same pushed =
     let steps = steps_into around in
@@ -183,8 +195,10 @@ leaf_found seen ignore_array found found' around n key p ps others whole path va
     at_leaf step t within leaf = rw leaf refl
 
 -- a part that is no leaf is entered
-pub part_entered : (seen : Value → Tree) (ignore_array : Bool) (found : List (KeyPaths × Value)) (around around' : List Entered) (e : Entered) (p : Part) (ps : List Part) (others : List (List Part)) (whole : List Leaf)
-    → LeavesToward seen ignore_array found around e.index (p ∷ ps) others whole → is_leaf ignore_array p.1 ≡ false → IsKeyOf e.key p.0 → leaves ignore_array p.1 ≡ leaves_of_parts ignore_array 0 (parts p.1) → around' ≡ around ++ e ∷ []
+pub part_entered : (seen : Value → Tree) (ignore_array : Bool) (found : List (KeyPaths × Value)) (around around' : List Entered) (e : Entered) (p : Part)
+    (ps : List Part) (others : List (List Part)) (whole : List Leaf)
+    → LeavesToward seen ignore_array found around e.index (p ∷ ps) others whole → is_leaf ignore_array p.1 ≡ false → IsKeyOf e.key p.0
+    → leaves ignore_array p.1 ≡ leaves_of_parts ignore_array 0 (parts p.1) → around' ≡ around ++ e ∷ []
     → LeavesToward seen ignore_array found around' 0 (parts p.1) (ps ∷ others) whole
 part_entered seen ignore_array found around around' e p ps others whole h entered keyed within pushed =
     let steps = steps_into around in
@@ -196,14 +210,17 @@ part_entered seen ignore_array found around around' e p ps others whole h entere
     record {
       joined =
           ap (λ (es : List Entered). front ++ (behind (steps_into es) inner ++ leaves_around ignore_array (reverse es) (ps ∷ others))) pushed
-          ∙ ap (λ (es : List Entered). front ++ (behind (steps_into (around ++ e ∷ [])) inner ++ leaves_around ignore_array es (ps ∷ others))) (innermost around e)
-          ∙ ap (λ (es : List Entered). front ++ (behind (steps_into (around ++ e ∷ [])) inner ++ (behind (steps_into es) left ++ outside))) (reverse-reverse around)
+          ∙ ap (λ (es : List Entered). front ++ (behind (steps_into (around ++ e ∷ [])) inner ++ leaves_around ignore_array es (ps ∷ others)))
+          (innermost around e)
+          ∙ ap (λ (es : List Entered). front ++ (behind (steps_into (around ++ e ∷ [])) inner ++ (behind (steps_into es) left ++ outside)))
+          (reverse-reverse around)
           ∙ ap (λ (ss : List Key). front ++ (behind ss inner ++ (behind steps left ++ outside)))
           (map-append (λ (x : Entered). step_at x.key x.index) around (e ∷ []) ∙ ap (λ s. steps ++ s ∷ []) (keyed_step e.key p.0 e.index keyed))
           ∙ ap (λ (ls : List Leaf). front ++ (ls ++ (behind steps left ++ outside))) (behind-step steps step inner)
           ∙ ap (λ (ls : List Leaf). front ++ ls) (sym (append_assoc (behind steps (behind (step ∷ []) inner)) (behind steps left) outside))
           ∙ ap (λ (ls : List Leaf). front ++ (ls ++ outside)) (sym (behind-append steps (behind (step ∷ []) inner) left))
-          ∙ ap (λ (ls : List Leaf). front ++ (behind steps (ls ++ left) ++ outside)) (ap (λ (ls : List Leaf). behind (step ∷ []) ls) (sym within) ∙ sym (at_part step p.1 (leaves ignore_array p.1) entered))
+          ∙ ap (λ (ls : List Leaf). front ++ (behind steps (ls ++ left) ++ outside))
+          (ap (λ (ls : List Leaf). behind (step ∷ []) ls) (sym within) ∙ sym (at_part step p.1 (leaves ignore_array p.1) entered))
           ∙ h.joined;
     }
   where
@@ -211,8 +228,10 @@ part_entered seen ignore_array found around around' e p ps others whole h entere
     at_part step t inside entered = rw entered refl
 
 -- nothing is left at the innermost level
-pub level_done : (seen : Value → Tree) (ignore_array : Bool) (found : List (KeyPaths × Value)) (around around' : List Entered) (outer : Entered) (n : ℕ) (here : List Part) (others more : List (List Part)) (whole : List Leaf)
-    → others ≡ here ∷ more → around ≡ around' ++ outer ∷ [] → LeavesToward seen ignore_array found around n [] others whole → LeavesToward seen ignore_array found around' (next outer.index) here more whole
+pub level_done : (seen : Value → Tree) (ignore_array : Bool) (found : List (KeyPaths × Value)) (around around' : List Entered) (outer : Entered) (n : ℕ)
+    (here : List Part) (others more : List (List Part)) (whole : List Leaf)
+    → others ≡ here ∷ more → around ≡ around' ++ outer ∷ [] → LeavesToward seen ignore_array found around n [] others whole
+    → LeavesToward seen ignore_array found around' (next outer.index) here more whole
 level_done seen ignore_array found around around' outer n here others more whole same popped h =
     let front = leaves_seen seen found in
     let left = leaves_of_parts ignore_array (next outer.index) here in
@@ -227,7 +246,8 @@ level_done seen ignore_array found around around' outer n here others more whole
     }
 
 -- nothing is left at any level
-pub walk_done : (seen : Value → Tree) (ignore_array : Bool) (found : List (KeyPaths × Value)) (around : List Entered) (n : ℕ) (others : List (List Part)) (whole : List Leaf)
+pub walk_done : (seen : Value → Tree) (ignore_array : Bool) (found : List (KeyPaths × Value)) (around : List Entered) (n : ℕ) (others : List (List Part))
+    (whole : List Leaf)
     → around ≡ [] → LeavesToward seen ignore_array found around n [] others whole → leaves_seen seen found ≡ whole
 walk_done seen ignore_array found around n others whole root h = sym (append-nil (leaves_seen seen found)) ∙ rw root at h.joined
 

@@ -6,10 +6,10 @@ use Rattle.jsonb_doc.specs.declared.error.Error.{Error}
 use Rattle.jsonb_doc.specs.Tree.{Tree, Trees, Pairs}
 use Rattle.jsonb_raw.specs.Depth.{deepest, deepest_of_trees, deepest_of_pairs}
 use Rattle.jsonb_raw.specs.SortableKey.{key, keys_of_trees, keys_of_pairs, item_bytes, text_bytes, depths}
-use Rattle.jsonb_raw.specs.KeyAnswer.{IsRefusal}
-use Rattle.jsonb_raw.specs.Levels.{Part, parts, parts_of_trees, parts_of_pairs}
-use Rattle.jsonb_raw.specs.KeyParts.{start, part_start}
-use Rattle.jsonb_raw.proofs.Walked.{IsToward, IsToward-refused, IsToward-done}
+use Rattle.jsonb_raw.specs.KeyAnswer.{IsOutOfMemoryOrTooDeep}
+use Rattle.jsonb_raw.specs.Private.Levels.{Part, parts, parts_of_trees, parts_of_pairs}
+use Rattle.jsonb_raw.specs.Private.KeyParts.{start, part_start}
+use Rattle.jsonb_raw.proofs.KeyWalks.{IsToward, IsToward-refused, IsToward-done}
 
 -- ---- the key of a tree by its parts
 
@@ -84,7 +84,8 @@ pub record IsWithin (w : Width) (out : List ℕ) (levels : List (List Part)) (ol
   pub toward : IsToward (depths w) out (keys_of_levels w levels) (deep_of_levels levels) old whole deep
   pub low : length levels ≤ depths w
 
-pub walk_begun : (w : Width) (t : Tree) (old out : List ℕ) → (out ≡ old ++ start w t 0) × (0 < depths w) → IsWithin w out (parts t ∷ []) old (key w t 0) (deepest t)
+pub walk_begun : (w : Width) (t : Tree) (old out : List ℕ) → (out ≡ old ++ start w t 0) × (0 < depths w)
+    → IsWithin w out (parts t ∷ []) old (key w t 0) (deepest t)
 walk_begun w t old out p =
     let deep = parts_deep t in
     record {
@@ -98,7 +99,8 @@ walk_begun w t old out p =
     }
 
 -- a part's start is written, and its own parts are left within
-pub part_begun : (w : Width) (p : Part) (ps : List Part) (ls : List (List Part)) (out out' old whole : List ℕ) (deep : ℕ) → IsWithin w out ((p ∷ ps) ∷ ls) old whole deep
+pub part_begun : (w : Width) (p : Part) (ps : List Part) (ls : List (List Part)) (out out' old whole : List ℕ) (deep : ℕ)
+    → IsWithin w out ((p ∷ ps) ∷ ls) old whole deep
     → (out' ≡ out ++ part_start w p (length ls + 1)) × (length ls + 1 < depths w) → IsWithin w out' (parts p.1 ∷ ps ∷ ls) old whole deep
 part_begun w p ps ls out out' old whole deep h e =
     let n = length ls in
@@ -113,7 +115,8 @@ part_begun w p ps ls out out' old whole deep h e =
       toward = record {
         written = ap (λ x. x ++ (k ++ (others ++ r))) (e.0 ∙ ap (λ d. out ++ part_start w p d) (omega arith))
             ∙ append_assoc out s (k ++ (others ++ r))
-            ∙ ap (λ x. out ++ x) (sym (append_assoc s k (others ++ r)) ∙ ap (λ x. x ++ (others ++ r)) (sym (part_split w p (suc n))) ∙ sym (append_assoc (part_key w p (suc n)) others r))
+            ∙ ap (λ x. out ++ x) (sym (append_assoc s k (others ++ r)) ∙ ap (λ x. x ++ (others ++ r)) (sym (part_split w p (suc n)))
+            ∙ sym (append_assoc (part_key w p (suc n)) others r))
             ∙ h.toward.written;
         shallow = λ b. shallow (within_below n (deepest p.1) (deep_of_parts (parts p.1)) (deep_of_parts ps) (deep_of_levels ls) (depths w) is e.1 b);
         deeper = within_deeper n (deepest p.1) (deep_of_parts (parts p.1)) (deep_of_parts ps) (deep_of_levels ls) deep is deeper;
@@ -128,8 +131,9 @@ part_begun w p ps ls out out' old whole deep h e =
     within_deeper n t q b c deep is h = omega arith
 
 -- a part is refused
-pub part_refused : (w : Width) (p : Part) (ps : List Part) (ls : List (List Part)) (out old whole : List ℕ) (deep : ℕ) (e : Error) → IsWithin w out ((p ∷ ps) ∷ ls) old whole deep
-    → IsRefusal (length ls + 1) (depths w) e → IsRefusal deep (depths w) e
+pub part_refused : (w : Width) (p : Part) (ps : List Part) (ls : List (List Part)) (out old whole : List ℕ) (deep : ℕ) (e : Error)
+    → IsWithin w out ((p ∷ ps) ∷ ls) old whole deep
+    → IsOutOfMemoryOrTooDeep (length ls + 1) (depths w) e → IsOutOfMemoryOrTooDeep deep (depths w) e
 part_refused w p ps ls out old whole deep e h r =
     IsToward-refused (depths w) out (keys_of_levels w ((p ∷ ps) ∷ ls)) (length ls + 1) (deep_of_levels ((p ∷ ps) ∷ ls)) old whole deep e h.toward
     (part_deep (length ls) (deepest p.1) (deep_of_parts ps) (deep_of_levels ls)) r
@@ -138,7 +142,8 @@ part_refused w p ps ls out old whole deep e h r =
     part_deep n t b c = omega arith
 
 -- nothing is left at the innermost level
-pub level_done : (w : Width) (ls : List (List Part)) (out old whole : List ℕ) (deep : ℕ) → IsWithin w out ([] ∷ ls) old whole deep → IsWithin w out ls old whole deep
+pub level_done : (w : Width) (ls : List (List Part)) (out old whole : List ℕ) (deep : ℕ) → IsWithin w out ([] ∷ ls) old whole deep
+    → IsWithin w out ls old whole deep
 level_done w ls out old whole deep h =
     let shallow = h.toward.shallow in
     let deeper = h.toward.deeper in
@@ -159,7 +164,8 @@ level_done w ls out old whole deep h =
     done_deeper n c deep h = omega arith
 
 -- a part without parts
-pub part_done : (w : Width) (p : Part) (ps : List Part) (ls : List (List Part)) (out old whole : List ℕ) (deep : ℕ) → parts p.1 ≡ [] → IsWithin w out (parts p.1 ∷ ps ∷ ls) old whole deep → IsWithin w out (ps ∷ ls) old whole deep
+pub part_done : (w : Width) (p : Part) (ps : List Part) (ls : List (List Part)) (out old whole : List ℕ) (deep : ℕ) → parts p.1 ≡ []
+    → IsWithin w out (parts p.1 ∷ ps ∷ ls) old whole deep → IsWithin w out (ps ∷ ls) old whole deep
 part_done w p ps ls out old whole deep none h = level_done w (ps ∷ ls) out old whole deep (rw none at h)
 
 -- nothing is left at any level
@@ -169,18 +175,21 @@ walk_done w out old whole deep h =
     IsToward-done (depths w) out 0 old whole deep (level_done w [] out old whole deep h).toward (omega (arith, low))
 
 -- a document without parts is its start
-pub only_start : (w : Width) (t : Tree) (old out : List ℕ) → parts t ≡ [] → (out ≡ old ++ start w t 0) × (0 < depths w) → (out ≡ old ++ key w t 0) × (deepest t < depths w)
+pub only_start : (w : Width) (t : Tree) (old out : List ℕ) → parts t ≡ [] → (out ≡ old ++ start w t 0) × (0 < depths w)
+    → (out ≡ old ++ key w t 0) × (deepest t < depths w)
 only_start w t old out none p = walk_done w out old (key w t 0) (deepest t) (rw none at (walk_begun w t old out p))
 
-pub root_refused : (t : Tree) (limit : ℕ) (e : Error) → IsRefusal 0 limit e → IsRefusal (deepest t) limit e
+pub root_refused : (t : Tree) (limit : ℕ) (e : Error) → IsOutOfMemoryOrTooDeep 0 limit e → IsOutOfMemoryOrTooDeep (deepest t) limit e
 root_refused t limit e (inl m) = inl m
 root_refused t limit e (inr d) = inr (d.0, (let k : limit ≤ 0 = d.1 in omega arith))
 
 -- the same, with the depth as a walk has it
-pub part_begun_at : (w : Width) (p : Part) (ps : List Part) (ls : List (List Part)) (d : ℕ) (out out' old whole : List ℕ) (deep : ℕ) → d ≡ length ls → IsWithin w out ((p ∷ ps) ∷ ls) old whole deep
+pub part_begun_at : (w : Width) (p : Part) (ps : List Part) (ls : List (List Part)) (d : ℕ) (out out' old whole : List ℕ) (deep : ℕ) → d ≡ length ls
+    → IsWithin w out ((p ∷ ps) ∷ ls) old whole deep
     → (out' ≡ out ++ part_start w p (d + 1)) × (d + 1 < depths w) → IsWithin w out' (parts p.1 ∷ ps ∷ ls) old whole deep
 part_begun_at w p ps ls d out out' old whole deep is h e = part_begun w p ps ls out out' old whole deep h (rw is at e)
 
-pub part_refused_at : (w : Width) (p : Part) (ps : List Part) (ls : List (List Part)) (d : ℕ) (out old whole : List ℕ) (deep : ℕ) (e : Error) → d ≡ length ls → IsWithin w out ((p ∷ ps) ∷ ls) old whole deep
-    → IsRefusal (d + 1) (depths w) e → IsRefusal deep (depths w) e
+pub part_refused_at : (w : Width) (p : Part) (ps : List Part) (ls : List (List Part)) (d : ℕ) (out old whole : List ℕ) (deep : ℕ) (e : Error) → d ≡ length ls
+    → IsWithin w out ((p ∷ ps) ∷ ls) old whole deep
+    → IsOutOfMemoryOrTooDeep (d + 1) (depths w) e → IsOutOfMemoryOrTooDeep deep (depths w) e
 part_refused_at w p ps ls d out old whole deep e is h r = part_refused w p ps ls out old whole deep e h (rw is at r)

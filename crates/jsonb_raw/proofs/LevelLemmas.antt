@@ -13,37 +13,44 @@ use Rattle.jsonb_doc.specs.declared.pair_iter.PairIter.{PairIter}
 use Rattle.jsonb_doc.specs.Tree as spec
 use Rattle.jsonb_doc.specs.Tree.{Tree, Trees, count, keys}
 use Rattle.jsonb_doc.specs.Payload.{Form}
-use Rattle.jsonb_doc.specs.Item.{Stands, item_size}
+use Rattle.jsonb_doc.specs.Item.{StandsFor, item_size}
 use Rattle.jsonb_doc.specs.Elements.{TakesElement}
 use Rattle.jsonb_doc.specs.ObjectPairs.{TakesPair}
 use Rattle.jsonb_raw.specs.declared.level.Level.{Level}
 use Rattle.jsonb_raw.specs.declared.level.Level.TheVariants.{Elements, Pairs}
-use Rattle.jsonb_raw.specs.Levels.{Part, parts_of_trees, parts_of_pairs, HasPartsLeft, TakesPart, IsKeyOf, IsSmaller, level_room, level_bound}
+use Rattle.jsonb_raw.specs.Private.Levels.{Part, parts_of_trees, parts_of_pairs, HasPartsLeft, TakesPart, IsKeyOf, IsSmaller, level_room, level_bound}
 
 -- ---- the first part
 
-part_is : (form : Form) (level : Level) (r : Result (Option (Option (Bor (List ℕ)) × Item)) Error) (ps qs : List Part) → ps ≡ qs → TakesPart form qs r level → TakesPart form ps r level
+part_is : (form : Form) (level : Level) (r : Result (Option (Option (Bor (List ℕ)) × Item)) Error) (ps qs : List Part) → ps ≡ qs → TakesPart form qs r level
+    → TakesPart form ps r level
 part_is form level r ps qs e h = subst (λ (xs : List Part). TakesPart form xs r level) (sym e) h
 
-pub element_none : (form : Form) (it : ElementIter) (ps : List Part) (ts : Trees) → ps ≡ parts_of_trees ts → TakesElement form ts None it → TakesPart form ps (Ok None) (Elements it)
+pub element_none : (form : Form) (it : ElementIter) (ps : List Part) (ts : Trees) → ps ≡ parts_of_trees ts → TakesElement form ts None it
+    → TakesPart form ps (Ok None) (Elements it)
 element_none form it ps spec.no_trees e h = part_is form (Elements it) (Ok None) ps [] e tt
 element_none form it ps (spec.tree t ts) e h = absurd h
 
-pub element_some : (form : Form) (it : ElementIter) (x : Item) (ps : List Part) (ts : Trees) → ps ≡ parts_of_trees ts → TakesElement form ts (Some (Ok x)) it → TakesPart form ps (Ok (Some (None, x))) (Elements it)
+pub element_some : (form : Form) (it : ElementIter) (x : Item) (ps : List Part) (ts : Trees) → ps ≡ parts_of_trees ts → TakesElement form ts (Some (Ok x)) it
+    → TakesPart form ps (Ok (Some (None, x))) (Elements it)
 element_some form it x ps spec.no_trees e h = absurd h
-element_some form it x ps (spec.tree t ts) e h = part_is form (Elements it) (Ok (Some (None, x))) ps ((None, t) ∷ parts_of_trees ts) e (tt, h.0, (ts, h.1, refl))
+element_some form it x ps (spec.tree t ts) e h = part_is form (Elements it) (Ok (Some (None, x))) ps ((None, t) ∷ parts_of_trees ts) e
+    (tt, h.0, (ts, h.1, refl))
 
 pub no_element_error : (form : Form) (it : ElementIter) (e : Error) (ts : Trees) → TakesElement form ts (Some (Err e)) it → ⊥
 no_element_error form it e spec.no_trees h = h
 no_element_error form it e (spec.tree t ts) h = h
 
-pub pair_none : (form : Form) (it : PairIter) (ps : List Part) (qs : spec.Pairs) → ps ≡ parts_of_pairs qs → TakesPair form qs None it → TakesPart form ps (Ok None) (Pairs it)
+pub pair_none : (form : Form) (it : PairIter) (ps : List Part) (qs : spec.Pairs) → ps ≡ parts_of_pairs qs → TakesPair form qs None it
+    → TakesPart form ps (Ok None) (Pairs it)
 pair_none form it ps spec.no_pairs e h = part_is form (Pairs it) (Ok None) ps [] e tt
 pair_none form it ps (spec.pair k t qs) e h = absurd h
 
-pub pair_some : (form : Form) (it : PairIter) (x : Bor (List ℕ) × Item) (ps : List Part) (qs : spec.Pairs) → ps ≡ parts_of_pairs qs → TakesPair form qs (Some (Ok x)) it → TakesPart form ps (Ok (Some (Some x.0, x.1))) (Pairs it)
+pub pair_some : (form : Form) (it : PairIter) (x : Bor (List ℕ) × Item) (ps : List Part) (qs : spec.Pairs) → ps ≡ parts_of_pairs qs
+    → TakesPair form qs (Some (Ok x)) it → TakesPart form ps (Ok (Some (Some x.0, x.1))) (Pairs it)
 pair_some form it x ps spec.no_pairs e h = absurd h
-pair_some form it x ps (spec.pair k t qs) e h = part_is form (Pairs it) (Ok (Some (Some x.0, x.1))) ps ((Some k, t) ∷ parts_of_pairs qs) e (h.0, h.1, (qs, h.2, refl))
+pair_some form it x ps (spec.pair k t qs) e h = part_is form (Pairs it) (Ok (Some (Some x.0, x.1))) ps ((Some k, t) ∷ parts_of_pairs qs) e
+    (h.0, h.1, (qs, h.2, refl))
 
 pub no_pair_error : (form : Form) (it : PairIter) (e : Error) (qs : spec.Pairs) → TakesPair form qs (Some (Err e)) it → ⊥
 no_pair_error form it e spec.no_pairs h = h
@@ -83,19 +90,23 @@ pub innermost : {A : Type 0} (around : List A) (l : A) → reverse (around ++ l 
 innermost around l = reverse-append around (l ∷ [])
 
 -- there are as many parts left around as levels
-pub as_many_around : (form : Form) (around : List Level) (others : List (List Part)) → HavePartsLeft form (reverse around) others → length around ≡ length others
+pub as_many_around : (form : Form) (around : List Level) (others : List (List Part)) → HavePartsLeft form (reverse around) others
+    → length around ≡ length others
 as_many_around form around others h = sym (length-reverse around) ∙ as_many form (reverse around) others h
 
 -- a level is left for one of its parts
-pub pushed_around : (form : Form) (around around' : List Level) (l : Level) (rest : List Part) (others : List (List Part)) → around' ≡ around ++ l ∷ [] → HasPartsLeft form l rest → HavePartsLeft form (reverse around) others → HavePartsLeft form (reverse around') (rest ∷ others)
+pub pushed_around : (form : Form) (around around' : List Level) (l : Level) (rest : List Part) (others : List (List Part)) → around' ≡ around ++ l ∷ []
+    → HasPartsLeft form l rest → HavePartsLeft form (reverse around) others → HavePartsLeft form (reverse around') (rest ∷ others)
 pushed_around form around around' l rest others e left h =
     subst (λ (ls : List Level). HavePartsLeft form ls (rest ∷ others)) (sym (ap reverse e ∙ innermost around l)) (left, h)
 
 module _ {G : Type 0} where
   -- the part that `take` gave is the first of what was left
-  pub SomeParts-first : (form : Form) (level level' : Level) (around : List Level) (key : Option (Bor (List ℕ))) (item : Item) (Q : List Part → List (List Part) → Type 0)
+  pub SomeParts-first : (form : Form) (level level' : Level) (around : List Level) (key : Option (Bor (List ℕ))) (item : Item)
+      (Q : List Part → List (List Part) → Type 0)
       → ((ps : List Part) → HasPartsLeft form level ps → TakesPart form ps (Ok (Some (key, item))) level') → SomeParts form level around Q
-      → ((p : Part) (rest : List Part) (others : List (List Part)) → IsKeyOf key p.0 → Stands form item p.1 → HasPartsLeft form level' rest → HavePartsLeft form (reverse around) others → Q (p ∷ rest) others → G) → G
+      → ((p : Part) (rest : List Part) (others : List (List Part)) → IsKeyOf key p.0 → StandsFor form item p.1 → HasPartsLeft form level' rest
+      → HavePartsLeft form (reverse around) others → Q (p ∷ rest) others → G) → G
   SomeParts-first form level level' around key item Q takes s go = first s.here (takes s.here s.left) s.fact
     where
       first : (ps : List Part) → TakesPart form ps (Ok (Some (key, item))) level' → Q ps s.others → G
@@ -122,9 +133,11 @@ module _ {G : Type 0} where
       error (p ∷ ps) t = absurd t
 
   -- the innermost of the levels around
-  pub popped_around : (form : Form) (around around' : List Level) (outer : Level) (others : List (List Part)) → around ≡ around' ++ outer ∷ [] → HavePartsLeft form (reverse around) others
+  pub popped_around : (form : Form) (around around' : List Level) (outer : Level) (others : List (List Part)) → around ≡ around' ++ outer ∷ []
+      → HavePartsLeft form (reverse around) others
       → ((here : List Part) (more : List (List Part)) → others ≡ here ∷ more → HasPartsLeft form outer here → HavePartsLeft form (reverse around') more → G) → G
-  popped_around form around around' outer others e h go = pop others (subst (λ (ls : List Level). HavePartsLeft form ls others) (ap reverse e ∙ innermost around' outer) h) refl
+  popped_around form around around' outer others e h go = pop others
+      (subst (λ (ls : List Level). HavePartsLeft form ls others) (ap reverse e ∙ innermost around' outer) h) refl
     where
       pop : (ls : List (List Part)) → HavePartsLeft form (outer ∷ reverse around') ls → others ≡ ls → G
       pop [] t is = absurd t
@@ -174,18 +187,22 @@ weight_pos l =
     let up : 1 * 1 ≤ (level_bound l + 1) * base ^ level_room l = mul-le 1 1 (level_bound l + 1) (base ^ level_room l) (omega arith) one in
     omega (arith, up)
 
-inner_weighs : (level level' inner : Level) (item : Item) → IsSmaller level item level' → level_room inner < item_size item → level_bound inner < 2 ^ 64 → weight inner + weight level' < weight level
+inner_weighs : (level level' inner : Level) (item : Item) → IsSmaller level item level' → level_room inner < item_size item → level_bound inner < 2 ^ 64
+    → weight inner + weight level' < weight level
 unfolding weight
 inner_weighs level level' inner item s room bound =
     let size = s.size in
-    shrunk base (level_bound level) (level_bound level') (level_bound inner) (level_room level) (level_room level') (level_room inner) base_pos s.bound s.room (omega (arith, size, room)) (base_big (level_bound inner) bound)
+    shrunk base (level_bound level) (level_bound level') (level_bound inner) (level_room level) (level_room level') (level_room inner) base_pos s.bound s.room
+    (omega (arith, size, room)) (base_big (level_bound inner) bound)
 
 taken_weighs : (level level' : Level) (item : Item) → IsSmaller level item level' → weight level' < weight level
 unfolding weight
 taken_weighs level level' item s =
     let left : (level_bound level' + 1) * base ^ level_room level' ≤ level_bound level * base ^ level_room level
-    = (let fewer = s.bound in mul-le (level_bound level' + 1) (base ^ level_room level') (level_bound level) (base ^ level_room level) (omega (arith, fewer)) (pow-le-pow_right base_pos s.room)) in
-    one_more (level_bound level) (base ^ level_room level) ((level_bound level' + 1) * base ^ level_room level') left (power_pos base (level_room level) base_pos)
+    = (let fewer = s.bound in mul-le (level_bound level' + 1) (base ^ level_room level') (level_bound level) (base ^ level_room level) (omega (arith, fewer))
+    (pow-le-pow_right base_pos s.room)) in
+    one_more (level_bound level) (base ^ level_room level) ((level_bound level' + 1) * base ^ level_room level') left
+    (power_pos base (level_room level) base_pos)
   where
     one_more : (b z x : ℕ) → x ≤ b * z → 1 ≤ z → x < (b + 1) * z
     one_more b z x h one = grind (arith, h, one)
@@ -194,17 +211,20 @@ around_pushed : (around around' : List Level) (l : Level) → around' ≡ around
 around_pushed around around' l e = ap (λ ls. weights (reverse ls)) e ∙ ap weights (innermost around l)
 
 -- the measure of a walk falls where a level is left for a part of it, where a part has no level, and where a level is done
-pub falls_within : (level level' inner : Level) (around around' : List Level) (item : Item) → IsSmaller level item level' → level_room inner < item_size item → level_bound inner < 2 ^ 64 → around' ≡ around ++ level' ∷ []
+pub falls_within : (level level' inner : Level) (around around' : List Level) (item : Item) → IsSmaller level item level' → level_room inner < item_size item
+    → level_bound inner < 2 ^ 64 → around' ≡ around ++ level' ∷ []
     → weight inner + weights (reverse around') < weight level + weights (reverse around)
 falls_within level level' inner around around' item s room bound e =
     let is = around_pushed around around' level' e in
     let less = inner_weighs level level' inner item s room bound in
     omega (arith, is, less)
 
-pub falls_beside : (level level' : Level) (around : List Level) (item : Item) → IsSmaller level item level' → weight level' + weights (reverse around) < weight level + weights (reverse around)
+pub falls_beside : (level level' : Level) (around : List Level) (item : Item) → IsSmaller level item level'
+    → weight level' + weights (reverse around) < weight level + weights (reverse around)
 falls_beside level level' around item s = let less = taken_weighs level level' item s in omega (arith, less)
 
-pub falls_done : (level outer : Level) (around around' : List Level) → around ≡ around' ++ outer ∷ [] → weight outer + weights (reverse around') < weight level + weights (reverse around)
+pub falls_done : (level outer : Level) (around around' : List Level) → around ≡ around' ++ outer ∷ []
+    → weight outer + weights (reverse around') < weight level + weights (reverse around)
 falls_done level outer around around' e =
     let is = around_pushed around' around outer e in
     let pos = weight_pos level in

@@ -1,12 +1,9 @@
-pub mod Answered
 pub mod ChildLemmas
 pub mod WalkLemmas
 pub mod PlaceLemmas
 pub mod IndexLemmas
 pub mod StepLemmas
 pub mod SamePlaceLemmas
-pub mod Iterated
-mod Rows
 mod OperatorRows
 pub mod Ranking
 pub mod DecimalDigits
@@ -18,22 +15,16 @@ pub mod WorkedKeys
 pub mod DigitSteps
 pub mod PushedNumbers
 pub mod WrittenDigits
-pub mod Left
 pub mod LevelLemmas
 pub mod LevelKeys
-pub mod Walked
 pub mod EqualityWalk
 pub mod ScalarLemmas
 pub mod TextChunks
-pub mod Told
-pub mod Stripped
 pub mod StripLists
 pub mod StripWalk
-pub mod Inserted
 pub mod InsertPlaces
 pub mod InsertEntries
 pub mod InsertSplits
-pub mod Repeats
 pub mod InStep
 pub mod KeysCounted
 pub mod SetKept
@@ -45,21 +36,17 @@ pub mod GoneLemmas
 pub mod ExistsLemmas
 pub mod MetLemmas
 pub mod PositionLemmas
-pub mod Held
 pub mod ObjectLemmas
 mod SetRows
 pub mod PairStepLemmas
 pub mod MatchLemmas
 pub mod ContainLemmas
-pub mod Listed
-pub mod Taken
 pub mod ArrayLemmas
 pub mod EntryLists
 pub mod CutLemmas
 pub mod CutWords
 pub mod LeafLimits
 pub mod ChildAnswers
-pub mod Dealt
 mod CallRows
 pub mod CutChild
 pub mod CutCases
@@ -67,7 +54,6 @@ pub mod PushLemmas
 pub mod PushSteps
 pub mod DeleteLemmas
 pub mod MergedLemmas
-pub mod LeftMerged
 pub mod StripLaws
 pub mod ContainsLaws
 pub mod ConcatLaws
@@ -79,3 +65,17 @@ pub mod Aside
 pub mod TextTrees
 pub mod EqualAny
 pub mod CursorSteps
+pub mod AnswerLemmas
+pub mod PushLoops
+pub mod TakeLoops
+pub mod CollectLoops
+pub mod TextLemmas
+pub mod IteratorItems
+pub mod MergedItems
+pub mod KeyWalks
+pub mod PartitionLemmas
+pub mod StripLemmas
+pub mod InsertLemmas
+pub mod IteratorLemmas
+pub mod DuplicateKeys
+pub mod PlaceRows

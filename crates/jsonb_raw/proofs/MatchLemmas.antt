@@ -12,16 +12,16 @@ use Rattle.std.specs.Borrow.{Bor}
 use Rattle.jsonb_doc.specs.declared.item.Item.{Item}
 use Rattle.jsonb_doc.specs.declared.item.Item.TheVariants as item
 use Rattle.jsonb_doc.specs.Payload.{Form}
-use Rattle.jsonb_doc.specs.Item.{Stands}
-use Rattle.jsonb_doc.specs.Stored.{Stores}
+use Rattle.jsonb_doc.specs.Item.{StandsFor}
+use Rattle.jsonb_doc.specs.Private.Stored.{Stores}
 use Rattle.jsonb_doc.specs.declared.entry_iter.StoredEntry.{StoredEntry}
 use Rattle.jsonb_doc.specs.Answer.{SameOption}
 use Rattle.jsonb_doc.specs.Tree.{Tree, null, boolean, number, text, extension, array, object, Pairs, no_pairs, pair, keys, members, value_under}
 use Rattle.jsonb_doc.specs.Equal.{is_equal}
 use Rattle.jsonb_doc.specs.Format.{IsBelowFirst}
 use Rattle.jsonb_doc.proofs.BuilderSteps.{AreRising}
-use Rattle.jsonb_raw.specs.PairSteps.{pairs_above}
-use Rattle.jsonb_raw.specs.Contains.{is_matched_by, each_pair_is_matched}
+use Rattle.jsonb_raw.specs.Private.PairSteps.{pairs_above}
+use Rattle.jsonb_raw.specs.Contains.{is_part_of, each_pair_is_matched}
 use Rattle.jsonb_raw.proofs.PairStepLemmas.{test_of_order, below_further, same_below, no_value}
 
 pub order_of_test : (o : Ordering) → is_eq o ≡ true → o ≡ Equal
@@ -42,7 +42,8 @@ module _ (key : List ℕ) (m : Tree → Bool) where
   any_by_value no_pairs rising = refl
   any_by_value (pair k t ps) rising = by (bytes_eq k key) refl (any_by_value ps rising.1)
     where
-      by : (b : Bool) → bytes_eq k key ≡ b → list_any passes (members ps) ≡ option_map_or m (value_under key ps) false → list_any passes (members (pair k t ps)) ≡ option_map_or m (value_under key (pair k t ps)) false
+      by : (b : Bool) → bytes_eq k key ≡ b → list_any passes (members ps) ≡ option_map_or m (value_under key ps) false
+          → list_any passes (members (pair k t ps)) ≡ option_map_or m (value_under key (pair k t ps)) false
       by true e rest =
           let same = order_of_test (slice_cmp nat_cmp k key) (sym (test_of_order k key (slice_cmp nat_cmp k key) refl) ∙ e) in
           let none = no_value key ps (same_below k key (keys ps) same rising.0) rising.1 in
@@ -50,42 +51,48 @@ module _ (key : List ℕ) (m : Tree → Bool) where
       by false e rest = rw e rest
 
   -- pairs with lower keys change nothing
-  pub any_above : (low : List ℕ) (ps : Pairs) → slice_cmp nat_cmp low key ≡ Less → list_any (λ p. bytes_eq p.0 key && m p.1) (members ps) ≡ list_any (λ p. bytes_eq p.0 key && m p.1) (members (pairs_above low ps))
+  pub any_above : (low : List ℕ) (ps : Pairs) → slice_cmp nat_cmp low key ≡ Less
+      → list_any (λ p. bytes_eq p.0 key && m p.1) (members ps) ≡ list_any (λ p. bytes_eq p.0 key && m p.1) (members (pairs_above low ps))
   any_above low no_pairs below = refl
   any_above low (pair k t ps) below = by (slice_cmp nat_cmp k low) refl (any_above low ps below)
     where
-      other : slice_cmp nat_cmp k key ≡ Less → list_any passes (members ps) ≡ list_any passes (members (pairs_above low ps)) → list_any passes (members (pair k t ps)) ≡ list_any passes (members (pairs_above low ps))
+      other : slice_cmp nat_cmp k key ≡ Less → list_any passes (members ps) ≡ list_any passes (members (pairs_above low ps))
+          → list_any passes (members (pair k t ps)) ≡ list_any passes (members (pairs_above low ps))
       other less rest = rw (test_of_order k key Less less) rest
 
-      by : (o : Ordering) → slice_cmp nat_cmp k low ≡ o → list_any passes (members ps) ≡ list_any passes (members (pairs_above low ps)) → list_any passes (members (pair k t ps)) ≡ list_any passes (members (pairs_above low (pair k t ps)))
+      by : (o : Ordering) → slice_cmp nat_cmp k low ≡ o → list_any passes (members ps) ≡ list_any passes (members (pairs_above low ps))
+          → list_any passes (members (pair k t ps)) ≡ list_any passes (members (pairs_above low (pair k t ps)))
       by Less e rest = rw e (other (nat_list_cmp_total.trans k low key e below) rest)
       by Equal e rest = rw e (other (nat_list_cmp_total.congr k low key e ∙ below) rest)
       by Greater e rest = rw e (ap (λ b. passes (k, t) || b) rest)
 
 -- what is above the first wanted key suffices for the wanted pairs behind it
-each_above : (low : List ℕ) (qs ps : Pairs) → IsBelowFirst low (keys qs) → AreRising (keys qs) → each_pair_is_matched qs (members ps) ≡ each_pair_is_matched qs (members (pairs_above low ps))
+each_above : (low : List ℕ) (qs ps : Pairs) → IsBelowFirst low (keys qs) → AreRising (keys qs)
+    → each_pair_is_matched qs (members ps) ≡ each_pair_is_matched qs (members (pairs_above low ps))
 each_above low no_pairs ps below rising = refl
 each_above low (pair k y qs) ps below rising =
-    ap₂ (λ a b. a && b) (any_above k (is_matched_by y) low ps below) (each_above low qs ps (below_further low k (keys qs) below rising.0) rising.1)
+    ap₂ (λ a b. a && b) (any_above k (is_part_of y) low ps below) (each_above low qs ps (below_further low k (keys qs) below rising.0) rising.1)
 
 module _ (key : List ℕ) (y : Tree) (qs ps : Pairs) (rising : AreRising (keys ps)) where
   -- a key that isn't there
   pub unmatched_key : value_under key ps ≡ None → each_pair_is_matched (pair key y qs) (members ps) ≡ false
-  unmatched_key none = rw (any_by_value key (is_matched_by y) ps rising, none) refl
+  unmatched_key none = rw (any_by_value key (is_part_of y) ps rising, none) refl
 
   -- a value that doesn't match
-  pub unmatched_value : (v : Tree) → value_under key ps ≡ Some v → is_matched_by y v ≡ false → each_pair_is_matched (pair key y qs) (members ps) ≡ false
-  unmatched_value v some differs = rw (any_by_value key (is_matched_by y) ps rising, some, differs) refl
+  pub unmatched_value : (v : Tree) → value_under key ps ≡ Some v → is_part_of y v ≡ false → each_pair_is_matched (pair key y qs) (members ps) ≡ false
+  unmatched_value v some differs = rw (any_by_value key (is_part_of y) ps rising, some, differs) refl
 
   -- a value that matches leaves the pairs above to the others
-  pub matched_value : (v : Tree) → value_under key ps ≡ Some v → is_matched_by y v ≡ true → AreRising (key ∷ keys qs) → each_pair_is_matched (pair key y qs) (members ps) ≡ each_pair_is_matched qs (members (pairs_above key ps))
+  pub matched_value : (v : Tree) → value_under key ps ≡ Some v → is_part_of y v ≡ true → AreRising (key ∷ keys qs)
+      → each_pair_is_matched (pair key y qs) (members ps) ≡ each_pair_is_matched qs (members (pairs_above key ps))
   matched_value v some matches wanted =
-      rw (any_by_value key (is_matched_by y) ps rising, some, matches) (each_above key qs ps wanted.0 wanted.1)
+      rw (any_by_value key (is_part_of y) ps rising, some, matches) (each_above key qs ps wanted.0 wanted.1)
 
   -- the value under the key decides with the pairs above
-  pub matched_pair : (v : Tree) → value_under key ps ≡ Some v → AreRising (key ∷ keys qs) → each_pair_is_matched (pair key y qs) (members ps) ≡ (is_matched_by y v && each_pair_is_matched qs (members (pairs_above key ps)))
+  pub matched_pair : (v : Tree) → value_under key ps ≡ Some v → AreRising (key ∷ keys qs)
+      → each_pair_is_matched (pair key y qs) (members ps) ≡ (is_part_of y v && each_pair_is_matched qs (members (pairs_above key ps)))
   matched_pair v some wanted =
-      rw (any_by_value key (is_matched_by y) ps rising, some) (ap (λ (b : Bool). is_matched_by y v && b) (each_above key qs ps wanted.0 wanted.1))
+      rw (any_by_value key (is_part_of y) ps rising, some) (ap (λ (b : Bool). is_part_of y v && b) (each_above key qs ps wanted.0 wanted.1))
 
 -- ---- entries
 
@@ -102,7 +109,7 @@ entry_found form e None h = absurd h
 entry_found form e (Some t) h = (t, refl, h)
 
 -- what is no container matches where it is equal
-pub scalar_match : (form : Form) (e : StoredEntry) (y : Tree) → Stores form e y → (e.kind == 5) ≡ false → (x : Tree) → is_equal x y ≡ is_matched_by y x
+pub scalar_match : (form : Form) (e : StoredEntry) (y : Tree) → Stores form e y → (e.kind == 5) ≡ false → (x : Tree) → is_equal x y ≡ is_part_of y x
 scalar_match form e null h k x = refl
 scalar_match form e (boolean b) h k x = refl
 scalar_match form e (number n) h k x = refl
@@ -111,18 +118,19 @@ scalar_match form e (extension z) h k x = refl
 scalar_match form e (array ys) h k x = absurd (no_container e.kind k h.content.0)
 scalar_match form e (object qs) h k x = absurd (no_container e.kind k h.content.0)
 
-pub scalar_matches : (form : Form) (e : StoredEntry) (y : Tree) → Stores form e y → (e.kind == 5) ≡ false → (xs : List Tree) → list_any (λ x. is_equal x y) xs ≡ list_any (is_matched_by y) xs
+pub scalar_matches : (form : Form) (e : StoredEntry) (y : Tree) → Stores form e y → (e.kind == 5) ≡ false → (xs : List Tree)
+    → list_any (λ x. is_equal x y) xs ≡ list_any (is_part_of y) xs
 scalar_matches form e y h k [] = refl
 scalar_matches form e y h k (x ∷ xs) = ap₂ (λ a b. a || b) (scalar_match form e y h k x) (scalar_matches form e y h k xs)
 
 -- ---- items
 
 -- what the search for a key answers
-pub no_value_found : (form : Form) (o : Option Tree) → SameOption (Stands form) None o → o ≡ None
+pub no_value_found : (form : Form) (o : Option Tree) → SameOption (StandsFor form) None o → o ≡ None
 no_value_found form None h = refl
 no_value_found form (Some t) h = absurd h
 
-pub value_found : (form : Form) (x : Item) (o : Option Tree) → SameOption (Stands form) (Some x) o → (t : Tree) × (o ≡ Some t) × Stands form x t
+pub value_found : (form : Form) (x : Item) (o : Option Tree) → SameOption (StandsFor form) (Some x) o → (t : Tree) × (o ≡ Some t) × StandsFor form x t
 value_found form x None h = absurd h
 value_found form x (Some t) h = (t, refl, h)
 
@@ -130,10 +138,10 @@ pub no_object : (x : Item) (b d : Bor (List ℕ)) → x ≡ item.Array b → x �
 no_object x b d h k = cc
 
 -- items that are not two arrays nor two objects match where they are equal
-pub matches_if_equal : (form other_form : Form) (x y : Item) (t u : Tree) → Stands form x t → Stands other_form y u
+pub matches_if_equal : (form other_form : Form) (x y : Item) (t u : Tree) → StandsFor form x t → StandsFor other_form y u
     → ((b d : Bor (List ℕ)) → x ≡ item.Array b → y ≡ item.Array d → ⊥)
     → ((b d : Bor (List ℕ)) → x ≡ item.Object b → y ≡ item.Object d → ⊥)
-    → is_equal t u ≡ is_matched_by u t
+    → is_equal t u ≡ is_part_of u t
 matches_if_equal form other_form x item.Null t u h k arrays objects = rw k refl
 matches_if_equal form other_form x (item.Boolean b) t u h k arrays objects = rw k refl
 matches_if_equal form other_form x (item.Number n) t u h k arrays objects = rw k refl

@@ -18,7 +18,7 @@ use Rattle.jsonb_doc.proofs.BuilderSteps.{AreRising, keys_rise}
 use Rattle.jsonb_doc.proofs.TreeLists.{keys_of-members}
 use Rattle.jsonb_raw.specs.declared.functions.operator.merge.MergedPairs.{MergedPairs}
 use Rattle.jsonb_raw.specs.Concat.{merged}
-use Rattle.jsonb_raw.specs.MergedPairs.{HasMergedLeft, TakesMerged}
+use Rattle.jsonb_raw.specs.Private.MergedPairs.{HasMergedLeft, TakesMerged}
 use Rattle.jsonb_raw.proofs.PairStepLemmas.{test_of_order, above_key, below_key, below_further, same_below}
 
 abbrev Member : Type 0
@@ -51,7 +51,8 @@ module _ (k : List ℕ) (t : Tree) (l : List ℕ) (u : Tree) (xs qs : List Membe
 
 -- ---- keys
 
-below_inserted : (low key : List ℕ) (x : Tree) (ps : List Member) → slice_cmp nat_cmp low key ≡ Less → IsBelowFirst low (keys_of ps) → IsBelowFirst low (keys_of (insert_pair key x ps))
+below_inserted : (low key : List ℕ) (x : Tree) (ps : List Member) → slice_cmp nat_cmp low key ≡ Less → IsBelowFirst low (keys_of ps)
+    → IsBelowFirst low (keys_of (insert_pair key x ps))
 below_inserted low key x [] less below = less
 below_inserted low key x (p ∷ ps) less below = go (slice_cmp nat_cmp key p.0)
   where
@@ -64,7 +65,8 @@ pub rising_inserted : (key : List ℕ) (x : Tree) (ps : List Member) → AreRisi
 rising_inserted key x [] rising = (tt, tt)
 rising_inserted key x (p ∷ ps) rising = go (slice_cmp nat_cmp key p.0) refl (rising_inserted key x ps rising.1)
   where
-    go : (o : Ordering) → slice_cmp nat_cmp key p.0 ≡ o → AreRising (keys_of (insert_pair key x ps)) → AreRising (keys_of (match_ordering o ((key, x) ∷ p ∷ ps) ((p.0, x) ∷ ps) (p ∷ insert_pair key x ps)))
+    go : (o : Ordering) → slice_cmp nat_cmp key p.0 ≡ o → AreRising (keys_of (insert_pair key x ps))
+        → AreRising (keys_of (match_ordering o ((key, x) ∷ p ∷ ps) ((p.0, x) ∷ ps) (p ∷ insert_pair key x ps)))
     go Less e rest = (e, rising)
     go Equal e rest = rising
     go Greater e rest = (below_inserted p.0 key x ps (below_key key p.0 e) rising.0, rest)
@@ -93,7 +95,8 @@ pub record OrdersNext (pair other : Given) (o : Ordering) : Type 0 where
 
 module _ (form : Form) (first second first' second' : PairIter) (r' s' : Given) where
   -- the first object's pair is next
-  take_first : (ps qs : Pairs) (r s : Given) → AreKeys (keys qs) → OrdersNext r s Less → TakesPair form ps r first → TakesPair form qs s second → GivesPair first r' first'
+  take_first : (ps qs : Pairs) (r s : Given) → AreKeys (keys qs) → OrdersNext r s Less → TakesPair form ps r first → TakesPair form qs s second
+      → GivesPair first r' first'
       → TakesMerged form (merged (members ps) (members qs)) r (record { first = first'; second = second; pair = r'; other = s })
   take_first no_pairs qs None s are order h i n = absurd (cc (order.no_first refl))
   take_first no_pairs qs (Some r) s are order h i n = absurd h
@@ -110,7 +113,8 @@ module _ (form : Form) (first second first' second' : PairIter) (r' s' : Given) 
       (h.0, h.1, record { firsts = ps; seconds = pair l u qs; first_left = n.takes form ps h.2; second_left = i; second_keys = are; joined = refl })
 
   -- both have the next key
-  take_both : (ps qs : Pairs) (r s : Given) → AreKeys (keys qs) → OrdersNext r s Equal → TakesPair form ps r first → TakesPair form qs s second → GivesPair first r' first' → GivesPair second s' second'
+  take_both : (ps qs : Pairs) (r s : Given) → AreKeys (keys qs) → OrdersNext r s Equal → TakesPair form ps r first → TakesPair form qs s second
+      → GivesPair first r' first' → GivesPair second s' second'
       → TakesMerged form (merged (members ps) (members qs)) s (record { first = first'; second = second'; pair = r'; other = s' })
   take_both no_pairs qs None s are order h i n m = absurd (cc (order.no_first refl))
   take_both no_pairs qs (Some r) s are order h i n m = absurd h
@@ -122,11 +126,16 @@ module _ (form : Form) (first second first' second' : PairIter) (r' s' : Given) 
   take_both (pair k t ps) (pair l u qs) (Some (Ok g)) (Some (Err e)) are order h i n m = absurd i
   take_both (pair k t ps) (pair l u qs) (Some (Ok g)) (Some (Ok f)) are order h i n m =
       let e : slice_cmp nat_cmp k l ≡ Equal = sym (rw (h.0, i.0) at (order.both g f refl refl)) in
-      rw (merged_equal k t l u (members ps) (members qs) (rising_members (pair l u qs) are) e)
-      (i.0 ∙ sym (equal_keys k l e), i.1, record { firsts = ps; seconds = qs; first_left = n.takes form ps h.2; second_left = m.takes form qs i.2; second_keys = are.2; joined = refl })
+      rw (merged_equal k t l u (members ps) (members qs) (rising_members (pair l u qs) are) e) (
+        i.0 ∙ sym
+            (equal_keys k l e),
+        i.1,
+        record { firsts = ps; seconds = qs; first_left = n.takes form ps h.2; second_left = m.takes form qs i.2; second_keys = are.2; joined = refl },
+      )
 
   -- the second object's pair is next
-  take_second : (ps qs : Pairs) (r s : Given) → AreKeys (keys qs) → OrdersNext r s Greater → TakesPair form ps r first → TakesPair form qs s second → GivesPair second s' second'
+  take_second : (ps qs : Pairs) (r s : Given) → AreKeys (keys qs) → OrdersNext r s Greater → TakesPair form ps r first → TakesPair form qs s second
+      → GivesPair second s' second'
       → TakesMerged form (merged (members ps) (members qs)) s (record { first = first; second = second'; pair = r; other = s' })
   take_second no_pairs qs (Some r) s are order h i m = absurd h
   take_second no_pairs no_pairs None None are order h i m =
@@ -135,8 +144,19 @@ module _ (form : Form) (first second first' second' : PairIter) (r' s' : Given) 
   take_second no_pairs (pair l u qs) None None are order h i m = absurd i
   take_second no_pairs (pair l u qs) None (Some (Err e)) are order h i m = absurd i
   take_second no_pairs (pair l u qs) None (Some (Ok f)) are order h i m =
-      rw (merged_none (members (pair l u qs)) (rising_members (pair l u qs) are))
-      (i.0, i.1, record { firsts = no_pairs; seconds = qs; first_left = h; second_left = m.takes form qs i.2; second_keys = are.2; joined = merged_none (members qs) (rising_members qs are.2) })
+      rw (merged_none (members (pair l u qs)) (rising_members (pair l u qs) are)) (
+        i.0,
+        i.1,
+        record {
+          firsts = no_pairs;
+          seconds = qs;
+          first_left = h;
+          second_left = m.takes form qs i.2;
+          second_keys = are.2;
+          joined = merged_none
+              (members qs) (rising_members qs are.2);
+        },
+      )
   take_second (pair k t ps) qs None s are order h i m = absurd h
   take_second (pair k t ps) qs (Some (Err e)) s are order h i m = absurd h
   take_second (pair k t ps) no_pairs (Some (Ok g)) None are order h i m = absurd (cc (order.no_second (Ok g) refl refl))
@@ -149,17 +169,20 @@ module _ (form : Form) (first second first' second' : PairIter) (r' s' : Given) 
       (i.0, i.1, record { firsts = pair k t ps; seconds = qs; first_left = h; second_left = m.takes form qs i.2; second_keys = are.2; joined = refl })
 
 module _ (form : Form) (it : MergedPairs) (whole : List Member) (h : HasMergedLeft form it whole) (first' second' : PairIter) (r' s' : Given) where
-  pub first_taken : OrdersNext it.pair it.other Less → GivesPair it.first r' first' → TakesMerged form whole it.pair (record { first = first'; second = it.second; pair = r'; other = it.other })
+  pub first_taken : OrdersNext it.pair it.other Less → GivesPair it.first r' first'
+      → TakesMerged form whole it.pair (record { first = first'; second = it.second; pair = r'; other = it.other })
   first_taken order n =
       subst (λ ps. TakesMerged form ps it.pair (record { first = first'; second = it.second; pair = r'; other = it.other })) h.joined
       (take_first form it.first it.second first' second' r' s' h.firsts h.seconds it.pair it.other h.second_keys order h.first_left h.second_left n)
 
-  pub both_taken : OrdersNext it.pair it.other Equal → GivesPair it.first r' first' → GivesPair it.second s' second' → TakesMerged form whole it.other (record { first = first'; second = second'; pair = r'; other = s' })
+  pub both_taken : OrdersNext it.pair it.other Equal → GivesPair it.first r' first' → GivesPair it.second s' second'
+      → TakesMerged form whole it.other (record { first = first'; second = second'; pair = r'; other = s' })
   both_taken order n m =
       subst (λ ps. TakesMerged form ps it.other (record { first = first'; second = second'; pair = r'; other = s' })) h.joined
       (take_both form it.first it.second first' second' r' s' h.firsts h.seconds it.pair it.other h.second_keys order h.first_left h.second_left n m)
 
-  pub second_taken : OrdersNext it.pair it.other Greater → GivesPair it.second s' second' → TakesMerged form whole it.other (record { first = it.first; second = second'; pair = it.pair; other = s' })
+  pub second_taken : OrdersNext it.pair it.other Greater → GivesPair it.second s' second'
+      → TakesMerged form whole it.other (record { first = it.first; second = second'; pair = it.pair; other = s' })
   second_taken order m =
       subst (λ ps. TakesMerged form ps it.other (record { first = it.first; second = second'; pair = it.pair; other = s' })) h.joined
       (take_second form it.first it.second first' second' r' s' h.firsts h.seconds it.pair it.other h.second_keys order h.first_left h.second_left m)

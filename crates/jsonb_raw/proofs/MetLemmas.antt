@@ -3,42 +3,45 @@ use Rattle.std.proofs.Common.{◌≡◌, ◌++◌, ℕ, List, [], ◌∷◌, Opt
 use Rattle.std.specs.Prelude.{option_map}
 use Rattle.jsonb_doc.specs.Tree.{Tree}
 use Rattle.jsonb_doc.specs.Answer.{SameOption}
-use Rattle.jsonb_doc.specs.Spots.{Marks}
+use Rattle.jsonb_doc.specs.Spots.{Locates}
 use Rattle.jsonb_doc.specs.declared.spot.Spot.{Spot}
 use Rattle.jsonb_keypath.specs.KeyPathGrammar.{Key}
-use Rattle.jsonb_raw.specs.Places.{children, child_position, place}
+use Rattle.jsonb_raw.specs.Places.{children, child_position, location}
 
 -- The spot marks a tree. What the steps that are left meet there is, behind the positions so far, what is wanted.
 pub record Walked (bytes : List ℕ) (passed : List ℕ) (spot : Spot) (steps : List Key) (wanted : Option (List ℕ)) : Type 0 where
   pub here : Tree
-  pub marks : Marks bytes spot here
-  pub left : option_map (λ ns. passed ++ ns) (place steps here) ≡ wanted
+  pub marks : Locates bytes spot here
+  pub left : option_map (λ ns. passed ++ ns) (location steps here) ≡ wanted
 
-pub walk_begun : (bytes : List ℕ) (spot : Spot) (steps : List Key) (t : Tree) → Marks bytes spot t → Walked bytes [] spot steps (place steps t)
-walk_begun bytes spot steps t m = record { here = t; marks = m; left = by (place steps t) }
+pub walk_begun : (bytes : List ℕ) (spot : Spot) (steps : List Key) (t : Tree) → Locates bytes spot t → Walked bytes [] spot steps (location steps t)
+walk_begun bytes spot steps t m = record { here = t; marks = m; left = by (location steps t) }
   where
     by : (o : Option (List ℕ)) → option_map (λ ns. [] ++ ns) o ≡ o
     by None = refl
     by (Some ns) = refl
 
-behind : (passed : List ℕ) (n : ℕ) (o : Option (List ℕ)) → option_map (λ ns. passed ++ ns) (option_map (λ ns. n ∷ ns) o) ≡ option_map (λ ns. (passed ++ n ∷ []) ++ ns) o
+behind : (passed : List ℕ) (n : ℕ) (o : Option (List ℕ))
+    → option_map (λ ns. passed ++ ns) (option_map (λ ns. n ∷ ns) o) ≡ option_map (λ ns. (passed ++ n ∷ []) ++ ns) o
 behind passed n None = refl
 behind passed n (Some ns) = ap Some (sym (append_assoc passed (n ∷ []) ns))
 
 next_place : (step : Key) (steps : List Key) (here child : Tree) (n : ℕ) → child_position step here ≡ Some n → slice_get (children here) n ≡ Some child
-    → place (step ∷ steps) here ≡ option_map (λ ns. n ∷ ns) (place steps child)
+    → location (step ∷ steps) here ≡ option_map (λ ns. n ∷ ns) (location steps child)
 next_place step steps here child n meets is = rw (meets, is) refl
 
 -- one child more is met
 pub met_next : (bytes : List ℕ) (passed : List ℕ) (spot : Spot) (step : Key) (now steps : List Key) (wanted : Option (List ℕ)) → now ≡ step ∷ steps
-    → (w : Walked bytes passed spot now wanted) → (child : Spot) (n : ℕ) → Some n ≡ child_position step w.here → SameOption (Marks bytes) (Some child) (slice_get (children w.here) n)
+    → (w : Walked bytes passed spot now wanted) → (child : Spot) (n : ℕ) → Some n ≡ child_position step w.here
+    → SameOption (Locates bytes) (Some child) (slice_get (children w.here) n)
     → Walked bytes (passed ++ n ∷ []) child steps wanted
 met_next bytes passed spot step now steps wanted is w child n meets marks = by (slice_get (children w.here) n) refl marks
   where
-    by : (o : Option Tree) → slice_get (children w.here) n ≡ o → SameOption (Marks bytes) (Some child) o → Walked bytes (passed ++ n ∷ []) child steps wanted
+    by : (o : Option Tree) → slice_get (children w.here) n ≡ o → SameOption (Locates bytes) (Some child) o → Walked bytes (passed ++ n ∷ []) child steps wanted
     by None e h = absurd h
     by (Some x) e h = record {
       here = x;
       marks = h;
-      left = sym (behind passed n (place steps x)) ∙ ap (option_map (λ ns. passed ++ ns)) (sym (next_place step steps w.here x n (sym meets) e)) ∙ rw is at w.left;
+      left = sym (behind passed n (location steps x)) ∙ ap (option_map (λ ns. passed ++ ns)) (sym (next_place step steps w.here x n (sym meets) e))
+          ∙ rw is at w.left;
     }

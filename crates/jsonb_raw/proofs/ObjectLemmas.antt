@@ -1,5 +1,5 @@
 -- Which trees have pairs, and what is made of them.
-use Rattle.std.proofs.Common.{◌≡◌, ◌⊎◌, inl, inr, ℕ, List, [], ◌∷◌, ◌++◌, String, Global, subst, Option, Some, None, Result, Ok, Err, refl, sym, ap, ◌∙◌}
+use Rattle.std.proofs.Common.{◌≡◌, ◌⊎◌, inl, inr, ℕ, List, [], ◌∷◌, ◌++◌, String, Global, subst, Option, Some, None, Result, Ok, Err, refl, sym, ap, ◌∙◌, MatchOption}
 use Rattle.std.specs.Borrow.{Bor}
 use Rattle.std.specs.Map.{keys_of, values_of}
 use Rattle.std.specs.List.{Any}
@@ -7,7 +7,7 @@ use Rattle.jsonb_doc.specs.Tree as spec
 use Rattle.jsonb_doc.specs.Tree.{Tree, object, Pairs, keys, members, pairs_of}
 use Rattle.jsonb_doc.specs.Payload.{Form}
 use Rattle.jsonb_doc.specs.Format.{Decodes}
-use Rattle.jsonb_doc.specs.Answer.{WantsRoom}
+use Rattle.jsonb_doc.specs.Answer.{IsOutOfMemoryOrTooLarge}
 use Rattle.jsonb_doc.specs.Limits.{IsTooLarge}
 use Rattle.jsonb_doc.specs.declared.error.Error.TheVariants.{OutOfMemory, TooLarge}
 use Rattle.jsonb_doc.specs.ObjectKeys.{HasKeysLeft, TakesKey, IsKeysOf}
@@ -19,9 +19,9 @@ use Rattle.jsonb_doc.proofs.LimitLemmas.{decoded_members}
 use Rattle.jsonb_doc.proofs.BuilderSteps.{AreRising, keys_rise}
 use Rattle.jsonb_raw.specs.declared.owned.OwnedJsonb.{OwnedJsonb}
 use Rattle.jsonb_raw.specs.Documents.{Makes}
-use Rattle.jsonb_raw.specs.Making.{MakesOr, IsPairOf}
+use Rattle.jsonb_raw.specs.Making.{IsPairOf}
 use Rattle.jsonb_raw.specs.Objects.{with_pairs}
-use Rattle.jsonb_raw.proofs.Listed.{Made, any_here}
+use Rattle.jsonb_raw.proofs.CollectLoops.{Made, any_here}
 
 -- a tree with an iterator over pairs is an object
 pub object_of : (form : Form) (t : Tree) (found : Option PairIter) (it : PairIter) → found ≡ Some it → IsPairsOf form t found → (ps : Pairs) × (t ≡ object ps)
@@ -34,7 +34,8 @@ object_of form (spec.extension x) found it is h = absurd (rw is at h)
 object_of form (spec.array ts) found it is h = absurd (rw is at h)
 
 -- a tree without one is no object
-pub no_object : (form : Form) (t : Tree) (found : Option PairIter) (change : List (List ℕ × Tree) → List (List ℕ × Tree)) → found ≡ None → IsPairsOf form t found → with_pairs change t ≡ None
+pub no_object : (form : Form) (t : Tree) (found : Option PairIter) (change : List (List ℕ × Tree) → List (List ℕ × Tree)) → found ≡ None
+    → IsPairsOf form t found → with_pairs change t ≡ None
 no_object form (object ps) found change is h = absurd (rw is at h)
 no_object form spec.null found change is h = refl
 no_object form (spec.boolean b) found change is h = refl
@@ -44,10 +45,11 @@ no_object form (spec.extension x) found change is h = refl
 no_object form (spec.array ts) found change is h = refl
 
 -- the answer for the pairs of an object is one for the tree
-pub made_of_object : (form : Form) (bytes : List ℕ) (t : Tree) (found : Option PairIter) (it : PairIter) (refusal : Error) (change : List (List ℕ × Tree) → List (List ℕ × Tree)) (r : Result OwnedJsonb Error)
+pub made_of_object : (form : Form) (bytes : List ℕ) (t : Tree) (found : Option PairIter) (it : PairIter) (refusal : Error)
+    (change : List (List ℕ × Tree) → List (List ℕ × Tree)) (r : Result OwnedJsonb Error)
     → found ≡ Some it → IsPairsOf form t found → Decodes form bytes t
     → ((ps : Pairs) → Decodes form bytes (object ps) → Makes form (object (pairs_of (change (members ps)))) r)
-    → MakesOr refusal form (with_pairs change t) r
+    → MatchOption (with_pairs change t) (r ≡ Err refusal) (λ wanted. Makes form wanted r)
 made_of_object form bytes t found it refusal change r is left d made =
     let o = object_of form t found it is left in rw o.1 (made o.0 (rw o.1 at d))
 
@@ -58,7 +60,8 @@ members_rise form bytes ps d = keys_rise (keys_of (members ps)) (decoded_members
 -- ---- keys
 
 -- a tree with an iterator over keys is an object
-pub object_of_keys : (t : Tree) (found : Option KeyIter) (it : KeyIter) → found ≡ Some it → IsKeysOf t found → (ps : Pairs) × (t ≡ object ps) × HasKeysLeft it (keys ps)
+pub object_of_keys : (t : Tree) (found : Option KeyIter) (it : KeyIter) → found ≡ Some it → IsKeysOf t found
+    → (ps : Pairs) × (t ≡ object ps) × HasKeysLeft it (keys ps)
 object_of_keys (object ps) found it is h = (ps, refl, rw is at h)
 object_of_keys spec.null found it is h = absurd (rw is at h)
 object_of_keys (spec.boolean b) found it is h = absurd (rw is at h)
@@ -73,7 +76,8 @@ pub record FirstKey (ks : List (List ℕ)) (x : Bor (List ℕ)) (after : KeyIter
   pub split : ks ≡ x.now ∷ rest
   pub left : HasKeysLeft after rest
 
-pub first_key : (ks : List (List ℕ)) (r : Result (Bor (List ℕ)) Error) (x : Bor (List ℕ)) (after : KeyIter) → r ≡ Ok x → TakesKey ks (Some r) after → FirstKey ks x after
+pub first_key : (ks : List (List ℕ)) (r : Result (Bor (List ℕ)) Error) (x : Bor (List ℕ)) (after : KeyIter) → r ≡ Ok x → TakesKey ks (Some r) after
+    → FirstKey ks x after
 first_key [] r x after is h = absurd h
 first_key (k ∷ ks) r x after is h =
     let g : (x.now ≡ k) × HasKeysLeft after ks = rw is at h in
@@ -95,7 +99,12 @@ values_joined (p ∷ ps) left = ap (λ ts. p.1 ∷ ts) (values_joined ps left)
 
 -- where a document of the next value is refused, those of all values are
 pub pair_refused_in_list : (form : Form) (made : List (String Global × OwnedJsonb)) (key : List ℕ) (t : Tree) (left whole : List (List ℕ × Tree)) (e : Error)
-    → Made (IsPairOf form) made ((key, t) ∷ left) whole → WantsRoom form t e → (e ≡ OutOfMemory) ⊎ ((e ≡ TooLarge) × Any (IsTooLarge form) (values_of whole))
+    → Made (IsPairOf form) made ((key, t) ∷ left) whole → IsOutOfMemoryOrTooLarge form t e
+    → (e ≡ OutOfMemory) ⊎ ((e ≡ TooLarge) × Any (IsTooLarge form) (values_of whole))
 pair_refused_in_list form made key t left whole e m (inl memory) = inl memory
 pair_refused_in_list form made key t left whole e m (inr (is, large)) =
-    inr (is, subst (Any (IsTooLarge form)) (sym (values_joined m.front ((key, t) ∷ left)) ∙ ap values_of m.joined) (any_here (IsTooLarge form) (values_of m.front) (values_of left) t large))
+    inr (
+      is,
+      subst (Any (IsTooLarge form)) (sym (values_joined m.front ((key, t) ∷ left)) ∙ ap values_of m.joined)
+          (any_here (IsTooLarge form) (values_of m.front) (values_of left) t large),
+    )

@@ -8,7 +8,7 @@ use Rattle.std.proofs.lemmas.Map.Text.{is_eq-slice_cmp}
 use Rattle.jsonb_doc.specs.Tree.{Tree, Pairs, no_pairs, pair, keys, value_under}
 use Rattle.jsonb_doc.specs.Format.{IsBelowFirst}
 use Rattle.jsonb_doc.proofs.BuilderSteps.{AreRising}
-use Rattle.jsonb_raw.specs.PairSteps.{pairs_above}
+use Rattle.jsonb_raw.specs.Private.PairSteps.{pairs_above}
 
 pub test_of_order : (k key : List ℕ) (o : Ordering) → slice_cmp nat_cmp k key ≡ o → bytes_eq k key ≡ is_eq o
 test_of_order k key o e = sym (is_eq-slice_cmp k key) ∙ ap is_eq e

@@ -6,11 +6,11 @@ use Rattle.std.specs.Str.{bytes_eq}
 use Rattle.std.proofs.lemmas.Bool.Decides.{nat_tests}
 use Rattle.jsonb_doc.specs.Tree.{Tree, null, boolean, number, text, extension, array, object, Pairs, no_pairs, pair, elements, keys, values, value_under, field_of}
 use Rattle.jsonb_doc.specs.Payload.{Form}
-use Rattle.jsonb_doc.specs.Item.{Stands}
+use Rattle.jsonb_doc.specs.Item.{StandsFor}
 use Rattle.jsonb_doc.specs.declared.item.Item.{Item}
 use Rattle.jsonb_doc.specs.declared.item.Item.TheVariants as item
-use Rattle.jsonb_keypath.specs.KeyPathGrammar.{Key, index, quoted_name, plain_name}
-use Rattle.jsonb_raw.specs.Places.{children, asked_key, child_position, child_met, place, tree_at, tree_at_steps}
+use Rattle.jsonb_keypath.specs.KeyPathGrammar.{Key, index, quoted_name, unquoted_name}
+use Rattle.jsonb_raw.specs.Places.{children, asked_key, child_position, child_met, location, tree_at, tree_at_steps}
 
 -- ---- the child that a step meets
 
@@ -45,7 +45,8 @@ value_at_key name (pair key value ps) = by (value_at_key name ps) (bytes_eq key 
 
     by : option_and_then (λ n. slice_get (elements (values ps)) n) (position (λ key. bytes_eq key name) (keys ps)) ≡ value_under name ps
         → (b : Bool) → bytes_eq key name ≡ b
-        → option_and_then (λ n. slice_get (value ∷ elements (values ps)) n) (position (λ key. bytes_eq key name) (key ∷ keys ps)) ≡ value_under name (pair key value ps)
+        → option_and_then (λ n. slice_get (value ∷ elements (values ps)) n) (position (λ key. bytes_eq key name) (key ∷ keys ps))
+        ≡ value_under name (pair key value ps)
     by rest true e = rw (position-cons (λ key. bytes_eq key name) key (keys ps) true e, e) refl
     by rest false e = rw (position-cons (λ key. bytes_eq key name) key (keys ps) false e, e) (past _ ∙ rest)
 
@@ -53,9 +54,9 @@ value_at_key name (pair key value ps) = by (value_at_key name ps) (bytes_eq key 
 pub field_met : (step : Key) (ps : Pairs) → child_met step (object ps) ≡ value_under (asked_key step) ps
 field_met (index i) ps = value_at_key _ ps
 field_met (quoted_name name) ps = value_at_key name ps
-field_met (plain_name name) ps = value_at_key name ps
+field_met (unquoted_name name) ps = value_at_key name ps
 
-pub plain_met : (name : List ℕ) (t : Tree) → child_met (plain_name name) t ≡ field_of name t
+pub plain_met : (name : List ℕ) (t : Tree) → child_met (unquoted_name name) t ≡ field_of name t
 plain_met name null = refl
 plain_met name (boolean b) = refl
 plain_met name (number n) = refl
@@ -74,7 +75,7 @@ quoted_met name (array ts) = refl
 quoted_met name (object ps) = value_at_key name ps
 
 -- an index meets nothing in an item that is no container
-pub none_in_scalar : (form : Form) (i : ℤ) (x : Item) (t : Tree) → Stands form x t
+pub none_in_scalar : (form : Form) (i : ℤ) (x : Item) (t : Tree) → StandsFor form x t
     → ((bytes : _) → x ≡ item.Array bytes → ⊥) → ((bytes : _) → x ≡ item.Object bytes → ⊥) → child_met (index i) t ≡ None
 none_in_scalar form i item.Null t h no_array no_object = rw h refl
 none_in_scalar form i (item.Boolean b) t h no_array no_object = rw h refl
@@ -100,12 +101,13 @@ step_by_step step steps t = at_position (child_position step t)
     join n child e (Some ns) = rw e refl
 
     at_child : (n : ℕ) (o : Option Tree) → slice_get (children t) n ≡ o
-        → option_and_then (λ ns. tree_at ns t) (option_map (λ ns. n ∷ ns) (option_and_then (place steps) o)) ≡ option_and_then (tree_at_steps steps) o
+        → option_and_then (λ ns. tree_at ns t) (option_map (λ ns. n ∷ ns) (option_and_then (location steps) o)) ≡ option_and_then (tree_at_steps steps) o
     at_child n None e = refl
-    at_child n (Some child) e = join n child e (place steps child)
+    at_child n (Some child) e = join n child e (location steps child)
 
     at_position : (o : Option ℕ)
-        → option_and_then (λ ns. tree_at ns t) (option_and_then (λ n. option_map (λ ns. n ∷ ns) (option_and_then (place steps) (slice_get (children t) n))) o)
+        → option_and_then (λ ns. tree_at ns t)
+        (option_and_then (λ n. option_map (λ ns. n ∷ ns) (option_and_then (location steps) (slice_get (children t) n))) o)
         ≡ option_and_then (tree_at_steps steps) (option_and_then (λ n. slice_get (children t) n) o)
     at_position None = refl
     at_position (Some n) = at_child n (slice_get (children t) n) refl

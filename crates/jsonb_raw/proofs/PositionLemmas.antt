@@ -1,5 +1,5 @@
 -- The position of the child that a step meets, found by its index or by its key.
-use Rattle.std.proofs.Common.{◌≡◌, ℕ, suc, ◌+◌, ◌-◌, ◌<◌, ◌≤◌, ℤ, pos, negsuc, Bool, true, false, List, [], ◌∷◌, length, Option, Some, None, Result, Ok, Err, IsOkAnd, refl, ap, ◌∙◌, arith, nat_lt, Global}
+use Rattle.std.proofs.Common.{◌≡◌, ℕ, suc, ◌+◌, ◌-◌, ◌<◌, ◌≤◌, ℤ, pos, negsuc, Bool, true, false, List, [], ◌∷◌, length, Option, Some, None, Result, Ok, Err, IsOkAnd, refl, ap, ◌∙◌, arith, nat_lt, Global, MatchResult}
 use Rattle.std.specs.Prelude.{position, option_map, unsigned_abs, SomeIff}
 use Rattle.std.specs.Borrow.{Bor}
 use Rattle.std.specs.Str.{bytes_eq}
@@ -11,19 +11,19 @@ use Rattle.std.specs.declared.borrow.CowStr.{CowStr}
 use Rattle.jsonb_doc.specs.Tree.{Tree, array, object, Trees, no_trees, tree, Pairs, count, elements, keys, children_of}
 use Rattle.jsonb_doc.specs.Payload.{any}
 use Rattle.jsonb_doc.specs.Format.{Decodes}
-use Rattle.jsonb_doc.specs.Item.{Stands}
-use Rattle.jsonb_doc.specs.Answer.{Answers}
+use Rattle.jsonb_doc.specs.Item.{StandsFor}
+use Rattle.jsonb_doc.specs.Answer.{IsOutOfMemory}
 use Rattle.jsonb_doc.specs.declared.item.Item.{Item}
 use Rattle.jsonb_doc.specs.declared.item.Item.TheVariants as item
 use Rattle.jsonb_keypath.specs.declared.key_path.KeyPath.{KeyPath}
 use Rattle.jsonb_keypath.specs.declared.key_path.KeyPath.TheVariants.{Index, QuotedName, Name}
-use Rattle.jsonb_keypath.specs.KeyPathGrammar.{Key, index, quoted_name, plain_name}
+use Rattle.jsonb_keypath.specs.KeyPathGrammar.{Key, index, quoted_name, unquoted_name}
 use Rattle.jsonb_keypath.specs.KeyPathViews.{key_view}
 use Rattle.jsonb_doc.specs.ObjectKeys.{HasKeysLeft, TakesKey}
 use Rattle.jsonb_doc.specs.declared.error.Error.{Error}
 use Rattle.jsonb_doc.specs.declared.key_iter.KeyIter.{KeyIter}
 use Rattle.jsonb_raw.specs.Places.{asked_key, index_position, child_position}
-use Rattle.jsonb_raw.proofs.Answered.{answered}
+use Rattle.jsonb_raw.proofs.AnswerLemmas.{answered}
 use Rattle.jsonb_raw.proofs.PlaceLemmas.{position-cons}
 
 -- ---- indices
@@ -32,7 +32,8 @@ pub count_elements : (ts : Trees) → count ts ≡ length (elements ts)
 count_elements no_trees = refl
 count_elements (tree t ts) = ap suc (count_elements ts)
 
-pub index_from_end : (i j : ℤ) (distance len : ℕ) (r : Option ℕ) → j ≡ i → distance ≡ unsigned_abs j → lt_z j (pos 0) ≡ true → SomeIff r (distance ≤ len) (len - distance) → r ≡ index_position len i
+pub index_from_end : (i j : ℤ) (distance len : ℕ) (r : Option ℕ) → j ≡ i → distance ≡ unsigned_abs j → lt_z j (pos 0) ≡ true
+    → SomeIff r (distance ≤ len) (len - distance) → r ≡ index_position len i
 index_from_end i (pos m) distance len r same is test h = absurd (grind (arith, nat_tests, test))
 index_from_end i (negsuc m) distance len r same is test h = rw (← same) (by (nat_lt m len) refl r (rw is at h))
   where
@@ -42,7 +43,8 @@ index_from_end i (negsuc m) distance len r same is test h = rw (← same) (by (n
     by false test None h = rw test refl
     by false test (Some x) h = let inside : suc m ≤ len = h.0 in absurd (grind (arith, nat_tests, test))
 
-pub index_inside : (i j : ℤ) (distance len : ℕ) → j ≡ i → distance ≡ unsigned_abs j → lt_z j (pos 0) ≡ false → distance < len → Some distance ≡ index_position len i
+pub index_inside : (i j : ℤ) (distance len : ℕ) → j ≡ i → distance ≡ unsigned_abs j → lt_z j (pos 0) ≡ false → distance < len
+    → Some distance ≡ index_position len i
 index_inside i (pos m) distance len same is test inside =
     let b : nat_lt m len ≡ true = grind (arith, nat_tests, is) in rw (← same, b, is) refl
 index_inside i (negsuc m) distance len same is test inside = cc
@@ -52,15 +54,16 @@ index_outside i (pos m) distance len same is test outside =
     let b : nat_lt m len ≡ false = grind (arith, nat_tests, is) in rw (← same, b) refl
 index_outside i (negsuc m) distance len same is test outside = cc
 
-pub met_in_array : (j i : ℤ) (x : Item) (b : Bor (List ℕ)) (t : Tree) (step : KeyPath) (r : Result (Option ℕ) Error) → j ≡ i → x ≡ item.Array b → step ≡ Index i → Stands any x t
+pub met_in_array : (j i : ℤ) (x : Item) (b : Bor (List ℕ)) (t : Tree) (step : KeyPath) (r : Result (Option ℕ) Error) → j ≡ i → x ≡ item.Array b
+    → step ≡ Index i → StandsFor any x t
     → ((ts : Trees) → Decodes any b.now (array ts) → IsOkAnd r (λ found. found ≡ index_position (length (elements ts)) j))
-    → Answers r (λ found. found ≡ child_position (key_view step) t)
+    → MatchResult r (λ found. found ≡ child_position (key_view step) t) IsOutOfMemory
 met_in_array j i x b t step r same is step_is stands h =
     let s = rw is at stands in
     rw (step_is, s.1) (answered (λ found. found ≡ index_position (length (elements s.0)) i) r (rw same at (h s.0 s.2)))
 
 -- an array has no child for a name
-pub name_at_array : (x : Item) (b : Bor (List ℕ)) (t : Tree) (step : KeyPath) → x ≡ item.Array b → ((i : ℤ) → step ≡ Index i → ⊥) → Stands any x t
+pub name_at_array : (x : Item) (b : Bor (List ℕ)) (t : Tree) (step : KeyPath) → x ≡ item.Array b → ((i : ℤ) → step ≡ Index i → ⊥) → StandsFor any x t
     → None ≡ child_position (key_view step) t
 name_at_array x b t (Index i) is no_index stands = absurd (no_index i refl)
 name_at_array x b t (QuotedName name) is no_index stands = let s = rw is at stands in rw s.1 refl
@@ -71,10 +74,11 @@ nothing_at step (array ts) e = absurd (cc)
 nothing_at step (object ps) e = absurd (cc)
 nothing_at (index i) _ e = refl
 nothing_at (quoted_name name) _ e = refl
-nothing_at (plain_name name) _ e = refl
+nothing_at (unquoted_name name) _ e = refl
 
 -- an item that is no container has no child
-pub no_child_in_scalar : (x : Item) (t : Tree) (step : Key) → ((b : Bor (List ℕ)) → x ≡ item.Array b → ⊥) → ((b : Bor (List ℕ)) → x ≡ item.Object b → ⊥) → Stands any x t
+pub no_child_in_scalar : (x : Item) (t : Tree) (step : Key) → ((b : Bor (List ℕ)) → x ≡ item.Array b → ⊥) → ((b : Bor (List ℕ)) → x ≡ item.Object b → ⊥)
+    → StandsFor any x t
     → None ≡ child_position step t
 no_child_in_scalar item.Null t step no_array no_object h = nothing_at step t (rw h refl)
 no_child_in_scalar (item.Boolean b) t step no_array no_object h = nothing_at step t (rw h refl)
@@ -90,26 +94,31 @@ no_child_in_scalar (item.Object bytes) t step no_array no_object h = absurd (no_
 pub position_in_object : (step : Key) (ps : Pairs) → child_position step (object ps) ≡ position (λ key. bytes_eq key (asked_key step)) (keys ps)
 position_in_object (index i) ps = refl
 position_in_object (quoted_name name) ps = refl
-position_in_object (plain_name name) ps = refl
+position_in_object (unquoted_name name) ps = refl
 
-pub met_in_object : (x : Item) (b : Bor (List ℕ)) (t : Tree) (step : KeyPath) (name : List ℕ) (r : Result (Option ℕ) Error) → x ≡ item.Object b → name ≡ asked_key (key_view step) → Stands any x t
+pub met_in_object : (x : Item) (b : Bor (List ℕ)) (t : Tree) (step : KeyPath) (name : List ℕ) (r : Result (Option ℕ) Error) → x ≡ item.Object b
+    → name ≡ asked_key (key_view step) → StandsFor any x t
     → ((ps : Pairs) → Decodes any b.now (object ps) → IsOkAnd r (λ found. found ≡ position (λ key. bytes_eq key name) (keys ps)))
-    → Answers r (λ found. found ≡ child_position (key_view step) t)
+    → MatchResult r (λ found. found ≡ child_position (key_view step) t) IsOutOfMemory
 met_in_object x b t step name r is asked stands h =
     let s = rw is at stands in
     rw (s.1, position_in_object (key_view step) s.0, ← asked) (answered (λ found. found ≡ position (λ key. bytes_eq key name) (keys s.0)) r (h s.0 s.2))
 
-pub met_by_index : (x : Item) (b : Bor (List ℕ)) (t : Tree) (step : KeyPath) (j i : ℤ) (r : Result (Option ℕ) Error) → j ≡ i → x ≡ item.Object b → step ≡ Index i → Stands any x t
-    → ((ps : Pairs) → Decodes any b.now (object ps) → Answers r (λ found. found ≡ position (λ key. bytes_eq key (signed_decimal j)) (keys ps)))
-    → Answers r (λ found. found ≡ child_position (key_view step) t)
+pub met_by_index : (x : Item) (b : Bor (List ℕ)) (t : Tree) (step : KeyPath) (j i : ℤ) (r : Result (Option ℕ) Error) → j ≡ i → x ≡ item.Object b
+    → step ≡ Index i → StandsFor any x t
+    → ((ps : Pairs) → Decodes any b.now (object ps)
+    → MatchResult r (λ found. found ≡ position (λ key. bytes_eq key (signed_decimal j)) (keys ps)) IsOutOfMemory)
+    → MatchResult r (λ found. found ≡ child_position (key_view step) t) IsOutOfMemory
 met_by_index x b t step j i r same is step_is stands h =
     let s = rw is at stands in rw (step_is, s.1) (rw same at (h s.0 s.2))
 
-pub found_decimal : (name : List ℕ) (i j : ℤ) (ks : List (List ℕ)) (r : Result (Option ℕ) Error) → name ≡ signed_decimal j → j ≡ i → IsOkAnd r (λ found. found ≡ position (λ key. bytes_eq key name) ks)
-    → Answers r (λ found. found ≡ position (λ key. bytes_eq key (signed_decimal i)) ks)
+pub found_decimal : (name : List ℕ) (i j : ℤ) (ks : List (List ℕ)) (r : Result (Option ℕ) Error) → name ≡ signed_decimal j → j ≡ i
+    → IsOkAnd r (λ found. found ≡ position (λ key. bytes_eq key name) ks)
+    → MatchResult r (λ found. found ≡ position (λ key. bytes_eq key (signed_decimal i)) ks) IsOutOfMemory
 found_decimal name i j ks r decimal same h = rw (← same, ← decimal) (answered (λ found. found ≡ position (λ key. bytes_eq key name) ks) r h)
 
-pub asked_quoted : (asked : List ℕ) (name : CowStr Global) (step : KeyPath) → asked ≡ cow_str_bytes name → step ≡ QuotedName name → asked ≡ asked_key (key_view step)
+pub asked_quoted : (asked : List ℕ) (name : CowStr Global) (step : KeyPath) → asked ≡ cow_str_bytes name → step ≡ QuotedName name
+    → asked ≡ asked_key (key_view step)
 asked_quoted asked name step same is = rw is same
 
 pub asked_plain : (asked : List ℕ) (name : CowStr Global) (step : KeyPath) → asked ≡ cow_str_bytes name → step ≡ Name name → asked ≡ asked_key (key_view step)
@@ -121,7 +130,8 @@ pub record FirstKey (ks : List (List ℕ)) (given : List ℕ) (after : KeyIter) 
   pub split : ks ≡ given ∷ rest
   pub left : HasKeysLeft after rest
 
-pub first_key : (ks : List (List ℕ)) (r : Result (Bor (List ℕ)) Error) (given : Bor (List ℕ)) (after : KeyIter) → r ≡ Ok given → TakesKey ks (Some r) after → FirstKey ks given.now after
+pub first_key : (ks : List (List ℕ)) (r : Result (Bor (List ℕ)) Error) (given : Bor (List ℕ)) (after : KeyIter) → r ≡ Ok given → TakesKey ks (Some r) after
+    → FirstKey ks given.now after
 first_key ks r given after is takes = by ks (rw is at takes)
   where
     by : (ls : List (List ℕ)) → TakesKey ls (Some (Ok given)) after → FirstKey ls given.now after
@@ -151,14 +161,16 @@ none_passed name ks = by (position (λ key. bytes_eq key name) ks)
     by None = refl
     by (Some n) = let e : 0 + n ≡ n = omega arith in rw e refl
 
-pub key_here : (passed : ℕ) (name key : List ℕ) (ks rest : List (List ℕ)) (wanted : Option ℕ) → ks ≡ key ∷ rest → bytes_eq key name ≡ true → position_behind passed name ks ≡ wanted
+pub key_here : (passed : ℕ) (name key : List ℕ) (ks rest : List (List ℕ)) (wanted : Option ℕ) → ks ≡ key ∷ rest → bytes_eq key name ≡ true
+    → position_behind passed name ks ≡ wanted
     → Some passed ≡ wanted
 key_here passed name key ks rest wanted split same e =
     let first = position-cons (λ k. bytes_eq k name) key rest true same in
     let zero_more : passed + 0 ≡ passed = omega arith in
     rw (split, first, zero_more) at e
 
-pub key_further : (passed : ℕ) (name key : List ℕ) (ks rest : List (List ℕ)) (wanted : Option ℕ) → ks ≡ key ∷ rest → bytes_eq key name ≡ false → position_behind passed name ks ≡ wanted
+pub key_further : (passed : ℕ) (name key : List ℕ) (ks rest : List (List ℕ)) (wanted : Option ℕ) → ks ≡ key ∷ rest → bytes_eq key name ≡ false
+    → position_behind passed name ks ≡ wanted
     → position_behind (passed + 1) name rest ≡ wanted
 key_further passed name key ks rest wanted split other e =
     let first = position-cons (λ k. bytes_eq k name) key rest false other in

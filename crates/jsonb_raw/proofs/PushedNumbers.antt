@@ -5,59 +5,65 @@ use Rattle.std.specs.Int.Digits.{digits_of}
 use Rattle.std.proofs.lemmas.List.{map-append}
 use Rattle.std.proofs.lemmas.Bool.{ltb-true}
 use Rattle.jsonb_raw.specs.SortableKey.{significant, magnitude_bytes, number_bytes}
-use Rattle.jsonb_raw.specs.Spelling.{signed_byte, signed_bytes}
+use Rattle.jsonb_raw.specs.Private.Complements.{complement_byte, complement_bytes}
 
-signed_bytes-append : (negative : Bool) (xs ys : List ℕ) → signed_bytes negative (xs ++ ys) ≡ signed_bytes negative xs ++ signed_bytes negative ys
-signed_bytes-append negative xs ys = map-append (signed_byte negative) xs ys
+signed_bytes-append : (negative : Bool) (xs ys : List ℕ) → complement_bytes negative (xs ++ ys) ≡ complement_bytes negative xs ++ complement_bytes negative ys
+signed_bytes-append negative xs ys = map-append (complement_byte negative) xs ys
 
 pub magnitude_pushed : (negative : Bool) (old : List ℕ) (n scale e : ℕ) → e ≡ length (digits_of 10 n) + 1000 - scale
-    → ((old ++ signed_bytes negative (to_be_bytes w16 e)) ++ signed_bytes negative (map suc (significant (digits_of 10 n)))) ++ signed_byte negative 0 ∷ [] ≡ old ++ signed_bytes negative (magnitude_bytes n scale)
+    → ((old ++ complement_bytes negative (to_be_bytes w16 e)) ++ complement_bytes negative (map suc (significant (digits_of 10 n))))
+    ++ complement_byte negative 0 ∷ [] ≡ old ++ complement_bytes negative (magnitude_bytes n scale)
 unfolding magnitude_bytes
 magnitude_pushed negative old n scale e h =
     append_assoc (old ++ exponent) digits end ∙ append_assoc old exponent (digits ++ end)
     ∙ ap (λ x. old ++ x)
     (ap (λ x. exponent ++ x) (sym (signed_bytes-append negative (map suc (significant (digits_of 10 n))) (0 ∷ [])))
     ∙ sym (signed_bytes-append negative (to_be_bytes w16 e) (map suc (significant (digits_of 10 n)) ++ 0 ∷ []))
-    ∙ ap (λ k. signed_bytes negative (to_be_bytes w16 k ++ (map suc (significant (digits_of 10 n)) ++ 0 ∷ []))) h)
+    ∙ ap (λ k. complement_bytes negative (to_be_bytes w16 k ++ (map suc (significant (digits_of 10 n)) ++ 0 ∷ []))) h)
   where
     exponent : List ℕ
-    exponent = signed_bytes negative (to_be_bytes w16 e)
+    exponent = complement_bytes negative (to_be_bytes w16 e)
 
     digits : List ℕ
-    digits = signed_bytes negative (map suc (significant (digits_of 10 n)))
+    digits = complement_bytes negative (map suc (significant (digits_of 10 n)))
 
     end : List ℕ
-    end = signed_byte negative 0 ∷ []
+    end = complement_byte negative 0 ∷ []
 
-same_bytes : (bs : List ℕ) → signed_bytes false bs ≡ bs
+same_bytes : (bs : List ℕ) → complement_bytes false bs ≡ bs
 same_bytes [] = refl
 same_bytes (b ∷ bs) = ap (λ x. b ∷ x) (same_bytes bs)
 
-pub negative_pushed : (old : List ℕ) (z : ℤ) (scale : ℕ) → int_lt z (pos 0) ≡ true → (old ++ 0x7f ∷ []) ++ signed_bytes true (magnitude_bytes (nat_abs z) scale) ≡ old ++ number_bytes z scale
+pub negative_pushed : (old : List ℕ) (z : ℤ) (scale : ℕ) → int_lt z (pos 0) ≡ true
+    → (old ++ 0x7f ∷ []) ++ complement_bytes true (magnitude_bytes (nat_abs z) scale) ≡ old ++ number_bytes z scale
 negative_pushed old (pos n) scale h = absurd (let h : n < 0 = ltb-true n 0 h in omega arith)
-negative_pushed old (negsuc n) scale h = append_assoc old (0x7f ∷ []) (signed_bytes true (magnitude_bytes (suc n) scale))
+negative_pushed old (negsuc n) scale h = append_assoc old (0x7f ∷ []) (complement_bytes true (magnitude_bytes (suc n) scale))
 
-pub positive_pushed : (old : List ℕ) (z : ℤ) (scale : ℕ) → int_lt z (pos 0) ≡ false → z ≢ pos 0 → (old ++ 0x81 ∷ []) ++ signed_bytes false (magnitude_bytes (nat_abs z) scale) ≡ old ++ number_bytes z scale
+pub positive_pushed : (old : List ℕ) (z : ℤ) (scale : ℕ) → int_lt z (pos 0) ≡ false → z ≢ pos 0
+    → (old ++ 0x81 ∷ []) ++ complement_bytes false (magnitude_bytes (nat_abs z) scale) ≡ old ++ number_bytes z scale
 positive_pushed old (pos zero) scale h ne = absurd (ne refl)
-positive_pushed old (pos (suc n)) scale h ne = append_assoc old (0x81 ∷ []) (signed_bytes false (magnitude_bytes (suc n) scale)) ∙ ap (λ x. old ++ 0x81 ∷ x) (same_bytes (magnitude_bytes (suc n) scale))
+positive_pushed old (pos (suc n)) scale h ne = append_assoc old (0x81 ∷ []) (complement_bytes false (magnitude_bytes (suc n) scale))
+    ∙ ap (λ x. old ++ 0x81 ∷ x) (same_bytes (magnitude_bytes (suc n) scale))
 positive_pushed old (negsuc n) scale h ne = absurd (true≢false h)
 
 -- the same, push by push
 pub magnitude_steps : (negative : Bool) (old first second last : List ℕ) (n scale e byte : ℕ) → e ≡ length (digits_of 10 n) + 1000 - scale
-    → first ≡ old ++ signed_bytes negative (to_be_bytes w16 e) → second ≡ first ++ signed_bytes negative (map suc (significant (digits_of 10 n))) → byte ≡ signed_byte negative 0 → last ≡ second ++ byte ∷ []
-    → last ≡ old ++ signed_bytes negative (magnitude_bytes n scale)
+    → first ≡ old ++ complement_bytes negative (to_be_bytes w16 e) → second ≡ first ++ complement_bytes negative (map suc (significant (digits_of 10 n)))
+    → byte ≡ complement_byte negative 0 → last ≡ second ++ byte ∷ []
+    → last ≡ old ++ complement_bytes negative (magnitude_bytes n scale)
 magnitude_steps negative old first second last n scale e byte h f g k l =
-    l ∙ ap₂ (λ xs b. xs ++ b ∷ []) (g ∙ ap (λ xs. xs ++ signed_bytes negative (map suc (significant (digits_of 10 n)))) f) k ∙ magnitude_pushed negative old n scale e h
+    l ∙ ap₂ (λ xs b. xs ++ b ∷ []) (g ∙ ap (λ xs. xs ++ complement_bytes negative (map suc (significant (digits_of 10 n)))) f) k
+    ∙ magnitude_pushed negative old n scale e h
 
 -- a sign byte and a magnitude make a number, where v is the whole value as it was read
 pub number_steps : (old first : List ℕ) (sign m : ℕ) (z v : ℤ) (scale : ℕ) → v ≡ z → z ≢ pos 0 → m ≡ nat_abs v → first ≡ old ++ sign ∷ []
     → ((int_lt v (pos 0) ≡ true) × (sign ≡ 0x7f)) ⊎ ((int_lt v (pos 0) ≡ false) × (sign ≡ 0x81))
-    → first ++ signed_bytes (int_lt v (pos 0)) (magnitude_bytes m scale) ≡ old ++ number_bytes z scale
+    → first ++ complement_bytes (int_lt v (pos 0)) (magnitude_bytes m scale) ≡ old ++ number_bytes z scale
 number_steps old first sign m z v scale e ne a f (inl h) =
-    ap₂ (λ xs k. xs ++ signed_bytes (int_lt v (pos 0)) (magnitude_bytes k scale)) (f ∙ ap (λ b. old ++ b ∷ []) h.1) (a ∙ ap nat_abs e)
-    ∙ ap (λ b. (old ++ 0x7f ∷ []) ++ signed_bytes b (magnitude_bytes (nat_abs z) scale)) h.0
+    ap₂ (λ xs k. xs ++ complement_bytes (int_lt v (pos 0)) (magnitude_bytes k scale)) (f ∙ ap (λ b. old ++ b ∷ []) h.1) (a ∙ ap nat_abs e)
+    ∙ ap (λ b. (old ++ 0x7f ∷ []) ++ complement_bytes b (magnitude_bytes (nat_abs z) scale)) h.0
     ∙ negative_pushed old z scale (subst (λ x. int_lt x (pos 0) ≡ true) e h.0)
 number_steps old first sign m z v scale e ne a f (inr h) =
-    ap₂ (λ xs k. xs ++ signed_bytes (int_lt v (pos 0)) (magnitude_bytes k scale)) (f ∙ ap (λ b. old ++ b ∷ []) h.1) (a ∙ ap nat_abs e)
-    ∙ ap (λ b. (old ++ 0x81 ∷ []) ++ signed_bytes b (magnitude_bytes (nat_abs z) scale)) h.0
+    ap₂ (λ xs k. xs ++ complement_bytes (int_lt v (pos 0)) (magnitude_bytes k scale)) (f ∙ ap (λ b. old ++ b ∷ []) h.1) (a ∙ ap nat_abs e)
+    ∙ ap (λ b. (old ++ 0x81 ∷ []) ++ complement_bytes b (magnitude_bytes (nat_abs z) scale)) h.0
     ∙ positive_pushed old z scale (subst (λ x. int_lt x (pos 0) ≡ false) e h.0) ne

@@ -5,7 +5,7 @@ use Rattle.std.specs.Cmp.Lexicographic.{slice_cmp}
 use Rattle.std.specs.Int.{bytes_high_first, byte_at}
 use Rattle.std.proofs.lemmas.Map.Lookups.{exact_bytes}
 use native.Mathlib.Nat.{one-le-pow}
-use Rattle.jsonb_doc.specs.Comparing.{nat_cmp-lt, nat_cmp-gt, nat_cmp_refl, then_assoc, nat_cmp_places, mod_places}
+use Rattle.jsonb_doc.specs.Proofs.Orderings.{nat_cmp-lt, nat_cmp-gt, nat_cmp_refl, then_assoc, nat_cmp_places, mod_places}
 use Rattle.std.proofs.lemmas.Nat.{mod_below}
 use Rattle.jsonb_raw.specs.SortableKey.{escaped_byte, text_bytes}
 
@@ -23,7 +23,10 @@ pub Ranks-head : (x y : ℕ) (xs ys : List ℕ) (o : Ordering) → Ranks xs ys o
 Ranks-head x y xs ys o h = record { ranks = λ r s. ap (ordering_then (nat_cmp x y)) (h.ranks r s) ∙ sym (then_assoc (nat_cmp x y) o (bytes_cmp r s)) }
 
 pub Ranks-append : (xs ys zs ws : List ℕ) (o p : Ordering) → Ranks xs ys o → Ranks zs ws p → Ranks (xs ++ zs) (ys ++ ws) (ordering_then o p)
-Ranks-append xs ys zs ws o p h k = record { ranks = λ r s. ap₂ bytes_cmp (append_assoc xs zs r) (append_assoc ys ws s) ∙ h.ranks (zs ++ r) (ws ++ s) ∙ ap (ordering_then o) (k.ranks r s) ∙ sym (then_assoc o p (bytes_cmp r s)) }
+Ranks-append xs ys zs ws o p h k = record {
+  ranks = λ r s. ap₂ bytes_cmp (append_assoc xs zs r) (append_assoc ys ws s) ∙ h.ranks (zs ++ r) (ws ++ s)
+      ∙ ap (ordering_then o) (k.ranks r s) ∙ sym (then_assoc o p (bytes_cmp r s));
+}
 
 -- a list that begins lower or higher, whatever follows
 pub Ranks-lower : (x y : ℕ) (xs ys : List ℕ) → x < y → Ranks (x ∷ xs) (y ∷ ys) Less
@@ -54,7 +57,8 @@ higher a b x y xs ys h k = subst (Ranks (x ∷ xs) (y ∷ ys)) (sym (nat_cmp-gt 
 
 byte_place : (k m : ℕ) → byte_at k m * 256 ^ k + m % 256 ^ k ≡ m % 256 ^ suc k
 byte_place zero m = omega arith
-byte_place (suc k) m = rw (pow-suc 256 (suc k)) (mod_places m (256 ^ suc k) 256 (one-le-pow (suc k) 256 (omega arith)) (omega arith) ∙ ap (λ p. m % p) (mul_comm 256 (256 ^ suc k)))
+byte_place (suc k) m = rw (pow-suc 256 (suc k))
+    (mod_places m (256 ^ suc k) 256 (one-le-pow (suc k) 256 (omega arith)) (omega arith) ∙ ap (λ p. m % p) (mul_comm 256 (256 ^ suc k)))
 
 pub Ranks-bytes_high_first : (k m n : ℕ) → Ranks (bytes_high_first k m) (bytes_high_first k n) (nat_cmp (m % 256 ^ k) (n % 256 ^ k))
 Ranks-bytes_high_first zero m n = subst (Ranks [] []) (sym (ap₂ nat_cmp (mod-one m) (mod-one n))) Ranks-nil
@@ -63,7 +67,8 @@ Ranks-bytes_high_first zero m n = subst (Ranks [] []) (sym (ap₂ nat_cmp (mod-o
     mod-one m = omega arith
 Ranks-bytes_high_first (suc k) m n =
     subst (Ranks (byte_at k m ∷ bytes_high_first k m) (byte_at k n ∷ bytes_high_first k n))
-    (sym (nat_cmp_places (256 ^ k) (byte_at k m) (byte_at k n) (m % 256 ^ k) (n % 256 ^ k) (mod_below m (256 ^ k) (one-le-pow k 256 (omega arith))) (mod_below n (256 ^ k) (one-le-pow k 256 (omega arith)))) ∙ ap₂ nat_cmp (byte_place k m) (byte_place k n))
+    (sym (nat_cmp_places (256 ^ k) (byte_at k m) (byte_at k n) (m % 256 ^ k) (n % 256 ^ k) (mod_below m (256 ^ k) (one-le-pow k 256 (omega arith)))
+    (mod_below n (256 ^ k) (one-le-pow k 256 (omega arith)))) ∙ ap₂ nat_cmp (byte_place k m) (byte_place k n))
     (Ranks-head (byte_at k m) (byte_at k n) (bytes_high_first k m) (bytes_high_first k n) (nat_cmp (m % 256 ^ k) (n % 256 ^ k)) (Ranks-bytes_high_first k m n))
 
 -- ---- texts
@@ -93,4 +98,5 @@ Ranks-text_bytes (x ∷ xs) [] = first_above x (text_bytes xs)
     first_above zero rest = record { ranks = λ r s. refl }
     first_above (suc zero) rest = record { ranks = λ r s. refl }
     first_above (suc (suc b)) rest = Ranks-higher (suc (suc b)) 0 rest [] (omega arith)
-Ranks-text_bytes (x ∷ xs) (y ∷ ys) = Ranks-append (escaped_byte x) (escaped_byte y) (text_bytes xs) (text_bytes ys) (nat_cmp x y) (bytes_cmp xs ys) (Ranks-escaped x y) (Ranks-text_bytes xs ys)
+Ranks-text_bytes (x ∷ xs) (y ∷ ys) = Ranks-append (escaped_byte x) (escaped_byte y) (text_bytes xs) (text_bytes ys) (nat_cmp x y) (bytes_cmp xs ys)
+    (Ranks-escaped x y) (Ranks-text_bytes xs ys)

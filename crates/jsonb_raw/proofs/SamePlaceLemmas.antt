@@ -2,12 +2,12 @@
 use Rattle.std.proofs.Common.{◌≡◌, ℕ, List, [], ◌∷◌, Option, Some, None, IfSome, refl, sym, ap, slice_get}
 use Rattle.std.specs.Prelude.{option_and_then, option_map}
 use Rattle.jsonb_doc.specs.Tree.{Tree, null, boolean, number, text, extension, array, object}
-use Rattle.jsonb_keypath.specs.KeyPathGrammar.{Key, index, quoted_name, plain_name}
+use Rattle.jsonb_keypath.specs.KeyPathGrammar.{Key, index, quoted_name, unquoted_name}
 use Rattle.jsonb_keypath.specs.KeyPathLaws.{SamePlace, SamePlaces, ReadsBack}
-use Rattle.jsonb_raw.specs.Places.{children, child_position, place}
+use Rattle.jsonb_raw.specs.Places.{children, child_position, location}
 use Rattle.jsonb_raw.specs.PlacesLaws.{PrintsToItsPlace}
 
-without_quotes : (name : List ℕ) (t : Tree) → child_position (quoted_name name) t ≡ child_position (plain_name name) t
+without_quotes : (name : List ℕ) (t : Tree) → child_position (quoted_name name) t ≡ child_position (unquoted_name name) t
 without_quotes name null = refl
 without_quotes name (boolean b) = refl
 without_quotes name (number n) = refl
@@ -19,28 +19,28 @@ without_quotes name (object ps) = refl
 same_child : (step other : Key) → SamePlace step other → (t : Tree) → child_position other t ≡ child_position step t
 same_child (index i) (index j) e t = rw e refl
 same_child (index i) (quoted_name u) e t = absurd e
-same_child (index i) (plain_name u) e t = absurd e
+same_child (index i) (unquoted_name u) e t = absurd e
 same_child (quoted_name s) (index j) e t = absurd e
 same_child (quoted_name s) (quoted_name u) e t = rw e refl
-same_child (quoted_name s) (plain_name u) e t = rw e (sym (without_quotes u t))
-same_child (plain_name s) (index j) e t = absurd e
-same_child (plain_name s) (quoted_name u) e t = rw e (without_quotes u t)
-same_child (plain_name s) (plain_name u) e t = rw e refl
+same_child (quoted_name s) (unquoted_name u) e t = rw e (sym (without_quotes u t))
+same_child (unquoted_name s) (index j) e t = absurd e
+same_child (unquoted_name s) (quoted_name u) e t = rw e (without_quotes u t)
+same_child (unquoted_name s) (unquoted_name u) e t = rw e refl
 
-same_place : (steps others : List Key) → SamePlaces steps others → (t : Tree) → place others t ≡ place steps t
+same_place : (steps others : List Key) → SamePlaces steps others → (t : Tree) → location others t ≡ location steps t
 same_place [] [] h t = refl
 same_place [] (k ∷ others) h t = absurd h
 same_place (k ∷ steps) [] h t = absurd h
 same_place (step ∷ steps) (other ∷ others) h t = rw (same_child step other h.0 t) (by (same_place steps others h.1) (child_position step t))
   where
-    at_child : ((child : Tree) → place others child ≡ place steps child) → (o : Option Tree)
-        → option_and_then (place others) o ≡ option_and_then (place steps) o
+    at_child : ((child : Tree) → location others child ≡ location steps child) → (o : Option Tree)
+        → option_and_then (location others) o ≡ option_and_then (location steps) o
     at_child same None = refl
     at_child same (Some child) = same child
 
-    by : ((child : Tree) → place others child ≡ place steps child) → (o : Option ℕ)
-        → option_and_then (λ n. option_map (λ ns. n ∷ ns) (option_and_then (place others) (slice_get (children t) n))) o
-        ≡ option_and_then (λ n. option_map (λ ns. n ∷ ns) (option_and_then (place steps) (slice_get (children t) n))) o
+    by : ((child : Tree) → location others child ≡ location steps child) → (o : Option ℕ)
+        → option_and_then (λ n. option_map (λ ns. n ∷ ns) (option_and_then (location others) (slice_get (children t) n))) o
+        ≡ option_and_then (λ n. option_map (λ ns. n ∷ ns) (option_and_then (location steps) (slice_get (children t) n))) o
     by same None = refl
     by same (Some n) = ap (option_map (λ ns. n ∷ ns)) (at_child same (slice_get (children t) n))
 

@@ -2,7 +2,7 @@
 use Rattle.std.proofs.Common.{◌≡◌, ℕ, ℤ, Bool, List, None, Bor, refl}
 use Rattle.jsonb_doc.specs.Tree.{Tree}
 use Rattle.jsonb_doc.specs.Payload.{Form}
-use Rattle.jsonb_doc.specs.Item.{Stands}
+use Rattle.jsonb_doc.specs.Item.{StandsFor}
 use Rattle.jsonb_doc.specs.declared.number.Number as code
 use Rattle.jsonb_doc.specs.declared.item.Item.{Item}
 use Rattle.jsonb_doc.specs.declared.item.Item.TheVariants.{Null, Boolean, Number, String, Extension, Array, Object}
@@ -10,7 +10,7 @@ use Rattle.jsonb_raw.specs.Casts.{text_of}
 use Rattle.jsonb_raw.specs.Scalars.{IsWholeNumber}
 
 -- an item that is no number stands for no whole one
-pub no_whole : (form : Form) (item : Item) (t : Tree) → Stands form item t → ((n : code.Number) → item ≡ Number n → ⊥) → (z : ℤ) → IsWholeNumber t z → ⊥
+pub no_whole : (form : Form) (item : Item) (t : Tree) → StandsFor form item t → ((n : code.Number) → item ≡ Number n → ⊥) → (z : ℤ) → IsWholeNumber t z → ⊥
 no_whole form Null t s other z w = let w' = rw s at w in w'
 no_whole form (Boolean b) t s other z w = let w' = rw s at w in w'
 no_whole form (Number n) t s other z w = other n refl
@@ -20,7 +20,8 @@ no_whole form (Array bytes) t (ts, e, d) other z w = let w' = rw e at w in w'
 no_whole form (Object bytes) t (ps, e, d) other z w = let w' = rw e at w in w'
 
 -- an item that is no boolean, number or string stands for a tree without a text
-pub no_text : (form : Form) (item : Item) (t : Tree) → Stands form item t → ((b : Bool) → item ≡ Boolean b → ⊥) → ((n : code.Number) → item ≡ Number n → ⊥) → ((s : Bor (List ℕ)) → item ≡ String s → ⊥) → text_of t ≡ None
+pub no_text : (form : Form) (item : Item) (t : Tree) → StandsFor form item t → ((b : Bool) → item ≡ Boolean b → ⊥) → ((n : code.Number) → item ≡ Number n → ⊥)
+    → ((s : Bor (List ℕ)) → item ≡ String s → ⊥) → text_of t ≡ None
 no_text form Null t is not_boolean not_number not_string = rw is refl
 no_text form (Boolean b) t is not_boolean not_number not_string = absurd (not_boolean b refl)
 no_text form (Number n) t is not_boolean not_number not_string = absurd (not_number n refl)

@@ -4,7 +4,7 @@ use Rattle.std.specs.List.{AllByRecursion}
 use Rattle.jsonb_doc.specs.Tree.{Tree, null, boolean, number, text, extension, array, object, Trees, no_trees, tree, elements, count, trees_of}
 use Rattle.jsonb_doc.specs.Payload.{Form, canonical}
 use Rattle.jsonb_doc.specs.Limits.{Fits, AreInRange, IsShort, HasShortParts, HasShortElements, IsWithinLimits, IsTooLarge}
-use Rattle.jsonb_doc.specs.Answer.{WantsRoom}
+use Rattle.jsonb_doc.specs.Answer.{IsOutOfMemoryOrTooLarge}
 use Rattle.jsonb_doc.specs.ArrayBuilder.{Parts, no_parts, HoldsElements}
 use Rattle.jsonb_doc.specs.Elements.{HasElementsLeft, IsElementsOf}
 use Rattle.jsonb_doc.specs.declared.element_iter.ElementIter.{ElementIter}
@@ -12,7 +12,7 @@ use Rattle.jsonb_doc.specs.declared.error.Error.{Error}
 use Rattle.jsonb_doc.proofs.LimitLemmas.{array_too_large-more}
 use Rattle.jsonb_raw.specs.Arrays.{as_elements}
 use Rattle.jsonb_raw.specs.Sets.{Occurrence, occurrences}
-use Rattle.jsonb_raw.specs.SetCounts.{keeps, kept_one, StandsBehind}
+use Rattle.jsonb_raw.specs.Private.SetCounts.{keeps, kept_one, CountsBehind}
 use Rattle.jsonb_raw.specs.declared.functions.array.counts.KeyCounts.{KeyCounts}
 use Rattle.jsonb_raw.specs.declared.functions.array.sets.Kept.{Kept}
 
@@ -71,7 +71,8 @@ or_false false = refl
 abbrev pub kept_behind : Kept → List Tree → List Tree → List Tree → List Tree
 kept_behind kind other before left = map (λ o. o.1) (filter (keeps kind other) (occurrences before left))
 
-kept_next : (kind : Kept) (other before : List Tree) (t : Tree) (left : List Tree) → kept_one kind other (before, t) ++ kept_behind kind other (t ∷ before) left ≡ kept_behind kind other before (t ∷ left)
+kept_next : (kind : Kept) (other before : List Tree) (t : Tree) (left : List Tree)
+    → kept_one kind other (before, t) ++ kept_behind kind other (t ∷ before) left ≡ kept_behind kind other before (t ∷ left)
 kept_next kind other before t left = by (keeps kind other (before, t))
   where
     others : List Occurrence
@@ -87,19 +88,22 @@ pub record KeptLeft (form : Form) (kind : Kept) (m : KeyCounts) (other : List Tr
   pub held : List Tree
   pub few : length before + length left < 2 ^ 63
   pub fit : AllByRecursion Fits left
-  pub behind : StandsBehind kind m other before
+  pub behind : CountsBehind kind m other before
   pub holds : HoldsElements form parts held
   pub joined : held ++ kept_behind kind other before left ≡ whole
 
-pub KeptLeft-all : (form : Form) (kind : Kept) (m : KeyCounts) (other : List Tree) (parts : Parts) (ts : List Tree) → parts ≡ no_parts → length ts < 2 ^ 63 → AllByRecursion Fits ts → StandsBehind kind m other []
+pub KeptLeft-all : (form : Form) (kind : Kept) (m : KeyCounts) (other : List Tree) (parts : Parts) (ts : List Tree) → parts ≡ no_parts → length ts < 2 ^ 63
+    → AllByRecursion Fits ts → CountsBehind kind m other []
     → KeptLeft form kind m other parts ts (kept_behind kind other [] ts)
 KeptLeft-all form kind m other parts ts is few fit behind =
     record { before = []; held = []; few = omega arith; fit = fit; behind = behind; holds = rw is (refl, refl); joined = refl }
 
-pub KeptLeft-done : (form : Form) (kind : Kept) (m : KeyCounts) (other : List Tree) (parts : Parts) (whole : List Tree) → KeptLeft form kind m other parts [] whole → HoldsElements form parts whole
+pub KeptLeft-done : (form : Form) (kind : Kept) (m : KeyCounts) (other : List Tree) (parts : Parts) (whole : List Tree)
+    → KeptLeft form kind m other parts [] whole → HoldsElements form parts whole
 KeptLeft-done form kind m other parts whole h = subst (HoldsElements form parts) (sym (append-nil h.held) ∙ h.joined) h.holds
 
-module _ (form : Form) (kind : Kept) (m : KeyCounts) (other : List Tree) (parts : Parts) (first : Tree) (rest whole : List Tree) (h : KeptLeft form kind m other parts (first ∷ rest) whole) where
+module _ (form : Form) (kind : Kept) (m : KeyCounts) (other : List Tree) (parts : Parts) (first : Tree) (rest whole : List Tree)
+    (h : KeptLeft form kind m other parts (first ∷ rest) whole) where
   joined_next : (h.held ++ kept_one kind other (h.before, first)) ++ kept_behind kind other (first ∷ h.before) rest ≡ whole
   joined_next =
       append_assoc h.held (kept_one kind other (h.before, first)) (kept_behind kind other (first ∷ h.before) rest)
@@ -108,7 +112,8 @@ module _ (form : Form) (kind : Kept) (m : KeyCounts) (other : List Tree) (parts 
   pub few_before : length h.before < 2 ^ 63
   few_before = let few : length h.before + length (first ∷ rest) < 2 ^ 63 = h.few in omega arith
 
-  pub KeptLeft-next : (n : KeyCounts) (after : Parts) → StandsBehind kind n other (first ∷ h.before) → HoldsElements form after (h.held ++ kept_one kind other (h.before, first)) → KeptLeft form kind n other after rest whole
+  pub KeptLeft-next : (n : KeyCounts) (after : Parts) → CountsBehind kind n other (first ∷ h.before)
+      → HoldsElements form after (h.held ++ kept_one kind other (h.before, first)) → KeptLeft form kind n other after rest whole
   KeptLeft-next n after behind holds = record {
     before = first ∷ h.before;
     held = h.held ++ kept_one kind other (h.before, first);
@@ -119,7 +124,8 @@ module _ (form : Form) (kind : Kept) (m : KeyCounts) (other : List Tree) (parts 
     joined = joined_next;
   }
 
-  pub KeptLeft-refused : (e : Error) → WantsRoom form (array (trees_of (h.held ++ kept_one kind other (h.before, first)))) e → WantsRoom form (array (trees_of whole)) e
+  pub KeptLeft-refused : (e : Error) → IsOutOfMemoryOrTooLarge form (array (trees_of (h.held ++ kept_one kind other (h.before, first)))) e
+      → IsOutOfMemoryOrTooLarge form (array (trees_of whole)) e
   KeptLeft-refused e (inl memory) = inl memory
   KeptLeft-refused e (inr (is, large)) =
       inr (

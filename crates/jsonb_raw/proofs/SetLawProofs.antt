@@ -6,9 +6,9 @@ use Rattle.std.proofs.lemmas.Bool.Decides.{nat_tests}
 use Rattle.std.proofs.lemmas.List.Sums.{sum_by-cons}
 use Rattle.jsonb_doc.specs.Tree.{Tree}
 use Rattle.jsonb_doc.specs.Equal.{is_equal}
-use Rattle.jsonb_doc.specs.EqualLaws.{is_equal_equiv}
-use Rattle.jsonb_raw.specs.Sets.{count_of, Occurrence, occurrences, is_first, is_shared, shared, unshared, overlap}
-use Rattle.jsonb_raw.specs.Dealt.{IsDealtTo}
+use Rattle.jsonb_doc.specs.Proofs.Equality.{is_equal_equiv}
+use Rattle.jsonb_raw.specs.Sets.{count_of, Occurrence, occurrences, is_first, is_shared, intersection_of, difference_of, overlap}
+use Rattle.jsonb_raw.specs.Partition.{IsPartitionedInto}
 use Rattle.jsonb_raw.specs.SetLaws.{SplitDeals, SplitCounts, DistinctCounts, OverlapIsShared}
 
 -- ---- a test and its opposite deal
@@ -17,7 +17,7 @@ use Rattle.jsonb_raw.specs.SetLaws.{SplitDeals, SplitCounts, DistinctCounts, Ove
 abbrev kept_behind : (Occurrence → Bool) → List Tree → List Tree → List Tree
 kept_behind test before ts = map (λ o. o.1) (filter test (occurrences before ts))
 
-tests_deal : (test : Occurrence → Bool) (before ts : List Tree) → IsDealtTo ts (kept_behind test before ts) (kept_behind (λ o. not (test o)) before ts)
+tests_deal : (test : Occurrence → Bool) (before ts : List Tree) → IsPartitionedInto ts (kept_behind test before ts) (kept_behind (λ o. not (test o)) before ts)
 tests_deal test before [] = (refl, refl)
 tests_deal test before (t ∷ ts) = by (test (before, t)) (tests_deal test (t ∷ before) ts)
   where
@@ -27,7 +27,8 @@ tests_deal test before (t ∷ ts) = by (test (before, t)) (tests_deal test (t �
     no : List Occurrence
     no = filter (λ o. not (test o)) (occurrences (t ∷ before) ts)
 
-    by : (b : Bool) → IsDealtTo ts (map (λ o. o.1) yes) (map (λ o. o.1) no) → IsDealtTo (t ∷ ts) (map (λ o. o.1) (cond b ((before, t) ∷ yes) yes)) (map (λ o. o.1) (cond (not b) ((before, t) ∷ no) no))
+    by : (b : Bool) → IsPartitionedInto ts (map (λ o. o.1) yes) (map (λ o. o.1) no)
+        → IsPartitionedInto (t ∷ ts) (map (λ o. o.1) (cond b ((before, t) ∷ yes) yes)) (map (λ o. o.1) (cond (not b) ((before, t) ∷ no) no))
     by true h = inl (map (λ o. o.1) yes, refl, h)
     by false h = inr (map (λ o. o.1) no, refl, h)
 
@@ -60,7 +61,7 @@ same_counts t v [] e = refl
 same_counts t v (x ∷ ts) e =
     count-cons t x ts ∙ ap₂ (λ b n. cond b 1 0 + n) (alike x t v e) (same_counts t v ts e) ∙ sym (count-cons v x ts)
 
-dealt_counts : (t : Tree) (zs xs ys : List Tree) → IsDealtTo zs xs ys → count_of t xs + count_of t ys ≡ count_of t zs
+dealt_counts : (t : Tree) (zs xs ys : List Tree) → IsPartitionedInto zs xs ys → count_of t xs + count_of t ys ≡ count_of t zs
 dealt_counts t [] xs ys h = rw (h.0, h.1) refl
 dealt_counts t (z ∷ zs) xs ys (inl h) =
     let rest = dealt_counts t zs h.0 ys h.2 in
@@ -73,8 +74,10 @@ dealt_counts t (z ∷ zs) xs ys (inr h) =
 step : (equal keeps : Bool) (before left found limit : ℕ) → (equal ≡ true → keeps ≡ nat_lt before limit)
     → found + min (cond equal 1 0 + before) limit ≡ min (cond equal 1 0 + before + left) limit
     → cond keeps (cond equal 1 0 + found) found + min before limit ≡ min (before + (cond equal 1 0 + left)) limit
-step true true before left found limit told h = let e : true ≡ nat_lt before limit = told refl in let below : before < limit = grind (arith, nat_tests) in omega arith
-step true false before left found limit told h = let e : false ≡ nat_lt before limit = told refl in let above : limit ≤ before = grind (arith, nat_tests) in omega arith
+step true true before left found limit told h = let e : true
+    ≡ nat_lt before limit = told refl in let below : before < limit = grind (arith, nat_tests) in omega arith
+step true false before left found limit told h = let e : false
+    ≡ nat_lt before limit = told refl in let above : limit ≤ before = grind (arith, nat_tests) in omega arith
 step false true before left found limit told h = omega arith
 step false false before left found limit told h = omega arith
 
@@ -82,11 +85,14 @@ step false false before left found limit told h = omega arith
 module _ (test : Occurrence → Bool) (limit : Tree → ℕ)
     (told : (before : List Tree) (x : Tree) → test (before, x) ≡ nat_lt (count_of x before) (limit x))
     (same : (x t : Tree) → is_equal x t ≡ true → limit x ≡ limit t) where
-  kept_counts : (t : Tree) (before ts : List Tree) → count_of t (kept_behind test before ts) + min (count_of t before) (limit t) ≡ min (count_of t before + count_of t ts) (limit t)
+  kept_counts : (t : Tree) (before ts : List Tree)
+      → count_of t (kept_behind test before ts) + min (count_of t before) (limit t) ≡ min (count_of t before + count_of t ts) (limit t)
   kept_counts t before [] = omega arith
   kept_counts t before (x ∷ ts) =
-      let rest : count_of t (kept_behind test (x ∷ before) ts) + min (count_of t (x ∷ before)) (limit t) ≡ min (count_of t (x ∷ before) + count_of t ts) (limit t) = kept_counts t (x ∷ before) ts in
-      let more : count_of t (kept_behind test (x ∷ before) ts) + min (cond (is_equal x t) 1 0 + count_of t before) (limit t) ≡ min (cond (is_equal x t) 1 0 + count_of t before + count_of t ts) (limit t) = rw (← count-cons t x before) rest in
+      let rest : count_of t (kept_behind test (x ∷ before) ts) + min (count_of t (x ∷ before)) (limit t)
+      ≡ min (count_of t (x ∷ before) + count_of t ts) (limit t) = kept_counts t (x ∷ before) ts in
+      let more : count_of t (kept_behind test (x ∷ before) ts) + min (cond (is_equal x t) 1 0 + count_of t before) (limit t)
+      ≡ min (cond (is_equal x t) 1 0 + count_of t before + count_of t ts) (limit t) = rw (← count-cons t x before) rest in
       ap (λ n. n + min (count_of t before) (limit t)) (front (test (before, x)))
       ∙ step (is_equal x t) (test (before, x)) (count_of t before) (count_of t ts) (count_of t (kept_behind test (x ∷ before) ts)) (limit t)
       (λ e. told before x ∙ ap₂ nat_lt (same_counts x t before e) (same x t e)) more
@@ -95,11 +101,12 @@ module _ (test : Occurrence → Bool) (limit : Tree → ℕ)
       others : List Occurrence
       others = filter test (occurrences (x ∷ before) ts)
 
-      front : (b : Bool) → count_of t (map (λ o. o.1) (cond b ((before, x) ∷ others) others)) ≡ cond b (cond (is_equal x t) 1 0 + count_of t (map (λ o. o.1) others)) (count_of t (map (λ o. o.1) others))
+      front : (b : Bool) → count_of t (map (λ o. o.1) (cond b ((before, x) ∷ others) others))
+          ≡ cond b (cond (is_equal x t) 1 0 + count_of t (map (λ o. o.1) others)) (count_of t (map (λ o. o.1) others))
       front true = count-cons t x (map (λ o. o.1) others)
       front false = refl
 
-shared_counts : (ts other : List Tree) (t : Tree) → count_of t (shared ts other) ≡ min (count_of t ts) (count_of t other)
+shared_counts : (ts other : List Tree) (t : Tree) → count_of t (intersection_of ts other) ≡ min (count_of t ts) (count_of t other)
 shared_counts ts other t =
     let h = kept_counts (is_shared other) (λ x. count_of x other) (λ before x. refl) (λ x v e. same_counts x v other e) t [] ts in
     omega (arith, h)
@@ -107,7 +114,7 @@ shared_counts ts other t =
 pub split_counts : SplitCounts
 split_counts ts other t =
     let both = shared_counts ts other t in
-    let all = dealt_counts t ts (shared ts other) (unshared ts other) (split_deals ts other) in
+    let all = dealt_counts t ts (intersection_of ts other) (difference_of ts other) (split_deals ts other) in
     (both, omega arith)
 
 pub distinct_counts : DistinctCounts
@@ -143,7 +150,8 @@ count_from_any : (t : Tree) (ts : List Tree) → list_any (λ u. is_equal t u) t
 count_from_any t [] h = absurd (cc)
 count_from_any t (x ∷ ts) h = by (is_equal t x) (equal_per.symm t x) (count_from_any t ts) h
   where
-    by : (b : Bool) → b ≡ is_equal x t → (list_any (λ u. is_equal t u) ts ≡ true → 0 < count_of t ts) → (b || list_any (λ u. is_equal t u) ts) ≡ true → 0 < count_of t (x ∷ ts)
+    by : (b : Bool) → b ≡ is_equal x t → (list_any (λ u. is_equal t u) ts ≡ true → 0 < count_of t ts) → (b || list_any (λ u. is_equal t u) ts) ≡ true
+        → 0 < count_of t (x ∷ ts)
     by true e rest h' = counted t x ts (sym e)
     by false e rest h' = counted_behind t x ts (rest h')
 
@@ -157,7 +165,8 @@ overlap_value : (ts other : List Tree) → overlap ts other ≡ true → HasBoth
 overlap_value [] other h = absurd (cc)
 overlap_value (x ∷ ts) other h = by (list_any (λ u. is_equal x u) other) refl (overlap_value ts other) h
   where
-    by : (b : Bool) → list_any (λ u. is_equal x u) other ≡ b → (overlap ts other ≡ true → HasBoth ts other) → (b || overlap ts other) ≡ true → HasBoth (x ∷ ts) other
+    by : (b : Bool) → list_any (λ u. is_equal x u) other ≡ b → (overlap ts other ≡ true → HasBoth ts other) → (b || overlap ts other) ≡ true
+        → HasBoth (x ∷ ts) other
     by true e rest h' = record { value = x; first = counted x x ts (is_equal_equiv.refl x); second = count_from_any x other e }
     by false e rest h' = let v = rest h' in record { value = v.value; first = counted_behind v.value x ts v.first; second = v.second }
 
@@ -179,10 +188,10 @@ value_overlaps (x ∷ ts) other t h k = by (is_equal x t) refl (λ h'. value_ove
 pub overlap_is_shared : OverlapIsShared
 overlap_is_shared ts other = (
   λ h none. let v = overlap_value ts other h in
-      let c : count_of v.value (shared ts other) ≡ min (count_of v.value ts) (count_of v.value other) = shared_counts ts other v.value in
-      let z : count_of v.value (shared ts other) ≡ 0 = ap (count_of v.value) none in
+      let c : count_of v.value (intersection_of ts other) ≡ min (count_of v.value ts) (count_of v.value other) = shared_counts ts other v.value in
+      let z : count_of v.value (intersection_of ts other) ≡ 0 = ap (count_of v.value) none in
       omega (arith, c, z, v.first, v.second),
-  λ some. by (shared ts other) (λ t. shared_counts ts other t) some,
+  λ some. by (intersection_of ts other) (λ t. shared_counts ts other t) some,
 )
   where
     by : (xs : List Tree) → ((t : Tree) → count_of t xs ≡ min (count_of t ts) (count_of t other)) → xs ≢ [] → overlap ts other ≡ true

@@ -4,7 +4,7 @@ use Rattle.jsonb_doc.specs.Number.{number_from, uint64, decimal64}
 use Rattle.jsonb_doc.specs.Extension.{date}
 use Rattle.jsonb_doc.specs.Tree.{Tree, number, extension, array, trees_of}
 use Rattle.jsonb_raw.specs.Arrays.{as_elements}
-use Rattle.jsonb_raw.specs.Sets.{distinct, shared, unshared, overlap}
+use Rattle.jsonb_raw.specs.Sets.{distinct, intersection_of, difference_of, overlap}
 
 abbrev one : Tree
 one = number (number_from uint64 (pos 1) 0)
@@ -25,22 +25,22 @@ ones = array (trees_of (one ∷ []))
 abbrev day : Tree
 day = extension (date (pos 1))
 
-dropped_once : unshared (as_elements repeated) (as_elements ones) ≡ one ∷ two ∷ decimal_one ∷ []
+dropped_once : difference_of (as_elements repeated) (as_elements ones) ≡ one ∷ two ∷ decimal_one ∷ []
 dropped_once = refl
 
-kept_once : shared (as_elements repeated) (as_elements ones) ≡ one ∷ []
+kept_once : intersection_of (as_elements repeated) (as_elements ones) ≡ one ∷ []
 kept_once = refl
 
 one_of_each : distinct (as_elements repeated) ≡ one ∷ two ∷ []
 one_of_each = refl
 
-nothing_dropped : unshared (as_elements one) (as_elements ones) ≡ []
+nothing_dropped : difference_of (as_elements one) (as_elements ones) ≡ []
 nothing_dropped = refl
 
 overlaps_two : overlap (as_elements repeated) (as_elements two) ≡ true
 overlaps_two = refl
 
-day_alone : shared (as_elements day) (as_elements day) ≡ day ∷ []
+day_alone : intersection_of (as_elements day) (as_elements day) ≡ day ∷ []
 day_alone = refl
 
 days_overlap : overlap (as_elements day) (as_elements day) ≡ true

@@ -13,7 +13,8 @@ is_null-strip (extension x) = refl
 is_null-strip (array ts) = refl
 is_null-strip (object ps) = refl
 
-strip_pair : (b : Bool) (k : List ℕ) (t : Tree) (ps : Pairs) → is_null t ≡ b → strip (strip t) ≡ strip t → strip_pairs (strip_pairs ps) ≡ strip_pairs ps → strip_pairs (cond b (strip_pairs ps) (pair k (strip t) (strip_pairs ps))) ≡ cond b (strip_pairs ps) (pair k (strip t) (strip_pairs ps))
+strip_pair : (b : Bool) (k : List ℕ) (t : Tree) (ps : Pairs) → is_null t ≡ b → strip (strip t) ≡ strip t → strip_pairs (strip_pairs ps) ≡ strip_pairs ps
+    → strip_pairs (cond b (strip_pairs ps) (pair k (strip t) (strip_pairs ps))) ≡ cond b (strip_pairs ps) (pair k (strip t) (strip_pairs ps))
 strip_pair true k t ps n e f = f
 strip_pair false k t ps n e f =
     rw (is_null-strip t, n) (ap (λ u. pair k u (strip_pairs (strip_pairs ps))) e ∙ ap (λ qs. pair k (strip t) qs) f)

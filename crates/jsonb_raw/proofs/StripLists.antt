@@ -7,19 +7,19 @@ use Rattle.std.proofs.lemmas.Nat.{from_be_bytes-to_be_bytes_4}
 use Rattle.std.proofs.lemmas.Bool.Decides.{nat_tests}
 use Rattle.std.proofs.lemmas.List.{length-append}
 use Rattle.jsonb_doc.specs.Tree.{Tree, null, boolean, number, text, extension, array, object, Trees, no_trees, tree, Pairs, no_pairs, pair, elements, values, keys, trees_of}
-use Rattle.jsonb_doc.specs.Payload.{Form, reading}
+use Rattle.jsonb_doc.specs.Payload.{Form, number_reader}
 use Rattle.jsonb_doc.specs.Format.{IsContent, container_entry, null_entry, text_entry, entry_word, key_bytes, key_words, AreKeys, IsKey, IsBelowFirst}
 use Rattle.jsonb_doc.specs.Encoding.{EntryParts}
-use Rattle.jsonb_doc.specs.ObjectBuilder.{kept_words, kept_contents}
+use Rattle.jsonb_doc.specs.ObjectBuilder.{words_of_entries, contents_of_entries}
 use Rattle.jsonb_doc.proofs.BuilderSteps.{AreRising, keys_rise}
 use Rattle.jsonb_doc.specs.declared.error.Error.{Error}
 use Rattle.jsonb_raw.specs.declared.functions.operator.stripping.StoredEntry.{StoredEntry}
-use Rattle.jsonb_raw.specs.Cuts.{AreWithin}
+use Rattle.jsonb_raw.specs.Private.Cuts.{FitEntries}
 use Rattle.jsonb_raw.specs.Scalars.{is_null}
 use Rattle.jsonb_raw.specs.Strip.{strip, strip_trees, strip_pairs}
 use Rattle.jsonb_raw.specs.Stripping.{leaves_out, staying, stripped, beside, key_entries, IsAboveLast, AreOfEach, IsEntry, ReadsEntry}
 use Rattle.jsonb_raw.proofs.EntryLists.{AreOf, key-within}
-use Rattle.jsonb_raw.proofs.Stripped.{below_stripped}
+use Rattle.jsonb_raw.proofs.StripLemmas.{below_stripped}
 
 -- ---- lists
 
@@ -36,7 +36,8 @@ length-beside [] xs same = refl
 length-beside (e ∷ es) [] same = absurd (omega (arith, same))
 length-beside (e ∷ es) (x ∷ xs) same = by (e.0 == null_entry) (length-beside es xs (omega (arith, same)))
   where
-    by : (b : Bool) → length (beside es xs) ≡ length (beside es es) → length (cond b (beside es xs) (x ∷ beside es xs)) ≡ length (cond b (beside es es) (e ∷ beside es es))
+    by : (b : Bool) → length (beside es xs) ≡ length (beside es es)
+        → length (cond b (beside es xs) (x ∷ beside es xs)) ≡ length (cond b (beside es es) (e ∷ beside es es))
     by true h = h
     by false h = ap suc h
 
@@ -49,13 +50,14 @@ values-stripped no_pairs = refl
 values-stripped (pair key t ps) = by (is_null t) (values-stripped ps)
   where
     by : (b : Bool) → trees_of (stripped true (elements (values ps))) ≡ values (strip_pairs ps)
-        → trees_of (cond b (stripped true (elements (values ps))) (strip t ∷ stripped true (elements (values ps)))) ≡ values (cond b (strip_pairs ps) (pair key (strip t) (strip_pairs ps)))
+        → trees_of (cond b (stripped true (elements (values ps))) (strip t ∷ stripped true (elements (values ps))))
+        ≡ values (cond b (strip_pairs ps) (pair key (strip t) (strip_pairs ps)))
     by true e = e
     by false e = ap (λ us. tree (strip t) us) e
 
 -- ---- kinds
 
-pub null_kind : (form : Form) (t : Tree) (kind : ℕ) (bytes : List ℕ) → IsContent (reading form) t kind bytes → (kind == null_entry) ≡ is_null t
+pub null_kind : (form : Form) (t : Tree) (kind : ℕ) (bytes : List ℕ) → IsContent (number_reader form) t kind bytes → (kind == null_entry) ≡ is_null t
 null_kind form null kind bytes h = rw h.0 refl
 null_kind form (boolean true) kind bytes h = rw h.0 refl
 null_kind form (boolean false) kind bytes h = rw h.0 refl
@@ -65,7 +67,8 @@ null_kind form (extension x) kind bytes h = rw h.0 refl
 null_kind form (array ts) kind bytes h = rw h.0 refl
 null_kind form (object ps) kind bytes h = rw h.0 refl
 
-pub scalar_strips : (form : Form) (t : Tree) (kind : ℕ) (bytes : List ℕ) → IsContent (reading form) t kind bytes → (kind ≡ container_entry → ⊥) → strip t ≡ t
+pub scalar_strips : (form : Form) (t : Tree) (kind : ℕ) (bytes : List ℕ) → IsContent (number_reader form) t kind bytes → (kind ≡ container_entry → ⊥)
+    → strip t ≡ t
 scalar_strips form null kind bytes h other = refl
 scalar_strips form (boolean b) kind bytes h other = refl
 scalar_strips form (number n) kind bytes h other = refl
@@ -89,19 +92,20 @@ word_kind kind len n word known short is read =
 
 -- ---- trees and entries
 
-pub each_of : (form : Form) (ts : Trees) (es : List EntryParts) → AreOf (reading form) ts es → AreOfEach form (elements ts) es
+pub each_of : (form : Form) (ts : Trees) (es : List EntryParts) → AreOf (number_reader form) ts es → AreOfEach form (elements ts) es
 each_of form no_trees [] h = tt
 each_of form no_trees (e ∷ es) h = absurd h
 each_of form (tree t ts) [] h = absurd h
 each_of form (tree t ts) (e ∷ es) h = (h.0, each_of form ts es h.1)
 
-pub of_each : (form : Form) (us : List Tree) (es : List EntryParts) → AreOfEach form us es → AreOf (reading form) (trees_of us) es
+pub of_each : (form : Form) (us : List Tree) (es : List EntryParts) → AreOfEach form us es → AreOf (number_reader form) (trees_of us) es
 of_each form [] [] h = tt
 of_each form [] (e ∷ es) h = absurd h
 of_each form (t ∷ us) [] h = absurd h
 of_each form (t ∷ us) (e ∷ es) h = (h.0, of_each form us es h.1)
 
-pub each_more : (form : Form) (us : List Tree) (t : Tree) (es : List EntryParts) (e : EntryParts) → AreOfEach form us es → IsContent (reading form) t e.0 e.1 → AreOfEach form (us ++ t ∷ []) (es ++ e ∷ [])
+pub each_more : (form : Form) (us : List Tree) (t : Tree) (es : List EntryParts) (e : EntryParts) → AreOfEach form us es
+    → IsContent (number_reader form) t e.0 e.1 → AreOfEach form (us ++ t ∷ []) (es ++ e ∷ [])
 each_more form [] t [] e h is = (is, tt)
 each_more form [] t (x ∷ es) e h is = absurd h
 each_more form (u ∷ us) t [] e h is = absurd h
@@ -115,7 +119,8 @@ keys_beside form no_pairs (e ∷ es) h = absurd h
 keys_beside form (pair key t ps) [] h = absurd h
 keys_beside form (pair key t ps) (e ∷ es) h = rw (null_kind form t e.0 e.1 h.0) (by (is_null t) (keys_beside form ps es h.1))
   where
-    by : (b : Bool) → beside es (keys ps) ≡ keys (strip_pairs ps) → cond b (beside es (keys ps)) (key ∷ beside es (keys ps)) ≡ keys (cond b (strip_pairs ps) (pair key (strip t) (strip_pairs ps)))
+    by : (b : Bool) → beside es (keys ps) ≡ keys (strip_pairs ps)
+        → cond b (beside es (keys ps)) (key ∷ beside es (keys ps)) ≡ keys (cond b (strip_pairs ps) (pair key (strip t) (strip_pairs ps)))
     by true e = e
     by false e = ap (λ (ks : List (List ℕ)). key ∷ ks) e
 
@@ -124,7 +129,8 @@ key_entries_beside [] ks = refl
 key_entries_beside (e ∷ es) [] = refl
 key_entries_beside (e ∷ es) (key ∷ ks) = by (e.0 == null_entry) (key_entries_beside es ks)
   where
-    by : (b : Bool) → beside es (key_entries ks) ≡ key_entries (beside es ks) → cond b (beside es (key_entries ks)) ((text_entry, key) ∷ beside es (key_entries ks)) ≡ key_entries (cond b (beside es ks) (key ∷ beside es ks))
+    by : (b : Bool) → beside es (key_entries ks) ≡ key_entries (beside es ks)
+        → cond b (beside es (key_entries ks)) ((text_entry, key) ∷ beside es (key_entries ks)) ≡ key_entries (cond b (beside es ks) (key ∷ beside es ks))
     by true h = h
     by false h = ap (λ (xs : List EntryParts). (text_entry, key) ∷ xs) h
 
@@ -140,7 +146,8 @@ pub fewer_keys : (ps : Pairs) → length (keys (strip_pairs ps)) ≤ length (key
 fewer_keys no_pairs = omega arith
 fewer_keys (pair key t ps) = by (is_null t) (fewer_keys ps)
   where
-    by : (b : Bool) → length (keys (strip_pairs ps)) ≤ length (keys ps) → length (keys (cond b (strip_pairs ps) (pair key (strip t) (strip_pairs ps)))) ≤ suc (length (keys ps))
+    by : (b : Bool) → length (keys (strip_pairs ps)) ≤ length (keys ps)
+        → length (keys (cond b (strip_pairs ps) (pair key (strip t) (strip_pairs ps)))) ≤ suc (length (keys ps))
     by true h = omega (arith, h)
     by false h = omega (arith, h)
 
@@ -148,15 +155,16 @@ fewer_keys (pair key t ps) = by (is_null t) (fewer_keys ps)
 
 pub record CountLeft (count : ℕ) (left : List ℕ) (total : ℕ) : Type 0 where
   pub entries : List EntryParts
-  pub within : AreWithin entries
-  pub words : left ≡ kept_words entries
+  pub within : FitEntries entries
+  pub words : left ≡ words_of_entries entries
   pub sum : count + length (beside entries entries) ≡ total
 
-module _ (n : ℕ) (left word others : List ℕ) (first : word ≡ take 4 left) (rest : others ≡ drop 4 left) (long : length others + 4 ≡ length left) (read : n ≡ from_be_bytes w32 word) where
+module _ (n : ℕ) (left word others : List ℕ) (first : word ≡ take 4 left) (rest : others ≡ drop 4 left) (long : length others + 4 ≡ length left)
+    (read : n ≡ from_be_bytes w32 word) where
   pub count_null : (count total : ℕ) → n / 2 ^ 28 ≡ 0 → CountLeft count left total → CountLeft count others total
   count_null count total none c = go c.entries c.within c.words c.sum
     where
-      go : (es : List EntryParts) → AreWithin es → left ≡ kept_words es → count + length (beside es es) ≡ total → CountLeft count others total
+      go : (es : List EntryParts) → FitEntries es → left ≡ words_of_entries es → count + length (beside es es) ≡ total → CountLeft count others total
       go [] within words sum = absurd (omega (arith, long, ap length words))
       go (e ∷ es) within words sum =
           let kind = word_kind e.0 (length e.1) n word within.0.0 within.0.1 (first ∙ ap (take 4) words) read in
@@ -165,7 +173,7 @@ module _ (n : ℕ) (left word others : List ℕ) (first : word ≡ take 4 left) 
   pub count_other : (count total : ℕ) → (n / 2 ^ 28 ≡ 0 → ⊥) → CountLeft count left total → CountLeft (count + 1) others total
   count_other count total some c = go c.entries c.within c.words c.sum
     where
-      go : (es : List EntryParts) → AreWithin es → left ≡ kept_words es → count + length (beside es es) ≡ total → CountLeft (count + 1) others total
+      go : (es : List EntryParts) → FitEntries es → left ≡ words_of_entries es → count + length (beside es es) ≡ total → CountLeft (count + 1) others total
       go [] within words sum = absurd (omega (arith, long, ap length words))
       go (e ∷ es) within words sum =
           let kind = word_kind e.0 (length e.1) n word within.0.0 within.0.1 (first ∙ ap (take 4) words) read in
@@ -175,7 +183,7 @@ module _ (n : ℕ) (left word others : List ℕ) (first : word ≡ take 4 left) 
 pub count_done : (count : ℕ) (left : List ℕ) (total : ℕ) → length left < 4 → CountLeft count left total → count ≡ total
 count_done count left total short c = go c.entries c.words c.sum
   where
-    go : (es : List EntryParts) → left ≡ kept_words es → count + length (beside es es) ≡ total → count ≡ total
+    go : (es : List EntryParts) → left ≡ words_of_entries es → count + length (beside es es) ≡ total → count ≡ total
     go [] words sum = omega (arith, sum)
     go (e ∷ es) words sum = absurd (omega (arith, short, ap length words))
 
@@ -184,18 +192,20 @@ count_done count left total short c = go c.entries c.words c.sum
 pub record WordsToPush (out values words whole : List ℕ) : Type 0 where
   pub entries : List EntryParts
   pub others : List EntryParts
-  pub within : AreWithin entries
+  pub within : FitEntries entries
   pub as_many : length others ≡ length entries
-  pub values_are : values ≡ kept_words entries
-  pub words_are : words ≡ kept_words others
-  pub fact : out ++ kept_words (beside entries others) ≡ whole
+  pub values_are : values ≡ words_of_entries entries
+  pub words_are : words ≡ words_of_entries others
+  pub fact : out ++ words_of_entries (beside entries others) ≡ whole
 
-module _ (n : ℕ) (values value values' : List ℕ) (first : value ≡ take 4 values) (rest : values' ≡ drop 4 values) (long : length values' + 4 ≡ length values) (read : n ≡ from_be_bytes w32 value)
+module _ (n : ℕ) (values value values' : List ℕ) (first : value ≡ take 4 values) (rest : values' ≡ drop 4 values) (long : length values' + 4 ≡ length values)
+    (read : n ≡ from_be_bytes w32 value)
     (words word words' : List ℕ) (word_first : word ≡ take 4 words) (words_rest : words' ≡ drop 4 words) (out out' whole : List ℕ) where
   pub word_left_out : n / 2 ^ 28 ≡ 0 → out' ≡ out → WordsToPush out values words whole → WordsToPush out' values' words' whole
   word_left_out none same w = go w.entries w.others w.within w.as_many w.values_are w.words_are w.fact
     where
-      go : (es xs : List EntryParts) → AreWithin es → length xs ≡ length es → values ≡ kept_words es → words ≡ kept_words xs → out ++ kept_words (beside es xs) ≡ whole → WordsToPush out' values' words' whole
+      go : (es xs : List EntryParts) → FitEntries es → length xs ≡ length es → values ≡ words_of_entries es → words ≡ words_of_entries xs
+          → out ++ words_of_entries (beside es xs) ≡ whole → WordsToPush out' values' words' whole
       go [] xs within many values_are words_are fact = absurd (omega (arith, long, ap length values_are))
       go (e ∷ es) [] within many values_are words_are fact = absurd (omega (arith, many))
       go (e ∷ es) (x ∷ xs) within many values_are words_are fact =
@@ -213,7 +223,8 @@ module _ (n : ℕ) (values value values' : List ℕ) (first : value ≡ take 4 v
   pub word_pushed : (n / 2 ^ 28 ≡ 0 → ⊥) → out' ≡ out ++ word → WordsToPush out values words whole → WordsToPush out' values' words' whole
   word_pushed some pushed w = go w.entries w.others w.within w.as_many w.values_are w.words_are w.fact
     where
-      go : (es xs : List EntryParts) → AreWithin es → length xs ≡ length es → values ≡ kept_words es → words ≡ kept_words xs → out ++ kept_words (beside es xs) ≡ whole → WordsToPush out' values' words' whole
+      go : (es xs : List EntryParts) → FitEntries es → length xs ≡ length es → values ≡ words_of_entries es → words ≡ words_of_entries xs
+          → out ++ words_of_entries (beside es xs) ≡ whole → WordsToPush out' values' words' whole
       go [] xs within many values_are words_are fact = absurd (omega (arith, long, ap length values_are))
       go (e ∷ es) [] within many values_are words_are fact = absurd (omega (arith, many))
       go (e ∷ es) (x ∷ xs) within many values_are words_are fact =
@@ -226,21 +237,22 @@ module _ (n : ℕ) (values value values' : List ℕ) (first : value ≡ take 4 v
             as_many = omega (arith, many);
             values_are = rest ∙ ap (drop 4) values_are;
             words_are = words_rest ∙ ap (drop 4) words_are;
-            fact = ap (λ ws. ws ++ kept_words (beside es xs)) (pushed ∙ ap (λ w. out ++ w) is) ∙ append_assoc out (entry_word x.0 (length x.1)) (kept_words (beside es xs))
+            fact = ap (λ ws. ws ++ words_of_entries (beside es xs)) (pushed ∙ ap (λ w. out ++ w) is)
+                ∙ append_assoc out (entry_word x.0 (length x.1)) (words_of_entries (beside es xs))
                 ∙ (rw (is_some e.0 (λ none. some (kind ∙ none))) at fact);
           }
 
 pub words_pushed : (out values words whole : List ℕ) → length values < 4 → WordsToPush out values words whole → out ≡ whole
 words_pushed out values words whole short w = go w.entries w.others w.values_are w.fact
   where
-    go : (es xs : List EntryParts) → values ≡ kept_words es → out ++ kept_words (beside es xs) ≡ whole → out ≡ whole
+    go : (es xs : List EntryParts) → values ≡ words_of_entries es → out ++ words_of_entries (beside es xs) ≡ whole → out ≡ whole
     go [] xs values_are fact = sym (append-nil out) ∙ fact
     go (e ∷ es) xs values_are fact = absurd (omega (arith, short, ap length values_are))
 
 pub no_word_missing : (out values words whole : List ℕ) → 4 ≤ length values → length words < 4 → WordsToPush out values words whole → ⊥
 no_word_missing out values words whole long short w = go w.entries w.others w.as_many w.values_are w.words_are
   where
-    go : (es xs : List EntryParts) → length xs ≡ length es → values ≡ kept_words es → words ≡ kept_words xs → ⊥
+    go : (es xs : List EntryParts) → length xs ≡ length es → values ≡ words_of_entries es → words ≡ words_of_entries xs → ⊥
     go [] xs many values_are words_are = omega (arith, long, ap length values_are)
     go (e ∷ es) [] many values_are words_are = omega (arith, many)
     go (e ∷ es) (x ∷ xs) many values_are words_are = omega (arith, short, ap length words_are)
@@ -250,33 +262,40 @@ no_word_missing out values words whole long short w = go w.entries w.others w.as
 pub record KeysToPush (out values words keys : List ℕ) (last : Option (Bor (List ℕ))) (whole : List ℕ) : Type 0 where
   pub entries : List EntryParts
   pub names : List (List ℕ)
-  pub within : AreWithin entries
+  pub within : FitEntries entries
   pub are : AreKeys names
   pub above : IsAboveLast last names
   pub as_many : length names ≡ length entries
-  pub values_are : values ≡ kept_words entries
-  pub words_are : words ≡ kept_words (key_entries names)
-  pub keys_are : keys ≡ kept_contents (key_entries names)
+  pub values_are : values ≡ words_of_entries entries
+  pub words_are : words ≡ words_of_entries (key_entries names)
+  pub keys_are : keys ≡ contents_of_entries (key_entries names)
   pub fact : out ++ key_bytes (beside entries names) ≡ whole
 
 -- while values are left, so is a key
 module _ {G : Type 0} where
   pub next_key : (out values words keys : List ℕ) (last : Option (Bor (List ℕ))) (whole : List ℕ) (r : Result (Option StoredEntry) Error) → 4 ≤ length values
-      → ((xs : List EntryParts) → AreWithin xs → words ≡ kept_words xs → keys ≡ kept_contents xs → ReadsEntry xs r) → KeysToPush out values words keys last whole
+      → ((xs : List EntryParts) → FitEntries xs → words ≡ words_of_entries xs → keys ≡ contents_of_entries xs → ReadsEntry xs r)
+      → KeysToPush out values words keys last whole
       → ((k : List ℕ) (ks : List (List ℕ)) → IsAboveLast last (k ∷ ks) → ReadsEntry ((text_entry, k) ∷ key_entries ks) r → G) → G
   next_key out values words keys last whole r long reads w go = by w.entries w.names w.are w.above w.as_many w.values_are w.words_are w.keys_are
     where
-      by : (es : List EntryParts) (ks : List (List ℕ)) → AreKeys ks → IsAboveLast last ks → length ks ≡ length es → values ≡ kept_words es → words ≡ kept_words (key_entries ks) → keys ≡ kept_contents (key_entries ks) → G
+      by : (es : List EntryParts) (ks : List (List ℕ)) → AreKeys ks → IsAboveLast last ks → length ks ≡ length es → values ≡ words_of_entries es
+          → words ≡ words_of_entries (key_entries ks) → keys ≡ contents_of_entries (key_entries ks) → G
       by [] ks are above many values_are words_are keys_are = absurd (omega (arith, long, ap length values_are))
       by (e ∷ es) [] are above many values_are words_are keys_are = absurd (omega (arith, many))
-      by (e ∷ es) (k ∷ ks) are above many values_are words_are keys_are = go k ks above (reads (key_entries (k ∷ ks)) (key-within (k ∷ ks) are) words_are keys_are)
+      by (e ∷ es) (k ∷ ks) are above many values_are words_are keys_are = go k ks above
+          (reads (key_entries (k ∷ ks)) (key-within (k ∷ ks) are) words_are keys_are)
 
-module _ (n : ℕ) (values value values' : List ℕ) (first : value ≡ take 4 values) (rest : values' ≡ drop 4 values) (long : length values' + 4 ≡ length values) (read : n ≡ from_be_bytes w32 value)
-    (words keys : List ℕ) (given : StoredEntry) (reads : (xs : List EntryParts) → AreWithin xs → words ≡ kept_words xs → keys ≡ kept_contents xs → ReadsEntry xs (Ok (Some given)))
+module _ (n : ℕ) (values value values' : List ℕ) (first : value ≡ take 4 values) (rest : values' ≡ drop 4 values) (long : length values' + 4 ≡ length values)
+    (read : n ≡ from_be_bytes w32 value)
+    (words keys : List ℕ) (given : StoredEntry)
+    (reads : (xs : List EntryParts) → FitEntries xs → words ≡ words_of_entries xs → keys ≡ contents_of_entries xs → ReadsEntry xs (Ok (Some given)))
     (last : Option (Bor (List ℕ))) (out out' whole : List ℕ) where
   -- what is left behind the first of the keys
-  passed : (e : EntryParts) (es : List EntryParts) (k : List ℕ) (ks : List (List ℕ)) → AreWithin (e ∷ es) → AreKeys (k ∷ ks) → length (k ∷ ks) ≡ length (e ∷ es) → values ≡ kept_words (e ∷ es)
-      → IsEntry given (text_entry, k) (key_entries ks) → out' ++ key_bytes (beside es ks) ≡ whole → KeysToPush out' values' given.words.now given.contents.now (Some given.content) whole
+  passed : (e : EntryParts) (es : List EntryParts) (k : List ℕ) (ks : List (List ℕ)) → FitEntries (e ∷ es) → AreKeys (k ∷ ks)
+      → length (k ∷ ks) ≡ length (e ∷ es) → values ≡ words_of_entries (e ∷ es)
+      → IsEntry given (text_entry, k) (key_entries ks) → out' ++ key_bytes (beside es ks) ≡ whole
+      → KeysToPush out' values' given.words.now given.contents.now (Some given.content) whole
   passed e es k ks within are many values_are r fact = record {
     entries = es;
     names = ks;
@@ -290,21 +309,26 @@ module _ (n : ℕ) (values value values' : List ℕ) (first : value ≡ take 4 v
     fact = fact;
   }
 
-  pub key_left_out : n / 2 ^ 28 ≡ 0 → out' ≡ out → KeysToPush out values words keys last whole → KeysToPush out' values' given.words.now given.contents.now (Some given.content) whole
+  pub key_left_out : n / 2 ^ 28 ≡ 0 → out' ≡ out → KeysToPush out values words keys last whole
+      → KeysToPush out' values' given.words.now given.contents.now (Some given.content) whole
   key_left_out none same w = go w.entries w.names w.within w.are w.as_many w.values_are w.words_are w.keys_are w.fact
     where
-      go : (es : List EntryParts) (ks : List (List ℕ)) → AreWithin es → AreKeys ks → length ks ≡ length es → values ≡ kept_words es → words ≡ kept_words (key_entries ks) → keys ≡ kept_contents (key_entries ks)
+      go : (es : List EntryParts) (ks : List (List ℕ)) → FitEntries es → AreKeys ks → length ks ≡ length es → values ≡ words_of_entries es
+          → words ≡ words_of_entries (key_entries ks) → keys ≡ contents_of_entries (key_entries ks)
           → out ++ key_bytes (beside es ks) ≡ whole → KeysToPush out' values' given.words.now given.contents.now (Some given.content) whole
       go [] ks within are many values_are words_are keys_are fact = absurd (omega (arith, long, ap length values_are))
       go (e ∷ es) [] within are many values_are words_are keys_are fact = absurd (omega (arith, many))
       go (e ∷ es) (k ∷ ks) within are many values_are words_are keys_are fact =
           let kind = word_kind e.0 (length e.1) n value within.0.0 within.0.1 (first ∙ ap (take 4) values_are) read in
-          passed e es k ks within are many values_are (reads (key_entries (k ∷ ks)) (key-within (k ∷ ks) are) words_are keys_are) (rw same (rw (is_none e.0 (sym kind ∙ none)) at fact))
+          passed e es k ks within are many values_are (reads (key_entries (k ∷ ks)) (key-within (k ∷ ks) are) words_are keys_are)
+          (rw same (rw (is_none e.0 (sym kind ∙ none)) at fact))
 
-  pub key_pushed : (n / 2 ^ 28 ≡ 0 → ⊥) → out' ≡ out ++ given.content.now → KeysToPush out values words keys last whole → KeysToPush out' values' given.words.now given.contents.now (Some given.content) whole
+  pub key_pushed : (n / 2 ^ 28 ≡ 0 → ⊥) → out' ≡ out ++ given.content.now → KeysToPush out values words keys last whole
+      → KeysToPush out' values' given.words.now given.contents.now (Some given.content) whole
   key_pushed some pushed w = go w.entries w.names w.within w.are w.as_many w.values_are w.words_are w.keys_are w.fact
     where
-      go : (es : List EntryParts) (ks : List (List ℕ)) → AreWithin es → AreKeys ks → length ks ≡ length es → values ≡ kept_words es → words ≡ kept_words (key_entries ks) → keys ≡ kept_contents (key_entries ks)
+      go : (es : List EntryParts) (ks : List (List ℕ)) → FitEntries es → AreKeys ks → length ks ≡ length es → values ≡ words_of_entries es
+          → words ≡ words_of_entries (key_entries ks) → keys ≡ contents_of_entries (key_entries ks)
           → out ++ key_bytes (beside es ks) ≡ whole → KeysToPush out' values' given.words.now given.contents.now (Some given.content) whole
       go [] ks within are many values_are words_are keys_are fact = absurd (omega (arith, long, ap length values_are))
       go (e ∷ es) [] within are many values_are words_are keys_are fact = absurd (omega (arith, many))
@@ -312,12 +336,14 @@ module _ (n : ℕ) (values value values' : List ℕ) (first : value ≡ take 4 v
           let kind = word_kind e.0 (length e.1) n value within.0.0 within.0.1 (first ∙ ap (take 4) values_are) read in
           let r = reads (key_entries (k ∷ ks)) (key-within (k ∷ ks) are) words_are keys_are in
           passed e es k ks within are many values_are r
-          (ap (λ ws. ws ++ key_bytes (beside es ks)) (pushed ∙ ap (λ x. out ++ x) r.content) ∙ append_assoc out k (key_bytes (beside es ks)) ∙ (rw (is_some e.0 (λ none. some (kind ∙ none))) at fact))
+          (ap (λ ws. ws ++ key_bytes (beside es ks)) (pushed ∙ ap (λ x. out ++ x) r.content) ∙ append_assoc out k (key_bytes (beside es ks))
+          ∙ (rw (is_some e.0 (λ none. some (kind ∙ none))) at fact))
 
-pub keys_pushed : (out values words keys : List ℕ) (last : Option (Bor (List ℕ))) (whole : List ℕ) → length values < 4 → KeysToPush out values words keys last whole → out ≡ whole
+pub keys_pushed : (out values words keys : List ℕ) (last : Option (Bor (List ℕ))) (whole : List ℕ) → length values < 4
+    → KeysToPush out values words keys last whole → out ≡ whole
 keys_pushed out values words keys last whole short w = go w.entries w.names w.values_are w.fact
   where
-    go : (es : List EntryParts) (ks : List (List ℕ)) → values ≡ kept_words es → out ++ key_bytes (beside es ks) ≡ whole → out ≡ whole
+    go : (es : List EntryParts) (ks : List (List ℕ)) → values ≡ words_of_entries es → out ++ key_bytes (beside es ks) ≡ whole → out ≡ whole
     go [] ks values_are fact = sym (append-nil out) ∙ fact
     go (e ∷ es) ks values_are fact = absurd (omega (arith, short, ap length values_are))
 
@@ -328,6 +354,7 @@ pub fewer_bytes : (ps : Pairs) → length (key_bytes (keys (strip_pairs ps))) �
 fewer_bytes no_pairs = omega arith
 fewer_bytes (pair key t ps) = by (is_null t) (fewer_bytes ps)
   where
-    by : (b : Bool) → length (key_bytes (keys (strip_pairs ps))) ≤ length (key_bytes (keys ps)) → length (key_bytes (keys (cond b (strip_pairs ps) (pair key (strip t) (strip_pairs ps))))) ≤ length (key ++ key_bytes (keys ps))
+    by : (b : Bool) → length (key_bytes (keys (strip_pairs ps))) ≤ length (key_bytes (keys ps))
+        → length (key_bytes (keys (cond b (strip_pairs ps) (pair key (strip t) (strip_pairs ps))))) ≤ length (key ++ key_bytes (keys ps))
     by true h = omega (arith, h, length-append key (key_bytes (keys ps)))
     by false h = omega (arith, h, length-append key (key_bytes (keys ps)), length-append key (key_bytes (keys (strip_pairs ps))))

@@ -5,7 +5,7 @@ use Rattle.std.specs.Str.{bytes_eq}
 use Rattle.jsonb_doc.specs.Tree.{Tree, null, boolean, number, text, extension, array, object, Trees, no_trees, tree, Pairs, no_pairs, pair, keys, values}
 use Rattle.jsonb_doc.specs.Equal.{is_equal, are_equal, pairs_are_equal}
 use Rattle.jsonb_doc.specs.Payload.{Form}
-use Rattle.jsonb_doc.specs.Stored.{Stores, key_trees}
+use Rattle.jsonb_doc.specs.Private.Stored.{Stores, key_trees}
 use Rattle.jsonb_doc.specs.declared.entry_iter.StoredEntry.{StoredEntry}
 
 -- each of them is a text
@@ -29,7 +29,8 @@ first_text form e (array us) ts are h = absurd are
 first_text form e (object ps) ts are h = absurd are
 
 -- texts are equal where their bytes are
-pub texts_by_bytes : (form other_form : Form) (e o : StoredEntry) (t u : Tree) (ts us : Trees) → AreTexts (tree t ts) → AreTexts (tree u us) → Stores form e t → Stores other_form o u
+pub texts_by_bytes : (form other_form : Form) (e o : StoredEntry) (t u : Tree) (ts us : Trees) → AreTexts (tree t ts) → AreTexts (tree u us) → Stores form e t
+    → Stores other_form o u
     → is_equal t u ≡ bytes_eq e.content.now o.content.now
 texts_by_bytes form other_form e o t u ts us are are' h k =
     rw ((first_text form e t ts are h).0, (first_text other_form o u us are' k).0) refl

@@ -3,7 +3,7 @@ use Rattle.std.proofs.Common.{◌≡◌, ℕ, suc, negsuc, ◌<◌, ◌-◌, ◌
 use Rattle.std.proofs.lemmas.Bool.Decides.{nat_tests}
 use Rattle.jsonb_doc.specs.Tree.{Tree}
 use Rattle.jsonb_doc.specs.Answer.{SameOption}
-use Rattle.jsonb_doc.specs.Spots.{Marks, HasSpotsLeft, TakesSpot}
+use Rattle.jsonb_doc.specs.Spots.{Locates, HasSpotsLeft, TakesSpot}
 use Rattle.jsonb_doc.specs.declared.error.Error.{Error}
 use Rattle.jsonb_doc.specs.declared.spot.Spot.{Spot}
 use Rattle.jsonb_doc.specs.declared.spot_iter.SpotIter.{SpotIter}
@@ -21,7 +21,7 @@ pub record Walks (bytes : List ℕ) (all : List Tree) (after : ℕ) (ahead behin
   pub waits : wait ≡ after - seen
   pub left : HasSpotsLeft bytes ahead (drop seen all)
   pub left_behind : HasSpotsLeft bytes behind (drop (seen - after) all)
-  pub met : SameOption (Marks bytes) found (from_end all seen after)
+  pub met : SameOption (Locates bytes) found (from_end all seen after)
 
 none_yet : (all : List Tree) (len after : ℕ) → len ≤ after → from_end all len after ≡ None
 none_yet all len after h = let e : nat_lt after len ≡ false = grind (arith, nat_tests) in rw e refl
@@ -42,7 +42,8 @@ start bytes all after ahead behind left left_behind = record {
 
 -- the first walk alone goes on
 pub waiting : (bytes : List ℕ) (all : List Tree) (after : ℕ) (ahead behind ahead' : SpotIter) (wait : ℕ) (found : Option Spot) (r : Result Spot Error)
-    (w : Walks bytes all after ahead behind wait found) → 0 < wait → TakesSpot bytes (drop w.seen all) (Some r) ahead' → Walks bytes all after ahead' behind (wait - 1) found
+    (w : Walks bytes all after ahead behind wait found) → 0 < wait → TakesSpot bytes (drop w.seen all) (Some r) ahead'
+    → Walks bytes all after ahead' behind (wait - 1) found
 waiting bytes all after ahead behind ahead' wait found r w more takes =
     let f = first_left bytes _ r ahead' takes in
     let s = split_at all w.seen f.first f.rest f.split in
@@ -59,8 +60,10 @@ waiting bytes all after ahead behind ahead' wait found r w more takes =
     }
 
 -- both walks go on
-pub moving : (bytes : List ℕ) (all : List Tree) (after : ℕ) (ahead behind ahead' behind' : SpotIter) (wait : ℕ) (found : Option Spot) (r : Result Spot Error) (spot : Spot)
-    (w : Walks bytes all after ahead behind wait found) → wait ≤ 0 → TakesSpot bytes (drop w.seen all) (Some r) ahead' → TakesSpot bytes (drop (w.seen - after) all) (Some (Ok spot)) behind'
+pub moving : (bytes : List ℕ) (all : List Tree) (after : ℕ) (ahead behind ahead' behind' : SpotIter) (wait : ℕ) (found : Option Spot) (r : Result Spot Error)
+    (spot : Spot)
+    (w : Walks bytes all after ahead behind wait found) → wait ≤ 0 → TakesSpot bytes (drop w.seen all) (Some r) ahead'
+    → TakesSpot bytes (drop (w.seen - after) all) (Some (Ok spot)) behind'
     → Walks bytes all after ahead' behind' wait (Some spot)
 moving bytes all after ahead behind ahead' behind' wait found r spot w ready takes takes_behind =
     let f = first_left bytes _ r ahead' takes in
@@ -80,7 +83,8 @@ moving bytes all after ahead behind ahead' behind' wait found r spot w ready tak
 
 -- the second walk has children left as long as the first has
 pub stuck : (bytes : List ℕ) (all : List Tree) (after : ℕ) (ahead behind ahead' behind' : SpotIter) (wait : ℕ) (found : Option Spot) (r : Result Spot Error)
-    (w : Walks bytes all after ahead behind wait found) → TakesSpot bytes (drop w.seen all) (Some r) ahead' → TakesSpot bytes (drop (w.seen - after) all) None behind' → ⊥
+    (w : Walks bytes all after ahead behind wait found) → TakesSpot bytes (drop w.seen all) (Some r) ahead'
+    → TakesSpot bytes (drop (w.seen - after) all) None behind' → ⊥
 stuck bytes all after ahead behind ahead' behind' wait found r w takes takes_behind =
     let f = first_left bytes _ r ahead' takes in
     let s = split_at all w.seen f.first f.rest f.split in
@@ -90,7 +94,8 @@ stuck bytes all after ahead behind ahead' behind' wait found r w takes takes_beh
 
 -- where the first walk is at its end, the child is found
 pub finished : (bytes : List ℕ) (all : List Tree) (after : ℕ) (ahead behind ahead' : SpotIter) (wait : ℕ) (found : Option Spot)
-    (w : Walks bytes all after ahead behind wait found) → TakesSpot bytes (drop w.seen all) None ahead' → SameOption (Marks bytes) found (from_end all (length all) after)
+    (w : Walks bytes all after ahead behind wait found) → TakesSpot bytes (drop w.seen all) None ahead'
+    → SameOption (Locates bytes) found (from_end all (length all) after)
 finished bytes all after ahead behind ahead' wait found w takes =
     let e = at_end all w.seen w.inside (none_left bytes _ ahead' takes) in
     rw (← e) w.met

@@ -46,14 +46,20 @@ significant_last (d ∷ ds) = by_rest (cases_Bool (list_all (λ d. d == 0) (d �
         → (list_all (λ d. d == 0) ds ≡ true) ⊎ ((es : List ℕ) × (c : ℕ) × (significant ds ≡ es ++ c ∷ []) × (c ≢ 0))
         → (list_all (λ d. d == 0) (d ∷ ds) ≡ true) ⊎ ((es : List ℕ) × (c : ℕ) × (significant (d ∷ ds) ≡ es ++ c ∷ []) × (c ≢ 0))
     by_rest (inl h) k = inl h
-    by_rest (inr h) (inl k) = ⊎_elim (λ (e : (d == 0) ≡ false). inr ([], d, rw h (ap (λ x. d ∷ x) (significant_zeros ds k)), eqb-false d 0 e)) (λ (e : list_all (λ d. d == 0) ds ≡ false). absurd (true≢false (sym k ∙ e))) (and_cases (d == 0) (list_all (λ d. d == 0) ds) h)
+    by_rest (inr h) (inl k) = ⊎_elim (λ (e : (d == 0) ≡ false). inr ([], d, rw h (ap (λ x. d ∷ x) (significant_zeros ds k)), eqb-false d 0 e))
+        (λ (e : list_all (λ d. d == 0) ds ≡ false). absurd (true≢false (sym k ∙ e))) (and_cases (d == 0) (list_all (λ d. d == 0) ds) h)
     by_rest (inr h) (inr k) = inr (d ∷ k.0, k.1, rw h (ap (λ x. d ∷ x) k.2), k.3)
 
 pub digits_write : DigitsWrite
-digits_write n h = (record { first = significant_first (digits_of 10 n) (first_digits_of 10 n (omega arith) h); last = kept }, ap (λ v. v * 10 ^ length (significant (digits_of 10 n))) (sym (number_digits_of 10 n (omega arith))) ∙ significant_value (digits_of 10 n))
+digits_write n h = (
+  record { first = significant_first (digits_of 10 n) (first_digits_of 10 n (omega arith) h); last = kept },
+  ap
+      (λ v. v * 10 ^ length (significant (digits_of 10 n))) (sym (number_digits_of 10 n (omega arith))) ∙ significant_value (digits_of 10 n),
+)
   where
     kept : (es : List ℕ) × (c : ℕ) × (significant (digits_of 10 n) ≡ es ++ c ∷ []) × (c ≢ 0)
     kept = ⊎_elim
-        (λ (e : list_all (λ d. d == 0) (digits_of 10 n) ≡ true). absurd (let z : n ≡ 0 = sym (number_digits_of 10 n (omega arith)) ∙ all_zero (digits_of 10 n) e in omega arith))
+        (λ (e : list_all (λ d. d == 0) (digits_of 10 n) ≡ true). absurd
+        (let z : n ≡ 0 = sym (number_digits_of 10 n (omega arith)) ∙ all_zero (digits_of 10 n) e in omega arith))
         (λ (k : (es : List ℕ) × (c : ℕ) × (significant (digits_of 10 n) ≡ es ++ c ∷ []) × (c ≢ 0)). k)
         (significant_last (digits_of 10 n))

@@ -7,11 +7,9 @@ use Rattle.std.specs.declared.alloc.Global.{Global}
 use Rattle.jsonb_doc.specs.Tree.{Tree, boolean, number, text}
 use Rattle.jsonb_doc.specs.NumberText.{number_text}
 use Rattle.jsonb_doc.specs.Rounding.{rounded}
-use Rattle.jsonb_doc.specs.View.{IsDecodingError}
-use Rattle.jsonb_doc.specs.Answer.{Answers}
+use Rattle.jsonb_doc.specs.Answer.{IsOutOfMemory, IsDecodingError}
 use Rattle.jsonb_doc.specs.declared.error.Error.{Error}
 use Rattle.jsonb_doc.specs.declared.error.Error.TheVariants.{InvalidCast}
-use Rattle.jsonb_raw.specs.Documents.{IsReadingError}
 
 -- ---- what a tree is cast to
 
@@ -71,15 +69,7 @@ CastsToU64 t r = Casts (λ n. IsUnsignedOf t n × (n < 2 ^ 64)) r
 
 -- the text that there is, which takes memory, or `InvalidCast`
 abbrev pub CastsToText : Option (List ℕ) → Result (String Global) Error → Type 0
-CastsToText (Some wanted) r = Answers r (λ s. string_bytes s ≡ wanted)
+CastsToText (Some wanted) r = MatchResult r (λ s. string_bytes s ≡ wanted) IsOutOfMemory
 CastsToText None r = r ≡ Err InvalidCast
 
 -- ---- on any bytes
-
--- what a cast may refuse
-abbrev pub IsCastError : Error → Type 0
-IsCastError e = IsDecodingError e ⊎ (e ≡ InvalidCast)
-
--- what a cast that takes memory may refuse
-abbrev pub IsTextCastError : Error → Type 0
-IsTextCastError e = IsReadingError e ⊎ (e ≡ InvalidCast)

@@ -3,13 +3,13 @@ use Rattle.std.specs.Prelude.{◌≡◌, ℕ, ◌<◌, Bool, true, Option, Some,
 use Rattle.std.specs.List.{list_any}
 use Rattle.jsonb_doc.specs.Tree.{Tree, Trees, elements}
 use Rattle.jsonb_doc.specs.Payload.{Form, number_of}
-use Rattle.jsonb_doc.specs.Item.{Stands, item_size}
+use Rattle.jsonb_doc.specs.Item.{StandsFor, item_size}
 use Rattle.jsonb_doc.specs.Short.{short_value}
-use Rattle.jsonb_doc.specs.Stored.{HasEntriesLeft}
+use Rattle.jsonb_doc.specs.Private.Stored.{HasEntriesLeft}
 use Rattle.jsonb_doc.specs.declared.short_number.ShortNumber.{ShortNumber}
 use Rattle.jsonb_doc.specs.declared.entry_iter.StoredEntry.{StoredEntry}
 use Rattle.jsonb_doc.specs.declared.entry_iter.EntryIter.{EntryIter}
-use Rattle.jsonb_raw.specs.Contains.{is_matched_by}
+use Rattle.jsonb_raw.specs.Contains.{is_part_of}
 use Rattle.jsonb_raw.specs.declared.compared.Compared.{Compared}
 use Rattle.jsonb_raw.specs.declared.compared.Compared.TheVariants.{Known, AsOf}
 
@@ -17,7 +17,7 @@ use Rattle.jsonb_raw.specs.declared.compared.Compared.TheVariants.{Known, AsOf}
 abbrev pub Decides : (Tree → Tree → Bool) → Form → Form → Compared → Bool → Type 0
 Decides test form other_form (Known b) answer = b ≡ answer
 Decides test form other_form (AsOf x y) answer =
-    (t : Tree) × (u : Tree) × Stands form x t × Stands other_form y u × (test t u ≡ answer)
+    (t : Tree) × (u : Tree) × StandsFor form x t × StandsFor other_form y u × (test t u ≡ answer)
 
 -- the first of the parts is shorter than this
 abbrev pub IsShorter : Compared → ℕ → Type 0
@@ -31,7 +31,7 @@ IsWithin (AsOf x y) len other_len = (item_size x < len) × (item_size y < other_
 
 -- the first tree matches the second
 abbrev pub matches : Tree → Tree → Bool
-matches x y = is_matched_by y x
+matches x y = is_part_of y x
 
 -- the entry is this number, where it is given
 pub record IsShortOf (entry : StoredEntry) (short : Option ShortNumber) : Type 0 where

@@ -9,7 +9,7 @@ use Rattle.std.specs.declared.cmp.Ordering.TheVariants.{Less}
 use Rattle.jsonb_doc.specs.Tree.{Tree, text, array, object, Trees, Pairs, keys}
 use Rattle.jsonb_doc.specs.Payload.{Form}
 use Rattle.jsonb_doc.specs.Format.{Decodes, AreKeys, IsBelowFirst}
-use Rattle.jsonb_doc.specs.Stored.{HasEntriesLeft, key_trees}
+use Rattle.jsonb_doc.specs.Private.Stored.{HasEntriesLeft, key_trees}
 use Rattle.jsonb_raw.specs.Exists.{has_text}
 use Rattle.jsonb_raw.specs.declared.functions.path.exists.KeyCursor.{KeyCursor}
 use Rattle.jsonb_raw.specs.declared.functions.path.exists.Texts.{Texts}

@@ -2,7 +2,7 @@
 use Rattle.std.specs.Prelude.{◌≡◌, ◌⊎◌, ℕ, zero, suc, Bool, true, false, List, [], ◌∷◌, Option, Some, None, unwrap_or, option_and_then}
 use Rattle.jsonb_doc.specs.Tree.{Tree, extension, array, object, Trees, no_trees, tree, Pairs, no_pairs, pair}
 use Rattle.jsonb_keypath.specs.KeyPathGrammar.{Key}
-use Rattle.jsonb_raw.specs.Places.{place}
+use Rattle.jsonb_raw.specs.Places.{location}
 
 -- the tree in front of the others, where there is one
 abbrev pub put_tree : Option Tree → Trees → Trees
@@ -33,21 +33,14 @@ change_child n change (object ps) = object (change_value n change ps)
 change_child n change t = t
 
 -- what is left of the tree without a place: without the whole, nothing
-abbrev pub take_out : List ℕ → Tree → Option Tree
-take_out [] t = None
-take_out (n ∷ ns) t = Some (change_child n (take_out ns) t)
+abbrev pub remove_at : List ℕ → Tree → Option Tree
+remove_at [] t = None
+remove_at (n ∷ ns) t = Some (change_child n (remove_at ns) t)
 
 -- the tree without the place that the steps meet; the same tree where they meet none, or the whole
 abbrev pub without : List Key → Tree → Tree
-without steps t = unwrap_or (option_and_then (λ ns. take_out ns t) (place steps t)) t
+without steps t = unwrap_or (option_and_then (λ ns. remove_at ns t) (location steps t)) t
 
 -- the steps meet nothing, or the whole
 abbrev pub MeetNoPart : List Key → Tree → Type 0
-MeetNoPart steps t = (place steps t ≡ None) ⊎ (steps ≡ [])
-
--- null, a boolean, a number or a string
-abbrev pub is_json_scalar : Tree → Bool
-is_json_scalar (array ts) = false
-is_json_scalar (object ps) = false
-is_json_scalar (extension x) = false
-is_json_scalar _ = true
+MeetNoPart steps t = (location steps t ≡ None) ⊎ (steps ≡ [])

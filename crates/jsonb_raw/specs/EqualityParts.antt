@@ -3,7 +3,7 @@ use Rattle.std.specs.Prelude.{ℕ, List, ◌∷◌, ◌++◌, length, Some, None
 use Rattle.std.specs.Int.{w32, to_be_bytes}
 use Rattle.jsonb_doc.specs.Tree as spec
 use Rattle.jsonb_doc.specs.Tree.{Tree, count, keys}
-use Rattle.jsonb_raw.specs.Levels.{Part}
+use Rattle.jsonb_raw.specs.Private.Levels.{Part}
 use Rattle.jsonb_raw.specs.EqualityKey.{equality_key}
 use Rattle.jsonb_raw.specs.SortableKey.{text_bytes}
 

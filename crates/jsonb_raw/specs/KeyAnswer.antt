@@ -9,22 +9,16 @@ use Rattle.jsonb_doc.specs.declared.error.Error.TheVariants.{OutOfMemory, TooDee
 use Rattle.jsonb_doc.specs.Tree.{Tree}
 use Rattle.jsonb_doc.specs.Order.{tree_cmp, IsEqual}
 use Rattle.jsonb_raw.specs.Depth.{deepest, HasNoExtension}
-use Rattle.jsonb_raw.specs.Documents.{IsReadingError}
 use Rattle.jsonb_raw.specs.KeyLaws.{HasKey}
 use Rattle.jsonb_raw.specs.SortableKey.{key, depths}
 
 -- memory was refused, or an item of what was asked for lies too deep
-abbrev pub IsRefusal : ℕ → ℕ → Error → Type 0
-IsRefusal deepest_item limit e = (e ≡ OutOfMemory) ⊎ ((e ≡ TooDeep) × (limit ≤ deepest_item))
-
--- the answer is right and every item lies above the limit, or the call is refused
-abbrev pub AnswersWithin : {A : Type 0} → ℕ → ℕ → Result A Error → (A → Type 0) → Type 0
-AnswersWithin deepest_item limit r P =
-    MatchResult r (λ a. P a × (deepest_item < limit)) (IsRefusal deepest_item limit)
+abbrev pub IsOutOfMemoryOrTooDeep : ℕ → ℕ → Error → Type 0
+IsOutOfMemoryOrTooDeep deepest_item limit e = (e ≡ OutOfMemory) ⊎ ((e ≡ TooDeep) × (limit ≤ deepest_item))
 
 -- the sortable key of a document, refused as too deep exactly where an item lies too deep for the width
 abbrev pub MakesKey : Width → Tree → Result (Vec ℕ Global) Error → Type 0
-MakesKey w tree r = AnswersWithin (deepest tree) (depths w) r (λ v. v.items ≡ key w tree 0)
+MakesKey w tree r = MatchResult r (λ v. (v.items ≡ key w tree 0) × ((deepest tree) < (depths w))) (IsOutOfMemoryOrTooDeep (deepest tree) (depths w))
 
 -- The bytes compare with the key of the tree u as the tree t does with u, and are that key where the two are equal.
 pub record RanksWith (w : Width) (t u : Tree) (bytes : List ℕ) : Type 0 where
@@ -35,7 +29,3 @@ pub record RanksWith (w : Width) (t u : Tree) (bytes : List ℕ) : Type 0 where
 abbrev pub RanksAsTree : Width → Tree → Result (Vec ℕ Global) Error → Type 0
 RanksAsTree w t r =
     HasNoExtension t → (u : Tree) → HasKey w u 0 → IfOk r (λ v. RanksWith w t u v.items)
-
--- what a call that writes a sortable key may refuse on any bytes
-abbrev pub IsKeyError : Error → Type 0
-IsKeyError e = IsReadingError e ⊎ (e ≡ TooDeep)

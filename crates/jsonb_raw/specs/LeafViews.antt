@@ -6,12 +6,12 @@ use Rattle.jsonb_doc.specs.Tree.{Tree}
 use Rattle.jsonb_doc.specs.Payload.{Form}
 use Rattle.jsonb_doc.specs.Value.{value_tree, value_parts}
 use Rattle.jsonb_doc.specs.declared.value.Value.{Value}
-use Rattle.jsonb_keypath.specs.KeyPathGrammar.{Key, index, plain_name}
+use Rattle.jsonb_keypath.specs.KeyPathGrammar.{Key, index, unquoted_name}
 use Rattle.jsonb_keypath.specs.declared.key_path.KeyPaths.{KeyPaths}
 use Rattle.jsonb_keypath.specs.KeyPathViews.{key_paths_view}
 use Rattle.jsonb_raw.specs.declared.functions.path.leaves.Entered.{Entered}
 use Rattle.jsonb_raw.specs.declared.level.Level.{Level}
-use Rattle.jsonb_raw.specs.Levels.{parts, HasPartsLeft}
+use Rattle.jsonb_raw.specs.Private.Levels.{parts, HasPartsLeft}
 use Rattle.jsonb_raw.specs.Leaves.{Leaf, is_leaf}
 
 -- key paths with values, where each value is seen so
@@ -25,7 +25,7 @@ SeesDecoded seen = (value : Value) (t : Tree) → value_tree value ≡ t → val
 -- the step to a part with this key, if any, and at this position
 abbrev pub step_at : Option (Bor (List ℕ)) → ℕ → Key
 step_at None n = index (cast_signed w32 n)
-step_at (Some key) n = plain_name key.now
+step_at (Some key) n = unquoted_name key.now
 
 -- the steps to the part that was entered of each container, the outermost first
 abbrev pub steps_into : List Entered → List Key

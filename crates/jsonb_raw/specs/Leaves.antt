@@ -1,7 +1,7 @@
 -- The leaves of a tree, with the paths to them.
 use Rattle.std.specs.Prelude.{ℕ, suc, pos, Bool, true, false, List, [], ◌∷◌, ◌++◌, map, if◌then◌else◌}
 use Rattle.jsonb_doc.specs.Tree.{Tree, array, object, Trees, no_trees, tree, Pairs, no_pairs, pair}
-use Rattle.jsonb_keypath.specs.KeyPathGrammar.{Key, index, plain_name}
+use Rattle.jsonb_keypath.specs.KeyPathGrammar.{Key, index, unquoted_name}
 
 -- the steps to a part, and the part
 abbrev pub Leaf : Type 0
@@ -40,4 +40,4 @@ abbrev mutual
   pub leaves_of_pairs : Bool → Pairs → List Leaf
   leaves_of_pairs ignore_array no_pairs = []
   leaves_of_pairs ignore_array (pair key t ps) =
-      leaves_at ignore_array (plain_name key) t (leaves ignore_array t) ++ leaves_of_pairs ignore_array ps
+      leaves_at ignore_array (unquoted_name key) t (leaves ignore_array t) ++ leaves_of_pairs ignore_array ps

@@ -7,12 +7,9 @@ pub mod SortableKey
 pub mod EqualityKey
 pub mod KeyAnswer
 pub mod KeyLaws
-pub mod Spelling
-pub mod KeyWidth
 pub mod Scalars
 pub mod Casts
 pub mod Sets
-pub mod SetCounts
 pub mod SetLaws
 pub mod Texts
 pub mod Strip
@@ -20,10 +17,7 @@ pub mod Stripping
 pub mod Compared
 pub mod Contains
 pub mod Concat
-pub mod PairSteps
 pub mod Leaves
-pub mod Levels
-pub mod KeyParts
 pub mod EqualityParts
 pub mod LeafViews
 pub mod LeavesLaws
@@ -36,9 +30,7 @@ pub mod Making
 pub mod Objects
 pub mod Arrays
 pub mod Children
-pub mod Cuts
-pub mod Inserts
 pub mod ObjectsLaws
-pub mod MergedPairs
 pub mod OperatorLaws
-pub mod Dealt
+pub mod Private
+pub mod Partition

@@ -3,7 +3,7 @@ use Rattle.std.specs.Prelude.{ℕ, suc, ℤ, pos, negsuc, ◌-◌, nat_lt, List,
 use Rattle.std.specs.Str.{bytes_eq}
 use Rattle.std.specs.Fmt.{signed_decimal}
 use Rattle.jsonb_doc.specs.Tree.{Tree, array, object, elements, keys, children_of}
-use Rattle.jsonb_keypath.specs.KeyPathGrammar.{Key, index, quoted_name, plain_name}
+use Rattle.jsonb_keypath.specs.KeyPathGrammar.{Key, index, quoted_name, unquoted_name}
 
 -- the elements of an array or the values of an object, in stored order; another tree has none
 abbrev pub children : Tree → List Tree
@@ -18,7 +18,7 @@ index_position len (negsuc n) = if nat_lt n len then Some (len - suc n) else Non
 abbrev pub asked_key : Key → List ℕ
 asked_key (index i) = signed_decimal i
 asked_key (quoted_name text) = text
-asked_key (plain_name text) = text
+asked_key (unquoted_name text) = text
 
 -- the position of the child that a step meets
 abbrev pub child_position : Key → Tree → Option ℕ
@@ -31,10 +31,10 @@ abbrev pub child_met : Key → Tree → Option Tree
 child_met step t = option_and_then (λ n. slice_get (children t) n) (child_position step t)
 
 -- the child positions that the steps meet, one after the other, from the root on
-abbrev pub place : List Key → Tree → Option (List ℕ)
-place [] t = Some []
-place (step ∷ steps) t =
-    option_and_then (λ n. option_map (λ ns. n ∷ ns) (option_and_then (place steps) (slice_get (children t) n))) (child_position step t)
+abbrev pub location : List Key → Tree → Option (List ℕ)
+location [] t = Some []
+location (step ∷ steps) t =
+    option_and_then (λ n. option_map (λ ns. n ∷ ns) (option_and_then (location steps) (slice_get (children t) n))) (child_position step t)
 
 -- the tree at a place
 abbrev pub tree_at : List ℕ → Tree → Option Tree
@@ -43,4 +43,4 @@ tree_at (n ∷ ns) t = option_and_then (tree_at ns) (slice_get (children t) n)
 
 -- the tree at the place that the steps meet
 abbrev pub tree_at_steps : List Key → Tree → Option Tree
-tree_at_steps steps t = option_and_then (λ ns. tree_at ns t) (place steps t)
+tree_at_steps steps t = option_and_then (λ ns. tree_at ns t) (location steps t)

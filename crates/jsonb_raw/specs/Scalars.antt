@@ -1,5 +1,5 @@
 -- The kinds of trees, and what a scalar holds.
-use Rattle.std.specs.Prelude.{◌≡◌, ℕ, Bool, true, false, List, Option, Some, None, Result, Ok, ℤ, is_some, codes, IsSomeAnd, Vec}
+use Rattle.std.specs.Prelude.{◌≡◌, ℕ, Bool, true, false, List, Option, Some, None, Result, Ok, ℤ, is_some, codes, IsSomeAnd, Vec, MatchResult}
 use Rattle.std.specs.declared.alloc.Global.{Global}
 use Rattle.std.specs.declared.borrow.CowStr.{CowStr}
 use Rattle.std.specs.declared.borrow.CowStr.TheVariants.{Borrowed, Owned}
@@ -7,7 +7,7 @@ use Rattle.jsonb_doc.specs.Number.{Number, Variant, int64, uint64, decimal64, de
 use Rattle.jsonb_doc.specs.Extension.{Extension, binary, date, timestamp, timestamp_tz, interval}
 use Rattle.jsonb_doc.specs.Tree.{Tree, null, boolean, number, text, extension, array, object}
 use Rattle.jsonb_doc.specs.Rounding.{IsWhole}
-use Rattle.jsonb_doc.specs.Answer.{Answers}
+use Rattle.jsonb_doc.specs.Answer.{IsOutOfMemory}
 use Rattle.jsonb_doc.specs.declared.error.Error.{Error}
 use Rattle.jsonb_doc.specs.declared.extension.Date.{Date}
 use Rattle.jsonb_doc.specs.declared.extension.Timestamp.{Timestamp}
@@ -140,10 +140,17 @@ IsInterval i parts = (i.months, i.days, i.micros) ≡ parts
 
 -- a copy of the bytes that there are, which takes memory, or none
 abbrev pub CopiesBytes : Option (List ℕ) → Result (Option (Vec ℕ Global)) Error → Type 0
-CopiesBytes (Some bytes) r = Answers r (λ found. IsSomeAnd found (λ v. v.items ≡ bytes))
+CopiesBytes (Some bytes) r = MatchResult r (λ found. IsSomeAnd found (λ v. v.items ≡ bytes)) IsOutOfMemory
 CopiesBytes None r = r ≡ Ok None
 
 -- the tree is a number that is this whole one
 abbrev pub IsWholeNumber : Tree → ℤ → Type 0
 IsWholeNumber (number n) z = IsWhole n z
 IsWholeNumber _ z = ⊥
+
+-- null, a boolean, a number or a string
+abbrev pub is_json_scalar : Tree → Bool
+is_json_scalar (array ts) = false
+is_json_scalar (object ps) = false
+is_json_scalar (extension x) = false
+is_json_scalar _ = true

@@ -18,8 +18,8 @@ occurrences before [] = []
 occurrences before (t ∷ ts) = (before, t) ∷ occurrences (t ∷ before) ts
 
 -- the elements that pass a test at their places, in order
-abbrev pub kept : (Occurrence → Bool) → List Tree → List Tree
-kept test ts = map (λ o. o.1) (filter test (occurrences [] ts))
+abbrev pub select_occurrences : (Occurrence → Bool) → List Tree → List Tree
+select_occurrences test ts = map (λ o. o.1) (filter test (occurrences [] ts))
 
 -- no element before it equals it
 abbrev pub is_first : Occurrence → Bool
@@ -31,14 +31,14 @@ is_shared other o = nat_lt (count_of o.1 o.0) (count_of o.1 other)
 
 -- the first of each group of equal elements
 abbrev pub distinct : List Tree → List Tree
-distinct ts = kept is_first ts
+distinct ts = select_occurrences is_first ts
 
 -- A list is split by another one into its intersection with it, and the difference.
-abbrev pub shared : List Tree → List Tree → List Tree
-shared ts other = kept (is_shared other) ts
+abbrev pub intersection_of : List Tree → List Tree → List Tree
+intersection_of ts other = select_occurrences (is_shared other) ts
 
-abbrev pub unshared : List Tree → List Tree → List Tree
-unshared ts other = kept (λ o. not (is_shared other o)) ts
+abbrev pub difference_of : List Tree → List Tree → List Tree
+difference_of ts other = select_occurrences (λ o. not (is_shared other o)) ts
 
 -- some element of the one list equals one of the other
 abbrev pub overlap : List Tree → List Tree → Bool

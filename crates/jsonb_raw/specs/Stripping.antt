@@ -3,13 +3,13 @@ use Rattle.std.specs.Prelude.{◌≡◌, ℕ, ◌+◌, ◌≤◌, ◌==◌, Bool
 use Rattle.std.specs.Borrow.{Bor}
 use Rattle.jsonb_doc.specs.declared.error.Error.{Error}
 use Rattle.jsonb_doc.specs.Tree.{Tree}
-use Rattle.jsonb_doc.specs.Payload.{Form, reading}
+use Rattle.jsonb_doc.specs.Payload.{Form, number_reader}
 use Rattle.jsonb_doc.specs.Format.{IsContent, container_entry, null_entry, text_entry, IsBelowFirst}
 use Rattle.jsonb_doc.specs.Encoding.{EntryParts}
-use Rattle.jsonb_doc.specs.ObjectBuilder.{kept_words, kept_contents}
+use Rattle.jsonb_doc.specs.ObjectBuilder.{words_of_entries, contents_of_entries}
 use Rattle.jsonb_raw.specs.declared.functions.operator.stripping.Writing.{Writing}
 use Rattle.jsonb_raw.specs.declared.functions.operator.stripping.StoredEntry.{StoredEntry}
-use Rattle.jsonb_raw.specs.Cuts.{AreWithin}
+use Rattle.jsonb_raw.specs.Private.Cuts.{FitEntries}
 use Rattle.jsonb_raw.specs.Scalars.{is_null}
 use Rattle.jsonb_raw.specs.Strip.{strip}
 
@@ -48,14 +48,14 @@ abbrev pub AreOfEach : Form → List Tree → List EntryParts → Type 0
 AreOfEach form [] [] = ⊤
 AreOfEach form [] (e ∷ es) = ⊥
 AreOfEach form (t ∷ ts) [] = ⊥
-AreOfEach form (t ∷ ts) (e ∷ es) = IsContent (reading form) t e.0 e.1 × AreOfEach form ts es
+AreOfEach form (t ∷ ts) (e ∷ es) = IsContent (number_reader form) t e.0 e.1 × AreOfEach form ts es
 
 -- the entry that was read, and what is left behind it
 pub record IsEntry (given : StoredEntry) (e : EntryParts) (es : List EntryParts) : Type 0 where
   pub kind : given.kind ≡ e.0
   pub content : given.content.now ≡ e.1
-  pub words : given.words.now ≡ kept_words es
-  pub contents : given.contents.now ≡ kept_contents es
+  pub words : given.words.now ≡ words_of_entries es
+  pub contents : given.contents.now ≡ contents_of_entries es
 
 abbrev pub ReadsEntry : List EntryParts → Result (Option StoredEntry) Error → Type 0
 ReadsEntry [] (Ok None) = ⊤
@@ -66,28 +66,30 @@ ReadsEntry (e ∷ es) _ = ⊥
 -- Behind what was there before, a container is written up to the entries that are left: a header and an object's key words, the
 -- words of all entries that stay, an object's keys, and the contents so far. Once the others are written it is the container
 -- of the target, of so many bytes at most.
-pub record IsWrittenTo (form : Form) (is_object : Bool) (before out : List ℕ) (start word : ℕ) (es : List EntryParts) (ts : List Tree) (target : Tree) (most : ℕ) : Type 0 where
+pub record IsWrittenTo (form : Form) (is_object : Bool) (before out : List ℕ) (start word : ℕ) (es : List EntryParts) (ts : List Tree) (target : Tree)
+    (most : ℕ) : Type 0 where
   pub front : List ℕ
   pub keys : List ℕ
   pub done : List EntryParts
   pub made : List Tree
-  pub joined : out ≡ before ++ (front ++ ((kept_words done ++ kept_words (staying is_object es)) ++ (keys ++ kept_contents done)))
+  pub joined : out ≡ before ++ (front ++ ((words_of_entries done ++ words_of_entries (staying is_object es)) ++ (keys ++ contents_of_entries done)))
   pub start_is : start ≡ length before
-  pub word_is : word ≡ length before + length front + length (kept_words done)
-  pub done_within : AreWithin done
+  pub word_is : word ≡ length before + length front + length (words_of_entries done)
+  pub done_within : FitEntries done
   pub done_are : AreOfEach form made done
-  pub left_within : AreWithin es
+  pub left_within : FitEntries es
   pub left_are : AreOfEach form ts es
-  pub closes : (xs : List EntryParts) → AreWithin xs → AreOfEach form (made ++ stripped is_object ts) xs
-      → IsContent (reading form) target container_entry (front ++ (kept_words xs ++ (keys ++ kept_contents xs)))
-  pub short : length front + length (kept_words done) + length (kept_words (staying is_object es)) + length keys + length (kept_contents done) + length (kept_contents es) ≤ most
+  pub closes : (xs : List EntryParts) → FitEntries xs → AreOfEach form (made ++ stripped is_object ts) xs
+      → IsContent (number_reader form) target container_entry (front ++ (words_of_entries xs ++ (keys ++ contents_of_entries xs)))
+  pub short : length front + length (words_of_entries done) + length (words_of_entries (staying is_object es)) + length keys + length
+      (contents_of_entries done) + length (contents_of_entries es) ≤ most
 
 -- the same, where the words and the contents of the entries that are left are these
 pub record IsOpen (form : Form) (is_object : Bool) (before out : List ℕ) (start word : ℕ) (words contents : List ℕ) (target : Tree) (most : ℕ) : Type 0 where
   pub entries : List EntryParts
   pub trees : List Tree
-  pub words_are : words ≡ kept_words entries
-  pub contents_are : contents ≡ kept_contents entries
+  pub words_are : words ≡ words_of_entries entries
+  pub contents_are : contents ≡ contents_of_entries entries
   pub written : IsWrittenTo form is_object before out start word entries trees target most
 
 -- the container of a tree is begun behind what was there

@@ -4,7 +4,7 @@ use Rattle.std.specs.Borrow.{Bor}
 use Rattle.std.specs.Fn.{Shared, FnReturnsAt}
 use Rattle.jsonb_doc.specs.Tree.{Tree, null, boolean, number, text, extension, array, object, Trees, no_trees, tree, Pairs, no_pairs, pair}
 use Rattle.jsonb_doc.specs.Payload.{Form}
-use Rattle.jsonb_doc.specs.Item.{Stands}
+use Rattle.jsonb_doc.specs.Item.{StandsFor}
 use Rattle.jsonb_doc.specs.declared.item.Item.{Item}
 
 -- the strings at every depth, a root string among them, and the keys of objects
@@ -35,7 +35,7 @@ Tells calls func ss answer =
 abbrev pub LargeTells : {F : Type 0} → Shared F (Bor (List ℕ) × Unit {0}) Bool → F → Form → List (List ℕ) → Option Item → Type 0
 LargeTells calls func form ss None = Tells calls func ss false
 LargeTells calls func form ss (Some item) =
-    (t : Tree) × Stands form item t × ((b : Bool) → Tells calls func (texts t) b → Tells calls func ss b)
+    (t : Tree) × StandsFor form item t × ((b : Bool) → Tells calls func (texts t) b → Tells calls func ss b)
 
 -- a call answered true, or what was not asked about decides
 abbrev pub LeavesTexts : {F : Type 0} → Shared F (Bor (List ℕ) × Unit {0}) Bool → F → Form → List (List ℕ) → Bool → Option Item → Type 0

@@ -8,9 +8,10 @@ ghost use Rattle.jsonb_doc.specs.Tree.{Tree, Trees, Pairs, elements};
 ghost use Rattle.jsonb_doc.specs.Equal.{is_equal, are_equal, pairs_are_equal, is_same_extension};
 ghost use Rattle.jsonb_doc.specs.Payload.{Form};
 ghost use Rattle.jsonb_doc.specs.Format.{Decodes};
-ghost use Rattle.jsonb_doc.specs.Item.{Stands, item_size};
-ghost use Rattle.jsonb_doc.specs.Stored.{HasEntriesLeft, Stores, entries_room, key_trees};
-ghost use Rattle.jsonb_doc.specs.View.{number_view, extension_view, IsDecodingError};
+ghost use Rattle.jsonb_doc.specs.Item.{StandsFor, item_size};
+ghost use Rattle.jsonb_doc.specs.Private.Stored.{HasEntriesLeft, Stores, entries_room, key_trees};
+ghost use Rattle.jsonb_doc.specs.View.{number_view, extension_view};
+ghost use Rattle.jsonb_doc.specs.Answer.{IsDecodingError};
 ghost use Rattle.jsonb_raw.specs.Compared.{Decides, IsShorter, IsShortOf, PassesOver};
 
 use crate::compared::Compared;
@@ -40,7 +41,7 @@ fn extensions_equal(value: &ExtensionValue<'_>, other: &ExtensionValue<'_>) -> b
 /// `InvalidJsonb` or `UnsupportedNumber` only where an item's bytes don't decode.
 #[cycle(equal)]
 pub(crate) fn items_equal(item: &Item<'_>, other: &Item<'_>) -> Result<bool, Error>
-    ensures equal { (form other_form : Form) (t u : Tree) → Stands form item.now t → Stands other_form other.now u
+    ensures equal { (form other_form : Form) (t u : Tree) → StandsFor form item.now t → StandsFor other_form other.now u
         → IsOkAnd result (λ b. b ≡ is_equal t u) }
     ensures errors { IfErr result IsDecodingError }
 {
@@ -60,7 +61,7 @@ pub(crate) fn items_equal(item: &Item<'_>, other: &Item<'_>) -> Result<bool, Err
 /// The same of two items, but for a pair of parts of theirs.
 #[cycle(equal)]
 fn parts_equal<'a>(item: &Item<'a>, other: &Item<'a>) -> Result<Compared<'a>, Error>
-    ensures equal { (form other_form : Form) (t u : Tree) → Stands form item.now t → Stands other_form other.now u
+    ensures equal { (form other_form : Form) (t u : Tree) → StandsFor form item.now t → StandsFor other_form other.now u
         → IsOkAnd result (λ told. Decides is_equal form other_form told (is_equal t u)) }
     ensures shorter { IfOk result (λ told. IsShorter told (item_size item.now)) }
     ensures errors { IfErr result IsDecodingError }

@@ -1,17 +1,17 @@
 //! The equality key of a document: a walk over its items that writes kinds, counts and contents.
 
-ghost use Rattle.std.specs.Prelude.{◌≡◌, ◌≤◌, ◌<◌, ◌+◌, ◌^◌, ◌++◌, ◌∷◌, length, take, drop, IfOk, IfSome, IfErr};
+ghost use Rattle.std.specs.Prelude.{◌≡◌, ◌≤◌, ◌<◌, ◌+◌, ◌^◌, ◌++◌, ◌∷◌, length, take, drop, IfOk, IfSome, IfErr, MatchResult};
 ghost use Rattle.std.specs.Int.{w32, w64, to_be_bytes};
 ghost use Rattle.jsonb_doc.specs.Tree.{Tree};
 ghost use Rattle.jsonb_doc.specs.View.{number_view, extension_view};
 ghost use Rattle.jsonb_raw.specs.EqualityKey.{equality_key};
 ghost use Rattle.jsonb_raw.specs.EqualityParts.{equality_start, equality_part_start};
-ghost use Rattle.jsonb_raw.specs.Levels.{Part, IsKeyOf, IsLevelOf, level_room, level_bound};
+ghost use Rattle.jsonb_raw.specs.Private.Levels.{Part, IsKeyOf, IsLevelOf, level_room, level_bound};
 ghost use Rattle.jsonb_raw.specs.SortableKey.{text_bytes};
 ghost use Rattle.jsonb_doc.specs.Payload.{Form};
-ghost use Rattle.jsonb_doc.specs.Item.{Stands, item_size};
-ghost use Rattle.jsonb_doc.specs.Answer.{Answers};
-ghost use Rattle.jsonb_raw.specs.Documents.{IsReadingError};
+ghost use Rattle.jsonb_doc.specs.Item.{StandsFor, item_size};
+ghost use Rattle.jsonb_doc.specs.Answer.{IsOutOfMemory, IsDecodingError, ◌or◌};
+ghost use Rattle.jsonb_doc.specs.declared.error.Error.TheVariants.{OutOfMemory};
 
 use crate::key_bytes::{push_number, push_text};
 use crate::key_kind;
@@ -21,7 +21,7 @@ use std::alloc::Global;
 
 /// Appends a kind and a count in four bytes, the highest first.
 fn push_count(out: &mut Vec<u8>, kind: u8, count: usize) -> Result<(), Error>
-    ensures { Answers result (λ _. out.new.items ≡ out.old.items ++ kind ∷ to_be_bytes w32 count) }
+    ensures { MatchResult result (λ _. out.new.items ≡ out.old.items ++ kind ∷ to_be_bytes w32 count) IsOutOfMemory }
 {
     out.push(kind)?;
     out.push((count / 16777216 % 256) as u8)?;
@@ -42,8 +42,8 @@ fn set_len(out: &mut Vec<u8>, at: usize, len: u64)
 /// Appends the kind, the length in eight bytes and the payload of an extension. The length is written over zeros, once the
 /// payload stands behind them.
 fn push_extension(out: &mut Vec<u8>, value: &ExtensionValue<'_>) -> Result<(), Error>
-    ensures { Answers result
-        (λ _. out.new.items ≡ out.old.items ++ equality_key (Tree.extension (extension_view value.now))) }
+    ensures { MatchResult result
+        (λ _. out.new.items ≡ out.old.items ++ equality_key (Tree.extension (extension_view value.now))) IsOutOfMemory }
 {
     out.push(key_kind::EXTENSION)?;
     let at = out.len();
@@ -57,7 +57,7 @@ fn push_extension(out: &mut Vec<u8>, value: &ExtensionValue<'_>) -> Result<(), E
 
 /// Appends the key of a text, also of an object's key.
 fn push_string(out: &mut Vec<u8>, text: &[u8]) -> Result<(), Error>
-    ensures { Answers result (λ _. out.new.items ≡ out.old.items ++ 5 ∷ text_bytes text.now) }
+    ensures { MatchResult result (λ _. out.new.items ≡ out.old.items ++ 5 ∷ text_bytes text.now) IsOutOfMemory }
 {
     out.push(key_kind::STRING)?;
     push_text(out, text)?;
@@ -66,8 +66,8 @@ fn push_string(out: &mut Vec<u8>, text: &[u8]) -> Result<(), Error>
 
 /// Appends the key of a number.
 fn push_number_key(out: &mut Vec<u8>, number: &Number) -> Result<(), Error>
-    ensures { Answers result
-        (λ _. out.new.items ≡ out.old.items ++ equality_key (Tree.number (number_view number.now))) }
+    ensures { MatchResult result
+        (λ _. out.new.items ≡ out.old.items ++ equality_key (Tree.number (number_view number.now))) IsOutOfMemory }
 {
     out.push(key_kind::NUMBER)?;
     push_number(out, *number)?;
@@ -77,11 +77,12 @@ fn push_number_key(out: &mut Vec<u8>, number: &Number) -> Result<(), Error>
 /// Appends the key of an item that has no parts, and of any other what stands before its parts, which it hands out.
 #[inline(always)]
 fn push_start<'a>(out: &mut Vec<u8>, item: &Item<'a>) -> Result<Option<Level<'a>>, Error>
-    ensures key { (form : Form) (tree : Tree) → Stands form item.now tree
-        → Answers result (λ found. (out.new.items ≡ out.old.items ++ equality_start tree) × IsLevelOf form tree found) }
+    ensures key { (form : Form) (tree : Tree) → StandsFor form item.now tree
+        → MatchResult result (λ found. (out.new.items ≡ out.old.items ++ equality_start tree)
+        × IsLevelOf form tree found) IsOutOfMemory }
     ensures room { IfOk result (λ found. IfSome found (λ level. level_room level < item_size item.now)) }
     ensures bound { IfOk result (λ found. IfSome found (λ level. level_bound level < 2 ^ 64)) }
-    ensures errors { IfErr result IsReadingError }
+    ensures errors { IfErr result (IsDecodingError or OutOfMemory) }
 {
     match item {
         Item::Null => out.push(key_kind::NULL)?,
@@ -111,11 +112,12 @@ fn push_part<'a>(
     key: Option<&str>,
     item: &Item<'a>,
 ) -> Result<Option<Level<'a>>, Error>
-    ensures key { (form : Form) (part : Part) → IsKeyOf key.entry part.0 → Stands form item.now part.1
-        → Answers result (λ found. (out.new.items ≡ out.old.items ++ equality_part_start part) × IsLevelOf form part.1 found) }
+    ensures key { (form : Form) (part : Part) → IsKeyOf key.entry part.0 → StandsFor form item.now part.1
+        → MatchResult result (λ found. (out.new.items ≡ out.old.items ++ equality_part_start part)
+        × IsLevelOf form part.1 found) IsOutOfMemory }
     ensures room { IfOk result (λ found. IfSome found (λ level. level_room level < item_size item.now)) }
     ensures bound { IfOk result (λ found. IfSome found (λ level. level_bound level < 2 ^ 64)) }
-    ensures errors { IfErr result IsReadingError }
+    ensures errors { IfErr result (IsDecodingError or OutOfMemory) }
 {
     if let Some(key) = key {
         push_string(out, key.as_bytes())?;
@@ -125,9 +127,9 @@ fn push_part<'a>(
 
 /// Appends the equality key of an item. What is left of the containers that the walk is within lies in a `Vec`.
 fn push_item(alloc: Global, out: &mut Vec<u8>, item: &Item<'_>) -> Result<(), Error>
-    ensures key { (form : Form) (tree : Tree) → Stands form item.now tree
-        → Answers result (λ _. out.new.items ≡ out.old.items ++ equality_key tree) }
-    ensures errors { IfErr result IsReadingError }
+    ensures key { (form : Form) (tree : Tree) → StandsFor form item.now tree
+        → MatchResult result (λ _. out.new.items ≡ out.old.items ++ equality_key tree) IsOutOfMemory }
+    ensures errors { IfErr result (IsDecodingError or OutOfMemory) }
 {
     let Some(found) = push_start(out, item)? else {
         return Ok(());
@@ -161,9 +163,9 @@ fn first_capacity(item: &Item<'_>) -> usize {
 
 /// The equality key of an item.
 pub fn item_key(alloc: Global, item: &Item<'_>) -> Result<Vec<u8>, Error>
-    ensures key { (form : Form) (tree : Tree) → Stands form item.now tree
-        → Answers result (λ v. v.items ≡ equality_key tree) }
-    ensures errors { IfErr result IsReadingError }
+    ensures key { (form : Form) (tree : Tree) → StandsFor form item.now tree
+        → MatchResult result (λ v. v.items ≡ equality_key tree) IsOutOfMemory }
+    ensures errors { IfErr result (IsDecodingError or OutOfMemory) }
 {
     let mut out = Vec::with_capacity(alloc, first_capacity(item))?;
     push_item(alloc, &mut out, item)?;

@@ -12,6 +12,8 @@ ghost use Rattle.jsonb_raw.specs.DeletesLaws.{PairsAreGone};
 ghost use Rattle.jsonb_raw.specs.ObjectsLaws.{PickAndDeletePartObjects};
 ghost use Rattle.jsonb_raw.specs.OperatorLaws.{StripTwiceIsStrip, ContainsIsReflexive, ContainsIsTransitive};
 ghost use Rattle.jsonb_raw.specs.OperatorLaws.{ConcatOfArraysIsAssociative, ConcatOfObjectsIsAssociative};
+ghost use Rattle.std.specs.Slice.Iter.{iter_rest, iter_steps};
+ghost use Rattle.jsonb_raw.specs.Iterators.{YieldsItemsLeft};
 
 /// The place of no steps is the whole tree.
 pub fn no_steps_meet_the_whole()
@@ -105,4 +107,9 @@ pub fn contains_is_transitive()
 pub fn concat_is_associative()
     ensures arrays { ConcatOfArraysIsAssociative }
     ensures objects { ConcatOfObjectsIsAssociative }
+{}
+
+/// `iter()` of a slice or a `Vec` yields its items in order, as the calls that take an iterator ask of it.
+pub fn slices_yield_their_items<T>()
+    ensures { YieldsItemsLeft (iter_steps {A = T}) iter_rest }
 {}

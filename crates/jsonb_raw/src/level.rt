@@ -5,19 +5,9 @@ ghost use Rattle.std.specs.Prelude.{◌≤◌, ◌<◌, ◌^◌, ◌≡◌, IsOk
 ghost use Rattle.jsonb_doc.specs.Tree.{Tree, Trees, Pairs, array, object};
 ghost use Rattle.jsonb_doc.specs.Payload.{Form};
 ghost use Rattle.jsonb_doc.specs.Format.{Decodes};
-ghost use Rattle.jsonb_doc.specs.Item.{Stands, IsNormal, item_size};
-ghost use Rattle.jsonb_doc.specs.View.{IsDecodingError};
-ghost use Rattle.jsonb_raw.specs.Levels.{
-  Part,
-  parts_of_trees,
-  parts_of_pairs,
-  HasPartsLeft,
-  IsLevelOf,
-  TakesPart,
-  IsSmaller,
-  level_room,
-  level_bound,
-};
+ghost use Rattle.jsonb_doc.specs.Item.{StandsFor, IsNormal, item_size};
+ghost use Rattle.jsonb_doc.specs.Answer.{IsDecodingError};
+ghost use Rattle.jsonb_raw.specs.Private.Levels.{Part, parts_of_trees, parts_of_pairs, HasPartsLeft, IsLevelOf, TakesPart, IsSmaller, level_room, level_bound};
 
 use jsonb_doc::{ElementIter, Error, Item, PairIter, elements, pairs};
 
@@ -31,7 +21,8 @@ pub enum Level<'a> {
 impl<'a> Level<'a> {
     /// All that an array or an object has, and `None` for any other item.
     pub fn of(item: &Item<'a>) -> Result<Option<Level<'a>>, Error>
-        ensures level { (form : Form) (tree : Tree) → Stands form item.now tree → IsOkAnd result (IsLevelOf form tree) }
+        ensures level { (form : Form) (tree : Tree) → StandsFor form item.now tree
+            → IsOkAnd result (IsLevelOf form tree) }
         ensures room { IfOk result (λ found. IfSome found (λ level. level_room level < item_size item.now)) }
         ensures bound { IfOk result (λ found. IfSome found (λ level. level_bound level < 2 ^ 64)) }
         ensures errors { IfErr result IsDecodingError }
@@ -96,7 +87,8 @@ impl<'a> Level<'a> {
     /// Takes the first of what is left: its key, where it is a value of an object, and its item.
     #[inline(always)]
     pub fn take(&mut self) -> Result<Option<(Option<&'a str>, Item<'a>)>, Error>
-        ensures takes { (form : Form) (ps : List Part) → HasPartsLeft form self.old ps → TakesPart form ps result self.new }
+        ensures takes { (form : Form) (ps : List Part) → HasPartsLeft form self.old ps
+            → TakesPart form ps result self.new }
         ensures smaller { IfOk result (λ found. IfSome found (λ given. IsSmaller self.old given.1 self.new)) }
         ensures normal { IfOk result (λ found. IfSome found (λ given. IsNormal given.1)) }
         ensures errors { IfErr result IsDecodingError }

@@ -1,12 +1,13 @@
 //! A document that owns its bytes.
 
-ghost use Rattle.std.specs.Prelude.{◌≡◌, IfErr};
+ghost use Rattle.std.specs.Prelude.{◌≡◌, IfErr, MatchResult};
 ghost use Rattle.jsonb_doc.specs.Tree.{Tree};
 ghost use Rattle.jsonb_doc.specs.Payload.{Form};
 ghost use Rattle.jsonb_doc.specs.Format.{Decodes};
-ghost use Rattle.jsonb_doc.specs.Answer.{Answers};
-ghost use Rattle.jsonb_doc.specs.Spots.{Marks};
-ghost use Rattle.jsonb_raw.specs.Documents.{raw_bytes, Makes, IsMakingError};
+ghost use Rattle.jsonb_doc.specs.Answer.{IsOutOfMemory, IsDecodingError, ◌or◌};
+ghost use Rattle.jsonb_doc.specs.declared.error.Error.TheVariants.{OutOfMemory, TooLarge};
+ghost use Rattle.jsonb_doc.specs.Spots.{Locates};
+ghost use Rattle.jsonb_raw.specs.Documents.{raw_bytes, Makes};
 
 use crate::raw::RawJsonb;
 use jsonb_doc::{Error, Spot, encode_item, spot_item};
@@ -38,9 +39,9 @@ impl OwnedJsonb {
     /// The item at a spot of these bytes as a document of its own. `TooLarge` is for an item that passes the limits
     /// of a document, `InvalidJsonb` and `UnsupportedNumber` come only where the bytes don't decode.
     pub(crate) fn from_spot(alloc: Global, bytes: &[u8], spot: Spot) -> Result<OwnedJsonb, Error>
-        ensures document { (form : Form) (whole t : Tree) → Decodes form bytes.now whole → Marks bytes.now spot t
+        ensures document { (form : Form) (whole t : Tree) → Decodes form bytes.now whole → Locates bytes.now spot t
             → Makes form t result }
-        ensures errors { IfErr result IsMakingError }
+        ensures errors { IfErr result (IsDecodingError or OutOfMemory or TooLarge) }
     {
         let item = spot_item(bytes, spot)?;
         Ok(OwnedJsonb::new(encode_item(alloc, &item)?))
@@ -63,7 +64,7 @@ impl OwnedJsonb {
 
     /// The same bytes in memory of their own. `OutOfMemory` where memory is refused.
     pub fn clone(&self, alloc: Global) -> Result<OwnedJsonb, Error>
-        ensures { Answers result (λ copy. copy ≡ self.now) }
+        ensures { MatchResult result (λ copy. copy ≡ self.now) IsOutOfMemory }
     {
         let bytes = Vec::from_slice(alloc, self.bytes.as_slice())?;
         Ok(OwnedJsonb::new(bytes))

@@ -34,7 +34,8 @@ impl<'a> RawJsonb<'a> {
     pub fn check(&self) -> Result<(), Error>
         ensures ok { IsOk result ↔ ((t : Tree) × Decodes any (raw_bytes self.now) t) }
         ensures unsupported { IsErrOf result Error.UnsupportedNumber
-            ↔ (((t : Tree) → Decodes any (raw_bytes self.now) t → ⊥) × ((t : Tree) × WouldDecode (raw_bytes self.now) t)) }
+            ↔ (((t : Tree) → Decodes any (raw_bytes self.now) t → ⊥)
+            × ((t : Tree) × WouldDecode (raw_bytes self.now) t)) }
         ensures invalid { IsErrOf result Error.InvalidJsonb ↔ ((t : Tree) → WouldDecode (raw_bytes self.now) t → ⊥) }
     {
         jsonb_doc::check(self.bytes)

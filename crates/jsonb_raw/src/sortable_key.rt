@@ -1,16 +1,18 @@
 //! The sortable key of a document: a walk over its items that writes each behind its depth and its kind.
 
-ghost use Rattle.std.specs.Prelude.{◌≡◌, ◌++◌, [], IfErr};
+ghost use Rattle.std.specs.Prelude.{◌≡◌, ◌++◌, [], IfErr, MatchResult, ◌<◌};
 ghost use Rattle.jsonb_doc.specs.Tree.{Tree};
 ghost use Rattle.jsonb_doc.specs.Payload.{Form};
 ghost use Rattle.jsonb_doc.specs.Format.{Decodes};
-ghost use Rattle.jsonb_doc.specs.Item.{Stands};
+ghost use Rattle.jsonb_doc.specs.Item.{StandsFor};
 ghost use Rattle.jsonb_raw.specs.Depth.{deepest};
 ghost use Rattle.jsonb_raw.specs.SortableKey.{key, item_bytes, text_bytes, depths};
-ghost use Rattle.jsonb_raw.specs.Levels.{Part, IsKeyOf};
-ghost use Rattle.jsonb_raw.specs.KeyParts.{start, part_start};
-ghost use Rattle.jsonb_raw.specs.KeyWidth.{width_of};
-ghost use Rattle.jsonb_raw.specs.KeyAnswer.{AnswersWithin, MakesKey, RanksAsTree, IsKeyError};
+ghost use Rattle.jsonb_raw.specs.Private.Levels.{Part, IsKeyOf};
+ghost use Rattle.jsonb_raw.specs.Private.KeyParts.{start, part_start};
+ghost use Rattle.jsonb_raw.specs.Private.KeyWidth.{width_of};
+ghost use Rattle.jsonb_raw.specs.KeyAnswer.{MakesKey, RanksAsTree, IsOutOfMemoryOrTooDeep};
+ghost use Rattle.jsonb_doc.specs.Answer.{IsDecodingError, ◌or◌};
+ghost use Rattle.jsonb_doc.specs.declared.error.Error.TheVariants.{OutOfMemory, TooDeep};
 
 use crate::key_bytes::{push_number, push_text};
 use crate::key_kind;
@@ -29,8 +31,10 @@ pub enum DepthWidth {
 
 /// Appends the depth and the kind of an item. `TooDeep` where the width has no bytes for the depth.
 fn push_front(out: &mut Vec<u8>, depth: usize, kind: u8, width: DepthWidth) -> Result<(), Error>
-    ensures { AnswersWithin depth (depths (width_of width)) result
-        (λ _. out.new.items ≡ out.old.items ++ item_bytes (width_of width) depth kind []) }
+    ensures { MatchResult result
+        (λ _. (out.new.items ≡ out.old.items ++ item_bytes (width_of width) depth kind [])
+        × (depth < (depths (width_of width))))
+        (IsOutOfMemoryOrTooDeep depth (depths (width_of width))) }
 {
     match width {
         DepthWidth::OneByte => {
@@ -53,8 +57,10 @@ fn push_front(out: &mut Vec<u8>, depth: usize, kind: u8, width: DepthWidth) -> R
 
 /// Appends the key of a text, also of an object's key.
 fn push_string(out: &mut Vec<u8>, text: &[u8], depth: usize, width: DepthWidth) -> Result<(), Error>
-    ensures { AnswersWithin depth (depths (width_of width)) result
-        (λ _. out.new.items ≡ out.old.items ++ item_bytes (width_of width) depth 5 (text_bytes text.now)) }
+    ensures { MatchResult result
+        (λ _. (out.new.items ≡ out.old.items ++ item_bytes (width_of width) depth 5 (text_bytes text.now))
+        × (depth < (depths (width_of width))))
+        (IsOutOfMemoryOrTooDeep depth (depths (width_of width))) }
 {
     push_front(out, depth, key_kind::STRING, width)?;
     push_text(out, text)?;
@@ -68,10 +74,12 @@ fn push_start(
     depth: usize,
     width: DepthWidth,
 ) -> Result<(), Error>
-    ensures key { (form : Form) (tree : Tree) → Stands form item.now tree
-        → AnswersWithin depth (depths (width_of width)) result
-        (λ _. out.new.items ≡ out.old.items ++ start (width_of width) tree depth) }
-    ensures errors { IfErr result IsKeyError }
+    ensures key { (form : Form) (tree : Tree) → StandsFor form item.now tree
+        → MatchResult result
+        (λ _. (out.new.items ≡ out.old.items ++ start (width_of width) tree depth)
+        × (depth < (depths (width_of width))))
+        (IsOutOfMemoryOrTooDeep depth (depths (width_of width))) }
+    ensures errors { IfErr result (IsDecodingError or OutOfMemory or TooDeep) }
 {
     match item {
         Item::Null => push_front(out, depth, key_kind::NULL, width)?,
@@ -101,10 +109,12 @@ fn push_part(
     depth: usize,
     width: DepthWidth,
 ) -> Result<(), Error>
-    ensures key { (form : Form) (part : Part) → IsKeyOf key.entry part.0 → Stands form item.now part.1
-        → AnswersWithin depth (depths (width_of width)) result
-        (λ _. out.new.items ≡ out.old.items ++ part_start (width_of width) part depth) }
-    ensures errors { IfErr result IsKeyError }
+    ensures key { (form : Form) (part : Part) → IsKeyOf key.entry part.0 → StandsFor form item.now part.1
+        → MatchResult result
+        (λ _. (out.new.items ≡ out.old.items ++ part_start (width_of width) part depth)
+        × (depth < (depths (width_of width))))
+        (IsOutOfMemoryOrTooDeep depth (depths (width_of width))) }
+    ensures errors { IfErr result (IsDecodingError or OutOfMemory or TooDeep) }
 {
     if let Some(key) = key {
         push_string(out, key.as_bytes(), depth, width)?;
@@ -119,10 +129,12 @@ fn push_item(
     item: &Item<'_>,
     width: DepthWidth,
 ) -> Result<(), Error>
-    ensures key { (form : Form) (tree : Tree) → Stands form item.now tree
-        → AnswersWithin (deepest tree) (depths (width_of width)) result
-        (λ _. out.new.items ≡ out.old.items ++ key (width_of width) tree 0) }
-    ensures errors { IfErr result IsKeyError }
+    ensures key { (form : Form) (tree : Tree) → StandsFor form item.now tree
+        → MatchResult result
+        (λ _. (out.new.items ≡ out.old.items ++ key (width_of width) tree 0)
+        × ((deepest tree) < (depths (width_of width))))
+        (IsOutOfMemoryOrTooDeep (deepest tree) (depths (width_of width))) }
+    ensures errors { IfErr result (IsDecodingError or OutOfMemory or TooDeep) }
 {
     push_start(out, item, 0, width)?;
     let Some(found) = Level::of(item)? else {
@@ -153,7 +165,7 @@ pub fn document_key(alloc: Global, bytes: &[u8], width: DepthWidth) -> Result<Ve
         → MakesKey (width_of width) tree result }
     ensures order { (form : Form) (tree : Tree) → Decodes form bytes.now tree
         → RanksAsTree (width_of width) tree result }
-    ensures errors { IfErr result IsKeyError }
+    ensures errors { IfErr result (IsDecodingError or OutOfMemory or TooDeep) }
 {
     let mut out = Vec::new(alloc);
     push_item(alloc, &mut out, &root_item(bytes)?, width)?;

@@ -6,7 +6,7 @@ use Rattle.jsonb.specs.Error.TheVariants.{InvalidJsonb, UnsupportedNumber}
 use Rattle.jsonb.specs.Tree.{Tree}
 use Rattle.jsonb.specs.Payload.{any}
 use Rattle.jsonb.specs.Format.{Decodes, WouldDecode}
-use Rattle.jsonb_tool.specs.Outcomes.{IsDamage}
+use Rattle.jsonb_tool.specs.Output.{IsDamage}
 
 -- an error of a check says why the bytes are no document
 pub damage_of_check : (bytes : List ℕ) (e : Error)

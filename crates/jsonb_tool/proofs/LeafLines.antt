@@ -10,7 +10,7 @@ use Rattle.jsonb.specs.ValueTree.{value_tree}
 use Rattle.jsonb.specs.KeyPaths.{KeyPaths}
 use Rattle.jsonb.specs.KeyPathViews.{key_paths_view}
 use Rattle.jsonb.specs.LeafViews.{leaves_seen}
-use Rattle.jsonb.specs.Answer.{WantsRoom}
+use Rattle.jsonb.specs.Answer.{IsOutOfMemoryOrTooLarge}
 use Rattle.jsonb.specs.Tree.{Tree}
 use Rattle.jsonb.specs.Payload.{Form}
 use Rattle.jsonb.specs.KeyPathGrammar.{Key}
@@ -23,22 +23,25 @@ use Rattle.jsonb.specs.Leaves.{Leaf, leaves}
 use Rattle.jsonb.proofs.LeafPlaces.{each_in_place}
 use Rattle.jsonb.proofs.LeafLimits.{each_within_limits}
 use Rattle.jsonb.specs.Places.{tree_at_steps}
-use Rattle.jsonb_tool.specs.Outcomes.{IsLeafLine, AreLeafLines, ShowsEachLeaf}
+use Rattle.jsonb_tool.specs.Output.{IsLeafLine, AreLeafLines, ShowsEachLeaf}
 
 -- ---- one line
 
-pub part_refused : (form : Form) (u : Tree) (o : Option Tree) (e : Error) → o ≡ Some u → MakesOption form o (Err e) → WantsRoom form u e
+pub part_refused : (form : Form) (u : Tree) (o : Option Tree) (e : Error) → o ≡ Some u → MakesOption form o (Err e) → IsOutOfMemoryOrTooLarge form u e
 part_refused form u o e there said = rw there at said
 
 pub part_given : (form : Form) (u : Tree) (o : Option Tree) → o ≡ Some u → MakesOption form o (Ok None) → ⊥
 part_given form u o there said = rw there at said
 
-pub line_of_part : (form : Form) (t u : Tree) (steps : List Key) (part : OwnedJsonb) (digits line : List ℕ) → tree_at_steps steps t ≡ Some u → MakesOption form (tree_at_steps steps t) (Ok (Some part))
+pub line_of_part : (form : Form) (t u : Tree) (steps : List Key) (part : OwnedJsonb) (digits line : List ℕ) → tree_at_steps steps t ≡ Some u
+    → MakesOption form (tree_at_steps steps t) (Ok (Some part))
     → digits ≡ encode_lower part → line ≡ digits ++ (codes " " ++ (key_path_text steps ++ codes "\n")) → IsLeafLine form t steps line
-line_of_part form t u steps part digits line there said shown is = (part, rw there (rw there at said), is ∙ ap (λ ds. ds ++ (codes " " ++ (key_path_text steps ++ codes "\n"))) shown ∙ joined)
+line_of_part form t u steps part digits line there said shown is =
+    (part, rw there (rw there at said), is ∙ ap (λ ds. ds ++ (codes " " ++ (key_path_text steps ++ codes "\n"))) shown ∙ joined)
   where
     joined : encode_lower part ++ (codes " " ++ (key_path_text steps ++ codes "\n")) ≡ encode_lower part ++ codes " " ++ key_path_text steps ++ codes "\n"
-    joined = sym (append_assoc (encode_lower part) (codes " ") (key_path_text steps ++ codes "\n")) ∙ sym (append_assoc (encode_lower part ++ codes " ") (key_path_text steps) (codes "\n"))
+    joined = sym (append_assoc (encode_lower part) (codes " ") (key_path_text steps ++ codes "\n"))
+        ∙ sym (append_assoc (encode_lower part ++ codes " ") (key_path_text steps) (codes "\n"))
 
 -- ---- all lines
 
@@ -66,7 +69,8 @@ pub record LinesToward (form : Form) (t : Tree) (all : List Leaf) (i : ℕ) (lin
 pub LinesToward-none : (form : Form) (t : Tree) (all : List Leaf) → LinesToward form t all 0 []
 LinesToward-none form t all = record { go_on = λ rest are. are }
 
-pub LinesToward-more : (form : Form) (t : Tree) (all others : List Leaf) (leaf : Leaf) (i : ℕ) (lines line : List ℕ) → drop i all ≡ leaf ∷ others → drop (i + 1) all ≡ others
+pub LinesToward-more : (form : Form) (t : Tree) (all others : List Leaf) (leaf : Leaf) (i : ℕ) (lines line : List ℕ) → drop i all ≡ leaf ∷ others
+    → drop (i + 1) all ≡ others
     → LinesToward form t all i lines → IsLeafLine form t leaf.0 line → LinesToward form t all (i + 1) (lines ++ line)
 LinesToward-more form t all others leaf i lines line here next so_far is = record {
   go_on = λ rest are.
@@ -74,7 +78,8 @@ LinesToward-more form t all others leaf i lines line here next so_far is = recor
       rw (append_assoc lines line rest) further;
 }
 
-pub LinesToward-end : (form : Form) (t : Tree) (all : List Leaf) (i : ℕ) (lines : List ℕ) → drop i all ≡ [] → LinesToward form t all i lines → AreLeafLines form t all lines
+pub LinesToward-end : (form : Form) (t : Tree) (all : List Leaf) (i : ℕ) (lines : List ℕ) → drop i all ≡ [] → LinesToward form t all i lines
+    → AreLeafLines form t all lines
 LinesToward-end form t all i lines none so_far = rw append-nil at (so_far.go_on [] (rw none refl))
 
 -- lines of some leaves are what is shown
@@ -115,7 +120,8 @@ some_leaves [] n same some = let e : (n == 0) ≡ true = grind (arith, nat_tests
 some_leaves (y ∷ found) n same some = omega arith
 
 -- each leaf that was found can be shown
-pub can_be_shown : (form : Form) (t : Tree) (found : List (KeyPaths × Value)) (i : ℕ) (x : KeyPaths × Value) → Fits t → leaves_seen value_tree found ≡ leaves false t
+pub can_be_shown : (form : Form) (t : Tree) (found : List (KeyPaths × Value)) (i : ℕ) (x : KeyPaths × Value) → Fits t
+    → leaves_seen value_tree found ≡ leaves false t
     → i < length found → x ≡ get_or found i x → CanBeShown form t (leaf_of x)
 can_be_shown form t found i x fits same inside is =
     let all : Each (CanBeShown form t) (leaves_seen value_tree found) = rw same (each_can_be_shown form t fits) in
@@ -123,6 +129,6 @@ can_be_shown form t found i x fits same inside is =
     here.0
 
 -- so the refusal of its line is want of memory
-pub line_refused : (form : Form) (t : Tree) (leaf : Leaf) (e : Error) → CanBeShown form t leaf → WantsRoom form leaf.1 e → e ≡ OutOfMemory
+pub line_refused : (form : Form) (t : Tree) (leaf : Leaf) (e : Error) → CanBeShown form t leaf → IsOutOfMemoryOrTooLarge form leaf.1 e → e ≡ OutOfMemory
 line_refused form t leaf e can (inl memory) = memory
 line_refused form t leaf e can (inr large) = absurd (large.1 can.1)

@@ -1,4 +1,4 @@
 pub mod Checks
-pub mod Shown
 pub mod LeafLines
-pub mod Selected
+pub mod OutputLemmas
+pub mod SelectionLemmas

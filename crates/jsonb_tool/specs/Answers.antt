@@ -3,10 +3,10 @@ use Rattle.std.specs.Prelude.{◌≡◌, ◌⊎◌, ℕ, List, ◌++◌, Option,
 use Rattle.jsonb.specs.Error.TheVariants.{OutOfMemory}
 use Rattle.jsonb.specs.ErrorText.{error_text}
 use Rattle.jsonb_tool.specs.Requests.{Request, request_of}
-use Rattle.jsonb_tool.specs.Outcomes.{Outcome, IsOutcome}
+use Rattle.jsonb_tool.specs.Output.{Output, IsOutputOf}
 
 -- the lines of a command with status 0, or the line of its refusal with status 1
-abbrev pub Prints : Outcome → List ℕ → ℕ → Type 0
+abbrev pub Prints : Output → List ℕ → ℕ → Type 0
 Prints (Ok text) lines status = (lines ≡ text) × (status ≡ 0)
 Prints (Err e) lines status = (lines ≡ codes "refused: " ++ error_text e ++ codes "\n") × (status ≡ 1)
 
@@ -14,7 +14,7 @@ Prints (Err e) lines status = (lines ≡ codes "refused: " ++ error_text e ++ co
 abbrev pub AnswersRequest : Option Request → List ℕ → ℕ → Type 0
 AnswersRequest None lines status = (lines ≡ codes "usage\n") × (status ≡ 2)
 AnswersRequest (Some request) lines status =
-    (outcome : Outcome) × IsOutcome request outcome × Prints outcome lines status
+    (outcome : Output) × IsOutputOf request outcome × Prints outcome lines status
 
 -- the lines and the status are the answer to the words, or memory was refused
 abbrev pub IsAnswer : List (List ℕ) → List ℕ → ℕ → Type 0

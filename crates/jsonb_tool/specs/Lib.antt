@@ -1,4 +1,4 @@
 pub mod Requests
-pub mod Outcomes
 pub mod Views
 pub mod Answers
+pub mod Output

@@ -4,7 +4,7 @@ use Rattle.hex.specs.Hex.{encode_lower}
 use Rattle.jsonb.specs.OwnedJsonb.{OwnedJsonb}
 use Rattle.jsonb_tool.specs.declared.command.Command.{Command}
 use Rattle.jsonb_tool.specs.declared.command.Command.TheVariants.{Get, Key, Leaves, Select, Match}
-use Rattle.jsonb_tool.specs.Outcomes.{document_line}
+use Rattle.jsonb_tool.specs.Output.{document_line}
 use Rattle.jsonb_tool.specs.Requests as spec
 use Rattle.jsonb_tool.specs.Requests.{Request}
 

@@ -3,6 +3,7 @@ ghost use Rattle.std.specs.Prelude.{◌≡◌, map, option_map, IfOk, IfErr, str
 ghost use Rattle.jsonb.specs.Error.TheVariants.{OutOfMemory};
 ghost use Rattle.jsonb_tool.specs.Requests.{bytes_of, request_of};
 ghost use Rattle.jsonb_tool.specs.Views.{request};
+ghost use Rattle.jsonb.specs.Answer.{IsOutOfMemory};
 
 use hex::FromHexError;
 use jsonb::Error;
@@ -30,7 +31,7 @@ impl<'w> Command<'w> {
     /// The only error is `OutOfMemory`.
     pub fn read(alloc: Global, words: &'w [String]) -> Result<Option<Command<'w>>, Error>
         ensures value { IfOk result (λ found. option_map request found ≡ request_of (map string_bytes words.now)) }
-        ensures err { IfErr result (λ e. e ≡ OutOfMemory) }
+        ensures err { IfErr result IsOutOfMemory }
     {
         match words {
             [name, path, digits] if name.as_str() == "get" => {
@@ -64,7 +65,7 @@ impl<'w> Command<'w> {
 /// The bytes that a text is the hexadecimal of, in either case; None where it is none.
 fn document_from(alloc: Global, digits: &str) -> Result<Option<Vec<u8>>, Error>
     ensures value { IfOk result (λ found. option_map (λ bytes. bytes.items) found ≡ bytes_of digits.now) }
-    ensures err { IfErr result (λ e. e ≡ OutOfMemory) }
+    ensures err { IfErr result IsOutOfMemory }
 {
     match hex::decode(alloc, digits) {
         Ok(bytes) => Ok(Some(bytes)),

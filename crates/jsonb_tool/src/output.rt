@@ -3,14 +3,14 @@ ghost use Rattle.std.specs.Prelude.{◌≡◌, ◌⊎◌, ◌++◌, Some, Ok, Er
 ghost use Rattle.jsonb.specs.Error.TheVariants.{OutOfMemory};
 ghost use Rattle.jsonb.specs.Tree.{Tree};
 ghost use Rattle.jsonb.specs.Payload.{Form, any};
-ghost use Rattle.jsonb.specs.Answer.{Builds};
+ghost use Rattle.jsonb.specs.Answer.{IsOutOfMemoryOrTooLarge};
 ghost use Rattle.jsonb.specs.Format.{Decodes};
 ghost use Rattle.jsonb.specs.KeyPathGrammar.{key_path};
 ghost use Rattle.jsonb.specs.KeyPathViews.{key_paths_view};
 ghost use Rattle.jsonb.specs.Documents.{raw_bytes};
 ghost use Rattle.jsonb.specs.PathGrammar.{json_path};
 ghost use Rattle.jsonb.specs.Places.{tree_at_steps};
-ghost use Rattle.jsonb_tool.specs.Outcomes.{Gets, ShowsKeyOf, ShowsLeavesOf, IsLeafLine, Selects, Matches, IsDamage, IsOutcome, truth_line};
+ghost use Rattle.jsonb_tool.specs.Output.{ShowsTreeAt, ShowsKeyOf, ShowsLeavesOf, IsLeafLine, ShowsSelection, ShowsPredicate, IsDamage, IsOutputOf, truth_line};
 ghost use Rattle.jsonb_tool.specs.Views.{found_text, found_lines, request};
 ghost use Rattle.hex.specs.Hex.{encode_lower};
 
@@ -22,8 +22,8 @@ use std::alloc::{AllocError, Global};
 /// The lines that a command prints, each with its line feed, or its refusal.
 pub fn output(alloc: Global, command: &Command<'_>) -> Result<String, Error>
     ensures { MatchResult result
-        (λ lines. IsOutcome (request command.now) (Ok (string_bytes lines)))
-        (λ e. (e ≡ OutOfMemory) ⊎ IsOutcome (request command.now) (Err e)) }
+        (λ lines. IsOutputOf (request command.now) (Ok (string_bytes lines)))
+        (λ e. (e ≡ OutOfMemory) ⊎ IsOutputOf (request command.now) (Err e)) }
 {
     match command {
         Command::Get { path, document } => get(alloc, path, document.as_slice()),
@@ -37,8 +37,8 @@ pub fn output(alloc: Global, command: &Command<'_>) -> Result<String, Error>
 /// The document at the place of a key path, or `none`.
 fn get(alloc: Global, path: &str, document: &[u8]) -> Result<String, Error>
     ensures { MatchResult result
-        (λ lines. Gets (key_path path.now) document.now (Ok (string_bytes lines)))
-        (λ e. (e ≡ OutOfMemory) ⊎ Gets (key_path path.now) document.now (Err e)) }
+        (λ lines. ShowsTreeAt (key_path path.now) document.now (Ok (string_bytes lines)))
+        (λ e. (e ≡ OutOfMemory) ⊎ ShowsTreeAt (key_path path.now) document.now (Err e)) }
 {
     let steps = parse_key_paths(alloc, path.as_bytes())?;
     let document = checked(document)?;
@@ -81,8 +81,9 @@ fn leaves(alloc: Global, document: &[u8]) -> Result<String, Error>
 fn leaf_line(alloc: Global, document: &RawJsonb<'_>, path: &KeyPaths<'_>) -> Result<String, Error>
     ensures { (form : Form) (t u : Tree) → Decodes form (raw_bytes document.now) t
         → tree_at_steps (key_paths_view path.now) t ≡ Some u
-        → Builds form u result
-        (λ line. IsLeafLine form t (key_paths_view path.now) (string_bytes line)) }
+        → MatchResult result
+        (λ line. IsLeafLine form t (key_paths_view path.now) (string_bytes line))
+        (IsOutOfMemoryOrTooLarge form u) }
 {
     let Some(part) = document.get_by_keypath(alloc, path.paths.iter())? else {
         return Err(Error::InvalidJsonb);
@@ -94,8 +95,8 @@ fn leaf_line(alloc: Global, document: &RawJsonb<'_>, path: &KeyPaths<'_>) -> Res
 /// The documents that a JSON path selects, each on a line, or `none`.
 fn select<'a>(alloc: Global, path: &'a str, document: &'a [u8]) -> Result<String, Error>
     ensures { MatchResult result
-        (λ lines. Selects (json_path path.now) document.now (Ok (string_bytes lines)))
-        (λ e. (e ≡ OutOfMemory) ⊎ Selects (json_path path.now) document.now (Err e)) }
+        (λ lines. ShowsSelection (json_path path.now) document.now (Ok (string_bytes lines)))
+        (λ e. (e ≡ OutOfMemory) ⊎ ShowsSelection (json_path path.now) document.now (Err e)) }
 {
     let steps = parse_json_path(alloc, path.as_bytes())?;
     let document = checked(document)?;
@@ -106,8 +107,8 @@ fn select<'a>(alloc: Global, path: &'a str, document: &'a [u8]) -> Result<String
 /// What a JSON path says as a predicate: `true`, `false` or `unknown`.
 fn path_match<'a>(alloc: Global, path: &'a str, document: &'a [u8]) -> Result<String, Error>
     ensures { MatchResult result
-        (λ lines. Matches (json_path path.now) document.now (Ok (string_bytes lines)))
-        (λ e. (e ≡ OutOfMemory) ⊎ Matches (json_path path.now) document.now (Err e)) }
+        (λ lines. ShowsPredicate (json_path path.now) document.now (Ok (string_bytes lines)))
+        (λ e. (e ≡ OutOfMemory) ⊎ ShowsPredicate (json_path path.now) document.now (Err e)) }
 {
     let steps = parse_json_path(alloc, path.as_bytes())?;
     let document = checked(document)?;

@@ -8,7 +8,7 @@ ghost use Rattle.jsonb_keypath.specs.Views.{read_as, LeavesLess};
 ghost use Rattle.jsonb.specs.PathViews.{step_view, steps_view, expression_view};
 
 use super::Reading;
-use super::inner::spaced_inner_at;
+use super::inner_path::spaced_inner_at;
 use super::operand::{binary_atom_at, path_root_at, unary_atom_at};
 use super::token::separator_at;
 use crate::path::{BinaryOperator, Expr, Path};

@@ -6,7 +6,7 @@ ghost use Rattle.jsonb_keypath.specs.Views.{read_as, LeavesLess};
 ghost use Rattle.jsonb.specs.PathViews.{literal_view, operator_view, sign_view, step_view, steps_view, expression_view};
 
 use super::Reading;
-use super::inner::spaced_inner_at;
+use super::inner_path::spaced_inner_at;
 use super::token::quoted_at;
 use crate::path::{BinaryOperator, Expr, Path, PathValue, UnaryOperator};
 use jsonb_doc::Number;

@@ -2,7 +2,7 @@
 
 ghost use Rattle.std.specs.Prelude.{◌≡◌};
 ghost use Rattle.jsonb.specs.PathOrder.{path_value_order, path_value_equal};
-ghost use Rattle.jsonb.specs.PathOrderLaws.{path_value_order_laws, path_value_equal_laws};
+ghost use Rattle.jsonb.specs.Proofs.PathOrder.{path_value_order_laws, path_value_equal_laws};
 
 use super::PathValue;
 use std::cmp::Ordering;

@@ -1,7 +1,7 @@
 //! `clone`, which takes memory, and answers the same parts.
 
-ghost use Rattle.std.specs.Prelude.{◌≡◌};
-ghost use Rattle.jsonb_doc.specs.Answer.{Answers};
+ghost use Rattle.std.specs.Prelude.{◌≡◌, MatchResult};
+ghost use Rattle.jsonb_doc.specs.Answer.{IsOutOfMemory};
 ghost use Rattle.jsonb.specs.PathViews.{literal_view, step_view, steps_view, expression_view, path_view};
 
 use super::{Expr, JsonPath, Path, PathValue};
@@ -11,7 +11,7 @@ use std::alloc::Global;
 impl<'a> JsonPath<'a> {
     /// The same steps. Names that borrow borrow again. `OutOfMemory` where memory is refused.
     pub fn clone(&self, alloc: Global) -> Result<JsonPath<'a>, Error>
-        ensures { Answers result (λ copy. path_view copy ≡ path_view self.now) }
+        ensures { MatchResult result (λ copy. path_view copy ≡ path_view self.now) IsOutOfMemory }
     {
         let paths = copy_steps(&self.paths, alloc)?;
         Ok(JsonPath { paths })
@@ -22,7 +22,7 @@ impl<'a> Path<'a> {
     /// The same step. `OutOfMemory` where memory is refused.
     #[cycle(copy)]
     pub fn clone(&self, alloc: Global) -> Result<Path<'a>, Error>
-        ensures { Answers result (λ copy. step_view copy ≡ step_view self.now) }
+        ensures { MatchResult result (λ copy. step_view copy ≡ step_view self.now) IsOutOfMemory }
     {
         match self {
             Path::Root => Ok(Path::Root),
@@ -50,7 +50,7 @@ impl<'a> Expr<'a> {
     /// The same expression. `OutOfMemory` where memory is refused.
     #[cycle(copy)]
     pub fn clone(&self, alloc: Global) -> Result<Expr<'a>, Error>
-        ensures { Answers result (λ copy. expression_view copy ≡ expression_view self.now) }
+        ensures { MatchResult result (λ copy. expression_view copy ≡ expression_view self.now) IsOutOfMemory }
     {
         match self {
             Expr::Paths(steps) => Ok(Expr::Paths(copy_steps(steps, alloc)?)),
@@ -83,7 +83,7 @@ impl<'a> PathValue<'a> {
     /// The same literal. Only a text that does not borrow takes memory, and `OutOfMemory` is
     /// answered where that is refused.
     pub fn clone(&self, _alloc: Global) -> Result<PathValue<'a>, Error>
-        ensures { Answers result (λ copy. literal_view copy ≡ literal_view self.now) }
+        ensures { MatchResult result (λ copy. literal_view copy ≡ literal_view self.now) IsOutOfMemory }
     {
         match self {
             PathValue::Null => Ok(PathValue::Null),
@@ -98,7 +98,7 @@ impl<'a> PathValue<'a> {
 // The same steps, one after the other.
 #[cycle(copy)]
 fn copy_steps<'a>(steps: &Vec<Path<'a>>, alloc: Global) -> Result<Vec<Path<'a>>, Error>
-    ensures { Answers result (λ copies. steps_view copies.items ≡ steps_view steps.now.items) }
+    ensures { MatchResult result (λ copies. steps_view copies.items ≡ steps_view steps.now.items) IsOutOfMemory }
 {
     let mut copies = Vec::with_capacity(alloc, steps.len())?;
     for step in steps {

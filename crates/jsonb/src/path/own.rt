@@ -2,7 +2,7 @@
 
 ghost use Rattle.std.specs.Prelude.{◌≡◌, false, IfOk, IfErr, OnOk};
 ghost use Rattle.std.specs.Cow.{cow_str_bytes};
-ghost use Rattle.jsonb_doc.specs.Answer.{WantsMemory};
+ghost use Rattle.jsonb_doc.specs.Answer.{IsOutOfMemory};
 ghost use Rattle.jsonb.specs.PathDocuments.{is_document, step_has_document, expression_has_document, has_document, IsOwningError};
 ghost use Rattle.jsonb.specs.PathViews.{literal_view, step_view, steps_view, expression_view, path_view};
 
@@ -123,7 +123,7 @@ fn owned_steps(steps: &Vec<Path<'_>>, alloc: Global) -> Result<Vec<Path<'static>
 
 fn owned_text(text: &CowStr<'_, Global>, alloc: Global) -> Result<CowStr<'static, Global>, Error>
     ensures copy { IfOk result (λ copy. cow_str_bytes copy ≡ cow_str_bytes text.now) }
-    ensures errors { IfErr result WantsMemory }
+    ensures errors { IfErr result IsOutOfMemory }
 {
     Ok(CowStr::Owned(String::from_str(alloc, text.as_str())?))
 }

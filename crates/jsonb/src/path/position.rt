@@ -1,8 +1,8 @@
 //! Which positions of an array an entry means.
 
-ghost use Rattle.std.specs.Prelude.{◌≡◌, ◌<◌, ◌≤◌, ◌↔◌, ℕ, pos, ◌≤ℤ◌, ◌<ℤ◌, IsTrue, nat_eq};
+ghost use Rattle.std.specs.Prelude.{◌≡◌, ◌<◌, ◌≤◌, ◌↔◌, ℕ, pos, ◌≤ℤ◌, ◌<ℤ◌, IsTrue, nat_eq, MatchResult};
 ghost use Rattle.std.specs.HashSet.{contains};
-ghost use Rattle.jsonb_doc.specs.Answer.{Answers};
+ghost use Rattle.jsonb_doc.specs.Answer.{IsOutOfMemory};
 ghost use Rattle.jsonb.specs.PathViews.{place_view, entry_view};
 ghost use Rattle.jsonb.specs.Positions.{position, IsBetween, IsPosition};
 
@@ -18,8 +18,8 @@ impl ArrayIndex {
     /// It reserves for all positions first, and answers `OutOfMemory` where memory is refused. The
     /// set's seed is fixed.
     pub fn to_indices(&self, alloc: Global, length: usize) -> Result<HashSet<usize>, Error>
-        ensures { Answers result (λ found. (k : ℕ) →
-            IsTrue (contains nat_eq found k) ↔ IsPosition (entry_view self.now) length k) }
+        ensures { MatchResult result (λ found. (k : ℕ) →
+            IsTrue (contains nat_eq found k) ↔ IsPosition (entry_view self.now) length k) IsOutOfMemory }
     {
         let (start, end) = self.bounds(length);
         let mut found = HashSet::with_capacity(alloc, end - start)?;
@@ -33,7 +33,8 @@ impl ArrayIndex {
     /// the second.
     pub(crate) fn bounds(&self, length: usize) -> (usize, usize)
         ensures within { (result.0 ≤ result.1) × (result.1 ≤ length) }
-        ensures meant { (k : ℕ) → k < length → ((result.0 ≤ k) × (k < result.1)) ↔ IsPosition (entry_view self.now) length k }
+        ensures meant { (k : ℕ) → k < length
+            → ((result.0 ≤ k) × (k < result.1)) ↔ IsPosition (entry_view self.now) length k }
     {
         match self {
             ArrayIndex::Index(index) => {

@@ -3,11 +3,11 @@
 ghost use Rattle.std.specs.Prelude.{◌≡◌, map, Some};
 ghost use Rattle.jsonb_doc.specs.Payload.{any};
 ghost use Rattle.jsonb_doc.specs.Tree.{Tree};
-ghost use Rattle.jsonb_doc.specs.Item.{Stands};
+ghost use Rattle.jsonb_doc.specs.Item.{StandsFor};
 ghost use Rattle.jsonb.specs.PathViews.{operator_view, literal_view};
 ghost use Rattle.jsonb.specs.Values.{value_of_item, literal_item, values_of_literal};
 ghost use Rattle.jsonb.specs.Compare.{compare, pair_truth, value_order, is_met_by, truth_of_order, starts_with_truth, and_truth, or_truth, is_raw};
-ghost use Rattle.jsonb.specs.Selection.{atom_value, atoms_view, option_atoms};
+ghost use Rattle.jsonb.specs.Private.Selection.{atom_value, atoms_view, option_atoms};
 
 use crate::path::{BinaryOperator, PathValue};
 use jsonb_doc::{Item, Number};
@@ -54,7 +54,7 @@ impl<'a> Atoms<'a> {
 
 /// The value of an item that is no array, and of an element. An extension has none.
 pub(crate) fn item_atom<'a>(item: Item<'a>) -> Option<Atom<'a>>
-    ensures { (t : Tree) → Stands any item.entry t → option_atoms result ≡ value_of_item t }
+    ensures { (t : Tree) → StandsFor any item.entry t → option_atoms result ≡ value_of_item t }
 {
     match item {
         Item::Null => Some(Atom::Null),

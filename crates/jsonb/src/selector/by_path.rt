@@ -1,7 +1,8 @@
 //! Paths on documents that are borrowed.
 
-ghost use Rattle.std.specs.Prelude.{◌≡◌, ℕ, true, false, List, None, Ok, IfErr, OnOk};
-ghost use Rattle.jsonb_doc.specs.Answer.{Outcome, Gives, WantsMemory};
+ghost use Rattle.std.specs.Prelude.{◌≡◌, ℕ, true, false, List, None, Ok, IfErr, OnOk, IsOkAnd};
+ghost use Rattle.jsonb_doc.specs.Answer.{Outcome, Gives, IsOutOfMemory, ◌or◌when◌};
+ghost use Rattle.jsonb_doc.specs.declared.error.Error.TheVariants.{TooLarge};
 ghost use Rattle.jsonb_doc.specs.Format.{Decodes};
 ghost use Rattle.jsonb_doc.specs.Limits.{IsTooLarge};
 ghost use Rattle.jsonb_doc.specs.Payload.{Form};
@@ -10,9 +11,9 @@ ghost use Rattle.jsonb_raw.specs.Documents.{raw_bytes};
 ghost use Rattle.jsonb.specs.Meaning.{Means, is_some_item, predicate};
 ghost use Rattle.jsonb.specs.PathTree.{is_predicate};
 ghost use Rattle.jsonb.specs.PathViews.{path_view};
-ghost use Rattle.jsonb_doc.specs.Containers.{HasReadableRoot};
+ghost use Rattle.jsonb_doc.specs.Private.Containers.{HasReadableRoot};
 ghost use Rattle.jsonb.specs.SelectionErrors.{IsSelectionError, IsDocumentError};
-ghost use Rattle.jsonb.specs.SelectorAnswers.{HandsOut, AreDocuments, HasTooLarge, IsDocumentOf, IsPast, array_of, first_of, value_of};
+ghost use Rattle.jsonb.specs.SelectorAnswers.{AreDocuments, HasTooLarge, IsDocumentOf, IsPast, array_of, first_item, single_or_array};
 ghost use Rattle.jsonb.specs.declared.selector.document.Mode.TheVariants.{Lax};
 
 use crate::path::JsonPath;
@@ -34,7 +35,8 @@ pub trait SelectByPath<'a> {
         ensures values { (form : Form) (top : Tree) (outcome : Outcome (List Tree))
             → Decodes form (document self.now) top
             → Means form Lax (path_view path.now) top outcome
-            → HandsOut (λ v ts. AreDocuments form v.items ts) (HasTooLarge form) result outcome }
+            → Gives (λ v ts. AreDocuments form v.items ts)
+            (IsOutOfMemory or TooLarge when IsOkAnd outcome (HasTooLarge form)) result outcome }
         ensures errors { IfErr result (IsDocumentError Lax) }
         ensures readable { OnOk result (HasReadableRoot (document self.now)) };
 
@@ -43,8 +45,8 @@ pub trait SelectByPath<'a> {
         ensures array { (form : Form) (top : Tree) (outcome : Outcome (List Tree))
             → Decodes form (document self.now) top
             → Means form Lax (path_view path.now) top outcome
-            → HandsOut (λ made ts. Decodes form made (array_of ts))
-            (λ ts. IsTooLarge form (array_of ts)) result outcome }
+            → Gives (λ made ts. Decodes form made (array_of ts))
+            (IsOutOfMemory or TooLarge when IsOkAnd outcome (λ ts. IsTooLarge form (array_of ts))) result outcome }
         ensures errors { IfErr result (IsDocumentError Lax) }
         ensures readable { OnOk result (HasReadableRoot (document self.now)) };
 
@@ -57,8 +59,8 @@ pub trait SelectByPath<'a> {
         ensures first { (form : Form) (top : Tree) (outcome : Outcome (List Tree))
             → Decodes form (document self.now) top
             → Means form Lax (path_view path.now) top outcome
-            → HandsOut (λ found ts. IsDocumentOf form found (first_of ts))
-            (λ ts. IsPast form (first_of ts)) result outcome }
+            → Gives (λ found ts. IsDocumentOf form found (first_item ts))
+            (IsOutOfMemory or TooLarge when IsOkAnd outcome (λ ts. IsPast form (first_item ts))) result outcome }
         ensures errors { IfErr result (IsDocumentError Lax) }
         ensures readable { OnOk result (HasReadableRoot (document self.now)) };
 
@@ -71,8 +73,8 @@ pub trait SelectByPath<'a> {
         ensures value { (form : Form) (top : Tree) (outcome : Outcome (List Tree))
             → Decodes form (document self.now) top
             → Means form Lax (path_view path.now) top outcome
-            → HandsOut (λ found ts. IsDocumentOf form found (value_of ts))
-            (λ ts. IsPast form (value_of ts)) result outcome }
+            → Gives (λ found ts. IsDocumentOf form found (single_or_array ts))
+            (IsOutOfMemory or TooLarge when IsOkAnd outcome (λ ts. IsPast form (single_or_array ts))) result outcome }
         ensures errors { IfErr result (IsDocumentError Lax) }
         ensures readable { OnOk result (HasReadableRoot (document self.now)) };
 
@@ -81,7 +83,7 @@ pub trait SelectByPath<'a> {
         ensures exists { (form : Form) (top : Tree) (outcome : Outcome (List Tree))
             → Decodes form (document self.now) top
             → Means form Lax (path_view path.now) top outcome
-            → Gives (λ b ts. b ≡ is_some_item ts) WantsMemory result outcome }
+            → Gives (λ b ts. b ≡ is_some_item ts) IsOutOfMemory result outcome }
         ensures errors { IfErr result (IsSelectionError Lax) }
         ensures readable { OnOk result (HasReadableRoot (document self.now)) };
 
@@ -90,9 +92,10 @@ pub trait SelectByPath<'a> {
     fn path_match(&self, alloc: Global, path: &JsonPath<'_>) -> Result<Option<bool>, Error>
         ensures other { is_predicate (path_view path.now) ≡ false → result ≡ Ok None }
         ensures truth { (form : Form) (top : Tree) → Decodes form (document self.now) top
-            → Gives (λ b c. b ≡ c) WantsMemory result (predicate Lax (path_view path.now) top) }
+            → Gives (λ b c. b ≡ c) IsOutOfMemory result (predicate Lax (path_view path.now) top) }
         ensures errors { IfErr result (IsSelectionError Lax) }
-        ensures readable { is_predicate (path_view path.now) ≡ true → OnOk result (HasReadableRoot (document self.now)) };
+        ensures readable { is_predicate (path_view path.now) ≡ true
+            → OnOk result (HasReadableRoot (document self.now)) };
 }
 
 impl<'a> SelectByPath<'a> for RawJsonb<'a> {

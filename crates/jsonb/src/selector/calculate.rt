@@ -1,14 +1,14 @@
 //! Arithmetic of an expression that is the whole path.
 
 ghost use Rattle.std.specs.Prelude.{◌≡◌, ◌∷◌, [], Ok, Err, Some, option_map, map, is_some, MatchResult, IfErr};
-ghost use Rattle.jsonb_doc.specs.Answer.{Gives, WantsMemory, joined};
-ghost use Rattle.jsonb_doc.specs.Arithmetic.{Operation, calculated, IsOutcome};
+ghost use Rattle.jsonb_doc.specs.Answer.{Gives, try_flat_map, IsOutOfMemory};
+ghost use Rattle.jsonb_doc.specs.Arithmetic.{Operation, calculated, IsResultOf};
 ghost use Rattle.jsonb_doc.specs.Payload.{Form};
 ghost use Rattle.jsonb_doc.specs.View.{number_view};
 ghost use Rattle.jsonb.specs.PathArithmetic.{operation, two_numbers, all_numbers, signed_number, each_signed};
 ghost use Rattle.jsonb.specs.PathViews.{operator_view, sign_view};
 ghost use Rattle.jsonb.specs.Related.{AllRelated};
-ghost use Rattle.jsonb.specs.Selection.{atom_value, only_number, value_number, IsNumberTree, IsMadeItem};
+ghost use Rattle.jsonb.specs.Private.Selection.{atom_value, only_number, value_number, IsNumberTree, IsMadeItem};
 ghost use Rattle.jsonb.specs.SelectionErrors.{IsPathError, IsSelectionError};
 ghost use Rattle.jsonb.specs.declared.selector.document.Mode.{Mode};
 
@@ -35,7 +35,7 @@ pub(crate) fn is_arithmetic(op: BinaryOperator) -> bool
 /// The number of two numbers. An operator that is none of arithmetic is refused.
 fn calculate(op: BinaryOperator, left: Number, right: Number) -> Result<Number, Error>
     ensures meant { (o : Operation) → operation (operator_view op) ≡ Some o
-        → IsOutcome (calculated o (number_view left) (number_view right)) result }
+        → IsResultOf (calculated o (number_view left) (number_view right)) result }
     ensures errors { (mode : Mode) → IfErr result (IsPathError mode) }
 {
     match op {
@@ -89,7 +89,7 @@ fn number_of(value: &Atom<'_>) -> Result<Number, Error>
 
 /// The numbers that the values are. A value that is none is refused with `InvalidJsonPath`.
 fn all_numbers(alloc: Global, values: &[Atom<'_>]) -> Result<Vec<Number>, Error>
-    ensures meant { Gives (λ v ns. map number_view v.items ≡ ns) WantsMemory result
+    ensures meant { Gives (λ v ns. map number_view v.items ≡ ns) IsOutOfMemory result
         (all_numbers (map atom_value values.now)) }
     ensures errors { (mode : Mode) → IfErr result (IsSelectionError mode) }
 {
@@ -117,8 +117,8 @@ fn each_signed<'a>(
     op: UnaryOperator,
     numbers: &[Number],
 ) -> Result<Vec<MadeItem<'a>>, Error>
-    ensures meant { (form : Form) → Gives (λ v ts. AllRelated (IsMadeItem form) v.items ts) WantsMemory result
-        (joined (signed_number (sign_view op)) (map number_view numbers.now)) }
+    ensures meant { (form : Form) → Gives (λ v ts. AllRelated (IsMadeItem form) v.items ts) IsOutOfMemory result
+        (try_flat_map (signed_number (sign_view op)) (map number_view numbers.now)) }
     ensures errors { (mode : Mode) → IfErr result (IsSelectionError mode) }
 {
     let mut parts = Vec::new(alloc);
@@ -135,7 +135,7 @@ pub(crate) fn unary_numbers<'a>(
     op: UnaryOperator,
     values: &[Atom<'_>],
 ) -> Result<Vec<MadeItem<'a>>, Error>
-    ensures meant { (form : Form) → Gives (λ v ts. AllRelated (IsMadeItem form) v.items ts) WantsMemory result
+    ensures meant { (form : Form) → Gives (λ v ts. AllRelated (IsMadeItem form) v.items ts) IsOutOfMemory result
         (each_signed (sign_view op) (map atom_value values.now)) }
     ensures errors { (mode : Mode) → IfErr result (IsSelectionError mode) }
 {

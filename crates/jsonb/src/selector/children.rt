@@ -1,18 +1,17 @@
 //! The places of an item's children.
 
 ghost use Rattle.std.specs.Prelude.{◌≡◌, ℕ, ◌++◌, ◌∷◌, [], map, List, Ok, IfErr, OnOk, IsOkAnd, if◌then◌else◌, pos, ⊤, MatchOption, filter_map, slice_get};
-ghost use Rattle.jsonb_doc.specs.Answer.{Gives, SameOption, WantsMemory};
-ghost use Rattle.jsonb_doc.specs.Spots.{Marks, HasSpotsLeft};
+ghost use Rattle.jsonb_doc.specs.Answer.{Gives, SameOption, IsOutOfMemory, ◌or◌, IsDecodingError};
+ghost use Rattle.jsonb_doc.specs.declared.error.Error.TheVariants.{OutOfMemory};
+ghost use Rattle.jsonb_doc.specs.Spots.{Locates, HasSpotsLeft};
 ghost use Rattle.jsonb_doc.specs.Payload.{any};
-ghost use Rattle.jsonb_doc.specs.Item.{Stands};
+ghost use Rattle.jsonb_doc.specs.Item.{StandsFor};
 ghost use Rattle.jsonb_doc.specs.Tree.{Tree};
 ghost use Rattle.jsonb.specs.PathTree.{single, from_front};
 ghost use Rattle.jsonb.specs.PathViews.{entry_view};
 ghost use Rattle.jsonb.specs.Related.{AllRelated};
 ghost use Rattle.jsonb.specs.ItemSteps.{elements_of, values_of, field_step, values_step, elements_step, indices_step, picked_by, picked};
-ghost use Rattle.jsonb.specs.Selection.{node_spots};
-ghost use Rattle.jsonb_doc.specs.View.{IsDecodingError};
-ghost use Rattle.jsonb_raw.specs.Documents.{IsReadingError};
+ghost use Rattle.jsonb.specs.Private.Selection.{node_spots};
 ghost use Rattle.jsonb.specs.SelectionErrors.{IsSelectionError};
 
 use super::document::Mode;
@@ -23,7 +22,7 @@ use std::alloc::Global;
 
 /// The elements of an array. `None` is for another item.
 pub(crate) fn elements<'a>(bytes: &'a [u8], item: Spot) -> Result<Option<SpotIter<'a>>, Error>
-    ensures meant { (t : Tree) → Marks bytes.now item t
+    ensures meant { (t : Tree) → Locates bytes.now item t
         → IsOkAnd result (λ found. SameOption (HasSpotsLeft bytes.now) found (elements_of t)) }
     ensures errors { IfErr result IsDecodingError }
 {
@@ -36,7 +35,7 @@ pub(crate) fn array_elements<'a>(
     spot: Spot,
     item: &Item<'_>,
 ) -> Result<Option<SpotIter<'a>>, Error>
-    ensures meant { (t : Tree) → Marks bytes.now spot t → Stands any item.now t
+    ensures meant { (t : Tree) → Locates bytes.now spot t → StandsFor any item.now t
         → IsOkAnd result (λ found. SameOption (HasSpotsLeft bytes.now) found (elements_of t)) }
     ensures errors { IfErr result IsDecodingError }
 {
@@ -48,7 +47,7 @@ pub(crate) fn array_elements<'a>(
 
 /// The values of an object, in the order of their keys. `None` is for another item.
 pub(crate) fn values<'a>(bytes: &'a [u8], item: Spot) -> Result<Option<SpotIter<'a>>, Error>
-    ensures meant { (t : Tree) → Marks bytes.now item t
+    ensures meant { (t : Tree) → Locates bytes.now item t
         → IsOkAnd result (λ found. SameOption (HasSpotsLeft bytes.now) found (values_of t)) }
     ensures errors { IfErr result IsDecodingError }
 {
@@ -61,7 +60,7 @@ pub(crate) fn values<'a>(bytes: &'a [u8], item: Spot) -> Result<Option<SpotIter<
 /// One more place.
 pub(crate) fn push_spot(nodes: &mut Vec<Spot>, spot: Spot) -> Result<(), Error>
     ensures ok { OnOk result (nodes.new.items ≡ nodes.old.items ++ spot ∷ []) }
-    ensures err { IfErr result WantsMemory }
+    ensures err { IfErr result IsOutOfMemory }
 {
     nodes.push(spot)?;
     Ok(())
@@ -69,11 +68,11 @@ pub(crate) fn push_spot(nodes: &mut Vec<Spot>, spot: Spot) -> Result<(), Error>
 
 /// One more place, where the condition holds.
 pub(crate) fn push_if(condition: bool, spot: Spot, nodes: &mut Vec<Spot>) -> Result<(), Error>
-    ensures meant { (bytes : List ℕ) (t : Tree) (before : List Tree) → Marks bytes spot t
-        → AllRelated (Marks bytes) nodes.old.items before
-        → Gives (λ _ us. AllRelated (Marks bytes) nodes.new.items (before ++ us)) WantsMemory result
+    ensures meant { (bytes : List ℕ) (t : Tree) (before : List Tree) → Locates bytes spot t
+        → AllRelated (Locates bytes) nodes.old.items before
+        → Gives (λ _ us. AllRelated (Locates bytes) nodes.new.items (before ++ us)) IsOutOfMemory result
         (Ok (if condition then t ∷ [] else [])) }
-    ensures errors { IfErr result WantsMemory }
+    ensures errors { IfErr result IsOutOfMemory }
 {
     if condition {
         push_spot(nodes, spot)
@@ -85,9 +84,9 @@ pub(crate) fn push_if(condition: bool, spot: Spot, nodes: &mut Vec<Spot>) -> Res
 /// The places that are left in an iterator.
 pub(crate) fn push_spots(spots: SpotIter<'_>, nodes: &mut Vec<Spot>) -> Result<(), Error>
     ensures meant { (bytes : List ℕ) (ts before : List Tree) → HasSpotsLeft bytes spots.entry ts
-        → AllRelated (Marks bytes) nodes.old.items before
-        → Gives (λ _ us. AllRelated (Marks bytes) nodes.new.items (before ++ us)) WantsMemory result (Ok ts) }
-    ensures errors { IfErr result IsReadingError }
+        → AllRelated (Locates bytes) nodes.old.items before
+        → Gives (λ _ us. AllRelated (Locates bytes) nodes.new.items (before ++ us)) IsOutOfMemory result (Ok ts) }
+    ensures errors { IfErr result (IsDecodingError or OutOfMemory) }
 {
     for spot in spots {
         push_spot(nodes, spot?)?;
@@ -103,8 +102,8 @@ pub(crate) fn field(
     name: &str,
     item: Spot,
 ) -> Result<NodeList, Error>
-    ensures meant { (t : Tree) → Marks bytes.now item t
-        → Gives (λ found us. AllRelated (Marks bytes.now) (node_spots found) us) WantsMemory result
+    ensures meant { (t : Tree) → Locates bytes.now item t
+        → Gives (λ found us. AllRelated (Locates bytes.now) (node_spots found) us) IsOutOfMemory result
         (field_step mode name.now t) }
     ensures errors { IfErr result (IsSelectionError mode) }
 {
@@ -125,10 +124,10 @@ pub(crate) fn push_field(
     item: Spot,
     nodes: &mut Vec<Spot>,
 ) -> Result<(), Error>
-    ensures meant { (t : Tree) (before : List Tree) → Marks bytes.now item t
-        → AllRelated (Marks bytes.now) nodes.old.items before
-        → Gives (λ _ ts. AllRelated (Marks bytes.now) nodes.new.items (before ++ ts))
-        WantsMemory result (field_step mode name.now t) }
+    ensures meant { (t : Tree) (before : List Tree) → Locates bytes.now item t
+        → AllRelated (Locates bytes.now) nodes.old.items before
+        → Gives (λ _ ts. AllRelated (Locates bytes.now) nodes.new.items (before ++ ts))
+        IsOutOfMemory result (field_step mode name.now t) }
     ensures errors { IfErr result (IsSelectionError mode) }
 {
     match field_spot(bytes, item, name)? {
@@ -147,10 +146,10 @@ pub(crate) fn push_values(
     item: Spot,
     nodes: &mut Vec<Spot>,
 ) -> Result<(), Error>
-    ensures meant { (t : Tree) (before : List Tree) → Marks bytes.now item t
-        → AllRelated (Marks bytes.now) nodes.old.items before
-        → Gives (λ _ ts. AllRelated (Marks bytes.now) nodes.new.items (before ++ ts))
-        WantsMemory result (values_step mode t) }
+    ensures meant { (t : Tree) (before : List Tree) → Locates bytes.now item t
+        → AllRelated (Locates bytes.now) nodes.old.items before
+        → Gives (λ _ ts. AllRelated (Locates bytes.now) nodes.new.items (before ++ ts))
+        IsOutOfMemory result (values_step mode t) }
     ensures errors { IfErr result (IsSelectionError mode) }
 {
     match values(bytes, item)? {
@@ -169,10 +168,10 @@ pub(crate) fn push_elements(
     item: Spot,
     nodes: &mut Vec<Spot>,
 ) -> Result<(), Error>
-    ensures meant { (t : Tree) (before : List Tree) → Marks bytes.now item t
-        → AllRelated (Marks bytes.now) nodes.old.items before
-        → Gives (λ _ ts. AllRelated (Marks bytes.now) nodes.new.items (before ++ ts))
-        WantsMemory result (elements_step mode t) }
+    ensures meant { (t : Tree) (before : List Tree) → Locates bytes.now item t
+        → AllRelated (Locates bytes.now) nodes.old.items before
+        → Gives (λ _ ts. AllRelated (Locates bytes.now) nodes.new.items (before ++ ts))
+        IsOutOfMemory result (elements_step mode t) }
     ensures errors { IfErr result (IsSelectionError mode) }
 {
     match elements(bytes, item)? {
@@ -193,10 +192,10 @@ pub(crate) fn push_positions(
     item: Spot,
     nodes: &mut Vec<Spot>,
 ) -> Result<(), Error>
-    ensures meant { (t : Tree) (before : List Tree) → Marks bytes.now item t
-        → AllRelated (Marks bytes.now) nodes.old.items before
-        → Gives (λ _ ts. AllRelated (Marks bytes.now) nodes.new.items (before ++ ts))
-        WantsMemory result (indices_step mode (map entry_view entries.now) t) }
+    ensures meant { (t : Tree) (before : List Tree) → Locates bytes.now item t
+        → AllRelated (Locates bytes.now) nodes.old.items before
+        → Gives (λ _ ts. AllRelated (Locates bytes.now) nodes.new.items (before ++ ts))
+        IsOutOfMemory result (indices_step mode (map entry_view entries.now) t) }
     ensures errors { IfErr result (IsSelectionError mode) }
 {
     match elements(bytes, item)? {
@@ -217,10 +216,10 @@ fn push_picked(
     nodes: &mut Vec<Spot>,
 ) -> Result<(), Error>
     ensures meant { (bytes : List ℕ) (ts before : List Tree) → HasSpotsLeft bytes elements.entry ts
-        → AllRelated (Marks bytes) nodes.old.items before
-        → Gives (λ _ us. AllRelated (Marks bytes) nodes.new.items (before ++ us)) WantsMemory result
+        → AllRelated (Locates bytes) nodes.old.items before
+        → Gives (λ _ us. AllRelated (Locates bytes) nodes.new.items (before ++ us)) IsOutOfMemory result
         (Ok (picked (map entry_view entries.now) ts)) }
-    ensures errors { IfErr result IsReadingError }
+    ensures errors { IfErr result (IsDecodingError or OutOfMemory) }
 {
     if let Some(position) = plain_index(entries) {
         return push_nth(elements, position, nodes);
@@ -243,10 +242,10 @@ fn plain_index(entries: &[ArrayIndex]) -> Option<usize>
 // The element at a position.
 fn push_nth(elements: SpotIter<'_>, position: usize, nodes: &mut Vec<Spot>) -> Result<(), Error>
     ensures meant { (bytes : List ℕ) (ts before : List Tree) → HasSpotsLeft bytes elements.entry ts
-        → AllRelated (Marks bytes) nodes.old.items before
-        → Gives (λ _ us. AllRelated (Marks bytes) nodes.new.items (before ++ us)) WantsMemory result
+        → AllRelated (Locates bytes) nodes.old.items before
+        → Gives (λ _ us. AllRelated (Locates bytes) nodes.new.items (before ++ us)) IsOutOfMemory result
         (Ok (filter_map (slice_get ts) (position ∷ []))) }
-    ensures errors { IfErr result IsReadingError }
+    ensures errors { IfErr result (IsDecodingError or OutOfMemory) }
 {
     let mut before = position;
     for element in elements {
@@ -265,11 +264,11 @@ fn push_entries(
     elements: &[Spot],
     nodes: &mut Vec<Spot>,
 ) -> Result<(), Error>
-    ensures meant { (bytes : List ℕ) (ts before : List Tree) → AllRelated (Marks bytes) elements.now ts
-        → AllRelated (Marks bytes) nodes.old.items before
-        → Gives (λ _ us. AllRelated (Marks bytes) nodes.new.items (before ++ us)) WantsMemory result
+    ensures meant { (bytes : List ℕ) (ts before : List Tree) → AllRelated (Locates bytes) elements.now ts
+        → AllRelated (Locates bytes) nodes.old.items before
+        → Gives (λ _ us. AllRelated (Locates bytes) nodes.new.items (before ++ us)) IsOutOfMemory result
         (Ok (picked (map entry_view entries.now) ts)) }
-    ensures errors { IfErr result IsReadingError }
+    ensures errors { IfErr result (IsDecodingError or OutOfMemory) }
 {
     for entry in entries {
         push_entry(entry, elements, nodes)?;
@@ -279,11 +278,11 @@ fn push_entries(
 
 // The elements at the positions of one entry, ascending.
 fn push_entry(entry: &ArrayIndex, elements: &[Spot], nodes: &mut Vec<Spot>) -> Result<(), Error>
-    ensures meant { (bytes : List ℕ) (ts before : List Tree) → AllRelated (Marks bytes) elements.now ts
-        → AllRelated (Marks bytes) nodes.old.items before
-        → Gives (λ _ us. AllRelated (Marks bytes) nodes.new.items (before ++ us)) WantsMemory result
+    ensures meant { (bytes : List ℕ) (ts before : List Tree) → AllRelated (Locates bytes) elements.now ts
+        → AllRelated (Locates bytes) nodes.old.items before
+        → Gives (λ _ us. AllRelated (Locates bytes) nodes.new.items (before ++ us)) IsOutOfMemory result
         (Ok (picked_by (entry_view entry.now) ts)) }
-    ensures errors { IfErr result WantsMemory }
+    ensures errors { IfErr result IsOutOfMemory }
 {
     let (start, end) = entry.bounds(elements.len());
     nodes.extend_from_slice(&elements[start..end])?;

@@ -1,18 +1,18 @@
 //! From what a path selects to documents.
 
-ghost use Rattle.std.specs.Prelude.{◌≡◌, ◌∷◌, ◌++◌, ◌<◌, [], List, Ok, IsOkAnd, IfErr};
+ghost use Rattle.std.specs.Prelude.{◌≡◌, ◌∷◌, ◌++◌, ◌<◌, [], List, Ok, IsOkAnd, IfErr, MatchResult};
 ghost use Rattle.std.specs.List.{HoldsAt};
 ghost use Rattle.jsonb_doc.specs.Tree.{Tree};
 ghost use Rattle.jsonb_doc.specs.Payload.{Form};
 ghost use Rattle.jsonb_doc.specs.Format.{Decodes};
-ghost use Rattle.jsonb_doc.specs.Item.{Stands};
-ghost use Rattle.jsonb_doc.specs.View.{IsDecodingError};
-ghost use Rattle.jsonb_doc.specs.Answer.{Builds, HasNoRoom};
+ghost use Rattle.jsonb_doc.specs.Item.{StandsFor};
+ghost use Rattle.jsonb_doc.specs.Answer.{IsOutOfMemory, IsOutOfMemoryOrTooLarge, ◌or◌, ◌or◌when◌, Gives, IsDecodingError};
+ghost use Rattle.jsonb_doc.specs.declared.error.Error.TheVariants.{OutOfMemory, TooLarge};
 ghost use Rattle.jsonb_doc.specs.ArrayBuilder.{HoldsElements};
-ghost use Rattle.jsonb_raw.specs.Documents.{Makes, MakesOption, IsMakingError};
-ghost use Rattle.jsonb.specs.Selection.{IsMadeItem, Selects};
-ghost use Rattle.jsonb.specs.SelectorAnswers.{HandsOut, AreDocuments, HasTooLarge, array_of, first_of, value_of};
-ghost use Rattle.jsonb.specs.Selected.{selected_len};
+ghost use Rattle.jsonb_raw.specs.Documents.{Makes, MakesOption};
+ghost use Rattle.jsonb.specs.Private.Selection.{IsMadeItem, AreSelected};
+ghost use Rattle.jsonb.specs.SelectorAnswers.{AreDocuments, HasTooLarge, array_of, first_item, single_or_array};
+ghost use Rattle.jsonb.specs.Private.Selected.{selected_len};
 
 use super::document::Document;
 use super::selected::{MadeItem, Selected};
@@ -38,7 +38,7 @@ fn part_at<'a>(
 ) -> Result<MadeItem<'a>, Error>
     requires { position < selected_len selected.now }
     ensures part { (form : Form) (top : Tree) (ts : List Tree) → Decodes form document.entry.bytes.now top
-        → Selects form document.entry selected.now ts
+        → AreSelected form document.entry selected.now ts
         → IsOkAnd result (λ part. HoldsAt (IsMadeItem form part) ts position) }
     ensures errors { IfErr result IsDecodingError }
 {
@@ -53,9 +53,10 @@ fn part_at<'a>(
 
 /// The array of one item, as a document.
 fn array_of_one(alloc: Global, item: &Item<'_>) -> Result<Vec<u8>, Error>
-    ensures document { (form : Form) (t : Tree) → Stands form item.now t
-        → Builds form (array_of (t ∷ [])) result (λ v. Decodes form v.items (array_of (t ∷ []))) }
-    ensures errors { IfErr result HasNoRoom }
+    ensures document { (form : Form) (t : Tree) → StandsFor form item.now t
+        → MatchResult result (λ v. Decodes form v.items (array_of (t ∷ [])))
+        (IsOutOfMemoryOrTooLarge form (array_of (t ∷ []))) }
+    ensures errors { IfErr result (IsOutOfMemory or TooLarge) }
 {
     let mut builder = ArrayBuilder::new(alloc);
     builder.push_item(item)?;
@@ -65,7 +66,7 @@ fn array_of_one(alloc: Global, item: &Item<'_>) -> Result<Vec<u8>, Error>
 /// A part as a document.
 fn part_document(alloc: Global, part: &MadeItem<'_>) -> Result<OwnedJsonb, Error>
     ensures document { (form : Form) (t : Tree) → IsMadeItem form part.now t → Makes form t result }
-    ensures errors { IfErr result HasNoRoom }
+    ensures errors { IfErr result (IsOutOfMemory or TooLarge) }
 {
     match part {
         MadeItem::Item(item) => Ok(OwnedJsonb::new(encode_item(alloc, item)?)),
@@ -77,8 +78,9 @@ fn part_document(alloc: Global, part: &MadeItem<'_>) -> Result<OwnedJsonb, Error
 fn push_part(alloc: Global, builder: &mut ArrayBuilder, part: &MadeItem<'_>) -> Result<(), Error>
     ensures pushed { (form : Form) (ts : List Tree) (t : Tree) → HoldsElements form builder.old ts
         → IsMadeItem form part.now t
-        → Builds form (array_of (ts ++ t ∷ [])) result (λ _. HoldsElements form builder.new (ts ++ t ∷ [])) }
-    ensures errors { IfErr result HasNoRoom }
+        → MatchResult result (λ _. HoldsElements form builder.new (ts ++ t ∷ []))
+        (IsOutOfMemoryOrTooLarge form (array_of (ts ++ t ∷ []))) }
+    ensures errors { IfErr result (IsOutOfMemory or TooLarge) }
 {
     match part {
         MadeItem::Item(item) => builder.push_item(item),
@@ -96,9 +98,10 @@ pub(crate) fn documents(
     selected: &Selected<'_>,
 ) -> Result<Vec<OwnedJsonb>, Error>
     ensures documents { (form : Form) (top : Tree) (ts : List Tree) → Decodes form document.entry.bytes.now top
-        → Selects form document.entry selected.now ts
-        → HandsOut (λ v us. AreDocuments form v.items us) (HasTooLarge form) result (Ok ts) }
-    ensures errors { IfErr result IsMakingError }
+        → AreSelected form document.entry selected.now ts
+        → Gives (λ v us. AreDocuments form v.items us) (IsOutOfMemory or TooLarge when HasTooLarge form ts) result
+        (Ok ts) }
+    ensures errors { IfErr result (IsDecodingError or OutOfMemory or TooLarge) }
 {
     let mut documents = Vec::new(alloc);
     for position in 0..selected_len(selected) {
@@ -115,8 +118,8 @@ pub(crate) fn array_document(
     selected: &Selected<'_>,
 ) -> Result<OwnedJsonb, Error>
     ensures document { (form : Form) (top : Tree) (ts : List Tree) → Decodes form document.entry.bytes.now top
-        → Selects form document.entry selected.now ts → Makes form (array_of ts) result }
-    ensures errors { IfErr result IsMakingError }
+        → AreSelected form document.entry selected.now ts → Makes form (array_of ts) result }
+    ensures errors { IfErr result (IsDecodingError or OutOfMemory or TooLarge) }
 {
     let mut builder = ArrayBuilder::new(alloc);
     for position in 0..selected_len(selected) {
@@ -133,8 +136,8 @@ pub(crate) fn first_document(
     selected: &Selected<'_>,
 ) -> Result<Option<OwnedJsonb>, Error>
     ensures document { (form : Form) (top : Tree) (ts : List Tree) → Decodes form document.entry.bytes.now top
-        → Selects form document.entry selected.now ts → MakesOption form (first_of ts) result }
-    ensures errors { IfErr result IsMakingError }
+        → AreSelected form document.entry selected.now ts → MakesOption form (first_item ts) result }
+    ensures errors { IfErr result (IsDecodingError or OutOfMemory or TooLarge) }
 {
     if selected_len(selected) == 0 {
         return Ok(None);
@@ -151,8 +154,8 @@ pub(crate) fn value_document(
     selected: &Selected<'_>,
 ) -> Result<Option<OwnedJsonb>, Error>
     ensures document { (form : Form) (top : Tree) (ts : List Tree) → Decodes form document.entry.bytes.now top
-        → Selects form document.entry selected.now ts → MakesOption form (value_of ts) result }
-    ensures errors { IfErr result IsMakingError }
+        → AreSelected form document.entry selected.now ts → MakesOption form (single_or_array ts) result }
+    ensures errors { IfErr result (IsDecodingError or OutOfMemory or TooLarge) }
 {
     if selected_len(selected) > 1 {
         return Ok(Some(array_document(alloc, document, selected)?));

@@ -1,13 +1,13 @@
 //! The items below an item, level by level.
 
 ghost use Rattle.std.specs.Prelude.{◌≡◌, ℕ, ◌++◌, ◌+◌, min, List, Ok, Option, option_map, IfErr};
-ghost use Rattle.jsonb_doc.specs.Answer.{Gives, WantsMemory};
-ghost use Rattle.jsonb_doc.specs.Spots.{Marks};
+ghost use Rattle.jsonb_doc.specs.Answer.{Gives, IsOutOfMemory, IsDecodingError, ◌or◌};
+ghost use Rattle.jsonb_doc.specs.declared.error.Error.TheVariants.{OutOfMemory};
+ghost use Rattle.jsonb_doc.specs.Spots.{Locates};
 ghost use Rattle.jsonb_doc.specs.Tree.{Tree};
 ghost use Rattle.jsonb.specs.PathViews.{levels_view};
 ghost use Rattle.jsonb.specs.Related.{AllRelated};
 ghost use Rattle.jsonb.specs.Preorder.{answer_at, preorder};
-ghost use Rattle.jsonb_raw.specs.Documents.{IsReadingError};
 
 use super::children::push_if;
 use crate::path::RecursiveLevel;
@@ -22,11 +22,11 @@ pub(crate) fn push_levels(
     item: Spot,
     nodes: &mut Vec<Spot>,
 ) -> Result<(), Error>
-    ensures meant { (t : Tree) (n : ℕ) (before : List Tree) → level ≡ min n 256 → Marks bytes.now item t
-        → AllRelated (Marks bytes.now) nodes.old.items before
-        → Gives (λ _ ts. AllRelated (Marks bytes.now) nodes.new.items (before ++ ts))
-        WantsMemory result (Ok (preorder (option_map levels_view levels) n t)) }
-    ensures errors { IfErr result IsReadingError }
+    ensures meant { (t : Tree) (n : ℕ) (before : List Tree) → level ≡ min n 256 → Locates bytes.now item t
+        → AllRelated (Locates bytes.now) nodes.old.items before
+        → Gives (λ _ ts. AllRelated (Locates bytes.now) nodes.new.items (before ++ ts))
+        IsOutOfMemory result (Ok (preorder (option_map levels_view levels) n t)) }
+    ensures errors { IfErr result (IsDecodingError or OutOfMemory) }
 {
     let (is_taken, goes_on) = answer_at(levels, level);
     push_if(is_taken, item, nodes)?;

@@ -1,7 +1,7 @@
 //! The places that steps have found.
 
 ghost use Rattle.std.specs.Prelude.{◌≡◌};
-ghost use Rattle.jsonb.specs.Selection.{node_spots, option_spots};
+ghost use Rattle.jsonb.specs.Private.Selection.{node_spots, option_spots};
 
 use jsonb_doc::Spot;
 use std::alloc::Global;

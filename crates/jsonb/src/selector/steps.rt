@@ -1,14 +1,14 @@
 //! The steps of a path, one after the other, and the filters in them.
 
 ghost use Rattle.std.specs.Prelude.{◌≡◌, ◌++◌, ◌∷◌, [], List, map, IfErr};
-ghost use Rattle.jsonb_doc.specs.Answer.{Gives, WantsMemory, joined, with_value};
-ghost use Rattle.jsonb_doc.specs.Spots.{Marks};
+ghost use Rattle.jsonb_doc.specs.Answer.{Gives, try_flat_map, and_then, IsOutOfMemory};
+ghost use Rattle.jsonb_doc.specs.Spots.{Locates};
 ghost use Rattle.jsonb_doc.specs.Tree.{Tree};
 ghost use Rattle.jsonb.specs.PathTree.{steps_of, filter};
 ghost use Rattle.jsonb.specs.PathViews.{step_view, steps_view, expression_view};
 ghost use Rattle.jsonb.specs.Related.{AllRelated};
 ghost use Rattle.jsonb.specs.Meaning.{step_meaning, steps_meaning, truth, operand_values, start};
-ghost use Rattle.jsonb.specs.Selection.{IsAt, HasTree, node_spots, atoms_view, IsKept, taken_step};
+ghost use Rattle.jsonb.specs.Private.Selection.{IsAt, HasTree, node_spots, atoms_view, IsKept, taken_step};
 ghost use Rattle.jsonb.specs.SelectionErrors.{IsSelectionError};
 
 use super::atom::{Atoms, and_truth, compare, literal_atom, or_truth};
@@ -37,7 +37,7 @@ fn push_step<'a>(
     ensures meant { (top t : Tree) (before : List Tree) → HasTree document.entry top → IsAt document.entry item t
         → AllRelated (IsAt document.entry) nodes.old.items before
         → Gives (λ _ ts. AllRelated (IsAt document.entry) nodes.new.items (before ++ ts))
-        WantsMemory result (step_meaning mode (taken_step expressions (step_view step.now)) top t) }
+        IsOutOfMemory result (step_meaning mode (taken_step expressions (step_view step.now)) top t) }
     ensures errors { IfErr result (IsSelectionError mode) }
 {
     match step {
@@ -76,7 +76,7 @@ fn push_kept<'a>(
 ) -> Result<(), Error>
     ensures meant { (top t : Tree) (before : List Tree) → HasTree document.entry top → IsAt document.entry item t
         → AllRelated (IsAt document.entry) nodes.old.items before
-        → Gives (λ _ ts. AllRelated (IsAt document.entry) nodes.new.items (before ++ ts)) WantsMemory result
+        → Gives (λ _ ts. AllRelated (IsAt document.entry) nodes.new.items (before ++ ts)) IsOutOfMemory result
         (step_meaning mode (filter (expression_view e.now)) top t) }
     ensures errors { IfErr result (IsSelectionError mode) }
 {
@@ -96,7 +96,7 @@ fn step_item<'a>(
 ) -> Result<NodeList, Error>
     ensures meant { (top t : Tree) → HasTree document.entry top → IsAt document.entry item t
         → Gives (λ found ts. AllRelated (IsAt document.entry) (node_spots found) ts)
-        WantsMemory result (step_meaning mode (taken_step expressions (step_view step.now)) top t) }
+        IsOutOfMemory result (step_meaning mode (taken_step expressions (step_view step.now)) top t) }
     ensures errors { IfErr result (IsSelectionError mode) }
 {
     match step {
@@ -128,7 +128,7 @@ pub(crate) fn step_list<'a>(
     ensures meant { (top : Tree) (ts : List Tree) → HasTree document.entry top
         → AllRelated (IsAt document.entry) (node_spots items) ts
         → Gives (λ found us. AllRelated (IsAt document.entry) (node_spots found) us)
-        WantsMemory result (joined (step_meaning mode (taken_step expressions (step_view step.now)) top) ts) }
+        IsOutOfMemory result (try_flat_map (step_meaning mode (taken_step expressions (step_view step.now)) top) ts) }
     ensures errors { IfErr result (IsSelectionError mode) }
 {
     match step {
@@ -153,7 +153,7 @@ fn step_many<'a>(
     ensures meant { (top : Tree) (ts : List Tree) → HasTree document.entry top
         → AllRelated (IsAt document.entry) items.now ts
         → Gives (λ found us. AllRelated (IsAt document.entry) (node_spots found) us)
-        WantsMemory result (joined (step_meaning mode (taken_step expressions (step_view step.now)) top) ts) }
+        IsOutOfMemory result (try_flat_map (step_meaning mode (taken_step expressions (step_view step.now)) top) ts) }
     ensures errors { IfErr result (IsSelectionError mode) }
 {
     let mut nodes = Vec::new(alloc);
@@ -175,7 +175,7 @@ pub(crate) fn select_steps<'a>(
 ) -> Result<NodeList, Error>
     ensures meant { (top t : Tree) → HasTree document.entry top → IsAt document.entry first t
         → Gives (λ found us. AllRelated (IsAt document.entry) (node_spots found) us)
-        WantsMemory result
+        IsOutOfMemory result
         (steps_meaning mode (steps_of (map (taken_step expressions) (steps_view steps.now))) top (t ∷ [])) }
     ensures errors { IfErr result (IsSelectionError mode) }
 {
@@ -207,7 +207,7 @@ pub(crate) fn is_kept<'a>(
     item: Spot,
 ) -> Result<bool, Error>
     ensures meant { (top t : Tree) → HasTree document.entry top → IsAt document.entry item t
-        → Gives (IsKept t) WantsMemory result (step_meaning mode (filter (expression_view e.now)) top t) }
+        → Gives (IsKept t) IsOutOfMemory result (step_meaning mode (filter (expression_view e.now)) top t) }
     ensures errors { IfErr result (IsSelectionError mode) }
 {
     match truth(alloc, mode, e, document, item)? {
@@ -226,7 +226,7 @@ pub(crate) fn truth<'a>(
     item: Spot,
 ) -> Result<Option<bool>, Error>
     ensures meant { (top t : Tree) → HasTree document.entry top → IsAt document.entry item t
-        → Gives (λ b c. b ≡ c) WantsMemory result (truth mode (expression_view e.now) top t) }
+        → Gives (λ b c. b ≡ c) IsOutOfMemory result (truth mode (expression_view e.now) top t) }
     ensures errors { IfErr result (IsSelectionError mode) }
 {
     match e {
@@ -271,7 +271,7 @@ pub(crate) fn operand_values<'a>(
     item: Spot,
 ) -> Result<Atoms<'a>, Error>
     ensures meant { (top t : Tree) → HasTree document.entry top → IsAt document.entry item t
-        → Gives (λ values vs. atoms_view values ≡ vs) WantsMemory result
+        → Gives (λ values vs. atoms_view values ≡ vs) IsOutOfMemory result
         (operand_values mode (expression_view e.now) top t) }
     ensures errors { IfErr result (IsSelectionError mode) }
 {

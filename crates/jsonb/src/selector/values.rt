@@ -1,15 +1,15 @@
 //! The values of items.
 
 ghost use Rattle.std.specs.Prelude.{◌≡◌, ◌++◌, ◌∷◌, [], List, Ok, OnOk, IfErr, map, flat_map};
-ghost use Rattle.jsonb_doc.specs.Answer.{Gives, WantsMemory};
-ghost use Rattle.jsonb_doc.specs.Spots.{Marks, HasSpotsLeft};
+ghost use Rattle.jsonb_doc.specs.Answer.{Gives, IsOutOfMemory, IsDecodingError, ◌or◌};
+ghost use Rattle.jsonb_doc.specs.declared.error.Error.TheVariants.{OutOfMemory};
+ghost use Rattle.jsonb_doc.specs.Spots.{Locates, HasSpotsLeft};
 ghost use Rattle.jsonb_doc.specs.Payload.{any};
-ghost use Rattle.jsonb_doc.specs.Item.{Stands};
+ghost use Rattle.jsonb_doc.specs.Item.{StandsFor};
 ghost use Rattle.jsonb_doc.specs.Tree.{Tree};
 ghost use Rattle.jsonb.specs.Related.{AllRelated};
 ghost use Rattle.jsonb.specs.Values.{values_of_item, value_of_item};
-ghost use Rattle.jsonb.specs.Selection.{node_spots, atom_value, atoms_view};
-ghost use Rattle.jsonb_raw.specs.Documents.{IsReadingError};
+ghost use Rattle.jsonb.specs.Private.Selection.{node_spots, atom_value, atoms_view};
 
 use super::atom::{Atom, Atoms, item_atom};
 use super::children::array_elements;
@@ -23,9 +23,9 @@ pub(crate) fn found_values<'a>(
     bytes: &'a [u8],
     items: NodeList,
 ) -> Result<Atoms<'a>, Error>
-    ensures meant { (ts : List Tree) → AllRelated (Marks bytes.now) (node_spots items) ts
-        → Gives (λ values vs. atoms_view values ≡ vs) WantsMemory result (Ok (flat_map values_of_item ts)) }
-    ensures errors { IfErr result IsReadingError }
+    ensures meant { (ts : List Tree) → AllRelated (Locates bytes.now) (node_spots items) ts
+        → Gives (λ values vs. atoms_view values ≡ vs) IsOutOfMemory result (Ok (flat_map values_of_item ts)) }
+    ensures errors { IfErr result (IsDecodingError or OutOfMemory) }
 {
     match items {
         NodeList::One(item) => item_values(alloc, bytes, item),
@@ -35,9 +35,9 @@ pub(crate) fn found_values<'a>(
 
 /// The values of many items.
 fn many_values<'a>(alloc: Global, bytes: &'a [u8], items: &[Spot]) -> Result<Atoms<'a>, Error>
-    ensures meant { (ts : List Tree) → AllRelated (Marks bytes.now) items.now ts
-        → Gives (λ values vs. atoms_view values ≡ vs) WantsMemory result (Ok (flat_map values_of_item ts)) }
-    ensures errors { IfErr result IsReadingError }
+    ensures meant { (ts : List Tree) → AllRelated (Locates bytes.now) items.now ts
+        → Gives (λ values vs. atoms_view values ≡ vs) IsOutOfMemory result (Ok (flat_map values_of_item ts)) }
+    ensures errors { IfErr result (IsDecodingError or OutOfMemory) }
 {
     let mut values = Vec::new(alloc);
     for item in items {
@@ -48,9 +48,9 @@ fn many_values<'a>(alloc: Global, bytes: &'a [u8], items: &[Spot]) -> Result<Ato
 
 /// The values of one item. One value alone needs no memory.
 fn item_values<'a>(alloc: Global, bytes: &'a [u8], item: Spot) -> Result<Atoms<'a>, Error>
-    ensures meant { (t : Tree) → Marks bytes.now item t
-        → Gives (λ values vs. atoms_view values ≡ vs) WantsMemory result (Ok (values_of_item t)) }
-    ensures errors { IfErr result IsReadingError }
+    ensures meant { (t : Tree) → Locates bytes.now item t
+        → Gives (λ values vs. atoms_view values ≡ vs) IsOutOfMemory result (Ok (values_of_item t)) }
+    ensures errors { IfErr result (IsDecodingError or OutOfMemory) }
 {
     let found = spot_item(bytes, item)?;
     match array_elements(bytes, item, &found)? {
@@ -68,10 +68,10 @@ fn item_values<'a>(alloc: Global, bytes: &'a [u8], item: Spot) -> Result<Atoms<'
 
 /// The values of an item, behind those that there are: an array gives those of its elements.
 fn push_values<'a>(bytes: &'a [u8], item: Spot, values: &mut Vec<Atom<'a>>) -> Result<(), Error>
-    ensures meant { (t : Tree) → Marks bytes.now item t
+    ensures meant { (t : Tree) → Locates bytes.now item t
         → Gives (λ _ vs. map atom_value values.new.items ≡ map atom_value values.old.items ++ vs)
-        WantsMemory result (Ok (values_of_item t)) }
-    ensures errors { IfErr result IsReadingError }
+        IsOutOfMemory result (Ok (values_of_item t)) }
+    ensures errors { IfErr result (IsDecodingError or OutOfMemory) }
 {
     let found = spot_item(bytes, item)?;
     match array_elements(bytes, item, &found)? {
@@ -88,8 +88,8 @@ fn push_each<'a>(
 ) -> Result<(), Error>
     ensures meant { (ts : List Tree) → HasSpotsLeft bytes.now elements.entry ts
         → Gives (λ _ vs. map atom_value values.new.items ≡ map atom_value values.old.items ++ vs)
-        WantsMemory result (Ok (flat_map value_of_item ts)) }
-    ensures errors { IfErr result IsReadingError }
+        IsOutOfMemory result (Ok (flat_map value_of_item ts)) }
+    ensures errors { IfErr result (IsDecodingError or OutOfMemory) }
 {
     for element in elements {
         push_value(bytes, element?, values)?;
@@ -99,20 +99,20 @@ fn push_each<'a>(
 
 /// The value of an item that is no array, and of an element.
 fn push_value<'a>(bytes: &'a [u8], item: Spot, values: &mut Vec<Atom<'a>>) -> Result<(), Error>
-    ensures meant { (t : Tree) → Marks bytes.now item t
+    ensures meant { (t : Tree) → Locates bytes.now item t
         → Gives (λ _ vs. map atom_value values.new.items ≡ map atom_value values.old.items ++ vs)
-        WantsMemory result (Ok (value_of_item t)) }
-    ensures errors { IfErr result IsReadingError }
+        IsOutOfMemory result (Ok (value_of_item t)) }
+    ensures errors { IfErr result (IsDecodingError or OutOfMemory) }
 {
     push_item(spot_item(bytes, item)?, values)
 }
 
 /// The same for an item that was read.
 fn push_item<'a>(item: Item<'a>, values: &mut Vec<Atom<'a>>) -> Result<(), Error>
-    ensures meant { (t : Tree) → Stands any item.entry t
+    ensures meant { (t : Tree) → StandsFor any item.entry t
         → Gives (λ _ vs. map atom_value values.new.items ≡ map atom_value values.old.items ++ vs)
-        WantsMemory result (Ok (value_of_item t)) }
-    ensures errors { IfErr result IsReadingError }
+        IsOutOfMemory result (Ok (value_of_item t)) }
+    ensures errors { IfErr result (IsDecodingError or OutOfMemory) }
 {
     match item_atom(item) {
         Some(value) => push_atom(values, value),
@@ -123,7 +123,7 @@ fn push_item<'a>(item: Item<'a>, values: &mut Vec<Atom<'a>>) -> Result<(), Error
 /// One more value.
 fn push_atom<'a>(values: &mut Vec<Atom<'a>>, value: Atom<'a>) -> Result<(), Error>
     ensures ok { OnOk result (values.new.items ≡ values.old.items ++ value.entry ∷ []) }
-    ensures err { IfErr result WantsMemory }
+    ensures err { IfErr result IsOutOfMemory }
 {
     values.push(value)?;
     Ok(())

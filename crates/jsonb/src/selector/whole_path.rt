@@ -1,7 +1,8 @@
 //! A path as a whole: its top steps, or one expression.
 
 ghost use Rattle.std.specs.Prelude.{◌≡◌, ◌++◌, ◌∷◌, [], List, Ok, Err, None, Some, MatchOption, map, IfErr};
-ghost use Rattle.jsonb_doc.specs.Answer.{Gives, Outcome, WantsMemory, joined, with_value};
+ghost use Rattle.jsonb_doc.specs.Answer.{Gives, Outcome, try_flat_map, and_then, IsOutOfMemory, IsDecodingError, ◌or◌};
+ghost use Rattle.jsonb_doc.specs.declared.error.Error.TheVariants.{OutOfMemory};
 ghost use Rattle.jsonb_doc.specs.Arithmetic.{Operation};
 ghost use Rattle.jsonb_doc.specs.Payload.{Form};
 ghost use Rattle.jsonb_doc.specs.Tree.{Tree};
@@ -10,10 +11,9 @@ ghost use Rattle.jsonb.specs.PathViews.{step_view, steps_view, expression_view, 
 ghost use Rattle.jsonb.specs.Related.{AllRelated};
 ghost use Rattle.jsonb.specs.PathArithmetic.{operation, each_signed};
 ghost use Rattle.jsonb.specs.Meaning.{step_meaning, steps_meaning, operand_values, truth, as_filter, Means, truth_item, truth_list, calculation, expression_predicate};
-ghost use Rattle.jsonb.specs.Selection.{IsAt, HasTree, node_spots, IsMadeItem, IsNumberTree, Selects, step_expression, only_expression, begins_with_current};
+ghost use Rattle.jsonb.specs.Private.Selection.{IsAt, HasTree, node_spots, IsMadeItem, IsNumberTree, AreSelected, step_expression, only_expression, begins_with_current};
 ghost use Rattle.jsonb.specs.declared.selector.document.Mode.{Mode};
 ghost use Rattle.jsonb.specs.declared.selector.selected.MadeItem.TheVariants as made_item;
-ghost use Rattle.jsonb_raw.specs.Documents.{IsReadingError};
 ghost use Rattle.jsonb.specs.SelectionErrors.{IsSelectionError};
 
 use super::calculate::{binary_number, is_arithmetic, unary_numbers};
@@ -33,7 +33,7 @@ pub(crate) fn selection<'a>(
 ) -> Result<Selected<'a>, Error>
     ensures meant { (form : Form) (top : Tree) (outcome : Outcome (List Tree)) → HasTree document.entry top
         → Means form mode (steps_view steps.now) top outcome
-        → Gives (Selects form document.entry) WantsMemory result outcome }
+        → Gives (AreSelected form document.entry) IsOutOfMemory result outcome }
     ensures errors { IfErr result (IsSelectionError mode) }
 {
     if let Some(e) = only_expression(steps) {
@@ -96,7 +96,7 @@ fn expression_parts<'a>(
 ) -> Result<Vec<MadeItem<'a>>, Error>
     ensures meant { (form : Form) (top : Tree) (outcome : Outcome (List Tree)) → HasTree document.entry top
         → Means form mode (whole_expression (expression_view e.now) ∷ []) top outcome
-        → Gives (λ v ts. AllRelated (IsMadeItem form) v.items ts) WantsMemory result outcome }
+        → Gives (λ v ts. AllRelated (IsMadeItem form) v.items ts) IsOutOfMemory result outcome }
     ensures errors { IfErr result (IsSelectionError mode) }
 {
     match e {
@@ -119,7 +119,7 @@ fn expression_parts<'a>(
 fn literal_parts<'a>(alloc: Global, literal: &'a PathValue<'_>) -> Result<Vec<MadeItem<'a>>, Error>
     ensures meant { (form : Form) (mode : Mode) (top : Tree) (outcome : Outcome (List Tree))
         → Means form mode (whole_expression (value (literal_view literal.now)) ∷ []) top outcome
-        → Gives (λ v ts. AllRelated (IsMadeItem form) v.items ts) WantsMemory result outcome }
+        → Gives (λ v ts. AllRelated (IsMadeItem form) v.items ts) IsOutOfMemory result outcome }
     ensures errors { (mode : Mode) → IfErr result (IsSelectionError mode) }
 {
     match literal {
@@ -143,8 +143,8 @@ fn whole_unary<'a>(
     document: Document<'a>,
 ) -> Result<Vec<MadeItem<'a>>, Error>
     ensures meant { (form : Form) (top : Tree) → HasTree document.entry top
-        → Gives (λ v ts. AllRelated (IsMadeItem form) v.items ts) WantsMemory result
-        (with_value (operand_values mode (expression_view operand.now) top top) (each_signed (sign_view op))) }
+        → Gives (λ v ts. AllRelated (IsMadeItem form) v.items ts) IsOutOfMemory result
+        (and_then (operand_values mode (expression_view operand.now) top top) (each_signed (sign_view op))) }
     ensures errors { IfErr result (IsSelectionError mode) }
 {
     let values = operand_values(alloc, mode, operand, document, document.root)?;
@@ -161,7 +161,7 @@ fn whole_binary<'a>(
     document: Document<'a>,
 ) -> Result<Number, Error>
     ensures meant { (top : Tree) (o : Operation) → HasTree document.entry top → operation (operator_view op) ≡ Some o
-        → Gives IsNumberTree WantsMemory result
+        → Gives IsNumberTree IsOutOfMemory result
         (calculation o (operand_values mode (expression_view left.now) top top)
         (operand_values mode (expression_view right.now) top top)) }
     ensures errors { IfErr result (IsSelectionError mode) }
@@ -179,7 +179,7 @@ fn whole_truth<'a>(
     document: Document<'a>,
 ) -> Result<Vec<MadeItem<'a>>, Error>
     ensures meant { (form : Form) (top : Tree) → HasTree document.entry top
-        → Gives (λ v ts. AllRelated (IsMadeItem form) v.items ts) WantsMemory result
+        → Gives (λ v ts. AllRelated (IsMadeItem form) v.items ts) IsOutOfMemory result
         (truth_list (truth mode (expression_view e.now) top top)) }
     ensures errors { IfErr result (IsSelectionError mode) }
 {
@@ -199,8 +199,8 @@ fn truth_item<'a>(truth: Option<bool>) -> Item<'a>
 
 fn one_item<'a>(alloc: Global, part: MadeItem<'a>) -> Result<Vec<MadeItem<'a>>, Error>
     ensures meant { (form : Form) (t : Tree) → IsMadeItem form part.entry t
-        → Gives (λ v ts. AllRelated (IsMadeItem form) v.items ts) WantsMemory result (Ok (t ∷ [])) }
-    ensures errors { IfErr result IsReadingError }
+        → Gives (λ v ts. AllRelated (IsMadeItem form) v.items ts) IsOutOfMemory result (Ok (t ∷ [])) }
+    ensures errors { IfErr result (IsDecodingError or OutOfMemory) }
 {
     let mut parts = Vec::new(alloc);
     parts.push(part)?;
@@ -215,7 +215,7 @@ pub(crate) fn expression_truth<'a>(
     document: Document<'a>,
 ) -> Result<Option<bool>, Error>
     ensures meant { (top : Tree) → HasTree document.entry top
-        → Gives (λ b c. b ≡ c) WantsMemory result (expression_predicate mode (expression_view e.now) top) }
+        → Gives (λ b c. b ≡ c) IsOutOfMemory result (expression_predicate mode (expression_view e.now) top) }
     ensures errors { IfErr result (IsSelectionError mode) }
 {
     match e {

@@ -1,13 +1,14 @@
 //! Documents as decoded values.
 
-ghost use Rattle.std.specs.Prelude.{◌≡◌, ◌⊎◌, IfOk, IfErr};
+ghost use Rattle.std.specs.Prelude.{◌≡◌, ◌⊎◌, IfOk, IfErr, MatchResult};
 ghost use Rattle.jsonb_doc.specs.Number as spec;
 ghost use Rattle.jsonb_doc.specs.Tree.{Tree, Trees, Pairs, extension, array, object, trees_of, pairs_of};
 ghost use Rattle.jsonb_doc.specs.Payload.{Form};
 ghost use Rattle.jsonb_doc.specs.Format.{Decodes};
-ghost use Rattle.jsonb_doc.specs.Item.{Stands, IsNormal};
-ghost use Rattle.jsonb_doc.specs.View.{extension_view, IsDecodingError};
-ghost use Rattle.jsonb_doc.specs.Answer.{Answers, WantsMemory};
+ghost use Rattle.jsonb_doc.specs.Item.{StandsFor, IsNormal};
+ghost use Rattle.jsonb_doc.specs.View.{extension_view};
+ghost use Rattle.jsonb_doc.specs.Answer.{IsOutOfMemory, ◌or◌, IsDecodingError};
+ghost use Rattle.jsonb_doc.specs.declared.error.Error.TheVariants.{OutOfMemory};
 ghost use Rattle.jsonb_doc.specs.Value.{value_tree, value_parts, tree_seen, trees_seen, members_seen};
 ghost use Rattle.jsonb_doc.specs.Value.{KeepsNormal, SeesItem};
 ghost use Rattle.jsonb_doc.specs.declared.number.Number.{Number};
@@ -29,13 +30,13 @@ use std::collections::BTreeMap;
 /// `OutOfMemory` where memory is refused. For an item whose bytes don't decode, also `InvalidJsonb` or
 /// `UnsupportedNumber`.
 pub fn to_value<'a>(alloc: Global, item: &Item<'a>) -> Result<Value<'a>, Error>
-    ensures decodes { (form : Form) (t : Tree) → Stands form item.now t
-        → Answers result (λ v. value_tree v ≡ t) }
+    ensures decodes { (form : Form) (t : Tree) → StandsFor form item.now t
+        → MatchResult result (λ v. value_tree v ≡ t) IsOutOfMemory }
 
     // Of an item that was read, the numbers keep their variants and scales.
-    ensures parts { (form : Form) (t : Tree) → Stands form item.now t → IsNormal item.now
+    ensures parts { (form : Form) (t : Tree) → StandsFor form item.now t → IsNormal item.now
         → IfOk result (λ v. value_parts v ≡ t) }
-    ensures errors { IfErr result (λ e. IsDecodingError e ⊎ WantsMemory e) }
+    ensures errors { IfErr result (IsDecodingError or OutOfMemory) }
 {
     item_value(alloc, item)
 }
@@ -44,9 +45,9 @@ pub fn to_value<'a>(alloc: Global, item: &Item<'a>) -> Result<Value<'a>, Error>
 #[cycle(decode)]
 fn item_value<'a>(alloc: Global, item: &Item<'a>) -> Result<Value<'a>, Error>
     ensures decodes { (seen : Number → spec.Number) → KeepsNormal seen → SeesItem seen item.now
-        → (form : Form) (t : Tree) → Stands form item.now t
-        → Answers result (λ v. tree_seen seen v ≡ t) }
-    ensures errors { IfErr result (λ e. IsDecodingError e ⊎ WantsMemory e) }
+        → (form : Form) (t : Tree) → StandsFor form item.now t
+        → MatchResult result (λ v. tree_seen seen v ≡ t) IsOutOfMemory }
+    ensures errors { IfErr result (IsDecodingError or OutOfMemory) }
 {
     match item {
         Item::Null => Ok(Value::Null),
@@ -77,8 +78,8 @@ fn extension_value(value: ExtensionValue<'_>) -> Value<'_>
 fn array_values<'a>(alloc: Global, bytes: &'a [u8]) -> Result<Vec<Value<'a>>, Error>
     ensures decodes { (seen : Number → spec.Number) → KeepsNormal seen
         → (form : Form) (ts : Trees) → Decodes form bytes.now (array ts)
-        → Answers result (λ v. trees_of (trees_seen seen v.items) ≡ ts) }
-    ensures errors { IfErr result (λ e. IsDecodingError e ⊎ WantsMemory e) }
+        → MatchResult result (λ v. trees_of (trees_seen seen v.items) ≡ ts) IsOutOfMemory }
+    ensures errors { IfErr result (IsDecodingError or OutOfMemory) }
 {
     let Some(found) = elements(bytes)? else {
         return Err(Error::InvalidJsonb);
@@ -95,8 +96,8 @@ fn array_values<'a>(alloc: Global, bytes: &'a [u8]) -> Result<Vec<Value<'a>>, Er
 fn object_members<'a>(alloc: Global, bytes: &'a [u8]) -> Result<BTreeMap<String, Value<'a>>, Error>
     ensures decodes { (seen : Number → spec.Number) → KeepsNormal seen
         → (form : Form) (ps : Pairs) → Decodes form bytes.now (object ps)
-        → Answers result (λ m. pairs_of (members_seen seen m.entries) ≡ ps) }
-    ensures errors { IfErr result (λ e. IsDecodingError e ⊎ WantsMemory e) }
+        → MatchResult result (λ m. pairs_of (members_seen seen m.entries) ≡ ps) IsOutOfMemory }
+    ensures errors { IfErr result (IsDecodingError or OutOfMemory) }
 {
     let Some(found) = pairs(bytes)? else {
         return Err(Error::InvalidJsonb);

@@ -6,7 +6,7 @@ ghost use Rattle.std.specs.Ordering.{eq_by_cmp};
 ghost use Rattle.jsonb_doc.specs.Number.{number_cmp};
 ghost use Rattle.jsonb_doc.specs.Tree.{trees_of, pairs_of};
 ghost use Rattle.jsonb_doc.specs.Equal.{is_equal, are_equal, pairs_are_equal};
-ghost use Rattle.jsonb_doc.specs.EqualLaws.{is_equal_equiv};
+ghost use Rattle.jsonb_doc.specs.Proofs.Equality.{is_equal_equiv};
 ghost use Rattle.jsonb_doc.specs.View.{number_view};
 ghost use Rattle.jsonb_doc.specs.Value.{value_tree, trees_seen, members_seen};
 

@@ -4,8 +4,9 @@ ghost use Rattle.std.specs.Prelude.{◌≡◌, ◌++◌, string_bytes, IfOk, IfE
 ghost use Rattle.std.specs.List.{prefix_len};
 ghost use Rattle.std.specs.Cow.{cow_str_bytes};
 ghost use Rattle.jsonb_doc.specs.declared.error.Error.TheVariants.{OutOfMemory};
-ghost use Rattle.jsonb_keypath.specs.Tokens.{is_plain, is_stop as spec_is_stop, unit, units, text, name, quoted};
+ghost use Rattle.jsonb_keypath.specs.Tokens.{is_unescaped, is_stop as spec_is_stop, unit, units, text, name, quoted};
 ghost use Rattle.jsonb_keypath.specs.Views.{excluded, unit_bytes, read_as, LeavesLess};
+ghost use Rattle.jsonb_doc.specs.Answer.{IsOutOfMemory};
 
 use super::escape::escape_at;
 use super::literal;
@@ -26,7 +27,7 @@ use std::borrow::CowStr;
 pub fn read_name(alloc: Global, input: &[u8]) -> Result<Option<(CowStr<'_, Global>, &[u8])>, Error>
     ensures value { IfOk result (λ found. read_as cow_str_bytes found ≡ name input.now) }
     ensures shrinks { IfOk result (LeavesLess input.now) }
-    ensures err { IfErr result (λ e. e ≡ OutOfMemory) }
+    ensures err { IfErr result IsOutOfMemory }
 {
     Ok(name_at(alloc, input)?)
 }
@@ -46,7 +47,7 @@ pub fn read_quoted(
 ) -> Result<Option<(CowStr<'_, Global>, &[u8])>, Error>
     ensures value { IfOk result (λ found. read_as cow_str_bytes found ≡ quoted input.now) }
     ensures shrinks { IfOk result (LeavesLess input.now) }
-    ensures err { IfErr result (λ e. e ≡ OutOfMemory) }
+    ensures err { IfErr result IsOutOfMemory }
 {
     Ok(quoted_at(alloc, input)?)
 }
@@ -172,7 +173,7 @@ fn text_at(
 }
 
 fn plain_count(ending: Ending, input: &[u8]) -> usize
-    ensures { result ≡ prefix_len (is_plain (excluded ending)) input.now }
+    ensures { result ≡ prefix_len (is_unescaped (excluded ending)) input.now }
 {
     input
         .iter()

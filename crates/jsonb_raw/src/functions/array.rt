@@ -8,8 +8,9 @@ ghost use Rattle.jsonb_doc.specs.Tree.{Tree, Trees, array, elements as element_l
 ghost use Rattle.jsonb_doc.specs.Payload.{Form};
 ghost use Rattle.jsonb_doc.specs.Format.{Decodes};
 ghost use Rattle.jsonb_doc.specs.Elements.{HasElementsLeft};
-ghost use Rattle.jsonb_doc.specs.View.{IsDecodingError};
-ghost use Rattle.jsonb_raw.specs.Documents.{raw_bytes, Makes, IsMakingError};
+ghost use Rattle.jsonb_raw.specs.Documents.{raw_bytes, Makes};
+ghost use Rattle.jsonb_doc.specs.Answer.{◌or◌, IsDecodingError};
+ghost use Rattle.jsonb_doc.specs.declared.error.Error.TheVariants.{OutOfMemory, TooLarge};
 ghost use Rattle.jsonb_raw.specs.Making.{MakesEach};
 ghost use Rattle.jsonb_raw.specs.Arrays.{array_length, array_values, array_insert, insert_place};
 
@@ -44,7 +45,7 @@ impl RawJsonb<'_> {
     pub fn array_values(&self, alloc: Global) -> Result<Option<Vec<OwnedJsonb>>, Error>
         ensures values { (form : Form) (t : Tree) → Decodes form (raw_bytes self.now) t
             → MakesEach form (array_values t) result }
-        ensures errors { IfErr result IsMakingError }
+        ensures errors { IfErr result (IsDecodingError or OutOfMemory or TooLarge) }
     {
         let Some(elements) = elements(self.as_bytes())? else {
             return Ok(None);
@@ -70,7 +71,7 @@ impl RawJsonb<'_> {
     ) -> Result<OwnedJsonb, Error>
         ensures inserted { (form : Form) (t value : Tree) → Decodes form (raw_bytes self.now) t
             → Decodes form (raw_bytes new_val.now) value → Makes form (array_insert pos value t) result }
-        ensures errors { IfErr result IsMakingError }
+        ensures errors { IfErr result (IsDecodingError or OutOfMemory or TooLarge) }
     {
         let bytes = self.as_bytes();
         let value = new_val.as_bytes();
@@ -104,7 +105,7 @@ fn insert_place(len: usize, pos: i32) -> usize
 fn array_of_two(alloc: Global, first: &[u8], second: &[u8]) -> Result<OwnedJsonb, Error>
     ensures both { (form : Form) (a b : Tree) → Decodes form first.now a → Decodes form second.now b
         → Makes form (array (trees_of (a ∷ b ∷ []))) result }
-    ensures errors { IfErr result IsMakingError }
+    ensures errors { IfErr result (IsDecodingError or OutOfMemory or TooLarge) }
 {
     let mut builder = ArrayBuilder::new(alloc);
     builder.push_document(first)?;
@@ -119,9 +120,10 @@ fn array_with_element(
     place: usize,
     value: &[u8],
 ) -> Result<OwnedJsonb, Error>
-    ensures inserted { (form : Form) (ts : Trees) (t : Tree) → HasElementsLeft form elements.entry ts → Decodes form value.now t
+    ensures inserted { (form : Form) (ts : Trees) (t : Tree) → HasElementsLeft form elements.entry ts
+        → Decodes form value.now t
         → Makes form (array (trees_of (insert (element_list ts) place t))) result }
-    ensures errors { IfErr result IsMakingError }
+    ensures errors { IfErr result (IsDecodingError or OutOfMemory or TooLarge) }
 {
     let mut left = elements;
     let mut builder = ArrayBuilder::new(alloc);

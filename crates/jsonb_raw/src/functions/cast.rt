@@ -10,7 +10,9 @@ ghost use Rattle.jsonb_doc.specs.Payload.{Form};
 ghost use Rattle.jsonb_doc.specs.Format.{Decodes};
 ghost use Rattle.jsonb_doc.specs.View.{number_parts};
 ghost use Rattle.jsonb_raw.specs.Documents.{raw_bytes};
-ghost use Rattle.jsonb_raw.specs.Casts.{CastsToBool, CastsToI64, CastsToU64, CastsToText, text_of, bool_text, IsCastError, IsTextCastError};
+ghost use Rattle.jsonb_raw.specs.Casts.{CastsToBool, CastsToI64, CastsToU64, CastsToText, text_of, bool_text};
+ghost use Rattle.jsonb_doc.specs.Answer.{IsDecodingError, ◌or◌};
+ghost use Rattle.jsonb_doc.specs.declared.error.Error.TheVariants.{OutOfMemory, InvalidCast};
 
 #[cfg(test)]
 mod tests;
@@ -25,7 +27,7 @@ impl RawJsonb<'_> {
     /// `InvalidCast` for every other document. `InvalidJsonb` or `UnsupportedNumber` only where the bytes don't decode.
     pub fn to_bool(&self) -> Result<bool, Error>
         ensures value { (form : Form) (tree : Tree) → Decodes form (raw_bytes self.now) tree → CastsToBool tree result }
-        ensures errors { IfErr result IsCastError }
+        ensures errors { IfErr result (IsDecodingError or InvalidCast) }
     {
         match root_item(self.as_bytes())? {
             Item::Boolean(value) => Ok(value),
@@ -41,7 +43,7 @@ impl RawJsonb<'_> {
     /// where the bytes don't decode.
     pub fn to_i64(&self) -> Result<i64, Error>
         ensures value { (form : Form) (tree : Tree) → Decodes form (raw_bytes self.now) tree → CastsToI64 tree result }
-        ensures errors { IfErr result IsCastError }
+        ensures errors { IfErr result (IsDecodingError or InvalidCast) }
     {
         match root_item(self.as_bytes())? {
             Item::Boolean(value) => Ok(i64::from(value)),
@@ -58,7 +60,7 @@ impl RawJsonb<'_> {
     /// where the bytes don't decode.
     pub fn to_u64(&self) -> Result<u64, Error>
         ensures value { (form : Form) (tree : Tree) → Decodes form (raw_bytes self.now) tree → CastsToU64 tree result }
-        ensures errors { IfErr result IsCastError }
+        ensures errors { IfErr result (IsDecodingError or InvalidCast) }
     {
         match root_item(self.as_bytes())? {
             Item::Boolean(value) => Ok(u64::from(value)),
@@ -75,7 +77,7 @@ impl RawJsonb<'_> {
     pub fn to_str(&self, alloc: Global) -> Result<String, Error>
         ensures value { (form : Form) (tree : Tree) → Decodes form (raw_bytes self.now) tree
             → CastsToText (text_of tree) result }
-        ensures errors { IfErr result IsTextCastError }
+        ensures errors { IfErr result (IsDecodingError or OutOfMemory or InvalidCast) }
     {
         match root_item(self.as_bytes())? {
             Item::Boolean(value) => Ok(String::from_str(alloc, bool_text(value))?),

@@ -2,15 +2,16 @@
 
 ghost use Rattle.std.specs.Prelude.{◌≡◌, ◌*◌, ◌^◌, ◌<◌, ◌≤◌, List, length};
 ghost use Rattle.jsonb_doc.specs.Encoding.{EntryParts};
-ghost use Rattle.jsonb_doc.specs.ObjectBuilder.{kept_words, kept_contents};
-ghost use Rattle.jsonb_raw.specs.Cuts.{AreWithin};
+ghost use Rattle.jsonb_doc.specs.ObjectBuilder.{words_of_entries, contents_of_entries};
+ghost use Rattle.jsonb_raw.specs.Private.Cuts.{FitEntries};
 
 use jsonb_doc::layout::{LENGTHS, WORD};
 
 /// How long the contents of these entry words are, all together.
 pub fn contents_len(words: &[u8]) -> usize
     requires { length words.now < 2 ^ 32 }
-    ensures contents { (es : List EntryParts) → AreWithin es → words.now ≡ kept_words es → result ≡ length (kept_contents es) }
+    ensures contents { (es : List EntryParts) → FitEntries es → words.now ≡ words_of_entries es
+        → result ≡ length (contents_of_entries es) }
     ensures bound { result ≤ 2 ^ 26 * length words.now }
 {
     let mut len = 0;

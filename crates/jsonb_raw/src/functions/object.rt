@@ -2,14 +2,15 @@
 //!
 //! On bytes that don't decode each call returns; which answer or refusal it gives is not fixed.
 
-ghost use Rattle.std.specs.Prelude.{◌≡◌, ◌⊎◌, ◌||◌, false, not, None, Ok, IsTrue, IfErr, IsErrOf};
+ghost use Rattle.std.specs.Prelude.{◌≡◌, ◌⊎◌, ◌||◌, false, not, None, Ok, IsTrue, IfErr, IsErrOf, MatchResult, MatchOption, Err};
 ghost use Rattle.jsonb_doc.specs.Tree.{Tree};
 ghost use Rattle.jsonb_doc.specs.Payload.{Form};
 ghost use Rattle.jsonb_doc.specs.Format.{Decodes};
-ghost use Rattle.jsonb_doc.specs.Item.{Stands};
-ghost use Rattle.jsonb_doc.specs.Answer.{Builds, HasNoRoom};
-ghost use Rattle.jsonb_raw.specs.Documents.{raw_bytes, MakesOption, IsMakingError};
-ghost use Rattle.jsonb_raw.specs.Making.{MakesOr, MakesPairs, IsPairOf, IsMakingErrorOr};
+ghost use Rattle.jsonb_doc.specs.Item.{StandsFor};
+ghost use Rattle.jsonb_doc.specs.Answer.{IsOutOfMemory, IsOutOfMemoryOrTooLarge, IsDecodingError, ◌or◌};
+ghost use Rattle.jsonb_doc.specs.declared.error.Error.TheVariants.{OutOfMemory, TooLarge, InvalidObject, ObjectDuplicateKey};
+ghost use Rattle.jsonb_raw.specs.Documents.{raw_bytes, MakesOption, Makes};
+ghost use Rattle.jsonb_raw.specs.Making.{MakesPairs, IsPairOf};
 ghost use Rattle.jsonb_raw.specs.Objects.{object_pick, object_delete, object_keys, object_each, object_insert, has_name};
 
 mod insert;
@@ -31,8 +32,8 @@ impl RawJsonb<'_> {
     /// refused.
     pub fn object_pick(&self, alloc: Global, keys: &BTreeSet<&str>) -> Result<OwnedJsonb, Error>
         ensures pairs { (form : Form) (t : Tree) → Decodes form (raw_bytes self.now) t
-            → MakesOr Error.InvalidObject form (object_pick keys.now t) result }
-        ensures errors { IfErr result (IsMakingErrorOr Error.InvalidObject) }
+            → MatchOption (object_pick keys.now t) (result ≡ Err InvalidObject) (λ wanted. Makes form wanted result) }
+        ensures errors { IfErr result (IsDecodingError or OutOfMemory or TooLarge or InvalidObject) }
     {
         let Some(pairs) = pairs(self.as_bytes())? else {
             return Err(Error::InvalidObject);
@@ -54,8 +55,8 @@ impl RawJsonb<'_> {
     /// refused.
     pub fn object_delete(&self, alloc: Global, keys: &BTreeSet<&str>) -> Result<OwnedJsonb, Error>
         ensures pairs { (form : Form) (t : Tree) → Decodes form (raw_bytes self.now) t
-            → MakesOr Error.InvalidObject form (object_delete keys.now t) result }
-        ensures errors { IfErr result (IsMakingErrorOr Error.InvalidObject) }
+            → MatchOption (object_delete keys.now t) (result ≡ Err InvalidObject) (λ wanted. Makes form wanted result) }
+        ensures errors { IfErr result (IsDecodingError or OutOfMemory or TooLarge or InvalidObject) }
     {
         let Some(pairs) = pairs(self.as_bytes())? else {
             return Err(Error::InvalidObject);
@@ -79,7 +80,7 @@ impl RawJsonb<'_> {
             → MakesOption form (object_keys t) result }
         ensures none { (form : Form) (t : Tree) → Decodes form (raw_bytes self.now) t → object_keys t ≡ None
             → result ≡ Ok None }
-        ensures errors { IfErr result IsMakingError }
+        ensures errors { IfErr result (IsDecodingError or OutOfMemory or TooLarge) }
     {
         let Some(keys) = keys(self.as_bytes())? else {
             return Ok(None);
@@ -99,7 +100,7 @@ impl RawJsonb<'_> {
     pub fn object_each(&self, alloc: Global) -> Result<Option<Vec<(String, OwnedJsonb)>>, Error>
         ensures pairs { (form : Form) (t : Tree) → Decodes form (raw_bytes self.now) t
             → MakesPairs form (object_each t) result }
-        ensures errors { IfErr result IsMakingError }
+        ensures errors { IfErr result (IsDecodingError or OutOfMemory or TooLarge) }
     {
         let Some(pairs) = pairs(self.as_bytes())? else {
             return Ok(None);
@@ -127,10 +128,12 @@ impl RawJsonb<'_> {
     ) -> Result<OwnedJsonb, Error>
         ensures inserted { (form : Form) (t value : Tree) → Decodes form (raw_bytes self.now) t
             → Decodes form (raw_bytes new_val.now) value → IsTrue (update_flag || not (has_name new_key.now t))
-            → MakesOr Error.InvalidObject form (object_insert new_key.now value t) result }
+            → MatchOption (object_insert new_key.now value t) (result ≡ Err InvalidObject)
+            (λ wanted. Makes form wanted result) }
         ensures duplicate { (form : Form) (t : Tree) → Decodes form (raw_bytes self.now) t
             → IsTrue (has_name new_key.now t) → update_flag ≡ false → IsErrOf result Error.ObjectDuplicateKey }
-        ensures errors { IfErr result (λ e. IsMakingErrorOr Error.InvalidObject e ⊎ (e ≡ Error.ObjectDuplicateKey)) }
+        ensures errors { IfErr result
+            (IsDecodingError or OutOfMemory or TooLarge or InvalidObject or ObjectDuplicateKey) }
     {
         let bytes = self.as_bytes();
         let Some(place) = pair_place(bytes, new_key)? else {
@@ -145,9 +148,9 @@ impl RawJsonb<'_> {
 
 /// A key, and the value as a document of its own.
 fn owned_pair(alloc: Global, key: &str, value: &Item<'_>) -> Result<(String, OwnedJsonb), Error>
-    ensures pair { (form : Form) (t : Tree) → Stands form value.now t
-        → Builds form t result (λ made. IsPairOf form made (key.now, t)) }
-    ensures errors { IfErr result HasNoRoom }
+    ensures pair { (form : Form) (t : Tree) → StandsFor form value.now t
+        → MatchResult result (λ made. IsPairOf form made (key.now, t)) (IsOutOfMemoryOrTooLarge form t) }
+    ensures errors { IfErr result (IsOutOfMemory or TooLarge) }
 {
     let document = OwnedJsonb::new(encode_item(alloc, value)?);
     Ok((String::from_str(alloc, key)?, document))

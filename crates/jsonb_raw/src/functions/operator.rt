@@ -1,13 +1,14 @@
 //! Functions on documents of every kind.
 
-ghost use Rattle.std.specs.Prelude.{◌≡◌, IfErr};
+ghost use Rattle.std.specs.Prelude.{◌≡◌, IfErr, MatchResult};
 ghost use Rattle.std.specs.Int.{w8, w16};
 ghost use Rattle.jsonb_doc.specs.Tree.{Tree};
 ghost use Rattle.jsonb_doc.specs.Payload.{Form};
 ghost use Rattle.jsonb_doc.specs.Format.{Decodes};
-ghost use Rattle.jsonb_doc.specs.Answer.{Answers};
-ghost use Rattle.jsonb_raw.specs.Documents.{raw_bytes, IsReadingError};
-ghost use Rattle.jsonb_raw.specs.KeyAnswer.{MakesKey, RanksAsTree, IsKeyError};
+ghost use Rattle.jsonb_doc.specs.Answer.{IsOutOfMemory, IsDecodingError, ◌or◌};
+ghost use Rattle.jsonb_doc.specs.declared.error.Error.TheVariants.{OutOfMemory, TooDeep};
+ghost use Rattle.jsonb_raw.specs.Documents.{raw_bytes};
+ghost use Rattle.jsonb_raw.specs.KeyAnswer.{MakesKey, RanksAsTree};
 ghost use Rattle.jsonb_raw.specs.EqualityKey.{equality_key};
 
 mod concat;
@@ -42,7 +43,7 @@ impl RawJsonb<'_> {
             → MakesKey w8 tree result }
         ensures order { (form : Form) (tree : Tree) → Decodes form (raw_bytes self.now) tree
             → RanksAsTree w8 tree result }
-        ensures errors { IfErr result IsKeyError }
+        ensures errors { IfErr result (IsDecodingError or OutOfMemory or TooDeep) }
     {
         document_key(alloc, self.as_bytes(), DepthWidth::OneByte)
     }
@@ -56,7 +57,7 @@ impl RawJsonb<'_> {
             → MakesKey w16 tree result }
         ensures order { (form : Form) (tree : Tree) → Decodes form (raw_bytes self.now) tree
             → RanksAsTree w16 tree result }
-        ensures errors { IfErr result IsKeyError }
+        ensures errors { IfErr result (IsDecodingError or OutOfMemory or TooDeep) }
     {
         document_key(alloc, self.as_bytes(), DepthWidth::TwoBytes)
     }
@@ -70,8 +71,8 @@ impl RawJsonb<'_> {
     /// refused.
     pub fn equality_key(&self, alloc: Global) -> Result<Vec<u8>, Error>
         ensures key { (form : Form) (tree : Tree) → Decodes form (raw_bytes self.now) tree
-            → Answers result (λ v. v.items ≡ equality_key tree) }
-        ensures errors { IfErr result IsReadingError }
+            → MatchResult result (λ v. v.items ≡ equality_key tree) IsOutOfMemory }
+        ensures errors { IfErr result (IsDecodingError or OutOfMemory) }
     {
         item_key(alloc, &root_item(self.as_bytes())?)
     }

@@ -1,19 +1,19 @@
 //! The calls on the places of a document.
 
-ghost use Rattle.std.specs.Prelude.{negsuc, List, length, slice_get, option_and_then, IsOkAnd, IfErr};
+ghost use Rattle.std.specs.Prelude.{negsuc, List, length, slice_get, option_and_then, IsOkAnd, IfErr, MatchResult};
 ghost use Rattle.std.specs.Iterator.{IsFinite};
 ghost use Rattle.jsonb_doc.specs.Tree.{Tree};
 ghost use Rattle.jsonb_doc.specs.Payload.{Form};
 ghost use Rattle.jsonb_doc.specs.Format.{Decodes};
-ghost use Rattle.jsonb_doc.specs.Answer.{Answers, SameOption};
-ghost use Rattle.jsonb_doc.specs.Spots.{Marks};
-ghost use Rattle.jsonb_doc.specs.View.{IsDecodingError};
+ghost use Rattle.jsonb_doc.specs.Answer.{SameOption, IsOutOfMemory, ◌or◌, IsDecodingError};
+ghost use Rattle.jsonb_doc.specs.declared.error.Error.TheVariants.{OutOfMemory, TooLarge};
+ghost use Rattle.jsonb_doc.specs.Spots.{Locates};
 ghost use Rattle.jsonb_keypath.specs.declared.key_path.KeyPath.{KeyPath};
 ghost use Rattle.jsonb_keypath.specs.KeyPathGrammar.{index as index_step};
 ghost use Rattle.jsonb_keypath.specs.KeyPathViews.{key_view, keys_view};
-ghost use Rattle.jsonb_raw.specs.Documents.{raw_bytes, MakesOption, IsReadingError, IsMakingError};
+ghost use Rattle.jsonb_raw.specs.Documents.{raw_bytes, MakesOption};
 ghost use Rattle.jsonb_raw.specs.Places.{children, child_met, index_position, tree_at_steps};
-ghost use Rattle.jsonb_raw.specs.Iterators.{TellsWhatIsLeft};
+ghost use Rattle.jsonb_raw.specs.Iterators.{YieldsItemsLeft};
 
 mod child;
 pub(crate) mod cut;
@@ -30,8 +30,8 @@ use std::alloc::Global;
 
 /// The child at a position.
 fn nth_child(bytes: &[u8], spot: Spot, position: usize) -> Result<Option<Spot>, Error>
-    ensures child { (t : Tree) → Marks bytes.now spot t
-        → IsOkAnd result (λ found. SameOption (Marks bytes.now) found (slice_get (children t) position)) }
+    ensures child { (t : Tree) → Locates bytes.now spot t
+        → IsOkAnd result (λ found. SameOption (Locates bytes.now) found (slice_get (children t) position)) }
     ensures errors { IfErr result IsDecodingError }
 {
     let Some(children) = child_spots(bytes, spot)? else {
@@ -50,7 +50,8 @@ fn nth_child(bytes: &[u8], spot: Spot, position: usize) -> Result<Option<Spot>, 
 
 /// The child that so many others follow. A second walk over the children stays so many behind the first.
 fn child_from_end(bytes: &[u8], spot: Spot, after: usize) -> Result<Option<Spot>, Error>
-    ensures child { (t : Tree) → Marks bytes.now spot t → IsOkAnd result (λ found. SameOption (Marks bytes.now) found
+    ensures child { (t : Tree) → Locates bytes.now spot t
+        → IsOkAnd result (λ found. SameOption (Locates bytes.now) found
         (option_and_then (λ n. slice_get (children t) n) (index_position (length (children t)) (negsuc after)))) }
     ensures errors { IfErr result IsDecodingError }
 {
@@ -75,7 +76,8 @@ fn child_from_end(bytes: &[u8], spot: Spot, after: usize) -> Result<Option<Spot>
 
 /// The element that an index means, from the end where it is negative.
 fn element_at(bytes: &[u8], spot: Spot, index: i32) -> Result<Option<Spot>, Error>
-    ensures element { (t : Tree) → Marks bytes.now spot t → IsOkAnd result (λ found. SameOption (Marks bytes.now) found
+    ensures element { (t : Tree) → Locates bytes.now spot t
+        → IsOkAnd result (λ found. SameOption (Locates bytes.now) found
         (option_and_then (λ n. slice_get (children t) n) (index_position (length (children t)) index))) }
     ensures errors { IfErr result IsDecodingError }
 {
@@ -90,9 +92,10 @@ fn element_at(bytes: &[u8], spot: Spot, index: i32) -> Result<Option<Spot>, Erro
 
 /// The child that an index meets: an element, or the value under the index in decimal.
 fn indexed_child(alloc: Global, bytes: &[u8], spot: Spot, index: i32) -> Result<Option<Spot>, Error>
-    ensures child { (t : Tree) → Marks bytes.now spot t
-        → Answers result (λ found. SameOption (Marks bytes.now) found (child_met (index_step index) t)) }
-    ensures errors { IfErr result IsReadingError }
+    ensures child { (t : Tree) → Locates bytes.now spot t
+        → MatchResult result (λ found. SameOption (Locates bytes.now) found
+        (child_met (index_step index) t)) IsOutOfMemory }
+    ensures errors { IfErr result (IsDecodingError or OutOfMemory) }
 {
     match spot_item(bytes, spot)? {
         Item::Array(_) => element_at(bytes, spot, index),
@@ -111,9 +114,10 @@ fn child_at_step(
     spot: Spot,
     step: &KeyPath<'_>,
 ) -> Result<Option<Spot>, Error>
-    ensures child { (t : Tree) → Marks bytes.now spot t
-        → Answers result (λ found. SameOption (Marks bytes.now) found (child_met (key_view step.now) t)) }
-    ensures errors { IfErr result IsReadingError }
+    ensures child { (t : Tree) → Locates bytes.now spot t
+        → MatchResult result (λ found. SameOption (Locates bytes.now) found
+        (child_met (key_view step.now) t)) IsOutOfMemory }
+    ensures errors { IfErr result (IsDecodingError or OutOfMemory) }
 {
     match step {
         KeyPath::Index(index) => indexed_child(alloc, bytes, spot, *index),
@@ -137,10 +141,10 @@ impl RawJsonb<'_> {
     ) -> Result<Option<OwnedJsonb>, Error>
         requires can { I.can_next steps }
         requires ends { IsFinite (I.remaining steps) }
-        ensures place { (left : I → List KeyPath) → TellsWhatIsLeft I.next_gives left
+        ensures place { (left : I → List KeyPath) → YieldsItemsLeft I.next_gives left
             → (form : Form) (t : Tree) → Decodes form (raw_bytes self.now) t
             → MakesOption form (tree_at_steps (keys_view (left steps)) t) result }
-        ensures errors { IfErr result IsMakingError }
+        ensures errors { IfErr result (IsDecodingError or OutOfMemory or TooLarge) }
     {
         let bytes = self.as_bytes();
         let mut spot = root_spot(bytes)?;

@@ -7,9 +7,10 @@ ghost use Rattle.std.specs.Int.{w64};
 ghost use Rattle.jsonb_doc.specs.Tree.{Tree};
 ghost use Rattle.jsonb_doc.specs.Payload.{Form};
 ghost use Rattle.jsonb_doc.specs.Format.{Decodes};
-ghost use Rattle.jsonb_doc.specs.Answer.{SameOption};
-ghost use Rattle.jsonb_doc.specs.View.{IsDecodingError, number_parts, extension_view};
-ghost use Rattle.jsonb_raw.specs.Documents.{raw_bytes, IsReadingError};
+ghost use Rattle.jsonb_doc.specs.Answer.{SameOption, ◌or◌, IsDecodingError};
+ghost use Rattle.jsonb_doc.specs.View.{number_parts, extension_view};
+ghost use Rattle.jsonb_raw.specs.Documents.{raw_bytes};
+ghost use Rattle.jsonb_doc.specs.declared.error.Error.TheVariants.{OutOfMemory};
 ghost use Rattle.jsonb_raw.specs.Scalars.{boolean_in, number_in, text_in, extension_in};
 ghost use Rattle.jsonb_raw.specs.Scalars.{binary_in, date_in, timestamp_in, timestamp_tz_in, interval_in};
 ghost use Rattle.jsonb_raw.specs.Scalars.{is_null, is_boolean, is_number, is_string, is_array, is_object};
@@ -349,7 +350,7 @@ impl<'a> RawJsonb<'a> {
     pub fn as_binary(&self, alloc: Global) -> Result<Option<Vec<u8>>, Error>
         ensures value { (form : Form) (tree : Tree) → Decodes form (raw_bytes self.now) tree
             → CopiesBytes (binary_in tree) result }
-        ensures errors { IfErr result IsReadingError }
+        ensures errors { IfErr result (IsDecodingError or OutOfMemory) }
     {
         match root_item(self.as_bytes())? {
             Item::Extension(ExtensionValue::Binary(bytes)) => {

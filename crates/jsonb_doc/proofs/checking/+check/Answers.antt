@@ -3,17 +3,18 @@ use Rattle.std.specs.Prelude.{option_copied}
 use Rattle.std.proofs.lemmas.Bool.Decides.{nat_tests}
 use Rattle.std.proofs.lemmas.List.{nil_from_length, length-append}
 use Rattle.std.proofs.lemmas.Grind.{common_steps}
-use Rattle.jsonb_doc.specs.Payload.{Reading, number_or_unsupported}
-use Rattle.jsonb_doc.specs.Checking.{HasContent, HasEntries, HasLarge}
+use Rattle.jsonb_doc.specs.Payload.{NumberReader, number_or_unsupported}
+use Rattle.jsonb_doc.specs.Private.Checking.{HasContent, HasEntries, HasLarge}
 use Rattle.jsonb_doc.proofs.Entries.{HasEntries-nil, HasEntries-empty, HasEntries-stop, HasEntries-step, has_content_lenient}
 use Rattle.jsonb_doc.proofs.Halves.{halvings-more, halvings-fewer}
-use Rattle.jsonb_doc.proofs.Left.{Leaves-along, Leaves-entries, Leaves-good, Leaves-unsupported, Refuses-other, IsApart-within, IsApart-less, IsApart-one, IsApart-large}
+use Rattle.jsonb_doc.proofs.CheckingLemmas.{Leaves-along, Leaves-entries, Leaves-good, Leaves-unsupported, IsValidationError-other, IsApart-within, IsApart-less, IsApart-one, IsApart-large}
 use Rattle.jsonb_doc.proofs.checking.+check.Goals as goal
 use Rattle.jsonb_doc.proofs.checking.+check.Goals.{check_entries-else-entry-eq-CONTAINER-via-then-entry-eq-CONTAINER+else-entry-half, check_entries-else-entry-eq-CONTAINER-via-else-entry-eq-CONTAINER, check_entries-then-entry-eq-CONTAINER+then-entry-half, check_entries-else-entry-eq-CONTAINER+in-Ok, check_entries-else-entry-eq-CONTAINER+in-Err+in-UnsupportedNumber}
 
 pub check_container-check_entries-requires : goal.check_container-check_entries-requires
 check_container-check_entries-requires t c =
-    let more = halvings-more (length c.in-Some.contents.now + 4) (length c.args.bytes.now) (omega (arith, c.in-Some.ensures.shorter, c.loop-words.invariant.shorter)) in
+    let more = halvings-more (length c.in-Some.contents.now + 4) (length c.args.bytes.now)
+    (omega (arith, c.in-Some.ensures.shorter, c.loop-words.invariant.shorter)) in
     (omega (arith, more, c.decreases), tt)
 
 pub check_container-returns-in_default-check_entries : goal.check_container-returns-in_default-check_entries
@@ -44,7 +45,8 @@ check_container-returns-else-is_supported t c =
 
 pub check_entries-returns-in_default : goal.check_entries-returns-in_default
 check_entries-returns-in_default t c = λ h.
-    HasEntries-stop number_or_unsupported c.loop-words_left.words_left.now c.loop-words_left.contents_left.now (grind (arith, common_steps)) c.in_default.ensures (c.loop-words_left.invariant.left.lenient.0 h).1
+    HasEntries-stop number_or_unsupported c.loop-words_left.words_left.now c.loop-words_left.contents_left.now
+    (grind (arith, common_steps)) c.in_default.ensures (c.loop-words_left.invariant.left.lenient.0 h).1
 
 -- what is no container asks for no more calls
 other_below : (kind calls t : ℕ) → kind ≢ 5 → 0 < t → (if nat_eq kind 5 then calls else 0) < t
@@ -62,7 +64,9 @@ check_entries-check_content-requires t c = elim c.else-entry-eq-CONTAINER.branch
 pub check_entries-returns-in_default-error : goal.check_entries-returns-in_default-error
 check_entries-returns-in_default-error t c = λ h.
     let step = HasEntries-step number_or_unsupported _ _ _ _ _ _ c.in-Some.ensures in
-    Refuses-other (HasContent c.in-Some.entry.kind c.in-Some.entry.content.now) c.in-Err.error c.in_default-error.not-UnsupportedNumber c.in-Err.ensures (step.0 (c.loop-words_left.invariant.left.lenient.0 h).1).0
+    IsValidationError-other
+    (HasContent c.in-Some.entry.kind c.in-Some.entry.content.now) c.in-Err.error c.in_default-error.not-UnsupportedNumber c.in-Err.ensures
+    (step.0 (c.loop-words_left.invariant.left.lenient.0 h).1).0
 
 pub check_entries-loop-words_left-preserved : goal.check_entries-loop-words_left-preserved
 check_entries-loop-words_left-preserved t c =
@@ -74,10 +78,10 @@ check_entries-loop-words_left-preserved t c =
     let cs = c.in-Some.entry.other_contents.now in
     let large = option_copied c.loop-words_left.large in
     let Whole = HasEntries c.args.words.now c.args.contents.now in
-    let Left : Reading → Type 0 = λ r. HasLarge large r × HasEntries c.loop-words_left.words_left.now c.loop-words_left.contents_left.now r in
-    let Others : Reading → Type 0 = λ r. HasLarge large r × HasEntries ws cs r in
+    let Left : NumberReader → Type 0 = λ r. HasLarge large r × HasEntries c.loop-words_left.words_left.now c.loop-words_left.contents_left.now r in
+    let Others : NumberReader → Type 0 = λ r. HasLarge large r × HasEntries ws cs r in
     let len : length c.loop-words_left.contents_left.now ≡ length content + length cs = ap length b.contents_joined ∙ length-append content cs in
-    let split : (r : Reading) → Left r ↔ (HasContent kind content r × Others r) = λ r.
+    let split : (r : NumberReader) → Left r ↔ (HasContent kind content r × Others r) = λ r.
     let step = HasEntries-step r _ _ _ _ _ _ b in
     (λ h. let k = step.0 h.1 in (k.0, (h.0, k.1)), λ h. (h.1.0, step.1 (h.0, h.1.1))) in
     elim c.if-entry-eq-CONTAINER.branch [
@@ -92,7 +96,8 @@ check_entries-loop-words_left-preserved t c =
           })
       | check_entries-else-entry-eq-CONTAINER+in-Ok w ↦ rw (w.is_supported-is, w.large-is) (record {
         apart = IsApart-less large c.loop-words_left.contents_left.now cs c.args.contents.now (omega (arith, len)) inv.apart;
-        left = Leaves-good c.loop-words_left.is_supported Whole Left (HasContent kind content) Others inv.left split w.in-Ok.ensures (has_content_lenient _ _ w.in-Ok.ensures);
+        left = Leaves-good c.loop-words_left.is_supported Whole Left (HasContent kind content) Others inv.left split w.in-Ok.ensures
+            (has_content_lenient _ _ w.in-Ok.ensures);
       })
       | check_entries-else-entry-eq-CONTAINER+in-Err+in-UnsupportedNumber w ↦
           let refused = rw w.in-UnsupportedNumber.is at w.in-Err.ensures in
@@ -104,7 +109,8 @@ check_entries-loop-words_left-preserved t c =
 
 pub check_entries-returns-then-not-is_empty : goal.check_entries-returns-then-not-is_empty
 check_entries-returns-then-not-is_empty t c = λ h.
-    let none = HasEntries-empty number_or_unsupported _ _ (nil_from_length c.loop-words_left.words_left.now (grind (arith, common_steps))) (c.loop-words_left.invariant.left.lenient.0 h).1 in
+    let none = HasEntries-empty number_or_unsupported _ _ (nil_from_length c.loop-words_left.words_left.now (grind (arith, common_steps)))
+    (c.loop-words_left.invariant.left.lenient.0 h).1 in
     let zero : length c.loop-words_left.contents_left.now ≡ 0 = ap length none in
     grind (arith, common_steps)
 
@@ -115,6 +121,10 @@ check_entries-returns t c =
       IsApart-large large c.loop-words_left.contents_left.now c.args.contents.now inv.apart,
       Leaves-along c.loop-words_left.is_supported (HasEntries c.args.words.now c.args.contents.now) _ (HasLarge large) (λ r. (
         λ h. h.0,
-        λ h. (h, HasEntries-nil r _ _ (nil_from_length c.loop-words_left.words_left.now (grind (arith, common_steps))) (nil_from_length c.loop-words_left.contents_left.now (grind (arith, common_steps)))),
+        λ h. (
+          h,
+          HasEntries-nil r _ _ (nil_from_length c.loop-words_left.words_left.now (grind (arith, common_steps)))
+              (nil_from_length c.loop-words_left.contents_left.now (grind (arith, common_steps))),
+        ),
       )) inv.left,
     )

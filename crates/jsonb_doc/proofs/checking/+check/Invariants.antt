@@ -1,8 +1,8 @@
 use Rattle.std.proofs.Common.{◌*◌, ◌+◌, ◌≤◌, length, nat_eq, if◌then◌else◌}
 use Rattle.std.specs.Prelude.{option_copied}
-use Rattle.jsonb_doc.specs.Checking.{HasContent, HasEntries, HasLarge, Leaves}
+use Rattle.jsonb_doc.specs.Private.Checking.{HasContent, HasEntries, HasLarge, ReducesTo}
 use Rattle.jsonb_doc.proofs.Halves.{halvings}
-use Rattle.jsonb_doc.proofs.Left.{IsApart}
+use Rattle.jsonb_doc.proofs.CheckingLemmas.{IsApart}
 use Rattle.jsonb_doc.proofs.checking.+check.Given as goal
 
 -- calls nest no deeper than the length can be halved
@@ -19,7 +19,7 @@ decreases-check_entries l = 3 * halvings (length l.contents.now + 4) + 1
 abbrev pub invariant-check_container-loop-words : goal.invariant-check_container-loop-words
 invariant-check_container-loop-words l = record {
   shorter : length l.container ≤ length l.fn.bytes;
-  left : Leaves l.is_supported (HasContent 5 l.fn.bytes) (HasContent 5 l.container);
+  left : ReducesTo l.is_supported (HasContent 5 l.fn.bytes) (HasContent 5 l.container);
 }
 
 abbrev pub decreases-check_container-loop-words : goal.decreases-check_container-loop-words
@@ -29,7 +29,7 @@ decreases-check_container-loop-words l = length l.container
 abbrev pub invariant-check_entries-loop-words_left : goal.invariant-check_entries-loop-words_left
 invariant-check_entries-loop-words_left l = record {
   apart : IsApart (option_copied l.large) l.contents_left l.fn.contents;
-  left : Leaves l.is_supported (HasEntries l.fn.words l.fn.contents) (λ r. HasLarge (option_copied l.large) r × HasEntries l.words_left l.contents_left r);
+  left : ReducesTo l.is_supported (HasEntries l.fn.words l.fn.contents) (λ r. HasLarge (option_copied l.large) r × HasEntries l.words_left l.contents_left r);
 }
 
 abbrev pub decreases-check_entries-loop-words_left : goal.decreases-check_entries-loop-words_left

@@ -14,7 +14,8 @@ returns-in-Array c = record {
 }
 
 pub returns-in_err-contents-in-Object : goal.returns-in_err-contents-in-Object
-returns-in_err-contents-in-Object c = rw c.from_residual.ensures (HasContent-keys c.args.bytes.now c.in-Object.parts (rw c.in-Object.is at c.in-Ok.ensures.cut) number_or_unsupported c.in_err-contents-in-Object.ensures)
+returns-in_err-contents-in-Object c = rw c.from_residual.ensures
+    (HasContent-keys c.args.bytes.now c.in-Object.parts (rw c.in-Object.is at c.in-Ok.ensures.cut) number_or_unsupported c.in_err-contents-in-Object.ensures)
 
 pub returns-in_ok-contents-in-Object : goal.returns-in_ok-contents-in-Object
 returns-in_ok-contents-in-Object c =

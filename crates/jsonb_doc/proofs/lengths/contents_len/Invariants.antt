@@ -1,5 +1,5 @@
 use Rattle.std.proofs.Common.{ℕ, ◌+◌, ◌*◌, ◌^◌, ◌≤◌, List, length}
-use Rattle.jsonb_doc.specs.Lengths.{StandBefore}
+use Rattle.jsonb_doc.specs.Private.Lengths.{StandBefore}
 use Rattle.jsonb_doc.proofs.LengthsLemmas.{Left}
 use Rattle.jsonb_doc.proofs.lengths.contents_len.Given as goal
 

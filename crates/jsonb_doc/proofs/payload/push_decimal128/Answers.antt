@@ -3,7 +3,7 @@ use Rattle.std.specs.Int.{w128, cast_unsigned}
 use Rattle.std.proofs.lemmas.Int.{to_z-of_z}
 use Rattle.jsonb_doc.specs.Number.{decimal128}
 use Rattle.jsonb_doc.specs.Payload.{fixed_bytes, number_payload_of}
-use Rattle.jsonb_doc.proofs.Grown.{grown}
+use Rattle.jsonb_doc.proofs.AppendLemmas.{grown}
 use Rattle.jsonb_doc.proofs.payload.push_decimal128.Goals as goal
 
 not_zero : (z : ℤ) (scale : ℕ) → (cast_unsigned w128 z ≡ 0 → ⊥) → number_payload_of decimal128 z scale ≡ 0x70 ∷ fixed_bytes w128 z ++ scale ∷ []

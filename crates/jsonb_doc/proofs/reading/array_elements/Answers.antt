@@ -1,11 +1,11 @@
 use Rattle.jsonb_doc.specs.Tree.{array}
-use Rattle.jsonb_doc.specs.Payload.{reading}
+use Rattle.jsonb_doc.specs.Payload.{number_reader}
 use Rattle.jsonb_doc.proofs.Containers.{Decodes-array}
 use Rattle.jsonb_doc.proofs.reading.array_elements.Goals as goal
 
 pub returns-in_err-parts-clause-decodes : goal.returns-in_err-parts-clause-decodes
 returns-in_err-parts-clause-decodes c = λ form ts h.
-    absurd (c.in_err-parts.ensures.cut.1 (reading form) (array ts) h.document)
+    absurd (c.in_err-parts.ensures.cut.1 (number_reader form) (array ts) h.document)
 
 pub returns-in-Array-clause-decodes : goal.returns-in-Array-clause-decodes
 returns-in-Array-clause-decodes c = λ form ts h.

@@ -1,11 +1,11 @@
 use Rattle.jsonb_doc.specs.Tree.{object}
-use Rattle.jsonb_doc.specs.Payload.{reading}
+use Rattle.jsonb_doc.specs.Payload.{number_reader}
 use Rattle.jsonb_doc.proofs.Containers.{Decodes-object}
 use Rattle.jsonb_doc.proofs.reading.object_pairs.Goals as goal
 
 pub returns-in_err-parts-clause-decodes : goal.returns-in_err-parts-clause-decodes
 returns-in_err-parts-clause-decodes c = λ form ps h.
-    absurd (c.in_err-parts.ensures.cut.1 (reading form) (object ps) h.document)
+    absurd (c.in_err-parts.ensures.cut.1 (number_reader form) (object ps) h.document)
 
 pub returns-in-Object-clause-decodes : goal.returns-in-Object-clause-decodes
 returns-in-Object-clause-decodes c = λ form ps h.

@@ -1,43 +1,51 @@
 use Rattle.std.proofs.Common.{◌-◌, length, arith, refl}
-use Rattle.jsonb_doc.specs.Payload.{any, reading}
-use Rattle.jsonb_doc.proofs.SpotsLemmas.{Marks-scalar, no_field, Marks-document, Marks-no-scalar, array_no_field}
+use Rattle.jsonb_doc.specs.Payload.{any, number_reader}
+use Rattle.jsonb_doc.proofs.SpotsLemmas.{Locates-scalar, no_field, Locates-document, Locates-no-scalar, array_no_field}
 use Rattle.jsonb_doc.proofs.FieldLemmas.{field_absent, field_searched, field_keys, field_value, field_marks}
 use Rattle.jsonb_doc.proofs.spot.field_spot.Goals as goal
 
 pub returns-then-spot-ne-CONTAINER-clause-field : goal.returns-then-spot-ne-CONTAINER-clause-field
 returns-then-spot-ne-CONTAINER-clause-field c = λ t m.
-    no_field c.args.bytes.now c.args.name.now t ((Marks-scalar c.args.bytes.now c.args.spot t m c.if-spot-ne-CONTAINER.true).1 c.args.name.now)
+    no_field c.args.bytes.now c.args.name.now t ((Locates-scalar c.args.bytes.now c.args.spot t m c.if-spot-ne-CONTAINER.true).1 c.args.name.now)
 
 pub returns-in_err-read_container-clause-field : goal.returns-in_err-read_container-clause-field
 returns-in_err-read_container-clause-field c = λ t m.
-    absurd (c.in_err-read_container.ensures.cut.1 (reading any) t (Marks-document c.args.bytes.now c.args.spot t m _ c.in_ok-object.ensures.2 c.if-spot-ne-CONTAINER.false))
+    absurd (c.in_err-read_container.ensures.cut.1 (number_reader any) t
+    (Locates-document c.args.bytes.now c.args.spot t m _ c.in_ok-object.ensures.2 c.if-spot-ne-CONTAINER.false))
 
 pub returns-in-Scalar-clause-field : goal.returns-in-Scalar-clause-field
 returns-in-Scalar-clause-field c = λ t m.
-    Marks-no-scalar c.args.bytes.now c.args.spot t m _ c.in_ok-object.ensures.2 c.if-spot-ne-CONTAINER.false c.in-Scalar.field-0 (rw c.in-Scalar.is at c.in_ok-read_container.ensures.cut)
+    Locates-no-scalar c.args.bytes.now c.args.spot t m _ c.in_ok-object.ensures.2 c.if-spot-ne-CONTAINER.false c.in-Scalar.field-0
+    (rw c.in-Scalar.is at c.in_ok-read_container.ensures.cut)
 
 pub returns-in-Array-clause-field : goal.returns-in-Array-clause-field
 returns-in-Array-clause-field c = λ t m.
-    array_no_field c.args.bytes.now c.args.spot t m _ c.in_ok-object.ensures.2 c.if-spot-ne-CONTAINER.false c.in-Array.field-0 (rw c.in-Array.is at c.in_ok-read_container.ensures.cut) c.args.name.now
+    array_no_field c.args.bytes.now c.args.spot t m _ c.in_ok-object.ensures.2 c.if-spot-ne-CONTAINER.false c.in-Array.field-0
+    (rw c.in-Array.is at c.in_ok-read_container.ensures.cut) c.args.name.now
 
 pub returns-in_err-found-clause-field : goal.returns-in_err-found-clause-field
 returns-in_err-found-clause-field c = λ t m.
-    absurd (field_searched c.args.bytes.now c.args.spot t m _ c.in_ok-object.ensures.2 c.if-spot-ne-CONTAINER.false c.in-Object.parts (rw c.in-Object.is at c.in_ok-read_container.ensures.cut) c.args.name.now c.in_err-found.ensures.found)
+    absurd (field_searched c.args.bytes.now c.args.spot t m _ c.in_ok-object.ensures.2 c.if-spot-ne-CONTAINER.false c.in-Object.parts
+    (rw c.in-Object.is at c.in_ok-read_container.ensures.cut) c.args.name.now c.in_err-found.ensures.found)
 
 pub returns-in_default-clause-field : goal.returns-in_default-clause-field
 returns-in_default-clause-field c = λ t m.
-    field_absent c.args.bytes.now c.args.spot t m _ c.in_ok-object.ensures.2 c.if-spot-ne-CONTAINER.false c.in-Object.parts (rw c.in-Object.is at c.in_ok-read_container.ensures.cut) c.args.name.now (rw (c.as_bytes.ensures.value, c.in_default.is) at c.in_ok-found.ensures.found)
+    field_absent c.args.bytes.now c.args.spot t m _ c.in_ok-object.ensures.2 c.if-spot-ne-CONTAINER.false c.in-Object.parts
+    (rw c.in-Object.is at c.in_ok-read_container.ensures.cut) c.args.name.now
+    (rw (c.as_bytes.ensures.value, c.in_default.is) at c.in_ok-found.ensures.found)
 
 pub returns-in_default-skip_contents-clause-field : goal.returns-in_default-skip_contents-clause-field
 returns-in_default-skip_contents-clause-field c = λ t m.
     let found = rw (c.as_bytes.ensures.value, c.in-Some.is) at c.in_ok-found.ensures.found in
-    let keys = field_keys c.args.bytes.now c.args.spot t m _ c.in_ok-object.ensures.2 c.if-spot-ne-CONTAINER.false c.in-Object.parts (rw c.in-Object.is at c.in_ok-read_container.ensures.cut) c.args.name.now c.in-Some.words_behind.now c.in-Some.bytes_behind.now found any m.whole m.decodes in
+    let keys = field_keys c.args.bytes.now c.args.spot t m _ c.in_ok-object.ensures.2 c.if-spot-ne-CONTAINER.false c.in-Object.parts
+    (rw c.in-Object.is at c.in_ok-read_container.ensures.cut) c.args.name.now c.in-Some.words_behind.now c.in-Some.bytes_behind.now found any m.whole m.decodes in
     c.in_default-skip_contents.ensures.rest keys.0 keys.1 keys.2
 
 pub returns-in_default-entry_behind-clause-field : goal.returns-in_default-entry_behind-clause-field
 returns-in_default-entry_behind-clause-field c = λ t m.
     let found = rw (c.as_bytes.ensures.value, c.in-Some.is) at c.in_ok-found.ensures.found in
-    let v = field_value c.args.bytes.now c.args.spot t m _ c.in_ok-object.ensures.2 c.if-spot-ne-CONTAINER.false c.in-Object.parts (rw c.in-Object.is at c.in_ok-read_container.ensures.cut) c.args.name.now c.in-Some.words_behind.now c.in-Some.bytes_behind.now found c.in-Some-skip_contents.values.now c.in-Some-skip_contents.ensures.rest (length c.in-Object.parts.key_words.now - length c.in-Some.words_behind.now - 4) refl any m.whole m.decodes in
+    let v = field_value c.args.bytes.now c.args.spot t m _ c.in_ok-object.ensures.2 c.if-spot-ne-CONTAINER.false c.in-Object.parts
+    (rw c.in-Object.is at c.in_ok-read_container.ensures.cut) c.args.name.now c.in-Some.words_behind.now c.in-Some.bytes_behind.now found c.in-Some-skip_contents.values.now c.in-Some-skip_contents.ensures.rest (length c.in-Object.parts.key_words.now - length c.in-Some.words_behind.now - 4) refl any m.whole m.decodes in
     c.in_default-entry_behind.ensures.entry v.at.parts v.at.left v.at.before v.at.kind v.at.content v.at.ws v.at.cs v.at.begin
 
 pub returns-clause-field : goal.returns-clause-field
@@ -45,4 +53,5 @@ returns-clause-field c = λ t m.
     let found = rw (c.as_bytes.ensures.value, c.in-Some.is) at c.in_ok-found.ensures.found in
     let v = c.in-Some-entry_behind.value in
     let end = c.new.ensures.end in
-    field_marks c.args.bytes.now c.args.spot t m _ c.in_ok-object.ensures.2 c.if-spot-ne-CONTAINER.false c.in-Object.parts (rw c.in-Object.is at c.in_ok-read_container.ensures.cut) c.args.name.now c.in-Some.words_behind.now c.in-Some.bytes_behind.now found c.in-Some-skip_contents.values.now c.in-Some-skip_contents.ensures.rest (length c.in-Object.parts.key_words.now - length c.in-Some.words_behind.now - 4) refl v.kind v.content.now v.other_words.now v.other_contents.now c.in-Some-entry_behind.ensures.entry c.new.result c.new.ensures.kind end (omega (arith, c.new.ensures.start, end))
+    field_marks c.args.bytes.now c.args.spot t m _ c.in_ok-object.ensures.2 c.if-spot-ne-CONTAINER.false c.in-Object.parts
+    (rw c.in-Object.is at c.in_ok-read_container.ensures.cut) c.args.name.now c.in-Some.words_behind.now c.in-Some.bytes_behind.now found c.in-Some-skip_contents.values.now c.in-Some-skip_contents.ensures.rest (length c.in-Object.parts.key_words.now - length c.in-Some.words_behind.now - 4) refl v.kind v.content.now v.other_words.now v.other_contents.now c.in-Some-entry_behind.ensures.entry c.new.result c.new.ensures.kind end (omega (arith, c.new.ensures.start, end))

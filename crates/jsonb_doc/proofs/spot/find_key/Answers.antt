@@ -22,7 +22,8 @@ loop-name-preserved c =
 
 pub returns-in_default-clause-found : goal.returns-in_default-clause-found
 returns-in_default-clause-found c = λ ks rest h.
-    KeysLeft-stop c.args.name.now ks rest c.loop-name.words_left.now c.loop-name.bytes_left.now (grind (arith, common_steps)) c.in_default.ensures (c.loop-name.invariant.left ks rest h)
+    KeysLeft-stop c.args.name.now ks rest c.loop-name.words_left.now c.loop-name.bytes_left.now (grind (arith, common_steps)) c.in_default.ensures
+    (c.loop-name.invariant.left ks rest h)
 
 pub returns-then-eq-clause-found : goal.returns-then-eq-clause-found
 returns-then-eq-clause-found c = λ ks rest h.
@@ -31,4 +32,5 @@ returns-then-eq-clause-found c = λ ks rest h.
 
 pub returns-clause-found : goal.returns-clause-found
 returns-clause-found c = λ ks rest h.
-    KeysLeft-end c.args.name.now ks rest c.loop-name.words_left.now c.loop-name.bytes_left.now (grind (arith, common_steps)) (c.loop-name.invariant.left ks rest h)
+    KeysLeft-end c.args.name.now ks rest c.loop-name.words_left.now c.loop-name.bytes_left.now (grind (arith, common_steps))
+    (c.loop-name.invariant.left ks rest h)

@@ -1,5 +1,5 @@
 use Rattle.std.proofs.Common.{ℕ, ◌≤◌, List, length}
-use Rattle.jsonb_doc.specs.Lengths.{HoldKeys}
+use Rattle.jsonb_doc.specs.Private.Lengths.{HoldKeys}
 use Rattle.jsonb_doc.proofs.FieldLemmas.{KeysLeft}
 use Rattle.jsonb_doc.proofs.spot.find_key.Given as goal
 

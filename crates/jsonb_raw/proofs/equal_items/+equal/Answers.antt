@@ -2,7 +2,7 @@ use Rattle.std.proofs.Common.{◌≡◌, Bool, Some, None, true, false, arith, r
 use Rattle.std.specs.Prelude.{IsOkAnd}
 use Rattle.jsonb_doc.specs.Tree.{keys, values}
 use Rattle.jsonb_doc.specs.Equal.{is_equal, are_equal, pairs_are_equal}
-use Rattle.jsonb_doc.specs.Stored.{key_trees}
+use Rattle.jsonb_doc.specs.Private.Stored.{key_trees}
 use Rattle.jsonb_raw.specs.Compared.{Decides}
 use Rattle.jsonb_raw.proofs.EntriesLeft.{SomeEntries-first, SomeEntries-error, SomeEntries-none}
 use Rattle.jsonb_raw.proofs.Aside.{Aside, IsAnswer, put_aside, part_holds, part_fails, rest_fails, entries_ended, shorter_than}
@@ -44,7 +44,8 @@ entries_equal-loop-entry-preserved-then-entry-half t c =
             fact = record {
               trees = others;
               left = right;
-              fact = put_aside (IsAnswer is_equal form other_form None) (IsAnswer is_equal form other_form (Some (c.in_ok-entry.entry, c.in_ok-other.other))) (is_equal first second) (are_equal rest others) (are_equal ts us) (λ b h. h) (first, second, stored, means, refl) both;
+              fact = put_aside (IsAnswer is_equal form other_form None) (IsAnswer is_equal form other_form (Some (c.in_ok-entry.entry, c.in_ok-other.other)))
+                  (is_equal first second) (are_equal rest others) (are_equal ts us) (λ b h. h) (first, second, stored, means, refl) both;
             };
           }));
     }
@@ -87,30 +88,39 @@ entries_equal-loop-entry-preserved t c = record {
 pub entries_equal-returns-then-is_some-clause-equal : goal.entries_equal-returns-then-is_some-clause-equal
 entries_equal-returns-then-is_some-clause-equal t c = λ form other_form ts us d e.
     let s = SomeEntries-none form _ _ _ c.in-None.ensures.steps (c.loop-entry.invariant.left form other_form ts us d e) in
-    rest_fails _ _ (entries_ended other_form _ _ _ false (λ (b : Bool). Aside (IsAnswer is_equal form other_form c.loop-entry.large) b (are_equal ts us)) (sym c.is_some.ensures ∙ c.if-is_some.true) c.next-2.ensures.steps s)
+    rest_fails _ _ (entries_ended other_form _ _ _ false (λ (b : Bool). Aside (IsAnswer is_equal form other_form c.loop-entry.large) b (are_equal ts us))
+    (sym c.is_some.ensures ∙ c.if-is_some.true) c.next-2.ensures.steps s)
 
 pub entries_equal-returns-in_default-large-clause-equal : goal.entries_equal-returns-in_default-large-clause-equal
 entries_equal-returns-in_default-large-clause-equal t c = λ form other_form ts us d e.
     let s = SomeEntries-none form _ _ _ c.in-None.ensures.steps (c.loop-entry.invariant.left form other_form ts us d e) in
-    let a = rw c.in_default-large.is at (entries_ended other_form _ _ _ true (λ (b : Bool). Aside (IsAnswer is_equal form other_form c.loop-entry.large) b (are_equal ts us)) (sym c.is_some.ensures ∙ c.if-is_some.false) c.next-2.ensures.steps s) in
+    let a = rw c.in_default-large.is at
+    (entries_ended other_form _ _ _ true (λ (b : Bool). Aside (IsAnswer is_equal form other_form c.loop-entry.large) b (are_equal ts us))
+    (sym c.is_some.ensures ∙ c.if-is_some.false) c.next-2.ensures.steps s) in
     sym a.is ∙ a.fact
 
 pub entries_equal-returns-in_err-item-clause-equal : goal.entries_equal-returns-in_err-item-clause-equal
 entries_equal-returns-in_err-item-clause-equal t c = λ form other_form ts us d e.
     let s = SomeEntries-none form _ _ _ c.in-None.ensures.steps (c.loop-entry.invariant.left form other_form ts us d e) in
-    let a = rw c.in-Some-large.is at (entries_ended other_form _ _ _ true (λ (b : Bool). Aside (IsAnswer is_equal form other_form c.loop-entry.large) b (are_equal ts us)) (sym c.is_some.ensures ∙ c.if-is_some.false) c.next-2.ensures.steps s) in
+    let a = rw c.in-Some-large.is at
+    (entries_ended other_form _ _ _ true (λ (b : Bool). Aside (IsAnswer is_equal form other_form c.loop-entry.large) b (are_equal ts us))
+    (sym c.is_some.ensures ∙ c.if-is_some.false) c.next-2.ensures.steps s) in
     absurd (c.in_err-item.ensures.decodes form a.is.0 a.is.2.content)
 
 pub entries_equal-returns-in_err-item-2-clause-equal : goal.entries_equal-returns-in_err-item-2-clause-equal
 entries_equal-returns-in_err-item-2-clause-equal t c = λ form other_form ts us d e.
     let s = SomeEntries-none form _ _ _ c.in-None.ensures.steps (c.loop-entry.invariant.left form other_form ts us d e) in
-    let a = rw c.in-Some-large.is at (entries_ended other_form _ _ _ true (λ (b : Bool). Aside (IsAnswer is_equal form other_form c.loop-entry.large) b (are_equal ts us)) (sym c.is_some.ensures ∙ c.if-is_some.false) c.next-2.ensures.steps s) in
+    let a = rw c.in-Some-large.is at
+    (entries_ended other_form _ _ _ true (λ (b : Bool). Aside (IsAnswer is_equal form other_form c.loop-entry.large) b (are_equal ts us))
+    (sym c.is_some.ensures ∙ c.if-is_some.false) c.next-2.ensures.steps s) in
     absurd (c.in_err-item-2.ensures.decodes other_form a.is.1 a.is.3.content)
 
 pub entries_equal-returns-clause-equal : goal.entries_equal-returns-clause-equal
 entries_equal-returns-clause-equal t c = λ form other_form ts us d e.
     let s = SomeEntries-none form _ _ _ c.in-None.ensures.steps (c.loop-entry.invariant.left form other_form ts us d e) in
-    let a = rw c.in-Some-large.is at (entries_ended other_form _ _ _ true (λ (b : Bool). Aside (IsAnswer is_equal form other_form c.loop-entry.large) b (are_equal ts us)) (sym c.is_some.ensures ∙ c.if-is_some.false) c.next-2.ensures.steps s) in
+    let a = rw c.in-Some-large.is at
+    (entries_ended other_form _ _ _ true (λ (b : Bool). Aside (IsAnswer is_equal form other_form c.loop-entry.large) b (are_equal ts us))
+    (sym c.is_some.ensures ∙ c.if-is_some.false) c.next-2.ensures.steps s) in
     (a.is.0, a.is.1, c.in_ok-item.ensures.decodes form a.is.0 a.is.2.content, c.in_ok-item-2.ensures.decodes other_form a.is.1 a.is.3.content, a.is.4 ∙ a.fact)
 
 -- ---- items
@@ -146,7 +156,8 @@ pub objects_equal-returns-then-not-branch-clause-equal : goal.objects_equal-retu
 objects_equal-returns-then-not-branch-clause-equal t c = λ form other_form ps qs d e.
     let found = c.keys.ensures.entries form ps (c.in_ok-found.ensures.decodes form ps d) in
     let wanted = c.keys-2.ensures.entries other_form qs (c.in_ok-wanted.ensures.decodes other_form qs e) in
-    let fails : are_equal (key_trees (keys ps)) (key_trees (keys qs)) ≡ false = sym (c.in_ok-texts_equal.ensures.equal form other_form (keys ps) (keys qs) found wanted) ∙ c.if-not-branch.true in
+    let fails : are_equal (key_trees (keys ps)) (key_trees (keys qs))
+    ≡ false = sym (c.in_ok-texts_equal.ensures.equal form other_form (keys ps) (keys qs) found wanted) ∙ c.if-not-branch.true in
     rw fails at (equal_by_parts ps qs)
 
 pub objects_equal-returns-clause-equal : goal.objects_equal-returns-clause-equal
@@ -154,10 +165,12 @@ objects_equal-returns-clause-equal t c = λ form other_form ps qs d e.
     let left = c.in_ok-found.ensures.decodes form ps d in
     let right = c.in_ok-wanted.ensures.decodes other_form qs e in
     let holds : are_equal (key_trees (keys ps)) (key_trees (keys qs)) ≡ true =
-    sym (c.in_ok-texts_equal.ensures.equal form other_form (keys ps) (keys qs) (c.keys.ensures.entries form ps left) (c.keys-2.ensures.entries other_form qs right)) ∙ c.if-not-branch.false in
+    sym (c.in_ok-texts_equal.ensures.equal form other_form (keys ps) (keys qs) (c.keys.ensures.entries form ps left)
+    (c.keys-2.ensures.entries other_form qs right)) ∙ c.if-not-branch.false in
     let same : are_equal (values ps) (values qs) ≡ pairs_are_equal ps qs = rw holds at (equal_by_parts ps qs) in
     subst (λ (b : Bool). IsOkAnd c.entries_equal.result (λ told. Decides is_equal form other_form told b)) same
-    (c.entries_equal.ensures.equal form other_form (values ps) (values qs) (c.values.ensures.entries form ps left) (c.values-2.ensures.entries other_form qs right))
+    (c.entries_equal.ensures.equal form other_form (values ps) (values qs) (c.values.ensures.entries form ps left)
+    (c.values-2.ensures.entries other_form qs right))
 
 pub objects_equal-returns-clause-shorter : goal.objects_equal-returns-clause-shorter
 objects_equal-returns-clause-shorter t c =
@@ -172,7 +185,8 @@ pub parts_equal-returns-in_ok-array_entries-in-Array-Array-2-clause-equal : goal
 parts_equal-returns-in_ok-array_entries-in-Array-Array-2-clause-equal t c = λ form other_form s u h i.
     let p = rw c.in-Array-Array.is-0 at h in
     let q = rw c.in-Array-Array.is-1 at i in
-    rw (p.1, q.1) (c.entries_equal.ensures.equal form other_form p.0 q.0 (c.in_ok-array_entries-in-Array-Array.ensures.decodes form p.0 p.2) (c.in_ok-array_entries-in-Array-Array-2.ensures.decodes other_form q.0 q.2))
+    rw (p.1, q.1) (c.entries_equal.ensures.equal form other_form p.0 q.0 (c.in_ok-array_entries-in-Array-Array.ensures.decodes form p.0 p.2)
+    (c.in_ok-array_entries-in-Array-Array-2.ensures.decodes other_form q.0 q.2))
 
 pub parts_equal-returns-in-Object-Object-clause-equal : goal.parts_equal-returns-in-Object-Object-clause-equal
 parts_equal-returns-in-Object-Object-clause-equal t c = λ form other_form s u h i.

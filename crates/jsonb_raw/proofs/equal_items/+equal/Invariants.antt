@@ -3,8 +3,8 @@ use Rattle.std.specs.Prelude.{IfSome}
 use Rattle.jsonb_doc.specs.Tree.{Tree, Trees}
 use Rattle.jsonb_doc.specs.Equal.{is_equal, are_equal}
 use Rattle.jsonb_doc.specs.Payload.{Form}
-use Rattle.jsonb_doc.specs.Item.{Stands, item_size}
-use Rattle.jsonb_doc.specs.Stored.{HasEntriesLeft, entries_room}
+use Rattle.jsonb_doc.specs.Item.{StandsFor, item_size}
+use Rattle.jsonb_doc.specs.Private.Stored.{HasEntriesLeft, entries_room}
 use Rattle.jsonb_raw.proofs.EntriesLeft.{SomeEntries}
 use Rattle.jsonb_raw.proofs.Aside.{Aside, IsAnswer}
 use Rattle.jsonb_raw.proofs.equal_items.+equal.Given as goal
@@ -28,8 +28,8 @@ decreases-stored_equal l = 8 * length l.entry.now.content.now + 5
 abbrev pub invariant-items_equal-loop-answer : goal.invariant-items_equal-loop-answer
 invariant-items_equal-loop-answer l = record {
   shorter : item_size l.left ≤ item_size l.fn.item;
-  left : (form other_form : Form) (t u : Tree) → Stands form l.fn.item t → Stands other_form l.fn.other u
-      → (x : Tree) × (y : Tree) × Stands form l.left x × Stands other_form l.right y × (is_equal x y ≡ is_equal t u);
+  left : (form other_form : Form) (t u : Tree) → StandsFor form l.fn.item t → StandsFor other_form l.fn.other u
+      → (x : Tree) × (y : Tree) × StandsFor form l.left x × StandsFor other_form l.right y × (is_equal x y ≡ is_equal t u);
 }
 
 abbrev pub decreases-items_equal-loop-answer : goal.decreases-items_equal-loop-answer
@@ -43,5 +43,6 @@ invariant-entries_equal-loop-entry l = record {
   room : entries_room l.entry-iterator ≤ entries_room l.fn.found;
   size : IfSome l.large (λ pair. length pair.0.content.now ≤ entries_room l.fn.found);
   left : (form other_form : Form) (ts us : Trees) → HasEntriesLeft form l.fn.found ts → HasEntriesLeft other_form l.fn.others us
-      → SomeEntries form l.entry-iterator (λ left. SomeEntries other_form l.rest (λ right. Aside (IsAnswer is_equal form other_form l.large) (are_equal left right) (are_equal ts us)));
+      → SomeEntries form l.entry-iterator
+      (λ left. SomeEntries other_form l.rest (λ right. Aside (IsAnswer is_equal form other_form l.large) (are_equal left right) (are_equal ts us)));
 }

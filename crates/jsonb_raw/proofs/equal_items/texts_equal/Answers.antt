@@ -1,6 +1,6 @@
 use Rattle.std.proofs.Common.{◌≡◌, Bool, true, false, refl, sym, ◌∙◌}
 use Rattle.jsonb_doc.specs.Equal.{is_equal, are_equal}
-use Rattle.jsonb_doc.specs.Stored.{key_trees}
+use Rattle.jsonb_doc.specs.Private.Stored.{key_trees}
 use Rattle.jsonb_raw.proofs.EntriesLeft.{SomeEntries-first, SomeEntries-error, SomeEntries-none}
 use Rattle.jsonb_raw.proofs.InStep.{told_none, told_some}
 use Rattle.jsonb_raw.proofs.TextTrees.{key_trees_are_texts, first_text, texts_by_bytes}
@@ -38,7 +38,9 @@ returns-then-ne-clause-equal c = λ form other_form ks ls d e.
     (λ first rest left stored fact.
     SomeEntries-first other_form _ _ _ _ _ c.in_ok-other.was c.in-Some-next.ensures.steps fact.1
     (λ second others right means both.
-    let differs : is_equal first second ≡ false = texts_by_bytes form other_form c.in_ok-entry.entry c.in_ok-other.other first second rest others fact.0 both.0 stored means ∙ told_some _ (sym c.if-ne.true ∙ c.ne.ensures) in
+    let differs : is_equal first second
+    ≡ false = texts_by_bytes form other_form c.in_ok-entry.entry c.in_ok-other.other first second rest others fact.0 both.0 stored means
+    ∙ told_some _ (sym c.if-ne.true ∙ c.ne.ensures) in
     rw differs at both.1))
 
 pub loop-entry-preserved : goal.loop-entry-preserved
@@ -50,7 +52,9 @@ loop-entry-preserved c = record {
       (λ first rest left stored fact.
       SomeEntries-first other_form _ _ _ _ _ c.in_ok-other.was c.in-Some-next.ensures.steps fact.1
       (λ second others right means both.
-      let same : is_equal first second ≡ true = texts_by_bytes form other_form c.in_ok-entry.entry c.in_ok-other.other first second rest others fact.0 both.0 stored means ∙ told_none _ (sym c.if-ne.false ∙ c.ne.ensures) in
+      let same : is_equal first second
+      ≡ true = texts_by_bytes form other_form c.in_ok-entry.entry c.in_ok-other.other first second rest others fact.0 both.0 stored means
+      ∙ told_none _ (sym c.if-ne.false ∙ c.ne.ensures) in
       record {
         trees = rest;
         left = left;
@@ -64,4 +68,5 @@ loop-entry-preserved c = record {
 pub returns-clause-equal : goal.returns-clause-equal
 returns-clause-equal c = λ form other_form ks ls d e.
     let s = (SomeEntries-none form _ _ _ c.in-None.ensures.steps (c.loop-entry.invariant.left form other_form ks ls d e)).1 in
-    entries_ended other_form _ _ _ _ (λ (b : Bool). b ≡ are_equal (key_trees ks) (key_trees ls)) c.is_none.ensures c.next-2.ensures.steps (record { trees = s.trees; left = s.left; fact = s.fact.1 })
+    entries_ended other_form _ _ _ _ (λ (b : Bool). b ≡ are_equal (key_trees ks) (key_trees ls)) c.is_none.ensures c.next-2.ensures.steps
+    (record { trees = s.trees; left = s.left; fact = s.fact.1 })

@@ -1,5 +1,5 @@
 use Rattle.std.proofs.Common.{[], ◌∷◌}
-use Rattle.jsonb_raw.specs.Levels.{parts}
+use Rattle.jsonb_raw.specs.Private.Levels.{parts}
 use Rattle.jsonb_raw.proofs.LevelLemmas.{pushed_around, popped_around, SomeParts-first, SomeParts-none, falls_within, falls_beside, falls_done}
 use Rattle.jsonb_raw.proofs.EqualityWalk.{walk_begun, part_begun, part_done, only_start}
 use Rattle.jsonb_raw.proofs.equality_key.push_item.Goals as goal
@@ -24,7 +24,8 @@ walk-init c = record {
 
 pub walk-smaller-in-Some-3 : goal.walk-smaller-in-Some-3
 walk-smaller-in-Some-3 c =
-    falls_within _ _ _ _ _ _ (rw c.in-Some-2.is at c.in_ok-key.ensures.smaller) (rw c.in-Some-3.is at c.in_ok-inner-in-Some-2.ensures.room) (rw c.in-Some-3.is at c.in_ok-inner-in-Some-2.ensures.bound) c.in_ok-push-in-Some-2.ensures.items
+    falls_within _ _ _ _ _ _ (rw c.in-Some-2.is at c.in_ok-key.ensures.smaller) (rw c.in-Some-3.is at c.in_ok-inner-in-Some-2.ensures.room)
+    (rw c.in-Some-3.is at c.in_ok-inner-in-Some-2.ensures.bound) c.in_ok-push-in-Some-2.ensures.items
 
 pub walk-preserved-in-Some-3 : goal.walk-preserved-in-Some-3
 walk-preserved-in-Some-3 c = record {

@@ -4,7 +4,9 @@ use Rattle.jsonb_raw.proofs.key_bytes.push_text.Goals as goal
 
 pub loop-left-preserved-in_ok-extend_from_slice : goal.loop-left-preserved-in_ok-extend_from_slice
 loop-left-preserved-in_ok-extend_from_slice c =
-    chunk_copied _ _ _ _ _ _ _ (sym c.is_plain.ensures ∙ c.if-is_plain.true) c.in_ok-extend_from_slice.ensures.items c.split_at.ensures.front c.split_at.ensures.back c.loop-left.invariant
+    chunk_copied _ _ _ _ _ _ _
+    (sym c.is_plain.ensures
+    ∙ c.if-is_plain.true) c.in_ok-extend_from_slice.ensures.items c.split_at.ensures.front c.split_at.ensures.back c.loop-left.invariant
 
 pub loop-left-preserved : goal.loop-left-preserved
 loop-left-preserved c =

@@ -1,4 +1,4 @@
-use Rattle.jsonb_raw.proofs.Dealt.{parted}
+use Rattle.jsonb_raw.proofs.PartitionLemmas.{parted}
 use Rattle.jsonb_raw.proofs.laws.pick_and_delete_part_objects.Goals as goal
 
 pub returns : goal.returns

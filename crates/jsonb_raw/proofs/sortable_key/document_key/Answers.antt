@@ -1,7 +1,7 @@
 use Rattle.std.proofs.Common.{◌++◌, ◌∙◌, ap, arith}
 use Rattle.std.proofs.lemmas.Result.{err_from_is_err_and}
 use Rattle.jsonb_raw.specs.SortableKey.{key}
-use Rattle.jsonb_raw.specs.KeyWidth.{width_of}
+use Rattle.jsonb_raw.specs.Private.KeyWidth.{width_of}
 use Rattle.jsonb_raw.proofs.KeyLawProofs.{decoded_ranks}
 use Rattle.jsonb_raw.proofs.sortable_key.document_key.Goals as goal
 

@@ -1,14 +1,15 @@
 use Rattle.std.proofs.Common.{arith, [], ◌∷◌}
 use Rattle.std.proofs.lemmas.Result.{err_from_is_err_and}
-use Rattle.jsonb_raw.specs.KeyWidth.{width_of}
-use Rattle.jsonb_raw.specs.Levels.{parts}
+use Rattle.jsonb_raw.specs.Private.KeyWidth.{width_of}
+use Rattle.jsonb_raw.specs.Private.Levels.{parts}
 use Rattle.jsonb_raw.proofs.LevelLemmas.{as_many_around, pushed_around, popped_around, SomeParts-first, SomeParts-none, falls_within, falls_beside, falls_done}
 use Rattle.jsonb_raw.proofs.LevelKeys.{walk_begun, part_begun_at, part_refused_at, part_done, level_done, only_start}
 use Rattle.jsonb_raw.proofs.sortable_key.push_item.Goals as goal
 
 pub returns-in_default-clause-key : goal.returns-in_default-clause-key
 returns-in_default-clause-key c = λ form tree stands.
-    only_start (width_of c.args.width) tree _ _ (rw c.in_default.is at (c.in_ok-found.ensures.level form tree stands)) (c.in_ok-push_start.ensures.key form tree stands)
+    only_start (width_of c.args.width) tree _ _ (rw c.in_default.is at (c.in_ok-found.ensures.level form tree stands))
+    (c.in_ok-push_start.ensures.key form tree stands)
 
 pub walk-init : goal.walk-init
 walk-init c = record {
@@ -27,11 +28,14 @@ returns-in_err-push_part-in-Some-2-clause-key c = λ form tree stands.
     let p = err_from_is_err_and c.from_residual-in_err-push_part-in-Some-2.result c.from_residual-in_err-push_part-in-Some-2.ensures.1 in
     SomeParts-first form _ _ _ _ _ _ (λ ps h. rw c.in-Some-2.is at (c.in_ok-key.ensures.takes form ps h)) (c.walk.invariant.left form tree stands)
     (λ part rest others keyed is left around fact.
-    rw (p.1, p.2) (part_refused_at (width_of c.args.width) part rest others _ _ _ _ _ _ (omega (arith, c.len.ensures, as_many_around form c.walk.around.items others around)) fact (c.in_err-push_part-in-Some-2.ensures.key form part keyed is)))
+    rw (p.1, p.2) (part_refused_at (width_of c.args.width) part rest others _ _ _ _ _ _
+    (omega (arith, c.len.ensures, as_many_around form c.walk.around.items others around)) fact
+    (c.in_err-push_part-in-Some-2.ensures.key form part keyed is)))
 
 pub walk-smaller-in-Some-3 : goal.walk-smaller-in-Some-3
 walk-smaller-in-Some-3 c =
-    falls_within _ _ _ _ _ _ (rw c.in-Some-2.is at c.in_ok-key.ensures.smaller) (rw c.in-Some-3.is at c.in_ok-inner-in-Some-2.ensures.room) (rw c.in-Some-3.is at c.in_ok-inner-in-Some-2.ensures.bound) c.in_ok-push-in-Some-2.ensures.items
+    falls_within _ _ _ _ _ _ (rw c.in-Some-2.is at c.in_ok-key.ensures.smaller) (rw c.in-Some-3.is at c.in_ok-inner-in-Some-2.ensures.room)
+    (rw c.in-Some-3.is at c.in_ok-inner-in-Some-2.ensures.bound) c.in_ok-push-in-Some-2.ensures.items
 
 pub walk-preserved-in-Some-3 : goal.walk-preserved-in-Some-3
 walk-preserved-in-Some-3 c = record {
@@ -42,7 +46,9 @@ walk-preserved-in-Some-3 c = record {
         others = rest ∷ others;
         left = rw c.in-Some-3.is at (c.in_ok-inner-in-Some-2.ensures.level form part.1 is);
         left_around = pushed_around form _ _ _ rest others c.in_ok-push-in-Some-2.ensures.items left around;
-        fact = part_begun_at (width_of c.args.width) part rest others _ _ _ _ _ _ (omega (arith, c.len.ensures, as_many_around form c.walk.around.items others around)) fact (c.in_ok-push_part-in-Some-2.ensures.key form part keyed is);
+        fact = part_begun_at (width_of c.args.width) part rest others _ _ _ _ _ _
+            (omega (arith, c.len.ensures, as_many_around form c.walk.around.items others around)) fact
+            (c.in_ok-push_part-in-Some-2.ensures.key form part keyed is);
       });
 }
 
@@ -59,7 +65,9 @@ walk-preserved-in_default-2 c = record {
         left = left;
         left_around = around;
         fact = part_done (width_of c.args.width) part rest others _ _ _ _ (rw c.in_default-2.is at (c.in_ok-inner-in-Some-2.ensures.level form part.1 is))
-            (part_begun_at (width_of c.args.width) part rest others _ _ _ _ _ _ (omega (arith, c.len.ensures, as_many_around form c.walk.around.items others around)) fact (c.in_ok-push_part-in-Some-2.ensures.key form part keyed is));
+            (part_begun_at (width_of c.args.width) part rest others _ _ _ _ _ _
+            (omega (arith, c.len.ensures, as_many_around form c.walk.around.items others around)) fact
+            (c.in_ok-push_part-in-Some-2.ensures.key form part keyed is));
       });
 }
 

@@ -1,9 +1,9 @@
 //! How often equality keys are counted.
 
-ghost use Rattle.std.specs.Prelude.{◌≡◌, ◌+◌, ◌-◌, ◌<◌, ◌^◌, ℕ, Vec, nat_lt};
+ghost use Rattle.std.specs.Prelude.{◌≡◌, ◌+◌, ◌-◌, ◌<◌, ◌^◌, ℕ, Vec, nat_lt, MatchResult};
 ghost use Rattle.std.specs.declared.alloc.Global.{Global};
-ghost use Rattle.jsonb_doc.specs.Answer.{Answers};
-ghost use Rattle.jsonb_raw.specs.SetCounts.{counted, one_at};
+ghost use Rattle.jsonb_doc.specs.Answer.{IsOutOfMemory};
+ghost use Rattle.jsonb_raw.specs.Private.SetCounts.{counted, one_at};
 
 use jsonb_doc::Error;
 use std::alloc::Global;
@@ -34,9 +34,10 @@ impl KeyCounts {
 
     /// Counts the key once more, and answers how often it was counted before.
     pub(super) fn add(&mut self, key: Vec<u8>) -> Result<usize, Error>
-        ensures before { Answers result (λ before. before ≡ counted self.old key) }
-        ensures more { Answers result (λ _. counted self.old key < 2 ^ 63
-            → (other : Vec ℕ Global) → counted self.new other ≡ counted self.old other + one_at key.items other) }
+        ensures before { MatchResult result (λ before. before ≡ counted self.old key) IsOutOfMemory }
+        ensures more { MatchResult result (λ _. counted self.old key < 2 ^ 63
+            → (other : Vec ℕ Global) → counted self.new other
+            ≡ counted self.old other + one_at key.items other) IsOutOfMemory }
     {
         let before = self.count(&key);
         self.counts.insert(key, before.saturating_add(1))?;
@@ -45,9 +46,9 @@ impl KeyCounts {
 
     /// Takes one from the key's count, and answers whether there was one.
     pub(super) fn take(&mut self, key: Vec<u8>) -> Result<bool, Error>
-        ensures taken { Answers result (λ taken. taken ≡ nat_lt 0 (counted self.old key)) }
-        ensures less { Answers result (λ _. (other : Vec ℕ Global)
-            → counted self.new other ≡ counted self.old other - one_at key.items other) }
+        ensures taken { MatchResult result (λ taken. taken ≡ nat_lt 0 (counted self.old key)) IsOutOfMemory }
+        ensures less { MatchResult result (λ _. (other : Vec ℕ Global)
+            → counted self.new other ≡ counted self.old other - one_at key.items other) IsOutOfMemory }
     {
         let count = self.count(&key);
         if count == 0 {

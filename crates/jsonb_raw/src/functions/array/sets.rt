@@ -1,23 +1,23 @@
 //! Arrays as sets: elements are compared by their equality keys, and by value where no memory is taken.
 
-ghost use Rattle.std.specs.Prelude.{◌≡◌, ◌<◌, ◌^◌, List, [], ◌∷◌, ◌++◌, length, IsOkAnd, OnOk, IfErr};
+ghost use Rattle.std.specs.Prelude.{◌≡◌, ◌<◌, ◌^◌, List, [], ◌∷◌, ◌++◌, length, IsOkAnd, OnOk, IfErr, MatchResult};
 ghost use Rattle.std.specs.List.{AllByRecursion, list_any};
 ghost use Rattle.jsonb_doc.specs.Tree.{Tree, Trees, array, trees_of, elements as elements_of};
 ghost use Rattle.jsonb_doc.specs.Equal.{is_equal};
 ghost use Rattle.jsonb_doc.specs.Limits.{Fits};
 ghost use Rattle.jsonb_doc.specs.Payload.{Form};
 ghost use Rattle.jsonb_doc.specs.Format.{Decodes};
-ghost use Rattle.jsonb_doc.specs.Item.{Stands};
+ghost use Rattle.jsonb_doc.specs.Item.{StandsFor};
 ghost use Rattle.jsonb_doc.specs.Elements.{HasElementsLeft};
-ghost use Rattle.jsonb_doc.specs.Stored.{HasEntriesLeft};
+ghost use Rattle.jsonb_doc.specs.Private.Stored.{HasEntriesLeft};
 ghost use Rattle.jsonb_doc.specs.ArrayBuilder.{HoldsElements};
-ghost use Rattle.jsonb_doc.specs.Answer.{Answers, Builds, WantsMemory};
-ghost use Rattle.jsonb_doc.specs.View.{IsDecodingError};
-ghost use Rattle.jsonb_raw.specs.Documents.{raw_bytes, Makes, IsReadingError, IsMakingError};
+ghost use Rattle.jsonb_doc.specs.Answer.{IsOutOfMemory, IsOutOfMemoryOrTooLarge, ◌or◌, IsDecodingError};
+ghost use Rattle.jsonb_doc.specs.declared.error.Error.TheVariants.{OutOfMemory, TooLarge};
+ghost use Rattle.jsonb_raw.specs.Documents.{raw_bytes, Makes};
 ghost use Rattle.jsonb_raw.specs.EqualityKey.{equality_key};
 ghost use Rattle.jsonb_raw.specs.Arrays.{as_elements};
-ghost use Rattle.jsonb_raw.specs.Sets.{kept, distinct, shared, unshared, overlap};
-ghost use Rattle.jsonb_raw.specs.SetCounts.{CountsKeys, StandsBehind, keeps, kept_one};
+ghost use Rattle.jsonb_raw.specs.Sets.{select_occurrences, distinct, intersection_of, difference_of, overlap};
+ghost use Rattle.jsonb_raw.specs.Private.SetCounts.{CountsKeys, CountsBehind, keeps, kept_one};
 
 use super::counts::KeyCounts;
 use crate::equal_items::{find_equal, items_equal};
@@ -42,13 +42,13 @@ enum Kept {
 
 /// Decides whether an element with this key is kept. The counts move on behind it.
 fn decide(kind: Kept, counts: &mut KeyCounts, key: Vec<u8>) -> Result<bool, Error>
-    ensures kept { (other before : List Tree) (t : Tree) → StandsBehind kind counts.old other before
+    ensures kept { (other before : List Tree) (t : Tree) → CountsBehind kind counts.old other before
         → Fits t → key.items ≡ equality_key t → length before < 2 ^ 63
-        → Answers result (λ b. b ≡ keeps kind other (before, t)) }
-    ensures behind { (other before : List Tree) (t : Tree) → StandsBehind kind counts.old other before
+        → MatchResult result (λ b. b ≡ keeps kind other (before, t)) IsOutOfMemory }
+    ensures behind { (other before : List Tree) (t : Tree) → CountsBehind kind counts.old other before
         → Fits t → key.items ≡ equality_key t → length before < 2 ^ 63
-        → Answers result (λ b. StandsBehind kind counts.new other (t ∷ before)) }
-    ensures errors { IfErr result WantsMemory }
+        → MatchResult result (λ b. CountsBehind kind counts.new other (t ∷ before)) IsOutOfMemory }
+    ensures errors { IfErr result IsOutOfMemory }
 {
     match kind {
         Kept::First => Ok(counts.add(key)? == 0),
@@ -65,15 +65,16 @@ fn push_kept(
     builder: &mut ArrayBuilder,
     item: &Item<'_>,
 ) -> Result<(), Error>
-    ensures pushed { (form : Form) (other before held : List Tree) (t : Tree) → Stands form item.now t → Fits t
-        → StandsBehind kind counts.old other before → length before < 2 ^ 63
+    ensures pushed { (form : Form) (other before held : List Tree) (t : Tree) → StandsFor form item.now t → Fits t
+        → CountsBehind kind counts.old other before → length before < 2 ^ 63
         → HoldsElements form builder.old held
-        → Builds form (array (trees_of (held ++ kept_one kind other (before, t)))) result
-        (λ _. HoldsElements form builder.new (held ++ kept_one kind other (before, t))) }
-    ensures behind { (form : Form) (other before : List Tree) (t : Tree) → Stands form item.now t → Fits t
-        → StandsBehind kind counts.old other before → length before < 2 ^ 63
-        → OnOk result (StandsBehind kind counts.new other (t ∷ before)) }
-    ensures errors { IfErr result IsMakingError }
+        → MatchResult result
+        (λ _. HoldsElements form builder.new (held ++ kept_one kind other (before, t)))
+        (IsOutOfMemoryOrTooLarge form (array (trees_of (held ++ kept_one kind other (before, t))))) }
+    ensures behind { (form : Form) (other before : List Tree) (t : Tree) → StandsFor form item.now t → Fits t
+        → CountsBehind kind counts.old other before → length before < 2 ^ 63
+        → OnOk result (CountsBehind kind counts.new other (t ∷ before)) }
+    ensures errors { IfErr result (IsDecodingError or OutOfMemory or TooLarge) }
 {
     let key = item_key(alloc, item)?;
     if !decide(kind, counts, key)? {
@@ -91,9 +92,9 @@ fn kept_elements(
 ) -> Result<OwnedJsonb, Error>
     ensures made { (form : Form) (other : List Tree) (ts : Trees) → HasElementsLeft form found.entry ts
         → AllByRecursion Fits (elements_of ts) → length (elements_of ts) < 2 ^ 63
-        → StandsBehind kind counts other []
-        → Makes form (array (trees_of (kept (keeps kind other) (elements_of ts)))) result }
-    ensures errors { IfErr result IsMakingError }
+        → CountsBehind kind counts other []
+        → Makes form (array (trees_of (select_occurrences (keeps kind other) (elements_of ts)))) result }
+    ensures errors { IfErr result (IsDecodingError or OutOfMemory or TooLarge) }
 {
     let mut builder = ArrayBuilder::new(alloc);
     for item in found {
@@ -109,10 +110,10 @@ fn kept_item(
     mut counts: KeyCounts,
     item: &Item<'_>,
 ) -> Result<OwnedJsonb, Error>
-    ensures made { (form : Form) (other : List Tree) (t : Tree) → Stands form item.now t → Fits t
-        → StandsBehind kind counts other []
-        → Makes form (array (trees_of (kept (keeps kind other) (t ∷ [])))) result }
-    ensures errors { IfErr result IsMakingError }
+    ensures made { (form : Form) (other : List Tree) (t : Tree) → StandsFor form item.now t → Fits t
+        → CountsBehind kind counts other []
+        → Makes form (array (trees_of (select_occurrences (keeps kind other) (t ∷ [])))) result }
+    ensures errors { IfErr result (IsDecodingError or OutOfMemory or TooLarge) }
 {
     let mut builder = ArrayBuilder::new(alloc);
     push_kept(alloc, kind, &mut counts, &mut builder, item)?;
@@ -127,9 +128,9 @@ fn kept_of_document(
     bytes: &[u8],
 ) -> Result<OwnedJsonb, Error>
     ensures made { (form : Form) (other : List Tree) (t : Tree) → Decodes form bytes.now t
-        → StandsBehind kind counts other []
-        → Makes form (array (trees_of (kept (keeps kind other) (as_elements t)))) result }
-    ensures errors { IfErr result IsMakingError }
+        → CountsBehind kind counts other []
+        → Makes form (array (trees_of (select_occurrences (keeps kind other) (as_elements t)))) result }
+    ensures errors { IfErr result (IsDecodingError or OutOfMemory or TooLarge) }
 {
     match elements(bytes)? {
         Some(found) => kept_elements(alloc, kind, counts, found),
@@ -140,8 +141,8 @@ fn kept_of_document(
 /// Counts the keys of the elements.
 fn count_elements(alloc: Global, found: ElementIter<'_>) -> Result<KeyCounts, Error>
     ensures counts { (form : Form) (ts : Trees) → HasElementsLeft form found.entry ts
-        → length (elements_of ts) < 2 ^ 63 → Answers result (λ m. CountsKeys m (elements_of ts)) }
-    ensures errors { IfErr result IsReadingError }
+        → length (elements_of ts) < 2 ^ 63 → MatchResult result (λ m. CountsKeys m (elements_of ts)) IsOutOfMemory }
+    ensures errors { IfErr result (IsDecodingError or OutOfMemory) }
 {
     let mut counts = KeyCounts::new(alloc);
     for item in found {
@@ -152,9 +153,9 @@ fn count_elements(alloc: Global, found: ElementIter<'_>) -> Result<KeyCounts, Er
 
 /// Counts the key of an item.
 fn count_item(alloc: Global, item: &Item<'_>) -> Result<KeyCounts, Error>
-    ensures counts { (form : Form) (t : Tree) → Stands form item.now t
-        → Answers result (λ m. CountsKeys m (t ∷ [])) }
-    ensures errors { IfErr result IsReadingError }
+    ensures counts { (form : Form) (t : Tree) → StandsFor form item.now t
+        → MatchResult result (λ m. CountsKeys m (t ∷ [])) IsOutOfMemory }
+    ensures errors { IfErr result (IsDecodingError or OutOfMemory) }
 {
     let mut counts = KeyCounts::new(alloc);
     counts.add(item_key(alloc, item)?)?;
@@ -164,9 +165,9 @@ fn count_item(alloc: Global, item: &Item<'_>) -> Result<KeyCounts, Error>
 /// Counts the keys of a document's elements, where a root that is no array counts as one.
 fn count_document(alloc: Global, bytes: &[u8]) -> Result<KeyCounts, Error>
     ensures counts { (form : Form) (t : Tree) → Decodes form bytes.now t
-        → Answers result (λ m. CountsKeys m (as_elements t)) }
+        → MatchResult result (λ m. CountsKeys m (as_elements t)) IsOutOfMemory }
     ensures fit { (form : Form) (t : Tree) → Decodes form bytes.now t → AllByRecursion Fits (as_elements t) }
-    ensures errors { IfErr result IsReadingError }
+    ensures errors { IfErr result (IsDecodingError or OutOfMemory) }
 {
     match elements(bytes)? {
         Some(found) => count_elements(alloc, found),
@@ -177,7 +178,7 @@ fn count_document(alloc: Global, bytes: &[u8]) -> Result<KeyCounts, Error>
 /// Whether an element equals the item by value.
 fn has_element(found: ElementIter<'_>, item: &Item<'_>) -> Result<bool, Error>
     ensures has { (form other_form : Form) (ts : Trees) (t : Tree) → HasElementsLeft form found.entry ts
-        → Stands other_form item.now t → IsOkAnd result (λ b. b ≡ list_any (is_equal t) (elements_of ts)) }
+        → StandsFor other_form item.now t → IsOkAnd result (λ b. b ≡ list_any (is_equal t) (elements_of ts)) }
     ensures errors { IfErr result IsDecodingError }
 {
     for element in found {
@@ -191,7 +192,7 @@ fn has_element(found: ElementIter<'_>, item: &Item<'_>) -> Result<bool, Error>
 /// Whether an element of the document equals the item by value, where a root that is no array counts as one.
 fn document_has(bytes: &[u8], item: &Item<'_>) -> Result<bool, Error>
     ensures has { (form other_form : Form) (t u : Tree) → Decodes form bytes.now u
-        → Stands other_form item.now t → IsOkAnd result (λ b. b ≡ list_any (is_equal t) (as_elements u)) }
+        → StandsFor other_form item.now t → IsOkAnd result (λ b. b ≡ list_any (is_equal t) (as_elements u)) }
     ensures errors { IfErr result IsDecodingError }
 {
     match elements(bytes)? {
@@ -254,7 +255,7 @@ impl RawJsonb<'_> {
     pub fn array_distinct(&self, alloc: Global) -> Result<OwnedJsonb, Error>
         ensures distinct { (form : Form) (t : Tree) → Decodes form (raw_bytes self.now) t
             → Makes form (array (trees_of (distinct (as_elements t)))) result }
-        ensures errors { IfErr result IsMakingError }
+        ensures errors { IfErr result (IsDecodingError or OutOfMemory or TooLarge) }
     {
         kept_of_document(alloc, Kept::First, KeyCounts::new(alloc), self.as_bytes())
     }
@@ -272,8 +273,8 @@ impl RawJsonb<'_> {
     ) -> Result<OwnedJsonb, Error>
         ensures shared { (form other_form : Form) (t u : Tree) → Decodes form (raw_bytes self.now) t
             → Decodes other_form (raw_bytes other.now) u
-            → Makes form (array (trees_of (shared (as_elements t) (as_elements u)))) result }
-        ensures errors { IfErr result IsMakingError }
+            → Makes form (array (trees_of (intersection_of (as_elements t) (as_elements u)))) result }
+        ensures errors { IfErr result (IsDecodingError or OutOfMemory or TooLarge) }
     {
         let counts = count_document(alloc, other.as_bytes())?;
         kept_of_document(alloc, Kept::Shared, counts, self.as_bytes())
@@ -286,8 +287,8 @@ impl RawJsonb<'_> {
     pub fn array_except(&self, alloc: Global, other: &RawJsonb<'_>) -> Result<OwnedJsonb, Error>
         ensures unshared { (form other_form : Form) (t u : Tree) → Decodes form (raw_bytes self.now) t
             → Decodes other_form (raw_bytes other.now) u
-            → Makes form (array (trees_of (unshared (as_elements t) (as_elements u)))) result }
-        ensures errors { IfErr result IsMakingError }
+            → Makes form (array (trees_of (difference_of (as_elements t) (as_elements u)))) result }
+        ensures errors { IfErr result (IsDecodingError or OutOfMemory or TooLarge) }
     {
         let counts = count_document(alloc, other.as_bytes())?;
         kept_of_document(alloc, Kept::Unshared, counts, self.as_bytes())

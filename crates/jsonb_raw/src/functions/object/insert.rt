@@ -2,13 +2,14 @@
 
 ghost use Rattle.std.specs.Prelude.{◌≡◌, ℕ, ◌+◌, ◌^◌, ◌<◌, ◌≤◌, List, ◌++◌, length, IfErr, OnOk, IfSome, IsOkAnd, IsSomeAnd};
 ghost use Rattle.jsonb_doc.specs.Tree.{Tree, Pairs, object, keys as key_list, members, pairs_of};
-ghost use Rattle.jsonb_doc.specs.Payload.{Form, reading};
+ghost use Rattle.jsonb_doc.specs.Payload.{Form, number_reader};
 ghost use Rattle.jsonb_doc.specs.Format.{Decodes, IsContent, entry_word};
 ghost use Rattle.jsonb_doc.specs.Encoding.{EntryParts};
 ghost use Rattle.jsonb_doc.specs.ObjectBuilder.{insert_pair};
-ghost use Rattle.jsonb_doc.specs.View.{IsDecodingError};
-ghost use Rattle.jsonb_raw.specs.Documents.{Makes, IsMakingError};
-ghost use Rattle.jsonb_raw.specs.Inserts.{IsPairPlace, IsPlaceAmong, IsCutAt, AreBytesOf, AreKept, word_row, content_row};
+ghost use Rattle.jsonb_raw.specs.Documents.{Makes};
+ghost use Rattle.jsonb_doc.specs.Answer.{◌or◌, IsDecodingError};
+ghost use Rattle.jsonb_doc.specs.declared.error.Error.TheVariants.{OutOfMemory, TooLarge};
+ghost use Rattle.jsonb_raw.specs.Private.Inserts.{IsPairPlace, IsPlaceAmong, IsCutAt, AreBytesOf, AreKept, word_row, content_row};
 
 use super::pair_parts::{Entries, KeptEntries, PairPlace, RootEntry};
 use crate::functions::entry_words::contents_len;
@@ -62,7 +63,8 @@ fn split_entries(entries: Entries<'_>, count: usize) -> Option<(Entries<'_>, Ent
 
 /// The entries of an object that stay where a pair goes to this place.
 fn kept_entries(object: &[u8], place: PairPlace) -> Option<KeptEntries<'_>>
-    ensures { (before key between value behind : List EntryParts) → IsCutAt object.now place before key between value behind
+    ensures { (before key between value behind : List EntryParts)
+        → IsCutAt object.now place before key between value behind
         → IsSomeAnd result (λ kept. AreKept kept before between behind) }
 {
     let (header, rest) = object.split_first_chunk::<WORD>()?;
@@ -99,7 +101,7 @@ fn scalar_entry(document: &[u8]) -> Option<RootEntry<'_>>
 /// The entry that the root of a document becomes within another, as it is stored.
 fn root_entry(document: &[u8]) -> Result<RootEntry<'_>, Error>
     ensures entry { (form : Form) (t : Tree) → Decodes form document.now t
-        → IsOkAnd result (λ entry. IsContent (reading form) t entry.kind entry.content.now) }
+        → IsOkAnd result (λ entry. IsContent (number_reader form) t entry.kind entry.content.now) }
     ensures errors { IfErr result IsDecodingError }
 {
     match root_item(document)? {
@@ -169,9 +171,11 @@ pub fn object_with_pair(
     key: &str,
     value: &[u8],
 ) -> Result<OwnedJsonb, Error>
-    ensures inserted { (form : Form) (ps : Pairs) (t : Tree) → Decodes form bytes.now (object ps) → Decodes form value.now t
-        → IsPlaceAmong place key.now (key_list ps) → Makes form (object (pairs_of (insert_pair key.now t (members ps)))) result }
-    ensures errors { IfErr result IsMakingError }
+    ensures inserted { (form : Form) (ps : Pairs) (t : Tree) → Decodes form bytes.now (object ps)
+        → Decodes form value.now t
+        → IsPlaceAmong place key.now (key_list ps)
+        → Makes form (object (pairs_of (insert_pair key.now t (members ps)))) result }
+    ensures errors { IfErr result (IsDecodingError or OutOfMemory or TooLarge) }
 {
     let value = root_entry(value)?;
     let Some(kept) = kept_entries(bytes, place) else {

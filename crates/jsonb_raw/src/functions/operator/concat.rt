@@ -1,13 +1,14 @@
 //! Two documents put together.
 
-ghost use Rattle.std.specs.Prelude.{◌++◌, List, IfErr};
+ghost use Rattle.std.specs.Prelude.{◌++◌, List, IfErr, MatchResult};
 ghost use Rattle.jsonb_doc.specs.Tree.{Tree, Trees, Pairs, array, object, elements, trees_of, members, pairs_of};
 ghost use Rattle.jsonb_doc.specs.Payload.{Form};
 ghost use Rattle.jsonb_doc.specs.Format.{Decodes};
-ghost use Rattle.jsonb_doc.specs.Item.{Stands};
-ghost use Rattle.jsonb_doc.specs.Answer.{Builds};
+ghost use Rattle.jsonb_doc.specs.Item.{StandsFor};
+ghost use Rattle.jsonb_doc.specs.Answer.{IsOutOfMemoryOrTooLarge, IsDecodingError, ◌or◌};
+ghost use Rattle.jsonb_doc.specs.declared.error.Error.TheVariants.{OutOfMemory, TooLarge};
 ghost use Rattle.jsonb_doc.specs.ArrayBuilder.{HoldsElements};
-ghost use Rattle.jsonb_raw.specs.Documents.{raw_bytes, Makes, IsMakingError};
+ghost use Rattle.jsonb_raw.specs.Documents.{raw_bytes, Makes};
 ghost use Rattle.jsonb_raw.specs.Arrays.{as_elements};
 ghost use Rattle.jsonb_raw.specs.Concat.{concat, merged};
 
@@ -30,7 +31,7 @@ impl RawJsonb<'_> {
         ensures document { (form : Form) (tree other_tree : Tree)
             → Decodes form (raw_bytes self.now) tree → Decodes form (raw_bytes other.now) other_tree
             → Makes form (concat tree other_tree) result }
-        ensures errors { IfErr result IsMakingError }
+        ensures errors { IfErr result (IsDecodingError or OutOfMemory or TooLarge) }
     {
         let item = root_item(self.as_bytes())?;
         let other = root_item(other.as_bytes())?;
@@ -40,9 +41,10 @@ impl RawJsonb<'_> {
 
 /// The document of two items together.
 fn joined_items(alloc: Global, item: &Item<'_>, other: &Item<'_>) -> Result<Vec<u8>, Error>
-    ensures document { (form : Form) (t u : Tree) → Stands form item.now t → Stands form other.now u
-        → Builds form (concat t u) result (λ made. Decodes form made.items (concat t u)) }
-    ensures errors { IfErr result IsMakingError }
+    ensures document { (form : Form) (t u : Tree) → StandsFor form item.now t → StandsFor form other.now u
+        → MatchResult result (λ made. Decodes form made.items (concat t u))
+        (IsOutOfMemoryOrTooLarge form (concat t u)) }
+    ensures errors { IfErr result (IsDecodingError or OutOfMemory or TooLarge) }
 {
     match (item, other) {
         (Item::Object(bytes), Item::Object(others)) => joined_objects(alloc, bytes, others),
@@ -54,9 +56,10 @@ fn joined_items(alloc: Global, item: &Item<'_>, other: &Item<'_>) -> Result<Vec<
 fn joined_objects(alloc: Global, bytes: &[u8], others: &[u8]) -> Result<Vec<u8>, Error>
     ensures document { (form : Form) (ps qs : Pairs)
         → Decodes form bytes.now (object ps) → Decodes form others.now (object qs)
-        → Builds form (object (pairs_of (merged (members ps) (members qs)))) result
-        (λ made. Decodes form made.items (object (pairs_of (merged (members ps) (members qs))))) }
-    ensures errors { IfErr result IsMakingError }
+        → MatchResult result
+        (λ made. Decodes form made.items (object (pairs_of (merged (members ps) (members qs)))))
+        (IsOutOfMemoryOrTooLarge form (object (pairs_of (merged (members ps) (members qs))))) }
+    ensures errors { IfErr result (IsDecodingError or OutOfMemory or TooLarge) }
 {
     let first = object_pairs(bytes)?;
     let second = object_pairs(others)?;
@@ -70,10 +73,11 @@ fn joined_objects(alloc: Global, bytes: &[u8], others: &[u8]) -> Result<Vec<u8>,
 
 /// The document of the array of two items' parts.
 fn joined_arrays(alloc: Global, item: &Item<'_>, other: &Item<'_>) -> Result<Vec<u8>, Error>
-    ensures document { (form : Form) (t u : Tree) → Stands form item.now t → Stands form other.now u
-        → Builds form (array (trees_of (as_elements t ++ as_elements u))) result
-        (λ made. Decodes form made.items (array (trees_of (as_elements t ++ as_elements u)))) }
-    ensures errors { IfErr result IsMakingError }
+    ensures document { (form : Form) (t u : Tree) → StandsFor form item.now t → StandsFor form other.now u
+        → MatchResult result
+        (λ made. Decodes form made.items (array (trees_of (as_elements t ++ as_elements u))))
+        (IsOutOfMemoryOrTooLarge form (array (trees_of (as_elements t ++ as_elements u)))) }
+    ensures errors { IfErr result (IsDecodingError or OutOfMemory or TooLarge) }
 {
     let mut builder = ArrayBuilder::new(alloc);
     push_parts(&mut builder, item)?;
@@ -84,10 +88,11 @@ fn joined_arrays(alloc: Global, item: &Item<'_>, other: &Item<'_>) -> Result<Vec
 /// Adds the elements of an array, or another item as one element.
 fn push_parts(builder: &mut ArrayBuilder, item: &Item<'_>) -> Result<(), Error>
     ensures pushed { (form : Form) (held : List Tree) (t : Tree) → HoldsElements form builder.old held
-        → Stands form item.now t
-        → Builds form (array (trees_of (held ++ as_elements t))) result
-        (λ _. HoldsElements form builder.new (held ++ as_elements t)) }
-    ensures errors { IfErr result IsMakingError }
+        → StandsFor form item.now t
+        → MatchResult result
+        (λ _. HoldsElements form builder.new (held ++ as_elements t))
+        (IsOutOfMemoryOrTooLarge form (array (trees_of (held ++ as_elements t)))) }
+    ensures errors { IfErr result (IsDecodingError or OutOfMemory or TooLarge) }
 {
     match item {
         Item::Array(bytes) => push_elements(builder, bytes),
@@ -99,9 +104,10 @@ fn push_parts(builder: &mut ArrayBuilder, item: &Item<'_>) -> Result<(), Error>
 fn push_elements(builder: &mut ArrayBuilder, bytes: &[u8]) -> Result<(), Error>
     ensures pushed { (form : Form) (held : List Tree) (ts : Trees) → HoldsElements form builder.old held
         → Decodes form bytes.now (array ts)
-        → Builds form (array (trees_of (held ++ elements ts))) result
-        (λ _. HoldsElements form builder.new (held ++ elements ts)) }
-    ensures errors { IfErr result IsMakingError }
+        → MatchResult result
+        (λ _. HoldsElements form builder.new (held ++ elements ts))
+        (IsOutOfMemoryOrTooLarge form (array (trees_of (held ++ elements ts)))) }
+    ensures errors { IfErr result (IsDecodingError or OutOfMemory or TooLarge) }
 {
     let found = array_elements(bytes)?;
     for item in found {

@@ -27,11 +27,12 @@ impl<'a> MergedPairs<'a> {
     ghost use Rattle.jsonb_doc.specs.Payload.{Form};
     ghost use Rattle.jsonb_doc.specs.ObjectPairs.{HasPairsLeft};
     ghost use Rattle.jsonb_raw.specs.Concat.{merged};
-    ghost use Rattle.jsonb_raw.specs.MergedPairs.{HasMergedLeft, HasFailedAsDamaged};
+    ghost use Rattle.jsonb_raw.specs.Private.MergedPairs.{HasMergedLeft, HasFailedAsDamaged};
 
     /// The pairs that are left of both.
     pub fn new(first: PairIter<'a>, second: PairIter<'a>) -> MergedPairs<'a>
-        ensures pairs { (form : Form) (ps qs : Pairs) → HasPairsLeft form first.entry ps → HasPairsLeft form second.entry qs
+        ensures pairs { (form : Form) (ps qs : Pairs) → HasPairsLeft form first.entry ps
+            → HasPairsLeft form second.entry qs
             → HasMergedLeft form result (merged (members ps) (members qs)) }
         ensures errors { HasFailedAsDamaged result }
     {
@@ -50,7 +51,7 @@ impl<'a> MergedPairs<'a> {
 
 impl<'a> Iterator for MergedPairs<'a> {
     ghost use Rattle.std.specs.Iterator.{at_most};
-    ghost use Rattle.jsonb_raw.specs.MergedPairs.{GivesMerged, merged_bound};
+    ghost use Rattle.jsonb_raw.specs.Private.MergedPairs.{GivesMerged, merged_bound};
 
     type Item = Result<(&'a str, Item<'a>), Error>;
 

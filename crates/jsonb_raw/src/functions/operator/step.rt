@@ -3,10 +3,9 @@
 ghost use Rattle.std.specs.Prelude.{Some, IsOkAnd, IfOk, IfSome, IfErr, ◌≤◌, length};
 ghost use Rattle.jsonb_doc.specs.Tree.{Pairs, value_under};
 ghost use Rattle.jsonb_doc.specs.Payload.{Form};
-ghost use Rattle.jsonb_doc.specs.Stored.{HasPairEntriesLeft, Stores, entries_room};
-ghost use Rattle.jsonb_doc.specs.Answer.{SameOption};
-ghost use Rattle.jsonb_doc.specs.View.{IsDecodingError};
-ghost use Rattle.jsonb_raw.specs.PairSteps.{pairs_above};
+ghost use Rattle.jsonb_doc.specs.Private.Stored.{HasPairEntriesLeft, Stores, entries_room};
+ghost use Rattle.jsonb_doc.specs.Answer.{SameOption, IsDecodingError};
+ghost use Rattle.jsonb_raw.specs.Private.PairSteps.{pairs_above};
 
 use jsonb_doc::{Error, PairEntryIter, StoredEntry};
 use std::cmp::Ordering;
@@ -20,7 +19,8 @@ pub fn take_entry<'a>(
         → IsOkAnd result (λ found. SameOption (Stores form) found (value_under key.now ps)) }
     ensures above { (form : Form) (ps : Pairs) → HasPairEntriesLeft form left.old ps
         → IfOk result (λ found. IfSome found (λ _. HasPairEntriesLeft form left.new (pairs_above key.now ps))) }
-    ensures size { IfOk result (λ found. IfSome found (λ entry. length entry.content.now ≤ entries_room left.old.values)) }
+    ensures size { IfOk result
+        (λ found. IfSome found (λ entry. length entry.content.now ≤ entries_room left.old.values)) }
     ensures room { entries_room left.new.values ≤ entries_room left.old.values }
     ensures errors { IfErr result IsDecodingError }
 {

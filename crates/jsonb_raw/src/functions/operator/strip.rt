@@ -1,12 +1,13 @@
 //! Documents without the nulls of their objects.
 
-ghost use Rattle.std.specs.Prelude.{IfErr};
+ghost use Rattle.std.specs.Prelude.{IfErr, MatchResult};
 ghost use Rattle.jsonb_doc.specs.Tree.{Tree};
 ghost use Rattle.jsonb_doc.specs.Payload.{Form};
 ghost use Rattle.jsonb_doc.specs.Format.{Decodes};
-ghost use Rattle.jsonb_doc.specs.Item.{Stands};
-ghost use Rattle.jsonb_doc.specs.Answer.{Builds};
-ghost use Rattle.jsonb_raw.specs.Documents.{raw_bytes, Makes, IsMakingError};
+ghost use Rattle.jsonb_doc.specs.Item.{StandsFor};
+ghost use Rattle.jsonb_doc.specs.Answer.{IsOutOfMemoryOrTooLarge, IsDecodingError, ◌or◌};
+ghost use Rattle.jsonb_doc.specs.declared.error.Error.TheVariants.{OutOfMemory, TooLarge};
+ghost use Rattle.jsonb_raw.specs.Documents.{raw_bytes, Makes};
 ghost use Rattle.jsonb_raw.specs.Strip.{strip};
 
 use super::stripping::strip_container;
@@ -24,7 +25,7 @@ impl RawJsonb<'_> {
     pub fn strip_nulls(&self, alloc: Global) -> Result<OwnedJsonb, Error>
         ensures document { (form : Form) (tree : Tree) → Decodes form (raw_bytes self.now) tree
             → Makes form (strip tree) result }
-        ensures errors { IfErr result IsMakingError }
+        ensures errors { IfErr result (IsDecodingError or OutOfMemory or TooLarge) }
     {
         let item = root_item(self.as_bytes())?;
         Ok(OwnedJsonb::new(stripped_item(alloc, &item)?))
@@ -33,9 +34,9 @@ impl RawJsonb<'_> {
 
 /// The document of a stripped item.
 fn stripped_item(alloc: Global, item: &Item<'_>) -> Result<Vec<u8>, Error>
-    ensures document { (form : Form) (t : Tree) → Stands form item.now t
-        → Builds form (strip t) result (λ made. Decodes form made.items (strip t)) }
-    ensures errors { IfErr result IsMakingError }
+    ensures document { (form : Form) (t : Tree) → StandsFor form item.now t
+        → MatchResult result (λ made. Decodes form made.items (strip t)) (IsOutOfMemoryOrTooLarge form (strip t)) }
+    ensures errors { IfErr result (IsDecodingError or OutOfMemory or TooLarge) }
 {
     match item {
         Item::Array(bytes) => strip_container(alloc, bytes),

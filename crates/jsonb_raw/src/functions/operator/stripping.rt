@@ -1,14 +1,14 @@
 //! Containers written again without the nulls of their objects, into one buffer, in which each byte is written once.
 
-ghost use Rattle.std.specs.Prelude.{◌≡◌, ℕ, ◌+◌, ◌*◌, ◌^◌, ◌<◌, ◌≤◌, true, List, ◌∷◌, ◌++◌, length, IfOk, IfSome, IfErr};
+ghost use Rattle.std.specs.Prelude.{◌≡◌, ℕ, ◌+◌, ◌*◌, ◌^◌, ◌<◌, ◌≤◌, true, List, ◌∷◌, ◌++◌, length, IfOk, IfSome, IfErr, MatchResult};
 ghost use Rattle.jsonb_doc.specs.Tree.{Tree, array, object, Trees, Pairs, count, keys};
-ghost use Rattle.jsonb_doc.specs.Payload.{Form, reading};
+ghost use Rattle.jsonb_doc.specs.Payload.{Form, number_reader};
 ghost use Rattle.jsonb_doc.specs.Format.{IsContent, container_entry, AreKeys, key_bytes};
 ghost use Rattle.jsonb_doc.specs.Encoding.{EntryParts};
-ghost use Rattle.jsonb_doc.specs.ObjectBuilder.{kept_words, kept_contents};
-ghost use Rattle.jsonb_doc.specs.Answer.{Answers};
-ghost use Rattle.jsonb_raw.specs.Cuts.{AreWithin};
-ghost use Rattle.jsonb_raw.specs.Documents.{IsReadingError};
+ghost use Rattle.jsonb_doc.specs.ObjectBuilder.{words_of_entries, contents_of_entries};
+ghost use Rattle.jsonb_doc.specs.Answer.{IsOutOfMemory, IsDecodingError, ◌or◌};
+ghost use Rattle.jsonb_doc.specs.declared.error.Error.TheVariants.{OutOfMemory};
+ghost use Rattle.jsonb_raw.specs.Private.Cuts.{FitEntries};
 ghost use Rattle.jsonb_raw.specs.Strip.{strip};
 ghost use Rattle.jsonb_raw.specs.Stripping.{beside, key_entries, IsAboveLast, ReadsEntry, Begins};
 
@@ -52,15 +52,13 @@ struct Writing<'a> {
 
 /// The first of the entries that are left. Words that no contents are there for are `InvalidJsonb`.
 #[inline(always)]
-fn next_entry<'a>(
-    words: &'a [u8],
-    contents: &'a [u8],
-) -> Result<Option<StoredEntry<'a>>, Error>
-    ensures reads { (es : List EntryParts) → AreWithin es → words.now ≡ kept_words es → contents.now ≡ kept_contents es
+fn next_entry<'a>(words: &'a [u8], contents: &'a [u8]) -> Result<Option<StoredEntry<'a>>, Error>
+    ensures reads { (es : List EntryParts) → FitEntries es → words.now ≡ words_of_entries es
+        → contents.now ≡ contents_of_entries es
         → ReadsEntry es result }
     ensures shorter { IfOk result (λ found. IfSome found (λ given. (length given.words.now + 4 ≡ length words.now)
         × (length given.content.now + length given.contents.now ≡ length contents.now))) }
-    ensures errors { IfErr result IsReadingError }
+    ensures errors { IfErr result (IsDecodingError or OutOfMemory) }
 {
     let Some((word, words)) = words.split_first_chunk::<WORD>() else {
         return Ok(None);
@@ -79,7 +77,8 @@ fn next_entry<'a>(
 
 /// How many of these entry words are no nulls.
 fn count_kept(words: &[u8]) -> usize
-    ensures count { (es : List EntryParts) → AreWithin es → words.now ≡ kept_words es → result ≡ length (beside es es) }
+    ensures count { (es : List EntryParts) → FitEntries es → words.now ≡ words_of_entries es
+        → result ≡ length (beside es es) }
     ensures few { 4 * result ≤ length words.now }
 {
     let mut count = 0;
@@ -95,10 +94,10 @@ fn count_kept(words: &[u8]) -> usize
 
 /// Appends those of these words that stand beside no null.
 fn push_words_kept(out: &mut Vec<u8>, words: &[u8], value_words: &[u8]) -> Result<(), Error>
-    ensures pushed { (es xs : List EntryParts) → AreWithin es → length xs ≡ length es
-        → value_words.now ≡ kept_words es → words.now ≡ kept_words xs
-        → Answers result (λ _. out.new.items ≡ out.old.items ++ kept_words (beside es xs)) }
-    ensures errors { IfErr result IsReadingError }
+    ensures pushed { (es xs : List EntryParts) → FitEntries es → length xs ≡ length es
+        → value_words.now ≡ words_of_entries es → words.now ≡ words_of_entries xs
+        → MatchResult result (λ _. out.new.items ≡ out.old.items ++ words_of_entries (beside es xs)) IsOutOfMemory }
+    ensures errors { IfErr result (IsDecodingError or OutOfMemory) }
 {
     let mut words_left = words;
     let mut values_left = value_words;
@@ -136,10 +135,11 @@ fn push_keys_kept(
     keys: &[u8],
     value_words: &[u8],
 ) -> Result<(), Error>
-    ensures pushed { (es : List EntryParts) (ks : List (List ℕ)) → AreWithin es → AreKeys ks → length ks ≡ length es
-        → value_words.now ≡ kept_words es → key_words.now ≡ kept_words (key_entries ks) → keys.now ≡ kept_contents (key_entries ks)
-        → Answers result (λ _. out.new.items ≡ out.old.items ++ key_bytes (beside es ks)) }
-    ensures errors { IfErr result IsReadingError }
+    ensures pushed { (es : List EntryParts) (ks : List (List ℕ)) → FitEntries es → AreKeys ks → length ks ≡ length es
+        → value_words.now ≡ words_of_entries es → key_words.now ≡ words_of_entries (key_entries ks)
+        → keys.now ≡ contents_of_entries (key_entries ks)
+        → MatchResult result (λ _. out.new.items ≡ out.old.items ++ key_bytes (beside es ks)) IsOutOfMemory }
+    ensures errors { IfErr result (IsDecodingError or OutOfMemory) }
 {
     let mut words_left = key_words;
     let mut keys_left = keys;
@@ -170,10 +170,11 @@ fn begin_array<'a>(
     elements: usize,
 ) -> Result<Writing<'a>, Error>
     requires { elements < 2 ^ 29 }
-    ensures begun { (form : Form) (ts : Trees) → IsContent (reading form) (array ts) container_entry container.now → elements ≡ count ts
-        → Answers result (λ w. Begins form (array ts) container.now out.old.items out.new.items w) }
+    ensures begun { (form : Form) (ts : Trees)
+        → IsContent (number_reader form) (array ts) container_entry container.now → elements ≡ count ts
+        → MatchResult result (λ w. Begins form (array ts) container.now out.old.items out.new.items w) IsOutOfMemory }
     ensures room { IfOk result (λ w. length w.words.now + length w.contents.now + 4 ≤ length container.now) }
-    ensures errors { IfErr result IsReadingError }
+    ensures errors { IfErr result (IsDecodingError or OutOfMemory) }
 {
     let Some((front, contents)) = container.split_at_checked(WORD + WORD * elements) else {
         return Err(Error::InvalidJsonb);
@@ -196,11 +197,12 @@ fn begin_object<'a>(
     pairs: usize,
 ) -> Result<Writing<'a>, Error>
     requires { pairs < 2 ^ 29 }
-    ensures begun { (form : Form) (ps : Pairs) → IsContent (reading form) (object ps) container_entry container.now
+    ensures begun { (form : Form) (ps : Pairs)
+        → IsContent (number_reader form) (object ps) container_entry container.now
         → pairs ≡ length (keys ps)
-        → Answers result (λ w. Begins form (object ps) container.now out.old.items out.new.items w) }
+        → MatchResult result (λ w. Begins form (object ps) container.now out.old.items out.new.items w) IsOutOfMemory }
     ensures room { IfOk result (λ w. length w.words.now + length w.contents.now + 4 ≤ length container.now) }
-    ensures errors { IfErr result IsReadingError }
+    ensures errors { IfErr result (IsDecodingError or OutOfMemory) }
 {
     let len = WORD * pairs;
     let Some((all_words, behind)) = container.split_at_checked(WORD + 2 * len) else {
@@ -229,10 +231,10 @@ fn begin_object<'a>(
 
 /// Begins a container.
 fn begin<'a>(out: &mut Vec<u8>, container: &'a [u8]) -> Result<Writing<'a>, Error>
-    ensures begun { (form : Form) (t : Tree) → IsContent (reading form) t container_entry container.now
-        → Answers result (λ w. Begins form t container.now out.old.items out.new.items w) }
+    ensures begun { (form : Form) (t : Tree) → IsContent (number_reader form) t container_entry container.now
+        → MatchResult result (λ w. Begins form t container.now out.old.items out.new.items w) IsOutOfMemory }
     ensures room { IfOk result (λ w. length w.words.now + length w.contents.now + 4 ≤ length container.now) }
-    ensures errors { IfErr result IsReadingError }
+    ensures errors { IfErr result (IsDecodingError or OutOfMemory) }
 {
     let Some((word, _)) = container.split_first_chunk::<WORD>() else {
         return Err(Error::InvalidJsonb);
@@ -248,9 +250,10 @@ fn begin<'a>(out: &mut Vec<u8>, container: &'a [u8]) -> Result<Writing<'a>, Erro
 
 /// A container without the nulls of its objects. What is left of the containers that the walk is within lies in a `Vec`.
 pub fn strip_container(alloc: Global, container: &[u8]) -> Result<Vec<u8>, Error>
-    ensures stripped { (form : Form) (t : Tree) → IsContent (reading form) t container_entry container.now
-        → Answers result (λ made. IsContent (reading form) (strip t) container_entry made.items) }
-    ensures errors { IfErr result IsReadingError }
+    ensures stripped { (form : Form) (t : Tree) → IsContent (number_reader form) t container_entry container.now
+        → MatchResult result (λ made. IsContent (number_reader form)
+        (strip t) container_entry made.items) IsOutOfMemory }
+    ensures errors { IfErr result (IsDecodingError or OutOfMemory) }
 {
     let mut out = Vec::with_capacity(alloc, container.len())?;
     let mut inner = begin(&mut out, container)?;

@@ -4,8 +4,8 @@ ghost use Rattle.std.specs.Prelude.{◌≡◌, ◌<◌, length, IsOkAnd, IfOk, I
 ghost use Rattle.jsonb_doc.specs.Tree.{Tree, Trees, Pairs, array, object};
 ghost use Rattle.jsonb_doc.specs.Payload.{Form};
 ghost use Rattle.jsonb_doc.specs.Format.{Decodes};
-ghost use Rattle.jsonb_doc.specs.Item.{Stands, item_size};
-ghost use Rattle.jsonb_doc.specs.View.{IsDecodingError};
+ghost use Rattle.jsonb_doc.specs.Item.{StandsFor, item_size};
+ghost use Rattle.jsonb_doc.specs.Answer.{IsDecodingError};
 ghost use Rattle.jsonb_raw.specs.Documents.{raw_bytes};
 ghost use Rattle.jsonb_raw.specs.Texts.{texts, texts_of_trees, texts_of_pairs, Tells, LeavesTexts};
 
@@ -45,7 +45,7 @@ struct Told<'a> {
 #[cycle(texts)]
 fn item_tells<F: Fn(&[u8]) -> bool>(item: &Item<'_>, func: &F) -> Result<bool, Error>
     requires { F.IsAlwaysCallable func.now }
-    ensures told { (form : Form) (tree : Tree) → Stands form item.now tree
+    ensures told { (form : Form) (tree : Tree) → StandsFor form item.now tree
         → IsOkAnd result (λ answer. Tells F.Fn func.now (texts tree) answer) }
     ensures errors { IfErr result IsDecodingError }
 {
@@ -66,7 +66,7 @@ fn item_tells<F: Fn(&[u8]) -> bool>(item: &Item<'_>, func: &F) -> Result<bool, E
 #[cycle(texts)]
 fn part_tells<'a, F: Fn(&[u8]) -> bool>(item: &Item<'a>, func: &F) -> Result<Told<'a>, Error>
     requires { F.IsAlwaysCallable func.now }
-    ensures told { (form : Form) (tree : Tree) → Stands form item.now tree
+    ensures told { (form : Form) (tree : Tree) → StandsFor form item.now tree
         → IsOkAnd result (λ told. LeavesTexts F.Fn func.now form (texts tree) told.answer told.large) }
     ensures size { IfOk result (λ told. IfSome told.large (λ large. item_size large < item_size item.now)) }
     ensures errors { IfErr result IsDecodingError }

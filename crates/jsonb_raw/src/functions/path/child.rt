@@ -2,17 +2,17 @@
 //!
 //! On bytes that don't decode each call returns; which answer or refusal it gives is not fixed.
 
-ghost use Rattle.std.specs.Prelude.{◌≡◌, not, None, Ok, filter, length, IfErr};
+ghost use Rattle.std.specs.Prelude.{◌≡◌, not, None, Ok, filter, length, IfErr, MatchResult, MatchOption, Err};
 ghost use Rattle.std.specs.List.{remove};
 ghost use Rattle.std.specs.Str.{bytes_eq};
 ghost use Rattle.jsonb_doc.specs.Tree.{Tree, Trees, Pairs, array, object, elements as element_list, members, trees_of, pairs_of};
 ghost use Rattle.jsonb_doc.specs.Payload.{Form};
 ghost use Rattle.jsonb_doc.specs.Format.{Decodes};
-ghost use Rattle.jsonb_doc.specs.Item.{Stands};
-ghost use Rattle.jsonb_doc.specs.Answer.{Answers};
+ghost use Rattle.jsonb_doc.specs.Item.{StandsFor};
+ghost use Rattle.jsonb_doc.specs.Answer.{IsOutOfMemory, IsDecodingError, ◌or◌};
+ghost use Rattle.jsonb_doc.specs.declared.error.Error.TheVariants.{OutOfMemory, TooLarge, InvalidJsonType};
 ghost use Rattle.jsonb_doc.specs.Elements.{HasElementsLeft};
-ghost use Rattle.jsonb_raw.specs.Documents.{raw_bytes, Makes, MakesOption, IsMakingError};
-ghost use Rattle.jsonb_raw.specs.Making.{MakesOr, IsMakingErrorOr};
+ghost use Rattle.jsonb_raw.specs.Documents.{raw_bytes, Makes, MakesOption};
 ghost use Rattle.jsonb_raw.specs.Places.{index_position};
 ghost use Rattle.jsonb_raw.specs.Children.{element_at, field_ignoring_case, named_child, without_index, without_name};
 ghost use Rattle.jsonb_raw.specs.Exists.{is_text};
@@ -37,7 +37,7 @@ impl RawJsonb<'_> {
             → MakesOption form (element_at index t) result }
         ensures none { (form : Form) (t : Tree) → Decodes form (raw_bytes self.now) t → element_at index t ≡ None
             → result ≡ Ok None }
-        ensures errors { IfErr result IsMakingError }
+        ensures errors { IfErr result (IsDecodingError or OutOfMemory or TooLarge) }
     {
         let bytes = self.as_bytes();
         let Item::Array(_) = root_item(bytes)? else {
@@ -66,7 +66,7 @@ impl RawJsonb<'_> {
             → MakesOption form (named_child name.now ignore_case t) result }
         ensures none { (form : Form) (t : Tree) → Decodes form (raw_bytes self.now) t
             → named_child name.now ignore_case t ≡ None → result ≡ Ok None }
-        ensures errors { IfErr result IsMakingError }
+        ensures errors { IfErr result (IsDecodingError or OutOfMemory or TooLarge) }
     {
         let bytes = self.as_bytes();
         let root = root_spot(bytes)?;
@@ -88,11 +88,11 @@ impl RawJsonb<'_> {
     /// refused.
     pub fn delete_by_index(&self, alloc: Global, index: i32) -> Result<OwnedJsonb, Error>
         ensures deleted { (form : Form) (t : Tree) → Decodes form (raw_bytes self.now) t
-            → MakesOr Error.InvalidJsonType form (without_index index t) result }
+            → MatchOption (without_index index t) (result ≡ Err InvalidJsonType) (λ wanted. Makes form wanted result) }
         ensures unchanged { (form : Form) (ts : Trees) → Decodes form (raw_bytes self.now) (array ts)
             → index_position (length (element_list ts)) index ≡ None
-            → Answers result (λ made. made ≡ raw_bytes self.now) }
-        ensures errors { IfErr result (IsMakingErrorOr Error.InvalidJsonType) }
+            → MatchResult result (λ made. made ≡ raw_bytes self.now) IsOutOfMemory }
+        ensures errors { IfErr result (IsDecodingError or OutOfMemory or TooLarge or InvalidJsonType) }
     {
         let bytes = self.as_bytes();
         let Some(elements) = elements(bytes)? else {
@@ -110,8 +110,9 @@ impl RawJsonb<'_> {
     /// `TooLarge` only where the answer passes the limits of a document, and `OutOfMemory` where memory is refused.
     pub fn delete_by_name(&self, alloc: Global, name: &str) -> Result<OwnedJsonb, Error>
         ensures deleted { (form : Form) (t : Tree) → Decodes form (raw_bytes self.now) t
-            → MakesOr Error.InvalidJsonType form (without_name name.now t) result }
-        ensures errors { IfErr result (IsMakingErrorOr Error.InvalidJsonType) }
+            → MatchOption (without_name name.now t) (result ≡ Err InvalidJsonType)
+            (λ wanted. Makes form wanted result) }
+        ensures errors { IfErr result (IsDecodingError or OutOfMemory or TooLarge or InvalidJsonType) }
     {
         match root_item(self.as_bytes())? {
             Item::Array(bytes) => array_without_text(alloc, bytes, name),
@@ -127,7 +128,7 @@ fn value_ignoring_case(alloc: Global, bytes: &[u8], name: &str) -> Result<Option
         → MakesOption form (field_ignoring_case name.now t) result }
     ensures none { (form : Form) (t : Tree) → Decodes form bytes.now t → field_ignoring_case name.now t ≡ None
         → result ≡ Ok None }
-    ensures errors { IfErr result IsMakingError }
+    ensures errors { IfErr result (IsDecodingError or OutOfMemory or TooLarge) }
 {
     let Some(pairs) = pairs(bytes)? else {
         return Ok(None);
@@ -164,7 +165,7 @@ fn array_without_element(
 ) -> Result<OwnedJsonb, Error>
     ensures deleted { (form : Form) (ts : Trees) → HasElementsLeft form elements.entry ts
         → Makes form (array (trees_of (remove (element_list ts) position))) result }
-    ensures errors { IfErr result IsMakingError }
+    ensures errors { IfErr result (IsDecodingError or OutOfMemory or TooLarge) }
 {
     let mut left = elements;
     let mut builder = ArrayBuilder::new(alloc);
@@ -179,7 +180,7 @@ fn array_without_element(
 
 /// Whether the item is this text.
 fn is_text(item: &Item<'_>, name: &str) -> bool
-    ensures { (form : Form) (t : Tree) → Stands form item.now t → result ≡ is_text name.now t }
+    ensures { (form : Form) (t : Tree) → StandsFor form item.now t → result ≡ is_text name.now t }
 {
     match item {
         Item::String(text) => *text == name,
@@ -191,7 +192,7 @@ fn is_text(item: &Item<'_>, name: &str) -> bool
 fn array_without_text(alloc: Global, bytes: &[u8], name: &str) -> Result<OwnedJsonb, Error>
     ensures deleted { (form : Form) (ts : Trees) → Decodes form bytes.now (array ts)
         → Makes form (array (trees_of (filter (λ t. not (is_text name.now t)) (element_list ts)))) result }
-    ensures errors { IfErr result IsMakingError }
+    ensures errors { IfErr result (IsDecodingError or OutOfMemory or TooLarge) }
 {
     let elements = array_elements(bytes)?;
     let mut builder = ArrayBuilder::new(alloc);
@@ -208,7 +209,7 @@ fn array_without_text(alloc: Global, bytes: &[u8], name: &str) -> Result<OwnedJs
 fn object_without_key(alloc: Global, bytes: &[u8], name: &str) -> Result<OwnedJsonb, Error>
     ensures deleted { (form : Form) (ps : Pairs) → Decodes form bytes.now (object ps)
         → Makes form (object (pairs_of (filter (λ p. not (bytes_eq p.0 name.now)) (members ps)))) result }
-    ensures errors { IfErr result IsMakingError }
+    ensures errors { IfErr result (IsDecodingError or OutOfMemory or TooLarge) }
 {
     let pairs = object_pairs(bytes)?;
     let mut builder = ObjectBuilder::new(alloc);

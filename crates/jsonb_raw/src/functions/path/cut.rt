@@ -1,17 +1,17 @@
 //! Containers as bytes, with the entries of a child left out.
 
-ghost use Rattle.std.specs.Prelude.{◌≡◌, ℕ, ◌+◌, ◌*◌, ◌^◌, ◌<◌, ◌≤◌, List, ◌∷◌, ◌++◌, length, take, drop, IsSomeAnd, IsOkAnd, IfErr, Some, None, slice_get, slice_range};
+ghost use Rattle.std.specs.Prelude.{◌≡◌, ℕ, ◌+◌, ◌*◌, ◌^◌, ◌<◌, ◌≤◌, List, ◌∷◌, ◌++◌, length, take, drop, IsSomeAnd, IsOkAnd, IfErr, Some, None, slice_get, slice_range, MatchResult};
 ghost use Rattle.std.specs.Int.{w32, to_be_bytes};
 ghost use Rattle.jsonb_doc.specs.Tree.{Tree};
-ghost use Rattle.jsonb_doc.specs.Payload.{Form, reading};
+ghost use Rattle.jsonb_doc.specs.Payload.{Form, number_reader};
 ghost use Rattle.jsonb_doc.specs.Format.{IsContent, container_entry, entry_word};
 ghost use Rattle.jsonb_doc.specs.Encoding.{EntryParts};
-ghost use Rattle.jsonb_doc.specs.ObjectBuilder.{kept_words, kept_contents};
-ghost use Rattle.jsonb_doc.specs.Answer.{Answers};
-ghost use Rattle.jsonb_raw.specs.Documents.{IsReadingError};
+ghost use Rattle.jsonb_doc.specs.ObjectBuilder.{words_of_entries, contents_of_entries};
+ghost use Rattle.jsonb_doc.specs.Answer.{IsOutOfMemory, IsDecodingError, ◌or◌};
+ghost use Rattle.jsonb_doc.specs.declared.error.Error.TheVariants.{OutOfMemory};
 ghost use Rattle.jsonb_raw.specs.Places.{children, tree_at};
-ghost use Rattle.jsonb_raw.specs.Deletes.{take_out};
-ghost use Rattle.jsonb_raw.specs.Cuts.{AreWithin, HoldEntries, IsPlaceOf, AreInOrder, AreOfChild, around, without_child, IsPushed};
+ghost use Rattle.jsonb_raw.specs.Deletes.{remove_at};
+ghost use Rattle.jsonb_raw.specs.Private.Cuts.{FitEntries, HoldEntries, IsPlaceOf, AreInOrder, AreOfChild, around, without_child, IsPushed};
 
 use super::entry_place::{ChildEntries, EntryPlace};
 use crate::functions::entry_words::contents_len;
@@ -23,7 +23,8 @@ fn entry_place(container: &[u8], total: usize, passed: usize) -> Option<EntryPla
     requires total { total < 2 ^ 30 }
     requires passed { passed < total }
     ensures { (front back : List EntryParts) (e : EntryParts) → HoldEntries container.now (front ++ e ∷ back)
-        → total ≡ length (front ++ e ∷ back) → passed ≡ length front → IsSomeAnd result (λ place. IsPlaceOf place total front e) }
+        → total ≡ length (front ++ e ∷ back) → passed ≡ length front
+        → IsSomeAnd result (λ place. IsPlaceOf place total front e) }
 {
     let words = container.get(WORD..WORD + WORD * total)?;
     let (before, behind) = words.split_at_checked(WORD * passed)?;
@@ -38,9 +39,9 @@ fn entry_place(container: &[u8], total: usize, passed: usize) -> Option<EntryPla
 
 /// The entries of the child at a position.
 fn child_entries(container: &[u8], position: usize) -> Option<ChildEntries>
-    ensures { (form : Form) (t child : Tree) → IsContent (reading form) t container_entry container.now
+    ensures { (form : Form) (t child : Tree) → IsContent (number_reader form) t container_entry container.now
         → slice_get (children t) position ≡ Some child
-        → IsSomeAnd result (λ entries. AreOfChild (reading form) container.now t position child entries) }
+        → IsSomeAnd result (λ entries. AreOfChild (number_reader form) container.now t position child entries) }
 {
     let (word, _) = container.split_first_chunk::<WORD>()?;
     let header = u32::from_be_bytes(*word);
@@ -66,8 +67,8 @@ fn child_entries(container: &[u8], position: usize) -> Option<ChildEntries>
 /// Puts a part of these bytes at the end. A part that they don't have is `InvalidJsonb`.
 fn push_part(out: &mut Vec<u8>, bytes: &[u8], start: usize, end: usize) -> Result<(), Error>
     ensures pushed { start ≤ end → end ≤ length bytes.now
-        → Answers result (λ _. out.new.items ≡ out.old.items ++ slice_range bytes.now start end) }
-    ensures errors { IfErr result IsReadingError }
+        → MatchResult result (λ _. out.new.items ≡ out.old.items ++ slice_range bytes.now start end) IsOutOfMemory }
+    ensures errors { IfErr result (IsDecodingError or OutOfMemory) }
 {
     let Some(part) = bytes.get(start..end) else {
         return Err(Error::InvalidJsonb);
@@ -79,8 +80,8 @@ fn push_part(out: &mut Vec<u8>, bytes: &[u8], start: usize, end: usize) -> Resul
 /// Puts the parts around an element's entry at the end.
 fn push_around_element(out: &mut Vec<u8>, array: &[u8], value: EntryPlace) -> Result<(), Error>
     ensures pushed { AreInOrder None value (length array.now)
-        → Answers result (λ _. out.new.items ≡ out.old.items ++ around array.now None value) }
-    ensures errors { IfErr result IsReadingError }
+        → MatchResult result (λ _. out.new.items ≡ out.old.items ++ around array.now None value) IsOutOfMemory }
+    ensures errors { IfErr result (IsDecodingError or OutOfMemory) }
 {
     push_part(out, array, WORD, value.word)?;
     push_part(out, array, value.word + WORD, value.start)?;
@@ -95,8 +96,8 @@ fn push_around_pair(
     value: EntryPlace,
 ) -> Result<(), Error>
     ensures pushed { AreInOrder (Some key) value (length object.now)
-        → Answers result (λ _. out.new.items ≡ out.old.items ++ around object.now (Some key) value) }
-    ensures errors { IfErr result IsReadingError }
+        → MatchResult result (λ _. out.new.items ≡ out.old.items ++ around object.now (Some key) value) IsOutOfMemory }
+    ensures errors { IfErr result (IsDecodingError or OutOfMemory) }
 {
     push_part(out, object, WORD, key.word)?;
     push_part(out, object, key.word + WORD, value.word)?;
@@ -112,8 +113,9 @@ fn push_without_child(
     entries: &ChildEntries,
 ) -> Result<(), Error>
     ensures pushed { AreInOrder entries.now.key entries.now.value (length container.now)
-        → Answers result (λ _. out.new.items ≡ out.old.items ++ without_child container.now entries.now) }
-    ensures errors { IfErr result IsReadingError }
+        → MatchResult result (λ _. out.new.items
+        ≡ out.old.items ++ without_child container.now entries.now) IsOutOfMemory }
+    ensures errors { IfErr result (IsDecodingError or OutOfMemory) }
 {
     out.extend_from_slice(&entries.header.to_be_bytes())?;
     match entries.key {
@@ -134,8 +136,9 @@ fn set_word(out: &mut Vec<u8>, at: usize, word: u32)
 pub fn set_container_word(out: &mut Vec<u8>, word: usize, start: usize) -> Result<(), Error>
     ensures set { (front old between content : List ℕ) → out.old.items ≡ front ++ (old ++ (between ++ content))
         → length old ≡ 4 → word ≡ length front → start ≡ length front + 4 + length between → length content < 2 ^ 28
-        → IsOkAnd result (λ _. out.new.items ≡ front ++ (entry_word container_entry (length content) ++ (between ++ content))) }
-    ensures errors { IfErr result IsReadingError }
+        → IsOkAnd result (λ _. out.new.items
+        ≡ front ++ (entry_word container_entry (length content) ++ (between ++ content))) }
+    ensures errors { IfErr result (IsDecodingError or OutOfMemory) }
 {
     let end = out.len();
     if start > end || end - start >= LENGTHS as usize || end < WORD || word > end - WORD {
@@ -147,10 +150,11 @@ pub fn set_container_word(out: &mut Vec<u8>, word: usize, start: usize) -> Resul
 
 /// Puts a container without the place of these positions at the end.
 pub fn push_without(out: &mut Vec<u8>, container: &[u8], positions: &[usize]) -> Result<(), Error>
-    ensures pushed { (form : Form) (t end left : Tree) → IsContent (reading form) t container_entry container.now
-        → tree_at positions.now t ≡ Some end → take_out positions.now t ≡ Some left
-        → Answers result (λ _. IsPushed (reading form) left (length container.now) out.old.items out.new.items) }
-    ensures errors { IfErr result IsReadingError }
+    ensures pushed { (form : Form) (t end left : Tree) → IsContent (number_reader form) t container_entry container.now
+        → tree_at positions.now t ≡ Some end → remove_at positions.now t ≡ Some left
+        → MatchResult result (λ _. IsPushed (number_reader form) left
+        (length container.now) out.old.items out.new.items) IsOutOfMemory }
+    ensures errors { IfErr result (IsDecodingError or OutOfMemory) }
 {
     let Some((first, others)) = positions.split_first() else {
         return Err(Error::InvalidJsonb);

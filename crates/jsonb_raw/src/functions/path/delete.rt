@@ -1,22 +1,23 @@
 //! A document without the place that steps meet.
 
-ghost use Rattle.std.specs.Prelude.{◌≡◌, List, length, position as first_position, not, IsTrue, IsOkAnd, IsErrOf, IfErr, ◌⊎◌};
+ghost use Rattle.std.specs.Prelude.{◌≡◌, List, length, position as first_position, not, IsTrue, IsOkAnd, IsErrOf, IfErr, ◌⊎◌, MatchResult};
 ghost use Rattle.std.specs.Iterator.{IsFinite};
 ghost use Rattle.std.specs.Fmt.{signed_decimal};
 ghost use Rattle.std.specs.Str.{bytes_eq};
 ghost use Rattle.jsonb_doc.specs.Tree.{Tree, Trees, Pairs, array, object, elements, keys};
 ghost use Rattle.jsonb_doc.specs.Payload.{Form, any};
 ghost use Rattle.jsonb_doc.specs.Format.{Decodes};
-ghost use Rattle.jsonb_doc.specs.Item.{Stands};
-ghost use Rattle.jsonb_doc.specs.Answer.{Answers, SameOption};
-ghost use Rattle.jsonb_doc.specs.Spots.{Marks};
-ghost use Rattle.jsonb_doc.specs.View.{IsDecodingError};
+ghost use Rattle.jsonb_doc.specs.Item.{StandsFor};
+ghost use Rattle.jsonb_doc.specs.Answer.{SameOption, IsOutOfMemory, ◌or◌, IsDecodingError};
+ghost use Rattle.jsonb_doc.specs.declared.error.Error.TheVariants.{OutOfMemory, InvalidJsonType};
+ghost use Rattle.jsonb_doc.specs.Spots.{Locates};
 ghost use Rattle.jsonb_keypath.specs.declared.key_path.KeyPath.{KeyPath};
 ghost use Rattle.jsonb_keypath.specs.KeyPathViews.{key_view, keys_view};
-ghost use Rattle.jsonb_raw.specs.Documents.{raw_bytes, IsReadingError};
-ghost use Rattle.jsonb_raw.specs.Deletes.{without, MeetNoPart, is_json_scalar};
-ghost use Rattle.jsonb_raw.specs.Iterators.{TellsWhatIsLeft};
-ghost use Rattle.jsonb_raw.specs.Places.{index_position, child_position, place};
+ghost use Rattle.jsonb_raw.specs.Documents.{raw_bytes};
+ghost use Rattle.jsonb_raw.specs.Deletes.{without, MeetNoPart};
+ghost use Rattle.jsonb_raw.specs.Scalars.{is_json_scalar};
+ghost use Rattle.jsonb_raw.specs.Iterators.{YieldsItemsLeft};
+ghost use Rattle.jsonb_raw.specs.Places.{index_position, child_position, location};
 
 use super::child::index_position;
 use super::cut::push_without;
@@ -59,8 +60,9 @@ fn key_position(bytes: &[u8], name: &str) -> Result<Option<usize>, Error>
 /// The position of the key of an object that is an index in decimal.
 fn decimal_position(alloc: Global, bytes: &[u8], index: i32) -> Result<Option<usize>, Error>
     ensures position { (form : Form) (ps : Pairs) → Decodes form bytes.now (object ps)
-        → Answers result (λ found. found ≡ first_position (λ key. bytes_eq key (signed_decimal index)) (keys ps)) }
-    ensures errors { IfErr result IsReadingError }
+        → MatchResult result (λ found. found
+        ≡ first_position (λ key. bytes_eq key (signed_decimal index)) (keys ps)) IsOutOfMemory }
+    ensures errors { IfErr result (IsDecodingError or OutOfMemory) }
 {
     let key = format!(in alloc; "{index}")?;
     key_position(bytes, key.as_str())
@@ -73,9 +75,9 @@ fn position_met(
     spot: Spot,
     step: &KeyPath<'_>,
 ) -> Result<Option<usize>, Error>
-    ensures position { (t : Tree) → Marks bytes.now spot t
-        → Answers result (λ found. found ≡ child_position (key_view step.now) t) }
-    ensures errors { IfErr result IsReadingError }
+    ensures position { (t : Tree) → Locates bytes.now spot t
+        → MatchResult result (λ found. found ≡ child_position (key_view step.now) t) IsOutOfMemory }
+    ensures errors { IfErr result (IsDecodingError or OutOfMemory) }
 {
     match (spot_item(bytes, spot)?, step) {
         (Item::Array(array), KeyPath::Index(index)) => element_position(array, *index),
@@ -94,10 +96,11 @@ fn place_met<'k, I: Iterator<Item = &'k KeyPath<'k>> + Drop>(
 ) -> Result<Option<Vec<usize>>, Error>
     requires can { I.can_next steps }
     requires ends { IsFinite (I.remaining steps) }
-    ensures place { (left : I → List KeyPath) → TellsWhatIsLeft I.next_gives left
+    ensures place { (left : I → List KeyPath) → YieldsItemsLeft I.next_gives left
         → (t : Tree) → Decodes any bytes.now t
-        → Answers result (λ found. SameOption (λ positions ns. positions.items ≡ ns) found (place (keys_view (left steps)) t)) }
-    ensures errors { IfErr result IsReadingError }
+        → MatchResult result (λ found. SameOption (λ positions ns. positions.items ≡ ns) found
+        (location (keys_view (left steps)) t)) IsOutOfMemory }
+    ensures errors { IfErr result (IsDecodingError or OutOfMemory) }
 {
     let mut spot = root_spot(bytes)?;
     let mut positions = Vec::new(alloc);
@@ -116,14 +119,14 @@ fn place_met<'k, I: Iterator<Item = &'k KeyPath<'k>> + Drop>(
 
 /// Whether an item is null, a boolean, a number or a string.
 fn is_json_scalar(item: &Item<'_>) -> bool
-    ensures { (form : Form) (t : Tree) → Stands form item.now t → result ≡ is_json_scalar t }
+    ensures { (form : Form) (t : Tree) → StandsFor form item.now t → result ≡ is_json_scalar t }
 {
     !matches!(item, Item::Array(_) | Item::Object(_) | Item::Extension(_))
 }
 
 /// The same bytes in memory of their own.
 fn copied(alloc: Global, bytes: &[u8]) -> Result<OwnedJsonb, Error>
-    ensures same { Answers result (λ made. made ≡ bytes.now) }
+    ensures same { MatchResult result (λ made. made ≡ bytes.now) IsOutOfMemory }
 {
     Ok(OwnedJsonb::new(Vec::from_slice(alloc, bytes)?))
 }
@@ -145,13 +148,14 @@ impl RawJsonb<'_> {
         requires ends { IsFinite (I.remaining steps) }
         ensures scalar { (form : Form) (t : Tree) → Decodes form (raw_bytes self.now) t → IsTrue (is_json_scalar t)
             → IsErrOf result Error.InvalidJsonType }
-        ensures without { (left : I → List KeyPath) → TellsWhatIsLeft I.next_gives left
+        ensures without { (left : I → List KeyPath) → YieldsItemsLeft I.next_gives left
             → (form : Form) (t : Tree) → Decodes form (raw_bytes self.now) t → IsTrue (not (is_json_scalar t))
-            → Answers result (λ made. Decodes form made (without (keys_view (left steps)) t)) }
-        ensures same { (left : I → List KeyPath) → TellsWhatIsLeft I.next_gives left
+            → MatchResult result (λ made. Decodes form made (without (keys_view (left steps)) t)) IsOutOfMemory }
+        ensures same { (left : I → List KeyPath) → YieldsItemsLeft I.next_gives left
             → (form : Form) (t : Tree) → Decodes form (raw_bytes self.now) t → IsTrue (not (is_json_scalar t))
-            → MeetNoPart (keys_view (left steps)) t → Answers result (λ made. made ≡ raw_bytes self.now) }
-        ensures errors { IfErr result (λ e. IsReadingError e ⊎ (e ≡ Error.InvalidJsonType)) }
+            → MeetNoPart (keys_view (left steps)) t
+            → MatchResult result (λ made. made ≡ raw_bytes self.now) IsOutOfMemory }
+        ensures errors { IfErr result (IsDecodingError or OutOfMemory or InvalidJsonType) }
     {
         let bytes = self.as_bytes();
         if is_json_scalar(&root_item(bytes)?) {

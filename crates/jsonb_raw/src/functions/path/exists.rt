@@ -7,12 +7,12 @@ ghost use Rattle.std.specs.Str.{bytes_eq};
 ghost use Rattle.jsonb_doc.specs.Tree.{Tree, Trees, array, elements};
 ghost use Rattle.jsonb_doc.specs.Payload.{Form};
 ghost use Rattle.jsonb_doc.specs.Format.{Decodes, AreKeys};
-ghost use Rattle.jsonb_doc.specs.Stored.{HasEntriesLeft, key_trees};
-ghost use Rattle.jsonb_doc.specs.View.{IsDecodingError};
+ghost use Rattle.jsonb_doc.specs.Private.Stored.{HasEntriesLeft, key_trees};
+ghost use Rattle.jsonb_doc.specs.Answer.{IsDecodingError};
 ghost use Rattle.jsonb_raw.specs.Documents.{raw_bytes};
 ghost use Rattle.jsonb_raw.specs.Exists.{is_text, has_text, has_all, has_any};
 ghost use Rattle.jsonb_raw.specs.Cursors.{IsCursorOf, IsPassed, HoldsTexts};
-ghost use Rattle.jsonb_raw.specs.Iterators.{TellsWhatIsLeft};
+ghost use Rattle.jsonb_raw.specs.Iterators.{YieldsItemsLeft};
 
 use crate::raw::RawJsonb;
 use jsonb_doc::{EntryIter, Error, Item, elements, object_entries, root_item};
@@ -31,7 +31,8 @@ pub(crate) struct KeyCursor<'a> {
 
 impl<'a> KeyCursor<'a> {
     fn new(keys: EntryIter<'a>) -> KeyCursor<'a>
-        ensures { (form : Form) (ks : List (List ℕ)) → AreKeys ks → HasEntriesLeft form keys.entry (key_trees ks) → IsCursorOf form result ks }
+        ensures { (form : Form) (ks : List (List ℕ)) → AreKeys ks → HasEntriesLeft form keys.entry (key_trees ks)
+            → IsCursorOf form result ks }
     {
         KeyCursor {
             all: keys,
@@ -42,7 +43,8 @@ impl<'a> KeyCursor<'a> {
 
     /// Goes back to the front, unless the key that was passed last is below the name.
     fn rewind(&mut self, name: &[u8])
-        ensures cursor { (form : Form) (ks : List (List ℕ)) → IsCursorOf form self.old ks → IsCursorOf form self.new ks }
+        ensures cursor { (form : Form) (ks : List (List ℕ)) → IsCursorOf form self.old ks
+            → IsCursorOf form self.new ks }
         ensures passed { IsPassed self.new.passed name.now }
     {
         let Some(passed) = self.passed else {
@@ -59,7 +61,8 @@ impl<'a> KeyCursor<'a> {
     fn has(&mut self, name: &[u8]) -> Result<bool, Error>
         ensures has { (form : Form) (ks : List (List ℕ)) → IsCursorOf form self.old ks
             → IsOkAnd result (λ b. b ≡ list_any (λ key. bytes_eq key name.now) ks) }
-        ensures cursor { (form : Form) (ks : List (List ℕ)) → IsCursorOf form self.old ks → IfOk result (λ _. IsCursorOf form self.new ks) }
+        ensures cursor { (form : Form) (ks : List (List ℕ)) → IsCursorOf form self.old ks
+            → IfOk result (λ _. IsCursorOf form self.new ks) }
         ensures errors { IfErr result IsDecodingError }
     {
         self.rewind(name);
@@ -111,7 +114,8 @@ pub(crate) enum Texts<'a> {
 
 /// The texts of a document.
 fn document_texts(bytes: &[u8]) -> Result<Texts<'_>, Error>
-    ensures texts { (form : Form) (t : Tree) → Decodes form bytes.now t → IsOkAnd result (λ texts. HoldsTexts form texts t) }
+    ensures texts { (form : Form) (t : Tree) → Decodes form bytes.now t
+        → IsOkAnd result (λ texts. HoldsTexts form texts t) }
     ensures errors { IfErr result IsDecodingError }
 {
     match root_item(bytes)? {
@@ -124,8 +128,10 @@ fn document_texts(bytes: &[u8]) -> Result<Texts<'_>, Error>
 
 /// Whether this text is one of them.
 fn texts_have(texts: &mut Texts<'_>, name: &str) -> Result<bool, Error>
-    ensures has { (form : Form) (t : Tree) → HoldsTexts form texts.old t → IsOkAnd result (λ b. b ≡ has_text name.now t) }
-    ensures texts { (form : Form) (t : Tree) → HoldsTexts form texts.old t → IfOk result (λ _. HoldsTexts form texts.new t) }
+    ensures has { (form : Form) (t : Tree) → HoldsTexts form texts.old t
+        → IsOkAnd result (λ b. b ≡ has_text name.now t) }
+    ensures texts { (form : Form) (t : Tree) → HoldsTexts form texts.old t
+        → IfOk result (λ _. HoldsTexts form texts.new t) }
     ensures errors { IfErr result IsDecodingError }
 {
     match texts {
@@ -147,7 +153,7 @@ impl RawJsonb<'_> {
     ) -> Result<bool, Error>
         requires can { I.can_next names }
         requires ends { IsFinite (I.remaining names) }
-        ensures all { (left : I → List (List ℕ)) → TellsWhatIsLeft I.next_gives left
+        ensures all { (left : I → List (List ℕ)) → YieldsItemsLeft I.next_gives left
             → (form : Form) (t : Tree) → Decodes form (raw_bytes self.now) t
             → IsOkAnd result (λ b. b ≡ has_all (left names) t) }
         ensures errors { IfErr result IsDecodingError }
@@ -171,7 +177,7 @@ impl RawJsonb<'_> {
     ) -> Result<bool, Error>
         requires can { I.can_next names }
         requires ends { IsFinite (I.remaining names) }
-        ensures any { (left : I → List (List ℕ)) → TellsWhatIsLeft I.next_gives left
+        ensures any { (left : I → List (List ℕ)) → YieldsItemsLeft I.next_gives left
             → (form : Form) (t : Tree) → Decodes form (raw_bytes self.now) t
             → IsOkAnd result (λ b. b ≡ has_any (left names) t) }
         ensures errors { IfErr result IsDecodingError }

@@ -1,19 +1,19 @@
 //! The leaves of a document, with their key paths.
 
-ghost use Rattle.std.specs.Prelude.{◌≡◌, ◌<◌, ◌^◌, ◌++◌, [], ◌∷◌, IsOkAnd, IfOk, IfSome, IfErr};
+ghost use Rattle.std.specs.Prelude.{◌≡◌, ◌<◌, ◌^◌, ◌++◌, [], ◌∷◌, IsOkAnd, IfOk, IfSome, IfErr, MatchResult};
 ghost use Rattle.jsonb_doc.specs.Tree.{Tree};
 ghost use Rattle.jsonb_doc.specs.Payload.{Form};
 ghost use Rattle.jsonb_doc.specs.Format.{Decodes};
-ghost use Rattle.jsonb_doc.specs.Item.{Stands, item_size};
-ghost use Rattle.jsonb_doc.specs.Answer.{Answers};
+ghost use Rattle.jsonb_doc.specs.Item.{StandsFor, item_size};
+ghost use Rattle.jsonb_doc.specs.Answer.{IsOutOfMemory, ◌or◌, IsDecodingError};
+ghost use Rattle.jsonb_doc.specs.declared.error.Error.TheVariants.{OutOfMemory};
 ghost use Rattle.jsonb_doc.specs.Value.{value_tree, value_parts};
-ghost use Rattle.jsonb_doc.specs.View.{IsDecodingError};
 ghost use Rattle.jsonb_doc.specs.declared.value.Value.{Value};
 ghost use Rattle.jsonb_keypath.specs.KeyPathViews.{key_view, key_paths_view};
-ghost use Rattle.jsonb_raw.specs.Documents.{raw_bytes, IsReadingError};
+ghost use Rattle.jsonb_raw.specs.Documents.{raw_bytes};
 ghost use Rattle.jsonb_raw.specs.Leaves.{leaves};
 ghost use Rattle.jsonb_raw.specs.LeafViews.{leaves_seen, SeesDecoded, IsEntered, step_at, steps_into};
-ghost use Rattle.jsonb_raw.specs.Levels.{level_room, level_bound};
+ghost use Rattle.jsonb_raw.specs.Private.Levels.{level_room, level_bound};
 
 use crate::level::Level;
 use crate::raw::RawJsonb;
@@ -51,7 +51,8 @@ fn path_to<'a>(
     key: Option<&'a str>,
     index: u32,
 ) -> Result<KeyPaths<'a>, Error>
-    ensures { Answers result (λ path. key_paths_view path ≡ steps_into around.now.items ++ step_at key.entry index ∷ []) }
+    ensures { MatchResult result
+        (λ path. key_paths_view path ≡ steps_into around.now.items ++ step_at key.entry index ∷ []) IsOutOfMemory }
 {
     let mut paths = Vec::with_capacity(alloc, around.len() + 1)?;
     for entered in around {
@@ -64,7 +65,8 @@ fn path_to<'a>(
 /// The parts of an item that is entered. `None` is for a leaf.
 #[inline(always)]
 fn parts_entered<'a>(item: &Item<'a>, ignore_array: bool) -> Result<Option<Level<'a>>, Error>
-    ensures leaf { (form : Form) (t : Tree) → Stands form item.now t → IsOkAnd result (IsEntered form ignore_array t) }
+    ensures leaf { (form : Form) (t : Tree) → StandsFor form item.now t
+        → IsOkAnd result (IsEntered form ignore_array t) }
     ensures room { IfOk result (λ found. IfSome found (λ level. level_room level < item_size item.now)) }
     ensures bound { IfOk result (λ found. IfSome found (λ level. level_bound level < 2 ^ 64)) }
     ensures errors { IfErr result IsDecodingError }
@@ -88,9 +90,9 @@ fn leaves_within<'a>(
     ignore_array: bool,
 ) -> Result<Vec<(KeyPaths<'a>, Value<'a>)>, Error>
     ensures leaves { (seen : Value → Tree) → SeesDecoded seen
-        → (form : Form) (t : Tree) → Stands form item.now t
-        → Answers result (λ found. leaves_seen seen found.items ≡ leaves ignore_array t) }
-    ensures errors { IfErr result IsReadingError }
+        → (form : Form) (t : Tree) → StandsFor form item.now t
+        → MatchResult result (λ found. leaves_seen seen found.items ≡ leaves ignore_array t) IsOutOfMemory }
+    ensures errors { IfErr result (IsDecodingError or OutOfMemory) }
 {
     let mut found = Vec::new(alloc);
     let Some(first) = parts_entered(item, ignore_array)? else {
@@ -139,12 +141,12 @@ impl<'a> RawJsonb<'a> {
         ignore_array: bool,
     ) -> Result<Vec<(KeyPaths<'a>, Value<'a>)>, Error>
         ensures leaves { (form : Form) (t : Tree) → Decodes form (raw_bytes self.now) t
-            → Answers result (λ found. leaves_seen value_tree found.items ≡ leaves ignore_array t) }
+            → MatchResult result (λ found. leaves_seen value_tree found.items ≡ leaves ignore_array t) IsOutOfMemory }
 
         // The numbers of the values keep their variants and scales.
         ensures parts { (form : Form) (t : Tree) → Decodes form (raw_bytes self.now) t
             → IfOk result (λ found. leaves_seen value_parts found.items ≡ leaves ignore_array t) }
-        ensures errors { IfErr result IsReadingError }
+        ensures errors { IfErr result (IsDecodingError or OutOfMemory) }
     {
         leaves_within(alloc, &root_item(self.as_bytes())?, ignore_array)
     }

@@ -2,8 +2,8 @@ use Rattle.std.proofs.Common.{rules, ◌≡◌, Some, Ok, Err}
 use Rattle.jsonb.specs.KeyPathGrammar.{key_path}
 use Rattle.jsonb.specs.KeyPathViews.{key_paths_view}
 use Rattle.jsonb.specs.Documents.{raw_bytes}
-use Rattle.jsonb.proofs.Iterated.{iter_tells}
-use Rattle.jsonb_tool.proofs.Shown.{LooksUp, Gets-found, Gets-refused}
+use Rattle.jsonb.proofs.IteratorLemmas.{iter_tells}
+use Rattle.jsonb_tool.proofs.OutputLemmas.{LooksUp, Gets-found, Gets-refused}
 use Rattle.jsonb_tool.proofs.output.get.Goals as goal
 
 pub returns-in_err-found : goal.returns-in_err-found

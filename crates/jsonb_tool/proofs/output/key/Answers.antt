@@ -1,7 +1,7 @@
 use Rattle.std.proofs.Common.{Ok, Err}
 use Rattle.std.proofs.lemmas.Result.{err_from_is_err_and}
 use Rattle.jsonb.specs.Documents.{raw_bytes}
-use Rattle.jsonb_tool.proofs.Shown.{MakesKeyOf, ShowsKeyOf-made, ShowsKeyOf-refused}
+use Rattle.jsonb_tool.proofs.OutputLemmas.{MakesKeyOf, ShowsKeyOf-made, ShowsKeyOf-refused}
 use Rattle.jsonb_tool.proofs.output.key.Goals as goal
 
 pub returns-in_err-key : goal.returns-in_err-key

@@ -2,7 +2,7 @@ use Rattle.std.proofs.Common.{ap, ◌∙◌}
 use Rattle.std.proofs.lemmas.Result.{err_from_is_err_and}
 use Rattle.hex.specs.Hex.{encode_lower}
 use Rattle.jsonb.specs.KeyPathViews.{key_paths_view}
-use Rattle.jsonb.proofs.Iterated.{iter_tells}
+use Rattle.jsonb.proofs.IteratorLemmas.{iter_tells}
 use Rattle.jsonb_tool.proofs.LeafLines.{part_refused, part_given, line_of_part}
 use Rattle.jsonb_tool.proofs.output.leaf_line.Goals as goal
 

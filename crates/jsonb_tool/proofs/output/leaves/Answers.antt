@@ -45,9 +45,11 @@ pub loop-path-preserved : goal.loop-path-preserved
 loop-path-preserved c = λ form t d.
     let d' : Decodes form c.args.document.now t = rw c.in_ok-document.ensures.0 at d in
     let whole = ap (leaves_seen value_tree) c.deref-path-items.ensures.value ∙ c.in_ok-leaves.ensures.leaves form t d in
-    let can = can_be_shown form t _ _ _ (decoded_fits form _ t (λ i. omega (arith, c.type_inv.document i)) d') whole c.loop-path-test.true c.loop-path-item.is in
+    let can = can_be_shown form t _ _ _
+    (decoded_fits form _ t (λ i. omega (arith, c.type_inv.document i)) d') whole c.loop-path-test.true c.loop-path-item.is in
     let here = next_leaf _ _ c.loop-path-item.result c.loop-path-test.true c.loop-path-item.is in
-    rw (c.in_ok-push_str.ensures.bytes, c.as_str.ensures.value) (LinesToward-more form t _ _ (leaf_of c.loop-path-item.result) _ _ _ here refl (c.loop-path.invariant form t d) (c.in_ok-line.ensures form t _ d can.0))
+    rw (c.in_ok-push_str.ensures.bytes, c.as_str.ensures.value)
+    (LinesToward-more form t _ _ (leaf_of c.loop-path-item.result) _ _ _ here refl (c.loop-path.invariant form t d) (c.in_ok-line.ensures form t _ d can.0))
 
 pub returns : goal.returns
 returns c =

@@ -3,7 +3,7 @@ use Rattle.std.proofs.lemmas.Result.{err_from_is_err_and}
 use Rattle.jsonb.specs.PathGrammar.{json_path}
 use Rattle.jsonb.specs.PathViews.{path_view}
 use Rattle.jsonb.specs.Documents.{raw_bytes}
-use Rattle.jsonb_tool.proofs.Selected.{MatchesBy, Matches-found, Matches-refused}
+use Rattle.jsonb_tool.proofs.SelectionLemmas.{MatchesBy, Matches-found, Matches-refused}
 use Rattle.jsonb_tool.proofs.output.path_match.Goals as goal
 
 pub returns-in_err-truth : goal.returns-in_err-truth

@@ -3,7 +3,7 @@ use Rattle.std.proofs.lemmas.Result.{err_from_is_err_and}
 use Rattle.jsonb.specs.PathGrammar.{json_path}
 use Rattle.jsonb.specs.PathViews.{path_view}
 use Rattle.jsonb.specs.Documents.{raw_bytes}
-use Rattle.jsonb_tool.proofs.Selected.{SelectsBy, Selects-found, Selects-refused}
+use Rattle.jsonb_tool.proofs.SelectionLemmas.{SelectsBy, Selects-found, Selects-refused}
 use Rattle.jsonb_tool.proofs.output.select.Goals as goal
 
 pub returns-in_err-found : goal.returns-in_err-found
@@ -19,4 +19,5 @@ returns c =
     let path = path_view c.in_ok-steps.steps in
     let read : json_path c.args.path.now ≡ Some path = rw c.as_bytes.ensures.value at c.in_ok-steps.ensures in
     let selected : SelectsBy path (raw_bytes c.in_ok-document.document) (Ok c.in_ok-found.found) = c.in_ok-found.ensures.values in
-    Selects-found _ _ _ _ _ read c.in_ok-document.ensures.1 (rw c.in_ok-document.ensures.0 at selected) (rw c.deref.ensures.value at c.in_ok-found_lines.ensures)
+    Selects-found _ _ _ _ _ read c.in_ok-document.ensures.1 (rw c.in_ok-document.ensures.0 at selected)
+    (rw c.deref.ensures.value at c.in_ok-found_lines.ensures)

@@ -1,6 +1,6 @@
 use Rattle.std.proofs.Common.{refl, arith}
 use Rattle.std.proofs.Output.{has_written_append, has_written_of_eq}
-use Rattle.jsonb.proofs.Texts.{steps_text-take_more}
+use Rattle.jsonb.proofs.TextLemmas.{steps_text-take_more}
 use Rattle.jsonb.proofs.path.display.+write.Goals as goal
 
 pub write_steps-loop-step-preserved : goal.write_steps-loop-step-preserved

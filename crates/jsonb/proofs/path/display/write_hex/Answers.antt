@@ -1,7 +1,7 @@
 use Rattle.std.proofs.Common.{refl, arith, rules}
 use Rattle.std.proofs.Output.{has_written_append, has_written_of_eq}
 use Rattle.hex.specs.Hex.{encode_with}
-use Rattle.jsonb.proofs.Texts.{encode_lower-take_more}
+use Rattle.jsonb.proofs.TextLemmas.{encode_lower-take_more}
 use Rattle.jsonb.proofs.path.display.write_hex.Goals as goal
 
 pub loop-byte-init : goal.loop-byte-init

@@ -4,7 +4,7 @@ use Rattle.jsonb.specs.PathText.{other_entry_text}
 use Rattle.jsonb.specs.declared.path.ArrayIndex.TheVariants as ArrayIndex
 use Rattle.jsonb.specs.declared.path.Index.TheVariants as Index
 use Rattle.jsonb.specs.PathViews.{entry_view}
-use Rattle.jsonb.proofs.Texts.{text_of_one_more}
+use Rattle.jsonb.proofs.TextLemmas.{text_of_one_more}
 use Rattle.jsonb.proofs.path.display.write_other_indices.Goals as goal
 
 pub loop-index-preserved : goal.loop-index-preserved

@@ -5,8 +5,11 @@ use Rattle.jsonb.proofs.path.position.bounds_between.Goals as goal
 
 pub returns-clause-meant : goal.returns-clause-meant
 returns-clause-meant c k short =
-    let low : (c.first_not_below-start.result ≤ k) ↔ (c.args.first ≤ℤ pos k) = (let h : k < c.args.length → (c.first_not_below-start.result ≤ k) ↔ (c.args.first ≤ℤ pos k) = search rules in h short) in
-    let high : (c.first_above.result ≤ k) ↔ (c.args.last <ℤ pos k) = (let h : k < c.args.length → (c.first_above.result ≤ k) ↔ (c.args.last <ℤ pos k) = search (rules, c.first_above.ensures.splits) in h short) in
+    let low : (c.first_not_below-start.result ≤ k)
+    ↔ (c.args.first ≤ℤ pos k) = (let h : k < c.args.length → (c.first_not_below-start.result ≤ k) ↔ (c.args.first ≤ℤ pos k) = search rules in h short) in
+    let high : (c.first_above.result ≤ k)
+    ↔ (c.args.last <ℤ pos k) =
+    (let h : k < c.args.length → (c.first_above.result ≤ k) ↔ (c.args.last <ℤ pos k) = search (rules, c.first_above.ensures.splits) in h short) in
     let greatest : c.max.result ≡ max c.first_above.result c.first_not_below-start.result = search rules in (
       λ found.
           let early : k < c.first_above.result = omega (arith, found.0, found.1, greatest) in (

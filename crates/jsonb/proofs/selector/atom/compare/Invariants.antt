@@ -1,7 +1,7 @@
 use Rattle.std.proofs.Common.{◌≡◌, ◌++◌, ◌+◌, map, flat_map, drop}
 use Rattle.jsonb.specs.PathViews.{operator_view}
 use Rattle.jsonb.specs.Compare.{compare, first_decisive, pair_truth}
-use Rattle.jsonb.specs.Selection.{atom_value}
+use Rattle.jsonb.specs.Private.Selection.{atom_value}
 use Rattle.jsonb.proofs.selector.atom.compare.Given as goal
 
 -- the pairs that are left decide

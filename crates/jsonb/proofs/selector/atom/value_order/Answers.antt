@@ -1,7 +1,7 @@
 use Rattle.std.proofs.Common.{Some, ap, sym, ◌∙◌}
 use Rattle.jsonb_doc.proofs.EqualValues.{number_cmp-number_view}
 use Rattle.jsonb.specs.Compare.{value_order}
-use Rattle.jsonb.specs.Selection.{atom_value}
+use Rattle.jsonb.specs.Private.Selection.{atom_value}
 use Rattle.jsonb.proofs.selector.atom.value_order.Goals as goal
 
 pub returns-in-Number-Number : goal.returns-in-Number-Number

@@ -2,8 +2,8 @@ use Rattle.std.proofs.Common.{◌≡◌, [], map, refl, inr}
 use Rattle.std.proofs.lemmas.Result.{err_from_is_err_and}
 use Rattle.jsonb_doc.specs.View.{number_view}
 use Rattle.jsonb.specs.Related.{AllRelated}
-use Rattle.jsonb.specs.Selection.{atom_value, value_number}
-use Rattle.jsonb.proofs.Outcomes.{Is, related_of_map}
+use Rattle.jsonb.specs.Private.Selection.{atom_value, value_number}
+use Rattle.jsonb.proofs.GivesLemmas.{Is, related_of_map}
 use Rattle.jsonb.proofs.Progress.{at_start, one_more, refused_in, at_end, list_first, list_end}
 use Rattle.jsonb.proofs.CalculateLemmas.{all_numbers-joined, number_added}
 use Rattle.jsonb.proofs.selector.calculate.all_numbers.Goals as goal

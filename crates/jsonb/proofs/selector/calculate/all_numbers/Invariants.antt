@@ -2,8 +2,8 @@ use Rattle.std.proofs.Common.{◌≡◌, map, drop}
 use Rattle.jsonb_doc.specs.View.{number_view}
 use Rattle.jsonb.specs.PathArithmetic.{all_numbers}
 use Rattle.jsonb.specs.Related.{AllRelated}
-use Rattle.jsonb.specs.Selection.{atom_value, value_number}
-use Rattle.jsonb.proofs.Outcomes.{Is}
+use Rattle.jsonb.specs.Private.Selection.{atom_value, value_number}
+use Rattle.jsonb.proofs.GivesLemmas.{Is}
 use Rattle.jsonb.proofs.Progress.{Progress}
 use Rattle.jsonb.proofs.selector.calculate.all_numbers.Given as goal
 

@@ -4,8 +4,8 @@ use Rattle.jsonb_doc.specs.View.{number_view}
 use Rattle.jsonb.specs.PathArithmetic.{signed_number}
 use Rattle.jsonb.specs.PathViews.{sign_view}
 use Rattle.jsonb.specs.Related.{AllRelated}
-use Rattle.jsonb.specs.Selection.{IsMadeItem}
-use Rattle.jsonb.proofs.Outcomes.{Is, related_of_map}
+use Rattle.jsonb.specs.Private.Selection.{IsMadeItem}
+use Rattle.jsonb.proofs.GivesLemmas.{Is, related_of_map}
 use Rattle.jsonb.proofs.Progress.{at_start, one_more, refused_in, at_end, list_first, list_end}
 use Rattle.jsonb.proofs.CalculateLemmas.{as_memory, part_added}
 use Rattle.jsonb.proofs.selector.calculate.each_signed.Goals as goal
@@ -13,14 +13,16 @@ use Rattle.jsonb.proofs.selector.calculate.each_signed.Goals as goal
 pub loop-number-init : goal.loop-number-init
 loop-number-init c = λ form.
     rw c.new-parts.ensures.items
-    (at_start (signed_number (sign_view c.args.op)) (AllRelated (Is number_view) c.args.numbers.now) (AllRelated (IsMadeItem form) []) (map number_view c.args.numbers.now)
+    (at_start (signed_number (sign_view c.args.op)) (AllRelated (Is number_view) c.args.numbers.now) (AllRelated (IsMadeItem form) [])
+    (map number_view c.args.numbers.now)
     (related_of_map number_view c.args.numbers.now (map number_view c.args.numbers.now) refl) tt)
 
 pub returns-in_err-signed-clause-meant : goal.returns-in_err-signed-clause-meant
 returns-in_err-signed-clause-meant c = λ form.
     let p = err_from_is_err_and c.from_residual.result c.from_residual.ensures.1 in
     rw (p.1, p.2)
-    (refused_in (signed_number (sign_view c.args.op)) (λ v ts. AllRelated (IsMadeItem form) v.items ts) _ _ _ (AllRelated (IsMadeItem form) c.loop-number.parts.items) _ _ _ (c.loop-number.invariant form)
+    (refused_in (signed_number (sign_view c.args.op)) (λ v ts. AllRelated (IsMadeItem form) v.items ts) _ _ _
+    (AllRelated (IsMadeItem form) c.loop-number.parts.items) _ _ _ (c.loop-number.invariant form)
     (list_first (Is number_view) c.args.numbers.now c.loop-number.number-index _ c.loop-number-test.true)
     (λ n before is held. record { ok = tt; err = rw (← is) ((as_memory c.in_err-signed.ensures.meant).err) }))
 
@@ -32,6 +34,7 @@ loop-number-preserved c = λ form.
 
 pub returns-clause-meant : goal.returns-clause-meant
 returns-clause-meant c = λ form. record {
-  ok = at_end (signed_number (sign_view c.args.op)) _ _ _ (c.loop-number.invariant form) (list_end (Is number_view) c.args.numbers.now c.loop-number.number-index c.loop-number-test.false);
+  ok = at_end (signed_number (sign_view c.args.op)) _ _ _ (c.loop-number.invariant form)
+      (list_end (Is number_view) c.args.numbers.now c.loop-number.number-index c.loop-number-test.false);
   err = tt;
 }

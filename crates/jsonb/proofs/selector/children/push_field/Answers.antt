@@ -1,7 +1,7 @@
 use Rattle.std.proofs.Common.{[], ◌∷◌}
-use Rattle.jsonb_doc.specs.Spots.{Marks}
+use Rattle.jsonb_doc.specs.Spots.{Locates}
 use Rattle.jsonb_doc.specs.Tree.{field_of}
-use Rattle.jsonb.proofs.Outcomes.{found_one, pushed}
+use Rattle.jsonb.proofs.GivesLemmas.{found_one, pushed}
 use Rattle.jsonb.proofs.selector.children.push_field.Goals as goal
 
 pub returns-in_err-value-clause-meant : goal.returns-in_err-value-clause-meant
@@ -9,5 +9,7 @@ returns-in_err-value-clause-meant c = λ t before m a. absurd (c.in_err-value.en
 
 pub returns-in-Some-clause-meant : goal.returns-in-Some-clause-meant
 returns-in-Some-clause-meant c = λ t before m a.
-    found_one c.args.mode [] (Marks c.args.bytes.now) (λ u. u ∷ []) c.in-Some.value (field_of c.args.name.now t) (rw c.in-Some.is at (c.in_ok-value.ensures.field t m))
-    (λ u h. pushed (Marks c.args.bytes.now) c.push_spot.result c.args.nodes.now.items c.push_spot.new.nodes.items c.in-Some.value before u c.push_spot.ensures.ok c.push_spot.ensures.err a h)
+    found_one c.args.mode [] (Locates c.args.bytes.now) (λ u. u ∷ []) c.in-Some.value (field_of c.args.name.now t)
+    (rw c.in-Some.is at (c.in_ok-value.ensures.field t m))
+    (λ u h. pushed
+    (Locates c.args.bytes.now) c.push_spot.result c.args.nodes.now.items c.push_spot.new.nodes.items c.in-Some.value before u c.push_spot.ensures.ok c.push_spot.ensures.err a h)

@@ -1,9 +1,9 @@
 use Rattle.std.proofs.Common.{[], Ok, ap, sym, ◌∙◌, refl, subst}
 use Rattle.std.specs.List.{cons_option}
-use Rattle.jsonb_doc.specs.Spots.{Marks, HasSpotsLeft}
+use Rattle.jsonb_doc.specs.Spots.{Locates, HasSpotsLeft}
 use Rattle.jsonb_doc.proofs.SpotsTaken.{no_refusal}
 use Rattle.jsonb.specs.Related.{AllRelated}
-use Rattle.jsonb.proofs.Outcomes.{pushed, unchanged, same_outcome}
+use Rattle.jsonb.proofs.GivesLemmas.{pushed, unchanged, same_outcome}
 use Rattle.jsonb.proofs.Progress.{spot_first, spot_end}
 use Rattle.jsonb.proofs.PickLemmas.{get_first, get_further, get_none}
 use Rattle.jsonb.proofs.selector.children.push_nth.Goals as goal
@@ -24,8 +24,8 @@ returns-then-before-eq0-clause-meant c = λ bytes ts before h a.
     let inv = c.loop-element.invariant.left bytes ts h in
     let k = spot_first bytes c.loop-element.element-iterator c.next.new.self c.in-Some.element _ c.in_ok-element.was c.in-Some.ensures.steps inv.0 inv.1 in
     same_outcome (ap (λ o. Ok (cons_option o [])) (sym inv.2 ∙ get_first inv.0 k.first k.others c.loop-element.before k.whole c.if-before-eq0.true))
-    (pushed (Marks bytes) c.push_spot.result _ c.push_spot.new.nodes.items _ before k.first c.push_spot.ensures.ok c.push_spot.ensures.err
-    (subst (λ l. AllRelated (Marks bytes) l before) (sym c.loop-element.invariant.same) a) k.holds)
+    (pushed (Locates bytes) c.push_spot.result _ c.push_spot.new.nodes.items _ before k.first c.push_spot.ensures.ok c.push_spot.ensures.err
+    (subst (λ l. AllRelated (Locates bytes) l before) (sym c.loop-element.invariant.same) a) k.holds)
 
 pub loop-element-preserved : goal.loop-element-preserved
 loop-element-preserved c = record {
@@ -40,4 +40,5 @@ pub returns-clause-meant : goal.returns-clause-meant
 returns-clause-meant c = λ bytes ts before h a.
     let inv = c.loop-element.invariant.left bytes ts h in
     let none = spot_end bytes c.loop-element.element-iterator c.next.new.self c.in-None.ensures.steps inv.0 inv.1 in
-    same_outcome (ap (λ o. Ok (cons_option o [])) (sym inv.2 ∙ get_none inv.0 c.loop-element.before none)) (unchanged (Marks bytes) c.loop-element.nodes.items before (subst (λ l. AllRelated (Marks bytes) l before) (sym c.loop-element.invariant.same) a))
+    same_outcome (ap (λ o. Ok (cons_option o [])) (sym inv.2 ∙ get_none inv.0 c.loop-element.before none))
+    (unchanged (Locates bytes) c.loop-element.nodes.items before (subst (λ l. AllRelated (Locates bytes) l before) (sym c.loop-element.invariant.same) a))

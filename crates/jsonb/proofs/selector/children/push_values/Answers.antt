@@ -1,7 +1,7 @@
 use Rattle.std.proofs.Common.{[]}
 use Rattle.jsonb_doc.specs.Spots.{HasSpotsLeft}
 use Rattle.jsonb.specs.ItemSteps.{values_of}
-use Rattle.jsonb.proofs.Outcomes.{listed_itself}
+use Rattle.jsonb.proofs.GivesLemmas.{listed_itself}
 use Rattle.jsonb.proofs.selector.children.push_values.Goals as goal
 
 pub returns-in_err-values-clause-meant : goal.returns-in_err-values-clause-meant

@@ -2,10 +2,10 @@ use Rattle.std.proofs.Common.{List, drop}
 use Rattle.jsonb_doc.specs.Format.{Decodes}
 use Rattle.jsonb_doc.specs.Payload.{Form}
 use Rattle.jsonb_doc.specs.Tree.{Tree}
-use Rattle.jsonb_doc.proofs.BuilderSteps.{HoldsFront}
-use Rattle.jsonb.specs.Selection.{Selects}
+use Rattle.jsonb_doc.specs.Private.Builders.{HoldsFront}
+use Rattle.jsonb.specs.Private.Selection.{AreSelected}
 use Rattle.jsonb.proofs.selector.documents.array_document.Given as goal
 
 abbrev pub invariant-loop-position : goal.invariant-loop-position
-invariant-loop-position l = (form : Form) (top : Tree) (ts : List Tree) → Decodes form l.document.bytes.now top → Selects form l.document l.selected ts
+invariant-loop-position l = (form : Form) (top : Tree) (ts : List Tree) → Decodes form l.document.bytes.now top → AreSelected form l.document l.selected ts
     → HoldsFront form l.builder (drop l.position ts) ts

@@ -2,7 +2,7 @@ use Rattle.std.proofs.Common.{◌≡◌, ◌++◌, Ok, List, map, flat_map}
 use Rattle.jsonb_doc.specs.Spots.{HasSpotsLeft}
 use Rattle.jsonb_doc.specs.Tree.{Tree}
 use Rattle.jsonb.specs.Values.{value_of_item}
-use Rattle.jsonb.specs.Selection.{atom_value}
+use Rattle.jsonb.specs.Private.Selection.{atom_value}
 use Rattle.jsonb.proofs.Progress.{Progress}
 use Rattle.jsonb.proofs.selector.values.push_each.Given as goal
 

@@ -1,12 +1,12 @@
 use Rattle.std.proofs.Common.{[], ◌∷◌, Err, sym, ◌∙◌, ap, refl}
 use Rattle.std.proofs.lemmas.Result.{err_from_is_err_and}
-use Rattle.jsonb_doc.specs.Answer.{with_value}
+use Rattle.jsonb_doc.specs.Answer.{and_then}
 use Rattle.jsonb_doc.specs.Tree.{number}
 use Rattle.jsonb_doc.specs.View.{number_view}
 use Rattle.jsonb.specs.PathViews.{expression_view, operator_view, sign_view}
 use Rattle.jsonb.specs.PathArithmetic.{operation, each_signed}
 use Rattle.jsonb.specs.Meaning.{operand_values, truth, truth_list, binary_meaning, calculation}
-use Rattle.jsonb.proofs.Outcomes.{same_outcome, same_answer, refused_as}
+use Rattle.jsonb.proofs.GivesLemmas.{same_outcome, same_answer, refused_as}
 use Rattle.jsonb.proofs.PathNodes.{unary_is, binary_is, exists_is}
 use Rattle.jsonb.proofs.WholeLemmas.{meant, some_of, none_of, is_outcome}
 use Rattle.jsonb.proofs.selector.whole_path.expression_parts.Goals as goal
@@ -14,23 +14,30 @@ use Rattle.jsonb.proofs.selector.whole_path.expression_parts.Goals as goal
 pub returns-in-UnaryOp-clause-meant : goal.returns-in-UnaryOp-clause-meant
 returns-in-UnaryOp-clause-meant c = λ form top outcome r h.
     same_outcome (meant form c.args.mode top outcome _ _ (unary_is c.args.e.now c.in-UnaryOp.op c.in-UnaryOp.operand c.in-UnaryOp.is) h
-    ∙ ap (λ x. with_value (operand_values c.args.mode (expression_view x) top top) (each_signed (sign_view c.in-UnaryOp.op))) (sym c.deref-in-UnaryOp.ensures)) (c.whole_unary.ensures.meant form top r)
+    ∙ ap (λ x. and_then (operand_values c.args.mode (expression_view x) top top) (each_signed (sign_view c.in-UnaryOp.op))) (sym c.deref-in-UnaryOp.ensures))
+    (c.whole_unary.ensures.meant form top r)
 
 pub returns-in_err-number-in-BinaryOp-clause-meant : goal.returns-in_err-number-in-BinaryOp-clause-meant
 returns-in_err-number-in-BinaryOp-clause-meant c = λ form top outcome r h.
     let p = err_from_is_err_and c.from_residual.result c.from_residual.ensures.1 in
     let o = some_of (operation (operator_view c.in-BinaryOp.op)) (sym c.is_arithmetic.ensures ∙ c.if-is_arithmetic.true) in
-    same_answer (p.1 ∙ ap Err p.2) (same_outcome (meant form c.args.mode top outcome _ _ (binary_is c.args.e.now c.in-BinaryOp.op c.in-BinaryOp.left c.in-BinaryOp.right c.in-BinaryOp.is) h
-    ∙ ap (λ x. binary_meaning c.args.mode x (operator_view c.in-BinaryOp.op) (expression_view c.in-BinaryOp.left.value) (expression_view c.in-BinaryOp.right.value) top) o.1
-    ∙ (λ i. calculation o.0 (operand_values c.args.mode (expression_view (sym c.deref-then-is_arithmetic.ensures i)) top top) (operand_values c.args.mode (expression_view (sym c.deref-then-is_arithmetic-2.ensures i)) top top)))
+    same_answer (p.1 ∙ ap Err p.2)
+    (same_outcome (meant form c.args.mode top outcome _ _
+    (binary_is c.args.e.now c.in-BinaryOp.op c.in-BinaryOp.left c.in-BinaryOp.right c.in-BinaryOp.is) h
+    ∙ ap (λ x. binary_meaning c.args.mode x (operator_view c.in-BinaryOp.op) (expression_view c.in-BinaryOp.left.value)
+    (expression_view c.in-BinaryOp.right.value) top) o.1
+    ∙ (λ i. calculation o.0 (operand_values c.args.mode (expression_view (sym c.deref-then-is_arithmetic.ensures i)) top top)
+    (operand_values c.args.mode (expression_view (sym c.deref-then-is_arithmetic-2.ensures i)) top top)))
     (refused_as (c.in_err-number-in-BinaryOp.ensures.meant top o.0 r o.1)))
 
 pub returns-in_ok-number-in-BinaryOp-clause-meant : goal.returns-in_ok-number-in-BinaryOp-clause-meant
 returns-in_ok-number-in-BinaryOp-clause-meant c = λ form top outcome r h.
     let o = some_of (operation (operator_view c.in-BinaryOp.op)) (sym c.is_arithmetic.ensures ∙ c.if-is_arithmetic.true) in
     same_outcome (meant form c.args.mode top outcome _ _ (binary_is c.args.e.now c.in-BinaryOp.op c.in-BinaryOp.left c.in-BinaryOp.right c.in-BinaryOp.is) h
-    ∙ ap (λ x. binary_meaning c.args.mode x (operator_view c.in-BinaryOp.op) (expression_view c.in-BinaryOp.left.value) (expression_view c.in-BinaryOp.right.value) top) o.1
-    ∙ (λ i. calculation o.0 (operand_values c.args.mode (expression_view (sym c.deref-then-is_arithmetic.ensures i)) top top) (operand_values c.args.mode (expression_view (sym c.deref-then-is_arithmetic-2.ensures i)) top top))
+    ∙ ap (λ x. binary_meaning c.args.mode x (operator_view c.in-BinaryOp.op) (expression_view c.in-BinaryOp.left.value)
+    (expression_view c.in-BinaryOp.right.value) top) o.1
+    ∙ (λ i. calculation o.0 (operand_values c.args.mode (expression_view (sym c.deref-then-is_arithmetic.ensures i)) top top)
+    (operand_values c.args.mode (expression_view (sym c.deref-then-is_arithmetic-2.ensures i)) top top))
     ∙ is_outcome _ (number (number_view c.in_ok-number-in-BinaryOp.number) ∷ []) ((c.in_ok-number-in-BinaryOp.ensures.meant top o.0 r o.1).ok))
     (c.one_item.ensures.meant form (number (number_view c.in_ok-number-in-BinaryOp.number)) refl)
 
@@ -38,11 +45,13 @@ pub returns-else-is_arithmetic-clause-meant : goal.returns-else-is_arithmetic-cl
 returns-else-is_arithmetic-clause-meant c = λ form top outcome r h.
     let view = binary_is c.args.e.now c.in-BinaryOp.op c.in-BinaryOp.left c.in-BinaryOp.right c.in-BinaryOp.is in
     same_outcome (meant form c.args.mode top outcome _ _ view h
-    ∙ ap (λ x. binary_meaning c.args.mode x (operator_view c.in-BinaryOp.op) (expression_view c.in-BinaryOp.left.value) (expression_view c.in-BinaryOp.right.value) top)
+    ∙ ap (λ x. binary_meaning c.args.mode x (operator_view c.in-BinaryOp.op) (expression_view c.in-BinaryOp.left.value)
+    (expression_view c.in-BinaryOp.right.value) top)
     (none_of (operation (operator_view c.in-BinaryOp.op)) (sym c.is_arithmetic.ensures ∙ c.if-is_arithmetic.false))
     ∙ ap (λ x. truth_list (truth c.args.mode x top top)) (sym view)) (c.whole_truth.ensures.meant form top r)
 
 pub returns-in-ExistsFunc-clause-meant : goal.returns-in-ExistsFunc-clause-meant
 returns-in-ExistsFunc-clause-meant c = λ form top outcome r h.
     let view = exists_is c.args.e.now c.in-ExistsFunc.field-0 c.in-ExistsFunc.is in
-    same_outcome (meant form c.args.mode top outcome _ _ view h ∙ ap (λ x. truth_list (truth c.args.mode x top top)) (sym view)) (c.whole_truth-in-ExistsFunc.ensures.meant form top r)
+    same_outcome (meant form c.args.mode top outcome _ _ view h ∙ ap (λ x. truth_list (truth c.args.mode x top top)) (sym view))
+    (c.whole_truth-in-ExistsFunc.ensures.meant form top r)

@@ -1,13 +1,13 @@
 use Rattle.std.proofs.Common.{Ok, Err, None, sym, ◌∙◌, ap, refl}
 use Rattle.std.proofs.lemmas.Result.{err_from_is_err_and}
 use Rattle.jsonb_doc.specs.Payload.{any}
-use Rattle.jsonb_doc.specs.Answer.{with_value}
+use Rattle.jsonb_doc.specs.Answer.{and_then}
 use Rattle.jsonb.specs.PathTree as math
 use Rattle.jsonb.specs.PathTree.{steps_of}
 use Rattle.jsonb.specs.PathViews.{steps_view, expression_view, operator_view, sign_view}
 use Rattle.jsonb.specs.PathArithmetic.{operation, each_signed}
 use Rattle.jsonb.specs.Meaning.{operand_values, truth, calculation, expression_predicate}
-use Rattle.jsonb.proofs.Outcomes.{same_outcome, same_answer, first_refused, one_ok}
+use Rattle.jsonb.proofs.GivesLemmas.{same_outcome, same_answer, first_refused, one_ok}
 use Rattle.jsonb.proofs.PredicateLemmas.{binary_predicate, predicate_by_cases}
 use Rattle.jsonb.proofs.PathNodes.{unary_is, binary_is, exists_is}
 use Rattle.jsonb.proofs.WholeLemmas.{some_of, none_of}
@@ -16,48 +16,63 @@ use Rattle.jsonb.proofs.selector.whole_path.expression_truth.Goals as goal
 pub returns-in_err-_parts-in-UnaryOp-clause-meant : goal.returns-in_err-_parts-in-UnaryOp-clause-meant
 returns-in_err-_parts-in-UnaryOp-clause-meant c = λ top r.
     let p = err_from_is_err_and c.from_residual.result c.from_residual.ensures.1 in
-    same_answer (p.1 ∙ ap Err p.2) (same_outcome (ap (λ x. expression_predicate c.args.mode x top) (unary_is c.args.e.now c.in-UnaryOp.op c.in-UnaryOp.operand c.in-UnaryOp.is)
+    same_answer (p.1 ∙ ap Err p.2)
+    (same_outcome (ap (λ x. expression_predicate c.args.mode x top) (unary_is c.args.e.now c.in-UnaryOp.op c.in-UnaryOp.operand c.in-UnaryOp.is)
     ∙ predicate_by_cases c.args.mode (math.unary (sign_view c.in-UnaryOp.op) (expression_view c.in-UnaryOp.operand.value)) top
-    ∙ ap (λ x. with_value (with_value (operand_values c.args.mode (expression_view x) top top) (each_signed (sign_view c.in-UnaryOp.op))) (λ ts. Ok None)) (sym c.deref.ensures))
+    ∙ ap (λ x. and_then (and_then (operand_values c.args.mode (expression_view x) top top) (each_signed (sign_view c.in-UnaryOp.op))) (λ ts. Ok None))
+    (sym c.deref.ensures))
     (first_refused (λ ts. Ok None) (c.in_err-_parts-in-UnaryOp.ensures.meant any top r)))
 
 pub returns-in_ok-_parts-in-UnaryOp-clause-meant : goal.returns-in_ok-_parts-in-UnaryOp-clause-meant
 returns-in_ok-_parts-in-UnaryOp-clause-meant c = λ top r.
     same_outcome (ap (λ x. expression_predicate c.args.mode x top) (unary_is c.args.e.now c.in-UnaryOp.op c.in-UnaryOp.operand c.in-UnaryOp.is)
     ∙ predicate_by_cases c.args.mode (math.unary (sign_view c.in-UnaryOp.op) (expression_view c.in-UnaryOp.operand.value)) top
-    ∙ ap (λ x. with_value (with_value (operand_values c.args.mode (expression_view x) top top) (each_signed (sign_view c.in-UnaryOp.op))) (λ ts. Ok None)) (sym c.deref.ensures))
+    ∙ ap (λ x. and_then (and_then (operand_values c.args.mode (expression_view x) top top) (each_signed (sign_view c.in-UnaryOp.op))) (λ ts. Ok None))
+    (sym c.deref.ensures))
     (one_ok (λ ts. Ok None) (c.in_ok-_parts-in-UnaryOp.ensures.meant any top r) (λ ts h. refl))
 
 pub returns-in_err-_number-in-BinaryOp-clause-meant : goal.returns-in_err-_number-in-BinaryOp-clause-meant
 returns-in_err-_number-in-BinaryOp-clause-meant c = λ top r.
     let p = err_from_is_err_and c.from_residual-in_err-_number-in-BinaryOp.result c.from_residual-in_err-_number-in-BinaryOp.ensures.1 in
     let o = some_of (operation (operator_view c.in-BinaryOp.op)) (sym c.is_arithmetic.ensures ∙ c.if-is_arithmetic.true) in
-    same_answer (p.1 ∙ ap Err p.2) (same_outcome (ap (λ x. expression_predicate c.args.mode x top) (binary_is c.args.e.now c.in-BinaryOp.op c.in-BinaryOp.left c.in-BinaryOp.right c.in-BinaryOp.is)
-    ∙ predicate_by_cases c.args.mode (math.binary (operator_view c.in-BinaryOp.op) (expression_view c.in-BinaryOp.left.value) (expression_view c.in-BinaryOp.right.value)) top
-    ∙ ap (λ x. binary_predicate c.args.mode x (operator_view c.in-BinaryOp.op) (expression_view c.in-BinaryOp.left.value) (expression_view c.in-BinaryOp.right.value) top) o.1
-    ∙ (λ i. with_value (calculation o.0 (operand_values c.args.mode (expression_view (sym c.deref-then-is_arithmetic.ensures i)) top top) (operand_values c.args.mode (expression_view (sym c.deref-then-is_arithmetic-2.ensures i)) top top)) (λ ts. Ok None)))
+    same_answer (p.1 ∙ ap Err p.2)
+    (same_outcome (ap (λ x. expression_predicate c.args.mode x top)
+    (binary_is c.args.e.now c.in-BinaryOp.op c.in-BinaryOp.left c.in-BinaryOp.right c.in-BinaryOp.is)
+    ∙ predicate_by_cases c.args.mode
+    (math.binary (operator_view c.in-BinaryOp.op) (expression_view c.in-BinaryOp.left.value) (expression_view c.in-BinaryOp.right.value)) top
+    ∙ ap (λ x. binary_predicate c.args.mode x (operator_view c.in-BinaryOp.op) (expression_view c.in-BinaryOp.left.value)
+    (expression_view c.in-BinaryOp.right.value) top) o.1
+    ∙ (λ i. and_then (calculation o.0 (operand_values c.args.mode (expression_view (sym c.deref-then-is_arithmetic.ensures i)) top top)
+    (operand_values c.args.mode (expression_view (sym c.deref-then-is_arithmetic-2.ensures i)) top top)) (λ ts. Ok None)))
     (first_refused (λ ts. Ok None) (c.in_err-_number-in-BinaryOp.ensures.meant top o.0 r o.1)))
 
 pub returns-in_ok-_number-in-BinaryOp-clause-meant : goal.returns-in_ok-_number-in-BinaryOp-clause-meant
 returns-in_ok-_number-in-BinaryOp-clause-meant c = λ top r.
     let o = some_of (operation (operator_view c.in-BinaryOp.op)) (sym c.is_arithmetic.ensures ∙ c.if-is_arithmetic.true) in
-    same_outcome (ap (λ x. expression_predicate c.args.mode x top) (binary_is c.args.e.now c.in-BinaryOp.op c.in-BinaryOp.left c.in-BinaryOp.right c.in-BinaryOp.is)
-    ∙ predicate_by_cases c.args.mode (math.binary (operator_view c.in-BinaryOp.op) (expression_view c.in-BinaryOp.left.value) (expression_view c.in-BinaryOp.right.value)) top
-    ∙ ap (λ x. binary_predicate c.args.mode x (operator_view c.in-BinaryOp.op) (expression_view c.in-BinaryOp.left.value) (expression_view c.in-BinaryOp.right.value) top) o.1
-    ∙ (λ i. with_value (calculation o.0 (operand_values c.args.mode (expression_view (sym c.deref-then-is_arithmetic.ensures i)) top top) (operand_values c.args.mode (expression_view (sym c.deref-then-is_arithmetic-2.ensures i)) top top)) (λ ts. Ok None)))
+    same_outcome (ap (λ x. expression_predicate c.args.mode x top)
+    (binary_is c.args.e.now c.in-BinaryOp.op c.in-BinaryOp.left c.in-BinaryOp.right c.in-BinaryOp.is)
+    ∙ predicate_by_cases c.args.mode
+    (math.binary (operator_view c.in-BinaryOp.op) (expression_view c.in-BinaryOp.left.value) (expression_view c.in-BinaryOp.right.value)) top
+    ∙ ap (λ x. binary_predicate c.args.mode x (operator_view c.in-BinaryOp.op) (expression_view c.in-BinaryOp.left.value)
+    (expression_view c.in-BinaryOp.right.value) top) o.1
+    ∙ (λ i. and_then (calculation o.0 (operand_values c.args.mode (expression_view (sym c.deref-then-is_arithmetic.ensures i)) top top)
+    (operand_values c.args.mode (expression_view (sym c.deref-then-is_arithmetic-2.ensures i)) top top)) (λ ts. Ok None)))
     (one_ok (λ ts. Ok None) (c.in_ok-_number-in-BinaryOp.ensures.meant top o.0 r o.1) (λ ts h. refl))
 
 pub returns-else-is_arithmetic-clause-meant : goal.returns-else-is_arithmetic-clause-meant
 returns-else-is_arithmetic-clause-meant c = λ top r.
     let view = binary_is c.args.e.now c.in-BinaryOp.op c.in-BinaryOp.left c.in-BinaryOp.right c.in-BinaryOp.is in
     same_outcome (ap (λ x. expression_predicate c.args.mode x top) view
-    ∙ predicate_by_cases c.args.mode (math.binary (operator_view c.in-BinaryOp.op) (expression_view c.in-BinaryOp.left.value) (expression_view c.in-BinaryOp.right.value)) top
-    ∙ ap (λ x. binary_predicate c.args.mode x (operator_view c.in-BinaryOp.op) (expression_view c.in-BinaryOp.left.value) (expression_view c.in-BinaryOp.right.value) top)
+    ∙ predicate_by_cases c.args.mode
+    (math.binary (operator_view c.in-BinaryOp.op) (expression_view c.in-BinaryOp.left.value) (expression_view c.in-BinaryOp.right.value)) top
+    ∙ ap (λ x. binary_predicate c.args.mode x (operator_view c.in-BinaryOp.op) (expression_view c.in-BinaryOp.left.value)
+    (expression_view c.in-BinaryOp.right.value) top)
     (none_of (operation (operator_view c.in-BinaryOp.op)) (sym c.is_arithmetic.ensures ∙ c.if-is_arithmetic.false))
     ∙ ap (λ x. truth c.args.mode x top top) (sym view)) (c.truth.ensures.meant top top r r)
 
 pub returns-in-ExistsFunc-clause-meant : goal.returns-in-ExistsFunc-clause-meant
 returns-in-ExistsFunc-clause-meant c = λ top r.
     let view = exists_is c.args.e.now c.in-ExistsFunc.field-0 c.in-ExistsFunc.is in
-    same_outcome (ap (λ x. expression_predicate c.args.mode x top) view ∙ predicate_by_cases c.args.mode (math.exists (steps_of (steps_view c.in-ExistsFunc.field-0.items))) top
+    same_outcome (ap (λ x. expression_predicate c.args.mode x top) view
+    ∙ predicate_by_cases c.args.mode (math.exists (steps_of (steps_view c.in-ExistsFunc.field-0.items))) top
     ∙ ap (λ x. truth c.args.mode x top top) (sym view)) (c.truth-in-ExistsFunc.ensures.meant top top r r)

@@ -2,7 +2,7 @@ use Rattle.std.proofs.Common.{[], ◌∷◌, ap, sym, refl}
 use Rattle.std.specs.Cow.{cow_str_bytes}
 use Rattle.jsonb_doc.specs.Tree.{null, boolean, number, text, array, trees_of}
 use Rattle.jsonb_doc.specs.View.{number_view}
-use Rattle.jsonb.proofs.Outcomes.{same_outcome}
+use Rattle.jsonb.proofs.GivesLemmas.{same_outcome}
 use Rattle.jsonb.proofs.WholeLemmas.{literal_meant, number_meant}
 use Rattle.jsonb.proofs.selector.whole_path.literal_parts.Goals as goal
 
@@ -12,7 +12,8 @@ returns-in-Null-clause-meant c = λ form mode top outcome h.
 
 pub returns-in-Boolean-clause-meant : goal.returns-in-Boolean-clause-meant
 returns-in-Boolean-clause-meant c = λ form mode top outcome h.
-    same_outcome (literal_meant form mode top outcome _ _ c.in-Boolean.is h) (c.one_item-in-Boolean.ensures.meant form (array (trees_of (boolean c.in-Boolean.b ∷ []))) (boolean c.in-Boolean.b, refl, refl))
+    same_outcome (literal_meant form mode top outcome _ _ c.in-Boolean.is h)
+    (c.one_item-in-Boolean.ensures.meant form (array (trees_of (boolean c.in-Boolean.b ∷ []))) (boolean c.in-Boolean.b, refl, refl))
 
 pub returns-in-Number-clause-meant : goal.returns-in-Number-clause-meant
 returns-in-Number-clause-meant c = λ form mode top outcome h.
@@ -22,4 +23,5 @@ returns-in-Number-clause-meant c = λ form mode top outcome h.
 pub returns-in-String-clause-meant : goal.returns-in-String-clause-meant
 returns-in-String-clause-meant c = λ form mode top outcome h.
     same_outcome (literal_meant form mode top outcome _ _ c.in-String.is h)
-    (c.one_item-in-String.ensures.meant form (array (trees_of (text (cow_str_bytes c.in-String.s) ∷ []))) (text (cow_str_bytes c.in-String.s), refl, ap text (sym c.as_str.ensures.value)))
+    (c.one_item-in-String.ensures.meant form (array (trees_of (text (cow_str_bytes c.in-String.s) ∷ [])))
+    (text (cow_str_bytes c.in-String.s), refl, ap text (sym c.as_str.ensures.value)))

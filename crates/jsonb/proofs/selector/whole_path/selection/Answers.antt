@@ -3,7 +3,7 @@ use Rattle.std.proofs.lemmas.Result.{err_from_is_err_and}
 use Rattle.jsonb.specs.Meaning.{steps_meaning}
 use Rattle.jsonb.specs.PathTree.{steps_of}
 use Rattle.jsonb.specs.PathViews.{steps_view}
-use Rattle.jsonb.proofs.Outcomes.{same_outcome, same_answer, refused_as}
+use Rattle.jsonb.proofs.GivesLemmas.{same_outcome, same_answer, refused_as}
 use Rattle.jsonb.proofs.StepLemmas.{filter_steps}
 use Rattle.jsonb.proofs.WholeLemmas.{by_steps}
 use Rattle.jsonb.proofs.selector.whole_path.selection.Goals as goal
@@ -11,11 +11,15 @@ use Rattle.jsonb.proofs.selector.whole_path.selection.Goals as goal
 pub returns-in_err-spots-clause-meant : goal.returns-in_err-spots-clause-meant
 returns-in_err-spots-clause-meant c = λ form top outcome r h.
     let p = err_from_is_err_and c.from_residual-in_err-spots.result c.from_residual-in_err-spots.ensures.1 in
-    same_answer (p.1 ∙ ap Err p.2) (same_outcome (by_steps form c.args.mode top outcome (steps_view c.args.steps.now) c.in_default.ensures (sym c.begins_with_current.ensures ∙ c.if-begins_with_current.false) h
-    ∙ ap (λ l. steps_meaning c.args.mode (steps_of l) top (top ∷ [])) (sym (filter_steps (steps_view c.args.steps.now)))) (refused_as (c.in_err-spots.ensures.meant top top r r)))
+    same_answer (p.1 ∙ ap Err p.2)
+    (same_outcome (by_steps form c.args.mode top outcome (steps_view c.args.steps.now) c.in_default.ensures
+    (sym c.begins_with_current.ensures ∙ c.if-begins_with_current.false) h
+    ∙ ap (λ l. steps_meaning c.args.mode (steps_of l) top (top ∷ [])) (sym (filter_steps (steps_view c.args.steps.now))))
+    (refused_as (c.in_err-spots.ensures.meant top top r r)))
 
 pub returns-clause-meant : goal.returns-clause-meant
 returns-clause-meant c = λ form top outcome r h.
-    same_outcome (by_steps form c.args.mode top outcome (steps_view c.args.steps.now) c.in_default.ensures (sym c.begins_with_current.ensures ∙ c.if-begins_with_current.false) h
+    same_outcome (by_steps form c.args.mode top outcome (steps_view c.args.steps.now) c.in_default.ensures
+    (sym c.begins_with_current.ensures ∙ c.if-begins_with_current.false) h
     ∙ ap (λ l. steps_meaning c.args.mode (steps_of l) top (top ∷ [])) (sym (filter_steps (steps_view c.args.steps.now))))
     (record { ok = (c.in_ok-spots.ensures.meant top top r r).ok; err = tt })

@@ -1,6 +1,6 @@
 use Rattle.std.proofs.Common.{[], ◌∷◌, Ok, sym, ap}
 use Rattle.jsonb.specs.Meaning.{truth_item}
-use Rattle.jsonb.proofs.Outcomes.{followed, same_outcome}
+use Rattle.jsonb.proofs.GivesLemmas.{followed, same_outcome}
 use Rattle.jsonb.proofs.selector.whole_path.whole_truth.Goals as goal
 
 pub returns-clause-meant : goal.returns-clause-meant

@@ -1,7 +1,7 @@
 use Rattle.std.proofs.Common.{sym, ◌∙◌, ap}
 use Rattle.jsonb.specs.PathArithmetic.{each_signed}
 use Rattle.jsonb.specs.PathViews.{sign_view}
-use Rattle.jsonb.proofs.Outcomes.{followed, same_outcome}
+use Rattle.jsonb.proofs.GivesLemmas.{followed, same_outcome}
 use Rattle.jsonb.proofs.selector.whole_path.whole_unary.Goals as goal
 
 pub returns-clause-meant : goal.returns-clause-meant

@@ -10,4 +10,5 @@ invariant-copy_all-loop-value l = (seen : Number → spec.Number) → trees_seen
 
 abbrev pub invariant-copy_members-loop-key : goal.invariant-copy_members-loop-key
 invariant-copy_members-loop-key l =
-    (done : List Entry) × (l.members.entries ≡ done ++ l.key-iterator) × ((seen : Number → spec.Number) → members_seen seen l.copies.entries ≡ members_seen seen done)
+    (done : List Entry) × (l.members.entries ≡ done ++ l.key-iterator)
+    × ((seen : Number → spec.Number) → members_seen seen l.copies.entries ≡ members_seen seen done)

@@ -130,7 +130,8 @@ object_members-loop-pair-preserved t c = record {
       let sees = sees_normal_member seen keeps c.in-Some-pair.pair _ c.in_ok-key.was c.in-Some-pair.ensures.steps.normal in (
         now.others,
         now.left,
-        members_go_on seen _ _ _ _ _ left now.others ps now.value joined now.whole (decoded_keys form _ ps d) c.in_ok-insert.ensures.entries c.in_ok-name.ensures.ok
+        members_go_on seen _ _ _ _ _ left now.others ps now.value joined now.whole
+            (decoded_keys form _ ps d) c.in_ok-insert.ensures.entries c.in_ok-name.ensures.ok
             (c.in_ok-value.ensures.decodes seen keeps sees form now.value now.stands),
       );
 }

@@ -15,7 +15,8 @@ returns-in-Ok-clause-value c =
     let same : to_z w64 (of_z w64 z) ≡ z = int64_kept c.args.input.now z c.in_ok-wide.rest.now c.in_ok-wide.ensures.value in
     let fits : FitsSigned w32 z = rw same at c.in-Ok.ensures.0 in
     let kept : to_z w32 (of_z w32 c.in-Ok.value) ≡ z = rw (c.in-Ok.ensures.1, same) (to_z-of_z w32 z fits) in
-    rw kept (sym (int32_read c.args.input.now ∙ when_passes _ _ z c.in_ok-wide.rest.now c.in_ok-wide.ensures.value ((is_within-decides w32 2147483648 z refl).1 fits)))
+    rw kept (sym (int32_read c.args.input.now
+    ∙ when_passes _ _ z c.in_ok-wide.rest.now c.in_ok-wide.ensures.value ((is_within-decides w32 2147483648 z refl).1 fits)))
 
 pub returns-in-Err-clause-value : goal.returns-in-Err-clause-value
 returns-in-Err-clause-value c =

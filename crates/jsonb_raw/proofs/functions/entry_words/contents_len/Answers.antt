@@ -1,5 +1,5 @@
 use Rattle.std.proofs.Common.{arith, length}
-use Rattle.jsonb_doc.specs.ObjectBuilder.{kept_contents}
+use Rattle.jsonb_doc.specs.ObjectBuilder.{contents_of_entries}
 use Rattle.jsonb_raw.proofs.CutWords.{words_next, words_done}
 use Rattle.jsonb_raw.proofs.functions.entry_words.contents_len.Goals as goal
 
@@ -11,7 +11,8 @@ loop-word-preserved c =
     let h = c.in-Some.ensures.cases in
     record {
       bound = omega (arith, h.2);
-      left = λ es within words. words_next _ _ _ _ _ (length (kept_contents es)) h.0 h.1 h.2 c.from_be_bytes.ensures (c.loop-word.invariant.left es within words);
+      left = λ es within words. words_next _ _ _ _ _ (length (contents_of_entries es)) h.0 h.1 h.2 c.from_be_bytes.ensures
+          (c.loop-word.invariant.left es within words);
     }
 
 pub returns-clause-contents : goal.returns-clause-contents

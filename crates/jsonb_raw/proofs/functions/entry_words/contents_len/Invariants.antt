@@ -1,7 +1,7 @@
 use Rattle.std.proofs.Common.{◌≡◌, ◌+◌, ◌*◌, ◌^◌, ◌≤◌, List, length}
 use Rattle.jsonb_doc.specs.Encoding.{EntryParts}
-use Rattle.jsonb_doc.specs.ObjectBuilder.{kept_words, kept_contents}
-use Rattle.jsonb_raw.specs.Cuts.{AreWithin}
+use Rattle.jsonb_doc.specs.ObjectBuilder.{words_of_entries, contents_of_entries}
+use Rattle.jsonb_raw.specs.Private.Cuts.{FitEntries}
 use Rattle.jsonb_raw.proofs.CutWords.{WordsLeft}
 use Rattle.jsonb_raw.proofs.functions.entry_words.contents_len.Given as goal
 
@@ -9,8 +9,8 @@ use Rattle.jsonb_raw.proofs.functions.entry_words.contents_len.Given as goal
 abbrev pub invariant-loop-word : goal.invariant-loop-word
 invariant-loop-word l = record {
   bound : l.len + 2 ^ 26 * length l.left ≤ 2 ^ 26 * length l.fn.words;
-  left : (es : List EntryParts) → AreWithin es → l.fn.words ≡ kept_words es
-      → WordsLeft l.len l.left (length (kept_contents es));
+  left : (es : List EntryParts) → FitEntries es → l.fn.words ≡ words_of_entries es
+      → WordsLeft l.len l.left (length (contents_of_entries es));
 }
 
 abbrev pub decreases-loop-word : goal.decreases-loop-word

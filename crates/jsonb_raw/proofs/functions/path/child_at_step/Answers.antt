@@ -4,8 +4,8 @@ use Rattle.std.proofs.lemmas.Int.{to_z-of_z}
 use Rattle.jsonb_raw.proofs.IndexLemmas.{passed}
 use Rattle.jsonb_doc.specs.Tree.{field_of}
 use Rattle.jsonb_doc.specs.Answer.{SameOption}
-use Rattle.jsonb_doc.specs.Spots.{Marks}
-use Rattle.jsonb_raw.proofs.Answered.{answered}
+use Rattle.jsonb_doc.specs.Spots.{Locates}
+use Rattle.jsonb_raw.proofs.AnswerLemmas.{answered}
 use Rattle.jsonb_raw.proofs.PlaceLemmas.{plain_met, quoted_met}
 use Rattle.jsonb_raw.proofs.functions.path.child_at_step.Goals as goal
 
@@ -16,8 +16,11 @@ returns-in-Index-clause-child c = λ t m.
 
 pub returns-in-QuotedName-clause-child : goal.returns-in-QuotedName-clause-child
 returns-in-QuotedName-clause-child c = λ t m.
-    rw (c.in-QuotedName.is, quoted_met _ t, ← c.as_str.ensures.value) (answered (λ found. SameOption (Marks c.args.bytes.now) found (field_of c.as_str.result.now t)) c.field_spot.result (c.field_spot.ensures.field t m))
+    rw (c.in-QuotedName.is, quoted_met _ t, ← c.as_str.ensures.value)
+    (answered (λ found. SameOption (Locates c.args.bytes.now) found (field_of c.as_str.result.now t)) c.field_spot.result (c.field_spot.ensures.field t m))
 
 pub returns-in-Name-clause-child : goal.returns-in-Name-clause-child
 returns-in-Name-clause-child c = λ t m.
-    rw (c.in-Name.is, plain_met _ t, ← c.as_str-in-Name.ensures.value) (answered (λ found. SameOption (Marks c.args.bytes.now) found (field_of c.as_str-in-Name.result.now t)) c.field_spot-in-Name.result (c.field_spot-in-Name.ensures.field t m))
+    rw (c.in-Name.is, plain_met _ t, ← c.as_str-in-Name.ensures.value)
+    (answered (λ found. SameOption (Locates c.args.bytes.now) found (field_of c.as_str-in-Name.result.now t)) c.field_spot-in-Name.result
+    (c.field_spot-in-Name.ensures.field t m))

@@ -6,10 +6,12 @@ use Rattle.jsonb_raw.proofs.functions.path.element_at.Goals as goal
 
 pub returns-then-is_from_end-clause-element : goal.returns-then-is_from_end-clause-element
 returns-then-is_from_end-clause-element c = λ t m.
-    let e = negative_index c.args.index _ c.unsigned_abs-distance.result (to_z-of_z w32 c.args.index c.ranges.index) c.unsigned_abs-distance.ensures.value c.if-is_from_end.true in
+    let e = negative_index c.args.index _ c.unsigned_abs-distance.result
+    (to_z-of_z w32 c.args.index c.ranges.index) c.unsigned_abs-distance.ensures.value c.if-is_from_end.true in
     rw (← e) (c.child_from_end.ensures.child t m)
 
 pub returns-else-is_from_end-clause-element : goal.returns-else-is_from_end-clause-element
 returns-else-is_from_end-clause-element c = λ t m.
-    let e = plain_index c.args.index _ c.unsigned_abs-distance.result (to_z-of_z w32 c.args.index c.ranges.index) c.unsigned_abs-distance.ensures.value c.if-is_from_end.false in
+    let e = plain_index c.args.index _ c.unsigned_abs-distance.result
+    (to_z-of_z w32 c.args.index c.ranges.index) c.unsigned_abs-distance.ensures.value c.if-is_from_end.false in
     rw (← e, from_front (children t) c.unsigned_abs-distance.result) (c.nth_child.ensures.child t m)

@@ -10,12 +10,14 @@ returns-in_err-spot_item-clause-child c = λ t m. absurd (c.in_err-spot_item.ens
 
 pub returns-in-Array-clause-child : goal.returns-in-Array-clause-child
 returns-in-Array-clause-child c = λ t m.
-    met_in_array _ c.args.index _ _ _ t _ (to_z-of_z w32 c.args.index c.ranges.index) c.in-Array.is (c.in_ok-spot_item.ensures.item t m) (c.element_at.ensures.element t m)
+    met_in_array _ c.args.index _ _ _ t _ (to_z-of_z w32 c.args.index c.ranges.index) c.in-Array.is (c.in_ok-spot_item.ensures.item t m)
+    (c.element_at.ensures.element t m)
 
 pub returns-in_ok-key-in-Object-clause-child : goal.returns-in_ok-key-in-Object-clause-child
 returns-in_ok-key-in-Object-clause-child c = λ t m.
     let key = c.as_str.ensures.value ∙ c.in_ok-key-in-Object.ensures.ok in
-    met_in_object _ c.args.index _ _ _ t _ _ (to_z-of_z w32 c.args.index c.ranges.index) key c.in-Object.is (c.in_ok-spot_item.ensures.item t m) (c.field_spot.ensures.field t m)
+    met_in_object _ c.args.index _ _ _ t _ _ (to_z-of_z w32 c.args.index c.ranges.index) key c.in-Object.is (c.in_ok-spot_item.ensures.item t m)
+    (c.field_spot.ensures.field t m)
 
 pub returns-in_default-clause-child : goal.returns-in_default-clause-child
 returns-in_default-clause-child c = λ t m.

@@ -1,6 +1,6 @@
 use Rattle.std.proofs.Common.{◌≡◌, ◌-◌, ◌+◌, suc, refl, arith}
 use Rattle.std.proofs.lemmas.Result.{err_from_is_err_and}
-use Rattle.jsonb_raw.proofs.Taken.{taking_begun, taking_left, taking_held, taking_stopped, taking_first, taking_no_error, took_pushed, took_refused}
+use Rattle.jsonb_raw.proofs.TakeLoops.{taking_begun, taking_left, taking_held, taking_stopped, taking_first, taking_no_error, took_pushed, took_refused}
 use Rattle.jsonb_raw.proofs.functions.push.push_elements.Goals as goal
 
 pub loop-init : goal.loop-init
@@ -29,7 +29,8 @@ returns-in_err-push_item-clause-pushed c = λ form ts after whole left held.
     let k = c.loop.invariant form ts left in
     let more : c.args.count - c.loop.counter ≡ suc (c.args.count - (c.loop.counter + 1)) = omega (arith, c.loop-test.true) in
     let took = taking_first form _ _ _ _ _ _ _ _ _ _ k c.in_ok-element.was more (c.in-Some.ensures.steps.takes _ _ k.left) in
-    rw (p.1, p.2) (took_refused form _ _ _ _ _ _ _ after whole c.in_err-push_item.field-0.0 took held (λ front t holds stands. c.in_err-push_item.ensures.pushed form front t holds stands))
+    rw (p.1, p.2) (took_refused form _ _ _ _ _ _ _ after whole c.in_err-push_item.field-0.0 took held
+    (λ front t holds stands. c.in_err-push_item.ensures.pushed form front t holds stands))
 
 pub loop-preserved : goal.loop-preserved
 loop-preserved c = λ form ts left.

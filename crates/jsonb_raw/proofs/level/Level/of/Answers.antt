@@ -1,6 +1,6 @@
 use Rattle.std.proofs.Common.{ap}
 use Rattle.jsonb_doc.specs.Tree.{Tree}
-use Rattle.jsonb_raw.specs.Levels.{parts}
+use Rattle.jsonb_raw.specs.Private.Levels.{parts}
 use Rattle.jsonb_raw.proofs.level.Level.of.Goals as goal
 
 pub returns-in_err-found-in-Array-clause-level : goal.returns-in_err-found-in-Array-clause-level

@@ -12,4 +12,5 @@ returns-in_err-counts-clause-unshared c = λ form other_form t u d e.
 pub returns-clause-unshared : goal.returns-clause-unshared
 returns-clause-unshared c = λ form other_form t u d e.
     c.kept_of_document.ensures.made form (as_elements u) t (rw c.as_bytes-2.ensures d)
-    (unshared_begun c.in_ok-counts.counts (as_elements u) (c.in_ok-counts.ensures.counts other_form u (rw c.as_bytes.ensures e)) (c.count_document.ensures.fit other_form u (rw c.as_bytes.ensures e)))
+    (unshared_begun c.in_ok-counts.counts (as_elements u) (c.in_ok-counts.ensures.counts other_form u (rw c.as_bytes.ensures e))
+    (c.count_document.ensures.fit other_form u (rw c.as_bytes.ensures e)))

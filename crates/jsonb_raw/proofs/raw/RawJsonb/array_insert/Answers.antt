@@ -20,7 +20,8 @@ returns-else-insert_place-eq0-clause-inserted c = λ form t value d dv.
     let dv' : Decodes form c.as_bytes-value.result.now value = rw c.as_bytes-value.ensures dv in
     let o = no_array form t _ c.in_default.is (c.in_ok-elements.ensures.decodes form t d') in
     let place = c.insert_place.ensures ∙ ap (insert_place 1) (to_z-of_z w32 c.args.pos c.ranges.pos) in
-    rw (inserted_behind t value c.args.pos c.insert_place.result o.1 place c.if-insert_place-eq0.false) (c.array_of_two-else-insert_place-eq0.ensures.both form t value d' dv')
+    rw (inserted_behind t value c.args.pos c.insert_place.result o.1 place c.if-insert_place-eq0.false)
+    (c.array_of_two-else-insert_place-eq0.ensures.both form t value d' dv')
 
 pub returns-clause-inserted : goal.returns-clause-inserted
 returns-clause-inserted c = λ form t value d dv.
@@ -28,5 +29,6 @@ returns-clause-inserted c = λ form t value d dv.
     let dv' : Decodes form c.as_bytes-value.result.now value = rw c.as_bytes-value.ensures dv in
     let o = array_of form t _ _ c.in-Some.is (c.in_ok-elements.ensures.decodes form t d') in
     let place : c.insert_place-place.result ≡ insert_place (length (elements o.0)) c.args.pos =
-    c.insert_place-place.ensures ∙ ap (insert_place c.len.result) (to_z-of_z w32 c.args.pos c.ranges.pos) ∙ ap (λ n. insert_place n c.args.pos) (c.len.ensures form o.0 o.2 ∙ length-elements o.0) in
+    c.insert_place-place.ensures ∙ ap (insert_place c.len.result) (to_z-of_z w32 c.args.pos c.ranges.pos)
+    ∙ ap (λ n. insert_place n c.args.pos) (c.len.ensures form o.0 o.2 ∙ length-elements o.0) in
     rw (o.1, ← place) (c.array_with_element.ensures.inserted form o.0 value o.2 dv')

@@ -2,8 +2,8 @@ use Rattle.jsonb_doc.specs.Tree.{Trees, array, elements}
 use Rattle.jsonb_doc.specs.Payload.{Form}
 use Rattle.jsonb_doc.specs.Format.{Decodes}
 use Rattle.jsonb_raw.specs.Documents.{raw_bytes}
-use Rattle.jsonb_raw.proofs.Left.{SomeElements}
-use Rattle.jsonb_raw.proofs.Listed.{Made}
+use Rattle.jsonb_raw.proofs.IteratorItems.{SomeElements}
+use Rattle.jsonb_raw.proofs.CollectLoops.{Made}
 use Rattle.jsonb_raw.proofs.raw.RawJsonb.array_values.Given as goal
 
 -- the elements that were made, followed by those that are left, are those of the array

@@ -27,11 +27,13 @@ returns-in-Array-item-clause-answer c = λ form other_form tree wanted d e.
     let stands = rw c.in-Array-item.is at (c.in_ok-item.ensures.decodes form tree (rw c.as_bytes.ensures d)) in
     let means = c.in_ok-wanted.ensures.decodes other_form wanted (rw c.as_bytes-2.ensures e) in
     let plain = plain_item other_form c.in_ok-wanted.wanted wanted means c.in_default.not-Extension c.in_default.not-Array c.in_default.not-Object in
-    rw stands.1 (subst (λ a. IsOkAnd c.element_matches.result (λ b. b ≡ a)) (array_contains_plain stands.0 wanted plain) (c.element_matches.ensures.answer form other_form stands.0 wanted stands.2 means))
+    rw stands.1 (subst (λ a. IsOkAnd c.element_matches.result (λ b. b ≡ a)) (array_contains_plain stands.0 wanted plain)
+    (c.element_matches.ensures.answer form other_form stands.0 wanted stands.2 means))
 
 pub returns-in_default-item-clause-answer : goal.returns-in_default-item-clause-answer
 returns-in_default-item-clause-answer c = λ form other_form tree wanted d e.
     let stands = c.in_ok-item.ensures.decodes form tree (rw c.as_bytes.ensures d) in
     let means = c.in_ok-wanted.ensures.decodes other_form wanted (rw c.as_bytes-2.ensures e) in
     let plain = plain_item other_form c.in_ok-wanted.wanted wanted means c.in_default.not-Extension c.in_default.not-Array c.in_default.not-Object in
-    subst (λ a. IsOkAnd c.items_equal.result (λ b. b ≡ a)) (other_contains_plain form c.in_ok-item.item tree wanted stands c.in_default-item.not-Array plain) (c.items_equal.ensures.equal form other_form tree wanted stands means)
+    subst (λ a. IsOkAnd c.items_equal.result (λ b. b ≡ a)) (other_contains_plain form c.in_ok-item.item tree wanted stands c.in_default-item.not-Array plain)
+    (c.items_equal.ensures.equal form other_form tree wanted stands means)

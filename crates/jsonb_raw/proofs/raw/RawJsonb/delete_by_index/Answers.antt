@@ -15,8 +15,11 @@ returns-in-Some-index_position-clause-deleted c = λ form t d.
     let d' : Decodes form c.as_bytes-bytes.result.now t = rw c.as_bytes-bytes.ensures d in
     let o = array_of form t _ _ c.in-Some.is (c.in_ok-elements.ensures.decodes form t d') in
     let found : index_position (length (elements o.0)) c.args.index ≡ Some c.in-Some-index_position.position =
-    ap (λ n. index_position n c.args.index) (sym (c.len.ensures form o.0 o.2 ∙ length-elements o.0)) ∙ ap (index_position c.len.result) (sym (to_z-of_z w32 c.args.index c.ranges.index)) ∙ sym c.index_position.ensures ∙ c.in-Some-index_position.is in
-    let is : without_index c.args.index t ≡ Some (array (trees_of (remove (elements o.0) c.in-Some-index_position.position))) = ap (without_index c.args.index) o.1 ∙ without_some c.args.index o.0 _ found in
+    ap (λ n. index_position n c.args.index) (sym (c.len.ensures form o.0 o.2 ∙ length-elements o.0))
+    ∙ ap (index_position c.len.result) (sym (to_z-of_z w32 c.args.index c.ranges.index)) ∙ sym c.index_position.ensures ∙ c.in-Some-index_position.is in
+    let is : without_index c.args.index t
+    ≡ Some (array (trees_of (remove (elements o.0) c.in-Some-index_position.position))) = ap (without_index c.args.index) o.1
+    ∙ without_some c.args.index o.0 _ found in
     rw is (c.array_without_element.ensures.deleted form o.0 o.2)
 
 pub returns-in_ok-from_slice-in-None-clause-deleted : goal.returns-in_ok-from_slice-in-None-clause-deleted
@@ -24,7 +27,8 @@ returns-in_ok-from_slice-in-None-clause-deleted c = λ form t d.
     let d' : Decodes form c.as_bytes-bytes.result.now t = rw c.as_bytes-bytes.ensures d in
     let o = array_of form t _ _ c.in-Some.is (c.in_ok-elements.ensures.decodes form t d') in
     let found : index_position (length (elements o.0)) c.args.index ≡ None =
-    ap (λ n. index_position n c.args.index) (sym (c.len.ensures form o.0 o.2 ∙ length-elements o.0)) ∙ ap (index_position c.len.result) (sym (to_z-of_z w32 c.args.index c.ranges.index)) ∙ sym c.index_position.ensures ∙ c.in-None.is in
+    ap (λ n. index_position n c.args.index) (sym (c.len.ensures form o.0 o.2 ∙ length-elements o.0))
+    ∙ ap (index_position c.len.result) (sym (to_z-of_z w32 c.args.index c.ranges.index)) ∙ sym c.index_position.ensures ∙ c.in-None.is in
     let is : without_index c.args.index t ≡ Some (array o.0) = ap (without_index c.args.index) o.1 ∙ without_none c.args.index o.0 found in
     rw (is, c.new.ensures, c.in_ok-from_slice-in-None.ensures.items) (rw o.1 at d')
 
@@ -43,5 +47,6 @@ returns-in-Some-index_position-clause-unchanged c = λ form ts d none.
     let d' : Decodes form c.as_bytes-bytes.result.now (array ts) = rw c.as_bytes-bytes.ensures d in
     let left : HasElementsLeft form c.in-Some.elements ts = rw c.in-Some.is at (c.in_ok-elements.ensures.decodes form (array ts) d') in
     let found : index_position (length (elements ts)) c.args.index ≡ Some c.in-Some-index_position.position =
-    ap (λ n. index_position n c.args.index) (sym (c.len.ensures form ts left ∙ length-elements ts)) ∙ ap (index_position c.len.result) (sym (to_z-of_z w32 c.args.index c.ranges.index)) ∙ sym c.index_position.ensures ∙ c.in-Some-index_position.is in
+    ap (λ n. index_position n c.args.index) (sym (c.len.ensures form ts left ∙ length-elements ts))
+    ∙ ap (index_position c.len.result) (sym (to_z-of_z w32 c.args.index c.ranges.index)) ∙ sym c.index_position.ensures ∙ c.in-Some-index_position.is in
     absurd (some_or_none _ found none)

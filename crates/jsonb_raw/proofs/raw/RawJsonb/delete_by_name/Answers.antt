@@ -19,5 +19,7 @@ returns-in-Object-clause-deleted c = λ form t d.
 pub returns-in_default-clause-deleted : goal.returns-in_default-clause-deleted
 returns-in_default-clause-deleted c = λ form t d.
     let d' : Decodes form c.as_bytes.result.now t = rw c.as_bytes.ensures d in
-    let none : without_name c.args.name.now t ≡ None = no_names form c.in_ok-bytes.field-0 t c.args.name.now (c.in_ok-bytes.ensures.decodes form t d') c.in_default.not-Array c.in_default.not-Object in
+    let none : without_name c.args.name.now t
+    ≡ None = no_names form c.in_ok-bytes.field-0 t c.args.name.now
+    (c.in_ok-bytes.ensures.decodes form t d') c.in_default.not-Array c.in_default.not-Object in
     rw none refl

@@ -15,8 +15,11 @@ loop-name-preserved g c = record {
   finite = search rules;
   left = λ left tells form t d.
       let l = c.loop-name.invariant.left left tells form t d in
-      let e = rw (tells _ _ _ c.in-Some.ensures.steps) at l.1 in
-      (c.in_ok-texts_have.ensures.texts form t l.0, all_next (λ name. has_text name t) c.in-Some.name.now (left c.next.new.self) _ (sym (c.in_ok-texts_have.ensures.has form t l.0) ∙ c.if-not-branch.false) e);
+      let e = rw (tells _ _ _ c.in-Some.ensures.steps) at l.1 in (
+        c.in_ok-texts_have.ensures.texts form t l.0,
+        all_next (λ name. has_text name t) c.in-Some.name.now (left c.next.new.self) _
+            (sym (c.in_ok-texts_have.ensures.has form t l.0) ∙ c.if-not-branch.false) e,
+      );
 }
 
 pub returns-clause-all : goal.returns-clause-all

@@ -1,5 +1,5 @@
 use Rattle.jsonb_doc.specs.Value.{value_tree, value_parts}
-use Rattle.jsonb_raw.proofs.Answered.{if_answered}
+use Rattle.jsonb_raw.proofs.AnswerLemmas.{if_answered}
 use Rattle.jsonb_raw.proofs.raw.RawJsonb.extract_scalar_key_values.Goals as goal
 
 pub returns-clause-leaves : goal.returns-clause-leaves
@@ -8,4 +8,5 @@ returns-clause-leaves c = λ form t d.
 
 pub returns-clause-parts : goal.returns-clause-parts
 returns-clause-parts c = λ form t d.
-    if_answered _ c.leaves_within.result (c.leaves_within.ensures.leaves value_parts (λ value u tree parts. parts) form t (c.in_ok-root_item.ensures.decodes form t (rw c.as_bytes.ensures d)))
+    if_answered _ c.leaves_within.result
+    (c.leaves_within.ensures.leaves value_parts (λ value u tree parts. parts) form t (c.in_ok-root_item.ensures.decodes form t (rw c.as_bytes.ensures d)))

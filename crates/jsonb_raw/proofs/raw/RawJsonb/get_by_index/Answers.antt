@@ -4,7 +4,7 @@ use Rattle.std.proofs.lemmas.Result.{err_from_is_err_and}
 use Rattle.jsonb_doc.specs.Format.{Decodes}
 use Rattle.jsonb_doc.proofs.SpotsTaken.{decodes_any, some_spot, no_spot}
 use Rattle.jsonb_raw.specs.Children.{element_at}
-use Rattle.jsonb_raw.proofs.Answered.{no_room}
+use Rattle.jsonb_raw.proofs.AnswerLemmas.{no_room}
 use Rattle.jsonb_raw.proofs.ChildAnswers.{child_is_element}
 use Rattle.jsonb_raw.proofs.raw.RawJsonb.get_by_index.Goals as goal
 

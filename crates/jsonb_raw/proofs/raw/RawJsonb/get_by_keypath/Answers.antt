@@ -1,11 +1,11 @@
 use Rattle.std.proofs.Common.{rules, sym, refl}
 use Rattle.std.proofs.lemmas.Result.{err_from_is_err_and}
 use Rattle.jsonb_doc.specs.Format.{Decodes}
-use Rattle.jsonb_doc.specs.Spots.{Marks}
+use Rattle.jsonb_doc.specs.Spots.{Locates}
 use Rattle.jsonb_doc.proofs.CanonicalLemmas.{in_any}
 use Rattle.jsonb_keypath.specs.KeyPathViews.{keys_view}
 use Rattle.jsonb_raw.specs.Places.{tree_at_steps}
-use Rattle.jsonb_raw.proofs.Answered.{no_memory, no_room}
+use Rattle.jsonb_raw.proofs.AnswerLemmas.{no_memory, no_room}
 use Rattle.jsonb_raw.proofs.StepLemmas.{next_child, none_met, some_met}
 use Rattle.jsonb_raw.proofs.raw.RawJsonb.get_by_keypath.Goals as goal
 
@@ -31,7 +31,8 @@ pub returns-in_default-clause-place : goal.returns-in_default-clause-place
 returns-in_default-clause-place g c = λ left tells form t d.
     let d' = in_any form t _ (rw c.as_bytes-bytes.ensures d) in
     let i = c.loop-step.invariant.left left tells t d' in
-    let n = none_met (Marks c.as_bytes-bytes.result.now) (tree_at_steps (keys_view (left c.next.new.self))) _ _ _ c.in_default.is (c.in_ok-child.ensures.child i.0 i.1)
+    let n = none_met (Locates c.as_bytes-bytes.result.now) (tree_at_steps (keys_view (left c.next.new.self))) _ _ _ c.in_default.is
+    (c.in_ok-child.ensures.child i.0 i.1)
     (next_child c.in-Some.step.now (left c.next.new.self) _ i.0 _ (tells _ _ _ c.in-Some.ensures.steps) i.2) in
     rw n refl
 
@@ -41,7 +42,8 @@ loop-step-preserved g c = record {
   finite = search rules;
   left = λ left tells t d.
       let i = c.loop-step.invariant.left left tells t d in
-      some_met (Marks c.as_bytes-bytes.result.now) (tree_at_steps (keys_view (left c.next.new.self))) c.in-Some-2.child _ _ _ c.in-Some-2.is (c.in_ok-child.ensures.child i.0 i.1)
+      some_met (Locates c.as_bytes-bytes.result.now) (tree_at_steps (keys_view (left c.next.new.self))) c.in-Some-2.child _ _ _ c.in-Some-2.is
+      (c.in_ok-child.ensures.child i.0 i.1)
       (next_child c.in-Some.step.now (left c.next.new.self) _ i.0 _ (tells _ _ _ c.in-Some.ensures.steps) i.2);
 }
 

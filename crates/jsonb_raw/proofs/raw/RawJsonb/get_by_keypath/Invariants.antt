@@ -2,10 +2,10 @@ use Rattle.std.proofs.Common.{◌≡◌, List}
 use Rattle.jsonb_doc.specs.Tree.{Tree}
 use Rattle.jsonb_doc.specs.Payload.{any}
 use Rattle.jsonb_doc.specs.Format.{Decodes}
-use Rattle.jsonb_doc.specs.Spots.{Marks}
+use Rattle.jsonb_doc.specs.Spots.{Locates}
 use Rattle.jsonb_keypath.specs.declared.key_path.KeyPath.{KeyPath}
 use Rattle.jsonb_keypath.specs.KeyPathViews.{keys_view}
-use Rattle.jsonb_raw.specs.Iterators.{TellsWhatIsLeft}
+use Rattle.jsonb_raw.specs.Iterators.{YieldsItemsLeft}
 use Rattle.jsonb_raw.specs.Places.{tree_at_steps}
 use Rattle.jsonb_raw.proofs.raw.RawJsonb.get_by_keypath.Given as goal
 
@@ -14,6 +14,6 @@ abbrev pub invariant-loop-step : goal.invariant-loop-step
 invariant-loop-step g l = record {
   can : (goal.iterator-loop-step g).can_next l.step-iterator;
   finite : (goal.iterator-loop-step g).is_finite l.step-iterator;
-  left : (left : _ → List KeyPath) → TellsWhatIsLeft (goal.iterator-loop-step g).next_gives left → (t : Tree) → Decodes any l.bytes t
-      → (here : Tree) × Marks l.bytes l.spot here × (tree_at_steps (keys_view (left l.step-iterator)) here ≡ tree_at_steps (keys_view (left l.fn.steps)) t);
+  left : (left : _ → List KeyPath) → YieldsItemsLeft (goal.iterator-loop-step g).next_gives left → (t : Tree) → Decodes any l.bytes t
+      → (here : Tree) × Locates l.bytes l.spot here × (tree_at_steps (keys_view (left l.step-iterator)) here ≡ tree_at_steps (keys_view (left l.fn.steps)) t);
 }

@@ -3,15 +3,16 @@ use Rattle.std.proofs.lemmas.Result.{err_from_is_err_and}
 use Rattle.jsonb_doc.specs.Tree.{object, members}
 use Rattle.jsonb_doc.specs.Format.{Decodes}
 use Rattle.jsonb_raw.specs.Making.{IsPairOf}
-use Rattle.jsonb_raw.proofs.Left.{SomePairs-all, SomePairs-first, SomePairs-error, SomePairs-none}
-use Rattle.jsonb_raw.proofs.Listed.{Made, none_made, one_made, all_made}
+use Rattle.jsonb_raw.proofs.IteratorItems.{SomePairs-all, SomePairs-first, SomePairs-error, SomePairs-none}
+use Rattle.jsonb_raw.proofs.CollectLoops.{Made, none_made, one_made, all_made}
 use Rattle.jsonb_raw.proofs.ObjectLemmas.{object_of, pair_refused_in_list}
 use Rattle.jsonb_raw.proofs.raw.RawJsonb.object_each.Goals as goal
 
 pub loop-pair-init : goal.loop-pair-init
 loop-pair-init c = λ form ps d.
     let d' : Decodes form c.as_bytes.result.now (object ps) = rw c.as_bytes.ensures d in
-    SomePairs-all form ps _ _ _ (λ left. Made (IsPairOf form) _ (members left) (members ps)) c.in-Some.is c.into_iter-pair-iterator.ensures.into_iter_gives (c.in_ok-pairs.ensures.decodes form (object ps) d')
+    SomePairs-all form ps _ _ _ (λ left. Made (IsPairOf form) _ (members left) (members ps)) c.in-Some.is c.into_iter-pair-iterator.ensures.into_iter_gives
+    (c.in_ok-pairs.ensures.decodes form (object ps) d')
     (none_made (IsPairOf form) _ (members ps) c.new-each.ensures.items)
 
 pub returns-in_err-key-clause-pairs : goal.returns-in_err-key-clause-pairs
@@ -26,7 +27,8 @@ returns-in_err-owned_pair-clause-pairs c = λ form t d.
     let p = err_from_is_err_and c.from_residual-in_err-owned_pair.result c.from_residual-in_err-owned_pair.ensures.1 in
     let o = object_of form t _ _ c.in-Some.is (c.in_ok-pairs.ensures.decodes form t d') in
     rw (p.1, p.2, o.1) (SomePairs-first form _ _ _ _ _ c.in_ok-key.was c.in-Some-pair.ensures.steps (c.loop-pair.invariant form o.0 (rw o.1 at d))
-    (λ value rest left stands made. pair_refused_in_list form _ c.in_ok-key.key.now value (members rest) (members o.0) c.in_err-owned_pair.field-0.0 made (c.in_err-owned_pair.ensures.pair form value stands)))
+    (λ value rest left stands made. pair_refused_in_list form _ c.in_ok-key.key.now value (members rest) (members o.0) c.in_err-owned_pair.field-0.0 made
+    (c.in_err-owned_pair.ensures.pair form value stands)))
 
 pub loop-pair-preserved : goal.loop-pair-preserved
 loop-pair-preserved c = λ form ps d.
@@ -35,7 +37,8 @@ loop-pair-preserved c = λ form ps d.
     (λ value rest left stands made. record {
       pairs = rest;
       left = left;
-      fact = one_made (IsPairOf form) _ _ c.in_ok-owned_pair.field-0 (c.in_ok-key.key.now, value) (members rest) (members ps) added (c.in_ok-owned_pair.ensures.pair form value stands) made;
+      fact = one_made (IsPairOf form) _ _ c.in_ok-owned_pair.field-0 (c.in_ok-key.key.now, value) (members rest) (members ps) added
+          (c.in_ok-owned_pair.ensures.pair form value stands) made;
     })
 
 pub returns-clause-pairs : goal.returns-clause-pairs

@@ -3,8 +3,8 @@ use Rattle.jsonb_doc.specs.Payload.{Form}
 use Rattle.jsonb_doc.specs.Format.{Decodes}
 use Rattle.jsonb_raw.specs.Documents.{raw_bytes}
 use Rattle.jsonb_raw.specs.Making.{IsPairOf}
-use Rattle.jsonb_raw.proofs.Left.{SomePairs}
-use Rattle.jsonb_raw.proofs.Listed.{Made}
+use Rattle.jsonb_raw.proofs.IteratorItems.{SomePairs}
+use Rattle.jsonb_raw.proofs.CollectLoops.{Made}
 use Rattle.jsonb_raw.proofs.raw.RawJsonb.object_each.Given as goal
 
 -- the pairs that were made, followed by those that are left, are those of the object

@@ -1,6 +1,6 @@
 use Rattle.std.proofs.Common.{◌≡◌, true, false, arith, Some}
 use Rattle.jsonb_doc.specs.Format.{Decodes}
-use Rattle.jsonb_raw.specs.Inserts.{IsPairPlace}
+use Rattle.jsonb_raw.specs.Private.Inserts.{IsPairPlace}
 use Rattle.jsonb_raw.specs.Objects.{has_name}
 use Rattle.jsonb_raw.proofs.InsertPlaces.{name_there, name_missing}
 use Rattle.jsonb_raw.proofs.raw.RawJsonb.object_insert.Goals as goal

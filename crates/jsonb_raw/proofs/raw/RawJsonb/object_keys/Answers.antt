@@ -2,14 +2,19 @@ use Rattle.std.proofs.Common.{[], ◌∷◌, refl, map}
 use Rattle.std.proofs.lemmas.Result.{err_from_is_err_and}
 use Rattle.jsonb_doc.specs.Tree.{object, keys, text}
 use Rattle.jsonb_doc.specs.Format.{Decodes}
-use Rattle.jsonb_doc.proofs.BuilderSteps.{HoldsFront, front_empty, front_pushed, front_refused, front_whole}
+use Rattle.jsonb_doc.proofs.BuilderSteps.{front_empty, front_pushed, front_refused, front_whole}
+use Rattle.jsonb_doc.specs.Private.Builders.{HoldsFront}
 use Rattle.jsonb_raw.proofs.ObjectLemmas.{object_of_keys, first_key, no_key_refused, no_more_keys}
 use Rattle.jsonb_raw.proofs.raw.RawJsonb.object_keys.Goals as goal
 
 pub loop-key-init : goal.loop-key-init
 loop-key-init c = λ form ps d.
-    let d' : Decodes form c.as_bytes.result.now (object ps) = rw c.as_bytes.ensures d in
-    (keys ps, rw c.into_iter-key-iterator.ensures.into_iter_gives (rw c.in-Some.is at (c.in_ok-keys.ensures.decodes form (object ps) d')), front_empty form _ (map text (keys ps)) c.new-builder.ensures)
+    let d' : Decodes form c.as_bytes.result.now (object ps) = rw c.as_bytes.ensures d in (
+      keys ps,
+      rw c.into_iter-key-iterator.ensures.into_iter_gives (rw c.in-Some.is at (c.in_ok-keys.ensures.decodes form (object ps) d')),
+      front_empty form _
+          (map text (keys ps)) c.new-builder.ensures,
+    )
 
 pub returns-in_err-key-clause-keys : goal.returns-in_err-key-clause-keys
 returns-in_err-key-clause-keys c = λ form t d.
@@ -22,8 +27,12 @@ pub loop-key-preserved : goal.loop-key-preserved
 loop-key-preserved c = λ form ps d.
     let i = c.loop-key.invariant form ps d in
     let f = first_key i.0 _ _ _ c.in_ok-key.was (c.in-Some-key.ensures.steps.takes _ i.1) in
-    let h : HoldsFront form c.loop-key.builder (text c.in_ok-key.field-0.now ∷ map text f.rest) (map text (keys ps)) = rw f.split at i.2 in
-    (f.rest, f.left, front_pushed form _ (text c.in_ok-key.field-0.now) (map text f.rest) (map text (keys ps)) h _ (c.in_ok-push_item.ensures.pushed form h.held (text c.in_ok-key.field-0.now) h.holds refl))
+    let h : HoldsFront form c.loop-key.builder (text c.in_ok-key.field-0.now ∷ map text f.rest) (map text (keys ps)) = rw f.split at i.2 in (
+      f.rest,
+      f.left,
+      front_pushed form _ (text c.in_ok-key.field-0.now) (map text f.rest) (map text (keys ps)) h _
+          (c.in_ok-push_item.ensures.pushed form h.held (text c.in_ok-key.field-0.now) h.holds refl),
+    )
 
 pub returns-in_err-push_item-clause-keys : goal.returns-in_err-push_item-clause-keys
 returns-in_err-push_item-clause-keys c = λ form t d.
@@ -33,7 +42,8 @@ returns-in_err-push_item-clause-keys c = λ form t d.
     let i = c.loop-key.invariant form o.0 (rw o.1 at d) in
     let f = first_key i.0 _ _ _ c.in_ok-key.was (c.in-Some-key.ensures.steps.takes _ i.1) in
     let h : HoldsFront form c.loop-key.builder (text c.in_ok-key.field-0.now ∷ map text f.rest) (map text (keys o.0)) = rw f.split at i.2 in
-    rw (p.1, p.2, o.1) (front_refused form c.loop-key.builder (text c.in_ok-key.field-0.now) (map text f.rest) (map text (keys o.0)) h c.in_err-push_item.field-0.0 (c.in_err-push_item.ensures.pushed form h.held (text c.in_ok-key.field-0.now) h.holds refl))
+    rw (p.1, p.2, o.1) (front_refused form c.loop-key.builder (text c.in_ok-key.field-0.now) (map text f.rest)
+    (map text (keys o.0)) h c.in_err-push_item.field-0.0 (c.in_err-push_item.ensures.pushed form h.held (text c.in_ok-key.field-0.now) h.holds refl))
 
 pub returns-clause-keys : goal.returns-clause-keys
 returns-clause-keys c = λ form t d.

@@ -3,7 +3,7 @@ use Rattle.jsonb_doc.specs.Tree.{Pairs, object, keys, text}
 use Rattle.jsonb_doc.specs.Payload.{Form}
 use Rattle.jsonb_doc.specs.Format.{Decodes}
 use Rattle.jsonb_doc.specs.ObjectKeys.{HasKeysLeft}
-use Rattle.jsonb_doc.proofs.BuilderSteps.{HoldsFront}
+use Rattle.jsonb_doc.specs.Private.Builders.{HoldsFront}
 use Rattle.jsonb_raw.specs.Documents.{raw_bytes}
 use Rattle.jsonb_raw.proofs.raw.RawJsonb.object_keys.Given as goal
 

@@ -3,7 +3,7 @@ use Rattle.jsonb_doc.specs.Payload.{Form}
 use Rattle.jsonb_doc.specs.Format.{Decodes}
 use Rattle.jsonb_raw.specs.Documents.{raw_bytes}
 use Rattle.jsonb_raw.specs.Objects.{picked}
-use Rattle.jsonb_raw.proofs.Held.{HeldPairs}
+use Rattle.jsonb_raw.proofs.PushLoops.{HeldPairs}
 use Rattle.jsonb_raw.proofs.raw.RawJsonb.object_pick.Given as goal
 
 abbrev pub invariant-loop-pair : goal.invariant-loop-pair

@@ -14,7 +14,8 @@ returns-in-Number-clause-value c = λ form tree d.
 pub returns-in_default : goal.returns-in_default
 returns-in_default c = record {
   value = λ form tree d.
-      let is : text_of tree ≡ None = no_text form c.in_ok-value.field-0 tree (search rules) c.in_default.not-Boolean c.in_default.not-Number c.in_default.not-String in
+      let is : text_of tree ≡ None = no_text form c.in_ok-value.field-0 tree
+      (search rules) c.in_default.not-Boolean c.in_default.not-Number c.in_default.not-String in
       rw is refl;
   errors = search rules;
 }

@@ -1,5 +1,5 @@
 use Rattle.jsonb_raw.proofs.Copies.{copied_tells}
-use Rattle.jsonb_raw.proofs.Iterated.{iter_tells}
+use Rattle.jsonb_raw.proofs.IteratorLemmas.{iter_tells}
 use Rattle.jsonb_raw.proofs.tests.exists.has_each.Goals as goal
 
 pub returns : goal.returns

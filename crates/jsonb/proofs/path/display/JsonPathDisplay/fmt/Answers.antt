@@ -1,5 +1,5 @@
 use Rattle.jsonb.specs.PathViews.{path_view}
-use Rattle.jsonb.proofs.Texts.{steps_text-path}
+use Rattle.jsonb.proofs.TextLemmas.{steps_text-path}
 use Rattle.jsonb.proofs.path.display.JsonPathDisplay.fmt.Goals as goal
 
 pub returns-clause-writes : goal.returns-clause-writes

@@ -15,4 +15,5 @@ pub returns-in-Array-Array-clause-overlap : goal.returns-in-Array-Array-clause-o
 returns-in-Array-Array-clause-overlap c = λ form other_form t u d e.
     let p = rw c.in-Array-Array.is-0 at (c.in_ok-root_item.ensures.decodes form t d) in
     let q = rw c.in-Array-Array.is-1 at (c.in_ok-root_item-2.ensures.decodes other_form u e) in
-    rw (p.1, q.1) (c.entries_overlap.ensures.overlap form other_form p.0 q.0 (c.in_ok-array_entries.ensures.decodes form p.0 (rw p.1 at d)) (c.in_ok-array_entries-2.ensures.decodes other_form q.0 (rw q.1 at e)))
+    rw (p.1, q.1) (c.entries_overlap.ensures.overlap form other_form p.0 q.0 (c.in_ok-array_entries.ensures.decodes form p.0 (rw p.1 at d))
+    (c.in_ok-array_entries-2.ensures.decodes other_form q.0 (rw q.1 at e)))

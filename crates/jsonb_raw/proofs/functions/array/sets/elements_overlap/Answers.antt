@@ -2,7 +2,7 @@ use Rattle.std.proofs.Common.{◌≡◌, true, false, sym, ◌∙◌}
 use Rattle.std.specs.List.{list_any}
 use Rattle.jsonb_doc.specs.Equal.{is_equal}
 use Rattle.jsonb_raw.specs.Arrays.{as_elements}
-use Rattle.jsonb_raw.proofs.Left.{SomeElements-first, SomeElements-error, SomeElements-none}
+use Rattle.jsonb_raw.proofs.IteratorItems.{SomeElements-first, SomeElements-error, SomeElements-none}
 use Rattle.jsonb_raw.proofs.functions.array.sets.elements_overlap.Goals as goal
 
 pub returns-in_err-element-clause-overlap : goal.returns-in_err-element-clause-overlap
@@ -28,7 +28,8 @@ loop-element-preserved c = record {
   left = λ form other_form ts u l d.
       SomeElements-first form _ _ _ _ _ c.in_ok-element.was c.in-Some.ensures.steps (c.loop-element.invariant.left form other_form ts u l d)
       (λ first rest left stands fact.
-      let no : list_any (is_equal first) (as_elements u) ≡ false = sym (c.in_ok-document_has.ensures.has other_form form first u d stands) ∙ c.if-branch.false in
+      let no : list_any (is_equal first) (as_elements u) ≡ false = sym (c.in_ok-document_has.ensures.has other_form form first u d stands)
+      ∙ c.if-branch.false in
       record { trees = rest; left = left; fact = rw no at fact });
 }
 

@@ -5,7 +5,7 @@ use Rattle.jsonb_doc.specs.Format.{Decodes}
 use Rattle.jsonb_doc.specs.Elements.{HasElementsLeft}
 use Rattle.jsonb_raw.specs.Arrays.{as_elements}
 use Rattle.jsonb_raw.specs.Sets.{overlap}
-use Rattle.jsonb_raw.proofs.Left.{SomeElements}
+use Rattle.jsonb_raw.proofs.IteratorItems.{SomeElements}
 use Rattle.jsonb_raw.proofs.functions.array.sets.elements_overlap.Given as goal
 
 -- what is left decides what all decides

@@ -26,7 +26,8 @@ pub returns-then-branch-clause-overlap : goal.returns-then-branch-clause-overlap
 returns-then-branch-clause-overlap c = λ form other_form ts us l d.
     SomeEntries-first form _ _ _ _ _ c.in_ok-entry.was c.in-Some.ensures.steps (c.loop-entry.invariant.left form other_form ts us l d)
     (λ first rest left stored fact.
-    let found : list_any (is_equal first) (elements us) ≡ true = equals_one first (elements us) ∙ sym (c.in_ok-find_equal.ensures.found other_form form us first d stored) ∙ c.if-branch.true in
+    let found : list_any (is_equal first) (elements us) ≡ true = equals_one first (elements us)
+    ∙ sym (c.in_ok-find_equal.ensures.found other_form form us first d stored) ∙ c.if-branch.true in
     rw found at fact)
 
 pub loop-entry-preserved : goal.loop-entry-preserved
@@ -36,7 +37,8 @@ loop-entry-preserved c = record {
   left = λ form other_form ts us l d.
       SomeEntries-first form _ _ _ _ _ c.in_ok-entry.was c.in-Some.ensures.steps (c.loop-entry.invariant.left form other_form ts us l d)
       (λ first rest left stored fact.
-      let missing : list_any (is_equal first) (elements us) ≡ false = equals_one first (elements us) ∙ sym (c.in_ok-find_equal.ensures.found other_form form us first d stored) ∙ c.if-branch.false in
+      let missing : list_any (is_equal first) (elements us) ≡ false = equals_one first (elements us)
+      ∙ sym (c.in_ok-find_equal.ensures.found other_form form us first d stored) ∙ c.if-branch.false in
       record { trees = rest; left = left; fact = rw missing at fact });
 }
 

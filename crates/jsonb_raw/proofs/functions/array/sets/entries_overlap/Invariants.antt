@@ -1,7 +1,7 @@
 use Rattle.std.proofs.Common.{◌≡◌}
 use Rattle.jsonb_doc.specs.Tree.{Trees, elements}
 use Rattle.jsonb_doc.specs.Payload.{Form}
-use Rattle.jsonb_doc.specs.Stored.{HasEntriesLeft}
+use Rattle.jsonb_doc.specs.Private.Stored.{HasEntriesLeft}
 use Rattle.jsonb_raw.specs.Sets.{overlap}
 use Rattle.jsonb_raw.proofs.EntriesLeft.{SomeEntries}
 use Rattle.jsonb_raw.proofs.functions.array.sets.entries_overlap.Given as goal

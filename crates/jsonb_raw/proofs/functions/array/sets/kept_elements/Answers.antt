@@ -1,6 +1,6 @@
 use Rattle.std.proofs.lemmas.Result.{err_from_is_err_and}
 use Rattle.jsonb_doc.specs.Tree.{elements}
-use Rattle.jsonb_raw.proofs.Left.{SomeElements-first, SomeElements-error, SomeElements-none}
+use Rattle.jsonb_raw.proofs.IteratorItems.{SomeElements-first, SomeElements-error, SomeElements-none}
 use Rattle.jsonb_raw.proofs.SetKept.{KeptLeft-next, KeptLeft-refused, KeptLeft-done, few_before}
 use Rattle.jsonb_raw.proofs.functions.array.sets.kept_elements.Goals as goal
 

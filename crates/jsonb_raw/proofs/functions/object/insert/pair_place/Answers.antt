@@ -46,4 +46,5 @@ returns-in-Greater-clause-place c = λ form t d.
 pub returns-clause-place : goal.returns-clause-place
 returns-clause-place c = λ form t d.
     let w = c.loop-key.invariant.walked form t d in
-    in_object c.args.name.now t w.0 _ w.1 (place_last c.args.name.now (keys w.0) c.loop-key.passed _ w.2 (no_more_keys w.2.left _ (c.in-None.ensures.steps.takes w.2.left w.2.holds)))
+    in_object c.args.name.now t w.0 _ w.1
+    (place_last c.args.name.now (keys w.0) c.loop-key.passed _ w.2 (no_more_keys w.2.left _ (c.in-None.ensures.steps.takes w.2.left w.2.holds)))

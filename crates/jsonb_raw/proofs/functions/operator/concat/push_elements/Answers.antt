@@ -2,7 +2,7 @@ use Rattle.std.proofs.Common.{◌++◌, refl}
 use Rattle.std.proofs.lemmas.Result.{err_from_is_err_and}
 use Rattle.jsonb_doc.specs.Tree.{elements}
 use Rattle.jsonb_doc.proofs.BuilderSteps.{front_pushed, front_refused, front_whole}
-use Rattle.jsonb_raw.proofs.Left.{SomeElements-all, SomeElements-first, SomeElements-error, SomeElements-none}
+use Rattle.jsonb_raw.proofs.IteratorItems.{SomeElements-all, SomeElements-first, SomeElements-error, SomeElements-none}
 use Rattle.jsonb_raw.proofs.functions.operator.concat.push_elements.Goals as goal
 
 pub returns-in_err-found-clause-pushed : goal.returns-in_err-found-clause-pushed
@@ -30,7 +30,8 @@ loop-item-preserved c = record {
       (λ first rest left stands fact. record {
         trees = rest;
         left = left;
-        fact = front_pushed form c.loop-item.builder first (elements rest) (held ++ elements ts) fact _ (c.in_ok-push_item.ensures.pushed form fact.held first fact.holds stands);
+        fact = front_pushed form c.loop-item.builder first (elements rest) (held ++ elements ts) fact _
+            (c.in_ok-push_item.ensures.pushed form fact.held first fact.holds stands);
       });
 }
 
@@ -39,8 +40,10 @@ returns-in_err-push_item-clause-pushed c = λ form held ts holds d.
     let p = err_from_is_err_and c.from_residual-in_err-push_item.result c.from_residual-in_err-push_item.ensures.1 in
     SomeElements-first form _ _ _ _ _ c.in_ok-item.was c.in-Some.ensures.steps (c.loop-item.invariant.left form held ts holds d)
     (λ first rest left stands fact.
-    rw (p.1, p.2) (front_refused form c.loop-item.builder first (elements rest) (held ++ elements ts) fact _ (c.in_err-push_item.ensures.pushed form fact.held first fact.holds stands)))
+    rw (p.1, p.2) (front_refused form c.loop-item.builder first (elements rest) (held ++ elements ts) fact _
+    (c.in_err-push_item.ensures.pushed form fact.held first fact.holds stands)))
 
 pub returns-clause-pushed : goal.returns-clause-pushed
 returns-clause-pushed c = λ form held ts holds d.
-    front_whole form c.loop-item.builder (held ++ elements ts) (SomeElements-none form _ _ _ c.in-None.ensures.steps (c.loop-item.invariant.left form held ts holds d))
+    front_whole form c.loop-item.builder (held ++ elements ts)
+    (SomeElements-none form _ _ _ c.in-None.ensures.steps (c.loop-item.invariant.left form held ts holds d))

@@ -7,8 +7,8 @@ use Rattle.jsonb_doc.specs.declared.item.Item.TheVariants as item
 use Rattle.jsonb_doc.specs.Tree.{keys, elements, members}
 use Rattle.jsonb_doc.specs.Equal.{is_equal}
 use Rattle.jsonb_doc.proofs.BuilderSteps.{keys_rise}
-use Rattle.jsonb_raw.specs.PairSteps.{pairs_above}
-use Rattle.jsonb_raw.specs.Contains.{is_matched_by, each_is_matched, each_pair_is_matched}
+use Rattle.jsonb_raw.specs.Private.PairSteps.{pairs_above}
+use Rattle.jsonb_raw.specs.Contains.{is_part_of, each_is_matched, each_pair_is_matched}
 use Rattle.jsonb_raw.specs.Compared.{matches}
 use Rattle.jsonb_raw.proofs.ContainsLaws.{matched_refl}
 use Rattle.jsonb_raw.proofs.EntriesLeft.{SomeEntries-first, SomeEntries-error, SomeEntries-none, SomePairEntries-first, SomePairEntries-error, SomePairEntries-none, passes_none}
@@ -49,11 +49,15 @@ parts_match-returns-in-Object-Object-clause-answer t c = λ form other_form x y 
 
 pub parts_match-returns-in-Ok-clause-answer : goal.parts_match-returns-in-Ok-clause-answer
 parts_match-returns-in-Ok-clause-answer t c = λ form other_form x y stands wanted.
-    let same = λ (arrays : (b d : Bor (List ℕ)) → c.args.item.now ≡ item.Array b → c.args.wanted.now ≡ item.Array d → ⊥) (objects : (b d : Bor (List ℕ)) → c.args.item.now ≡ item.Object b → c.args.wanted.now ≡ item.Object d → ⊥).
-    c.in-Ok.ensures.equal form other_form x y stands wanted ∙ matches_if_equal form other_form c.args.item.now c.args.wanted.now x y stands wanted arrays objects in
+    let same = λ (arrays : (b d : Bor (List ℕ)) → c.args.item.now ≡ item.Array b → c.args.wanted.now ≡ item.Array d → ⊥)
+    (objects : (b d : Bor (List ℕ)) → c.args.item.now ≡ item.Object b → c.args.wanted.now ≡ item.Object d → ⊥).
+    c.in-Ok.ensures.equal form other_form x y stands wanted
+    ∙ matches_if_equal form other_form c.args.item.now c.args.wanted.now x y stands wanted arrays objects in
     elim c.in_default.branch [
-      | parts_match-in_default-via-in-Array+in_default w ↦ same (λ b d p q. w.in_default.not-Array-1 d q) (λ b d p q. no_object c.args.item.now _ b w.in_default.is-0 p)
-      | parts_match-in_default-via-in-Object+in_default w ↦ same (λ b d p q. no_object c.args.item.now b _ p w.in_default.is-0) (λ b d p q. w.in_default.not-Object-1 d q)
+      | parts_match-in_default-via-in-Array+in_default w ↦ same (λ b d p q. w.in_default.not-Array-1 d q)
+          (λ b d p q. no_object c.args.item.now _ b w.in_default.is-0 p)
+      | parts_match-in_default-via-in-Object+in_default w ↦ same (λ b d p q. no_object c.args.item.now b _ p w.in_default.is-0)
+          (λ b d p q. w.in_default.not-Object-1 d q)
       | parts_match-in_default-via-in_default w ↦ same (λ b d p q. w.in_default.not-Array-0 b p) (λ b d p q. w.in_default.not-Object-0 b p)
     ]
 
@@ -96,8 +100,13 @@ array_contains-loop-wanted-preserved-in-Known-true t c = record {
       SomeEntries-first other_form _ _ _ _ _ c.in_ok-wanted.was c.in-Some.ensures.steps (c.loop-wanted.invariant.left form other_form xs ys d e)
       (λ first rest left stored fact.
       let told = rw c.in-Known-true.is at (c.in_ok-element_match.ensures.answer form other_form xs first (c.in_ok-all.ensures.decodes form xs d) stored) in
-      let holds : list_any (is_matched_by first) (elements xs) ≡ true = sym told ∙ c.in-Known-true.field-0-test in
-      record { trees = rest; left = left; fact = part_holds _ (list_any (is_matched_by first) (elements xs)) (each_is_matched rest (elements xs)) (each_is_matched ys (elements xs)) holds fact });
+      let holds : list_any (is_part_of first) (elements xs) ≡ true = sym told ∙ c.in-Known-true.field-0-test in
+      record {
+        trees = rest;
+        left = left;
+        fact = part_holds _ (list_any (is_part_of first) (elements xs)) (each_is_matched rest (elements xs))
+            (each_is_matched ys (elements xs)) holds fact;
+      });
 }
 
 pub array_contains-returns-in-Known-false-clause-answer : goal.array_contains-returns-in-Known-false-clause-answer
@@ -105,8 +114,8 @@ array_contains-returns-in-Known-false-clause-answer t c = λ form other_form xs 
     SomeEntries-first other_form _ _ _ _ _ c.in_ok-wanted.was c.in-Some.ensures.steps (c.loop-wanted.invariant.left form other_form xs ys d e)
     (λ first rest left stored fact.
     let told = rw c.in-Known-false.is at (c.in_ok-element_match.ensures.answer form other_form xs first (c.in_ok-all.ensures.decodes form xs d) stored) in
-    let fails : list_any (is_matched_by first) (elements xs) ≡ false = sym told ∙ c.in-Known-false.field-0-test in
-    part_fails _ (list_any (is_matched_by first) (elements xs)) (each_is_matched rest (elements xs)) (each_is_matched ys (elements xs)) fails fact)
+    let fails : list_any (is_part_of first) (elements xs) ≡ false = sym told ∙ c.in-Known-false.field-0-test in
+    part_fails _ (list_any (is_part_of first) (elements xs)) (each_is_matched rest (elements xs)) (each_is_matched ys (elements xs)) fails fact)
 
 pub array_contains-loop-wanted-preserved-then-wanted-others : goal.array_contains-loop-wanted-preserved-then-wanted-others
 array_contains-loop-wanted-preserved-then-wanted-others t c =
@@ -120,13 +129,16 @@ array_contains-loop-wanted-preserved-then-wanted-others t c =
       passed = c.in_ok-element_match.ensures.passed;
       size = (omega (arith, within.0, c.in_ok-all.ensures.room), omega (arith, within.1, size, c.loop-wanted.invariant.room));
       left = λ form other_form xs ys d e.
-          SomeEntries-first other_form _ _ _ _ _ c.in_ok-wanted.was c.in-Some.ensures.steps (rw none at (c.loop-wanted.invariant.left form other_form xs ys d e))
+          SomeEntries-first other_form _ _ _ _ _ c.in_ok-wanted.was c.in-Some.ensures.steps
+          (rw none at (c.loop-wanted.invariant.left form other_form xs ys d e))
           (λ first rest left stored fact.
           let m = rw c.in-AsOf.is at (c.in_ok-element_match.ensures.answer form other_form xs first (c.in_ok-all.ensures.decodes form xs d) stored) in
           record {
             trees = rest;
             left = left;
-            fact = put_aside (IsItemAnswer matches form other_form None) (IsItemAnswer matches form other_form (Some (c.in-AsOf.item, c.in-AsOf.other))) (list_any (is_matched_by first) (elements xs)) (each_is_matched rest (elements xs)) (each_is_matched ys (elements xs)) (λ b h. h) (m.0, m.1, m.2, m.3, m.4) fact;
+            fact = put_aside (IsItemAnswer matches form other_form None) (IsItemAnswer matches form other_form (Some (c.in-AsOf.item, c.in-AsOf.other)))
+                (list_any (is_part_of first) (elements xs)) (each_is_matched rest (elements xs)) (each_is_matched ys (elements xs)) (λ b h. h)
+                (m.0, m.1, m.2, m.3, m.4) fact;
           });
     }
 
@@ -142,8 +154,9 @@ array_contains-returns-then-not-branch-clause-answer t c = λ form other_form xs
     SomeEntries-first other_form _ _ _ _ _ c.in_ok-wanted.was c.in-Some.ensures.steps (c.loop-wanted.invariant.left form other_form xs ys d e)
     (λ first rest left stored fact.
     let m = rw c.in-AsOf.is at (c.in_ok-element_match.ensures.answer form other_form xs first (c.in_ok-all.ensures.decodes form xs d) stored) in
-    let fails : list_any (is_matched_by first) (elements xs) ≡ false = sym m.4 ∙ sym (c.in_ok-item_matches-in-AsOf.ensures.answer form other_form m.0 m.1 m.2 m.3) ∙ c.if-not-branch.true in
-    part_fails _ (list_any (is_matched_by first) (elements xs)) (each_is_matched rest (elements xs)) (each_is_matched ys (elements xs)) fails fact)
+    let fails : list_any (is_part_of first) (elements xs) ≡ false = sym m.4 ∙ sym (c.in_ok-item_matches-in-AsOf.ensures.answer form other_form m.0 m.1 m.2 m.3)
+    ∙ c.if-not-branch.true in
+    part_fails _ (list_any (is_part_of first) (elements xs)) (each_is_matched rest (elements xs)) (each_is_matched ys (elements xs)) fails fact)
 
 pub array_contains-loop-wanted-preserved : goal.array_contains-loop-wanted-preserved
 array_contains-loop-wanted-preserved t c = record {
@@ -156,8 +169,14 @@ array_contains-loop-wanted-preserved t c = record {
       SomeEntries-first other_form _ _ _ _ _ c.in_ok-wanted.was c.in-Some.ensures.steps (c.loop-wanted.invariant.left form other_form xs ys d e)
       (λ first rest left stored fact.
       let m = rw c.in-AsOf.is at (c.in_ok-element_match.ensures.answer form other_form xs first (c.in_ok-all.ensures.decodes form xs d) stored) in
-      let holds : list_any (is_matched_by first) (elements xs) ≡ true = sym m.4 ∙ sym (c.in_ok-item_matches-in-AsOf.ensures.answer form other_form m.0 m.1 m.2 m.3) ∙ c.if-not-branch.false in
-      record { trees = rest; left = left; fact = part_holds _ (list_any (is_matched_by first) (elements xs)) (each_is_matched rest (elements xs)) (each_is_matched ys (elements xs)) holds fact });
+      let holds : list_any (is_part_of first) (elements xs) ≡ true = sym m.4
+      ∙ sym (c.in_ok-item_matches-in-AsOf.ensures.answer form other_form m.0 m.1 m.2 m.3) ∙ c.if-not-branch.false in
+      record {
+        trees = rest;
+        left = left;
+        fact = part_holds _ (list_any (is_part_of first) (elements xs)) (each_is_matched rest (elements xs))
+            (each_is_matched ys (elements xs)) holds fact;
+      });
 }
 
 pub array_contains-returns-in-Some-large-clause-answer : goal.array_contains-returns-in-Some-large-clause-answer
@@ -202,7 +221,8 @@ container_match-loop-entry-preserved-then-entry-half t c =
           (λ first rest left stored fact. record {
             trees = rest;
             left = left;
-            fact = put_one_aside (IsOneAnswer (is_matched_by y) form None) (IsOneAnswer (is_matched_by y) form (Some c.in_ok-entry.entry)) (is_matched_by y first) (list_any (is_matched_by y) (elements rest)) (list_any (is_matched_by y) (elements xs)) (λ b i. i) (first, stored, refl) fact;
+            fact = put_one_aside (IsOneAnswer (is_part_of y) form None) (IsOneAnswer (is_part_of y) form (Some c.in_ok-entry.entry)) (is_part_of y first)
+                (list_any (is_part_of y) (elements rest)) (list_any (is_part_of y) (elements xs)) (λ b i. i) (first, stored, refl) fact;
           });
     }
 
@@ -215,7 +235,8 @@ pub container_match-returns-then-branch-clause-answer : goal.container_match-ret
 container_match-returns-then-branch-clause-answer t c = λ form other_form xs y h k.
     SomeEntries-first form _ _ _ _ _ c.in_ok-entry.was c.in-Some.ensures.steps (c.loop-entry.invariant.left form other_form xs y h k)
     (λ first rest left stored fact.
-    one_holds _ (is_matched_by y first) (list_any (is_matched_by y) (elements rest)) (list_any (is_matched_by y) (elements xs)) (sym (c.in_ok-entry_matches.ensures.answer form other_form first y stored k) ∙ c.if-branch.true) fact)
+    one_holds _ (is_part_of y first) (list_any (is_part_of y) (elements rest)) (list_any (is_part_of y) (elements xs))
+    (sym (c.in_ok-entry_matches.ensures.answer form other_form first y stored k) ∙ c.if-branch.true) fact)
 
 pub container_match-loop-entry-preserved : goal.container_match-loop-entry-preserved
 container_match-loop-entry-preserved t c = record {
@@ -228,7 +249,8 @@ container_match-loop-entry-preserved t c = record {
       (λ first rest left stored fact. record {
         trees = rest;
         left = left;
-        fact = one_fails _ (is_matched_by y first) (list_any (is_matched_by y) (elements rest)) (list_any (is_matched_by y) (elements xs)) (sym (c.in_ok-entry_matches.ensures.answer form other_form first y stored k) ∙ c.if-branch.false) fact;
+        fact = one_fails _ (is_part_of y first) (list_any (is_part_of y) (elements rest)) (list_any (is_part_of y) (elements xs))
+            (sym (c.in_ok-entry_matches.ensures.answer form other_form first y stored k) ∙ c.if-branch.false) fact;
       });
 }
 
@@ -279,7 +301,12 @@ object_contains-loop-pair-init t c = record {
         left = rw c.into_iter-pair-iterator.ensures.into_iter_gives wanted;
         fact = (
           keys_rise (keys qs) wanted.are_keys,
-          record { pairs = ps; left = c.in_ok-left.ensures.decodes form ps d; fact = none_aside (IsAnswer matches form other_form None) (each_pair_is_matched qs (members ps)) refl },
+          record {
+            pairs = ps;
+            left = c.in_ok-left.ensures.decodes form ps d;
+            fact = none_aside (IsAnswer matches form other_form None)
+                (each_pair_is_matched qs (members ps)) refl;
+          },
         );
       };
 }
@@ -326,7 +353,9 @@ object_contains-loop-pair-preserved-then-is_beyond-2 t c =
               record {
                 pairs = pairs_above c.in_ok-key.key.now some.pairs;
                 left = rw c.in-Some-2.is at (c.in_ok-entry.ensures.above form some.pairs some.left);
-                fact = put_aside (IsAnswer matches form other_form None) (IsAnswer matches form other_form (Some (c.in-Some-2.entry, c.in_ok-key.wanted))) (is_matched_by value found.0) (each_pair_is_matched rest (members (pairs_above c.in_ok-key.key.now some.pairs))) (each_pair_is_matched qs (members ps)) (λ b h. h) (found.0, value, found.2, stored, refl) (aside_along _ _ _ _ step some.fact);
+                fact = put_aside (IsAnswer matches form other_form None) (IsAnswer matches form other_form (Some (c.in-Some-2.entry, c.in_ok-key.wanted)))
+                    (is_part_of value found.0) (each_pair_is_matched rest (members (pairs_above c.in_ok-key.key.now some.pairs)))
+                    (each_pair_is_matched qs (members ps)) (λ b h. h) (found.0, value, found.2, stored, refl) (aside_along _ _ _ _ step some.fact);
               },
             );
           });
@@ -347,8 +376,10 @@ object_contains-returns-then-not-branch-clause-answer t c = λ form other_form p
     let some = fact.1 in
     let found = entry_found form _ _ (rw c.in-Some-2.is at (c.in_ok-entry.ensures.value form some.pairs some.left)) in
     let step = matched_pair c.in_ok-key.key.now value rest some.pairs (keys_rise (keys some.pairs) some.left.are_keys) found.0 found.1 fact.0 in
-    let fails : is_matched_by value found.0 ≡ false = sym (c.in_ok-entry_matches.ensures.answer form other_form found.0 value found.2 stored) ∙ c.if-not-branch.true in
-    part_fails _ (is_matched_by value found.0) (each_pair_is_matched rest (members (pairs_above c.in_ok-key.key.now some.pairs))) (each_pair_is_matched qs (members ps)) fails (aside_along _ _ _ _ step some.fact))
+    let fails : is_part_of value found.0 ≡ false = sym (c.in_ok-entry_matches.ensures.answer form other_form found.0 value found.2 stored)
+    ∙ c.if-not-branch.true in
+    part_fails _ (is_part_of value found.0) (each_pair_is_matched rest (members (pairs_above c.in_ok-key.key.now some.pairs)))
+    (each_pair_is_matched qs (members ps)) fails (aside_along _ _ _ _ step some.fact))
 
 pub object_contains-loop-pair-preserved : goal.object_contains-loop-pair-preserved
 object_contains-loop-pair-preserved t c = record {
@@ -363,7 +394,8 @@ object_contains-loop-pair-preserved t c = record {
       let some = fact.1 in
       let found = entry_found form _ _ (rw c.in-Some-2.is at (c.in_ok-entry.ensures.value form some.pairs some.left)) in
       let step = matched_pair c.in_ok-key.key.now value rest some.pairs (keys_rise (keys some.pairs) some.left.are_keys) found.0 found.1 fact.0 in
-      let holds : is_matched_by value found.0 ≡ true = sym (c.in_ok-entry_matches.ensures.answer form other_form found.0 value found.2 stored) ∙ c.if-not-branch.false in
+      let holds : is_part_of value found.0 ≡ true = sym (c.in_ok-entry_matches.ensures.answer form other_form found.0 value found.2 stored)
+      ∙ c.if-not-branch.false in
       record {
         pairs = rest;
         left = left;
@@ -372,7 +404,8 @@ object_contains-loop-pair-preserved t c = record {
           record {
             pairs = pairs_above c.in_ok-key.key.now some.pairs;
             left = rw c.in-Some-2.is at (c.in_ok-entry.ensures.above form some.pairs some.left);
-            fact = part_holds _ (is_matched_by value found.0) (each_pair_is_matched rest (members (pairs_above c.in_ok-key.key.now some.pairs))) (each_pair_is_matched qs (members ps)) holds (aside_along _ _ _ _ step some.fact);
+            fact = part_holds _ (is_part_of value found.0) (each_pair_is_matched rest (members (pairs_above c.in_ok-key.key.now some.pairs)))
+                (each_pair_is_matched qs (members ps)) holds (aside_along _ _ _ _ step some.fact);
           },
         );
       });
@@ -380,20 +413,24 @@ object_contains-loop-pair-preserved t c = record {
 
 pub object_contains-returns-in_err-item-in-Some-large-clause-answer : goal.object_contains-returns-in_err-item-in-Some-large-clause-answer
 object_contains-returns-in_err-item-in-Some-large-clause-answer t c = λ form other_form ps qs d e.
-    let a = rw c.in-Some-large.is at (SomePairEntries-none other_form _ _ _ c.in-None.ensures.steps (c.loop-pair.invariant.left form other_form ps qs d e)).1.fact in
+    let a = rw c.in-Some-large.is at
+    (SomePairEntries-none other_form _ _ _ c.in-None.ensures.steps (c.loop-pair.invariant.left form other_form ps qs d e)).1.fact in
     absurd (c.in_err-item-in-Some-large.ensures.decodes form a.is.0 a.is.2.content)
 
 pub object_contains-returns-in_err-item-in-Some-large-2-clause-answer : goal.object_contains-returns-in_err-item-in-Some-large-2-clause-answer
 object_contains-returns-in_err-item-in-Some-large-2-clause-answer t c = λ form other_form ps qs d e.
-    let a = rw c.in-Some-large.is at (SomePairEntries-none other_form _ _ _ c.in-None.ensures.steps (c.loop-pair.invariant.left form other_form ps qs d e)).1.fact in
+    let a = rw c.in-Some-large.is at
+    (SomePairEntries-none other_form _ _ _ c.in-None.ensures.steps (c.loop-pair.invariant.left form other_form ps qs d e)).1.fact in
     absurd (c.in_err-item-in-Some-large-2.ensures.decodes other_form a.is.1 a.is.3.content)
 
 pub object_contains-returns-in_ok-item-in-Some-large-2-clause-answer : goal.object_contains-returns-in_ok-item-in-Some-large-2-clause-answer
 object_contains-returns-in_ok-item-in-Some-large-2-clause-answer t c = λ form other_form ps qs d e.
-    let a = rw c.in-Some-large.is at (SomePairEntries-none other_form _ _ _ c.in-None.ensures.steps (c.loop-pair.invariant.left form other_form ps qs d e)).1.fact in
+    let a = rw c.in-Some-large.is at
+    (SomePairEntries-none other_form _ _ _ c.in-None.ensures.steps (c.loop-pair.invariant.left form other_form ps qs d e)).1.fact in
     (a.is.0, a.is.1, c.in_ok-item-in-Some-large.ensures.decodes form a.is.0 a.is.2.content, c.in_ok-item-in-Some-large-2.ensures.decodes other_form a.is.1 a.is.3.content, a.is.4 ∙ a.fact)
 
 pub object_contains-returns-in-None-large-clause-answer : goal.object_contains-returns-in-None-large-clause-answer
 object_contains-returns-in-None-large-clause-answer t c = λ form other_form ps qs d e.
-    let a = rw c.in-None-large.is at (SomePairEntries-none other_form _ _ _ c.in-None.ensures.steps (c.loop-pair.invariant.left form other_form ps qs d e)).1.fact in
+    let a = rw c.in-None-large.is at
+    (SomePairEntries-none other_form _ _ _ c.in-None.ensures.steps (c.loop-pair.invariant.left form other_form ps qs d e)).1.fact in
     sym a.is ∙ a.fact

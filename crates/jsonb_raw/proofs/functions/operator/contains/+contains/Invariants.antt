@@ -4,10 +4,10 @@ use Rattle.std.specs.List.{list_any}
 use Rattle.jsonb_doc.specs.Tree.{Tree, Trees, Pairs, array, object, keys, elements, members}
 use Rattle.jsonb_doc.specs.Payload.{Form}
 use Rattle.jsonb_doc.specs.Format.{Decodes}
-use Rattle.jsonb_doc.specs.Item.{Stands, item_size}
-use Rattle.jsonb_doc.specs.Stored.{HasEntriesLeft, Stores, entries_room}
+use Rattle.jsonb_doc.specs.Item.{StandsFor, item_size}
+use Rattle.jsonb_doc.specs.Private.Stored.{HasEntriesLeft, Stores, entries_room}
 use Rattle.jsonb_doc.proofs.BuilderSteps.{AreRising}
-use Rattle.jsonb_raw.specs.Contains.{is_matched_by, each_is_matched, each_pair_is_matched}
+use Rattle.jsonb_raw.specs.Contains.{is_part_of, each_is_matched, each_pair_is_matched}
 use Rattle.jsonb_raw.specs.Compared.{PassesOver, matches}
 use Rattle.jsonb_raw.proofs.EntriesLeft.{SomeEntries, SomePairEntries}
 use Rattle.jsonb_raw.proofs.Aside.{Aside, IsAnswer, IsItemAnswer, OneAside, IsOneAnswer}
@@ -38,8 +38,8 @@ decreases-entry_matches l = 8 * (length l.entry.now.content.now + length l.wante
 abbrev pub invariant-item_matches-loop-answer : goal.invariant-item_matches-loop-answer
 invariant-item_matches-loop-answer l = record {
   shorter : item_size l.left + item_size l.right ≤ item_size l.fn.item + item_size l.fn.wanted;
-  left : (form other_form : Form) (x y : Tree) → Stands form l.fn.item x → Stands other_form l.fn.wanted y
-      → (t : Tree) × (u : Tree) × Stands form l.left t × Stands other_form l.right u × (matches t u ≡ matches x y);
+  left : (form other_form : Form) (x y : Tree) → StandsFor form l.fn.item x → StandsFor other_form l.fn.wanted y
+      → (t : Tree) × (u : Tree) × StandsFor form l.left t × StandsFor other_form l.right u × (matches t u ≡ matches x y);
 }
 
 abbrev pub decreases-item_matches-loop-answer : goal.decreases-item_matches-loop-answer
@@ -54,7 +54,8 @@ invariant-array_contains-loop-wanted l = record {
   passed : PassesOver l.all l.left;
   size : IfSome l.large (λ pair. (item_size pair.0 < length l.fn.bytes) × (item_size pair.1 < length l.fn.others));
   left : (form other_form : Form) (xs ys : Trees) → Decodes form l.fn.bytes (array xs) → Decodes other_form l.fn.others (array ys)
-      → SomeEntries other_form l.wanted-iterator (λ left. Aside (IsItemAnswer matches form other_form l.large) (each_is_matched left (elements xs)) (each_is_matched ys (elements xs)));
+      → SomeEntries other_form l.wanted-iterator
+      (λ left. Aside (IsItemAnswer matches form other_form l.large) (each_is_matched left (elements xs)) (each_is_matched ys (elements xs)));
 }
 
 -- the entries that are left decide, with the one that was put aside
@@ -65,7 +66,8 @@ invariant-container_match-loop-entry l = record {
   room : entries_room l.entry-iterator ≤ entries_room l.fn.found;
   size : IfSome l.large (λ entry. length entry.content.now ≤ entries_room l.fn.found);
   left : (form other_form : Form) (xs : Trees) (y : Tree) → HasEntriesLeft form l.fn.found xs → Stores other_form l.fn.wanted y
-      → SomeEntries form l.entry-iterator (λ left. OneAside (IsOneAnswer (is_matched_by y) form l.large) (list_any (is_matched_by y) (elements left)) (list_any (is_matched_by y) (elements xs)));
+      → SomeEntries form l.entry-iterator
+      (λ left. OneAside (IsOneAnswer (is_part_of y) form l.large) (list_any (is_part_of y) (elements left)) (list_any (is_part_of y) (elements xs)));
 }
 
 -- the wanted pairs that are left decide, by the pairs that are left, with the pair of values that was put aside
@@ -78,5 +80,6 @@ invariant-object_contains-loop-pair l = record {
   size : IfSome l.large (λ pair. (length pair.0.content.now < length l.fn.bytes) × (length pair.1.content.now < length l.fn.others));
   left : (form other_form : Form) (ps qs : Pairs) → Decodes form l.fn.bytes (object ps) → Decodes other_form l.fn.others (object qs)
       → SomePairEntries other_form l.pair-iterator (λ wanted. AreRising (keys wanted)
-      × SomePairEntries form l.left (λ left. Aside (IsAnswer matches form other_form l.large) (each_pair_is_matched wanted (members left)) (each_pair_is_matched qs (members ps))));
+      × SomePairEntries form l.left
+      (λ left. Aside (IsAnswer matches form other_form l.large) (each_pair_is_matched wanted (members left)) (each_pair_is_matched qs (members ps))));
 }

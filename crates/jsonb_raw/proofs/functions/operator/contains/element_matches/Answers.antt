@@ -1,7 +1,7 @@
 use Rattle.std.proofs.Common.{rules, arith, true, false, ◌≡◌, refl, sym, ◌∙◌}
 use Rattle.jsonb_doc.specs.Tree.{array}
-use Rattle.jsonb_raw.specs.Contains.{is_matched_by}
-use Rattle.jsonb_raw.proofs.Left.{SomeElements-all, SomeElements-first, SomeElements-error, SomeElements-none}
+use Rattle.jsonb_raw.specs.Contains.{is_part_of}
+use Rattle.jsonb_raw.proofs.IteratorItems.{SomeElements-all, SomeElements-first, SomeElements-error, SomeElements-none}
 use Rattle.jsonb_raw.proofs.functions.operator.contains.element_matches.Goals as goal
 
 pub returns-in_err-found-clause-answer : goal.returns-in_err-found-clause-answer
@@ -15,7 +15,8 @@ loop-item-init c = record {
   can = tt;
   finite = tt;
   room = search rules;
-  left = λ form other_form xs y d s. SomeElements-all form xs _ _ _ _ c.in-Some.is c.into_iter-item-iterator.ensures.into_iter_gives (c.in_ok-found.ensures.decodes form (array xs) d) refl;
+  left = λ form other_form xs y d s. SomeElements-all form xs _ _ _ _ c.in-Some.is c.into_iter-item-iterator.ensures.into_iter_gives
+      (c.in_ok-found.ensures.decodes form (array xs) d) refl;
 }
 
 pub returns-in_err-item-clause-answer : goal.returns-in_err-item-clause-answer
@@ -31,7 +32,7 @@ pub returns-then-branch-clause-answer : goal.returns-then-branch-clause-answer
 returns-then-branch-clause-answer c = λ form other_form xs y d s.
     SomeElements-first form _ _ _ _ _ c.in_ok-item.was c.in-Some-item.ensures.steps (c.loop-item.invariant.left form other_form xs y d s)
     (λ first rest left stands fact.
-    let yes : is_matched_by y first ≡ true = sym (c.in_ok-item_matches.ensures.answer form other_form first y stands s) ∙ c.if-branch.true in
+    let yes : is_part_of y first ≡ true = sym (c.in_ok-item_matches.ensures.answer form other_form first y stands s) ∙ c.if-branch.true in
     rw yes at fact)
 
 pub loop-item-preserved : goal.loop-item-preserved
@@ -42,7 +43,7 @@ loop-item-preserved c = record {
   left = λ form other_form xs y d s.
       SomeElements-first form _ _ _ _ _ c.in_ok-item.was c.in-Some-item.ensures.steps (c.loop-item.invariant.left form other_form xs y d s)
       (λ first rest left stands fact.
-      let no : is_matched_by y first ≡ false = sym (c.in_ok-item_matches.ensures.answer form other_form first y stands s) ∙ c.if-branch.false in
+      let no : is_part_of y first ≡ false = sym (c.in_ok-item_matches.ensures.answer form other_form first y stands s) ∙ c.if-branch.false in
       record { trees = rest; left = left; fact = rw no at fact });
 }
 

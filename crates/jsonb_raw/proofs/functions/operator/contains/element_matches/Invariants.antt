@@ -3,10 +3,10 @@ use Rattle.std.specs.List.{list_any}
 use Rattle.jsonb_doc.specs.Tree.{Tree, Trees, array, elements}
 use Rattle.jsonb_doc.specs.Payload.{Form}
 use Rattle.jsonb_doc.specs.Format.{Decodes}
-use Rattle.jsonb_doc.specs.Item.{Stands}
+use Rattle.jsonb_doc.specs.Item.{StandsFor}
 use Rattle.jsonb_doc.specs.Elements.{elements_room}
-use Rattle.jsonb_raw.specs.Contains.{is_matched_by}
-use Rattle.jsonb_raw.proofs.Left.{SomeElements}
+use Rattle.jsonb_raw.specs.Contains.{is_part_of}
+use Rattle.jsonb_raw.proofs.IteratorItems.{SomeElements}
 use Rattle.jsonb_raw.proofs.functions.operator.contains.element_matches.Given as goal
 
 -- no element so far matches, so those that are left decide
@@ -15,5 +15,6 @@ invariant-loop-item l = record {
   can : (goal.iterator-loop-item).can_next l.item-iterator;
   finite : (goal.iterator-loop-item).is_finite l.item-iterator;
   room : elements_room l.item-iterator < length l.fn.bytes;
-  left : (form other_form : Form) (xs : Trees) (y : Tree) → Decodes form l.fn.bytes (array xs) → Stands other_form l.fn.wanted y → SomeElements form l.item-iterator (λ left. list_any (is_matched_by y) (elements left) ≡ list_any (is_matched_by y) (elements xs));
+  left : (form other_form : Form) (xs : Trees) (y : Tree) → Decodes form l.fn.bytes (array xs) → StandsFor other_form l.fn.wanted y
+      → SomeElements form l.item-iterator (λ left. list_any (is_part_of y) (elements left) ≡ list_any (is_part_of y) (elements xs));
 }

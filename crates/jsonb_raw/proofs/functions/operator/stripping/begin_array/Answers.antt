@@ -8,4 +8,5 @@ returns-in_default-clause-begun c = λ form ts is few. absurd (array_long form t
 pub returns-clause-begun : goal.returns-clause-begun
 returns-clause-begun c = λ form ts is few.
     let h = c.in-Some.ensures.cases in
-    array_begun form ts c.args.container.now _ _ _ _ c.args.elements _ _ is few h.1 h.2 (c.len-start.ensures ∙ c.args.out.now.ok.0) refl c.in_ok-extend_from_slice.ensures.items
+    array_begun form ts c.args.container.now _ _ _ _ c.args.elements _ _ is few h.1 h.2
+    (c.len-start.ensures ∙ c.args.out.now.ok.0) refl c.in_ok-extend_from_slice.ensures.items

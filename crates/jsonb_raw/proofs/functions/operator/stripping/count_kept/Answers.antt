@@ -11,7 +11,8 @@ loop-word-preserved-then-from_be_bytes-ne-NULL c =
     let h = c.in-Some.ensures.cases in
     record {
       few = omega (arith, h.2, c.loop-word.invariant.few);
-      left = λ es within words. count_other _ _ _ _ h.0 h.1 h.2 c.from_be_bytes.ensures _ (length (beside es es)) c.if-from_be_bytes-ne-NULL.true (c.loop-word.invariant.left es within words);
+      left = λ es within words. count_other _ _ _ _ h.0 h.1 h.2 c.from_be_bytes.ensures _ (length (beside es es)) c.if-from_be_bytes-ne-NULL.true
+          (c.loop-word.invariant.left es within words);
     }
 
 pub loop-word-preserved : goal.loop-word-preserved
@@ -19,7 +20,8 @@ loop-word-preserved c =
     let h = c.in-Some.ensures.cases in
     record {
       few = omega (arith, h.2, c.loop-word.invariant.few);
-      left = λ es within words. count_null _ _ _ _ h.0 h.1 h.2 c.from_be_bytes.ensures _ (length (beside es es)) c.if-from_be_bytes-ne-NULL.false (c.loop-word.invariant.left es within words);
+      left = λ es within words. count_null _ _ _ _ h.0 h.1 h.2 c.from_be_bytes.ensures _ (length (beside es es)) c.if-from_be_bytes-ne-NULL.false
+          (c.loop-word.invariant.left es within words);
     }
 
 pub returns-clause-count : goal.returns-clause-count

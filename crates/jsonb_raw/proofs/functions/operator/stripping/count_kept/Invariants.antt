@@ -1,7 +1,7 @@
 use Rattle.std.proofs.Common.{◌≡◌, ◌+◌, ◌*◌, ◌≤◌, List, length}
 use Rattle.jsonb_doc.specs.Encoding.{EntryParts}
-use Rattle.jsonb_doc.specs.ObjectBuilder.{kept_words}
-use Rattle.jsonb_raw.specs.Cuts.{AreWithin}
+use Rattle.jsonb_doc.specs.ObjectBuilder.{words_of_entries}
+use Rattle.jsonb_raw.specs.Private.Cuts.{FitEntries}
 use Rattle.jsonb_raw.specs.Stripping.{beside}
 use Rattle.jsonb_raw.proofs.StripLists.{CountLeft}
 use Rattle.jsonb_raw.proofs.functions.operator.stripping.count_kept.Given as goal
@@ -10,7 +10,7 @@ use Rattle.jsonb_raw.proofs.functions.operator.stripping.count_kept.Given as goa
 abbrev pub invariant-loop-word : goal.invariant-loop-word
 invariant-loop-word l = record {
   few : 4 * l.count + length l.left ≤ length l.fn.words;
-  left : (es : List EntryParts) → AreWithin es → l.fn.words ≡ kept_words es → CountLeft l.count l.left (length (beside es es));
+  left : (es : List EntryParts) → FitEntries es → l.fn.words ≡ words_of_entries es → CountLeft l.count l.left (length (beside es es));
 }
 
 abbrev pub decreases-loop-word : goal.decreases-loop-word

@@ -1,5 +1,5 @@
 use Rattle.std.proofs.Common.{arith, refl, ◌++◌}
-use Rattle.jsonb_doc.specs.ObjectBuilder.{kept_words}
+use Rattle.jsonb_doc.specs.ObjectBuilder.{words_of_entries}
 use Rattle.jsonb_raw.specs.Stripping.{beside}
 use Rattle.jsonb_raw.proofs.StripLists.{word_left_out, word_pushed, words_pushed, no_word_missing}
 use Rattle.jsonb_raw.proofs.functions.operator.stripping.push_words_kept.Goals as goal
@@ -11,7 +11,8 @@ loop-value-init c = record {
 
 pub returns-in_default-split_first_chunk-clause-pushed : goal.returns-in_default-split_first_chunk-clause-pushed
 returns-in_default-split_first_chunk-clause-pushed c = λ es xs within many values words.
-    absurd (no_word_missing _ _ _ _ (omega (arith, c.in-Some.ensures.cases.2)) c.in_default-split_first_chunk.ensures.cases (c.loop-value.invariant.left es xs within many values words))
+    absurd (no_word_missing _ _ _ _ (omega (arith, c.in-Some.ensures.cases.2)) c.in_default-split_first_chunk.ensures.cases
+    (c.loop-value.invariant.left es xs within many values words))
 
 pub loop-value-preserved-in_ok-extend_from_slice : goal.loop-value-preserved-in_ok-extend_from_slice
 loop-value-preserved-in_ok-extend_from_slice c =
@@ -19,7 +20,8 @@ loop-value-preserved-in_ok-extend_from_slice c =
     let g = c.in-Some-split_first_chunk.ensures.cases in
     record {
       left = λ es xs within many values words.
-          word_pushed _ _ _ _ h.0 h.1 h.2 c.from_be_bytes.ensures _ _ _ g.0 g.1 _ _ _ c.if-from_be_bytes-ne-NULL.true c.in_ok-extend_from_slice.ensures.items (c.loop-value.invariant.left es xs within many values words);
+          word_pushed _ _ _ _ h.0 h.1 h.2 c.from_be_bytes.ensures _ _ _ g.0 g.1 _ _ _ c.if-from_be_bytes-ne-NULL.true c.in_ok-extend_from_slice.ensures.items
+          (c.loop-value.invariant.left es xs within many values words);
     }
 
 pub loop-value-preserved : goal.loop-value-preserved
@@ -28,8 +30,10 @@ loop-value-preserved c =
     let g = c.in-Some-split_first_chunk.ensures.cases in
     record {
       left = λ es xs within many values words.
-          word_left_out _ _ _ _ h.0 h.1 h.2 c.from_be_bytes.ensures _ _ _ g.0 g.1 _ _ _ c.if-from_be_bytes-ne-NULL.false refl (c.loop-value.invariant.left es xs within many values words);
+          word_left_out _ _ _ _ h.0 h.1 h.2 c.from_be_bytes.ensures _ _ _ g.0 g.1 _ _ _ c.if-from_be_bytes-ne-NULL.false refl
+          (c.loop-value.invariant.left es xs within many values words);
     }
 
 pub returns-clause-pushed : goal.returns-clause-pushed
-returns-clause-pushed c = λ es xs within many values words. words_pushed _ _ _ _ c.in_default.ensures.cases (c.loop-value.invariant.left es xs within many values words)
+returns-clause-pushed c = λ es xs within many values words. words_pushed _ _ _ _ c.in_default.ensures.cases
+    (c.loop-value.invariant.left es xs within many values words)

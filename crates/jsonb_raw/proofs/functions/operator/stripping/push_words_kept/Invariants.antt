@@ -1,7 +1,7 @@
 use Rattle.std.proofs.Common.{◌≡◌, ◌++◌, List, length}
 use Rattle.jsonb_doc.specs.Encoding.{EntryParts}
-use Rattle.jsonb_doc.specs.ObjectBuilder.{kept_words}
-use Rattle.jsonb_raw.specs.Cuts.{AreWithin}
+use Rattle.jsonb_doc.specs.ObjectBuilder.{words_of_entries}
+use Rattle.jsonb_raw.specs.Private.Cuts.{FitEntries}
 use Rattle.jsonb_raw.specs.Stripping.{beside}
 use Rattle.jsonb_raw.proofs.StripLists.{WordsToPush}
 use Rattle.jsonb_raw.proofs.functions.operator.stripping.push_words_kept.Given as goal
@@ -9,8 +9,8 @@ use Rattle.jsonb_raw.proofs.functions.operator.stripping.push_words_kept.Given a
 -- what is written, followed by what is left to write, is the whole
 abbrev pub invariant-loop-value : goal.invariant-loop-value
 invariant-loop-value l = record {
-  left : (es xs : List EntryParts) → AreWithin es → length xs ≡ length es → l.fn.value_words ≡ kept_words es → l.fn.words ≡ kept_words xs
-      → WordsToPush l.out.items l.values_left l.words_left (l.fn.out.items ++ kept_words (beside es xs));
+  left : (es xs : List EntryParts) → FitEntries es → length xs ≡ length es → l.fn.value_words ≡ words_of_entries es → l.fn.words ≡ words_of_entries xs
+      → WordsToPush l.out.items l.values_left l.words_left (l.fn.out.items ++ words_of_entries (beside es xs));
 }
 
 abbrev pub decreases-loop-value : goal.decreases-loop-value

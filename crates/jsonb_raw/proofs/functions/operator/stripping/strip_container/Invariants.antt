@@ -1,6 +1,6 @@
 use Rattle.std.proofs.Common.{◌+◌}
 use Rattle.jsonb_doc.specs.Tree.{Tree}
-use Rattle.jsonb_doc.specs.Payload.{Form, reading}
+use Rattle.jsonb_doc.specs.Payload.{Form, number_reader}
 use Rattle.jsonb_doc.specs.Format.{IsContent, container_entry}
 use Rattle.jsonb_raw.specs.Strip.{strip}
 use Rattle.jsonb_raw.proofs.StripWalk.{IsWithinAll, room, rooms}
@@ -9,7 +9,7 @@ use Rattle.jsonb_raw.proofs.functions.operator.stripping.strip_container.Given a
 -- the walk is within containers that make the whole
 abbrev pub invariant-walk : goal.invariant-walk
 invariant-walk l = record {
-  left : (form : Form) (t : Tree) → IsContent (reading form) t container_entry l.fn.container
+  left : (form : Form) (t : Tree) → IsContent (number_reader form) t container_entry l.fn.container
       → IsWithinAll form l.inner.is_object l.inner.start l.inner.word l.inner.words.now l.inner.contents.now l.around.items l.out.items (strip t);
 }
 

@@ -1,8 +1,8 @@
 use Rattle.std.proofs.Common.{rules, arith, true, false, ◌++◌, ◌∷◌, [], None, ◌≡◌, refl}
 use Rattle.std.specs.Fn.{FnReturnsAt}
 use Rattle.jsonb_raw.specs.Texts.{texts, texts_of_trees, texts_of_pairs}
-use Rattle.jsonb_raw.proofs.Told.{told_none, told_alone, told_first, told_head, told_after, leaves_all, leaves_after, leaves_aside, leaves_told}
-use Rattle.jsonb_raw.proofs.Left.{SomeElements-all, SomeElements-first, SomeElements-error, SomeElements-none, SomePairs-all, SomePairs-first, SomePairs-error, SomePairs-none}
+use Rattle.jsonb_raw.proofs.TextLemmas.{told_none, told_alone, told_first, told_head, told_after, leaves_all, leaves_after, leaves_aside, leaves_told}
+use Rattle.jsonb_raw.proofs.IteratorItems.{SomeElements-all, SomeElements-first, SomeElements-error, SomeElements-none, SomePairs-all, SomePairs-first, SomePairs-error, SomePairs-none}
 use Rattle.jsonb_raw.proofs.functions.operator.traverse.+texts.Goals as goal
 
 -- ---- items
@@ -58,7 +58,8 @@ array_tells-loop-item-init g t c = record {
   finite = tt;
   size = tt;
   room = search rules;
-  left = λ form ts d. SomeElements-all form ts _ _ _ _ refl c.into_iter-item-iterator.ensures.into_iter_gives (c.in_ok-found.ensures.decodes form ts d) (leaves_all g.F.Fn c.args.func.now form (texts_of_trees ts));
+  left = λ form ts d. SomeElements-all form ts _ _ _ _ refl c.into_iter-item-iterator.ensures.into_iter_gives (c.in_ok-found.ensures.decodes form ts d)
+      (leaves_all g.F.Fn c.args.func.now form (texts_of_trees ts));
 }
 
 pub array_tells-loop-item-preserved : goal.array_tells-loop-item-preserved
@@ -72,7 +73,8 @@ array_tells-loop-item-preserved g t c = record {
       (λ first rest left stands fact. record {
         trees = rest;
         left = left;
-        fact = leaves_after g.F.Fn c.args.func.now form (texts_of_trees ts) _ (texts first) (texts_of_trees rest) (rw c.if-branch.false at (c.in_ok-item_tells.ensures.told form first stands)) fact;
+        fact = leaves_after g.F.Fn c.args.func.now form (texts_of_trees ts) _ (texts first) (texts_of_trees rest)
+            (rw c.if-branch.false at (c.in_ok-item_tells.ensures.told form first stands)) fact;
       });
 }
 
@@ -88,7 +90,8 @@ array_tells-returns-in_err-item_tells-clause-told g t c = λ form ts d.
 pub array_tells-returns-then-branch-clause-told : goal.array_tells-returns-then-branch-clause-told
 array_tells-returns-then-branch-clause-told g t c = λ form ts d.
     SomeElements-first form _ _ _ _ _ c.in_ok-item.was c.in-Some.ensures.steps (c.loop-item.invariant.left form ts d)
-    (λ first rest left stands fact. fact.found (told_first g.F.Fn c.args.func.now (texts first) (texts_of_trees rest) (rw c.if-branch.true at (c.in_ok-item_tells.ensures.told form first stands))))
+    (λ first rest left stands fact. fact.found
+    (told_first g.F.Fn c.args.func.now (texts first) (texts_of_trees rest) (rw c.if-branch.true at (c.in_ok-item_tells.ensures.told form first stands))))
 
 pub array_tells-returns-clause-told : goal.array_tells-returns-clause-told
 array_tells-returns-clause-told g t c = λ form ts d.
@@ -105,7 +108,12 @@ array_tells-loop-item-preserved-then-container_len-bytes g t c =
       room = omega (arith, c.in-Some.ensures.steps.room);
       left = λ form ts d.
           SomeElements-first form _ _ _ _ _ c.in_ok-item.was c.in-Some.ensures.steps (rw none at (c.loop-item.invariant.left form ts d))
-          (λ first rest left stands fact. record { trees = rest; left = left; fact = leaves_aside g.F.Fn c.args.func.now form (texts_of_trees ts) c.in_ok-item.item first (texts_of_trees rest) stands fact });
+          (λ first rest left stands fact. record {
+            trees = rest;
+            left = left;
+            fact = leaves_aside g.F.Fn c.args.func.now form
+                (texts_of_trees ts) c.in_ok-item.item first (texts_of_trees rest) stands fact;
+          });
     }
 
 -- ---- objects
@@ -119,7 +127,8 @@ object_tells-loop-pair-init g t c = record {
   finite = tt;
   size = tt;
   room = search rules;
-  left = λ form ps d. SomePairs-all form ps _ _ _ _ refl c.into_iter-pair-iterator.ensures.into_iter_gives (c.in_ok-found.ensures.decodes form ps d) (leaves_all g.F.Fn c.args.func.now form (texts_of_pairs ps));
+  left = λ form ps d. SomePairs-all form ps _ _ _ _ refl c.into_iter-pair-iterator.ensures.into_iter_gives (c.in_ok-found.ensures.decodes form ps d)
+      (leaves_all g.F.Fn c.args.func.now form (texts_of_pairs ps));
 }
 
 pub object_tells-returns-in_err-key-clause-told : goal.object_tells-returns-in_err-key-clause-told
@@ -160,7 +169,8 @@ object_tells-loop-pair-preserved g t c = record {
       record {
         pairs = rest;
         left = left;
-        fact = leaves_after g.F.Fn c.args.func.now form (texts_of_pairs ps) _ (texts value) (texts_of_pairs rest) (rw c.if-branch.false at (c.in_ok-item_tells.ensures.told form value stands))
+        fact = leaves_after g.F.Fn c.args.func.now form (texts_of_pairs ps) _ (texts value) (texts_of_pairs rest)
+            (rw c.if-branch.false at (c.in_ok-item_tells.ensures.told form value stands))
             (leaves_after g.F.Fn c.args.func.now form (texts_of_pairs ps) _ (c.in_ok-key.key.now ∷ []) (texts value ++ texts_of_pairs rest) none fact);
       });
 }

@@ -2,13 +2,13 @@ use Rattle.std.proofs.Common.{◌<◌, ◌≤◌, ◌+◌, ◌*◌, length, Bool
 use Rattle.jsonb_doc.specs.Tree.{Tree, Trees, Pairs, array, object}
 use Rattle.jsonb_doc.specs.Payload.{Form}
 use Rattle.jsonb_doc.specs.Format.{Decodes}
-use Rattle.jsonb_doc.specs.Item.{Stands, item_size}
+use Rattle.jsonb_doc.specs.Item.{StandsFor, item_size}
 use Rattle.jsonb_doc.specs.Elements.{elements_room}
 use Rattle.jsonb_doc.specs.ObjectPairs.{pairs_room}
 use Rattle.jsonb_raw.specs.Texts.{texts, texts_of_trees, texts_of_pairs, Tells}
 use Rattle.std.specs.Prelude.{IfSome}
-use Rattle.jsonb_raw.proofs.Told.{Leaves}
-use Rattle.jsonb_raw.proofs.Left.{SomeElements, SomePairs}
+use Rattle.jsonb_raw.proofs.TextLemmas.{Leaves}
+use Rattle.jsonb_raw.proofs.IteratorItems.{SomeElements, SomePairs}
 use Rattle.jsonb_raw.proofs.functions.operator.traverse.+texts.Given as goal
 
 abbrev pub decreases-item_tells : goal.decreases-item_tells
@@ -21,7 +21,8 @@ decreases-part_tells g l = 3 * item_size l.item.now + 1
 abbrev pub invariant-item_tells-loop-told : goal.invariant-item_tells-loop-told
 invariant-item_tells-loop-told g l = record {
   shorter : item_size l.left ≤ item_size l.fn.item;
-  left : (form : Form) (tree : Tree) → Stands form l.fn.item tree → (t : Tree) × Stands form l.left t × ((b : Bool) → Tells g.F.Fn l.fn.func (texts t) b → Tells g.F.Fn l.fn.func (texts tree) b);
+  left : (form : Form) (tree : Tree) → StandsFor form l.fn.item tree
+      → (t : Tree) × StandsFor form l.left t × ((b : Bool) → Tells g.F.Fn l.fn.func (texts t) b → Tells g.F.Fn l.fn.func (texts tree) b);
 }
 
 abbrev pub decreases-item_tells-loop-told : goal.decreases-item_tells-loop-told
@@ -40,7 +41,8 @@ invariant-array_tells-loop-item g l = record {
   finite : (goal.iterator-array_tells-loop-item g).is_finite l.item-iterator;
   size : IfSome l.large (λ item. item_size item < length l.fn.bytes);
   room : elements_room l.item-iterator < length l.fn.bytes;
-  left : (form : Form) (ts : Trees) → Decodes form l.fn.bytes (array ts) → SomeElements form l.item-iterator (λ left. Leaves g.F.Fn l.fn.func form (texts_of_trees ts) (texts_of_trees left) l.large);
+  left : (form : Form) (ts : Trees) → Decodes form l.fn.bytes (array ts)
+      → SomeElements form l.item-iterator (λ left. Leaves g.F.Fn l.fn.func form (texts_of_trees ts) (texts_of_trees left) l.large);
 }
 
 abbrev pub invariant-object_tells-loop-pair : goal.invariant-object_tells-loop-pair
@@ -49,5 +51,6 @@ invariant-object_tells-loop-pair g l = record {
   finite : (goal.iterator-object_tells-loop-pair g).is_finite l.pair-iterator;
   size : IfSome l.large (λ item. item_size item < length l.fn.bytes);
   room : pairs_room l.pair-iterator < length l.fn.bytes;
-  left : (form : Form) (ps : Pairs) → Decodes form l.fn.bytes (object ps) → SomePairs form l.pair-iterator (λ left. Leaves g.F.Fn l.fn.func form (texts_of_pairs ps) (texts_of_pairs left) l.large);
+  left : (form : Form) (ps : Pairs) → Decodes form l.fn.bytes (object ps)
+      → SomePairs form l.pair-iterator (λ left. Leaves g.F.Fn l.fn.func form (texts_of_pairs ps) (texts_of_pairs left) l.large);
 }

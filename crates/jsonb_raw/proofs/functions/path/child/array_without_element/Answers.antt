@@ -11,7 +11,8 @@ pub returns-in_err-push_elements-clause-deleted : goal.returns-in_err-push_eleme
 returns-in_err-push_elements-clause-deleted c = λ form ts left.
     let p = err_from_is_err_and c.from_residual.result c.from_residual.ensures.1 in
     let whole = remove (elements ts) c.args.position in
-    rw (p.1, p.2) (c.in_err-push_elements.ensures.pushed form ts (drop (suc c.args.position) (elements ts)) whole left (front_empty form c.new-builder.result whole c.new-builder.ensures))
+    rw (p.1, p.2) (c.in_err-push_elements.ensures.pushed form ts (drop (suc c.args.position) (elements ts)) whole left
+    (front_empty form c.new-builder.result whole c.new-builder.ensures))
 
 pub returns-in_err-push_elements-2-clause-deleted : goal.returns-in_err-push_elements-2-clause-deleted
 returns-in_err-push_elements-2-clause-deleted c = λ form ts left.
@@ -20,7 +21,8 @@ returns-in_err-push_elements-2-clause-deleted c = λ form ts left.
     let behind = drop (suc c.args.position) (elements ts) in
     let h = c.in_ok-push_elements.ensures.pushed form ts behind whole left (front_empty form c.new-builder.result whole c.new-builder.ensures) in
     let rest = one_skipped form c.args.position (elements ts) _ _ (c.next.ensures.steps.takes _ _ (c.in_ok-push_elements.ensures.left form ts left)) in
-    rw (p.1, p.2) (c.in_err-push_elements-2.ensures.pushed form (trees_of behind) [] whole rest (all_left_to_take form c.push_elements.new.builder behind whole _ (c.len-others.ensures form (trees_of behind) rest) h))
+    rw (p.1, p.2) (c.in_err-push_elements-2.ensures.pushed form (trees_of behind) [] whole rest
+    (all_left_to_take form c.push_elements.new.builder behind whole _ (c.len-others.ensures form (trees_of behind) rest) h))
 
 pub returns-clause-deleted : goal.returns-clause-deleted
 returns-clause-deleted c = λ form ts left.
@@ -28,5 +30,6 @@ returns-clause-deleted c = λ form ts left.
     let behind = drop (suc c.args.position) (elements ts) in
     let h = c.in_ok-push_elements.ensures.pushed form ts behind whole left (front_empty form c.new-builder.result whole c.new-builder.ensures) in
     let rest = one_skipped form c.args.position (elements ts) _ _ (c.next.ensures.steps.takes _ _ (c.in_ok-push_elements.ensures.left form ts left)) in
-    let all = c.in_ok-push_elements-2.ensures.pushed form (trees_of behind) [] whole rest (all_left_to_take form c.push_elements.new.builder behind whole _ (c.len-others.ensures form (trees_of behind) rest) h) in
+    let all = c.in_ok-push_elements-2.ensures.pushed form (trees_of behind) [] whole rest
+    (all_left_to_take form c.push_elements.new.builder behind whole _ (c.len-others.ensures form (trees_of behind) rest) h) in
     rw c.new.ensures (c.in_ok-build.ensures.decodes form whole (front_whole form _ whole all))

@@ -2,8 +2,8 @@ use Rattle.std.proofs.Common.{◌≡◌, true, false, not, filter, refl, sym, �
 use Rattle.std.proofs.lemmas.Result.{err_from_is_err_and}
 use Rattle.jsonb_doc.specs.Tree.{elements}
 use Rattle.jsonb_raw.specs.Exists.{is_text}
-use Rattle.jsonb_raw.proofs.Left.{SomeElements-error}
-use Rattle.jsonb_raw.proofs.Held.{elements_begun, elements_pushed, elements_refused, elements_skipped}
+use Rattle.jsonb_raw.proofs.IteratorItems.{SomeElements-error}
+use Rattle.jsonb_raw.proofs.PushLoops.{elements_begun, elements_pushed, elements_refused, elements_skipped}
 use Rattle.jsonb_raw.proofs.functions.path.child.array_without_text.Goals as goal
 
 pub returns-in_err-elements-clause-deleted : goal.returns-in_err-elements-clause-deleted
@@ -11,7 +11,8 @@ returns-in_err-elements-clause-deleted c = λ form ts d. absurd (c.in_err-elemen
 
 pub loop-element-init : goal.loop-element-init
 loop-element-init c = λ form ts d.
-    elements_begun form (λ left. filter (λ t. not (is_text c.args.name.now t)) (elements left)) _ ts _ _ _ refl c.into_iter-element-iterator.ensures.into_iter_gives (c.in_ok-elements.ensures.decodes form ts d) c.new-builder.ensures
+    elements_begun form (λ left. filter (λ t. not (is_text c.args.name.now t))
+    (elements left)) _ ts _ _ _ refl c.into_iter-element-iterator.ensures.into_iter_gives (c.in_ok-elements.ensures.decodes form ts d) c.new-builder.ensures
 
 pub returns-in_err-element-clause-deleted : goal.returns-in_err-element-clause-deleted
 returns-in_err-element-clause-deleted c = λ form ts d.
@@ -19,18 +20,22 @@ returns-in_err-element-clause-deleted c = λ form ts d.
 
 pub loop-element-preserved-in_ok-push_item : goal.loop-element-preserved-in_ok-push_item
 loop-element-preserved-in_ok-push_item c = λ form ts d.
-    elements_pushed form (λ left. filter (λ t. not (is_text c.args.name.now t)) (elements left)) _ _ _ _ _ _ c.in_ok-element.was c.in-Some.ensures.steps (c.loop-element.invariant form ts d) (λ t. t) _
+    elements_pushed form (λ left. filter (λ t. not (is_text c.args.name.now t)) (elements left)) _ _ _ _ _ _ c.in_ok-element.was c.in-Some.ensures.steps
+    (c.loop-element.invariant form ts d) (λ t. t) _
     (λ t rest stands. let other : is_text c.args.name.now t ≡ false = sym (c.is_text.ensures form t stands) ∙ c.if-not-is_text.true in rw other refl)
     (λ t held stands holds. c.in_ok-push_item.ensures.pushed form held t holds stands)
 
 pub returns-in_err-push_item-clause-deleted : goal.returns-in_err-push_item-clause-deleted
 returns-in_err-push_item-clause-deleted c = λ form ts d.
     let p = err_from_is_err_and c.from_residual-in_err-push_item.result c.from_residual-in_err-push_item.ensures.1 in
-    rw (p.1, p.2) (elements_refused form (λ left. filter (λ t. not (is_text c.args.name.now t)) (elements left)) (filter (λ t. not (is_text c.args.name.now t)) (elements ts)) _ _ _ _ _ c.in_ok-element.was c.in-Some.ensures.steps (c.loop-element.invariant form ts d) (λ t. t) c.in_err-push_item.field-0.0
+    rw (p.1, p.2) (elements_refused form (λ left. filter (λ t. not (is_text c.args.name.now t)) (elements left))
+    (filter (λ t. not (is_text c.args.name.now t)) (elements ts)) _ _ _ _ _ c.in_ok-element.was c.in-Some.ensures.steps
+    (c.loop-element.invariant form ts d) (λ t. t) c.in_err-push_item.field-0.0
     (λ t rest stands. let other : is_text c.args.name.now t ≡ false = sym (c.is_text.ensures form t stands) ∙ c.if-not-is_text.true in rw other refl)
     (λ t held stands holds. c.in_err-push_item.ensures.pushed form held t holds stands))
 
 pub loop-element-preserved : goal.loop-element-preserved
 loop-element-preserved c = λ form ts d.
-    elements_skipped form (λ left. filter (λ t. not (is_text c.args.name.now t)) (elements left)) _ _ _ _ _ _ c.in_ok-element.was c.in-Some.ensures.steps (c.loop-element.invariant form ts d)
+    elements_skipped form (λ left. filter (λ t. not (is_text c.args.name.now t)) (elements left)) _ _ _ _ _ _ c.in_ok-element.was c.in-Some.ensures.steps
+    (c.loop-element.invariant form ts d)
     (λ t rest stands. let same : is_text c.args.name.now t ≡ true = sym (c.is_text.ensures form t stands) ∙ c.if-not-is_text.false in rw same refl)

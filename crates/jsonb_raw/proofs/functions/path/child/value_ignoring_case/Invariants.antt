@@ -4,7 +4,7 @@ use Rattle.jsonb_doc.specs.Tree.{Pairs, object, members}
 use Rattle.jsonb_doc.specs.Payload.{Form}
 use Rattle.jsonb_doc.specs.Format.{Decodes}
 use Rattle.jsonb_raw.specs.Children.{same_ignoring_case}
-use Rattle.jsonb_raw.proofs.Left.{SomePairs}
+use Rattle.jsonb_raw.proofs.IteratorItems.{SomePairs}
 use Rattle.jsonb_raw.proofs.functions.path.child.value_ignoring_case.Given as goal
 
 -- the first pair that passes is among those that are left

@@ -4,7 +4,11 @@ use Rattle.jsonb_raw.proofs.functions.path.cut.entry_place.Goals as goal
 
 pub returns-in_err-words : goal.returns-in_err-words
 returns-in_err-words c = λ front back e h total passed.
-    let long = bytes_held _ _ _ h total in elim c.in_err-words.ensures.lookup.0 [ inl low ↦ absurd (omega arith) | inr short ↦ absurd (omega (arith, long, short)) ]
+    let long = bytes_held _ _ _ h total in elim c.in_err-words.ensures.lookup.0 [
+      | inl low ↦ absurd (omega arith)
+      | inr short ↦ absurd
+          (omega (arith, long, short))
+    ]
 
 pub overflow_add-start-2 : goal.overflow_add-start-2
 overflow_add-start-2 c = omega (arith, c.in_ok-before.ensures.cases.3, c.contents_len.ensures.bound, c.requires.total, c.requires.passed)

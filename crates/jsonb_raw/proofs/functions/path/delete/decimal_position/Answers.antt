@@ -6,4 +6,5 @@ use Rattle.jsonb_raw.proofs.functions.path.delete.decimal_position.Goals as goal
 
 pub returns-clause-position : goal.returns-clause-position
 returns-clause-position c = λ form ps d.
-    found_decimal _ c.args.index _ (keys ps) _ (c.as_str.ensures.value ∙ c.in_ok-key.ensures.ok) (to_z-of_z w32 c.args.index c.ranges.index) (c.key_position.ensures.position form ps d)
+    found_decimal _ c.args.index _ (keys ps) _ (c.as_str.ensures.value ∙ c.in_ok-key.ensures.ok) (to_z-of_z w32 c.args.index c.ranges.index)
+    (c.key_position.ensures.position form ps d)

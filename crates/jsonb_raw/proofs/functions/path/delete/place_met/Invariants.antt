@@ -4,8 +4,8 @@ use Rattle.jsonb_doc.specs.Payload.{any}
 use Rattle.jsonb_doc.specs.Format.{Decodes}
 use Rattle.jsonb_keypath.specs.declared.key_path.KeyPath.{KeyPath}
 use Rattle.jsonb_keypath.specs.KeyPathViews.{keys_view}
-use Rattle.jsonb_raw.specs.Iterators.{TellsWhatIsLeft}
-use Rattle.jsonb_raw.specs.Places.{place}
+use Rattle.jsonb_raw.specs.Iterators.{YieldsItemsLeft}
+use Rattle.jsonb_raw.specs.Places.{location}
 use Rattle.jsonb_raw.proofs.MetLemmas.{Walked}
 use Rattle.jsonb_raw.proofs.functions.path.delete.place_met.Given as goal
 
@@ -14,6 +14,6 @@ abbrev pub invariant-loop-step : goal.invariant-loop-step
 invariant-loop-step g l = record {
   can : (goal.iterator-loop-step g).can_next l.step-iterator;
   finite : (goal.iterator-loop-step g).is_finite l.step-iterator;
-  left : (left : _ → List KeyPath) → TellsWhatIsLeft (goal.iterator-loop-step g).next_gives left → (t : Tree) → Decodes any l.bytes t
-      → Walked l.bytes l.positions.items l.spot (keys_view (left l.step-iterator)) (place (keys_view (left l.fn.steps)) t);
+  left : (left : _ → List KeyPath) → YieldsItemsLeft (goal.iterator-loop-step g).next_gives left → (t : Tree) → Decodes any l.bytes t
+      → Walked l.bytes l.positions.items l.spot (keys_view (left l.step-iterator)) (location (keys_view (left l.fn.steps)) t);
 }

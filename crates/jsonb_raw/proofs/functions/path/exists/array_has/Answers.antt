@@ -1,7 +1,7 @@
 use Rattle.std.proofs.Common.{refl, sym, ◌∙◌}
 use Rattle.jsonb_doc.specs.Tree.{array, elements}
 use Rattle.jsonb_raw.specs.Exists.{is_text}
-use Rattle.jsonb_raw.proofs.Left.{SomeElements-all, SomeElements-first, SomeElements-error, SomeElements-none}
+use Rattle.jsonb_raw.proofs.IteratorItems.{SomeElements-all, SomeElements-first, SomeElements-error, SomeElements-none}
 use Rattle.jsonb_raw.proofs.ExistsLemmas.{text_item, no_text_item, any_first, any_next}
 use Rattle.jsonb_raw.proofs.functions.path.exists.array_has.Goals as goal
 
@@ -13,7 +13,8 @@ loop-item-init c = λ form ts d.
     SomeElements-all form ts _ _ _ _ c.in-Some.is c.into_iter-item-iterator.ensures.into_iter_gives (c.in_ok-found.ensures.decodes form (array ts) d) refl
 
 pub returns-in_err-text-clause-has : goal.returns-in_err-text-clause-has
-returns-in_err-text-clause-has c = λ form ts d. SomeElements-error form _ _ _ _ _ c.in_err-text.was c.in-Some-item.ensures.steps (c.loop-item.invariant form ts d)
+returns-in_err-text-clause-has c = λ form ts d. SomeElements-error form _ _ _ _ _ c.in_err-text.was c.in-Some-item.ensures.steps
+    (c.loop-item.invariant form ts d)
 
 pub returns-then-eq-clause-has : goal.returns-then-eq-clause-has
 returns-then-eq-clause-has c = λ form ts d.

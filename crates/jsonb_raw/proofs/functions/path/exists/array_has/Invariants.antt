@@ -4,7 +4,7 @@ use Rattle.jsonb_doc.specs.Tree.{Trees, array, elements}
 use Rattle.jsonb_doc.specs.Payload.{Form}
 use Rattle.jsonb_doc.specs.Format.{Decodes}
 use Rattle.jsonb_raw.specs.Exists.{is_text}
-use Rattle.jsonb_raw.proofs.Left.{SomeElements}
+use Rattle.jsonb_raw.proofs.IteratorItems.{SomeElements}
 use Rattle.jsonb_raw.proofs.functions.path.exists.array_has.Given as goal
 
 -- none of the elements so far is the text, so those that are left decide

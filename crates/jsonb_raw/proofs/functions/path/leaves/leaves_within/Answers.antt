@@ -1,6 +1,6 @@
 use Rattle.std.proofs.Common.{arith, [], ◌∷◌}
 use Rattle.std.proofs.lemmas.Result.{err_from_is_err_and}
-use Rattle.jsonb_raw.specs.Levels.{parts}
+use Rattle.jsonb_raw.specs.Private.Levels.{parts}
 use Rattle.jsonb_raw.proofs.LevelLemmas.{pushed_around, popped_around, SomeParts-first, SomeParts-none, SomeParts-error, falls_within, falls_beside, falls_done}
 use Rattle.jsonb_raw.proofs.LeafWalk.{levels, levels_behind, no_items, item_leaves, walk_begun, leaf_found, part_entered, level_done, walk_done}
 use Rattle.jsonb_raw.proofs.functions.path.leaves.leaves_within.Goals as goal
@@ -14,7 +14,8 @@ walk-init c = record {
         others = [];
         left = entered.1;
         left_around = rw c.new-around.ensures.items tt;
-        fact = walk_begun seen c.args.ignore_array _ _ t c.new-found.ensures.items c.new-around.ensures.items (item_leaves form c.args.item.now c.args.ignore_array t stands entered.0);
+        fact = walk_begun seen c.args.ignore_array _ _ t c.new-found.ensures.items c.new-around.ensures.items
+            (item_leaves form c.args.item.now c.args.ignore_array t stands entered.0);
       };
 }
 
@@ -29,7 +30,8 @@ returns-in_err-inner-in-Some-2-clause-leaves c = λ seen sees form t stands.
 
 pub walk-smaller-in-Some-3 : goal.walk-smaller-in-Some-3
 walk-smaller-in-Some-3 c =
-    falls_within _ _ _ _ _ _ (rw c.in-Some-2.is at c.in_ok-key.ensures.smaller) (rw c.in-Some-3.is at c.in_ok-inner-in-Some-2.ensures.room) (rw c.in-Some-3.is at c.in_ok-inner-in-Some-2.ensures.bound)
+    falls_within _ _ _ _ _ _ (rw c.in-Some-2.is at c.in_ok-key.ensures.smaller) (rw c.in-Some-3.is at c.in_ok-inner-in-Some-2.ensures.room)
+    (rw c.in-Some-3.is at c.in_ok-inner-in-Some-2.ensures.bound)
     (levels_behind _ _ _ c.in_ok-push-in-Some-3.ensures.items)
 
 pub walk-preserved-in-Some-3 : goal.walk-preserved-in-Some-3
@@ -43,7 +45,8 @@ walk-preserved-in-Some-3 c = record {
         others = rest ∷ others;
         left = entered.1;
         left_around = pushed_around form _ _ _ rest others (levels_behind _ _ _ c.in_ok-push-in-Some-3.ensures.items) left around;
-        fact = part_entered seen c.args.ignore_array _ _ _ _ part rest others _ fact entered.0 keyed (item_leaves form _ c.args.ignore_array part.1 is entered.0) c.in_ok-push-in-Some-3.ensures.items;
+        fact = part_entered seen c.args.ignore_array _ _ _ _ part rest others _ fact entered.0 keyed
+            (item_leaves form _ c.args.ignore_array part.1 is entered.0) c.in_ok-push-in-Some-3.ensures.items;
       });
 }
 
@@ -64,13 +67,16 @@ walk-preserved-in-None-2 c = record {
       (λ part rest others keyed is left around fact.
       let normal = rw c.in-Some-2.is at c.in_ok-key.ensures.normal in
       let value = c.in_ok-to_value-in-None-2.field-0 in
-      let same = sees value part.1 (c.in_ok-to_value-in-None-2.ensures.decodes form part.1 is) (c.in_ok-to_value-in-None-2.ensures.parts form part.1 is normal) in
+      let same = sees value part.1 (c.in_ok-to_value-in-None-2.ensures.decodes form part.1 is)
+      (c.in_ok-to_value-in-None-2.ensures.parts form part.1 is normal) in
       record {
         here = rest;
         others = others;
         left = left;
         left_around = around;
-        fact = leaf_found seen c.args.ignore_array _ _ _ _ _ part rest others _ c.in_ok-path-in-None-2.path value fact (rw c.in-None-2.is at (c.in_ok-inner-in-Some-2.ensures.leaf form part.1 is)) keyed c.in_ok-path-in-None-2.ensures same c.in_ok-push-in-None-2.ensures.items;
+        fact = leaf_found seen c.args.ignore_array _ _ _ _ _ part rest others _ c.in_ok-path-in-None-2.path value fact
+            (rw c.in-None-2.is at
+            (c.in_ok-inner-in-Some-2.ensures.leaf form part.1 is)) keyed c.in_ok-path-in-None-2.ensures same c.in_ok-push-in-None-2.ensures.items;
       });
 }
 
@@ -95,4 +101,5 @@ walk-preserved c = record {
 pub returns-in-None-pop-clause-leaves : goal.returns-in-None-pop-clause-leaves
 returns-in-None-pop-clause-leaves c = λ seen sees form t stands.
     SomeParts-none form _ _ _ _ (λ ps h. rw c.in-None.is at (c.in_ok-key.ensures.takes form ps h)) (c.walk.invariant.left seen sees form t stands)
-    (λ others around fact. walk_done seen c.args.ignore_array _ _ _ others _ (no_items c.walk.around.items (omega (arith, c.in-None-pop.ensures.cases.0, c.walk.around.ok.0))) fact)
+    (λ others around fact. walk_done seen c.args.ignore_array _ _ _ others _
+    (no_items c.walk.around.items (omega (arith, c.in-None-pop.ensures.cases.0, c.walk.around.ok.0))) fact)

@@ -2,7 +2,7 @@ use Rattle.std.proofs.Common.{◌+◌}
 use Rattle.std.specs.Prelude.{reverse}
 use Rattle.jsonb_doc.specs.Tree.{Tree}
 use Rattle.jsonb_doc.specs.Payload.{Form}
-use Rattle.jsonb_doc.specs.Item.{Stands}
+use Rattle.jsonb_doc.specs.Item.{StandsFor}
 use Rattle.jsonb_doc.specs.declared.value.Value.{Value}
 use Rattle.jsonb_raw.specs.Leaves.{leaves}
 use Rattle.jsonb_raw.specs.LeafViews.{SeesDecoded}
@@ -13,8 +13,9 @@ use Rattle.jsonb_raw.proofs.functions.path.leaves.leaves_within.Given as goal
 -- what is found, and then the leaves of what each level has left, the innermost first, are the leaves of the whole
 abbrev pub invariant-walk : goal.invariant-walk
 invariant-walk l = record {
-  left : (seen : Value → Tree) → SeesDecoded seen → (form : Form) (t : Tree) → Stands form l.fn.item t
-      → SomeParts form l.level (levels l.around.items) (λ here others. LeavesToward seen l.fn.ignore_array l.found.items l.around.items l.index here others (leaves l.fn.ignore_array t));
+  left : (seen : Value → Tree) → SeesDecoded seen → (form : Form) (t : Tree) → StandsFor form l.fn.item t
+      → SomeParts form l.level (levels l.around.items)
+      (λ here others. LeavesToward seen l.fn.ignore_array l.found.items l.around.items l.index here others (leaves l.fn.ignore_array t));
 }
 
 abbrev pub decreases-walk : goal.decreases-walk

@@ -19,10 +19,12 @@ returns-then-len-eq0-clause-leaf c = λ form t stands.
     elim c.match-item.branch [
       | in-Array+in_ok-level-in-Array w ↦
           let (ts, is, d) = rw w.in-Array.is at stands in
-          rw is (empty_leaf c.args.ignore_array (Tree.array ts) _ (c.len.ensures form _ (rw (sym w.level-is) at (w.in_ok-level-in-Array.ensures.level form ts d))) c.if-len-eq0.true)
+          rw is (empty_leaf c.args.ignore_array (Tree.array ts) _
+          (c.len.ensures form _ (rw (sym w.level-is) at (w.in_ok-level-in-Array.ensures.level form ts d))) c.if-len-eq0.true)
       | in-Object+in_ok-level-in-Object w ↦
           let (ps, is, d) = rw w.in-Object.is at stands in
-          rw is (empty_leaf c.args.ignore_array (Tree.object ps) _ (c.len.ensures form _ (rw (sym w.level-is) at (w.in_ok-level-in-Object.ensures.level form ps d))) c.if-len-eq0.true)
+          rw is (empty_leaf c.args.ignore_array (Tree.object ps) _
+          (c.len.ensures form _ (rw (sym w.level-is) at (w.in_ok-level-in-Object.ensures.level form ps d))) c.if-len-eq0.true)
     ]
 
 pub returns-clause-leaf : goal.returns-clause-leaf

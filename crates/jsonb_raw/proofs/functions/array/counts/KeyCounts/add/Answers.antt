@@ -1,5 +1,5 @@
 use Rattle.std.proofs.Common.{◌≡◌, ◌+◌, arith}
-use Rattle.jsonb_raw.specs.SetCounts.{counted}
+use Rattle.jsonb_raw.specs.Private.SetCounts.{counted}
 use Rattle.jsonb_raw.proofs.KeysCounted.{counted_more}
 use Rattle.jsonb_raw.proofs.functions.array.counts.KeyCounts.add.Goals as goal
 

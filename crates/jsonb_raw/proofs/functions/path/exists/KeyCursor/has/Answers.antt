@@ -10,13 +10,15 @@ returns-in_err-key-clause-has c = λ form ks h.
 pub returns-in-Equal-clause-has : goal.returns-in-Equal-clause-has
 returns-in-Equal-clause-has c = λ form ks h.
     let n = rw c.loop-entry.invariant.ahead at c.in-Some.ensures.steps in
-    cursor_meets form ks c.loop-entry.self c.next.new.self (c.loop-entry.invariant.cursor form ks h) c.in-Some.entry c.in_ok-key.field-0 c.in_ok-key.was n c.args.name.now c.loop-entry.invariant.passed
+    cursor_meets form ks c.loop-entry.self c.next.new.self
+    (c.loop-entry.invariant.cursor form ks h) c.in-Some.entry c.in_ok-key.field-0 c.in_ok-key.was n c.args.name.now c.loop-entry.invariant.passed
     (sym c.cmp.ensures ∙ c.in-Equal.is)
 
 pub returns-in-Greater-clause-has : goal.returns-in-Greater-clause-has
 returns-in-Greater-clause-has c = λ form ks h.
     let n = rw c.loop-entry.invariant.ahead at c.in-Some.ensures.steps in
-    cursor_misses form ks c.loop-entry.self c.next.new.self (c.loop-entry.invariant.cursor form ks h) c.in-Some.entry c.in_ok-key.field-0 c.in_ok-key.was n c.args.name.now c.loop-entry.invariant.passed
+    cursor_misses form ks c.loop-entry.self c.next.new.self
+    (c.loop-entry.invariant.cursor form ks h) c.in-Some.entry c.in_ok-key.field-0 c.in_ok-key.was n c.args.name.now c.loop-entry.invariant.passed
     (sym c.cmp.ensures ∙ c.in-Greater.is)
 
 pub loop-entry-preserved : goal.loop-entry-preserved

@@ -1,6 +1,6 @@
 use Rattle.std.proofs.Common.{◌≡◌, ℕ, List}
 use Rattle.jsonb_doc.specs.Payload.{Form}
-use Rattle.jsonb_doc.specs.Stored.{entries_bound}
+use Rattle.jsonb_doc.specs.Private.Stored.{entries_bound}
 use Rattle.jsonb_raw.specs.Cursors.{IsCursorOf, IsPassed}
 use Rattle.jsonb_raw.proofs.functions.path.exists.KeyCursor.has.Given as goal
 

@@ -1,0 +1,161 @@
+-- Answers that give meanings: what a part's answer says of the whole.
+use Rattle.std.proofs.Common.{◌≡◌, List, [], ◌∷◌, ◌++◌, Option, Some, None, option_map, Result, Ok, Err, OnOk, IfErr, IsOkAnd, refl, inl, inr, subst, sym, ap, append-nil, length, map, rules}
+use Rattle.std.specs.Prelude.{not, ◌==◌}
+use Rattle.jsonb_doc.specs.Answer.{Outcome, and_then, Gives, SameOption, IsOutOfMemory}
+use Rattle.jsonb_doc.specs.declared.error.Error.{Error}
+use Rattle.jsonb_doc.specs.Tree.{Tree}
+use Rattle.jsonb.specs.Related.{AllRelated}
+use Rattle.jsonb.specs.Meaning.{is_some_item}
+use Rattle.jsonb.specs.ItemSteps.{list_or}
+use Rattle.jsonb.specs.declared.selector.document.Mode.{Mode}
+
+-- ---- related lists
+
+pub AllRelated-append : {A B : Type 0} (R : A → B → Type 0) (xs ys : List A) (us vs : List B) → AllRelated R xs us → AllRelated R ys vs
+    → AllRelated R (xs ++ ys) (us ++ vs)
+AllRelated-append R [] ys [] vs p q = q
+AllRelated-append R [] ys (u ∷ us) vs p q = absurd p
+AllRelated-append R (x ∷ xs) ys [] vs p q = absurd p
+AllRelated-append R (x ∷ xs) ys (u ∷ us) vs p q = (p.0, AllRelated-append R xs ys us vs p.1 q)
+
+-- related lists are empty together
+pub some_related : {A : Type 0} (R : A → Tree → Type 0) (xs : List A) (ts : List Tree) → AllRelated R xs ts → not (length xs == 0) ≡ is_some_item ts
+some_related R [] [] h = refl
+some_related R [] (t ∷ ts) h = absurd h
+some_related R (x ∷ xs) [] h = absurd h
+some_related R (x ∷ xs) (t ∷ ts) h = search rules
+
+-- what each member is, one by one or as a list
+abbrev pub Is : {A B : Type 0} → (A → B) → A → B → Type 0
+Is f x y = f x ≡ y
+
+pub map_of_related : {A B : Type 0} (f : A → B) (xs : List A) (ys : List B) → AllRelated (Is f) xs ys → map f xs ≡ ys
+map_of_related f [] [] h = refl
+map_of_related f [] (y ∷ ys) h = absurd h
+map_of_related f (x ∷ xs) [] h = absurd h
+map_of_related f (x ∷ xs) (y ∷ ys) h = λ i. h.0 i ∷ map_of_related f xs ys h.1 i
+
+pub related_of_map : {A B : Type 0} (f : A → B) (xs : List A) (ys : List B) → map f xs ≡ ys → AllRelated (Is f) xs ys
+related_of_map {A} f xs ys is = subst (λ l. AllRelated (Is f) xs l) is (each xs)
+  where
+    each : (l : List A) → AllRelated (Is f) l (map f l)
+    each [] = tt
+    each (x ∷ l) = (refl, each l)
+
+-- ---- what is pushed behind a nodes
+
+pub pushed_all : {A B : Type 0} (R : A → B → Type 0) (r : Result (Unit {0}) Error) (old new more : List A) (before us : List B) →
+    OnOk r (new ≡ old ++ more) → IfErr r IsOutOfMemory → AllRelated R old before → AllRelated R more us →
+    Gives (λ _ ts. AllRelated R new (before ++ ts)) IsOutOfMemory r (Ok us)
+pushed_all R (Ok v) old new more before us is none a h = record {
+  ok = subst (λ l. AllRelated R l (before ++ us)) (sym is) (AllRelated-append R old more before us a h);
+  err = tt;
+}
+pushed_all R (Err e) old new more before us is none a h = record { ok = tt; err = inl none }
+
+pub pushed : {A B : Type 0} (R : A → B → Type 0) (r : Result (Unit {0}) Error) (old new : List A) (x : A) (before : List B) (u : B) →
+    OnOk r (new ≡ old ++ x ∷ []) → IfErr r IsOutOfMemory → AllRelated R old before → R x u →
+    Gives (λ _ ts. AllRelated R new (before ++ ts)) IsOutOfMemory r (Ok (u ∷ []))
+pushed R r old new x before u is none a h = pushed_all R r old new (x ∷ []) before (u ∷ []) is none a (h, tt)
+
+-- nothing
+pub unchanged : {A B : Type 0} (R : A → B → Type 0) (xs : List A) (before : List B) → AllRelated R xs before →
+    Gives {A = Unit {0}} (λ _ ts. AllRelated R xs (before ++ ts)) IsOutOfMemory (Ok tt) (Ok [])
+unchanged R xs before a = record { ok = subst (λ l. AllRelated R xs l) (sym (append-nil before)) a; err = tt }
+
+-- ---- two parts, one after the other
+
+-- the same answer at an equal outcome
+pub same_outcome : {A B : Type 0} {R : A → B → Type 0} {r : Outcome A} {o p : Outcome B} → p ≡ o → Gives R IsOutOfMemory r o → Gives R IsOutOfMemory r p
+same_outcome {A} {B} {R} {r} e h = subst (λ z. Gives R IsOutOfMemory r z) (sym e) h
+
+-- the same outcome of an equal answer
+pub same_answer : {A B : Type 0} {R : A → B → Type 0} {r s : Outcome A} {o : Outcome B} → s ≡ r → Gives R IsOutOfMemory r o → Gives R IsOutOfMemory s o
+same_answer {A} {B} {R} {r} {s} {o} e h = subst (λ z. Gives R IsOutOfMemory z o) (sym e) h
+
+-- a refusal, whatever the values would be
+pub refused_as : {A B C : Type 0} {R : A → B → Type 0} {Q : C → B → Type 0} {e : Error} {o : Outcome B} → Gives R IsOutOfMemory (Err e) o
+    → Gives Q IsOutOfMemory (Err e) o
+refused_as h = record { ok = tt; err = h.err }
+
+-- a value is never a refusal
+pub only_memory : {A B C D : Type 0} {R : A → B → Type 0} {Q : C → D → Type 0} {e : Error} {x : B} {y : D} → Gives R IsOutOfMemory (Err e) (Ok x)
+    → Gives Q IsOutOfMemory (Err e) (Ok y)
+only_memory h = record { ok = tt; err = elim h.err [ inl memory ↦ inl memory | inr is ↦ cc ] }
+
+-- a value of the first part goes on
+pub with_ok : {B D : Type 0} (P : B → Type 0) (Q : Outcome D → Type 0) (o : Outcome B) (next : B → Outcome D) → IsOkAnd o P → ((y : B) → P y → Q (next y))
+    → Q (and_then o next)
+with_ok P Q (Ok y) next h go = go y h
+with_ok P Q (Err e) next h go = absurd h
+
+-- what a first part with a value leaves to the rest
+pub continued : {B C : Type 0} (P : B → Type 0) (o : Outcome B) (next : B → Outcome C) → IsOkAnd o P → (us : B) × P us × (and_then o next ≡ next us)
+continued P (Ok us) next h = (us, h, refl)
+continued P (Err e) next h = absurd h
+
+-- a refusal of the first part is that of the whole
+pub first_refused : {A B C D : Type 0} {R : A → B → Type 0} {S : C → D → Type 0} {e : Error} {o : Outcome B} (next : B → Outcome D) →
+    Gives R IsOutOfMemory (Err e) o → Gives S IsOutOfMemory (Err e) (and_then o next)
+first_refused {e = e} {o = o} next h = record {
+  ok = tt;
+  err = elim h.err [ inl memory ↦ inl memory | inr is ↦ inr (ap (λ v. and_then v next) is) ];
+}
+
+-- a value of the first part, and the answer of what follows
+pub followed : {A B C D : Type 0} {R : A → B → Type 0} {S : C → D → Type 0} {x : A} {r : Outcome C} {o : Outcome B} (next : B → Outcome D) →
+    Gives R IsOutOfMemory (Ok x) o → ((a : B) → R x a → Gives S IsOutOfMemory r (next a)) → Gives S IsOutOfMemory r (and_then o next)
+followed {R = R} {S = S} {x = x} {r = r} {o = o} next h go = with_ok (R x) (λ w. Gives S IsOutOfMemory r w) o next h.ok go
+
+pub one_ok : {A B C D : Type 0} {R : A → B → Type 0} {S : C → D → Type 0} {x : A} {z : C} {o : Outcome B} (next : B → Outcome D) →
+    Gives R IsOutOfMemory (Ok x) o → ((a : B) → R x a → IsOkAnd (next a) (S z)) → Gives S IsOutOfMemory (Ok z) (and_then o next)
+one_ok {R = R} {S = S} {x = x} {z = z} {o = o} next h go =
+    record { ok = with_ok (R x) (λ w. IsOkAnd w (S z)) o next h.ok go; err = tt }
+
+-- two parts that have values
+pub both_ok : {A B C D E F : Type 0} {R : A → B → Type 0} {Q : C → D → Type 0} {S : E → F → Type 0} {x : A} {y : C} {z : E} {o : Outcome B} {p : Outcome D}
+    (next : B → D → Outcome F) →
+    Gives R IsOutOfMemory (Ok x) o → Gives Q IsOutOfMemory (Ok y) p → ((a : B) (b : D) → R x a → Q y b → IsOkAnd (next a b) (S z))
+    → Gives S IsOutOfMemory (Ok z) (and_then o (λ a. and_then p (next a)))
+both_ok {R = R} {Q = Q} {S = S} {x = x} {y = y} {z = z} {o = o} {p = p} next g h go = record {
+  ok = with_ok (R x) (λ w. IsOkAnd w (S z)) o (λ a. and_then p (next a)) g.ok (λ a r. with_ok (Q y) (λ w. IsOkAnd w (S z)) p (next a) h.ok (λ b q. go a b r q));
+  err = tt;
+}
+
+pub second_refused : {A B C D E F : Type 0} {R : A → B → Type 0} {Q : C → D → Type 0} {S : E → F → Type 0} {x : A} {e : Error} {o : Outcome B} {p : Outcome D}
+    (next : B → D → Outcome F) →
+    Gives R IsOutOfMemory (Ok x) o → Gives Q IsOutOfMemory (Err e) p → Gives S IsOutOfMemory (Err e) (and_then o (λ a. and_then p (next a)))
+second_refused {R = R} {Q = Q} {S = S} {x = x} {e = e} {o = o} {p = p} next g h =
+    with_ok (R x) (λ w. Gives S IsOutOfMemory (Err e) w) o (λ a. and_then p (next a)) g.ok (λ a r. first_refused {R = Q} (next a) h)
+
+-- by the value of a first part
+pub given_by : {A C D : Type 0} {Q : C → D → Type 0} {R : A → D → Type 0} {c : C} {r : Outcome A} {o : Outcome D} → Gives Q IsOutOfMemory (Ok c) o
+    → ((x : D) → Q c x → Gives R IsOutOfMemory r (Ok x)) → Gives R IsOutOfMemory r o
+given_by {Q = Q} {R = R} {c = c} {r = r} {o = Ok x} h go = go x h.ok
+given_by {Q = Q} {R = R} {c = c} {r = r} {o = Err e} h go = absurd h.ok
+
+-- ---- what was found: the value under a key, the children of a container
+
+module _ {A V : Type 0} {S : A → List Tree → Type 0} {r : Outcome A} (mode : Mode) (otherwise : List Tree) (R : V → List Tree → Type 0) where
+  pub listed : (g : List Tree → List Tree) (v : V) (o : Option (List Tree)) → SameOption R (Some v) o
+      → ((us : List Tree) → R v us → Gives S IsOutOfMemory r (Ok (g us))) →
+      Gives S IsOutOfMemory r (list_or mode otherwise (option_map g o))
+  listed g v (Some us) h go = go us h
+  listed g v None h go = absurd h
+
+  pub listed_itself : (v : V) (o : Option (List Tree)) → SameOption R (Some v) o → ((us : List Tree) → R v us → Gives S IsOutOfMemory r (Ok us))
+      → Gives S IsOutOfMemory r (list_or mode otherwise o)
+  listed_itself v (Some us) h go = go us h
+  listed_itself v None h go = absurd h
+
+  pub unlisted : (o : Option (List Tree)) → SameOption R None o → Gives S IsOutOfMemory r (list_or mode otherwise None)
+      → Gives S IsOutOfMemory r (list_or mode otherwise o)
+  unlisted (Some us) h g = absurd h
+  unlisted None h g = g
+
+-- one part that was found
+pub found_one : {A V : Type 0} {S : A → List Tree → Type 0} {r : Outcome A} (mode : Mode) (otherwise : List Tree) (R : V → Tree → Type 0)
+    (g : Tree → List Tree) (v : V) (o : Option Tree) →
+    SameOption R (Some v) o → ((u : Tree) → R v u → Gives S IsOutOfMemory r (Ok (g u))) → Gives S IsOutOfMemory r (list_or mode otherwise (option_map g o))
+found_one mode otherwise R g v (Some u) h go = go u h
+found_one mode otherwise R g v None h go = absurd h

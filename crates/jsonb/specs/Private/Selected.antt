@@ -1,0 +1,9 @@
+-- How many parts a path selects.
+use Rattle.std.specs.Prelude.{ℕ, length}
+use Rattle.jsonb.specs.Private.Selection.{node_spots}
+use Rattle.jsonb.specs.declared.selector.selected.Selected.{Selected}
+use Rattle.jsonb.specs.declared.selector.selected.Selected.TheVariants as selected
+
+abbrev pub selected_len : Selected → ℕ
+selected_len (selected.Nodes spots) = length (node_spots spots)
+selected_len (selected.Items parts) = length parts.items

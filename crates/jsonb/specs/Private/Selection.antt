@@ -1,0 +1,110 @@
+-- What a path selects: places of the document, or what an expression makes.
+use Rattle.std.specs.Prelude.{◌≡◌, Bool, true, false, List, [], ◌∷◌, map, Option, Some, None, Ok, Err, if◌then◌else◌}
+use Rattle.jsonb_doc.specs.Answer.{Outcome}
+use Rattle.jsonb_doc.specs.declared.error.Error.TheVariants.{InvalidJsonPath}
+use Rattle.jsonb_doc.specs.declared.spot.Spot.{Spot}
+use Rattle.jsonb_doc.specs.declared.number.Number.{Number as CodeNumber}
+use Rattle.jsonb_doc.specs.Number.{Number}
+use Rattle.jsonb_doc.specs.View.{number_view}
+use Rattle.jsonb_doc.specs.Payload.{Form}
+use Rattle.jsonb_doc.specs.Item.{StandsFor}
+use Rattle.jsonb_doc.specs.Spots.{Locates}
+use Rattle.jsonb_doc.specs.Tree.{Tree, number, array, trees_of}
+use Rattle.jsonb.specs.PathTree.{Expression, Step, current, filter, whole_expression}
+use Rattle.jsonb.specs.Related.{AllRelated}
+use Rattle.jsonb.specs.Values as val
+use Rattle.jsonb.specs.declared.selector.document.Document.{Document}
+use Rattle.jsonb.specs.declared.selector.document.Expressions.{Expressions}
+use Rattle.jsonb.specs.declared.selector.document.Expressions.TheVariants as expressions
+use Rattle.jsonb.specs.declared.selector.atom.Atom.{Atom}
+use Rattle.jsonb.specs.declared.selector.atom.Atom.TheVariants as atom
+use Rattle.jsonb.specs.declared.selector.atom.Atoms.{Atoms}
+use Rattle.jsonb.specs.declared.selector.atom.Atoms.TheVariants as atoms
+use Rattle.jsonb.specs.declared.selector.node_list.NodeList.{NodeList}
+use Rattle.jsonb.specs.declared.selector.node_list.NodeList.TheVariants as node_list
+use Rattle.jsonb.specs.declared.selector.selected.MadeItem.{MadeItem}
+use Rattle.jsonb.specs.declared.selector.selected.MadeItem.TheVariants as made_item
+use Rattle.jsonb.specs.declared.selector.selected.Selected.{Selected}
+use Rattle.jsonb.specs.declared.selector.selected.Selected.TheVariants as selected
+
+-- the tree is the one at this place of the document
+abbrev pub IsAt : Document → Spot → Tree → Type 0
+IsAt document spot t = Locates document.bytes.now spot t
+
+abbrev pub HasTree : Document → Tree → Type 0
+HasTree document t = IsAt document document.root t
+
+-- the value that an operand's value is
+abbrev pub atom_value : Atom → val.Value
+atom_value atom.Null = val.null
+atom_value (atom.Boolean b) = val.boolean b
+atom_value (atom.Number n) = val.number (number_view n)
+atom_value (atom.String s) = val.text s.now
+atom_value atom.Raw = val.raw
+
+abbrev pub option_atoms : Option Atom → List val.Value
+option_atoms (Some o) = atom_value o ∷ []
+option_atoms None = []
+
+abbrev pub atoms_view : Atoms → List val.Value
+atoms_view (atoms.One o) = atom_value o ∷ []
+atoms_view (atoms.Many v) = map atom_value v.items
+
+abbrev pub option_spots : Option Spot → List Spot
+option_spots (Some spot) = spot ∷ []
+option_spots None = []
+
+-- the places that were found
+abbrev pub node_spots : NodeList → List Spot
+node_spots (node_list.One spot) = spot ∷ []
+node_spots (node_list.Many v) = v.items
+
+-- the list of an item that a filter keeps, or does not
+abbrev pub IsKept : Tree → Bool → List Tree → Type 0
+IsKept t keeps ts = ts ≡ (if keeps then t ∷ [] else [])
+
+-- the part is the tree: an item, or an array of one
+abbrev pub IsMadeItem : Form → MadeItem → Tree → Type 0
+IsMadeItem form (made_item.Item item) t = StandsFor form item t
+IsMadeItem form (made_item.ArrayOf item) t = (u : Tree) × (t ≡ array (trees_of (u ∷ []))) × StandsFor form item u
+
+-- what is selected are these trees
+abbrev pub AreSelected : Form → Document → Selected → List Tree → Type 0
+AreSelected form document (selected.Nodes places) ts = AllRelated (IsAt document) (node_spots places) ts
+AreSelected form document (selected.Items v) ts = AllRelated (IsMadeItem form) v.items ts
+
+-- what a step is where an expression is a filter, or refused
+abbrev pub taken_as : Expressions → Expression → Step
+taken_as expressions.AreFilters e = filter e
+taken_as expressions.AreRefused e = whole_expression e
+
+abbrev pub taken_step : Expressions → Step → Step
+taken_step all (whole_expression e) = taken_as all e
+taken_step all s = s
+
+-- the expression of a step, and the one that is the whole path
+abbrev pub step_expression : Step → Option Expression
+step_expression (whole_expression e) = Some e
+step_expression _ = None
+
+abbrev pub only_expression : List Step → Option Expression
+only_expression (s ∷ []) = step_expression s
+only_expression _ = None
+
+abbrev pub begins_with_current : List Step → Bool
+begins_with_current (current ∷ rest) = true
+begins_with_current _ = false
+
+-- the list of a number of the code
+abbrev pub IsNumberTree : CodeNumber → List Tree → Type 0
+IsNumberTree m ts = number (number_view m) ∷ [] ≡ ts
+
+-- the number that a value is; another value is refused
+abbrev pub value_number : val.Value → Outcome (List Number)
+value_number (val.number n) = Ok (n ∷ [])
+value_number _ = Err InvalidJsonPath
+
+-- the one value, where it is one number
+abbrev pub only_number : List val.Value → Option Number
+only_number (val.number n ∷ []) = Some n
+only_number _ = None

@@ -1,0 +1,6 @@
+-- What the contracts of private functions say beyond the words of the others. No public clause cites these.
+pub mod Builders
+pub mod Lengths
+pub mod Stored
+pub mod Checking
+pub mod Containers

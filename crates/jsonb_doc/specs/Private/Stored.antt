@@ -1,0 +1,72 @@
+-- The iterator over the stored entries of a container.
+use Rattle.std.specs.Prelude.{◌≡◌, ℕ, ◌+◌, ◌/◌, ◌≤◌, List, [], ◌∷◌, length, Option, Some, None, Result, Ok, Err, IfSome, IfNone, IfOk, IfErr}
+use Rattle.std.specs.Borrow.{Bor}
+use Rattle.jsonb_doc.specs.Tree.{Tree, text, Trees, no_trees, tree, Pairs, no_pairs, pair, keys, values}
+use Rattle.jsonb_doc.specs.Payload.{Form, number_reader}
+use Rattle.jsonb_doc.specs.Format.{IsContent, AreEntries, AreKeys}
+use Rattle.jsonb_doc.specs.Answer.{IsDecodingError}
+use Rattle.jsonb_doc.specs.declared.entry_iter.EntryIter.{EntryIter}
+use Rattle.jsonb_doc.specs.declared.entry_iter.StoredEntry.{StoredEntry}
+use Rattle.jsonb_doc.specs.declared.entry_iter.PairEntryIter.{PairEntryIter}
+use Rattle.jsonb_doc.specs.declared.error.Error.{Error}
+
+-- the entries of these trees are left in the iterator
+pub record HasEntriesLeft (form : Form) (it : EntryIter) (ts : Trees) : Type 0 where
+  pub entries : AreEntries (number_reader form) ts it.words.now it.contents.now
+
+-- the entry stores the tree
+pub record Stores (form : Form) (e : StoredEntry) (t : Tree) : Type 0 where
+  pub content : IsContent (number_reader form) t e.kind e.content.now
+
+-- at most how many entries the iterator gives, on any bytes
+abbrev pub entries_bound : EntryIter → ℕ
+entries_bound it = (length it.words.now + 3) / 4
+
+-- at most how many bytes an entry of the iterator has, on any bytes
+abbrev pub entries_room : EntryIter → ℕ
+entries_room it = length it.contents.now
+
+-- the answer is the entry of the first of the trees, and the others are left
+abbrev pub TakesEntry : Form → Trees → Option (Result StoredEntry Error) → EntryIter → Type 0
+TakesEntry form no_trees None after = HasEntriesLeft form after no_trees
+TakesEntry form no_trees (Some r) after = ⊥
+TakesEntry form (tree t ts) None after = ⊥
+TakesEntry form (tree t ts) (Some (Err e)) after = ⊥
+TakesEntry form (tree t ts) (Some (Ok entry)) after = Stores form entry t × HasEntriesLeft form after ts
+
+-- What a call of `next` does. On any bytes it gives an entry, an error or `None`, and after `None` nothing more.
+pub record GivesEntry (before : EntryIter) (r : Option (Result StoredEntry Error)) (after : EntryIter) : Type 0 where
+  pub takes : (form : Form) (ts : Trees) → HasEntriesLeft form before ts → TakesEntry form ts r after
+  pub errors : IfSome r (λ x. IfErr x IsDecodingError)
+  pub ended : IfNone r (entries_bound after ≡ 0)
+  pub size : IfSome r (λ x. IfOk x (λ entry. length entry.content.now ≤ entries_room before))
+  pub room : entries_room after ≤ entries_room before
+
+-- ---- pairs
+
+-- keys as texts
+abbrev pub key_trees : List (List ℕ) → Trees
+key_trees [] = no_trees
+key_trees (key ∷ ks) = tree (text key) (key_trees ks)
+
+-- the entries of these pairs are left in the iterator
+pub record HasPairEntriesLeft (form : Form) (it : PairEntryIter) (ps : Pairs) : Type 0 where
+  pub are_keys : AreKeys (keys ps)
+  pub names : HasEntriesLeft form it.keys (key_trees (keys ps))
+  pub parts : HasEntriesLeft form it.values (values ps)
+
+-- the answer is the key and the entry of the first of the pairs, and the others are left
+abbrev pub TakesPairEntry : Form → Pairs → Option (Result (Bor (List ℕ) × StoredEntry) Error) → PairEntryIter → Type 0
+TakesPairEntry form no_pairs None after = HasPairEntriesLeft form after no_pairs
+TakesPairEntry form no_pairs (Some r) after = ⊥
+TakesPairEntry form (pair key t ps) None after = ⊥
+TakesPairEntry form (pair key t ps) (Some (Err e)) after = ⊥
+TakesPairEntry form (pair key t ps) (Some (Ok given)) after = (given.0.now ≡ key) × Stores form given.1 t × HasPairEntriesLeft form after ps
+
+-- What a call of `next` does. On any bytes it gives a pair, an error or `None`, and after `None` nothing more.
+pub record GivesPairEntry (before : PairEntryIter) (r : Option (Result (Bor (List ℕ) × StoredEntry) Error)) (after : PairEntryIter) : Type 0 where
+  pub takes : (form : Form) (ps : Pairs) → HasPairEntriesLeft form before ps → TakesPairEntry form ps r after
+  pub errors : IfSome r (λ x. IfErr x IsDecodingError)
+  pub ended : IfNone r (entries_bound after.keys ≡ 0)
+  pub size : IfSome r (λ x. IfOk x (λ given. length given.1.content.now ≤ entries_room before.values))
+  pub room : entries_room after.values ≤ entries_room before.values

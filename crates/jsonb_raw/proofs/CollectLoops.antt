@@ -1,0 +1,42 @@
+-- A loop that makes one value for each part: those that were made, followed by the parts that are left, are the whole.
+use Rattle.std.proofs.Common.{◌≡◌, List, [], ◌∷◌, ◌++◌, suc, arith, refl, sym, subst, ◌∙◌, append_assoc, append-nil}
+use Rattle.std.specs.List.{Any, AllZip}
+
+-- R holds of what was made and the parts in front
+pub record Made {A B : Type 0} (R : A → B → Type 0) (made : List A) (left whole : List B) : Type 0 where
+  pub front : List B
+  pub each : AllZip R made front
+  pub joined : front ++ left ≡ whole
+
+-- at first nothing is made
+pub none_made : {A B : Type 0} (R : A → B → Type 0) (made : List A) (whole : List B) → made ≡ [] → Made R made whole whole
+none_made R made whole is = record { front = []; each = rw is tt; joined = refl }
+
+pushed_each : {A B : Type 0} (R : A → B → Type 0) (xs : List A) (ys : List B) (x : A) (y : B) → AllZip R xs ys → R x y → AllZip R (xs ++ x ∷ []) (ys ++ y ∷ [])
+pushed_each R [] [] x y each r = (r, tt)
+pushed_each R [] (v ∷ ys) x y each r = absurd each
+pushed_each R (u ∷ xs) [] x y each r = absurd each
+pushed_each R (u ∷ xs) (v ∷ ys) x y each r = (each.0, pushed_each R xs ys x y each.1 r)
+
+-- with a value for the next part, the rest is left
+pub one_made : {A B : Type 0} (R : A → B → Type 0) (made made' : List A) (x : A) (y : B) (left whole : List B) → made' ≡ made ++ x ∷ [] → R x y
+    → Made R made (y ∷ left) whole → Made R made' left whole
+one_made R made made' x y left whole is r m = record {
+  front = m.front ++ y ∷ [];
+  each = rw is (pushed_each R made m.front x y m.each r);
+  joined = append_assoc m.front (y ∷ []) left ∙ m.joined;
+}
+
+-- at last each is made
+pub all_made : {A B : Type 0} (R : A → B → Type 0) (made : List A) (whole : List B) → Made R made [] whole → AllZip R made whole
+all_made R made whole m = subst (AllZip R made) (sym (append-nil m.front) ∙ m.joined) m.each
+
+pub any_here : {B : Type 0} (P : B → Type 0) (front left : List B) (y : B) → P y → Any P (front ++ y ∷ left)
+any_here P [] left y p = (0, y, omega arith, refl, p)
+any_here P (x ∷ xs) left y p =
+    let more = any_here P xs left y p in (suc more.0, more.1, omega (arith, more.2), more.3, more.4)
+
+-- what holds of the next part holds of one of the whole
+pub one_of_whole : {A B : Type 0} (R : A → B → Type 0) (P : B → Type 0) (made : List A) (y : B) (left whole : List B) → P y → Made R made (y ∷ left) whole
+    → Any P whole
+one_of_whole R P made y left whole p m = subst (Any P) m.joined (any_here P m.front left y p)

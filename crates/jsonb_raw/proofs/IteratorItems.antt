@@ -1,0 +1,95 @@
+-- What an iterator of a document has left, as a loop's invariant says it.
+use Rattle.std.proofs.Common.{◌≡◌, ℕ, List, Option, Some, None, Result, Ok, Err, sym, ap, subst}
+use Rattle.std.specs.Borrow.{Bor}
+use Rattle.jsonb_doc.specs.declared.error.Error.{Error}
+use Rattle.jsonb_doc.specs.declared.item.Item.{Item}
+use Rattle.jsonb_doc.specs.declared.pair_iter.PairIter.{PairIter}
+use Rattle.jsonb_doc.specs.declared.element_iter.ElementIter.{ElementIter}
+use Rattle.jsonb_doc.specs.Tree.{Tree, array, object, Trees, no_trees, tree, Pairs, no_pairs, pair}
+use Rattle.jsonb_doc.specs.Payload.{Form}
+use Rattle.jsonb_doc.specs.Item.{StandsFor}
+use Rattle.jsonb_doc.specs.Elements.{HasElementsLeft, TakesElement, GivesElement, IsElementsOf}
+use Rattle.jsonb_doc.specs.ObjectPairs.{HasPairsLeft, TakesPair, GivesPair, IsPairsOf}
+
+-- the elements that are left have the property Q
+pub record SomeElements (form : Form) (it : ElementIter) (Q : Trees → Type 0) : Type 0 where
+  pub trees : Trees
+  pub left : HasElementsLeft form it trees
+  pub fact : Q trees
+
+-- the pairs that are left have the property Q
+pub record SomePairs (form : Form) (it : PairIter) (Q : Pairs → Type 0) : Type 0 where
+  pub pairs : Pairs
+  pub left : HasPairsLeft form it pairs
+  pub fact : Q pairs
+
+-- at first all is left
+pub SomeElements-all : (form : Form) (ts : Trees) (found : Option ElementIter) (it it' : ElementIter) (Q : Trees → Type 0) → found ≡ Some it → it' ≡ it
+    → IsElementsOf form (array ts) found → Q ts → SomeElements form it' Q
+SomeElements-all form ts found it it' Q e f h q = record { trees = ts; left = rw f (rw e at h); fact = q }
+
+pub SomePairs-all : (form : Form) (ps : Pairs) (found : Option PairIter) (it it' : PairIter) (Q : Pairs → Type 0) → found ≡ Some it → it' ≡ it
+    → IsPairsOf form (object ps) found → Q ps → SomePairs form it' Q
+SomePairs-all form ps found it it' Q e f h q = record { pairs = ps; left = rw f (rw e at h); fact = q }
+
+module _ {G : Type 0} where
+  first_tree : (form : Form) (it' : ElementIter) (x : Item) (Q : Trees → Type 0) (ts : Trees) → TakesElement form ts (Some (Ok x)) it' → Q ts
+      → ((first : Tree) (rest : Trees) → HasElementsLeft form it' rest → StandsFor form x first → Q (tree first rest) → G) → G
+  first_tree form it' x Q no_trees h q go = absurd h
+  first_tree form it' x Q (tree t ts) h q go = go t ts h.1 h.0 q
+
+  -- the item that `next` gave stands for the first of what was left
+  pub SomeElements-first : (form : Form) (it it' : ElementIter) (r : Result Item Error) (x : Item) (Q : Trees → Type 0) → r ≡ Ok x
+      → GivesElement it (Some r) it' → SomeElements form it Q
+      → ((first : Tree) (rest : Trees) → HasElementsLeft form it' rest → StandsFor form x first → Q (tree first rest) → G) → G
+  SomeElements-first form it it' r x Q e n s go =
+      first_tree form it' x Q s.trees (subst (λ (y : Result Item Error). TakesElement form s.trees (Some y) it') e (n.takes form s.trees s.left)) s.fact go
+
+  no_first_error : (form : Form) (it' : ElementIter) (e : Error) (ts : Trees) → TakesElement form ts (Some (Err e)) it' → G
+  no_first_error form it' e no_trees h = absurd h
+  no_first_error form it' e (tree t ts) h = absurd h
+
+  -- `next` gives no error while elements are left
+  pub SomeElements-error : (form : Form) (it it' : ElementIter) (r : Result Item Error) (e : Error) (Q : Trees → Type 0) → r ≡ Err e
+      → GivesElement it (Some r) it' → SomeElements form it Q → G
+  SomeElements-error form it it' r e Q same n s =
+      no_first_error form it' e s.trees (subst (λ (y : Result Item Error). TakesElement form s.trees (Some y) it') same (n.takes form s.trees s.left))
+
+  first_pair : (form : Form) (it' : PairIter) (x : Bor (List ℕ) × Item) (Q : Pairs → Type 0) (ps : Pairs) → TakesPair form ps (Some (Ok x)) it' → Q ps
+      → ((value : Tree) (rest : Pairs) → HasPairsLeft form it' rest → StandsFor form x.1 value → Q (pair x.0.now value rest) → G) → G
+  first_pair form it' x Q no_pairs h q go = absurd h
+  first_pair form it' x Q (pair key t ps) h q go = go t ps h.2 h.1 (subst Q (ap (λ k. pair k t ps) (sym h.0)) q)
+
+  -- the key and the item that `next` gave are the first pair of what was left
+  pub SomePairs-first : (form : Form) (it it' : PairIter) (r : Result (Bor (List ℕ) × Item) Error) (x : Bor (List ℕ) × Item) (Q : Pairs → Type 0) → r ≡ Ok x
+      → GivesPair it (Some r) it' → SomePairs form it Q
+      → ((value : Tree) (rest : Pairs) → HasPairsLeft form it' rest → StandsFor form x.1 value → Q (pair x.0.now value rest) → G) → G
+  SomePairs-first form it it' r x Q e n s go =
+      first_pair form it' x Q s.pairs
+      (subst (λ (y : Result (Bor (List ℕ) × Item) Error). TakesPair form s.pairs (Some y) it') e (n.takes form s.pairs s.left)) s.fact go
+
+  no_pair_error : (form : Form) (it' : PairIter) (e : Error) (ps : Pairs) → TakesPair form ps (Some (Err e)) it' → G
+  no_pair_error form it' e no_pairs h = absurd h
+  no_pair_error form it' e (pair key t ps) h = absurd h
+
+  -- `next` gives no error while pairs are left
+  pub SomePairs-error : (form : Form) (it it' : PairIter) (r : Result (Bor (List ℕ) × Item) Error) (e : Error) (Q : Pairs → Type 0) → r ≡ Err e
+      → GivesPair it (Some r) it' → SomePairs form it Q → G
+  SomePairs-error form it it' r e Q same n s =
+      no_pair_error form it' e s.pairs
+      (subst (λ (y : Result (Bor (List ℕ) × Item) Error). TakesPair form s.pairs (Some y) it') same (n.takes form s.pairs s.left))
+
+no_more_trees : (form : Form) (it' : ElementIter) (Q : Trees → Type 0) (ts : Trees) → TakesElement form ts None it' → Q ts → Q no_trees
+no_more_trees form it' Q no_trees h q = q
+no_more_trees form it' Q (tree t ts) h q = absurd h
+
+-- where `next` gave none, none was left
+pub SomeElements-none : (form : Form) (it it' : ElementIter) (Q : Trees → Type 0) → GivesElement it None it' → SomeElements form it Q → Q no_trees
+SomeElements-none form it it' Q n s = no_more_trees form it' Q s.trees (n.takes form s.trees s.left) s.fact
+
+no_more_pairs : (form : Form) (it' : PairIter) (Q : Pairs → Type 0) (ps : Pairs) → TakesPair form ps None it' → Q ps → Q no_pairs
+no_more_pairs form it' Q no_pairs h q = q
+no_more_pairs form it' Q (pair key t ps) h q = absurd h
+
+pub SomePairs-none : (form : Form) (it it' : PairIter) (Q : Pairs → Type 0) → GivesPair it None it' → SomePairs form it Q → Q no_pairs
+SomePairs-none form it it' Q n s = no_more_pairs form it' Q s.pairs (n.takes form s.pairs s.left) s.fact

@@ -1,0 +1,85 @@
+-- Containers as bytes: their entries in a row, one of them replaced or left out.
+use Rattle.std.specs.Prelude.{◌≡◌, ℕ, ◌+◌, ◌*◌, ◌^◌, ◌<◌, ◌≤◌, List, [], ◌∷◌, ◌++◌, length, slice_range, Option, Some, None, ⊤}
+use Rattle.std.specs.Int.{w32, to_be_bytes}
+use Rattle.jsonb_doc.specs.Tree.{Tree}
+use Rattle.jsonb_doc.specs.Payload.{NumberReader}
+use Rattle.jsonb_doc.specs.Format.{IsContent, container_entry, entry_word}
+use Rattle.jsonb_doc.specs.Encoding.{EntryParts}
+use Rattle.jsonb_doc.specs.ObjectBuilder.{FitsEntry, words_of_entries, contents_of_entries}
+use Rattle.jsonb_raw.specs.declared.functions.path.entry_place.EntryPlace.{EntryPlace}
+use Rattle.jsonb_raw.specs.declared.functions.path.entry_place.ChildEntries.{ChildEntries}
+use Rattle.jsonb_raw.specs.Deletes.{change_child}
+
+-- each of the entries has its place in the format
+abbrev pub FitEntries : List EntryParts → Type 0
+FitEntries [] = ⊤
+FitEntries (e ∷ es) = FitsEntry e × FitEntries es
+
+-- the bytes are a header, and the words and the contents of these entries
+pub record HoldEntries (bytes : List ℕ) (es : List EntryParts) : Type 0 where
+  pub head : List ℕ
+  pub four : length head ≡ 4
+  pub within : FitEntries es
+  pub joined : bytes ≡ head ++ (words_of_entries es ++ contents_of_entries es)
+
+-- the place of an entry that these others stand before, of so many
+pub record IsPlaceOf (place : EntryPlace) (total : ℕ) (front : List EntryParts) (e : EntryParts) : Type 0 where
+  pub word : place.word ≡ 4 + 4 * length front
+  pub start : place.start ≡ 4 + 4 * total + length (contents_of_entries front)
+  pub end : place.end ≡ 4 + 4 * total + length (contents_of_entries front) + length e.1
+
+-- the content of an entry
+abbrev pub content_at : List ℕ → EntryPlace → List ℕ
+content_at bytes place = slice_range bytes place.start place.end
+
+-- the container with another container as the content of an entry
+abbrev pub with_content : List ℕ → EntryPlace → List ℕ → List ℕ
+with_content bytes place content =
+    slice_range bytes 0 place.word ++ (entry_word container_entry (length content)
+    ++ (slice_range bytes (place.word + 4) place.start ++ (content ++ slice_range bytes place.end (length bytes))))
+
+-- the parts of the bytes around the entries of a child
+abbrev pub around : List ℕ → Option EntryPlace → EntryPlace → List ℕ
+around bytes None value =
+    slice_range bytes 4 value.word ++ (slice_range bytes (value.word + 4) value.start ++ slice_range bytes value.end (length bytes))
+around bytes (Some key) value =
+    slice_range bytes 4 key.word ++ (slice_range bytes (key.word + 4) value.word ++ (slice_range bytes (value.word + 4) key.start
+    ++ (slice_range bytes key.end value.start ++ slice_range bytes value.end (length bytes))))
+
+-- the container without a child
+abbrev pub without_child : List ℕ → ChildEntries → List ℕ
+without_child bytes child = to_be_bytes w32 child.header ++ around bytes child.key child.value
+
+-- the place lies within so many bytes, its word before its content
+abbrev pub LiesWithin : EntryPlace → ℕ → Type 0
+LiesWithin place len = (place.word + 4 ≤ place.start) × (place.start ≤ place.end) × (place.end ≤ len)
+
+-- behind a header, the words of the entries stand before their contents, a key's before its value's
+abbrev pub AreInOrder : Option EntryPlace → EntryPlace → ℕ → Type 0
+AreInOrder None value len = (4 ≤ value.word) × LiesWithin value len
+AreInOrder (Some key) value len =
+    (4 ≤ key.word) × (key.word + 4 ≤ value.word) × (value.word + 4 ≤ key.start) × (key.start ≤ key.end) × (key.end ≤ value.start)
+    × (value.start ≤ value.end) × (value.end ≤ len)
+
+-- The entries are those of the child at a position of a container's tree: its content stands there, and without it, or
+-- with another content in its place, the bytes are those of the changed tree.
+pub record AreOfChild (number_at : NumberReader) (bytes : List ℕ) (t : Tree) (n : ℕ) (child : Tree) (entries : ChildEntries) : Type 0 where
+  pub kind : ℕ
+  pub content : IsContent number_at child kind (content_at bytes entries.value)
+  pub short : length (content_at bytes entries.value) < 2 ^ 28
+  pub within : LiesWithin entries.value (length bytes)
+  pub ordered : AreInOrder entries.key entries.value (length bytes)
+  pub cut : (change : Tree → Option Tree) → change child ≡ None → IsContent number_at (change_child n change t) container_entry (without_child bytes entries)
+  pub shorter : length (without_child bytes entries) ≤ length bytes
+  pub changed : (change : Tree → Option Tree) (child' : Tree) (content' : List ℕ) → change child ≡ Some child'
+      → IsContent number_at child' container_entry content' → length content' ≤ length (content_at bytes entries.value)
+      → IsContent number_at (change_child n change t) container_entry (with_content bytes entries.value content')
+  pub no_longer : (content' : List ℕ) → length content' ≤ length (content_at bytes entries.value)
+      → length (with_content bytes entries.value content') ≤ length bytes
+
+-- the bytes of a container of this tree, of so many bytes at most, were put behind the others
+pub record IsPushed (number_at : NumberReader) (t : Tree) (most : ℕ) (before after : List ℕ) : Type 0 where
+  pub bytes : List ℕ
+  pub joined : after ≡ before ++ bytes
+  pub short : length bytes ≤ most
+  pub content : IsContent number_at t container_entry bytes

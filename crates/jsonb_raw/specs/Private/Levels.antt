@@ -1,0 +1,68 @@
+-- What walks have left of containers.
+use Rattle.std.specs.Prelude.{◌≡◌, ◌≤◌, ◌<◌, ℕ, List, [], ◌∷◌, Option, Some, None, Result, Ok, ⊤}
+use Rattle.std.specs.Borrow.{Bor}
+use Rattle.jsonb_doc.specs.declared.error.Error.{Error}
+use Rattle.jsonb_doc.specs.declared.item.Item.{Item}
+use Rattle.jsonb_doc.specs.Tree as spec
+use Rattle.jsonb_doc.specs.Tree.{Tree, Trees}
+use Rattle.jsonb_doc.specs.Payload.{Form}
+use Rattle.jsonb_doc.specs.Item.{StandsFor, item_size}
+use Rattle.jsonb_doc.specs.Elements.{HasElementsLeft, elements_bound, elements_room}
+use Rattle.jsonb_doc.specs.ObjectPairs.{HasPairsLeft, pairs_bound, pairs_room}
+use Rattle.jsonb_raw.specs.declared.level.Level.{Level}
+use Rattle.jsonb_raw.specs.declared.level.Level.TheVariants.{Elements, Pairs}
+
+-- a part of a container: its key, where it is a value of an object, and its tree
+abbrev pub Part : Type 0
+Part = Option (List ℕ) × Tree
+
+abbrev pub parts_of_trees : Trees → List Part
+parts_of_trees spec.no_trees = []
+parts_of_trees (spec.tree t ts) = (None, t) ∷ parts_of_trees ts
+
+abbrev pub parts_of_pairs : spec.Pairs → List Part
+parts_of_pairs spec.no_pairs = []
+parts_of_pairs (spec.pair k t ps) = (Some k, t) ∷ parts_of_pairs ps
+
+abbrev pub parts : Tree → List Part
+parts (spec.array ts) = parts_of_trees ts
+parts (spec.object ps) = parts_of_pairs ps
+parts _ = []
+
+-- these parts are left
+abbrev pub HasPartsLeft : Form → Level → List Part → Type 0
+HasPartsLeft form (Elements it) ps = (ts : Trees) × HasElementsLeft form it ts × (ps ≡ parts_of_trees ts)
+HasPartsLeft form (Pairs it) ps = (qs : spec.Pairs) × HasPairsLeft form it qs × (ps ≡ parts_of_pairs qs)
+
+-- the level of a tree's parts; only what has none has no level
+abbrev pub IsLevelOf : Form → Tree → Option Level → Type 0
+IsLevelOf form t (Some level) = HasPartsLeft form level (parts t)
+IsLevelOf form t None = parts t ≡ []
+
+abbrev pub IsKeyOf : Option (Bor (List ℕ)) → Option (List ℕ) → Type 0
+IsKeyOf (Some text) (Some k) = text.now ≡ k
+IsKeyOf None None = ⊤
+IsKeyOf _ _ = ⊥
+
+-- the answer is the first of the parts, and the others are left
+abbrev pub TakesPart : Form → List Part → Result (Option (Option (Bor (List ℕ)) × Item)) Error → Level → Type 0
+TakesPart form [] (Ok None) after = ⊤
+TakesPart form [] _ after = ⊥
+TakesPart form (p ∷ ps) (Ok (Some given)) after = IsKeyOf given.0 p.0 × StandsFor form given.1 p.1 × HasPartsLeft form after ps
+TakesPart form (p ∷ ps) _ after = ⊥
+
+-- at most how many bytes an item of the level has, on any bytes
+abbrev pub level_room : Level → ℕ
+level_room (Elements it) = elements_room it
+level_room (Pairs it) = pairs_room it
+
+-- at most how many items the level gives, on any bytes
+abbrev pub level_bound : Level → ℕ
+level_bound (Elements it) = elements_bound it
+level_bound (Pairs it) = pairs_bound it
+
+-- with this item taken the level is smaller, on any bytes
+pub record IsSmaller (before : Level) (item : Item) (after : Level) : Type 0 where
+  pub size : item_size item ≤ level_room before
+  pub room : level_room after ≤ level_room before
+  pub bound : level_bound after < level_bound before

@@ -1,0 +1,58 @@
+-- How often the equality keys of elements are counted while an array is gone over.
+use Rattle.std.specs.Prelude.{◌≡◌, ℕ, ◌-◌, Bool, not, cond, if◌then◌else◌, List, [], ◌∷◌, Vec, unwrap_or, count_by}
+use Rattle.std.specs.Ordering.{nat_cmp}
+use Rattle.std.specs.List.{AllByRecursion}
+use Rattle.std.specs.declared.cmp.Ordering.{Ordering}
+use Rattle.std.specs.declared.alloc.Global.{Global}
+use Rattle.std.specs.Cmp.Lexicographic.{slice_cmp}
+use Rattle.std.specs.Str.{bytes_eq}
+use Rattle.std.specs.BTreeMap as map
+use Rattle.jsonb_doc.specs.Tree.{Tree}
+use Rattle.jsonb_doc.specs.Limits.{Fits}
+use Rattle.jsonb_raw.specs.EqualityKey.{equality_key}
+use Rattle.jsonb_raw.specs.Sets.{Occurrence, is_first, is_shared}
+use Rattle.jsonb_raw.specs.declared.functions.array.counts.KeyCounts.{KeyCounts}
+use Rattle.jsonb_raw.specs.declared.functions.array.sets.Kept.{Kept}
+use Rattle.jsonb_raw.specs.declared.functions.array.sets.Kept.TheVariants.{First, Shared, Unshared}
+
+-- the order of keys, as a map compares them
+abbrev pub key_cmp : Vec ℕ Global → Vec ℕ Global → Ordering
+key_cmp v w = slice_cmp nat_cmp v.items w.items
+
+-- how often the key is counted
+abbrev pub counted : KeyCounts → Vec ℕ Global → ℕ
+counted m key = unwrap_or (map.get key_cmp m.counts key) 0
+
+-- 1 at the key itself, 0 at another
+abbrev pub one_at : List ℕ → Vec ℕ Global → ℕ
+one_at bytes key = cond (bytes_eq bytes key.items) 1 0
+
+-- how many of the trees have this equality key
+abbrev pub with_key : Vec ℕ Global → List Tree → ℕ
+with_key key ts = count_by (λ t. bytes_eq (equality_key t) key.items) ts
+
+-- each key is counted as often as the trees have it
+abbrev pub CountsKeys : KeyCounts → List Tree → Type 0
+CountsKeys m ts = (key : Vec ℕ Global) → counted m key ≡ with_key key ts
+
+-- which occurrences are kept
+abbrev pub keeps : Kept → List Tree → Occurrence → Bool
+keeps First other o = is_first o
+keeps Shared other o = is_shared other o
+keeps Unshared other o = not (is_shared other o)
+
+-- the element itself where its occurrence is kept
+abbrev pub kept_one : Kept → List Tree → Occurrence → List Tree
+kept_one kind other o = if keeps kind other o then o.1 ∷ [] else []
+
+-- how often a key is counted behind the elements `before`: as often as they have it, or as they leave it of the other list
+abbrev pub count_behind : Kept → List Tree → List Tree → Vec ℕ Global → ℕ
+count_behind First other before key = with_key key before
+count_behind Shared other before key = with_key key other - with_key key before
+count_behind Unshared other before key = with_key key other - with_key key before
+
+-- The counts are those behind the elements `before`, and all elements fit, so that keys tell them apart.
+pub record CountsBehind (kind : Kept) (m : KeyCounts) (other before : List Tree) : Type 0 where
+  pub counts : (key : Vec ℕ Global) → counted m key ≡ count_behind kind other before key
+  pub fit_other : AllByRecursion Fits other
+  pub fit_before : AllByRecursion Fits before

@@ -1,0 +1,98 @@
+-- From what a path selects, or says, to the lines that show it.
+use Rattle.std.proofs.Common.{◌≡◌, ℕ, List, [], ◌∷◌, Some, Result, Ok, Err, ◌⊎◌, inl, inr, refl, IsOkAnd}
+use Rattle.std.specs.Prelude.{Vec}
+use Rattle.std.specs.declared.alloc.Global.{Global}
+use Rattle.jsonb.specs.Error.{Error}
+use Rattle.jsonb.specs.Error.TheVariants.{OutOfMemory, TooLarge}
+use Rattle.jsonb.specs.Tree.{Tree}
+use Rattle.jsonb.specs.Payload.{Form, any}
+use Rattle.jsonb.specs.Format.{Decodes}
+use Rattle.jsonb.specs.Answer.{Gives, IsOutOfMemory, ◌or◌when◌}
+use Rattle.jsonb.specs.OwnedJsonb.{OwnedJsonb}
+use Rattle.jsonb.specs.Compare.{Truth}
+use Rattle.jsonb.specs.Meaning.{Means, meaning, predicate}
+use Rattle.jsonb.specs.PathGrammar.{json_path}
+use Rattle.jsonb.specs.PathTree.{Step}
+use Rattle.jsonb.specs.SelectorAnswers.{AreDocuments, HasTooLarge}
+use Rattle.jsonb.specs.declared.selector.document.Mode.TheVariants.{Lax}
+use Rattle.jsonb.proofs.ReadMeans.{read_means}
+use Rattle.jsonb_tool.specs.Output.{ShowsSelection, ShowsTrees, ShowsList, ShowsPredicate, ShowsTruth, truth_line}
+use Rattle.jsonb_tool.specs.Views.{found_lines}
+
+-- ---- `select`
+
+-- what a selection by the path answers
+abbrev pub SelectsBy : List Step → List ℕ → Result (Vec OwnedJsonb Global) Error → Type 0
+SelectsBy path bytes r = (form : Form) (top : Tree) (outcome : Result (List Tree) Error) → Decodes form bytes top → Means form Lax path top outcome
+    → Gives (λ v ts. AreDocuments form v.items ts) (IsOutOfMemory or TooLarge when IsOkAnd outcome (HasTooLarge form)) r outcome
+
+shows_trees : (form : Form) (ts : List Tree) (documents : List OwnedJsonb) → AreDocuments form documents ts → ShowsTrees form ts (Ok (found_lines documents))
+shows_trees form [] [] h = refl
+shows_trees form [] (d ∷ documents) h = absurd h
+shows_trees form (t ∷ ts) [] h = absurd h
+shows_trees form (t ∷ ts) (d ∷ documents) h = (d ∷ documents, h, refl)
+
+shows_list : (form : Form) (o : Result (List Tree) Error) (v : Vec OwnedJsonb Global)
+    → Gives (λ w ts. AreDocuments form w.items ts) (IsOutOfMemory or TooLarge when IsOkAnd o (HasTooLarge form)) (Ok v) o
+    → ShowsList form o (Ok (found_lines v.items))
+shows_list form (Ok ts) v h = shows_trees form ts v.items h.ok
+shows_list form (Err e) v h = absurd h.ok
+
+too_large_list : (form : Form) (ts : List Tree) (e : Error) → e ≡ TooLarge → HasTooLarge form ts → ShowsTrees form ts (Err e)
+too_large_list form [] e is h = absurd h
+too_large_list form (t ∷ ts) e is h = (is, h)
+
+-- another refusal than want of memory is that of the path, or says that a tree is too large
+shows_refusal : (form : Form) (o : Result (List Tree) Error) (e : Error) → (e ≡ OutOfMemory → ⊥)
+    → Gives (λ (w : Vec OwnedJsonb Global) ts. AreDocuments form w.items ts) (IsOutOfMemory or TooLarge when IsOkAnd o (HasTooLarge form)) (Err e) o
+    → ShowsList form o (Err e)
+shows_refusal form (Ok ts) e other h = elim h.err [
+  | inl room ↦ elim room [ inl memory ↦ absurd (other memory) | inr large ↦ too_large_list form ts e large.0 large.1 ]
+  | inr is ↦ cc
+]
+shows_refusal form (Err f) e other h = elim h.err [
+  | inl room ↦ elim room [ inl memory ↦ absurd (other memory) | inr large ↦ absurd large.1 ]
+  | inr is ↦ let same : f ≡ e = cc in rw same refl
+]
+
+-- the lines of `select` where the selection answered
+pub Selects-found : (text bytes : List ℕ) (path : List Step) (found : Vec OwnedJsonb Global) (lines : List ℕ)
+    → json_path text ≡ Some path → ((t : Tree) × Decodes any bytes t) → SelectsBy path bytes (Ok found)
+    → lines ≡ found_lines found.items → ShowsSelection (json_path text) bytes (Ok lines)
+Selects-found text bytes path found lines read decodes selected line =
+    rw (read, line) (inl (decodes, λ form t d. shows_list form (meaning Lax path t) found (selected form t _ d (read_means form Lax text path t read))))
+
+-- its refusal where the selection refused
+pub Selects-refused : (text bytes : List ℕ) (path : List Step) (e : Error)
+    → json_path text ≡ Some path → ((t : Tree) × Decodes any bytes t) → SelectsBy path bytes (Err e)
+    → (e ≡ OutOfMemory) ⊎ ShowsSelection (json_path text) bytes (Err e)
+Selects-refused text bytes path OutOfMemory read decodes selected = inl refl
+Selects-refused text bytes path e read decodes selected =
+    inr (rw read (inl (decodes, λ form t d. shows_refusal form (meaning Lax path t) e (λ q. cc) (selected form t _ d (read_means form Lax text path t read)))))
+
+-- ---- `match`
+
+-- what a match by the path answers
+abbrev pub MatchesBy : List Step → List ℕ → Result Truth Error → Type 0
+MatchesBy path bytes r = (form : Form) (top : Tree) → Decodes form bytes top → Gives (λ b c. b ≡ c) IsOutOfMemory r (predicate Lax path top)
+
+shows_truth : (o : Result Truth Error) (b : Truth) → Gives (λ b c. b ≡ c) IsOutOfMemory (Ok b) o → ShowsTruth o (Ok (truth_line b))
+shows_truth (Ok c) b h = rw h.ok refl
+shows_truth (Err e) b h = absurd h.ok
+
+shows_other : (o : Result Truth Error) (e : Error) → (e ≡ OutOfMemory → ⊥) → Gives {A = Truth} (λ b c. b ≡ c) IsOutOfMemory (Err e) o → ShowsTruth o (Err e)
+shows_other (Ok c) e other h = elim h.err [ inl memory ↦ absurd (other memory) | inr is ↦ cc ]
+shows_other (Err f) e other h = elim h.err [ inl memory ↦ absurd (other memory) | inr is ↦ let same : f ≡ e = cc in rw same refl ]
+
+pub Matches-found : (text bytes : List ℕ) (path : List Step) (b : Truth) (lines : List ℕ)
+    → json_path text ≡ Some path → ((t : Tree) × Decodes any bytes t) → MatchesBy path bytes (Ok b)
+    → lines ≡ truth_line b → ShowsPredicate (json_path text) bytes (Ok lines)
+Matches-found text bytes path b lines read decodes matched line =
+    rw (read, line) (inl (decodes, λ form t d. shows_truth (predicate Lax path t) b (matched form t d)))
+
+pub Matches-refused : (text bytes : List ℕ) (path : List Step) (e : Error)
+    → json_path text ≡ Some path → ((t : Tree) × Decodes any bytes t) → MatchesBy path bytes (Err e)
+    → (e ≡ OutOfMemory) ⊎ ShowsPredicate (json_path text) bytes (Err e)
+Matches-refused text bytes path OutOfMemory read decodes matched = inl refl
+Matches-refused text bytes path e read decodes matched =
+    inr (rw read (inl (decodes, λ form t d. shows_other (predicate Lax path t) e (λ q. cc) (matched form t d))))
