@@ -12,19 +12,12 @@ ghost use Rattle.jsonb_raw.specs.Private.Cuts.{FitEntries};
 ghost use Rattle.jsonb_raw.specs.Strip.{strip};
 ghost use Rattle.jsonb_raw.specs.Stripping.{beside, key_entries, IsAboveLast, ReadsEntry, Begins};
 
-use crate::functions::entry_words::{
-    ARRAY_HEADER, COUNTS, LENGTHS, OBJECT_HEADER, WORD, contents_len,
-};
+use crate::functions::entry_words::contents_len;
 use crate::functions::path::cut::set_container_word;
 use jsonb_doc::Error;
+use jsonb_doc::layout::{ARRAY_HEADER, CONTAINER, COUNTS, LENGTHS, NULL, OBJECT_HEADER, WORD};
 use std::alloc::Global;
 use std::cmp::Ordering;
-
-/// The kind of an entry that is null.
-const NULL: u32 = 0;
-
-/// The kind of an entry that is a container.
-const CONTAINER: u32 = 5;
 
 /// An entry of the source, and what is left behind it.
 #[derive(Clone, Copy)]
