@@ -1,3 +1,5 @@
+//! Worked rows of key paths: what is read, refused and printed.
+
 use super::*;
 use jsonb_doc::Error;
 use std::borrow::CowStr;

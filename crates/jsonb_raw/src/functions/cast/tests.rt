@@ -1,3 +1,5 @@
+//! Worked rows of casts.
+
 use crate::raw::RawJsonb;
 use crate::tests::documents::{DATE, FLOAT};
 use jsonb_doc::{Decimal64, Decimal128, Error, Item, Number, encode_item};

@@ -1,3 +1,5 @@
+//! Worked rows of the operators on scalars and containers.
+
 use crate::raw::RawJsonb;
 use crate::tests::documents::{DATE, EMPTY_ARRAY, EMPTY_OBJECT, FLOAT, NULL, NULLS, ONE_ELEMENT};
 use jsonb_doc::{ArrayBuilder, Decimal64, Error, Item, Number, encode_item};

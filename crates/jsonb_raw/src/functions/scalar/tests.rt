@@ -1,3 +1,5 @@
+//! Worked rows of scalars.
+
 use crate::raw::RawJsonb;
 use crate::tests::documents::{DATE, EMPTY_ARRAY, EMPTY_OBJECT, FLOAT};
 use jsonb_doc::{
