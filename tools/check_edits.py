@@ -85,7 +85,9 @@ def fault_of_refusal(crate, function, said, texts):
     places = [(path, int(line)) for path, line in OPEN_GOAL.findall(said) if path in texts]
     if function in [edits.function_at(path, texts[path], line) for path, line in places]:
         return None
-    folders = [re.escape(name.replace("::", "/")) for name, verdict in lines if not verdict.startswith("proved")]
+    # The folder of a function that calls itself alone has a plus before its name, as that of a cycle has.
+    refused = [name.split("::") for name, verdict in lines if not verdict.startswith("proved")]
+    folders = ["/".join(map(re.escape, it[:-1])) + rf"{'/' if it[1:] else ''}\+?{re.escape(it[-1])}" for it in refused]
     folders += [rf"(?:[\w/]+/)?\+{function.cycle}"] if function.cycle else []
     errors = re.findall(rf"^\./proofs/(?:{'|'.join(folders)})/.*: error: .*$", said, re.M)
     if any(not NAMES_WHAT_IS_GONE.search(it) for it in errors):
