@@ -16,9 +16,9 @@ const LAST: Level = (b"\x80\0\0\x02\0\0\0\0", b"");
 const MEMBER: Level = (b"\x40\0\0\x01\x10\0\0\x01", b"k");
 
 fn level_len(level: Level) -> u32 {
-    (level.0.len() as u32)
-        .wrapping_add(4)
-        .wrapping_add(level.1.len() as u32)
+    let before = u32::try_from(level.0.len()).unwrap_or(0);
+    let behind = u32::try_from(level.1.len()).unwrap_or(0);
+    before.wrapping_add(4).wrapping_add(behind)
 }
 
 /// 200,000 containers of two kinds in turn, around these bytes.
