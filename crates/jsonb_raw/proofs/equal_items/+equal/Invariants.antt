@@ -19,10 +19,13 @@ abbrev pub decreases-objects_equal : goal.decreases-objects_equal
 decreases-objects_equal l = 8 * length l.bytes.now + 2
 
 abbrev pub decreases-entries_equal : goal.decreases-entries_equal
-decreases-entries_equal l = 8 * entries_room l.found + 6
+decreases-entries_equal l = 8 * entries_room l.found + 7
 
 abbrev pub decreases-stored_equal : goal.decreases-stored_equal
-decreases-stored_equal l = 8 * length l.entry.now.content.now + 5
+decreases-stored_equal l = 8 * length l.entry.now.content.now + 6
+
+abbrev pub decreases-stored_items_equal : goal.decreases-stored_items_equal
+decreases-stored_items_equal l = 8 * length l.entry.now.content.now + 5
 
 -- the parts that are left decide the whole
 abbrev pub invariant-items_equal-loop-answer : goal.invariant-items_equal-loop-answer

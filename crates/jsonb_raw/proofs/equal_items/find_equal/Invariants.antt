@@ -11,10 +11,10 @@ use Rattle.jsonb_raw.proofs.EntriesLeft.{SomeEntries}
 -- no entry so far is equal, so those that are left decide
 abbrev pub invariant-loop-entry : goal.invariant-loop-entry
 invariant-loop-entry l = record {
-  passed : PassesOver l.fn.found l.found;
+  passed : PassesOver l.fn.found l.left;
   left : (form other_form : Form) (ts : Trees) (u : Tree) → HasEntriesLeft form l.fn.found ts → Stores other_form l.wanted u
-      → SomeEntries form l.found (λ left. list_any (λ t. is_equal t u) (elements left) ≡ list_any (λ t. is_equal t u) (elements ts));
+      → SomeEntries form l.left (λ left. list_any (λ t. is_equal t u) (elements left) ≡ list_any (λ t. is_equal t u) (elements ts));
 }
 
 abbrev pub decreases-loop-entry : goal.decreases-loop-entry
-decreases-loop-entry l = entries_bound l.found
+decreases-loop-entry l = entries_bound l.left
