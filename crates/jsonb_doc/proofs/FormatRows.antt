@@ -6,6 +6,7 @@ use Rattle.jsonb_doc.specs.Extension.{binary, date, timestamp, timestamp_tz, int
 use Rattle.jsonb_doc.specs.Tree.{Tree, null, boolean, number, text, extension, array, object, trees_of, pairs_of}
 use Rattle.jsonb_doc.specs.Payload.{canonical, number_reader, number_of, is_unsupported, extension_of}
 use Rattle.jsonb_doc.specs.Canonical.{document}
+use Rattle.jsonb_doc.specs.Depth.{deepest}
 
 -- ---- bytes in hexadecimal, which spaces may divide
 
@@ -440,3 +441,24 @@ short_interval = refl
 other_extension : extension_of (hex (codes "50")) ≡ None
 unfolding extension_of
 other_extension = refl
+
+-- ---- depths
+
+scalar_depth : deepest (natural 1) ≡ 0
+scalar_depth = refl
+
+-- {}
+empty_depth : deepest (fields []) ≡ 0
+empty_depth = refl
+
+-- [1]
+array_depth : deepest (list (natural 1 ∷ [])) ≡ 1
+array_depth = refl
+
+-- {"a":[]}
+object_depth : deepest (fields ((codes "a", list []) ∷ [])) ≡ 1
+object_depth = refl
+
+-- [[{"a":null}],[],1]
+nested_depth : deepest (list (list (fields ((codes "a", null) ∷ []) ∷ []) ∷ list [] ∷ natural 1 ∷ [])) ≡ 3
+nested_depth = refl

@@ -1,5 +1,5 @@
 -- What is the content of an entry that is no container, kind by kind.
-use Rattle.std.proofs.Common.{◌≡◌, ◌≢◌, ℕ, ◌≤◌, List, [], arith, Some, None, true, false, sym, ◌∙◌, ap, ◌↔◌, Result, Ok, Err, refl, rules}
+use Rattle.std.proofs.Common.{◌≡◌, ◌≢◌, ℕ, ◌≤◌, List, [], length, ◌⊎◌, inl, inr, arith, Some, None, true, false, sym, ◌∙◌, ap, ◌↔◌, Result, Ok, Err, refl, rules}
 use Rattle.std.specs.Prelude.{IsUtf8, MatchResult, IsOk, IsErrOf}
 use Rattle.jsonb_doc.specs.Number as spec
 use Rattle.jsonb_doc.specs.Extension.{Extension}
@@ -22,6 +22,15 @@ module _ (number_at : NumberReader) (kind : ℕ) (bytes : List ℕ) where
   empty_only p q r s (extension x, h) = absurd (s h.0)
   empty_only p q r s (array ts, h) = absurd (r h.0)
   empty_only p q r s (object ps, h) = absurd (r h.0)
+
+  -- null and truth values have no content
+  pub constant_empty : (t : Tree) → IsContent number_at t kind bytes → (kind ≡ 0) ⊎ ((kind ≡ 3) ⊎ (kind ≡ 4)) → length bytes ≡ 0
+  constant_empty t h constant =
+      ap length (elim constant [
+        | inl zero ↦ empty_only (λ e. omega arith) (λ e. omega arith) (λ e. omega arith) (λ e. omega arith) (t, h)
+        | inr (inl three) ↦ empty_only (λ e. omega arith) (λ e. omega arith) (λ e. omega arith) (λ e. omega arith) (t, h)
+        | inr (inr four) ↦ empty_only (λ e. omega arith) (λ e. omega arith) (λ e. omega arith) (λ e. omega arith) (t, h)
+      ])
 
   pub null_content : (t : Tree) → kind ≡ 0 → IsContent number_at t kind bytes → t ≡ null
   null_content (boolean true) is h = absurd (omega arith)

@@ -9,7 +9,7 @@ use Rattle.jsonb_doc.specs.Payload.{NumberReader, Form, any, number_reader, numb
 use Rattle.jsonb_doc.specs.Format.{Decodes, header, entry_word, BeginWith, IsContent, IsDocument, AreEntries, key_bytes}
 use Rattle.jsonb_doc.specs.Answer.{SameOption}
 use Rattle.jsonb_doc.specs.Private.Lengths.{StartWith, StandBefore}
-use Rattle.jsonb_doc.specs.Spots.{Locates, HasSpotsLeft, TakesSpot, spot_content}
+use Rattle.jsonb_doc.specs.Spots.{Locates, HasSpotsLeft, TakesSpot, PassesSpot, spot_content}
 use Rattle.jsonb_doc.specs.declared.spot.Spot.{Spot}
 use Rattle.jsonb_doc.specs.declared.spot_iter.SpotIter.{SpotIter}
 use Rattle.jsonb_doc.proofs.WordLemmas.{append_cancel, word_cancel}
@@ -164,6 +164,14 @@ module _ (bytes : List ℕ) (it : SpotIter) where
             entries = λ form top d. rw (words, start, end, range_rest bytes it.start it.end len fits within) (first form top d).1;
           },
         )
+
+-- the content that the first word tells of is that of the first spot, where there is one
+pub PassesSpot-fits : (it : SpotIter) (kind len : ℕ) (others : List ℕ) → StartWith it.words.now kind len others → (spot : Spot) (rest : SpotIter)
+    → PassesSpot it spot rest → it.start + len ≤ it.end
+PassesSpot-fits it kind len others w spot rest p =
+    let same = word_cancel (kind * 2 ^ 28 + len) (spot.kind * 2 ^ 28 + (spot.end - spot.start)) others rest.words.now (omega (arith, w.known, w.fits))
+    (omega (arith, p.known, p.fits)) (sym w.joined ∙ p.word) in
+    omega (arith, same.0, w.known, w.fits, p.known, p.fits, p.front, p.ordered, p.within)
 
 -- ---- spots
 

@@ -1,9 +1,9 @@
 -- What an array's builder holds.
-use Rattle.std.specs.Prelude.{ℕ, ◌+◌, ◌/◌, ◌^◌, ◌≤◌, ◌⊎◌, List, [], length}
+use Rattle.std.specs.Prelude.{ℕ, ◌+◌, ◌/◌, ◌^◌, ◌≤◌, ◌⊎◌, List, [], ◌++◌, length}
 use Rattle.jsonb_doc.specs.Tree.{Tree, trees_of}
 use Rattle.jsonb_doc.specs.Payload.{Form, number_reader}
 use Rattle.jsonb_doc.specs.Format.{AreEntries}
-use Rattle.jsonb_doc.specs.Encoding.{IsTooLong, item_content}
+use Rattle.jsonb_doc.specs.Encoding.{IsTooLong, item_word, item_content}
 use Rattle.jsonb_doc.specs.declared.item.Item.{Item}
 
 -- entry words, and the contents behind them
@@ -17,6 +17,10 @@ no_parts = record { words = []; contents = [] }
 -- how many entries there are
 abbrev pub entry_count : Parts → ℕ
 entry_count parts = length parts.words / 4
+
+-- the parts with one more entry behind the others, that of the item
+abbrev pub add_entry : Parts → Item → Parts
+add_entry parts item = record { words = parts.words ++ item_word item; contents = parts.contents ++ item_content item }
 
 -- the builder holds the trees, in order
 abbrev pub HoldsElements : Form → Parts → List Tree → Type 0

@@ -1,9 +1,9 @@
 -- The iterator over the elements of an array.
-use Rattle.std.specs.Prelude.{◌≡◌, ℕ, ◌+◌, ◌/◌, ◌≤◌, length, Option, Some, None, Result, Ok, Err, IfSome, IfNone, IfOk, IfErr, ⊤}
+use Rattle.std.specs.Prelude.{◌≡◌, ◌⊎◌, ℕ, ◌+◌, ◌*◌, ◌/◌, ◌≤◌, List, [], ◌++◌, length, Option, Some, None, Result, Ok, Err, IfSome, IfNone, IfOk, IfErr, ⊤}
 use Rattle.jsonb_doc.specs.Tree.{Tree, array, Trees, no_trees, tree}
 use Rattle.jsonb_doc.specs.Payload.{Form, number_reader}
-use Rattle.jsonb_doc.specs.Format.{AreEntries}
-use Rattle.jsonb_doc.specs.Item.{StandsFor, IsNormal, item_size}
+use Rattle.jsonb_doc.specs.Format.{HeadedBy, array_header, BeginWith, BeginWithNone, AreEntries}
+use Rattle.jsonb_doc.specs.Item.{StandsFor, IsNormal, IsItemOf, HasItem, item_size}
 use Rattle.jsonb_doc.specs.Answer.{IsDecodingError}
 use Rattle.jsonb_doc.specs.declared.item.Item.{Item}
 use Rattle.jsonb_doc.specs.declared.element_iter.ElementIter.{ElementIter}
@@ -12,6 +12,11 @@ use Rattle.jsonb_doc.specs.declared.error.Error.{Error}
 -- these trees are left in the iterator
 pub record HasElementsLeft (form : Form) (it : ElementIter) (ts : Trees) : Type 0 where
   pub entries : AreEntries (number_reader form) ts it.entries.words.now it.entries.contents.now
+
+-- the bytes are the header of an array, and all that is left in the iterator
+abbrev pub HasWholeArray : List ℕ → ElementIter → Type 0
+HasWholeArray bytes it =
+    (n : ℕ) × HeadedBy bytes array_header n (it.entries.words.now ++ it.entries.contents.now) × (length it.entries.words.now ≡ 4 * n)
 
 -- at most how many items the iterator gives, on any bytes
 abbrev pub elements_bound : ElementIter → ℕ
@@ -29,8 +34,23 @@ TakesElement form (tree t ts) None after = ⊥
 TakesElement form (tree t ts) (Some (Err e)) after = ⊥
 TakesElement form (tree t ts) (Some (Ok item)) after = StandsFor form item t × HasElementsLeft form after ts
 
+-- the first entry that is left is of this kind and content, and the others are left
+abbrev pub PassesElement : ElementIter → ℕ → List ℕ → ElementIter → Type 0
+PassesElement before kind content after =
+    BeginWith before.entries.words.now before.entries.contents.now kind content after.entries.words.now after.entries.contents.now
+
+-- What is read, on any bytes. While entry words are left there is an answer: the item in the first entry, or an error where it has none. Behind
+-- an entry whose end isn't known nothing is left.
+abbrev pub ReadsElement : ElementIter → Option (Result Item Error) → ElementIter → Type 0
+ReadsElement before None after = before.entries.words.now ≡ []
+ReadsElement before (Some (Ok item)) after = (kind : ℕ) × (content : List ℕ) × PassesElement before kind content after × IsItemOf kind content item
+ReadsElement before (Some (Err e)) after =
+    (BeginWithNone before.entries.words.now before.entries.contents.now × (after.entries.words.now ≡ []))
+    ⊎ ((kind : ℕ) × (content : List ℕ) × PassesElement before kind content after × (HasItem kind content → ⊥))
+
 -- What a call of `next` does. On any bytes it gives an item, an error or `None`, and after `None` nothing more.
 pub record GivesElement (before : ElementIter) (r : Option (Result Item Error)) (after : ElementIter) : Type 0 where
+  pub reads : ReadsElement before r after
   pub takes : (form : Form) (ts : Trees) → HasElementsLeft form before ts → TakesElement form ts r after
   pub normal : IfSome r (λ x. IfOk x IsNormal)
   pub errors : IfSome r (λ x. IfErr x IsDecodingError)

@@ -6,6 +6,7 @@ pub mod Rounding
 pub mod Short
 pub mod Extension
 pub mod Tree
+pub mod Depth
 pub mod Payload
 pub mod Format
 pub mod View

@@ -1,9 +1,9 @@
 -- The iterators over the keys and over the values of an object.
-use Rattle.std.specs.Prelude.{◌≡◌, ℕ, ◌+◌, ◌/◌, List, [], ◌∷◌, ◌++◌, length, Option, Some, None, Result, Ok, Err, IfSome, IfNone, IfErr, ⊤}
+use Rattle.std.specs.Prelude.{◌≡◌, ◌⊎◌, ℕ, ◌+◌, ◌*◌, ◌/◌, List, [], ◌∷◌, ◌++◌, length, IsUtf8, Option, Some, None, Result, Ok, Err, IfSome, IfNone, IfErr, ⊤}
 use Rattle.std.specs.Borrow.{Bor}
 use Rattle.jsonb_doc.specs.Tree.{Tree, object, Trees, keys, values}
 use Rattle.jsonb_doc.specs.Payload.{Form}
-use Rattle.jsonb_doc.specs.Format.{AreKeys, key_words, key_bytes}
+use Rattle.jsonb_doc.specs.Format.{HeadedBy, object_header, BeginWith, BeginWithNone, AreKeys, key_words, key_bytes}
 use Rattle.jsonb_doc.specs.Elements.{HasElementsLeft, GivesElement, elements_bound, elements_room}
 use Rattle.jsonb_doc.specs.Answer.{IsDecodingError}
 use Rattle.jsonb_doc.specs.declared.item.Item.{Item}
@@ -18,6 +18,11 @@ pub record HasKeysLeft (it : KeyIter) (ks : List (List ℕ)) : Type 0 where
   pub words : it.key_words.now ≡ key_words ks
   pub bytes : it.key_bytes.now ≡ key_bytes ks ++ rest
 
+-- the bytes are the header of an object, and all words of keys and all contents of the iterator, with the words of values between
+abbrev pub HasAllKeys : List ℕ → KeyIter → Type 0
+HasAllKeys bytes it = (n : ℕ) × (value_words : List ℕ) × HeadedBy bytes object_header n ((it.key_words.now ++ value_words) ++ it.key_bytes.now)
+    × (length it.key_words.now ≡ 4 * n) × (length value_words ≡ 4 * n)
+
 -- at most how many keys the iterator gives, on any bytes
 abbrev pub keys_bound : KeyIter → ℕ
 keys_bound it = (length it.key_words.now + 3) / 4
@@ -30,8 +35,23 @@ TakesKey (key ∷ ks) None after = ⊥
 TakesKey (key ∷ ks) (Some (Err e)) after = ⊥
 TakesKey (key ∷ ks) (Some (Ok given)) after = (given.now ≡ key) × HasKeysLeft after ks
 
+-- the first key that is left has these bytes, and the others are left
+abbrev pub PassesKey : KeyIter → List ℕ → KeyIter → Type 0
+PassesKey before key after =
+    (kind : ℕ) × BeginWith before.key_words.now before.key_bytes.now kind key after.key_words.now after.key_bytes.now
+
+-- What is read, on any bytes. While words are left there is an answer: the first key, or an error where it is no text. Behind a key whose end
+-- isn't known nothing is left.
+abbrev pub ReadsKey : KeyIter → Option (Result (Bor (List ℕ)) Error) → KeyIter → Type 0
+ReadsKey before None after = before.key_words.now ≡ []
+ReadsKey before (Some (Ok given)) after = PassesKey before given.now after × IsUtf8 given.now
+ReadsKey before (Some (Err e)) after =
+    (BeginWithNone before.key_words.now before.key_bytes.now × (after.key_words.now ≡ []))
+    ⊎ ((key : List ℕ) × PassesKey before key after × (IsUtf8 key → ⊥))
+
 -- What a call of `next` does. On any bytes it gives a key, an error or `None`, and after `None` nothing more.
 pub record GivesKey (before : KeyIter) (r : Option (Result (Bor (List ℕ)) Error)) (after : KeyIter) : Type 0 where
+  pub reads : ReadsKey before r after
   pub takes : (ks : List (List ℕ)) → HasKeysLeft before ks → TakesKey ks r after
   pub errors : IfSome r (λ x. IfErr x IsDecodingError)
   pub ended : IfNone r (keys_bound after ≡ 0)

@@ -3,4 +3,6 @@ pub mod Builders
 pub mod Lengths
 pub mod Stored
 pub mod Checking
+pub mod Depths
+pub mod Filling
 pub mod Containers

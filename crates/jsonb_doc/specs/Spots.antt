@@ -1,8 +1,8 @@
 -- Places of trees within the bytes of a document.
-use Rattle.std.specs.Prelude.{ℕ, ◌+◌, ◌-◌, ◌/◌, ◌≤◌, List, [], ◌∷◌, length, slice_range, Option, Some, None, Result, Ok, Err, IfSome, IfOk, IfErr}
+use Rattle.std.specs.Prelude.{◌≡◌, ℕ, ◌+◌, ◌-◌, ◌/◌, ◌^◌, ◌<◌, ◌≤◌, List, [], ◌∷◌, ◌++◌, length, slice_range, Option, Some, None, Result, Ok, Err, IfSome, IfOk, IfErr}
 use Rattle.jsonb_doc.specs.Tree.{Tree, trees_of}
 use Rattle.jsonb_doc.specs.Payload.{Form, any, number_reader}
-use Rattle.jsonb_doc.specs.Format.{Decodes, IsContent, AreEntries}
+use Rattle.jsonb_doc.specs.Format.{Decodes, IsContent, AreEntries, entry_word}
 use Rattle.jsonb_doc.specs.Answer.{IsDecodingError}
 use Rattle.jsonb_doc.specs.declared.error.Error.{Error}
 use Rattle.jsonb_doc.specs.declared.spot.Spot.{Spot}
@@ -49,8 +49,27 @@ TakesSpot bytes (t ∷ ts) None after = ⊥
 TakesSpot bytes (t ∷ ts) (Some (Err e)) after = ⊥
 TakesSpot bytes (t ∷ ts) (Some (Ok spot)) after = Locates bytes spot t × HasSpotsLeft bytes after ts
 
+-- The first word that is left tells of the content at this spot, which lies within the contents, and the others are left.
+pub record PassesSpot (before : SpotIter) (spot : Spot) (after : SpotIter) : Type 0 where
+  pub word : before.words.now ≡ entry_word spot.kind (spot.end - spot.start) ++ after.words.now
+  pub known : spot.kind < 8
+  pub fits : spot.end - spot.start < 2 ^ 28
+  pub front : spot.start ≡ before.start
+  pub ordered : spot.start ≤ spot.end
+  pub within : spot.end ≤ before.end
+  pub next : after.start ≡ spot.end
+  pub last : after.end ≡ before.end
+
+-- What is read, on any bytes. While words are left there is an answer: the spot of the first, or an error where it has none, behind which nothing is
+-- left.
+abbrev pub ReadsSpot : SpotIter → Option (Result Spot Error) → SpotIter → Type 0
+ReadsSpot before None after = before.words.now ≡ []
+ReadsSpot before (Some (Ok spot)) after = PassesSpot before spot after
+ReadsSpot before (Some (Err e)) after = ((spot : Spot) (rest : SpotIter) → PassesSpot before spot rest → ⊥) × (after.words.now ≡ [])
+
 -- what a call of `next` does
 pub record GivesSpot (before : SpotIter) (r : Option (Result Spot Error)) (after : SpotIter) : Type 0 where
+  pub reads : ReadsSpot before r after
   pub takes : (bytes : List ℕ) (ts : List Tree) → HasSpotsLeft bytes before ts → TakesSpot bytes ts r after
   pub errors : IfSome r (λ x. IfErr x IsDecodingError)
   pub size : IfSome r (λ x. IfOk x (λ spot. spot_size spot ≤ spots_room before))

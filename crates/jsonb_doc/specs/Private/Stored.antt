@@ -3,7 +3,7 @@ use Rattle.std.specs.Prelude.{◌≡◌, ℕ, ◌+◌, ◌/◌, ◌≤◌, List,
 use Rattle.std.specs.Borrow.{Bor}
 use Rattle.jsonb_doc.specs.Tree.{Tree, text, Trees, no_trees, tree, Pairs, no_pairs, pair, keys, values}
 use Rattle.jsonb_doc.specs.Payload.{Form, number_reader}
-use Rattle.jsonb_doc.specs.Format.{IsContent, AreEntries, AreKeys}
+use Rattle.jsonb_doc.specs.Format.{BeginWith, BeginWithNone, IsContent, AreEntries, AreKeys}
 use Rattle.jsonb_doc.specs.Answer.{IsDecodingError}
 use Rattle.jsonb_doc.specs.declared.entry_iter.EntryIter.{EntryIter}
 use Rattle.jsonb_doc.specs.declared.entry_iter.StoredEntry.{StoredEntry}
@@ -34,8 +34,15 @@ TakesEntry form (tree t ts) None after = ⊥
 TakesEntry form (tree t ts) (Some (Err e)) after = ⊥
 TakesEntry form (tree t ts) (Some (Ok entry)) after = Stores form entry t × HasEntriesLeft form after ts
 
+-- What is read, on any bytes: the first of the entries that are left, or an error where they begin with none.
+abbrev pub ReadsEntry : EntryIter → Option (Result StoredEntry Error) → EntryIter → Type 0
+ReadsEntry before None after = before.words.now ≡ []
+ReadsEntry before (Some (Ok e)) after = BeginWith before.words.now before.contents.now e.kind e.content.now after.words.now after.contents.now
+ReadsEntry before (Some (Err e)) after = BeginWithNone before.words.now before.contents.now × (after.words.now ≡ [])
+
 -- What a call of `next` does. On any bytes it gives an entry, an error or `None`, and after `None` nothing more.
 pub record GivesEntry (before : EntryIter) (r : Option (Result StoredEntry Error)) (after : EntryIter) : Type 0 where
+  pub reads : ReadsEntry before r after
   pub takes : (form : Form) (ts : Trees) → HasEntriesLeft form before ts → TakesEntry form ts r after
   pub errors : IfSome r (λ x. IfErr x IsDecodingError)
   pub ended : IfNone r (entries_bound after ≡ 0)

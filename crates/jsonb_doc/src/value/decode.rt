@@ -1,11 +1,14 @@
 //! Documents as decoded values.
 
-ghost use Rattle.std.specs.Prelude.{◌≡◌, ◌⊎◌, IfOk, IfErr, MatchResult};
+ghost use Rattle.std.specs.Prelude.{◌≡◌, ◌⊎◌, ◌<◌, ◌++◌, ℕ, IfOk, IfErr, IsOkAnd, MatchOption, MatchResult, None, false, reverse};
 ghost use Rattle.jsonb_doc.specs.Number as spec;
-ghost use Rattle.jsonb_doc.specs.Tree.{Tree, Trees, Pairs, extension, array, object, trees_of, pairs_of};
+ghost use Rattle.jsonb_doc.specs.Tree.{Tree, Trees, Pairs, extension, array, object, elements, members as pair_members, keys, trees_of, pairs_of};
 ghost use Rattle.jsonb_doc.specs.Payload.{Form};
-ghost use Rattle.jsonb_doc.specs.Format.{Decodes};
-ghost use Rattle.jsonb_doc.specs.Item.{StandsFor, IsNormal};
+ghost use Rattle.jsonb_doc.specs.Format.{AreKeys};
+ghost use Rattle.jsonb_doc.specs.Item.{StandsFor, IsNormal, item_size};
+ghost use Rattle.jsonb_doc.specs.Elements.{HasElementsLeft, elements_room};
+ghost use Rattle.jsonb_doc.specs.ObjectPairs.{HasPairsLeft, pairs_room};
+ghost use Rattle.jsonb_doc.specs.Private.Filling.{IsContainerItem, IsWhole, IsShorter, FillsTo, MakesWhole, LeadsTo};
 ghost use Rattle.jsonb_doc.specs.View.{extension_view};
 ghost use Rattle.jsonb_doc.specs.Answer.{IsOutOfMemory, ◌or◌, IsDecodingError};
 ghost use Rattle.jsonb_doc.specs.declared.error.Error.TheVariants.{OutOfMemory};
@@ -13,17 +16,19 @@ ghost use Rattle.jsonb_doc.specs.Value.{value_tree, value_parts, tree_seen, tree
 ghost use Rattle.jsonb_doc.specs.Value.{KeepsNormal, SeesItem};
 ghost use Rattle.jsonb_doc.specs.declared.number.Number.{Number};
 
+use crate::element_iter::ElementIter;
 use crate::error::Error;
 use crate::extension::ExtensionValue;
 use crate::item::Item;
-use crate::reading::{elements, pairs};
+use crate::pair_iter::PairIter;
+use crate::reading::{array_elements, object_pairs};
 use crate::value::Value;
 use std::alloc::Global;
 use std::borrow::CowStr;
 use std::collections::BTreeMap;
 
 /// The value that an item stands for, at every depth. Its texts and binaries are slices of the item's bytes, its keys are
-/// copies.
+/// copies. Calls nest no deeper than the length can be halved; to let the value go takes one for each level.
 ///
 /// # Errors
 ///
@@ -43,20 +48,33 @@ pub fn to_value<'a>(alloc: Global, item: &Item<'a>) -> Result<Value<'a>, Error>
 
 /// The value of an item, however its numbers are seen.
 #[cycle(decode)]
+#[inline(always)]
 fn item_value<'a>(alloc: Global, item: &Item<'a>) -> Result<Value<'a>, Error>
     ensures decodes { (seen : Number → spec.Number) → KeepsNormal seen → SeesItem seen item.now
         → (form : Form) (t : Tree) → StandsFor form item.now t
         → MatchResult result (λ v. tree_seen seen v ≡ t) IsOutOfMemory }
     ensures errors { IfErr result (IsDecodingError or OutOfMemory) }
 {
+    match scalar_value(item) {
+        Some(value) => Ok(value),
+        None => container_value(alloc, item),
+    }
+}
+
+/// The value of an item that is no container.
+#[inline(always)]
+fn scalar_value<'a>(item: &Item<'a>) -> Option<Value<'a>>
+    ensures { MatchOption result (IsContainerItem item.now)
+        (λ v. (seen : Number → spec.Number) → SeesItem seen item.now → (form : Form) (t : Tree) → StandsFor form item.now t
+        → tree_seen seen v ≡ t) }
+{
     match item {
-        Item::Null => Ok(Value::Null),
-        Item::Boolean(b) => Ok(Value::Bool(*b)),
-        Item::Number(number) => Ok(Value::Number(*number)),
-        Item::String(text) => Ok(Value::String(CowStr::Borrowed(text))),
-        Item::Extension(value) => Ok(extension_value(*value)),
-        Item::Array(bytes) => Ok(Value::Array(array_values(alloc, bytes)?)),
-        Item::Object(bytes) => Ok(Value::Object(object_members(alloc, bytes)?)),
+        Item::Null => Some(Value::Null),
+        Item::Boolean(b) => Some(Value::Bool(*b)),
+        Item::Number(number) => Some(Value::Number(*number)),
+        Item::String(text) => Some(Value::String(CowStr::Borrowed(text))),
+        Item::Extension(value) => Some(extension_value(*value)),
+        Item::Array(_) | Item::Object(_) => None,
     }
 }
 
@@ -73,41 +91,188 @@ fn extension_value(value: ExtensionValue<'_>) -> Value<'_>
     }
 }
 
-/// The values of an array's elements.
-#[cycle(decode)]
-fn array_values<'a>(alloc: Global, bytes: &'a [u8]) -> Result<Vec<Value<'a>>, Error>
-    ensures decodes { (seen : Number → spec.Number) → KeepsNormal seen
-        → (form : Form) (ts : Trees) → Decodes form bytes.now (array ts)
-        → MatchResult result (λ v. trees_of (trees_seen seen v.items) ≡ ts) IsOutOfMemory }
-    ensures errors { IfErr result (IsDecodingError or OutOfMemory) }
-{
-    let Some(found) = elements(bytes)? else {
-        return Err(Error::InvalidJsonb);
-    };
-    let mut values = Vec::new(alloc);
-    for item in found {
-        values.push(item_value(alloc, &item?)?)?;
-    }
-    Ok(values)
+/// A container of which a part is being made: what is made of the parts before it, and those that are left behind it.
+#[derive(Drop)]
+enum Open<'a> {
+    Array(Vec<Value<'a>>, ElementIter<'a>),
+    /// The name is that of the member that is being made.
+    Object(BTreeMap<String, Value<'a>>, String, PairIter<'a>),
 }
 
-/// The keys of an object, and the values under them.
+/// What a container is filled to.
+#[derive(Drop)]
+enum Filled<'a> {
+    /// All of it.
+    Whole(Value<'a>),
+    /// What stands before a long part and behind it, and that part.
+    Within(Open<'a>, Item<'a>),
+}
+
+/// The value of a container.
+///
+/// A part that is longer than half of its container is made by this loop, and the containers around it are kept. The others are
+/// made by calls. So calls nest no deeper than the length can be halved.
 #[cycle(decode)]
-fn object_members<'a>(alloc: Global, bytes: &'a [u8]) -> Result<BTreeMap<String, Value<'a>>, Error>
-    ensures decodes { (seen : Number → spec.Number) → KeepsNormal seen
-        → (form : Form) (ps : Pairs) → Decodes form bytes.now (object ps)
-        → MatchResult result (λ m. pairs_of (members_seen seen m.entries) ≡ ps) IsOutOfMemory }
+fn container_value<'a>(alloc: Global, item: &Item<'a>) -> Result<Value<'a>, Error>
+    ensures decodes { (seen : Number → spec.Number) → KeepsNormal seen → SeesItem seen item.now
+        → (form : Form) (t : Tree) → StandsFor form item.now t
+        → MatchResult result (λ v. tree_seen seen v ≡ t) IsOutOfMemory }
     ensures errors { IfErr result (IsDecodingError or OutOfMemory) }
 {
-    let Some(found) = pairs(bytes)? else {
-        return Err(Error::InvalidJsonb);
-    };
-    let mut members = BTreeMap::new(alloc);
-    for pair in found {
+    let mut around = Vec::new(alloc);
+    let mut within = *item;
+    loop {
+        match opened(alloc, &within)? {
+            Filled::Whole(value) => return closed_all(alloc, around, value),
+            Filled::Within(outer, part) => {
+                around.push(outer)?;
+                within = part;
+            }
+        }
+    }
+}
+
+/// The item's value, or what is made of it up to a part that is longer than half of it.
+#[cycle(decode)]
+#[inline(always)]
+fn opened<'a>(alloc: Global, item: &Item<'a>) -> Result<Filled<'a>, Error>
+    ensures decodes { (seen : Number → spec.Number) → KeepsNormal seen → SeesItem seen item.now
+        → (form : Form) (t : Tree) → StandsFor form item.now t
+        → MatchResult result (FillsTo seen form t) IsOutOfMemory }
+    ensures size { IfOk result (IsShorter (item_size item.now)) }
+    ensures errors { IfErr result (IsDecodingError or OutOfMemory) }
+{
+    match item {
+        Item::Array(bytes) => {
+            let left = array_elements(bytes)?;
+            fill_array(alloc, Vec::new(alloc), left, Some(bytes.len() / 2))
+        }
+        Item::Object(bytes) => {
+            let left = object_pairs(bytes)?;
+            fill_object(alloc, BTreeMap::new(alloc), left, Some(bytes.len() / 2))
+        }
+        _ => match scalar_value(item) {
+            Some(value) => Ok(Filled::Whole(value)),
+            None => Err(Error::InvalidJsonb),
+        },
+    }
+}
+
+/// The array of these values and of the elements that are left, up to one that is longer than this many bytes.
+#[cycle(decode)]
+fn fill_array<'a>(
+    alloc: Global,
+    mut values: Vec<Value<'a>>,
+    mut left: ElementIter<'a>,
+    longest: Option<usize>,
+) -> Result<Filled<'a>, Error>
+    ensures decodes { (seen : Number → spec.Number) → KeepsNormal seen
+        → (form : Form) (ts : Trees) → HasElementsLeft form left.entry ts
+        → MatchResult result (FillsTo seen form (array (trees_of (trees_seen seen values.entry.items ++ elements ts))))
+        IsOutOfMemory }
+    ensures whole { longest ≡ None → IfOk result IsWhole }
+    ensures size { (n : ℕ) → elements_room left.entry < n → IfOk result (IsShorter n) }
+    ensures errors { IfErr result (IsDecodingError or OutOfMemory) }
+{
+    while let Some(item) = left.next() {
+        let item = item?;
+        if is_longer(&item, longest) {
+            return Ok(Filled::Within(Open::Array(values, left), item));
+        }
+        values.push(item_value(alloc, &item)?)?;
+    }
+    Ok(Filled::Whole(Value::Array(values)))
+}
+
+/// The object of these members and of the pairs that are left, up to one with a value that is longer than this many bytes.
+#[cycle(decode)]
+fn fill_object<'a>(
+    alloc: Global,
+    mut members: BTreeMap<String, Value<'a>>,
+    mut left: PairIter<'a>,
+    longest: Option<usize>,
+) -> Result<Filled<'a>, Error>
+    ensures decodes { (seen : Number → spec.Number) → KeepsNormal seen
+        → (form : Form) (ps : Pairs) → HasPairsLeft form left.entry ps
+        → let whole = members_seen seen members.entry.entries ++ pair_members ps in
+        AreKeys (keys (pairs_of whole)) → MatchResult result (FillsTo seen form (object (pairs_of whole))) IsOutOfMemory }
+    ensures whole { longest ≡ None → IfOk result IsWhole }
+    ensures size { (n : ℕ) → pairs_room left.entry < n → IfOk result (IsShorter n) }
+    ensures errors { IfErr result (IsDecodingError or OutOfMemory) }
+{
+    while let Some(pair) = left.next() {
         let (key, item) = pair?;
         let name = String::from_str(alloc, key)?;
+        if is_longer(&item, longest) {
+            return Ok(Filled::Within(Open::Object(members, name, left), item));
+        }
         let value = item_value(alloc, &item)?;
         drop(members.insert(name, value)?);
     }
-    Ok(members)
+    Ok(Filled::Whole(Value::Object(members)))
+}
+
+/// Whether the item is a container that is longer than this many bytes.
+#[inline(always)]
+fn is_longer(item: &Item<'_>, longest: Option<usize>) -> bool
+    ensures { longest ≡ None → result ≡ false }
+{
+    let Some(longest) = longest else {
+        return false;
+    };
+    match item {
+        Item::Array(bytes) | Item::Object(bytes) => bytes.len() > longest,
+        _ => false,
+    }
+}
+
+/// The value with all containers around it, the last of these being the innermost.
+#[cycle(decode)]
+#[inline(always)]
+fn closed_all<'a>(
+    alloc: Global,
+    mut around: Vec<Open<'a>>,
+    mut value: Value<'a>,
+) -> Result<Value<'a>, Error>
+    ensures decodes { (seen : Number → spec.Number) → KeepsNormal seen → (form : Form) (t : Tree)
+        → LeadsTo seen form (reverse around.entry.items) (tree_seen seen value.entry) t
+        → MatchResult result (λ v. tree_seen seen v ≡ t) IsOutOfMemory }
+    ensures errors { IfErr result (IsDecodingError or OutOfMemory) }
+{
+    while let Some(outer) = around.pop() {
+        value = closed(alloc, outer, value)?;
+    }
+    Ok(value)
+}
+
+/// The container with this value as the part that was missing, and with all that is left behind it.
+#[cycle(decode)]
+fn closed<'a>(alloc: Global, outer: Open<'a>, value: Value<'a>) -> Result<Value<'a>, Error>
+    ensures decodes { (seen : Number → spec.Number) → KeepsNormal seen → (form : Form) (t : Tree)
+        → MakesWhole seen form outer.entry (tree_seen seen value.entry) t
+        → MatchResult result (λ v. tree_seen seen v ≡ t) IsOutOfMemory }
+    ensures errors { IfErr result (IsDecodingError or OutOfMemory) }
+{
+    match outer {
+        Open::Array(mut values, left) => {
+            values.push(value)?;
+            whole(fill_array(alloc, values, left, None)?)
+        }
+        Open::Object(mut members, name, left) => {
+            drop(members.insert(name, value)?);
+            whole(fill_object(alloc, members, left, None)?)
+        }
+    }
+}
+
+/// The value of a container that is filled.
+#[inline(always)]
+fn whole(filled: Filled<'_>) -> Result<Value<'_>, Error>
+    ensures whole { IsWhole filled.entry → IsOkAnd result (λ v. filled.entry ≡ Filled.Whole v) }
+    ensures errors { IfErr result (λ e. e ≡ Error.InvalidJsonb) }
+{
+    match filled {
+        Filled::Whole(value) => Ok(value),
+        Filled::Within(_, _) => Err(Error::InvalidJsonb),
+    }
 }

@@ -1,4 +1,4 @@
-use Rattle.std.proofs.Common.{◌∙◌, arith, rules}
+use Rattle.std.proofs.Common.{◌∙◌, arith, rules, refl, inl, inr}
 use Rattle.std.proofs.lemmas.Grind.{common_steps}
 use Rattle.jsonb_doc.proofs.Entries.{BeginWith-unique, BeginWith-room}
 use Rattle.jsonb_doc.proofs.PairsLemmas.{HasPairsLeft-first}
@@ -6,6 +6,7 @@ use Rattle.jsonb_doc.proofs.pair_iter.PairIterIterator.next.Goals as goal
 
 pub returns-in_default-clause-steps : goal.returns-in_default-clause-steps
 returns-in_default-clause-steps c = record {
+  reads = inl (inl c.in_default.ensures, refl);
   takes = λ form ps h.
       let first = HasPairsLeft-first form c.args.self.now ps (grind (arith, common_steps)) h in
       absurd (c.in_default.ensures _ _ _ _ first.begin);
@@ -18,6 +19,7 @@ returns-in_default-clause-steps c = record {
 
 pub returns-in_default-split_entry-clause-steps : goal.returns-in_default-split_entry-clause-steps
 returns-in_default-split_entry-clause-steps c = record {
+  reads = inl (inr c.in_default-split_entry.ensures, refl);
   takes = λ form ps h.
       let first = HasPairsLeft-first form c.args.self.now ps (grind (arith, common_steps)) h in
       absurd (c.in_default-split_entry.ensures _ _ _ _ first.entry.begin);
@@ -30,6 +32,13 @@ returns-in_default-split_entry-clause-steps c = record {
 
 pub returns-in_default-from_utf8-clause-steps : goal.returns-in_default-from_utf8-clause-steps
 returns-in_default-from_utf8-clause-steps c = record {
+  reads = inr (
+    c.in-Some.key.content.now,
+    c.in-Some-split_entry.value.kind,
+    c.in-Some-split_entry.value.content.now,
+    record { key_kind = c.in-Some.key.kind; name = c.in-Some.ensures; value = c.in-Some-split_entry.ensures },
+    λ utf8 item. absurd (c.in_default-from_utf8.ensures.cases.0 utf8),
+  );
   takes = λ form ps h.
       let first = HasPairsLeft-first form c.args.self.now ps (grind (arith, common_steps)) h in
       let same = BeginWith-unique _ _ _ _ _ _ _ _ _ _ c.in-Some.ensures first.begin in
@@ -45,6 +54,13 @@ pub returns-in-Ok-from_content-clause-steps : goal.returns-in-Ok-from_content-cl
 returns-in-Ok-from_content-clause-steps c =
     let room = BeginWith-room _ _ _ _ _ _ c.in-Some-split_entry.ensures in
     record {
+      reads = (
+        c.in-Some-split_entry.value.kind,
+        c.in-Some-split_entry.value.content.now,
+        record { key_kind = c.in-Some.key.kind; name = rw c.in-Ok.ensures.cases.0 c.in-Some.ensures; value = c.in-Some-split_entry.ensures },
+        rw c.in-Ok.ensures.cases.0 c.in-Ok.ensures.cases.1,
+        c.in-Ok-from_content.ensures.reads,
+      );
       takes = λ form ps h.
           let first = HasPairsLeft-first form c.args.self.now ps (grind (arith, common_steps)) h in
           let same = BeginWith-unique _ _ _ _ _ _ _ _ _ _ c.in-Some.ensures first.begin in
@@ -72,6 +88,13 @@ pub returns-in-Err-clause-steps : goal.returns-in-Err-clause-steps
 returns-in-Err-clause-steps c =
     let room = BeginWith-room _ _ _ _ _ _ c.in-Some-split_entry.ensures in
     record {
+      reads = inr (
+        c.in-Some.key.content.now,
+        c.in-Some-split_entry.value.kind,
+        c.in-Some-split_entry.value.content.now,
+        record { key_kind = c.in-Some.key.kind; name = c.in-Some.ensures; value = c.in-Some-split_entry.ensures },
+        λ utf8 item. c.in-Err.ensures.reads item,
+      );
       takes = λ form ps h.
           let first = HasPairsLeft-first form c.args.self.now ps (grind (arith, common_steps)) h in
           let same_value = BeginWith-unique _ _ _ _ _ _ _ _ _ _ c.in-Some-split_entry.ensures first.entry.begin in

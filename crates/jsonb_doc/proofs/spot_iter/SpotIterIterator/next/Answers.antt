@@ -1,11 +1,13 @@
-use Rattle.std.proofs.Common.{arith, rules, refl, ◌∙◌, ◌<◌, ◌+◌}
+use Rattle.std.proofs.Common.{arith, rules, refl, sym, ◌≡◌, ◌∙◌, ◌<◌, ◌+◌, ◌-◌}
 use Rattle.std.proofs.lemmas.Grind.{common_steps}
-use Rattle.jsonb_doc.proofs.SpotsLemmas.{HasSpotsLeft-empty, HasSpotsLeft-word, HasSpotsLeft-fits, HasSpotsLeft-first}
+use Rattle.std.proofs.lemmas.List.{nil_from_length}
+use Rattle.jsonb_doc.proofs.SpotsLemmas.{HasSpotsLeft-empty, HasSpotsLeft-word, HasSpotsLeft-fits, HasSpotsLeft-first, PassesSpot-fits}
 use Rattle.jsonb_doc.proofs.spot_iter.SpotIterIterator.next.Goals as goal
 use Rattle.jsonb_doc.proofs.spot_iter.SpotIterIterator.next.Goals.{in_default-checked_add-via-in-Some-checked_add+else-end-self, in_default-checked_add-via-in_default-checked_add}
 
 pub returns-then-is_empty-clause-steps : goal.returns-then-is_empty-clause-steps
 returns-then-is_empty-clause-steps c = record {
+  reads = nil_from_length c.args.self.now.words.now (grind (arith, common_steps));
   takes = λ bytes ts h. HasSpotsLeft-empty bytes c.args.self.now ts c.args.self.now (grind (arith, common_steps)) refl h;
   errors = search rules;
   size = search rules;
@@ -14,6 +16,11 @@ returns-then-is_empty-clause-steps c = record {
 
 pub returns-in_default-clause-steps : goal.returns-in_default-clause-steps
 returns-in_default-clause-steps c = record {
+  reads = (
+    λ spot rest p. c.in_default.ensures.word spot.kind (spot.end - spot.start) rest.words.now
+        (record { known = p.known; fits = p.fits; joined = p.word }),
+    refl,
+  );
   takes = λ bytes ts h. absurd (HasSpotsLeft-word bytes c.args.self.now ts (grind (arith, common_steps)) c.in_default.ensures.word h);
   errors = search rules;
   size = search rules;
@@ -25,7 +32,18 @@ returns-in-Some-checked_add-clause-steps c =
     let sum = c.in-Some-checked_add.ensures in
     let start = c.new.ensures.start in
     let end = c.new.ensures.end ∙ sum.1 in
+    let len : c.new.result.end - c.new.result.start ≡ c.in-Some.len = omega (arith, start, end) in
     record {
+      reads = record {
+        word = rw (c.new.ensures.kind, len) c.in-Some.ensures.word.joined;
+        known = omega (arith, c.new.ensures.kind, c.in-Some.ensures.word.known);
+        fits = omega (arith, len, c.in-Some.ensures.word.fits);
+        front = start;
+        ordered = omega (arith, sum.1, start, end);
+        within = omega (arith, c.new.ensures.end);
+        next = sym c.new.ensures.end;
+        last = refl;
+      };
       takes = λ bytes ts h.
           HasSpotsLeft-first bytes c.args.self.now c.in-Some.kind c.in-Some.len c.in-Some.others.now c.in-Some.ensures.word ts c.new.result _ c.new.ensures.kind start end refl sum.1 refl h;
       errors = search rules;
@@ -40,6 +58,14 @@ returns-in_default-checked_add-clause-steps c =
       | in_default-checked_add-via-in_default-checked_add w ↦ omega (arith, w.in_default-checked_add.ensures)
     ] in
     record {
+      reads = (
+        λ spot rest p. omega (
+          arith,
+          past,
+          PassesSpot-fits c.args.self.now c.in-Some.kind c.in-Some.len c.in-Some.others.now c.in-Some.ensures.word spot rest p,
+        ),
+        refl,
+      );
       takes = λ bytes ts h.
           absurd (omega (arith, past, HasSpotsLeft-fits bytes c.args.self.now c.in-Some.kind c.in-Some.len c.in-Some.others.now c.in-Some.ensures.word ts h));
       errors = search rules;

@@ -1,142 +1,220 @@
-use Rattle.std.proofs.Common.{rules, sym, ap, ◌∙◌}
+use Rattle.std.proofs.Common.{◌≡◌, ℕ, ◌∷◌, ◌++◌, List, string_bytes, arith, refl, sym, ap, subst, ◌∙◌, MatchResult}
+use Rattle.std.specs.Prelude.{reverse}
+use Rattle.std.proofs.lemmas.List.{nil_from_length}
 use Rattle.std.proofs.lemmas.Result.{err_from_is_err_and}
+use Rattle.jsonb_doc.specs.Tree.{Tree, Trees, Pairs, array, object, elements, members, keys, trees_of, pairs_of}
+use Rattle.jsonb_doc.specs.Format.{AreKeys}
+use Rattle.jsonb_doc.specs.Answer.{IsOutOfMemory}
+use Rattle.jsonb_doc.specs.Value.{tree_seen, trees_seen, members_seen}
+use Rattle.jsonb_doc.specs.Private.Filling.{FillsTo, LeadsTo}
+use Rattle.jsonb_doc.specs.declared.value.decode.Open.{Open}
 use Rattle.jsonb_doc.proofs.LimitLemmas.{decoded_keys}
-use Rattle.jsonb_doc.specs.Tree.{array, object}
 use Rattle.jsonb_doc.proofs.ValueTrees.{tree_seen-Array, tree_seen-Object}
 use Rattle.jsonb_doc.proofs.DecodedValues.{first_element, element_read, no_element, first_member, member_read, no_member, sees_normal, sees_normal_member, elements_begin, elements_go_on, elements_end, members_begin, members_go_on, members_end}
+use Rattle.jsonb_doc.proofs.FilledValues.{widest_with, array_goes_on, object_goes_on, whole_of, LeadsTo-popped, LeadsTo-pushed}
 use Rattle.jsonb_doc.proofs.value.decode.+decode.Goals as goal
 
--- ---- items
+-- ---- one container
 
-pub item_value-returns-in_err-array_values-in-Array-clause-decodes : goal.item_value-returns-in_err-array_values-in-Array-clause-decodes
-item_value-returns-in_err-array_values-in-Array-clause-decodes t c = λ seen keeps sees form u stands.
-    let (ts, is, d) = rw c.in-Array.is at stands in
+pub closed-returns-in_err-fill_array-in-Array-clause-decodes : goal.closed-returns-in_err-fill_array-in-Array-clause-decodes
+closed-returns-in_err-fill_array-in-Array-clause-decodes t c = λ seen keeps form whole makes.
+    let (ts, left, made) = rw c.in-Array.is at makes in
+    let p = err_from_is_err_and c.from_residual-in_err-fill_array-in-Array.result c.from_residual-in_err-fill_array-in-Array.ensures.1 in
+    rw (p.1, p.2) (c.in_err-fill_array-in-Array.ensures.decodes seen keeps form ts left)
+
+pub closed-returns-in_err-fill_object-in-Object-clause-decodes : goal.closed-returns-in_err-fill_object-in-Object-clause-decodes
+closed-returns-in_err-fill_object-in-Object-clause-decodes t c = λ seen keeps form whole makes.
+    let (ps, left, rising, made) = rw c.in-Object.is at makes in
+    let next = object_goes_on seen _ _ c.in-Object.name c.args.value ps whole c.in_ok-insert-in-Object.ensures.entries rising made in
+    let p = err_from_is_err_and c.from_residual-in_err-fill_object-in-Object.result c.from_residual-in_err-fill_object-in-Object.ensures.1 in
+    rw (p.1, p.2) (c.in_err-fill_object-in-Object.ensures.decodes seen keeps form ps left next.0)
+
+pub closed-returns-in_ok-fill_array-in-Array-clause-decodes : goal.closed-returns-in_ok-fill_array-in-Array-clause-decodes
+closed-returns-in_ok-fill_array-in-Array-clause-decodes t c = λ seen keeps form whole makes.
+    let (ts, left, made) = rw c.in-Array.is at makes in
+    let next = array_goes_on seen _ _ c.args.value ts whole c.in_ok-push-in-Array.ensures.items made in
+    let filled = c.in_ok-fill_array-in-Array.field-0 in
+    whole_of seen form filled c.whole.result whole (c.in_ok-fill_array-in-Array.ensures.whole refl) c.whole.ensures.whole
+    (subst (λ (x : Tree). FillsTo seen form x filled) next (c.in_ok-fill_array-in-Array.ensures.decodes seen keeps form ts left))
+
+pub closed-returns-in_ok-fill_object-in-Object-clause-decodes : goal.closed-returns-in_ok-fill_object-in-Object-clause-decodes
+closed-returns-in_ok-fill_object-in-Object-clause-decodes t c = λ seen keeps form whole makes.
+    let (ps, left, rising, made) = rw c.in-Object.is at makes in
+    let next = object_goes_on seen _ _ c.in-Object.name c.args.value ps whole c.in_ok-insert-in-Object.ensures.entries rising made in
+    let filled = c.in_ok-fill_object-in-Object.field-0 in
+    whole_of seen form filled c.whole-in-Object.result whole (c.in_ok-fill_object-in-Object.ensures.whole refl) c.whole-in-Object.ensures.whole
+    (subst (λ (x : Tree). FillsTo seen form x filled) next.1 (c.in_ok-fill_object-in-Object.ensures.decodes seen keeps form ps left next.0))
+
+-- ---- the containers around
+
+pub closed_all-returns-in_err-value-clause-decodes : goal.closed_all-returns-in_err-value-clause-decodes
+closed_all-returns-in_err-value-clause-decodes t c = λ seen keeps form whole leads.
+    let (inner, makes, rest) = LeadsTo-popped seen form c.loop-outer.around.items c.pop.new.self.items c.in-Some.outer (tree_seen seen c.loop-outer.value) whole
+    c.in-Some.ensures.items (c.loop-outer.invariant.left seen keeps form whole leads) in
     let p = err_from_is_err_and c.from_residual.result c.from_residual.ensures.1 in
-    rw (p.1, p.2) (c.in_err-array_values-in-Array.ensures.decodes seen keeps form ts d)
+    rw (p.1, p.2) (c.in_err-value.ensures.decodes seen keeps form inner makes)
 
-pub item_value-returns-in_err-object_members-in-Object-clause-decodes : goal.item_value-returns-in_err-object_members-in-Object-clause-decodes
-item_value-returns-in_err-object_members-in-Object-clause-decodes t c = λ seen keeps sees form u stands.
-    let (ps, is, d) = rw c.in-Object.is at stands in
-    let p = err_from_is_err_and c.from_residual-in_err-object_members-in-Object.result c.from_residual-in_err-object_members-in-Object.ensures.1 in
-    rw (p.1, p.2) (c.in_err-object_members-in-Object.ensures.decodes seen keeps form ps d)
+pub closed_all-loop-outer-preserved : goal.closed_all-loop-outer-preserved
+closed_all-loop-outer-preserved t c = record {
+  left = λ seen keeps form whole leads.
+      let (inner, makes, rest) = LeadsTo-popped seen form c.loop-outer.around.items c.pop.new.self.items c.in-Some.outer (tree_seen seen c.loop-outer.value) whole
+      c.in-Some.ensures.items (c.loop-outer.invariant.left seen keeps form whole leads) in
+      subst (λ (x : Tree). LeadsTo seen form (reverse c.pop.new.self.items) x whole) (sym (c.in_ok-value.ensures.decodes seen keeps form inner makes)) rest;
+  room =
+      let wide = widest_with c.pop.new.self.items c.loop-outer.around.items c.in-Some.outer c.in-Some.ensures.items in
+      omega (arith, wide, c.loop-outer.invariant.room);
+}
 
-pub item_value-returns-in-Extension-clause-decodes : goal.item_value-returns-in-Extension-clause-decodes
-item_value-returns-in-Extension-clause-decodes t c = λ seen keeps sees form u stands.
-    c.extension_value.ensures seen ∙ sym (rw c.in-Extension.is at stands)
+pub closed_all-returns-clause-decodes : goal.closed_all-returns-clause-decodes
+closed_all-returns-clause-decodes t c = λ seen keeps form whole leads.
+    subst (λ (os : List Open). LeadsTo seen form (reverse os) (tree_seen seen c.loop-outer.value) whole)
+    (nil_from_length c.loop-outer.around.items (omega (arith, c.in_default.ensures.cases.0, c.loop-outer.around.ok.0)))
+    (c.loop-outer.invariant.left seen keeps form whole leads)
 
-pub item_value-returns-in_ok-array_values-in-Array-clause-decodes : goal.item_value-returns-in_ok-array_values-in-Array-clause-decodes
-item_value-returns-in_ok-array_values-in-Array-clause-decodes t c = λ seen keeps sees form u stands.
+pub container_value-returns-in_err-value-clause-decodes : goal.container_value-returns-in_err-value-clause-decodes
+container_value-returns-in_err-value-clause-decodes t c = λ seen keeps sees form whole stands.
+    let (part, part_stands, part_sees, leads) = c.loop-around.invariant.left seen keeps sees form whole stands in
+    let p = err_from_is_err_and c.from_residual.result c.from_residual.ensures.1 in
+    rw (p.1, p.2) (c.in_err-value.ensures.decodes seen keeps part_sees form part part_stands)
+
+pub container_value-returns-in-Whole-clause-decodes : goal.container_value-returns-in-Whole-clause-decodes
+container_value-returns-in-Whole-clause-decodes t c = λ seen keeps sees form whole stands.
+    let (part, part_stands, part_sees, leads) = c.loop-around.invariant.left seen keeps sees form whole stands in
+    let same : tree_seen seen c.in-Whole.value ≡ part = rw c.in-Whole.is at (c.in_ok-value.ensures.decodes seen keeps part_sees form part part_stands) in
+    c.closed_all.ensures.decodes seen keeps form whole
+    (subst (λ (x : Tree). LeadsTo seen form (reverse c.loop-around.around.items) x whole) (sym same) leads)
+
+pub container_value-loop-around-preserved : goal.container_value-loop-around-preserved
+container_value-loop-around-preserved t c =
+    let inv = c.loop-around.invariant in
+    let size = rw c.in-Within.is at c.in_ok-value.ensures.size in
+    let pushed = c.in_ok-push-in-Within.ensures.items in
+    record {
+      left = λ seen keeps sees form whole stands.
+          let (part, part_stands, part_sees, leads) = inv.left seen keeps sees form whole stands in
+          let (inner, inner_stands, inner_sees, makes) = rw c.in-Within.is at (c.in_ok-value.ensures.decodes seen keeps part_sees form part part_stands) in
+          (inner, inner_stands, inner_sees, LeadsTo-pushed seen form c.loop-around.around.items _ c.in-Within.outer inner part whole pushed makes leads);
+      shorter = omega (arith, inv.shorter, size.0);
+      room =
+          let wide = widest_with c.loop-around.around.items _ c.in-Within.outer pushed in
+          omega (arith, wide, inv.shorter, inv.room, size.1);
+    }
+
+-- ---- the front of a container
+
+pub opened-returns-in_err-left-in-Array-clause-decodes : goal.opened-returns-in_err-left-in-Array-clause-decodes
+opened-returns-in_err-left-in-Array-clause-decodes t c = λ seen keeps sees form u stands.
     let (ts, is, d) = rw c.in-Array.is at stands in
-    tree_seen-Array seen _ ∙ ap array (c.in_ok-array_values-in-Array.ensures.decodes seen keeps form ts d) ∙ sym is
+    absurd (c.in_err-left-in-Array.ensures.decodes form ts d)
 
-pub item_value-returns-in_ok-object_members-in-Object-clause-decodes : goal.item_value-returns-in_ok-object_members-in-Object-clause-decodes
-item_value-returns-in_ok-object_members-in-Object-clause-decodes t c = λ seen keeps sees form u stands.
+pub opened-returns-in_err-left-in-Object-clause-decodes : goal.opened-returns-in_err-left-in-Object-clause-decodes
+opened-returns-in_err-left-in-Object-clause-decodes t c = λ seen keeps sees form u stands.
     let (ps, is, d) = rw c.in-Object.is at stands in
-    tree_seen-Object seen _ ∙ ap object (c.in_ok-object_members-in-Object.ensures.decodes seen keeps form ps d) ∙ sym is
+    absurd (c.in_err-left-in-Object.ensures.decodes form ps d)
+
+pub opened-returns-in_ok-left-in-Array-clause-decodes : goal.opened-returns-in_ok-left-in-Array-clause-decodes
+opened-returns-in_ok-left-in-Array-clause-decodes t c = λ seen keeps sees form u stands.
+    let (ts, is, d) = rw c.in-Array.is at stands in
+    let made = ap array (elements_begin seen _ ts c.new.ensures.items) ∙ sym is in
+    subst (λ (x : Tree). MatchResult c.fill_array.result (FillsTo seen form x) IsOutOfMemory) made
+    (c.fill_array.ensures.decodes seen keeps form ts (c.in_ok-left-in-Array.ensures.decodes form ts d))
+
+pub opened-returns-in_ok-left-in-Object-clause-decodes : goal.opened-returns-in_ok-left-in-Object-clause-decodes
+opened-returns-in_ok-left-in-Object-clause-decodes t c = λ seen keeps sees form u stands.
+    let (ps, is, d) = rw c.in-Object.is at stands in
+    let same = members_begin seen _ ps c.new-in-Object.ensures.empty in
+    let rising = subst (λ (qs : Pairs). AreKeys (keys qs)) (sym same) (decoded_keys form _ ps d) in
+    subst (λ (x : Tree). MatchResult c.fill_object.result (FillsTo seen form x) IsOutOfMemory) (ap object same ∙ sym is)
+    (c.fill_object.ensures.decodes seen keeps form ps (c.in_ok-left-in-Object.ensures.decodes form ps d) rising)
 
 -- ---- arrays
 
-pub array_values-returns-in_err-found-clause-decodes : goal.array_values-returns-in_err-found-clause-decodes
-array_values-returns-in_err-found-clause-decodes t c = λ seen keeps form ts d. absurd (c.in_err-found.ensures.decodes form (array ts) d)
+pub fill_array-returns-in_err-item-clause-decodes : goal.fill_array-returns-in_err-item-clause-decodes
+fill_array-returns-in_err-item-clause-decodes t c = λ seen keeps form ts h.
+    let (left, has, joined) = c.loop-item.invariant.left seen keeps form ts h in
+    absurd (element_read form left c.in-Some.item _ _ c.in_err-item.was (c.in-Some.ensures.steps.takes form left has))
 
-pub array_values-returns-in_default-clause-decodes : goal.array_values-returns-in_default-clause-decodes
-array_values-returns-in_default-clause-decodes t c = λ seen keeps form ts d.
-    absurd (rw c.in_default.is at (c.in_ok-found.ensures.decodes form (array ts) d))
+pub fill_array-returns-then-is_longer-clause-decodes : goal.fill_array-returns-then-is_longer-clause-decodes
+fill_array-returns-then-is_longer-clause-decodes t c = λ seen keeps form ts h.
+    let (left, has, joined) = c.loop-item.invariant.left seen keeps form ts h in
+    let now = first_element form left c.in-Some.item _ _ c.in_ok-item.was (c.in-Some.ensures.steps.takes form left has) in
+    let sees = sees_normal seen keeps c.in-Some.item _ c.in_ok-item.was c.in-Some.ensures.steps.normal in
+    let made = ap (λ (us : Trees). array (trees_of (trees_seen seen c.loop-item.values.items ++ elements us))) (sym now.whole) ∙ ap array joined in
+    (now.first, now.stands, sees, (now.others, now.left, made))
 
-pub array_values-loop-item-init : goal.array_values-loop-item-init
-array_values-loop-item-init t c = record {
-  can = tt;
-  finite = tt;
-  room = search rules;
-  left = λ seen keeps form ts d.
-      let left = rw c.in-Some.is at (c.in_ok-found.ensures.decodes form (array ts) d) in
-      (ts, rw c.into_iter-item-iterator.ensures.into_iter_gives left, elements_begin seen _ ts c.new-values.ensures.items);
-}
-
-pub array_values-returns-in_err-item-clause-decodes : goal.array_values-returns-in_err-item-clause-decodes
-array_values-returns-in_err-item-clause-decodes t c = λ seen keeps form ts d.
-    let (left, has, joined) = c.loop-item.invariant.left seen keeps form ts d in
-    absurd (element_read form left c.in-Some-item.item _ _ c.in_err-item.was (c.in-Some-item.ensures.steps.takes form left has))
-
-pub array_values-returns-in_err-item_value-clause-decodes : goal.array_values-returns-in_err-item_value-clause-decodes
-array_values-returns-in_err-item_value-clause-decodes t c = λ seen keeps form ts d.
-    let (left, has, joined) = c.loop-item.invariant.left seen keeps form ts d in
-    let now = first_element form left c.in-Some-item.item _ _ c.in_ok-item.was (c.in-Some-item.ensures.steps.takes form left has) in
-    let sees = sees_normal seen keeps c.in-Some-item.item _ c.in_ok-item.was c.in-Some-item.ensures.steps.normal in
+pub fill_array-returns-in_err-item_value-clause-decodes : goal.fill_array-returns-in_err-item_value-clause-decodes
+fill_array-returns-in_err-item_value-clause-decodes t c = λ seen keeps form ts h.
+    let (left, has, joined) = c.loop-item.invariant.left seen keeps form ts h in
+    let now = first_element form left c.in-Some.item _ _ c.in_ok-item.was (c.in-Some.ensures.steps.takes form left has) in
+    let sees = sees_normal seen keeps c.in-Some.item _ c.in_ok-item.was c.in-Some.ensures.steps.normal in
     let p = err_from_is_err_and c.from_residual-in_err-item_value.result c.from_residual-in_err-item_value.ensures.1 in
     rw (p.1, p.2) (c.in_err-item_value.ensures.decodes seen keeps sees form now.first now.stands)
 
-pub array_values-loop-item-preserved : goal.array_values-loop-item-preserved
-array_values-loop-item-preserved t c = record {
+pub fill_array-loop-item-preserved : goal.fill_array-loop-item-preserved
+fill_array-loop-item-preserved t c = record {
   can = tt;
   finite = tt;
-  room = search rules;
-  left = λ seen keeps form ts d.
-      let (left, has, joined) = c.loop-item.invariant.left seen keeps form ts d in
-      let now = first_element form left c.in-Some-item.item _ _ c.in_ok-item.was (c.in-Some-item.ensures.steps.takes form left has) in
-      let sees = sees_normal seen keeps c.in-Some-item.item _ c.in_ok-item.was c.in-Some-item.ensures.steps.normal in (
+  room = omega (arith, c.in-Some.ensures.steps.room, c.loop-item.invariant.room);
+  left = λ seen keeps form ts h.
+      let (left, has, joined) = c.loop-item.invariant.left seen keeps form ts h in
+      let now = first_element form left c.in-Some.item _ _ c.in_ok-item.was (c.in-Some.ensures.steps.takes form left has) in
+      let sees = sees_normal seen keeps c.in-Some.item _ c.in_ok-item.was c.in-Some.ensures.steps.normal in (
         now.others,
         now.left,
-        elements_go_on seen _ _ _ left now.others ts now.first joined now.whole c.in_ok-push.ensures.items
+        elements_go_on seen _ _ _ left now.others _ now.first joined now.whole c.in_ok-push.ensures.items
             (c.in_ok-item_value.ensures.decodes seen keeps sees form now.first now.stands),
       );
 }
 
-pub array_values-returns-clause-decodes : goal.array_values-returns-clause-decodes
-array_values-returns-clause-decodes t c = λ seen keeps form ts d.
-    let (left, has, joined) = c.loop-item.invariant.left seen keeps form ts d in
-    elements_end seen _ left ts joined (no_element form left _ (c.in-None.ensures.steps.takes form left has))
+pub fill_array-returns-clause-decodes : goal.fill_array-returns-clause-decodes
+fill_array-returns-clause-decodes t c = λ seen keeps form ts h.
+    let (left, has, joined) = c.loop-item.invariant.left seen keeps form ts h in
+    tree_seen-Array seen _ ∙ ap array (elements_end seen _ left _ joined (no_element form left _ (c.in_default.ensures.steps.takes form left has)))
 
 -- ---- objects
 
-pub object_members-returns-in_err-found-clause-decodes : goal.object_members-returns-in_err-found-clause-decodes
-object_members-returns-in_err-found-clause-decodes t c = λ seen keeps form ps d. absurd (c.in_err-found.ensures.decodes form (object ps) d)
+pub fill_object-returns-in_err-key-clause-decodes : goal.fill_object-returns-in_err-key-clause-decodes
+fill_object-returns-in_err-key-clause-decodes t c = λ seen keeps form ps h rising.
+    let (left, has, joined) = c.loop-pair.invariant.left seen keeps form ps h rising in
+    absurd (member_read form left c.in-Some.pair _ _ c.in_err-key.was (c.in-Some.ensures.steps.takes form left has))
 
-pub object_members-returns-in_default-clause-decodes : goal.object_members-returns-in_default-clause-decodes
-object_members-returns-in_default-clause-decodes t c = λ seen keeps form ps d.
-    absurd (rw c.in_default.is at (c.in_ok-found.ensures.decodes form (object ps) d))
+pub fill_object-returns-then-is_longer-clause-decodes : goal.fill_object-returns-then-is_longer-clause-decodes
+fill_object-returns-then-is_longer-clause-decodes t c = λ seen keeps form ps h rising.
+    let (left, has, joined) = c.loop-pair.invariant.left seen keeps form ps h rising in
+    let now = first_member form left c.in-Some.pair _ _ c.in_ok-key.was (c.in-Some.ensures.steps.takes form left has) in
+    let sees = sees_normal_member seen keeps c.in-Some.pair _ c.in_ok-key.was c.in-Some.ensures.steps.normal in
+    let before = members_seen seen c.loop-pair.members.entries in
+    let next : pairs_of (before ++ (string_bytes c.in_ok-name.name, now.value) ∷ members now.others) ≡ pairs_of (members_seen seen c.args.members.entries ++ members ps) =
+    ap (λ (key : List ℕ). pairs_of (before ++ (key, now.value) ∷ members now.others)) c.in_ok-name.ensures.ok
+    ∙ ap (λ (qs : Pairs). pairs_of (before ++ members qs)) (sym now.whole) ∙ joined in
+    (now.value, now.stands, sees, (now.others, now.left, subst (λ (qs : Pairs). AreKeys (keys qs)) (sym next) rising, ap object next))
 
-pub object_members-loop-pair-init : goal.object_members-loop-pair-init
-object_members-loop-pair-init t c = record {
-  can = tt;
-  finite = tt;
-  room = search rules;
-  left = λ seen keeps form ps d.
-      let left = rw c.in-Some.is at (c.in_ok-found.ensures.decodes form (object ps) d) in
-      (ps, rw c.into_iter-pair-iterator.ensures.into_iter_gives left, members_begin seen _ ps c.new-members.ensures.empty);
-}
-
-pub object_members-returns-in_err-key-clause-decodes : goal.object_members-returns-in_err-key-clause-decodes
-object_members-returns-in_err-key-clause-decodes t c = λ seen keeps form ps d.
-    let (left, has, joined) = c.loop-pair.invariant.left seen keeps form ps d in
-    absurd (member_read form left c.in-Some-pair.pair _ _ c.in_err-key.was (c.in-Some-pair.ensures.steps.takes form left has))
-
-pub object_members-returns-in_err-value-clause-decodes : goal.object_members-returns-in_err-value-clause-decodes
-object_members-returns-in_err-value-clause-decodes t c = λ seen keeps form ps d.
-    let (left, has, joined) = c.loop-pair.invariant.left seen keeps form ps d in
-    let now = first_member form left c.in-Some-pair.pair _ _ c.in_ok-key.was (c.in-Some-pair.ensures.steps.takes form left has) in
-    let sees = sees_normal_member seen keeps c.in-Some-pair.pair _ c.in_ok-key.was c.in-Some-pair.ensures.steps.normal in
+pub fill_object-returns-in_err-value-clause-decodes : goal.fill_object-returns-in_err-value-clause-decodes
+fill_object-returns-in_err-value-clause-decodes t c = λ seen keeps form ps h rising.
+    let (left, has, joined) = c.loop-pair.invariant.left seen keeps form ps h rising in
+    let now = first_member form left c.in-Some.pair _ _ c.in_ok-key.was (c.in-Some.ensures.steps.takes form left has) in
+    let sees = sees_normal_member seen keeps c.in-Some.pair _ c.in_ok-key.was c.in-Some.ensures.steps.normal in
     let p = err_from_is_err_and c.from_residual-in_err-value.result c.from_residual-in_err-value.ensures.1 in
     rw (p.1, p.2) (c.in_err-value.ensures.decodes seen keeps sees form now.value now.stands)
 
-pub object_members-loop-pair-preserved : goal.object_members-loop-pair-preserved
-object_members-loop-pair-preserved t c = record {
+pub fill_object-loop-pair-preserved : goal.fill_object-loop-pair-preserved
+fill_object-loop-pair-preserved t c = record {
   can = tt;
   finite = tt;
-  room = search rules;
-  left = λ seen keeps form ps d.
-      let (left, has, joined) = c.loop-pair.invariant.left seen keeps form ps d in
-      let now = first_member form left c.in-Some-pair.pair _ _ c.in_ok-key.was (c.in-Some-pair.ensures.steps.takes form left has) in
-      let sees = sees_normal_member seen keeps c.in-Some-pair.pair _ c.in_ok-key.was c.in-Some-pair.ensures.steps.normal in (
+  room = omega (arith, c.in-Some.ensures.steps.room, c.loop-pair.invariant.room);
+  left = λ seen keeps form ps h rising.
+      let (left, has, joined) = c.loop-pair.invariant.left seen keeps form ps h rising in
+      let now = first_member form left c.in-Some.pair _ _ c.in_ok-key.was (c.in-Some.ensures.steps.takes form left has) in
+      let sees = sees_normal_member seen keeps c.in-Some.pair _ c.in_ok-key.was c.in-Some.ensures.steps.normal in (
         now.others,
         now.left,
-        members_go_on seen _ _ _ _ _ left now.others ps now.value joined now.whole
-            (decoded_keys form _ ps d) c.in_ok-insert.ensures.entries c.in_ok-name.ensures.ok
+        members_go_on seen _ _ _ _ _ left now.others _ now.value joined now.whole
+            rising c.in_ok-insert.ensures.entries c.in_ok-name.ensures.ok
             (c.in_ok-value.ensures.decodes seen keeps sees form now.value now.stands),
       );
 }
 
-pub object_members-returns-clause-decodes : goal.object_members-returns-clause-decodes
-object_members-returns-clause-decodes t c = λ seen keeps form ps d.
-    let (left, has, joined) = c.loop-pair.invariant.left seen keeps form ps d in
-    members_end seen _ left ps joined (no_member form left _ (c.in-None.ensures.steps.takes form left has))
+pub fill_object-returns-clause-decodes : goal.fill_object-returns-clause-decodes
+fill_object-returns-clause-decodes t c = λ seen keeps form ps h rising.
+    let (left, has, joined) = c.loop-pair.invariant.left seen keeps form ps h rising in
+    tree_seen-Object seen _ ∙ ap object (members_end seen _ left _ joined (no_member form left _ (c.in_default.ensures.steps.takes form left has)))

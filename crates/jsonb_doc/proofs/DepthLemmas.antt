@@ -1,0 +1,126 @@
+-- How deep the items of a document lie, by its parts.
+use Rattle.std.proofs.Common.{◌≡◌, ◌≢◌, ℕ, ◌+◌, suc, max, List, Option, Some, None, refl, rules, arith, inl, ap}
+use Rattle.std.specs.Ordering.{ord_max, nat_cmp}
+use Rattle.jsonb_doc.specs.Tree.{Tree, array, object, Trees, no_trees, tree, Pairs, no_pairs, pair, values}
+use Rattle.jsonb_doc.specs.Payload.{NumberReader, Form, number_reader}
+use Rattle.jsonb_doc.specs.Format.{BeginWith, Decodes, IsContent, AreEntries}
+use Rattle.jsonb_doc.specs.Depth.{deepest, deepest_of_trees, deepest_of_pairs}
+use Rattle.jsonb_doc.specs.Private.Containers.{Holds}
+use Rattle.jsonb_doc.specs.Private.Depths.{parts_of, LiesBelow, AreDeep}
+use Rattle.jsonb_doc.specs.declared.container.ArrayParts.{ArrayParts}
+use Rattle.jsonb_doc.specs.declared.container.ObjectParts.{ObjectParts}
+use Rattle.jsonb_doc.specs.declared.container.Container.TheVariants.{Array, Object}
+use Rattle.jsonb_doc.proofs.Containers.{entries_of}
+use Rattle.jsonb_doc.proofs.Entries.{AreEntries-first}
+use Rattle.jsonb_doc.proofs.PairsLemmas.{SkipsKeys, HoldsPairs-values}
+
+-- the greater of two numbers, as Rust has it
+pub max_of : (greatest a b : ℕ) → greatest ≡ ord_max nat_cmp a b → greatest ≡ max a b
+max_of greatest a b is = search rules
+
+-- ---- the parts of a document that is cut
+
+module _ (number_at : NumberReader) where
+  -- what is no container has no parts
+  pub scalar_parts : (t : Tree) (kind : ℕ) (bytes : List ℕ) → kind ≢ 5 → IsContent number_at t kind bytes → parts_of t ≡ no_trees
+  scalar_parts (array ts) kind bytes other h = absurd (other h.0)
+  scalar_parts (object ps) kind bytes other h = absurd (other h.0)
+  scalar_parts _ kind bytes other h = refl
+
+  pub array_parts : (t : Tree) (p : ArrayParts) → Holds number_at t (Array p) → AreEntries number_at (parts_of t) p.words.now p.contents.now
+  array_parts (array ts) p h = h
+  array_parts _ p h = absurd h
+
+  pub object_parts : (t : Tree) (p : ObjectParts) (found : List ℕ) → SkipsKeys p found → Holds number_at t (Object p)
+      → AreEntries number_at (parts_of t) p.value_words.now found
+  object_parts (object ps) p found skips h =
+      rw (HoldsPairs-values number_at ps p found h skips) (entries_of number_at ps p.value_words.now h.rest h.values)
+  object_parts _ p found skips h = absurd h
+
+-- ---- depths by parts
+
+deepest_values : (ps : Pairs) → deepest_of_pairs ps ≡ deepest_of_trees (values ps)
+deepest_values no_pairs = refl
+deepest_values (pair key t ps) = ap (max (suc (deepest t))) (deepest_values ps)
+
+pub deepest_parts : (t : Tree) → deepest t ≡ deepest_of_trees (parts_of t)
+deepest_parts (array ts) = refl
+deepest_parts (object ps) = deepest_values ps
+deepest_parts _ = refl
+
+-- the deepest item of a tree lies in the container that is left, or as deep as is known
+pub AreDeep-large : (form : Form) (t : Tree) (known : ℕ) (left : Option (List ℕ)) (large : List ℕ) → left ≡ Some large → AreDeep form (parts_of t) known left
+    → (inner : Tree) × Decodes form large inner × (deepest t ≡ max known (suc (deepest inner)))
+AreDeep-large form t known left large is h =
+    let (inner, decodes, below) = lies_large left is h.below h.lies in
+    let whole = deepest_parts t in
+    let all = h.all in
+    (inner, decodes, omega arith)
+  where
+    lies_large : (left : Option (List ℕ)) → left ≡ Some large → (below : ℕ) → LiesBelow form left below
+        → (inner : Tree) × Decodes form large inner × (below ≡ suc (deepest inner))
+    lies_large left is below lies = rw is at lies
+
+pub AreDeep-whole : (form : Form) (t : Tree) (known : ℕ) (left : Option (List ℕ)) → left ≡ None → AreDeep form (parts_of t) known left → deepest t ≡ known
+AreDeep-whole form t known left is h =
+    let below : h.below ≡ 0 = rw is at h.lies in
+    let whole = deepest_parts t in
+    let all = h.all in
+    omega arith
+
+-- a scalar and an empty container have depth 0
+pub no_parts : (t : Tree) → parts_of t ≡ no_trees → deepest t ≡ 0
+no_parts t none = rw (deepest_parts t, none) refl
+
+-- ---- a container that is left
+
+pub container_decodes : (form : Form) (t : Tree) (kind : ℕ) (bytes : List ℕ) → kind ≡ 5 → IsContent (number_reader form) t kind bytes → Decodes form bytes t
+container_decodes form t kind bytes container h = record { document = inl (rw container at h) }
+
+-- The trees lie so deep, but for those in the container that is left, and for these entries.
+pub record EntriesLeft (form : Form) (ts : Trees) (known : ℕ) (large : Option (List ℕ)) (words contents : List ℕ) : Type 0 where
+  pub others : Trees
+  pub below : ℕ
+  pub lies : LiesBelow form large below
+  pub entries : AreEntries (number_reader form) others words contents
+  pub all : deepest_of_trees ts ≡ max (max known below) (deepest_of_trees others)
+
+pub EntriesLeft-all : (form : Form) (ts : Trees) (words contents : List ℕ) → AreEntries (number_reader form) ts words contents
+    → EntriesLeft form ts 0 None words contents
+EntriesLeft-all form ts words contents h = record { others = ts; below = 0; lies = refl; entries = h; all = omega arith }
+
+-- entries that begin with none are none
+pub EntriesLeft-none : (form : Form) (ts : Trees) (known : ℕ) (large : Option (List ℕ)) (words contents : List ℕ)
+    → ((kind : ℕ) (content ws cs : List ℕ) → BeginWith words contents kind content ws cs → ⊥)
+    → EntriesLeft form ts known large words contents → AreDeep form ts known large
+EntriesLeft-none form ts known large words contents none l = record { below = l.below; lies = l.lies; all = go l.others l.entries l.all }
+  where
+    go : (others : Trees) → AreEntries (number_reader form) others words contents → deepest_of_trees ts ≡ max (max known l.below) (deepest_of_trees others)
+        → deepest_of_trees ts ≡ max known l.below
+    go no_trees h all = omega arith
+    go (tree t us) h all = absurd (none h.kind h.content h.other_words h.other_contents h.begin)
+
+module _ (form : Form) (ts : Trees) (known : ℕ) (large : Option (List ℕ)) (words contents : List ℕ)
+    (kind : ℕ) (content ws cs : List ℕ) (b : BeginWith words contents kind content ws cs) (l : EntriesLeft form ts known large words contents) where
+  -- the first entry lies so deep
+  pub EntriesLeft-next : (within : ℕ) → ((t : Tree) → IsContent (number_reader form) t kind content → within ≡ deepest t)
+      → EntriesLeft form ts (max known (1 + within)) large ws cs
+  EntriesLeft-next within same =
+      let (t, others, is, part, entries) = AreEntries-first (number_reader form) l.others words contents kind content ws cs b l.entries in
+      let deep = same t part in
+      let all : deepest_of_trees ts ≡ max (max known l.below) (max (suc (deepest t)) (deepest_of_trees others)) = rw is at l.all in
+      record { others = others; below = l.below; lies = l.lies; entries = entries; all = omega arith }
+
+  -- the first entry is put aside
+  pub EntriesLeft-aside : large ≡ None → kind ≡ 5 → EntriesLeft form ts (max known 1) (Some content) ws cs
+  EntriesLeft-aside none container =
+      let (t, others, is, part, entries) = AreEntries-first (number_reader form) l.others words contents kind content ws cs b l.entries in
+      let all : deepest_of_trees ts ≡ max (max known l.below) (max (suc (deepest t)) (deepest_of_trees others)) = rw is at l.all in
+      let zero : l.below ≡ 0 = rw none at l.lies in
+      record {
+        others = others;
+        below = suc (deepest t);
+        lies = (t, container_decodes form t kind content container part, refl);
+        entries = entries;
+        all = omega arith;
+      }

@@ -1,0 +1,55 @@
+-- Items that are read of any bytes.
+use Rattle.std.proofs.Common.{◌≡◌, ℕ, List, ◌++◌, length, arith, Result, Ok, Err}
+use Rattle.std.specs.Prelude.{MatchResult, IfOk}
+use Rattle.std.proofs.lemmas.List.{length-append}
+use Rattle.jsonb_doc.specs.Payload.{any, number_reader}
+use Rattle.jsonb_doc.specs.Format.{HeadedBy, HasItsWords}
+use Rattle.jsonb_doc.specs.Item.{StandsFor, IsItemOf, IsRootOf}
+use Rattle.jsonb_doc.specs.Tree.{Tree}
+use Rattle.jsonb_doc.specs.Format.{IsContent, Decodes}
+use Rattle.jsonb_doc.specs.Private.Containers.{IsCut}
+use Rattle.jsonb_doc.specs.declared.container.ArrayParts.{ArrayParts}
+use Rattle.jsonb_doc.specs.declared.container.ObjectParts.{ObjectParts}
+use Rattle.jsonb_doc.specs.declared.container.Container.TheVariants.{Scalar, Array as ArrayOf, Object as ObjectOf}
+use Rattle.jsonb_doc.specs.declared.entry_iter.StoredEntry.{StoredEntry}
+use Rattle.jsonb_doc.specs.declared.error.Error.{Error}
+use Rattle.jsonb_doc.specs.declared.item.Item.{Item}
+use Rattle.jsonb_doc.specs.declared.item.Item.TheVariants.{Null, Boolean, Number, String, Extension, Array, Object}
+use Rattle.jsonb_doc.proofs.Containers.{HasContent-headed, IsCut-same}
+
+-- a container that is read has a header
+pub item_headed : (content : List ℕ) (item : Item) → IsItemOf 5 content item → (kind entries : ℕ) × (rest : List ℕ) × HeadedBy content kind entries rest
+item_headed content (Array bytes) h = (4, h.2.0, h.2.1, h.2.2)
+item_headed content (Object bytes) h = (2, h.2.0, h.2.1, h.2.2)
+item_headed content Null h = HasContent-headed (number_reader any) content (h.0, h.1)
+item_headed content (Boolean b) h = HasContent-headed (number_reader any) content (h.0, h.1)
+item_headed content (Number n) h = HasContent-headed (number_reader any) content (h.0, h.1)
+item_headed content (String s) h = HasContent-headed (number_reader any) content (h.0, h.1)
+item_headed content (Extension x) h = HasContent-headed (number_reader any) content (h.0, h.1)
+
+module _ (bytes : List ℕ) where
+  -- the entry of a scalar root is no container, so that its item is all of the document
+  scalar_decodes : (e : StoredEntry) → IsCut bytes (Scalar e) → (t : Tree) → IsContent (number_reader any) t e.kind e.content.now → Decodes any bytes t
+  scalar_decodes e cut t h = record { document = (IsCut-same bytes (Scalar e) cut (number_reader any) t).1 (cut.2.scalar, h) }
+
+  scalar_root : (e : StoredEntry) → IsCut bytes (Scalar e) → (item : Item) → IsItemOf e.kind e.content.now item → IsRootOf bytes item
+  scalar_root e cut (Array own) h = absurd (cut.2.scalar h.0)
+  scalar_root e cut (Object own) h = absurd (cut.2.scalar h.0)
+  scalar_root e cut Null h = (h.0, scalar_decodes e cut h.0 h.1, h.2)
+  scalar_root e cut (Boolean b) h = (h.0, scalar_decodes e cut h.0 h.1, h.2)
+  scalar_root e cut (Number n) h = (h.0, scalar_decodes e cut h.0 h.1, h.2)
+  scalar_root e cut (String s) h = (h.0, scalar_decodes e cut h.0 h.1, h.2)
+  scalar_root e cut (Extension x) h = (h.0, scalar_decodes e cut h.0 h.1, h.2)
+
+  pub scalar_read : (e : StoredEntry) → IsCut bytes (Scalar e) → (Q : Error → Type 0) → (r : Result Item Error)
+      → MatchResult r (IsItemOf e.kind e.content.now) Q → IfOk r (IsRootOf bytes)
+  scalar_read e cut Q (Ok item) h = scalar_root e cut item h
+  scalar_read e cut Q (Err x) h = tt
+
+  pub array_root : (p : ArrayParts) → IsCut bytes (ArrayOf p) → HasItsWords 4 4 bytes
+  array_root p (n, h, len) = (n, p.words.now ++ p.contents.now, h, omega (arith, len, length-append p.words.now p.contents.now))
+
+  pub object_root : (p : ObjectParts) → IsCut bytes (ObjectOf p) → HasItsWords 2 8 bytes
+  object_root p (n, h, len, value_len) =
+      let words = p.key_words.now ++ p.value_words.now in
+      (n, words ++ p.contents.now, h, omega (arith, len, value_len, length-append words p.contents.now, length-append p.key_words.now p.value_words.now))

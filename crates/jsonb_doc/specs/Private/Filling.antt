@@ -1,0 +1,58 @@
+-- Values of containers that are filled part by part.
+use Rattle.std.specs.Prelude.{◌≡◌, ◌<◌, ℕ, List, [], ◌∷◌, ◌++◌, string_bytes, ⊤}
+use Rattle.jsonb_doc.specs.Number as spec
+use Rattle.jsonb_doc.specs.Tree.{Tree, Trees, Pairs, array, object, elements, members, keys, trees_of, pairs_of}
+use Rattle.jsonb_doc.specs.Payload.{Form}
+use Rattle.jsonb_doc.specs.Format.{AreKeys}
+use Rattle.jsonb_doc.specs.Item.{StandsFor, item_size}
+use Rattle.jsonb_doc.specs.Elements.{HasElementsLeft, elements_room}
+use Rattle.jsonb_doc.specs.ObjectPairs.{HasPairsLeft, pairs_room}
+use Rattle.jsonb_doc.specs.Value.{tree_seen, trees_seen, members_seen, SeesItem}
+use Rattle.jsonb_doc.specs.declared.item.Item.{Item}
+use Rattle.jsonb_doc.specs.declared.item.Item.TheVariants as item
+use Rattle.jsonb_doc.specs.declared.number.Number.{Number}
+use Rattle.jsonb_doc.specs.declared.value.decode.Open.{Open}
+use Rattle.jsonb_doc.specs.declared.value.decode.Open.TheVariants as open_at
+use Rattle.jsonb_doc.specs.declared.value.decode.Filled.{Filled}
+use Rattle.jsonb_doc.specs.declared.value.decode.Filled.TheVariants.{Whole, Within}
+
+-- the item is an array or an object
+abbrev pub IsContainerItem : Item → Type 0
+IsContainerItem (item.Array bytes) = ⊤
+IsContainerItem (item.Object bytes) = ⊤
+IsContainerItem _ = ⊥
+
+-- nothing is left out
+abbrev pub IsWhole : Filled → Type 0
+IsWhole (Whole v) = ⊤
+IsWhole (Within o part) = ⊥
+
+-- at most how many bytes a part that is left has, on any bytes
+abbrev pub open_room : Open → ℕ
+open_room (open_at.Array values left) = elements_room left
+open_room (open_at.Object made name left) = pairs_room left
+
+-- the part that is left out, where there is one, and those behind it have fewer bytes
+abbrev pub IsShorter : ℕ → Filled → Type 0
+IsShorter n (Whole v) = ⊤
+IsShorter n (Within o part) = (item_size part < n) × (open_room o < n)
+
+module _ (seen : Number → spec.Number) (form : Form) where
+  -- with this tree as the missing part the container is this one
+  abbrev pub MakesWhole : Open → Tree → Tree → Type 0
+  MakesWhole (open_at.Array values left) part whole =
+      (ts : Trees) × HasElementsLeft form left ts × (array (trees_of (trees_seen seen values.items ++ part ∷ elements ts)) ≡ whole)
+  MakesWhole (open_at.Object made name left) part whole =
+      (ps : Pairs) × HasPairsLeft form left ps
+      × AreKeys (keys (pairs_of (members_seen seen made.entries ++ (string_bytes name, part) ∷ members ps)))
+      × (object (pairs_of (members_seen seen made.entries ++ (string_bytes name, part) ∷ members ps)) ≡ whole)
+
+  -- what is filled is the tree, or will be, with the value of the part that is left out
+  abbrev pub FillsTo : Tree → Filled → Type 0
+  FillsTo whole (Whole v) = tree_seen seen v ≡ whole
+  FillsTo whole (Within o part) = (t : Tree) × StandsFor form part t × SeesItem seen part × MakesWhole o t whole
+
+  -- with this tree as the missing part of the first container, and each container as that of the next, the last is this one
+  abbrev pub LeadsTo : List Open → Tree → Tree → Type 0
+  LeadsTo [] part whole = part ≡ whole
+  LeadsTo (o ∷ around) part whole = (t : Tree) × MakesWhole o part t × LeadsTo around t whole

@@ -1,0 +1,114 @@
+//! Depths of documents, and what is refused.
+
+use super::{check_depth, depth};
+use crate::error::Error;
+use std::alloc::{AllocError, Global};
+use std::test::Fail;
+
+#[test]
+fn depths_of_documents(rt: HostRuntime) {
+    let rows: [(&[u8], usize); 9] = [
+        // null
+        (b"\x20\0\0\0\0\0\0\0", 0),
+        // []
+        (b"\x80\0\0\0", 0),
+        // {}
+        (b"\x40\0\0\0", 0),
+        // [null]
+        (b"\x80\0\0\x01\0\0\0\0", 1),
+        // [[]]
+        (b"\x80\0\0\x01\x50\0\0\x04\x80\0\0\0", 1),
+        // {"a":[]}
+        (b"\x40\0\0\x01\x10\0\0\x01\x50\0\0\x04a\x80\0\0\0", 1),
+        // [[],[[]],[]]: the deepest is neither the first nor the last
+        (
+            b"\x80\0\0\x03\x50\0\0\x04\x50\0\0\x0c\x50\0\0\x04\x80\0\0\0\x80\0\0\x01\x50\0\0\x04\x80\0\0\0\x80\0\0\0",
+            2,
+        ),
+        // [["abcdefghijklmnop"],[{"k":[]}]]: the deepest is not in the longest
+        (
+            b"\x80\0\0\x02\x50\0\0\x18\x50\0\0\x19\x80\0\0\x01\x10\0\0\x10abcdefghijklmnop\x80\0\0\x01\x50\0\0\x11\x40\0\0\x01\x10\0\0\x01\x50\0\0\x04k\x80\0\0\0",
+            3,
+        ),
+        // [false, 10, {"k":"v"}]
+        (
+            b"\x80\0\0\x03\x30\0\0\0\x20\0\0\x02\x50\0\0\x0e\x50\x0a\x40\0\0\x01\x10\0\0\x01\x10\0\0\x01kv",
+            2,
+        ),
+    ];
+    for (document, wanted) in rows {
+        assert_eq!(rt; depth(document), Ok(wanted), "{document:?}");
+        assert_eq!(rt; check_depth(document, wanted), Ok(()), "{document:?}");
+        if wanted > 0 {
+            assert_eq!(rt;
+                check_depth(document, wanted - 1),
+                Err(Error::TooDeep),
+                "{document:?}"
+            );
+        }
+    }
+}
+
+#[test]
+fn refused_before_depth(rt: HostRuntime) {
+    let rows: [(&[u8], Error); 4] = [
+        (b"", Error::InvalidJsonb),
+        // [[null and one more byte]]
+        (
+            b"\x80\0\0\x01\x50\0\0\x09\x80\0\0\x01\0\0\0\0\0",
+            Error::InvalidJsonb,
+        ),
+        // 1.5 as a float
+        (
+            b"\x20\0\0\0\x20\0\0\x09\x60\x3f\xf8\0\0\0\0\0\0",
+            Error::UnsupportedNumber,
+        ),
+        // [[float]]
+        (
+            b"\x80\0\0\x01\x50\0\0\x09\x80\0\0\x01\x20\0\0\x01\x10",
+            Error::UnsupportedNumber,
+        ),
+    ];
+    for (bytes, wanted) in rows {
+        assert_eq!(rt; depth(bytes), Err(wanted), "{bytes:?}");
+        assert_eq!(rt; check_depth(bytes, 0), Err(wanted), "{bytes:?}");
+    }
+}
+
+/// So many arrays within arrays, the innermost empty: 8 bytes a level and 4. A null before or behind each inner array takes 4 more.
+fn nested(alloc: Global, levels: u32, before: bool, behind: bool) -> Result<Vec<u8>, AllocError> {
+    let beside = u32::from(before) + u32::from(behind);
+    let mut out = Vec::new(alloc);
+    for within in (0..levels).rev() {
+        out.extend_from_slice(&(0x8000_0001_u32 + beside).to_be_bytes())?;
+        if before {
+            out.extend_from_slice(&0_u32.to_be_bytes())?;
+        }
+        let child = (8 + 4 * beside).wrapping_mul(within);
+        out.extend_from_slice(&0x5000_0004_u32.wrapping_add(child).to_be_bytes())?;
+        if behind {
+            out.extend_from_slice(&0_u32.to_be_bytes())?;
+        }
+    }
+    out.extend_from_slice(&0x8000_0000_u32.to_be_bytes())?;
+    Ok(out)
+}
+
+#[test]
+fn deep_documents(rt: HostRuntime) -> Result<(), Fail> {
+    let rows = [
+        (100_000, false, false),
+        (10_000, true, false),
+        (10_000, false, true),
+        (10_000, true, true),
+    ];
+    for (levels, before, behind) in rows {
+        let document = nested(rt.alloc(), levels, before, behind)?;
+        assert_eq!(rt; depth(&document), Ok(levels as usize));
+        assert_eq!(rt;
+            check_depth(&document, levels as usize - 1),
+            Err(Error::TooDeep)
+        );
+    }
+    Ok(())
+}
