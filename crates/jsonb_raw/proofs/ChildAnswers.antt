@@ -1,5 +1,5 @@
 -- What the calls on children answer, by the item or the spot that was found.
-use Rattle.std.proofs.Common.{◌≡◌, ◌↔◌, ℕ, suc, zero, ℤ, Bool, true, false, not, IsTrue, List, [], ◌∷◌, map, length, drop, slice_get, Option, Some, None, Result, Ok, Err, Bor, refl, sym, ap, subst, ◌∙◌}
+use Rattle.std.proofs.Common.{◌≡◌, ◌↔◌, ℕ, suc, zero, ℤ, Bool, true, false, not, IsTrue, List, [], ◌∷◌, map, length, drop, slice_get, Option, Some, None, Bor, refl, sym, ap, ◌∙◌}
 use Rattle.std.specs.Prelude.{option_map}
 use Rattle.std.specs.List.{find, remove}
 use Rattle.std.specs.Char.{to_ascii_lowercase}
@@ -8,9 +8,6 @@ use Rattle.jsonb_doc.specs.Tree.{Tree, array, object, Trees, Pairs, elements, me
 use Rattle.jsonb_doc.specs.Payload.{Form}
 use Rattle.jsonb_doc.specs.Format.{Decodes}
 use Rattle.jsonb_doc.specs.Item.{StandsFor}
-use Rattle.jsonb_doc.specs.Elements.{HasElementsLeft, TakesElement}
-use Rattle.jsonb_doc.specs.declared.error.Error.{Error}
-use Rattle.jsonb_doc.specs.declared.element_iter.ElementIter.{ElementIter}
 use Rattle.jsonb_doc.specs.declared.item.Item.{Item}
 use Rattle.jsonb_doc.specs.declared.item.Item.TheVariants as item
 use Rattle.jsonb_doc.proofs.TreeLists.{trees_of-elements}
@@ -45,25 +42,11 @@ child_is_element form x b t i is stands = let s = array_item form x b t is stand
 
 -- ---- an element less
 
-drop_one_more : {A : Type 0} (n : ℕ) (xs : List A) → drop 1 (drop n xs) ≡ drop (suc n) xs
+pub drop_one_more : {A : Type 0} (n : ℕ) (xs : List A) → drop 1 (drop n xs) ≡ drop (suc n) xs
 drop_one_more zero [] = refl
 drop_one_more zero (x ∷ xs) = refl
 drop_one_more (suc n) [] = refl
 drop_one_more (suc n) (x ∷ xs) = drop_one_more n xs
-
-without_first : (form : Form) (ts : List Tree) (r : Option (Result Item Error)) (after : ElementIter) → TakesElement form (trees_of ts) r after
-    → HasElementsLeft form after (trees_of (drop 1 ts))
-without_first form [] None after h = h
-without_first form [] (Some r) after h = absurd h
-without_first form (t ∷ ts) None after h = absurd h
-without_first form (t ∷ ts) (Some (Ok x)) after h = h.1
-without_first form (t ∷ ts) (Some (Err e)) after h = absurd h
-
--- behind the elements in front one is passed over
-pub one_skipped : (form : Form) (n : ℕ) (ts : List Tree) (r : Option (Result Item Error)) (after : ElementIter)
-    → TakesElement form (trees_of (drop n ts)) r after → HasElementsLeft form after (trees_of (drop (suc n) ts))
-one_skipped form n ts r after h =
-    subst (λ (us : List Tree). HasElementsLeft form after (trees_of us)) (drop_one_more n ts) (without_first form (drop n ts) r after h)
 
 -- an index that means an element, or none
 pub without_some : (i : ℤ) (ts : Trees) (n : ℕ) → index_position (length (elements ts)) i ≡ Some n

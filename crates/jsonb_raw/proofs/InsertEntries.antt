@@ -18,7 +18,7 @@ use Rattle.jsonb_doc.proofs.Sizes.{size_within}
 use Rattle.jsonb_doc.proofs.TreeLists.{keys-pairs_of, keys_of-members}
 use Rattle.jsonb_raw.specs.declared.functions.object.pair_parts.PairPlace.{PairPlace}
 use Rattle.jsonb_raw.specs.declared.functions.object.pair_parts.KeptEntries.{KeptEntries}
-use Rattle.jsonb_raw.specs.declared.functions.object.pair_parts.RootEntry.{RootEntry}
+use Rattle.jsonb_raw.specs.declared.functions.parts.RootEntry.{RootEntry}
 use Rattle.jsonb_raw.specs.Private.Cuts.{FitEntries}
 use Rattle.jsonb_raw.specs.Private.Inserts.{IsPlaceAmong, IsCutAt, AreKept, word_row, content_row}
 use Rattle.jsonb_raw.proofs.EntryLists.{words-append, contents-append, within-front, within-back, within-both, key_entries, key-words, key-contents, key-within, key-count, keys-append}

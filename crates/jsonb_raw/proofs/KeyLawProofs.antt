@@ -12,14 +12,15 @@ use Rattle.jsonb_doc.specs.Bytes.{AreBytes}
 use Rattle.jsonb_doc.specs.Payload.{Form}
 use Rattle.jsonb_doc.specs.Format.{Decodes}
 use Rattle.jsonb_doc.proofs.DecodedFits.{decoded_fits}
-use Rattle.jsonb_raw.specs.Depth.{deepest, HasNoExtension}
+use Rattle.jsonb_doc.specs.Depth.{deepest}
+use Rattle.jsonb_raw.specs.NoExtension.{HasNoExtension}
 use Rattle.jsonb_raw.specs.KeyAnswer.{RanksWith}
 use Rattle.jsonb_doc.specs.Order.{tree_cmp}
 use Rattle.jsonb_raw.specs.SortableKey.{key, depths, IsRest}
 use Rattle.jsonb_raw.specs.EqualityKey.{equality_key}
 use Rattle.jsonb_raw.specs.KeyLaws.{HasKey, KeysKeepBelow, KeysKeepEqual, KeysOrder, KeysTellApart, EqualityKeysTellApart}
 
-ranked : (w : Width) (t u : Tree) (d : ℕ) (r s : List ℕ) → HasKey w t d → HasKey w u d → IsRest w d r → IsRest w d s
+pub ranked : (w : Width) (t u : Tree) (d : ℕ) (r s : List ℕ) → HasKey w t d → HasKey w u d → IsRest w d r → IsRest w d s
     → bytes_cmp (key w t d ++ r) (key w u d ++ s) ≡ ordering_then (tree_cmp t u) (bytes_cmp r s)
 ranked w t u d r s h k hr hs = keys_rank w t u d r s (sortable t h.in_range h.no_extension) (sortable u k.in_range k.no_extension) h.deep k.deep hr hs
 

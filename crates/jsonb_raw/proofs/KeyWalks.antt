@@ -3,7 +3,7 @@ use Rattle.std.proofs.Common.{◌≡◌, ◌+◌, ◌<◌, ◌≤◌, ◌++◌, 
 use Rattle.std.specs.Int.{Width, to_be_bytes}
 use Rattle.jsonb_doc.specs.declared.error.Error.{Error}
 use Rattle.jsonb_doc.specs.Tree.{Tree, Trees, Pairs}
-use Rattle.jsonb_raw.specs.Depth.{deepest, deepest_of_trees, deepest_of_pairs}
+use Rattle.jsonb_doc.specs.Depth.{deepest, deepest_of_trees, deepest_of_pairs}
 use Rattle.jsonb_raw.specs.SortableKey.{key, keys_of_trees, keys_of_pairs, item_bytes, text_bytes, depths}
 use Rattle.jsonb_raw.specs.KeyAnswer.{IsOutOfMemoryOrTooDeep}
 

@@ -11,6 +11,7 @@ pub mod NumberKeys
 pub mod TreeKeys
 pub mod EqualityKeys
 pub mod KeyLawProofs
+pub mod CompositeKeyProofs
 pub mod WorkedKeys
 pub mod DigitSteps
 pub mod PushedNumbers
@@ -43,6 +44,9 @@ pub mod MatchLemmas
 pub mod ContainLemmas
 pub mod ArrayLemmas
 pub mod EntryLists
+pub mod RowLemmas
+pub mod RunLemmas
+pub mod PartedRuns
 pub mod CutLemmas
 pub mod CutWords
 pub mod LeafLimits
@@ -71,11 +75,9 @@ pub mod TakeLoops
 pub mod CollectLoops
 pub mod TextLemmas
 pub mod IteratorItems
-pub mod MergedItems
 pub mod KeyWalks
 pub mod PartitionLemmas
 pub mod StripLemmas
 pub mod InsertLemmas
 pub mod IteratorLemmas
-pub mod DuplicateKeys
 pub mod PlaceRows

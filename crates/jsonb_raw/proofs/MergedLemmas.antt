@@ -1,25 +1,22 @@
 -- Pairs of two objects put together, pair by pair.
-use Rattle.std.proofs.Common.{◌≡◌, ℕ, List, [], ◌∷◌, Option, Some, None, Result, Ok, Err, refl, sym, ap, subst, ◌∙◌, Ordering, Less, Equal, Greater}
-use Rattle.std.specs.Borrow.{Bor}
+use Rattle.std.proofs.Common.{◌≡◌, ◌⊎◌, inl, inr, ℕ, List, [], ◌∷◌, ◌++◌, Bool, true, false, not, Option, Some, None, refl, sym, ap, ◌∙◌, append_assoc, append-nil, Ordering, Less, Equal, Greater}
 use Rattle.std.specs.Map.{keys_of}
 use Rattle.std.specs.Ordering.{nat_cmp, ordering_reverse, match_ordering}
 use Rattle.std.specs.Cmp.Lexicographic.{slice_cmp}
 use Rattle.std.proofs.lemmas.Cmp.{nat_list_cmp_total}
 use Rattle.std.proofs.lemmas.Slice.Eq.{bytes_eq-Decides}
-use Rattle.jsonb_doc.specs.declared.error.Error.{Error}
-use Rattle.jsonb_doc.specs.declared.item.Item.{Item}
-use Rattle.jsonb_doc.specs.declared.pair_iter.PairIter.{PairIter}
-use Rattle.jsonb_doc.specs.Tree.{Tree, Pairs, no_pairs, pair, keys, members}
+use Rattle.jsonb_doc.specs.Tree.{Tree}
 use Rattle.jsonb_doc.specs.Payload.{Form}
-use Rattle.jsonb_doc.specs.Format.{IsBelowFirst, AreKeys}
-use Rattle.jsonb_doc.specs.ObjectPairs.{TakesPair, GivesPair}
+use Rattle.jsonb_doc.specs.Format.{IsBelowFirst}
 use Rattle.jsonb_doc.specs.ObjectBuilder.{insert_pair}
-use Rattle.jsonb_doc.proofs.BuilderSteps.{AreRising, keys_rise}
-use Rattle.jsonb_doc.proofs.TreeLists.{keys_of-members}
-use Rattle.jsonb_raw.specs.declared.functions.operator.merge.MergedPairs.{MergedPairs}
+use Rattle.jsonb_doc.proofs.BuilderSteps.{AreRising}
+use Rattle.jsonb_raw.specs.declared.functions.parts.PairEntries.{PairEntries}
+use Rattle.jsonb_raw.specs.declared.functions.parts.FirstPair.{FirstPair}
+use Rattle.jsonb_raw.specs.declared.functions.parts.PairRows.{PairRows}
 use Rattle.jsonb_raw.specs.Concat.{merged}
-use Rattle.jsonb_raw.specs.Private.MergedPairs.{HasMergedLeft, TakesMerged}
+use Rattle.jsonb_raw.specs.Private.Rows.{HoldPairs, TakesFirstPair, IsFirstPair, PairsHeld, PairsOpen}
 use Rattle.jsonb_raw.proofs.PairStepLemmas.{test_of_order, above_key, below_key, below_further, same_below}
+use Rattle.jsonb_raw.proofs.RunLemmas.{pairs_begun, no_pairs_held, pair_kept, others_hold, left_holds}
 
 abbrev Member : Type 0
 Member = List ℕ × Tree
@@ -76,113 +73,187 @@ pub merged_rising : (ps qs : List Member) → AreRising (keys_of ps) → AreRisi
 merged_rising ps [] rising = rising
 merged_rising ps (q ∷ qs) rising = merged_rising (insert_pair q.0 q.1 ps) qs (rising_inserted q.0 q.1 ps rising)
 
--- ---- the iterator
+-- ---- a loop over both in step
+
+-- what is left of both, where it is said whether those in front are the second's
+abbrev pub both : Bool → List Member → List Member → List Member
+both false cs os = merged cs os
+both true cs os = merged os cs
+
+turned : (a b : List ℕ) (o : Ordering) → slice_cmp nat_cmp a b ≡ o → slice_cmp nat_cmp b a ≡ ordering_reverse o
+turned a b o e = nat_list_cmp_total.antisymm b a ∙ ap ordering_reverse e
 
 equal_keys : (k l : List ℕ) → slice_cmp nat_cmp k l ≡ Equal → k ≡ l
 equal_keys k l e = (bytes_eq-Decides k l).0 (test_of_order k l Equal e)
 
-abbrev Given : Type 0
-Given = Option (Result (Bor (List ℕ) × Item) Error)
+module _ (p o : Member) (cs os : List Member) (r : AreRising (p.0 ∷ keys_of cs)) (s : AreRising (o.0 ∷ keys_of os)) where
+  both_less : (b : Bool) → slice_cmp nat_cmp p.0 o.0 ≡ Less → both b (p ∷ cs) (o ∷ os) ≡ p ∷ both b cs (o ∷ os)
+  both_less false e = merged_less p.0 p.1 o.0 o.1 cs os s e
+  both_less true e = merged_greater o.0 o.1 p.0 p.1 os cs r (turned p.0 o.0 Less e)
 
-rising_members : (ps : Pairs) → AreKeys (keys ps) → AreRising (keys_of (members ps))
-rising_members ps are = rw keys_of-members (keys_rise (keys ps) are)
+  both_greater : (b : Bool) → slice_cmp nat_cmp p.0 o.0 ≡ Greater → both b (p ∷ cs) (o ∷ os) ≡ o ∷ both (not b) os (p ∷ cs)
+  both_greater false e = merged_greater p.0 p.1 o.0 o.1 cs os s e
+  both_greater true e = merged_less o.0 o.1 p.0 p.1 os cs r (turned p.0 o.0 Greater e)
 
--- what the order of the next pairs says
-pub record OrdersNext (pair other : Given) (o : Ordering) : Type 0 where
-  pub no_first : pair ≡ None → o ≡ Greater
-  pub no_second : (x : Result (Bor (List ℕ) × Item) Error) → pair ≡ Some x → other ≡ None → o ≡ Less
-  pub both : (g f : Bor (List ℕ) × Item) → pair ≡ Some (Ok g) → other ≡ Some (Ok f) → o ≡ slice_cmp nat_cmp g.0.now f.0.now
+  both_equal : slice_cmp nat_cmp p.0 o.0 ≡ Equal → both false (p ∷ cs) (o ∷ os) ≡ o ∷ both true os cs
+  both_equal e = merged_equal p.0 p.1 o.0 o.1 cs os s e ∙ ap (λ (k : List ℕ). (k, o.1) ∷ merged cs os) (equal_keys p.0 o.0 e)
 
-module _ (form : Form) (first second first' second' : PairIter) (r' s' : Given) where
-  -- the first object's pair is next
-  take_first : (ps qs : Pairs) (r s : Given) → AreKeys (keys qs) → OrdersNext r s Less → TakesPair form ps r first → TakesPair form qs s second
-      → GivesPair first r' first'
-      → TakesMerged form (merged (members ps) (members qs)) r (record { first = first'; second = second; pair = r'; other = s })
-  take_first no_pairs qs None s are order h i n = absurd (cc (order.no_first refl))
-  take_first no_pairs qs (Some r) s are order h i n = absurd h
-  take_first (pair k t ps) qs None s are order h i n = absurd h
-  take_first (pair k t ps) qs (Some (Err e)) s are order h i n = absurd h
-  take_first (pair k t ps) no_pairs (Some (Ok g)) None are order h i n =
-      (h.0, h.1, record { firsts = ps; seconds = no_pairs; first_left = n.takes form ps h.2; second_left = i; second_keys = are; joined = refl })
-  take_first (pair k t ps) no_pairs (Some (Ok g)) (Some s) are order h i n = absurd i
-  take_first (pair k t ps) (pair l u qs) (Some (Ok g)) None are order h i n = absurd i
-  take_first (pair k t ps) (pair l u qs) (Some (Ok g)) (Some (Err e)) are order h i n = absurd i
-  take_first (pair k t ps) (pair l u qs) (Some (Ok g)) (Some (Ok f)) are order h i n =
-      let e : slice_cmp nat_cmp k l ≡ Less = sym (rw (h.0, i.0) at (order.both g f refl refl)) in
-      rw (merged_less k t l u (members ps) (members qs) (rising_members (pair l u qs) are) e)
-      (h.0, h.1, record { firsts = ps; seconds = pair l u qs; first_left = n.takes form ps h.2; second_left = i; second_keys = are; joined = refl })
+  both_equal_second : slice_cmp nat_cmp p.0 o.0 ≡ Equal → both true (p ∷ cs) (o ∷ os) ≡ p ∷ both true cs os
+  both_equal_second e =
+      merged_equal o.0 o.1 p.0 p.1 os cs r (turned p.0 o.0 Equal e) ∙ ap (λ (k : List ℕ). (k, p.1) ∷ merged os cs) (sym (equal_keys p.0 o.0 e))
 
-  -- both have the next key
-  take_both : (ps qs : Pairs) (r s : Given) → AreKeys (keys qs) → OrdersNext r s Equal → TakesPair form ps r first → TakesPair form qs s second
-      → GivesPair first r' first' → GivesPair second s' second'
-      → TakesMerged form (merged (members ps) (members qs)) s (record { first = first'; second = second'; pair = r'; other = s' })
-  take_both no_pairs qs None s are order h i n m = absurd (cc (order.no_first refl))
-  take_both no_pairs qs (Some r) s are order h i n m = absurd h
-  take_both (pair k t ps) qs None s are order h i n m = absurd h
-  take_both (pair k t ps) qs (Some (Err e)) s are order h i n m = absurd h
-  take_both (pair k t ps) no_pairs (Some (Ok g)) None are order h i n m = absurd (cc (order.no_second (Ok g) refl refl))
-  take_both (pair k t ps) no_pairs (Some (Ok g)) (Some s) are order h i n m = absurd i
-  take_both (pair k t ps) (pair l u qs) (Some (Ok g)) None are order h i n m = absurd i
-  take_both (pair k t ps) (pair l u qs) (Some (Ok g)) (Some (Err e)) are order h i n m = absurd i
-  take_both (pair k t ps) (pair l u qs) (Some (Ok g)) (Some (Ok f)) are order h i n m =
-      let e : slice_cmp nat_cmp k l ≡ Equal = sym (rw (h.0, i.0) at (order.both g f refl refl)) in
-      rw (merged_equal k t l u (members ps) (members qs) (rising_members (pair l u qs) are) e) (
-        i.0 ∙ sym
-            (equal_keys k l e),
-        i.1,
-        record { firsts = ps; seconds = qs; first_left = n.takes form ps h.2; second_left = m.takes form qs i.2; second_keys = are.2; joined = refl },
-      )
+both_end : (b : Bool) (cs os : List Member) → AreRising (keys_of cs) → AreRising (keys_of os) → (cs ≡ []) ⊎ (os ≡ []) → both b cs os ≡ cs ++ os
+both_end false cs os r s (inl e) = rw e (merged_none os s)
+both_end false cs os r s (inr e) = rw e (sym (append-nil cs))
+both_end true cs os r s (inl e) = rw e refl
+both_end true cs os r s (inr e) = rw e (merged_none cs r ∙ sym (append-nil cs))
 
-  -- the second object's pair is next
-  take_second : (ps qs : Pairs) (r s : Given) → AreKeys (keys qs) → OrdersNext r s Greater → TakesPair form ps r first → TakesPair form qs s second
-      → GivesPair second s' second'
-      → TakesMerged form (merged (members ps) (members qs)) s (record { first = first; second = second'; pair = r; other = s' })
-  take_second no_pairs qs (Some r) s are order h i m = absurd h
-  take_second no_pairs no_pairs None None are order h i m =
-      record { firsts = no_pairs; seconds = no_pairs; first_left = h; second_left = m.takes form no_pairs i; second_keys = are; joined = refl }
-  take_second no_pairs no_pairs None (Some s) are order h i m = absurd i
-  take_second no_pairs (pair l u qs) None None are order h i m = absurd i
-  take_second no_pairs (pair l u qs) None (Some (Err e)) are order h i m = absurd i
-  take_second no_pairs (pair l u qs) None (Some (Ok f)) are order h i m =
-      rw (merged_none (members (pair l u qs)) (rising_members (pair l u qs) are)) (
-        i.0,
-        i.1,
+pub there_or_none : {A : Type 0} (r : Option A) (x : A) → r ≡ Some x → r ≡ None → ⊥
+there_or_none r x some none = let bad : None ≡ Some x = sym none ∙ some in cc
+
+-- the pairs that are kept, followed by what is left of both, are the whole
+pub record Merging (form : Form) (rows : PairRows) (run left other : PairEntries) (is_second : Bool) (whole : List Member) : Type 0 where
+  pub held : List Member
+  pub mine : List Member
+  pub theirs : List Member
+  pub pairs : PairsOpen form rows run left held mine
+  pub others : HoldPairs form other theirs
+  pub rising : AreRising (keys_of mine)
+  pub other_rising : AreRising (keys_of theirs)
+  pub joined : held ++ both is_second mine theirs ≡ whole
+
+pub merging_begun : (form : Form) (rows : PairRows) (first second : PairEntries) (ps qs : List Member) → rows.keys.items ≡ [] → rows.values.items ≡ []
+    → HoldPairs form first ps → HoldPairs form second qs → AreRising (keys_of ps) → AreRising (keys_of qs) → Merging form rows first first second false (merged ps qs)
+merging_begun form rows first second ps qs keys_none values_none h g r s = record {
+  held = [];
+  mine = ps;
+  theirs = qs;
+  pairs = pairs_begun form rows first [] ps (no_pairs_held form rows keys_none values_none) h;
+  others = g;
+  rising = r;
+  other_rising = s;
+  joined = refl;
+}
+
+module _ (form : Form) (rows : PairRows) (run left other : PairEntries) (b : Bool) (whole : List Member) (m : Merging form rows run left other b whole) where
+  pub left_of : HoldPairs form left m.mine
+  left_of = left_holds form rows run left m.held m.mine m.pairs
+
+  module _ (pair next : FirstPair) (mine : TakesFirstPair form left m.mine (Some pair)) (theirs : TakesFirstPair form other m.theirs (Some next)) where
+    record Firsts : Type 0 where
+      pub p : Member
+      pub o : Member
+      pub cs : List Member
+      pub os : List Member
+      pub mine_is : m.mine ≡ p ∷ cs
+      pub theirs_is : m.theirs ≡ o ∷ os
+      pub first : IsFirstPair form left p cs pair
+      pub second : IsFirstPair form other o os next
+      pub opened : PairsOpen form rows run left m.held (p ∷ cs)
+      pub hold : HoldPairs form other (o ∷ os)
+      pub r : AreRising (p.0 ∷ keys_of cs)
+      pub s : AreRising (o.0 ∷ keys_of os)
+      pub whole_is : m.held ++ both b (p ∷ cs) (o ∷ os) ≡ whole
+
+    firsts : Firsts
+    firsts = go m.mine m.theirs refl refl m.pairs m.others m.rising m.other_rising m.joined mine theirs
+      where
+        go : (cs os : List Member) → m.mine ≡ cs → m.theirs ≡ os → PairsOpen form rows run left m.held cs → HoldPairs form other os → AreRising (keys_of cs)
+            → AreRising (keys_of os) → m.held ++ both b cs os ≡ whole → TakesFirstPair form left cs (Some pair) → TakesFirstPair form other os (Some next)
+            → Firsts
+        go [] os e f opened hold r s j h n = absurd h
+        go (p ∷ cs) [] e f opened hold r s j h n = absurd n
+        go (p ∷ cs) (o ∷ os) e f opened hold r s j h n =
+            record { p = p; o = o; cs = cs; os = os; mine_is = e; theirs_is = f; first = h; second = n; opened = opened; hold = hold; r = r; s = s; whole_is = j }
+
+    same_order : (o : Ordering) → slice_cmp nat_cmp pair.key.now next.key.now ≡ o → slice_cmp nat_cmp firsts.p.0 firsts.o.0 ≡ o
+    same_order o e =
+        ap (λ (k : List ℕ). slice_cmp nat_cmp k firsts.o.0) (sym firsts.first.key) ∙ ap (λ (k : List ℕ). slice_cmp nat_cmp pair.key.now k) (sym firsts.second.key) ∙ e
+
+    moved : (x : Member) (rest all : List Member) → all ≡ x ∷ rest → m.held ++ all ≡ whole → (m.held ++ x ∷ []) ++ rest ≡ whole
+    moved x rest all is j = append_assoc m.held (x ∷ []) rest ∙ ap (λ (l : List Member). m.held ++ l) (sym is) ∙ j
+
+    pub merging_less : slice_cmp nat_cmp pair.key.now next.key.now ≡ Less → Merging form rows run pair.others other b whole
+    merging_less e =
+        let f = firsts in
         record {
-          firsts = no_pairs;
-          seconds = qs;
-          first_left = h;
-          second_left = m.takes form qs i.2;
-          second_keys = are.2;
-          joined = merged_none
-              (members qs) (rising_members qs are.2);
-        },
-      )
-  take_second (pair k t ps) qs None s are order h i m = absurd h
-  take_second (pair k t ps) qs (Some (Err e)) s are order h i m = absurd h
-  take_second (pair k t ps) no_pairs (Some (Ok g)) None are order h i m = absurd (cc (order.no_second (Ok g) refl refl))
-  take_second (pair k t ps) no_pairs (Some (Ok g)) (Some s) are order h i m = absurd i
-  take_second (pair k t ps) (pair l u qs) (Some (Ok g)) None are order h i m = absurd i
-  take_second (pair k t ps) (pair l u qs) (Some (Ok g)) (Some (Err e)) are order h i m = absurd i
-  take_second (pair k t ps) (pair l u qs) (Some (Ok g)) (Some (Ok f)) are order h i m =
-      let e : slice_cmp nat_cmp k l ≡ Greater = sym (rw (h.0, i.0) at (order.both g f refl refl)) in
-      rw (merged_greater k t l u (members ps) (members qs) (rising_members (pair l u qs) are) e)
-      (i.0, i.1, record { firsts = pair k t ps; seconds = qs; first_left = h; second_left = m.takes form qs i.2; second_keys = are.2; joined = refl })
+          held = m.held ++ f.p ∷ [];
+          mine = f.cs;
+          theirs = f.o ∷ f.os;
+          pairs = pair_kept form rows run left pair m.held f.cs f.p f.opened f.first;
+          others = f.hold;
+          rising = f.r.1;
+          other_rising = f.s;
+          joined = moved f.p (both b f.cs (f.o ∷ f.os)) _ (both_less f.p f.o f.cs f.os f.r f.s b (same_order Less e)) f.whole_is;
+        }
 
-module _ (form : Form) (it : MergedPairs) (whole : List Member) (h : HasMergedLeft form it whole) (first' second' : PairIter) (r' s' : Given) where
-  pub first_taken : OrdersNext it.pair it.other Less → GivesPair it.first r' first'
-      → TakesMerged form whole it.pair (record { first = first'; second = it.second; pair = r'; other = it.other })
-  first_taken order n =
-      subst (λ ps. TakesMerged form ps it.pair (record { first = first'; second = it.second; pair = r'; other = it.other })) h.joined
-      (take_first form it.first it.second first' second' r' s' h.firsts h.seconds it.pair it.other h.second_keys order h.first_left h.second_left n)
+    pub merging_equal_second : b ≡ true → slice_cmp nat_cmp pair.key.now next.key.now ≡ Equal → Merging form rows run pair.others next.others b whole
+    merging_equal_second is e =
+        let f = firsts in
+        let j = ap (λ (c : Bool). m.held ++ both c (f.p ∷ f.cs) (f.o ∷ f.os)) (sym is) ∙ f.whole_is in
+        record {
+          held = m.held ++ f.p ∷ [];
+          mine = f.cs;
+          theirs = f.os;
+          pairs = pair_kept form rows run left pair m.held f.cs f.p f.opened f.first;
+          others = others_hold form other next f.os f.o f.second;
+          rising = f.r.1;
+          other_rising = f.s.1;
+          joined = ap (λ (c : Bool). (m.held ++ f.p ∷ []) ++ both c f.cs f.os) is
+              ∙ moved f.p (both true f.cs f.os) _ (both_equal_second f.p f.o f.cs f.os f.r f.s (same_order Equal e)) j;
+        }
 
-  pub both_taken : OrdersNext it.pair it.other Equal → GivesPair it.first r' first' → GivesPair it.second s' second'
-      → TakesMerged form whole it.other (record { first = first'; second = second'; pair = r'; other = s' })
-  both_taken order n m =
-      subst (λ ps. TakesMerged form ps it.other (record { first = first'; second = second'; pair = r'; other = s' })) h.joined
-      (take_both form it.first it.second first' second' r' s' h.firsts h.seconds it.pair it.other h.second_keys order h.first_left h.second_left n m)
+    module _ (rows' : PairRows) (pushed : PairsHeld form rows' m.held) where
+      turned_to : PairsOpen form rows' other next.others (m.held ++ firsts.o ∷ []) firsts.os
+      turned_to = pair_kept form rows' other other next m.held firsts.os firsts.o (pairs_begun form rows' other m.held (firsts.o ∷ firsts.os) pushed firsts.hold)
+          firsts.second
 
-  pub second_taken : OrdersNext it.pair it.other Greater → GivesPair it.second s' second'
-      → TakesMerged form whole it.other (record { first = it.first; second = second'; pair = it.pair; other = s' })
-  second_taken order m =
-      subst (λ ps. TakesMerged form ps it.other (record { first = it.first; second = second'; pair = it.pair; other = s' })) h.joined
-      (take_second form it.first it.second first' second' r' s' h.firsts h.seconds it.pair it.other h.second_keys order h.first_left h.second_left m)
+      pub merging_equal : b ≡ false → slice_cmp nat_cmp pair.key.now next.key.now ≡ Equal → Merging form rows' other next.others pair.others true whole
+      merging_equal is e =
+          let f = firsts in
+          let j = ap (λ (c : Bool). m.held ++ both c (f.p ∷ f.cs) (f.o ∷ f.os)) (sym is) ∙ f.whole_is in
+          record {
+            held = m.held ++ f.o ∷ [];
+            mine = f.os;
+            theirs = f.cs;
+            pairs = turned_to;
+            others = others_hold form left pair f.cs f.p f.first;
+            rising = f.s.1;
+            other_rising = f.r.1;
+            joined = moved f.o (both true f.os f.cs) _ (both_equal f.p f.o f.cs f.os f.r f.s (same_order Equal e)) j;
+          }
+
+      pub merging_greater : slice_cmp nat_cmp pair.key.now next.key.now ≡ Greater → Merging form rows' other next.others left (not b) whole
+      merging_greater e =
+          let f = firsts in
+          record {
+            held = m.held ++ f.o ∷ [];
+            mine = f.os;
+            theirs = f.p ∷ f.cs;
+            pairs = turned_to;
+            others = left_holds form rows run left m.held (f.p ∷ f.cs) f.opened;
+            rising = f.s.1;
+            other_rising = f.r;
+            joined = moved f.o (both (not b) f.os (f.p ∷ f.cs)) _ (both_greater f.p f.o f.cs f.os f.r f.s b (same_order Greater e)) f.whole_is;
+          }
+
+  none_left : (row : PairEntries) (ps : List Member) → TakesFirstPair form row ps None → ps ≡ []
+  none_left row [] h = refl
+  none_left row (p ∷ ps) h = absurd h
+
+  -- at last what is left of the one, and then of the other, are what is left of both
+  pub merging_done : TakesFirstPair form left m.mine None ⊎ TakesFirstPair form other m.theirs None → (m.held ++ m.mine) ++ m.theirs ≡ whole
+  merging_done ended =
+      append_assoc m.held m.mine m.theirs
+      ∙ ap (λ (l : List Member). m.held ++ l) (sym (both_end b m.mine m.theirs m.rising m.other_rising (none ended))) ∙ m.joined
+    where
+      none : TakesFirstPair form left m.mine None ⊎ TakesFirstPair form other m.theirs None → (m.mine ≡ []) ⊎ (m.theirs ≡ [])
+      none (inl h) = inl (none_left left m.mine h)
+      none (inr h) = inr (none_left other m.theirs h)
+
+  -- where not both have a first pair, one has none
+  pub merging_ended : (r s : Option FirstPair) → TakesFirstPair form left m.mine r → TakesFirstPair form other m.theirs s
+      → ((x y : FirstPair) → r ≡ Some x → s ≡ Some y → ⊥) → (m.held ++ m.mine) ++ m.theirs ≡ whole
+  merging_ended None s h g none = merging_done (inl h)
+  merging_ended (Some x) None h g none = merging_done (inr g)
+  merging_ended (Some x) (Some y) h g none = absurd (none x y refl refl)

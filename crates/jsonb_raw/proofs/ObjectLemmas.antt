@@ -33,26 +33,6 @@ object_of form (spec.text s) found it is h = absurd (rw is at h)
 object_of form (spec.extension x) found it is h = absurd (rw is at h)
 object_of form (spec.array ts) found it is h = absurd (rw is at h)
 
--- a tree without one is no object
-pub no_object : (form : Form) (t : Tree) (found : Option PairIter) (change : List (List ℕ × Tree) → List (List ℕ × Tree)) → found ≡ None
-    → IsPairsOf form t found → with_pairs change t ≡ None
-no_object form (object ps) found change is h = absurd (rw is at h)
-no_object form spec.null found change is h = refl
-no_object form (spec.boolean b) found change is h = refl
-no_object form (spec.number n) found change is h = refl
-no_object form (spec.text s) found change is h = refl
-no_object form (spec.extension x) found change is h = refl
-no_object form (spec.array ts) found change is h = refl
-
--- the answer for the pairs of an object is one for the tree
-pub made_of_object : (form : Form) (bytes : List ℕ) (t : Tree) (found : Option PairIter) (it : PairIter) (refusal : Error)
-    (change : List (List ℕ × Tree) → List (List ℕ × Tree)) (r : Result OwnedJsonb Error)
-    → found ≡ Some it → IsPairsOf form t found → Decodes form bytes t
-    → ((ps : Pairs) → Decodes form bytes (object ps) → Makes form (object (pairs_of (change (members ps)))) r)
-    → MatchOption (with_pairs change t) (r ≡ Err refusal) (λ wanted. Makes form wanted r)
-made_of_object form bytes t found it refusal change r is left d made =
-    let o = object_of form t found it is left in rw o.1 (made o.0 (rw o.1 at d))
-
 -- the keys of an object that bytes decode to rise
 pub members_rise : (form : Form) (bytes : List ℕ) (ps : Pairs) → Decodes form bytes (object ps) → AreRising (keys_of (members ps))
 members_rise form bytes ps d = keys_rise (keys_of (members ps)) (decoded_members form bytes ps d)

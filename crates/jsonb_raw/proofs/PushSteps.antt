@@ -42,7 +42,7 @@ empty_of (n ∷ ns) h = absurd (omega arith)
 pub none_left : (others : List ℕ) → true ≡ (length others == 0) → others ≡ []
 none_left others e = empty_of others (zero_of (length others) e)
 
-not_zero_of : (n : ℕ) → false ≡ (n == 0) → n ≡ 0 → ⊥
+pub not_zero_of : (n : ℕ) → false ≡ (n == 0) → n ≡ 0 → ⊥
 not_zero_of n e h = grind (arith, nat_tests)
 
 pub not_empty : (ns : List ℕ) (len : ℕ) → len ≡ length ns → false ≡ (len == 0) → ns ≡ [] → ⊥

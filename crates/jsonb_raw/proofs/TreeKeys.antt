@@ -8,7 +8,8 @@ use Rattle.jsonb_raw.proofs.Ranking.{bytes_cmp, Ranks-bytes_high_first, Ranks-te
 use Rattle.jsonb_raw.proofs.NumberKeys.{Ranks-number_bytes, bounded_from_fits}
 use Rattle.jsonb_doc.specs.Tree.{Tree, Trees, Pairs}
 use Rattle.jsonb_doc.specs.Payload.{extension_payload}
-use Rattle.jsonb_raw.specs.Depth.{deepest, deepest_of_trees, deepest_of_pairs, HasNoExtension, HaveNoExtension, ValuesHaveNoExtension}
+use Rattle.jsonb_doc.specs.Depth.{deepest, deepest_of_trees, deepest_of_pairs}
+use Rattle.jsonb_raw.specs.NoExtension.{HasNoExtension, HaveNoExtension, ValuesHaveNoExtension}
 use Rattle.jsonb_doc.specs.Number.{FitsNumber}
 use Rattle.jsonb_doc.specs.Limits.{IsInRange, AreInRange, ValuesAreInRange}
 use Rattle.jsonb_doc.specs.Order.{rank, tree_cmp, trees_cmp, pairs_cmp}
@@ -57,7 +58,7 @@ depth_ranks w d e r s hd he = (Ranks-bytes_high_first (byte_len w) d e).ranks r 
     ∙ ap (λ o. ordering_then o (bytes_cmp r s)) (ap₂ nat_cmp (mod-eq_of_lt hd) (mod-eq_of_lt he))
 
 -- two items at one depth: their kinds decide, and else their contents with what follows them
-items_rank : (w : Width) (d k l : ℕ) (xs ys r s : List ℕ) → d < depths w
+pub items_rank : (w : Width) (d k l : ℕ) (xs ys r s : List ℕ) → d < depths w
     → bytes_cmp (item_bytes w d k xs ++ r) (item_bytes w d l ys ++ s) ≡ ordering_then (nat_cmp k l) (bytes_cmp (xs ++ r) (ys ++ s))
 items_rank w d k l xs ys r s h =
     ap₂ bytes_cmp (append_assoc (to_be_bytes w d) (k ∷ xs) r) (append_assoc (to_be_bytes w d) (l ∷ ys) s)
@@ -85,18 +86,18 @@ IsRest-deeper w d r (inl e) = inl e
 IsRest-deeper w d r (inr h) = inr (h.0, h.1, omega arith, h.3)
 
 -- an item, with anything behind it, may follow an item at its depth
-IsRest-item : (w : Width) (d k : ℕ) (xs r : List ℕ) → IsRest w d (item_bytes w d k xs ++ r)
+pub IsRest-item : (w : Width) (d k : ℕ) (xs r : List ℕ) → IsRest w d (item_bytes w d k xs ++ r)
 IsRest-item w d k xs r = inr (d, k ∷ xs ++ r, omega arith, append_assoc (to_be_bytes w d) (k ∷ xs) r)
 
 -- bytes that begin with a depth are not empty
-nothing_below_depth : (w : Width) (d : ℕ) (s : List ℕ) → bytes_cmp [] (to_be_bytes w d ++ s) ≡ Less
+pub nothing_below_depth : (w : Width) (d : ℕ) (s : List ℕ) → bytes_cmp [] (to_be_bytes w d ++ s) ≡ Less
 nothing_below_depth w8 d s = refl
 nothing_below_depth w16 d s = refl
 nothing_below_depth w32 d s = refl
 nothing_below_depth w64 d s = refl
 nothing_below_depth w128 d s = refl
 
-nothing_above_depth : (w : Width) (d : ℕ) (r : List ℕ) → bytes_cmp (to_be_bytes w d ++ r) [] ≡ Greater
+pub nothing_above_depth : (w : Width) (d : ℕ) (r : List ℕ) → bytes_cmp (to_be_bytes w d ++ r) [] ≡ Greater
 nothing_above_depth w8 d r = refl
 nothing_above_depth w16 d r = refl
 nothing_above_depth w32 d r = refl
@@ -119,7 +120,7 @@ rest_above w d k xs r s h (inr f) =
     ∙ ap (λ o. ordering_then o (bytes_cmp (k ∷ xs ++ r) f.1)) (nat_cmp-gt (suc d) f.0 (omega arith))
 
 -- a key is an item
-key_is_item : (w : Width) (t : Tree) (d : ℕ) → (xs : List ℕ) × (key w t d ≡ item_bytes w d (rank t) xs)
+pub key_is_item : (w : Width) (t : Tree) (d : ℕ) → (xs : List ℕ) × (key w t d ≡ item_bytes w d (rank t) xs)
 key_is_item w Tree.null d = ([], refl)
 key_is_item w (Tree.boolean b) d = ([], refl)
 key_is_item w (Tree.number n) d = (number_bytes n.whole n.scale, refl)

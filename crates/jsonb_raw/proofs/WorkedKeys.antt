@@ -1,10 +1,11 @@
 -- Keys of some documents, computed from the definitions.
-use Rattle.std.proofs.Common.{◌≡◌, [], ◌∷◌, pos, negsuc, refl}
+use Rattle.std.proofs.Common.{◌≡◌, [], ◌∷◌, Some, None, pos, negsuc, refl}
 use Rattle.std.specs.Int.{w8, w16}
 use Rattle.jsonb_doc.specs.Number.{Variant}
 use Rattle.jsonb_doc.specs.Tree.{Tree, Trees, Pairs}
 use Rattle.jsonb_raw.specs.SortableKey.{key, magnitude_bytes}
 use Rattle.jsonb_raw.specs.EqualityKey.{equality_key}
+use Rattle.jsonb_raw.specs.CompositeKeys.{composite_key}
 
 one : Tree
 one = Tree.number (record { variant = Variant.uint64; whole = pos 1; scale = 0 })
@@ -43,3 +44,7 @@ equality_row : equality_key
     (Tree.object (Pairs.pair (97 ∷ []) Tree.null (Pairs.pair (98 ∷ []) (Tree.array (Trees.tree Tree.null Trees.no_trees)) Pairs.no_pairs)))
     ≡ 6 ∷ 0 ∷ 0 ∷ 0 ∷ 2 ∷ 5 ∷ 0x61 ∷ 0 ∷ 8 ∷ 5 ∷ 0x62 ∷ 0 ∷ 7 ∷ 0 ∷ 0 ∷ 0 ∷ 1 ∷ 8 ∷ []
 equality_row = refl
+
+-- a text, a missing value and null, as three columns
+composite_row : composite_key w8 (Some (Tree.text (118 ∷ [])) ∷ None ∷ Some Tree.null ∷ []) ≡ 0 ∷ 5 ∷ 118 ∷ 0 ∷ 0 ∷ 0 ∷ 0 ∷ 8 ∷ []
+composite_row = refl

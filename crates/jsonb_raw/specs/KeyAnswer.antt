@@ -8,7 +8,8 @@ use Rattle.jsonb_doc.specs.declared.error.Error.{Error}
 use Rattle.jsonb_doc.specs.declared.error.Error.TheVariants.{OutOfMemory, TooDeep}
 use Rattle.jsonb_doc.specs.Tree.{Tree}
 use Rattle.jsonb_doc.specs.Order.{tree_cmp, IsEqual}
-use Rattle.jsonb_raw.specs.Depth.{deepest, HasNoExtension}
+use Rattle.jsonb_doc.specs.Depth.{deepest}
+use Rattle.jsonb_raw.specs.NoExtension.{HasNoExtension}
 use Rattle.jsonb_raw.specs.KeyLaws.{HasKey}
 use Rattle.jsonb_raw.specs.SortableKey.{key, depths}
 

@@ -6,7 +6,8 @@ use Rattle.std.specs.Ordering.{nat_cmp}
 use Rattle.std.specs.declared.cmp.Ordering.TheVariants.{Less}
 use Rattle.std.specs.Cmp.Lexicographic.{slice_cmp}
 use Rattle.jsonb_doc.specs.Tree.{Tree}
-use Rattle.jsonb_raw.specs.Depth.{deepest, HasNoExtension}
+use Rattle.jsonb_doc.specs.Depth.{deepest}
+use Rattle.jsonb_raw.specs.NoExtension.{HasNoExtension}
 use Rattle.jsonb_doc.specs.Order.{tree_cmp, IsEqual}
 use Rattle.jsonb_raw.specs.SortableKey.{significant, key, depths, IsRest}
 use Rattle.jsonb_doc.specs.Limits.{Fits, IsInRange}

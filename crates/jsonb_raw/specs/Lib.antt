@@ -2,11 +2,12 @@ pub mod Documents
 pub mod Iterators
 pub mod Places
 pub mod PlacesLaws
-pub mod Depth
+pub mod NoExtension
 pub mod SortableKey
 pub mod EqualityKey
 pub mod KeyAnswer
 pub mod KeyLaws
+pub mod CompositeKeys
 pub mod Scalars
 pub mod Casts
 pub mod Sets

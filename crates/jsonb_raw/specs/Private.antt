@@ -4,7 +4,7 @@ pub mod Inserts
 pub mod Levels
 pub mod KeyParts
 pub mod KeyWidth
-pub mod MergedPairs
 pub mod PairSteps
 pub mod SetCounts
 pub mod Complements
+pub mod Rows

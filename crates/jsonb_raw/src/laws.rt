@@ -4,6 +4,7 @@ ghost use Rattle.std.specs.Prelude.{IfSome};
 ghost use Rattle.jsonb_keypath.specs.KeyPathGrammar.{key_path};
 ghost use Rattle.std.specs.Int.{w8, w16};
 ghost use Rattle.jsonb_raw.specs.KeyLaws.{KeysKeepBelow, KeysKeepEqual, KeysOrder, KeysTellApart, EqualityKeysTellApart, DigitsWrite};
+ghost use Rattle.jsonb_raw.specs.CompositeKeys.{CompositeKeysOrder};
 ghost use Rattle.jsonb_raw.specs.SetLaws.{SplitDeals, SplitCounts, DistinctCounts, OverlapIsShared};
 ghost use Rattle.jsonb_raw.specs.PlacesLaws.{NoStepsMeetTheWhole, PrintsToItsPlace};
 ghost use Rattle.jsonb_raw.specs.LeavesLaws.{LeavesAreInPlace};
@@ -39,6 +40,13 @@ pub fn wide_sortable_keys()
     ensures equal { KeysKeepEqual w16 }
     ensures order { KeysOrder w16 }
     ensures apart { KeysTellApart w16 }
+{}
+
+/// Sortable keys of several values, one behind the other, are in order as the lists of values are: the key of an index
+/// on several columns. A missing value is written as an item of kind 0, and comes before all others.
+pub fn composite_keys()
+    ensures narrow { CompositeKeysOrder w8 }
+    ensures wide { CompositeKeysOrder w16 }
 {}
 
 /// Equality keys stand for equality by value, at every depth, also where extensions occur.

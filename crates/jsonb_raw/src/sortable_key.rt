@@ -5,7 +5,7 @@ ghost use Rattle.jsonb_doc.specs.Tree.{Tree};
 ghost use Rattle.jsonb_doc.specs.Payload.{Form};
 ghost use Rattle.jsonb_doc.specs.Format.{Decodes};
 ghost use Rattle.jsonb_doc.specs.Item.{StandsFor};
-ghost use Rattle.jsonb_raw.specs.Depth.{deepest};
+ghost use Rattle.jsonb_doc.specs.Depth.{deepest};
 ghost use Rattle.jsonb_raw.specs.SortableKey.{key, item_bytes, text_bytes, depths};
 ghost use Rattle.jsonb_raw.specs.Private.Levels.{Part, IsKeyOf};
 ghost use Rattle.jsonb_raw.specs.Private.KeyParts.{start, part_start};

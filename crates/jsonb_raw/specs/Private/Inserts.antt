@@ -8,9 +8,9 @@ use Rattle.jsonb_doc.specs.Format.{IsBelowFirst, header, object_header, text_ent
 use Rattle.jsonb_doc.specs.Encoding.{EntryParts}
 use Rattle.jsonb_doc.specs.ObjectBuilder.{words_of_entries, contents_of_entries}
 use Rattle.jsonb_raw.specs.declared.functions.object.pair_parts.PairPlace.{PairPlace}
-use Rattle.jsonb_raw.specs.declared.functions.object.pair_parts.Entries.{Entries}
+use Rattle.jsonb_raw.specs.declared.functions.parts.Entries.{Entries}
 use Rattle.jsonb_raw.specs.declared.functions.object.pair_parts.KeptEntries.{KeptEntries}
-use Rattle.jsonb_raw.specs.declared.functions.object.pair_parts.RootEntry.{RootEntry}
+use Rattle.jsonb_raw.specs.declared.functions.parts.RootEntry.{RootEntry}
 use Rattle.jsonb_raw.specs.Private.Cuts.{FitEntries}
 
 -- ---- the place of a name

@@ -2,25 +2,27 @@
 //!
 //! On bytes that don't decode each call returns; which answer or refusal it gives is not fixed.
 
-ghost use Rattle.std.specs.Prelude.{◌≡◌, [], ◌∷◌, IfErr, IsOkAnd};
+ghost use Rattle.std.specs.Prelude.{◌≡◌, List, [], ◌∷◌, IfErr, IsOkAnd};
 ghost use Rattle.std.specs.List.{insert};
-ghost use Rattle.jsonb_doc.specs.Tree.{Tree, Trees, array, elements as element_list, trees_of};
+ghost use Rattle.jsonb_doc.specs.Tree.{Tree, array, trees_of};
 ghost use Rattle.jsonb_doc.specs.Payload.{Form};
 ghost use Rattle.jsonb_doc.specs.Format.{Decodes};
-ghost use Rattle.jsonb_doc.specs.Elements.{HasElementsLeft};
 ghost use Rattle.jsonb_raw.specs.Documents.{raw_bytes, Makes};
 ghost use Rattle.jsonb_doc.specs.Answer.{◌or◌, IsDecodingError};
 ghost use Rattle.jsonb_doc.specs.declared.error.Error.TheVariants.{OutOfMemory, TooLarge};
 ghost use Rattle.jsonb_raw.specs.Making.{MakesEach};
+ghost use Rattle.jsonb_raw.specs.Private.Rows.{HoldTrees};
 ghost use Rattle.jsonb_raw.specs.Arrays.{array_length, array_values, array_insert, insert_place};
 
 mod counts;
 mod sets;
 
-use crate::functions::push::push_elements;
+use crate::functions::entries::{entry_count, split_row};
+use crate::functions::joined::array_of;
+use crate::functions::parts::{Elements, Entries, LoneEntry};
 use crate::owned::OwnedJsonb;
 use crate::raw::RawJsonb;
-use jsonb_doc::{ArrayBuilder, ElementIter, Error, elements, encode_item};
+use jsonb_doc::{Error, elements, encode_item};
 use std::alloc::Global;
 
 impl RawJsonb<'_> {
@@ -73,17 +75,7 @@ impl RawJsonb<'_> {
             → Decodes form (raw_bytes new_val.now) value → Makes form (array_insert pos value t) result }
         ensures errors { IfErr result (IsDecodingError or OutOfMemory or TooLarge) }
     {
-        let bytes = self.as_bytes();
-        let value = new_val.as_bytes();
-        let Some(elements) = elements(bytes)? else {
-            return if insert_place(1, pos) == 0 {
-                array_of_two(alloc, value, bytes)
-            } else {
-                array_of_two(alloc, bytes, value)
-            };
-        };
-        let place = insert_place(elements.len(), pos);
-        array_with_element(alloc, elements, place, value)
+        array_with_element(alloc, self.as_bytes(), pos, new_val.as_bytes())
     }
 }
 
@@ -101,35 +93,36 @@ fn insert_place(len: usize, pos: i32) -> usize
     }
 }
 
-/// The array of the roots of two documents.
-fn array_of_two(alloc: Global, first: &[u8], second: &[u8]) -> Result<OwnedJsonb, Error>
-    ensures both { (form : Form) (a b : Tree) → Decodes form first.now a → Decodes form second.now b
-        → Makes form (array (trees_of (a ∷ b ∷ []))) result }
+/// The elements of a document, with the root of another as one element more at the place that a position means.
+fn array_with_element<'a>(
+    alloc: Global,
+    bytes: &'a [u8],
+    pos: i32,
+    value: &'a [u8],
+) -> Result<OwnedJsonb, Error>
+    ensures inserted { (form : Form) (t u : Tree) → Decodes form bytes.now t → Decodes form value.now u
+        → Makes form (array_insert pos u t) result }
     ensures errors { IfErr result (IsDecodingError or OutOfMemory or TooLarge) }
 {
-    let mut builder = ArrayBuilder::new(alloc);
-    builder.push_document(first)?;
-    builder.push_document(second)?;
-    Ok(OwnedJsonb::new(builder.build()?))
+    let elements = Elements::of_document(bytes)?;
+    let element = LoneEntry::of_root(value)?;
+    let row = elements.row();
+    let place = insert_place(entry_count(row), pos);
+    array_with_row(alloc, row, place, element.row())
 }
 
-/// The array of these elements, with the root of a document in front of the one at a place or behind the last.
-fn array_with_element(
+/// The array of a row's entries, with another's in front of the one at a place or behind the last.
+fn array_with_row<'a>(
     alloc: Global,
-    elements: ElementIter<'_>,
+    row: Entries<'a>,
     place: usize,
-    value: &[u8],
+    element: Entries<'a>,
 ) -> Result<OwnedJsonb, Error>
-    ensures inserted { (form : Form) (ts : Trees) (t : Tree) → HasElementsLeft form elements.entry ts
-        → Decodes form value.now t
-        → Makes form (array (trees_of (insert (element_list ts) place t))) result }
+    ensures inserted { (form : Form) (ts : List Tree) (t : Tree) → HoldTrees form row.entry ts
+        → HoldTrees form element.entry (t ∷ [])
+        → Makes form (array (trees_of (insert ts place t))) result }
     ensures errors { IfErr result (IsDecodingError or OutOfMemory or TooLarge) }
 {
-    let mut left = elements;
-    let mut builder = ArrayBuilder::new(alloc);
-    push_elements(&mut builder, &mut left, place)?;
-    builder.push_document(value)?;
-    let others = left.len();
-    push_elements(&mut builder, &mut left, others)?;
-    Ok(OwnedJsonb::new(builder.build()?))
+    let (front, back) = split_row(row, place)?;
+    array_of(alloc, &[front, element, back])
 }

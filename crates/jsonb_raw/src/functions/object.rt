@@ -2,14 +2,17 @@
 //!
 //! On bytes that don't decode each call returns; which answer or refusal it gives is not fixed.
 
-ghost use Rattle.std.specs.Prelude.{◌≡◌, ◌⊎◌, ◌||◌, false, not, None, Ok, IsTrue, IfErr, IsErrOf, MatchResult, MatchOption, Err};
-ghost use Rattle.jsonb_doc.specs.Tree.{Tree};
+ghost use Rattle.std.specs.Map.{keys_of};
+ghost use Rattle.std.specs.Prelude.{◌≡◌, ℕ, List, ◌⊎◌, ◌||◌, false, not, None, Ok, IsTrue, IfErr, IsErrOf, MatchResult, MatchOption, Err};
+ghost use Rattle.jsonb_doc.specs.Tree.{Tree, object, pairs_of};
 ghost use Rattle.jsonb_doc.specs.Payload.{Form};
-ghost use Rattle.jsonb_doc.specs.Format.{Decodes};
+ghost use Rattle.jsonb_doc.specs.Format.{Decodes, AreKeys};
 ghost use Rattle.jsonb_doc.specs.Item.{StandsFor};
 ghost use Rattle.jsonb_doc.specs.Answer.{IsOutOfMemory, IsOutOfMemoryOrTooLarge, IsDecodingError, ◌or◌};
 ghost use Rattle.jsonb_doc.specs.declared.error.Error.TheVariants.{OutOfMemory, TooLarge, InvalidObject, ObjectDuplicateKey};
 ghost use Rattle.jsonb_raw.specs.Documents.{raw_bytes, MakesOption, Makes};
+ghost use Rattle.jsonb_raw.specs.Private.Rows.{HoldPairs};
+ghost use Rattle.jsonb_raw.specs.Private.PairSteps.{parted};
 ghost use Rattle.jsonb_raw.specs.Making.{MakesPairs, IsPairOf};
 ghost use Rattle.jsonb_raw.specs.Objects.{object_pick, object_delete, object_keys, object_each, object_insert, has_name};
 
@@ -17,10 +20,11 @@ mod insert;
 mod pair_parts;
 
 use self::insert::{object_with_pair, pair_place};
-use crate::functions::push::push_pair;
+use crate::functions::parts::{PairEntries, PairRows};
+use crate::functions::runs::{first_pair, pair_entries};
 use crate::owned::OwnedJsonb;
 use crate::raw::RawJsonb;
-use jsonb_doc::{ArrayBuilder, Error, Item, ObjectBuilder, encode_item, keys, pairs};
+use jsonb_doc::{ArrayBuilder, Error, Item, encode_item, keys, pairs};
 use std::alloc::Global;
 use std::collections::BTreeSet;
 
@@ -35,17 +39,10 @@ impl RawJsonb<'_> {
             → MatchOption (object_pick keys.now t) (result ≡ Err InvalidObject) (λ wanted. Makes form wanted result) }
         ensures errors { IfErr result (IsDecodingError or OutOfMemory or TooLarge or InvalidObject) }
     {
-        let Some(pairs) = pairs(self.as_bytes())? else {
+        let Some(row) = pair_entries(self.as_bytes())? else {
             return Err(Error::InvalidObject);
         };
-        let mut builder = ObjectBuilder::new(alloc);
-        for pair in pairs {
-            let (key, value) = pair?;
-            if keys.contains(key) {
-                push_pair(&mut builder, key, &value)?;
-            }
-        }
-        Ok(OwnedJsonb::new(builder.build()?))
+        pairs_by_set(alloc, row, keys, true)
     }
 
     /// The object without the pairs whose keys are in the set.
@@ -58,17 +55,10 @@ impl RawJsonb<'_> {
             → MatchOption (object_delete keys.now t) (result ≡ Err InvalidObject) (λ wanted. Makes form wanted result) }
         ensures errors { IfErr result (IsDecodingError or OutOfMemory or TooLarge or InvalidObject) }
     {
-        let Some(pairs) = pairs(self.as_bytes())? else {
+        let Some(row) = pair_entries(self.as_bytes())? else {
             return Err(Error::InvalidObject);
         };
-        let mut builder = ObjectBuilder::new(alloc);
-        for pair in pairs {
-            let (key, value) = pair?;
-            if !keys.contains(key) {
-                push_pair(&mut builder, key, &value)?;
-            }
-        }
-        Ok(OwnedJsonb::new(builder.build()?))
+        pairs_by_set(alloc, row, keys, false)
     }
 
     /// The keys of the object, in order, as an array, and `None` where the root is no object.
@@ -144,6 +134,34 @@ impl RawJsonb<'_> {
         }
         object_with_pair(alloc, bytes, place, new_key, new_val.as_bytes())
     }
+}
+
+/// The object of the pairs whose keys are in the set, or of those whose keys are not.
+fn pairs_by_set<'a>(
+    alloc: Global,
+    row: PairEntries<'a>,
+    names: &BTreeSet<&str>,
+    wanted: bool,
+) -> Result<OwnedJsonb, Error>
+    ensures pairs { (form : Form) (ps : List (List ℕ × Tree)) → HoldPairs form row.entry ps → AreKeys (keys_of ps)
+        → Makes form (object (pairs_of (parted wanted names.now ps))) result }
+    ensures errors { IfErr result (IsDecodingError or OutOfMemory or TooLarge) }
+{
+    let mut rows = PairRows::new(alloc);
+    let mut run = row;
+    let mut left = row;
+    while let Some(pair) = first_pair(left)? {
+        let Ok(name) = str::from_utf8(pair.key) else {
+            return Err(Error::InvalidJsonb);
+        };
+        if names.contains(name) != wanted {
+            rows.push_run(run, left)?;
+            run = pair.others;
+        }
+        left = pair.others;
+    }
+    rows.push_run(run, left)?;
+    rows.object(alloc)
 }
 
 /// A key, and the value as a document of its own.

@@ -13,8 +13,6 @@ ghost use Rattle.jsonb_raw.specs.EqualityKey.{equality_key};
 
 mod concat;
 mod contains;
-mod merge;
-mod repeat;
 mod step;
 mod strip;
 mod stripping;

@@ -123,19 +123,34 @@ fn damage_is_refused(rt: HostRuntime) {
 fn floats_are_refused(rt: HostRuntime) {
     let alloc = rt.alloc();
     let floats = RawJsonb::new(FLOATS);
-    let one = RawJsonb::new(ONE_ELEMENT);
     let float = RawJsonb::new(FLOAT);
+    let one = RawJsonb::new(ONE_ELEMENT);
     assert!(rt; matches!(floats.array_values(alloc), Err(Error::UnsupportedNumber)));
-    assert!(rt;
-        matches!(
-            floats.array_insert(alloc, 0, &one),
-            Err(Error::UnsupportedNumber)
-        )
-    );
     assert!(rt;
         matches!(
             one.array_insert(alloc, 0, &float),
             Err(Error::UnsupportedNumber)
         )
     );
+}
+
+#[test]
+fn elements_that_stay_are_kept_as_stored(rt: HostRuntime) -> Result<(), Fail> {
+    let alloc = rt.alloc();
+    // [a float, the number 1 in two bytes]
+    let stored =
+        b"\x80\0\0\x02\x20\0\0\x09\x20\0\0\x03\x60\x3f\xf8\0\0\0\0\0\0\x50\0\x01".as_slice();
+    let null = RawJsonb::new(b"\x20\0\0\0\0\0\0\0");
+    let with_null =
+        b"\x80\0\0\x03\x20\0\0\x09\0\0\0\0\x20\0\0\x03\x60\x3f\xf8\0\0\0\0\0\0\x50\0\x01".as_slice();
+    let made = RawJsonb::new(stored).array_insert(alloc, 1, &null)?;
+    assert_eq!(rt; made.as_raw().as_bytes(), with_null);
+    let left = made.as_raw().delete_by_index(alloc, -2)?;
+    assert_eq!(rt; left.as_raw().as_bytes(), stored);
+    let both = RawJsonb::new(FLOATS).concat(alloc, &null)?;
+    assert_eq!(rt;
+        both.as_raw().as_bytes(),
+        b"\x80\0\0\x02\x20\0\0\x09\0\0\0\0\x60\x3f\xf8\0\0\0\0\0\0".as_slice()
+    );
+    Ok(())
 }

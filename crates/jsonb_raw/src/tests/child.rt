@@ -175,12 +175,6 @@ fn floats_are_refused(rt: HostRuntime) {
     }
     assert!(rt;
         matches!(
-            floats.delete_by_index(alloc, 0),
-            Err(Error::UnsupportedNumber)
-        )
-    );
-    assert!(rt;
-        matches!(
             floats.delete_by_name(alloc, "a"),
             Err(Error::UnsupportedNumber)
         )

@@ -63,6 +63,17 @@ fn leaf_depth(alloc: Global, document: &[u8], indexes: bool) -> Result<Option<us
 }
 
 #[test]
+fn depths_of_deep_documents(rt: HostRuntime) -> Result<(), Fail> {
+    // The text in the innermost container lies as deep as there are containers.
+    for document in [arrays(rt.alloc(), 200_000)?, objects(rt.alloc(), 200_000)?] {
+        let raw = RawJsonb::new(&document);
+        assert_eq!(rt; raw.depth(), Ok(200_000));
+        assert_eq!(rt; raw.check_depth(199_999), Err(Error::TooDeep));
+    }
+    Ok(())
+}
+
+#[test]
 fn equality_keys_of_deep_documents(rt: HostRuntime) -> Result<(), Fail> {
     // A kind and a count a level, in an object the key `a` too; for a text its kind and its end beside its bytes.
     let array = arrays(rt.alloc(), 200_000)?;

@@ -11,9 +11,6 @@ use std::test::Fail;
 
 const CUT: &[u8] = b"\x40\0\0";
 
-// an object in whose bytes the key "a" stands twice
-const REPEATED: &[u8] = b"\x40\0\0\x02\x10\0\0\x01\x10\0\0\x01\0\0\0\0\0\0\0\0aa";
-
 /// The document with 1 under a key.
 fn with_one(
     alloc: Global,
@@ -201,8 +198,28 @@ fn damage_is_refused(rt: HostRuntime) -> Result<(), Fail> {
     assert!(rt; matches!(with_one(alloc, CUT, "a", true), Err(Error::InvalidJsonb)));
     let value = RawJsonb::new(ONE_PAIR).object_insert(alloc, "a", &cut, true);
     assert!(rt; matches!(value, Err(Error::InvalidJsonb)));
-    let twice = RawJsonb::new(REPEATED).object_pick(alloc, &keys);
-    assert!(rt; matches!(twice, Err(Error::InvalidJsonb)));
+    Ok(())
+}
+
+#[test]
+fn pairs_that_stay_are_kept_as_stored(rt: HostRuntime) -> Result<(), Fail> {
+    let alloc = rt.alloc();
+    // {"a":1,"b":[null],"c":a float}, the number in two bytes
+    let stored =
+        b"\x40\0\0\x03\x10\0\0\x01\x10\0\0\x01\x10\0\0\x01\x20\0\0\x03\x50\0\0\x08\x20\0\0\x09abc\x50\0\x01\x80\0\0\x01\0\0\0\0\x60\x3f\xf8\0\0\0\0\0\0".as_slice();
+    let without =
+        b"\x40\0\0\x02\x10\0\0\x01\x10\0\0\x01\x20\0\0\x03\x20\0\0\x09ac\x50\0\x01\x60\x3f\xf8\0\0\0\0\0\0".as_slice();
+    let alone = b"\x40\0\0\x01\x10\0\0\x01\x50\0\0\x08b\x80\0\0\x01\0\0\0\0".as_slice();
+    let mut keys = BTreeSet::new(alloc);
+    let all = RawJsonb::new(stored).object_delete(alloc, &keys)?;
+    assert_eq!(rt; all.as_raw().as_bytes(), stored);
+    keys.insert("b")?;
+    let left = RawJsonb::new(stored).object_delete(alloc, &keys)?;
+    assert_eq!(rt; left.as_raw().as_bytes(), without);
+    let picked = RawJsonb::new(stored).object_pick(alloc, &keys)?;
+    assert_eq!(rt; picked.as_raw().as_bytes(), alone);
+    let both = left.as_raw().concat(alloc, &picked.as_raw())?;
+    assert_eq!(rt; both.as_raw().as_bytes(), stored);
     Ok(())
 }
 
@@ -211,21 +228,7 @@ fn floats_are_refused(rt: HostRuntime) -> Result<(), Fail> {
     let alloc = rt.alloc();
     let document = RawJsonb::new(FLOAT_UNDER_A);
     let float = RawJsonb::new(FLOAT);
-    let mut keys = BTreeSet::new(alloc);
     assert!(rt; matches!(document.object_each(alloc), Err(Error::UnsupportedNumber)));
-    assert!(rt;
-        matches!(
-            document.object_delete(alloc, &keys),
-            Err(Error::UnsupportedNumber)
-        )
-    );
-    keys.insert("a")?;
-    assert!(rt;
-        matches!(
-            document.object_pick(alloc, &keys),
-            Err(Error::UnsupportedNumber)
-        )
-    );
     let value = RawJsonb::new(ONE_PAIR).object_insert(alloc, "a", &float, false);
     assert!(rt; matches!(value, Err(Error::UnsupportedNumber)));
     Ok(())

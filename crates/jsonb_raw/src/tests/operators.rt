@@ -95,9 +95,6 @@ fn keys_that_stand_twice_are_refused(rt: HostRuntime) {
     let repeated = b"\x40\0\0\x02\x10\0\0\x01\x10\0\0\x01\x30\0\0\0\x40\0\0\0aa".as_slice();
     let stripped = RawJsonb::new(repeated).strip_nulls(rt.alloc());
     assert_eq!(rt; stripped.err(), Some(Error::InvalidJsonb));
-    let empty = RawJsonb::new(b"\x40\0\0\0");
-    let made = RawJsonb::new(repeated).concat(rt.alloc(), &empty);
-    assert_eq!(rt; made.err(), Some(Error::InvalidJsonb));
 }
 
 /// Whether the first document contains the second.

@@ -3,7 +3,7 @@ use Rattle.std.specs.Prelude.{reverse}
 use Rattle.jsonb_doc.specs.Tree.{Tree}
 use Rattle.jsonb_doc.specs.Payload.{Form}
 use Rattle.jsonb_doc.specs.Item.{StandsFor}
-use Rattle.jsonb_raw.specs.Depth.{deepest}
+use Rattle.jsonb_doc.specs.Depth.{deepest}
 use Rattle.jsonb_raw.specs.SortableKey.{key}
 use Rattle.jsonb_raw.specs.Private.KeyWidth.{width_of}
 use Rattle.jsonb_raw.proofs.LevelLemmas.{SomeParts, weight, weights}

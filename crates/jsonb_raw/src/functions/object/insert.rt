@@ -1,23 +1,22 @@
 //! One pair more in the bytes of an object. What stays is copied once, as it is stored.
 
-ghost use Rattle.std.specs.Prelude.{◌≡◌, ℕ, ◌+◌, ◌^◌, ◌<◌, ◌≤◌, List, ◌++◌, length, IfErr, OnOk, IfSome, IsOkAnd, IsSomeAnd};
+ghost use Rattle.std.specs.Prelude.{◌≡◌, ◌+◌, ◌^◌, ◌<◌, List, ◌++◌, length, IfErr, OnOk, IsOkAnd, IsSomeAnd};
 ghost use Rattle.jsonb_doc.specs.Tree.{Tree, Pairs, object, keys as key_list, members, pairs_of};
-ghost use Rattle.jsonb_doc.specs.Payload.{Form, number_reader};
-ghost use Rattle.jsonb_doc.specs.Format.{Decodes, IsContent, entry_word};
+ghost use Rattle.jsonb_doc.specs.Payload.{Form};
+ghost use Rattle.jsonb_doc.specs.Format.{Decodes};
 ghost use Rattle.jsonb_doc.specs.Encoding.{EntryParts};
 ghost use Rattle.jsonb_doc.specs.ObjectBuilder.{insert_pair};
 ghost use Rattle.jsonb_raw.specs.Documents.{Makes};
 ghost use Rattle.jsonb_doc.specs.Answer.{◌or◌, IsDecodingError};
 ghost use Rattle.jsonb_doc.specs.declared.error.Error.TheVariants.{OutOfMemory, TooLarge};
-ghost use Rattle.jsonb_raw.specs.Private.Inserts.{IsPairPlace, IsPlaceAmong, IsCutAt, AreBytesOf, AreKept, word_row, content_row};
+ghost use Rattle.jsonb_raw.specs.Private.Inserts.{IsPairPlace, IsPlaceAmong, IsCutAt, AreKept, word_row, content_row};
 
-use super::pair_parts::{Entries, KeptEntries, PairPlace, RootEntry};
-use crate::functions::entry_words::contents_len;
+use super::pair_parts::{KeptEntries, PairPlace};
+use crate::functions::entries::{root_entry, split_entries, word_of};
+use crate::functions::parts::{Entries, RootEntry};
 use crate::owned::OwnedJsonb;
-use jsonb_doc::layout::{
-    CONTAINER, COUNTS, KINDS, LENGTHS, MAX_CONTENT, MAX_ENTRIES, OBJECT_HEADER, TEXT, WORD,
-};
-use jsonb_doc::{Error, Item, keys, root_item};
+use jsonb_doc::layout::{COUNTS, MAX_CONTENT, MAX_ENTRIES, OBJECT_HEADER, TEXT, WORD};
+use jsonb_doc::{Error, keys};
 use std::alloc::{AllocError, Global};
 use std::cmp::Ordering;
 
@@ -41,26 +40,6 @@ pub fn pair_place(bytes: &[u8], name: &str) -> Result<Option<PairPlace>, Error>
     Ok(Some(PairPlace { passed, taken: 0 }))
 }
 
-/// The first so many of the entries, and the others.
-fn split_entries(entries: Entries<'_>, count: usize) -> Option<(Entries<'_>, Entries<'_>)>
-    requires { length entries.words.now < 2 ^ 32 }
-    ensures split { (front back : List EntryParts) → AreBytesOf entries.entry (front ++ back) → count ≡ length front
-        → IsSomeAnd result (λ parts. AreBytesOf parts.0 front × AreBytesOf parts.1 back) }
-    ensures shorter { IfSome result (λ parts. length parts.1.words.now ≤ length entries.entry.words.now) }
-{
-    if count > entries.words.len() / WORD {
-        return None;
-    }
-    let (words, other_words) = entries.words.split_at(WORD * count);
-    let (contents, other_contents) = entries.contents.split_at_checked(contents_len(words))?;
-    let front = Entries { words, contents };
-    let back = Entries {
-        words: other_words,
-        contents: other_contents,
-    };
-    Some((front, back))
-}
-
 /// The entries of an object that stay where a pair goes to this place.
 fn kept_entries(object: &[u8], place: PairPlace) -> Option<KeptEntries<'_>>
     ensures { (before key between value behind : List EntryParts)
@@ -81,49 +60,6 @@ fn kept_entries(object: &[u8], place: PairPlace) -> Option<KeptEntries<'_>>
         between,
         behind,
     })
-}
-
-/// The entry of a document whose root is no container: its word tells the kind, and its content follows.
-fn scalar_entry(document: &[u8]) -> Option<RootEntry<'_>>
-    ensures { (kind : ℕ) (head content : List ℕ) → length head ≡ 4 → kind < 8 → length content < 2 ^ 28
-        → document.now ≡ head ++ (entry_word kind (length content) ++ content)
-        → IsSomeAnd result (λ entry. (entry.kind ≡ kind) × (entry.content.now ≡ content)) }
-{
-    let (_, rest) = document.split_first_chunk::<WORD>()?;
-    let (word, content) = rest.split_first_chunk::<WORD>()?;
-    let kind = u32::from_be_bytes(*word) / LENGTHS;
-    if kind >= KINDS {
-        return None;
-    }
-    Some(RootEntry { kind, content })
-}
-
-/// The entry that the root of a document becomes within another, as it is stored.
-fn root_entry(document: &[u8]) -> Result<RootEntry<'_>, Error>
-    ensures entry { (form : Form) (t : Tree) → Decodes form document.now t
-        → IsOkAnd result (λ entry. IsContent (number_reader form) t entry.kind entry.content.now) }
-    ensures errors { IfErr result IsDecodingError }
-{
-    match root_item(document)? {
-        Item::Array(content) => Ok(RootEntry {
-            kind: CONTAINER,
-            content,
-        }),
-        Item::Object(content) => Ok(RootEntry {
-            kind: CONTAINER,
-            content,
-        }),
-        _ => scalar_entry(document).ok_or(Error::InvalidJsonb),
-    }
-}
-
-/// The word of an entry.
-fn word_of(kind: u32, len: usize) -> [u8; WORD]
-    requires kind { kind < 8 }
-    requires len { len < 2 ^ 28 }
-    ensures { result ≡ entry_word kind len }
-{
-    (kind * LENGTHS + len as u32).to_be_bytes()
 }
 
 /// Puts an object's header and its words at the end, with those of one pair more.

@@ -1,25 +1,25 @@
 //! Two documents put together.
 
-ghost use Rattle.std.specs.Prelude.{◌++◌, List, IfErr, MatchResult};
-ghost use Rattle.jsonb_doc.specs.Tree.{Tree, Trees, Pairs, array, object, elements, trees_of, members, pairs_of};
+ghost use Rattle.std.specs.Prelude.{ℕ, ◌++◌, List, IfErr};
+ghost use Rattle.std.specs.Map.{keys_of};
+ghost use Rattle.jsonb_doc.specs.Tree.{Tree, Pairs, array, object, trees_of, members, pairs_of};
 ghost use Rattle.jsonb_doc.specs.Payload.{Form};
-ghost use Rattle.jsonb_doc.specs.Format.{Decodes};
-ghost use Rattle.jsonb_doc.specs.Item.{StandsFor};
-ghost use Rattle.jsonb_doc.specs.Answer.{IsOutOfMemoryOrTooLarge, IsDecodingError, ◌or◌};
+ghost use Rattle.jsonb_doc.specs.Format.{Decodes, AreKeys};
+ghost use Rattle.jsonb_doc.specs.Answer.{IsDecodingError, ◌or◌};
 ghost use Rattle.jsonb_doc.specs.declared.error.Error.TheVariants.{OutOfMemory, TooLarge};
-ghost use Rattle.jsonb_doc.specs.ArrayBuilder.{HoldsElements};
 ghost use Rattle.jsonb_raw.specs.Documents.{raw_bytes, Makes};
 ghost use Rattle.jsonb_raw.specs.Arrays.{as_elements};
 ghost use Rattle.jsonb_raw.specs.Concat.{concat, merged};
+ghost use Rattle.jsonb_raw.specs.Private.Rows.{HoldPairs};
 
-use crate::functions::operator::merge::MergedPairs;
-use crate::functions::operator::repeat::no_repeat;
+use crate::functions::joined::array_of_both;
+use crate::functions::parts::{Elements, PairEntries, PairRows};
+use crate::functions::runs::{first_pair, pair_entries};
 use crate::owned::OwnedJsonb;
 use crate::raw::RawJsonb;
-use jsonb_doc::{
-    ArrayBuilder, Error, Item, ObjectBuilder, array_elements, object_pairs, root_item,
-};
+use jsonb_doc::{Error, Item, root_item};
 use std::alloc::Global;
+use std::cmp::Ordering;
 
 impl RawJsonb<'_> {
     /// Two objects give the object of all their pairs, with the other's value where both have the key. Any other two
@@ -33,85 +33,84 @@ impl RawJsonb<'_> {
             → Makes form (concat tree other_tree) result }
         ensures errors { IfErr result (IsDecodingError or OutOfMemory or TooLarge) }
     {
-        let item = root_item(self.as_bytes())?;
-        let other = root_item(other.as_bytes())?;
-        Ok(OwnedJsonb::new(joined_items(alloc, &item, &other)?))
+        let bytes = self.as_bytes();
+        let others = other.as_bytes();
+        match (root_item(bytes)?, root_item(others)?) {
+            (Item::Object(_), Item::Object(_)) => joined_objects(alloc, bytes, others),
+            _ => joined_arrays(alloc, bytes, others),
+        }
     }
 }
 
-/// The document of two items together.
-fn joined_items(alloc: Global, item: &Item<'_>, other: &Item<'_>) -> Result<Vec<u8>, Error>
-    ensures document { (form : Form) (t u : Tree) → StandsFor form item.now t → StandsFor form other.now u
-        → MatchResult result (λ made. Decodes form made.items (concat t u))
-        (IsOutOfMemoryOrTooLarge form (concat t u)) }
-    ensures errors { IfErr result (IsDecodingError or OutOfMemory or TooLarge) }
-{
-    match (item, other) {
-        (Item::Object(bytes), Item::Object(others)) => joined_objects(alloc, bytes, others),
-        _ => joined_arrays(alloc, item, other),
-    }
-}
-
-/// The document of two objects together.
-fn joined_objects(alloc: Global, bytes: &[u8], others: &[u8]) -> Result<Vec<u8>, Error>
+/// The object of two objects' pairs, with the second's value where both have the key.
+fn joined_objects<'a>(alloc: Global, bytes: &'a [u8], others: &'a [u8]) -> Result<OwnedJsonb, Error>
     ensures document { (form : Form) (ps qs : Pairs)
         → Decodes form bytes.now (object ps) → Decodes form others.now (object qs)
-        → MatchResult result
-        (λ made. Decodes form made.items (object (pairs_of (merged (members ps) (members qs)))))
-        (IsOutOfMemoryOrTooLarge form (object (pairs_of (merged (members ps) (members qs))))) }
+        → Makes form (object (pairs_of (merged (members ps) (members qs)))) result }
     ensures errors { IfErr result (IsDecodingError or OutOfMemory or TooLarge) }
 {
-    let first = object_pairs(bytes)?;
-    let second = object_pairs(others)?;
-    let mut builder = ObjectBuilder::new(alloc);
-    for pair in MergedPairs::new(first, second) {
-        let (key, value) = pair?;
-        no_repeat(builder.push_item(key, &value))?;
-    }
-    builder.build()
+    let Some(first) = pair_entries(bytes)? else {
+        return Err(Error::InvalidJsonb);
+    };
+    let Some(second) = pair_entries(others)? else {
+        return Err(Error::InvalidJsonb);
+    };
+    merged_pairs(alloc, first, second)
 }
 
-/// The document of the array of two items' parts.
-fn joined_arrays(alloc: Global, item: &Item<'_>, other: &Item<'_>) -> Result<Vec<u8>, Error>
-    ensures document { (form : Form) (t u : Tree) → StandsFor form item.now t → StandsFor form other.now u
-        → MatchResult result
-        (λ made. Decodes form made.items (array (trees_of (as_elements t ++ as_elements u))))
-        (IsOutOfMemoryOrTooLarge form (array (trees_of (as_elements t ++ as_elements u)))) }
+/// The object of these and those pairs, by rising keys. Both are gone through in step, and those that come from one in a row are
+/// copied as one run. Where both have a key, the first's pair is passed over.
+fn merged_pairs<'a>(
+    alloc: Global,
+    first: PairEntries<'a>,
+    second: PairEntries<'a>,
+) -> Result<OwnedJsonb, Error>
+    ensures merged { (form : Form) (ps qs : List (List ℕ × Tree)) → HoldPairs form first.entry ps
+        → HoldPairs form second.entry qs → AreKeys (keys_of ps) → AreKeys (keys_of qs)
+        → Makes form (object (pairs_of (merged ps qs))) result }
     ensures errors { IfErr result (IsDecodingError or OutOfMemory or TooLarge) }
 {
-    let mut builder = ArrayBuilder::new(alloc);
-    push_parts(&mut builder, item)?;
-    push_parts(&mut builder, other)?;
-    builder.build()
+    let mut rows = PairRows::new(alloc);
+    let mut run = first;
+    let mut left = first;
+    let mut other = second;
+    let mut is_second = false;
+    while let (Some(pair), Some(next)) = (first_pair(left)?, first_pair(other)?) {
+        match pair.key.cmp(next.key) {
+            Ordering::Less => left = pair.others,
+            Ordering::Equal if is_second => {
+                left = pair.others;
+                other = next.others;
+            }
+            Ordering::Equal => {
+                rows.push_run(run, left)?;
+                run = other;
+                left = next.others;
+                other = pair.others;
+                is_second = true;
+            }
+            Ordering::Greater => {
+                rows.push_run(run, left)?;
+                run = other;
+                other = left;
+                left = next.others;
+                is_second = !is_second;
+            }
+        }
+    }
+    rows.push_run(run, left)?;
+    rows.push(left)?;
+    rows.push(other)?;
+    rows.object(alloc)
 }
 
-/// Adds the elements of an array, or another item as one element.
-fn push_parts(builder: &mut ArrayBuilder, item: &Item<'_>) -> Result<(), Error>
-    ensures pushed { (form : Form) (held : List Tree) (t : Tree) → HoldsElements form builder.old held
-        → StandsFor form item.now t
-        → MatchResult result
-        (λ _. HoldsElements form builder.new (held ++ as_elements t))
-        (IsOutOfMemoryOrTooLarge form (array (trees_of (held ++ as_elements t)))) }
+/// The array of the elements of two documents, where one that is no array is one element.
+fn joined_arrays<'a>(alloc: Global, bytes: &'a [u8], others: &'a [u8]) -> Result<OwnedJsonb, Error>
+    ensures document { (form : Form) (t u : Tree) → Decodes form bytes.now t → Decodes form others.now u
+        → Makes form (array (trees_of (as_elements t ++ as_elements u))) result }
     ensures errors { IfErr result (IsDecodingError or OutOfMemory or TooLarge) }
 {
-    match item {
-        Item::Array(bytes) => push_elements(builder, bytes),
-        _ => builder.push_item(item),
-    }
-}
-
-/// Adds the elements of an array.
-fn push_elements(builder: &mut ArrayBuilder, bytes: &[u8]) -> Result<(), Error>
-    ensures pushed { (form : Form) (held : List Tree) (ts : Trees) → HoldsElements form builder.old held
-        → Decodes form bytes.now (array ts)
-        → MatchResult result
-        (λ _. HoldsElements form builder.new (held ++ elements ts))
-        (IsOutOfMemoryOrTooLarge form (array (trees_of (held ++ elements ts)))) }
-    ensures errors { IfErr result (IsDecodingError or OutOfMemory or TooLarge) }
-{
-    let found = array_elements(bytes)?;
-    for item in found {
-        builder.push_item(&item?)?;
-    }
-    Ok(())
+    let first = Elements::of_document(bytes)?;
+    let second = Elements::of_document(others)?;
+    array_of_both(alloc, first.row(), second.row())
 }

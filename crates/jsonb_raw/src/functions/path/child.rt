@@ -2,7 +2,7 @@
 //!
 //! On bytes that don't decode each call returns; which answer or refusal it gives is not fixed.
 
-ghost use Rattle.std.specs.Prelude.{◌≡◌, not, None, Ok, filter, length, IfErr, MatchResult, MatchOption, Err};
+ghost use Rattle.std.specs.Prelude.{◌≡◌, List, not, None, Ok, filter, length, IfErr, MatchResult, MatchOption, Err};
 ghost use Rattle.std.specs.List.{remove};
 ghost use Rattle.std.specs.Str.{bytes_eq};
 ghost use Rattle.jsonb_doc.specs.Tree.{Tree, Trees, Pairs, array, object, elements as element_list, members, trees_of, pairs_of};
@@ -11,19 +11,22 @@ ghost use Rattle.jsonb_doc.specs.Format.{Decodes};
 ghost use Rattle.jsonb_doc.specs.Item.{StandsFor};
 ghost use Rattle.jsonb_doc.specs.Answer.{IsOutOfMemory, IsDecodingError, ◌or◌};
 ghost use Rattle.jsonb_doc.specs.declared.error.Error.TheVariants.{OutOfMemory, TooLarge, InvalidJsonType};
-ghost use Rattle.jsonb_doc.specs.Elements.{HasElementsLeft};
+ghost use Rattle.jsonb_raw.specs.Private.Rows.{HoldTrees};
 ghost use Rattle.jsonb_raw.specs.Documents.{raw_bytes, Makes, MakesOption};
 ghost use Rattle.jsonb_raw.specs.Places.{index_position};
 ghost use Rattle.jsonb_raw.specs.Children.{element_at, field_ignoring_case, named_child, without_index, without_name};
 ghost use Rattle.jsonb_raw.specs.Exists.{is_text};
 
 use super::nth_child;
-use crate::functions::push::{push_elements, push_pair};
+use crate::functions::entries::{element_entries, entry_count, split_row};
+use crate::functions::joined::array_of_both;
+use crate::functions::parts::Entries;
+use crate::functions::push::push_pair;
 use crate::owned::OwnedJsonb;
 use crate::raw::RawJsonb;
 use jsonb_doc::{
-    ArrayBuilder, ElementIter, Error, Item, ObjectBuilder, array_elements, elements, encode_item,
-    field_spot, object_pairs, pairs, root_item, root_spot,
+    ArrayBuilder, Error, Item, ObjectBuilder, array_elements, encode_item, field_spot,
+    object_pairs, pairs, root_item, root_spot,
 };
 use std::alloc::Global;
 
@@ -95,11 +98,11 @@ impl RawJsonb<'_> {
         ensures errors { IfErr result (IsDecodingError or OutOfMemory or TooLarge or InvalidJsonType) }
     {
         let bytes = self.as_bytes();
-        let Some(elements) = elements(bytes)? else {
+        let Some(row) = element_entries(bytes)? else {
             return Err(Error::InvalidJsonType);
         };
-        match index_position(elements.len(), index) {
-            Some(position) => array_without_element(alloc, elements, position),
+        match index_position(entry_count(row), index) {
+            Some(position) => array_without_element(alloc, row, position),
             None => Ok(OwnedJsonb::new(Vec::from_slice(alloc, bytes)?)),
         }
     }
@@ -157,25 +160,19 @@ pub fn index_position(len: usize, index: i32) -> Option<usize>
     }
 }
 
-/// The array of these elements without the one at a position.
+/// The array of these entries without the one at a position.
 fn array_without_element(
     alloc: Global,
-    elements: ElementIter<'_>,
+    row: Entries<'_>,
     position: usize,
 ) -> Result<OwnedJsonb, Error>
-    ensures deleted { (form : Form) (ts : Trees) → HasElementsLeft form elements.entry ts
-        → Makes form (array (trees_of (remove (element_list ts) position))) result }
+    ensures deleted { (form : Form) (ts : List Tree) → HoldTrees form row.entry ts
+        → Makes form (array (trees_of (remove ts position))) result }
     ensures errors { IfErr result (IsDecodingError or OutOfMemory or TooLarge) }
 {
-    let mut left = elements;
-    let mut builder = ArrayBuilder::new(alloc);
-    push_elements(&mut builder, &mut left, position)?;
-    if let Some(element) = left.next() {
-        element?;
-    }
-    let others = left.len();
-    push_elements(&mut builder, &mut left, others)?;
-    Ok(OwnedJsonb::new(builder.build()?))
+    let (front, others) = split_row(row, position)?;
+    let (_, back) = split_row(others, 1)?;
+    array_of_both(alloc, front, back)
 }
 
 /// Whether the item is this text.

@@ -10,13 +10,13 @@ returns-in_err-words c = λ before key between value behind h.
 pub returns-in_err-before : goal.returns-in_err-before
 returns-in_err-before c = λ before key between value behind h.
     let row = row_of _ c.args.place before key between value behind h _ _ _ _ c.in_ok-header.ensures.cases.0 c.in_ok-header.ensures.cases.1 c.from_be_bytes.ensures refl in
-    let all = row.are _ _ c.in_ok-words.ensures.cases.1 c.in_ok-words.ensures.cases.2 in
+    let all = row.are _ c.in_ok-words.ensures.cases.1 c.in_ok-words.ensures.cases.2 in
     absurd (c.in_err-before.ensures.split before (key ++ (between ++ (value ++ behind))) all h.passed)
 
 pub returns-in_err-others : goal.returns-in_err-others
 returns-in_err-others c = λ before key between value behind h.
     let row = row_of _ c.args.place before key between value behind h _ _ _ _ c.in_ok-header.ensures.cases.0 c.in_ok-header.ensures.cases.1 c.from_be_bytes.ensures refl in
-    let all = row.are _ _ c.in_ok-words.ensures.cases.1 c.in_ok-words.ensures.cases.2 in
+    let all = row.are _ c.in_ok-words.ensures.cases.1 c.in_ok-words.ensures.cases.2 in
     let first = c.in_ok-before.ensures.split before (key ++ (between ++ (value ++ behind))) all h.passed in
     absurd (c.in_err-others.ensures.split key (between ++ (value ++ behind)) first.1 h.keys)
 
@@ -24,7 +24,7 @@ pub returns-in_err-between : goal.returns-in_err-between
 returns-in_err-between c = λ before key between value behind h.
     let row = row_of _ c.args.place before key between value behind h _ _ _ _ c.in_ok-header.ensures.cases.0 c.in_ok-header.ensures.cases.1 c.from_be_bytes.ensures refl in
     let pairs : c.in_ok-pairs.pairs ≡ length between = omega (arith, row.kept, c.in_ok-pairs.ensures) in
-    let all = row.are _ _ c.in_ok-words.ensures.cases.1 c.in_ok-words.ensures.cases.2 in
+    let all = row.are _ c.in_ok-words.ensures.cases.1 c.in_ok-words.ensures.cases.2 in
     let first = c.in_ok-before.ensures.split before (key ++ (between ++ (value ++ behind))) all h.passed in
     let second = c.in_ok-others.ensures.split key (between ++ (value ++ behind)) first.1 h.keys in
     absurd (c.in_err-between.ensures.split between (value ++ behind) second.1 pairs)
@@ -33,7 +33,7 @@ pub returns-in_err-behind : goal.returns-in_err-behind
 returns-in_err-behind c = λ before key between value behind h.
     let row = row_of _ c.args.place before key between value behind h _ _ _ _ c.in_ok-header.ensures.cases.0 c.in_ok-header.ensures.cases.1 c.from_be_bytes.ensures refl in
     let pairs : c.in_ok-pairs.pairs ≡ length between = omega (arith, row.kept, c.in_ok-pairs.ensures) in
-    let all = row.are _ _ c.in_ok-words.ensures.cases.1 c.in_ok-words.ensures.cases.2 in
+    let all = row.are _ c.in_ok-words.ensures.cases.1 c.in_ok-words.ensures.cases.2 in
     let first = c.in_ok-before.ensures.split before (key ++ (between ++ (value ++ behind))) all h.passed in
     let second = c.in_ok-others.ensures.split key (between ++ (value ++ behind)) first.1 h.keys in
     let third = c.in_ok-between.ensures.split between (value ++ behind) second.1 pairs in
@@ -43,7 +43,7 @@ pub returns : goal.returns
 returns c = λ before key between value behind h.
     let row = row_of _ c.args.place before key between value behind h _ _ _ _ c.in_ok-header.ensures.cases.0 c.in_ok-header.ensures.cases.1 c.from_be_bytes.ensures refl in
     let pairs : c.in_ok-pairs.pairs ≡ length between = omega (arith, row.kept, c.in_ok-pairs.ensures) in
-    let all = row.are _ _ c.in_ok-words.ensures.cases.1 c.in_ok-words.ensures.cases.2 in
+    let all = row.are _ c.in_ok-words.ensures.cases.1 c.in_ok-words.ensures.cases.2 in
     let first = c.in_ok-before.ensures.split before (key ++ (between ++ (value ++ behind))) all h.passed in
     let second = c.in_ok-others.ensures.split key (between ++ (value ++ behind)) first.1 h.keys in
     let third = c.in_ok-between.ensures.split between (value ++ behind) second.1 pairs in

@@ -2,7 +2,8 @@ use Rattle.std.proofs.Common.{◌≡◌, true, false, not, filter, refl, sym, �
 use Rattle.std.proofs.lemmas.Result.{err_from_is_err_and}
 use Rattle.jsonb_doc.specs.Tree.{elements}
 use Rattle.jsonb_raw.specs.Exists.{is_text}
-use Rattle.jsonb_raw.proofs.IteratorItems.{SomeElements-error}
+use Rattle.jsonb_doc.proofs.BuilderSteps.{front_whole}
+use Rattle.jsonb_raw.proofs.IteratorItems.{SomeElements-error, SomeElements-none}
 use Rattle.jsonb_raw.proofs.PushLoops.{elements_begun, elements_pushed, elements_refused, elements_skipped}
 use Rattle.jsonb_raw.proofs.functions.path.child.array_without_text.Goals as goal
 
@@ -39,3 +40,8 @@ loop-element-preserved c = λ form ts d.
     elements_skipped form (λ left. filter (λ t. not (is_text c.args.name.now t)) (elements left)) _ _ _ _ _ _ c.in_ok-element.was c.in-Some.ensures.steps
     (c.loop-element.invariant form ts d)
     (λ t rest stands. let same : is_text c.args.name.now t ≡ true = sym (c.is_text.ensures form t stands) ∙ c.if-not-is_text.false in rw same refl)
+
+pub returns-clause-deleted : goal.returns-clause-deleted
+returns-clause-deleted c = λ form ts d.
+    rw c.new.ensures (c.in_ok-build.ensures.decodes form _
+    (front_whole form _ _ (SomeElements-none form _ _ _ c.in-None.ensures.steps (c.loop-element.invariant form ts d))))

@@ -1,0 +1,127 @@
+-- Entries of containers in rows, as they are stored.
+use Rattle.std.specs.Prelude.{◌≡◌, ℕ, List, [], ◌∷◌, ◌++◌, map, flat_map, Option, Some, None, ⊤}
+use Rattle.std.specs.Map.{keys_of, values_of}
+use Rattle.jsonb_doc.specs.Tree.{Tree, no_trees, tree, text, array, object, elements, members, trees_of}
+use Rattle.jsonb_doc.specs.Payload.{Form, number_reader}
+use Rattle.jsonb_doc.specs.Format.{IsContent, AreEntries, BeginWith, text_entry}
+use Rattle.jsonb_doc.specs.ArrayBuilder.{HoldsElements}
+use Rattle.jsonb_doc.specs.Limits.{IsShort}
+use Rattle.jsonb_doc.specs.declared.error.Error.{Error}
+use Rattle.jsonb_doc.specs.declared.error.Error.TheVariants.{TooLarge}
+use Rattle.jsonb_raw.specs.Arrays.{as_elements}
+use Rattle.jsonb_raw.specs.declared.functions.parts.Entries.{Entries}
+use Rattle.jsonb_raw.specs.declared.functions.parts.LoneEntry.{LoneEntry}
+use Rattle.jsonb_raw.specs.declared.functions.parts.FirstEntry.{FirstEntry}
+use Rattle.jsonb_raw.specs.declared.functions.parts.PairEntries.{PairEntries}
+use Rattle.jsonb_raw.specs.declared.functions.parts.FirstPair.{FirstPair}
+use Rattle.jsonb_raw.specs.declared.functions.parts.PairRows.{PairRows}
+use Rattle.jsonb_raw.specs.declared.functions.parts.Elements.{Elements}
+use Rattle.jsonb_raw.specs.declared.functions.parts.Elements.TheVariants.{Row, Root}
+
+-- the words and the contents are those of these trees
+pub record HoldTrees (form : Form) (row : Entries) (ts : List Tree) : Type 0 where
+  pub entries : AreEntries (number_reader form) (trees_of ts) row.words.now row.contents.now
+
+-- the words of rows, one row behind the other, and their contents
+abbrev pub row_words : List Entries → List ℕ
+row_words rows = flat_map (λ row. row.words.now) rows
+
+abbrev pub row_contents : List Entries → List ℕ
+row_contents rows = flat_map (λ row. row.contents.now) rows
+
+-- all rows together hold these trees
+pub record RowsHold (form : Form) (rows : List Entries) (ts : List Tree) : Type 0 where
+  pub parts : HoldsElements form (record { words = row_words rows; contents = row_contents rows }) ts
+
+-- the entries of an array, none of another tree
+abbrev pub AreElementsOf : Form → Tree → Option Entries → Type 0
+AreElementsOf form (array ts) (Some row) = HoldTrees form row (elements ts)
+AreElementsOf form (array ts) None = ⊥
+AreElementsOf form _ (Some row) = ⊥
+AreElementsOf form _ None = ⊤
+
+-- ---- what a document adds to an array
+
+-- the entry is one of this tree
+pub record IsLoneEntry (form : Form) (entry : LoneEntry) (t : Tree) : Type 0 where
+  pub entries : AreEntries (number_reader form) (tree t no_trees) entry.word entry.content.now
+
+-- the entries are those of these trees
+abbrev pub HoldElements : Form → Elements → List Tree → Type 0
+HoldElements form (Row row) ts = HoldTrees form row ts
+HoldElements form (Root entry) ts = (t : Tree) × (ts ≡ t ∷ []) × IsLoneEntry form entry t
+
+-- the tree is too long for an entry
+abbrev pub IsTooLongRoot : Form → Tree → Error → Type 0
+IsTooLongRoot form t e = (e ≡ TooLarge) × (IsShort form t → ⊥)
+
+-- the same of a tree that is no array
+abbrev pub IsTooLongElement : Form → Tree → Error → Type 0
+IsTooLongElement form t e = IsTooLongRoot form t e × (as_elements t ≡ t ∷ [])
+
+-- ---- entries gone through one by one
+
+-- the row begins with an entry of this tree, of this kind and content, and these others follow
+pub record IsFirst (form : Form) (row : Entries) (t : Tree) (ts : List Tree) (kind : ℕ) (content : List ℕ) (others : Entries) : Type 0 where
+  pub part : IsContent (number_reader form) t kind content
+  pub begin : BeginWith row.words.now row.contents.now kind content others.words.now others.contents.now
+  pub others_hold : HoldTrees form others ts
+
+abbrev pub TakesFirst : Form → Entries → List Tree → Option FirstEntry → Type 0
+TakesFirst form row [] None = ⊤
+TakesFirst form row [] (Some first) = ⊥
+TakesFirst form row (t ∷ ts) None = ⊥
+TakesFirst form row (t ∷ ts) (Some first) = IsFirst form row t ts first.kind first.content.now first.others
+
+-- ---- pairs
+
+-- the entries are those of the keys of these pairs, and of their values
+pub record HoldPairs (form : Form) (row : PairEntries) (ps : List (List ℕ × Tree)) : Type 0 where
+  pub names : HoldTrees form row.keys (map text (keys_of ps))
+  pub parts : HoldTrees form row.values (values_of ps)
+
+-- the entries of an object's pairs, none of another tree
+abbrev pub ArePairsOf : Form → Tree → Option PairEntries → Type 0
+ArePairsOf form (object ps) (Some row) = HoldPairs form row (members ps)
+ArePairsOf form (object ps) None = ⊥
+ArePairsOf form _ (Some row) = ⊥
+ArePairsOf form _ None = ⊤
+
+-- the row begins with a pair, and the others follow
+pub record IsFirstPair (form : Form) (row : PairEntries) (p : List ℕ × Tree) (ps : List (List ℕ × Tree)) (first : FirstPair) : Type 0 where
+  pub key : first.key.now ≡ p.0
+  pub name : IsFirst form row.keys (text p.0) (map text (keys_of ps)) text_entry p.0 first.others.keys
+  pub kind : ℕ
+  pub content : List ℕ
+  pub value : IsFirst form row.values p.1 (values_of ps) kind content first.others.values
+
+abbrev pub TakesFirstPair : Form → PairEntries → List (List ℕ × Tree) → Option FirstPair → Type 0
+TakesFirstPair form row [] None = ⊤
+TakesFirstPair form row [] (Some first) = ⊥
+TakesFirstPair form row (p ∷ ps) None = ⊥
+TakesFirstPair form row (p ∷ ps) (Some first) = IsFirstPair form row p ps first
+
+-- ---- runs
+
+-- these words and contents were put behind those of the rows
+abbrev pub HasRowMore : List Entries → List ℕ → List ℕ → List Entries → Type 0
+HasRowMore before words contents after = (row_words after ≡ row_words before ++ words) × (row_contents after ≡ row_contents before ++ contents)
+
+-- The rows, and the run in front of what is left of it, hold the first of the trees; the others are left.
+pub record Holding (form : Form) (rows : List Entries) (run left : Entries) (xs ys : List Tree) : Type 0 where
+  pub run_words : List ℕ
+  pub run_contents : List ℕ
+  pub held : AreEntries (number_reader form) (trees_of xs) (row_words rows ++ run_words) (row_contents rows ++ run_contents)
+  pub words_joined : run.words.now ≡ run_words ++ left.words.now
+  pub contents_joined : run.contents.now ≡ run_contents ++ left.contents.now
+  pub left_hold : HoldTrees form left ys
+
+-- the rows hold these pairs
+pub record PairsHeld (form : Form) (rows : PairRows) (ps : List (List ℕ × Tree)) : Type 0 where
+  pub names : RowsHold form rows.keys.items (map text (keys_of ps))
+  pub parts : RowsHold form rows.values.items (values_of ps)
+
+-- the rows, and the run in front of what is left of it, hold the first of the pairs; the others are left
+pub record PairsOpen (form : Form) (rows : PairRows) (run left : PairEntries) (xs ys : List (List ℕ × Tree)) : Type 0 where
+  pub names : Holding form rows.keys.items run.keys left.keys (map text (keys_of xs)) (map text (keys_of ys))
+  pub parts : Holding form rows.values.items run.values left.values (values_of xs) (values_of ys)

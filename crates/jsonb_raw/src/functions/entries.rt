@@ -1,0 +1,165 @@
+//! Entries of containers in rows, as they are stored.
+
+ghost use Rattle.std.specs.Prelude.{◌≡◌, ◌^◌, ◌<◌, List, ◌++◌, length, take, drop, IsSomeAnd, IsOkAnd, IfErr};
+ghost use Rattle.jsonb_doc.specs.Tree.{Tree};
+ghost use Rattle.jsonb_doc.specs.Payload.{Form, number_reader};
+ghost use Rattle.jsonb_doc.specs.Format.{Decodes, IsContent, entry_word};
+ghost use Rattle.jsonb_doc.specs.Encoding.{EntryParts};
+ghost use Rattle.jsonb_doc.specs.Answer.{IsDecodingError};
+ghost use Rattle.jsonb_raw.specs.Private.Inserts.{AreBytesOf};
+ghost use Rattle.jsonb_raw.specs.Private.Rows.{HoldTrees, AreElementsOf};
+
+use crate::functions::entry_words::contents_len;
+use crate::functions::parts::{Elements, Entries, LoneEntry, RootEntry};
+use jsonb_doc::layout::{CONTAINER, LENGTHS, MAX_CONTENT, WORD};
+use jsonb_doc::{Container, Error, read_container};
+
+/// The entries of an array, and `None` where the root is none.
+pub fn element_entries(bytes: &[u8]) -> Result<Option<Entries<'_>>, Error>
+    ensures entries { (form : Form) (t : Tree) → Decodes form bytes.now t → IsOkAnd result (AreElementsOf form t) }
+    ensures errors { IfErr result IsDecodingError }
+{
+    match read_container(bytes)? {
+        Container::Array(parts) => Ok(Some(Entries {
+            words: parts.words,
+            contents: parts.contents,
+        })),
+        _ => Ok(None),
+    }
+}
+
+/// How many entries there are.
+pub fn entry_count(entries: Entries<'_>) -> usize
+    ensures { (form : Form) (ts : List Tree) → HoldTrees form entries.entry ts → result ≡ length ts }
+{
+    entries.words.len() / WORD
+}
+
+/// The first so many of the entries, and the others.
+pub fn split_entries(entries: Entries<'_>, count: usize) -> Option<(Entries<'_>, Entries<'_>)>
+    ensures split { (front back : List EntryParts) → AreBytesOf entries.entry (front ++ back) → count ≡ length front
+        → IsSomeAnd result (λ parts. AreBytesOf parts.0 front × AreBytesOf parts.1 back) }
+{
+    if count > entries.words.len() / WORD {
+        return None;
+    }
+    let (words, other_words) = entries.words.split_at(WORD * count);
+    let (contents, other_contents) = entries.contents.split_at_checked(contents_len(words))?;
+    let front = Entries { words, contents };
+    let back = Entries {
+        words: other_words,
+        contents: other_contents,
+    };
+    Some((front, back))
+}
+
+/// The first so many of the entries, or all of them, and the others.
+pub fn split_row(row: Entries<'_>, count: usize) -> Result<(Entries<'_>, Entries<'_>), Error>
+    ensures split { (form : Form) (ts : List Tree) → HoldTrees form row.entry ts
+        → IsOkAnd result (λ parts. HoldTrees form parts.0 (take count ts) × HoldTrees form parts.1 (drop count ts)) }
+    ensures errors { IfErr result IsDecodingError }
+{
+    match split_entries(row, count.min(entry_count(row))) {
+        Some(parts) => Ok(parts),
+        None => Err(Error::InvalidJsonb),
+    }
+}
+
+/// The entry that the root of a document becomes within another, as it is stored.
+pub fn root_entry(document: &[u8]) -> Result<RootEntry<'_>, Error>
+    ensures entry { (form : Form) (t : Tree) → Decodes form document.now t
+        → IsOkAnd result (λ entry. IsContent (number_reader form) t entry.kind entry.content.now) }
+    ensures errors { IfErr result IsDecodingError }
+{
+    match read_container(document)? {
+        Container::Scalar(entry) => {
+            entry.item()?;
+            Ok(RootEntry {
+                kind: entry.kind,
+                content: entry.content,
+            })
+        }
+        _ => Ok(RootEntry {
+            kind: CONTAINER,
+            content: document,
+        }),
+    }
+}
+
+/// The word of an entry.
+pub fn word_of(kind: u32, len: usize) -> [u8; WORD]
+    requires kind { kind < 8 }
+    requires len { len < 2 ^ 28 }
+    ensures { result ≡ entry_word kind len }
+{
+    (kind * LENGTHS + len as u32).to_be_bytes()
+}
+
+impl<'a> LoneEntry<'a> {
+    ghost use Rattle.std.specs.Prelude.{[], ◌∷◌, MatchResult};
+    ghost use Rattle.jsonb_doc.specs.Tree.{Tree};
+    ghost use Rattle.jsonb_doc.specs.Payload.{Form};
+    ghost use Rattle.jsonb_doc.specs.Format.{Decodes};
+    ghost use Rattle.jsonb_doc.specs.Answer.{IsDecodingError, ◌or◌};
+    ghost use Rattle.jsonb_doc.specs.declared.error.Error.TheVariants.{TooLarge};
+    ghost use Rattle.jsonb_raw.specs.Private.Rows.{HoldTrees, IsLoneEntry, IsTooLongRoot};
+
+    /// The root of a document as an element. Where it is too long for one, it is `TooLarge`.
+    pub fn of_root(document: &'a [u8]) -> Result<LoneEntry<'a>, Error>
+        ensures root { (form : Form) (t : Tree) → Decodes form document.now t
+            → MatchResult result (λ entry. IsLoneEntry form entry t) (IsTooLongRoot form t) }
+        ensures errors { IfErr result (IsDecodingError or TooLarge) }
+    {
+        let RootEntry { kind, content } = root_entry(document)?;
+        if content.len() > MAX_CONTENT {
+            return Err(Error::TooLarge);
+        }
+        Ok(LoneEntry {
+            word: word_of(kind, content.len()),
+            content,
+        })
+    }
+
+    /// The row of this one entry.
+    pub fn row(&self) -> Entries<'_>
+        ensures { (form : Form) (t : Tree) → IsLoneEntry form self.now t → HoldTrees form result (t ∷ []) }
+    {
+        Entries {
+            words: &self.word,
+            contents: self.content,
+        }
+    }
+}
+
+impl<'a> Elements<'a> {
+    ghost use Rattle.std.specs.Prelude.{List, MatchResult};
+    ghost use Rattle.jsonb_doc.specs.Tree.{Tree};
+    ghost use Rattle.jsonb_doc.specs.Payload.{Form};
+    ghost use Rattle.jsonb_doc.specs.Format.{Decodes};
+    ghost use Rattle.jsonb_doc.specs.Answer.{IsDecodingError, ◌or◌};
+    ghost use Rattle.jsonb_doc.specs.declared.error.Error.TheVariants.{TooLarge};
+    ghost use Rattle.jsonb_raw.specs.Arrays.{as_elements};
+    ghost use Rattle.jsonb_raw.specs.Private.Rows.{HoldTrees, HoldElements, IsTooLongElement};
+
+    /// The elements of a document. Where its root is no array and too long for an element, it is `TooLarge`.
+    pub fn of_document(document: &'a [u8]) -> Result<Elements<'a>, Error>
+        ensures elements { (form : Form) (t : Tree) → Decodes form document.now t
+            → MatchResult result (λ found. HoldElements form found (as_elements t)) (IsTooLongElement form t) }
+        ensures errors { IfErr result (IsDecodingError or TooLarge) }
+    {
+        match element_entries(document)? {
+            Some(row) => Ok(Elements::Row(row)),
+            None => Ok(Elements::Root(LoneEntry::of_root(document)?)),
+        }
+    }
+
+    /// The row of these entries.
+    pub fn row(&self) -> Entries<'_>
+        ensures { (form : Form) (ts : List Tree) → HoldElements form self.now ts → HoldTrees form result ts }
+    {
+        match self {
+            Elements::Row(row) => *row,
+            Elements::Root(entry) => entry.row(),
+        }
+    }
+}

@@ -1,0 +1,129 @@
+//! Rows of entries joined to containers. Each byte is copied once, as it is stored.
+
+ghost use Rattle.std.specs.Prelude.{◌≡◌, ℕ, ◌^◌, ◌<◌, ◌≤◌, ◌++◌, List, map, length, OnOk, IfOk, IfErr, MatchOption};
+ghost use Rattle.std.specs.Map.{keys_of, values_of};
+ghost use Rattle.jsonb_doc.specs.Tree.{Tree, text, array, object, trees_of, pairs_of};
+ghost use Rattle.jsonb_doc.specs.Payload.{Form};
+ghost use Rattle.jsonb_doc.specs.Format.{AreKeys, header};
+ghost use Rattle.jsonb_doc.specs.Answer.{IsOutOfMemory, ◌or◌};
+ghost use Rattle.jsonb_doc.specs.declared.error.Error.TheVariants.{TooLarge};
+ghost use Rattle.jsonb_raw.specs.Documents.{Makes};
+ghost use Rattle.jsonb_raw.specs.Private.Rows.{HoldTrees, RowsHold, row_words, row_contents};
+
+use crate::functions::parts::Entries;
+use crate::owned::OwnedJsonb;
+use jsonb_doc::Error;
+use jsonb_doc::layout::{ARRAY_HEADER, COUNTS, MAX_ENTRIES, OBJECT_HEADER, WORD};
+use std::alloc::{AllocError, Global};
+
+/// How long the words of all rows are, and `None` where they are more than a container may have.
+fn words_len(rows: &[Entries<'_>]) -> Option<usize>
+    ensures { MatchOption result (2 ^ 31 ≤ length (row_words rows.now))
+        (λ len. (len ≡ length (row_words rows.now)) × (len < 2 ^ 31)) }
+{
+    let mut len = 0;
+    for row in rows {
+        len += row.words.len();
+        if len / WORD > MAX_ENTRIES {
+            return None;
+        }
+    }
+    Some(len)
+}
+
+/// How many bytes all rows have, as far as that can be counted.
+fn rows_room(rows: &[Entries<'_>]) -> usize {
+    let mut room: usize = 0;
+    for row in rows {
+        room = room.saturating_add(row.words.len() + row.contents.len());
+    }
+    room
+}
+
+/// Puts the words of all rows at the end.
+fn push_words(document: &mut Vec<u8>, rows: &[Entries<'_>]) -> Result<(), AllocError>
+    ensures { OnOk result (document.new.items ≡ document.old.items ++ row_words rows.now) }
+{
+    for row in rows {
+        document.extend_from_slice(row.words)?;
+    }
+    Ok(())
+}
+
+/// Puts the contents of all rows at the end.
+fn push_contents(document: &mut Vec<u8>, rows: &[Entries<'_>]) -> Result<(), AllocError>
+    ensures { OnOk result (document.new.items ≡ document.old.items ++ row_contents rows.now) }
+{
+    for row in rows {
+        document.extend_from_slice(row.contents)?;
+    }
+    Ok(())
+}
+
+/// A container of this kind and count, of the entries of these rows and then of those.
+fn container_of(
+    alloc: Global,
+    kind: u32,
+    count: usize,
+    front: &[Entries<'_>],
+    back: &[Entries<'_>],
+) -> Result<OwnedJsonb, Error>
+    requires kind { kind < 8 }
+    requires count { count < 2 ^ 29 }
+    ensures container { IfOk result (λ made. made ≡ header kind count
+        ++ ((row_words front.now ++ row_words back.now) ++ (row_contents front.now ++ row_contents back.now))) }
+    ensures errors { IfErr result IsOutOfMemory }
+{
+    let room = rows_room(front)
+        .saturating_add(rows_room(back))
+        .saturating_add(WORD);
+    let mut document = Vec::with_capacity(alloc, room)?;
+    document.extend_from_slice(&(kind * COUNTS + count as u32).to_be_bytes())?;
+    push_words(&mut document, front)?;
+    push_words(&mut document, back)?;
+    push_contents(&mut document, front)?;
+    push_contents(&mut document, back)?;
+    Ok(OwnedJsonb::new(document))
+}
+
+/// The array of the entries of all rows.
+pub fn array_of(alloc: Global, rows: &[Entries<'_>]) -> Result<OwnedJsonb, Error>
+    ensures array { (form : Form) (ts : List Tree) → RowsHold form rows.now ts
+        → Makes form (array (trees_of ts)) result }
+    ensures errors { IfErr result (IsOutOfMemory or TooLarge) }
+{
+    let Some(len) = words_len(rows) else {
+        return Err(Error::TooLarge);
+    };
+    container_of(alloc, ARRAY_HEADER, len / WORD, rows, &[])
+}
+
+/// The object whose keys are the entries of the one rows, and its values those of the others.
+pub fn object_of(
+    alloc: Global,
+    keys: &[Entries<'_>],
+    values: &[Entries<'_>],
+) -> Result<OwnedJsonb, Error>
+    ensures object { (form : Form) (ps : List (List ℕ × Tree)) → AreKeys (keys_of ps)
+        → RowsHold form keys.now (map text (keys_of ps)) → RowsHold form values.now (values_of ps)
+        → Makes form (object (pairs_of ps)) result }
+    ensures errors { IfErr result (IsOutOfMemory or TooLarge) }
+{
+    let Some(len) = words_len(keys) else {
+        return Err(Error::TooLarge);
+    };
+    container_of(alloc, OBJECT_HEADER, len / WORD, keys, values)
+}
+
+/// The array of the entries of two rows.
+pub fn array_of_both<'a>(
+    alloc: Global,
+    front: Entries<'a>,
+    back: Entries<'a>,
+) -> Result<OwnedJsonb, Error>
+    ensures array { (form : Form) (xs ys : List Tree) → HoldTrees form front.entry xs → HoldTrees form back.entry ys
+        → Makes form (array (trees_of (xs ++ ys))) result }
+    ensures errors { IfErr result (IsOutOfMemory or TooLarge) }
+{
+    array_of(alloc, &[front, back])
+}
