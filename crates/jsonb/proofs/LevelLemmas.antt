@@ -1,8 +1,9 @@
 -- The items below an item, by its children.
-use Rattle.std.proofs.Common.{◌≡◌, ℕ, ◌+◌, true, false, List, [], ◌++◌, flat_map, Option, Some, None, refl, ap, ◌∙◌, append-nil, if◌then◌else◌}
+use Rattle.std.proofs.Common.{◌≡◌, ℕ, ◌+◌, Bool, not, ◌&&◌, true, false, List, [], ◌∷◌, ◌++◌, flat_map, Option, Some, None, refl, ap, ◌∙◌, append-nil, if◌then◌else◌}
 use Rattle.jsonb_doc.specs.Tree as tree
 use Rattle.jsonb_doc.specs.Tree.{Tree, Trees, Pairs, null, boolean, number, text, extension, array, object, no_trees, no_pairs, pair, elements, values, children_of}
 use Rattle.jsonb.specs.PathTree.{Levels}
+use Rattle.jsonb.specs.Private.Below.{is_shut}
 use Rattle.jsonb.specs.Preorder.{answer_at, own, preorder, preorder_elements, preorder_values}
 
 module _ (levels : Option Levels) where
@@ -36,3 +37,29 @@ module _ (levels : Option Levels) where
   preorder-left n (array us) h = ap (λ b. own levels n (array us) ++ (if b then preorder_elements levels (n + 1) us else [])) h ∙ append-nil _
   preorder-left n (object ps) h = ap (λ b. own levels n (object ps) ++ (if b then preorder_values levels (n + 1) ps else [])) h ∙ append-nil _
   preorder-left n _ h = refl
+
+  -- where the level below is shut
+  shut-item : (n : ℕ) (t : Tree) → is_shut levels n ≡ true → preorder levels n t ≡ []
+  shut-item n t h = go (answer_at levels n) refl h
+    where
+      go : (a : Bool × Bool) → answer_at levels n ≡ a → not a.0 && not a.1 ≡ true → preorder levels n t ≡ []
+      go (false, false) is h = preorder-left n t (ap (λ r. r.1) is) ∙ ap (λ r. if r.0 then t ∷ [] else []) is
+      go (true, b) is h = cc
+      go (false, true) is h = cc
+
+  shut-items : (n : ℕ) (ts : List Tree) → is_shut levels n ≡ true → flat_map (preorder levels n) ts ≡ []
+  shut-items n [] h = refl
+  shut-items n (t ∷ ts) h = ap (λ l. l ++ flat_map (preorder levels n) ts) (shut-item n t h) ∙ shut-items n ts h
+
+  nothing : (b : Bool) (mine below : List Tree) → below ≡ [] → mine ++ (if b then below else []) ≡ mine
+  nothing true mine below h = ap (λ l. mine ++ l) h ∙ append-nil mine
+  nothing false mine below h = append-nil mine
+
+  pub preorder-shut : (n : ℕ) (t : Tree) → is_shut levels (n + 1) ≡ true → preorder levels n t ≡ own levels n t
+  preorder-shut n (array us) h =
+      nothing (answer_at levels n).1 (own levels n (array us)) (preorder_elements levels (n + 1) us)
+      (elements-is (n + 1) us ∙ shut-items (n + 1) (elements us) h)
+  preorder-shut n (object ps) h =
+      nothing (answer_at levels n).1 (own levels n (object ps)) (preorder_values levels (n + 1) ps)
+      (values-is (n + 1) ps ∙ shut-items (n + 1) (elements (values ps)) h)
+  preorder-shut n _ h = refl

@@ -12,13 +12,16 @@ pub mod GrammarShape
 pub mod PathLaw
 pub mod Bounds
 pub mod ExpressionReadsSome
+pub mod FrameLemmas
 pub mod SelectedParts
 pub mod Progress
 pub mod ItemKinds
 pub mod PickLemmas
 pub mod LevelLemmas
+pub mod BelowLemmas
 pub mod PathNodes
 pub mod StepLemmas
+pub mod KeptLemmas
 pub mod CalculateLemmas
 pub mod ReadMeans
 -- lemmas of the crates below, for the crates above

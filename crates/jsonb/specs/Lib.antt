@@ -22,6 +22,7 @@ pub mod PathDocuments
 pub use Rattle.jsonb_doc.specs.declared.error.Error
 pub use Rattle.jsonb_doc.specs.ErrorText
 pub use Rattle.jsonb_doc.specs.Tree
+pub use Rattle.jsonb_doc.specs.Depth
 pub use Rattle.jsonb_doc.specs.Payload
 pub use Rattle.jsonb_doc.specs.Format
 pub use Rattle.jsonb_doc.specs.Limits
@@ -35,7 +36,6 @@ pub use Rattle.jsonb_keypath.specs.KeyPathText
 pub use Rattle.jsonb_keypath.specs.KeyPathViews
 pub use Rattle.jsonb_raw.specs.declared.owned.OwnedJsonb
 pub use Rattle.jsonb_raw.specs.Documents
-pub use Rattle.jsonb_raw.specs.Depth
 pub use Rattle.jsonb_raw.specs.Leaves
 pub use Rattle.jsonb_raw.specs.LeafViews
 pub use Rattle.jsonb_raw.specs.Places

@@ -1,3 +1,6 @@
 -- What the contracts of private functions say beyond the words of the others. No public clause cites these.
 pub mod Selection
 pub mod Selected
+pub mod Kept
+pub mod Below
+pub mod Frames

@@ -16,23 +16,31 @@
 //! - `to` and `last` are read in any case of letters. White space may stand between the parts of a
 //!   step in brackets, and around steps, operands and operators, but not behind `.` and `:`.
 
-ghost use Rattle.std.specs.Prelude.{◌≡◌, ◌⊎◌, Some, None, IfOk, MatchResult};
+ghost use Rattle.std.specs.Prelude.{◌≡◌, ◌⊎◌, true, ◌++◌, [], ◌∷◌, Some, None, IfOk, MatchResult};
 ghost use Rattle.jsonb_doc.specs.declared.error.Error.TheVariants.{OutOfMemory, InvalidJsonPath};
-ghost use Rattle.jsonb.specs.PathGrammar.{root_expression, first_step, front_steps, path_step, plain_path, json_path};
+ghost use Rattle.jsonb.specs.PathTree.{binary, paths, steps_of, whole_expression};
+ghost use Rattle.jsonb.specs.PathGrammar.{root_expression, first_step, front_steps, path_step, plain_path, json_path, expression};
+ghost use Rattle.jsonb.specs.Private.Frames.{filter_step, IsFront};
+ghost use Rattle.jsonb_keypath.specs.Rules.{◌</>◌, parsed_map, repeat};
 ghost use Rattle.jsonb_keypath.specs.Views.{read_as, LeavesLess};
-ghost use Rattle.jsonb.specs.PathViews.{step_view, steps_view, path_view};
+ghost use Rattle.jsonb.specs.PathViews.{operator_view, step_view, steps_view, expression_view, path_view};
 ghost use Rattle.jsonb_doc.specs.Answer.{IsOutOfMemory, ◌or◌when◌};
 
-use self::expression::{expression_at, path_at};
+use self::expression::{expression_at, expression_from};
+use self::inner_path::spaced_inner_at;
+use self::opening::{Opening, filter_inside, filter_of, opening_at};
+use self::operand::{operand_steps_at, operation_at};
 use self::token::name_at;
-use crate::path::{JsonPath, Path};
+use crate::path::{BinaryOperator, Expr, JsonPath, Path};
 use jsonb_doc::Error;
 use jsonb_keypath::token::{literal, skip_space};
 use std::alloc::{AllocError, Global};
 
+mod condition;
 mod expression;
 mod index;
 mod inner_path;
+mod opening;
 mod operand;
 mod token;
 
@@ -42,8 +50,8 @@ type Reading<'a, T> = Result<Option<(T, &'a [u8])>, AllocError>;
 
 /// Reads a whole text, of any bytes, as a JSON path.
 ///
-/// A name without escapes borrows from the text. Reading takes time in proportion to the text's length, and
-/// parentheses may stand within one another as deep as the stack has room for.
+/// A name without escapes borrows from the text. Reading takes time in proportion to the text's length. What is open
+/// while an expression is read lies in memory, so that a deep text takes no more stack than a flat one.
 ///
 /// # Errors
 ///
@@ -55,35 +63,87 @@ pub fn parse_json_path(alloc: Global, input: &[u8]) -> Result<JsonPath<'_>, Erro
         (λ found. json_path input.now ≡ Some (path_view found))
         (IsOutOfMemory or InvalidJsonPath when (json_path input.now ≡ None)) }
 {
-    let start = skip_space(input);
-    let (paths, rest) = match root_expression_at(alloc, start)? {
-        Some(found) => found,
-        None => plain_path_at(alloc, start)?,
-    };
+    let (paths, rest) = steps_at(alloc, skip_space(input))?;
     if !skip_space(rest).is_empty() {
         return Err(Error::InvalidJsonPath);
     }
     Ok(JsonPath { paths })
 }
 
-#[tactic(auto, unfolding(crate::specs::PathGrammar::root_expression))]
-fn root_expression_at(alloc: Global, input: &[u8]) -> Reading<'_, Vec<Path<'_>>>
-    ensures { IfOk result (λ found.
-        read_as (λ steps. steps_view steps.items) found ≡ root_expression input.now) }
+// How a path begins: with the first atom of an expression, or with steps behind which no operator stands.
+enum Front<'a> {
+    Atom(Opening<'a>),
+    Steps(Vec<Path<'a>>, &'a [u8]),
+}
+
+// An expression, or else a list of steps. Steps at the front are read once, whichever of the two they begin.
+fn steps_at(alloc: Global, input: &[u8]) -> Result<(Vec<Path<'_>>, &[u8]), AllocError>
+    ensures { IfOk result (λ p. Some (steps_view p.0.items, p.1.now) ≡ (root_expression </> plain_path) input.now) }
 {
-    let Some((found, rest)) = expression_at(alloc, skip_space(input))? else {
-        return Ok(None);
+    match front_at(alloc, input)? {
+        Front::Steps(steps, rest) => more_steps_at(alloc, steps, rest),
+        Front::Atom(first) => match expression_from(alloc, false, first)? {
+            Some((found, rest)) => Ok((one_step(alloc, found)?, skip_space(rest))),
+            None => plain_path_at(alloc, input),
+        },
+    }
+}
+
+fn front_at(alloc: Global, input: &[u8]) -> Result<Front<'_>, AllocError>
+    ensures { IfOk result (IsFront input.now) }
+{
+    let Some((steps, rest)) = operand_steps_at(alloc, false, input)? else {
+        let first = opening_at(alloc, false, skip_space(input))?;
+        return Ok(Front::Atom(first));
     };
+    let Some((operation, after)) = operation_at(alloc, false, skip_space(rest))? else {
+        return Ok(Front::Steps(steps, rest));
+    };
+    let found = operation_of(alloc, steps, operation)?;
+    Ok(Front::Atom(Opening::Atom(found, after)))
+}
+
+fn operation_of<'a>(
+    alloc: Global,
+    steps: Vec<Path<'a>>,
+    operation: (BinaryOperator, Expr<'a>),
+) -> Result<Expr<'a>, AllocError>
+    ensures { IfOk result (λ found. expression_view found ≡ binary (operator_view operation.entry.0)
+        (paths (steps_of (steps_view steps.entry.items))) (expression_view operation.entry.1)) }
+{
+    let (op, second) = operation;
+    let left = Box::new(alloc, Expr::Paths(steps))?;
+    let right = Box::new(alloc, second)?;
+    Ok(Expr::BinaryOp { op, left, right })
+}
+
+// A path that is one expression.
+fn one_step(alloc: Global, found: Expr<'_>) -> Result<Vec<Path<'_>>, AllocError>
+    ensures { IfOk result (λ steps. steps_view steps.items ≡ whole_expression (expression_view found.entry) ∷ []) }
+{
     let mut steps = Vec::new(alloc);
     let whole = Box::new(alloc, found)?;
     steps.push(Path::Expr(whole))?;
-    Ok(Some((steps, skip_space(rest))))
+    Ok(steps)
 }
 
 fn plain_path_at(alloc: Global, input: &[u8]) -> Result<(Vec<Path<'_>>, &[u8]), AllocError>
     ensures { IfOk result (λ p. Some (steps_view p.0.items, p.1.now) ≡ plain_path input.now) }
 {
-    let (mut steps, mut rest) = front_steps_at(alloc, input)?;
+    let (steps, rest) = front_steps_at(alloc, input)?;
+    more_steps_at(alloc, steps, rest)
+}
+
+// The steps from here on, behind these.
+fn more_steps_at<'a>(
+    alloc: Global,
+    mut steps: Vec<Path<'a>>,
+    input: &'a [u8],
+) -> Result<(Vec<Path<'a>>, &'a [u8]), AllocError>
+    ensures { IfOk result (λ p. Some (steps_view p.0.items, p.1.now) ≡
+        parsed_map (λ others. steps_view steps.entry.items ++ others) (repeat path_step input.now)) }
+{
+    let mut rest = input;
     while let Some((next, after)) = path_step_at(alloc, rest)? {
         steps.push(next)?;
         rest = after;
@@ -118,10 +178,30 @@ fn first_step_at(alloc: Global, input: &[u8]) -> Reading<'_, Path<'_>>
     }
 }
 
-#[tactic(auto, unfolding(crate::specs::PathGrammar::path_step))]
+// One step: a plain one, or a filter.
 fn path_step_at(alloc: Global, input: &[u8]) -> Reading<'_, Path<'_>>
     ensures value { IfOk result (λ found. read_as step_view found ≡ path_step input.now) }
     ensures shrinks { IfOk result (LeavesLess input.now) }
 {
-    path_at(alloc, input)
+    match spaced_inner_at(alloc, input)? {
+        Some(found) => Ok(Some(found)),
+        None => match filter_inside(input) {
+            Some(inside) => filter_at(alloc, inside),
+            None => Ok(None),
+        },
+    }
+}
+
+// A filter as a step, from behind its front on.
+fn filter_at(alloc: Global, inside: &[u8]) -> Reading<'_, Path<'_>>
+    ensures value { IfOk result (λ found. read_as step_view found ≡ filter_step (expression true inside.now)) }
+    ensures shrinks { IfOk result (LeavesLess inside.now) }
+{
+    let Some((found, rest)) = expression_at(alloc, true, inside)? else {
+        return Ok(None);
+    };
+    match literal(b")", skip_space(rest)) {
+        Some(end) => Ok(Some((filter_of(alloc, found)?, skip_space(end)))),
+        None => Ok(None),
+    }
 }

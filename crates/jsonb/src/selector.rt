@@ -19,6 +19,7 @@ mod calculate;
 mod children;
 mod document;
 mod documents;
+mod kept;
 mod levels;
 mod node_list;
 mod selected;
@@ -40,6 +41,9 @@ use std::alloc::Global;
 ///
 /// Each call executes the whole path, but `predicate_match` a path that is no single expression. What it answers
 /// depends on the root, the mode and the path alone, so that a selector may be used again after any refusal.
+///
+/// Every call returns, whatever the root's bytes are. On bytes that don't decode it may answer all the same, also
+/// with documents that don't decode: ask `check` first of bytes from strangers.
 #[derive(Drop)]
 pub struct Selector<'a> {
     alloc: Global,

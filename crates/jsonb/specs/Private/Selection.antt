@@ -82,6 +82,14 @@ abbrev pub taken_step : Expressions → Step → Step
 taken_step all (whole_expression e) = taken_as all e
 taken_step all s = s
 
+abbrev pub is_filter : Step → Bool
+is_filter (filter e) = true
+is_filter s = false
+
+-- a step that is no filter, and is what it is taken as
+abbrev pub IsPlain : Expressions → Step → Type 0
+IsPlain all s = (is_filter s ≡ false) × (taken_step all s ≡ s)
+
 -- the expression of a step, and the one that is the whole path
 abbrev pub step_expression : Step → Option Expression
 step_expression (whole_expression e) = Some e

@@ -1,16 +1,17 @@
 //! Steps that hold no expression.
 
-ghost use Rattle.std.specs.Prelude.{◌≡◌, IfOk};
-ghost use Rattle.jsonb.specs.PathGrammar.{levels, wildcard, named_field, bracket_field, inner, spaced_inner};
+ghost use Rattle.std.specs.Prelude.{◌≡◌, ◌≤◌, ◌++◌, length, Some, None, IfOk};
+ghost use Rattle.jsonb_keypath.specs.Rules.{parsed_map, repeat};
+ghost use Rattle.jsonb.specs.PathGrammar.{levels, wildcard, named_field, bracket_field, inner, spaced_inner, path_step};
 ghost use Rattle.jsonb_keypath.specs.Views.{read_as, LeavesLess};
-ghost use Rattle.jsonb.specs.PathViews.{levels_view, step_view};
+ghost use Rattle.jsonb.specs.PathViews.{levels_view, step_view, steps_view};
 
 use super::Reading;
 use super::index::entries_at;
 use super::token::{field_at, quoted_at, word_at};
 use crate::path::{Path, RecursiveLevel, RecursiveLevelEnd};
 use jsonb_keypath::token::{literal, nat8, skip_space};
-use std::alloc::Global;
+use std::alloc::{AllocError, Global};
 
 #[tactic(auto, unfolding(crate::specs::PathGrammar::levels))]
 fn levels_at(input: &[u8]) -> Option<(RecursiveLevel, &[u8])>
@@ -120,4 +121,26 @@ pub(super) fn spaced_inner_at(alloc: Global, input: &[u8]) -> Reading<'_, Path<'
         Some((path, rest)) => Ok(Some((path, skip_space(rest)))),
         None => Ok(None),
     }
+}
+
+/// The steps from here on, behind these.
+pub(super) fn inner_steps_at<'a>(
+    alloc: Global,
+    mut steps: Vec<Path<'a>>,
+    input: &'a [u8],
+) -> Result<(Vec<Path<'a>>, &'a [u8]), AllocError>
+    ensures value { IfOk result (λ p. Some (steps_view p.0.items, p.1.now) ≡
+        parsed_map (λ others. steps_view steps.entry.items ++ others) (repeat spaced_inner input.now)) }
+    ensures no_more { IfOk result (λ p. spaced_inner p.1.now ≡ None) }
+    ensures behind { IfOk result (λ p.
+        parsed_map (λ others. steps_view p.0.items ++ others) (repeat path_step p.1.now) ≡
+        parsed_map (λ others. steps_view steps.entry.items ++ others) (repeat path_step input.now)) }
+    ensures shrinks { IfOk result (λ p. length p.1.now ≤ length input.now) }
+{
+    let mut rest = input;
+    while let Some((next, after)) = spaced_inner_at(alloc, rest)? {
+        steps.push(next)?;
+        rest = after;
+    }
+    Ok((steps, rest))
 }

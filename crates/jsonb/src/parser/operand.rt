@@ -1,12 +1,14 @@
 //! Operands, and the operations on them.
 
-ghost use Rattle.std.specs.Prelude.{◌≡◌, IfOk};
-ghost use Rattle.jsonb.specs.PathGrammar.{path_root, literal_value, operand_steps, operand, spaced_operand, operator, arithmetic_operator, unary_operator, unary_atom, binary_atom};
+ghost use Rattle.std.specs.Prelude.{◌≡◌, ◌++◌, false, IfOk, IfSome};
+ghost use Rattle.jsonb_keypath.specs.Rules.{parsed_map, repeat};
+ghost use Rattle.jsonb.specs.PathGrammar.{path_root, literal_value, operand_steps, operand, spaced_operand, operator, arithmetic_operator, unary_operator, unary_atom, binary_atom, path_step, plain_path};
+ghost use Rattle.jsonb.specs.Private.Frames.{operation};
 ghost use Rattle.jsonb_keypath.specs.Views.{read_as, LeavesLess};
 ghost use Rattle.jsonb.specs.PathViews.{literal_view, operator_view, sign_view, step_view, steps_view, expression_view};
 
 use super::Reading;
-use super::inner_path::spaced_inner_at;
+use super::inner_path::inner_steps_at;
 use super::token::quoted_at;
 use crate::path::{BinaryOperator, Expr, Path, PathValue, UnaryOperator};
 use jsonb_doc::Number;
@@ -126,20 +128,23 @@ pub(super) fn path_root_at(is_in_filter: bool, input: &[u8]) -> Option<(Path<'_>
 }
 
 // The first step and the steps behind it.
-fn operand_steps_at(alloc: Global, is_in_filter: bool, input: &[u8]) -> Reading<'_, Vec<Path<'_>>>
+pub(super) fn operand_steps_at(
+    alloc: Global,
+    is_in_filter: bool,
+    input: &[u8],
+) -> Reading<'_, Vec<Path<'_>>>
     ensures value { IfOk result (λ found.
         read_as (λ steps. steps_view steps.items) found ≡ operand_steps is_in_filter input.now) }
+    ensures goes_on { IfOk result (λ found. is_in_filter ≡ false → IfSome found (λ p.
+        parsed_map (λ others. steps_view p.0.items ++ others) (repeat path_step p.1.now) ≡ plain_path input.now)) }
     ensures shrinks { IfOk result (LeavesLess input.now) }
 {
-    let Some((first, mut rest)) = path_root_at(is_in_filter, input) else {
+    let Some((first, rest)) = path_root_at(is_in_filter, input) else {
         return Ok(None);
     };
     let mut steps = Vec::new(alloc);
     steps.push(first)?;
-    while let Some((next, after)) = spaced_inner_at(alloc, rest)? {
-        steps.push(next)?;
-        rest = after;
-    }
+    let (steps, rest) = inner_steps_at(alloc, steps, rest)?;
     Ok(Some((steps, rest)))
 }
 
@@ -189,7 +194,7 @@ pub(super) fn unary_atom_at(
     Ok(Some((Expr::UnaryOp { op, operand }, rest)))
 }
 
-#[tactic(auto, unfolding(crate::specs::PathGrammar::binary_atom))]
+#[tactic(auto, unfolding(crate::specs::PathGrammar::binary_atom, crate::specs::Private::Frames::operation))]
 pub(super) fn binary_atom_at(
     alloc: Global,
     is_in_filter: bool,
@@ -202,13 +207,30 @@ pub(super) fn binary_atom_at(
     let Some((first, rest)) = spaced_operand_at(alloc, is_in_filter, input)? else {
         return Ok(None);
     };
-    let Some((op, rest)) = operator_at(rest) else {
-        return Ok(None);
-    };
-    let Some((second, rest)) = spaced_operand_at(alloc, is_in_filter, rest)? else {
+    let Some(((op, second), rest)) = operation_at(alloc, is_in_filter, rest)? else {
         return Ok(None);
     };
     let left = Box::new(alloc, first)?;
     let right = Box::new(alloc, second)?;
     Ok(Some((Expr::BinaryOp { op, left, right }, rest)))
+}
+
+/// An operator, and the operand behind it.
+#[tactic(auto, unfolding(crate::specs::Private::Frames::operation))]
+pub(super) fn operation_at(
+    alloc: Global,
+    is_in_filter: bool,
+    input: &[u8],
+) -> Reading<'_, (BinaryOperator, Expr<'_>)>
+    ensures value { IfOk result (λ found.
+        read_as (λ p. (operator_view p.0, expression_view p.1)) found ≡ operation is_in_filter input.now) }
+    ensures shrinks { IfOk result (LeavesLess input.now) }
+{
+    let Some((op, rest)) = operator_at(input) else {
+        return Ok(None);
+    };
+    match spaced_operand_at(alloc, is_in_filter, rest)? {
+        Some((second, rest)) => Ok(Some(((op, second), rest))),
+        None => Ok(None),
+    }
 }

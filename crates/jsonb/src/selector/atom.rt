@@ -33,6 +33,7 @@ pub(crate) enum Atoms<'a> {
 }
 
 impl<'a> Atoms<'a> {
+    #[inline(always)]
     pub(crate) fn at_most_one(alloc: Global, value: Option<Atom<'a>>) -> Atoms<'a>
         ensures { atoms_view result ≡ option_atoms value.entry }
     {
@@ -42,6 +43,7 @@ impl<'a> Atoms<'a> {
         }
     }
 
+    #[inline(always)]
     pub(crate) fn as_slice(&self) -> &[Atom<'a>]
         ensures { map atom_value result.now ≡ atoms_view self.now }
     {
@@ -53,6 +55,7 @@ impl<'a> Atoms<'a> {
 }
 
 /// The value of an item that is no array, and of an element. An extension has none.
+#[inline(always)]
 pub(crate) fn item_atom<'a>(item: Item<'a>) -> Option<Atom<'a>>
     ensures { (t : Tree) → StandsFor any item.entry t → option_atoms result ≡ value_of_item t }
 {
@@ -115,6 +118,7 @@ pub(crate) fn compare(op: BinaryOperator, ls: &[Atom<'_>], rs: &[Atom<'_>]) -> O
 }
 
 // Of one pair: with a container it is unknown.
+#[inline(always)]
 fn pair_truth(op: BinaryOperator, l: &Atom<'_>, r: &Atom<'_>) -> Option<bool>
     ensures { result ≡ pair_truth (operator_view op) (atom_value l.now) (atom_value r.now) }
 {
@@ -137,6 +141,7 @@ fn starts_with_truth(l: &Atom<'_>, r: &Atom<'_>) -> Option<bool>
     }
 }
 
+#[inline(always)]
 fn is_raw(value: &Atom<'_>) -> bool
     ensures { result ≡ is_raw (atom_value value.now) }
 {
@@ -147,6 +152,7 @@ fn is_raw(value: &Atom<'_>) -> bool
 }
 
 // The order of two values of one kind.
+#[inline(always)]
 fn value_order(l: &Atom<'_>, r: &Atom<'_>) -> Option<Ordering>
     ensures { result ≡ value_order (atom_value l.now) (atom_value r.now) }
 {
@@ -160,6 +166,7 @@ fn value_order(l: &Atom<'_>, r: &Atom<'_>) -> Option<Ordering>
 }
 
 // Atoms of two kinds differ, and else nothing is known of them.
+#[inline(always)]
 fn truth_of_order(op: BinaryOperator, order: Option<Ordering>) -> Option<bool>
     ensures { result ≡ truth_of_order (operator_view op) order }
 {
@@ -171,6 +178,7 @@ fn truth_of_order(op: BinaryOperator, order: Option<Ordering>) -> Option<bool>
 }
 
 // Whether the operator holds of two values in this order.
+#[inline(always)]
 fn is_met_by(op: BinaryOperator, order: Ordering) -> bool
     ensures { result ≡ is_met_by (operator_view op) order }
 {

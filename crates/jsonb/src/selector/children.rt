@@ -30,6 +30,7 @@ pub(crate) fn elements<'a>(bytes: &'a [u8], item: Spot) -> Result<Option<SpotIte
 }
 
 /// The elements of an array that was read at this place. `None` is for another item.
+#[inline(always)]
 pub(crate) fn array_elements<'a>(
     bytes: &'a [u8],
     spot: Spot,
@@ -58,6 +59,7 @@ pub(crate) fn values<'a>(bytes: &'a [u8], item: Spot) -> Result<Option<SpotIter<
 }
 
 /// One more place.
+#[inline(always)]
 pub(crate) fn push_spot(nodes: &mut Vec<Spot>, spot: Spot) -> Result<(), Error>
     ensures ok { OnOk result (nodes.new.items ≡ nodes.old.items ++ spot ∷ []) }
     ensures err { IfErr result IsOutOfMemory }
@@ -67,6 +69,7 @@ pub(crate) fn push_spot(nodes: &mut Vec<Spot>, spot: Spot) -> Result<(), Error>
 }
 
 /// One more place, where the condition holds.
+#[inline(always)]
 pub(crate) fn push_if(condition: bool, spot: Spot, nodes: &mut Vec<Spot>) -> Result<(), Error>
     ensures meant { (bytes : List ℕ) (t : Tree) (before : List Tree) → Locates bytes spot t
         → AllRelated (Locates bytes) nodes.old.items before
@@ -95,6 +98,7 @@ pub(crate) fn push_spots(spots: SpotIter<'_>, nodes: &mut Vec<Spot>) -> Result<(
 }
 
 /// The value under a key of an object.
+#[inline(always)]
 pub(crate) fn field(
     alloc: Global,
     bytes: &[u8],
@@ -117,6 +121,7 @@ pub(crate) fn field(
 }
 
 /// The value under a key of an object, behind what the nodes has.
+#[inline(always)]
 pub(crate) fn push_field(
     bytes: &[u8],
     mode: Mode,

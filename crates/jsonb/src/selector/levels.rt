@@ -1,21 +1,31 @@
 //! The items below an item, level by level.
 
-ghost use Rattle.std.specs.Prelude.{◌≡◌, ℕ, ◌++◌, ◌+◌, min, List, Ok, Option, option_map, IfErr};
+ghost use Rattle.std.specs.Prelude.{◌≡◌, ℕ, ◌<◌, ◌^◌, ◌++◌, ◌+◌, min, List, Ok, Option, option_map, IfOk, IfErr, IfSome, MatchResult};
 ghost use Rattle.jsonb_doc.specs.Answer.{Gives, IsOutOfMemory, IsDecodingError, ◌or◌};
 ghost use Rattle.jsonb_doc.specs.declared.error.Error.TheVariants.{OutOfMemory};
-ghost use Rattle.jsonb_doc.specs.Spots.{Locates};
+ghost use Rattle.jsonb_doc.specs.Spots.{Locates, spot_size, spots_room, spots_bound};
 ghost use Rattle.jsonb_doc.specs.Tree.{Tree};
 ghost use Rattle.jsonb.specs.PathViews.{levels_view};
 ghost use Rattle.jsonb.specs.Related.{AllRelated};
-ghost use Rattle.jsonb.specs.Preorder.{answer_at, preorder};
+ghost use Rattle.jsonb.specs.Preorder.{answer_at, own, preorder};
+ghost use Rattle.jsonb.specs.Private.Below.{AreBelow, is_shut};
 
 use super::children::push_if;
 use crate::path::RecursiveLevel;
-use jsonb_doc::{Error, Spot, child_spots};
+use jsonb_doc::{Error, Spot, SpotIter, child_spots};
+use std::alloc::Global;
+
+/// The children that are left of a container, and their level.
+#[derive(Clone, Copy)]
+pub(crate) struct OpenLevel<'a> {
+    children: SpotIter<'a>,
+    level: u16,
+}
 
 /// The items from this one down, each before its children, behind what the nodes has. A level past 255,
-/// which no range names, counts as 256.
+/// which no range names, counts as 256. What is left of the containers that the walk is within lies in a `Vec`.
 pub(crate) fn push_levels(
+    alloc: Global,
     bytes: &[u8],
     levels: Option<RecursiveLevel>,
     level: u16,
@@ -28,22 +38,65 @@ pub(crate) fn push_levels(
         IsOutOfMemory result (Ok (preorder (option_map levels_view levels) n t)) }
     ensures errors { IfErr result (IsDecodingError or OutOfMemory) }
 {
+    let Some(below) = push_item(bytes, levels, level, item, nodes)? else {
+        return Ok(());
+    };
+    let mut within = below;
+    let mut around = Vec::new(alloc);
+    'walk: loop {
+        match within.children.next() {
+            Some(child) => {
+                if let Some(inner) = push_item(bytes, levels, within.level, child?, nodes)? {
+                    around.push(within)?;
+                    within = inner;
+                }
+            }
+            None => match around.pop() {
+                Some(outer) => within = outer,
+                None => return Ok(()),
+            },
+        }
+    }
+}
+
+/// An item where its level is taken, behind what the nodes has, and its children where they are looked at.
+#[inline(always)]
+fn push_item<'a>(
+    bytes: &'a [u8],
+    levels: Option<RecursiveLevel>,
+    level: u16,
+    item: Spot,
+    nodes: &mut Vec<Spot>,
+) -> Result<Option<OpenLevel<'a>>, Error>
+    ensures meant { (t : Tree) (n : ℕ) (before : List Tree) → level ≡ min n 256 → Locates bytes.now item t
+        → AllRelated (Locates bytes.now) nodes.old.items before
+        → MatchResult result (λ below.
+        AllRelated (Locates bytes.now) nodes.new.items (before ++ own (option_map levels_view levels) n t)
+        × AreBelow bytes.now (option_map levels_view levels) n t below) IsOutOfMemory }
+    ensures room { IfOk result (λ below. IfSome below (λ within. spots_room within.children < spot_size item)) }
+    ensures bound { IfOk result (λ below. IfSome below (λ within. spots_bound within.children < 2 ^ 64)) }
+    ensures errors { IfErr result (IsDecodingError or OutOfMemory) }
+{
     let (is_taken, goes_on) = answer_at(levels, level);
     push_if(is_taken, item, nodes)?;
     if !goes_on {
-        return Ok(());
+        return Ok(None);
     }
-    let Some(children) = child_spots(bytes, item)? else {
-        return Ok(());
-    };
-    let next = next_level(level);
-    for child in children {
-        push_levels(bytes, levels, next, child?, nodes)?;
+    let below = next_level(level);
+    if is_shut(levels, below) {
+        return Ok(None);
     }
-    Ok(())
+    match child_spots(bytes, item)? {
+        Some(children) => Ok(Some(OpenLevel {
+            children,
+            level: below,
+        })),
+        None => Ok(None),
+    }
 }
 
 // Whether an item of this level is taken, and whether its children are looked at. Without levels all are.
+#[inline(always)]
 fn answer_at(levels: Option<RecursiveLevel>, level: u16) -> (bool, bool)
     ensures { (n : ℕ) → level ≡ min n 256 → result ≡ answer_at (option_map levels_view levels) n }
 {
@@ -53,7 +106,17 @@ fn answer_at(levels: Option<RecursiveLevel>, level: u16) -> (bool, bool)
     }
 }
 
+// Whether nothing of this level and of those below it is taken.
+#[inline(always)]
+fn is_shut(levels: Option<RecursiveLevel>, level: u16) -> bool
+    ensures { (n : ℕ) → level ≡ min n 256 → result ≡ is_shut (option_map levels_view levels) n }
+{
+    let (is_taken, goes_on) = answer_at(levels, level);
+    !is_taken && !goes_on
+}
+
 // The level below.
+#[inline(always)]
 fn next_level(level: u16) -> u16
     ensures { (n : ℕ) → level ≡ min n 256 → result ≡ min (n + 1) 256 }
 {

@@ -15,6 +15,7 @@ pub(crate) enum NodeList {
 }
 
 impl NodeList {
+    #[inline(always)]
     pub(crate) fn at_most_one(alloc: Global, spot: Option<Spot>) -> NodeList
         ensures { node_spots result ≡ option_spots spot }
     {
@@ -24,6 +25,7 @@ impl NodeList {
         }
     }
 
+    #[inline(always)]
     pub(crate) fn as_slice(&self) -> &[Spot]
         ensures { result.now ≡ node_spots self.now }
     {

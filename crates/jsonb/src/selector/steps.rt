@@ -1,14 +1,17 @@
 //! The steps of a path, one after the other, and the filters in them.
 
-ghost use Rattle.std.specs.Prelude.{◌≡◌, ◌++◌, ◌∷◌, [], List, map, IfErr};
+ghost use Rattle.std.specs.Prelude.{◌≡◌, ◌<◌, ◌++◌, ◌∷◌, [], List, map, true, false, ⊤, IfErr, OnOk, MatchOption};
 ghost use Rattle.jsonb_doc.specs.Answer.{Gives, try_flat_map, and_then, IsOutOfMemory};
 ghost use Rattle.jsonb_doc.specs.Spots.{Locates};
 ghost use Rattle.jsonb_doc.specs.Tree.{Tree};
-ghost use Rattle.jsonb.specs.PathTree.{steps_of, filter};
+ghost use Rattle.jsonb.specs.PathTree.{Expression, steps_of, filter};
 ghost use Rattle.jsonb.specs.PathViews.{step_view, steps_view, expression_view};
 ghost use Rattle.jsonb.specs.Related.{AllRelated};
-ghost use Rattle.jsonb.specs.Meaning.{step_meaning, steps_meaning, truth, operand_values, start};
-ghost use Rattle.jsonb.specs.Private.Selection.{IsAt, HasTree, node_spots, atoms_view, IsKept, taken_step};
+ghost use Rattle.jsonb.specs.Meaning.{step_meaning, steps_meaning, truth, operand_values, start, filtered};
+ghost use Rattle.jsonb.specs.Private.Selection.{IsAt, HasTree, node_spots, atoms_view, IsKept, taken_step, is_filter, IsPlain};
+ghost use Rattle.jsonb.specs.Private.Kept.{conditions, is_condition, IsSame, AreKept, IsKeptFor};
+ghost use Rattle.jsonb.specs.declared.path.Expr.{size-Expr};
+ghost use Rattle.jsonb.specs.declared.path.Path.{size-Path};
 ghost use Rattle.jsonb.specs.SelectionErrors.{IsSelectionError};
 
 use super::atom::{Atoms, and_truth, compare, literal_atom, or_truth};
@@ -16,6 +19,7 @@ use super::children::{
     field, push_elements, push_field, push_if, push_positions, push_spot, push_values,
 };
 use super::document::{Document, Expressions, Mode};
+use super::kept::{Kept, KeptPart, comparison_part, exists_part};
 use super::levels::push_levels;
 use super::node_list::NodeList;
 use super::values::found_values;
@@ -23,69 +27,99 @@ use crate::path::{BinaryOperator, Expr, Path};
 use jsonb_doc::{Error, Spot};
 use std::alloc::Global;
 
-/// One step of one item, behind what the nodes has.
-#[cycle(steps)]
-fn push_step<'a>(
+/// One step of one item that is no filter, behind what the nodes has.
+#[inline(always)]
+fn push_step(
     alloc: Global,
     mode: Mode,
-    expressions: Expressions,
-    step: &'a Path<'_>,
-    document: Document<'a>,
+    step: &Path<'_>,
+    bytes: &[u8],
     item: Spot,
     nodes: &mut Vec<Spot>,
 ) -> Result<(), Error>
-    ensures meant { (top t : Tree) (before : List Tree) → HasTree document.entry top → IsAt document.entry item t
-        → AllRelated (IsAt document.entry) nodes.old.items before
-        → Gives (λ _ ts. AllRelated (IsAt document.entry) nodes.new.items (before ++ ts))
-        IsOutOfMemory result (step_meaning mode (taken_step expressions (step_view step.now)) top t) }
+    ensures meant { (top t : Tree) (before : List Tree) → is_filter (step_view step.now) ≡ false
+        → Locates bytes.now item t → AllRelated (Locates bytes.now) nodes.old.items before
+        → Gives (λ _ ts. AllRelated (Locates bytes.now) nodes.new.items (before ++ ts))
+        IsOutOfMemory result (step_meaning mode (step_view step.now) top t) }
     ensures errors { IfErr result (IsSelectionError mode) }
 {
     match step {
-        Path::DotWildcard => push_values(document.bytes, mode, item, nodes),
-        Path::BracketWildcard => push_elements(document.bytes, mode, item, nodes),
-        Path::ArrayIndices(entries) => push_positions(
-            alloc,
-            document.bytes,
-            mode,
-            entries,
-            item,
-            nodes,
-        ),
-        Path::RecursiveDotWildcard(levels) => push_levels(document.bytes, *levels, 0, item, nodes),
+        Path::DotWildcard => push_values(bytes, mode, item, nodes),
+        Path::BracketWildcard => push_elements(bytes, mode, item, nodes),
+        Path::ArrayIndices(entries) => push_positions(alloc, bytes, mode, entries, item, nodes),
+        Path::RecursiveDotWildcard(levels) => push_levels(alloc, bytes, *levels, 0, item, nodes),
         Path::Root | Path::Current => push_spot(nodes, item),
-        Path::DotField(name) => push_field(document.bytes, mode, name.as_str(), item, nodes),
-        Path::ColonField(name) => push_field(document.bytes, mode, name.as_str(), item, nodes),
-        Path::ObjectField(name) => push_field(document.bytes, mode, name.as_str(), item, nodes),
-        Path::FilterExpr(e) => push_kept(alloc, mode, e, document, item, nodes),
-        Path::Expr(e) => match expressions {
-            Expressions::AreFilters => push_kept(alloc, mode, e, document, item, nodes),
-            Expressions::AreRefused => Err(Error::InvalidJsonPath),
-        },
+        Path::DotField(name) => push_field(bytes, mode, name.as_str(), item, nodes),
+        Path::ColonField(name) => push_field(bytes, mode, name.as_str(), item, nodes),
+        Path::ObjectField(name) => push_field(bytes, mode, name.as_str(), item, nodes),
+        Path::FilterExpr(_) | Path::Expr(_) => Err(Error::InvalidJsonPath),
     }
 }
 
-/// An item that a filter keeps, behind what the nodes has.
-#[cycle(steps)]
-fn push_kept<'a>(
+/// One step of one item that is no filter. What gives one item at most needs no memory.
+#[inline(always)]
+fn plain_step(
     alloc: Global,
     mode: Mode,
-    e: &'a Expr<'_>,
-    document: Document<'a>,
+    step: &Path<'_>,
+    bytes: &[u8],
     item: Spot,
-    nodes: &mut Vec<Spot>,
-) -> Result<(), Error>
-    ensures meant { (top t : Tree) (before : List Tree) → HasTree document.entry top → IsAt document.entry item t
-        → AllRelated (IsAt document.entry) nodes.old.items before
-        → Gives (λ _ ts. AllRelated (IsAt document.entry) nodes.new.items (before ++ ts)) IsOutOfMemory result
-        (step_meaning mode (filter (expression_view e.now)) top t) }
+) -> Result<NodeList, Error>
+    ensures meant { (top t : Tree) → is_filter (step_view step.now) ≡ false → Locates bytes.now item t
+        → Gives (λ found ts. AllRelated (Locates bytes.now) (node_spots found) ts)
+        IsOutOfMemory result (step_meaning mode (step_view step.now) top t) }
     ensures errors { IfErr result (IsSelectionError mode) }
 {
-    let keeps = is_kept(alloc, mode, e, document, item)?;
-    push_if(keeps, item, nodes)
+    match step {
+        Path::DotField(name) => field(alloc, bytes, mode, name.as_str(), item),
+        Path::ColonField(name) => field(alloc, bytes, mode, name.as_str(), item),
+        Path::ObjectField(name) => field(alloc, bytes, mode, name.as_str(), item),
+        _ => {
+            let mut nodes = Vec::new(alloc);
+            push_step(alloc, mode, step, bytes, item, &mut nodes)?;
+            Ok(NodeList::Many(nodes))
+        }
+    }
+}
+
+/// One step that is no filter of each of many items, in order.
+fn plain_steps(
+    alloc: Global,
+    mode: Mode,
+    step: &Path<'_>,
+    bytes: &[u8],
+    items: &[Spot],
+) -> Result<NodeList, Error>
+    ensures meant { (top : Tree) (ts : List Tree) → is_filter (step_view step.now) ≡ false
+        → AllRelated (Locates bytes.now) items.now ts
+        → Gives (λ found us. AllRelated (Locates bytes.now) (node_spots found) us)
+        IsOutOfMemory result (try_flat_map (step_meaning mode (step_view step.now) top) ts) }
+    ensures errors { IfErr result (IsSelectionError mode) }
+{
+    let mut nodes = Vec::new(alloc);
+    for item in items {
+        push_step(alloc, mode, step, bytes, *item, &mut nodes)?;
+    }
+    Ok(NodeList::Many(nodes))
+}
+
+/// The expression of a step that is a filter.
+#[inline(always)]
+fn filter_of<'s, 'a>(expressions: Expressions, step: &'s Path<'a>) -> Option<&'s Expr<'a>>
+    ensures expression { MatchOption result (IsPlain expressions (step_view step.now))
+        (λ e. taken_step expressions (step_view step.now) ≡ filter (expression_view e.now)) }
+    ensures deeper { MatchOption result ⊤ (λ e. size-Expr e.now < size-Path step.now) }
+{
+    match (step, expressions) {
+        (Path::FilterExpr(e), _) => Some(e),
+        (Path::Expr(e), Expressions::AreFilters) => Some(e),
+        _ => None,
+    }
 }
 
 /// One step of one item. What gives one item at most needs no memory.
 #[cycle(steps)]
+#[inline(always)]
 fn step_item<'a>(
     alloc: Global,
     mode: Mode,
@@ -99,24 +133,18 @@ fn step_item<'a>(
         IsOutOfMemory result (step_meaning mode (taken_step expressions (step_view step.now)) top t) }
     ensures errors { IfErr result (IsSelectionError mode) }
 {
-    match step {
-        Path::DotField(name) => field(alloc, document.bytes, mode, name.as_str(), item),
-        Path::ColonField(name) => field(alloc, document.bytes, mode, name.as_str(), item),
-        Path::ObjectField(name) => field(alloc, document.bytes, mode, name.as_str(), item),
-        Path::FilterExpr(e) => {
-            let keeps = is_kept(alloc, mode, e, document, item)?;
+    match filter_of(expressions, step) {
+        Some(e) => {
+            let keeps = is_kept(truth(alloc, mode, e, document, item)?);
             Ok(NodeList::at_most_one(alloc, keeps.then_some(item)))
         }
-        _ => {
-            let mut nodes = Vec::new(alloc);
-            push_step(alloc, mode, expressions, step, document, item, &mut nodes)?;
-            Ok(NodeList::Many(nodes))
-        }
+        None => plain_step(alloc, mode, step, document.bytes, item),
     }
 }
 
 /// One step of each item of a list, in order. `$` and `@` leave the list as it is.
 #[cycle(steps)]
+#[inline(always)]
 pub(crate) fn step_list<'a>(
     alloc: Global,
     mode: Mode,
@@ -156,11 +184,59 @@ fn step_many<'a>(
         IsOutOfMemory result (try_flat_map (step_meaning mode (taken_step expressions (step_view step.now)) top) ts) }
     ensures errors { IfErr result (IsSelectionError mode) }
 {
+    match filter_of(expressions, step) {
+        Some(e) => filter_many(alloc, mode, e, document, items),
+        None => plain_steps(alloc, mode, step, document.bytes, items),
+    }
+}
+
+/// The items of a list that a filter keeps, in order.
+#[cycle(steps)]
+fn filter_many<'a>(
+    alloc: Global,
+    mode: Mode,
+    e: &'a Expr<'_>,
+    document: Document<'a>,
+    items: &[Spot],
+) -> Result<NodeList, Error>
+    ensures meant { (top : Tree) (ts : List Tree) → HasTree document.entry top
+        → AllRelated (IsAt document.entry) items.now ts
+        → Gives (λ found us. AllRelated (IsAt document.entry) (node_spots found) us)
+        IsOutOfMemory result (try_flat_map (step_meaning mode (filter (expression_view e.now)) top) ts) }
+    ensures errors { IfErr result (IsSelectionError mode) }
+{
+    let mut kept = Kept::new(alloc);
     let mut nodes = Vec::new(alloc);
     for item in items {
-        push_step(alloc, mode, expressions, step, document, *item, &mut nodes)?;
+        push_kept(alloc, mode, e, &mut kept, document, *item, &mut nodes)?;
     }
     Ok(NodeList::Many(nodes))
+}
+
+/// An item that a filter keeps, behind what the nodes has.
+#[cycle(steps)]
+#[inline(always)]
+fn push_kept<'a>(
+    alloc: Global,
+    mode: Mode,
+    e: &'a Expr<'_>,
+    kept: &mut Kept<'a>,
+    document: Document<'a>,
+    item: Spot,
+    nodes: &mut Vec<Spot>,
+) -> Result<(), Error>
+    ensures meant { (top t : Tree) (before : List Tree) → HasTree document.entry top → IsAt document.entry item t
+        → IsKeptFor mode top (expression_view e.now) kept.old → AllRelated (IsAt document.entry) nodes.old.items before
+        → Gives (λ _ ts. AllRelated (IsAt document.entry) nodes.new.items (before ++ ts)) IsOutOfMemory result
+        (step_meaning mode (filter (expression_view e.now)) top t) }
+    ensures kept { (top t : Tree) → HasTree document.entry top → IsAt document.entry item t
+        → IsKeptFor mode top (expression_view e.now) kept.old
+        → OnOk result (IsKeptFor mode top (expression_view e.now) kept.new) }
+    ensures errors { IfErr result (IsSelectionError mode) }
+{
+    let keeps = is_kept(truth_by_kept(alloc, mode, e, kept, document, item)?);
+    kept.restart();
+    push_if(keeps, item, nodes)
 }
 
 /// Several steps, one after the other, from one item.
@@ -187,6 +263,7 @@ pub(crate) fn select_steps<'a>(
 }
 
 /// Where a path within an expression starts.
+#[inline(always)]
 fn first_item(steps: &[Path<'_>], document: Document<'_>, item: Spot) -> Spot
     ensures { (top t : Tree) → HasTree document.entry top → IsAt document.entry item t
         → IsAt document.entry result (start (steps_of (steps_view steps.now)) top t) }
@@ -197,22 +274,14 @@ fn first_item(steps: &[Path<'_>], document: Document<'_>, item: Spot) -> Spot
     }
 }
 
-/// Whether a filter keeps an item.
-#[cycle(steps)]
-pub(crate) fn is_kept<'a>(
-    alloc: Global,
-    mode: Mode,
-    e: &'a Expr<'_>,
-    document: Document<'a>,
-    item: Spot,
-) -> Result<bool, Error>
-    ensures meant { (top t : Tree) → HasTree document.entry top → IsAt document.entry item t
-        → Gives (IsKept t) IsOutOfMemory result (step_meaning mode (filter (expression_view e.now)) top t) }
-    ensures errors { IfErr result (IsSelectionError mode) }
+/// Whether a filter keeps an item of which it says this.
+#[inline(always)]
+fn is_kept(truth: Option<bool>) -> bool
+    ensures { (t : Tree) → IsKept t result (filtered t truth) }
 {
-    match truth(alloc, mode, e, document, item)? {
-        Some(keeps) => Ok(keeps),
-        None => Ok(false),
+    match truth {
+        Some(keeps) => keeps,
+        None => false,
     }
 }
 
@@ -229,16 +298,37 @@ pub(crate) fn truth<'a>(
         → Gives (λ b c. b ≡ c) IsOutOfMemory result (truth mode (expression_view e.now) top t) }
     ensures errors { IfErr result (IsSelectionError mode) }
 {
+    truth_by_kept(alloc, mode, e, &mut Kept::Nothing, document, item)
+}
+
+/// The same with what is kept from the items before.
+#[cycle(steps)]
+fn truth_by_kept<'a>(
+    alloc: Global,
+    mode: Mode,
+    e: &'a Expr<'_>,
+    kept: &mut Kept<'a>,
+    document: Document<'a>,
+    item: Spot,
+) -> Result<Option<bool>, Error>
+    ensures meant { (top t : Tree) (all more : List Expression) → HasTree document.entry top
+        → IsAt document.entry item t → AreKept mode top kept.old all (conditions (expression_view e.now) ++ more)
+        → Gives (λ b c. b ≡ c) IsOutOfMemory result (truth mode (expression_view e.now) top t) }
+    ensures kept { (top t : Tree) (all more : List Expression) → HasTree document.entry top
+        → IsAt document.entry item t → AreKept mode top kept.old all (conditions (expression_view e.now) ++ more)
+        → OnOk result (AreKept mode top kept.new all more) }
+    ensures errors { IfErr result (IsSelectionError mode) }
+{
     match e {
         Expr::BinaryOp { op, left, right } => match op {
             BinaryOperator::And => {
-                let a = truth(alloc, mode, left, document, item)?;
-                let b = truth(alloc, mode, right, document, item)?;
+                let a = truth_by_kept(alloc, mode, left, kept, document, item)?;
+                let b = truth_by_kept(alloc, mode, right, kept, document, item)?;
                 Ok(and_truth(a, b))
             }
             BinaryOperator::Or => {
-                let a = truth(alloc, mode, left, document, item)?;
-                let b = truth(alloc, mode, right, document, item)?;
+                let a = truth_by_kept(alloc, mode, left, kept, document, item)?;
+                let b = truth_by_kept(alloc, mode, right, kept, document, item)?;
                 Ok(or_truth(a, b))
             }
             BinaryOperator::Add
@@ -246,16 +336,108 @@ pub(crate) fn truth<'a>(
             | BinaryOperator::Multiply
             | BinaryOperator::Divide
             | BinaryOperator::Modulo => Ok(None),
-            _ => {
-                let lefts = operand_values(alloc, mode, left, document, item)?;
-                let rights = operand_values(alloc, mode, right, document, item)?;
-                Ok(compare(*op, lefts.as_slice(), rights.as_slice()))
-            }
+            _ => condition(alloc, mode, e, kept, document, item),
         },
+        Expr::ExistsFunc(_) => condition(alloc, mode, e, kept, document, item),
+        Expr::Paths(_) | Expr::Value(_) | Expr::UnaryOp { .. } => Err(Error::InvalidJsonPath),
+    }
+}
+
+/// Whether a comparison or `exists` is true of an item. What is the same for each item is kept.
+#[cycle(steps)]
+#[inline(always)]
+fn condition<'a>(
+    alloc: Global,
+    mode: Mode,
+    e: &'a Expr<'_>,
+    kept: &mut Kept<'a>,
+    document: Document<'a>,
+    item: Spot,
+) -> Result<Option<bool>, Error>
+    ensures meant { (top t : Tree) (all more : List Expression) → is_condition (expression_view e.now) ≡ true
+        → HasTree document.entry top → IsAt document.entry item t
+        → AreKept mode top kept.old all (expression_view e.now ∷ more)
+        → Gives (λ b c. b ≡ c) IsOutOfMemory result (truth mode (expression_view e.now) top t) }
+    ensures kept { (top t : Tree) (all more : List Expression) → is_condition (expression_view e.now) ≡ true
+        → HasTree document.entry top → IsAt document.entry item t
+        → AreKept mode top kept.old all (expression_view e.now ∷ more)
+        → OnOk result (AreKept mode top kept.new all more) }
+    ensures errors { IfErr result (IsSelectionError mode) }
+{
+    match kept.part() {
+        Some(part) => {
+            let truth = later_truth(alloc, mode, e, part, document, item)?;
+            kept.pass();
+            Ok(truth)
+        }
+        None => {
+            let (truth, part) = first_truth(alloc, mode, e, document, item)?;
+            kept.add(part)?;
+            Ok(truth)
+        }
+    }
+}
+
+/// Whether a comparison or `exists` is true of an item, with what is kept of it.
+#[cycle(steps)]
+#[inline(always)]
+fn later_truth<'a>(
+    alloc: Global,
+    mode: Mode,
+    e: &'a Expr<'_>,
+    part: &KeptPart<'a>,
+    document: Document<'a>,
+    item: Spot,
+) -> Result<Option<bool>, Error>
+    ensures meant { (top t : Tree) → is_condition (expression_view e.now) ≡ true → HasTree document.entry top
+        → IsAt document.entry item t → IsSame mode top part.now (expression_view e.now)
+        → Gives (λ b c. b ≡ c) IsOutOfMemory result (truth mode (expression_view e.now) top t) }
+    ensures errors { IfErr result (IsSelectionError mode) }
+{
+    match (part, e) {
+        (KeptPart::Truth(truth), _) => Ok(*truth),
+        (KeptPart::Left(lefts), Expr::BinaryOp { op, right, .. }) => {
+            let rights = operand_values(alloc, mode, right, document, item)?;
+            Ok(compare(*op, lefts.as_slice(), rights.as_slice()))
+        }
+        (KeptPart::Right(rights), Expr::BinaryOp { op, left, .. }) => {
+            let lefts = operand_values(alloc, mode, left, document, item)?;
+            Ok(compare(*op, lefts.as_slice(), rights.as_slice()))
+        }
+        _ => {
+            let (truth, _) = first_truth(alloc, mode, e, document, item)?;
+            Ok(truth)
+        }
+    }
+}
+
+/// Whether a comparison or `exists` is true of an item, and what of it is the same for each item.
+#[cycle(steps)]
+fn first_truth<'a>(
+    alloc: Global,
+    mode: Mode,
+    e: &'a Expr<'_>,
+    document: Document<'a>,
+    item: Spot,
+) -> Result<(Option<bool>, KeptPart<'a>), Error>
+    ensures meant { (top t : Tree) → is_condition (expression_view e.now) ≡ true → HasTree document.entry top
+        → IsAt document.entry item t
+        → Gives (λ made c. (made.0 ≡ c) × IsSame mode top made.1 (expression_view e.now)) IsOutOfMemory result
+        (truth mode (expression_view e.now) top t) }
+    ensures errors { IfErr result (IsSelectionError mode) }
+{
+    match e {
+        Expr::BinaryOp { op, left, right } => {
+            let lefts = operand_values(alloc, mode, left, document, item)?;
+            let rights = operand_values(alloc, mode, right, document, item)?;
+            let truth = compare(*op, lefts.as_slice(), rights.as_slice());
+            Ok((truth, comparison_part(left, right, lefts, rights, truth)))
+        }
         Expr::ExistsFunc(steps) => {
             let first = first_item(steps, document, item);
             let found = select_steps(alloc, mode, Expressions::AreRefused, steps, document, first)?;
-            Ok(Some(!found.as_slice().is_empty()))
+            let truth = Some(!found.as_slice().is_empty());
+            Ok((truth, exists_part(steps, truth)))
         }
         Expr::Paths(_) | Expr::Value(_) | Expr::UnaryOp { .. } => Err(Error::InvalidJsonPath),
     }

@@ -18,6 +18,7 @@ use jsonb_doc::{Error, Item, Spot, SpotIter, spot_item};
 use std::alloc::Global;
 
 /// The values of items.
+#[inline(always)]
 pub(crate) fn found_values<'a>(
     alloc: Global,
     bytes: &'a [u8],
@@ -47,6 +48,7 @@ fn many_values<'a>(alloc: Global, bytes: &'a [u8], items: &[Spot]) -> Result<Ato
 }
 
 /// The values of one item. One value alone needs no memory.
+#[inline(always)]
 fn item_values<'a>(alloc: Global, bytes: &'a [u8], item: Spot) -> Result<Atoms<'a>, Error>
     ensures meant { (t : Tree) → Locates bytes.now item t
         → Gives (λ values vs. atoms_view values ≡ vs) IsOutOfMemory result (Ok (values_of_item t)) }

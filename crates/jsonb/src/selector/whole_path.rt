@@ -11,13 +11,14 @@ ghost use Rattle.jsonb.specs.PathViews.{step_view, steps_view, expression_view, 
 ghost use Rattle.jsonb.specs.Related.{AllRelated};
 ghost use Rattle.jsonb.specs.PathArithmetic.{operation, each_signed};
 ghost use Rattle.jsonb.specs.Meaning.{step_meaning, steps_meaning, operand_values, truth, as_filter, Means, truth_item, truth_list, calculation, expression_predicate};
-ghost use Rattle.jsonb.specs.Private.Selection.{IsAt, HasTree, node_spots, IsMadeItem, IsNumberTree, AreSelected, step_expression, only_expression, begins_with_current};
+ghost use Rattle.jsonb.specs.Private.Selection.{IsAt, HasTree, node_spots, IsMadeItem, IsNumberTree, AreSelected, step_expression, only_expression};
 ghost use Rattle.jsonb.specs.declared.selector.document.Mode.{Mode};
 ghost use Rattle.jsonb.specs.declared.selector.selected.MadeItem.TheVariants as made_item;
 ghost use Rattle.jsonb.specs.SelectionErrors.{IsSelectionError};
 
 use super::calculate::{binary_number, is_arithmetic, unary_numbers};
 use super::document::{Document, Expressions, Mode};
+use super::kept::begins_with_current;
 use super::selected::{MadeItem, Selected};
 use super::steps::{operand_values, select_steps, truth};
 use crate::path::{BinaryOperator, Expr, Path, PathValue, UnaryOperator};
@@ -74,16 +75,6 @@ fn step_expression<'s, 'a>(step: &'s Path<'a>) -> Option<&'s Expr<'a>>
     match step {
         Path::Expr(e) => Some(e),
         _ => None,
-    }
-}
-
-// Whether the first step is `@`.
-fn begins_with_current(steps: &[Path<'_>]) -> bool
-    ensures { result ≡ begins_with_current (steps_view steps.now) }
-{
-    match steps.first() {
-        Some(Path::Current) => true,
-        _ => false,
     }
 }
 

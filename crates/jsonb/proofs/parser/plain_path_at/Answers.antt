@@ -1,25 +1,12 @@
-use Rattle.std.proofs.Common.{◌≡◌, ◌<◌, ◌++◌, ◌∷◌, [], length, sym, Some}
-use Rattle.std.proofs.lemmas.List.{map_push}
-use Rattle.jsonb.specs.PathGrammar.{path_step}
-use Rattle.jsonb.specs.PathViews.{steps_view, step_view}
-use Rattle.jsonb_keypath.proofs.RepeatLemmas.{loop-goes, loop-ends}
+use Rattle.std.proofs.Common.{◌≡◌, List, Some, IfOk, subst}
+use Rattle.jsonb_keypath.specs.Rules.{Parsed}
+use Rattle.jsonb.specs.PathTree.{Step}
+use Rattle.jsonb.specs.PathViews.{steps_view}
 use Rattle.jsonb.proofs.ExpressionLemmas.{path-begins}
 use Rattle.jsonb.proofs.parser.plain_path_at.Goals as goal
 
-pub loop-steps-init : goal.loop-steps-init
-loop-steps-init c = path-begins c.args.input.now (steps_view c.in_ok-steps.steps.items) c.in_ok-steps.rest.now c.in_ok-steps.ensures
-
-pub loop-steps-preserved : goal.loop-steps-preserved
-loop-steps-preserved c =
-    let grown : steps_view c.push.new.self.items ≡ steps_view c.loop-steps.steps.items ++ step_view c.in-Some.next ∷ [] =
-    rw c.in_ok-push.ensures.items (map_push step_view c.loop-steps.steps.items c.in-Some.next) in
-    let reads : Some (step_view c.in-Some.next, c.in-Some.after.now) ≡ path_step c.loop-steps.rest.now = rw c.in-Some.is at
-    c.in_ok-next.ensures.value in
-    let shorter : length c.in-Some.after.now < length c.loop-steps.rest.now = rw c.in-Some.is at c.in_ok-next.ensures.shrinks in
-    rw grown (loop-goes path_step (steps_view c.loop-steps.steps.items) c.loop-steps.rest.now
-    (step_view c.in-Some.next) c.in-Some.after.now _ (sym reads) shorter c.loop-steps.invariant)
-
 pub returns : goal.returns
 returns c =
-    sym (loop-ends path_step (steps_view c.loop-steps.steps.items) c.loop-steps.rest.now _ (sym
-    (rw c.in_default.is at c.in_ok-next.ensures.value)) c.loop-steps.invariant)
+    subst (λ (o : Parsed (List Step)). IfOk c.more_steps_at.result (λ p. Some (steps_view p.0.items, p.1.now) ≡ o))
+    (path-begins c.args.input.now (steps_view c.in_ok-steps.steps.items) c.in_ok-steps.rest.now c.in_ok-steps.ensures)
+    c.more_steps_at.ensures

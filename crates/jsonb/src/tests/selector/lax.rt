@@ -155,7 +155,7 @@ fn arithmetic_is_refused(rt: HostRuntime) -> Result<(), Fail> {
 /// So many arrays, each in the one before, and the last one empty.
 fn nested_arrays(rt: &HostRuntime, depth: u32) -> Result<Vec<u8>, Fail> {
     let mut bytes = Vec::new(rt.alloc());
-    for left in (1..depth.min(1000)).rev() {
+    for left in (1..depth.min(100_000)).rev() {
         bytes.extend_from_slice(&0x8000_0001_u32.to_be_bytes())?;
         bytes.extend_from_slice(&(0x5000_0000 + 8 * left - 4).to_be_bytes())?;
     }
@@ -172,5 +172,21 @@ fn levels_are_counted_past_255(rt: HostRuntime) -> Result<(), Fail> {
     let mut selector = Selector::new(rt.alloc(), document);
     let found = selector.select_values(&path)?;
     assert_eq!(rt; found.len(), 300);
+    Ok(())
+}
+
+#[test]
+fn a_recursive_step_goes_down_any_depth(rt: HostRuntime) -> Result<(), Fail> {
+    let bytes = nested_arrays(&rt, 60_000)?;
+    let mut selector = Selector::new(rt.alloc(), RawJsonb::new(&bytes));
+    for (text, expected) in [
+        ("$.**", true),
+        ("$.**{0 to 254}.k", false),
+        ("$.**{255 to last}.k", false),
+    ] {
+        let path = parse_json_path(rt.alloc(), text.as_bytes())?;
+        let found = selector.exists(&path)?;
+        assert_eq!(rt; found, expected, "{text}");
+    }
     Ok(())
 }

@@ -6,6 +6,7 @@ use super::*;
 fn a_step_that_does_not_fit_is_refused(rt: HostRuntime) -> Result<(), Fail> {
     let pair = "4000000110000001100000016b76";
     let levels = "800000015000000a80000001200000025001 80000001200000025001 20000000200000025001";
+    let last_two = "20000000200000025014 2000000020000002501e";
     for (path, document, strict, lax) in [
         ("$.a", NULLS, "2000000000000000", "2000000000000000"),
         ("$.c", NULLS, "StrictPath", ""),
@@ -22,6 +23,40 @@ fn a_step_that_does_not_fit_is_refused(rt: HostRuntime) -> Result<(), Fail> {
         ("exists($.c)", NULLS, "StrictPath", "2000000030000000"),
         ("-$.c", NULLS, "StrictPath", ""),
         ("$.**", NESTED, levels, levels),
+        ("$[*]?(@ == $[1 to last])", TENS, last_two, last_two),
+        ("$[*]?($[1 to last] == @)", TENS, last_two, last_two),
+        ("$[*]?($[0] == 10 && @ > $[0])", TENS, last_two, last_two),
+        (
+            "$[*]?(@ == 10 || exists($[3]))",
+            TENS,
+            "2000000020000002500a",
+            "2000000020000002500a",
+        ),
+        (
+            "$[*]?(exists($[*]?(@ > $[1])) && @ < $[1])",
+            TENS,
+            "2000000020000002500a",
+            "2000000020000002500a",
+        ),
+        (
+            "$[*]?(exists(@[0]?(@ == $[0][0])))",
+            NESTED,
+            "80000001200000025001",
+            "80000001200000025001",
+        ),
+        ("$[*]?(@ == $.a)", TENS, "StrictPath", ""),
+        (
+            "$[*]?(@.k == 1 && exists($?(-@.a)))",
+            MIXED,
+            "StrictPath",
+            "InvalidJsonPath",
+        ),
+        (
+            "$[*]?(exists($?(-@.a)) && @.k == 1)",
+            MIXED,
+            "InvalidJsonPath",
+            "InvalidJsonPath",
+        ),
         ("$[*] + $.c", TENS, "StrictPath", "InvalidJsonPath"),
         ("$[*]?(@.a + 1)", TENS, "", ""),
         (

@@ -1,24 +1,10 @@
-use Rattle.std.proofs.Common.{◌≡◌, ◌<◌, ◌++◌, ◌∷◌, [], length, sym, arith, Some}
-use Rattle.std.proofs.lemmas.List.{map_push}
-use Rattle.jsonb.specs.PathGrammar.{spaced_inner}
+use Rattle.std.proofs.Common.{◌≡◌, ◌∙◌, ◌∷◌, [], refl}
 use Rattle.jsonb.specs.PathViews.{steps_view, step_view}
-use Rattle.jsonb_keypath.proofs.RepeatLemmas.{loop-goes, loop-ends}
+use Rattle.jsonb.proofs.FrameLemmas.{root-begins}
 use Rattle.jsonb.proofs.parser.operand.operand_steps_at.Goals as goal
 
-pub loop-steps-preserved : goal.loop-steps-preserved
-loop-steps-preserved c =
-    let grown : steps_view c.push-in-Some-2.new.self.items ≡ steps_view c.loop-steps.steps.items ++ step_view c.in-Some-2.next ∷ [] =
-    rw c.in_ok-push-2.ensures.items (map_push step_view c.loop-steps.steps.items c.in-Some-2.next) in
-    let reads : Some (step_view c.in-Some-2.next, c.in-Some-2.after.now) ≡ spaced_inner c.loop-steps.rest.now = rw c.in-Some-2.is at
-    c.in_ok-next.ensures.value in
-    let shorter : length c.in-Some-2.after.now < length c.loop-steps.rest.now = rw c.in-Some-2.is at c.in_ok-next.ensures.shrinks in
-    record {
-      read = rw grown (loop-goes spaced_inner (steps_view c.loop-steps.steps.items) c.loop-steps.rest.now
-          (step_view c.in-Some-2.next) c.in-Some-2.after.now _ (sym reads) shorter c.loop-steps.invariant.read);
-      shorter = omega (arith, shorter, c.loop-steps.invariant.shorter);
-    }
-
-pub returns-clause-value : goal.returns-clause-value
-returns-clause-value c =
-    sym (loop-ends spaced_inner (steps_view c.loop-steps.steps.items) c.loop-steps.rest.now _ (sym
-    (rw c.in_default-2.is at c.in_ok-next.ensures.value)) c.loop-steps.invariant.read)
+pub returns-clause-goes_on : goal.returns-clause-goes_on
+returns-clause-goes_on c = λ outside.
+    let one : steps_view c.push.new.self.items ≡ step_view c.in-Some.first ∷ [] = rw (c.in_ok-push.ensures.items, c.new-steps.ensures.items) refl in
+    rw one at c.in_ok-steps.ensures.behind
+    ∙ root-begins c.args.input.now (step_view c.in-Some.first) c.in-Some.rest.now (rw outside at c.in-Some.ensures.value)

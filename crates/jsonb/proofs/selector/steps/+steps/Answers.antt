@@ -1,4 +1,4 @@
-use Rattle.std.proofs.Common.{◌∷◌, [], ◌+◌, Some, Ok, Err, IsOkAnd, map, flat_map, drop, ap, sym, ◌∙◌, refl, inl, inr, subst}
+use Rattle.std.proofs.Common.{◌≡◌, Option, Bool, ◌∷◌, [], ◌++◌, append-nil, append_assoc, ◌+◌, Some, Ok, Err, IsOkAnd, map, flat_map, drop, ap, sym, ◌∙◌, refl, inl, inr, subst}
 use Rattle.std.specs.Prelude.{not, ◌==◌, length}
 use Rattle.std.proofs.Math.ListN.{drop_of_length-le}
 use Rattle.std.proofs.lemmas.Result.{err_from_is_err_and}
@@ -9,128 +9,103 @@ use Rattle.jsonb.specs.PathViews.{step_view, steps_view, expression_view, operat
 use Rattle.jsonb.specs.Related.{AllRelated}
 use Rattle.jsonb.specs.Values.{values_of_item}
 use Rattle.jsonb.specs.Compare.{compare, and_truth, or_truth}
-use Rattle.jsonb.specs.Private.Selection.{IsAt, node_spots, taken_as, taken_step}
+use Rattle.jsonb.specs.Private.Selection.{IsAt, node_spots, taken_step, atoms_view}
+use Rattle.jsonb.specs.Private.Kept.{conditions, is_condition, IsSame, AreKept}
 use Rattle.jsonb.specs.ItemSteps.{field_step, indices_step}
 use Rattle.jsonb.specs.Meaning.{step_meaning, steps_meaning, truth, operand_values, filtered, is_some_item}
 use Rattle.jsonb.proofs.GivesLemmas.{same_outcome, same_answer, refused_as, pushed, one_ok, both_ok, first_refused, second_refused, followed, given_by, continued, some_related}
-use Rattle.jsonb.proofs.Progress.{no_spot, one_more, refused_in, at_end, list_first, list_end, joined_singles}
+use Rattle.jsonb.proofs.Progress.{no_spot, at_start, one_more, refused_in, at_end, list_first, list_end, joined_singles}
 use Rattle.jsonb.proofs.PathNodes.{root_is, current_is, values_is, elements_is, levels_is, dot_field_is, colon_field_is, object_field_is, indices_is, filter_is, whole_is, paths_is, binary_is, exists_is}
+use Rattle.jsonb.proofs.KeptLemmas.{comparison_is, value_of, one_condition, one_exists, kept_same, from_ok, without, always, known, value_is, compared}
 use Rattle.jsonb.proofs.StepLemmas.{joined_one, only_one, kept_known, kept_unknown, kept_found, steps_at, from_start, compared_is}
 use Rattle.jsonb.proofs.selector.steps.+steps.Goals as goal
 
--- ---- one step
+-- ---- filters
 
-pub push_step-returns-in-DotWildcard-clause-meant : goal.push_step-returns-in-DotWildcard-clause-meant
-push_step-returns-in-DotWildcard-clause-meant t c = λ top u before r s a.
-    same_outcome (ap (λ x. step_meaning c.args.mode (taken_step c.args.expressions x) top u) (values_is c.args.step.now c.in-DotWildcard.is))
-    (c.push_values.ensures.meant u before s a)
-
-pub push_step-returns-in-BracketWildcard-clause-meant : goal.push_step-returns-in-BracketWildcard-clause-meant
-push_step-returns-in-BracketWildcard-clause-meant t c = λ top u before r s a.
-    same_outcome (ap (λ x. step_meaning c.args.mode (taken_step c.args.expressions x) top u) (elements_is c.args.step.now c.in-BracketWildcard.is))
-    (c.push_elements.ensures.meant u before s a)
-
-pub push_step-returns-in-ArrayIndices-clause-meant : goal.push_step-returns-in-ArrayIndices-clause-meant
-push_step-returns-in-ArrayIndices-clause-meant t c = λ top u before r s a.
-    same_outcome (ap (λ x. step_meaning c.args.mode (taken_step c.args.expressions x) top u)
-    (indices_is c.args.step.now c.in-ArrayIndices.entries c.in-ArrayIndices.is)
-    ∙ ap (λ l. indices_step c.args.mode (map entry_view l) u) (sym c.deref.ensures.value))
-    (c.push_positions.ensures.meant u before s a)
-
-pub push_step-returns-in-RecursiveDotWildcard-clause-meant : goal.push_step-returns-in-RecursiveDotWildcard-clause-meant
-push_step-returns-in-RecursiveDotWildcard-clause-meant t c = λ top u before r s a.
-    same_outcome (ap (λ x. step_meaning c.args.mode (taken_step c.args.expressions x) top u)
-    (levels_is c.args.step.now c.in-RecursiveDotWildcard.levels c.in-RecursiveDotWildcard.is)) (c.push_levels.ensures.meant u 0 before refl s a)
-
-pub push_step-returns-in-Root-clause-meant : goal.push_step-returns-in-Root-clause-meant
-push_step-returns-in-Root-clause-meant t c = λ top u before r s a.
-    let one = pushed
-    (IsAt c.args.document) c.push_spot.result c.args.nodes.now.items c.push_spot.new.nodes.items c.args.item before u c.push_spot.ensures.ok c.push_spot.ensures.err a s in
-    elim c.in-Root.is [
-      | inl is ↦ same_outcome (ap (λ x. step_meaning c.args.mode (taken_step c.args.expressions x) top u) (root_is c.args.step.now is)) one
-      | inr is ↦ same_outcome (ap (λ x. step_meaning c.args.mode (taken_step c.args.expressions x) top u) (current_is c.args.step.now is)) one
-    ]
-
-pub push_step-returns-in-DotField-clause-meant : goal.push_step-returns-in-DotField-clause-meant
-push_step-returns-in-DotField-clause-meant t c = λ top u before r s a.
-    same_outcome (ap (λ x. step_meaning c.args.mode (taken_step c.args.expressions x) top u) (dot_field_is c.args.step.now c.in-DotField.name c.in-DotField.is)
-    ∙ ap (λ n. field_step c.args.mode n u) (sym c.as_str.ensures.value))
-    (c.push_field.ensures.meant u before s a)
-
-pub push_step-returns-in-ColonField-clause-meant : goal.push_step-returns-in-ColonField-clause-meant
-push_step-returns-in-ColonField-clause-meant t c = λ top u before r s a.
-    same_outcome (ap (λ x. step_meaning c.args.mode (taken_step c.args.expressions x) top u)
-    (colon_field_is c.args.step.now c.in-ColonField.name c.in-ColonField.is)
-    ∙ ap (λ n. field_step c.args.mode n u) (sym c.as_str-in-ColonField.ensures.value))
-    (c.push_field-in-ColonField.ensures.meant u before s a)
-
-pub push_step-returns-in-ObjectField-clause-meant : goal.push_step-returns-in-ObjectField-clause-meant
-push_step-returns-in-ObjectField-clause-meant t c = λ top u before r s a.
-    same_outcome (ap (λ x. step_meaning c.args.mode (taken_step c.args.expressions x) top u)
-    (object_field_is c.args.step.now c.in-ObjectField.name c.in-ObjectField.is)
-    ∙ ap (λ n. field_step c.args.mode n u) (sym c.as_str-in-ObjectField.ensures.value))
-    (c.push_field-in-ObjectField.ensures.meant u before s a)
-
-pub push_step-returns-in-FilterExpr-clause-meant : goal.push_step-returns-in-FilterExpr-clause-meant
-push_step-returns-in-FilterExpr-clause-meant t c = λ top u before r s a.
-    same_outcome (ap (λ x. step_meaning c.args.mode (taken_step c.args.expressions x) top u) (filter_is c.args.step.now c.in-FilterExpr.e c.in-FilterExpr.is)
-    ∙ ap (λ x. step_meaning c.args.mode (math.filter (expression_view x)) top u) (sym c.deref-in-FilterExpr.ensures))
-    (c.push_kept.ensures.meant top u before r s a)
-
-pub push_step-returns-in-AreFilters-clause-meant : goal.push_step-returns-in-AreFilters-clause-meant
-push_step-returns-in-AreFilters-clause-meant t c = λ top u before r s a.
-    same_outcome (ap (λ x. step_meaning c.args.mode (taken_step c.args.expressions x) top u) (whole_is c.args.step.now c.in-Expr.e c.in-Expr.is)
-    ∙ ap (λ x. step_meaning c.args.mode (taken_as x (expression_view c.in-Expr.e.value)) top u) c.in-AreFilters.is
-    ∙ ap (λ x. step_meaning c.args.mode (math.filter (expression_view x)) top u) (sym c.deref-in-AreFilters.ensures))
-    (c.push_kept-in-AreFilters.ensures.meant top u before r s a)
+pub push_kept-returns-in_err-truth_by_kept-clause-meant : goal.push_kept-returns-in_err-truth_by_kept-clause-meant
+push_kept-returns-in_err-truth_by_kept-clause-meant t c = λ top u before r s k a.
+    let all = conditions (expression_view c.args.e.now) in
+    let first = subst (λ l. AreKept c.args.mode top c.args.kept.now all l) (sym (append-nil all)) k in
+    let p = err_from_is_err_and c.from_residual.result c.from_residual.ensures.1 in
+    same_answer (p.1 ∙ ap Err p.2) (first_refused (λ b. Ok (filtered u b)) (c.in_err-truth_by_kept.ensures.meant top u all [] r s first))
 
 pub push_kept-returns-clause-meant : goal.push_kept-returns-clause-meant
-push_kept-returns-clause-meant t c = λ top u before r s a.
-    given_by (c.in_ok-keeps.ensures.meant top u r s) (λ ts k. same_outcome (ap Ok k) (c.push_if.ensures.meant c.args.document.bytes.now u before s a))
+push_kept-returns-clause-meant t c = λ top u before r s k a.
+    let all = conditions (expression_view c.args.e.now) in
+    let first = subst (λ l. AreKept c.args.mode top c.args.kept.now all l) (sym (append-nil all)) k in
+    followed (λ b. Ok (filtered u b)) (c.in_ok-truth_by_kept.ensures.meant top u all [] r s first)
+    (λ b is. same_outcome (ap (λ z. Ok (filtered u z)) (sym is) ∙ ap Ok (c.is_kept-keeps.ensures u))
+    (c.push_if.ensures.meant c.args.document.bytes.now u before s a))
+
+pub push_kept-returns-clause-kept : goal.push_kept-returns-clause-kept
+push_kept-returns-clause-kept t c = λ top u r s k.
+    let all = conditions (expression_view c.args.e.now) in
+    let first = subst (λ l. AreKept c.args.mode top c.args.kept.now all l) (sym (append-nil all)) k in
+    always c.push_if.result (c.restart.ensures c.args.mode top all [] (c.in_ok-truth_by_kept.ensures.kept top u all [] r s first))
+
+pub filter_many-loop-item-init : goal.filter_many-loop-item-init
+filter_many-loop-item-init t c = λ top ts r a. (
+  at_start (step_meaning c.args.mode (math.filter (expression_view c.args.e.now)) top) (AllRelated (IsAt c.args.document) c.args.items.now)
+      (AllRelated (IsAt c.args.document) c.new-nodes.result.items) ts a
+      (subst (λ l. AllRelated (IsAt c.args.document) l []) (sym c.new-nodes.ensures.items) tt),
+  c.new-kept.ensures c.args.mode top (conditions (expression_view c.args.e.now)),
+)
+
+pub filter_many-returns-in_err-push_kept-clause-meant : goal.filter_many-returns-in_err-push_kept-clause-meant
+filter_many-returns-in_err-push_kept-clause-meant t c = λ top ts r a.
+    let inv = c.loop-item.invariant top ts r a in
+    let p = err_from_is_err_and c.from_residual.result c.from_residual.ensures.1 in
+    same_answer (p.1 ∙ ap Err p.2) (refused_in (step_meaning c.args.mode (math.filter (expression_view c.args.e.now)) top) _
+    (AllRelated (IsAt c.args.document) (drop c.loop-item.item-index c.args.items.now))
+    (AllRelated (IsAt c.args.document) (drop (c.loop-item.item-index + 1) c.args.items.now))
+    (AllRelated (IsAt c.args.document) c.loop-item.nodes.items) (AllRelated (IsAt c.args.document) c.push_kept.new.nodes.items) _ _ _
+    inv.0
+    (list_first (IsAt c.args.document) c.args.items.now c.loop-item.item-index no_spot c.loop-item-test.true)
+    (λ u before s b. c.in_err-push_kept.ensures.meant top u before r s inv.1 b))
+
+pub filter_many-loop-item-preserved : goal.filter_many-loop-item-preserved
+filter_many-loop-item-preserved t c = λ top ts r a.
+    let inv = c.loop-item.invariant top ts r a in
+    let here = list_first (IsAt c.args.document) c.args.items.now c.loop-item.item-index no_spot c.loop-item-test.true in
+    let k = here inv.0.rest inv.0.left in (
+      one_more (step_meaning c.args.mode (math.filter (expression_view c.args.e.now)) top)
+          (AllRelated (IsAt c.args.document) (drop c.loop-item.item-index c.args.items.now))
+          (AllRelated (IsAt c.args.document) (drop (c.loop-item.item-index + 1) c.args.items.now))
+          (AllRelated (IsAt c.args.document) c.loop-item.nodes.items) (AllRelated (IsAt c.args.document) c.push_kept.new.nodes.items) _ _
+          inv.0 here
+          (λ u before s b. (c.in_ok-push_kept.ensures.meant top u before r s inv.1 b).ok),
+      c.in_ok-push_kept.ensures.kept top k.first r k.holds inv.1,
+    )
+
+pub filter_many-returns-clause-meant : goal.filter_many-returns-clause-meant
+filter_many-returns-clause-meant t c = λ top ts r a. record {
+  ok = at_end (step_meaning c.args.mode (math.filter (expression_view c.args.e.now)) top)
+      (AllRelated (IsAt c.args.document) (drop c.loop-item.item-index c.args.items.now))
+      (AllRelated (IsAt c.args.document) c.loop-item.nodes.items) _ (c.loop-item.invariant top ts r a).0
+      (list_end (IsAt c.args.document) c.args.items.now c.loop-item.item-index c.loop-item-test.false);
+  err = tt;
+}
 
 -- ---- one step of one item
 
-pub step_item-returns-in-DotField-clause-meant : goal.step_item-returns-in-DotField-clause-meant
-step_item-returns-in-DotField-clause-meant t c = λ top u r s.
-    same_outcome (ap (λ x. step_meaning c.args.mode (taken_step c.args.expressions x) top u) (dot_field_is c.args.step.now c.in-DotField.name c.in-DotField.is)
-    ∙ ap (λ n. field_step c.args.mode n u) (sym c.as_str.ensures.value)) (c.field.ensures.meant u s)
+pub step_item-returns-in_err-truth-in-Some-clause-meant : goal.step_item-returns-in_err-truth-in-Some-clause-meant
+step_item-returns-in_err-truth-in-Some-clause-meant t c = λ top u r s.
+    let p = err_from_is_err_and c.from_residual.result c.from_residual.ensures.1 in
+    same_answer (p.1 ∙ ap Err p.2) (same_outcome (ap (λ x. step_meaning c.args.mode x top u) c.in-Some.ensures.expression)
+    (first_refused (λ b. Ok (filtered u b)) (c.in_err-truth-in-Some.ensures.meant top u r s)))
 
-pub step_item-returns-in-ColonField-clause-meant : goal.step_item-returns-in-ColonField-clause-meant
-step_item-returns-in-ColonField-clause-meant t c = λ top u r s.
-    same_outcome (ap (λ x. step_meaning c.args.mode (taken_step c.args.expressions x) top u)
-    (colon_field_is c.args.step.now c.in-ColonField.name c.in-ColonField.is)
-    ∙ ap (λ n. field_step c.args.mode n u) (sym c.as_str-in-ColonField.ensures.value))
-    (c.field-in-ColonField.ensures.meant u s)
+pub step_item-returns-in_ok-truth-in-Some-clause-meant : goal.step_item-returns-in_ok-truth-in-Some-clause-meant
+step_item-returns-in_ok-truth-in-Some-clause-meant t c = λ top u r s.
+    same_outcome (ap (λ x. step_meaning c.args.mode x top u) c.in-Some.ensures.expression)
+    (one_ok (λ b. Ok (filtered u b)) (c.in_ok-truth-in-Some.ensures.meant top u r s) (λ b is.
+    subst (λ l. AllRelated (IsAt c.args.document) l (filtered u b)) (sym c.at_most_one.ensures)
+    (kept_found (IsAt c.args.document) c.is_kept-keeps.result c.then_some.result c.args.item u (filtered u b) c.then_some.ensures
+    (ap (filtered u) (sym is) ∙ c.is_kept-keeps.ensures u) s)))
 
-pub step_item-returns-in-ObjectField-clause-meant : goal.step_item-returns-in-ObjectField-clause-meant
-step_item-returns-in-ObjectField-clause-meant t c = λ top u r s.
-    same_outcome (ap (λ x. step_meaning c.args.mode (taken_step c.args.expressions x) top u)
-    (object_field_is c.args.step.now c.in-ObjectField.name c.in-ObjectField.is)
-    ∙ ap (λ n. field_step c.args.mode n u) (sym c.as_str-in-ObjectField.ensures.value))
-    (c.field-in-ObjectField.ensures.meant u s)
-
-pub step_item-returns-in_ok-keeps-in-FilterExpr-clause-meant : goal.step_item-returns-in_ok-keeps-in-FilterExpr-clause-meant
-step_item-returns-in_ok-keeps-in-FilterExpr-clause-meant t c = λ top u r s.
-    same_outcome (ap (λ x. step_meaning c.args.mode (taken_step c.args.expressions x) top u) (filter_is c.args.step.now c.in-FilterExpr.e c.in-FilterExpr.is)
-    ∙ ap (λ x. step_meaning c.args.mode (math.filter (expression_view x)) top u) (sym c.deref.ensures))
-    (given_by (c.in_ok-keeps-in-FilterExpr.ensures.meant top u r s) (λ ts k. record {
-      ok = subst (λ l. AllRelated (IsAt c.args.document) l ts) (sym c.at_most_one.ensures)
-          (kept_found (IsAt c.args.document) c.in_ok-keeps-in-FilterExpr.keeps c.then_some.result c.args.item u ts c.then_some.ensures k s);
-      err = tt;
-    }))
-
-pub step_item-returns-in_err-push_step-in_default-clause-meant : goal.step_item-returns-in_err-push_step-in_default-clause-meant
-step_item-returns-in_err-push_step-in_default-clause-meant t c = λ top u r s.
-    let p = err_from_is_err_and c.from_residual-in_err-push_step-in_default.result c.from_residual-in_err-push_step-in_default.ensures.1 in
-    same_answer (p.1 ∙ ap Err p.2)
-    (refused_as (c.in_err-push_step-in_default.ensures.meant top u [] r s
-    (subst (λ l. AllRelated (IsAt c.args.document) l []) (sym c.new-nodes.ensures.items) tt)))
-
-pub step_item-returns-in_ok-push_step-in_default-clause-meant : goal.step_item-returns-in_ok-push_step-in_default-clause-meant
-step_item-returns-in_ok-push_step-in_default-clause-meant t c = λ top u r s. record {
-  ok = (c.in_ok-push_step-in_default.ensures.meant top u [] r s (subst (λ l. AllRelated (IsAt c.args.document) l []) (sym c.new-nodes.ensures.items) tt)).ok;
-  err = tt;
-}
+pub step_item-returns-in-None-clause-meant : goal.step_item-returns-in-None-clause-meant
+step_item-returns-in-None-clause-meant t c = λ top u r s.
+    same_outcome (ap (λ x. step_meaning c.args.mode x top u) c.in-None.ensures.expression.1)
+    (c.plain_step.ensures.meant top u c.in-None.ensures.expression.0 s)
 
 -- ---- one step of a list
 
@@ -158,35 +133,14 @@ step_list-returns-in-Many-clause-meant t c = λ top ts r a.
     (subst (λ l. AllRelated (IsAt c.args.document) l ts) (sym c.deref.ensures.value)
     (subst (λ f. AllRelated (IsAt c.args.document) (node_spots f) ts) c.in-Many.is a))
 
-pub step_many-returns-in_err-push_step-clause-meant : goal.step_many-returns-in_err-push_step-clause-meant
-step_many-returns-in_err-push_step-clause-meant t c = λ top ts r a.
-    let p = err_from_is_err_and c.from_residual.result c.from_residual.ensures.1 in
-    same_answer (p.1 ∙ ap Err p.2) (refused_in (step_meaning c.args.mode (taken_step c.args.expressions (step_view c.args.step.now)) top) _
-    (AllRelated (IsAt c.args.document) (drop c.loop-item.item-index c.args.items.now))
-    (AllRelated (IsAt c.args.document) (drop (c.loop-item.item-index + 1) c.args.items.now))
-    (AllRelated (IsAt c.args.document) c.loop-item.nodes.items) (AllRelated (IsAt c.args.document) c.push_step.new.nodes.items) _ _ _
-    (c.loop-item.invariant top ts r a)
-    (list_first (IsAt c.args.document) c.args.items.now c.loop-item.item-index no_spot c.loop-item-test.true)
-    (λ u before s b. c.in_err-push_step.ensures.meant top u before r s b))
+pub step_many-returns-in-Some-clause-meant : goal.step_many-returns-in-Some-clause-meant
+step_many-returns-in-Some-clause-meant t c = λ top ts r a.
+    same_outcome (ap (λ x. try_flat_map (step_meaning c.args.mode x top) ts) c.in-Some.ensures.expression) (c.filter_many.ensures.meant top ts r a)
 
-pub step_many-loop-item-preserved : goal.step_many-loop-item-preserved
-step_many-loop-item-preserved t c = λ top ts r a.
-    one_more (step_meaning c.args.mode (taken_step c.args.expressions (step_view c.args.step.now)) top)
-    (AllRelated (IsAt c.args.document) (drop c.loop-item.item-index c.args.items.now))
-    (AllRelated (IsAt c.args.document) (drop (c.loop-item.item-index + 1) c.args.items.now))
-    (AllRelated (IsAt c.args.document) c.loop-item.nodes.items) (AllRelated (IsAt c.args.document) c.push_step.new.nodes.items) _ _
-    (c.loop-item.invariant top ts r a)
-    (list_first (IsAt c.args.document) c.args.items.now c.loop-item.item-index no_spot c.loop-item-test.true)
-    (λ u before s b. (c.in_ok-push_step.ensures.meant top u before r s b).ok)
-
-pub step_many-returns-clause-meant : goal.step_many-returns-clause-meant
-step_many-returns-clause-meant t c = λ top ts r a. record {
-  ok = at_end (step_meaning c.args.mode (taken_step c.args.expressions (step_view c.args.step.now)) top)
-      (AllRelated (IsAt c.args.document) (drop c.loop-item.item-index c.args.items.now))
-      (AllRelated (IsAt c.args.document) c.loop-item.nodes.items) _ (c.loop-item.invariant top ts r a)
-      (list_end (IsAt c.args.document) c.args.items.now c.loop-item.item-index c.loop-item-test.false);
-  err = tt;
-}
+pub step_many-returns-in-None-clause-meant : goal.step_many-returns-in-None-clause-meant
+step_many-returns-in-None-clause-meant t c = λ top ts r a.
+    same_outcome (ap (λ x. try_flat_map (step_meaning c.args.mode x top) ts) c.in-None.ensures.expression.1)
+    (c.plain_steps.ensures.meant top ts c.in-None.ensures.expression.0 a)
 
 -- ---- several steps
 
@@ -226,16 +180,6 @@ select_steps-returns-clause-meant t c = λ top u r s.
     (drop_of_length-le c.args.steps.now c.loop-step-test.false) in
     record { ok = subst (λ o. IsOkAnd o (AllRelated (IsAt c.args.document) (node_spots c.loop-step.items))) (sym none) inv.1; err = tt }
 
--- ---- filters
-
-pub is_kept-returns-in-Some-clause-meant : goal.is_kept-returns-in-Some-clause-meant
-is_kept-returns-in-Some-clause-meant t c = λ top u r s.
-    one_ok (λ b. Ok (filtered u b)) (c.in_ok-keeps.ensures.meant top u r s) (λ b is. kept_known u b c.in-Some.keeps (sym is ∙ c.in-Some.is))
-
-pub is_kept-returns-in-None-clause-meant : goal.is_kept-returns-in-None-clause-meant
-is_kept-returns-in-None-clause-meant t c = λ top u r s.
-    one_ok (λ b. Ok (filtered u b)) (c.in_ok-keeps.ensures.meant top u r s) (λ b is. kept_unknown u b (sym is ∙ c.in-None.is))
-
 -- ---- operands
 
 pub operand_values-returns-in_err-found-in-Paths-clause-meant : goal.operand_values-returns-in_err-found-in-Paths-clause-meant
@@ -253,64 +197,214 @@ operand_values-returns-in_ok-found-in-Paths-clause-meant t c = λ top u r s.
 
 -- ---- truths
 
-pub truth-returns-in_err-found-in-ExistsFunc-clause-meant : goal.truth-returns-in_err-found-in-ExistsFunc-clause-meant
-truth-returns-in_err-found-in-ExistsFunc-clause-meant t c = λ top u r s. let p = err_from_is_err_and c.from_residual-in_err-found-in-ExistsFunc.result c.from_residual-in_err-found-in-ExistsFunc.ensures.1 in
+pub truth-returns-clause-meant : goal.truth-returns-clause-meant
+truth-returns-clause-meant t c = λ top u r s. c.truth_by_kept.ensures.meant top u [] [] r s tt
+
+pub truth_by_kept-returns-in_err-a-in-And-clause-meant : goal.truth_by_kept-returns-in_err-a-in-And-clause-meant
+truth_by_kept-returns-in_err-a-in-And-clause-meant t c = λ top u all more r s k.
+    let view = binary_is c.args.e.now c.in-BinaryOp.op c.in-BinaryOp.left c.in-BinaryOp.right c.in-BinaryOp.is
+    ∙ (λ i. math.binary (operator_view (c.in-And.is i)) (expression_view (sym c.deref.ensures i)) (expression_view c.in-BinaryOp.right.value)) in
+    let first = subst (λ l. AreKept c.args.mode top c.args.kept.now all l)
+    (ap (λ x. conditions x ++ more) view
+    ∙ append_assoc (conditions (expression_view c.deref.result.now)) (conditions (expression_view c.in-BinaryOp.right.value)) more) k in
+    let p = err_from_is_err_and c.from_residual.result c.from_residual.ensures.1 in
+    same_answer (p.1 ∙ ap Err p.2) (same_outcome (ap (λ x. truth c.args.mode x top u) view)
+    (first_refused (λ a. and_then (truth c.args.mode (expression_view c.in-BinaryOp.right.value) top u) (λ b. Ok (and_truth a b)))
+    (c.in_err-a-in-And.ensures.meant top u all (conditions (expression_view c.in-BinaryOp.right.value) ++ more) r s first)))
+
+pub truth_by_kept-returns-in_err-b-in-And-clause-meant : goal.truth_by_kept-returns-in_err-b-in-And-clause-meant
+truth_by_kept-returns-in_err-b-in-And-clause-meant t c = λ top u all more r s k.
+    let view = binary_is c.args.e.now c.in-BinaryOp.op c.in-BinaryOp.left c.in-BinaryOp.right c.in-BinaryOp.is
+    ∙ (λ i. math.binary (operator_view (c.in-And.is i)) (expression_view (sym c.deref.ensures i)) (expression_view (sym c.deref-in-And.ensures i))) in
+    let first = subst (λ l. AreKept c.args.mode top c.args.kept.now all l)
+    (ap (λ x. conditions x ++ more) view
+    ∙ append_assoc (conditions (expression_view c.deref.result.now)) (conditions (expression_view c.deref-in-And.result.now)) more) k in
+    let second = c.in_ok-a-in-And.ensures.kept top u all (conditions (expression_view c.deref-in-And.result.now) ++ more) r s first in
+    let p = err_from_is_err_and c.from_residual-in_err-b-in-And.result c.from_residual-in_err-b-in-And.ensures.1 in
+    same_answer (p.1 ∙ ap Err p.2) (same_outcome (ap (λ x. truth c.args.mode x top u) view)
+    (second_refused (λ a b. Ok (and_truth a b))
+    (c.in_ok-a-in-And.ensures.meant top u all (conditions (expression_view c.deref-in-And.result.now) ++ more) r s first)
+    (c.in_err-b-in-And.ensures.meant top u all more r s second)))
+
+pub truth_by_kept-returns-in_ok-b-in-And-clause-meant : goal.truth_by_kept-returns-in_ok-b-in-And-clause-meant
+truth_by_kept-returns-in_ok-b-in-And-clause-meant t c = λ top u all more r s k.
+    let view = binary_is c.args.e.now c.in-BinaryOp.op c.in-BinaryOp.left c.in-BinaryOp.right c.in-BinaryOp.is
+    ∙ (λ i. math.binary (operator_view (c.in-And.is i)) (expression_view (sym c.deref.ensures i)) (expression_view (sym c.deref-in-And.ensures i))) in
+    let first = subst (λ l. AreKept c.args.mode top c.args.kept.now all l)
+    (ap (λ x. conditions x ++ more) view
+    ∙ append_assoc (conditions (expression_view c.deref.result.now)) (conditions (expression_view c.deref-in-And.result.now)) more) k in
+    let second = c.in_ok-a-in-And.ensures.kept top u all (conditions (expression_view c.deref-in-And.result.now) ++ more) r s first in
+    same_outcome (ap (λ x. truth c.args.mode x top u) view)
+    (both_ok (λ a b. Ok (and_truth a b))
+    (c.in_ok-a-in-And.ensures.meant top u all (conditions (expression_view c.deref-in-And.result.now) ++ more) r s first)
+    (c.in_ok-b-in-And.ensures.meant top u all more r s second)
+    (λ a b p q. c.and_truth.ensures ∙ (λ i. and_truth (p i) (q i))))
+
+pub truth_by_kept-returns-in_ok-b-in-And-clause-kept : goal.truth_by_kept-returns-in_ok-b-in-And-clause-kept
+truth_by_kept-returns-in_ok-b-in-And-clause-kept t c = λ top u all more r s k.
+    let view = binary_is c.args.e.now c.in-BinaryOp.op c.in-BinaryOp.left c.in-BinaryOp.right c.in-BinaryOp.is
+    ∙ (λ i. math.binary (operator_view (c.in-And.is i)) (expression_view (sym c.deref.ensures i)) (expression_view (sym c.deref-in-And.ensures i))) in
+    let first = subst (λ l. AreKept c.args.mode top c.args.kept.now all l)
+    (ap (λ x. conditions x ++ more) view
+    ∙ append_assoc (conditions (expression_view c.deref.result.now)) (conditions (expression_view c.deref-in-And.result.now)) more) k in
+    c.in_ok-b-in-And.ensures.kept top u all more r s
+    (c.in_ok-a-in-And.ensures.kept top u all (conditions (expression_view c.deref-in-And.result.now) ++ more) r s first)
+
+pub truth_by_kept-returns-in_err-a-in-Or-clause-meant : goal.truth_by_kept-returns-in_err-a-in-Or-clause-meant
+truth_by_kept-returns-in_err-a-in-Or-clause-meant t c = λ top u all more r s k.
+    let view = binary_is c.args.e.now c.in-BinaryOp.op c.in-BinaryOp.left c.in-BinaryOp.right c.in-BinaryOp.is
+    ∙ (λ i. math.binary (operator_view (c.in-Or.is i)) (expression_view (sym c.deref-in-Or.ensures i)) (expression_view c.in-BinaryOp.right.value)) in
+    let first = subst (λ l. AreKept c.args.mode top c.args.kept.now all l)
+    (ap (λ x. conditions x ++ more) view
+    ∙ append_assoc (conditions (expression_view c.deref-in-Or.result.now)) (conditions (expression_view c.in-BinaryOp.right.value)) more) k in
+    let p = err_from_is_err_and c.from_residual-in_err-a-in-Or.result c.from_residual-in_err-a-in-Or.ensures.1 in
+    same_answer (p.1 ∙ ap Err p.2) (same_outcome (ap (λ x. truth c.args.mode x top u) view)
+    (first_refused (λ a. and_then (truth c.args.mode (expression_view c.in-BinaryOp.right.value) top u) (λ b. Ok (or_truth a b)))
+    (c.in_err-a-in-Or.ensures.meant top u all (conditions (expression_view c.in-BinaryOp.right.value) ++ more) r s first)))
+
+pub truth_by_kept-returns-in_err-b-in-Or-clause-meant : goal.truth_by_kept-returns-in_err-b-in-Or-clause-meant
+truth_by_kept-returns-in_err-b-in-Or-clause-meant t c = λ top u all more r s k.
+    let view = binary_is c.args.e.now c.in-BinaryOp.op c.in-BinaryOp.left c.in-BinaryOp.right c.in-BinaryOp.is
+    ∙ (λ i. math.binary (operator_view (c.in-Or.is i)) (expression_view (sym c.deref-in-Or.ensures i)) (expression_view (sym c.deref-in-Or-2.ensures i))) in
+    let first = subst (λ l. AreKept c.args.mode top c.args.kept.now all l)
+    (ap (λ x. conditions x ++ more) view
+    ∙ append_assoc (conditions (expression_view c.deref-in-Or.result.now)) (conditions (expression_view c.deref-in-Or-2.result.now)) more) k in
+    let second = c.in_ok-a-in-Or.ensures.kept top u all (conditions (expression_view c.deref-in-Or-2.result.now) ++ more) r s first in
+    let p = err_from_is_err_and c.from_residual-in_err-b-in-Or.result c.from_residual-in_err-b-in-Or.ensures.1 in
+    same_answer (p.1 ∙ ap Err p.2) (same_outcome (ap (λ x. truth c.args.mode x top u) view)
+    (second_refused (λ a b. Ok (or_truth a b))
+    (c.in_ok-a-in-Or.ensures.meant top u all (conditions (expression_view c.deref-in-Or-2.result.now) ++ more) r s first)
+    (c.in_err-b-in-Or.ensures.meant top u all more r s second)))
+
+pub truth_by_kept-returns-in_ok-b-in-Or-clause-meant : goal.truth_by_kept-returns-in_ok-b-in-Or-clause-meant
+truth_by_kept-returns-in_ok-b-in-Or-clause-meant t c = λ top u all more r s k.
+    let view = binary_is c.args.e.now c.in-BinaryOp.op c.in-BinaryOp.left c.in-BinaryOp.right c.in-BinaryOp.is
+    ∙ (λ i. math.binary (operator_view (c.in-Or.is i)) (expression_view (sym c.deref-in-Or.ensures i)) (expression_view (sym c.deref-in-Or-2.ensures i))) in
+    let first = subst (λ l. AreKept c.args.mode top c.args.kept.now all l)
+    (ap (λ x. conditions x ++ more) view
+    ∙ append_assoc (conditions (expression_view c.deref-in-Or.result.now)) (conditions (expression_view c.deref-in-Or-2.result.now)) more) k in
+    let second = c.in_ok-a-in-Or.ensures.kept top u all (conditions (expression_view c.deref-in-Or-2.result.now) ++ more) r s first in
+    same_outcome (ap (λ x. truth c.args.mode x top u) view)
+    (both_ok (λ a b. Ok (or_truth a b))
+    (c.in_ok-a-in-Or.ensures.meant top u all (conditions (expression_view c.deref-in-Or-2.result.now) ++ more) r s first)
+    (c.in_ok-b-in-Or.ensures.meant top u all more r s second)
+    (λ a b p q. c.or_truth.ensures ∙ (λ i. or_truth (p i) (q i))))
+
+pub truth_by_kept-returns-in_ok-b-in-Or-clause-kept : goal.truth_by_kept-returns-in_ok-b-in-Or-clause-kept
+truth_by_kept-returns-in_ok-b-in-Or-clause-kept t c = λ top u all more r s k.
+    let view = binary_is c.args.e.now c.in-BinaryOp.op c.in-BinaryOp.left c.in-BinaryOp.right c.in-BinaryOp.is
+    ∙ (λ i. math.binary (operator_view (c.in-Or.is i)) (expression_view (sym c.deref-in-Or.ensures i)) (expression_view (sym c.deref-in-Or-2.ensures i))) in
+    let first = subst (λ l. AreKept c.args.mode top c.args.kept.now all l)
+    (ap (λ x. conditions x ++ more) view
+    ∙ append_assoc (conditions (expression_view c.deref-in-Or.result.now)) (conditions (expression_view c.deref-in-Or-2.result.now)) more) k in
+    c.in_ok-b-in-Or.ensures.kept top u all more r s
+    (c.in_ok-a-in-Or.ensures.kept top u all (conditions (expression_view c.deref-in-Or-2.result.now) ++ more) r s first)
+
+pub truth_by_kept-returns-in_default-clause-meant : goal.truth_by_kept-returns-in_default-clause-meant
+truth_by_kept-returns-in_default-clause-meant t c = λ top u all more r s k.
+    let one = one_condition c.args.e.now c.in-BinaryOp.op c.in-BinaryOp.left c.in-BinaryOp.right c.in-BinaryOp.is c.in_default.not-And c.in_default.not-Or
+    c.in_default.not-Add c.in_default.not-Subtract c.in_default.not-Multiply c.in_default.not-Divide c.in_default.not-Modulo in
+    c.condition.ensures.meant top u all more one.0 r s (subst (λ l. AreKept c.args.mode top c.args.kept.now all (l ++ more)) one.1 k)
+
+pub truth_by_kept-returns-in_default-clause-kept : goal.truth_by_kept-returns-in_default-clause-kept
+truth_by_kept-returns-in_default-clause-kept t c = λ top u all more r s k.
+    let one = one_condition c.args.e.now c.in-BinaryOp.op c.in-BinaryOp.left c.in-BinaryOp.right c.in-BinaryOp.is c.in_default.not-And c.in_default.not-Or
+    c.in_default.not-Add c.in_default.not-Subtract c.in_default.not-Multiply c.in_default.not-Divide c.in_default.not-Modulo in
+    c.condition.ensures.kept top u all more one.0 r s (subst (λ l. AreKept c.args.mode top c.args.kept.now all (l ++ more)) one.1 k)
+
+pub truth_by_kept-returns-in-ExistsFunc-clause-meant : goal.truth_by_kept-returns-in-ExistsFunc-clause-meant
+truth_by_kept-returns-in-ExistsFunc-clause-meant t c = λ top u all more r s k.
+    let one = one_exists c.args.e.now c.in-ExistsFunc.field-0 c.in-ExistsFunc.is in
+    c.condition-in-ExistsFunc.ensures.meant top u all more one.0 r s (subst (λ l. AreKept c.args.mode top c.args.kept.now all (l ++ more)) one.1 k)
+
+pub truth_by_kept-returns-in-ExistsFunc-clause-kept : goal.truth_by_kept-returns-in-ExistsFunc-clause-kept
+truth_by_kept-returns-in-ExistsFunc-clause-kept t c = λ top u all more r s k.
+    let one = one_exists c.args.e.now c.in-ExistsFunc.field-0 c.in-ExistsFunc.is in
+    c.condition-in-ExistsFunc.ensures.kept top u all more one.0 r s (subst (λ l. AreKept c.args.mode top c.args.kept.now all (l ++ more)) one.1 k)
+
+-- ---- comparisons and `exists`
+
+pub condition-returns-in_err-truth-in-Some-clause-meant : goal.condition-returns-in_err-truth-in-Some-clause-meant
+condition-returns-in_err-truth-in-Some-clause-meant t c = λ top u all more is r s k.
+    let p = err_from_is_err_and c.from_residual.result c.from_residual.ensures.1 in
+    same_answer (p.1 ∙ ap Err p.2) (refused_as (c.in_err-truth-in-Some.ensures.meant top u is r s
+    (kept_same c.args.mode top c.args.kept.now all more (expression_view c.args.e.now) c.in-Some.part.now k c.in-Some.ensures)))
+
+pub condition-returns-in_ok-truth-in-Some-clause-meant : goal.condition-returns-in_ok-truth-in-Some-clause-meant
+condition-returns-in_ok-truth-in-Some-clause-meant t c = λ top u all more is r s k. record {
+  ok = (c.in_ok-truth-in-Some.ensures.meant top u is r s
+      (kept_same c.args.mode top c.args.kept.now all more (expression_view c.args.e.now) c.in-Some.part.now k c.in-Some.ensures)).ok;
+  err = tt;
+}
+
+pub condition-returns-in_ok-add-in-None-clause-meant : goal.condition-returns-in_ok-add-in-None-clause-meant
+condition-returns-in_ok-add-in-None-clause-meant t c = λ top u all more is r s k. without _ _ (c.in_ok-truth-in-None.ensures.meant top u is r s).ok
+
+pub condition-returns-in_ok-add-in-None-clause-kept : goal.condition-returns-in_ok-add-in-None-clause-kept
+condition-returns-in_ok-add-in-None-clause-kept t c = λ top u all more is r s k.
+    c.in_ok-add-in-None.ensures.ok c.args.mode top all more (expression_view c.args.e.now) c.in-None.ensures
+    (from_ok _ _ _ (c.in_ok-truth-in-None.ensures.meant top u is r s).ok) k
+
+pub later_truth-returns-in_ok-truth-in_default-clause-meant : goal.later_truth-returns-in_ok-truth-in_default-clause-meant
+later_truth-returns-in_ok-truth-in_default-clause-meant t c = λ top u is r s same. without _ _ (c.in_ok-truth-in_default.ensures.meant top u is r s).ok
+
+-- a comparison takes the values of both operands
+pub first_truth-returns-in_err-lefts-in-BinaryOp-clause-meant : goal.first_truth-returns-in_err-lefts-in-BinaryOp-clause-meant
+first_truth-returns-in_err-lefts-in-BinaryOp-clause-meant t c = λ top u is r s.
+    let view = binary_is c.args.e.now c.in-BinaryOp.op c.in-BinaryOp.left c.in-BinaryOp.right c.in-BinaryOp.is
+    ∙ (λ i. math.binary (operator_view c.in-BinaryOp.op) (expression_view (sym c.deref.ensures i)) (expression_view c.in-BinaryOp.right.value)) in
+    let p = err_from_is_err_and c.from_residual.result c.from_residual.ensures.1 in
+    same_answer (p.1 ∙ ap Err p.2) (same_outcome (ap (λ x. truth c.args.mode x top u) view
+    ∙ comparison_is c.args.mode (operator_view c.in-BinaryOp.op) _ _ top u (sym (ap is_condition view) ∙ is))
+    (first_refused (λ ls. and_then (operand_values c.args.mode (expression_view c.in-BinaryOp.right.value) top u)
+    (λ rs. Ok (compare (operator_view c.in-BinaryOp.op) ls rs))) (c.in_err-lefts-in-BinaryOp.ensures.meant top u r s)))
+
+pub first_truth-returns-in_err-rights-in-BinaryOp-clause-meant : goal.first_truth-returns-in_err-rights-in-BinaryOp-clause-meant
+first_truth-returns-in_err-rights-in-BinaryOp-clause-meant t c = λ top u is r s.
+    let view = binary_is c.args.e.now c.in-BinaryOp.op c.in-BinaryOp.left c.in-BinaryOp.right c.in-BinaryOp.is
+    ∙ (λ i. math.binary (operator_view c.in-BinaryOp.op) (expression_view (sym c.deref.ensures i)) (expression_view (sym c.deref-in-BinaryOp.ensures i))) in
+    let p = err_from_is_err_and c.from_residual-in_err-rights-in-BinaryOp.result c.from_residual-in_err-rights-in-BinaryOp.ensures.1 in
+    same_answer (p.1 ∙ ap Err p.2) (same_outcome (ap (λ x. truth c.args.mode x top u) view
+    ∙ comparison_is c.args.mode (operator_view c.in-BinaryOp.op) _ _ top u (sym (ap is_condition view) ∙ is))
+    (second_refused (λ ls rs. Ok (compare (operator_view c.in-BinaryOp.op) ls rs)) (c.in_ok-lefts-in-BinaryOp.ensures.meant top u r s)
+    (c.in_err-rights-in-BinaryOp.ensures.meant top u r s)))
+
+pub first_truth-returns-in_ok-rights-in-BinaryOp-clause-meant : goal.first_truth-returns-in_ok-rights-in-BinaryOp-clause-meant
+first_truth-returns-in_ok-rights-in-BinaryOp-clause-meant t c = λ top u is r s.
+    let view = binary_is c.args.e.now c.in-BinaryOp.op c.in-BinaryOp.left c.in-BinaryOp.right c.in-BinaryOp.is
+    ∙ (λ i. math.binary (operator_view c.in-BinaryOp.op) (expression_view (sym c.deref-in-BinaryOp-2.ensures i))
+    (expression_view (sym c.deref-in-BinaryOp-3.ensures i))) in
+    let compares = sym (ap is_condition view) ∙ is in
+    let lefts = ap (λ x. operand_values c.args.mode (expression_view x) top u) (c.deref-in-BinaryOp-2.ensures ∙ sym c.deref.ensures)
+    ∙ value_of atoms_view (c.in_ok-lefts-in-BinaryOp.ensures.meant top u r s) in
+    let rights = ap (λ x. operand_values c.args.mode (expression_view x) top u) (c.deref-in-BinaryOp-3.ensures ∙ sym c.deref-in-BinaryOp.ensures)
+    ∙ value_of atoms_view (c.in_ok-rights-in-BinaryOp.ensures.meant top u r s) in
+    let told = compared c.args.mode (operator_view c.in-BinaryOp.op) _ _ top u _ _ compares lefts rights
+    ∙ ap Ok (sym (c.compare-truth.ensures
+    ∙ (λ i. compare (operator_view c.in-BinaryOp.op) (c.as_slice.ensures i) (c.as_slice-in-BinaryOp.ensures i)))) in
+    let same = c.comparison_part.ensures c.args.mode top u (operator_view c.in-BinaryOp.op) compares lefts rights told in
+    known (ap (λ x. truth c.args.mode x top u) view ∙ told) (refl, subst (λ x. IsSame c.args.mode top c.comparison_part.result x) (sym view) same)
+
+-- so does `exists` the items that its path meets
+pub first_truth-returns-in_err-found-in-ExistsFunc-clause-meant : goal.first_truth-returns-in_err-found-in-ExistsFunc-clause-meant
+first_truth-returns-in_err-found-in-ExistsFunc-clause-meant t c = λ top u is r s.
+    let p = err_from_is_err_and c.from_residual-in_err-found-in-ExistsFunc.result c.from_residual-in_err-found-in-ExistsFunc.ensures.1 in
     same_answer (p.1 ∙ ap Err p.2) (same_outcome (ap (λ x. truth c.args.mode x top u) (exists_is c.args.e.now c.in-ExistsFunc.steps c.in-ExistsFunc.is)
     ∙ ap (λ o. and_then o (λ ts. Ok (Some (is_some_item ts))))
     (from_start c.args.mode _ _ _ top u c.deref-in-ExistsFunc-2.ensures.value c.deref-in-ExistsFunc.ensures.value))
     (first_refused (λ ts. Ok (Some (is_some_item ts))) (c.in_err-found-in-ExistsFunc.ensures.meant top _ r (c.first_item-first.ensures top u r s))))
 
-pub truth-returns-in_ok-found-in-ExistsFunc-clause-meant : goal.truth-returns-in_ok-found-in-ExistsFunc-clause-meant
-truth-returns-in_ok-found-in-ExistsFunc-clause-meant t c = λ top u r s.
-    same_outcome (ap (λ x. truth c.args.mode x top u) (exists_is c.args.e.now c.in-ExistsFunc.steps c.in-ExistsFunc.is)
-    ∙ ap (λ o. and_then o (λ ts. Ok (Some (is_some_item ts))))
-    (from_start c.args.mode _ _ _ top u c.deref-in-ExistsFunc-2.ensures.value c.deref-in-ExistsFunc.ensures.value))
-    (one_ok (λ ts. Ok (Some (is_some_item ts))) (c.in_ok-found-in-ExistsFunc.ensures.meant top _ r (c.first_item-first.ensures top u r s)) (λ ts related.
-    ap Some (ap not c.is_empty.ensures ∙ ap (λ l. not (length l == 0)) c.as_slice-in-ExistsFunc.ensures ∙ some_related (IsAt c.args.document) _ ts related)))
-
-pub truth-returns-in_err-rights-in_default-clause-meant : goal.truth-returns-in_err-rights-in_default-clause-meant
-truth-returns-in_err-rights-in_default-clause-meant t c = λ top u r s. let p = err_from_is_err_and c.from_residual-in_err-rights-in_default.result c.from_residual-in_err-rights-in_default.ensures.1 in
-    same_answer (p.1 ∙ ap Err p.2)
-    (same_outcome
-    (compared_is c.args.mode c.args.e.now c.in-BinaryOp.op c.in-BinaryOp.left c.in-BinaryOp.right top u _ _ c.in-BinaryOp.is c.deref-in_default.ensures c.deref-in_default-2.ensures
-    c.in_default.not-And c.in_default.not-Or c.in_default.not-Add c.in_default.not-Subtract c.in_default.not-Multiply c.in_default.not-Divide c.in_default.not-Modulo)
-    (second_refused (λ ls rs. Ok (compare (operator_view c.in-BinaryOp.op) ls rs)) (c.in_ok-lefts-in_default.ensures.meant top u r s)
-    (c.in_err-rights-in_default.ensures.meant top u r s)))
-
-pub truth-returns-in_ok-rights-in_default-clause-meant : goal.truth-returns-in_ok-rights-in_default-clause-meant
-truth-returns-in_ok-rights-in_default-clause-meant t c = λ top u r s.
-    same_outcome
-    (compared_is c.args.mode c.args.e.now c.in-BinaryOp.op c.in-BinaryOp.left c.in-BinaryOp.right top u _ _ c.in-BinaryOp.is c.deref-in_default.ensures c.deref-in_default-2.ensures
-    c.in_default.not-And c.in_default.not-Or c.in_default.not-Add c.in_default.not-Subtract c.in_default.not-Multiply c.in_default.not-Divide c.in_default.not-Modulo)
-    (both_ok (λ ls rs. Ok (compare (operator_view c.in-BinaryOp.op) ls rs)) (c.in_ok-lefts-in_default.ensures.meant top u r s)
-    (c.in_ok-rights-in_default.ensures.meant top u r s)
-    (λ ls rs p q. c.compare.ensures ∙ (λ i. compare (operator_view c.in-BinaryOp.op) (c.as_slice.ensures i) (c.as_slice-in_default.ensures i))
-    ∙ (λ i. compare (operator_view c.in-BinaryOp.op) (p i) (q i))))
-
-pub truth-returns-in_ok-b-in-And-clause-meant : goal.truth-returns-in_ok-b-in-And-clause-meant
-truth-returns-in_ok-b-in-And-clause-meant t c = λ top u r s.
-    same_outcome (ap (λ x. truth c.args.mode x top u) (binary_is c.args.e.now c.in-BinaryOp.op c.in-BinaryOp.left c.in-BinaryOp.right c.in-BinaryOp.is
-    ∙ (λ i. math.binary (operator_view (c.in-And.is i)) (expression_view (sym c.deref.ensures i)) (expression_view (sym c.deref-in-And.ensures i)))))
-    (both_ok (λ a b. Ok (and_truth a b)) (c.in_ok-a-in-And.ensures.meant top u r s) (c.in_ok-b-in-And.ensures.meant top u r s)
-    (λ a b p q. c.and_truth.ensures ∙ (λ i. and_truth (p i) (q i))))
-
-pub truth-returns-in_err-b-in-And-clause-meant : goal.truth-returns-in_err-b-in-And-clause-meant
-truth-returns-in_err-b-in-And-clause-meant t c = λ top u r s. let p = err_from_is_err_and c.from_residual-in_err-b-in-And.result c.from_residual-in_err-b-in-And.ensures.1 in
-    same_answer (p.1 ∙ ap Err p.2)
-    (same_outcome (ap (λ x. truth c.args.mode x top u) (binary_is c.args.e.now c.in-BinaryOp.op c.in-BinaryOp.left c.in-BinaryOp.right c.in-BinaryOp.is
-    ∙ (λ i. math.binary (operator_view (c.in-And.is i)) (expression_view (sym c.deref.ensures i)) (expression_view (sym c.deref-in-And.ensures i)))))
-    (second_refused (λ a b. Ok (and_truth a b)) (c.in_ok-a-in-And.ensures.meant top u r s) (c.in_err-b-in-And.ensures.meant top u r s)))
-
-pub truth-returns-in_ok-b-in-Or-clause-meant : goal.truth-returns-in_ok-b-in-Or-clause-meant
-truth-returns-in_ok-b-in-Or-clause-meant t c = λ top u r s.
-    same_outcome (ap (λ x. truth c.args.mode x top u) (binary_is c.args.e.now c.in-BinaryOp.op c.in-BinaryOp.left c.in-BinaryOp.right c.in-BinaryOp.is
-    ∙ (λ i. math.binary (operator_view (c.in-Or.is i)) (expression_view (sym c.deref-in-Or.ensures i)) (expression_view (sym c.deref-in-Or-2.ensures i)))))
-    (both_ok (λ a b. Ok (or_truth a b)) (c.in_ok-a-in-Or.ensures.meant top u r s) (c.in_ok-b-in-Or.ensures.meant top u r s)
-    (λ a b p q. c.or_truth.ensures ∙ (λ i. or_truth (p i) (q i))))
-
-pub truth-returns-in_err-b-in-Or-clause-meant : goal.truth-returns-in_err-b-in-Or-clause-meant
-truth-returns-in_err-b-in-Or-clause-meant t c = λ top u r s. let p = err_from_is_err_and c.from_residual-in_err-b-in-Or.result c.from_residual-in_err-b-in-Or.ensures.1 in
-    same_answer (p.1 ∙ ap Err p.2)
-    (same_outcome (ap (λ x. truth c.args.mode x top u) (binary_is c.args.e.now c.in-BinaryOp.op c.in-BinaryOp.left c.in-BinaryOp.right c.in-BinaryOp.is
-    ∙ (λ i. math.binary (operator_view (c.in-Or.is i)) (expression_view (sym c.deref-in-Or.ensures i)) (expression_view (sym c.deref-in-Or-2.ensures i)))))
-    (second_refused (λ a b. Ok (or_truth a b)) (c.in_ok-a-in-Or.ensures.meant top u r s) (c.in_err-b-in-Or.ensures.meant top u r s)))
+pub first_truth-returns-in_ok-found-in-ExistsFunc-clause-meant : goal.first_truth-returns-in_ok-found-in-ExistsFunc-clause-meant
+first_truth-returns-in_ok-found-in-ExistsFunc-clause-meant t c = λ top u is r s.
+    let view = exists_is c.args.e.now c.in-ExistsFunc.steps c.in-ExistsFunc.is in
+    let met = one_ok {S = λ (b : Option Bool) d. b ≡ d} {z = Some (not c.is_empty.result)} (λ ts. Ok (Some (is_some_item ts)))
+    (c.in_ok-found-in-ExistsFunc.ensures.meant top _ r (c.first_item-first.ensures top u r s)) (λ ts related.
+    ap Some (ap not c.is_empty.ensures ∙ ap (λ l. not (length l == 0)) c.as_slice-in-ExistsFunc.ensures ∙ some_related (IsAt c.args.document) _ ts related)) in
+    let told = ap (λ x. truth c.args.mode x top u) view ∙ ap (λ o. and_then o (λ ts. Ok (Some (is_some_item ts))))
+    (from_start c.args.mode _ _ _ top u c.deref-in-ExistsFunc-2.ensures.value c.deref-in-ExistsFunc.ensures.value) ∙ value_is met.ok in
+    let lent = view ∙ ap (λ l. math.exists (steps_of (steps_view l))) (sym c.deref-in-ExistsFunc-3.ensures.value) in
+    known told (
+      refl,
+      subst (λ x. IsSame c.args.mode top c.exists_part.result x) (sym lent)
+          (c.exists_part.ensures c.args.mode top u (sym (ap (λ x. truth c.args.mode x top u) lent) ∙ told)),
+    )

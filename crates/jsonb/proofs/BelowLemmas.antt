@@ -1,0 +1,244 @@
+-- A walk over the items below an item: what is given, and then what each level has left, the innermost first, is the whole.
+use Rattle.std.proofs.Common.{◌≡◌, ℕ, suc, ◌+◌, ◌*◌, ◌^◌, ◌<◌, ◌≤◌, min, List, [], ◌∷◌, ◌++◌, flat_map, length, Option, Some, None, Result, Ok, Err, refl, sym, ap, subst, ◌∙◌, arith, append_assoc, append-nil}
+use Rattle.std.specs.Prelude.{reverse}
+use Rattle.std.proofs.lemmas.List.{reverse-append}
+use Rattle.std.proofs.Math.Nat.{one-le-pow, pow-le-pow_right, mul-le-mul_right}
+use Rattle.std.proofs.lemmas.Nat.{mul-le}
+use Rattle.std.proofs.lemmas.Grind.{pow_more}
+use Rattle.jsonb_doc.specs.Spots.{HasSpotsLeft, Locates, GivesSpot, spots_room, spots_bound, spot_size}
+use Rattle.jsonb_doc.specs.Tree.{Tree}
+use Rattle.jsonb_doc.specs.declared.error.Error.{Error}
+use Rattle.jsonb_doc.specs.declared.spot.Spot.{Spot}
+use Rattle.jsonb_doc.specs.declared.spot_iter.SpotIter.{SpotIter}
+use Rattle.jsonb.specs.PathTree.{Levels}
+use Rattle.jsonb.specs.Preorder.{own, preorder}
+use Rattle.jsonb.specs.Related.{AllRelated}
+use Rattle.jsonb.specs.Private.Below.{HasLeft}
+use Rattle.jsonb.specs.declared.selector.levels.OpenLevel.{OpenLevel}
+use Rattle.jsonb.proofs.Progress.{First, spot_first, spot_end}
+
+-- ---- what is left at levels, the innermost first
+
+-- the items that are left at a level
+abbrev pub Rest : Type 0
+Rest = List Tree × ℕ
+
+abbrev pub items_of : Option Levels → List Rest → List Tree
+items_of levels [] = []
+items_of levels (r ∷ rs) = flat_map (preorder levels r.1) r.0 ++ items_of levels rs
+
+abbrev pub HaveLeft : List ℕ → List OpenLevel → List Rest → Type 0
+HaveLeft bytes [] [] = Unit {0}
+HaveLeft bytes (within ∷ os) (r ∷ rs) = HasLeft bytes within r.0 r.1 × HaveLeft bytes os rs
+HaveLeft bytes _ _ = ⊥
+
+-- what is given, and what is left at the level and at those around it, which a `Vec` holds with the innermost last, is the whole
+pub record Walked (bytes : List ℕ) (levels : Option Levels) (within : OpenLevel) (around : List OpenLevel) (nodes : List Spot)
+    (whole : List Tree) : Type 0 where
+  pub here : List Tree
+  pub level : ℕ
+  pub others : List Rest
+  pub given : List Tree
+  pub left : HasLeft bytes within here level
+  pub left_around : HaveLeft bytes (reverse around) others
+  pub done : AllRelated (Locates bytes) nodes given
+  pub is : given ++ (flat_map (preorder levels level) here ++ items_of levels others) ≡ whole
+
+innermost : {A : Type 0} (around : List A) (x : A) → reverse (around ++ x ∷ []) ≡ x ∷ reverse around
+innermost around x = reverse-append around (x ∷ [])
+
+pub no_levels : (around : List OpenLevel) → length around ≡ 0 → around ≡ []
+no_levels [] h = refl
+no_levels (within ∷ around) h = absurd (omega (arith, h))
+
+-- what is known of each item at a place, of the one that comes next
+pub told_first : {Others : List Tree → Type 0} {P Q : Tree → Type 0} {rest : List Tree} → First Others P rest → ((t : Tree) → P t → Q t) → First Others Q rest
+told_first f tell = record { first = f.first; others = f.others; whole = f.whole; holds = tell f.first f.holds; left = f.left }
+
+module _ (bytes : List ℕ) (levels : Option Levels) where
+  -- a part of a whole, put together another way
+  regrouped : (given own rest others : List Tree) → (given ++ own) ++ (rest ++ others) ≡ given ++ ((own ++ rest) ++ others)
+  regrouped given own rest others = append_assoc given own (rest ++ others) ∙ ap (λ l. given ++ l) (sym (append_assoc own rest others))
+
+  -- the first item is looked at
+  pub walk_begun : (within : OpenLevel) (around : List OpenLevel) (nodes : List Spot) (before ts : List Tree) (n : ℕ) (t : Tree) → around ≡ []
+      → AllRelated (Locates bytes) nodes (before ++ own levels n t) → HasLeft bytes within ts (n + 1)
+      → preorder levels n t ≡ own levels n t ++ flat_map (preorder levels (n + 1)) ts
+      → Walked bytes levels within around nodes (before ++ preorder levels n t)
+  walk_begun within around nodes before ts n t none done left is = record {
+    here = ts;
+    level = n + 1;
+    others = [];
+    given = before ++ own levels n t;
+    left = left;
+    left_around = subst (λ l. HaveLeft bytes (reverse l) []) (sym none) tt;
+    done = done;
+    is = regrouped before (own levels n t) (flat_map (preorder levels (n + 1)) ts) [] ∙ ap (λ l. before ++ l) (append-nil _ ∙ sym is);
+  }
+
+  -- an item whose children are not looked at, or that has none
+  pub item_passed : (within within' : OpenLevel) (around : List OpenLevel) (nodes nodes' : List Spot) (whole : List Tree)
+      (w : Walked bytes levels within around nodes whole)
+      (f : First (HasSpotsLeft bytes within'.children) (λ t. (before : List Tree) → AllRelated (Locates bytes) nodes before
+      → AllRelated (Locates bytes) nodes' (before ++ own levels w.level t) × (preorder levels w.level t ≡ own levels w.level t)) w.here)
+      → within'.level ≡ within.level → Walked bytes levels within' around nodes' whole
+  item_passed within within' around nodes nodes' whole w f same =
+      let told = f.holds w.given w.done in record {
+        here = f.others;
+        level = w.level;
+        others = w.others;
+        given = w.given ++ own levels w.level f.first;
+        left = (f.left, same ∙ w.left.1);
+        left_around = w.left_around;
+        done = told.0;
+        is = regrouped w.given (own levels w.level f.first) (flat_map (preorder levels w.level) f.others) (items_of levels w.others)
+            ∙ ap (λ l. w.given ++ ((l ++ flat_map (preorder levels w.level) f.others) ++ items_of levels w.others)) (sym told.1)
+            ∙ ap (λ l. w.given ++ (flat_map (preorder levels w.level) l ++ items_of levels w.others)) (sym f.whole)
+            ∙ w.is;
+      }
+
+  -- an item whose children come next
+  pub item_entered : (within within' inner : OpenLevel) (around around' : List OpenLevel) (nodes nodes' : List Spot) (whole : List Tree)
+      (w : Walked bytes levels within around nodes whole)
+      (f : First (HasSpotsLeft bytes within'.children) (λ t. (before : List Tree) → AllRelated (Locates bytes) nodes before
+      → AllRelated (Locates bytes) nodes' (before ++ own levels w.level t) × ((ts : List Tree) × HasLeft bytes inner ts (w.level + 1)
+      × (preorder levels w.level t ≡ own levels w.level t ++ flat_map (preorder levels (w.level + 1)) ts))) w.here)
+      → within'.level ≡ within.level → around' ≡ around ++ within' ∷ [] → Walked bytes levels inner around' nodes' whole
+  item_entered within within' inner around around' nodes nodes' whole w f same pushed =
+      let told = f.holds w.given w.done in
+      let ts = told.1.0 in
+      let below = flat_map (preorder levels (w.level + 1)) ts in
+      let mine = own levels w.level f.first in
+      let beside = flat_map (preorder levels w.level) f.others in
+      let outside = items_of levels w.others in record {
+        here = ts;
+        level = w.level + 1;
+        others = (f.others, w.level) ∷ w.others;
+        given = w.given ++ mine;
+        left = told.1.1;
+        left_around = subst (λ l. HaveLeft bytes l ((f.others, w.level) ∷ w.others)) (sym (ap reverse pushed ∙ innermost around within'))
+            ((f.left, same ∙ w.left.1), w.left_around);
+        done = told.0;
+        is = regrouped w.given mine below (beside ++ outside)
+            ∙ ap (λ l. w.given ++ (l ++ (beside ++ outside))) (sym told.1.2)
+            ∙ ap (λ l. w.given ++ l) (sym (append_assoc (preorder levels w.level f.first) beside outside))
+            ∙ ap (λ l. w.given ++ (flat_map (preorder levels w.level) l ++ outside)) (sym f.whole)
+            ∙ w.is;
+      }
+
+  -- a level is done
+  pub level_done : (within outer : OpenLevel) (around around' : List OpenLevel) (nodes : List Spot) (whole : List Tree)
+      (w : Walked bytes levels within around nodes whole)
+      → w.here ≡ [] → around ≡ around' ++ outer ∷ [] → Walked bytes levels outer around' nodes whole
+  level_done within outer around around' nodes whole w none e = go w.others
+      (subst (λ l. HaveLeft bytes l w.others) (ap reverse e ∙ innermost around' outer) w.left_around)
+      (ap (λ l. w.given ++ (flat_map (preorder levels w.level) l ++ items_of levels w.others)) (sym none) ∙ w.is)
+    where
+      go : (rs : List Rest) → HaveLeft bytes (outer ∷ reverse around') rs → w.given ++ items_of levels rs ≡ whole
+          → Walked bytes levels outer around' nodes whole
+      go [] h is = absurd h
+      go (r ∷ rs) h is = record { here = r.0; level = r.1; others = rs; given = w.given; left = h.0; left_around = h.1; done = w.done; is = is }
+
+  -- all are done
+  pub walk_done : (within : OpenLevel) (around : List OpenLevel) (nodes : List Spot) (whole : List Tree) (w : Walked bytes levels within around nodes whole)
+      → w.here ≡ [] → around ≡ [] → AllRelated (Locates bytes) nodes whole
+  walk_done within around nodes whole w none e = go w.others (subst (λ l. HaveLeft bytes (reverse l) w.others) e w.left_around)
+      (ap (λ l. w.given ++ (flat_map (preorder levels w.level) l ++ items_of levels w.others)) (sym none) ∙ w.is)
+    where
+      go : (rs : List Rest) → HaveLeft bytes [] rs → w.given ++ items_of levels rs ≡ whole → AllRelated (Locates bytes) nodes whole
+      go [] h is = subst (AllRelated (Locates bytes) nodes) (sym (append-nil w.given) ∙ is) w.done
+      go (r ∷ rs) h is = absurd h
+
+-- ---- how the levels shrink: a level outweighs all that can lie sized one of its items
+
+-- more by two than any level gives
+unfoldable pub base : ℕ
+base = 2 ^ 65
+
+unfoldable pub weight : OpenLevel → ℕ
+weight within = (spots_bound within.children + 1) * base ^ spots_room within.children
+
+abbrev pub weights : List OpenLevel → ℕ
+weights [] = 0
+weights (within ∷ os) = weight within + weights os
+
+base_big : (n : ℕ) → n < 2 ^ 64 → n + 2 ≤ base
+unfolding base
+base_big n h = omega (arith, h)
+
+base_pos : 0 < base
+unfolding base
+base_pos = omega arith
+
+power_pos : (m n : ℕ) → 0 < m → 1 ≤ m ^ n
+power_pos m n h = one-le-pow n m h
+
+-- with an item taken a level weighs less, by more than all in the item can weigh
+shrunk : (m b c i r s j : ℕ) → 0 < m → c < b → s ≤ r → j < r → i + 2 ≤ m → (i + 1) * m ^ j + (c + 1) * m ^ s < (b + 1) * m ^ r
+shrunk m b c i r s j pos fewer less inner few =
+    let left : (c + 1) * m ^ s ≤ b * m ^ r = mul-le (c + 1) (m ^ s) b (m ^ r) (omega arith) (pow-le-pow_right pos less) in
+    let more : (i + 2) * m ^ j ≤ m * m ^ j = mul-le-mul_right (m ^ j) few in
+    let up : m ^ (j + 1) ≤ m ^ r = pow-le-pow_right pos (omega arith) in
+    let one : 1 ≤ m ^ j = power_pos m j pos in
+    let is : m ^ (j + 1) ≡ m ^ j * m = pow_more m j in
+    summed (m ^ j) (m ^ s) (m ^ r) m i b c left more (rw is at up) one
+  where
+    summed : (x y z m i b c : ℕ) → (c + 1) * y ≤ b * z → (i + 2) * x ≤ m * x → x * m ≤ z → 1 ≤ x → (i + 1) * x + (c + 1) * y < (b + 1) * z
+    summed x y z m i b c left more up one = grind (arith, left, more, up, one)
+
+weight_pos : (within : OpenLevel) → 0 < weight within
+unfolding weight
+weight_pos within =
+    let one = power_pos base (spots_room within.children) base_pos in
+    let up : 1 * 1 ≤ (spots_bound within.children + 1) * base ^ spots_room within.children =
+    mul-le 1 1 (spots_bound within.children + 1) (base ^ spots_room within.children) (omega arith) one in
+    omega (arith, up)
+
+inner_weighs : (within within' inner : OpenLevel) (size : ℕ) → size ≤ spots_room within.children → spots_room within'.children ≤ spots_room within.children
+    → spots_bound within'.children < spots_bound within.children → spots_room inner.children < size → spots_bound inner.children < 2 ^ 64
+    → weight inner + weight within' < weight within
+unfolding weight
+inner_weighs within within' inner size sized less fewer room bound =
+    shrunk base (spots_bound within.children) (spots_bound within'.children) (spots_bound inner.children) (spots_room within.children)
+    (spots_room within'.children)
+    (spots_room inner.children) base_pos fewer less (omega (arith, sized, room)) (base_big (spots_bound inner.children) bound)
+
+taken_weighs : (within within' : OpenLevel) → spots_room within'.children ≤ spots_room within.children
+    → spots_bound within'.children < spots_bound within.children
+    → weight within' < weight within
+unfolding weight
+taken_weighs within within' less fewer =
+    let left : (spots_bound within'.children + 1) * base ^ spots_room within'.children ≤ spots_bound within.children * base ^ spots_room within.children
+    = mul-le (spots_bound within'.children + 1) (base ^ spots_room within'.children) (spots_bound within.children) (base ^ spots_room within.children)
+    (omega (arith, fewer)) (pow-le-pow_right base_pos less) in
+    one_more (spots_bound within.children) (base ^ spots_room within.children) ((spots_bound within'.children + 1) * base ^ spots_room within'.children) left
+    (power_pos base (spots_room within.children) base_pos)
+  where
+    one_more : (b z x : ℕ) → x ≤ b * z → 1 ≤ z → x < (b + 1) * z
+    one_more b z x h one = grind (arith, h, one)
+
+around_pushed : (around around' : List OpenLevel) (within : OpenLevel) → around' ≡ around ++ within ∷ []
+    → weights (reverse around') ≡ weight within + weights (reverse around)
+around_pushed around around' within e = ap (λ os. weights (reverse os)) e ∙ ap weights (innermost around within)
+
+-- the measure of a walk falls where an item is entered, where it is passed, and where a level is done
+pub falls_within : (within within' inner : OpenLevel) (around around' : List OpenLevel) (size : ℕ) → size ≤ spots_room within.children
+    → spots_room within'.children ≤ spots_room within.children → spots_bound within'.children < spots_bound within.children
+    → spots_room inner.children < size → spots_bound inner.children < 2 ^ 64 → around' ≡ around ++ within' ∷ []
+    → weight inner + weights (reverse around') < weight within + weights (reverse around)
+falls_within within within' inner around around' size sized less fewer room bound e =
+    let is = around_pushed around around' within' e in
+    let light = inner_weighs within within' inner size sized less fewer room bound in
+    omega (arith, is, light)
+
+pub falls_beside : (within within' : OpenLevel) (around : List OpenLevel) → spots_room within'.children ≤ spots_room within.children
+    → spots_bound within'.children < spots_bound within.children
+    → weight within' + weights (reverse around) < weight within + weights (reverse around)
+falls_beside within within' around less fewer = let light = taken_weighs within within' less fewer in omega (arith, light)
+
+pub falls_done : (within outer : OpenLevel) (around around' : List OpenLevel) → around ≡ around' ++ outer ∷ []
+    → weight outer + weights (reverse around') < weight within + weights (reverse around)
+falls_done within outer around around' e =
+    let is = around_pushed around' around outer e in
+    let pos = weight_pos within in
+    omega (arith, is, pos)

@@ -1,0 +1,462 @@
+-- What is open while an expression is read: each step of the reading keeps what the rules make of it.
+use Rattle.std.proofs.Common.{◌≡◌, ℕ, ◌+◌, List, [], ◌∷◌, ◌++◌, length, Bool, true, false, Option, Some, None, Result, Ok, Err, IfOk, Bor, refl, sym, ap, ◌∙◌, subst, arith}
+use Rattle.std.specs.Prelude.{nat_eq, ◌==◌, fold, option_and_then}
+use Rattle.std.proofs.lemmas.Bool.Decides.{nat_tests}
+use Rattle.std.proofs.lemmas.Option.{same_Some}
+use Rattle.jsonb_keypath.specs.Rules.{Parsed, Rule, give, ◌>>=◌, ◌>>◌, parsed_map, bytes, literal, repeat}
+use Rattle.jsonb_keypath.specs.Tokens.{ws, past, is_space}
+use Rattle.jsonb_keypath.specs.TokenLaws.{ReadsSome}
+use Rattle.jsonb_keypath.specs.Views.{read_as, LeavesLess}
+use Rattle.jsonb.specs.declared.path.Expr.{Expr as CodeExpr}
+use Rattle.jsonb_keypath.proofs.ReadsLemmas.{NeverGrows, some-then, some-no_more}
+use Rattle.jsonb_keypath.proofs.RepeatLemmas.{repeat-goes, repeat-ends, behind, loop-goes, loop-ends}
+use Rattle.jsonb_keypath.proofs.CutLemmas.{nothing}
+use Rattle.jsonb.specs.PathTree.{BinaryOp, binary, and_op, or_op, Expression, Step, root, exists, filter, paths, steps_of, whole_expression}
+use Rattle.jsonb.specs.PathGrammar.{spaced, atom_with, another_atom, and_with, another_and, or_with, expression, joined_by, spaced_inner, spaced_operand, operator, path_with, filter_with, path_step, path_root, operand_steps, operand, unary_operator, unary_atom, binary_atom, group_with, exists_with, front_steps, first_step, plain_path, root_expression}
+use Rattle.jsonb.specs.PathViews.{expression_view, steps_view}
+use Rattle.jsonb.specs.Private.Frames.{joined_from, joined_view, joined_behind, level_outcome, IsUnclosed, IsLevel, closed, filter_front, filter_step, steps_behind, opened_outcome, IsOpened, resumed, AreFrames, operation, goes_in_filter, opening_outcome, as_path}
+use Rattle.jsonb.specs.declared.parser.condition.Joined.{Joined}
+use Rattle.jsonb.specs.declared.parser.condition.Level.{Level}
+use Rattle.jsonb.specs.declared.parser.opening.Opened.{Opened}
+use Rattle.jsonb.specs.declared.parser.opening.Opened.TheVariants as opened
+use Rattle.jsonb.specs.declared.parser.expression.Frame.{Frame}
+use Rattle.jsonb.specs.declared.parser.opening.Opening.{Opening}
+use Rattle.jsonb.proofs.ExpressionReadsSome.{some-atom, some-and, some-path, some-and_separator, some-or_separator, grows-nested_or, some-nested_or}
+use Rattle.jsonb.proofs.Bounds.{rules_hold}
+
+grows-expression : (f : Bool) → NeverGrows (expression f)
+unfolding expression
+grows-expression f input e rest reads = grows-nested_or (length input + 1) f input e rest reads
+
+some-another_atom : (f : Bool) → ReadsSome (another_atom expression f)
+some-another_atom f = some-then (spaced (literal "&&")) _ some-and_separator (λ _. some-no_more (atom_with expression f)
+    (some-atom expression grows-expression f))
+
+some-another_and : (f : Bool) → ReadsSome (another_and expression f)
+some-another_and f = some-then (spaced (literal "||")) _ some-or_separator (λ _. some-no_more (and_with expression f)
+    (some-and expression grows-expression f))
+
+-- ---- conditions
+
+-- no separator
+join-ends : (op : BinaryOp) (separator : Rule (Unit {0})) (member : Rule Expression) (e : Expression) (input : List ℕ) →
+    separator input ≡ None → joined_from op (separator >> member) (Some (e, input)) ≡ Some (e, input)
+join-ends op separator member e input none =
+    rw (repeat-ends (separator >> member) input (rw none refl)) refl
+
+-- a separator, with what stands behind it
+join-next : (op : BinaryOp) (separator : Rule (Unit {0})) (member : Rule Expression) → ReadsSome (separator >> member) →
+    (j : Joined) (after : List ℕ) → separator j.before.now ≡ Some (tt, after) →
+    joined_behind op (separator >> member) (Some j) (member after) ≡ joined_from op (separator >> member) (Some (expression_view j.left.value, j.before.now))
+join-next op separator member some j after reads = go (member after) refl where
+  another : (separator >> member) j.before.now ≡ member after
+  another = rw reads refl
+
+  folds : (e a : Expression) (o : Parsed (List Expression)) →
+      parsed_map (λ others. fold (λ left right. binary op left right) (binary op e a) others) o
+      ≡ parsed_map (λ others. fold (λ left right. binary op left right) e others) (parsed_map (λ others. a ∷ others) o)
+  folds e a None = refl
+  folds e a (Some p) = refl
+
+  go : (o : Parsed Expression) → member after ≡ o → joined_behind op (separator >> member) (Some j) o
+      ≡ joined_from op (separator >> member) (Some (expression_view j.left.value, j.before.now))
+  go None at = rw (repeat-ends (separator >> member) j.before.now (another ∙ at)) refl
+  go (Some p) at = rw (repeat-goes (separator >> member) j.before.now p.0 p.1 (another ∙ at) (some j.before.now p.0 p.1 (another ∙ at)))
+      (folds (expression_view j.left.value) p.0 (repeat (separator >> member) p.1))
+
+behind-none : (op : BinaryOp) (another : Rule Expression) (o : Parsed Expression) → joined_behind op another None o ≡ joined_from op another o
+behind-none op another None = refl
+behind-none op another (Some p) = refl
+
+and-is : (f : Bool) (input : List ℕ) → joined_from and_op (another_atom expression f) (atom_with expression f input) ≡ and_with expression f input
+unfolding and_with
+and-is f input = go (atom_with expression f input) where
+  go : (o : Parsed Expression) → joined_from and_op (another_atom expression f) o ≡
+      option_and_then (λ (p : List Expression × List ℕ). Some (joined_by and_op p.0, p.1))
+      (option_and_then (λ (q : Expression × List ℕ). option_and_then (λ (p : List Expression × List ℕ). Some (q.0 ∷ p.0, p.1))
+      (repeat (another_atom expression f) q.1)) o)
+  go None = refl
+  go (Some q) = more (repeat (another_atom expression f) q.1) where
+    more : (o : Parsed (List Expression)) → parsed_map (λ others. fold (λ left right. binary and_op left right) q.0 others) o ≡
+        option_and_then (λ (p : List Expression × List ℕ). Some (joined_by and_op p.0, p.1))
+        (option_and_then (λ (p : List Expression × List ℕ). Some (q.0 ∷ p.0, p.1)) o)
+    more None = refl
+    more (Some p) = refl
+
+or-is : (f : Bool) (input : List ℕ) → joined_from or_op (another_and expression f) (and_with expression f input) ≡ or_with expression f input
+unfolding or_with
+or-is f input = go (and_with expression f input) where
+  go : (o : Parsed Expression) → joined_from or_op (another_and expression f) o ≡
+      option_and_then (λ (p : List Expression × List ℕ). Some (joined_by or_op p.0, p.1))
+      (option_and_then (λ (q : Expression × List ℕ). option_and_then (λ (p : List Expression × List ℕ). Some (q.0 ∷ p.0, p.1))
+      (repeat (another_and expression f) q.1)) o)
+  go None = refl
+  go (Some q) = more (repeat (another_and expression f) q.1) where
+    more : (o : Parsed (List Expression)) → parsed_map (λ others. fold (λ left right. binary or_op left right) q.0 others) o ≡
+        option_and_then (λ (p : List Expression × List ℕ). Some (joined_by or_op p.0, p.1))
+        (option_and_then (λ (p : List Expression × List ℕ). Some (q.0 ∷ p.0, p.1)) o)
+    more None = refl
+    more (Some p) = refl
+
+-- a level before its first condition
+pub level-begins : (f : Bool) (input : List ℕ) →
+    level_outcome (record { is_in_filter = f; all = None; any = None }) (atom_with expression f input) ≡ expression f input
+unfolding level_outcome
+level-begins f input =
+    behind-none or_op (another_and expression f) (joined_behind and_op (another_atom expression f) None (atom_with expression f input))
+    ∙ ap (joined_from or_op (another_and expression f)) (behind-none and_op (another_atom expression f) (atom_with expression f input) ∙ and-is f input)
+    ∙ or-is f input ∙ sym ((rules_hold input).0 f)
+
+-- a level whose conditions joined by `&&` are these
+abbrev pub with_all : Level → Joined → Level
+with_all l j = record { is_in_filter = l.is_in_filter; all = Some j; any = l.any }
+
+abbrev pub with_any : Level → Joined → Level
+with_any l j = record { is_in_filter = l.is_in_filter; all = None; any = Some j }
+
+pub and-goes : (l : Level) (e : Expression) (j : Joined) (after : List ℕ) → expression_view j.left.value ≡ joined_view and_op l.all e →
+    spaced (literal "&&") j.before.now ≡ Some (tt, after) →
+    level_outcome (with_all l j) (atom_with expression l.is_in_filter after) ≡ level_outcome l (Some (e, j.before.now))
+unfolding level_outcome
+and-goes l e j after left reads =
+    ap (joined_behind or_op (another_and expression l.is_in_filter) l.any)
+    (join-next and_op (spaced (literal "&&")) (atom_with expression l.is_in_filter) (some-another_atom l.is_in_filter) j after reads
+    ∙ ap (λ (x : Expression). joined_from and_op (another_atom expression l.is_in_filter) (Some (x, j.before.now))) left)
+
+or-here : (l : Level) (e : Expression) (input : List ℕ) → spaced (literal "&&") input ≡ None →
+    level_outcome l (Some (e, input)) ≡ joined_from or_op (another_and expression l.is_in_filter) (Some (joined_view or_op l.any (joined_view and_op l.all e), input))
+unfolding level_outcome
+or-here l e input none =
+    ap (joined_behind or_op (another_and expression l.is_in_filter) l.any)
+    (join-ends and_op (spaced (literal "&&")) (atom_with expression l.is_in_filter) (joined_view and_op l.all e) input none)
+
+pub or-goes : (l : Level) (e : Expression) (j : Joined) (after : List ℕ) →
+    expression_view j.left.value ≡ joined_view or_op l.any (joined_view and_op l.all e) →
+    spaced (literal "&&") j.before.now ≡ None → spaced (literal "||") j.before.now ≡ Some (tt, after) →
+    level_outcome (with_any l j) (atom_with expression l.is_in_filter after) ≡ level_outcome l (Some (e, j.before.now))
+unfolding level_outcome
+or-goes l e j after left none reads =
+    ap (joined_behind or_op (another_and expression l.is_in_filter) (Some j))
+    (behind-none and_op (another_atom expression l.is_in_filter) (atom_with expression l.is_in_filter after) ∙ and-is l.is_in_filter after)
+    ∙ join-next or_op (spaced (literal "||")) (and_with expression l.is_in_filter) (some-another_and l.is_in_filter) j after reads
+    ∙ ap (λ (x : Expression). joined_from or_op (another_and expression l.is_in_filter) (Some (x, j.before.now))) left
+    ∙ sym (or-here l e j.before.now none)
+
+pub level-ends : (l : Level) (e : Expression) (input : List ℕ) → spaced (literal "&&") input ≡ None → spaced (literal "||") input ≡ None →
+    Some (joined_view or_op l.any (joined_view and_op l.all e), input) ≡ level_outcome l (Some (e, input))
+level-ends l e input none none' =
+    sym (or-here l e input none
+    ∙ join-ends or_op (spaced (literal "||")) (and_with expression l.is_in_filter) (joined_view or_op l.any (joined_view and_op l.all e)) input none')
+
+-- ---- where a list may have ended
+
+-- what begins with one byte begins with no other
+one_front : (b c : ℕ) (front other input : List ℕ) (u : Unit {0}) (rest : List ℕ) → nat_eq b c ≡ false →
+    bytes (b ∷ front) input ≡ Some (u, rest) → bytes (c ∷ other) input ≡ None
+one_front b c front other [] u rest differs e = cc
+one_front b c front other (x ∷ input) u rest differs e = go (nat_eq b x) (nat_eq c x) refl refl e where
+  go : (s t : Bool) → nat_eq b x ≡ s → nat_eq c x ≡ t → bytes (b ∷ front) (x ∷ input) ≡ Some (u, rest) → bytes (c ∷ other) (x ∷ input) ≡ None
+  go false t at at' e' = absurd (nothing u rest (rw at at e'))
+  go true true at at' e' = grind (arith, nat_tests)
+  go true false at at' e' = rw at' refl
+
+spaced-none : (b c : ℕ) (front other input : List ℕ) (p : Unit {0} × List ℕ) → nat_eq b c ≡ false →
+    spaced (bytes (b ∷ front)) input ≡ Some p → spaced (bytes (c ∷ other)) input ≡ None
+unfolding ws
+spaced-none b c front other input p differs e = go (bytes (b ∷ front) (past is_space input)) refl e where
+  go : (o : Parsed (Unit {0})) → bytes (b ∷ front) (past is_space input) ≡ o → spaced (bytes (b ∷ front)) input ≡ Some p
+      → spaced (bytes (c ∷ other)) input ≡ None
+  go None at e' = absurd (nothing p.0 p.1 (rw at at e'))
+  go (Some q) at e' = rw (one_front b c front other (past is_space input) q.0 q.1 differs at) refl
+
+pub and-unclosed : (input after : List ℕ) → spaced (literal "&&") input ≡ Some (tt, after) → IsUnclosed input × (spaced (literal "||") input ≡ None)
+unfolding ws
+and-unclosed input after e = (
+  spaced-none 38 41 (38 ∷ []) [] input (tt, after) refl e,
+  spaced-none 38 124 (38 ∷ []) (124 ∷ []) input (tt, after) refl e,
+)
+
+pub or-unclosed : (input after : List ℕ) → spaced (literal "||") input ≡ Some (tt, after) → IsUnclosed input
+or-unclosed input after e = spaced-none 124 41 (124 ∷ []) [] input (tt, after) refl e
+
+pub filter-unclosed : (input after : List ℕ) → filter_front input ≡ Some (tt, after) → IsUnclosed input
+unfolding filter_front ws
+filter-unclosed input after e = go (bytes (63 ∷ []) (past is_space input)) refl e where
+  go : (o : Parsed (Unit {0})) → bytes (63 ∷ []) (past is_space input) ≡ o → filter_front input ≡ Some (tt, after) → IsUnclosed input
+  go None at e' = absurd (nothing tt after (rw at at e'))
+  go (Some p) at e' = rw (one_front 63 41 [] [] (past is_space input) p.0 p.1 refl at) refl
+
+-- ---- what fails
+
+-- what a level had, where no condition follows
+pub level-ended-all : (l : Level) (j : Joined) → l.all ≡ Some j → spaced (literal "||") j.before.now ≡ None →
+    level_outcome l None ≡ Some (joined_view or_op l.any (expression_view j.left.value), j.before.now)
+unfolding level_outcome
+level-ended-all l j at none =
+    rw at (join-ends or_op (spaced (literal "||")) (and_with expression l.is_in_filter) (joined_view or_op l.any (expression_view j.left.value)) j.before.now none)
+
+-- nothing is closed there
+pub unclosed-here : {A B : Type 0} (e : A) (input : List ℕ) (next : A → Rule B) → IsUnclosed input →
+    (ws >>= λ _. literal ")" >>= λ _. next e) input ≡ None
+unfolding ws
+unclosed-here {A} {B} e input next none = go (bytes (41 ∷ []) (past is_space input)) refl none where
+  go : (o : Parsed (Unit {0})) → bytes (41 ∷ []) (past is_space input) ≡ o → IsUnclosed input →
+      (ws >>= λ _. literal ")" >>= λ _. next e) input ≡ None
+  go None at none' = rw at refl
+  go (Some p) at none' = absurd (nothing tt (past is_space p.1) (sym (rw at at none')))
+
+level-unclosed : (l : Level) → IsLevel l → closed (level_outcome l None) ≡ None
+unfolding level_outcome
+level-unclosed l is = go l.all l.any refl refl where
+  go : (all any : Option Joined) → l.all ≡ all → l.any ≡ any → closed (level_outcome l None) ≡ None
+  go (Some j) any at at' = rw (level-ended-all l j at ((rw at at is.0).1)) (unclosed-here _ j.before.now give ((rw at at is.0).0))
+  go None (Some j) at at' = rw (at, at') (unclosed-here _ j.before.now give (rw at' at is.1))
+  go None None at at' = rw (at, at') refl
+
+pub opened-fails : (o : Opened) (inside : Parsed Expression) → IsOpened o → closed inside ≡ None → opened_outcome o inside ≡ None
+unfolding opened_outcome
+opened-fails opened.Group inside is none = none
+opened-fails (opened.Filter steps before) inside is none = rw none
+    (unclosed-here (steps_view steps.items) before.now (λ ss. give (exists (steps_of ss))) is)
+
+-- ---- the last frame
+
+pub resumed-push : (frames : List Frame) (frame : Frame) (inside : Parsed Expression) →
+    resumed (frames ++ frame ∷ []) inside ≡ resumed frames (level_outcome frame.level (opened_outcome frame.opened inside))
+unfolding resumed
+resumed-push [] frame inside = refl
+resumed-push (first ∷ frames) frame inside =
+    ap (λ (o : Parsed Expression). level_outcome first.level (opened_outcome first.opened o)) (resumed-push frames frame inside)
+
+pub frames-push : (frames : List Frame) (frame : Frame) → AreFrames frames → IsLevel frame.level → IsOpened frame.opened → AreFrames (frames ++ frame ∷ [])
+frames-push [] frame are is is' = (is, is', tt)
+frames-push (first ∷ frames) frame are is is' = (are.0, are.1, frames-push frames frame are.2 is is')
+
+pub frames-pop : (frames : List Frame) (frame : Frame) → AreFrames (frames ++ frame ∷ []) → AreFrames frames × IsLevel frame.level × IsOpened frame.opened
+frames-pop [] frame are = (tt, are.0, are.1)
+frames-pop (first ∷ frames) frame are = let others = frames-pop frames frame are.2 in ((are.0, are.1, others.0), others.1, others.2)
+
+pub none_open : (frames : List Frame) → length frames ≡ 0 → frames ≡ []
+none_open [] none = refl
+none_open (frame ∷ frames) none = absurd (omega (arith, none))
+
+-- a failure goes through what is open
+pub failure-goes : (frames : List Frame) (frame : Frame) (l : Level) → IsLevel l → IsOpened frame.opened →
+    resumed (frames ++ frame ∷ []) (level_outcome l None) ≡ resumed frames (level_outcome frame.level None)
+failure-goes frames frame l is is' =
+    resumed-push frames frame (level_outcome l None)
+    ∙ ap (λ (o : Parsed Expression). resumed frames (level_outcome frame.level o)) (opened-fails frame.opened (level_outcome l None) is' (level-unclosed l is))
+
+-- ---- the end of parentheses
+
+pub closed-none : (e : Expression) (input here : List ℕ) → ws input ≡ Some (tt, here) → literal ")" here ≡ None → closed (Some (e, input)) ≡ None
+closed-none e input here space none = rw (space, none) refl
+
+pub closed-some : (e : Expression) (input here end : List ℕ) → ws input ≡ Some (tt, here) → literal ")" here ≡ Some (tt, end) →
+    closed (Some (e, input)) ≡ Some (e, end)
+closed-some e input here end space reads = rw (space, reads) refl
+
+pub filter-closes : (steps new : List Step) (before : List ℕ) (e : Expression) (input here end rest : List ℕ) → ws input ≡ Some (tt, here) →
+    literal ")" here ≡ Some (tt, end) → ws end ≡ Some (tt, rest) → new ≡ steps ++ filter e ∷ [] →
+    behind new (repeat (path_with expression) rest) ≡ steps_behind steps before (filter_step (Some (e, input)))
+filter-closes steps new before e input here end rest space reads space' same = rw (space, reads, space', same) refl
+
+-- ---- steps
+
+path_step-is : path_step ≡ path_with expression
+path_step-is = λ i input. (rules_hold input).1 i
+
+-- the same of steps with no bound on parentheses
+pub without_bound : (front front' : List Step) (input input' : List ℕ) →
+    behind front (repeat path_step input) ≡ behind front' (repeat path_step input') →
+    behind front (repeat (path_with expression) input) ≡ behind front' (repeat (path_with expression) input')
+without_bound front front' input input' same = subst (λ (rule : Rule Step). behind front (repeat rule input) ≡ behind front' (repeat rule input')) path_step-is same
+
+-- a filter, where no plain step stands
+pub step-is_filter : (input inside : List ℕ) → spaced_inner input ≡ None → filter_front input ≡ Some (tt, inside) →
+    path_with expression input ≡ filter_step (expression true inside)
+unfolding path_with filter_with filter_front ws
+step-is_filter input inside none front = first (bytes (63 ∷ []) (past is_space input)) refl front where
+  same : (o : Parsed Expression) → option_and_then {U = Step × List ℕ} (λ (p : Step × List ℕ). Some (p.0, past is_space p.1))
+      (option_and_then {U = Step × List ℕ} (λ (p : Expression × List ℕ). Some (filter p.0, p.1)) o)
+      ≡ option_and_then {U = Step × List ℕ} (λ (p : Expression × List ℕ). Some (filter p.0, past is_space p.1)) o
+  same None = refl
+  same (Some p) = refl
+
+  second : (p : Unit {0} × List ℕ) → bytes (63 ∷ []) (past is_space input) ≡ Some p → (o : Parsed (Unit {0})) → bytes (40 ∷ []) (past is_space p.1) ≡ o
+      → filter_front input ≡ Some (tt, inside) → path_with expression input ≡ filter_step (expression true inside)
+  second p at None at' e = absurd (nothing tt inside (rw (at, at') at e))
+  second p at (Some q) at' e =
+      let here : past is_space q.1 ≡ inside = ap (λ (r : Unit {0} × List ℕ). r.1) (same_Some (tt, past is_space q.1) (tt, inside) (rw (at, at') at e)) in
+      rw (none, at, at', here) (same (closed (expression true inside)))
+
+  first : (o : Parsed (Unit {0})) → bytes (63 ∷ []) (past is_space input) ≡ o → filter_front input ≡ Some (tt, inside) →
+      path_with expression input ≡ filter_step (expression true inside)
+  first None at e = absurd (nothing tt inside (rw at at e))
+  first (Some p) at e = second p at (bytes (40 ∷ []) (past is_space p.1)) refl e
+
+pub no_step : (input : List ℕ) → spaced_inner input ≡ None → filter_front input ≡ None → path_with expression input ≡ None
+unfolding path_with filter_with filter_front ws
+no_step input none front = first (bytes (63 ∷ []) (past is_space input)) refl front where
+  second : (p : Unit {0} × List ℕ) → bytes (63 ∷ []) (past is_space input) ≡ Some p → (o : Parsed (Unit {0})) → bytes (40 ∷ []) (past is_space p.1) ≡ o
+      → filter_front input ≡ None → path_with expression input ≡ None
+  second p at None at' e = rw (none, at, at') refl
+  second p at (Some q) at' e = absurd (nothing tt (past is_space q.1) (sym (rw (at, at') at e)))
+
+  first : (o : Parsed (Unit {0})) → bytes (63 ∷ []) (past is_space input) ≡ o → filter_front input ≡ None → path_with expression input ≡ None
+  first None at e = rw (none, at) refl
+  first (Some p) at e = second p at (bytes (40 ∷ []) (past is_space p.1)) refl e
+
+-- the steps up to a filter, and what that makes of its inside
+pub steps-open : (steps : List Step) (input inside : List ℕ) → spaced_inner input ≡ None → filter_front input ≡ Some (tt, inside) →
+    steps_behind steps input (filter_step (expression true inside)) ≡ behind steps (repeat (path_with expression) input)
+steps-open steps input inside none front = go (filter_step (expression true inside)) (step-is_filter input inside none front) where
+  go : (o : Parsed Step) → path_with expression input ≡ o → steps_behind steps input o ≡ behind steps (repeat (path_with expression) input)
+  go None at = sym (loop-ends (path_with expression) steps input _ at refl)
+  go (Some p) at = loop-goes (path_with expression) steps input p.0 p.1 _ at (some-path expression grows-expression input p.0 p.1 at) refl
+
+pub steps-end : (steps : List Step) (input : List ℕ) → spaced_inner input ≡ None → filter_front input ≡ None →
+    behind steps (repeat (path_with expression) input) ≡ Some (steps, input)
+steps-end steps input none front = loop-ends (path_with expression) steps input _ (no_step input none front) refl
+
+-- ---- the front of a path
+
+-- the root alone, and the steps behind it
+pub root-begins : (input : List ℕ) (s : Step) (rest : List ℕ) → Some (s, rest) ≡ path_root false input →
+    behind (s ∷ []) (repeat path_step rest) ≡ plain_path input
+unfolding path_root plain_path front_steps first_step
+root-begins input s rest e = go (literal "$" input) refl e where
+  more : (o : Parsed (List Step)) → behind (root ∷ []) o ≡ option_and_then (λ (p : List Step × List ℕ). Some ((root ∷ []) ++ p.0, p.1)) o
+  more None = refl
+  more (Some p) = refl
+
+  go : (o : Parsed (Unit {0})) → literal "$" input ≡ o → Some (s, rest) ≡ path_root false input → behind (s ∷ []) (repeat path_step rest) ≡ plain_path input
+  go None at e' = absurd (nothing s rest (sym (rw at at e')))
+  go (Some p) at e' =
+      let same = same_Some (s, rest) (root, p.1) (rw at at e') in
+      let step : s ≡ root = ap (λ (r : Step × List ℕ). r.0) same in
+      let place : rest ≡ p.1 = ap (λ (r : Step × List ℕ). r.1) same in
+      rw (at, step, place) (more (repeat path_step p.1))
+
+ws-dollar : (tail : List ℕ) → ws (36 ∷ tail) ≡ Some (tt, 36 ∷ tail)
+unfolding ws
+ws-dollar tail = refl
+
+dollar : (input : List ℕ) (p : List Step × List ℕ) → operand_steps false input ≡ Some p → (tail : List ℕ) × (input ≡ 36 ∷ tail)
+unfolding path_root
+dollar [] p e = cc
+dollar (b ∷ input) p e = go (36 == b) refl where
+  go : (t : Bool) → (36 == b) ≡ t → (tail : List ℕ) × (b ∷ input ≡ 36 ∷ tail)
+  go true at = let same : b ≡ 36 = grind (arith, nat_tests) in (input, rw same refl)
+  go false at = absurd (nothing p.0 p.1 (rw at at e))
+
+binary-of : (f : Bool) (input : List ℕ) → binary_atom f input ≡ option_and_then {U = Expression × List ℕ} (λ (p : Expression × List ℕ).
+    option_and_then {U = Expression × List ℕ} (λ (q : (BinaryOp × Expression) × List ℕ). Some (binary q.0.0 p.0 q.0.1, q.1)) (operation f p.1)) (spaced_operand f input)
+unfolding binary_atom operation
+binary-of f input = go (spaced_operand f input) where
+  third : (p : Expression × List ℕ) (op : BinaryOp) (o : Parsed Expression) →
+      option_and_then {U = Expression × List ℕ} (λ (r : Expression × List ℕ). Some (binary op p.0 r.0, r.1)) o
+      ≡ option_and_then {U = Expression × List ℕ} (λ (q : (BinaryOp × Expression) × List ℕ). Some (binary q.0.0 p.0 q.0.1, q.1))
+      (option_and_then {U = (BinaryOp × Expression) × List ℕ} (λ (r : Expression × List ℕ). Some ((op, r.0), r.1)) o)
+  third p op None = refl
+  third p op (Some r) = refl
+
+  second : (p : Expression × List ℕ) (o : Parsed BinaryOp) →
+      option_and_then {U = Expression × List ℕ} (λ (q : BinaryOp × List ℕ). option_and_then {U = Expression × List ℕ} (λ (r : Expression × List ℕ). Some (binary q.0 p.0 r.0, r.1)) (spaced_operand f q.1)) o
+      ≡ option_and_then {U = Expression × List ℕ} (λ (q : (BinaryOp × Expression) × List ℕ). Some (binary q.0.0 p.0 q.0.1, q.1))
+      (option_and_then {U = (BinaryOp × Expression) × List ℕ} (λ (q : BinaryOp × List ℕ).
+      option_and_then {U = (BinaryOp × Expression) × List ℕ} (λ (r : Expression × List ℕ). Some ((q.0, r.0), r.1)) (spaced_operand f q.1)) o)
+  second p None = refl
+  second p (Some q) = third p q.0 (spaced_operand f q.1)
+
+  go : (o : Parsed Expression) → option_and_then {U = Expression × List ℕ} (λ (p : Expression × List ℕ). (operator >>= λ op. spaced_operand f >>= λ right. give (binary op p.0 right)) p.1) o
+      ≡ option_and_then {U = Expression × List ℕ} (λ (p : Expression × List ℕ).
+      option_and_then {U = Expression × List ℕ} (λ (q : (BinaryOp × Expression) × List ℕ). Some (binary q.0.0 p.0 q.0.1, q.1)) ((operator >>= λ op. spaced_operand f >>= λ right.
+      give (op, right)) p.1)) o
+  go None = refl
+  go (Some p) = second p (operator p.1)
+
+module _ (tail : List ℕ) (ss : List Step) (rest here : List ℕ) (reads : operand_steps false (36 ∷ tail) ≡ Some (ss, rest)) (space : ws rest ≡ Some (tt, here)) where
+  first_operand : spaced_operand false (36 ∷ tail) ≡ Some (paths (steps_of ss), here)
+  unfolding spaced_operand operand
+  first_operand = rw (ws-dollar tail, reads, space) refl
+
+  atom-some : (op : BinaryOp) (e : Expression) (after : List ℕ) → operation false here ≡ Some ((op, e), after) →
+      atom_with expression false (36 ∷ tail) ≡ Some (binary op (paths (steps_of ss)) e, after)
+  unfolding atom_with unary_atom unary_operator
+  atom-some op e after is =
+      let second : binary_atom false (36 ∷ tail) ≡ Some (binary op (paths (steps_of ss)) e, after) = binary-of false (36 ∷ tail) ∙ (rw (first_operand, is) refl) in
+      rw second refl
+
+  atom-none : operation false here ≡ None → atom_with expression false (36 ∷ tail) ≡ None
+  unfolding atom_with unary_atom unary_operator group_with exists_with
+  atom-none none =
+      let second : binary_atom false (36 ∷ tail) ≡ None = binary-of false (36 ∷ tail) ∙ (rw (first_operand, none) refl) in
+      rw second refl
+
+-- an expression whose first atom this is
+pub front-is : (input here : List ℕ) (o : Parsed Expression) → ws input ≡ Some (tt, here) → o ≡ atom_with expression false here →
+    as_path (level_outcome (record { is_in_filter = false; all = None; any = None }) o) ≡ root_expression input
+unfolding root_expression
+front-is input here o space is =
+    ap (λ (x : Parsed Expression). as_path (level_outcome (record { is_in_filter = false; all = None; any = None }) x)) is
+    ∙ ap as_path (level-begins false here) ∙ whole (expression false here) refl where
+      whole : (x : Parsed Expression) → expression false here ≡ x → as_path x ≡ root_expression input
+      whole None at = rw (space, at) refl
+      whole (Some p) at = rw (space, at) (inner (ws p.1)) where
+        inner : (y : Parsed (Unit {0})) → option_and_then {U = List Step × List ℕ} (λ (q : Unit {0} × List ℕ). Some (whole_expression p.0 ∷ [], q.1)) y
+            ≡ option_and_then {U = List Step × List ℕ} (λ (r : Expression × List ℕ). Some (whole_expression r.0 ∷ [], r.1))
+            (option_and_then {U = Expression × List ℕ} (λ (q : Unit {0} × List ℕ). Some (p.0, q.1)) y)
+        inner None = refl
+        inner (Some q) = refl
+
+-- steps, and an operation on them
+pub front-operation : (input rest here : List ℕ) (ss : List Step) (op : BinaryOp) (e : Expression) (after : List ℕ) →
+    operand_steps false input ≡ Some (ss, rest) → ws rest ≡ Some (tt, here) → operation false here ≡ Some ((op, e), after) →
+    as_path (level_outcome (record { is_in_filter = false; all = None; any = None }) (Some (binary op (paths (steps_of ss)) e, after))) ≡ root_expression input
+front-operation input rest here ss op e after reads space is = go (dollar input (ss, rest) reads) where
+  go : (tail : List ℕ) × (input ≡ 36 ∷ tail) → as_path (level_outcome (record { is_in_filter = false; all = None; any = None })
+      (Some (binary op (paths (steps_of ss)) e, after))) ≡ root_expression input
+  go d = subst (λ (i : List ℕ). as_path (level_outcome (record { is_in_filter = false; all = None; any = None })
+      (Some (binary op (paths (steps_of ss)) e, after))) ≡ root_expression i) (sym d.1)
+      (front-is (36 ∷ d.0) (36 ∷ d.0) _ (ws-dollar d.0) (sym (atom-some d.0 ss rest here (subst (λ (i : List ℕ). operand_steps false i ≡ Some (ss, rest)) d.1 reads)
+      space op e after is)))
+
+-- steps alone
+pub front-steps : (input rest here : List ℕ) (ss : List Step) → operand_steps false input ≡ Some (ss, rest) → ws rest ≡ Some (tt, here) →
+    operation false here ≡ None → root_expression input ≡ None
+unfolding level_outcome
+front-steps input rest here ss reads space none = go (dollar input (ss, rest) reads) where
+  go : (tail : List ℕ) × (input ≡ 36 ∷ tail) → root_expression input ≡ None
+  go d = subst (λ (i : List ℕ). root_expression i ≡ None) (sym d.1)
+      (sym (front-is (36 ∷ d.0) (36 ∷ d.0) None (ws-dollar d.0) (sym (atom-none d.0 ss rest here (subst (λ (i : List ℕ). operand_steps false i ≡ Some (ss, rest)) d.1 reads)
+      space none))))
+
+-- ---- the loop over what is open
+
+pub at_start : (frames : List Frame) (l start : Level) (first : Opening) → frames ≡ [] → l ≡ start →
+    resumed frames (level_outcome l (opening_outcome l.is_in_filter first)) ≡ level_outcome start (opening_outcome start.is_in_filter first)
+unfolding resumed
+at_start frames l start first none same = rw (none, same) refl
+
+pub inside-goes : (frames new : List Frame) (frame : Frame) (l : Level) (f : Bool) (inside : List ℕ) (opening : Opening) → new ≡ frames ++ frame ∷ [] →
+    f ≡ goes_in_filter frame.opened frame.level.is_in_filter → l ≡ record { is_in_filter = f; all = None; any = None } →
+    opening_outcome f opening ≡ atom_with expression f inside →
+    resumed new (level_outcome l (opening_outcome l.is_in_filter opening)) ≡ resumed frames (level_outcome frame.level
+    (opened_outcome frame.opened (expression (goes_in_filter frame.opened frame.level.is_in_filter) inside)))
+inside-goes frames new frame l f inside opening pushed flag same is =
+    ap (λ (fs : List Frame). resumed fs (level_outcome l (opening_outcome l.is_in_filter opening))) pushed
+    ∙ ap (λ (m : Level). resumed (frames ++ frame ∷ []) (level_outcome m (opening_outcome m.is_in_filter opening))) same
+    ∙ resumed-push frames frame _
+    ∙ ap (λ (o : Parsed Expression). resumed frames (level_outcome frame.level (opened_outcome frame.opened o)))
+    (ap (level_outcome (record { is_in_filter = f; all = None; any = None })) is ∙ level-begins f inside ∙ ap (λ (g : Bool). expression g inside) flag)
+
+pub shorter-expression : (f : Bool) → ReadsSome (expression f)
+unfolding expression
+shorter-expression f input e rest reads = some-nested_or (length input + 1) f input e rest reads
+
+pub less_left : {E : Type 0} (f : Bool) (input : List ℕ) (r : Result (Option (CodeExpr × Bor (List ℕ))) E) →
+    IfOk r (λ found. read_as expression_view found ≡ expression f input) → IfOk r (LeavesLess input)
+less_left f input (Ok None) h = tt
+less_left f input (Ok (Some p)) h = shorter-expression f input (expression_view p.0) p.1.now (sym h)
+less_left f input (Err e) h = tt

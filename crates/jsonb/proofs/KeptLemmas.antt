@@ -1,0 +1,188 @@
+-- What is kept of a filter from one item to the next.
+use Rattle.std.proofs.Common.{◌≡◌, ◌≢◌, Vec, Box, Global, ℕ, ◌≤◌, ◌+◌, zero, suc, List, [], ◌∷◌, ◌++◌, length, drop, Bool, true, false, not, Option, Some, None, Result, Ok, Err, IsOkAnd, OnOk, arith, refl, sym, ap, ◌∙◌, subst, inl, inr, append_assoc, add-one}
+use Rattle.std.specs.List.{slice_get}
+use Rattle.std.proofs.lemmas.Option.{slice_get_within, slice_get_cases}
+use Rattle.jsonb_doc.specs.Answer.{Outcome, and_then, Gives, IsOutOfMemory}
+use Rattle.jsonb_doc.specs.Tree.{Tree}
+use Rattle.jsonb_doc.specs.declared.error.Error.{Error}
+use Rattle.jsonb.specs.PathTree as math
+use Rattle.jsonb.specs.PathTree.{Step, Expression, steps_of}
+use Rattle.jsonb.specs.Meaning.{steps_meaning, truth, operand_values, start, is_some_item}
+use Rattle.jsonb.specs.Private.Selection.{begins_with_current}
+use Rattle.jsonb.specs.Private.Kept.{is_fixed, is_comparison, is_condition, conditions, IsSame, AreSame, AreKept, kept_part}
+use Rattle.jsonb.specs.declared.selector.document.Mode.{Mode}
+use Rattle.jsonb.specs.declared.selector.kept.KeptPart.{KeptPart}
+use Rattle.jsonb.specs.declared.selector.kept.Kept.{Kept}
+use Rattle.jsonb.specs.declared.selector.kept.Kept.TheVariants as kept
+use Rattle.jsonb.specs.PathViews.{expression_view, operator_view}
+use Rattle.jsonb.specs.Compare.{compare}
+use Rattle.jsonb.specs.Values.{Value}
+use Rattle.jsonb.specs.declared.path.Path.{Path}
+use Rattle.jsonb.specs.declared.path.Expr.{Expr}
+use Rattle.jsonb.specs.declared.path.Expr.TheVariants as expr
+use Rattle.jsonb.specs.declared.path.BinaryOperator.{BinaryOperator}
+use Rattle.jsonb.specs.declared.path.BinaryOperator.TheVariants.{And, Or, Eq, NotEq, Lt, Lte, Gt, Gte, StartsWith, Add, Subtract, Multiply, Divide, Modulo}
+use Rattle.jsonb.proofs.PathNodes.{binary_is, exists_is}
+
+-- ---- what does not look at the item
+
+pub fixed_values : (mode : Mode) (e : Expression) (top t u : Tree) → is_fixed e ≡ true → operand_values mode e top t ≡ operand_values mode e top u
+fixed_values mode (math.paths math.no_steps) top t u h = refl
+fixed_values mode (math.paths (math.step math.current rest)) top t u h = cc
+fixed_values mode (math.paths (math.step _ rest)) top t u h = refl
+fixed_values mode _ top t u h = refl
+
+pub from_root : (ss : List Step) (top t : Tree) → begins_with_current ss ≡ false → start (steps_of ss) top t ≡ top
+from_root [] top t h = refl
+from_root (math.current ∷ rest) top t h = cc
+from_root (_ ∷ rest) top t h = refl
+
+pub fixed_exists : (mode : Mode) (ss : List Step) (top t u : Tree) → begins_with_current ss ≡ false
+    → truth mode (math.exists (steps_of ss)) top t ≡ truth mode (math.exists (steps_of ss)) top u
+fixed_exists mode ss top t u h =
+    ap (λ x. and_then (steps_meaning mode (steps_of ss) top (x ∷ [])) (λ ts. Ok (Some (is_some_item ts)))) (from_root ss top t h ∙ sym (from_root ss top u h))
+
+pub fixed_paths : (ss : List Step) → is_fixed (math.paths (steps_of ss)) ≡ not (begins_with_current ss)
+fixed_paths [] = refl
+fixed_paths (math.current ∷ rest) = refl
+fixed_paths (_ ∷ rest) = refl
+
+-- ---- parts of the conditions
+
+module _ (mode : Mode) (top : Tree) where
+  -- the part at the place of the condition that comes next
+  pub same_part : (ps : List KeptPart) (all more : List Expression) (e : Expression) (p : KeptPart) (n : ℕ) → AreSame mode top ps all → (e ∷ more) ≡ drop n all
+      → slice_get ps n ≡ Some p → IsSame mode top p e
+  same_part [] all more e p n a d g = cc
+  same_part (q ∷ ps) [] more e p n a d g = absurd a
+  same_part (q ∷ ps) (f ∷ fs) more e p zero a d g =
+      let e_is : f ≡ e = cc in
+      let p_is : q ≡ p = cc in
+      subst (λ x. IsSame mode top x e) p_is (subst (λ x. IsSame mode top q x) e_is a.0)
+  same_part (q ∷ ps) (f ∷ fs) more e p (suc n) a d g = same_part ps fs more e p n a.1 d g
+
+  -- one more part, behind all that there are
+  pub one_part : (ps : List KeptPart) (all more : List Expression) (e : Expression) (p : KeptPart) → AreSame mode top ps all → (e ∷ more) ≡ drop (length ps) all
+      → IsSame mode top p e → AreSame mode top (ps ++ p ∷ []) all
+  one_part [] [] more e p a d s = cc
+  one_part [] (f ∷ fs) more e p a d s = let e_is : e ≡ f = cc in (subst (λ x. IsSame mode top p x) e_is s, tt)
+  one_part (q ∷ ps) [] more e p a d s = absurd a
+  one_part (q ∷ ps) (f ∷ fs) more e p a d s = (a.0, one_part ps fs more e p a.1 d s)
+
+-- the conditions behind the next one
+pub passed : {A : Type 0} (all more : List A) (e : A) (n : ℕ) → (e ∷ more) ≡ drop n all → more ≡ drop (n + 1) all
+passed {A} all more e n d = go all n d ∙ ap (λ m. drop m all) (sym (add-one n))
+  where
+    go : (all : List A) (n : ℕ) → (e ∷ more) ≡ drop n all → more ≡ drop (suc n) all
+    go [] zero d = cc
+    go [] (suc n) d = cc
+    go (f ∷ fs) zero d = cc
+    go (f ∷ fs) (suc n) d = go fs n d
+
+-- no part stands there: the place is behind the last
+pub at_last : (ps : List KeptPart) (n : ℕ) → slice_get ps n ≡ None → n ≤ length ps → n ≡ length ps
+at_last ps n none short = elim (slice_get_cases ps n).1 [
+  | inl found ↦ cc
+  | inr past ↦ omega (arith, past.0, short)
+]
+
+-- ---- comparisons
+
+not_joined : (op : BinaryOperator) → op ≢ And → op ≢ Or → op ≢ Add → op ≢ Subtract → op ≢ Multiply → op ≢ Divide → op ≢ Modulo
+    → is_comparison (operator_view op) ≡ true
+not_joined And a b c d e f g = absurd (a refl)
+not_joined Or a b c d e f g = absurd (b refl)
+not_joined Eq a b c d e f g = refl
+not_joined NotEq a b c d e f g = refl
+not_joined Lt a b c d e f g = refl
+not_joined Lte a b c d e f g = refl
+not_joined Gt a b c d e f g = refl
+not_joined Gte a b c d e f g = refl
+not_joined StartsWith a b c d e f g = refl
+not_joined Add a b c d e f g = absurd (c refl)
+not_joined Subtract a b c d e f g = absurd (d refl)
+not_joined Multiply a b c d e f g = absurd (e refl)
+not_joined Divide a b c d e f g = absurd (f refl)
+not_joined Modulo a b c d e f g = absurd (g refl)
+
+one_of : (op : math.BinaryOp) (l r : Expression) → is_comparison op ≡ true → conditions (math.binary op l r) ≡ math.binary op l r ∷ []
+one_of math.and_op l r h = cc
+one_of math.or_op l r h = cc
+one_of math.add l r h = cc
+one_of math.subtract l r h = cc
+one_of math.multiply l r h = cc
+one_of math.divide l r h = cc
+one_of math.modulo l r h = cc
+one_of _ l r h = refl
+
+pub comparison_is : (mode : Mode) (op : math.BinaryOp) (l r : Expression) (top u : Tree) → is_comparison op ≡ true → truth mode (math.binary op l r) top u
+    ≡ and_then (operand_values mode l top u) (λ ls. and_then (operand_values mode r top u) (λ rs. Ok (compare op ls rs)))
+comparison_is mode math.and_op l r top u h = cc
+comparison_is mode math.or_op l r top u h = cc
+comparison_is mode math.add l r top u h = cc
+comparison_is mode math.subtract l r top u h = cc
+comparison_is mode math.multiply l r top u h = cc
+comparison_is mode math.divide l r top u h = cc
+comparison_is mode math.modulo l r top u h = cc
+comparison_is mode _ l r top u h = refl
+
+-- of two operands that don't look at the item
+pub fixed_truth : (mode : Mode) (op : math.BinaryOp) (l r : Expression) (top t u : Tree) → is_comparison op ≡ true → is_fixed l ≡ true → is_fixed r ≡ true
+    → truth mode (math.binary op l r) top t ≡ truth mode (math.binary op l r) top u
+fixed_truth mode op l r top t u h hl hr =
+    comparison_is mode op l r top t h
+    ∙ (λ i. and_then (fixed_values mode l top t u hl i) (λ ls. and_then (fixed_values mode r top t u hr i) (λ rs. Ok (compare op ls rs))))
+    ∙ sym (comparison_is mode op l r top u h)
+
+-- an operator that is none of these makes one condition
+pub one_condition : (e : Expr) (op : BinaryOperator) (l r : Box Expr Global) → e ≡ expr.BinaryOp op l r →
+    op ≢ And → op ≢ Or → op ≢ Add → op ≢ Subtract → op ≢ Multiply → op ≢ Divide → op ≢ Modulo →
+    (is_condition (expression_view e) ≡ true) × (conditions (expression_view e) ≡ expression_view e ∷ [])
+one_condition e op l r is na nor n1 n2 n3 n4 n5 =
+    let view = binary_is e op l r is in
+    let compares = not_joined op na nor n1 n2 n3 n4 n5 in (
+      ap is_condition view ∙ compares,
+      ap conditions view ∙ one_of (operator_view op) (expression_view l.value) (expression_view r.value) compares ∙ ap (λ x. x ∷ []) (sym view),
+    )
+
+pub one_exists : (e : Expr) (steps : Vec Path Global) → e ≡ expr.ExistsFunc steps →
+    (is_condition (expression_view e) ≡ true) × (conditions (expression_view e) ≡ expression_view e ∷ [])
+one_exists e steps is = let view = exists_is e steps is in (ap is_condition view, ap conditions view ∙ ap (λ x. x ∷ []) (sym view))
+
+-- ---- values that are known
+
+pub value_is : {A : Type 0} {x : A} {o : Outcome A} → IsOkAnd o (λ y. x ≡ y) → o ≡ Ok x
+value_is {o = Ok y} h = ap Ok (sym h)
+value_is {o = Err e} h = absurd h
+
+pub value_of : {A B : Type 0} (f : A → B) {x : A} {o : Outcome B} → Gives (λ v y. f v ≡ y) IsOutOfMemory (Ok x) o → o ≡ Ok (f x)
+value_of f h = value_is h.ok
+
+pub known : {A B : Type 0} {R : A → B → Type 0} {x : A} {y : B} {o : Outcome B} → o ≡ Ok y → R x y → Gives R IsOutOfMemory (Ok x) o
+known {R = R} {x = x} is h = record { ok = subst (λ z. IsOkAnd z (R x)) (sym is) h; err = tt }
+
+-- the values of both operands
+pub compared : (mode : Mode) (op : math.BinaryOp) (l r : Expression) (top u : Tree) (ls rs : List Value) → is_comparison op ≡ true
+    → operand_values mode l top u ≡ Ok ls → operand_values mode r top u ≡ Ok rs → truth mode (math.binary op l r) top u ≡ Ok (compare op ls rs)
+compared mode op l r top u ls rs h p q = comparison_is mode op l r top u h
+    ∙ (λ i. and_then (p i) (λ ls. and_then (q i) (λ rs. Ok (compare op ls rs))))
+
+-- what is kept of the condition that comes next
+pub kept_same : (mode : Mode) (top : Tree) (k : Kept) (all more : List Expression) (e : Expression) (p : KeptPart) → AreKept mode top k all (e ∷ more)
+    → kept_part k ≡ Some p → IsSame mode top p e
+kept_same mode top kept.Nothing all more e p a g = cc
+kept_same mode top (kept.Parts k) all more e p a g = same_part mode top k.parts.items all more e p k.next a.0 a.1 g
+
+-- ---- what the two answers of a call say together
+
+pub from_ok : {A : Type 0} (P : Type 0) (R : A → Type 0) (o : Outcome A) → IsOkAnd o (λ c. R c × P) → P
+from_ok P R (Ok c) h = h.1
+from_ok P R (Err e) h = absurd h
+
+pub without : {A B : Type 0} {R : A → B → Type 0} {x : A} (P : Type 0) (o : Outcome B) → IsOkAnd o (λ c. R x c × P) → Gives R IsOutOfMemory (Ok x) o
+without P (Ok c) h = record { ok = h.0; err = tt }
+without P (Err e) h = absurd h
+
+pub always : {A P : Type 0} (r : Outcome A) → P → OnOk r P
+always (Ok x) p = p
+always (Err e) p = tt

@@ -1,0 +1,21 @@
+use Rattle.std.proofs.Common.{◌≡◌, ◌<◌, ◌++◌, ◌∷◌, [], length, sym, Some}
+use Rattle.std.proofs.lemmas.List.{map_push}
+use Rattle.jsonb.specs.PathGrammar.{path_step}
+use Rattle.jsonb.specs.PathViews.{steps_view, step_view}
+use Rattle.jsonb_keypath.proofs.RepeatLemmas.{loop-goes, loop-ends}
+use Rattle.jsonb.proofs.parser.more_steps_at.Goals as goal
+
+pub loop-steps-preserved : goal.loop-steps-preserved
+loop-steps-preserved c =
+    let grown : steps_view c.push.new.self.items ≡ steps_view c.loop-steps.steps.items ++ step_view c.in-Some.next ∷ [] =
+    rw c.in_ok-push.ensures.items (map_push step_view c.loop-steps.steps.items c.in-Some.next) in
+    let reads : Some (step_view c.in-Some.next, c.in-Some.after.now) ≡ path_step c.loop-steps.rest.now = rw c.in-Some.is at
+    c.in_ok-next.ensures.value in
+    let shorter : length c.in-Some.after.now < length c.loop-steps.rest.now = rw c.in-Some.is at c.in_ok-next.ensures.shrinks in
+    rw grown (loop-goes path_step (steps_view c.loop-steps.steps.items) c.loop-steps.rest.now
+    (step_view c.in-Some.next) c.in-Some.after.now _ (sym reads) shorter c.loop-steps.invariant)
+
+pub returns : goal.returns
+returns c =
+    sym (loop-ends path_step (steps_view c.loop-steps.steps.items) c.loop-steps.rest.now _ (sym
+    (rw c.in_default.is at c.in_ok-next.ensures.value)) c.loop-steps.invariant)

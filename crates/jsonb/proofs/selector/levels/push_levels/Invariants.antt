@@ -1,0 +1,19 @@
+use Rattle.std.proofs.Common.{◌≡◌, ◌++◌, ◌+◌, ℕ, List, min, option_map}
+use Rattle.std.specs.Prelude.{reverse}
+use Rattle.jsonb_doc.specs.Spots.{Locates}
+use Rattle.jsonb_doc.specs.Tree.{Tree}
+use Rattle.jsonb.specs.PathViews.{levels_view}
+use Rattle.jsonb.specs.Preorder.{preorder}
+use Rattle.jsonb.specs.Related.{AllRelated}
+use Rattle.jsonb.proofs.BelowLemmas.{Walked, weight, weights}
+use Rattle.jsonb.proofs.selector.levels.push_levels.Given as goal
+
+-- what is given, and then what each level has left, the innermost first, is the whole
+abbrev pub invariant-walk : goal.invariant-walk
+invariant-walk l = record {
+  whole : (t : Tree) (n : ℕ) (before : List Tree) → l.level ≡ min n 256 → Locates l.bytes l.fn.item t → AllRelated (Locates l.bytes) l.fn.nodes.items before
+      → Walked l.bytes (option_map levels_view l.levels) l.within l.around.items l.nodes.items (before ++ preorder (option_map levels_view l.levels) n t);
+}
+
+abbrev pub decreases-walk : goal.decreases-walk
+decreases-walk l = weight l.within + weights (reverse l.around.items)

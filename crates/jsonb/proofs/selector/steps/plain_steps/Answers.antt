@@ -1,0 +1,39 @@
+use Rattle.std.proofs.Common.{◌+◌, Err, drop, ap, ◌∙◌}
+use Rattle.std.proofs.lemmas.Result.{err_from_is_err_and}
+use Rattle.jsonb_doc.specs.Spots.{Locates}
+use Rattle.jsonb.specs.PathViews.{step_view}
+use Rattle.jsonb.specs.Related.{AllRelated}
+use Rattle.jsonb.specs.Meaning.{step_meaning}
+use Rattle.jsonb.proofs.GivesLemmas.{same_answer}
+use Rattle.jsonb.proofs.Progress.{no_spot, at_start, one_more, refused_in, at_end, list_first, list_end}
+use Rattle.jsonb.proofs.selector.steps.plain_steps.Goals as goal
+
+pub returns-in_err-push_step-clause-meant : goal.returns-in_err-push_step-clause-meant
+returns-in_err-push_step-clause-meant c = λ top ts n a.
+    let p = err_from_is_err_and c.from_residual.result c.from_residual.ensures.1 in
+    same_answer (p.1 ∙ ap Err p.2) (refused_in (step_meaning c.args.mode (step_view c.args.step.now) top) _
+    (AllRelated (Locates c.args.bytes.now) (drop c.loop-item.item-index c.args.items.now))
+    (AllRelated (Locates c.args.bytes.now) (drop (c.loop-item.item-index + 1) c.args.items.now))
+    (AllRelated (Locates c.args.bytes.now) c.loop-item.nodes.items) (AllRelated (Locates c.args.bytes.now) c.push_step.new.nodes.items) _ _ _
+    (c.loop-item.invariant top ts n a)
+    (list_first (Locates c.args.bytes.now) c.args.items.now c.loop-item.item-index no_spot c.loop-item-test.true)
+    (λ u before s b. c.in_err-push_step.ensures.meant top u before n s b))
+
+pub loop-item-preserved : goal.loop-item-preserved
+loop-item-preserved c = λ top ts n a.
+    one_more (step_meaning c.args.mode (step_view c.args.step.now) top)
+    (AllRelated (Locates c.args.bytes.now) (drop c.loop-item.item-index c.args.items.now))
+    (AllRelated (Locates c.args.bytes.now) (drop (c.loop-item.item-index + 1) c.args.items.now))
+    (AllRelated (Locates c.args.bytes.now) c.loop-item.nodes.items) (AllRelated (Locates c.args.bytes.now) c.push_step.new.nodes.items) _ _
+    (c.loop-item.invariant top ts n a)
+    (list_first (Locates c.args.bytes.now) c.args.items.now c.loop-item.item-index no_spot c.loop-item-test.true)
+    (λ u before s b. (c.in_ok-push_step.ensures.meant top u before n s b).ok)
+
+pub returns-clause-meant : goal.returns-clause-meant
+returns-clause-meant c = λ top ts n a. record {
+  ok = at_end (step_meaning c.args.mode (step_view c.args.step.now) top)
+      (AllRelated (Locates c.args.bytes.now) (drop c.loop-item.item-index c.args.items.now))
+      (AllRelated (Locates c.args.bytes.now) c.loop-item.nodes.items) _ (c.loop-item.invariant top ts n a)
+      (list_end (Locates c.args.bytes.now) c.args.items.now c.loop-item.item-index c.loop-item-test.false);
+  err = tt;
+}

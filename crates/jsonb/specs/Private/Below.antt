@@ -1,0 +1,22 @@
+-- What a recursive step has left of the containers that it is sized.
+use Rattle.std.specs.Prelude.{◌≡◌, ℕ, ◌+◌, min, Bool, not, ◌&&◌, List, [], ◌++◌, flat_map, Option, Some, None}
+use Rattle.jsonb_doc.specs.Spots.{HasSpotsLeft}
+use Rattle.jsonb_doc.specs.Tree.{Tree}
+use Rattle.jsonb.specs.PathTree.{Levels}
+use Rattle.jsonb.specs.Preorder.{answer_at, own, preorder}
+use Rattle.jsonb.specs.declared.selector.levels.OpenLevel.{OpenLevel}
+
+-- these items are left at this level, of which more than 256 count as 256
+abbrev pub HasLeft : List ℕ → OpenLevel → List Tree → ℕ → Type 0
+HasLeft bytes within ts n = HasSpotsLeft bytes within.children ts × (within.level ≡ min n 256)
+
+-- what is below an item: its children where they are looked at, else nothing
+abbrev pub AreBelow : List ℕ → Option Levels → ℕ → Tree → Option OpenLevel → Type 0
+AreBelow bytes levels n t None = preorder levels n t ≡ own levels n t
+AreBelow bytes levels n t (Some within) =
+    (ts : List Tree) × HasLeft bytes within ts (n + 1)
+    × (preorder levels n t ≡ own levels n t ++ flat_map (preorder levels (n + 1)) ts)
+
+-- nothing of this level and of those below it is taken
+abbrev pub is_shut : Option Levels → ℕ → Bool
+is_shut levels n = not (answer_at levels n).0 && not (answer_at levels n).1

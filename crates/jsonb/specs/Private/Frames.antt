@@ -1,0 +1,159 @@
+-- What is open while an expression is read, and what the rules make of it once what stands inside is read.
+use Rattle.std.specs.Prelude.{◌≡◌, ℕ, ◌+◌, ◌++◌, Bool, true, false, List, [], ◌∷◌, length, fold, Option, Some, None, option_and_then, IfSome}
+use Rattle.jsonb_keypath.specs.Rules.{Parsed, Rule, give, ◌>>=◌, ◌>>◌, parsed_map, literal, repeat}
+use Rattle.jsonb_keypath.specs.Tokens.{ws}
+use Rattle.jsonb.specs.PathTree.{BinaryOp, and_op, or_op, Step, filter, Expression, binary, exists, steps_of, whole_expression}
+use Rattle.jsonb.specs.PathGrammar.{spaced, spaced_operand, operator, path_with, atom_with, another_atom, another_and, expression, path_step, plain_path, root_expression}
+use Rattle.jsonb.specs.PathViews.{steps_view, expression_view}
+use Rattle.jsonb.specs.declared.parser.condition.Joined.{Joined}
+use Rattle.jsonb.specs.declared.parser.condition.Level.{Level}
+use Rattle.jsonb.specs.declared.parser.condition.Joining.{Joining}
+use Rattle.jsonb.specs.declared.parser.condition.Joining.TheVariants as joining
+use Rattle.jsonb.specs.declared.parser.opening.Opened.{Opened}
+use Rattle.jsonb.specs.declared.parser.opening.Opened.TheVariants as opened
+use Rattle.jsonb.specs.declared.parser.opening.Opening.{Opening}
+use Rattle.jsonb.specs.declared.parser.opening.Opening.TheVariants as opening
+use Rattle.jsonb.specs.declared.parser.expression.Frame.{Frame}
+use Rattle.jsonb.specs.declared.parser.Front.{Front}
+use Rattle.jsonb.specs.declared.parser.Front.TheVariants as front
+
+-- an operator, and the operand behind it
+unfoldable pub operation : Bool → Rule (BinaryOp × Expression)
+operation is_in_filter = do
+  op ← operator
+  right ← spaced_operand is_in_filter
+  give (op, right)
+
+-- ---- conditions
+
+-- the first member with those that still follow, joined from the left
+abbrev pub joined_from : BinaryOp → Rule Expression → Parsed Expression → Parsed Expression
+joined_from op another first = option_and_then (λ (p : Expression × List ℕ).
+    parsed_map (λ others. fold (λ left right. binary op left right) p.0 others) (repeat another p.1)) first
+
+-- the members so far and the next one
+abbrev pub joined_view : BinaryOp → Option Joined → Expression → Expression
+joined_view op None e = e
+joined_view op (Some j) e = binary op (expression_view j.left.value) e
+
+-- the members so far, the next one and those that still follow; where the next one fails, the list ends before its separator
+abbrev pub joined_behind : BinaryOp → Rule Expression → Option Joined → Parsed Expression → Parsed Expression
+joined_behind op another j (Some p) = joined_from op another (Some (joined_view op j p.0, p.1))
+joined_behind op another None None = None
+joined_behind op another (Some j) None = Some (expression_view j.left.value, j.before.now)
+
+-- the whole of a level, of what is read as its next condition
+unfoldable pub level_outcome : Level → Parsed Expression → Parsed Expression
+level_outcome l next = joined_behind or_op (another_and expression l.is_in_filter) l.any
+    (joined_behind and_op (another_atom expression l.is_in_filter) l.all next)
+
+unfoldable pub joining_outcome : Joining → Parsed Expression
+joining_outcome (joining.Next level after) = level_outcome level (atom_with expression level.is_in_filter after.now)
+joining_outcome (joining.Whole e rest) = Some (expression_view e, rest.now)
+
+abbrev pub joining_rest : Joining → List ℕ
+joining_rest (joining.Next level after) = after.now
+joining_rest (joining.Whole e rest) = rest.now
+
+-- where a list may have ended no parenthesis is closed
+abbrev pub IsUnclosed : List ℕ → Type 0
+IsUnclosed input = spaced (literal ")") input ≡ None
+
+abbrev pub IsLevel : Level → Type 0
+IsLevel l = IfSome l.all (λ j. IsUnclosed j.before.now × (spaced (literal "||") j.before.now ≡ None)) ×
+    IfSome l.any (λ j. IsUnclosed j.before.now)
+
+-- a level that goes on was left well
+abbrev pub IsJoining : Joining → Type 0
+IsJoining (joining.Next level after) = IsLevel level
+IsJoining (joining.Whole e rest) = Unit {0}
+
+-- ---- what is open
+
+-- the front of a filter
+unfoldable pub filter_front : Rule (Unit {0})
+filter_front = do
+  ws
+  literal "?"
+  ws
+  literal "("
+  ws
+
+-- an expression, and the end of its parentheses
+abbrev pub closed : Parsed Expression → Parsed Expression
+closed inside = option_and_then (λ (p : Expression × List ℕ). (do
+  ws
+  literal ")"
+  give p.0) p.1) inside
+
+-- a step of such a filter
+abbrev pub filter_step : Parsed Expression → Parsed Step
+filter_step inside = option_and_then (λ (p : Expression × List ℕ). (do
+  ws
+  give (filter p.0)) p.1) (closed inside)
+
+-- `exists` of the steps that are read, and the end of its parentheses
+abbrev pub exists_closed : Parsed (List Step) → Parsed Expression
+exists_closed steps = option_and_then (λ (p : List Step × List ℕ). (do
+  ws
+  literal ")"
+  give (exists (steps_of p.0))) p.1) steps
+
+-- the steps so far, the next one and those that still follow; where the next one fails, the steps end before it
+abbrev pub steps_behind : List Step → List ℕ → Parsed Step → Parsed (List Step)
+steps_behind steps before None = Some (steps, before)
+steps_behind steps before (Some p) = parsed_map (λ others. (steps ++ p.0 ∷ []) ++ others) (repeat (path_with expression) p.1)
+
+-- the atom, of the expression inside
+unfoldable pub opened_outcome : Opened → Parsed Expression → Parsed Expression
+opened_outcome opened.Group inside = closed inside
+opened_outcome (opened.Filter steps before) inside = exists_closed (steps_behind (steps_view steps.items) before.now (filter_step inside))
+
+-- whether what stands inside is part of a filter
+abbrev pub goes_in_filter : Opened → Bool → Bool
+goes_in_filter opened.Group outer = outer
+goes_in_filter (opened.Filter steps before) outer = true
+
+abbrev pub IsOpened : Opened → Type 0
+IsOpened opened.Group = Unit {0}
+IsOpened (opened.Filter steps before) = IsUnclosed before.now
+
+unfoldable pub opening_outcome : Bool → Opening → Parsed Expression
+opening_outcome f opening.Nothing = None
+opening_outcome f (opening.Atom e rest) = Some (expression_view e, rest.now)
+opening_outcome f (opening.Inside o inside) = opened_outcome o (expression (goes_in_filter o f) inside.now)
+
+-- how much of the input is left, where something is read
+abbrev pub opening_size : Opening → ℕ
+opening_size opening.Nothing = 0
+opening_size (opening.Atom e rest) = length rest.now + 1
+opening_size (opening.Inside o inside) = length inside.now + 1
+
+abbrev pub IsOpening : Opening → Type 0
+IsOpening opening.Nothing = Unit {0}
+IsOpening (opening.Atom e rest) = Unit {0}
+IsOpening (opening.Inside o inside) = IsOpened o
+
+-- the whole expression, of what stands inside all that is open, the outermost first
+unfoldable pub resumed : List Frame → Parsed Expression → Parsed Expression
+resumed [] inside = inside
+resumed (frame ∷ frames) inside = level_outcome frame.level (opened_outcome frame.opened (resumed frames inside))
+
+abbrev pub AreFrames : List Frame → Type 0
+AreFrames [] = Unit {0}
+AreFrames (frame ∷ frames) = IsLevel frame.level × IsOpened frame.opened × AreFrames frames
+
+-- ---- the front of a path
+
+-- an expression as a path
+abbrev pub as_path : Parsed Expression → Parsed (List Step)
+as_path whole = option_and_then (λ (p : Expression × List ℕ). (do
+  ws
+  give (whole_expression p.0 ∷ [])) p.1) whole
+
+-- the text is an expression with this front, or no expression but these steps and those behind them
+abbrev pub IsFront : List ℕ → Front → Type 0
+IsFront input (front.Atom first) = IsOpening first × (as_path (level_outcome
+    (record { is_in_filter = false; all = None; any = None }) (opening_outcome false first)) ≡ root_expression input)
+IsFront input (front.Steps steps rest) = (root_expression input ≡ None) ×
+    (parsed_map (λ others. steps_view steps.items ++ others) (repeat path_step rest.now) ≡ plain_path input)

@@ -1,0 +1,168 @@
+//! What a filter keeps from one item of a list to the next: its parts that begin at the root.
+
+ghost use Rattle.std.specs.Prelude.{◌≡◌, ◌∷◌, List, Ok, Some, None, true, MatchOption, OnOk, IfErr};
+ghost use Rattle.jsonb_doc.specs.Answer.{IsOutOfMemory};
+ghost use Rattle.jsonb_doc.specs.Tree.{Tree};
+ghost use Rattle.jsonb.specs.PathTree.{Expression, BinaryOp, binary, exists, steps_of};
+ghost use Rattle.jsonb.specs.PathViews.{expression_view, steps_view};
+ghost use Rattle.jsonb.specs.Meaning.{truth, operand_values};
+ghost use Rattle.jsonb.specs.Private.Selection.{atoms_view, begins_with_current};
+ghost use Rattle.jsonb.specs.Private.Kept.{AreKept, IsSame, kept_part, is_condition, is_fixed};
+ghost use Rattle.jsonb.specs.declared.selector.document.Mode.{Mode};
+
+use super::atom::Atoms;
+use crate::path::{Expr, Path};
+use jsonb_doc::Error;
+use std::alloc::Global;
+
+/// What of a comparison or of `exists` is the same for each item.
+#[derive(Drop)]
+pub(crate) enum KeptPart<'a> {
+    Nothing,
+    Truth(Option<bool>),
+    Left(Atoms<'a>),
+    Right(Atoms<'a>),
+}
+
+/// Part after part, in the order in which the comparisons and `exists` of a filter are executed, as far as the
+/// first item has come.
+#[derive(Drop)]
+pub(crate) struct KeptParts<'a> {
+    parts: Vec<KeptPart<'a>>,
+    /// The place of the part that comes next.
+    next: usize,
+}
+
+/// What is kept of a filter.
+#[derive(Drop)]
+pub(crate) enum Kept<'a> {
+    /// The filter is executed for one item alone.
+    Nothing,
+    Parts(KeptParts<'a>),
+}
+
+impl<'a> Kept<'a> {
+    /// For a list of items. It takes no memory.
+    pub(crate) fn new(alloc: Global) -> Kept<'a>
+        ensures { (mode : Mode) (top : Tree) (all : List Expression) → AreKept mode top result all all }
+    {
+        Kept::Parts(KeptParts {
+            parts: Vec::new(alloc),
+            next: 0,
+        })
+    }
+
+    /// The part that comes next, if it is kept.
+    #[inline(always)]
+    pub(crate) fn part(&self) -> Option<&KeptPart<'a>>
+        ensures { MatchOption result (kept_part self.now ≡ None) (λ part. kept_part self.now ≡ Some part.now) }
+    {
+        match self {
+            Kept::Nothing => None,
+            Kept::Parts(kept) => kept.parts.get(kept.next),
+        }
+    }
+
+    /// Goes on behind a part that is kept.
+    #[inline(always)]
+    pub(crate) fn pass(&mut self)
+        ensures { (mode : Mode) (top : Tree) (all more : List Expression) (e : Expression) (part : KeptPart)
+            → kept_part self.old ≡ Some part → AreKept mode top self.old all (e ∷ more)
+            → AreKept mode top self.new all more }
+    {
+        match self {
+            Kept::Nothing => {}
+            Kept::Parts(kept) => {
+                if kept.next < kept.parts.len() {
+                    kept.next += 1;
+                }
+            }
+        }
+    }
+
+    /// Keeps the part that comes next.
+    pub(crate) fn add(&mut self, part: KeptPart<'a>) -> Result<(), Error>
+        ensures ok { (mode : Mode) (top : Tree) (all more : List Expression) (e : Expression)
+            → kept_part self.old ≡ None → IsSame mode top part.entry e → AreKept mode top self.old all (e ∷ more)
+            → OnOk result (AreKept mode top self.new all more) }
+        ensures err { IfErr result IsOutOfMemory }
+    {
+        match self {
+            Kept::Nothing => Ok(()),
+            Kept::Parts(kept) => {
+                kept.parts.push(part)?;
+                kept.next = kept.parts.len();
+                Ok(())
+            }
+        }
+    }
+
+    /// Begins with the first part again.
+    #[inline(always)]
+    pub(crate) fn restart(&mut self)
+        ensures { (mode : Mode) (top : Tree) (all more : List Expression) → AreKept mode top self.old all more
+            → AreKept mode top self.new all all }
+    {
+        match self {
+            Kept::Nothing => {}
+            Kept::Parts(kept) => kept.next = 0,
+        }
+    }
+}
+
+/// What of a comparison is the same for each item.
+pub(crate) fn comparison_part<'a>(
+    left: &Expr<'_>,
+    right: &Expr<'_>,
+    lefts: Atoms<'a>,
+    rights: Atoms<'a>,
+    answer: Option<bool>,
+) -> KeptPart<'a>
+    ensures { (mode : Mode) (top t : Tree) (op : BinaryOp)
+        → is_condition (binary op (expression_view left.now) (expression_view right.now)) ≡ true
+        → operand_values mode (expression_view left.now) top t ≡ Ok (atoms_view lefts.entry)
+        → operand_values mode (expression_view right.now) top t ≡ Ok (atoms_view rights.entry)
+        → truth mode (binary op (expression_view left.now) (expression_view right.now)) top t ≡ Ok answer
+        → IsSame mode top result (binary op (expression_view left.now) (expression_view right.now)) }
+{
+    match (is_fixed(left), is_fixed(right)) {
+        (true, true) => KeptPart::Truth(answer),
+        (true, false) => KeptPart::Left(lefts),
+        (false, true) => KeptPart::Right(rights),
+        (false, false) => KeptPart::Nothing,
+    }
+}
+
+/// What of `exists` is the same for each item.
+pub(crate) fn exists_part<'a>(steps: &[Path<'_>], answer: Option<bool>) -> KeptPart<'a>
+    ensures { (mode : Mode) (top t : Tree)
+        → truth mode (exists (steps_of (steps_view steps.now))) top t ≡ Ok answer
+        → IsSame mode top result (exists (steps_of (steps_view steps.now))) }
+{
+    if begins_with_current(steps) {
+        KeptPart::Nothing
+    } else {
+        KeptPart::Truth(answer)
+    }
+}
+
+// Whether an operand has the same values for each item.
+fn is_fixed(operand: &Expr<'_>) -> bool
+    ensures { result ≡ is_fixed (expression_view operand.now) }
+{
+    match operand {
+        Expr::Paths(steps) => !begins_with_current(steps),
+        Expr::Value(_) | Expr::BinaryOp { .. } | Expr::UnaryOp { .. } | Expr::ExistsFunc(_) => true,
+    }
+}
+
+/// Whether the first step is `@`.
+#[inline(always)]
+pub(crate) fn begins_with_current(steps: &[Path<'_>]) -> bool
+    ensures { result ≡ begins_with_current (steps_view steps.now) }
+{
+    match steps.first() {
+        Some(Path::Current) => true,
+        _ => false,
+    }
+}
