@@ -1,0 +1,6 @@
+pub mod Paths
+pub mod Rows
+pub mod Names
+pub mod NameSets
+pub mod ColumnPaths
+pub mod MakingLemmas

@@ -1,0 +1,88 @@
+-- Documents that are made, and rows that are put into them.
+use Rattle.std.proofs.Common.{◌≡◌, ◌≢◌, ◌+◌, ◌-◌, ◌<◌, ℕ, zero, suc, false, List, [], ◌∷◌, drop, length, get_or, Option, Some, None, Result, Ok, Err, IfErr, MatchResult, Vec, refl, sym, ap, add-one, arith}
+use Rattle.std.specs.Prelude.{slice_get}
+use Rattle.std.specs.declared.alloc.Global.{Global}
+use Rattle.jsonb_doc.specs.declared.error.Error.{Error}
+use Rattle.jsonb_doc.specs.Answer.{IsOutOfMemoryOrTooLarge}
+use Rattle.jsonb_doc.specs.Tree.{Tree, null, Trees, no_trees, tree, Pairs, no_pairs, pair, count, elements, keys, values}
+use Rattle.jsonb_doc.specs.Payload.{Form}
+use Rattle.jsonb_doc.specs.Format.{Decodes}
+use Rattle.jsonb.specs.Related.{AllRelated}
+use Rattle.jsonb_c.specs.Making.{Encodes, IsRowOf, is_placed}
+use Rattle.jsonb_c.specs.Views.{key_answer}
+
+-- ---- a vector as its bytes
+
+pub made_answer : (P : List ℕ → Type 0) (Refusals : Error → Type 0) (r : Result (Vec ℕ Global) Error)
+    → MatchResult r (λ made. P made.items) Refusals → MatchResult (key_answer r) P Refusals
+made_answer P Refusals (Ok made) h = h
+made_answer P Refusals (Err e) h = h
+
+pub errors_answer : (Refusals : Error → Type 0) (r : Result (Vec ℕ Global) Error) → IfErr r Refusals → IfErr (key_answer r) Refusals
+errors_answer Refusals (Ok made) h = h
+errors_answer Refusals (Err e) h = h
+
+pub encodes : (t : Tree) (r : Result (Vec ℕ Global) Error)
+    → ((form : Form) → MatchResult r (λ made. Decodes form made.items t) (IsOutOfMemoryOrTooLarge form t)) → Encodes t (key_answer r)
+encodes t r h = λ form. made_answer (λ made. Decodes form made t) (IsOutOfMemoryOrTooLarge form t) r (h form)
+
+-- ---- rows
+
+drop_at_suc : {A : Type 0} (xs : List A) (i : ℕ) (x : A) → slice_get xs i ≡ Some x → drop i xs ≡ x ∷ drop (suc i) xs
+drop_at_suc (y ∷ xs) zero x is = cc
+drop_at_suc (y ∷ xs) (suc i) x is = drop_at_suc xs i x is
+drop_at_suc [] i x is = cc
+
+drop_at : {A : Type 0} (xs : List A) (i : ℕ) (x : A) → slice_get xs i ≡ Some x → drop i xs ≡ x ∷ drop (i + 1) xs
+drop_at xs i x is = rw add-one (drop_at_suc xs i x is)
+
+pub placed_on : (column : List (Option (List ℕ))) (i : ℕ) (document : List ℕ) → slice_get column i ≡ Some (Some document)
+    → is_placed (drop i column) ≡ is_placed (drop (i + 1) column)
+placed_on column i document at = rw (drop_at column i (Some document) at) refl
+
+pub not_placed_at : (column : List (Option (List ℕ))) (i : ℕ) → slice_get column i ≡ Some None → is_placed (drop i column) ≡ false
+not_placed_at column i at = rw (drop_at column i None at) refl
+
+pub row_decodes : (form : Form) (column : List (Option (List ℕ))) (ts : List Tree) (i : ℕ) (document : List ℕ)
+    → AllRelated (IsRowOf form) column ts → slice_get column i ≡ Some (Some document)
+    → (i < length ts) × Decodes form document (get_or ts i null)
+row_decodes form (row ∷ column) (t ∷ ts) zero document h at =
+    let is : row ≡ Some document = cc in (omega arith, rw is at h.0)
+row_decodes form (row ∷ column) (t ∷ ts) (suc i) document h at =
+    let p = row_decodes form column ts i document h.1 at in (omega (arith, p.0), p.1)
+row_decodes form [] ts i document h at = cc
+row_decodes form (row ∷ column) [] i document h at = absurd h
+
+pub row_there : (form : Form) (column : List (Option (List ℕ))) (ts : List Tree) (i : ℕ)
+    → AllRelated (IsRowOf form) column ts → slice_get column i ≡ Some None → ⊥
+row_there form (row ∷ column) (t ∷ ts) zero h at = let is : row ≡ None = cc in absurd (rw is at h.0)
+row_there form (row ∷ column) (t ∷ ts) (suc i) h at = row_there form column ts i h.1 at
+row_there form [] ts i h at = cc
+row_there form (row ∷ column) [] i h at = absurd h
+
+pub rows_length : (form : Form) (column : List (Option (List ℕ))) (ts : List Tree) → AllRelated (IsRowOf form) column ts → length column ≡ length ts
+rows_length form [] [] h = refl
+rows_length form (row ∷ column) (t ∷ ts) h = let e = rows_length form column ts h.1 in omega (arith, e)
+rows_length form [] (t ∷ ts) h = absurd h
+rows_length form (row ∷ column) [] h = absurd h
+
+-- ---- counts
+
+pub elements_length : (ts : Trees) → count ts ≡ length (elements ts)
+elements_length no_trees = refl
+elements_length (tree t ts) = ap suc (elements_length ts)
+
+pub values_length : (ps : Pairs) → length (keys ps) ≡ length (elements (values ps))
+values_length no_pairs = refl
+values_length (pair key t ps) = ap suc (values_length ps)
+
+-- ---- pairs
+
+pub pair_here : (rest : List (List ℕ × Tree)) (p : List ℕ × Tree) (n : ℕ) (wanted : Option (List ℕ × Tree)) → n ≡ 0
+    → slice_get (p ∷ rest) n ≡ wanted → wanted ≡ Some p
+pair_here rest p n wanted now same = sym (rw now at same)
+
+pub pair_behind : (rest : List (List ℕ × Tree)) (p : List ℕ × Tree) (n : ℕ) (wanted : Option (List ℕ × Tree)) → n ≢ 0
+    → slice_get (p ∷ rest) n ≡ wanted → slice_get rest (n - 1) ≡ wanted
+pair_behind rest p zero wanted later same = absurd (later refl)
+pair_behind rest p (suc n) wanted later same = let e : suc n - 1 ≡ n = omega arith in rw e same

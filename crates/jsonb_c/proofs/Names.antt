@@ -1,0 +1,83 @@
+-- Columns of names: one name more of what is read.
+use Rattle.std.proofs.Common.{◌≡◌, ◌⊎◌, inl, inr, ℕ, suc, zero, ◌+◌, List, [], ◌∷◌, ◌++◌, map, drop, length, Option, Some, Result, Ok, Err, refl, ap, sym, ◌∙◌, arith, append_assoc, append-nil}
+use Rattle.std.specs.Prelude.{slice_get}
+use Rattle.std.proofs.Common.{Bool, true, false, cond}
+use Rattle.std.proofs.lemmas.List.{map-append}
+use Rattle.std.proofs.lemmas.Str.{IsUtf8-from_is_utf8, is_utf8-from_IsUtf8}
+use Rattle.std.specs.Borrow.{Bor}
+use Rattle.std.specs.Str.{IsUtf8, is_utf8}
+use Rattle.jsonb_doc.specs.declared.error.Error.TheVariants.{OutOfMemory}
+use Rattle.jsonb_c.specs.Names.{name_of, in_front, names_of, WithNames}
+use Rattle.jsonb_c.specs.declared.status.Status.{Status}
+use Rattle.jsonb_c.specs.declared.status.Status.TheVariants.{NotUtf8, Refused}
+
+-- the names that are read so far, with those of the rows behind
+abbrev pub behind : List (List ℕ) → Result (List (List ℕ)) Status → Result (List (List ℕ)) Status
+behind names (Ok others) = Ok (names ++ others)
+behind names (Err cause) = Err cause
+
+pub none_behind : (r : Result (List (List ℕ)) Status) → r ≡ behind [] r
+none_behind (Ok others) = refl
+none_behind (Err cause) = refl
+
+at : {A : Type 0} (xs : List A) (i : ℕ) (x : A) → slice_get xs i ≡ Some x → drop i xs ≡ x ∷ drop (suc i) xs
+at (y ∷ xs) zero x is = let e : y ≡ x = cc in rw e refl
+at (y ∷ xs) (suc i) x is = at xs i x is
+at [] i x is = cc
+
+one_more : (names : List (List ℕ)) (name : List ℕ) (r : Result (List (List ℕ)) Status)
+    → behind names (in_front (Ok name) r) ≡ behind (names ++ name ∷ []) r
+one_more names name (Ok others) = ap Ok (sym (append_assoc names (name ∷ []) others))
+one_more names name (Err cause) = refl
+
+pub names_more : (rows : List (Option (List ℕ))) (i : ℕ) (row : Option (List ℕ)) (names : List (List ℕ)) (name : List ℕ)
+    → slice_get rows i ≡ Some row → name_of row ≡ Ok name → names_of rows ≡ behind names (names_of (drop i rows))
+    → names_of rows ≡ behind (names ++ name ∷ []) (names_of (drop (i + 1) rows))
+names_more rows i row names name here is so_far =
+    let next : i + 1 ≡ suc i = omega arith in
+    let e : names_of (drop i rows) ≡ in_front (Ok name) (names_of (drop (suc i) rows)) = rw (at rows i row here, is) refl in
+    rw next (so_far ∙ ap (behind names) e ∙ one_more names name (names_of (drop (suc i) rows)))
+
+pub names_wrong : (rows : List (Option (List ℕ))) (i : ℕ) (row : Option (List ℕ)) (names : List (List ℕ)) (cause : Status)
+    → slice_get rows i ≡ Some row → name_of row ≡ Err cause → names_of rows ≡ behind names (names_of (drop i rows))
+    → names_of rows ≡ Err cause
+names_wrong rows i row names cause here is so_far =
+    let e : names_of (drop i rows) ≡ Err cause = rw (at rows i row here, is) refl in
+    so_far ∙ ap (behind names) e
+
+drop_all : {A : Type 0} (xs : List A) → drop (length xs) xs ≡ []
+drop_all [] = refl
+drop_all (x ∷ xs) = drop_all xs
+
+pub names_all : (rows : List (Option (List ℕ))) (i : ℕ) (names : List (List ℕ)) → i ≡ length rows
+    → names_of rows ≡ behind names (names_of (drop i rows)) → names_of rows ≡ Ok names
+names_all rows i names is so_far =
+    let e : names_of (drop i rows) ≡ Ok [] = rw (is, drop_all rows) refl in
+    so_far ∙ ap (behind names) e ∙ ap Ok (append-nil names)
+
+-- what a call promises by the names that it read, and by what is wrong with them
+pub answered : (read : Result (List (List ℕ)) Status) (names : List (List ℕ)) (Answered : List (List ℕ) → Type 0) (IsRefused : Status → Type 0)
+    → read ≡ Ok names → Answered names → WithNames read Answered IsRefused
+answered read names Answered IsRefused is h = rw is (inl h)
+
+pub refused : (read : Result (List (List ℕ)) Status) (cause : Status) (Answered : List (List ℕ) → Type 0) (IsRefused : Status → Type 0)
+    → (cause ≡ Refused OutOfMemory) ⊎ (read ≡ Err cause) → IsRefused cause → WithNames read Answered IsRefused
+refused read cause Answered IsRefused (inl memory) h = inr (rw (← memory) h)
+refused read cause Answered IsRefused (inr is) h = rw is (inl h)
+
+-- ---- one row
+
+pub name_ok : (row : Option (List ℕ)) (bytes name : List ℕ) → row ≡ Some bytes → name ≡ bytes → IsUtf8 bytes → name_of row ≡ Ok name
+name_ok row bytes name is same utf8 = rw (is, is_utf8-from_IsUtf8 bytes utf8) (ap Ok (sym same))
+
+not_utf8 : (bytes : List ℕ) (b : Bool) → is_utf8 bytes ≡ b → ¬ (IsUtf8 bytes) → is_utf8 bytes ≡ false
+not_utf8 bytes true is other = absurd (other (IsUtf8-from_is_utf8 bytes is))
+not_utf8 bytes false is other = is
+
+pub name_err : (row : Option (List ℕ)) (bytes : List ℕ) → row ≡ Some bytes → ¬ (IsUtf8 bytes) → name_of row ≡ Err NotUtf8
+name_err row bytes is other = rw (is, not_utf8 bytes (is_utf8 bytes) refl other) refl
+
+-- the name is put behind the others, where there is memory for it
+pub pushed_name : (old new : List (Bor (List ℕ))) (name : Bor (List ℕ)) (b : Bool) → new ≡ cond b (old ++ name ∷ []) old → b ≡ true
+    → map (λ n. n.now) new ≡ map (λ n. n.now) old ++ name.now ∷ []
+pushed_name old new name b is done = rw (is, done) (map-append (λ n. n.now) old (name ∷ []))

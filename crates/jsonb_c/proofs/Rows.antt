@@ -1,0 +1,199 @@
+-- Rows: how many there are, and one more of what is done.
+use Rattle.std.proofs.Common.{◌≡◌, ◌+◌, ◌-◌, ◌<◌, ◌≤◌, ◌++◌, ℕ, zero, suc, Bool, true, false, List, [], ◌∷◌, map, flat_map, take, drop, length, set, get_or, Option, Some, refl, ap, sym, subst, append_assoc, append-nil, add-one, ◌∙◌, arith}
+use Rattle.std.specs.Prelude.{slice_get}
+use Rattle.std.proofs.lemmas.List.{map-append, length-append, length-map, length-drop}
+use Rattle.std.proofs.lemmas.Grind.{flat_map-append}
+use Rattle.std.proofs.Math.Seq.{take-append_seam}
+use Rattle.jsonb.specs.Related.{AllRelated}
+use Rattle.jsonb_c.specs.Status.{buffer_too_small}
+use Rattle.jsonb_c.specs.Answers.{IsWritten, Places}
+use Rattle.jsonb_c.specs.Columns.{Found, Cell, IsCell, AreCells, row, rows, ends, cell_value, cell_bytes, cell_status, Checked, Filled, Joined, LacksRoom}
+
+-- ---- rows
+
+pub rows_count : (bytes offsets : List ℕ) → length (rows bytes offsets) ≡ length offsets - 1
+rows_count bytes (a ∷ b ∷ others) = let e = rows_count bytes (b ∷ others) in omega (arith, e)
+rows_count bytes (a ∷ []) = omega arith
+rows_count bytes [] = omega arith
+
+pub count_is : (bytes offsets : List ℕ) (column : List (Option (List ℕ))) → rows bytes offsets ≡ column → length column ≡ length offsets - 1
+count_is bytes offsets column is = rw (← is) (rows_count bytes offsets)
+
+pub in_offsets : (bytes offsets : List ℕ) (column : List (Option (List ℕ))) (i : ℕ) → rows bytes offsets ≡ column → i < length column
+    → i + 1 < length offsets
+in_offsets bytes offsets column i is lt = let e = count_is bytes offsets column is in omega (arith, e, lt)
+
+row_at_suc : (bytes offsets : List ℕ) (i : ℕ) → suc i < length offsets
+    → slice_get (rows bytes offsets) i ≡ Some (row bytes (get_or offsets i 0) (get_or offsets (suc i) 0))
+row_at_suc bytes (a ∷ b ∷ others) zero lt = refl
+row_at_suc bytes (a ∷ b ∷ others) (suc i) lt = row_at_suc bytes (b ∷ others) i (omega arith)
+row_at_suc bytes (a ∷ []) i lt = absurd (omega arith)
+row_at_suc bytes [] i lt = absurd (omega arith)
+
+pub row_at : (bytes offsets : List ℕ) (column : List (Option (List ℕ))) (i : ℕ) → rows bytes offsets ≡ column → i < length column
+    → slice_get column i ≡ Some (row bytes (get_or offsets i 0) (get_or offsets (i + 1) 0))
+row_at bytes offsets column i is lt =
+    let within = in_offsets bytes offsets column i is lt in
+    rw (← is, add-one) (row_at_suc bytes offsets i (omega (arith, within)))
+
+take_one_more : {A : Type 0} (xs : List A) (i : ℕ) (x : A) → slice_get xs i ≡ Some x → take (suc i) xs ≡ take i xs ++ x ∷ []
+take_one_more (y ∷ xs) zero x is = let e : y ≡ x = cc in ap (λ z. z ∷ []) e
+take_one_more (y ∷ xs) (suc i) x is = ap (λ zs. y ∷ zs) (take_one_more xs i x is)
+take_one_more [] i x is = cc
+
+-- ---- what is written
+
+set_behind : {A : Type 0} (vs old : List A) (x : A) → length vs < length old
+    → set (vs ++ drop (length vs) old) (length vs) x ≡ (vs ++ x ∷ []) ++ drop (length (vs ++ x ∷ [])) old
+set_behind [] (y ∷ old) x lt = refl
+set_behind (v ∷ vs) (y ∷ old) x lt = ap (λ zs. v ∷ zs) (set_behind vs old x (omega arith))
+set_behind vs [] x lt = absurd (omega arith)
+
+length_more : {A : Type 0} (vs : List A) (x : A) → length (vs ++ x ∷ []) ≡ suc (length vs)
+length_more [] x = refl
+length_more (v ∷ vs) x = ap suc (length_more vs x)
+
+written_more : {A : Type 0} (vs old new : List A) (x : A) (n : ℕ) → length vs ≡ n → n < length old → IsWritten vs old new
+    → IsWritten (vs ++ x ∷ []) old (set new n x)
+written_more vs old new x n is lt h =
+    let lt' : length vs < length old = omega (arith, is, lt) in
+    let len = length_more vs x in
+    (omega (arith, len, lt'), rw (← is, h.1) (set_behind vs old x lt'))
+
+mapped_more : {A B : Type 0} (f : A → B) (cells : List A) (old new : List B) (cell : A) (n : ℕ) → length cells ≡ n → n < length old
+    → IsWritten (map f cells) old new → IsWritten (map f (cells ++ cell ∷ [])) old (set new n (f cell))
+mapped_more f cells old new cell n is lt h =
+    rw (map-append f cells (cell ∷ [])) (written_more (map f cells) old new (f cell) n (length-map cells f ∙ is) lt h)
+
+-- ---- cells
+
+related_more : {A B : Type 0} (R : A → B → Type 0) (xs : List A) (ys : List B) (x : A) (y : B)
+    → AllRelated R xs ys → R x y → AllRelated R (xs ++ x ∷ []) (ys ++ y ∷ [])
+related_more R [] [] x y h here = (here, tt)
+related_more R (a ∷ xs) (b ∷ ys) x y h here = (h.0, related_more R xs ys x y h.1 here)
+related_more R [] (b ∷ ys) x y h here = absurd h
+related_more R (a ∷ xs) [] x y h here = absurd h
+
+are_more : {A : Type 0} (IsAnswerTo : List ℕ → Found A → Type 0) (column : List (Option (List ℕ))) (cells : List (Cell A))
+    (document : Option (List ℕ)) (cell : Cell A) (i : ℕ)
+    → length cells ≡ i → slice_get column i ≡ Some document → AreCells IsAnswerTo column cells
+    → IsCell IsAnswerTo document cell → AreCells IsAnswerTo column (cells ++ cell ∷ [])
+are_more IsAnswerTo column cells document cell i is at all here =
+    let all' : AllRelated (IsCell IsAnswerTo) (take i column) cells = rw (← is) all in
+    rw (length_more cells cell, is, take_one_more column i document at) (related_more (IsCell IsAnswerTo) _ cells document cell all' here)
+
+count_more : {A : Type 0} (cells : List A) (cell : A) (i : ℕ) → length cells ≡ i → length (cells ++ cell ∷ []) ≡ i + 1
+count_more cells cell i is = let e = length_more cells cell in omega (arith, e, is)
+
+-- ---- a status a row, and a value
+
+pub checked_more : {A : Type 0} (IsAnswerTo : List ℕ → Found A → Type 0) (column : List (Option (List ℕ))) (old_statuses statuses : List ℕ)
+    (i : ℕ) (document : Option (List ℕ)) (cell : Cell A) → slice_get column i ≡ Some document → i < length old_statuses
+    → Checked IsAnswerTo column old_statuses statuses i → IsCell IsAnswerTo document cell
+    → Checked IsAnswerTo column old_statuses (set statuses i (cell_status cell)) (i + 1)
+checked_more IsAnswerTo column old_statuses statuses i document cell at lt m here = record {
+  cells = m.cells ++ cell ∷ [];
+  count = count_more m.cells cell i m.count;
+  answers = are_more IsAnswerTo column m.cells document cell i m.count at m.answers here;
+  statuses = mapped_more cell_status m.cells old_statuses statuses cell i m.count lt m.statuses;
+}
+
+pub filled_more : {A : Type 0} (IsAnswerTo : List ℕ → Found A → Type 0) (other : A) (column : List (Option (List ℕ))) (old_values values : List A)
+    (old_statuses statuses : List ℕ) (i : ℕ) (document : Option (List ℕ)) (cell : Cell A)
+    → slice_get column i ≡ Some document → i < length old_values → i < length old_statuses
+    → Filled IsAnswerTo other column old_values values old_statuses statuses i → IsCell IsAnswerTo document cell
+    → Filled IsAnswerTo other column old_values (set values i (cell_value other cell)) old_statuses (set statuses i (cell_status cell)) (i + 1)
+filled_more IsAnswerTo other column old_values values old_statuses statuses i document cell at lt_values lt_statuses m here = record {
+  cells = m.cells ++ cell ∷ [];
+  count = count_more m.cells cell i m.count;
+  answers = are_more IsAnswerTo column m.cells document cell i m.count at m.answers here;
+  values = mapped_more (cell_value other) m.cells old_values values cell i m.count lt_values m.values;
+  statuses = mapped_more cell_status m.cells old_statuses statuses cell i m.count lt_statuses m.statuses;
+}
+
+-- ---- bytes
+
+written_len : (vs old new : List ℕ) → IsWritten vs old new → length new ≡ length old
+written_len vs old new h =
+    rw (h.1, length-append vs (drop (length vs) old), length-drop (length vs) old) (omega (arith, h.0))
+
+behind : (vs old bytes : List ℕ) → length vs + length bytes ≤ length old
+    → drop (length vs + length bytes) (vs ++ drop (length vs) old) ≡ drop (length (vs ++ bytes)) old
+behind [] old bytes le = let e : 0 + length bytes ≡ length bytes = omega arith in rw e refl
+behind (v ∷ vs) (y ∷ old) bytes le =
+    let e : suc (length vs) + length bytes ≡ suc (length vs + length bytes) = omega arith in rw e (behind vs old bytes (omega arith))
+behind (v ∷ vs) [] bytes le = absurd (omega arith)
+
+behind_is : (vs old bytes : List ℕ) → length vs + length bytes ≤ length old
+    → take (length vs) (vs ++ drop (length vs) old) ++ (bytes ++ drop (length vs + length bytes) (vs ++ drop (length vs) old))
+    ≡ (vs ++ bytes) ++ drop (length (vs ++ bytes)) old
+behind_is vs old bytes room =
+    rw (take-append_seam vs (drop (length vs) old), behind vs old bytes room) (sym (append_assoc vs bytes (drop (length (vs ++ bytes)) old)))
+
+written_behind : (vs old new made bytes : List ℕ) (at : ℕ) → length vs ≡ at → at + length bytes ≤ length new
+    → made ≡ take at new ++ (bytes ++ drop (at + length bytes) new) → IsWritten vs old new → IsWritten (vs ++ bytes) old made
+written_behind vs old new made bytes at is le same h =
+    let len = written_len vs old new h in
+    let room : length vs + length bytes ≤ length old = omega (arith, len, le, is) in
+    (rw (length-append vs bytes) room, rw (same, ← is, h.1) (behind_is vs old bytes room))
+
+flat_more : (cells : List (Cell (List ℕ))) (cell : Cell (List ℕ)) → flat_map cell_bytes (cells ++ cell ∷ []) ≡ flat_map cell_bytes cells ++ cell_bytes cell
+flat_more cells cell = flat_map-append cell_bytes cells (cell ∷ []) ∙ ap (λ zs. flat_map cell_bytes cells ++ zs) (append-nil (cell_bytes cell))
+
+ends_len : (at : ℕ) (cells : List (Cell (List ℕ))) → length (ends at cells) ≡ length cells
+ends_len at [] = refl
+ends_len at (c ∷ cells) = ap suc (ends_len (at + length (cell_bytes c)) cells)
+
+ends_more : (at : ℕ) (cells : List (Cell (List ℕ))) (cell : Cell (List ℕ)) (x : ℕ)
+    → x ≡ at + (length (flat_map cell_bytes cells) + length (cell_bytes cell)) → ends at (cells ++ cell ∷ []) ≡ ends at cells ++ x ∷ []
+ends_more at [] cell x is = ap (λ z. z ∷ []) (omega (arith, is))
+ends_more at (d ∷ cells) cell x is =
+    let both = length-append (cell_bytes d) (flat_map cell_bytes cells) in
+    ap (λ zs. (at + length (cell_bytes d)) ∷ zs) (ends_more (at + length (cell_bytes d)) cells cell x (omega (arith, is, both)))
+
+pub joined_more : (IsAnswerTo : List ℕ → Found (List ℕ) → Type 0) (column : List (Option (List ℕ))) (old_out out made old_positions positions
+    old_statuses statuses bytes : List ℕ)
+    (i at : ℕ) (document : Option (List ℕ)) (cell : Cell (List ℕ))
+    → slice_get column i ≡ Some document → i + 1 < length old_positions → i < length old_statuses
+    → Joined IsAnswerTo column old_out out old_positions positions old_statuses statuses i at
+    → IsCell IsAnswerTo document cell → bytes ≡ cell_bytes cell
+    → (at + length bytes ≤ length out) × (made ≡ take at out ++ (bytes ++ drop (at + length bytes) out))
+    → Joined IsAnswerTo column old_out made old_positions (set positions (i + 1) (at + length bytes)) old_statuses
+    (set statuses i (cell_status cell)) (i + 1) (at + length bytes)
+joined_more IsAnswerTo column old_out out made old_positions positions old_statuses statuses bytes i at document cell in_column
+    lt_positions lt_statuses k here is put =
+    let flat = flat_more k.cells cell in
+    let same : length bytes ≡ length (cell_bytes cell) = ap length is in
+    let both = length-append (flat_map cell_bytes k.cells) (cell_bytes cell) in
+    let ends_is = ends_more 0 k.cells cell (at + length bytes) (omega (arith, same, k.sum)) in
+    let len : length (0 ∷ ends 0 k.cells) ≡ i + 1 = let e = ends_len 0 k.cells in omega (arith, e, k.count) in
+    record {
+      cells = k.cells ++ cell ∷ [];
+      count = count_more k.cells cell i k.count;
+      answers = are_more IsAnswerTo column k.cells document cell i k.count in_column k.answers here;
+      sum = rw flat (omega (arith, both, same, k.sum));
+      out = rw (flat, ← is) (written_behind (flat_map cell_bytes k.cells) old_out out made bytes at k.sum put.0 put.1 k.out);
+      positions = subst (λ zs. IsWritten (0 ∷ zs) old_positions (set positions (i + 1) (at + length bytes))) (sym ends_is)
+          (written_more (0 ∷ ends 0 k.cells) old_positions positions (at + length bytes) (i + 1) len lt_positions k.positions);
+      statuses = mapped_more cell_status k.cells old_statuses statuses cell i k.count lt_statuses k.statuses;
+    }
+
+pub placed : (bytes : List ℕ) (at : ℕ) (old new : List ℕ) (b : Bool) → b ≡ true → Places bytes at old new b
+    → (at + length bytes ≤ length old) × (new ≡ take at old ++ (bytes ++ drop (at + length bytes) old))
+placed bytes at old new true is h = h
+placed bytes at old new false is h = cc
+
+pub not_placed : (bytes : List ℕ) (at : ℕ) (old new : List ℕ) (b : Bool) → b ≡ false → Places bytes at old new b
+    → (length old < at + length bytes) × (new ≡ old)
+not_placed bytes at old new true is h = cc
+not_placed bytes at old new false is h = h
+
+pub lacks_room : (IsAnswerTo : List ℕ → Found (List ℕ) → Type 0) (column : List (Option (List ℕ))) (old_out out old_positions positions old_statuses
+    statuses : List ℕ)
+    (i at next status : ℕ) (document : Option (List ℕ)) (cell : Cell (List ℕ))
+    → slice_get column i ≡ Some document → Joined IsAnswerTo column old_out out old_positions positions old_statuses statuses i at
+    → IsCell IsAnswerTo document cell → next ≡ length (cell_bytes cell)
+    → length out < at + next → status ≡ buffer_too_small → LacksRoom IsAnswerTo column (length old_out) i at next status
+lacks_room IsAnswerTo column old_out out old_positions positions old_statuses statuses i at next status document cell in_column k here is no_room too_small =
+    let len = written_len (flat_map cell_bytes k.cells) old_out out k.out in
+    (too_small, omega (arith, len, no_room), (document, cell, in_column, here, is))

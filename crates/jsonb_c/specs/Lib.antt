@@ -1,0 +1,10 @@
+pub mod Status
+pub mod StatusNames
+pub mod Answers
+pub mod Calls
+pub mod Kinds
+pub mod Columns
+pub mod Rows
+pub mod Names
+pub mod Views
+pub mod Making

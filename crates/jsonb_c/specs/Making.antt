@@ -1,0 +1,82 @@
+-- What the calls that make and count documents answer.
+use Rattle.std.specs.Prelude.{◌≡◌, ◌⊎◌, ◌+ℤ◌, ◌*ℤ◌, ◌^◌, ℕ, ℤ, pos, Bool, true, ◌&&◌, List, [], ◌∷◌, length, Option, Some, None, option_map, is_some, slice_get, Result, Ok, Err, FitsSigned, MatchOption, MatchResult, IsSomeAnd, ◌<◌}
+use Rattle.std.specs.Int.{w64}
+use Rattle.jsonb_doc.specs.declared.error.Error.{Error}
+use Rattle.jsonb_doc.specs.Answer.{IsOutOfMemoryOrTooLarge}
+use Rattle.jsonb_doc.specs.Number.{number_from, decimal64, decimal128}
+use Rattle.jsonb_doc.specs.Tree.{Tree, array, number, object, members, trees_of, children_of}
+use Rattle.jsonb_doc.specs.Payload.{Form}
+use Rattle.jsonb_doc.specs.Format.{Decodes}
+use Rattle.jsonb.specs.Related.{AllRelated}
+use Rattle.jsonb_c.specs.Status.{ok, none, buffer_too_small, status_of}
+use Rattle.jsonb_c.specs.Answers.{DeliversNothing, IsWritten}
+
+-- ---- one value
+
+-- a document of the tree, in its shortest form
+abbrev pub Encodes : Tree → Result (List ℕ) Error → Type 0
+Encodes t answer = (form : Form) → MatchResult answer (λ made. Decodes form made t) (IsOutOfMemoryOrTooLarge form t)
+
+-- the whole value of two halves, of which the lower is unsigned
+abbrev pub whole_of : ℤ → ℕ → ℤ
+whole_of high low = (high *ℤ pos (2 ^ 64)) +ℤ pos low
+
+-- the decimal of a whole value and a scale: of 64 bits where the value fits, else of 128
+abbrev pub IsDecimalOf : ℤ → ℕ → Tree → Type 0
+IsDecimalOf whole scale t = (FitsSigned w64 whole × (t ≡ number (number_from decimal64 whole scale)))
+    ⊎ ((FitsSigned w64 whole → ⊥) × (t ≡ number (number_from decimal128 whole scale)))
+
+-- ---- an array of a column
+
+-- no offset falls or passes the data
+abbrev pub is_placed : List (Option (List ℕ)) → Bool
+is_placed [] = true
+is_placed (row ∷ rows) = is_some row && is_placed rows
+
+-- the row is a document of the tree
+abbrev pub IsRowOf : Form → Option (List ℕ) → Tree → Type 0
+IsRowOf form (Some document) t = Decodes form document t
+IsRowOf form None t = ⊥
+
+-- an array of the rows
+abbrev pub MakesArray : List (Option (List ℕ)) → Result (List ℕ) Error → Type 0
+MakesArray column answer = (form : Form) (ts : List Tree) → AllRelated (IsRowOf form) column ts
+    → MatchResult answer (λ made. Decodes form made (array (trees_of ts))) (IsOutOfMemoryOrTooLarge form (array (trees_of ts)))
+
+-- ---- counts
+
+-- how many elements or pairs a container has
+abbrev pub children_count : Tree → Option ℕ
+children_count t = option_map length (children_of t)
+
+-- ---- pairs
+
+-- the pairs of an object
+abbrev pub pairs_in : Tree → List (List ℕ × Tree)
+pairs_in (object ps) = members ps
+pairs_in _ = []
+
+-- the pair at a position: its key, and a document of its value
+abbrev pub FindsPair : Form → ℕ → Tree → Result (Option (List ℕ × List ℕ)) Error → Type 0
+FindsPair form index t answer = MatchOption (slice_get (pairs_in t) index) (answer ≡ Ok None)
+    (λ p. MatchResult answer (λ found. IsSomeAnd found (λ made. (made.0 ≡ p.0) × Decodes form made.1 p.1)) (IsOutOfMemoryOrTooLarge form p.1))
+
+-- Two lists of bytes are handed over, each into a buffer of its own; neither is written where one has no room.
+abbrev pub DeliversBoth : List ℕ → List ℕ → List ℕ → List ℕ → ℕ → List ℕ → List ℕ → ℕ → ℕ → Type 0
+DeliversBoth key value old_key new_key key_len old_value new_value value_len status = (key_len ≡ length key) × (value_len ≡ length value)
+    × (((status ≡ ok) × IsWritten key old_key new_key × IsWritten value old_value new_value)
+    ⊎ ((status ≡ buffer_too_small) × ((length old_key < length key) ⊎ (length old_value < length value))
+    × (new_key ≡ old_key) × (new_value ≡ old_value)))
+
+-- neither is handed over
+abbrev pub DeliversNeither : ℕ → List ℕ → List ℕ → ℕ → List ℕ → List ℕ → ℕ → ℕ → Type 0
+DeliversNeither cause old_key new_key key_len old_value new_value value_len status =
+    DeliversNothing cause old_key new_key key_len status × DeliversNothing cause old_value new_value value_len status
+
+abbrev pub DeliversPair : Result (Option (List ℕ × List ℕ)) Error → List ℕ → List ℕ → ℕ → List ℕ → List ℕ → ℕ → ℕ → Type 0
+DeliversPair (Ok (Some found)) old_key new_key key_len old_value new_value value_len status =
+    DeliversBoth found.0 found.1 old_key new_key key_len old_value new_value value_len status
+DeliversPair (Ok None) old_key new_key key_len old_value new_value value_len status =
+    DeliversNeither none old_key new_key key_len old_value new_value value_len status
+DeliversPair (Err e) old_key new_key key_len old_value new_value value_len status =
+    DeliversNeither (status_of e) old_key new_key key_len old_value new_value value_len status

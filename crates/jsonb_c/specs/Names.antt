@@ -1,0 +1,57 @@
+-- Columns of names.
+use Rattle.std.specs.Prelude.{◌≡◌, ◌⊎◌, not, filter, ℕ, List, [], ◌∷◌, Option, Some, None, Result, Ok, Err, MatchResult, if◌then◌else◌}
+use Rattle.std.specs.Borrow.{Bor}
+use Rattle.std.specs.List.{list_any}
+use Rattle.std.specs.Str.{bytes_eq, is_utf8}
+use Rattle.jsonb_doc.specs.declared.error.Error.TheVariants.{OutOfMemory}
+use Rattle.jsonb_doc.specs.Tree.{Tree}
+use Rattle.jsonb_raw.specs.Objects.{TextSet, is_in, with_pairs}
+use Rattle.jsonb_c.specs.Status.{code}
+use Rattle.jsonb_c.specs.declared.status.Status.{Status}
+use Rattle.jsonb_c.specs.declared.status.Status.TheVariants.{BadOffsets, NotUtf8, Refused}
+
+-- the name in a row, which is to be UTF-8
+abbrev pub name_of : Option (List ℕ) → Result (List ℕ) Status
+name_of None = Err BadOffsets
+name_of (Some bytes) = if is_utf8 bytes then Ok bytes else Err NotUtf8
+
+abbrev pub in_front : Result (List ℕ) Status → Result (List (List ℕ)) Status → Result (List (List ℕ)) Status
+in_front (Ok name) (Ok names) = Ok (name ∷ names)
+in_front (Ok name) (Err cause) = Err cause
+in_front (Err cause) others = Err cause
+
+-- the names in the rows, or what is wrong with the first that holds none
+abbrev pub names_of : List (Option (List ℕ)) → Result (List (List ℕ)) Status
+names_of [] = Ok []
+names_of (row ∷ rows) = in_front (name_of row) (names_of rows)
+
+-- the name that was read of a row, or what is wrong with it
+abbrev pub IsNameOf : Result (Bor (List ℕ)) Status → Option (List ℕ) → Type 0
+IsNameOf answer row = MatchResult answer (λ name. name_of row ≡ Ok name.now) (λ cause. name_of row ≡ Err cause)
+
+-- the call is answered by the names, or it is refused for what is wrong with them
+abbrev pub ByNames : Result (List (List ℕ)) Status → (List (List ℕ) → Type 0) → (Status → Type 0) → Type 0
+ByNames (Ok names) Answered IsRefused = Answered names
+ByNames (Err cause) Answered IsRefused = IsRefused cause
+
+-- the same, unless there is no memory for the names
+abbrev pub WithNames : Result (List (List ℕ)) Status → (List (List ℕ) → Type 0) → (Status → Type 0) → Type 0
+WithNames names Answered IsRefused = ByNames names Answered IsRefused ⊎ IsRefused (Refused OutOfMemory)
+
+-- the value is as it was, and the status is the cause's
+abbrev pub IsAsItWas : {A : Type 0} → A → A → ℕ → Status → Type 0
+IsAsItWas old new status cause = (new ≡ old) × (status ≡ code cause)
+
+-- ---- sets of names
+
+-- the set holds these names
+abbrev pub HasNames : TextSet → List (List ℕ) → Type 0
+HasNames set names = (q : List ℕ) → is_in set q ≡ list_any (λ name. bytes_eq name q) names
+
+-- an object's pairs whose keys are among the names
+abbrev pub picked_names : List (List ℕ) → Tree → Option Tree
+picked_names names t = with_pairs (λ ps. filter (λ p. list_any (λ name. bytes_eq name p.0) names) ps) t
+
+-- an object's pairs whose keys are not among the names
+abbrev pub dropped_names : List (List ℕ) → Tree → Option Tree
+dropped_names names t = with_pairs (λ ps. filter (λ p. not (list_any (λ name. bytes_eq name p.0) names)) ps) t

@@ -1,0 +1,96 @@
+//! Each row as an integer or as a text.
+
+ghost use Rattle.std.specs.Prelude.{IfErr, pos};
+ghost use Rattle.jsonb_doc.specs.Answer.{IsDecodingError, ◌or◌};
+ghost use Rattle.jsonb_doc.specs.declared.error.Error.TheVariants.{InvalidCast, OutOfMemory};
+ghost use Rattle.jsonb_raw.specs.Casts.{CastsToI64, CastsToText, text_of};
+ghost use Rattle.jsonb_c.specs.Answers.{OfDocument};
+ghost use Rattle.jsonb_c.specs.Columns.{FillsRows, JoinsRows, rows};
+ghost use Rattle.jsonb_c.specs.Rows.{WritesI64, WritesText};
+
+use super::Column;
+use super::call::{Made, RowCall};
+use super::fill::fill_rows;
+use super::join::{Progress, join_rows};
+use jsonb::{Error, RawJsonb};
+use std::alloc::Global;
+
+/// A document as an integer.
+#[derive(Clone, Copy)]
+struct ToI64;
+
+impl RowCall<i64> for ToI64 {
+    ghost use Rattle.jsonb_c.specs.Rows.{WritesI64};
+
+    ghost IsAnswerTo = { λ call document answer. WritesI64 document answer };
+
+    fn answer(&self, _alloc: Global, document: &[u8]) -> Result<Option<i64>, Error> {
+        let number = i64_of(document)?;
+        Ok(Some(number))
+    }
+}
+
+fn i64_of(document: &[u8]) -> Result<i64, Error>
+    ensures value { OfDocument document.now (λ form t. CastsToI64 t) result }
+    ensures errors { IfErr result (IsDecodingError or InvalidCast) }
+{
+    RawJsonb::new(document).to_i64()
+}
+
+/// A document as a text.
+#[derive(Clone, Copy)]
+struct ToText;
+
+impl RowCall<Made> for ToText {
+    ghost use Rattle.jsonb_c.specs.Rows.{WritesText};
+
+    ghost IsAnswerTo = { λ call document answer. WritesText document answer };
+
+    fn answer(&self, alloc: Global, document: &[u8]) -> Result<Option<Made>, Error> {
+        let text = text_of(alloc, document)?;
+        Ok(Some(Made::new(text.into_bytes())))
+    }
+}
+
+fn text_of(alloc: Global, document: &[u8]) -> Result<String, Error>
+    ensures value { OfDocument document.now (λ form t. CastsToText (text_of t)) result }
+    ensures errors { IfErr result (IsDecodingError or OutOfMemory or InvalidCast) }
+{
+    RawJsonb::new(document).to_str(alloc)
+}
+
+/// Each document as an `i64`, as `jsonb_to_i64` casts it; 0 where it is refused.
+#[unsafe(no_mangle)]
+pub extern "C" fn jsonb_column_to_i64(
+    alloc: Global,
+    bytes: &[u8],
+    offsets: &[u64],
+    numbers: &mut [i64],
+    statuses: &mut [u8],
+    done: &mut usize,
+) -> u32
+    ensures { FillsRows WritesI64 (pos 0) (rows bytes.now offsets.now) numbers.old numbers.new
+        statuses.old statuses.new done.new result }
+{
+    let column = Column::new(bytes, offsets);
+    fill_rows(alloc, &ToI64, 0, &column, numbers, statuses, done)
+}
+
+/// Each document as a text, as `jsonb_to_str` casts it.
+#[unsafe(no_mangle)]
+pub extern "C" fn jsonb_column_to_str(
+    alloc: Global,
+    bytes: &[u8],
+    offsets: &[u64],
+    out: &mut [u8],
+    positions: &mut [u64],
+    statuses: &mut [u8],
+    progress: &mut Progress,
+) -> u32
+    ensures { JoinsRows WritesText (rows bytes.now offsets.now) out.old out.new
+        positions.old positions.new statuses.old statuses.new
+        progress.new.rows progress.new.bytes progress.new.next result }
+{
+    let column = Column::new(bytes, offsets);
+    join_rows(alloc, &ToText, &column, out, positions, statuses, progress)
+}

@@ -1,0 +1,39 @@
+//! Whether each row is a document.
+
+ghost use Rattle.jsonb_c.specs.Columns.{ChecksRows, rows};
+ghost use Rattle.jsonb_c.specs.Rows.{ChecksDocument};
+
+use super::Column;
+use super::call::RowCall;
+use super::fill::check_rows;
+use jsonb::Error;
+use std::alloc::Global;
+
+/// Whether bytes are a document.
+#[derive(Clone, Copy)]
+struct Checks;
+
+impl RowCall<()> for Checks {
+    ghost use Rattle.jsonb_c.specs.Rows.{ChecksDocument};
+
+    ghost IsAnswerTo = { λ call document answer. ChecksDocument document answer };
+
+    fn answer(&self, _alloc: Global, document: &[u8]) -> Result<Option<()>, Error> {
+        jsonb::check(document)?;
+        Ok(Some(()))
+    }
+}
+
+/// Whether each row is a document, or why it is none: the statuses are the answer.
+#[unsafe(no_mangle)]
+pub extern "C" fn jsonb_column_check(
+    alloc: Global,
+    bytes: &[u8],
+    offsets: &[u64],
+    statuses: &mut [u8],
+    done: &mut usize,
+) -> u32
+    ensures { ChecksRows ChecksDocument (rows bytes.now offsets.now) statuses.old statuses.new done.new result }
+{
+    check_rows(alloc, &Checks, &Column::new(bytes, offsets), statuses, done)
+}

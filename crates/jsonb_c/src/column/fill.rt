@@ -1,0 +1,64 @@
+//! Answers of one value a row, and of none.
+
+ghost use Rattle.std.specs.Prelude.{◌≡◌};
+ghost use Rattle.jsonb_c.specs.Columns.{ChecksRows, FillsRows};
+ghost use Rattle.jsonb_c.specs.Status.{status_of};
+
+use super::Column;
+use super::call::{RowCall, ask, cell_status, cell_value, end_of};
+use crate::status::Status;
+use jsonb::Error;
+use std::alloc::Global;
+
+/// Writes a status a row.
+pub(crate) fn check_rows<A: Drop, C: RowCall<A>>(
+    alloc: Global,
+    call: &C,
+    column: &Column<'_>,
+    statuses: &mut [u8],
+    done: &mut usize,
+) -> u32
+    ensures { ChecksRows (C.IsAnswerTo call.now) column.now statuses.old statuses.new done.new result }
+{
+    let rows = column.len();
+    let room = rows.min(statuses.len());
+    for index in 0..room {
+        let cell = ask(alloc, call, column.row(index));
+        statuses[index] = cell_status(&cell);
+    }
+    *done = room;
+    end_of(room, rows)
+}
+
+/// Writes a value and a status a row: `other` where a row has no value.
+pub(crate) fn fill_rows<A: Copy, C: RowCall<A>>(
+    alloc: Global,
+    call: &C,
+    other: A,
+    column: &Column<'_>,
+    values: &mut [A],
+    statuses: &mut [u8],
+    done: &mut usize,
+) -> u32
+    ensures { FillsRows (C.IsAnswerTo call.now) other column.now values.old values.new statuses.old statuses.new
+        done.new result }
+{
+    let rows = column.len();
+    let room = rows.min(values.len()).min(statuses.len());
+    for index in 0..room {
+        let cell = ask(alloc, call, column.row(index));
+        values[index] = cell_value(&cell, other);
+        statuses[index] = cell_status(&cell);
+    }
+    *done = room;
+    end_of(room, rows)
+}
+
+/// Does no row.
+pub(crate) fn refuse_rows(error: Error, done: &mut usize) -> u32
+    ensures done { done.new ≡ 0 }
+    ensures status { result ≡ status_of error }
+{
+    *done = 0;
+    Status::Refused(error).to_u32()
+}

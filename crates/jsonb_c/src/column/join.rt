@@ -1,0 +1,95 @@
+//! Answers of bytes, one behind the other.
+
+ghost use Rattle.std.specs.Prelude.{◌≡◌, ◌<◌, length};
+ghost use Rattle.jsonb_c.specs.Columns.{JoinsRows, JoinsSome};
+ghost use Rattle.jsonb_c.specs.Status.{code};
+
+use super::Column;
+use super::call::{Made, RowCall, ask, cell_bytes, cell_status, end_of};
+use crate::deliver::place;
+use crate::status::Status;
+use std::alloc::Global;
+
+/// How far a call on a column came: rows and bytes that are done, and how long the answer of the row is that had no
+/// room.
+#[repr(C)]
+#[derive(Clone, Copy)]
+pub struct Progress {
+    pub rows: usize,
+    pub bytes: usize,
+    pub next: usize,
+}
+
+/// The answers' bytes, the offsets between them, and a status a row.
+pub(crate) fn join_rows<C: RowCall<Made>>(
+    alloc: Global,
+    call: &C,
+    column: &Column<'_>,
+    out: &mut [u8],
+    positions: &mut [u64],
+    statuses: &mut [u8],
+    progress: &mut Progress,
+) -> u32
+    ensures { JoinsRows (C.IsAnswerTo call.now) column.now out.old out.new positions.old positions.new
+        statuses.old statuses.new progress.new.rows progress.new.bytes progress.new.next result }
+{
+    if positions.is_empty() {
+        return do_nothing(Status::BufferTooSmall, progress);
+    }
+    join_some(alloc, call, column, out, positions, statuses, progress)
+}
+
+fn join_some<C: RowCall<Made>>(
+    alloc: Global,
+    call: &C,
+    column: &Column<'_>,
+    out: &mut [u8],
+    positions: &mut [u64],
+    statuses: &mut [u8],
+    progress: &mut Progress,
+) -> u32
+    requires { 0 < length positions.old }
+    ensures { JoinsSome (C.IsAnswerTo call.now) column.now out.old out.new positions.old positions.new
+        statuses.old statuses.new progress.new.rows progress.new.bytes progress.new.next result }
+{
+    let rows = column.len();
+    let room = rows.min(positions.len() - 1).min(statuses.len());
+    positions[0] = 0;
+    let mut at = 0;
+    for index in 0..room {
+        let cell = ask(alloc, call, column.row(index));
+        let made = cell_bytes(&cell);
+        if !place(made, out, at) {
+            *progress = Progress {
+                rows: index,
+                bytes: at,
+                next: made.len(),
+            };
+            return Status::BufferTooSmall.to_u32();
+        }
+        at += made.len();
+        positions[index + 1] = at as u64;
+        statuses[index] = cell_status(&cell);
+    }
+    *progress = Progress {
+        rows: room,
+        bytes: at,
+        next: 0,
+    };
+    end_of(room, rows)
+}
+
+/// Does no row.
+pub(crate) fn do_nothing(cause: Status, progress: &mut Progress) -> u32
+    ensures rows { progress.new.rows ≡ 0 }
+    ensures bytes { progress.new.bytes ≡ 0 }
+    ensures next { progress.new.next ≡ 0 }
+    ensures status { result ≡ code cause }
+{
+    *progress = Progress {
+        rows: 0,
+        bytes: 0,
+        next: 0,
+    };
+    cause.to_u32()
+}

@@ -1,0 +1,376 @@
+//! Worked rows of the calls on columns: documents, a damaged one, and a row whose offsets fall.
+
+use super::casts::{jsonb_column_to_i64, jsonb_column_to_str};
+use super::check::jsonb_column_check;
+use super::documents::{
+    jsonb_column_delete_by_keypath, jsonb_column_get, jsonb_column_select_array,
+    jsonb_column_select_first, jsonb_column_select_value,
+};
+use super::join::Progress;
+use super::keys::{jsonb_column_equality_key, jsonb_column_key};
+use super::truths::{jsonb_column_contains, jsonb_column_exists, jsonb_column_match};
+use std::test::Fail;
+
+const OK: u32 = 0;
+
+const BUFFER_TOO_SMALL: u32 = 2;
+
+const INVALID_JSON_PATH: u32 = 18;
+
+// {"a":1}, bytes that end within a header, {"a":2}, and behind them a row whose offsets fall
+const ROWS: &[u8] =
+    b"\x40\0\0\x01\x10\0\0\x01\x20\0\0\x02a\x50\x01\x80\0\0\x40\0\0\x01\x10\0\0\x01\x20\0\0\x02a\x50\x02";
+
+const OFFSETS: &[u64] = &[0, 15, 18, 33, 32];
+
+const A_ONE: &[u8] = b"\x40\0\0\x01\x10\0\0\x01\x20\0\0\x02a\x50\x01";
+
+// 1 and 2, [1] and [2]
+const ONE_AND_TWO: &[u8] = b"\x20\0\0\0\x20\0\0\x02\x50\x01\x20\0\0\0\x20\0\0\x02\x50\x02";
+
+const ONES_AND_TWOS: &[u8] = b"\x80\0\0\x01\x20\0\0\x02\x50\x01\x80\0\0\x01\x20\0\0\x02\x50\x02";
+
+const STATUSES: [u8; 4] = [0, 16, 0, 3];
+
+// null, "7" and 8
+const SCALARS: &[u8] = b"\x20\0\0\0\0\0\0\0\x20\0\0\0\x10\0\0\x017\x20\0\0\0\x20\0\0\x02\x50\x08";
+
+const SCALAR_OFFSETS: &[u64] = &[0, 8, 17, 27];
+
+#[test]
+fn truths(rt: HostRuntime) -> Result<(), Fail> {
+    let alloc = rt.alloc();
+    let mut truths = [9; 4];
+    let mut statuses = [9; 4];
+    let mut done = 9;
+    assert_eq!(rt;
+        jsonb_column_check(alloc, ROWS, OFFSETS, &mut statuses, &mut done),
+        OK
+    );
+    assert_eq!(rt; done, 4);
+    assert_eq!(rt; statuses, STATUSES);
+    let above_one = b"$.a > 1";
+    assert_eq!(rt;
+        jsonb_column_match(
+            alloc,
+            ROWS,
+            OFFSETS,
+            above_one,
+            false,
+            &mut truths,
+            &mut statuses,
+            &mut done
+        ),
+        OK
+    );
+    assert_eq!(rt; truths, [0, 2, 1, 2]);
+    assert_eq!(rt; statuses, STATUSES);
+    let some_above_one = b"$.a?(@ > 1)";
+    assert_eq!(rt;
+        jsonb_column_exists(
+            alloc,
+            ROWS,
+            OFFSETS,
+            some_above_one,
+            false,
+            &mut truths,
+            &mut statuses,
+            &mut done
+        ),
+        OK
+    );
+    assert_eq!(rt; truths, [0, 2, 1, 2]);
+    assert_eq!(rt;
+        jsonb_column_contains(
+            alloc,
+            ROWS,
+            OFFSETS,
+            A_ONE,
+            &mut truths,
+            &mut statuses,
+            &mut done
+        ),
+        OK
+    );
+    assert_eq!(rt; truths, [1, 2, 0, 2]);
+    assert_eq!(rt; statuses, STATUSES);
+    assert_eq!(rt; done, 4);
+    let mut short = [9; 2];
+    assert_eq!(rt;
+        jsonb_column_match(
+            alloc,
+            ROWS,
+            OFFSETS,
+            above_one,
+            false,
+            &mut short,
+            &mut statuses,
+            &mut done
+        ),
+        BUFFER_TOO_SMALL
+    );
+    assert_eq!(rt; short, [0, 2]);
+    assert_eq!(rt; done, 2);
+    assert_eq!(rt;
+        jsonb_column_match(
+            alloc,
+            ROWS,
+            OFFSETS,
+            b"$.",
+            false,
+            &mut short,
+            &mut statuses,
+            &mut done
+        ),
+        INVALID_JSON_PATH
+    );
+    assert_eq!(rt; done, 0);
+    Ok(())
+}
+
+/// A caller's buffers of a call that gives bytes a row.
+#[derive(Drop)]
+struct Answer {
+    out: [u8; 24],
+    positions: [u64; 5],
+    statuses: [u8; 4],
+    progress: Progress,
+}
+
+impl Answer {
+    fn new() -> Answer {
+        Answer {
+            out: [9; 24],
+            positions: [9; 5],
+            statuses: [9; 4],
+            progress: Progress {
+                rows: 9,
+                bytes: 9,
+                next: 9,
+            },
+        }
+    }
+
+    /// Whether these bytes were written for these rows, and what is behind them is as it was.
+    fn is(&self, bytes: &[u8], positions: [u64; 5], statuses: [u8; 4]) -> bool {
+        self.out.starts_with(bytes)
+            && self.out.iter().skip(bytes.len()).all(|byte| *byte == 9)
+            && self.positions == positions
+            && self.statuses == statuses
+            && self.progress.bytes == bytes.len()
+            && self.progress.next == 0
+    }
+}
+
+#[test]
+fn documents(rt: HostRuntime) -> Result<(), Fail> {
+    let alloc = rt.alloc();
+    let ends = [0, 10, 10, 20, 20];
+    let mut a = Answer::new();
+    assert_eq!(rt;
+        jsonb_column_get(
+            alloc,
+            ROWS,
+            OFFSETS,
+            b"{a}",
+            &mut a.out,
+            &mut a.positions,
+            &mut a.statuses,
+            &mut a.progress
+        ),
+        OK
+    );
+    assert!(rt; a.is(ONE_AND_TWO, ends, STATUSES));
+    let mut a = Answer::new();
+    assert_eq!(rt;
+        jsonb_column_select_first(
+            alloc,
+            ROWS,
+            OFFSETS,
+            b"$.a",
+            true,
+            &mut a.out,
+            &mut a.positions,
+            &mut a.statuses,
+            &mut a.progress
+        ),
+        OK
+    );
+    assert!(rt; a.is(ONE_AND_TWO, ends, STATUSES));
+    let mut a = Answer::new();
+    assert_eq!(rt;
+        jsonb_column_select_value(
+            alloc,
+            ROWS,
+            OFFSETS,
+            b"$.a",
+            false,
+            &mut a.out,
+            &mut a.positions,
+            &mut a.statuses,
+            &mut a.progress
+        ),
+        OK
+    );
+    assert!(rt; a.is(ONE_AND_TWO, ends, STATUSES));
+    let mut a = Answer::new();
+    assert_eq!(rt;
+        jsonb_column_select_array(
+            alloc,
+            ROWS,
+            OFFSETS,
+            b"$.a",
+            false,
+            &mut a.out,
+            &mut a.positions,
+            &mut a.statuses,
+            &mut a.progress
+        ),
+        OK
+    );
+    assert!(rt; a.is(ONES_AND_TWOS, ends, STATUSES));
+    let mut a = Answer::new();
+    assert_eq!(rt;
+        jsonb_column_delete_by_keypath(
+            alloc,
+            ROWS,
+            OFFSETS,
+            b"{a}",
+            &mut a.out,
+            &mut a.positions,
+            &mut a.statuses,
+            &mut a.progress
+        ),
+        OK
+    );
+    assert!(rt; a.is(b"\x40\0\0\0\x40\0\0\0", [0, 4, 4, 8, 8], STATUSES));
+    Ok(())
+}
+
+#[test]
+fn goes_on_behind_a_full_buffer(rt: HostRuntime) -> Result<(), Fail> {
+    let alloc = rt.alloc();
+    let mut a = Answer::new();
+    let mut out = [9; 15];
+    assert_eq!(rt;
+        jsonb_column_get(
+            alloc,
+            ROWS,
+            OFFSETS,
+            b"{a}",
+            &mut out,
+            &mut a.positions,
+            &mut a.statuses,
+            &mut a.progress
+        ),
+        BUFFER_TOO_SMALL
+    );
+    assert!(rt; ONE_AND_TWO.starts_with(&out[..10]));
+    assert_eq!(rt; out[10..].iter().filter(|byte| **byte != 9).count(), 0);
+    assert_eq!(rt; a.positions, [0, 10, 10, 9, 9]);
+    assert_eq!(rt; a.statuses, [0, 16, 9, 9]);
+    assert_eq!(rt;
+        (a.progress.rows, a.progress.bytes, a.progress.next),
+        (2, 10, 10)
+    );
+    assert_eq!(rt;
+        jsonb_column_get(
+            alloc,
+            ROWS,
+            &OFFSETS[2..],
+            b"{a}",
+            &mut out,
+            &mut a.positions,
+            &mut a.statuses,
+            &mut a.progress
+        ),
+        OK
+    );
+    assert!(rt; ONE_AND_TWO.ends_with(&out[..10]));
+    assert_eq!(rt;
+        (a.progress.rows, a.progress.bytes, a.progress.next),
+        (2, 10, 0)
+    );
+    Ok(())
+}
+
+#[test]
+fn casts_and_keys(rt: HostRuntime) -> Result<(), Fail> {
+    let alloc = rt.alloc();
+    let mut numbers = [9; 3];
+    let mut statuses = [9; 3];
+    let mut done = 9;
+    assert_eq!(rt;
+        jsonb_column_to_i64(
+            alloc,
+            SCALARS,
+            SCALAR_OFFSETS,
+            &mut numbers,
+            &mut statuses,
+            &mut done
+        ),
+        OK
+    );
+    assert_eq!(rt; numbers, [0, 7, 8]);
+    assert_eq!(rt; statuses, [20, 0, 0]);
+    let mut a = Answer::new();
+    assert_eq!(rt;
+        jsonb_column_to_str(
+            alloc,
+            SCALARS,
+            SCALAR_OFFSETS,
+            &mut a.out,
+            &mut a.positions,
+            &mut a.statuses,
+            &mut a.progress
+        ),
+        OK
+    );
+    assert!(rt; a.is(b"78", [0, 0, 1, 2, 9], [20, 0, 0, 9]));
+    let null = &SCALAR_OFFSETS[..2];
+    let mut a = Answer::new();
+    assert_eq!(rt;
+        jsonb_column_key(
+            alloc,
+            SCALARS,
+            null,
+            false,
+            &mut a.out,
+            &mut a.positions,
+            &mut a.statuses,
+            &mut a.progress
+        ),
+        OK
+    );
+    assert!(rt; a.is(b"\x00\x08", [0, 2, 9, 9, 9], [0, 9, 9, 9]));
+    let mut a = Answer::new();
+    assert_eq!(rt;
+        jsonb_column_key(
+            alloc,
+            SCALARS,
+            null,
+            true,
+            &mut a.out,
+            &mut a.positions,
+            &mut a.statuses,
+            &mut a.progress
+        ),
+        OK
+    );
+    assert!(rt; a.is(b"\x00\x00\x08", [0, 3, 9, 9, 9], [0, 9, 9, 9]));
+    let mut a = Answer::new();
+    assert_eq!(rt;
+        jsonb_column_equality_key(
+            alloc,
+            SCALARS,
+            null,
+            &mut a.out,
+            &mut a.positions,
+            &mut a.statuses,
+            &mut a.progress
+        ),
+        OK
+    );
+    assert!(rt; a.is(b"\x08", [0, 1, 9, 9, 9], [0, 9, 9, 9]));
+    Ok(())
+}

@@ -1,0 +1,199 @@
+//! Answers that go into the caller's memory.
+
+ghost use Rattle.std.specs.Prelude.{◌≡◌, ◌≤◌, ◌+◌, ◌++◌, take, drop, length};
+ghost use Rattle.jsonb_c.specs.Status.{code};
+ghost use Rattle.jsonb_c.specs.Answers.{Delivers, DeliversBytes, Places, Shows, ShowsBool, ShowsFound, ShowsFoundBool, ShowsTruth, bool_byte, truth_byte, whole};
+ghost use Rattle.jsonb_c.specs.Views.{found_text, key_answer, text_answer};
+
+use crate::status::Status;
+use jsonb::{Error, OwnedJsonb};
+
+/// Writes the bytes to a place in the buffer, where there is room behind it for them; answers whether there is.
+pub(crate) fn place(bytes: &[u8], out: &mut [u8], at: usize) -> bool
+    ensures { Places bytes.now at out.old out.new result }
+{
+    let Some(room) = out.len().checked_sub(at) else {
+        return false;
+    };
+    if room < bytes.len() {
+        return false;
+    }
+    out[at..at + bytes.len()].copy_from_slice(bytes);
+    true
+}
+
+/// Hands a part over that was found, or that there is none, or why there is no answer.
+pub(crate) fn deliver(
+    answer: Result<Option<OwnedJsonb>, Error>,
+    out: &mut [u8],
+    out_len: &mut usize,
+) -> u32
+    ensures { Delivers answer out.old out.new out_len.new result }
+{
+    match answer {
+        Ok(Some(document)) => deliver_bytes(document.as_raw().as_bytes(), out, out_len),
+        Ok(None) => deliver_nothing(Status::Absent, out_len),
+        Err(error) => deliver_nothing(Status::Refused(error), out_len),
+    }
+}
+
+/// Hands a document over that was made, or why there is none.
+pub(crate) fn deliver_made(
+    answer: Result<OwnedJsonb, Error>,
+    out: &mut [u8],
+    out_len: &mut usize,
+) -> u32
+    ensures { Delivers (whole answer) out.old out.new out_len.new result }
+{
+    match answer {
+        Ok(document) => deliver_bytes(document.as_raw().as_bytes(), out, out_len),
+        Err(error) => deliver_nothing(Status::Refused(error), out_len),
+    }
+}
+
+/// Hands a key over, or why there is none.
+pub(crate) fn deliver_key(
+    answer: Result<Vec<u8>, Error>,
+    out: &mut [u8],
+    out_len: &mut usize,
+) -> u32
+    ensures { Delivers (whole (key_answer answer)) out.old out.new out_len.new result }
+{
+    match answer {
+        Ok(key) => deliver_bytes(&key, out, out_len),
+        Err(error) => deliver_nothing(Status::Refused(error), out_len),
+    }
+}
+
+/// Hands bytes over.
+pub(crate) fn deliver_bytes(bytes: &[u8], out: &mut [u8], out_len: &mut usize) -> u32
+    ensures { DeliversBytes bytes.now out.old out.new out_len.new result }
+{
+    *out_len = bytes.len();
+    if place(bytes, out, 0) {
+        Status::Answered.to_u32()
+    } else {
+        Status::BufferTooSmall.to_u32()
+    }
+}
+
+/// Hands nothing over.
+pub(crate) fn deliver_nothing(cause: Status, out_len: &mut usize) -> u32
+    ensures len { out_len.new ≡ 0 }
+    ensures status { result ≡ code cause }
+{
+    *out_len = 0;
+    cause.to_u32()
+}
+
+/// A truth as a byte.
+pub(crate) fn truth_byte(truth: Option<bool>) -> u8
+    ensures { result ≡ truth_byte truth }
+{
+    match truth {
+        Some(value) => bool_byte(value),
+        None => 2,
+    }
+}
+
+pub(crate) fn bool_byte(value: bool) -> u8
+    ensures { result ≡ bool_byte value }
+{
+    u8::from(value)
+}
+
+/// Hands a truth over, which may be unknown, or why there is none.
+pub(crate) fn show_truth(answer: Result<Option<bool>, Error>, truth: &mut u8) -> u32
+    ensures { ShowsTruth answer truth.old truth.new result }
+{
+    match answer {
+        Ok(value) => {
+            *truth = truth_byte(value);
+            Status::Answered.to_u32()
+        }
+        Err(error) => Status::Refused(error).to_u32(),
+    }
+}
+
+/// Hands a truth over, or why there is none.
+pub(crate) fn show_bool(answer: Result<bool, Error>, truth: &mut u8) -> u32
+    ensures { ShowsBool answer truth.old truth.new result }
+{
+    match answer {
+        Ok(value) => {
+            *truth = bool_byte(value);
+            Status::Answered.to_u32()
+        }
+        Err(error) => Status::Refused(error).to_u32(),
+    }
+}
+
+/// Hands a truth over that was found, or that there is none, or why there is no answer.
+pub(crate) fn show_found_bool(answer: Result<Option<bool>, Error>, truth: &mut u8) -> u32
+    ensures { ShowsFoundBool answer truth.old truth.new result }
+{
+    match answer {
+        Ok(Some(value)) => {
+            *truth = bool_byte(value);
+            Status::Answered.to_u32()
+        }
+        Ok(None) => Status::Absent.to_u32(),
+        Err(error) => Status::Refused(error).to_u32(),
+    }
+}
+
+/// Hands a value over, or why there is none.
+pub(crate) fn show<T: Copy>(answer: Result<T, Error>, out: &mut T) -> u32
+    ensures { Shows answer out.old out.new result }
+{
+    match answer {
+        Ok(value) => {
+            *out = value;
+            Status::Answered.to_u32()
+        }
+        Err(error) => Status::Refused(error).to_u32(),
+    }
+}
+
+/// Hands a value over that was found, or that there is none, or why there is no answer.
+pub(crate) fn show_found<T: Copy>(answer: Result<Option<T>, Error>, out: &mut T) -> u32
+    ensures { ShowsFound answer out.old out.new result }
+{
+    match answer {
+        Ok(Some(value)) => {
+            *out = value;
+            Status::Answered.to_u32()
+        }
+        Ok(None) => Status::Absent.to_u32(),
+        Err(error) => Status::Refused(error).to_u32(),
+    }
+}
+
+/// Hands the bytes of a text over, or why there is none.
+pub(crate) fn deliver_text(
+    answer: Result<String, Error>,
+    out: &mut [u8],
+    out_len: &mut usize,
+) -> u32
+    ensures { Delivers (whole (text_answer answer)) out.old out.new out_len.new result }
+{
+    match answer {
+        Ok(text) => deliver_bytes(text.as_bytes(), out, out_len),
+        Err(error) => deliver_nothing(Status::Refused(error), out_len),
+    }
+}
+
+/// Hands the bytes of a text over that was found, or that there is none, or why there is no answer.
+pub(crate) fn deliver_found_text(
+    answer: Result<Option<&str>, Error>,
+    out: &mut [u8],
+    out_len: &mut usize,
+) -> u32
+    ensures { Delivers (found_text answer.entry) out.old out.new out_len.new result }
+{
+    match answer {
+        Ok(Some(text)) => deliver_bytes(text.as_bytes(), out, out_len),
+        Ok(None) => deliver_nothing(Status::Absent, out_len),
+        Err(error) => deliver_nothing(Status::Refused(error), out_len),
+    }
+}

@@ -1,0 +1,111 @@
+//! Documents as truth values, integers and texts.
+
+ghost use Rattle.std.specs.Prelude.{◌≡◌, IfErr, IsOkAnd};
+ghost use Rattle.jsonb_doc.specs.Answer.{IsDecodingError, ◌or◌};
+ghost use Rattle.jsonb_doc.specs.declared.error.Error.TheVariants.{InvalidCast, OutOfMemory};
+ghost use Rattle.jsonb_raw.specs.Casts.{CastsToBool, CastsToI64, CastsToU64, text_of};
+ghost use Rattle.jsonb_raw.specs.Scalars.{boolean_in, text_in};
+ghost use Rattle.jsonb_c.specs.Answers.{HandsOver, HandsOverBool, HandsOverBytes, HandsOverFound, OfDocument, Shows, ShowsFound, ShowsFoundBool};
+ghost use Rattle.jsonb_c.specs.Calls.{FindsSigned, FindsUnsigned, IsTextOf};
+ghost use Rattle.jsonb_c.specs.Views.{found_text, text_answer};
+
+use crate::deliver::{
+    deliver_found_text, deliver_text, show, show_bool, show_found, show_found_bool,
+};
+use jsonb::{Error, Item, RawJsonb, root_item};
+use std::alloc::Global;
+
+/// The truth value, where the document is one.
+#[unsafe(no_mangle)]
+pub extern "C" fn jsonb_as_bool(document: &[u8], truth: &mut u8) -> u32
+    ensures { HandsOver (OfDocument document.now (λ form t answer. IsOkAnd answer (λ found. found ≡ boolean_in t)))
+        IsDecodingError (λ answer. ShowsFoundBool answer truth.old truth.new result) }
+{
+    show_found_bool(RawJsonb::new(document).as_bool(), truth)
+}
+
+/// The truth value, which is also read from texts.
+#[unsafe(no_mangle)]
+pub extern "C" fn jsonb_to_bool(document: &[u8], truth: &mut u8) -> u32
+    ensures { HandsOverBool (OfDocument document.now (λ form t. CastsToBool t)) (IsDecodingError or InvalidCast)
+        truth.old truth.new result }
+{
+    show_bool(RawJsonb::new(document).to_bool(), truth)
+}
+
+/// The number as an `i64`, where it is whole and fits.
+#[unsafe(no_mangle)]
+pub extern "C" fn jsonb_as_i64(document: &[u8], number: &mut i64) -> u32
+    ensures { HandsOver (OfDocument document.now (λ form t answer. IsOkAnd answer (FindsSigned t))) IsDecodingError
+        (λ answer. ShowsFound answer number.old number.new result) }
+{
+    show_found(RawJsonb::new(document).as_i64(), number)
+}
+
+/// The document as an `i64`: a truth value as 1 or 0, a number rounded, a text as it reads.
+#[unsafe(no_mangle)]
+pub extern "C" fn jsonb_to_i64(document: &[u8], number: &mut i64) -> u32
+    ensures { HandsOver (OfDocument document.now (λ form t. CastsToI64 t)) (IsDecodingError or InvalidCast)
+        (λ answer. Shows answer number.old number.new result) }
+{
+    show(RawJsonb::new(document).to_i64(), number)
+}
+
+/// The number as a `u64`, where it is whole and fits.
+#[unsafe(no_mangle)]
+pub extern "C" fn jsonb_as_u64(document: &[u8], number: &mut u64) -> u32
+    ensures { HandsOver (OfDocument document.now (λ form t answer. IsOkAnd answer (FindsUnsigned t))) IsDecodingError
+        (λ answer. ShowsFound answer number.old number.new result) }
+{
+    show_found(RawJsonb::new(document).as_u64(), number)
+}
+
+/// The document as a `u64`: a truth value as 1 or 0, a number rounded, a text as it reads.
+#[unsafe(no_mangle)]
+pub extern "C" fn jsonb_to_u64(document: &[u8], number: &mut u64) -> u32
+    ensures { HandsOver (OfDocument document.now (λ form t. CastsToU64 t)) (IsDecodingError or InvalidCast)
+        (λ answer. Shows answer number.old number.new result) }
+{
+    show(RawJsonb::new(document).to_u64(), number)
+}
+
+/// The bytes of the text, where the document is one.
+#[unsafe(no_mangle)]
+pub extern "C" fn jsonb_as_str(document: &[u8], out: &mut [u8], out_len: &mut usize) -> u32
+    ensures { HandsOverFound (OfDocument document.now (λ form t answer. IsOkAnd answer (λ found. found ≡ text_in t)))
+        IsDecodingError out.old out.new out_len.new result }
+{
+    deliver_found_text(as_str(document), out, out_len)
+}
+
+fn as_str(document: &[u8]) -> Result<Option<&str>, Error>
+    ensures text { OfDocument document.now
+        (λ form t answer. IsOkAnd answer (λ found. found ≡ text_in t)) (found_text result) }
+    ensures errors { IfErr result IsDecodingError }
+{
+    match root_item(document)? {
+        Item::String(text) => Ok(Some(text)),
+        _ => Ok(None),
+    }
+}
+
+/// The document as a text: a truth value, a number in decimal, a text as it is.
+#[unsafe(no_mangle)]
+pub extern "C" fn jsonb_to_str(
+    alloc: Global,
+    document: &[u8],
+    out: &mut [u8],
+    out_len: &mut usize,
+) -> u32
+    ensures { HandsOverBytes (OfDocument document.now (λ form t. IsTextOf (text_of t)))
+        (IsDecodingError or OutOfMemory or InvalidCast) out.old out.new out_len.new result }
+{
+    deliver_text(to_str(alloc, document), out, out_len)
+}
+
+fn to_str(alloc: Global, document: &[u8]) -> Result<String, Error>
+    ensures text { OfDocument document.now (λ form t. IsTextOf (text_of t)) (text_answer result) }
+    ensures errors { IfErr result (IsDecodingError or OutOfMemory or InvalidCast) }
+{
+    RawJsonb::new(document).to_str(alloc)
+}

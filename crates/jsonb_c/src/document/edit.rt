@@ -1,0 +1,157 @@
+//! Documents made of others.
+
+ghost use Rattle.std.specs.Prelude.{IfErr};
+ghost use Rattle.std.specs.Str.{IsUtf8};
+ghost use Rattle.jsonb_doc.specs.Answer.{IsDecodingError, ◌or◌};
+ghost use Rattle.jsonb_doc.specs.declared.error.Error.TheVariants.{InvalidJsonType, InvalidKeyPath, InvalidObject, ObjectDuplicateKey, OutOfMemory, TooLarge};
+ghost use Rattle.jsonb_raw.specs.Arrays.{array_insert};
+ghost use Rattle.jsonb_raw.specs.Children.{without_name};
+ghost use Rattle.jsonb_raw.specs.Concat.{concat};
+ghost use Rattle.jsonb_raw.specs.Documents.{Makes};
+ghost use Rattle.jsonb_raw.specs.Strip.{strip};
+ghost use Rattle.jsonb.specs.KeyPathGrammar.{key_path};
+ghost use Rattle.jsonb_c.specs.Answers.{DeliversNothing, HandsOverBytes, OfDocument, OfDocuments};
+ghost use Rattle.jsonb_c.specs.Calls.{ByPath, DeletesIndex, DeletesPlace, InsertsPair, MakesOr};
+ghost use Rattle.jsonb_c.specs.Status.{not_utf8};
+
+use crate::deliver::{deliver_made, deliver_nothing};
+use crate::status::Status;
+use jsonb::{Error, OwnedJsonb, RawJsonb, parse_key_paths};
+use std::alloc::Global;
+
+/// The document without the place that a key path meets.
+#[unsafe(no_mangle)]
+pub extern "C" fn jsonb_delete_by_keypath(
+    alloc: Global,
+    document: &[u8],
+    path: &[u8],
+    out: &mut [u8],
+    out_len: &mut usize,
+) -> u32
+    ensures { HandsOverBytes
+        (ByPath InvalidKeyPath (key_path path.now) (λ steps. DeletesPlace steps document.now))
+        (IsDecodingError or OutOfMemory or InvalidJsonType or InvalidKeyPath) out.old out.new out_len.new result }
+{
+    deliver_made(delete_by_keypath(alloc, document, path), out, out_len)
+}
+
+fn delete_by_keypath(alloc: Global, document: &[u8], path: &[u8]) -> Result<OwnedJsonb, Error>
+    ensures deleted { ByPath InvalidKeyPath (key_path path.now) (λ steps. DeletesPlace steps document.now) result }
+    ensures errors { IfErr result (IsDecodingError or OutOfMemory or InvalidJsonType or InvalidKeyPath) }
+{
+    let steps = parse_key_paths(alloc, path)?;
+    RawJsonb::new(document).delete_by_keypath(alloc, steps.paths.iter())
+}
+
+/// The array without the element that an index means, counted from the end where it is negative.
+#[unsafe(no_mangle)]
+pub extern "C" fn jsonb_delete_by_index(
+    alloc: Global,
+    document: &[u8],
+    index: i32,
+    out: &mut [u8],
+    out_len: &mut usize,
+) -> u32
+    ensures { HandsOverBytes (DeletesIndex index document.now)
+        (IsDecodingError or OutOfMemory or TooLarge or InvalidJsonType) out.old out.new out_len.new result }
+{
+    let document = RawJsonb::new(document);
+    deliver_made(document.delete_by_index(alloc, index), out, out_len)
+}
+
+/// The object without the key, or the array without the texts that are the name.
+#[unsafe(no_mangle)]
+pub extern "C" fn jsonb_delete_by_name(
+    alloc: Global,
+    document: &[u8],
+    name: &[u8],
+    out: &mut [u8],
+    out_len: &mut usize,
+) -> u32
+    ensures named { IsUtf8 name.now
+        → HandsOverBytes (OfDocument document.now (λ form t. MakesOr InvalidJsonType form (without_name name.now t)))
+        (IsDecodingError or OutOfMemory or TooLarge or InvalidJsonType) out.old out.new out_len.new result }
+    ensures other { ¬ (IsUtf8 name.now) → DeliversNothing not_utf8 out.old out.new out_len.new result }
+{
+    let Ok(name) = str::from_utf8(name) else {
+        return deliver_nothing(Status::NotUtf8, out_len);
+    };
+    let document = RawJsonb::new(document);
+    deliver_made(document.delete_by_name(alloc, name), out, out_len)
+}
+
+/// The array with the root of another document as one element more, at a position that counts from the end where it
+/// is negative.
+#[unsafe(no_mangle)]
+pub extern "C" fn jsonb_array_insert(
+    alloc: Global,
+    document: &[u8],
+    value: &[u8],
+    position: i32,
+    out: &mut [u8],
+    out_len: &mut usize,
+) -> u32
+    ensures { HandsOverBytes
+        (OfDocuments document.now value.now (λ form t v. Makes form (array_insert position v t)))
+        (IsDecodingError or OutOfMemory or TooLarge) out.old out.new out_len.new result }
+{
+    let document = RawJsonb::new(document);
+    let made = document.array_insert(alloc, position, &RawJsonb::new(value));
+    deliver_made(made, out, out_len)
+}
+
+/// The object with one pair more, or with another value under the key where it is to be updated.
+#[unsafe(no_mangle)]
+pub extern "C" fn jsonb_object_insert(
+    alloc: Global,
+    document: &[u8],
+    value: &[u8],
+    name: &[u8],
+    update: bool,
+    out: &mut [u8],
+    out_len: &mut usize,
+) -> u32
+    ensures named { IsUtf8 name.now
+        → HandsOverBytes (InsertsPair name.now update document.now value.now)
+        (IsDecodingError or OutOfMemory or TooLarge or InvalidObject or ObjectDuplicateKey)
+        out.old out.new out_len.new result }
+    ensures other { ¬ (IsUtf8 name.now) → DeliversNothing not_utf8 out.old out.new out_len.new result }
+{
+    let Ok(name) = str::from_utf8(name) else {
+        return deliver_nothing(Status::NotUtf8, out_len);
+    };
+    let document = RawJsonb::new(document);
+    let made = document.object_insert(alloc, name, &RawJsonb::new(value), update);
+    deliver_made(made, out, out_len)
+}
+
+/// Two objects as one, or the elements of two documents as one array.
+#[unsafe(no_mangle)]
+pub extern "C" fn jsonb_concat(
+    alloc: Global,
+    document: &[u8],
+    other: &[u8],
+    out: &mut [u8],
+    out_len: &mut usize,
+) -> u32
+    ensures { HandsOverBytes (OfDocuments document.now other.now (λ form t u. Makes form (concat t u)))
+        (IsDecodingError or OutOfMemory or TooLarge) out.old out.new out_len.new result }
+{
+    let document = RawJsonb::new(document);
+    let made = document.concat(alloc, &RawJsonb::new(other));
+    deliver_made(made, out, out_len)
+}
+
+/// The document without the pairs whose value is null, at every depth.
+#[unsafe(no_mangle)]
+pub extern "C" fn jsonb_strip_nulls(
+    alloc: Global,
+    document: &[u8],
+    out: &mut [u8],
+    out_len: &mut usize,
+) -> u32
+    ensures { HandsOverBytes (OfDocument document.now (λ form t. Makes form (strip t)))
+        (IsDecodingError or OutOfMemory or TooLarge) out.old out.new out_len.new result }
+{
+    deliver_made(RawJsonb::new(document).strip_nulls(alloc), out, out_len)
+}

@@ -1,0 +1,62 @@
+//! Keys of a document.
+
+ghost use Rattle.std.specs.Prelude.{IfErr};
+ghost use Rattle.jsonb_doc.specs.Answer.{IsDecodingError, ◌or◌};
+ghost use Rattle.jsonb_doc.specs.declared.error.Error.TheVariants.{OutOfMemory, TooDeep};
+ghost use Rattle.jsonb_c.specs.Answers.{HandsOverBytes};
+ghost use Rattle.jsonb_c.specs.Calls.{IsEqualityKeyOf, IsKeyOf, width_of};
+ghost use Rattle.jsonb_c.specs.Views.{key_answer};
+
+use crate::deliver::deliver_key;
+use jsonb::{Error, RawJsonb};
+use std::alloc::Global;
+
+/// The sortable key, with depths in one byte, or in two where it is to be wide.
+#[unsafe(no_mangle)]
+pub extern "C" fn jsonb_sort_key(
+    alloc: Global,
+    document: &[u8],
+    wide: bool,
+    out: &mut [u8],
+    out_len: &mut usize,
+) -> u32
+    ensures { HandsOverBytes (IsKeyOf (width_of wide) document.now)
+        (IsDecodingError or OutOfMemory or TooDeep) out.old out.new out_len.new result }
+{
+    deliver_key(sort_key(alloc, document, wide), out, out_len)
+}
+
+/// The sortable key of a document.
+pub(crate) fn sort_key(alloc: Global, document: &[u8], wide: bool) -> Result<Vec<u8>, Error>
+    ensures key { IsKeyOf (width_of wide) document.now (key_answer result) }
+    ensures errors { IfErr result (IsDecodingError or OutOfMemory or TooDeep) }
+{
+    let document = RawJsonb::new(document);
+    if wide {
+        document.convert_to_comparable_wide(alloc)
+    } else {
+        document.convert_to_comparable(alloc)
+    }
+}
+
+/// The equality key.
+#[unsafe(no_mangle)]
+pub extern "C" fn jsonb_equality_key(
+    alloc: Global,
+    document: &[u8],
+    out: &mut [u8],
+    out_len: &mut usize,
+) -> u32
+    ensures { HandsOverBytes (IsEqualityKeyOf document.now) (IsDecodingError or OutOfMemory)
+        out.old out.new out_len.new result }
+{
+    deliver_key(equality_key(alloc, document), out, out_len)
+}
+
+/// The equality key of a document.
+pub(crate) fn equality_key(alloc: Global, document: &[u8]) -> Result<Vec<u8>, Error>
+    ensures key { IsEqualityKeyOf document.now (key_answer result) }
+    ensures errors { IfErr result (IsDecodingError or OutOfMemory) }
+{
+    RawJsonb::new(document).equality_key(alloc)
+}

@@ -1,0 +1,107 @@
+//! The kind of a document.
+
+ghost use Rattle.std.specs.Prelude.{◌≡◌, IfErr, IsOkAnd};
+ghost use Rattle.jsonb_doc.specs.Answer.{IsDecodingError};
+ghost use Rattle.jsonb_doc.specs.View.{extension_view, number_parts};
+ghost use Rattle.jsonb_c.specs.Answers.{HandsOver, OfDocument, Shows};
+ghost use Rattle.jsonb_c.specs.Kinds.{extension_kind, kind_number, number_kind, tree_kind};
+
+use crate::deliver::show;
+use jsonb::{Error, ExtensionValue, Item, Number, root_item};
+
+/// The kinds of documents, by the names of `type_of`.
+#[derive(Clone, Copy, Debug, PartialEq, Eq)]
+enum Kind {
+    /// The value null.
+    Null,
+    /// A truth value.
+    Boolean,
+    /// A whole number.
+    Integer,
+    /// A decimal.
+    Decimal,
+    /// A text.
+    String,
+    /// A binary value.
+    Binary,
+    /// A day.
+    Date,
+    /// A point in time without a time zone.
+    Timestamp,
+    /// A point in time with a time zone.
+    TimestampTz,
+    /// A length of time.
+    Interval,
+    /// An array.
+    Array,
+    /// An object.
+    Object,
+}
+
+impl Kind {
+    fn to_u8(self) -> u8
+        ensures { result ≡ kind_number self }
+    {
+        match self {
+            Kind::Null => 0,
+            Kind::Boolean => 1,
+            Kind::Integer => 2,
+            Kind::Decimal => 3,
+            Kind::String => 4,
+            Kind::Binary => 5,
+            Kind::Date => 6,
+            Kind::Timestamp => 7,
+            Kind::TimestampTz => 8,
+            Kind::Interval => 9,
+            Kind::Array => 10,
+            Kind::Object => 11,
+        }
+    }
+}
+
+/// The kind of a document.
+#[unsafe(no_mangle)]
+pub extern "C" fn jsonb_type(document: &[u8], kind: &mut u8) -> u32
+    ensures { HandsOver
+        (OfDocument document.now (λ form t answer. IsOkAnd answer (λ number. number ≡ kind_number (tree_kind t))))
+        IsDecodingError (λ answer. Shows answer kind.old kind.new result) }
+{
+    show(kind_of(document), kind)
+}
+
+fn kind_of(document: &[u8]) -> Result<u8, Error>
+    ensures kind { OfDocument document.now (λ form t answer. IsOkAnd answer (λ number. number ≡ kind_number (tree_kind t))) result }
+    ensures errors { IfErr result IsDecodingError }
+{
+    let kind = match root_item(document)? {
+        Item::Null => Kind::Null,
+        Item::Boolean(_) => Kind::Boolean,
+        Item::Number(number) => number_kind(&number),
+        Item::String(_) => Kind::String,
+        Item::Extension(value) => extension_kind(&value),
+        Item::Array(_) => Kind::Array,
+        Item::Object(_) => Kind::Object,
+    };
+    Ok(kind.to_u8())
+}
+
+fn number_kind(number: &Number) -> Kind
+    ensures { result ≡ number_kind (number_parts number.now).variant }
+{
+    match number {
+        Number::Int64(_) | Number::UInt64(_) => Kind::Integer,
+        Number::Decimal64(_) | Number::Decimal128(_) => Kind::Decimal,
+    }
+}
+
+fn extension_kind(value: &ExtensionValue<'_>) -> Kind
+    ensures { result ≡ extension_kind (extension_view value.now) }
+{
+    match value {
+        ExtensionValue::Binary(_) => Kind::Binary,
+        ExtensionValue::Date(_) => Kind::Date,
+        ExtensionValue::Timestamp(_) => Kind::Timestamp,
+        ExtensionValue::TimestampTz(_) => Kind::TimestampTz,
+        ExtensionValue::Interval(_) => Kind::Interval,
+    }
+}

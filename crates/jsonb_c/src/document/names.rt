@@ -1,0 +1,172 @@
+//! Calls that take a column of names.
+
+ghost use Rattle.std.specs.Prelude.{◌≡◌, ◌⊎◌, Err, IfErr, IsOkAnd, MatchResult, Ok, map, option_copied};
+ghost use Rattle.jsonb_doc.specs.Answer.{IsDecodingError, IsOutOfMemory, ◌or◌};
+ghost use Rattle.jsonb_doc.specs.declared.error.Error.TheVariants.{InvalidObject, OutOfMemory, TooLarge};
+ghost use Rattle.jsonb_raw.specs.Exists.{has_all, has_any};
+ghost use Rattle.jsonb_c.specs.Answers.{DeliversNothing, HandsOverBool, HandsOverBytes, OfDocument};
+ghost use Rattle.jsonb_c.specs.Calls.{MakesOr};
+ghost use Rattle.jsonb_c.specs.Status.{code};
+ghost use Rattle.jsonb_c.specs.Columns.{rows};
+ghost use Rattle.jsonb_c.specs.Names.{HasNames, IsAsItWas, IsNameOf, WithNames, dropped_names, names_of, picked_names};
+ghost use Rattle.jsonb_c.specs.declared.status.Status.TheVariants.{Refused};
+
+use crate::column::Column;
+use crate::deliver::{deliver_made, deliver_nothing, show_bool};
+use crate::status::Status;
+use jsonb::{Error, RawJsonb};
+use std::alloc::Global;
+use std::collections::BTreeSet;
+
+/// Whether the document has each of the texts: as a key of an object, as an element of an array, or as the root.
+#[unsafe(no_mangle)]
+pub extern "C" fn jsonb_exists_all_keys(
+    alloc: Global,
+    document: &[u8],
+    names: &[u8],
+    offsets: &[u64],
+    truth: &mut u8,
+) -> u32
+    ensures { WithNames (names_of (rows names.now offsets.now)) (λ wanted. HandsOverBool
+        (OfDocument document.now (λ form t said. IsOkAnd said (λ b. b ≡ has_all wanted t)))
+        IsDecodingError truth.old truth.new result) (IsAsItWas truth.old truth.new result) }
+{
+    match read_names(alloc, &Column::new(names, offsets)) {
+        Ok(names) => show_bool(exists_all_keys(document, &names), truth),
+        Err(cause) => cause.to_u32(),
+    }
+}
+
+fn exists_all_keys(document: &[u8], names: &[&str]) -> Result<bool, Error>
+    ensures all { OfDocument document.now
+        (λ form t said. IsOkAnd said (λ b. b ≡ has_all (map (λ name. name.now) names.now) t)) result }
+    ensures errors { IfErr result IsDecodingError }
+{
+    RawJsonb::new(document).exists_all_keys(names.iter().copied())
+}
+
+/// Whether the document has one of the texts: as a key of an object, as an element of an array, or as the root.
+#[unsafe(no_mangle)]
+pub extern "C" fn jsonb_exists_any_keys(
+    alloc: Global,
+    document: &[u8],
+    names: &[u8],
+    offsets: &[u64],
+    truth: &mut u8,
+) -> u32
+    ensures { WithNames (names_of (rows names.now offsets.now)) (λ wanted. HandsOverBool
+        (OfDocument document.now (λ form t said. IsOkAnd said (λ b. b ≡ has_any wanted t)))
+        IsDecodingError truth.old truth.new result) (IsAsItWas truth.old truth.new result) }
+{
+    match read_names(alloc, &Column::new(names, offsets)) {
+        Ok(names) => show_bool(exists_any_keys(document, &names), truth),
+        Err(cause) => cause.to_u32(),
+    }
+}
+
+fn exists_any_keys(document: &[u8], names: &[&str]) -> Result<bool, Error>
+    ensures any { OfDocument document.now
+        (λ form t said. IsOkAnd said (λ b. b ≡ has_any (map (λ name. name.now) names.now) t)) result }
+    ensures errors { IfErr result IsDecodingError }
+{
+    RawJsonb::new(document).exists_any_keys(names.iter().copied())
+}
+
+/// The object of the pairs whose keys are among the names.
+#[unsafe(no_mangle)]
+pub extern "C" fn jsonb_object_pick(
+    alloc: Global,
+    document: &[u8],
+    names: &[u8],
+    offsets: &[u64],
+    out: &mut [u8],
+    out_len: &mut usize,
+) -> u32
+    ensures { WithNames (names_of (rows names.now offsets.now)) (λ wanted. HandsOverBytes
+        (OfDocument document.now (λ form t. MakesOr InvalidObject form (picked_names wanted t)))
+        (IsDecodingError or OutOfMemory or TooLarge or InvalidObject) out.old out.new out_len.new result)
+        (λ cause. DeliversNothing (code cause) out.old out.new out_len.new result) }
+{
+    match read_set(alloc, &Column::new(names, offsets)) {
+        Ok(keys) => {
+            let document = RawJsonb::new(document);
+            deliver_made(document.object_pick(alloc, &keys), out, out_len)
+        }
+        Err(cause) => deliver_nothing(cause, out_len),
+    }
+}
+
+/// The object without the pairs whose keys are among the names.
+#[unsafe(no_mangle)]
+pub extern "C" fn jsonb_object_delete(
+    alloc: Global,
+    document: &[u8],
+    names: &[u8],
+    offsets: &[u64],
+    out: &mut [u8],
+    out_len: &mut usize,
+) -> u32
+    ensures { WithNames (names_of (rows names.now offsets.now)) (λ wanted. HandsOverBytes
+        (OfDocument document.now (λ form t. MakesOr InvalidObject form (dropped_names wanted t)))
+        (IsDecodingError or OutOfMemory or TooLarge or InvalidObject) out.old out.new out_len.new result)
+        (λ cause. DeliversNothing (code cause) out.old out.new out_len.new result) }
+{
+    match read_set(alloc, &Column::new(names, offsets)) {
+        Ok(keys) => {
+            let document = RawJsonb::new(document);
+            deliver_made(document.object_delete(alloc, &keys), out, out_len)
+        }
+        Err(cause) => deliver_nothing(cause, out_len),
+    }
+}
+
+/// The names of a column, or why they can't be read.
+fn read_names<'a>(alloc: Global, column: &Column<'a>) -> Result<Vec<&'a str>, Status>
+    ensures { MatchResult result (λ names. names_of column.now ≡ Ok (map (λ name. name.now) names.items))
+        (λ cause. (cause ≡ Refused OutOfMemory) ⊎ (names_of column.now ≡ Err cause)) }
+{
+    let mut names = Vec::new(alloc);
+    for index in 0..column.len() {
+        let name = name_of(column.row(index))?;
+        if names.push(name).is_err() {
+            return Err(Status::Refused(Error::OutOfMemory));
+        }
+    }
+    Ok(names)
+}
+
+/// The name in a row.
+fn name_of(row: Option<&[u8]>) -> Result<&str, Status>
+    ensures { IsNameOf result (option_copied row.entry) }
+{
+    let Some(bytes) = row else {
+        return Err(Status::BadOffsets);
+    };
+    match str::from_utf8(bytes) {
+        Ok(name) => Ok(name),
+        Err(_) => Err(Status::NotUtf8),
+    }
+}
+
+/// The names of a column as a set, or why they can't be read.
+fn read_set<'a>(alloc: Global, column: &Column<'a>) -> Result<BTreeSet<&'a str>, Status>
+    ensures { MatchResult result (λ set. IsOkAnd (names_of column.now) (HasNames set))
+        (λ cause. (cause ≡ Refused OutOfMemory) ⊎ (names_of column.now ≡ Err cause)) }
+{
+    let names = read_names(alloc, column)?;
+    match set_of(alloc, &names) {
+        Ok(set) => Ok(set),
+        Err(error) => Err(Status::Refused(error)),
+    }
+}
+
+/// The names as a set.
+fn set_of<'a>(alloc: Global, names: &[&'a str]) -> Result<BTreeSet<&'a str>, Error>
+    ensures { MatchResult result (λ set. HasNames set (map (λ name. name.now) names.now)) IsOutOfMemory }
+{
+    let mut set = BTreeSet::new(alloc);
+    for name in names {
+        set.insert(*name)?;
+    }
+    Ok(set)
+}

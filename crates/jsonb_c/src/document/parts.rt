@@ -1,0 +1,79 @@
+//! Parts of a document.
+
+ghost use Rattle.std.specs.Prelude.{IfErr};
+ghost use Rattle.std.specs.Str.{IsUtf8};
+ghost use Rattle.jsonb_doc.specs.Answer.{IsDecodingError, ◌or◌};
+ghost use Rattle.jsonb_doc.specs.declared.error.Error.TheVariants.{InvalidKeyPath, OutOfMemory, TooLarge};
+ghost use Rattle.jsonb_raw.specs.Children.{element_at, named_child};
+ghost use Rattle.jsonb.specs.KeyPathGrammar.{key_path};
+ghost use Rattle.jsonb_c.specs.Answers.{DeliversNothing, HandsOverFound, OfDocument};
+ghost use Rattle.jsonb_c.specs.Calls.{Finds, Gets};
+ghost use Rattle.jsonb_c.specs.Status.{not_utf8};
+
+use crate::deliver::{deliver, deliver_nothing};
+use crate::status::Status;
+use jsonb::{Error, OwnedJsonb, RawJsonb, parse_key_paths};
+use std::alloc::Global;
+
+/// The part at the place that a key path meets.
+#[unsafe(no_mangle)]
+pub extern "C" fn jsonb_get_by_keypath(
+    alloc: Global,
+    document: &[u8],
+    path: &[u8],
+    out: &mut [u8],
+    out_len: &mut usize,
+) -> u32
+    ensures { HandsOverFound (Gets (key_path path.now) document.now)
+        (IsDecodingError or OutOfMemory or TooLarge or InvalidKeyPath) out.old out.new out_len.new result }
+{
+    deliver(get_by_keypath(alloc, document, path), out, out_len)
+}
+
+fn get_by_keypath(alloc: Global, document: &[u8], path: &[u8]) -> Result<Option<OwnedJsonb>, Error>
+    ensures part { Gets (key_path path.now) document.now result }
+    ensures errors { IfErr result (IsDecodingError or OutOfMemory or TooLarge or InvalidKeyPath) }
+{
+    let steps = parse_key_paths(alloc, path)?;
+    RawJsonb::new(document).get_by_keypath(alloc, steps.paths.iter())
+}
+
+/// The element at a position of an array.
+#[unsafe(no_mangle)]
+pub extern "C" fn jsonb_get_by_index(
+    alloc: Global,
+    document: &[u8],
+    index: usize,
+    out: &mut [u8],
+    out_len: &mut usize,
+) -> u32
+    ensures { HandsOverFound (OfDocument document.now (λ form t. Finds form (element_at index t)))
+        (IsDecodingError or OutOfMemory or TooLarge) out.old out.new out_len.new result }
+{
+    let document = RawJsonb::new(document);
+    deliver(document.get_by_index(alloc, index), out, out_len)
+}
+
+/// The value under a name, or where the case of ASCII letters is ignored, under the first key that is the name in some
+/// case.
+#[unsafe(no_mangle)]
+pub extern "C" fn jsonb_get_by_name(
+    alloc: Global,
+    document: &[u8],
+    name: &[u8],
+    ignore_case: bool,
+    out: &mut [u8],
+    out_len: &mut usize,
+) -> u32
+    ensures named { IsUtf8 name.now
+        → HandsOverFound (OfDocument document.now (λ form t. Finds form (named_child name.now ignore_case t)))
+        (IsDecodingError or OutOfMemory or TooLarge) out.old out.new out_len.new result }
+    ensures other { ¬ (IsUtf8 name.now) → DeliversNothing not_utf8 out.old out.new out_len.new result }
+{
+    let Ok(name) = str::from_utf8(name) else {
+        return deliver_nothing(Status::NotUtf8, out_len);
+    };
+    let document = RawJsonb::new(document);
+    let found = document.get_by_name(alloc, name, ignore_case);
+    deliver(found, out, out_len)
+}

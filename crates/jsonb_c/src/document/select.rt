@@ -1,0 +1,229 @@
+//! What a JSON path selects of a document, and what it says of it.
+
+ghost use Rattle.std.specs.Prelude.{◌≡◌, IfErr};
+ghost use Rattle.jsonb.specs.PathGrammar.{json_path};
+ghost use Rattle.jsonb.specs.PathViews.{path_view};
+ghost use Rattle.jsonb.specs.SelectionErrors.{IsDocumentError, IsSelectionError};
+ghost use Rattle.jsonb.specs.SelectorAnswers.{first_item, root_bytes, single_or_array};
+ghost use Rattle.jsonb.specs.SelectorAnswers.{mode_of as selector_mode};
+ghost use Rattle.jsonb_c.specs.Answers.{HandsOverBool, HandsOverBytes, HandsOverFound, HandsOverTruth};
+ghost use Rattle.jsonb_c.specs.Calls.{ByMeaning, ByMeanings, IsArrayOf, IsFound, IsPicked, IsTruthOf, Says, mode_of};
+
+use crate::deliver::{deliver, deliver_made, show_bool, show_truth};
+use jsonb::{Error, JsonPath, OwnedJsonb, RawJsonb, Selector, parse_json_path};
+use std::alloc::Global;
+
+/// The only item that a JSON path selects, or one array of several.
+#[unsafe(no_mangle)]
+pub extern "C" fn jsonb_select_value(
+    alloc: Global,
+    document: &[u8],
+    path: &[u8],
+    strict: bool,
+    out: &mut [u8],
+    out_len: &mut usize,
+) -> u32
+    ensures { HandsOverFound
+        (ByMeaning (mode_of strict) document.now (json_path path.now) (λ form. IsPicked form single_or_array))
+        (IsDocumentError (mode_of strict)) out.old out.new out_len.new result }
+{
+    deliver(select_value(alloc, document, path, strict), out, out_len)
+}
+
+fn select_value(
+    alloc: Global,
+    document: &[u8],
+    path: &[u8],
+    strict: bool,
+) -> Result<Option<OwnedJsonb>, Error>
+    ensures value { ByMeaning (mode_of strict) document.now (json_path path.now) (λ form. IsPicked form single_or_array) result }
+    ensures errors { IfErr result (IsDocumentError (mode_of strict)) }
+{
+    let steps = parse_json_path(alloc, path)?;
+    value_by_path(alloc, document, &steps, strict)
+}
+
+pub(crate) fn value_by_path<'a>(
+    alloc: Global,
+    document: &'a [u8],
+    path: &'a JsonPath<'_>,
+    strict: bool,
+) -> Result<Option<OwnedJsonb>, Error>
+    ensures value { ByMeanings (mode_of strict) document.now (path_view path.now) (λ form. IsPicked form single_or_array) result }
+    ensures errors { IfErr result (IsDocumentError (mode_of strict)) }
+{
+    selector(alloc, document, strict).select_value(path)
+}
+
+/// The first item that a JSON path selects.
+#[unsafe(no_mangle)]
+pub extern "C" fn jsonb_select_first(
+    alloc: Global,
+    document: &[u8],
+    path: &[u8],
+    strict: bool,
+    out: &mut [u8],
+    out_len: &mut usize,
+) -> u32
+    ensures { HandsOverFound
+        (ByMeaning (mode_of strict) document.now (json_path path.now) (λ form. IsPicked form first_item))
+        (IsDocumentError (mode_of strict)) out.old out.new out_len.new result }
+{
+    deliver(select_first(alloc, document, path, strict), out, out_len)
+}
+
+fn select_first(
+    alloc: Global,
+    document: &[u8],
+    path: &[u8],
+    strict: bool,
+) -> Result<Option<OwnedJsonb>, Error>
+    ensures first { ByMeaning (mode_of strict) document.now (json_path path.now) (λ form. IsPicked form first_item) result }
+    ensures errors { IfErr result (IsDocumentError (mode_of strict)) }
+{
+    let steps = parse_json_path(alloc, path)?;
+    first_by_path(alloc, document, &steps, strict)
+}
+
+pub(crate) fn first_by_path<'a>(
+    alloc: Global,
+    document: &'a [u8],
+    path: &'a JsonPath<'_>,
+    strict: bool,
+) -> Result<Option<OwnedJsonb>, Error>
+    ensures first { ByMeanings (mode_of strict) document.now (path_view path.now) (λ form. IsPicked form first_item) result }
+    ensures errors { IfErr result (IsDocumentError (mode_of strict)) }
+{
+    selector(alloc, document, strict).select_first(path)
+}
+
+/// One array of what a JSON path selects.
+#[unsafe(no_mangle)]
+pub extern "C" fn jsonb_select_array(
+    alloc: Global,
+    document: &[u8],
+    path: &[u8],
+    strict: bool,
+    out: &mut [u8],
+    out_len: &mut usize,
+) -> u32
+    ensures { HandsOverBytes
+        (ByMeaning (mode_of strict) document.now (json_path path.now) IsArrayOf)
+        (IsDocumentError (mode_of strict)) out.old out.new out_len.new result }
+{
+    deliver_made(select_array(alloc, document, path, strict), out, out_len)
+}
+
+fn select_array(
+    alloc: Global,
+    document: &[u8],
+    path: &[u8],
+    strict: bool,
+) -> Result<OwnedJsonb, Error>
+    ensures array { ByMeaning (mode_of strict) document.now (json_path path.now) IsArrayOf result }
+    ensures errors { IfErr result (IsDocumentError (mode_of strict)) }
+{
+    let steps = parse_json_path(alloc, path)?;
+    array_by_path(alloc, document, &steps, strict)
+}
+
+pub(crate) fn array_by_path<'a>(
+    alloc: Global,
+    document: &'a [u8],
+    path: &'a JsonPath<'_>,
+    strict: bool,
+) -> Result<OwnedJsonb, Error>
+    ensures array { ByMeanings (mode_of strict) document.now (path_view path.now) IsArrayOf result }
+    ensures errors { IfErr result (IsDocumentError (mode_of strict)) }
+{
+    selector(alloc, document, strict).select_array(path)
+}
+
+/// Whether a JSON path selects anything.
+#[unsafe(no_mangle)]
+pub extern "C" fn jsonb_exists(
+    alloc: Global,
+    document: &[u8],
+    path: &[u8],
+    strict: bool,
+    truth: &mut u8,
+) -> u32
+    ensures { HandsOverBool (ByMeaning (mode_of strict) document.now (json_path path.now) (λ form. IsFound))
+        (IsSelectionError (mode_of strict)) truth.old truth.new result }
+{
+    show_bool(path_exists(alloc, document, path, strict), truth)
+}
+
+fn path_exists(alloc: Global, document: &[u8], path: &[u8], strict: bool) -> Result<bool, Error>
+    ensures exists { ByMeaning (mode_of strict) document.now (json_path path.now) (λ form. IsFound) result }
+    ensures errors { IfErr result (IsSelectionError (mode_of strict)) }
+{
+    let steps = parse_json_path(alloc, path)?;
+    exists_by_path(alloc, document, &steps, strict)
+}
+
+pub(crate) fn exists_by_path<'a>(
+    alloc: Global,
+    document: &'a [u8],
+    path: &'a JsonPath<'_>,
+    strict: bool,
+) -> Result<bool, Error>
+    ensures exists { ByMeanings (mode_of strict) document.now (path_view path.now) (λ form. IsFound) result }
+    ensures errors { IfErr result (IsSelectionError (mode_of strict)) }
+{
+    selector(alloc, document, strict).exists(path)
+}
+
+/// A selector of the mode.
+pub(crate) fn selector(alloc: Global, document: &[u8], strict: bool) -> Selector<'_>
+    ensures root { root_bytes result ≡ document.now }
+    ensures mode { selector_mode result ≡ mode_of strict }
+{
+    let document = RawJsonb::new(document);
+    if strict {
+        Selector::new_strict(alloc, document)
+    } else {
+        Selector::new(alloc, document)
+    }
+}
+
+/// What a JSON path says of the document: 0 for false, 1 for true, 2 for unknown.
+#[unsafe(no_mangle)]
+pub extern "C" fn jsonb_match(
+    alloc: Global,
+    document: &[u8],
+    path: &[u8],
+    strict: bool,
+    truth: &mut u8,
+) -> u32
+    ensures { HandsOverTruth (Says (mode_of strict) (json_path path.now) document.now)
+        (IsSelectionError (mode_of strict)) truth.old truth.new result }
+{
+    show_truth(predicate_match(alloc, document, path, strict), truth)
+}
+
+fn predicate_match(
+    alloc: Global,
+    document: &[u8],
+    path: &[u8],
+    strict: bool,
+) -> Result<Option<bool>, Error>
+    ensures truth { Says (mode_of strict) (json_path path.now) document.now result }
+    ensures errors { IfErr result (IsSelectionError (mode_of strict)) }
+{
+    let steps = parse_json_path(alloc, path)?;
+    match_by_path(alloc, document, &steps, strict)
+}
+
+/// What a path that was read says.
+pub(crate) fn match_by_path<'a>(
+    alloc: Global,
+    document: &'a [u8],
+    path: &'a JsonPath<'_>,
+    strict: bool,
+) -> Result<Option<bool>, Error>
+    ensures truth { IsTruthOf (mode_of strict) (path_view path.now) document.now result }
+    ensures errors { IfErr result (IsSelectionError (mode_of strict)) }
+{
+    selector(alloc, document, strict).predicate_match(path)
+}

@@ -1,0 +1,76 @@
+//! Arrays as sets.
+
+ghost use Rattle.std.specs.Prelude.{◌≡◌, IsOkAnd};
+ghost use Rattle.jsonb_doc.specs.Answer.{IsDecodingError, ◌or◌};
+ghost use Rattle.jsonb_doc.specs.declared.error.Error.TheVariants.{OutOfMemory, TooLarge};
+ghost use Rattle.jsonb_doc.specs.Tree.{array, trees_of};
+ghost use Rattle.jsonb_raw.specs.Arrays.{as_elements};
+ghost use Rattle.jsonb_raw.specs.Documents.{Makes};
+ghost use Rattle.jsonb_raw.specs.Sets.{difference_of, distinct, intersection_of, overlap};
+ghost use Rattle.jsonb_c.specs.Answers.{HandsOverBool, HandsOverBytes, OfBoth, OfDocument};
+
+use crate::deliver::{deliver_made, show_bool};
+use jsonb::RawJsonb;
+use std::alloc::Global;
+
+/// The array of the first of each group of elements that are equal by value.
+#[unsafe(no_mangle)]
+pub extern "C" fn jsonb_array_distinct(
+    alloc: Global,
+    document: &[u8],
+    out: &mut [u8],
+    out_len: &mut usize,
+) -> u32
+    ensures { HandsOverBytes
+        (OfDocument document.now (λ form t. Makes form (array (trees_of (distinct (as_elements t))))))
+        (IsDecodingError or OutOfMemory or TooLarge) out.old out.new out_len.new result }
+{
+    deliver_made(RawJsonb::new(document).array_distinct(alloc), out, out_len)
+}
+
+/// The array of the elements that another document holds too.
+#[unsafe(no_mangle)]
+pub extern "C" fn jsonb_array_intersection(
+    alloc: Global,
+    document: &[u8],
+    other: &[u8],
+    out: &mut [u8],
+    out_len: &mut usize,
+) -> u32
+    ensures { HandsOverBytes (OfBoth document.now other.now
+        (λ form t u. Makes form (array (trees_of (intersection_of (as_elements t) (as_elements u))))))
+        (IsDecodingError or OutOfMemory or TooLarge) out.old out.new out_len.new result }
+{
+    let document = RawJsonb::new(document);
+    let made = document.array_intersection(alloc, &RawJsonb::new(other));
+    deliver_made(made, out, out_len)
+}
+
+/// The array of the elements that the intersection drops.
+#[unsafe(no_mangle)]
+pub extern "C" fn jsonb_array_except(
+    alloc: Global,
+    document: &[u8],
+    other: &[u8],
+    out: &mut [u8],
+    out_len: &mut usize,
+) -> u32
+    ensures { HandsOverBytes (OfBoth document.now other.now
+        (λ form t u. Makes form (array (trees_of (difference_of (as_elements t) (as_elements u))))))
+        (IsDecodingError or OutOfMemory or TooLarge) out.old out.new out_len.new result }
+{
+    let document = RawJsonb::new(document);
+    let made = document.array_except(alloc, &RawJsonb::new(other));
+    deliver_made(made, out, out_len)
+}
+
+/// Whether an element equals one of another document.
+#[unsafe(no_mangle)]
+pub extern "C" fn jsonb_array_overlap(document: &[u8], other: &[u8], truth: &mut u8) -> u32
+    ensures { HandsOverBool (OfBoth document.now other.now
+        (λ form t u said. IsOkAnd said (λ b. b ≡ overlap (as_elements t) (as_elements u))))
+        IsDecodingError truth.old truth.new result }
+{
+    let document = RawJsonb::new(document);
+    show_bool(document.array_overlap(&RawJsonb::new(other)), truth)
+}

@@ -1,0 +1,117 @@
+//! Containers read apart.
+
+ghost use Rattle.std.specs.Prelude.{◌≡◌, ℕ, List, Option, Result, IfErr, IsOkAnd};
+ghost use Rattle.jsonb_doc.specs.Answer.{IsDecodingError, ◌or◌};
+ghost use Rattle.jsonb_doc.specs.declared.error.Error.{Error};
+ghost use Rattle.jsonb_doc.specs.declared.error.Error.TheVariants.{OutOfMemory, TooLarge};
+ghost use Rattle.jsonb_c.specs.Answers.{HandsOver, OfDocument, ShowsFound};
+ghost use Rattle.jsonb_c.specs.Making.{DeliversPair, FindsPair, children_count};
+ghost use Rattle.jsonb_c.specs.Views.{pair_answer};
+
+use crate::deliver::{place, show_found};
+use crate::status::Status;
+use jsonb::{Error, Item, encode_item, pairs, root_item};
+use jsonb_doc::{array_elements, object_pairs};
+use std::alloc::Global;
+
+/// How many elements an array has, or pairs an object.
+#[unsafe(no_mangle)]
+pub extern "C" fn jsonb_len(document: &[u8], len: &mut usize) -> u32
+    ensures { HandsOver
+        (OfDocument document.now (λ form t answer. IsOkAnd answer (λ found. found ≡ children_count t)))
+        IsDecodingError (λ answer. ShowsFound answer len.old len.new result) }
+{
+    show_found(children_count(document), len)
+}
+
+fn children_count(document: &[u8]) -> Result<Option<usize>, Error>
+    ensures count { OfDocument document.now
+        (λ form t answer. IsOkAnd answer (λ found. found ≡ children_count t)) result }
+    ensures errors { IfErr result IsDecodingError }
+{
+    match root_item(document)? {
+        Item::Array(bytes) => Ok(Some(array_elements(bytes)?.len())),
+        Item::Object(bytes) => Ok(Some(object_pairs(bytes)?.len())),
+        _ => Ok(None),
+    }
+}
+
+/// A pair of an object by its position, in the order of the keys: its key into one buffer, its value as a document into
+/// the other. Nothing is written where either is too small.
+#[unsafe(no_mangle)]
+pub extern "C" fn jsonb_pair(
+    alloc: Global,
+    document: &[u8],
+    index: usize,
+    key: &mut [u8],
+    key_len: &mut usize,
+    value: &mut [u8],
+    value_len: &mut usize,
+) -> u32
+    ensures { (answer : Result (Option (List ℕ × List ℕ)) Error)
+        × OfDocument document.now (λ form t. FindsPair form index t) answer
+        × IfErr answer (IsDecodingError or OutOfMemory or TooLarge)
+        × DeliversPair answer key.old key.new key_len.new value.old value.new value_len.new result }
+{
+    deliver_pair(
+        pair_at(alloc, document, index),
+        key,
+        key_len,
+        value,
+        value_len,
+    )
+}
+
+/// A key, and its value as a document.
+#[derive(Drop)]
+struct KeyValue<'a> {
+    key: &'a str,
+    value: Vec<u8>,
+}
+
+fn pair_at(alloc: Global, document: &[u8], index: usize) -> Result<Option<KeyValue<'_>>, Error>
+    ensures pair { OfDocument document.now (λ form t. FindsPair form index t) (pair_answer result) }
+    ensures errors { IfErr result (IsDecodingError or OutOfMemory or TooLarge) }
+{
+    let Some(pairs) = pairs(document)? else {
+        return Ok(None);
+    };
+    let mut before = index;
+    for pair in pairs {
+        let (key, item) = pair?;
+        if before == 0 {
+            let value = encode_item(alloc, &item)?;
+            return Ok(Some(KeyValue { key, value }));
+        }
+        before -= 1;
+    }
+    Ok(None)
+}
+
+fn deliver_pair(
+    answer: Result<Option<KeyValue<'_>>, Error>,
+    key: &mut [u8],
+    key_len: &mut usize,
+    value: &mut [u8],
+    value_len: &mut usize,
+) -> u32
+    ensures { DeliversPair (pair_answer answer.entry) key.old key.new key_len.new
+        value.old value.new value_len.new result }
+{
+    *key_len = 0;
+    *value_len = 0;
+    match answer {
+        Ok(Some(found)) => {
+            let name = found.key.as_bytes();
+            *key_len = name.len();
+            *value_len = found.value.len();
+            if key.len() < name.len() || !place(&found.value, value, 0) {
+                return Status::BufferTooSmall.to_u32();
+            }
+            key[..name.len()].copy_from_slice(name);
+            Status::Answered.to_u32()
+        }
+        Ok(None) => Status::Absent.to_u32(),
+        Err(error) => Status::Refused(error).to_u32(),
+    }
+}

@@ -1,0 +1,70 @@
+//! How a call ended: the statuses, and their numbers.
+
+ghost use Rattle.std.specs.Prelude.{◌≡◌};
+ghost use Rattle.jsonb_c.specs.Status.{code, status_of};
+
+use jsonb::{ArithmeticFault, Error};
+
+/// How a call ended.
+#[derive(Clone, Copy, Debug, PartialEq, Eq)]
+pub(crate) enum Status {
+    /// The call is answered.
+    Answered,
+    /// There is no such part.
+    Absent,
+    /// The buffer is too small for the answer.
+    BufferTooSmall,
+    /// Offsets fall, or pass the data.
+    BadOffsets,
+    /// A name is no UTF-8.
+    NotUtf8,
+    /// The call is refused.
+    Refused(Error),
+}
+
+impl Status {
+    /// The number of the status.
+    pub(crate) fn to_u8(self) -> u8
+        ensures { result ≡ code self }
+    {
+        match self {
+            Status::Answered => 0,
+            Status::Absent => 1,
+            Status::BufferTooSmall => 2,
+            Status::BadOffsets => 3,
+            Status::NotUtf8 => 4,
+            Status::Refused(error) => refusal_code(error),
+        }
+    }
+
+    /// The number of the status, as calls answer it.
+    pub(crate) fn to_u32(self) -> u32
+        ensures { result ≡ code self }
+    {
+        u32::from(self.to_u8())
+    }
+}
+
+/// The number of a refusal.
+fn refusal_code(error: Error) -> u8
+    ensures { result ≡ status_of error }
+{
+    match error {
+        Error::InvalidJsonb => 16,
+        Error::UnsupportedNumber => 17,
+        Error::InvalidJsonPath => 18,
+        Error::InvalidKeyPath => 19,
+        Error::InvalidCast => 20,
+        Error::InvalidObject => 21,
+        Error::InvalidJsonType => 22,
+        Error::ObjectDuplicateKey => 23,
+        Error::TooLarge => 24,
+        Error::TooDeep => 25,
+        Error::OutOfMemory => 26,
+        Error::StrictPath => 27,
+        Error::Arithmetic(ArithmeticFault::Overflow) => 48,
+        Error::Arithmetic(ArithmeticFault::ZeroDivisor) => 49,
+        Error::Arithmetic(ArithmeticFault::Inexact) => 50,
+        Error::Arithmetic(ArithmeticFault::DecimalOperand) => 51,
+    }
+}
