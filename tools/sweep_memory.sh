@@ -152,6 +152,23 @@ sweep_tool "$(printf '%s\n' 2000000020000002501e 2000000020000002500a)" select '
 sweep_tool true match '$[*] > 25' "$tens"
 sweep_tool 00048103e90200 key 20000000200000025001
 
+# large_tool LINES WORDS..: a run with memory on a large argument writes its lines.
+large_tool() {
+    local lines=$1
+    shift
+    if [ "$("$tool" "$@")" = "$lines" ]; then passed=$((passed + 1)); else fault "jsonb_tool $1 on what is large"; fi
+}
+
+# A text of 60,000 bytes, by itself and in an array: an argument has at most 131,071 digits.
+text=$(printf '61%.0s' {1..60000})
+array=800000011000ea60$text
+document=200000001000ea60$text
+large_tool "$document" get '{0}' "$array"
+large_tool "$document {0}" leaves "$array"
+large_tool "$document" select '$[0]' "$array"
+large_tool true match '$[*] > "a"' "$array"
+large_tool "0005${text}00" key "$document"
+
 # Standard output full, closed, and a pipe whose reader is gone: status 3, no crash.
 "$tool" get '{2,k}' "$mixed" > /dev/full; full=$?
 "$tool" get '{2,k}' "$mixed" >&-; closed=$?

@@ -2,7 +2,7 @@
 
 use crate::documents::*;
 use crate::mark::{begin, end, tell};
-use jsonb::{ArrayBuilder, Error, Item, Number, ObjectBuilder};
+use jsonb::{ArrayBuilder, Error, Item, Number, ObjectBuilder, elements, pairs};
 use std::alloc::Global;
 use std::io;
 
@@ -139,4 +139,60 @@ fn object_build(rt: &HostRuntime) -> Result<bool, Error> {
     end(rt);
     let is_kept = holds_letters(&builder, false, LETTERS)?;
     Ok(built?.as_slice() == LETTERS && is_kept)
+}
+
+/// Whether a builder takes an item, and holds it alone.
+pub fn array_takes(rt: &HostRuntime, item: &Item<'_>) -> Result<bool, Error> {
+    let mut builder = ArrayBuilder::new(rt.alloc());
+    begin(rt);
+    let pushed = builder.push_item(item);
+    end(rt);
+    let count = if pushed.is_ok() { 1 } else { 0 };
+    if builder.len() == count {
+        pushed?;
+    }
+    Ok(builder.len() == 1)
+}
+
+/// Whether a builder takes a pair, and holds it alone.
+pub fn object_takes(rt: &HostRuntime, key: &str, item: &Item<'_>) -> Result<bool, Error> {
+    let mut builder = ObjectBuilder::new(rt.alloc());
+    begin(rt);
+    let pushed = builder.push_item(key, item);
+    end(rt);
+    if builder.contains_key(key) == pushed.is_ok() {
+        pushed?;
+    }
+    Ok(builder.len() == 1)
+}
+
+/// Whether a builder of the array's elements builds the array again.
+pub fn array_builds(rt: &HostRuntime, array: &[u8]) -> Result<bool, Error> {
+    let mut builder = ArrayBuilder::new(rt.alloc());
+    let Some(items) = elements(array)? else {
+        return Ok(false);
+    };
+    for item in items {
+        builder.push_item(&item?)?;
+    }
+    begin(rt);
+    let built = builder.build();
+    end(rt);
+    Ok(built?.as_slice() == array)
+}
+
+/// Whether a builder of the object's pairs builds the object again.
+pub fn object_builds(rt: &HostRuntime, object: &[u8]) -> Result<bool, Error> {
+    let mut builder = ObjectBuilder::new(rt.alloc());
+    let Some(found) = pairs(object)? else {
+        return Ok(false);
+    };
+    for pair in found {
+        let (key, item) = pair?;
+        builder.push_item(key, &item)?;
+    }
+    begin(rt);
+    let built = builder.build();
+    end(rt);
+    Ok(built?.as_slice() == object)
 }

@@ -70,7 +70,7 @@ pub fn clone_owned(rt: &HostRuntime, text: &[u8]) -> Result<bool, Error> {
     Ok(answer? == paths)
 }
 
-fn as_key_paths(rt: &HostRuntime, text: &[u8]) -> Result<bool, Error> {
+pub fn as_key_paths(rt: &HostRuntime, text: &[u8]) -> Result<bool, Error> {
     let paths = owned(rt.alloc(), text)?;
     begin(rt);
     let answer = paths.as_key_paths(rt.alloc());
@@ -89,10 +89,10 @@ pub fn steps(rt: &HostRuntime) -> io::Result<()> {
     tell(
         rt,
         "KeyPath::clone of a name of its own",
-        clone_own_step(rt),
+        clone_own_step(rt, "abc"),
     )?;
-    tell(rt, "KeyPath::to_owned", own_step(rt, &borrowed))?;
-    tell(rt, "OwnedKeyPath::clone", clone_owned_step(rt))
+    tell(rt, "KeyPath::to_owned", own_step(rt, "abc"))?;
+    tell(rt, "OwnedKeyPath::clone", clone_owned_step(rt, "abc"))
 }
 
 fn clone_step(rt: &HostRuntime, step: &KeyPath<'_>) -> Result<bool, Error> {
@@ -102,20 +102,21 @@ fn clone_step(rt: &HostRuntime, step: &KeyPath<'_>) -> Result<bool, Error> {
     Ok(answer? == *step)
 }
 
-fn clone_own_step(rt: &HostRuntime) -> Result<bool, Error> {
-    let name = String::from_str(rt.alloc(), "abc")?;
+pub fn clone_own_step(rt: &HostRuntime, name: &str) -> Result<bool, Error> {
+    let name = String::from_str(rt.alloc(), name)?;
     clone_step(rt, &KeyPath::Name(CowStr::Owned(name)))
 }
 
-fn own_step(rt: &HostRuntime, step: &KeyPath<'_>) -> Result<bool, Error> {
+pub fn own_step(rt: &HostRuntime, name: &str) -> Result<bool, Error> {
+    let step = KeyPath::Name(CowStr::Borrowed(name));
     begin(rt);
     let answer = step.to_owned(rt.alloc());
     end(rt);
-    Ok(answer?.as_key_path() == *step)
+    Ok(answer?.as_key_path() == step)
 }
 
-fn clone_owned_step(rt: &HostRuntime) -> Result<bool, Error> {
-    let step = OwnedKeyPath::QuotedName(String::from_str(rt.alloc(), "abc")?);
+pub fn clone_owned_step(rt: &HostRuntime, name: &str) -> Result<bool, Error> {
+    let step = OwnedKeyPath::QuotedName(String::from_str(rt.alloc(), name)?);
     begin(rt);
     let answer = step.clone(rt.alloc());
     end(rt);
@@ -128,32 +129,34 @@ pub fn tokens(rt: &HostRuntime) -> io::Result<()> {
         ("a plain text", b"abc,d".as_slice(), b"\"abc\",d".as_slice()),
         ("an escape", b"a\\u0062c,d", b"\"a\\u0062c\",d"),
     ] {
-        let is_right = read_abc(rt, name);
+        let is_right = reads_name(rt, name, "abc");
         tell(rt, format_args!("read_name of {kind}"), is_right)?;
-        let is_right = read_quoted_abc(rt, quoted);
+        let is_right = reads_quoted(rt, quoted, "abc");
         tell(rt, format_args!("read_quoted of {kind}"), is_right)?;
     }
     Ok(())
 }
 
-fn read_abc(rt: &HostRuntime, text: &[u8]) -> Result<bool, Error> {
+/// Whether the name in front of `,d` reads as this text.
+pub fn reads_name(rt: &HostRuntime, input: &[u8], text: &str) -> Result<bool, Error> {
     begin(rt);
-    let answer = read_name(rt.alloc(), text);
+    let answer = read_name(rt.alloc(), input);
     end(rt);
-    Ok(is_abc(answer?))
+    Ok(is_in_front(answer?, text))
 }
 
-fn read_quoted_abc(rt: &HostRuntime, text: &[u8]) -> Result<bool, Error> {
+/// Whether the quoted text in front of `,d` reads as this one.
+pub fn reads_quoted(rt: &HostRuntime, input: &[u8], text: &str) -> Result<bool, Error> {
     begin(rt);
-    let answer = read_quoted(rt.alloc(), text);
+    let answer = read_quoted(rt.alloc(), input);
     end(rt);
-    Ok(is_abc(answer?))
+    Ok(is_in_front(answer?, text))
 }
 
-/// Whether a token is `abc` with `,d` behind it.
-fn is_abc(found: Option<(CowStr<'_, Global>, &[u8])>) -> bool {
+/// Whether a token is this text with `,d` behind it.
+fn is_in_front(found: Option<(CowStr<'_, Global>, &[u8])>, wanted: &str) -> bool {
     match found {
-        Some((text, rest)) => text.as_str() == "abc" && rest == b",d".as_slice(),
+        Some((text, rest)) => text.as_str() == wanted && rest == b",d".as_slice(),
         None => false,
     }
 }

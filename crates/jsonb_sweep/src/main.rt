@@ -71,8 +71,10 @@ fn without_memory(rt: &HostRuntime) -> io::Result<()> {
 /// The calls on documents and texts of that many parts.
 fn many_parts(rt: &HostRuntime, count: u64) -> io::Result<()> {
     many::arrays(rt, count)?;
+    many::array_parts(rt, count)?;
     many::elements_of_arrays(rt, count)?;
     many::objects(rt, count)?;
+    many::object_parts(rt, count)?;
     many::pairs_of_objects(rt, count)?;
     many::selections(rt, count)?;
     long::key_paths_of(rt, count)?;

@@ -2,16 +2,26 @@
 
 use crate::answer::Wanted;
 use crate::arrays::ArrayCall;
-use crate::call::{Call, asked};
+use crate::call::{Call, asked, asked_again};
 use crate::documents::*;
 use crate::made::{elements, pairs};
 use crate::mark::{begin, end, tell};
-use crate::objects::ObjectCall;
+use crate::objects::{ObjectCall, Picking};
 use crate::selections::{Asked, Selection};
-use crate::values;
 use crate::wholes::WholeCall;
+use crate::{builders, paths, values, wholes};
 use jsonb::{ArrayBuilder, Error, ObjectBuilder, RawJsonb};
 use std::io;
+
+/// The calls that make one key of a whole document.
+const KEYS_OF: [(&str, WholeCall<'static>); 3] = [
+    ("convert_to_comparable", WholeCall::ConvertToComparable),
+    (
+        "convert_to_comparable_wide",
+        WholeCall::ConvertToComparableWide,
+    ),
+    ("equality_key", WholeCall::EqualityKey),
+];
 
 /// Makes the calls on an array that give it back, and tells what came of each.
 pub fn arrays(rt: &HostRuntime, count: u64) -> io::Result<()> {
@@ -40,67 +50,100 @@ fn array_is_kept<C: Call>(rt: &HostRuntime, call: &C, count: u64) -> Result<bool
     asked(rt, call, &document, Wanted::Document(&document))
 }
 
+/// Makes the calls on an array that change it, or find something in it, and tells what came of each.
+pub fn array_parts(rt: &HostRuntime, count: u64) -> io::Result<()> {
+    for (name, call) in [
+        ("array_insert in the middle", ArrayCall::Insert(20, ONE)),
+        ("get_by_index", ArrayCall::Get(20)),
+        ("delete_by_index", ArrayCall::Delete(20)),
+    ] {
+        let is_right = of_elements(rt, &call, count);
+        tell(rt, format_args!("{count} elements: {name}"), is_right)?;
+    }
+    for (name, call) in &KEYS_OF {
+        let is_right = of_elements(rt, call, count);
+        tell(rt, format_args!("{count} elements: {name}"), is_right)?;
+    }
+    Ok(())
+}
+
+fn of_elements<C: Call>(rt: &HostRuntime, call: &C, count: u64) -> Result<bool, Error> {
+    asked_again(rt, call, &elements(rt.alloc(), count)?)
+}
+
+/// Other calls on an array.
+#[derive(Clone, Copy)]
+enum OfArray {
+    Intersection,
+    Values,
+    Leaves,
+    ToValue,
+    CloneValue,
+    Encode,
+    Push,
+    Build,
+    GetByKeyPath,
+    DeleteByKeyPath,
+    CloneDocument,
+}
+
+const OF_ARRAYS: [(&str, OfArray); 11] = [
+    ("array_intersection", OfArray::Intersection),
+    ("array_values", OfArray::Values),
+    ("extract_scalar_key_values", OfArray::Leaves),
+    ("to_value", OfArray::ToValue),
+    ("Value::clone", OfArray::CloneValue),
+    ("encode_item", OfArray::Encode),
+    ("ArrayBuilder::push_document", OfArray::Push),
+    ("ArrayBuilder::build", OfArray::Build),
+    ("get_by_keypath", OfArray::GetByKeyPath),
+    ("delete_by_keypath", OfArray::DeleteByKeyPath),
+    ("OwnedJsonb::clone", OfArray::CloneDocument),
+];
+
 /// Makes other calls on an array, and tells what came of each.
 pub fn elements_of_arrays(rt: &HostRuntime, count: u64) -> io::Result<()> {
-    let is_right = intersection(rt, count);
-    tell(
-        rt,
-        format_args!("{count} elements: array_intersection"),
-        is_right,
-    )?;
-    let is_right = array_values(rt, count);
-    tell(rt, format_args!("{count} elements: array_values"), is_right)?;
-    let is_right = leaves(rt, count);
-    tell(
-        rt,
-        format_args!("{count} elements: extract_scalar_key_values"),
-        is_right,
-    )?;
-    let is_right = array_value(rt, count);
-    tell(rt, format_args!("{count} elements: to_value"), is_right)?;
-    let is_right = array_value_clone(rt, count);
-    tell(rt, format_args!("{count} elements: Value::clone"), is_right)?;
-    let is_right = push_to_array(rt, count);
-    tell(
-        rt,
-        format_args!("{count} elements: ArrayBuilder::push_document"),
-        is_right,
-    )
+    for (name, call) in &OF_ARRAYS {
+        let is_right = of_array(rt, *call, count);
+        tell(rt, format_args!("{count} elements: {name}"), is_right)?;
+    }
+    Ok(())
 }
 
-fn intersection(rt: &HostRuntime, count: u64) -> Result<bool, Error> {
+fn of_array(rt: &HostRuntime, call: OfArray, count: u64) -> Result<bool, Error> {
     let document = elements(rt.alloc(), count)?;
-    let call = ArrayCall::Intersection(&document);
-    asked(rt, &call, &document, Wanted::Document(&document))
+    match call {
+        OfArray::Intersection => asked(
+            rt,
+            &ArrayCall::Intersection(&document),
+            &document,
+            Wanted::Document(&document),
+        ),
+        OfArray::Values => asked(rt, &ArrayCall::Values, &document, Wanted::Count(count)),
+        OfArray::Leaves => leaves(rt, &document, count),
+        OfArray::ToValue => values::decode(rt, &document),
+        OfArray::CloneValue => values::clone(rt, &document),
+        OfArray::Encode => values::encode(rt, &document),
+        OfArray::Push => push_to_array(rt, &document),
+        OfArray::Build => builders::array_builds(rt, &document),
+        OfArray::GetByKeyPath => wholes::number_is_found(rt, &document),
+        OfArray::DeleteByKeyPath => wholes::number_is_deleted(rt, &document),
+        OfArray::CloneDocument => wholes::clone(rt, &document),
+    }
 }
 
-fn array_values(rt: &HostRuntime, count: u64) -> Result<bool, Error> {
-    let document = elements(rt.alloc(), count)?;
-    asked(rt, &ArrayCall::Values, &document, Wanted::Count(count))
-}
-
-fn leaves(rt: &HostRuntime, count: u64) -> Result<bool, Error> {
-    let document = elements(rt.alloc(), count)?;
+fn leaves(rt: &HostRuntime, document: &[u8], count: u64) -> Result<bool, Error> {
     begin(rt);
-    let answer = RawJsonb::new(&document).extract_scalar_key_values(rt.alloc(), false);
+    let answer = RawJsonb::new(document).extract_scalar_key_values(rt.alloc(), false);
     end(rt);
     Ok(answer?.len() as u64 == count)
 }
 
-fn array_value(rt: &HostRuntime, count: u64) -> Result<bool, Error> {
-    values::decode(rt, &elements(rt.alloc(), count)?)
-}
-
-fn array_value_clone(rt: &HostRuntime, count: u64) -> Result<bool, Error> {
-    values::clone(rt, &elements(rt.alloc(), count)?)
-}
-
-fn push_to_array(rt: &HostRuntime, count: u64) -> Result<bool, Error> {
-    let document = elements(rt.alloc(), count)?;
+fn push_to_array(rt: &HostRuntime, document: &[u8]) -> Result<bool, Error> {
     let mut builder = ArrayBuilder::new(rt.alloc());
     builder.push_document(TEN)?;
     begin(rt);
-    let pushed = builder.push_document(&document);
+    let pushed = builder.push_document(document);
     end(rt);
     if pushed.is_err() && builder.len() == 1 && builder.build()?.as_slice() == ONLY_TEN {
         pushed?;
@@ -136,42 +179,93 @@ fn object_is_kept<C: Call>(rt: &HostRuntime, call: &C, count: u64) -> Result<boo
     asked(rt, call, &document, Wanted::Document(&document))
 }
 
-/// Makes other calls on an object, and tells what came of each.
-pub fn pairs_of_objects(rt: &HostRuntime, count: u64) -> io::Result<()> {
-    let is_right = insert(rt, count);
-    tell(
-        rt,
-        format_args!("{count} pairs: object_insert in the middle"),
-        is_right,
-    )?;
-    let is_right = keys(rt, count);
-    tell(rt, format_args!("{count} pairs: object_keys"), is_right)?;
-    let is_right = each(rt, count);
-    tell(rt, format_args!("{count} pairs: object_each"), is_right)?;
-    let is_right = object_value(rt, count);
-    tell(rt, format_args!("{count} pairs: to_value"), is_right)?;
-    let is_right = push_to_object(rt, count);
-    tell(
-        rt,
-        format_args!("{count} pairs: ObjectBuilder::push_document"),
-        is_right,
-    )
+/// Makes the calls on an object that change it, or find something in it, and tells what came of each.
+pub fn object_parts(rt: &HostRuntime, count: u64) -> io::Result<()> {
+    for (name, call) in [
+        ("get_by_name", ObjectCall::Get("key 000020")),
+        (
+            "get_by_name in another case",
+            ObjectCall::GetIgnoringCase("KEY 000020"),
+        ),
+        ("delete_by_name", ObjectCall::DeleteByName("key 000020")),
+    ] {
+        let is_right = of_pairs(rt, &call, count);
+        tell(rt, format_args!("{count} pairs: {name}"), is_right)?;
+    }
+    for (name, call) in &KEYS_OF {
+        let is_right = of_pairs(rt, call, count);
+        tell(rt, format_args!("{count} pairs: {name}"), is_right)?;
+    }
+    Ok(())
 }
 
-fn insert(rt: &HostRuntime, count: u64) -> Result<bool, Error> {
+fn of_pairs<C: Call>(rt: &HostRuntime, call: &C, count: u64) -> Result<bool, Error> {
+    asked_again(rt, call, &pairs(rt.alloc(), count)?)
+}
+
+/// Other calls on an object.
+#[derive(Clone, Copy)]
+enum OfObject {
+    Insert,
+    Keys,
+    DeleteText,
+    Each,
+    Pick(Picking),
+    ToValue,
+    CloneValue,
+    Push,
+    Build,
+}
+
+const OF_OBJECTS: [(&str, OfObject); 10] = [
+    ("object_insert in the middle", OfObject::Insert),
+    ("object_keys", OfObject::Keys),
+    ("delete_by_name of a text", OfObject::DeleteText),
+    ("object_each", OfObject::Each),
+    ("object_pick", OfObject::Pick(Picking::Pick)),
+    ("object_delete", OfObject::Pick(Picking::Delete)),
+    ("to_value", OfObject::ToValue),
+    ("Value::clone", OfObject::CloneValue),
+    ("ObjectBuilder::push_document", OfObject::Push),
+    ("ObjectBuilder::build", OfObject::Build),
+];
+
+/// Makes other calls on an object, and tells what came of each.
+pub fn pairs_of_objects(rt: &HostRuntime, count: u64) -> io::Result<()> {
+    for (name, call) in &OF_OBJECTS {
+        let is_right = of_object(rt, *call, count);
+        tell(rt, format_args!("{count} pairs: {name}"), is_right)?;
+    }
+    Ok(())
+}
+
+fn of_object(rt: &HostRuntime, call: OfObject, count: u64) -> Result<bool, Error> {
     let document = pairs(rt.alloc(), count)?;
-    let raw = RawJsonb::new(&document);
+    match call {
+        OfObject::Insert => insert(rt, &document),
+        OfObject::Keys => keys(rt, &document, count),
+        OfObject::DeleteText => delete_text(rt, &document),
+        OfObject::Each => each(rt, &document, count),
+        OfObject::Pick(picking) => picking.picks_all(rt, &document),
+        OfObject::ToValue => values::decode(rt, &document),
+        OfObject::CloneValue => values::clone(rt, &document),
+        OfObject::Push => push_to_object(rt, &document),
+        OfObject::Build => builders::object_builds(rt, &document),
+    }
+}
+
+fn insert(rt: &HostRuntime, document: &[u8]) -> Result<bool, Error> {
+    let raw = RawJsonb::new(document);
     begin(rt);
     let answer = raw.object_insert(rt.alloc(), "key 000020a", &raw, false);
     end(rt);
     let without = answer?.as_raw().delete_by_name(rt.alloc(), "key 000020a");
-    Ok(without?.as_raw().as_bytes() == document.as_slice())
+    Ok(without?.as_raw().as_bytes() == document)
 }
 
-fn keys(rt: &HostRuntime, count: u64) -> Result<bool, Error> {
-    let document = pairs(rt.alloc(), count)?;
+fn keys(rt: &HostRuntime, document: &[u8], count: u64) -> Result<bool, Error> {
     begin(rt);
-    let answer = RawJsonb::new(&document).object_keys(rt.alloc());
+    let answer = RawJsonb::new(document).object_keys(rt.alloc());
     end(rt);
     Ok(match answer? {
         Some(keys) => keys
@@ -183,10 +277,18 @@ fn keys(rt: &HostRuntime, count: u64) -> Result<bool, Error> {
     })
 }
 
-fn each(rt: &HostRuntime, count: u64) -> Result<bool, Error> {
-    let document = pairs(rt.alloc(), count)?;
+/// The keys as an array of texts, one of which is deleted.
+fn delete_text(rt: &HostRuntime, document: &[u8]) -> Result<bool, Error> {
+    let Some(keys) = RawJsonb::new(document).object_keys(rt.alloc())? else {
+        return Ok(false);
+    };
+    let call = ArrayCall::DeleteText("key 000020");
+    asked_again(rt, &call, keys.as_raw().as_bytes())
+}
+
+fn each(rt: &HostRuntime, document: &[u8], count: u64) -> Result<bool, Error> {
     begin(rt);
-    let answer = RawJsonb::new(&document).object_each(rt.alloc());
+    let answer = RawJsonb::new(document).object_each(rt.alloc());
     end(rt);
     Ok(match answer? {
         Some(pairs) => pairs.len() as u64 == count,
@@ -194,16 +296,11 @@ fn each(rt: &HostRuntime, count: u64) -> Result<bool, Error> {
     })
 }
 
-fn object_value(rt: &HostRuntime, count: u64) -> Result<bool, Error> {
-    values::decode(rt, &pairs(rt.alloc(), count)?)
-}
-
-fn push_to_object(rt: &HostRuntime, count: u64) -> Result<bool, Error> {
-    let document = pairs(rt.alloc(), count)?;
+fn push_to_object(rt: &HostRuntime, document: &[u8]) -> Result<bool, Error> {
     let mut builder = ObjectBuilder::new(rt.alloc());
     builder.push_document("a", ONE)?;
     begin(rt);
-    let pushed = builder.push_document("b", &document);
+    let pushed = builder.push_document("b", document);
     end(rt);
     if pushed.is_err() && builder.len() == 1 && builder.build()?.as_slice() == ONLY_A {
         pushed?;
@@ -211,57 +308,134 @@ fn push_to_object(rt: &HostRuntime, count: u64) -> Result<bool, Error> {
     Ok(builder.len() == 2 && builder.contains_key("b"))
 }
 
-/// Makes selections of many elements, and tells what came of each.
-pub fn selections(rt: &HostRuntime, count: u64) -> io::Result<()> {
-    for (name, selection, path) in [
-        ("select_array of a filter", Selection::Array, FILTER),
-        ("select_value of a filter", Selection::Value, FILTER),
-        (
-            "select_value of a wildcard",
-            Selection::Value,
-            b"$[*]".as_slice(),
-        ),
-    ] {
-        let is_right = select_all(rt, selection, path, count);
-        tell(rt, format_args!("{count} elements: {name}"), is_right)?;
-    }
-    for (name, path) in [
-        ("select_values of a member", b"$[*].number".as_slice()),
-        ("select_values of an arithmetic list", b"+$[*].number"),
-    ] {
-        let is_right = select_each(rt, path, count);
-        tell(rt, format_args!("{count} elements: {name}"), is_right)?;
-    }
-    Ok(())
-}
-
 const FILTER: &[u8] = b"$[*]?(@.number >= 0 && exists(@.number))";
 
-/// Whether the selection gives the array back.
-fn select_all(
-    rt: &HostRuntime,
-    selection: Selection,
-    path: &'static [u8],
-    count: u64,
-) -> Result<bool, Error> {
-    let document = elements(rt.alloc(), count)?;
-    let asked = Asked {
-        selection,
-        path,
-        document: &document,
-        wanted: Wanted::Document(&document),
-    };
-    asked.laxly(rt)
+/// What a selection of many elements is to give.
+#[derive(Clone, Copy)]
+enum Given {
+    /// The array.
+    All,
+    /// As many documents as there are elements.
+    Each,
+    Truth(bool),
 }
 
-/// Whether as many documents are selected as there are elements.
-fn select_each(rt: &HostRuntime, path: &'static [u8], count: u64) -> Result<bool, Error> {
-    let document = elements(rt.alloc(), count)?;
-    let asked = Asked {
+/// A selection of many elements.
+struct Selecting {
+    name: &'static str,
+    selection: Selection,
+    path: &'static [u8],
+    given: Given,
+}
+
+const SELECTING: [Selecting; 9] = [
+    Selecting {
+        name: "select_values of a member",
         selection: Selection::Values,
-        path,
-        document: &document,
-        wanted: Wanted::Count(count),
-    };
-    asked.by_path(rt)
+        path: b"$[*].number",
+        given: Given::Each,
+    },
+    Selecting {
+        name: "select_values of an arithmetic list",
+        selection: Selection::Values,
+        path: b"+$[*].number",
+        given: Given::Each,
+    },
+    Selecting {
+        name: "select_array of a filter",
+        selection: Selection::Array,
+        path: FILTER,
+        given: Given::All,
+    },
+    Selecting {
+        name: "select_first of the root",
+        selection: Selection::First,
+        path: b"$",
+        given: Given::All,
+    },
+    Selecting {
+        name: "select_value of a filter",
+        selection: Selection::Value,
+        path: FILTER,
+        given: Given::All,
+    },
+    Selecting {
+        name: "select_value of a wildcard",
+        selection: Selection::Value,
+        path: b"$[*]",
+        given: Given::All,
+    },
+    Selecting {
+        name: "exists of a filter that none passes",
+        selection: Selection::Exists,
+        path: b"$[*]?(@.number < 0)",
+        given: Given::Truth(false),
+    },
+    Selecting {
+        name: "predicate_match that none meets",
+        selection: Selection::Truth,
+        path: b"$[*].number < 0",
+        given: Given::Truth(false),
+    },
+    Selecting {
+        name: "predicate_match of exists",
+        selection: Selection::Truth,
+        path: b"exists($[*]?(@.number < 0))",
+        given: Given::Truth(false),
+    },
+];
+
+/// How a selection is asked for.
+#[derive(Clone, Copy)]
+enum Way {
+    Lax,
+    Strict,
+    ByPath,
+}
+
+const WAYS: [(&str, Way); 3] = [
+    ("lax", Way::Lax),
+    ("strict", Way::Strict),
+    ("by path", Way::ByPath),
+];
+
+/// Makes selections of many elements, and tells what came of each.
+pub fn selections(rt: &HostRuntime, count: u64) -> io::Result<()> {
+    for selecting in &SELECTING {
+        for (word, way) in &WAYS {
+            let is_right = selecting.ask(rt, *way, count);
+            let name = selecting.name;
+            tell(
+                rt,
+                format_args!("{count} elements: {name}, {word}"),
+                is_right,
+            )?;
+        }
+    }
+    tell(
+        rt,
+        format_args!("{count} elements: ArrayIndex::to_indices"),
+        paths::to_indices(rt, count as usize),
+    )
+}
+
+impl Selecting {
+    fn ask(&self, rt: &HostRuntime, way: Way, count: u64) -> Result<bool, Error> {
+        let document = elements(rt.alloc(), count)?;
+        let asked = Asked {
+            selection: self.selection,
+            path: self.path,
+            document: &document,
+            wanted: match self.given {
+                Given::All => Wanted::Document(&document),
+                Given::Each => Wanted::Count(count),
+                Given::Truth(truth) => Wanted::Truth(truth),
+            },
+        };
+        match way {
+            Way::Lax => asked.laxly(rt),
+            Way::Strict => asked.strictly(rt),
+            Way::ByPath => asked.by_path(rt),
+        }
+    }
 }

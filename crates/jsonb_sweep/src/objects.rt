@@ -4,8 +4,8 @@ use crate::answer::{Answer, Wanted};
 use crate::call::{Call, Case, ask_each};
 use crate::documents::*;
 use crate::mark::{begin, end, tell};
-use jsonb::{Error, OwnedJsonb, RawJsonb};
-use std::alloc::{AllocError, Global};
+use jsonb::{Error, OwnedJsonb, RawJsonb, keys};
+use std::alloc::Global;
 use std::collections::BTreeSet;
 use std::io;
 
@@ -98,32 +98,57 @@ const CASES: [Case<ObjectCall<'static>>; 8] = [
 /// Makes each case, and tells what came of it.
 pub fn cases(rt: &HostRuntime) -> io::Result<()> {
     ask_each(rt, &CASES)?;
-    tell(rt, "object_pick", object_pick(rt))?;
-    tell(rt, "object_delete", object_delete(rt))?;
+    tell(rt, "object_pick", Picking::Pick.picks_a(rt, ONLY_A))?;
+    tell(rt, "object_delete", Picking::Delete.picks_a(rt, ONLY_C))?;
     tell(rt, "object_each", object_each(rt))
 }
 
-/// The set of the key `a`.
-fn letter_a(alloc: Global) -> Result<BTreeSet<&'static str>, AllocError> {
-    let mut keys = BTreeSet::new(alloc);
-    keys.insert("a")?;
-    Ok(keys)
+/// A call on an object that takes a set of keys.
+#[derive(Clone, Copy)]
+pub enum Picking {
+    Pick,
+    Delete,
 }
 
-fn object_pick(rt: &HostRuntime) -> Result<bool, Error> {
-    let keys = letter_a(rt.alloc())?;
-    begin(rt);
-    let answer = RawJsonb::new(LETTERS).object_pick(rt.alloc(), &keys);
-    end(rt);
-    Ok(answer?.as_raw().as_bytes() == ONLY_A)
-}
+impl Picking {
+    fn asked(
+        self,
+        rt: &HostRuntime,
+        object: &[u8],
+        keys: &BTreeSet<&str>,
+        wanted: &[u8],
+    ) -> Result<bool, Error> {
+        let object = RawJsonb::new(object);
+        begin(rt);
+        let answer = match self {
+            Picking::Pick => object.object_pick(rt.alloc(), keys),
+            Picking::Delete => object.object_delete(rt.alloc(), keys),
+        };
+        end(rt);
+        Ok(answer?.as_raw().as_bytes() == wanted)
+    }
 
-fn object_delete(rt: &HostRuntime) -> Result<bool, Error> {
-    let keys = letter_a(rt.alloc())?;
-    begin(rt);
-    let answer = RawJsonb::new(LETTERS).object_delete(rt.alloc(), &keys);
-    end(rt);
-    Ok(answer?.as_raw().as_bytes() == ONLY_C)
+    /// Makes the call with the key `a`.
+    fn picks_a(self, rt: &HostRuntime, wanted: &[u8]) -> Result<bool, Error> {
+        let mut set = BTreeSet::new(rt.alloc());
+        set.insert("a")?;
+        self.asked(rt, LETTERS, &set, wanted)
+    }
+
+    /// Makes the call with all keys of an object.
+    pub fn picks_all(self, rt: &HostRuntime, object: &[u8]) -> Result<bool, Error> {
+        let mut set = BTreeSet::new(rt.alloc());
+        if let Some(found) = keys(object)? {
+            for key in found {
+                set.insert(key?)?;
+            }
+        }
+        let wanted = match self {
+            Picking::Pick => object,
+            Picking::Delete => EMPTY_OBJECT,
+        };
+        self.asked(rt, object, &set, wanted)
+    }
 }
 
 fn object_each(rt: &HostRuntime) -> Result<bool, Error> {

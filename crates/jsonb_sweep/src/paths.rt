@@ -32,19 +32,19 @@ pub fn cases(rt: &HostRuntime) -> io::Result<()> {
         let is_right = to_owned(rt, text, printed);
         tell(rt, format_args!("JsonPath::to_owned of {kind}"), is_right)?;
     }
-    tell(rt, "ArrayIndex::to_indices", to_indices(rt))
+    tell(rt, "ArrayIndex::to_indices", to_indices(rt, 100))
 }
 
 /// Makes each case of a part of a path, and tells what came of it.
 pub fn parts(rt: &HostRuntime) -> io::Result<()> {
-    tell(rt, "Path::clone", clone_step(rt))?;
-    tell(rt, "Path::to_owned", own_step(rt))?;
-    tell(rt, "Expr::clone", clone_expression(rt))?;
-    tell(rt, "Expr::to_owned", own_expression(rt))?;
+    tell(rt, "Path::clone", clone_step(rt, "c"))?;
+    tell(rt, "Path::to_owned", own_step(rt, "c"))?;
+    tell(rt, "Expr::clone", clone_expression(rt, "c"))?;
+    tell(rt, "Expr::to_owned", own_expression(rt, "c"))?;
     tell(
         rt,
         "PathValue::clone of a text of its own",
-        clone_own_literal(rt),
+        clone_own_literal(rt, "c"),
     )?;
     let borrowed = PathValue::String(CowStr::Borrowed("c"));
     tell(
@@ -52,7 +52,7 @@ pub fn parts(rt: &HostRuntime) -> io::Result<()> {
         "PathValue::clone of a borrowed text",
         clone_literal(rt, &borrowed),
     )?;
-    tell(rt, "PathValue::to_owned", own_literal(rt))
+    tell(rt, "PathValue::to_owned", own_literal(rt, "c"))
 }
 
 pub fn read(rt: &HostRuntime, text: &[u8], printed: &str) -> Result<bool, Error> {
@@ -79,16 +79,16 @@ pub fn to_owned(rt: &HostRuntime, text: &[u8], printed: &str) -> Result<bool, Er
 }
 
 /// A literal that owns its text.
-fn literal(alloc: Global) -> Result<PathValue<'static>, Error> {
-    let text = String::from_str(alloc, "c")?;
+fn literal(alloc: Global, text: &str) -> Result<PathValue<'static>, Error> {
+    let text = String::from_str(alloc, text)?;
     Ok(PathValue::String(CowStr::Owned(text)))
 }
 
-/// `@ == "c"`.
-fn comparison(alloc: Global) -> Result<Expr<'static>, Error> {
+/// `@ == "c"`, of any text.
+fn comparison(alloc: Global, text: &str) -> Result<Expr<'static>, Error> {
     let mut steps = Vec::new(alloc);
     steps.push(Path::Current)?;
-    let right = Expr::Value(Box::new(alloc, literal(alloc)?)?);
+    let right = Expr::Value(Box::new(alloc, literal(alloc, text)?)?);
     Ok(Expr::BinaryOp {
         op: BinaryOperator::Eq,
         left: Box::new(alloc, Expr::Paths(steps))?,
@@ -96,37 +96,37 @@ fn comparison(alloc: Global) -> Result<Expr<'static>, Error> {
     })
 }
 
-/// `?(@ == "c")`.
-fn filter(alloc: Global) -> Result<Path<'static>, Error> {
-    Ok(Path::FilterExpr(Box::new(alloc, comparison(alloc)?)?))
+/// `?(@ == "c")`, of any text.
+fn filter(alloc: Global, text: &str) -> Result<Path<'static>, Error> {
+    Ok(Path::FilterExpr(Box::new(alloc, comparison(alloc, text)?)?))
 }
 
-fn clone_step(rt: &HostRuntime) -> Result<bool, Error> {
-    let step = filter(rt.alloc())?;
+pub fn clone_step(rt: &HostRuntime, text: &str) -> Result<bool, Error> {
+    let step = filter(rt.alloc(), text)?;
     begin(rt);
     let answer = step.clone(rt.alloc());
     end(rt);
     Ok(answer? == step)
 }
 
-fn own_step(rt: &HostRuntime) -> Result<bool, Error> {
-    let step = filter(rt.alloc())?;
+pub fn own_step(rt: &HostRuntime, text: &str) -> Result<bool, Error> {
+    let step = filter(rt.alloc(), text)?;
     begin(rt);
     let answer = step.to_owned(rt.alloc());
     end(rt);
     Ok(answer? == step)
 }
 
-fn clone_expression(rt: &HostRuntime) -> Result<bool, Error> {
-    let expression = comparison(rt.alloc())?;
+pub fn clone_expression(rt: &HostRuntime, text: &str) -> Result<bool, Error> {
+    let expression = comparison(rt.alloc(), text)?;
     begin(rt);
     let answer = expression.clone(rt.alloc());
     end(rt);
     Ok(answer? == expression)
 }
 
-fn own_expression(rt: &HostRuntime) -> Result<bool, Error> {
-    let expression = comparison(rt.alloc())?;
+pub fn own_expression(rt: &HostRuntime, text: &str) -> Result<bool, Error> {
+    let expression = comparison(rt.alloc(), text)?;
     begin(rt);
     let answer = expression.to_owned(rt.alloc());
     end(rt);
@@ -140,22 +140,23 @@ fn clone_literal(rt: &HostRuntime, literal: &PathValue<'static>) -> Result<bool,
     Ok(answer? == *literal)
 }
 
-fn clone_own_literal(rt: &HostRuntime) -> Result<bool, Error> {
-    clone_literal(rt, &literal(rt.alloc())?)
+pub fn clone_own_literal(rt: &HostRuntime, text: &str) -> Result<bool, Error> {
+    clone_literal(rt, &literal(rt.alloc(), text)?)
 }
 
-fn own_literal(rt: &HostRuntime) -> Result<bool, Error> {
-    let literal = literal(rt.alloc())?;
+pub fn own_literal(rt: &HostRuntime, text: &str) -> Result<bool, Error> {
+    let literal = literal(rt.alloc(), text)?;
     begin(rt);
     let answer = literal.to_owned(rt.alloc());
     end(rt);
     Ok(answer? == literal)
 }
 
-fn to_indices(rt: &HostRuntime) -> Result<bool, Error> {
+/// Whether `0 to last` has as many positions as an array of that many elements.
+pub fn to_indices(rt: &HostRuntime, count: usize) -> Result<bool, Error> {
     let all = ArrayIndex::Slice((Index::Index(0), Index::LastIndex(0)));
     begin(rt);
-    let answer = all.to_indices(rt.alloc(), 100);
+    let answer = all.to_indices(rt.alloc(), count);
     end(rt);
-    Ok(answer?.len() == 100)
+    Ok(answer?.len() == count)
 }

@@ -2,7 +2,9 @@
 
 use crate::documents::*;
 use crate::mark::{begin, end, tell};
-use jsonb::{Error, encode_item, root_item, to_value};
+use jsonb::{Error, ExtensionValue, Value, encode_item, root_item, to_value};
+use jsonb_doc::push_extension_payload;
+use std::borrow::CowStr;
 use std::io;
 
 /// Documents, each with its kind.
@@ -25,7 +27,12 @@ pub fn cases(rt: &HostRuntime) -> io::Result<()> {
         let is_right = clone(rt, document);
         tell(rt, format_args!("Value::clone of {kind}"), is_right)?;
     }
-    Ok(())
+    tell(
+        rt,
+        "Value::clone of a text of its own",
+        clone_own_text(rt, "v"),
+    )?;
+    tell(rt, "push_extension_payload", push_payload(rt, b"abc"))
 }
 
 /// The root of a document is that document again.
@@ -54,4 +61,25 @@ pub fn clone(rt: &HostRuntime, document: &[u8]) -> Result<bool, Error> {
     end(rt);
     let is_kept = value == to_value(rt.alloc(), &item)?;
     Ok(answer? == value && is_kept)
+}
+
+pub fn clone_own_text(rt: &HostRuntime, text: &str) -> Result<bool, Error> {
+    let value = Value::String(CowStr::Owned(String::from_str(rt.alloc(), text)?));
+    begin(rt);
+    let answer = value.clone(rt.alloc());
+    end(rt);
+    Ok(answer? == value)
+}
+
+/// The payload of bytes is a byte of 0 and the bytes. After a refusal what was there is there.
+pub fn push_payload(rt: &HostRuntime, bytes: &[u8]) -> Result<bool, Error> {
+    let mut payload = Vec::from_slice(rt.alloc(), b"front")?;
+    begin(rt);
+    let pushed = push_extension_payload(&mut payload, &ExtensionValue::Binary(bytes));
+    end(rt);
+    let is_kept = payload.starts_with(b"front");
+    if is_kept {
+        pushed?;
+    }
+    Ok(is_kept && payload.len() == bytes.len() + 6 && payload.ends_with(bytes))
 }

@@ -121,7 +121,7 @@ pub fn cases(rt: &HostRuntime) -> io::Result<()> {
     tell(rt, "get_by_keypath", get_by_keypath(rt))?;
     tell(rt, "delete_by_keypath", delete_by_keypath(rt))?;
     tell(rt, "extract_scalar_key_values", leaves(rt))?;
-    tell(rt, "OwnedJsonb::clone", clone(rt))
+    tell(rt, "OwnedJsonb::clone", clone(rt, MIXED))
 }
 
 /// The key of an array equals that of one with the same numbers in another form.
@@ -151,6 +151,27 @@ fn delete_by_keypath(rt: &HostRuntime) -> Result<bool, Error> {
     Ok(answer?.as_raw().as_bytes() == WITHOUT_K)
 }
 
+/// Whether the member of element 20 is found, a document of the number 20.
+pub fn number_is_found(rt: &HostRuntime, elements: &[u8]) -> Result<bool, Error> {
+    let steps = parse_key_paths(rt.alloc(), b"{20,number}")?;
+    begin(rt);
+    let answer = RawJsonb::new(elements).get_by_keypath(rt.alloc(), steps.paths.iter());
+    end(rt);
+    Ok(Answer::found(answer?).is(Wanted::Document(TWENTY)))
+}
+
+/// Whether the member of element 20 is deleted, and all else is kept.
+pub fn number_is_deleted(rt: &HostRuntime, elements: &[u8]) -> Result<bool, Error> {
+    let steps = parse_key_paths(rt.alloc(), b"{20,number}")?;
+    begin(rt);
+    let answer = RawJsonb::new(elements).delete_by_keypath(rt.alloc(), steps.paths.iter());
+    end(rt);
+    let edited = answer?;
+    let rest = edited.as_raw().get_by_index(rt.alloc(), 20)?;
+    let is_as_long = edited.as_raw().array_length()? == RawJsonb::new(elements).array_length()?;
+    Ok(Answer::found(rest).is(Wanted::Document(EMPTY_OBJECT)) && is_as_long)
+}
+
 fn leaves(rt: &HostRuntime) -> Result<bool, Error> {
     begin(rt);
     let answer = RawJsonb::new(MIXED).extract_scalar_key_values(rt.alloc(), false);
@@ -164,11 +185,11 @@ fn leaves(rt: &HostRuntime) -> Result<bool, Error> {
     })
 }
 
-fn clone(rt: &HostRuntime) -> Result<bool, Error> {
-    let owned = OwnedJsonb::new(Vec::from_slice(rt.alloc(), MIXED)?);
+pub fn clone(rt: &HostRuntime, document: &[u8]) -> Result<bool, Error> {
+    let owned = OwnedJsonb::new(Vec::from_slice(rt.alloc(), document)?);
     begin(rt);
     let answer = owned.clone(rt.alloc());
     end(rt);
-    let is_kept = owned.as_raw().as_bytes() == MIXED;
-    Ok(answer?.as_raw().as_bytes() == MIXED && is_kept)
+    let is_kept = owned.as_raw().as_bytes() == document;
+    Ok(answer?.as_raw().as_bytes() == document && is_kept)
 }
