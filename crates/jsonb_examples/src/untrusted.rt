@@ -6,6 +6,9 @@ use std::alloc::Global;
 /// Longer texts are refused unread: each open parenthesis of a path takes room on the stack.
 const LONGEST_PATH: usize = 1_000;
 
+/// Deeper documents are refused: what is done with a decoded value takes room on the stack for each level.
+const DEEPEST_ITEM: usize = 100;
+
 /// What a path selects of bytes that anybody may have sent.
 pub fn selected(alloc: Global, path: &[u8], bytes: &[u8]) -> Result<Vec<OwnedJsonb>, Error> {
     if path.len() > LONGEST_PATH {
@@ -13,7 +16,7 @@ pub fn selected(alloc: Global, path: &[u8], bytes: &[u8]) -> Result<Vec<OwnedJso
     }
     let path = parse_json_path(alloc, path)?;
     let document = RawJsonb::new(bytes);
-    document.check()?;
+    document.check_depth(DEEPEST_ITEM)?;
     document.select_by_path(alloc, &path)
 }
 
@@ -21,7 +24,7 @@ pub fn selected(alloc: Global, path: &[u8], bytes: &[u8]) -> Result<Vec<OwnedJso
 pub fn status(refusal: Error) -> u16 {
     match refusal {
         Error::InvalidJsonb | Error::InvalidJsonPath | Error::InvalidKeyPath => 400,
-        Error::TooLarge => 413,
+        Error::TooLarge | Error::TooDeep => 413,
         Error::UnsupportedNumber | Error::Arithmetic(_) => 422,
         Error::OutOfMemory => 503,
         _ => 500,
@@ -31,6 +34,7 @@ pub fn status(refusal: Error) -> u16 {
 #[cfg(test)]
 mod tests {
     use super::*;
+    use jsonb::ArrayBuilder;
     use std::test::Fail;
 
     #[test]
@@ -51,6 +55,26 @@ mod tests {
             };
             assert_eq!(rt; answer, wanted, "{path:?}");
         }
+        Ok(())
+    }
+
+    #[test]
+    fn deep_documents_are_refused(rt: HostRuntime) -> Result<(), Fail> {
+        let alloc = rt.alloc();
+        let mut document = Vec::from_slice(alloc, b"\x80\0\0\0")?;
+        for _ in 0..DEEPEST_ITEM {
+            let mut outer = ArrayBuilder::new(alloc);
+            outer.push_document(&document)?;
+            document = outer.build()?;
+        }
+        assert_eq!(rt;
+            selected(alloc, b"$.**", &document)?.len(),
+            DEEPEST_ITEM + 1
+        );
+        let mut outer = ArrayBuilder::new(alloc);
+        outer.push_document(&document)?;
+        let refused = selected(alloc, b"$.**", &outer.build()?);
+        assert_eq!(rt; refused.err().map(status), Some(413));
         Ok(())
     }
 }

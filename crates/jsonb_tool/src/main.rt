@@ -12,12 +12,28 @@ use std::{env, io};
 /// The status where a write failed, or the arguments can't be read.
 const FAULT: u8 = 3;
 
+/// What is printed on standard error where the words are no command.
+const COMMANDS: &str = "\
+usage: jsonb_tool COMMAND WORD..
+  get KEYPATH HEX   the document at the place that the key path meets, or none
+  leaves HEX        a line for each leaf: its document and its key path, or none
+  select PATH HEX   a line for each document that the JSON path selects, or none
+  match PATH HEX    true, false or unknown, of a path that is one condition
+  key HEX           the document's sortable key
+HEX is a document in hexadecimal.";
+
 fn main(rt: HostRuntime) -> ExitCode {
     let Ok(words) = words(&rt) else {
         return ExitCode::from(FAULT);
     };
     match tool::run(rt.alloc(), words.as_slice(), &mut io::writer(&rt)) {
-        Ok(status) => ExitCode::from(status),
+        Ok(status) => {
+            if status == tool::USAGE {
+                // Where standard error can't be written either, the status alone tells.
+                let _unwritten = rt.eprintln(COMMANDS);
+            }
+            ExitCode::from(status)
+        },
         Err(tool::ToolFault::Write) => ExitCode::from(FAULT),
     }
 }

@@ -25,7 +25,7 @@ const SUCCESS: u8 = 0;
 const REFUSED: u8 = 1;
 
 /// The exit status behind `usage`.
-const USAGE: u8 = 2;
+pub const USAGE: u8 = 2;
 
 /// What the program writes, and its exit status.
 #[derive(Drop)]

@@ -119,6 +119,8 @@ pub(super) fn ask_places(
     let _contains = raw.contains(&one);
     let _contained = one.contains(raw);
     let _contains_itself = raw.contains(&same);
+    let _depth = raw.depth();
+    let _shallow = raw.check_depth(1);
     let _texts = raw.traverse_check_string(|text| text == b"b".as_slice());
     keep(documents, raw.concat(alloc, &one))?;
     keep(documents, raw.concat(alloc, &same))?;
