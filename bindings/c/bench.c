@@ -1,0 +1,165 @@
+/* Rows a second of each call on a column, beside the same call on one document after the other; and what crossing the
+ * boundary costs. bench [ROWS]: documents of about 200 bytes; processor time, the best of several rounds. */
+#define _POSIX_C_SOURCE 199309L
+#include "jsonb.h"
+
+#include <stdio.h>
+#include <stdlib.h>
+#include <string.h>
+#include <time.h>
+
+enum { ROUNDS = 15, FIELDS = 5 };
+#define TEXT(text) (const uint8_t *)(text), sizeof(text) - 1
+
+static uint8_t *bytes;
+static uint64_t *offsets, *positions;
+static size_t rows, bytes_len, room;
+static uint8_t *truths, *statuses, *out;
+static int64_t *numbers;
+static uint64_t sum;
+
+static double now(void) {
+    struct timespec time;
+    clock_gettime(CLOCK_PROCESS_CPUTIME_ID, &time);
+    return (double)time.tv_sec + (double)time.tv_nsec * 1e-9;
+}
+
+static uint32_t next_random(void) {
+    static uint64_t state = 1;
+    state = state * 6364136223846793005u + 1442695040888963407u;
+    return (uint32_t)(state >> 33);
+}
+
+static uint8_t *put_word(uint8_t *at, uint32_t word) {
+    for (int shift = 24; shift >= 0; shift -= 8) *at++ = (uint8_t)(word >> shift);
+    return at;
+}
+
+static uint8_t *put_number(uint8_t *at, uint32_t number, int width) {
+    *at++ = 0x50;
+    for (int shift = 8 * (width - 1); shift >= 0; shift -= 8) *at++ = (uint8_t)(number >> shift);
+    return at;
+}
+
+/* {"age":..,"city":"xx..","name":"n000001","note":"yy..","score":..}, written from docs/FORMAT.md. */
+static uint8_t *put_document(uint8_t *at, size_t row) {
+    static const char *const keys[FIELDS] = {"age", "city", "name", "note", "score"};
+    uint32_t city = 20 + next_random() % 40, note = 80;
+    const uint32_t values[FIELDS] = {0x20000002, 0x10000000 | city, 0x10000007, 0x10000000 | note, 0x20000005};
+    at = put_word(at, 0x40000000 | FIELDS);
+    for (int i = 0; i < FIELDS; i++) at = put_word(at, 0x10000000 | (uint32_t)strlen(keys[i]));
+    for (int i = 0; i < FIELDS; i++) at = put_word(at, values[i]);
+    for (int i = 0; i < FIELDS; i++) memcpy(at, keys[i], strlen(keys[i])), at += strlen(keys[i]);
+    at = put_number(at, 1 + next_random() % 99, 1);
+    memset(at, 'x', city), at += city;
+    char name[16];
+    snprintf(name, sizeof name, "n%06zu", row % 1000000);
+    memcpy(at, name, 7), at += 7;
+    memset(at, 'y', note), at += note;
+    return put_number(at, 0x10000000 | next_random(), 4);
+}
+
+static void make_column(size_t count) {
+    rows = count;
+    bytes = malloc(rows * 256), offsets = malloc((rows + 1) * 8), positions = malloc((rows + 1) * 8);
+    truths = malloc(rows), statuses = malloc(rows), numbers = malloc(rows * 8);
+    room = rows * 1024, out = malloc(room);
+    if (!bytes || !offsets || !positions || !truths || !statuses || !numbers || !out) exit(1);
+    uint8_t *at = bytes;
+    offsets[0] = 0;
+    for (size_t row = 0; row < rows; row++) at = put_document(at, row), offsets[row + 1] = (uint64_t)(at - bytes);
+    bytes_len = offsets[rows];
+}
+
+#define COLUMN bytes, bytes_len, offsets, rows + 1
+#define ROW    bytes + offsets[row], offsets[row + 1] - offsets[row]
+#define FIXED  statuses, rows, &done
+#define RUNS   out, room, positions, rows + 1, statuses, rows, &progress
+#define OUT    out, room, &len
+#define PAIR(name, of_column, of_row)                                                                                  \
+    static uint32_t name##_column(void) {                                                                              \
+        size_t done = 0;                                                                                               \
+        jsonb_progress progress = {0, 0, 0};                                                                           \
+        uint32_t status = of_column;                                                                                   \
+        sum += done + progress.bytes;                                                                                  \
+        return status;                                                                                                 \
+    }                                                                                                                  \
+    static uint32_t name##_rows(void) {                                                                                \
+        size_t len = 0;                                                                                                \
+        uint32_t status = 0;                                                                                           \
+        for (size_t row = 0; row < rows; row++) status |= of_row, sum += len;                                          \
+        return status;                                                                                                 \
+    }
+PAIR(check, jsonb_column_check(COLUMN, FIXED), jsonb_check(ROW))
+PAIR(exists, jsonb_column_exists(COLUMN, TEXT("$.age"), false, truths, rows, FIXED),
+     jsonb_exists(ROW, TEXT("$.age"), false, truths + row))
+PAIR(match, jsonb_column_match(COLUMN, TEXT("$.age < 50"), false, truths, rows, FIXED),
+     jsonb_match(ROW, TEXT("$.age < 50"), false, truths + row))
+PAIR(contains, jsonb_column_contains(COLUMN, bytes, offsets[1], truths, rows, FIXED),
+     jsonb_contains(ROW, bytes, offsets[1], truths + row))
+PAIR(get, jsonb_column_get(COLUMN, TEXT("{age}"), RUNS), jsonb_get_by_keypath(ROW, TEXT("{age}"), OUT))
+PAIR(select_first, jsonb_column_select_first(COLUMN, TEXT("$.name"), false, RUNS),
+     jsonb_select_first(ROW, TEXT("$.name"), false, OUT))
+PAIR(select_value, jsonb_column_select_value(COLUMN, TEXT("$.name"), false, RUNS),
+     jsonb_select_value(ROW, TEXT("$.name"), false, OUT))
+PAIR(select_array, jsonb_column_select_array(COLUMN, TEXT("$.name"), false, RUNS),
+     jsonb_select_array(ROW, TEXT("$.name"), false, OUT))
+PAIR(key, jsonb_column_key(COLUMN, false, RUNS), jsonb_sort_key(ROW, false, OUT))
+PAIR(key_wide, jsonb_column_key(COLUMN, true, RUNS), jsonb_sort_key(ROW, true, OUT))
+PAIR(equality_key, jsonb_column_equality_key(COLUMN, RUNS), jsonb_equality_key(ROW, OUT))
+PAIR(delete, jsonb_column_delete_by_keypath(COLUMN, TEXT("{note}"), RUNS),
+     jsonb_delete_by_keypath(ROW, TEXT("{note}"), OUT))
+
+/* The column of the ages, for the casts. */
+static uint8_t *ages;
+static uint64_t *age_offsets;
+#define AGES ages, age_offsets[rows], age_offsets, rows + 1
+#define AGE  ages + age_offsets[row], age_offsets[row + 1] - age_offsets[row]
+PAIR(to_i64, jsonb_column_to_i64(AGES, numbers, rows, FIXED), jsonb_to_i64(AGE, numbers + row))
+PAIR(to_str, jsonb_column_to_str(AGES, RUNS), jsonb_to_str(AGE, OUT))
+
+static uint32_t type_rows(void) {
+    uint32_t status = 0;
+    for (size_t row = 0; row < rows; row++) status |= jsonb_type(TEXT("\x80\0\0\0"), truths);
+    return status;
+}
+
+struct pair {
+    const char *name;
+    uint32_t (*column)(void), (*one)(void);
+};
+#define NAMED(name)                                                                                                    \
+    { #name, name##_column, name##_rows }
+static const struct pair pairs[] = {NAMED(check),        NAMED(exists), NAMED(match),        NAMED(contains),
+                                    NAMED(to_i64),       NAMED(get),    NAMED(select_first), NAMED(select_value),
+                                    NAMED(select_array), NAMED(to_str), NAMED(key),          NAMED(key_wide),
+                                    NAMED(equality_key), NAMED(delete)};
+
+/* Nanoseconds a row, the best of all rounds. */
+static double measure(uint32_t (*call)(void)) {
+    double best = 1e9;
+    for (int round = 0; round < ROUNDS; round++) {
+        double start = now();
+        if (call() > JSONB_NONE) return -1;
+        double took = now() - start;
+        if (took < best) best = took;
+    }
+    return best / (double)rows * 1e9;
+}
+
+int main(int argc, char **argv) {
+    make_column(argc > 1 ? strtoul(argv[1], NULL, 10) : 100000);
+    jsonb_progress progress;
+    ages = malloc(rows * 32), age_offsets = malloc((rows + 1) * 8);
+    if (!ages || !age_offsets ||
+        jsonb_column_get(COLUMN, TEXT("{age}"), ages, rows * 32, age_offsets, rows + 1, statuses, rows, &progress))
+        return 1;
+    printf("%zu documents of %zu bytes\n\n", rows, bytes_len / rows);
+    printf("| Call | column, ns a row | rows a second | one by one, ns a row | gain |\n|---|---|---|---|---|\n");
+    for (size_t i = 0; i < sizeof pairs / sizeof *pairs; i++) {
+        double column = measure(pairs[i].column), one = measure(pairs[i].one);
+        printf("| %s | %.0f | %.0f | %.0f | %.2f |\n", pairs[i].name, column, 1e9 / column, one, one / column);
+    }
+    printf("\njsonb_type of 4 bytes: %.1f ns a call (%llu)\n", measure(type_rows), (unsigned long long)(sum & 1));
+    return 0;
+}

@@ -1,0 +1,334 @@
+/* rows FILE: runs each row of a file that bindings/tests/rows.py made, with buffers of every length from 0 to two bytes
+ * more than the answer needs and guard bytes behind. With -DREFUSING and malloc, realloc and free wrapped (see the
+ * Makefile), each growth of each row is refused in turn as well. The last line is `N passed, M failed`. */
+#define _POSIX_C_SOURCE 200809L
+#include "jsonb.h"
+#include "growths.h"
+
+#include <ctype.h>
+#include <stdio.h>
+#include <stdlib.h>
+#include <string.h>
+
+enum { GUARD = 16, FILL = 0xee, MOST_WORDS = 12, ALL_LENGTHS = 1024 };
+
+/* What a call takes, by its letters: b bytes, c column, f flag, i and s a position, l and u numbers, y a scale; and
+ * what it gives: O bytes, T truth, N and W numbers, C count. */
+typedef uint32_t b_fn(const uint8_t *, size_t);
+typedef uint32_t bT_fn(const uint8_t *, size_t, uint8_t *);
+typedef uint32_t bN_fn(const uint8_t *, size_t, int64_t *);
+typedef uint32_t bW_fn(const uint8_t *, size_t, uint64_t *);
+typedef uint32_t bC_fn(const uint8_t *, size_t, size_t *);
+typedef uint32_t bO_fn(const uint8_t *, size_t, uint8_t *, size_t, size_t *);
+typedef uint32_t bfO_fn(const uint8_t *, size_t, bool, uint8_t *, size_t, size_t *);
+typedef uint32_t bsO_fn(const uint8_t *, size_t, size_t, uint8_t *, size_t, size_t *);
+typedef uint32_t biO_fn(const uint8_t *, size_t, int32_t, uint8_t *, size_t, size_t *);
+typedef uint32_t bbO_fn(const uint8_t *, size_t, const uint8_t *, size_t, uint8_t *, size_t, size_t *);
+typedef uint32_t bbT_fn(const uint8_t *, size_t, const uint8_t *, size_t, uint8_t *);
+typedef uint32_t bbfO_fn(const uint8_t *, size_t, const uint8_t *, size_t, bool, uint8_t *, size_t, size_t *);
+typedef uint32_t bbfT_fn(const uint8_t *, size_t, const uint8_t *, size_t, bool, uint8_t *);
+typedef uint32_t bbiO_fn(const uint8_t *, size_t, const uint8_t *, size_t, int32_t, uint8_t *, size_t, size_t *);
+typedef uint32_t bbbfO_fn(const uint8_t *, size_t, const uint8_t *, size_t, const uint8_t *, size_t, bool, uint8_t *,
+                          size_t, size_t *);
+typedef uint32_t bcO_fn(const uint8_t *, size_t, const uint8_t *, size_t, const uint64_t *, size_t, uint8_t *, size_t,
+                        size_t *);
+typedef uint32_t bcT_fn(const uint8_t *, size_t, const uint8_t *, size_t, const uint64_t *, size_t, uint8_t *);
+typedef uint32_t cO_fn(const uint8_t *, size_t, const uint64_t *, size_t, uint8_t *, size_t, size_t *);
+typedef uint32_t O_fn(uint8_t *, size_t, size_t *);
+typedef uint32_t fO_fn(bool, uint8_t *, size_t, size_t *);
+typedef uint32_t lO_fn(int64_t, uint8_t *, size_t, size_t *);
+typedef uint32_t uO_fn(uint64_t, uint8_t *, size_t, size_t *);
+typedef uint32_t luyO_fn(int64_t, uint64_t, uint8_t, uint8_t *, size_t, size_t *);
+
+/* The two answers of jsonb_pair as two calls: the other one has room enough, and is written with this one alone. */
+enum { OTHER = 256, WROTE_OTHER = 998 };
+
+static uint32_t pair_answered(uint32_t status, const uint8_t *other, size_t other_len) {
+    size_t written = status == JSONB_OK ? other_len : 0;
+    for (size_t i = written; i < OTHER; i++)
+        if (other[i] != FILL) return WROTE_OTHER;
+    return status;
+}
+
+static uint32_t jsonb_pair_key(const uint8_t *document, size_t document_len, size_t index, uint8_t *out, size_t size,
+                               size_t *out_len) {
+    uint8_t other[OTHER];
+    size_t other_len = 0;
+    memset(other, FILL, sizeof other);
+    uint32_t status = jsonb_pair(document, document_len, index, out, size, out_len, other, OTHER, &other_len);
+    return pair_answered(status, other, other_len);
+}
+
+static uint32_t jsonb_pair_value(const uint8_t *document, size_t document_len, size_t index, uint8_t *out, size_t size,
+                                 size_t *out_len) {
+    uint8_t other[OTHER];
+    size_t other_len = 0;
+    memset(other, FILL, sizeof other);
+    uint32_t status = jsonb_pair(document, document_len, index, other, OTHER, &other_len, out, size, out_len);
+    return pair_answered(status, other, other_len);
+}
+
+#define SHAPES(X)                                                                                                      \
+    X(b)                                                                                                               \
+    X(bT)                                                                                                              \
+    X(bN) X(bW) X(bC) X(bO) X(bfO) X(bsO) X(biO) X(bbO) X(bbT) X(bbfO) X(bbfT) X(bbiO) X(bbbfO) X(bcO) X(bcT) X(cO)    \
+        X(O) X(fO) X(lO) X(uO) X(luyO)
+#define SHAPE_NAME(s)    SHAPE_##s,
+#define SHAPE_FIELD(s)   s##_fn *s;
+#define SHAPE_LETTERS(s) #s,
+enum shape { SHAPES(SHAPE_NAME) SHAPE_COUNT };
+static const char *const letters[] = {SHAPES(SHAPE_LETTERS)};
+
+struct call {
+    const char *name;
+    enum shape shape;
+    union {
+        SHAPES(SHAPE_FIELD)
+    } function;
+};
+#define CALL(call, s) {#call, SHAPE_##s, {.s = jsonb_##call}},
+static const struct call calls[] = {
+#include "calls.h"
+};
+
+struct bytes {
+    uint8_t *at;
+    size_t len;
+};
+
+struct column {
+    struct bytes bytes;
+    uint64_t *offsets;
+    size_t len;
+};
+
+struct row {
+    const struct call *call;
+    struct bytes bytes[3];
+    struct column column;
+    int64_t number;
+    uint64_t whole;
+    uint8_t scale;
+    bool flag;
+    uint32_t status;
+    const char *answer; /* its text in the file, or NULL */
+    struct bytes wanted;
+};
+
+/* What a call gave. */
+struct result {
+    uint32_t status;
+    size_t len;
+    uint8_t truth;
+    int64_t number;
+    uint64_t whole;
+    size_t count;
+};
+
+static struct result run(const struct row *row, uint8_t *out, size_t size) {
+    struct result r = {.len = 99, .truth = FILL, .number = FILL, .whole = FILL, .count = FILL};
+    const struct bytes *b = row->bytes;
+    const struct column *c = &row->column;
+#define B(i) b[i].at, b[i].len
+#define C    c->bytes.at, c->bytes.len, c->offsets, c->len
+#define OUT  out, size, &r.len
+#define RUN(s, ...)                                                                                                    \
+    case SHAPE_##s:                                                                                                    \
+        r.status = row->call->function.s(__VA_ARGS__);                                                                 \
+        break;
+    switch (row->call->shape) {
+        RUN(b, B(0))
+        RUN(bT, B(0), &r.truth)
+        RUN(bN, B(0), &r.number)
+        RUN(bW, B(0), &r.whole)
+        RUN(bC, B(0), &r.count)
+        RUN(bO, B(0), OUT)
+        RUN(bfO, B(0), row->flag, OUT)
+        RUN(bsO, B(0), (size_t)row->number, OUT)
+        RUN(biO, B(0), (int32_t)row->number, OUT)
+        RUN(bbO, B(0), B(1), OUT)
+        RUN(bbT, B(0), B(1), &r.truth)
+        RUN(bbfO, B(0), B(1), row->flag, OUT)
+        RUN(bbfT, B(0), B(1), row->flag, &r.truth)
+        RUN(bbiO, B(0), B(1), (int32_t)row->number, OUT)
+        RUN(bbbfO, B(0), B(1), B(2), row->flag, OUT)
+        RUN(bcO, B(0), C, OUT)
+        RUN(bcT, B(0), C, &r.truth)
+        RUN(cO, C, OUT)
+        RUN(O, OUT)
+        RUN(fO, row->flag, OUT)
+        RUN(lO, row->number, OUT)
+        RUN(uO, row->whole, OUT)
+        RUN(luyO, row->number, row->whole, row->scale, OUT)
+    case SHAPE_COUNT:
+        abort();
+    }
+    return r;
+}
+
+static bool gives_bytes(const struct row *row) { return strchr(letters[row->call->shape], 'O') != NULL; }
+
+/* Reading the file. */
+
+static int digit(char c) { return c <= '9' ? c - '0' : c - 'a' + 10; }
+
+static struct bytes read_bytes(const char *word) {
+    struct bytes read = {NULL, 0};
+    size_t len = strcmp(word, "-") ? strlen(word) / 2 : 0;
+    read.at = malloc(len + !len);
+    for (; read.len < len; read.len++)
+        read.at[read.len] = (uint8_t)(digit(word[2 * read.len]) * 16 + digit(word[2 * read.len + 1]));
+    return read;
+}
+
+static struct column read_column(const char *bytes, char *offsets) {
+    struct column read = {read_bytes(bytes), malloc((strlen(offsets) + 1) * sizeof(uint64_t)), 0};
+    for (char *rest = offsets; *rest; rest += *rest == ',') read.offsets[read.len++] = strtoull(rest, &rest, 10);
+    return read;
+}
+
+static uint32_t read_status(const char *name) {
+    for (uint32_t status = 0; status < 64; status++) {
+        uint8_t text[40];
+        size_t len;
+        if (!jsonb_status_name(status, text, sizeof text, &len) && len == strlen(name) && !memcmp(text, name, len))
+            return status;
+    }
+    return UINT32_MAX;
+}
+
+static const struct call *find_call(const char *name) {
+    for (size_t i = 0; i < sizeof calls / sizeof *calls; i++)
+        if (!strcmp(calls[i].name, name)) return &calls[i];
+    return NULL;
+}
+
+static bool read_row(struct row *row, char *line) {
+    char *words[MOST_WORDS] = {NULL};
+    size_t count = 0, at = 1, bytes = 0;
+    for (char *word = strtok(line, " \n"); word && count < MOST_WORDS; word = strtok(NULL, " \n"))
+        words[count++] = word;
+    memset(row, 0, sizeof *row);
+    if (count < 3 || !(row->call = find_call(words[0]))) return false;
+    for (const char *letter = letters[row->call->shape]; *letter; letter++) {
+        if (isupper((unsigned char)*letter)) break;
+        if (*letter == 'b') row->bytes[bytes++] = read_bytes(words[at++]);
+        if (*letter == 'c') row->column = read_column(words[at], words[at + 1]), at += 2;
+        if (*letter == 'f') row->flag = *words[at++] == '1';
+        if (strchr("isl", *letter)) row->number = strtoll(words[at++], NULL, 10);
+        if (*letter == 'u') row->whole = strtoull(words[at++], NULL, 10);
+        if (*letter == 'y') row->scale = (uint8_t)strtoul(words[at++], NULL, 10);
+    }
+    if (at + 1 >= count || strcmp(words[at], "=")) return false;
+    row->status = read_status(words[at + 1]);
+    row->answer = words[at + 2];
+    if (row->answer && gives_bytes(row)) row->wanted = read_bytes(row->answer);
+    return true;
+}
+
+static void free_row(struct row *row) {
+    for (int i = 0; i < 3; i++) free(row->bytes[i].at);
+    free(row->column.bytes.at), free(row->column.offsets);
+    free(row->wanted.at);
+}
+
+/* Judging. */
+
+static bool is_filled(const uint8_t *at, size_t len) {
+    for (size_t i = 0; i < len; i++)
+        if (at[i] != FILL) return false;
+    return true;
+}
+
+static bool has_scalar(const struct row *row, const struct result *r) {
+    bool is_answered = r->status == JSONB_OK;
+    const char *answer = is_answered ? row->answer : "238";
+    if (is_answered && !answer) return r->len == 99;
+    switch (letters[row->call->shape][strlen(letters[row->call->shape]) - 1]) {
+    case 'T':
+        return r->truth == strtoull(answer, NULL, 10);
+    case 'N':
+        return r->number == strtoll(answer, NULL, 10);
+    case 'W':
+        return r->whole == strtoull(answer, NULL, 10);
+    case 'C':
+        return r->count == strtoull(answer, NULL, 10);
+    default:
+        return true;
+    }
+}
+
+/* Whether a call with a buffer of this size gave what it had to; `status` is what it gives where the buffer suffices.
+ */
+static bool is_right(const struct row *row, uint32_t status, size_t size, long *growths) {
+    uint8_t *out = malloc(size + GUARD);
+    memset(out, FILL, size + GUARD);
+    start_counting();
+    struct result r = run(row, out, size);
+    *growths = stop_counting();
+    bool right = has_scalar(row, &r) && live_blocks() == 0;
+    if (gives_bytes(row)) {
+        size_t len = status == JSONB_OK ? row->wanted.len : 0;
+        bool fits = len <= size;
+        right = right && r.status == (fits ? status : JSONB_BUFFER_TOO_SMALL) && r.len == len;
+        size_t written = fits ? len : 0;
+        right = right && (!written || !memcmp(out, row->wanted.at, written)) &&
+                is_filled(out + written, size + GUARD - written);
+    } else {
+        right = right && r.status == status;
+    }
+    free(out);
+    return right;
+}
+
+static bool every_length_is_right(const struct row *row) {
+    long growths;
+    size_t most = row->wanted.len + 2, step = most > ALL_LENGTHS ? most / ALL_LENGTHS + 1 : 1;
+    for (size_t size = 0; size < most; size += step)
+        if (!is_right(row, row->status, size, &growths)) return false;
+    return is_right(row, row->status, row->wanted.len, &growths) && is_right(row, row->status, most, &growths);
+}
+
+/* Each growth refused in turn, until a run meets no refusal. */
+static bool every_refusal_is_right(const struct row *row) {
+    for (long refused = 0, growths = 1; can_refuse() && growths > refused; refused++) {
+        refuse_growth(refused);
+        struct row asked = *row;
+        struct result r;
+        uint8_t *out = malloc(row->wanted.len + GUARD);
+        memset(out, FILL, row->wanted.len + GUARD);
+        start_counting();
+        r = run(&asked, out, row->wanted.len);
+        growths = stop_counting();
+        refuse_growth(-1);
+        bool met = growths > refused;
+        bool right = live_blocks() == 0 && r.status == (met ? (uint32_t)JSONB_OUT_OF_MEMORY : row->status) &&
+                     has_scalar(row, &r);
+        if (met) right = right && is_filled(out, row->wanted.len + GUARD) && (r.len == 0 || r.len == 99);
+        free(out);
+        if (!right) return false;
+    }
+    return true;
+}
+
+int main(int argc, char **argv) {
+    FILE *file = argc == 2 ? fopen(argv[1], "r") : NULL;
+    char *line = NULL;
+    size_t room = 0;
+    int passed = 0, failed = 0;
+    while (file && getline(&line, &room, file) > 0) {
+        char *shown = strdup(line);
+        struct row row;
+        bool is_read = read_row(&row, line);
+        bool right = is_read && every_length_is_right(&row) && every_refusal_is_right(&row);
+        if (!right) printf("%s: %.200s\n", is_read ? "WRONG" : "NOT READ", shown);
+        right ? passed++ : failed++;
+        free_row(&row);
+        free(shown);
+    }
+    free(line);
+    if (file) fclose(file);
+    failed += !has_refused();
+    printf("%d passed, %d failed\n", passed, failed);
+    return failed != 0 || passed == 0;
+}
