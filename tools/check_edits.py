@@ -15,7 +15,7 @@ of calls, and a pair outside any body, stand in files of their own; pairs in one
 How an edit is read, checked and judged as a whole is what rt says: this runs rt's own functions. Each crate is proved
 once, in a copy of the repository, and each edit is checked over hard links to that work. rattle writes a file of kept
 work anew and never into it, so that any number of edits of a crate can run side by side. The work tree is only read;
-after --gate it gets the programs that rt ci built, for the commands that run them.
+after --gate it gets the programs that rt ci built, and the static libraries, for the commands that run them.
 
 The last line is 'N passed, M failed'. Where something is not as it should be, as with no edit at all, M is not 0 or
 there is no such line.
@@ -297,6 +297,23 @@ class RtCi:
                 os.remove(program)
 
 
+def hand_over_library(crate):
+    """Builds a static library over the proofs that its edits stood on, and puts it into the work tree: rt ci builds none.
+
+    Returns whether it could be built.
+    """
+    library = f"crates/{crate.name}/out/lib{crate.name}.a"
+    how = {"stdin": subprocess.DEVNULL, "stdout": subprocess.PIPE, "stderr": subprocess.STDOUT, "errors": "replace"}
+    ran = subprocess.run(["rt", "lib", "--jobs", "1"], cwd=crate.folder, preexec_fn=end_with_parent, **how)
+    if ran.returncode:
+        say(f"{crate.name} gave no static library\n{ran.stdout[-3000:]}")
+        return False
+    os.makedirs(os.path.dirname(library), exist_ok=True)
+    shutil.copy2(f"{crate.folder}/out/lib{crate.name}.a", f"{library}.new")
+    os.replace(f"{library}.new", library)
+    return True
+
+
 def make_room():
     """Returns a new folder for all that is made here, which goes when this process ends, however it ends."""
     room = tempfile.mkdtemp(prefix="edits-")
@@ -362,7 +379,8 @@ def main():
         lanes.run(most)
         follower.join()
         proofs.hand_over_programs()
-        passed, failed = proofs.passed, failed + proofs.failed
+        unbuilt = [it.name for it, _ in crates if it.is_static and not hand_over_library(it)]
+        passed, failed = proofs.passed, failed + proofs.failed + len(unbuilt)
     else:
         lanes.run(most)
     shutil.rmtree(room, ignore_errors=True)

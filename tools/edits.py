@@ -14,7 +14,7 @@ CALLED = {
     "rtlib": "RATTLE crates_below guarded",
 }
 
-FUNCTION = re.compile(r"( *)(?:pub(?:\([^)]*\))? |const |unsafe )*fn (\w+)")
+FUNCTION = re.compile(r"( *)(?:pub(?:\([^)]*\))? |const |unsafe |extern \"C\" )*fn (\w+)")
 TRAIT = r"(?:\w+::)*(\w+)(?:<(?:(?:\w+::)*(\w+))?.*>)?"
 IMPL = re.compile(rf"( *)impl(?:<.*?>)? (?:{TRAIT} for )?&?(?:'\w+ )?(?:\w+::)*(\w+)")
 CYCLE = re.compile(r"#\[cycle\((\w+)")
@@ -105,9 +105,10 @@ def function_below(path, rows, header):
     if not impl:
         return None
     # A method stands under its type, whose module need not be the file's. One of a trait stands as in
-    # NumberPartialEq::eq, and of a trait with an argument as in ErrorFromAllocError::from.
+    # NumberPartialEq::eq, and of a trait with an argument as in ErrorFromAllocError::from, or ExistsRowCallU8::answer.
     _, trait, argument, owner = impl.groups()
-    owner += rf"{trait}{argument or ''}\w*" if trait else ""
+    argument = argument[0].upper() + argument[1:] if argument else ""
+    owner += rf"{trait}{argument}\w*" if trait else ""
     return Function(r"(?:\w+::)*", f"{owner}::{name}", cycle)
 
 

@@ -1,0 +1,322 @@
+#!/usr/bin/env python3
+"""The Rust crate `jsonb` 0.5.6 and this library, timed in turn, on the cases below.
+
+  measure_speed.py [--rounds N] [--only WORD] [--write]   times, and instructions where valgrind is there; --write puts the
+                                                          table into docs/PERFORMANCE.md
+  measure_speed.py --crate FOLDER ..                      the same with the Rust crate of a folder, where none can be fetched
+
+Needs `rt`, `cargo` and `cc`. The crates are proved first where they are not (the library is built as `rt lib` does). The work lies in
+tools/speed/out, and the repository is left as it is. Best of N rounds (40), in turn, in one process with one allocator; both sides
+are built for x86-64-v2 at the highest level of optimisation.
+"""
+import argparse
+import os
+import random
+import re
+import shutil
+import statistics
+import subprocess
+import sys
+from dataclasses import dataclass
+from decimal import Decimal
+
+sys.dont_write_bytecode = True
+TOP = os.path.dirname(os.path.dirname(os.path.abspath(__file__)))
+HERE = os.path.join(TOP, "tools", "speed")
+OUT = os.path.join(HERE, "out")
+sys.path.insert(0, os.path.join(TOP, "tools"))
+from documents import encode as document
+
+CRATES = ["jsonb_doc", "jsonb_keypath", "jsonb_raw", "jsonb"]
+RANDOM = random.Random(1)
+
+
+@dataclass
+class Case:
+    name: str
+    call: str
+    document: bytes
+    argument: str = ""
+    other: bytes = b""
+
+
+# ---- documents
+
+
+def word(length):
+    return "".join(RANDOM.choice("abcdefghijklmnopqrstuvwxyz") for _ in range(length))
+
+
+def wide_object(pairs):
+    return {f"k{i:04}": word(6) if i % 3 else RANDOM.randrange(10**6) for i in range(pairs)}
+
+
+def person(i):
+    optional = {"opt": None} if i % 5 == 0 else {}
+    return {"age": RANDOM.randrange(100), "id": i, "name": f"n{RANDOM.randrange(100)}{word(4)}", "tag": f"t{i % 10}", **optional}
+
+
+def whole_numbers(count):
+    return [RANDOM.randrange(count) for _ in range(count)]
+
+
+def nested_arrays(levels):
+    value = 7
+    for _ in range(levels):
+        value = [value]
+    return value
+
+
+def nested_objects(levels):
+    value = 1
+    for _ in range(levels):
+        value = {"k": value, "n": None}
+    return value
+
+
+# ---- cases
+
+
+def text_cases():
+    fields = "".join(f".f{i}" for i in range(100))
+    conditions = " && ".join(f"@.f{i} == {i}" for i in range(50))
+    long = (
+        '$.store.book[0, 1, last - 2]?(@.price > 10 && @.title starts with "a" || exists(@.isbn[*]?(@ == "x")))'
+        '."a b":c["d"].**{1 to last}'
+    )
+    yield Case("read a short path", "parse_path", b"$.a.b[0]")
+    yield Case("read a long path", "parse_path", long.encode())
+    yield Case("read a path of 100 fields", "parse_path", f"${fields}".encode())
+    yield Case("read a filter of 50 conditions", "parse_path", f"$[*]?({conditions})".encode())
+    yield Case("read a key path of 200 steps", "parse_keypath", ("{" + ",".join(["k"] * 200) + "}").encode())
+
+
+def place_cases(people):
+    steps = "{" + ",".join(["k"] * 200) + "}"
+    deep = document(nested_objects(200))
+    for pairs in (10, 100, 1000):
+        last = "{" + f"k{pairs - 1:04}" + "}"
+        yield Case(f"get the last of {pairs} keys", "get_by_keypath", document(wide_object(pairs)), last)
+    yield Case("get a field of the last of 1,000 objects", "get_by_keypath", people, "{999,name}")
+    yield Case("get at depth 200", "get_by_keypath", deep, steps)
+    yield Case("get by name without case, of 1,000 keys", "get_by_name_ignore_case", document(wide_object(1000)), "K0999")
+    yield Case("delete by key path, of 1,000 keys", "delete_by_keypath", document(wide_object(1000)), "{k0500}")
+    yield Case("delete at depth 200", "delete_by_keypath", deep, steps)
+    yield Case("delete by index, of 1,000 objects", "delete_by_index", people)
+    yield Case("delete by name, of 1,000 keys", "delete_by_name", document(wide_object(1000)), "k0500")
+    yield Case("insert into 1,000 objects", "array_insert", people, other=document(7))
+    yield Case("insert a pair into 1,000", "object_insert", document(wide_object(1000)), "k0500x", document("new"))
+
+
+def selection_cases(people):
+    def select(name, path, value, call="select"):
+        return Case(name, call, value, path)
+
+    long_fields = document({f"w{i}": word(16384) for i in range(8)})
+    lists = document({"a": list(range(100)), "b": list(range(100, 200))})
+    every_20th = ", ".join(str(i) for i in range(0, 1000, 20))
+    yield select("`$.*` of 100 pairs", "$.*", document(wide_object(100)))
+    yield select("`$[*].name` of 1,000 objects", "$[*].name", people)
+    yield select("`$[*]?(@.age < 50)`", "$[*]?(@.age < 50)", people)
+    yield select("three conditions with &&", '$[*]?(@.age > 20 && @.age < 60 && @.name starts with "n1")', people)
+    yield select("three conditions with ||", '$[*]?(@.age == 3 || @.tag == "t5" || exists(@.opt))', people)
+    yield select("`$[0, 10 to 40, last]`", "$[0, 10 to 40, last]", people)
+    yield select("50 indices", f"$[{every_20th}]", people)
+    yield select("`$.**` of 1,000 objects", "$.**", people)
+    yield select("`$.**` at depth 200", "$.**", document(nested_arrays(200)))
+    yield select("`$.**{100 to last}` at depth 200", "$.**{100 to last}", document(nested_arrays(200)), "exists")
+    yield select("a filter that keeps nothing", "$[*]?(@.age > 1000)", people, "exists")
+    yield select("`$[*].age > 1000` as a predicate", "$[*].age > 1000", people, "match")
+    yield select("100 values by 100", "$.a[*] == $.b[*]", lists, "match")
+    yield select("`-$[*]` of 1,000 numbers", "-$[*]", document(whole_numbers(1000)))
+    yield select("one field of long ones", "$.w5", long_fields)
+    yield select("the first of 1,000 objects", "$[*]", people, "select_first")
+
+
+def list_cases(people, few):
+    for count in (10, 100, 1000):
+        one, other = document(whole_numbers(count)), document(whole_numbers(count))
+        yield Case(f"distinct of {count:,}", "array_distinct", one)
+        yield Case(f"intersection of {count:,}", "array_intersection", one, other=other)
+        yield Case(f"difference of {count:,}", "array_except", one, other=other)
+        yield Case(f"overlap of {count:,}", "array_overlap", document([-1 - i for i in range(count)]), other=other)
+    boxes = [{"a": i, "b": [i, i + 1]} for i in range(100)]
+    decimals = [Decimal(i) / 100 for i in range(101, 1100) if i % 100]
+    yield Case("distinct of 1,000 objects", "array_distinct", people)
+    yield Case("contains 1,000 whole numbers", "contains", document(list(range(1000))), other=document(whole_numbers(1000)))
+    yield Case("contains 1,000 decimals", "contains", document(decimals), other=document(decimals[::-1]))
+    yield Case("contains 100 objects", "contains", document(boxes), other=document(boxes[::-1]))
+    yield Case("put arrays together", "concat", people, other=few)
+    yield Case("the elements of 1,000 objects", "array_values", people)
+
+
+def object_cases():
+    value = wide_object(1000)
+    wide = document(value)
+    rising = ",".join(f"k{i:04}" for i in range(0, 1000, 10))
+    falling = ",".join(f"k{i:04}" for i in range(990, -1, -10))
+    later = document({f"k{i:04}": i for i in range(500, 1500)})
+    yield Case("all of 100 rising names", "exists_all_keys", wide, rising)
+    yield Case("all of 100 falling names", "exists_all_keys", wide, falling)
+    yield Case("any of 100 missing names", "exists_any_keys", wide, rising.replace("k", "l"))
+    yield Case("pick 100 keys", "object_pick", wide, rising)
+    yield Case("delete 100 keys", "object_delete", wide, rising)
+    yield Case("the keys of 1,000 pairs", "object_keys", wide)
+    yield Case("the pairs of 1,000", "object_each", wide)
+    yield Case("put objects together", "concat", wide, other=later)
+
+
+def document_cases(people, few):
+    deep = document(nested_objects(200))
+    nulls = document([{"a": None, "b": i, "c": {"d": None, "e": [None, i]}} for i in range(1000)])
+    long = document([word(16384) for _ in range(8)])
+    yield Case("strip nulls of 1,000 objects", "strip_nulls", nulls)
+    yield Case("strip nulls at depth 200", "strip_nulls", deep)
+    yield Case("sortable key of 1,000 objects", "sort_key", people)
+    yield Case("sortable key of long texts", "sort_key", long)
+    yield Case("leaves of 100 objects", "leaves", few)
+    yield Case("leaves at depth 200", "leaves", deep)
+    yield Case("look at each text of 1,000 objects", "traverse_check_string", people)
+
+
+def cases():
+    people = [person(i) for i in range(1000)]
+    all_people, few = document(people), document(people[:100])
+    return [
+        *text_cases(),
+        *place_cases(all_people),
+        *selection_cases(all_people),
+        *list_cases(all_people, few),
+        *object_cases(),
+        *document_cases(all_people, few),
+    ]
+
+
+# ---- building
+
+
+def run(words, folder, **more):
+    subprocess.run(words, cwd=folder, check=True, **more)
+
+
+def our_library():
+    """The static library over a copy of the crates, with what was proved of them kept."""
+    copy = os.path.join(OUT, "repository")
+    os.makedirs(os.path.join(copy, "crates"), exist_ok=True)
+    shutil.copy(os.path.join(TOP, "HANDLES"), copy)
+    lines = [line for line in open(os.path.join(TOP, "crates.txt")) if line.split(":")[0] in CRATES]
+    with open(os.path.join(copy, "crates.txt"), "w") as crates:
+        crates.writelines([*lines, "jsonb_speed staticlib: jsonb\n"])
+    for name in CRATES:
+        shutil.copytree(os.path.join(TOP, "crates", name), os.path.join(copy, "crates", name), dirs_exist_ok=True)
+    crate = os.path.join(copy, "crates", "jsonb_speed")
+    # No crate of the repository, so that its file has no ending of one: the gate refuses such files outside of crates/.
+    os.makedirs(os.path.join(crate, "src"), exist_ok=True)
+    shutil.copy(os.path.join(HERE, "jsonb_speed.rt.txt"), os.path.join(crate, "src", "lib.rt"))
+    run(["rt", "lib"], crate)
+    return os.path.join(crate, "out", "libjsonb_speed.a")
+
+
+def driver(rust_crate):
+    library = our_library()
+    heap = os.path.join(os.path.dirname(subprocess.check_output(["rt", "doc"], text=True).strip()), "c", "liblibc_c.a")
+    flags = f"-C target-cpu=x86-64-v2 -C link-arg={library} -C link-arg={heap}"
+    words = ["cargo", "build", "--release", "--target-dir", os.path.join(OUT, "cargo")]
+    if rust_crate:
+        words += ["--offline", "--config", f'patch.crates-io.jsonb.path="{os.path.abspath(rust_crate)}"']
+    run(words, os.path.join(HERE, "rust"), env={**os.environ, "RUSTFLAGS": flags})
+    return os.path.join(OUT, "cargo", "release", "speed")
+
+
+def write_cases(chosen):
+    path = os.path.join(OUT, "cases.tsv")
+    with open(path, "w") as file:
+        for case in chosen:
+            parts = [case.argument.encode(), case.other, case.document]
+            file.write("\t".join([case.name, case.call, *(part.hex() for part in parts)]) + "\n")
+    return path
+
+
+# ---- measuring
+
+
+@dataclass
+class Row:
+    name: str
+    rust: float
+    ours: float
+    instructions: float | None
+
+    @property
+    def ratio(self):
+        return self.ours / self.rust
+
+
+def times(program, path, rounds):
+    said = subprocess.check_output([program, path, str(rounds)], text=True)
+    return {name: (float(rust), float(ours)) for name, rust, ours in (line.split("\t") for line in said.splitlines())}
+
+
+def counted(program, path, name, side, calls):
+    words = ["valgrind", "--tool=cachegrind", "--cache-sim=no", "--cachegrind-out-file=/dev/null"]
+    made = subprocess.run([*words, program, path, name, side, str(calls)], capture_output=True, text=True)
+    return int(re.search(r"I\s+refs:\s+([\d,]+)", made.stderr)[1].replace(",", ""))
+
+
+def instructions(program, path, name, side):
+    """Of one call: the difference between runs of few calls and of more."""
+    return (counted(program, path, name, side, 6) - counted(program, path, name, side, 2)) / 4
+
+
+def instruction_ratio(program, path, name):
+    if not shutil.which("valgrind"):
+        return None
+    return instructions(program, path, name, "rattle") / instructions(program, path, name, "rust")
+
+
+def measured(program, path, rounds):
+    for name, (rust, ours) in times(program, path, rounds).items():
+        row = Row(name, rust, ours, instruction_ratio(program, path, name))
+        print(f"{row.ratio:6.2f} {row.instructions or 0:6.2f}  {name}", file=sys.stderr)
+        yield row
+
+
+def nanoseconds(value):
+    return f"{value:,.0f} ns" if value < 10_000 else f"{value / 1000:,.0f} us"
+
+
+def table(rows):
+    lines = ["| Case | Rust | This | Time, this by Rust | Instructions |", "|---|---|---|---|---|"]
+    for row in rows:
+        counts = "" if row.instructions is None else f"{row.instructions:.2f}"
+        lines.append(f"| {row.name} | {nanoseconds(row.rust)} | {nanoseconds(row.ours)} | {row.ratio:.2f} | {counts} |")
+    mean = statistics.geometric_mean(row.ratio for row in rows)
+    slower = sum(row.ratio > 1 for row in rows)
+    return "\n".join([*lines, "", f"Geometric mean of the times: {mean:.2f}. Slower than the Rust: {slower} of {len(rows)}."])
+
+
+def write(text):
+    path = os.path.join(TOP, "docs", "PERFORMANCE.md")
+    page = open(path).read()
+    start, end = "<!-- measured -->\n", "<!-- end of measured -->"
+    before, after = page.split(start)[0], page.split(end)[1]
+    with open(path, "w") as file:
+        file.write(f"{before}{start}\n{text}\n\n{end}{after}")
+
+
+def main():
+    words = argparse.ArgumentParser(description=__doc__, formatter_class=argparse.RawDescriptionHelpFormatter)
+    words.add_argument("--rounds", type=int, default=40)
+    words.add_argument("--only", default="")
+    words.add_argument("--crate")
+    words.add_argument("--write", action="store_true")
+    asked = words.parse_args()
+    os.makedirs(OUT, exist_ok=True)
+    program = driver(asked.crate)
+    path = write_cases([case for case in cases() if asked.only in case.name])
+    text = table(list(measured(program, path, asked.rounds)))
+    write(text) if asked.write else print(text)
+
+
+if __name__ == "__main__":
+    main()
