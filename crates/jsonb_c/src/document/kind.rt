@@ -70,7 +70,8 @@ pub extern "C" fn jsonb_type(document: &[u8], kind: &mut u8) -> u32
 }
 
 fn kind_of(document: &[u8]) -> Result<u8, Error>
-    ensures kind { OfDocument document.now (λ form t answer. IsOkAnd answer (λ number. number ≡ kind_number (tree_kind t))) result }
+    ensures kind { OfDocument document.now
+        (λ form t answer. IsOkAnd answer (λ number. number ≡ kind_number (tree_kind t))) result }
     ensures errors { IfErr result IsDecodingError }
 {
     let kind = match root_item(document)? {

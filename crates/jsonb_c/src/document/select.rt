@@ -36,7 +36,8 @@ fn select_value(
     path: &[u8],
     strict: bool,
 ) -> Result<Option<OwnedJsonb>, Error>
-    ensures value { ByMeaning (mode_of strict) document.now (json_path path.now) (λ form. IsPicked form single_or_array) result }
+    ensures value { ByMeaning (mode_of strict) document.now (json_path path.now)
+        (λ form. IsPicked form single_or_array) result }
     ensures errors { IfErr result (IsDocumentError (mode_of strict)) }
 {
     let steps = parse_json_path(alloc, path)?;
@@ -49,7 +50,8 @@ pub(crate) fn value_by_path<'a>(
     path: &'a JsonPath<'_>,
     strict: bool,
 ) -> Result<Option<OwnedJsonb>, Error>
-    ensures value { ByMeanings (mode_of strict) document.now (path_view path.now) (λ form. IsPicked form single_or_array) result }
+    ensures value { ByMeanings (mode_of strict) document.now (path_view path.now)
+        (λ form. IsPicked form single_or_array) result }
     ensures errors { IfErr result (IsDocumentError (mode_of strict)) }
 {
     selector(alloc, document, strict).select_value(path)
@@ -78,7 +80,8 @@ fn select_first(
     path: &[u8],
     strict: bool,
 ) -> Result<Option<OwnedJsonb>, Error>
-    ensures first { ByMeaning (mode_of strict) document.now (json_path path.now) (λ form. IsPicked form first_item) result }
+    ensures first { ByMeaning (mode_of strict) document.now (json_path path.now)
+        (λ form. IsPicked form first_item) result }
     ensures errors { IfErr result (IsDocumentError (mode_of strict)) }
 {
     let steps = parse_json_path(alloc, path)?;
@@ -91,7 +94,8 @@ pub(crate) fn first_by_path<'a>(
     path: &'a JsonPath<'_>,
     strict: bool,
 ) -> Result<Option<OwnedJsonb>, Error>
-    ensures first { ByMeanings (mode_of strict) document.now (path_view path.now) (λ form. IsPicked form first_item) result }
+    ensures first { ByMeanings (mode_of strict) document.now (path_view path.now)
+        (λ form. IsPicked form first_item) result }
     ensures errors { IfErr result (IsDocumentError (mode_of strict)) }
 {
     selector(alloc, document, strict).select_first(path)
