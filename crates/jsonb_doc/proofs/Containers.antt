@@ -99,14 +99,10 @@ HasKeys-unique words bytes a b x y = go x.0 y.0 words bytes x.1 y.1 x.2 y.2 x.3 
 container_cases : (number_at : NumberReader) (bytes : List ℕ) → HasContent 5 bytes number_at
     → ((ts : Trees) × FormatContainer 4 (count ts) (AreEntries number_at ts) bytes)
     ⊎ ((ps : Pairs) × FormatContainer 2 (length (keys ps)) (AreMembers (keys ps) (AreValues number_at ps)) bytes)
-container_cases number_at bytes (null, h) = absurd (omega arith)
-container_cases number_at bytes (boolean true, h) = absurd (omega arith)
-container_cases number_at bytes (boolean false, h) = absurd (omega arith)
-container_cases number_at bytes (number n, h) = absurd (omega arith)
-container_cases number_at bytes (text s, h) = absurd (omega arith)
-container_cases number_at bytes (extension x, h) = absurd (omega arith)
 container_cases number_at bytes (array ts, h) = inl (ts, h.1)
 container_cases number_at bytes (object ps, h) = inr (ps, h.1)
+container_cases number_at bytes (boolean true, h) = absurd (omega arith)
+container_cases number_at bytes (_, h) = absurd (omega arith)
 
 pub HasContent-headed : (number_at : NumberReader) (bytes : List ℕ) → HasContent 5 bytes number_at
     → (kind entries : ℕ) × (rest : List ℕ) × HeadedBy bytes kind entries rest
@@ -516,7 +512,8 @@ module _ (bytes : List ℕ) where
         let len = length-words number_at ts p.value_words.now rest entries in
         let same : length ks ≡ count ts = omega (arith, len, cut.2, cut.3, ap length words, length-key_words ks) in
         let (ps, same_ks, are_values) = values_of number_at ks ts p.value_words.now rest same entries in
-        let held : HasPairParts number_at ps p = record { rest = rest; are_keys = rw same_ks are; words = rw same_ks words; bytes = rw same_ks joined; values = are_values } in
+        let held : HasPairParts number_at ps p = record
+        { rest = rest; are_keys = rw same_ks are; words = rw same_ks words; bytes = rw same_ks joined; values = are_values } in
         (object ps, object_document number_at ps bytes ((IsCut-same bytes (Object p) cut number_at (object ps)).1 held))
 
     pub HasContent-object : (rest : List ℕ) → HasKeys p.key_words.now p.contents.now rest → (number_at : NumberReader)

@@ -4,12 +4,11 @@ use Rattle.std.proofs.lemmas.List.{length-append}
 use Rattle.jsonb_doc.specs.Bytes.{AreBytes}
 use Rattle.jsonb_doc.specs.Tree.{Tree, null, boolean, number, text, extension, array, object, Trees, no_trees, tree, Pairs, no_pairs, pair, count, keys, values}
 use Rattle.jsonb_doc.specs.Payload.{Form, canonical, number_of}
-use Rattle.jsonb_doc.specs.Format.{header, HeadedBy, AreKeys, key_words, key_bytes, IsContent, AreEntries, AreValues, IsDocument, Decodes}
-use Rattle.jsonb_doc.specs.Canonical.{content, words, contents, value_words, value_contents}
+use Rattle.jsonb_doc.specs.Format.{header, BeginWith, HeadedBy, AreKeys, key_bytes, IsContent, AreEntries, AreValues, IsDocument, Decodes}
+use Rattle.jsonb_doc.specs.Canonical.{content, contents, value_contents}
 use Rattle.jsonb_doc.specs.Limits.{IsInRange, AreInRange, ValuesAreInRange, HasShortParts, HasShortElements, HasShortValues, AreShortKeys, IsWithinLimits, Fits}
 use Rattle.jsonb_doc.proofs.CanonicalLemmas.{in_any}
-use Rattle.jsonb_doc.proofs.Containers.{length-words, entries_of, count-values, length-key_words}
-use Rattle.jsonb_doc.proofs.Sizes.{extension_size, length-canonical_words, length-value_words}
+use Rattle.jsonb_doc.proofs.Sizes.{extension_size, length-array, length-object, length-canonical_array, length-canonical_object, length-contents}
 use Rattle.jsonb_doc.proofs.PayloadsRead.{AreBytes-left, AreBytes-right, number_within, extension_within}
 
 -- the parts of bytes are bytes
@@ -50,6 +49,12 @@ mutual
       let rest = joined_bytes cs e.content e.other_contents e.begin.contents_joined all in
       (content_in_range t e.kind e.content rest.0 e.part, values_in_range ps e.other_words e.other_contents rest.1 e.others)
 
+first_is_shortest : (words contents : List ℕ) (kind : ℕ) (content other_words other_contents : List ℕ)
+    → BeginWith words contents kind content other_words other_contents → (one others : List ℕ) → length one ≤ length content
+    → length others ≤ length other_contents → length (one ++ others) ≤ length contents
+first_is_shortest words contents kind content other_words other_contents b one others e f =
+    omega (arith, length-contents words contents kind content other_words other_contents b, e, f, length-append one others)
+
 mutual
   -- no content is shorter than the canonical one
   canonical_is_shortest : (t : Tree) (kind : ℕ) (bytes : List ℕ) → AreBytes bytes → IsContent number_of t kind bytes → length (content t) ≤ length bytes
@@ -60,41 +65,15 @@ mutual
   canonical_is_shortest (extension x) kind bytes all h = omega (arith, extension_size bytes x h.1)
   canonical_is_shortest (array ts) kind bytes all (is, c) =
       let inner = headed_bytes bytes 4 (count ts) c.words c.contents c.headed all in
-      omega (
-        arith,
-        ap length c.headed.joined,
-        length-append c.words c.contents,
-        length-append (words ts)
-            (contents ts),
-        length-words number_of ts c.words c.contents c.parts,
-        length-canonical_words ts,
-        entries_are_shortest ts c.words c.contents inner c.parts,
-      )
+      omega (arith, length-array number_of bytes ts c, length-canonical_array ts, entries_are_shortest ts c.words c.contents inner c.parts)
   canonical_is_shortest (object ps) kind bytes all (is, c) =
       let m = c.parts in
       let inner = headed_bytes bytes 2 (length (keys ps)) c.words c.contents c.headed all in
       let rest = joined_bytes c.contents (key_bytes (keys ps)) m.value_contents m.contents_joined inner in
-      let entries = entries_of number_of ps m.value_words m.value_contents m.values in
       omega (
         arith,
-        ap length c.headed.joined,
-        length-append c.words c.contents,
-        ap length m.words_joined,
-        length-append
-            (key_words (keys ps)) m.value_words,
-        ap length m.contents_joined,
-        length-append (key_bytes (keys ps)) m.value_contents,
-        length-key_words
-            (keys ps),
-        length-words number_of (values ps) m.value_words m.value_contents entries,
-        count-values ps,
-        length-append
-            (key_words (keys ps) ++ value_words ps) (key_bytes (keys ps) ++ value_contents ps),
-        length-append (key_words (keys ps))
-            (value_words ps),
-        length-append (key_bytes (keys ps))
-            (value_contents ps),
-        length-value_words ps,
+        length-object number_of bytes ps c,
+        length-canonical_object ps,
         values_are_shortest ps m.value_words m.value_contents rest.1 m.values,
       )
 
@@ -102,29 +81,15 @@ mutual
   entries_are_shortest no_trees ws cs all h = omega arith
   entries_are_shortest (tree t ts) ws cs all e =
       let rest = joined_bytes cs e.content e.other_contents e.begin.contents_joined all in
-      omega (
-        arith,
-        ap length e.begin.contents_joined,
-        length-append e.content e.other_contents,
-        length-append (content t)
-            (contents ts),
-        canonical_is_shortest t e.kind e.content rest.0 e.part,
-        entries_are_shortest ts e.other_words e.other_contents rest.1 e.others,
-      )
+      first_is_shortest _ _ _ _ _ _ e.begin (content t) (contents ts) (canonical_is_shortest t e.kind e.content rest.0 e.part)
+      (entries_are_shortest ts e.other_words e.other_contents rest.1 e.others)
 
   values_are_shortest : (ps : Pairs) (ws cs : List ℕ) → AreBytes cs → AreValues number_of ps ws cs → length (value_contents ps) ≤ length cs
   values_are_shortest no_pairs ws cs all h = omega arith
   values_are_shortest (pair key t ps) ws cs all e =
       let rest = joined_bytes cs e.content e.other_contents e.begin.contents_joined all in
-      omega (
-        arith,
-        ap length e.begin.contents_joined,
-        length-append e.content e.other_contents,
-        length-append (content t)
-            (value_contents ps),
-        canonical_is_shortest t e.kind e.content rest.0 e.part,
-        values_are_shortest ps e.other_words e.other_contents rest.1 e.others,
-      )
+      first_is_shortest _ _ _ _ _ _ e.begin (content t) (value_contents ps) (canonical_is_shortest t e.kind e.content rest.0 e.part)
+      (values_are_shortest ps e.other_words e.other_contents rest.1 e.others)
 
 short_keys : (ks : List (List ℕ)) → AreKeys ks → AreShortKeys ks
 short_keys [] h = tt
@@ -142,10 +107,7 @@ mutual
       let rest = joined_bytes c.contents (key_bytes (keys ps)) m.value_contents m.contents_joined inner in
       (c.headed.fits, short_keys (keys ps) m.are_keys, values_are_short ps m.value_words m.value_contents rest.1 m.values)
   content_is_short null kind bytes all h = tt
-  content_is_short (boolean b) kind bytes all h = tt
-  content_is_short (number n) kind bytes all h = tt
-  content_is_short (text s) kind bytes all h = tt
-  content_is_short (extension x) kind bytes all h = tt
+  content_is_short _ kind bytes all h = tt
 
   entries_are_short : (ts : Trees) (ws cs : List ℕ) → AreBytes cs → AreEntries number_of ts ws cs → HasShortElements canonical ts
   entries_are_short no_trees ws cs all h = tt
@@ -179,12 +141,8 @@ within_limits (object ps) kind bytes all short h = content_is_short (object ps) 
 root_within_limits : (t : Tree) (bytes : List ℕ) → AreBytes bytes → IsContent number_of t 5 bytes → IsWithinLimits canonical t
 root_within_limits (array ts) bytes all h = content_is_short (array ts) 5 bytes all h
 root_within_limits (object ps) bytes all h = content_is_short (object ps) 5 bytes all h
-root_within_limits null bytes all h = absurd (omega (arith, h.0))
 root_within_limits (boolean true) bytes all h = absurd (omega (arith, h.0))
-root_within_limits (boolean false) bytes all h = absurd (omega (arith, h.0))
-root_within_limits (number n) bytes all h = absurd (omega (arith, h.0))
-root_within_limits (text s) bytes all h = absurd (omega (arith, h.0))
-root_within_limits (extension x) bytes all h = absurd (omega (arith, h.0))
+root_within_limits _ bytes all h = absurd (omega (arith, h.0))
 
 document_fits : (t : Tree) (bytes : List ℕ) → AreBytes bytes → IsDocument number_of t bytes → Fits t
 document_fits t bytes all (inl h) = (content_in_range t 5 bytes all h, root_within_limits t bytes all h)

@@ -38,7 +38,8 @@ module _ {P : ℕ → List ℕ → Type 0} {Q : List ℕ → List ℕ → Type 0
     (b : BeginWith words contents kind content ws cs) where
   Entry-split : HasFirstEntry P Q words contents → P kind content × Q ws cs
   Entry-split e =
-      let (same_kind, same_content, same_words, same_contents) = BeginWith-unique words contents kind e.kind content e.content ws e.other_words cs e.other_contents b e.begin in
+      let (same_kind, same_content, same_words, same_contents) = BeginWith-unique words contents kind e.kind content e.content ws e.other_words cs
+      e.other_contents b e.begin in
       rw (same_kind, same_content, same_words, same_contents) (e.part, e.others)
 
   Entry-join : P kind content → Q ws cs → HasFirstEntry P Q words contents
@@ -47,14 +48,8 @@ module _ {P : ℕ → List ℕ → Type 0} {Q : List ℕ → List ℕ → Type 0
 
 module _ (number_at : NumberReader) where
   pub kind_below : (t : Tree) (kind : ℕ) (bytes : List ℕ) → IsContent number_at t kind bytes → kind < 7
-  kind_below null kind bytes h = omega arith
   kind_below (boolean true) kind bytes h = omega arith
-  kind_below (boolean false) kind bytes h = omega arith
-  kind_below (number n) kind bytes h = omega arith
-  kind_below (text s) kind bytes h = omega arith
-  kind_below (extension x) kind bytes h = omega arith
-  kind_below (array ts) kind bytes h = omega arith
-  kind_below (object ps) kind bytes h = omega arith
+  kind_below _ kind bytes h = omega arith
 
   pub HasEntries-nil : (words contents : List ℕ) → words ≡ [] → contents ≡ [] → HasEntries words contents number_at
   HasEntries-nil words contents e f = (no_trees, (e, f))

@@ -1,13 +1,16 @@
 -- Equality of values part by part.
-use Rattle.std.proofs.Common.{◌≡◌, ℕ, zero, suc, ◌*◌, ◌^◌, ◌≤◌, ℤ, pos, negsuc, refl, sym, ap, ◌∙◌, arith, Equal}
+use Rattle.std.proofs.Common.{◌≡◌, ℕ, zero, suc, ◌*◌, ◌^◌, ◌≤◌, ℤ, pos, negsuc, ◌*ℤ◌, refl, sym, ap, ◌∙◌, arith, Equal}
 use Rattle.std.specs.Ordering.{eq_by_cmp, is_eq, int_cmp, int_eq}
 use native.Mathlib.Nat.{one-le-pow}
 use Rattle.std.proofs.lemmas.Cmp.{tied_itself, alike_right}
-use Rattle.jsonb_doc.specs.Number.{Variant, decimal64, number_cmp, number_from}
+use Rattle.jsonb_doc.specs.Number.{Variant, int64, uint64, decimal64, number_cmp, number_from}
 use Rattle.jsonb_doc.specs.Number.{Number as Number'}
 use Rattle.jsonb_doc.specs.Proofs.NumberOrder.{number_cmp_total, int_cmp_scaled}
+use Rattle.jsonb_doc.specs.Short.{short_value, short_parts}
 use Rattle.jsonb_doc.specs.View.{number_parts, number_view}
 use Rattle.jsonb_doc.specs.declared.number.Number.{Number}
+use Rattle.jsonb_doc.specs.declared.short_number.ShortNumber.{ShortNumber}
+use Rattle.jsonb_doc.specs.declared.short_number.ShortNumber.TheVariants.{Unsigned, Signed, Decimal}
 
 -- a number of these parts has their value, whichever zero it is
 same_value : (variant : Variant) (whole : ℤ) (scale : ℕ)
@@ -29,6 +32,22 @@ decimals_tied a b scale =
     ∙ sym (number_cmp_total.congr (number_from decimal64 a scale) m (number_from decimal64 b scale) (same_value decimal64 a scale)
     ∙ alike_right number_cmp_total (number_from decimal64 b scale) n m (same_value decimal64 b scale))
     )
+
+-- numbers whose digits are stored in at most 64 bits compare as their parts do
+short_cmp : (m n : ShortNumber) → number_cmp (short_value m) (short_value n) ≡ number_cmp (short_parts m) (short_parts n)
+short_cmp m n =
+    number_cmp_total.congr (short_value m) (short_parts m) (short_value n) (same m)
+    ∙ alike_right number_cmp_total (short_value n) (short_parts n) (short_parts m) (same n)
+  where
+    same : (n : ShortNumber) → number_cmp (short_value n) (short_parts n) ≡ Equal
+    same (Unsigned n) = same_value uint64 (pos n) 0
+    same (Signed z) = same_value int64 z 0
+    same (Decimal z scale) = same_value decimal64 z scale
+
+pub short_tied : (m n : ShortNumber)
+    → is_eq (int_cmp ((short_parts m).whole *ℤ pos (10 ^ (short_parts n).scale)) ((short_parts n).whole *ℤ pos (10 ^ (short_parts m).scale)))
+    ≡ eq_by_cmp number_cmp (short_value m) (short_value n)
+short_tied m n = ap is_eq (sym (short_cmp m n))
 
 -- numbers compare as those of their trees do
 pub number_cmp-number_view : (m n : Number) → number_cmp (number_view m) (number_view n) ≡ number_cmp (number_parts m) (number_parts n)

@@ -24,14 +24,10 @@ array_too_large-more form ts us large =
 
 -- a tree that has its place in a container is within the limits
 short_part : (form : Form) (t : Tree) → IsShort form t → HasShortParts form t → IsWithinLimits form t
-short_part form null short parts = short
 short_part form (boolean true) short parts = short
-short_part form (boolean false) short parts = short
-short_part form (number n) short parts = short
-short_part form (text s) short parts = short
-short_part form (extension x) short parts = short
 short_part form (array ts) short parts = parts
 short_part form (object ps) short parts = parts
+short_part form _ short parts = short
 
 short_middle : (form : Form) (ts us : List Tree) (t : Tree) → HasShortElements form (trees_of (ts ++ t ∷ us)) → IsWithinLimits form t
 short_middle form [] us t h = short_part form t h.0 h.1

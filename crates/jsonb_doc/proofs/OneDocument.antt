@@ -60,24 +60,16 @@ mutual
 
 -- the document of a tree that is no container
 document_of_scalar : (t : Tree) (kind : ℕ) (bytes : List ℕ) → (kind ≡ 5 → ⊥) → IsContent (number_reader canonical) t kind bytes → scalar_document t ≡ document t
-document_of_scalar null kind bytes other h = refl
-document_of_scalar (boolean b) kind bytes other h = refl
-document_of_scalar (number n) kind bytes other h = refl
-document_of_scalar (text s) kind bytes other h = refl
-document_of_scalar (extension x) kind bytes other h = refl
 document_of_scalar (array ts) kind bytes other h = absurd (other h.0)
 document_of_scalar (object ps) kind bytes other h = absurd (other h.0)
+document_of_scalar _ kind bytes other h = refl
 
 -- the document of a container
 document_of_container : (t : Tree) (bytes : List ℕ) → IsContent (number_reader canonical) t 5 bytes → content t ≡ document t
 document_of_container (array ts) bytes h = refl
 document_of_container (object ps) bytes h = refl
-document_of_container null bytes h = absurd (omega (arith, h.0))
 document_of_container (boolean true) bytes h = absurd (omega (arith, h.0))
-document_of_container (boolean false) bytes h = absurd (omega (arith, h.0))
-document_of_container (number n) bytes h = absurd (omega (arith, h.0))
-document_of_container (text s) bytes h = absurd (omega (arith, h.0))
-document_of_container (extension x) bytes h = absurd (omega (arith, h.0))
+document_of_container _ bytes h = absurd (omega (arith, h.0))
 
 canonical_bytes : (bytes : List ℕ) (t : Tree) → AreBytes bytes → IsDocument (number_reader canonical) t bytes → bytes ≡ document t
 canonical_bytes bytes t all (inl h) =

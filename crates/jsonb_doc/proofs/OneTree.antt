@@ -106,7 +106,8 @@ module _ (number_at : NumberReader) where
     entries_unique (tree t ts) no_trees words contents h g =
         absurd (omega (arith, ap length g.0, BeginWith-long words contents h.kind h.content h.other_words h.other_contents h.begin))
     entries_unique (tree t ts) (tree t' ts') words contents h g =
-        let (same_kind, same_content, same_words, same_contents) = BeginWith-unique words contents h.kind g.kind h.content g.content h.other_words g.other_words h.other_contents g.other_contents h.begin g.begin in
+        let (same_kind, same_content, same_words, same_contents) = BeginWith-unique words contents h.kind g.kind h.content g.content h.other_words
+        g.other_words h.other_contents g.other_contents h.begin g.begin in
         let first : t ≡ t' = content_unique t t' h.kind h.content h.part (rw (same_kind, same_content) g.part) in
         let others : ts ≡ ts' = entries_unique ts ts' h.other_words h.other_contents h.others (rw (same_words, same_contents) g.others) in
         cc
@@ -117,7 +118,8 @@ module _ (number_at : NumberReader) where
     values_unique no_pairs (pair k t ps) same words contents h g = absurd (omega (arith, ap length same))
     values_unique (pair k t ps) no_pairs same words contents h g = absurd (omega (arith, ap length same))
     values_unique (pair k t ps) (pair k' t' ps') same words contents h g =
-        let (same_kind, same_content, same_words, same_contents) = BeginWith-unique words contents h.kind g.kind h.content g.content h.other_words g.other_words h.other_contents g.other_contents h.begin g.begin in
+        let (same_kind, same_content, same_words, same_contents) = BeginWith-unique words contents h.kind g.kind h.content g.content h.other_words
+        g.other_words h.other_contents g.other_contents h.begin g.begin in
         let first : t ≡ t' = content_unique t t' h.kind h.content h.part (rw (same_kind, same_content) g.part) in
         let key : k ≡ k' = cc same in
         let other_keys : keys ps ≡ keys ps' = cc same in

@@ -21,11 +21,7 @@ use Rattle.jsonb_doc.proofs.Containers.{HasContent-headed, IsCut-same}
 pub item_headed : (content : List ℕ) (item : Item) → IsItemOf 5 content item → (kind entries : ℕ) × (rest : List ℕ) × HeadedBy content kind entries rest
 item_headed content (Array bytes) h = (4, h.2.0, h.2.1, h.2.2)
 item_headed content (Object bytes) h = (2, h.2.0, h.2.1, h.2.2)
-item_headed content Null h = HasContent-headed (number_reader any) content (h.0, h.1)
-item_headed content (Boolean b) h = HasContent-headed (number_reader any) content (h.0, h.1)
-item_headed content (Number n) h = HasContent-headed (number_reader any) content (h.0, h.1)
-item_headed content (String s) h = HasContent-headed (number_reader any) content (h.0, h.1)
-item_headed content (Extension x) h = HasContent-headed (number_reader any) content (h.0, h.1)
+item_headed content _ h = HasContent-headed (number_reader any) content (h.0, h.1)
 
 module _ (bytes : List ℕ) where
   -- the entry of a scalar root is no container, so that its item is all of the document
@@ -35,11 +31,7 @@ module _ (bytes : List ℕ) where
   scalar_root : (e : StoredEntry) → IsCut bytes (Scalar e) → (item : Item) → IsItemOf e.kind e.content.now item → IsRootOf bytes item
   scalar_root e cut (Array own) h = absurd (cut.2.scalar h.0)
   scalar_root e cut (Object own) h = absurd (cut.2.scalar h.0)
-  scalar_root e cut Null h = (h.0, scalar_decodes e cut h.0 h.1, h.2)
-  scalar_root e cut (Boolean b) h = (h.0, scalar_decodes e cut h.0 h.1, h.2)
-  scalar_root e cut (Number n) h = (h.0, scalar_decodes e cut h.0 h.1, h.2)
-  scalar_root e cut (String s) h = (h.0, scalar_decodes e cut h.0 h.1, h.2)
-  scalar_root e cut (Extension x) h = (h.0, scalar_decodes e cut h.0 h.1, h.2)
+  scalar_root e cut _ h = (h.0, scalar_decodes e cut h.0 h.1, h.2)
 
   pub scalar_read : (e : StoredEntry) → IsCut bytes (Scalar e) → (Q : Error → Type 0) → (r : Result Item Error)
       → MatchResult r (IsItemOf e.kind e.content.now) Q → IfOk r (IsRootOf bytes)

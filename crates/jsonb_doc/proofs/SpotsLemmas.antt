@@ -111,7 +111,8 @@ first_part : (number_at : NumberReader) (t : Tree) (ts : Trees) (words contents 
     → BeginWith words contents kind content ws cs → AreEntries number_at (tree t ts) words contents
     → IsContent number_at t kind content × AreEntries number_at ts ws cs
 first_part number_at t ts words contents kind content ws cs b e =
-    let (same_kind, same_content, same_words, same_contents) = BeginWith-unique words contents kind e.kind content e.content ws e.other_words cs e.other_contents b e.begin in
+    let (same_kind, same_content, same_words, same_contents) = BeginWith-unique words contents kind e.kind content e.content ws e.other_words cs
+    e.other_contents b e.begin in
     rw (same_kind, same_content, same_words, same_contents) (e.part, e.others)
 
 module _ (bytes : List ℕ) (it : SpotIter) where
@@ -230,11 +231,7 @@ module _ (bytes : List ℕ) (parent : Spot) (t : Tree) (m : Locates bytes parent
       go : (u : Tree) → IsContent number_of u parent.kind (spot_content bytes parent) → (children_of u ≡ None) × ((name : List ℕ) → field_of name u ≡ None)
       go (array ts) h = absurd (scalar h.0)
       go (object ps) h = absurd (scalar h.0)
-      go null h = (refl, λ name. refl)
-      go (boolean b) h = (refl, λ name. refl)
-      go (number n) h = (refl, λ name. refl)
-      go (text s) h = (refl, λ name. refl)
-      go (extension x) h = (refl, λ name. refl)
+      go _ h = (refl, λ name. refl)
 
 pub no_children : (bytes : List ℕ) (t : Tree) → children_of t ≡ None → SameOption (HasSpotsLeft bytes) None (children_of t)
 no_children bytes t none = rw none tt

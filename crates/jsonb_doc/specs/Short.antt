@@ -9,3 +9,9 @@ abbrev pub short_value : ShortNumber → Number
 short_value (Unsigned n) = number_from uint64 (pos n) 0
 short_value (Signed z) = number_from int64 z 0
 short_value (Decimal z scale) = number_from decimal64 z scale
+
+-- its parts, whichever zero it is
+abbrev pub short_parts : ShortNumber → Number
+short_parts (Unsigned n) = record { variant = uint64; whole = pos n; scale = 0 }
+short_parts (Signed z) = record { variant = int64; whole = z; scale = 0 }
+short_parts (Decimal z scale) = record { variant = decimal64; whole = z; scale = scale }

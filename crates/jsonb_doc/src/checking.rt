@@ -13,11 +13,17 @@ use crate::layout::{CONTAINER, EXTENSION, FALSE, NULL, NUMBER, TEXT, TRUE, split
 use crate::number::Number;
 use std::cmp::Ordering;
 
-/// Reads a whole document, and answers whether the bytes decode. It takes no memory.
+/// Reads a whole document, and answers whether the bytes decode. What decodes is said by the README of the format and
+/// by this project's profile, both in docs/FORMAT.md.
 ///
-/// Bytes that don't decode are refused: as `UnsupportedNumber` where they would decode if each float and each decimal of
-/// 256 bits were a number, and as `InvalidJsonb` where they would not even then. What decodes is said by the README of the
-/// format and by this project's profile, both in docs/FORMAT.md.
+/// # Errors
+///
+/// Exactly where the bytes don't decode: `UnsupportedNumber` where they would decode if each float and each decimal
+/// of 256 bits were a number, and else `InvalidJsonb`.
+///
+/// # Cost
+///
+/// Linear in the bytes, without memory. Calls nest no deeper than the length can be halved.
 pub fn check(bytes: &[u8]) -> Result<(), Error>
     ensures ok { IsOk result ↔ ((t : Tree) × Decodes any bytes.now t) }
     ensures unsupported { IsErrOf result Error.UnsupportedNumber
@@ -86,8 +92,8 @@ fn check_empty(content: &[u8]) -> Result<(), Error>
 
 /// The content of a container decodes.
 ///
-/// It goes into a part that is longer than half of all by this loop, and into the others by a call. So calls nest no deeper
-/// than the length can be halved.
+/// It goes into a part that is longer than half of all by this loop, and into the others by a call. So calls nest no
+/// deeper than the length can be halved.
 #[cycle(check)]
 fn check_container(bytes: &[u8]) -> Result<(), Error>
     ensures { Validates (HasContent 5 bytes.now) result }

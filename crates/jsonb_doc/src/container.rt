@@ -14,15 +14,20 @@ use crate::lengths::{skip_contents, split_entry_word};
 /// The entry words of an array, and their contents.
 #[derive(Clone, Copy)]
 pub struct ArrayParts<'a> {
+    /// The entry words of the elements.
     pub words: &'a [u8],
+    /// The contents of the elements, one behind the other.
     pub contents: &'a [u8],
 }
 
 /// The entry words of an object's keys and of its values, and their contents, the keys before the values.
 #[derive(Clone, Copy)]
 pub struct ObjectParts<'a> {
+    /// The entry words of the keys.
     pub key_words: &'a [u8],
+    /// The entry words of the values.
     pub value_words: &'a [u8],
+    /// The keys, one behind the other, and then the contents of the values.
     pub contents: &'a [u8],
 }
 
@@ -32,6 +37,14 @@ impl<'a> ObjectParts<'a> {
     ghost use Rattle.jsonb_doc.specs.Answer.{IsDecodingError};
 
     /// The contents of the values, which are behind those of the keys.
+    ///
+    /// # Errors
+    ///
+    /// `InvalidJsonb` or `UnsupportedNumber`, only where the key words tell more bytes than there are.
+    ///
+    /// # Cost
+    ///
+    /// Linear in the count of keys, without memory.
     pub fn value_contents(&self) -> Result<&'a [u8], Error>
         requires { length self.now.key_words.now < 2 ^ 32 }
         ensures contents { (parts : List (List ℕ)) (rest : List ℕ)
@@ -51,11 +64,21 @@ impl<'a> ObjectParts<'a> {
 pub enum Container<'a> {
     /// The one entry of a root that is no container.
     Scalar(StoredEntry<'a>),
+    /// An array.
     Array(ArrayParts<'a>),
+    /// An object.
     Object(ObjectParts<'a>),
 }
 
-/// The parts of a document or a container. Bytes that no header and its count fit are `InvalidJsonb`.
+/// The parts of a document or a container.
+///
+/// # Errors
+///
+/// `InvalidJsonb` for bytes that no header and its count fit.
+///
+/// # Cost
+///
+/// Constant, without memory.
 pub fn read_container(bytes: &[u8]) -> Result<Container<'_>, Error>
     ensures cut { MatchResult result (IsCut bytes.now)
         (λ e. (e ≡ Error.InvalidJsonb)

@@ -20,10 +20,11 @@ pub enum ArithmeticFault {
     DecimalOperand,
 }
 
-/// Why a call has no answer. Its text is its name, with the fault of an `Arithmetic` in parentheses: `Arithmetic(Overflow)`.
+/// Why a call has no answer. Its text is its name, with the fault of an `Arithmetic` in parentheses:
+/// `Arithmetic(Overflow)`.
 #[derive(Clone, Copy, Debug, PartialEq, Eq)]
 pub enum Error {
-    /// The bytes don't decode, for another cause than an unsupported number alone.
+    /// The bytes don't decode, for another cause than unsupported numbers alone.
     InvalidJsonb,
     /// A float or a decimal of 256 bits was read.
     UnsupportedNumber,
@@ -31,19 +32,19 @@ pub enum Error {
     InvalidJsonPath,
     /// A key path's text is outside the grammar.
     InvalidKeyPath,
-    /// The value can't be cast so.
+    /// The value has no such form.
     InvalidCast,
-    /// An object is needed.
+    /// The root is no object, and the call needs one.
     InvalidObject,
-    /// Another kind is needed.
+    /// The root has no parts of the kind that is to be deleted.
     InvalidJsonType,
     /// The object has the key.
     ObjectDuplicateKey,
     /// An operation on numbers has no result.
     Arithmetic(ArithmeticFault),
-    /// A count or a length passes the limits of the format.
+    /// A count or a length passes the limits of the format: 2^29 - 1 elements or pairs, 2^28 - 1 bytes.
     TooLarge,
-    /// An item lies too deep for a sortable key.
+    /// An item lies too deep for a sortable key, or past the limit of `check_depth`.
     TooDeep,
     /// A growth was refused: there is no memory for it.
     OutOfMemory,

@@ -52,6 +52,7 @@ pub fn entry_behind<'w, 'c>(
 }
 
 /// The kind and the length that the first entry word tells, and the words after it.
+#[inline(always)]
 pub fn split_entry_word(words: &[u8]) -> Option<(u32, usize, &[u8])>
     ensures word { MatchOption result
         ((kind len : ℕ) (others : List ℕ) → StartWith words.now kind len others → ⊥)

@@ -13,10 +13,17 @@ use crate::container::{Container, read_container};
 use crate::error::Error;
 use crate::layout::{CONTAINER, split_entry};
 
-/// How deep the deepest item of a document lies, where the root lies at 0 and the elements and values of a container one deeper
-/// than it. So a scalar and an empty container have depth 0, `[1]` and `{"a":[]}` have 1. It takes no memory.
+/// How deep the deepest item of a document lies, where the root lies at 0 and the elements and values of a container
+/// one deeper than it. So a scalar and an empty container have depth 0, `[1]` and `{"a":[]}` have 1.
 ///
-/// Bytes that don't decode are refused, as `check` refuses them. The cost is that of `check` and a second look at the entry words.
+/// # Errors
+///
+/// Those of `check`, exactly where the bytes don't decode.
+///
+/// # Cost
+///
+/// That of `check` and a second look at the entry words: linear in the bytes, without memory. Calls nest no deeper
+/// than the length can be halved.
 pub fn depth(bytes: &[u8]) -> Result<usize, Error>
     ensures depth { (form : Form) (t : Tree) → Decodes form bytes.now t → result ≡ Ok (deepest t) }
     ensures ok { IsOk result ↔ ((t : Tree) × Decodes any bytes.now t) }
@@ -28,9 +35,16 @@ pub fn depth(bytes: &[u8]) -> Result<usize, Error>
     Ok(document_depth(bytes))
 }
 
-/// Whether the bytes decode and no item lies deeper than the limit, as `depth` counts. It takes no memory.
+/// Whether the bytes decode and no item lies deeper than the limit, as `depth` counts.
 ///
-/// A document with a deeper item is `TooDeep`. Bytes that don't decode are refused, as `check` refuses them.
+/// # Errors
+///
+/// Those of `check`, exactly where the bytes don't decode, and `TooDeep` exactly where they do and an item lies
+/// deeper.
+///
+/// # Cost
+///
+/// That of `depth`.
 pub fn check_depth(bytes: &[u8], limit: usize) -> Result<(), Error>
     ensures ok { IsOk result ↔ ((t : Tree) × Decodes any bytes.now t × (deepest t ≤ limit)) }
     ensures too_deep { IsErrOf result Error.TooDeep ↔ ((t : Tree) × Decodes any bytes.now t × (limit < deepest t)) }
@@ -47,8 +61,8 @@ pub fn check_depth(bytes: &[u8], limit: usize) -> Result<(), Error>
 
 /// The same of a document. Other bytes have any depth.
 ///
-/// It goes into a container that is longer than half of its own by this loop, and into the others by a call. So calls nest no
-/// deeper than the length can be halved.
+/// It goes into a container that is longer than half of its own by this loop, and into the others by a call. So calls
+/// nest no deeper than the length can be halved.
 #[cycle(depth)]
 fn document_depth(bytes: &[u8]) -> usize
     ensures depth { (form : Form) (t : Tree) → Decodes form bytes.now t → result ≡ deepest t }
@@ -72,7 +86,8 @@ fn document_depth(bytes: &[u8]) -> usize
 /// The entry words and the contents of an array's elements or of an object's values.
 fn split_parts(bytes: &[u8]) -> Option<(&[u8], &[u8])>
     ensures parts { (form : Form) (t : Tree) → Decodes form bytes.now t
-        → MatchOption result (parts_of t ≡ no_trees) (λ r. AreEntries (number_reader form) (parts_of t) r.0.now r.1.now) }
+        → MatchOption result (parts_of t ≡ no_trees)
+        (λ r. AreEntries (number_reader form) (parts_of t) r.0.now r.1.now) }
     ensures room { IfSome result (λ r. 4 + length r.1.now ≤ length bytes.now) }
 {
     let Ok(container) = read_container(bytes) else {

@@ -1,10 +1,10 @@
 //! How numbers and extension values are written.
-ghost use Rattle.std.specs.Prelude.{◌≡◌, ◌≤◌, ◌++◌, [], ◌∷◌, length, pos, OnOk, OnErr};
-ghost use Rattle.std.specs.Int.{w32, w64, w128};
+ghost use Rattle.std.specs.Prelude.{◌≡◌, ◌≤◌, ◌++◌, [], ◌∷◌, length, OnOk, OnErr};
+ghost use Rattle.std.specs.Int.{w32, w64};
 ghost use Rattle.byteorder.specs.Endian.{big_bytes};
-ghost use Rattle.jsonb_doc.specs.Number.{int64, uint64, decimal64, decimal128, number_from, FitsNumber};
+ghost use Rattle.jsonb_doc.specs.Number.{FitsNumber};
 ghost use Rattle.jsonb_doc.specs.Extension.{binary, date, timestamp, timestamp_tz, interval, FitsExtension};
-ghost use Rattle.jsonb_doc.specs.Payload.{fixed_bytes, unsigned_width, signed_size, number_payload_of, number_payload, extension_payload};
+ghost use Rattle.jsonb_doc.specs.Payload.{fixed_bytes, unsigned_width, signed_size, signed_bytes, number_payload, extension_payload};
 ghost use Rattle.jsonb_doc.specs.Encoding.{StaysInFront};
 ghost use Rattle.jsonb_doc.specs.View.{number_view, extension_view};
 
@@ -42,51 +42,18 @@ fn signed_size_of(value: i64) -> u64
     }
 }
 
-/// How many bytes the payload of an `Int64` has.
-fn int64_len(value: i64) -> usize
-    ensures { result ≡ length (number_payload_of int64 value 0) }
-{
-    if value == 0 {
-        1
-    } else {
-        1 + unsigned_width_of(signed_size_of(value))
-    }
-}
-
-/// How many bytes the payload of a `UInt64` has.
-fn uint64_len(value: u64) -> usize
-    ensures { result ≡ length (number_payload_of uint64 (pos value) 0) }
-{
-    if value == 0 {
-        1
-    } else {
-        1 + unsigned_width_of(value)
-    }
-}
-
-/// How many bytes the payload of a `Decimal64` has.
-fn decimal64_len(value: i64, scale: u8) -> usize
-    ensures { result ≡ length (number_payload_of decimal64 value scale) }
-{
-    if value == 0 { 1 } else { 1 + DECIMAL64_LEN }
-}
-
-/// How many bytes the payload of a `Decimal128` has.
-fn decimal128_len(value: i128, scale: u8) -> usize
-    ensures { result ≡ length (number_payload_of decimal128 value scale) }
-{
-    if value == 0 { 1 } else { 1 + DECIMAL128_LEN }
-}
-
 /// How many bytes the payload of a number has.
 pub fn number_len(number: Number) -> usize
     ensures { result ≡ length (number_payload (number_view number)) }
 {
+    if number.whole() == 0 {
+        return 1;
+    }
     match number {
-        Number::Int64(value) => int64_len(value),
-        Number::UInt64(value) => uint64_len(value),
-        Number::Decimal64(decimal) => decimal64_len(decimal.value, decimal.scale),
-        Number::Decimal128(decimal) => decimal128_len(decimal.value, decimal.scale),
+        Number::Int64(value) => 1 + unsigned_width_of(signed_size_of(value)),
+        Number::UInt64(value) => 1 + unsigned_width_of(value),
+        Number::Decimal64(_) => 1 + DECIMAL64_LEN,
+        Number::Decimal128(_) => 1 + DECIMAL128_LEN,
     }
 }
 
@@ -114,66 +81,30 @@ fn push_i64(out: &mut Vec<u8>, value: i64) -> Result<(), AllocError>
     out.extend_from_slice(&value.to_be_bytes())
 }
 
-fn push_i128(out: &mut Vec<u8>, value: i128) -> Result<(), AllocError>
-    ensures pushed { OnOk result (out.new.items ≡ out.old.items ++ fixed_bytes w128 value) }
-    ensures unchanged { OnErr result (out.new.items ≡ out.old.items) }
-{
-    out.extend_from_slice(&value.to_be_bytes())
-}
-
 fn push_int64(out: &mut Vec<u8>, value: i64) -> Result<(), AllocError>
-    ensures pushed { OnOk result (out.new.items ≡ out.old.items ++ number_payload_of int64 value 0) }
+    ensures pushed { OnOk result (out.new.items ≡ out.old.items ++ 0x40 ∷ signed_bytes value) }
     ensures kept { OnErr result (StaysInFront out.old.items out.new.items) }
-    ensures fits { FitsNumber (number_from int64 value 0) }
 {
-    if value == 0 {
-        out.push(ZERO)?;
-        return Ok(());
-    }
     out.push(INT64)?;
     let width = unsigned_width_of(signed_size_of(value));
     push_low_bytes(out, value.cast_unsigned(), width)
 }
 
 fn push_uint64(out: &mut Vec<u8>, value: u64) -> Result<(), AllocError>
-    ensures pushed { OnOk result (out.new.items ≡ out.old.items ++ number_payload_of uint64 (pos value) 0) }
+    ensures pushed { OnOk result (out.new.items ≡ out.old.items ++ 0x50 ∷ big_bytes (unsigned_width value) value) }
     ensures kept { OnErr result (StaysInFront out.old.items out.new.items) }
-    ensures fits { FitsNumber (number_from uint64 (pos value) 0) }
 {
-    if value == 0 {
-        out.push(ZERO)?;
-        return Ok(());
-    }
     out.push(UINT64)?;
     push_low_bytes(out, value, unsigned_width_of(value))
 }
 
-fn push_decimal64(out: &mut Vec<u8>, value: i64, scale: u8) -> Result<(), AllocError>
-    ensures pushed { OnOk result (out.new.items ≡ out.old.items ++ number_payload_of decimal64 value scale) }
+/// Puts a decimal at the end: the bytes of its value, and its scale.
+fn push_decimal(out: &mut Vec<u8>, value: &[u8], scale: u8) -> Result<(), AllocError>
+    ensures pushed { OnOk result (out.new.items ≡ out.old.items ++ (0x70 ∷ value.now ++ scale ∷ [])) }
     ensures kept { OnErr result (StaysInFront out.old.items out.new.items) }
-    ensures fits { FitsNumber (number_from decimal64 value scale) }
 {
-    if value == 0 {
-        out.push(ZERO)?;
-        return Ok(());
-    }
     out.push(DECIMAL)?;
-    push_i64(out, value)?;
-    out.push(scale)?;
-    Ok(())
-}
-
-fn push_decimal128(out: &mut Vec<u8>, value: i128, scale: u8) -> Result<(), AllocError>
-    ensures pushed { OnOk result (out.new.items ≡ out.old.items ++ number_payload_of decimal128 value scale) }
-    ensures kept { OnErr result (StaysInFront out.old.items out.new.items) }
-    ensures fits { FitsNumber (number_from decimal128 value scale) }
-{
-    if value == 0 {
-        out.push(ZERO)?;
-        return Ok(());
-    }
-    out.push(DECIMAL)?;
-    push_i128(out, value)?;
+    out.extend_from_slice(value)?;
     out.push(scale)?;
     Ok(())
 }
@@ -184,11 +115,19 @@ pub fn push_number_payload(out: &mut Vec<u8>, number: Number) -> Result<(), Allo
     ensures kept { OnErr result (StaysInFront out.old.items out.new.items) }
     ensures fits { FitsNumber (number_view number) }
 {
+    if number.whole() == 0 {
+        out.push(ZERO)?;
+        return Ok(());
+    }
     match number {
         Number::Int64(value) => push_int64(out, value),
         Number::UInt64(value) => push_uint64(out, value),
-        Number::Decimal64(decimal) => push_decimal64(out, decimal.value, decimal.scale),
-        Number::Decimal128(decimal) => push_decimal128(out, decimal.value, decimal.scale),
+        Number::Decimal64(decimal) => {
+            push_decimal(out, &decimal.value.to_be_bytes(), decimal.scale)
+        }
+        Number::Decimal128(decimal) => {
+            push_decimal(out, &decimal.value.to_be_bytes(), decimal.scale)
+        }
     }
 }
 
@@ -253,8 +192,15 @@ fn push_interval(out: &mut Vec<u8>, months: i32, days: i32, micros: i64) -> Resu
     push_i64(out, micros)
 }
 
-/// Puts the payload of an extension value at the end. Where memory is refused, `out` may have a part of it behind
-/// what it held.
+/// Puts the payload of an extension value at the end, as docs/FORMAT.md lays it out.
+///
+/// # Errors
+///
+/// `AllocError` where memory is refused. Then `out` may have a part of the payload behind what it held.
+///
+/// # Cost
+///
+/// Linear in the payload. Takes memory where `out` has to grow.
 pub fn push_extension_payload(
     out: &mut Vec<u8>,
     value: &ExtensionValue<'_>,

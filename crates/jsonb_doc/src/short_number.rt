@@ -4,9 +4,10 @@ ghost use Rattle.std.specs.Prelude.{◌≡◌, ◌∷◌, IfSome, Some};
 ghost use Rattle.std.specs.Ordering.{eq_by_cmp};
 ghost use Rattle.jsonb_doc.specs.Number.{number_cmp, number_from, decimal64};
 ghost use Rattle.jsonb_doc.specs.Payload.{number_of};
-ghost use Rattle.jsonb_doc.specs.Short.{short_value};
+ghost use Rattle.jsonb_doc.specs.Short.{short_value, short_parts};
 
 use crate::layout::DECIMAL64_LEN;
+use crate::number_order::exact_cmp;
 use byteorder::{BigEndian, ByteOrder};
 
 /// A number as it is stored, where its digits take at most 64 bits.
@@ -29,21 +30,68 @@ fn decimals_equal(a: i64, b: i64, scale: u8) -> bool
     a == b
 }
 
-/// Whether two numbers are equal by value, where they are stored alike, so that their digits tell it.
+impl ShortNumber {
+    /// The digits as a whole number, which is to be divided by `10 ^ scale`.
+    fn whole(self) -> i128
+        ensures { result ≡ (short_parts self).whole }
+    {
+        match self {
+            ShortNumber::Unsigned(value) => i128::from(value),
+            ShortNumber::Signed(value) => i128::from(value),
+            ShortNumber::Decimal(value, _) => i128::from(value),
+        }
+    }
+
+    /// How many of the digits stand behind the point.
+    fn scale(self) -> u8
+        ensures { result ≡ (short_parts self).scale }
+    {
+        match self {
+            ShortNumber::Unsigned(_) | ShortNumber::Signed(_) => 0,
+            ShortNumber::Decimal(_, scale) => scale,
+        }
+    }
+}
+
+/// Whether two numbers that are not stored alike are equal by value.
+#[inline(never)]
+fn parts_equal(number: ShortNumber, other: ShortNumber) -> bool
+    ensures { result ≡ eq_by_cmp number_cmp (short_value number) (short_value other) }
+{
+    exact_cmp(number.whole(), number.scale(), other.whole(), other.scale()).is_eq()
+}
+
+/// Whether two numbers are equal by value. Where they are stored alike their digits tell it.
+///
+/// # Cost
+///
+/// Constant, without memory.
 #[inline(always)]
-pub fn digits_tell(number: ShortNumber, other: ShortNumber) -> Option<bool>
-    ensures { IfSome result (λ b. b ≡ eq_by_cmp number_cmp (short_value number) (short_value other)) }
+pub fn digits_equal(number: ShortNumber, other: ShortNumber) -> bool
+    ensures { result ≡ eq_by_cmp number_cmp (short_value number) (short_value other) }
 {
     match (number, other) {
-        (ShortNumber::Unsigned(a), ShortNumber::Unsigned(b)) => Some(a == b),
-        (ShortNumber::Signed(a), ShortNumber::Signed(b)) => Some(a == b),
+        (ShortNumber::Unsigned(a), ShortNumber::Unsigned(b)) => a == b,
+        (ShortNumber::Signed(a), ShortNumber::Signed(b)) => a == b,
         (ShortNumber::Decimal(a, scale), ShortNumber::Decimal(b, other_scale)) => {
             if scale == other_scale {
-                Some(decimals_equal(a, b, scale))
+                decimals_equal(a, b, scale)
             } else {
-                None
+                parts_equal(number, other)
             }
         }
+        _ => parts_equal(number, other),
+    }
+}
+
+/// The number whose payload has these bytes behind the tag of zero.
+#[inline(always)]
+#[tactic(auto, unfolding(crate::specs::Payload::number_of))]
+pub(crate) fn zero_digits(rest: &[u8]) -> Option<ShortNumber>
+    ensures { IfSome result (λ n. number_of (0 ∷ rest.now) ≡ Some (short_value n)) }
+{
+    match rest {
+        [] => Some(ShortNumber::Unsigned(0)),
         _ => None,
     }
 }

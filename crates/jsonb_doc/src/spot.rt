@@ -2,8 +2,8 @@
 
 ghost use Rattle.std.specs.Prelude.{◌≡◌, ℕ, ◌+◌, ◌*◌, ◌^◌, ◌<◌, ◌≤◌, List, length, slice_range, IsOkAnd, IfOk, IfErr, IfSome, MatchResult, OnOk};
 ghost use Rattle.jsonb_doc.specs.Tree.{Tree, children_of, field_of};
-ghost use Rattle.jsonb_doc.specs.Payload.{Form, any};
-ghost use Rattle.jsonb_doc.specs.Format.{Decodes, HeadedBy};
+ghost use Rattle.jsonb_doc.specs.Payload.{Form, any, number_reader};
+ghost use Rattle.jsonb_doc.specs.Format.{Decodes, IsContent, HeadedBy};
 ghost use Rattle.jsonb_doc.specs.Item.{StandsFor, IsNormal, item_size};
 ghost use Rattle.jsonb_doc.specs.Answer.{SameOption, IsDecodingError};
 ghost use Rattle.jsonb_doc.specs.Private.Containers.{HasReadableRoot};
@@ -11,13 +11,21 @@ ghost use Rattle.jsonb_doc.specs.Private.Lengths.{HoldKeys, FindsKey};
 ghost use Rattle.jsonb_doc.specs.Spots.{Locates, HasSpotsLeft, spot_size, spot_content, spots_bound, spots_room};
 
 use crate::container::{Container, read_container};
+use crate::entry_iter::StoredEntry;
 use crate::error::Error;
 use crate::item::Item;
 use crate::layout::{CONTAINER, WORD, split_entry};
 use crate::lengths::{entry_behind, skip_contents};
 use crate::spot_iter::SpotIter;
 
+mod document;
+
+pub use self::document::{scalar_document, spot_document};
+
 /// One item of a document: its kind, and where its content stands in the bytes.
+///
+/// A spot belongs to the bytes that gave it. With other bytes a call gives some answer, or refuses as for bytes that
+/// don't decode.
 #[derive(Clone, Copy, Debug)]
 pub struct Spot {
     kind: u32,
@@ -48,7 +56,15 @@ impl Spot {
     }
 }
 
-/// The spot of a document's root. Bytes that don't decode are `InvalidJsonb` or `UnsupportedNumber`, or have some spot.
+/// The spot of a document's root.
+///
+/// # Errors
+///
+/// `InvalidJsonb` or `UnsupportedNumber`, only for bytes that don't decode, and not for all of those.
+///
+/// # Cost
+///
+/// Constant, without memory.
 pub fn root_spot(bytes: &[u8]) -> Result<Spot, Error>
     ensures marks { (t : Tree) → Decodes any bytes.now t → IsOkAnd result (λ spot. Locates bytes.now spot t) }
     ensures size { IfOk result (λ spot. spot_size spot ≤ length bytes.now) }
@@ -64,8 +80,15 @@ pub fn root_spot(bytes: &[u8]) -> Result<Spot, Error>
     }
 }
 
-/// The item at a spot of these bytes, its slices borrowed from them. The spot of other bytes has some item here, or is
-/// refused as bytes that don't decode.
+/// The item at a spot of these bytes, its slices borrowed from them.
+///
+/// # Errors
+///
+/// `InvalidJsonb` or `UnsupportedNumber`, only where the bytes don't decode or the spot is of other bytes.
+///
+/// # Cost
+///
+/// Constant, but a text is read whole. No memory.
 pub fn spot_item<'a>(bytes: &'a [u8], spot: Spot) -> Result<Item<'a>, Error>
     ensures item { (t : Tree) → Locates bytes.now spot t → IsOkAnd result (λ item. StandsFor any item t) }
     ensures in_form { (form : Form) (top t : Tree) → Decodes form bytes.now top → Locates bytes.now spot t
@@ -77,8 +100,35 @@ pub fn spot_item<'a>(bytes: &'a [u8], spot: Spot) -> Result<Item<'a>, Error>
     Item::from_content(spot.kind, spot.content(bytes)?)
 }
 
+/// The entry at a spot of these bytes, as it is stored.
+///
+/// # Errors
+///
+/// `InvalidJsonb` or `UnsupportedNumber`, only where the bytes don't decode or the spot is of other bytes.
+///
+/// # Cost
+///
+/// Constant, without memory.
+pub fn spot_entry<'a>(bytes: &'a [u8], spot: Spot) -> Result<StoredEntry<'a>, Error>
+    ensures entry { (form : Form) (top t : Tree) → Decodes form bytes.now top → Locates bytes.now spot t
+        → IsOkAnd result (λ entry. IsContent (number_reader form) t entry.kind entry.content.now) }
+    ensures errors { IfErr result IsDecodingError }
+{
+    Ok(StoredEntry {
+        kind: spot.kind,
+        content: spot.content(bytes)?,
+    })
+}
+
 /// The spots of an array's elements or of an object's values, in stored order. `None` is for a scalar.
-/// The spot of other bytes gives some spots here, or is refused as bytes that don't decode.
+///
+/// # Errors
+///
+/// `InvalidJsonb` or `UnsupportedNumber`, only where the bytes don't decode or the spot is of other bytes.
+///
+/// # Cost
+///
+/// Constant for an array, linear in the count of pairs for an object. No memory.
 pub fn child_spots<'a>(bytes: &'a [u8], spot: Spot) -> Result<Option<SpotIter<'a>>, Error>
     ensures spots { (t : Tree) → Locates bytes.now spot t
         → IsOkAnd result (λ found. SameOption (HasSpotsLeft bytes.now) found (children_of t)) }
@@ -105,7 +155,14 @@ pub fn child_spots<'a>(bytes: &'a [u8], spot: Spot) -> Result<Option<SpotIter<'a
 }
 
 /// The spot of the value under this key. `None` is for an object without the key, and for another item.
-/// The spot of other bytes gives some spot here, or is refused as bytes that don't decode.
+///
+/// # Errors
+///
+/// `InvalidJsonb` or `UnsupportedNumber`, only where the bytes don't decode or the spot is of other bytes.
+///
+/// # Cost
+///
+/// Linear in the count of pairs, without memory.
 pub fn field_spot(bytes: &[u8], spot: Spot, name: &str) -> Result<Option<Spot>, Error>
     ensures field { (t : Tree) → Locates bytes.now spot t
         → IsOkAnd result (λ found. SameOption (Locates bytes.now) found (field_of name.now t)) }

@@ -4,8 +4,12 @@ use crate::error::Error;
 use crate::lengths::split_entry_word;
 use crate::spot::Spot;
 
-/// The spots of a container's children that are left, in stored order. It ends behind one that has no
-/// place, which is `InvalidJsonb`.
+/// The spots of a container's children that are left, in stored order. It ends behind one that has no place, which is
+/// `InvalidJsonb`.
+///
+/// # Cost
+///
+/// A step is constant, without memory.
 #[derive(Clone, Copy)]
 pub struct SpotIter<'a> {
     words: &'a [u8],
@@ -35,6 +39,7 @@ impl<'a> Iterator for SpotIter<'a> {
 
     ghost remaining = { λ it. at_most (spots_bound it) };
 
+    #[inline(always)]
     fn next(&mut self) -> Option<Result<Spot, Error>> {
         if self.words.is_empty() {
             return None;

@@ -20,6 +20,8 @@ pub use decode::to_value;
 ///
 /// Two values are equal where they have the same shape, numbers by exact value (`1` is `1.0`) and extension values by
 /// their fields.
+///
+/// Comparing values and letting one go take no memory; docs/STACK.md says how much of the machine's stack they take.
 #[derive(Drop)]
 pub enum Value<'a> {
     /// null.
@@ -56,6 +58,10 @@ impl<'a> Value<'a> {
     /// # Errors
     ///
     /// `OutOfMemory` where memory is refused.
+    ///
+    /// # Cost
+    ///
+    /// Linear in the value. Takes memory; docs/STACK.md says how much of the machine's stack.
     pub fn clone(&self, alloc: Global) -> Result<Value<'a>, Error>
         ensures tree { MatchResult result (λ copy. value_tree copy ≡ value_tree self.now) IsOutOfMemory }
         ensures parts { IfOk result (λ copy. value_parts copy ≡ value_parts self.now) }

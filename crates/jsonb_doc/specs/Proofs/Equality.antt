@@ -16,16 +16,16 @@ use Rattle.jsonb_doc.specs.Tree.{Tree, null, boolean, number, text, extension, a
 use Rattle.jsonb_doc.specs.Order.{IsEqual, AreEqual, PairsAreEqual}
 use Rattle.jsonb_doc.specs.Equal.{is_same_extension, is_equal, are_equal, pairs_are_equal}
 
-both : (a b : Bool) → a ≡ true → b ≡ true → (a && b) ≡ true
+pub both : (a b : Bool) → a ≡ true → b ≡ true → (a && b) ≡ true
 both a b p q = ap₂ (λ x y. x && y) p q
 
-left : (a b : Bool) → (a && b) ≡ true → a ≡ true
-left true b h = refl
-left false b h = h
+pub first_of_both : (a b : Bool) → (a && b) ≡ true → a ≡ true
+first_of_both true b h = refl
+first_of_both false b h = h
 
-right : (a b : Bool) → (a && b) ≡ true → b ≡ true
-right true b h = h
-right false b h = absurd (cc)
+pub second_of_both : (a b : Bool) → (a && b) ≡ true → b ≡ true
+second_of_both true b h = h
+second_of_both false b h = absurd (cc)
 
 -- ---- extensions
 
@@ -34,11 +34,11 @@ same_extension (binary a) (binary b) h = ap binary ((bytes_eq-Decides a b).0 h)
 same_extension (date x) (date y) h = ap date ((Decides-int_eq x y).0 h)
 same_extension (timestamp x) (timestamp y) h = ap timestamp ((Decides-int_eq x y).0 h)
 same_extension (timestamp_tz o x) (timestamp_tz p y) h =
-    ap₂ timestamp_tz ((Decides-int_eq o p).0 (left _ _ h)) ((Decides-int_eq x y).0 (right (int_eq o p) _ h))
+    ap₂ timestamp_tz ((Decides-int_eq o p).0 (first_of_both _ _ h)) ((Decides-int_eq x y).0 (second_of_both (int_eq o p) _ h))
 same_extension (interval m d x) (interval n e y) h =
-    let months : m ≡ n = (Decides-int_eq m n).0 (left _ _ (left _ _ h)) in
-    let days : d ≡ e = (Decides-int_eq d e).0 (right (int_eq m n) _ (left _ _ h)) in
-    let micros : x ≡ y = (Decides-int_eq x y).0 (right (int_eq m n && int_eq d e) _ h) in
+    let months : m ≡ n = (Decides-int_eq m n).0 (first_of_both _ _ (first_of_both _ _ h)) in
+    let days : d ≡ e = (Decides-int_eq d e).0 (second_of_both (int_eq m n) _ (first_of_both _ _ h)) in
+    let micros : x ≡ y = (Decides-int_eq x y).0 (second_of_both (int_eq m n && int_eq d e) _ h) in
     cc
 same_extension x y h = absurd (cc)
 
@@ -138,16 +138,16 @@ mutual
 
   equal_from_tests : (ts us : Trees) → are_equal ts us ≡ true → AreEqual ts us
   equal_from_tests no_trees no_trees h = tt
-  equal_from_tests (tree t ts) (tree u us) h = (equal_from_test t u (left _ _ h), equal_from_tests ts us (right (is_equal t u) _ h))
+  equal_from_tests (tree t ts) (tree u us) h = (equal_from_test t u (first_of_both _ _ h), equal_from_tests ts us (second_of_both (is_equal t u) _ h))
   equal_from_tests ts us h = absurd (cc)
 
   equal_from_pair_tests : (ps qs : Pairs) → pairs_are_equal ps qs ≡ true → PairsAreEqual ps qs
   equal_from_pair_tests no_pairs no_pairs h = tt
   equal_from_pair_tests (pair k t ps) (pair l u qs) h =
-      let first = left (bytes_eq k l && is_equal t u) (pairs_are_equal ps qs) h in (
-        (bytes_eq-Decides k l).0 (left _ _ first),
-        equal_from_test t u (right (bytes_eq k l) _ first),
-        equal_from_pair_tests ps qs (right (bytes_eq k l && is_equal t u) _ h),
+      let first = first_of_both (bytes_eq k l && is_equal t u) (pairs_are_equal ps qs) h in (
+        (bytes_eq-Decides k l).0 (first_of_both _ _ first),
+        equal_from_test t u (second_of_both (bytes_eq k l) _ first),
+        equal_from_pair_tests ps qs (second_of_both (bytes_eq k l && is_equal t u) _ h),
       )
   equal_from_pair_tests ps qs h = absurd (cc)
 

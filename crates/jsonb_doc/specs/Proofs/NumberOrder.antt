@@ -52,11 +52,11 @@ int_times (negsuc m) a b = negated (suc m * a) ∙ ap (λ x. neg_ℤ (pos x)) (m
     negated (suc x) = refl
 
 -- the whole value at a greater scale
-common : Number → ℕ → ℤ
+unfoldable pub common : Number → ℕ → ℤ
 common n scale = n.whole *ℤ pos (10 ^ (scale - n.scale))
 
 -- numbers compare as their whole values at one scale
-at_common : (m n : Number) (scale : ℕ) → m.scale ≤ scale → n.scale ≤ scale → number_cmp m n ≡ int_cmp (common m scale) (common n scale)
+pub at_common : (m n : Number) (scale : ℕ) → m.scale ≤ scale → n.scale ≤ scale → number_cmp m n ≡ int_cmp (common m scale) (common n scale)
 unfolding common
 at_common m n scale hm hn =
     sym (int_cmp_scaled (m.whole *ℤ pos (10 ^ n.scale)) (n.whole *ℤ pos (10 ^ m.scale)) (10 ^ scale) (one-le-pow scale 10 (omega arith)))

@@ -75,7 +75,8 @@ fn refused_before_depth(rt: HostRuntime) {
     }
 }
 
-/// So many arrays within arrays, the innermost empty: 8 bytes a level and 4. A null before or behind each inner array takes 4 more.
+/// So many arrays within arrays, the innermost empty: 8 bytes a level and 4. A null before or behind each inner array
+/// takes 4 more.
 fn nested(alloc: Global, levels: u32, before: bool, behind: bool) -> Result<Vec<u8>, AllocError> {
     let beside = u32::from(before) + u32::from(behind);
     let mut out = Vec::new(alloc);

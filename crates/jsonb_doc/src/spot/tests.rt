@@ -4,7 +4,7 @@ use crate::error::Error;
 use crate::extension::{Date, ExtensionValue};
 use crate::item::Item;
 use crate::number::Number;
-use crate::spot::{Spot, child_spots, field_spot, root_spot, spot_item};
+use crate::spot::{Spot, child_spots, field_spot, root_spot, spot_document, spot_item};
 use std::test::Fail;
 
 // [false, 10, {"k":"v"}]
@@ -82,6 +82,36 @@ fn finds_children(rt: HostRuntime) -> Result<(), Fail> {
         None => false,
     };
     assert!(rt; is_fred);
+    Ok(())
+}
+
+#[test]
+fn copies_items_as_documents(rt: HostRuntime) -> Result<(), Fail> {
+    let alloc = rt.alloc();
+    for (bytes, place, wanted) in [
+        (MIXED, 0, b"\x20\0\0\0\x30\0\0\0".as_slice()),
+        (MIXED, 1, b"\x20\0\0\0\x20\0\0\x02\x50\x0a".as_slice()),
+        (
+            MIXED,
+            2,
+            b"\x40\0\0\x01\x10\0\0\x01\x10\0\0\x01kv".as_slice(),
+        ),
+        (PHONES, 0, b"\x20\0\0\0\x10\0\0\x04Fred".as_slice()),
+    ] {
+        let found = match child_at(bytes, root_spot(bytes)?, place)? {
+            Some(spot) => Some(spot_document(alloc, bytes, spot)?),
+            None => None,
+        };
+        assert_eq!(rt;
+            found.as_ref().map(|document| document.as_slice()),
+            Some(wanted)
+        );
+    }
+    let date = spot_document(alloc, DATE, root_spot(DATE)?)?;
+    assert_eq!(rt; date.as_slice(), DATE);
+    let past = spot_document(alloc, ONE, root_spot(PHONES)?);
+    let is_refused = matches!(past, Err(Error::InvalidJsonb));
+    assert!(rt; is_refused);
     Ok(())
 }
 

@@ -27,13 +27,18 @@ use std::alloc::Global;
 use std::borrow::CowStr;
 use std::collections::BTreeMap;
 
-/// The value that an item stands for, at every depth. Its texts and binaries are slices of the item's bytes, its keys are
-/// copies. Calls nest no deeper than the length can be halved; to let the value go takes one for each level.
+/// The value that an item stands for, at every depth. Its texts and binaries are slices of the item's bytes, its keys
+/// are copies.
 ///
 /// # Errors
 ///
 /// `OutOfMemory` where memory is refused. For an item whose bytes don't decode, also `InvalidJsonb` or
 /// `UnsupportedNumber`.
+///
+/// # Cost
+///
+/// Linear in the item's bytes, and for each object of k pairs k times log k comparisons of keys. Takes memory. Calls
+/// nest no deeper than the length can be halved.
 pub fn to_value<'a>(alloc: Global, item: &Item<'a>) -> Result<Value<'a>, Error>
     ensures decodes { (form : Form) (t : Tree) → StandsFor form item.now t
         → MatchResult result (λ v. value_tree v ≡ t) IsOutOfMemory }
@@ -65,7 +70,8 @@ fn item_value<'a>(alloc: Global, item: &Item<'a>) -> Result<Value<'a>, Error>
 #[inline(always)]
 fn scalar_value<'a>(item: &Item<'a>) -> Option<Value<'a>>
     ensures { MatchOption result (IsContainerItem item.now)
-        (λ v. (seen : Number → spec.Number) → SeesItem seen item.now → (form : Form) (t : Tree) → StandsFor form item.now t
+        (λ v. (seen : Number → spec.Number) → SeesItem seen item.now → (form : Form) (t : Tree)
+        → StandsFor form item.now t
         → tree_seen seen v ≡ t) }
 {
     match item {
@@ -110,8 +116,8 @@ enum Filled<'a> {
 
 /// The value of a container.
 ///
-/// A part that is longer than half of its container is made by this loop, and the containers around it are kept. The others are
-/// made by calls. So calls nest no deeper than the length can be halved.
+/// A part that is longer than half of its container is made by this loop, and the containers around it are kept. The
+/// others are made by calls. So calls nest no deeper than the length can be halved.
 #[cycle(decode)]
 fn container_value<'a>(alloc: Global, item: &Item<'a>) -> Result<Value<'a>, Error>
     ensures decodes { (seen : Number → spec.Number) → KeepsNormal seen → SeesItem seen item.now
@@ -184,7 +190,8 @@ fn fill_array<'a>(
     Ok(Filled::Whole(Value::Array(values)))
 }
 
-/// The object of these members and of the pairs that are left, up to one with a value that is longer than this many bytes.
+/// The object of these members and of the pairs that are left, up to one with a value that is longer than this many
+/// bytes.
 #[cycle(decode)]
 fn fill_object<'a>(
     alloc: Global,
@@ -195,7 +202,8 @@ fn fill_object<'a>(
     ensures decodes { (seen : Number → spec.Number) → KeepsNormal seen
         → (form : Form) (ps : Pairs) → HasPairsLeft form left.entry ps
         → let whole = members_seen seen members.entry.entries ++ pair_members ps in
-        AreKeys (keys (pairs_of whole)) → MatchResult result (FillsTo seen form (object (pairs_of whole))) IsOutOfMemory }
+        AreKeys (keys (pairs_of whole))
+        → MatchResult result (FillsTo seen form (object (pairs_of whole))) IsOutOfMemory }
     ensures whole { longest ≡ None → IfOk result IsWhole }
     ensures size { (n : ℕ) → pairs_room left.entry < n → IfOk result (IsShorter n) }
     ensures errors { IfErr result (IsDecodingError or OutOfMemory) }

@@ -28,19 +28,22 @@ check_container-loop-words-preserved t c =
     let found = rw c.in-Some-large.is at c.in-Some-check_entries.ensures in
     record {
       shorter = omega (arith, found.0, parts.shorter, inv.shorter);
-      left = Leaves-entries c.loop-words.is_supported c.in-Some-check_entries.entries.is_supported c.args.bytes.now c.loop-words.container.now c.in-Some.words.now c.in-Some.contents.now (Some c.in-Some-large.large.now) inv.left parts found.1;
+      left = Leaves-entries c.loop-words.is_supported c.in-Some-check_entries.entries.is_supported c.args.bytes.now c.loop-words.container.now
+          c.in-Some.words.now c.in-Some.contents.now (Some c.in-Some-large.large.now) inv.left parts found.1;
     }
 
 pub check_container-returns-then-is_supported : goal.check_container-returns-then-is_supported
 check_container-returns-then-is_supported t c =
     let found = rw c.in_default-large.is at c.in-Some-check_entries.ensures in
-    let all = Leaves-entries c.loop-words.is_supported c.in-Some-check_entries.entries.is_supported c.args.bytes.now c.loop-words.container.now c.in-Some.words.now c.in-Some.contents.now None c.loop-words.invariant.left c.in-Some.ensures found.1 in
+    let all = Leaves-entries c.loop-words.is_supported c.in-Some-check_entries.entries.is_supported c.args.bytes.now c.loop-words.container.now
+    c.in-Some.words.now c.in-Some.contents.now None c.loop-words.invariant.left c.in-Some.ensures found.1 in
     all.strict.1 (c.if-is_supported.true, tt)
 
 pub check_container-returns-else-is_supported : goal.check_container-returns-else-is_supported
 check_container-returns-else-is_supported t c =
     let found = rw c.in_default-large.is at c.in-Some-check_entries.ensures in
-    let all = Leaves-entries c.loop-words.is_supported c.in-Some-check_entries.entries.is_supported c.args.bytes.now c.loop-words.container.now c.in-Some.words.now c.in-Some.contents.now None c.loop-words.invariant.left c.in-Some.ensures found.1 in
+    let all = Leaves-entries c.loop-words.is_supported c.in-Some-check_entries.entries.is_supported c.args.bytes.now c.loop-words.container.now
+    c.in-Some.words.now c.in-Some.contents.now None c.loop-words.invariant.left c.in-Some.ensures found.1 in
     (λ h. let both = (all.strict.0 h).0 in let none = c.if-is_supported.false in cc (both, none), all.lenient.1 tt)
 
 pub check_entries-returns-in_default : goal.check_entries-returns-in_default

@@ -12,4 +12,5 @@ returns-in-Scalar c =
 pub returns-in_default-container : goal.returns-in_default-container
 returns-in_default-container c =
     Validates-along (HasContent 5 c.args.bytes.now) (HasDocument c.args.bytes.now)
-    (HasDocument-container c.args.bytes.now c.in-Ok.container c.in-Ok.ensures.cut c.in_default-container.not-Scalar) c.check_container.result c.check_container.ensures
+    (HasDocument-container c.args.bytes.now c.in-Ok.container c.in-Ok.ensures.cut c.in_default-container.not-Scalar) c.check_container.result
+    c.check_container.ensures

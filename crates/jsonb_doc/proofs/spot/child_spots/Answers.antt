@@ -29,4 +29,5 @@ returns-in_err-start-in-Object-clause-spots c = λ t m.
 pub returns-in_ok-start-in-Object-clause-spots : goal.returns-in_ok-start-in-Object-clause-spots
 returns-in_ok-start-in-Object-clause-spots c = λ t m.
     object_children c.args.bytes.now c.args.spot t m _ c.in_ok-content.ensures.2 c.if-spot-ne-CONTAINER.false c.in-Object.parts
-    (rw c.in-Object.is at c.in_ok-read_container.ensures.cut) c.new-in-Object.result _ c.in_ok-start-in-Object.ensures.contents c.new-in-Object.ensures.words c.new-in-Object.ensures.start c.new-in-Object.ensures.end
+    (rw c.in-Object.is at c.in_ok-read_container.ensures.cut) c.new-in-Object.result _ c.in_ok-start-in-Object.ensures.contents
+    c.new-in-Object.ensures.words c.new-in-Object.ensures.start c.new-in-Object.ensures.end

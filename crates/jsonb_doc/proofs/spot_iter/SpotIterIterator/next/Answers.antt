@@ -45,7 +45,8 @@ returns-in-Some-checked_add-clause-steps c =
         last = refl;
       };
       takes = λ bytes ts h.
-          HasSpotsLeft-first bytes c.args.self.now c.in-Some.kind c.in-Some.len c.in-Some.others.now c.in-Some.ensures.word ts c.new.result _ c.new.ensures.kind start end refl sum.1 refl h;
+          HasSpotsLeft-first bytes c.args.self.now c.in-Some.kind c.in-Some.len c.in-Some.others.now c.in-Some.ensures.word ts c.new.result _
+          c.new.ensures.kind start end refl sum.1 refl h;
       errors = search rules;
       size = omega (arith, sum.1, start, end);
       room = omega (arith, sum.1);

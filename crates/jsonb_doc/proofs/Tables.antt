@@ -1,0 +1,6 @@
+-- Tables of worked rows, which a definition computes.
+use Rattle.std.proofs.Common.{◌≡◌, List, map}
+
+-- the function answers each row's first with its second
+abbrev pub AreRows : {A B : Type 0} → (A → B) → List (A × B) → Type 0
+AreRows answer rows = map (λ row. answer row.0) rows ≡ map (λ row. row.1) rows

@@ -1,0 +1,17 @@
+use Rattle.std.proofs.Common.{arith}
+use Rattle.jsonb_doc.specs.Payload.{number_reader}
+use Rattle.jsonb_doc.proofs.EntryDocuments.{entry_decodes}
+use Rattle.jsonb_doc.proofs.spot.document.spot_document.Goals as goal
+
+pub returns-then-content-le-MAX_CONTENT-clause-decodes : goal.returns-then-content-le-MAX_CONTENT-clause-decodes
+returns-then-content-le-MAX_CONTENT-clause-decodes c = λ form top t decodes located.
+    rw c.in_ok-scalar_document.ensures (record {
+      document = entry_decodes (number_reader form) t c.args.spot.kind c.in_ok-content.content.now c.if-spot-lt-KINDS.true c.if-spot-eq-CONTAINER.false
+          (omega arith) (rw c.in_ok-content.ensures.2 (located.content form top decodes));
+    })
+
+pub returns-in_err-item-clause-decodes : goal.returns-in_err-item-clause-decodes
+returns-in_err-item-clause-decodes c = λ form top t decodes located. absurd (c.in_err-item.ensures.in_form form top t decodes located)
+
+pub returns-clause-decodes : goal.returns-clause-decodes
+returns-clause-decodes c = λ form top t decodes located. c.encode_item.ensures.decodes form t (c.in_ok-item.ensures.in_form form top t decodes located)

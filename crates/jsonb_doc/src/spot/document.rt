@@ -1,0 +1,63 @@
+//! Items as documents of their own, copied as they are stored.
+
+ghost use Rattle.std.specs.Prelude.{◌≡◌, ◌++◌, ◌^◌, ◌<◌, length, IfOk, IfErr, MatchResult};
+ghost use Rattle.jsonb_doc.specs.Tree.{Tree};
+ghost use Rattle.jsonb_doc.specs.Payload.{Form};
+ghost use Rattle.jsonb_doc.specs.Format.{Decodes, header, entry_word, scalar_header};
+ghost use Rattle.jsonb_doc.specs.Answer.{IsDecodingError, IsOutOfMemoryOrTooLarge, ◌or◌};
+ghost use Rattle.jsonb_doc.specs.Spots.{Locates};
+ghost use Rattle.jsonb_doc.specs.declared.error.Error.TheVariants.{OutOfMemory, TooLarge};
+
+use super::{Spot, spot_item};
+use crate::encoding::{encode_item, push_word};
+use crate::error::Error;
+use crate::layout::{CONTAINER, COUNTS, KINDS, LENGTHS, MAX_CONTENT, SCALAR_HEADER, WORD};
+use std::alloc::{AllocError, Global};
+
+/// The item at a spot of these bytes as a document of its own, copied as it is stored, in memory of its exact size.
+///
+/// # Errors
+///
+/// `InvalidJsonb` or `UnsupportedNumber`, only where the bytes don't decode or the spot is of other bytes; `TooLarge`
+/// only where the item passes the limits of a document; else `OutOfMemory` where memory is refused.
+///
+/// # Cost
+///
+/// Linear in the item's bytes, which are copied. Takes memory once.
+pub fn spot_document(alloc: Global, bytes: &[u8], spot: Spot) -> Result<Vec<u8>, Error>
+    ensures decodes { (form : Form) (top t : Tree) → Decodes form bytes.now top → Locates bytes.now spot t
+        → MatchResult result (λ v. Decodes form v.items t) (IsOutOfMemoryOrTooLarge form t) }
+    ensures errors { IfErr result (IsDecodingError or OutOfMemory or TooLarge) }
+{
+    let content = spot.content(bytes)?;
+    if spot.kind == CONTAINER {
+        return Ok(Vec::from_slice(alloc, content)?);
+    }
+    if spot.kind < KINDS && content.len() <= MAX_CONTENT {
+        return Ok(scalar_document(alloc, spot.kind, content)?);
+    }
+    let item = spot_item(bytes, spot)?;
+    encode_item(alloc, &item)
+}
+
+/// The document of one entry of this kind, which is no container, as it is stored.
+///
+/// # Errors
+///
+/// None but that memory is refused.
+///
+/// # Cost
+///
+/// Linear in the content, which is copied. Takes memory once, of the document's exact size.
+pub fn scalar_document(alloc: Global, kind: u32, content: &[u8]) -> Result<Vec<u8>, AllocError>
+    requires kind { kind < 8 }
+    requires len { length content.now < 2 ^ 28 }
+    ensures { IfOk result
+        (λ v. v.items ≡ header scalar_header 0 ++ (entry_word kind (length content.now) ++ content.now)) }
+{
+    let mut document = Vec::with_capacity(alloc, 2 * WORD + content.len())?;
+    push_word(&mut document, SCALAR_HEADER * COUNTS)?;
+    push_word(&mut document, kind * LENGTHS + content.len() as u32)?;
+    document.extend_from_slice(content)?;
+    Ok(document)
+}
