@@ -9,11 +9,11 @@ use jsonb_doc::Error;
 use std::alloc::Global;
 use std::borrow::CowStr;
 
-/// A path by keys and positions to a place in a document, as `{a,1,"b c"}`.
+/// A path by keys and positions to a place in a document, as PostgreSQL's text arrays of steps are: `{a,1,"b c"}`.
 ///
-/// It prints so that it reads back: an index in decimal, a quoted name between quotes, and a name as it
-/// is where it is plain, and else between quotes. Two key paths are equal, and hash alike, where they
-/// have the same steps. No steps lead to the document itself.
+/// It prints so that it reads back: an index in decimal, a quoted name between quotes, and a name as it is where it
+/// is plain, and else between quotes. Two key paths are equal, and hash alike, where they have the same steps. No
+/// steps lead to the document itself.
 #[derive(PartialEq, Eq, Hash, Drop)]
 pub struct KeyPaths<'a> {
     /// The steps, from the root on.
@@ -38,7 +38,13 @@ pub enum KeyPath<'a> {
 impl<'a> KeyPaths<'a> {
     /// The same steps with the same texts; borrowed texts stay borrowed.
     ///
-    /// Refused with `OutOfMemory` alone.
+    /// # Errors
+    ///
+    /// `OutOfMemory` where memory is refused.
+    ///
+    /// # Cost
+    ///
+    /// Linear in the steps and the texts that do not borrow. Takes memory.
     pub fn clone(&self, alloc: Global) -> Result<KeyPaths<'a>, Error>
         ensures { MatchResult result (λ copy. key_paths_view copy ≡ key_paths_view self.now) IsOutOfMemory }
     {
@@ -51,7 +57,13 @@ impl<'a> KeyPaths<'a> {
 
     /// The same steps, with copies of the texts.
     ///
-    /// Refused with `OutOfMemory` alone.
+    /// # Errors
+    ///
+    /// `OutOfMemory` where memory is refused.
+    ///
+    /// # Cost
+    ///
+    /// Linear in the steps and their texts. Takes memory.
     pub fn to_owned(&self, alloc: Global) -> Result<OwnedKeyPaths, Error>
         ensures { MatchResult result (λ copy. owned_key_paths_view copy ≡ key_paths_view self.now) IsOutOfMemory }
     {
@@ -64,9 +76,15 @@ impl<'a> KeyPaths<'a> {
 }
 
 impl<'a> KeyPath<'a> {
-    /// The same step with the same text. A borrowed text stays borrowed, and takes no memory.
+    /// The same step with the same text. A borrowed text stays borrowed.
     ///
-    /// Refused with `OutOfMemory` alone.
+    /// # Errors
+    ///
+    /// `OutOfMemory` where memory is refused.
+    ///
+    /// # Cost
+    ///
+    /// Constant, without memory; a text that does not borrow is copied.
     pub fn clone(&self, _alloc: Global) -> Result<KeyPath<'a>, Error>
         ensures { MatchResult result (λ copy. key_view copy ≡ key_view self.now) IsOutOfMemory }
     {
@@ -79,7 +97,13 @@ impl<'a> KeyPath<'a> {
 
     /// The same step, with a copy of its text.
     ///
-    /// Refused with `OutOfMemory` alone.
+    /// # Errors
+    ///
+    /// `OutOfMemory` where memory is refused.
+    ///
+    /// # Cost
+    ///
+    /// Linear in the text. Takes memory for a name, and none for an index.
     pub fn to_owned(&self, alloc: Global) -> Result<OwnedKeyPath, Error>
         ensures { MatchResult result (λ copy. owned_key_view copy ≡ key_view self.now) IsOutOfMemory }
     {

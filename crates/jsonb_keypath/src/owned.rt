@@ -36,7 +36,13 @@ pub enum OwnedKeyPath {
 impl OwnedKeyPaths {
     /// The same steps with the same texts.
     ///
-    /// Refused with `OutOfMemory` alone.
+    /// # Errors
+    ///
+    /// `OutOfMemory` where memory is refused.
+    ///
+    /// # Cost
+    ///
+    /// Linear in the steps and their texts. Takes memory.
     pub fn clone(&self, alloc: Global) -> Result<OwnedKeyPaths, Error>
         ensures { MatchResult result (λ copy. owned_key_paths_view copy ≡ owned_key_paths_view self.now) IsOutOfMemory }
     {
@@ -49,7 +55,13 @@ impl OwnedKeyPaths {
 
     /// The same steps, with the texts borrowed from here.
     ///
-    /// Refused with `OutOfMemory` alone.
+    /// # Errors
+    ///
+    /// `OutOfMemory` where memory is refused.
+    ///
+    /// # Cost
+    ///
+    /// Linear in the count of steps. Takes memory once.
     pub fn as_key_paths(&self, alloc: Global) -> Result<KeyPaths<'_>, Error>
         ensures { MatchResult result (λ same. key_paths_view same ≡ owned_key_paths_view self.now) IsOutOfMemory }
     {
@@ -64,14 +76,24 @@ impl OwnedKeyPaths {
 impl OwnedKeyPath {
     /// The same step with the same text.
     ///
-    /// Refused with `OutOfMemory` alone.
+    /// # Errors
+    ///
+    /// `OutOfMemory` where memory is refused.
+    ///
+    /// # Cost
+    ///
+    /// Linear in the text. Takes memory for a name, and none for an index.
     pub fn clone(&self, alloc: Global) -> Result<OwnedKeyPath, Error>
         ensures { MatchResult result (λ copy. owned_key_view copy ≡ owned_key_view self.now) IsOutOfMemory }
     {
         self.as_key_path().to_owned(alloc)
     }
 
-    /// The same step, with its text borrowed from here. It takes no memory.
+    /// The same step, with its text borrowed from here.
+    ///
+    /// # Cost
+    ///
+    /// Constant, without memory.
     pub fn as_key_path(&self) -> KeyPath<'_>
         ensures { key_view result ≡ owned_key_view self.now }
     {

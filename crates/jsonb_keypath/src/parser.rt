@@ -15,15 +15,20 @@ use crate::token::{int32, literal, name_at, quoted_at, skip_space};
 use jsonb_doc::Error;
 use std::alloc::{AllocError, Global};
 
-/// Reads a whole text as a key path: steps in braces, with commas in between and white space around
-/// each, as in ` { 1, a, "b c" } `.
+/// Reads a whole text, of any bytes, as a key path: steps in braces, with commas in between and white space around
+/// each, as in ` { 1, a, "b c" } `. docs/PATHS.md has the grammar.
 ///
-/// A step is an index of 32 bits, or else a quoted name, or else a name; what isn't an index but
-/// can stand as a name is one, so `99999999999` is a name. `{}` has no steps. A text without escapes
-/// is borrowed from the input.
+/// A step is an index of 32 bits, or else a quoted name, or else a name; what isn't an index but can stand as a name
+/// is one, so `99999999999` is a name. `{}` has no steps. A text without escapes is borrowed from the input.
 ///
-/// Refused with `InvalidKeyPath` exactly where the grammar doesn't read the whole text, and
-/// otherwise with `OutOfMemory` alone.
+/// # Errors
+///
+/// `InvalidKeyPath` exactly where the grammar doesn't read the whole text, else `OutOfMemory` where memory is
+/// refused.
+///
+/// # Cost
+///
+/// Linear in the text. Takes memory for the list of steps and for texts with escapes.
 #[tactic(auto, unfolding(crate::specs::KeyPathGrammar::key_path))]
 pub fn parse_key_paths(alloc: Global, input: &[u8]) -> Result<KeyPaths<'_>, Error>
     ensures { MatchResult result

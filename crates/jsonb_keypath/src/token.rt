@@ -19,8 +19,11 @@ pub use self::quoting::{is_plain_name, write_name, write_quoted};
 pub(crate) use self::text::{name_at, quoted_at};
 pub use self::text::{read_name, read_quoted};
 
-/// The input behind a run of white space, which may be empty: spaces, tabs, carriage returns and
-/// line feeds.
+/// The input behind a run of white space, which may be empty: spaces, tabs, carriage returns and line feeds.
+///
+/// # Cost
+///
+/// Linear in the run, without memory.
 #[tactic(auto, unfolding(crate::specs::Tokens::ws))]
 pub fn skip_space(input: &[u8]) -> &[u8]
     ensures value { ws input.now ≡ Some (tt, result.now) }
@@ -38,7 +41,11 @@ fn space_count(input: &[u8]) -> usize
         .count()
 }
 
-/// The input behind these bytes, or None where it doesn't begin with them.
+/// The input behind these bytes, or `None` where it doesn't begin with them.
+///
+/// # Cost
+///
+/// Linear in the bytes, without memory.
 pub fn literal<'a>(text: &[u8], input: &'a [u8]) -> Option<&'a [u8]>
     ensures value { option_map (λ rest. (tt, rest.now)) result ≡ bytes text.now input.now }
     ensures shrinks { IfSome result (λ rest. length rest.now + length text.now ≡ length input.now) }

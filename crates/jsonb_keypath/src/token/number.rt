@@ -28,8 +28,12 @@ fn digits_at(input: &[u8]) -> (&str, &[u8])
     }
 }
 
-/// A number without a sign, of 64 bits: the longest run of digits, one at least. None where no
+/// A number without a sign, of 64 bits, and what follows it: the longest run of digits, one at least. `None` where no
 /// digit stands there, or where the number passes 64 bits. Zeros may stand in front.
+///
+/// # Cost
+///
+/// Linear in the digits, without memory.
 pub fn nat64(input: &[u8]) -> Option<(u64, &[u8])>
     ensures value { read_as (λ value. value) result ≡ natural_below (2 ^ 64) input.now }
     ensures shrinks { LeavesLess input.now result }
@@ -41,8 +45,12 @@ pub fn nat64(input: &[u8]) -> Option<(u64, &[u8])>
     }
 }
 
-/// A number without a sign, of 8 bits: the longest run of digits, one at least. None where no digit
-/// stands there, or where the number passes 8 bits. Zeros may stand in front.
+/// A number without a sign, of 8 bits, and what follows it: the longest run of digits, one at least. `None` where no
+/// digit stands there, or where the number passes 8 bits. Zeros may stand in front.
+///
+/// # Cost
+///
+/// Linear in the digits, without memory.
 pub fn nat8(input: &[u8]) -> Option<(u8, &[u8])>
     ensures value { read_as (λ value. value) result ≡ natural_below (2 ^ 8) input.now }
     ensures shrinks { LeavesLess input.now result }
@@ -79,8 +87,12 @@ fn signed(negative: bool, n: u64) -> Option<i64>
     }
 }
 
-/// A number of 64 bits, with a `+`, a `-` or no sign in front of its digits. None where no digit
-/// stands there, or where the number passes 64 bits. Zeros may stand in front.
+/// A number of 64 bits, with a `+`, a `-` or no sign in front of its digits, and what follows it. `None` where no
+/// digit stands there, or where the number passes 64 bits. Zeros may stand in front.
+///
+/// # Cost
+///
+/// Linear in the digits, without memory.
 pub fn int64(input: &[u8]) -> Option<(i64, &[u8])>
     ensures value { read_as (λ value. value) result ≡ integer_within (2 ^ 63) input.now }
     ensures shrinks { LeavesLess input.now result }
@@ -93,8 +105,12 @@ pub fn int64(input: &[u8]) -> Option<(i64, &[u8])>
     }
 }
 
-/// A number of 32 bits, with a `+`, a `-` or no sign in front of its digits. None where no digit
-/// stands there, or where the number passes 32 bits. Zeros may stand in front.
+/// A number of 32 bits, with a `+`, a `-` or no sign in front of its digits, and what follows it. `None` where no
+/// digit stands there, or where the number passes 32 bits. Zeros may stand in front.
+///
+/// # Cost
+///
+/// Linear in the digits, without memory.
 pub fn int32(input: &[u8]) -> Option<(i32, &[u8])>
     ensures value { read_as (λ value. value) result ≡ integer_within (2 ^ 31) input.now }
     ensures shrinks { LeavesLess input.now result }

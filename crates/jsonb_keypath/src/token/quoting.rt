@@ -7,8 +7,12 @@ ghost use Rattle.jsonb_keypath.specs.KeyPathText.{is_word_byte, is_plain_name as
 
 use std::fmt;
 
-/// Tells whether a name can be written without quotes: it is nonempty, of ASCII letters, digits and
-/// underscores, and doesn't begin with a digit.
+/// Whether a name can be written without quotes: it is nonempty, of ASCII letters, digits and underscores, and
+/// doesn't begin with a digit.
+///
+/// # Cost
+///
+/// Linear in the text, without memory.
 pub fn is_plain_name(text: &str) -> bool
     ensures { result ≡ spec_is_plain_name text.now }
 {
@@ -26,8 +30,15 @@ fn are_word_bytes(bytes: &[u8]) -> bool
         .all(|b| b.is_ascii_alphanumeric() || *b == b'_')
 }
 
-/// Writes a name as it is where it is plain, and else between quotes. It fails only where the
-/// formatter refuses.
+/// Writes a name as it is where it is plain, and else between quotes.
+///
+/// # Errors
+///
+/// The formatter's, only where it refuses.
+///
+/// # Cost
+///
+/// Linear in the text, without memory.
 pub fn write_name<W: fmt::Write>(text: &str, f: &mut fmt::Formatter<W>) -> fmt::Result
     ensures { WritesOnOk W.write_str_gives f.old result (name_text text.now) f.new }
 {
@@ -38,8 +49,16 @@ pub fn write_name<W: fmt::Write>(text: &str, f: &mut fmt::Formatter<W>) -> fmt::
     }
 }
 
-/// Writes a text between quotes, with a backslash before each quote and each backslash in it; all
-/// other characters stand as they are. It fails only where the formatter refuses.
+/// Writes a text between quotes, with a backslash before each quote and each backslash in it; all other characters
+/// stand as they are.
+///
+/// # Errors
+///
+/// The formatter's, only where it refuses.
+///
+/// # Cost
+///
+/// Linear in the text, without memory.
 pub fn write_quoted<W: fmt::Write>(text: &str, f: &mut fmt::Formatter<W>) -> fmt::Result
     ensures { WritesOnOk W.write_str_gives f.old result (quoted_text text.now) f.new }
 {

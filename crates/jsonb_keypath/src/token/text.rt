@@ -14,16 +14,21 @@ use jsonb_doc::Error;
 use std::alloc::{AllocError, Global};
 use std::borrow::CowStr;
 
-/// Reads a name at the front of the input: the longest run of one or more units, a unit being an
-/// escape or a byte that is neither a backslash nor a stop byte, and then the end of the input or a
-/// stop byte.
+/// Reads a name at the front of the input: the longest run of one or more units, a unit being an escape or a byte
+/// that is neither a backslash nor a stop byte, and then the end of the input or a stop byte.
 ///
-/// The stop bytes are space and `, . : { } [ ] ( ) ? @ $ | < > ! = + - * / % " '`. A tab, a line end
-/// and `&` are none. A malformed escape in the run, a lone surrogate, or bytes that are no UTF-8
-/// fail the whole name: None.
+/// The stop bytes are space and `, . : { } [ ] ( ) ? @ $ | < > ! = + - * / % " '`. A tab, a line end and `&` are
+/// none. A malformed escape in the run, a lone surrogate, or bytes that are no UTF-8 fail the whole name: `None`.
 ///
-/// The name is given with its escapes replaced, and what follows it. Without escapes it is borrowed
-/// from the input. Refused with `OutOfMemory` alone, and only where there are escapes.
+/// The name is given with its escapes replaced, and what follows it. Without escapes it is borrowed from the input.
+///
+/// # Errors
+///
+/// `OutOfMemory` where memory is refused, only where there are escapes.
+///
+/// # Cost
+///
+/// Linear in the name. Takes memory only where there are escapes.
 pub fn read_name(alloc: Global, input: &[u8]) -> Result<Option<(CowStr<'_, Global>, &[u8])>, Error>
     ensures value { IfOk result (λ found. read_as cow_str_bytes found ≡ name input.now) }
     ensures shrinks { IfOk result (LeavesLess input.now) }
@@ -32,15 +37,22 @@ pub fn read_name(alloc: Global, input: &[u8]) -> Result<Option<(CowStr<'_, Globa
     Ok(name_at(alloc, input)?)
 }
 
-/// Reads a text between quotes at the front of the input: a quote, one or more units, a unit being
-/// an escape or a byte that is neither a backslash nor a quote, and a quote.
+/// Reads a text between quotes at the front of the input: a quote, one or more units, a unit being an escape or a
+/// byte that is neither a backslash nor a quote, and a quote.
 ///
-/// Empty quotes, a missing end, a malformed escape, a lone surrogate, or bytes that are no UTF-8
-/// fail the text: None.
+/// Empty quotes, a missing end, a malformed escape, a lone surrogate, or bytes that are no UTF-8 fail the text:
+/// `None`.
 ///
-/// The text is given without its quotes and with its escapes replaced, and what follows it. Without
-/// escapes it is borrowed from the input. Refused with `OutOfMemory` alone, and only where there
-/// are escapes.
+/// The text is given without its quotes and with its escapes replaced, and what follows it. Without escapes it is
+/// borrowed from the input.
+///
+/// # Errors
+///
+/// `OutOfMemory` where memory is refused, only where there are escapes.
+///
+/// # Cost
+///
+/// Linear in the text. Takes memory only where there are escapes.
 pub fn read_quoted(
     alloc: Global,
     input: &[u8],

@@ -10,7 +10,8 @@ loop-next-preserved c =
     let grown : c.push_unit-in-Some-unit_at.new.found.items ≡ c.loop-next.found.items ++ unit_bytes c.in-Some-unit_at.next = c.in_ok-push_unit-2.ensures in
     record {
       read = rw grown (gather-goes (unit e) c.loop-next.found.items c.loop-next.rest.now
-          (unit_bytes c.in-Some-unit_at.next) c.in-Some-unit_at.after.now _ c.in-Some-unit_at.ensures.value c.in-Some-unit_at.ensures.shrinks c.loop-next.invariant.read);
+          (unit_bytes c.in-Some-unit_at.next) c.in-Some-unit_at.after.now _ c.in-Some-unit_at.ensures.value c.in-Some-unit_at.ensures.shrinks
+          c.loop-next.invariant.read);
       shorter = omega (arith, c.in-Some-unit_at.ensures.shrinks, c.loop-next.invariant.shorter);
     }
 
