@@ -19,23 +19,13 @@ use Rattle.jsonb_raw.proofs.CollectLoops.{Made, one_of_whole}
 pub array_of : (form : Form) (t : Tree) (found : Option ElementIter) (it : ElementIter) → found ≡ Some it → IsElementsOf form t found
     → (ts : Trees) × (t ≡ array ts) × HasElementsLeft form it ts
 array_of form (array ts) found it is h = (ts, refl, rw is at h)
-array_of form spec.null found it is h = absurd (rw is at h)
-array_of form (spec.boolean b) found it is h = absurd (rw is at h)
-array_of form (spec.number n) found it is h = absurd (rw is at h)
-array_of form (spec.text s) found it is h = absurd (rw is at h)
-array_of form (spec.extension x) found it is h = absurd (rw is at h)
-array_of form (spec.object ps) found it is h = absurd (rw is at h)
+array_of form _ found it is h = absurd (rw is at h)
 
 -- a tree without one is no array, and counts as one element
 pub no_array : (form : Form) (t : Tree) (found : Option ElementIter) → found ≡ None → IsElementsOf form t found
     → (array_values t ≡ None) × (as_elements t ≡ t ∷ [])
 no_array form (array ts) found is h = absurd (rw is at h)
-no_array form spec.null found is h = (refl, refl)
-no_array form (spec.boolean b) found is h = (refl, refl)
-no_array form (spec.number n) found is h = (refl, refl)
-no_array form (spec.text s) found is h = (refl, refl)
-no_array form (spec.extension x) found is h = (refl, refl)
-no_array form (spec.object ps) found is h = (refl, refl)
+no_array form _ found is h = (refl, refl)
 
 pub length-elements : (ts : Trees) → count ts ≡ length (elements ts)
 length-elements no_trees = refl

@@ -27,13 +27,9 @@ object_item form x b t is stands = rw is at stands
 -- an item that is no container has no children with a name
 pub no_names : (form : Form) (x : Item) (t : Tree) (name : List ℕ) → StandsFor form x t → ((b : Bor (List ℕ)) → x ≡ item.Array b → ⊥)
     → ((b : Bor (List ℕ)) → x ≡ item.Object b → ⊥) → without_name name t ≡ None
-no_names form item.Null t name stands not_array not_object = rw stands refl
-no_names form (item.Boolean b) t name stands not_array not_object = rw stands refl
-no_names form (item.Number n) t name stands not_array not_object = rw stands refl
-no_names form (item.String s) t name stands not_array not_object = rw stands refl
-no_names form (item.Extension x) t name stands not_array not_object = rw stands refl
 no_names form (item.Array b) t name stands not_array not_object = absurd (not_array b refl)
 no_names form (item.Object b) t name stands not_array not_object = absurd (not_object b refl)
+no_names form _ t name stands not_array not_object = rw stands refl
 
 -- the child at a position of an array is its element
 pub child_is_element : (form : Form) (x : Item) (b : Bor (List ℕ)) (t : Tree) (i : ℕ) → x ≡ item.Array b → StandsFor form x t

@@ -18,14 +18,8 @@ some_depth : (w : Width) → 0 < depths w
 some_depth w = one-le-pow (byte_len w) 256 (omega arith)
 
 rank_positive : (t : Tree) → 0 < rank t
-rank_positive Tree.null = omega arith
 rank_positive (Tree.boolean true) = omega arith
-rank_positive (Tree.boolean false) = omega arith
-rank_positive (Tree.number n) = omega arith
-rank_positive (Tree.text bytes) = omega arith
-rank_positive (Tree.extension x) = omega arith
-rank_positive (Tree.array ts) = omega arith
-rank_positive (Tree.object ps) = omega arith
+rank_positive _ = omega arith
 
 -- a column is an item at depth 0
 column_is_item : (w : Width) (column : Option Tree) → (k : ℕ) × (xs : List ℕ) × (column_key w column ≡ item_bytes w 0 k xs)

@@ -15,81 +15,49 @@ use Rattle.jsonb_raw.specs.Scalars.{is_json_scalar}
 
 pub contains-extension : (t : Tree) (x : Extension) → contains t (extension x) ≡ false
 contains-extension null x = refl
-contains-extension (boolean b) x = refl
-contains-extension (number n) x = refl
-contains-extension (text s) x = refl
-contains-extension (extension y) x = refl
-contains-extension (array ts) x = refl
-contains-extension (object ps) x = refl
+contains-extension _ x = refl
 
 -- a container is contained where it is matched
 pub contains-array : (t : Tree) (ys : Trees) → contains t (array ys) ≡ is_part_of (array ys) t
-contains-array null ys = refl
 contains-array (boolean true) ys = refl
-contains-array (boolean false) ys = refl
-contains-array (number n) ys = refl
-contains-array (text s) ys = refl
-contains-array (extension y) ys = refl
-contains-array (array ts) ys = refl
-contains-array (object ps) ys = refl
+contains-array _ ys = refl
 
 pub contains-object : (t : Tree) (qs : Pairs) → contains t (object qs) ≡ is_part_of (object qs) t
-contains-object null qs = refl
 contains-object (boolean true) qs = refl
-contains-object (boolean false) qs = refl
-contains-object (number n) qs = refl
-contains-object (text s) qs = refl
-contains-object (extension y) qs = refl
-contains-object (array ts) qs = refl
-contains-object (object ps) qs = refl
+contains-object _ qs = refl
 
 -- an item that is no extension and no container
 pub plain_item : (form : Form) (y : Item) (u : Tree) → StandsFor form y u → ((x : ExtensionValue) → y ≡ item.Extension x → ⊥)
     → ((b : Bor (List ℕ)) → y ≡ item.Array b → ⊥) → ((b : Bor (List ℕ)) → y ≡ item.Object b → ⊥) → is_json_scalar u ≡ true
-plain_item form item.Null u h e a o = rw h refl
-plain_item form (item.Boolean b) u h e a o = rw h refl
-plain_item form (item.Number n) u h e a o = rw h refl
-plain_item form (item.String s) u h e a o = rw h refl
 plain_item form (item.Extension x) u h e a o = absurd (e x refl)
 plain_item form (item.Array b) u h e a o = absurd (a b refl)
 plain_item form (item.Object b) u h e a o = absurd (o b refl)
+plain_item form _ u h e a o = rw h refl
 
 -- an array contains what one of its elements equals
 pub array_contains_plain : (ts : Trees) (u : Tree) → is_json_scalar u ≡ true → list_any (is_part_of u) (elements ts) ≡ contains (array ts) u
-array_contains_plain ts null h = refl
-array_contains_plain ts (boolean b) h = refl
-array_contains_plain ts (number n) h = refl
-array_contains_plain ts (text s) h = refl
 array_contains_plain ts (extension x) h = absurd (cc)
 array_contains_plain ts (array us) h = absurd (cc)
 array_contains_plain ts (object qs) h = absurd (cc)
+array_contains_plain ts _ h = refl
 
 pub object_equals_no_plain : (ps : Pairs) (u : Tree) → is_json_scalar u ≡ true → is_equal (object ps) u ≡ contains (object ps) u
-object_equals_no_plain ps null h = refl
-object_equals_no_plain ps (boolean true) h = refl
-object_equals_no_plain ps (boolean false) h = refl
-object_equals_no_plain ps (number n) h = refl
-object_equals_no_plain ps (text s) h = refl
 object_equals_no_plain ps (extension x) h = absurd (cc)
 object_equals_no_plain ps (array us) h = absurd (cc)
 object_equals_no_plain ps (object qs) h = absurd (cc)
+object_equals_no_plain ps (boolean true) h = refl
+object_equals_no_plain ps _ h = refl
 
 pub extension_equals_no_plain : (x : Extension) (u : Tree) → is_json_scalar u ≡ true → is_equal (extension x) u ≡ false
-extension_equals_no_plain x null h = refl
-extension_equals_no_plain x (boolean b) h = refl
-extension_equals_no_plain x (number n) h = refl
-extension_equals_no_plain x (text s) h = refl
 extension_equals_no_plain x (extension y) h = absurd (cc)
 extension_equals_no_plain x (array us) h = absurd (cc)
 extension_equals_no_plain x (object qs) h = absurd (cc)
+extension_equals_no_plain x _ h = refl
 
 -- another tree contains what it equals
 pub other_contains_plain : (form : Form) (x : Item) (t u : Tree) → StandsFor form x t → ((b : Bor (List ℕ)) → x ≡ item.Array b → ⊥) → is_json_scalar u ≡ true
     → is_equal t u ≡ contains t u
-other_contains_plain form item.Null t u h a plain = rw (h, plain) refl
-other_contains_plain form (item.Boolean b) t u h a plain = rw (h, plain) refl
-other_contains_plain form (item.Number n) t u h a plain = rw (h, plain) refl
-other_contains_plain form (item.String s) t u h a plain = rw (h, plain) refl
 other_contains_plain form (item.Extension x) t u h a plain = rw h (extension_equals_no_plain _ u plain)
 other_contains_plain form (item.Array b) t u h a plain = absurd (a b refl)
 other_contains_plain form (item.Object b) t u h a plain = rw h.1 (object_equals_no_plain h.0 u plain)
+other_contains_plain form _ t u h a plain = rw (h, plain) refl

@@ -1,26 +1,15 @@
 -- A tree contains itself, and what the trees that it contains do.
-use Rattle.std.proofs.Common.{◌≡◌, ℕ, Bool, true, false, ◌&&◌, ◌||◌, not, IsTrue, List, [], ◌∷◌, ◌++◌, refl, sym, ap₂, ◌∙◌, append_assoc}
+use Rattle.std.proofs.Common.{◌≡◌, ℕ, Bool, true, false, ◌&&◌, ◌||◌, not, IsTrue, List, [], ◌∷◌, ◌++◌, refl, sym, ◌∙◌, append_assoc}
 use Rattle.std.specs.List.{list_any}
 use Rattle.std.specs.Str.{bytes_eq}
 use Rattle.std.proofs.lemmas.Slice.Eq.{bytes_eq-Decides}
 use Rattle.jsonb_doc.specs.Tree.{Tree, null, boolean, number, text, extension, array, object, Trees, no_trees, tree, Pairs, no_pairs, pair, elements, members}
 use Rattle.jsonb_doc.specs.Equal.{is_equal}
-use Rattle.jsonb_doc.specs.Proofs.Equality.{is_equal_equiv}
+use Rattle.jsonb_doc.specs.Proofs.Equality.{is_equal_equiv, both, first_of_both, second_of_both}
 use Rattle.std.specs.Cmp.{partial_equiv_from_equiv}
 use Rattle.jsonb_raw.specs.Scalars.{is_extension_value, is_json_scalar}
 use Rattle.jsonb_raw.specs.Contains.{contains, is_part_of, each_is_matched, each_pair_is_matched}
 use Rattle.jsonb_raw.proofs.ContainLemmas.{contains-extension, contains-array, contains-object, array_contains_plain, object_equals_no_plain, extension_equals_no_plain}
-
-both : (a b : Bool) → a ≡ true → b ≡ true → (a && b) ≡ true
-both a b p q = ap₂ (λ x y. x && y) p q
-
-first_of_both : (a b : Bool) → (a && b) ≡ true → a ≡ true
-first_of_both true b h = refl
-first_of_both false b h = h
-
-second_of_both : (a b : Bool) → (a && b) ≡ true → b ≡ true
-second_of_both true b h = h
-second_of_both false b h = absurd (cc)
 
 same_bytes : (a : List ℕ) → bytes_eq a a ≡ true
 same_bytes a = (bytes_eq-Decides a a).1 refl
@@ -136,37 +125,23 @@ like (object us) (object ys) h e = absurd (cc)
 like (object us) _ h e = absurd (cc)
 
 matched_equal : (u x : Tree) → not_container u ≡ true → is_part_of u x ≡ is_equal x u
-matched_equal null x e = refl
-matched_equal (boolean b) x e = refl
-matched_equal (number n) x e = refl
-matched_equal (text s) x e = refl
-matched_equal (extension y) x e = refl
 matched_equal (array us) x e = absurd (cc)
 matched_equal (object us) x e = absurd (cc)
+matched_equal _ x e = refl
 
 equal_passed : (y u x : Tree) → not_container y ≡ true → is_equal u y ≡ true → is_part_of u x ≡ true → is_equal x y ≡ true
 equal_passed y u x e h k = equal_trans x u y (sym (matched_equal u x (like u y h e)) ∙ k) h
 
 -- an array is matched by arrays alone, and an object by objects
 from_array : (us : Trees) (x : Tree) → is_part_of (array us) x ≡ true → (xs : Trees) × (x ≡ array xs)
-from_array us null h = absurd (cc)
 from_array us (boolean true) h = absurd (cc)
-from_array us (boolean false) h = absurd (cc)
-from_array us (number n) h = absurd (cc)
-from_array us (text s) h = absurd (cc)
-from_array us (extension x) h = absurd (cc)
 from_array us (array xs) h = (xs, refl)
-from_array us (object xs) h = absurd (cc)
+from_array us _ h = absurd (cc)
 
 from_object : (us : Pairs) (x : Tree) → is_part_of (object us) x ≡ true → (xs : Pairs) × (x ≡ object xs)
-from_object us null h = absurd (cc)
 from_object us (boolean true) h = absurd (cc)
-from_object us (boolean false) h = absurd (cc)
-from_object us (number n) h = absurd (cc)
-from_object us (text s) h = absurd (cc)
-from_object us (extension x) h = absurd (cc)
-from_object us (array xs) h = absurd (cc)
 from_object us (object xs) h = (xs, refl)
+from_object us _ h = absurd (cc)
 
 mutual
   matched_trans : (y u x : Tree) → is_part_of y u ≡ true → is_part_of u x ≡ true → is_part_of y x ≡ true
@@ -204,13 +179,10 @@ mutual
 -- ---- what is contained is passed on
 
 plain_matched : (v t : Tree) → is_json_scalar v ≡ true → is_part_of v t ≡ is_equal t v
-plain_matched null t h = refl
-plain_matched (boolean b) t h = refl
-plain_matched (number n) t h = refl
-plain_matched (text s) t h = refl
 plain_matched (extension x) t h = absurd (cc)
 plain_matched (array us) t h = absurd (cc)
 plain_matched (object us) t h = absurd (cc)
+plain_matched _ t h = refl
 
 -- a plain value is matched by an element of an array, or by the tree
 abbrev plain_in : Tree → Tree → Bool
@@ -246,13 +218,8 @@ plain_trans t (array us) v p h k =
 plain_trans t (object us) v p h k = absurd (no_true _ (sym (object_equals_no_plain us v p) ∙ none us v p) k)
   where
     none : (us : Pairs) (v : Tree) → is_json_scalar v ≡ true → is_equal (object us) v ≡ false
-    none us null p = refl
-    none us (boolean b) p = refl
-    none us (number n) p = refl
-    none us (text s) p = refl
-    none us (extension x) p = refl
-    none us (array vs) p = refl
     none us (object vs) p = absurd (cc)
+    none us _ p = refl
 plain_trans t (extension x) v p h k = absurd (no_true _ (contains-extension t x) h)
 plain_trans t null v p h k = plain_in_trans v null t (sym (contains_plain null v p) ∙ k) (sym (contains_plain t null refl) ∙ h)
 plain_trans t (boolean b) v p h k = plain_in_trans v (boolean b) t (sym (contains_plain (boolean b) v p) ∙ k) (sym (contains_plain t (boolean b) refl) ∙ h)

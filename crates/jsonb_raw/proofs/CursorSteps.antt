@@ -13,8 +13,12 @@ use Rattle.jsonb_doc.specs.Payload.{Form}
 use Rattle.jsonb_doc.specs.Format.{AreKeys, IsBelowFirst}
 use Rattle.jsonb_doc.specs.Private.Stored.{HasEntriesLeft, Stores, GivesEntry, TakesEntry, key_trees}
 use Rattle.jsonb_doc.proofs.BuilderSteps.{AreRising, keys_rise}
-use Rattle.jsonb_raw.specs.Cursors.{IsCursorOf, IsPassed, IsBefore}
+use Rattle.jsonb_raw.specs.Cursors.{IsCursorOf, IsSearchOf, IsPassed, IsBefore, HoldsTexts}
 use Rattle.jsonb_raw.specs.declared.functions.path.exists.KeyCursor.{KeyCursor}
+use Rattle.jsonb_raw.specs.declared.functions.path.exists.KeySearch.{KeySearch}
+use Rattle.jsonb_raw.specs.declared.functions.path.exists.Texts.TheVariants.{Keys}
+use Rattle.jsonb_doc.specs.Tree.{Tree, object, Pairs, keys}
+use Rattle.std.specs.Prelude.{IfOk}
 use Rattle.jsonb_raw.proofs.PairStepLemmas.{test_of_order, below_further, below_key, above_key}
 
 -- a cursor in front of all keys
@@ -109,3 +113,9 @@ module _ (form : Form) (ks : List (List ℕ)) (c : KeyCursor) (ahead' : EntryIte
   cursor_error r error e n =
       no_error error h.behind (subst (λ (y : Result StoredEntry Error). TakesEntry form (key_trees h.behind) (Some y) ahead') e
       (n.takes form (key_trees h.behind) h.left))
+
+-- the texts are those of the same tree after a search
+pub still_texts : (form : Form) (t : Tree) (ps : Pairs) (s : KeySearch) (r : Result Bool Error) → t ≡ object ps
+    → IfOk r (λ b. IsSearchOf form s (keys ps)) → IfOk r (λ b. HoldsTexts form (Keys s) t)
+still_texts form t ps s (Ok b) is h = (ps, is, h)
+still_texts form t ps s (Err e) is h = tt

@@ -39,12 +39,7 @@ inside_of ts n child at = let h = slice_get_within (elements ts) n child at in o
 module _ (number_at : NumberReader) (bytes word : List ℕ) (m n : ℕ) (child : Tree) (first : word ≡ take 4 bytes) (read : m ≡ from_be_bytes w32 word) where
   container_case : (t : Tree) → IsContent number_at t container_entry bytes → slice_get (children t) n ≡ Some child
       → ArrayCase number_at bytes m t n child ⊎ ObjectCase number_at bytes m t n child
-  container_case null h at = absurd (omega (arith, h.0))
   container_case (boolean true) h at = absurd (omega (arith, h.0))
-  container_case (boolean false) h at = absurd (omega (arith, h.0))
-  container_case (number x) h at = absurd (omega (arith, h.0))
-  container_case (text s) h at = absurd (omega (arith, h.0))
-  container_case (extension x) h at = absurd (omega (arith, h.0))
   container_case (array ts) h at = inl (record {
     trees = ts;
     is = refl;
@@ -61,6 +56,7 @@ module _ (number_at : NumberReader) (bytes word : List ℕ) (m n : ℕ) (child :
     at = at;
     inside = omega (arith, inside_of (values ps) n child at, count-values ps);
   })
+  container_case _ h at = absurd (omega (arith, h.0))
 
   -- the counts of a container are in its header
   counted : (kind c : ℕ) → m ≡ kind * 2 ^ 29 + c → c < 2 ^ 29 → (m / 2 ^ 29 ≡ kind) × (m % 2 ^ 29 ≡ c)

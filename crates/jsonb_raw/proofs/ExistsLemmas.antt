@@ -41,13 +41,10 @@ text_item form x s t name is stands = let e : t ≡ text s.now = rw is at stands
 
 pub no_text_item : (form : Form) (x : Item) (t : Tree) (name : List ℕ) → ((s : Bor (List ℕ)) → x ≡ item.String s → ⊥) → StandsFor form x t
     → is_text name t ≡ false
-no_text_item form item.Null t name not_text h = rw h refl
-no_text_item form (item.Boolean b) t name not_text h = rw h refl
-no_text_item form (item.Number n) t name not_text h = rw h refl
 no_text_item form (item.String s) t name not_text h = absurd (not_text s refl)
-no_text_item form (item.Extension x) t name not_text h = rw h refl
 no_text_item form (item.Array bytes) t name not_text h = rw h.1 refl
 no_text_item form (item.Object bytes) t name not_text h = rw h.1 refl
+no_text_item form _ t name not_text h = rw h refl
 
 -- ---- one more that is tested
 

@@ -24,7 +24,7 @@ none_in_front : (name key : List ℕ) (ks : List (List ℕ)) → bytes_eq key na
 none_in_front name key ks other none = rw (position-cons (λ k. bytes_eq k name) key ks false other, none) refl
 
 -- a text below the first of rising keys is none of them
-below_all : (name : List ℕ) (ks : List (List ℕ)) → IsBelowFirst name ks → AreKeys ks → position (λ k. bytes_eq k name) ks ≡ None
+pub below_all : (name : List ℕ) (ks : List (List ℕ)) → IsBelowFirst name ks → AreKeys ks → position (λ k. bytes_eq k name) ks ≡ None
 below_all name [] below rising = refl
 below_all name (key ∷ ks) below rising =
     none_in_front name key ks other (below_all name ks (lower ks rising.1) rising.2)
@@ -104,10 +104,7 @@ module _ (change : Tree → Option Tree) (child child' : Tree) (changed : change
       position_in_object step (change_value n change ps) ∙ ap (position (λ key. bytes_eq key (asked_key step))) (same_keys ps n at)
       ∙ sym (position_in_object step ps)
   same_position step null n at = refl
-  same_position step (boolean b) n at = refl
-  same_position step (number m) n at = refl
-  same_position step (text s) n at = refl
-  same_position step (extension x) n at = refl
+  same_position step _ n at = refl
 
 -- ---- ranges
 

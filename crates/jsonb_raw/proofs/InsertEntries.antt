@@ -285,7 +285,8 @@ module _ (form : Form) (bytes : List ℕ) (ps : Pairs) (d : Decodes form bytes (
         ap contents_of_entries all_values ∙ contents-append vf (e ∷ behind) in
         parts_same (header object_header (kept.pairs + 1)) (entry_word text_entry (length name))
         (entry_word value.kind
-        (length value.content.now)) name value.content.now kept_are.before_are.words middle_words kept_are.behind_are.words kept_are.before_are.contents middle_contents kept_are.behind_are.contents
+        (length value.content.now)) name value.content.now kept_are.before_are.words middle_words kept_are.behind_are.words kept_are.before_are.contents
+        middle_contents kept_are.behind_are.contents
         ∙ in_order (header object_header (kept.pairs + 1)) (words_of_entries before) (entry_word text_entry (length name)) (words_of_entries kb)
         (words_of_entries vf) (entry_word value.kind (length value.content.now)) (words_of_entries behind) (contents_of_entries before) name
         (contents_of_entries kb) (contents_of_entries vf) value.content.now (contents_of_entries behind)

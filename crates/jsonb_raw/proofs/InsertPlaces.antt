@@ -182,12 +182,7 @@ in_object name t ps place is at = rw is at
 object_at : (name : List ℕ) (t : Tree) (place : PairPlace) → IsPairPlace name t (Some place)
     → (ps : Pairs) × (t ≡ object ps) × IsPlaceAmong place name (keys ps)
 object_at name (object ps) place at = (ps, refl, at)
-object_at name spec.null place at = absurd at
-object_at name (spec.boolean b) place at = absurd at
-object_at name (spec.number n) place at = absurd at
-object_at name (spec.text s) place at = absurd at
-object_at name (spec.extension x) place at = absurd at
-object_at name (spec.array ts) place at = absurd at
+object_at name _ place at = absurd at
 
 module _ (form : Form) (bytes : List ℕ) (name : List ℕ) (t : Tree) (place : PairPlace) (d : Decodes form bytes t) (at : IsPairPlace name t (Some place)) where
   pub name_there : 0 < place.taken → has_name name t ≡ true

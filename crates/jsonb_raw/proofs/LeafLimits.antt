@@ -54,13 +54,9 @@ module _ (form : Form) where
 
   mutual
     each_small : (t : Tree) → HasShortParts canonical t → Each IsSmall (leaves false t)
-    each_small null h = tt
-    each_small (boolean b) h = tt
-    each_small (number n) h = tt
-    each_small (text s) h = tt
-    each_small (extension x) h = tt
     each_small (array ts) h = trees_small 0 ts h.1
     each_small (object ps) h = pairs_small ps h.2
+    each_small _ h = tt
 
     trees_small : (n : ℕ) (ts : Trees) → HasShortElements canonical ts → Each IsSmall (leaves_of_trees false n ts)
     trees_small n no_trees h = tt
@@ -74,10 +70,6 @@ module _ (form : Form) where
 
   -- the leaves of a tree that fits are within the limits
   pub each_within_limits : (t : Tree) → Fits t → Each (λ leaf. IsWithinLimits form leaf.1) (leaves false t)
-  each_within_limits null fits = tt
-  each_within_limits (boolean b) fits = tt
-  each_within_limits (number n) fits = tt
-  each_within_limits (text s) fits = tt
-  each_within_limits (extension x) fits = tt
   each_within_limits (array ts) fits = each_small (array ts) fits.1
   each_within_limits (object ps) fits = each_small (object ps) fits.1
+  each_within_limits _ fits = tt

@@ -28,15 +28,9 @@ use Rattle.jsonb_raw.proofs.LevelLemmas.{count_of_trees, count_of_pairs, innermo
 
 -- a container without parts is a leaf
 pub empty_leaf : (ignore_array : Bool) (t : Tree) (n : ℕ) → n ≡ length (parts t) → n ≡ 0 → is_leaf ignore_array t ≡ true
-empty_leaf ignore_array spec.null n is none = refl
-empty_leaf ignore_array (spec.boolean b) n is none = refl
-empty_leaf ignore_array (spec.number m) n is none = refl
-empty_leaf ignore_array (spec.text s) n is none = refl
-empty_leaf ignore_array (spec.extension x) n is none = refl
-empty_leaf ignore_array (spec.array no_trees) n is none = refl
 empty_leaf ignore_array (spec.array (tree t ts)) n is none = absurd (omega (arith, is, none))
-empty_leaf ignore_array (spec.object no_pairs) n is none = refl
 empty_leaf ignore_array (spec.object (pair k t ps)) n is none = absurd (omega (arith, is, none))
+empty_leaf ignore_array _ n is none = refl
 
 pub full_array : (ignore_array : Bool) (ts : Trees) (n : ℕ) → ignore_array ≡ false → n ≡ length (parts_of_trees ts) → (n ≡ 0 → ⊥)
     → is_leaf ignore_array (spec.array ts) ≡ false
@@ -97,10 +91,6 @@ pairs_leaves ignore_array n (pair k t ps) =
 -- bytes decode to less parts than an index can count
 few_parts : (form : Form) (x : Item) (t : Tree) → StandsFor form x t → length (parts t) < 2 ^ 31
 few_parts form item.Null t stands = rw stands (omega arith)
-few_parts form (item.Boolean b) t stands = rw stands (omega arith)
-few_parts form (item.Number n) t stands = rw stands (omega arith)
-few_parts form (item.String s) t stands = rw stands (omega arith)
-few_parts form (item.Extension x) t stands = rw stands (omega arith)
 few_parts form (item.Array bytes) t stands =
     let (ts, is, d) = stands in
     let fits = (array_document (number_reader form) ts bytes.now d.document).1.headed.fits in
@@ -109,6 +99,7 @@ few_parts form (item.Object bytes) t stands =
     let (ps, is, d) = stands in
     let fits = (object_document (number_reader form) ps bytes.now d.document).1.headed.fits in
     rw is (omega (arith, fits, count_of_pairs ps))
+few_parts form _ t stands = rw stands (omega arith)
 
 parts_leaves : (ignore_array : Bool) (t : Tree) → length (parts t) < 2 ^ 31 → is_leaf ignore_array t ≡ false
     → leaves ignore_array t ≡ leaves_of_parts ignore_array 0 (parts t)

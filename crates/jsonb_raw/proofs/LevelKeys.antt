@@ -44,13 +44,9 @@ pairs_deep Pairs.no_pairs = refl
 pairs_deep (Pairs.pair k t ps) = ap (λ n. max (suc (deepest t)) n) (pairs_deep ps)
 
 parts_deep : (t : Tree) → deepest t ≡ deep_of_parts (parts t)
-parts_deep Tree.null = refl
-parts_deep (Tree.boolean b) = refl
-parts_deep (Tree.number n) = refl
-parts_deep (Tree.text bytes) = refl
-parts_deep (Tree.extension x) = refl
 parts_deep (Tree.array ts) = trees_deep ts
 parts_deep (Tree.object ps) = pairs_deep ps
+parts_deep _ = refl
 
 key_split : (w : Width) (t : Tree) (d : ℕ) → key w t d ≡ start w t d ++ keys_of_parts w (parts t) (suc d)
 key_split w Tree.null d = sym (append-nil (key w Tree.null d))

@@ -1,11 +1,8 @@
 -- What walks have left of containers: the first part of a level, the levels that a walk is within, and how they shrink.
-use Rattle.std.proofs.Common.{◌≡◌, ℕ, suc, ◌+◌, ◌*◌, ◌^◌, ◌<◌, ◌≤◌, List, [], ◌∷◌, ◌++◌, length, Option, Some, None, Result, Ok, Err, refl, sym, ap, subst, ◌∙◌, arith}
+use Rattle.std.proofs.Common.{◌≡◌, ℕ, suc, ◌+◌, ◌^◌, ◌<◌, List, [], ◌∷◌, ◌++◌, length, Option, Some, None, Result, Ok, Err, refl, sym, ap, subst, ◌∙◌, arith}
 use Rattle.std.specs.Prelude.{reverse}
 use Rattle.std.specs.Borrow.{Bor}
 use Rattle.std.proofs.lemmas.List.{reverse-append, length-reverse}
-use Rattle.std.proofs.Math.Nat.{one-le-pow, pow-le-pow_right, mul-le-mul_right}
-use Rattle.std.proofs.lemmas.Nat.{mul-le}
-use Rattle.std.proofs.lemmas.Grind.{pow_more}
 use Rattle.jsonb_doc.specs.declared.error.Error.{Error}
 use Rattle.jsonb_doc.specs.declared.item.Item.{Item}
 use Rattle.jsonb_doc.specs.declared.element_iter.ElementIter.{ElementIter}
@@ -16,6 +13,7 @@ use Rattle.jsonb_doc.specs.Payload.{Form}
 use Rattle.jsonb_doc.specs.Item.{StandsFor, item_size}
 use Rattle.jsonb_doc.specs.Elements.{TakesElement}
 use Rattle.jsonb_doc.specs.ObjectPairs.{TakesPair}
+use Rattle.jsonb_doc.proofs.Weights.{weight_of, weight-pos, inner_weighs, taken_weighs, weight_of_all, falls_inward, falls_outward}
 use Rattle.jsonb_raw.specs.declared.level.Level.{Level}
 use Rattle.jsonb_raw.specs.declared.level.Level.TheVariants.{Elements, Pairs}
 use Rattle.jsonb_raw.specs.Private.Levels.{Part, parts_of_trees, parts_of_pairs, HasPartsLeft, TakesPart, IsKeyOf, IsSmaller, level_room, level_bound}
@@ -143,89 +141,29 @@ module _ {G : Type 0} where
       pop [] t is = absurd t
       pop (l ∷ ls) t is = go l ls is t.0 t.1
 
--- ---- how they shrink: a level outweighs all that can lie within one of its items
-
--- more by two than any level gives
-unfoldable pub base : ℕ
-base = 2 ^ 65
+-- ---- how they shrink
 
 unfoldable pub weight : Level → ℕ
-weight l = (level_bound l + 1) * base ^ level_room l
+weight l = weight_of (level_bound l) (level_room l)
 
 abbrev pub weights : List Level → ℕ
-weights [] = 0
-weights (l ∷ ls) = weight l + weights ls
-
-base_big : (n : ℕ) → n < 2 ^ 64 → n + 2 ≤ base
-unfolding base
-base_big n h = omega (arith, h)
-
-base_pos : 0 < base
-unfolding base
-base_pos = omega arith
-
-power_pos : (m n : ℕ) → 0 < m → 1 ≤ m ^ n
-power_pos m n h = one-le-pow n m h
-
--- with a part taken a level weighs less, by more than all in the part can weigh
-shrunk : (m b c i r s j : ℕ) → 0 < m → c < b → s ≤ r → j < r → i + 2 ≤ m → (i + 1) * m ^ j + (c + 1) * m ^ s < (b + 1) * m ^ r
-shrunk m b c i r s j pos fewer less inner few =
-    let left : (c + 1) * m ^ s ≤ b * m ^ r = mul-le (c + 1) (m ^ s) b (m ^ r) (omega arith) (pow-le-pow_right pos less) in
-    let more : (i + 2) * m ^ j ≤ m * m ^ j = mul-le-mul_right (m ^ j) few in
-    let up : m ^ (j + 1) ≤ m ^ r = pow-le-pow_right pos (omega arith) in
-    let one : 1 ≤ m ^ j = power_pos m j pos in
-    let is : m ^ (j + 1) ≡ m ^ j * m = pow_more m j in
-    summed (m ^ j) (m ^ s) (m ^ r) m i b c left more (rw is at up) one
-  where
-    summed : (x y z m i b c : ℕ) → (c + 1) * y ≤ b * z → (i + 2) * x ≤ m * x → x * m ≤ z → 1 ≤ x → (i + 1) * x + (c + 1) * y < (b + 1) * z
-    summed x y z m i b c left more up one = grind (arith, left, more, up, one)
-
-weight_pos : (l : Level) → 0 < weight l
-unfolding weight
-weight_pos l =
-    let one = power_pos base (level_room l) base_pos in
-    let up : 1 * 1 ≤ (level_bound l + 1) * base ^ level_room l = mul-le 1 1 (level_bound l + 1) (base ^ level_room l) (omega arith) one in
-    omega (arith, up)
-
-inner_weighs : (level level' inner : Level) (item : Item) → IsSmaller level item level' → level_room inner < item_size item → level_bound inner < 2 ^ 64
-    → weight inner + weight level' < weight level
-unfolding weight
-inner_weighs level level' inner item s room bound =
-    let size = s.size in
-    shrunk base (level_bound level) (level_bound level') (level_bound inner) (level_room level) (level_room level') (level_room inner) base_pos s.bound s.room
-    (omega (arith, size, room)) (base_big (level_bound inner) bound)
-
-taken_weighs : (level level' : Level) (item : Item) → IsSmaller level item level' → weight level' < weight level
-unfolding weight
-taken_weighs level level' item s =
-    let left : (level_bound level' + 1) * base ^ level_room level' ≤ level_bound level * base ^ level_room level
-    = (let fewer = s.bound in mul-le (level_bound level' + 1) (base ^ level_room level') (level_bound level) (base ^ level_room level) (omega (arith, fewer))
-    (pow-le-pow_right base_pos s.room)) in
-    one_more (level_bound level) (base ^ level_room level) ((level_bound level' + 1) * base ^ level_room level') left
-    (power_pos base (level_room level) base_pos)
-  where
-    one_more : (b z x : ℕ) → x ≤ b * z → 1 ≤ z → x < (b + 1) * z
-    one_more b z x h one = grind (arith, h, one)
-
-around_pushed : (around around' : List Level) (l : Level) → around' ≡ around ++ l ∷ [] → weights (reverse around') ≡ weight l + weights (reverse around)
-around_pushed around around' l e = ap (λ ls. weights (reverse ls)) e ∙ ap weights (innermost around l)
+weights ls = weight_of_all weight ls
 
 -- the measure of a walk falls where a level is left for a part of it, where a part has no level, and where a level is done
 pub falls_within : (level level' inner : Level) (around around' : List Level) (item : Item) → IsSmaller level item level' → level_room inner < item_size item
     → level_bound inner < 2 ^ 64 → around' ≡ around ++ level' ∷ []
     → weight inner + weights (reverse around') < weight level + weights (reverse around)
+unfolding weight
 falls_within level level' inner around around' item s room bound e =
-    let is = around_pushed around around' level' e in
-    let less = inner_weighs level level' inner item s room bound in
-    omega (arith, is, less)
+    let size = s.size in
+    falls_inward weight level level' inner around around' (inner_weighs _ _ _ _ _ _ s.bound s.room (omega (arith, size, room)) bound) e
 
 pub falls_beside : (level level' : Level) (around : List Level) (item : Item) → IsSmaller level item level'
     → weight level' + weights (reverse around) < weight level + weights (reverse around)
-falls_beside level level' around item s = let less = taken_weighs level level' item s in omega (arith, less)
+unfolding weight
+falls_beside level level' around item s = let less = taken_weighs _ _ _ _ s.bound s.room in omega (arith, less)
 
 pub falls_done : (level outer : Level) (around around' : List Level) → around ≡ around' ++ outer ∷ []
     → weight outer + weights (reverse around') < weight level + weights (reverse around)
-falls_done level outer around around' e =
-    let is = around_pushed around' around outer e in
-    let pos = weight_pos level in
-    omega (arith, is, pos)
+unfolding weight
+falls_done level outer around around' e = falls_outward weight level outer around around' (weight-pos (level_bound level) (level_room level)) e

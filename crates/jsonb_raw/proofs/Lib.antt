@@ -21,6 +21,9 @@ pub mod LevelKeys
 pub mod EqualityWalk
 pub mod ScalarLemmas
 pub mod TextChunks
+pub mod MarkLemmas
+pub mod TakenEntries
+pub mod StartLemmas
 pub mod StripLists
 pub mod StripWalk
 pub mod InsertPlaces
@@ -81,3 +84,7 @@ pub mod StripLemmas
 pub mod InsertLemmas
 pub mod IteratorLemmas
 pub mod PlaceRows
+pub mod NamedPairs
+pub mod EntryDocuments
+pub mod RowWalks
+pub mod CutWalks

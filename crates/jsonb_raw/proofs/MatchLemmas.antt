@@ -110,13 +110,9 @@ entry_found form e (Some t) h = (t, refl, h)
 
 -- what is no container matches where it is equal
 pub scalar_match : (form : Form) (e : StoredEntry) (y : Tree) → Stores form e y → (e.kind == 5) ≡ false → (x : Tree) → is_equal x y ≡ is_part_of y x
-scalar_match form e null h k x = refl
-scalar_match form e (boolean b) h k x = refl
-scalar_match form e (number n) h k x = refl
-scalar_match form e (text s) h k x = refl
-scalar_match form e (extension z) h k x = refl
 scalar_match form e (array ys) h k x = absurd (no_container e.kind k h.content.0)
 scalar_match form e (object qs) h k x = absurd (no_container e.kind k h.content.0)
+scalar_match form e _ h k x = refl
 
 pub scalar_matches : (form : Form) (e : StoredEntry) (y : Tree) → Stores form e y → (e.kind == 5) ≡ false → (xs : List Tree)
     → list_any (λ x. is_equal x y) xs ≡ list_any (is_part_of y) xs

@@ -10,6 +10,7 @@ use Rattle.jsonb_doc.specs.Payload.{Form}
 use Rattle.jsonb_doc.specs.Format.{IsBelowFirst}
 use Rattle.jsonb_doc.specs.ObjectBuilder.{insert_pair}
 use Rattle.jsonb_doc.proofs.BuilderSteps.{AreRising}
+use Rattle.jsonb_doc.proofs.ObjectLemmas.{below_inserted}
 use Rattle.jsonb_raw.specs.declared.functions.parts.PairEntries.{PairEntries}
 use Rattle.jsonb_raw.specs.declared.functions.parts.FirstPair.{FirstPair}
 use Rattle.jsonb_raw.specs.declared.functions.parts.PairRows.{PairRows}
@@ -48,16 +49,6 @@ module _ (k : List ℕ) (t : Tree) (l : List ℕ) (u : Tree) (xs qs : List Membe
 
 -- ---- keys
 
-below_inserted : (low key : List ℕ) (x : Tree) (ps : List Member) → slice_cmp nat_cmp low key ≡ Less → IsBelowFirst low (keys_of ps)
-    → IsBelowFirst low (keys_of (insert_pair key x ps))
-below_inserted low key x [] less below = less
-below_inserted low key x (p ∷ ps) less below = go (slice_cmp nat_cmp key p.0)
-  where
-    go : (o : Ordering) → IsBelowFirst low (keys_of (match_ordering o ((key, x) ∷ p ∷ ps) ((p.0, x) ∷ ps) (p ∷ insert_pair key x ps)))
-    go Less = less
-    go Equal = below
-    go Greater = below
-
 pub rising_inserted : (key : List ℕ) (x : Tree) (ps : List Member) → AreRising (keys_of ps) → AreRising (keys_of (insert_pair key x ps))
 rising_inserted key x [] rising = (tt, tt)
 rising_inserted key x (p ∷ ps) rising = go (slice_cmp nat_cmp key p.0) refl (rising_inserted key x ps rising.1)
@@ -66,7 +57,7 @@ rising_inserted key x (p ∷ ps) rising = go (slice_cmp nat_cmp key p.0) refl (r
         → AreRising (keys_of (match_ordering o ((key, x) ∷ p ∷ ps) ((p.0, x) ∷ ps) (p ∷ insert_pair key x ps)))
     go Less e rest = (e, rising)
     go Equal e rest = rising
-    go Greater e rest = (below_inserted p.0 key x ps (below_key key p.0 e) rising.0, rest)
+    go Greater e rest = (below_inserted p.0 key x ps rising.0 (below_key key p.0 e), rest)
 
 -- what is put together has rising keys
 pub merged_rising : (ps qs : List Member) → AreRising (keys_of ps) → AreRising (keys_of (merged ps qs))
@@ -123,7 +114,8 @@ pub record Merging (form : Form) (rows : PairRows) (run left other : PairEntries
   pub joined : held ++ both is_second mine theirs ≡ whole
 
 pub merging_begun : (form : Form) (rows : PairRows) (first second : PairEntries) (ps qs : List Member) → rows.keys.items ≡ [] → rows.values.items ≡ []
-    → HoldPairs form first ps → HoldPairs form second qs → AreRising (keys_of ps) → AreRising (keys_of qs) → Merging form rows first first second false (merged ps qs)
+    → HoldPairs form first ps → HoldPairs form second qs → AreRising (keys_of ps) → AreRising (keys_of qs) → Merging form rows first first second false
+    (merged ps qs)
 merging_begun form rows first second ps qs keys_none values_none h g r s = record {
   held = [];
   mine = ps;
@@ -164,11 +156,26 @@ module _ (form : Form) (rows : PairRows) (run left other : PairEntries) (b : Boo
         go [] os e f opened hold r s j h n = absurd h
         go (p ∷ cs) [] e f opened hold r s j h n = absurd n
         go (p ∷ cs) (o ∷ os) e f opened hold r s j h n =
-            record { p = p; o = o; cs = cs; os = os; mine_is = e; theirs_is = f; first = h; second = n; opened = opened; hold = hold; r = r; s = s; whole_is = j }
+            record {
+              p = p;
+              o = o;
+              cs = cs;
+              os = os;
+              mine_is = e;
+              theirs_is = f;
+              first = h;
+              second = n;
+              opened = opened;
+              hold = hold;
+              r = r;
+              s = s;
+              whole_is = j;
+            }
 
     same_order : (o : Ordering) → slice_cmp nat_cmp pair.key.now next.key.now ≡ o → slice_cmp nat_cmp firsts.p.0 firsts.o.0 ≡ o
     same_order o e =
-        ap (λ (k : List ℕ). slice_cmp nat_cmp k firsts.o.0) (sym firsts.first.key) ∙ ap (λ (k : List ℕ). slice_cmp nat_cmp pair.key.now k) (sym firsts.second.key) ∙ e
+        ap (λ (k : List ℕ). slice_cmp nat_cmp k firsts.o.0) (sym firsts.first.key) ∙ ap (λ (k : List ℕ). slice_cmp nat_cmp pair.key.now k)
+        (sym firsts.second.key) ∙ e
 
     moved : (x : Member) (rest all : List Member) → all ≡ x ∷ rest → m.held ++ all ≡ whole → (m.held ++ x ∷ []) ++ rest ≡ whole
     moved x rest all is j = append_assoc m.held (x ∷ []) rest ∙ ap (λ (l : List Member). m.held ++ l) (sym is) ∙ j
@@ -205,7 +212,8 @@ module _ (form : Form) (rows : PairRows) (run left other : PairEntries) (b : Boo
 
     module _ (rows' : PairRows) (pushed : PairsHeld form rows' m.held) where
       turned_to : PairsOpen form rows' other next.others (m.held ++ firsts.o ∷ []) firsts.os
-      turned_to = pair_kept form rows' other other next m.held firsts.os firsts.o (pairs_begun form rows' other m.held (firsts.o ∷ firsts.os) pushed firsts.hold)
+      turned_to = pair_kept form rows' other other next m.held firsts.os firsts.o
+          (pairs_begun form rows' other m.held (firsts.o ∷ firsts.os) pushed firsts.hold)
           firsts.second
 
       pub merging_equal : b ≡ false → slice_cmp nat_cmp pair.key.now next.key.now ≡ Equal → Merging form rows' other next.others pair.others true whole

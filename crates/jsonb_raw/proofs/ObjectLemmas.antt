@@ -26,12 +26,7 @@ use Rattle.jsonb_raw.proofs.CollectLoops.{Made, any_here}
 -- a tree with an iterator over pairs is an object
 pub object_of : (form : Form) (t : Tree) (found : Option PairIter) (it : PairIter) → found ≡ Some it → IsPairsOf form t found → (ps : Pairs) × (t ≡ object ps)
 object_of form (object ps) found it is h = (ps, refl)
-object_of form spec.null found it is h = absurd (rw is at h)
-object_of form (spec.boolean b) found it is h = absurd (rw is at h)
-object_of form (spec.number n) found it is h = absurd (rw is at h)
-object_of form (spec.text s) found it is h = absurd (rw is at h)
-object_of form (spec.extension x) found it is h = absurd (rw is at h)
-object_of form (spec.array ts) found it is h = absurd (rw is at h)
+object_of form _ found it is h = absurd (rw is at h)
 
 -- the keys of an object that bytes decode to rise
 pub members_rise : (form : Form) (bytes : List ℕ) (ps : Pairs) → Decodes form bytes (object ps) → AreRising (keys_of (members ps))
@@ -43,12 +38,7 @@ members_rise form bytes ps d = keys_rise (keys_of (members ps)) (decoded_members
 pub object_of_keys : (t : Tree) (found : Option KeyIter) (it : KeyIter) → found ≡ Some it → IsKeysOf t found
     → (ps : Pairs) × (t ≡ object ps) × HasKeysLeft it (keys ps)
 object_of_keys (object ps) found it is h = (ps, refl, rw is at h)
-object_of_keys spec.null found it is h = absurd (rw is at h)
-object_of_keys (spec.boolean b) found it is h = absurd (rw is at h)
-object_of_keys (spec.number n) found it is h = absurd (rw is at h)
-object_of_keys (spec.text s) found it is h = absurd (rw is at h)
-object_of_keys (spec.extension x) found it is h = absurd (rw is at h)
-object_of_keys (spec.array ts) found it is h = absurd (rw is at h)
+object_of_keys _ found it is h = absurd (rw is at h)
 
 -- the keys are one that was given, and the rest
 pub record FirstKey (ks : List (List ℕ)) (x : Bor (List ℕ)) (after : KeyIter) : Type 0 where

@@ -121,19 +121,9 @@ module _ (form : Form) (rows : PairRows) (run left : PairEntries) (wanted : Bool
 pub pairs_there : (form : Form) (t : Tree) (found : Option PairEntries) (row : PairEntries) → found ≡ Some row → ArePairsOf form t found
     → (ps : Pairs) × (t ≡ object ps) × HoldPairs form row (members ps)
 pairs_there form (object ps) found row is h = (ps, refl, rw is at h)
-pairs_there form spec.null found row is h = absurd (rw is at h)
-pairs_there form (spec.boolean b) found row is h = absurd (rw is at h)
-pairs_there form (spec.number n) found row is h = absurd (rw is at h)
-pairs_there form (spec.text s) found row is h = absurd (rw is at h)
-pairs_there form (spec.extension x) found row is h = absurd (rw is at h)
-pairs_there form (spec.array ts) found row is h = absurd (rw is at h)
+pairs_there form _ found row is h = absurd (rw is at h)
 
 pub no_pairs_there : (form : Form) (t : Tree) (found : Option PairEntries) (change : List Member → List Member) → found ≡ None → ArePairsOf form t found
     → with_pairs change t ≡ None
 no_pairs_there form (object ps) found change is h = absurd (rw is at h)
-no_pairs_there form spec.null found change is h = refl
-no_pairs_there form (spec.boolean b) found change is h = refl
-no_pairs_there form (spec.number n) found change is h = refl
-no_pairs_there form (spec.text s) found change is h = refl
-no_pairs_there form (spec.extension x) found change is h = refl
-no_pairs_there form (spec.array ts) found change is h = refl
+no_pairs_there form _ found change is h = refl

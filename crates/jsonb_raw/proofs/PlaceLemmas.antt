@@ -57,33 +57,19 @@ field_met (quoted_name name) ps = value_at_key name ps
 field_met (unquoted_name name) ps = value_at_key name ps
 
 pub plain_met : (name : List ℕ) (t : Tree) → child_met (unquoted_name name) t ≡ field_of name t
-plain_met name null = refl
-plain_met name (boolean b) = refl
-plain_met name (number n) = refl
-plain_met name (text s) = refl
-plain_met name (extension x) = refl
-plain_met name (array ts) = refl
 plain_met name (object ps) = value_at_key name ps
+plain_met name _ = refl
 
 pub quoted_met : (name : List ℕ) (t : Tree) → child_met (quoted_name name) t ≡ field_of name t
-quoted_met name null = refl
-quoted_met name (boolean b) = refl
-quoted_met name (number n) = refl
-quoted_met name (text s) = refl
-quoted_met name (extension x) = refl
-quoted_met name (array ts) = refl
 quoted_met name (object ps) = value_at_key name ps
+quoted_met name _ = refl
 
 -- an index meets nothing in an item that is no container
 pub none_in_scalar : (form : Form) (i : ℤ) (x : Item) (t : Tree) → StandsFor form x t
     → ((bytes : _) → x ≡ item.Array bytes → ⊥) → ((bytes : _) → x ≡ item.Object bytes → ⊥) → child_met (index i) t ≡ None
-none_in_scalar form i item.Null t h no_array no_object = rw h refl
-none_in_scalar form i (item.Boolean b) t h no_array no_object = rw h refl
-none_in_scalar form i (item.Number n) t h no_array no_object = rw h refl
-none_in_scalar form i (item.String s) t h no_array no_object = rw h refl
-none_in_scalar form i (item.Extension x) t h no_array no_object = rw h refl
 none_in_scalar form i (item.Array bytes) t h no_array no_object = absurd (no_array bytes refl)
 none_in_scalar form i (item.Object bytes) t h no_array no_object = absurd (no_object bytes refl)
+none_in_scalar form i _ t h no_array no_object = rw h refl
 
 -- ---- several steps
 

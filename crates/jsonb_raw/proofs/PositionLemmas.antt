@@ -80,13 +80,9 @@ nothing_at (unquoted_name name) _ e = refl
 pub no_child_in_scalar : (x : Item) (t : Tree) (step : Key) → ((b : Bor (List ℕ)) → x ≡ item.Array b → ⊥) → ((b : Bor (List ℕ)) → x ≡ item.Object b → ⊥)
     → StandsFor any x t
     → None ≡ child_position step t
-no_child_in_scalar item.Null t step no_array no_object h = nothing_at step t (rw h refl)
-no_child_in_scalar (item.Boolean b) t step no_array no_object h = nothing_at step t (rw h refl)
-no_child_in_scalar (item.Number n) t step no_array no_object h = nothing_at step t (rw h refl)
-no_child_in_scalar (item.String s) t step no_array no_object h = nothing_at step t (rw h refl)
-no_child_in_scalar (item.Extension x) t step no_array no_object h = nothing_at step t (rw h refl)
 no_child_in_scalar (item.Array bytes) t step no_array no_object h = absurd (no_array bytes refl)
 no_child_in_scalar (item.Object bytes) t step no_array no_object h = absurd (no_object bytes refl)
+no_child_in_scalar _ t step no_array no_object h = nothing_at step t (rw h refl)
 
 -- ---- keys
 

@@ -20,8 +20,6 @@ use Rattle.jsonb_doc.proofs.BuilderSteps.{front_empty, front_pushed, front_refus
 use Rattle.jsonb_doc.specs.Private.Builders.{HoldsFront}
 use Rattle.jsonb_raw.proofs.IteratorItems.{SomeElements, SomeElements-all, SomeElements-first, SomePairs, SomePairs-all, SomePairs-first}
 
--- ---- arrays
-
 -- the trees that the builder holds, followed by what the elements that are left give, are the whole
 abbrev pub HeldElements : Form → Parts → ElementIter → (Trees → List Tree) → List Tree → Type 0
 HeldElements form parts it gives whole = SomeElements form it (λ ts. HoldsFront form parts (gives ts) whole)
@@ -78,68 +76,3 @@ module _ (form : Form) (gives : Trees → List Tree) (whole : List Tree) (before
       (λ t ts left stands front.
       let f = next_front t (part t) ts (next t ts stands) front in
       front_part_refused form before (part t) (gives ts) whole f e (refused t stands))
-
--- ---- objects
-
--- the pairs that the builder holds, followed by what the pairs that are left give, are the whole, whose keys rise
-abbrev pub HeldPairs : Form → List (List ℕ × EntryParts) → PairIter → (Pairs → List (List ℕ × Tree)) → List (List ℕ × Tree) → Type 0
-HeldPairs form es it gives whole = SomePairs form it (λ ps. HoldsFrontPairs form es (gives ps) whole)
-
--- at first nothing is held
-pub pairs_begun : (form : Form) (gives : Pairs → List (List ℕ × Tree)) (es : List (List ℕ × EntryParts)) (ps : Pairs) (found : Option PairIter)
-    (it it' : PairIter)
-    → found ≡ Some it → it' ≡ it → IsPairsOf form (object ps) found → es ≡ [] → AreRising (keys_of (gives ps)) → HeldPairs form es it' gives (gives ps)
-pairs_begun form gives es ps found it it' is same left none rising =
-    SomePairs-all form ps found it it' (λ qs. HoldsFrontPairs form es (gives qs) (gives ps)) is same left (pairs_empty form es (gives ps) none rising)
-
-module _ (form : Form) (gives : Pairs → List (List ℕ × Tree)) (whole : List (List ℕ × Tree)) (before : List (List ℕ × EntryParts)) (it it' : PairIter)
-    (r : Result (Bor (List ℕ) × Item) Error) (x : Bor (List ℕ) × Item) (is : r ≡ Ok x) (step : GivesPair it (Some r) it')
-    (h : HeldPairs form before it gives whole) where
-  next_front_pair : (t : Tree) (part : Tree) (ps : Pairs) → gives (pair x.0.now t ps) ≡ (x.0.now, part) ∷ gives ps
-      → HoldsFrontPairs form before (gives (pair x.0.now t ps)) whole
-      → HoldsFrontPairs form before ((x.0.now, part) ∷ gives ps) whole
-  next_front_pair t part ps same front = subst (λ (qs : List (List ℕ × Tree)). HoldsFrontPairs form before qs whole) same front
-
-  -- with what the next pair gives among the others, what the rest gives is left
-  pub pairs_pushed : (part : Tree → Tree) (after : List (List ℕ × EntryParts))
-      → ((t : Tree) (ps : Pairs) → StandsFor form x.1 t → gives (pair x.0.now t ps) ≡ (x.0.now, part t) ∷ gives ps)
-      → ((t : Tree) (held : List (List ℕ × Tree)) → StandsFor form x.1 t → HoldsPairs form before held → IsTrue (not (has_key x.0.now before))
-      → HoldsPairs form after (insert_pair x.0.now (part t) held))
-      → HeldPairs form after it' gives whole
-  pairs_pushed part after next pushed =
-      SomePairs-first form it it' r x (λ ps. HoldsFrontPairs form before (gives ps) whole) is step h
-      (λ t ps left stands front.
-      let f = next_front_pair t (part t) ps (next t ps stands) front in
-      let fresh = pair_not_there form before x.0.now (part t) (gives ps) whole f in
-      record { pairs = ps; left = left; fact = pair_pushed form before x.0.now (part t) (gives ps) whole f after (pushed t f.held stands f.holds fresh) })
-
-  -- where that push is refused, the whole is
-  pub pairs_refused : (part : Tree → Tree) (e : Error)
-      → ((t : Tree) (ps : Pairs) → StandsFor form x.1 t → gives (pair x.0.now t ps) ≡ (x.0.now, part t) ∷ gives ps)
-      → ((t : Tree) (held : List (List ℕ × Tree)) → StandsFor form x.1 t → HoldsPairs form before held → IsTrue (not (has_key x.0.now before))
-      → IsOutOfMemoryOrTooLarge form (object (pairs_of (insert_pair x.0.now (part t) held))) e)
-      → IsOutOfMemoryOrTooLarge form (object (pairs_of whole)) e
-  pairs_refused part e next refused =
-      SomePairs-first form it it' r x (λ ps. HoldsFrontPairs form before (gives ps) whole) is step h
-      (λ t ps left stands front.
-      let f = next_front_pair t (part t) ps (next t ps stands) front in
-      let fresh = pair_not_there form before x.0.now (part t) (gives ps) whole f in
-      pair_refused form before x.0.now (part t) (gives ps) whole f e (refused t f.held stands f.holds fresh))
-
-  -- a pair that gives nothing is passed over
-  pub pairs_skipped : ((t : Tree) (ps : Pairs) → StandsFor form x.1 t → gives (pair x.0.now t ps) ≡ gives ps) → HeldPairs form before it' gives whole
-  pairs_skipped next =
-      SomePairs-first form it it' r x (λ ps. HoldsFrontPairs form before (gives ps) whole) is step h
-      (λ t ps left stands front.
-      record { pairs = ps; left = left; fact = subst (λ (qs : List (List ℕ × Tree)). HoldsFrontPairs form before qs whole) (next t ps stands) front })
-
-  -- where a document of what the next pair gives is refused, the whole is
-  pub pairs_part_refused : (part : Tree → Tree) (e : Error)
-      → ((t : Tree) (ps : Pairs) → StandsFor form x.1 t → gives (pair x.0.now t ps) ≡ (x.0.now, part t) ∷ gives ps)
-      → ((t : Tree) → StandsFor form x.1 t → IsOutOfMemoryOrTooLarge form (part t) e)
-      → IsOutOfMemoryOrTooLarge form (object (pairs_of whole)) e
-  pairs_part_refused part e next refused =
-      SomePairs-first form it it' r x (λ ps. HoldsFrontPairs form before (gives ps) whole) is step h
-      (λ t ps left stands front.
-      let f = next_front_pair t (part t) ps (next t ps stands) front in
-      pair_part_refused form before x.0.now (part t) (gives ps) whole f e (refused t stands))

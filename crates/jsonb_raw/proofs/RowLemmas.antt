@@ -200,12 +200,7 @@ row_of_array form _ p row words contents h = absurd h
 pub array_row : (form : Form) (t : Tree) (found : Option Entries) (row : Entries) → found ≡ Some row → AreElementsOf form t found
     → (ts : Trees) × (t ≡ array ts) × HoldTrees form row (elements ts)
 array_row form (array ts) found row is h = (ts, refl, rw is at h)
-array_row form spec.null found row is h = absurd (rw is at h)
-array_row form (spec.boolean b) found row is h = absurd (rw is at h)
-array_row form (spec.number n) found row is h = absurd (rw is at h)
-array_row form (spec.text s) found row is h = absurd (rw is at h)
-array_row form (spec.extension x) found row is h = absurd (rw is at h)
-array_row form (spec.object ps) found row is h = absurd (rw is at h)
+array_row form _ found row is h = absurd (rw is at h)
 
 -- a container that was made, or refused for memory alone
 pub container_made : (form : Form) (t : Tree) (r : Result OwnedJsonb Error) (bytes : List ℕ) → IfOk r (λ made. made ≡ bytes) → IfErr r IsOutOfMemory

@@ -57,21 +57,21 @@ first_there form row (t ∷ ts) h some none = none h.entries.kind h.entries.cont
 
 -- ---- the first pair
 
-renamed : (form : Form) (row : Entries) (t : Tree) (ts : List Tree) (others : Entries) (kind kind' : ℕ) (content content' : List ℕ) → kind ≡ kind' → content ≡ content'
+renamed : (form : Form) (row : Entries) (t : Tree) (ts : List Tree) (others : Entries) (kind kind' : ℕ) (content content' : List ℕ) → kind ≡ kind' → content
+    ≡ content'
     → IsFirst form row t ts kind content others → IsFirst form row t ts kind' content' others
 renamed form row t ts others kind kind' content content' e f h = rw (← e, ← f) h
 
 pub pair_read : (form : Form) (row : PairEntries) (ps : List Member) (key value : FirstEntry) (first : FirstPair) → HoldPairs form row ps
     → TakesFirst form row.keys (map text (keys_of ps)) (Some key) → TakesFirst form row.values (values_of ps) (Some value)
-    → first.key ≡ key.content → first.others ≡ record { keys = key.others; values = value.others } → TakesFirstPair form row ps (Some first)
-pair_read form row [] key value first h k v same others = k
-pair_read form row (p ∷ ps) key value first h k v same others =
+    → first.key ≡ key.content → first.kind ≡ value.kind → first.content ≡ value.content → first.others ≡ record { keys = key.others; values = value.others }
+    → TakesFirstPair form row ps (Some first)
+pair_read form row [] key value first h k v same kind content others = k
+pair_read form row (p ∷ ps) key value first h k v same kind content others =
     record {
       key = ap (λ (b : Bor (List ℕ)). b.now) same ∙ k.part.1;
       name = rw others (renamed form row.keys _ _ key.others key.kind text_entry key.content.now p.0 k.part.0 k.part.1 k);
-      kind = value.kind;
-      content = value.content.now;
-      value = rw others v;
+      value = rw (kind, content, others) v;
     }
 
 pub pair_none : (form : Form) (row : PairEntries) (ps : List Member) → TakesFirst form row.keys (map text (keys_of ps)) None
@@ -115,7 +115,8 @@ module _ (form : Form) (rows : List Entries) (run left others : Entries) (xs ys 
     run_words = h.run_words ++ entry_word kind (length content);
     run_contents = h.run_contents ++ content;
     held = rw (← append_assoc (row_words rows) h.run_words (entry_word kind (length content)), ← append_assoc (row_contents rows) h.run_contents content)
-        (entries_append (number_reader form) xs (t ∷ []) (row_words rows ++ h.run_words) (row_contents rows ++ h.run_contents) (entry_word kind (length content)) content
+        (entries_append (number_reader form) xs (t ∷ []) (row_words rows ++ h.run_words) (row_contents rows ++ h.run_contents)
+        (entry_word kind (length content)) content
         h.held (lone form left others t ys kind content f));
     words_joined = h.words_joined ∙ ap (λ (l : List ℕ). h.run_words ++ l) f.begin.words_joined
         ∙ sym (append_assoc h.run_words (entry_word kind (length content)) others.words.now);
@@ -148,7 +149,8 @@ holding_again form rows row xs ys h left = record {
 
 -- ---- objects
 
-text_rows : (number_at : NumberReader) (ks : List (List ℕ)) (words contents : List ℕ) → AreRising ks → AreEntries number_at (trees_of (map text ks)) words contents
+text_rows : (number_at : NumberReader) (ks : List (List ℕ)) (words contents : List ℕ) → AreRising ks → AreEntries number_at (trees_of (map text ks)) words
+    contents
     → AreKeys ks × (words ≡ key_words ks) × (contents ≡ key_bytes ks)
 text_rows number_at [] words contents rising h = (tt, h.0, h.1)
 text_rows number_at (k ∷ ks) words contents rising h =
@@ -177,7 +179,8 @@ value_rows number_at (p ∷ ps) words contents h = record {
 pub rows_are_keys : (form : Form) (rows : List Entries) (ks : List (List ℕ)) → AreRising ks → RowsHold form rows (map text ks) → AreKeys ks
 rows_are_keys form rows ks rising h = (text_rows (number_reader form) ks (row_words rows) (row_contents rows) rising h.parts).0
 
-module _ (form : Form) (names parts : List Entries) (ps : List Member) (k : RowsHold form names (map text (keys_of ps))) (v : RowsHold form parts (values_of ps)) where
+module _ (form : Form) (names parts : List Entries) (ps : List Member) (k : RowsHold form names (map text (keys_of ps)))
+    (v : RowsHold form parts (values_of ps)) where
   names_count : length (row_words names) ≡ 4 * length (keys (pairs_of ps))
   names_count =
       length-words (number_reader form) (trees_of (map text (keys_of ps))) (row_words names) (row_contents names) k.parts
@@ -294,7 +297,8 @@ row_added form rows rows' row xs ys is h g = record {
 pub pairs_added : (form : Form) (rows rows' : PairRows) (row : PairEntries) (xs ys : List Member) → rows'.keys.items ≡ rows.keys.items ++ row.keys ∷ []
     → rows'.values.items ≡ rows.values.items ++ row.values ∷ [] → PairsHeld form rows xs → HoldPairs form row ys → PairsHeld form rows' (xs ++ ys)
 pairs_added form rows rows' row xs ys keys_is values_is h g = record {
-  names = rw (text_names xs ys) (row_added form rows.keys.items rows'.keys.items row.keys (map text (keys_of xs)) (map text (keys_of ys)) keys_is h.names g.names);
+  names = rw (text_names xs ys) (row_added form rows.keys.items rows'.keys.items row.keys (map text (keys_of xs)) (map text (keys_of ys)) keys_is h.names
+      g.names);
   parts = rw (all_values xs ys) (row_added form rows.values.items rows'.values.items row.values (values_of xs) (values_of ys) values_is h.parts g.parts);
 }
 
@@ -317,7 +321,7 @@ pair_kept form rows run left first xs ys p h f = record {
   names = rw (text_names xs (p ∷ [])) (holding_kept form rows.keys.items run.keys left.keys first.others.keys (map text (keys_of xs)) (map text (keys_of ys))
       (text p.0) text_entry p.0 h.names f.name);
   parts = rw (all_values xs (p ∷ [])) (holding_kept form rows.values.items run.values left.values first.others.values (values_of xs) (values_of ys)
-      p.1 f.kind f.content h.parts f.value);
+      p.1 first.kind first.content.now h.parts f.value);
 }
 
 pub others_hold : (form : Form) (left : PairEntries) (first : FirstPair) (ys : List Member) (p : Member) → IsFirstPair form left p ys first

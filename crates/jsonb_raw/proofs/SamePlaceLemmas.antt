@@ -9,12 +9,7 @@ use Rattle.jsonb_raw.specs.PlacesLaws.{PrintsToItsPlace}
 
 without_quotes : (name : List ℕ) (t : Tree) → child_position (quoted_name name) t ≡ child_position (unquoted_name name) t
 without_quotes name null = refl
-without_quotes name (boolean b) = refl
-without_quotes name (number n) = refl
-without_quotes name (text s) = refl
-without_quotes name (extension x) = refl
-without_quotes name (array ts) = refl
-without_quotes name (object ps) = refl
+without_quotes name _ = refl
 
 same_child : (step other : Key) → SamePlace step other → (t : Tree) → child_position other t ≡ child_position step t
 same_child (index i) (index j) e t = rw e refl

@@ -22,11 +22,7 @@ use Rattle.jsonb_raw.specs.declared.functions.array.sets.Kept.{Kept}
 short_part : (t : Tree) → IsShort canonical t → HasShortParts canonical t → IsWithinLimits canonical t
 short_part (array ts) short parts = parts
 short_part (object ps) short parts = parts
-short_part null short parts = short
-short_part (boolean b) short parts = short
-short_part (number n) short parts = short
-short_part (text s) short parts = short
-short_part (extension x) short parts = short
+short_part _ short parts = short
 
 fit_elements : (ts : Trees) → AreInRange ts → HasShortElements canonical ts → AllByRecursion Fits (elements ts)
 fit_elements no_trees range short = tt

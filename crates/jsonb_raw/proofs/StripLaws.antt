@@ -6,12 +6,7 @@ use Rattle.jsonb_raw.specs.Strip.{strip, strip_trees, strip_pairs}
 
 is_null-strip : (t : Tree) → is_null (strip t) ≡ is_null t
 is_null-strip null = refl
-is_null-strip (boolean b) = refl
-is_null-strip (number n) = refl
-is_null-strip (text s) = refl
-is_null-strip (extension x) = refl
-is_null-strip (array ts) = refl
-is_null-strip (object ps) = refl
+is_null-strip _ = refl
 
 strip_pair : (b : Bool) (k : List ℕ) (t : Tree) (ps : Pairs) → is_null t ≡ b → strip (strip t) ≡ strip t → strip_pairs (strip_pairs ps) ≡ strip_pairs ps
     → strip_pairs (cond b (strip_pairs ps) (pair k (strip t) (strip_pairs ps))) ≡ cond b (strip_pairs ps) (pair k (strip t) (strip_pairs ps))
@@ -21,13 +16,9 @@ strip_pair false k t ps n e f =
 
 mutual
   pub strip_twice : (t : Tree) → strip (strip t) ≡ strip t
-  strip_twice null = refl
-  strip_twice (boolean b) = refl
-  strip_twice (number n) = refl
-  strip_twice (text s) = refl
-  strip_twice (extension x) = refl
   strip_twice (array ts) = ap (λ us. array us) (strip_trees_twice ts)
   strip_twice (object ps) = ap (λ qs. object qs) (strip_pairs_twice ps)
+  strip_twice _ = refl
 
   strip_trees_twice : (ts : Trees) → strip_trees (strip_trees ts) ≡ strip_trees ts
   strip_trees_twice no_trees = refl

@@ -36,9 +36,6 @@ stripped_rising (pair key t ps) rising = by (is_null t) (below_stripped key ps r
 -- an item that isn't null stands for no null
 pub stands_for_no_null : (form : Form) (x : Item) (t : Tree) → StandsFor form x t → (x ≡ item.Null → ⊥) → is_null t ≡ false
 stands_for_no_null form item.Null t stands other = absurd (other refl)
-stands_for_no_null form (item.Boolean b) t stands other = rw stands refl
-stands_for_no_null form (item.Number n) t stands other = rw stands refl
-stands_for_no_null form (item.String s) t stands other = rw stands refl
-stands_for_no_null form (item.Extension x) t stands other = rw stands refl
 stands_for_no_null form (item.Array bytes) t stands other = rw stands.1 refl
 stands_for_no_null form (item.Object bytes) t stands other = rw stands.1 refl
+stands_for_no_null form _ t stands other = rw stands refl

@@ -58,24 +58,14 @@ values-stripped (pair key t ps) = by (is_null t) (values-stripped ps)
 -- ---- kinds
 
 pub null_kind : (form : Form) (t : Tree) (kind : ℕ) (bytes : List ℕ) → IsContent (number_reader form) t kind bytes → (kind == null_entry) ≡ is_null t
-null_kind form null kind bytes h = rw h.0 refl
 null_kind form (boolean true) kind bytes h = rw h.0 refl
-null_kind form (boolean false) kind bytes h = rw h.0 refl
-null_kind form (number n) kind bytes h = rw h.0 refl
-null_kind form (text s) kind bytes h = rw h.0 refl
-null_kind form (extension x) kind bytes h = rw h.0 refl
-null_kind form (array ts) kind bytes h = rw h.0 refl
-null_kind form (object ps) kind bytes h = rw h.0 refl
+null_kind form _ kind bytes h = rw h.0 refl
 
 pub scalar_strips : (form : Form) (t : Tree) (kind : ℕ) (bytes : List ℕ) → IsContent (number_reader form) t kind bytes → (kind ≡ container_entry → ⊥)
     → strip t ≡ t
-scalar_strips form null kind bytes h other = refl
-scalar_strips form (boolean b) kind bytes h other = refl
-scalar_strips form (number n) kind bytes h other = refl
-scalar_strips form (text s) kind bytes h other = refl
-scalar_strips form (extension x) kind bytes h other = refl
 scalar_strips form (array ts) kind bytes h other = absurd (other h.0)
 scalar_strips form (object ps) kind bytes h other = absurd (other h.0)
+scalar_strips form _ kind bytes h other = refl
 
 pub is_none : (k : ℕ) → k ≡ 0 → (k == null_entry) ≡ true
 is_none k e = rw e refl
@@ -201,8 +191,11 @@ pub record WordsToPush (out values words whole : List ℕ) : Type 0 where
 module _ (n : ℕ) (values value values' : List ℕ) (first : value ≡ take 4 values) (rest : values' ≡ drop 4 values) (long : length values' + 4 ≡ length values)
     (read : n ≡ from_be_bytes w32 value)
     (words word words' : List ℕ) (word_first : word ≡ take 4 words) (words_rest : words' ≡ drop 4 words) (out out' whole : List ℕ) where
-  pub word_left_out : n / 2 ^ 28 ≡ 0 → out' ≡ out → WordsToPush out values words whole → WordsToPush out' values' words' whole
-  word_left_out none same w = go w.entries w.others w.within w.as_many w.values_are w.words_are w.fact
+  -- the first of the values goes, and the word beside it
+  first_word_gone : ((e x : EntryParts) (es xs : List EntryParts) → n / 2 ^ 28 ≡ e.0 → word ≡ entry_word x.0 (length x.1)
+      → out ++ words_of_entries (beside (e ∷ es) (x ∷ xs)) ≡ whole → out' ++ words_of_entries (beside es xs) ≡ whole)
+      → WordsToPush out values words whole → WordsToPush out' values' words' whole
+  first_word_gone fact_of w = go w.entries w.others w.within w.as_many w.values_are w.words_are w.fact
     where
       go : (es xs : List EntryParts) → FitEntries es → length xs ≡ length es → values ≡ words_of_entries es → words ≡ words_of_entries xs
           → out ++ words_of_entries (beside es xs) ≡ whole → WordsToPush out' values' words' whole
@@ -217,30 +210,17 @@ module _ (n : ℕ) (values value values' : List ℕ) (first : value ≡ take 4 v
             as_many = omega (arith, many);
             values_are = rest ∙ ap (drop 4) values_are;
             words_are = words_rest ∙ ap (drop 4) words_are;
-            fact = rw same (rw (is_none e.0 (sym kind ∙ none)) at fact);
+            fact = fact_of e x es xs kind (word_first ∙ ap (take 4) words_are) fact;
           }
 
+  pub word_left_out : n / 2 ^ 28 ≡ 0 → out' ≡ out → WordsToPush out values words whole → WordsToPush out' values' words' whole
+  word_left_out none same w = first_word_gone (λ e x es xs kind is fact. rw same (rw (is_none e.0 (sym kind ∙ none)) at fact)) w
+
   pub word_pushed : (n / 2 ^ 28 ≡ 0 → ⊥) → out' ≡ out ++ word → WordsToPush out values words whole → WordsToPush out' values' words' whole
-  word_pushed some pushed w = go w.entries w.others w.within w.as_many w.values_are w.words_are w.fact
-    where
-      go : (es xs : List EntryParts) → FitEntries es → length xs ≡ length es → values ≡ words_of_entries es → words ≡ words_of_entries xs
-          → out ++ words_of_entries (beside es xs) ≡ whole → WordsToPush out' values' words' whole
-      go [] xs within many values_are words_are fact = absurd (omega (arith, long, ap length values_are))
-      go (e ∷ es) [] within many values_are words_are fact = absurd (omega (arith, many))
-      go (e ∷ es) (x ∷ xs) within many values_are words_are fact =
-          let kind = word_kind e.0 (length e.1) n value within.0.0 within.0.1 (first ∙ ap (take 4) values_are) read in
-          let is : word ≡ entry_word x.0 (length x.1) = word_first ∙ ap (take 4) words_are in
-          record {
-            entries = es;
-            others = xs;
-            within = within.1;
-            as_many = omega (arith, many);
-            values_are = rest ∙ ap (drop 4) values_are;
-            words_are = words_rest ∙ ap (drop 4) words_are;
-            fact = ap (λ ws. ws ++ words_of_entries (beside es xs)) (pushed ∙ ap (λ w. out ++ w) is)
-                ∙ append_assoc out (entry_word x.0 (length x.1)) (words_of_entries (beside es xs))
-                ∙ (rw (is_some e.0 (λ none. some (kind ∙ none))) at fact);
-          }
+  word_pushed some pushed w = first_word_gone (λ e x es xs kind is fact.
+      ap (λ ws. ws ++ words_of_entries (beside es xs)) (pushed ∙ ap (λ w. out ++ w) is)
+      ∙ append_assoc out (entry_word x.0 (length x.1)) (words_of_entries (beside es xs))
+      ∙ (rw (is_some e.0 (λ none. some (kind ∙ none))) at fact)) w
 
 pub words_pushed : (out values words whole : List ℕ) → length values < 4 → WordsToPush out values words whole → out ≡ whole
 words_pushed out values words whole short w = go w.entries w.others w.values_are w.fact
@@ -291,41 +271,11 @@ module _ (n : ℕ) (values value values' : List ℕ) (first : value ≡ take 4 v
     (words keys : List ℕ) (given : StoredEntry)
     (reads : (xs : List EntryParts) → FitEntries xs → words ≡ words_of_entries xs → keys ≡ contents_of_entries xs → ReadsEntry xs (Ok (Some given)))
     (last : Option (Bor (List ℕ))) (out out' whole : List ℕ) where
-  -- what is left behind the first of the keys
-  passed : (e : EntryParts) (es : List EntryParts) (k : List ℕ) (ks : List (List ℕ)) → FitEntries (e ∷ es) → AreKeys (k ∷ ks)
-      → length (k ∷ ks) ≡ length (e ∷ es) → values ≡ words_of_entries (e ∷ es)
-      → IsEntry given (text_entry, k) (key_entries ks) → out' ++ key_bytes (beside es ks) ≡ whole
-      → KeysToPush out' values' given.words.now given.contents.now (Some given.content) whole
-  passed e es k ks within are many values_are r fact = record {
-    entries = es;
-    names = ks;
-    within = within.1;
-    are = are.2;
-    above = rw r.content are.1;
-    as_many = omega (arith, many);
-    values_are = rest ∙ ap (drop 4) values_are;
-    words_are = r.words;
-    keys_are = r.contents;
-    fact = fact;
-  }
-
-  pub key_left_out : n / 2 ^ 28 ≡ 0 → out' ≡ out → KeysToPush out values words keys last whole
-      → KeysToPush out' values' given.words.now given.contents.now (Some given.content) whole
-  key_left_out none same w = go w.entries w.names w.within w.are w.as_many w.values_are w.words_are w.keys_are w.fact
-    where
-      go : (es : List EntryParts) (ks : List (List ℕ)) → FitEntries es → AreKeys ks → length ks ≡ length es → values ≡ words_of_entries es
-          → words ≡ words_of_entries (key_entries ks) → keys ≡ contents_of_entries (key_entries ks)
-          → out ++ key_bytes (beside es ks) ≡ whole → KeysToPush out' values' given.words.now given.contents.now (Some given.content) whole
-      go [] ks within are many values_are words_are keys_are fact = absurd (omega (arith, long, ap length values_are))
-      go (e ∷ es) [] within are many values_are words_are keys_are fact = absurd (omega (arith, many))
-      go (e ∷ es) (k ∷ ks) within are many values_are words_are keys_are fact =
-          let kind = word_kind e.0 (length e.1) n value within.0.0 within.0.1 (first ∙ ap (take 4) values_are) read in
-          passed e es k ks within are many values_are (reads (key_entries (k ∷ ks)) (key-within (k ∷ ks) are) words_are keys_are)
-          (rw same (rw (is_none e.0 (sym kind ∙ none)) at fact))
-
-  pub key_pushed : (n / 2 ^ 28 ≡ 0 → ⊥) → out' ≡ out ++ given.content.now → KeysToPush out values words keys last whole
-      → KeysToPush out' values' given.words.now given.contents.now (Some given.content) whole
-  key_pushed some pushed w = go w.entries w.names w.within w.are w.as_many w.values_are w.words_are w.keys_are w.fact
+  -- the first of the values goes, and the key beside it
+  first_gone : ((e : EntryParts) (es : List EntryParts) (k : List ℕ) (ks : List (List ℕ)) → n / 2 ^ 28 ≡ e.0 → given.content.now ≡ k
+      → out ++ key_bytes (beside (e ∷ es) (k ∷ ks)) ≡ whole → out' ++ key_bytes (beside es ks) ≡ whole)
+      → KeysToPush out values words keys last whole → KeysToPush out' values' given.words.now given.contents.now (Some given.content) whole
+  first_gone fact_of w = go w.entries w.names w.within w.are w.as_many w.values_are w.words_are w.keys_are w.fact
     where
       go : (es : List EntryParts) (ks : List (List ℕ)) → FitEntries es → AreKeys ks → length ks ≡ length es → values ≡ words_of_entries es
           → words ≡ words_of_entries (key_entries ks) → keys ≡ contents_of_entries (key_entries ks)
@@ -335,9 +285,28 @@ module _ (n : ℕ) (values value values' : List ℕ) (first : value ≡ take 4 v
       go (e ∷ es) (k ∷ ks) within are many values_are words_are keys_are fact =
           let kind = word_kind e.0 (length e.1) n value within.0.0 within.0.1 (first ∙ ap (take 4) values_are) read in
           let r = reads (key_entries (k ∷ ks)) (key-within (k ∷ ks) are) words_are keys_are in
-          passed e es k ks within are many values_are r
-          (ap (λ ws. ws ++ key_bytes (beside es ks)) (pushed ∙ ap (λ x. out ++ x) r.content) ∙ append_assoc out k (key_bytes (beside es ks))
-          ∙ (rw (is_some e.0 (λ none. some (kind ∙ none))) at fact))
+          record {
+            entries = es;
+            names = ks;
+            within = within.1;
+            are = are.2;
+            above = rw r.content are.1;
+            as_many = omega (arith, many);
+            values_are = rest ∙ ap (drop 4) values_are;
+            words_are = r.words;
+            keys_are = r.contents;
+            fact = fact_of e es k ks kind r.content fact;
+          }
+
+  pub key_left_out : n / 2 ^ 28 ≡ 0 → out' ≡ out → KeysToPush out values words keys last whole
+      → KeysToPush out' values' given.words.now given.contents.now (Some given.content) whole
+  key_left_out none same w = first_gone (λ e es k ks kind is fact. rw same (rw (is_none e.0 (sym kind ∙ none)) at fact)) w
+
+  pub key_pushed : (n / 2 ^ 28 ≡ 0 → ⊥) → out' ≡ out ++ given.content.now → KeysToPush out values words keys last whole
+      → KeysToPush out' values' given.words.now given.contents.now (Some given.content) whole
+  key_pushed some pushed w = first_gone (λ e es k ks kind is fact.
+      ap (λ ws. ws ++ key_bytes (beside es ks)) (pushed ∙ ap (λ x. out ++ x) is) ∙ append_assoc out k (key_bytes (beside es ks))
+      ∙ (rw (is_some e.0 (λ none. some (kind ∙ none))) at fact)) w
 
 pub keys_pushed : (out values words keys : List ℕ) (last : Option (Bor (List ℕ))) (whole : List ℕ) → length values < 4
     → KeysToPush out values words keys last whole → out ≡ whole

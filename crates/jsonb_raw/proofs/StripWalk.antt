@@ -208,7 +208,14 @@ module _ (form : Form) (is_object : Bool) (start word : ℕ) (words contents : L
         before = h.before;
         target = h.target;
         most = h.most;
-        opened = record { entries = es; trees = ts; words_are = r.words; contents_are = r.contents; written = skipped form is_object h.before out start word e es t ts h.target h.most w (rw r.kind at out_of) };
+        opened = record {
+          entries = es;
+          trees = ts;
+          words_are = r.words;
+          contents_are = r.contents;
+          written = skipped form is_object h.before out start word
+              e es t ts h.target h.most w (rw r.kind at out_of);
+        };
         outside = h.outside;
       })
 
@@ -519,7 +526,8 @@ pub object_read : (form : Form) (ps : Pairs) (container all_words behind key_wor
     → ((es : List EntryParts) → FitEntries es → key_words ≡ words_of_entries es → len ≡ length (contents_of_entries es)) → keys ≡ take len behind
     → contents ≡ drop len behind
     → ObjectRead form ps container key_words words keys contents
-object_read form ps container all_words behind key_words words keys contents n len is counted all_is behind_is key_words_is words_is len_is keys_is contents_is =
+object_read form ps container all_words behind key_words words keys contents n len is counted all_is behind_is key_words_is words_is len_is keys_is
+    contents_is =
     let h = is.1 in
     let m = h.parts in
     let ks = spec.keys ps in
@@ -620,7 +628,14 @@ object_begun form ps container key_words words keys contents old o1 o2 o3 o4 sta
                 words = kw ++ words_of_entries xs;
                 contents = kb ++ contents_of_entries xs;
                 headed = record { known = omega arith; fits = omega (arith, fewer, r.few); joined = simp append_assoc };
-                parts = record { value_words = words_of_entries xs; value_contents = contents_of_entries xs; words_joined = refl; contents_joined = refl; are_keys = keys_stripped ps r.are_keys; values = joined_values (number_reader form) (strip_pairs ps) xs within of };
+                parts = record {
+                  value_words = words_of_entries xs;
+                  value_contents = contents_of_entries xs;
+                  words_joined = refl;
+                  contents_joined = refl;
+                  are_keys = keys_stripped ps r.are_keys;
+                  values = joined_values (number_reader form) (strip_pairs ps) xs within of;
+                };
               },
             );
         short = omega (arith, r.size, count_vw, count_kw, fewer, fewer_bytes ps, length-append h kw);
@@ -673,12 +688,7 @@ pub record ObjectBegins (form : Form) (t : Tree) (container : List ℕ) (n : ℕ
 module _ (form : Form) (container word : List ℕ) (m : ℕ) (first : word ≡ take 4 container) (read : m ≡ from_be_bytes w32 word) where
   pub container_case : (t : Tree) → IsContent (number_reader form) t container_entry container
       → ((m / 2 ^ 29 ≡ 4) × ArrayBegins form t container (m % 2 ^ 29)) ⊎ ((m / 2 ^ 29 ≡ 2) × ObjectBegins form t container (m % 2 ^ 29))
-  container_case spec.null h = absurd (omega (arith, h.0))
   container_case (spec.boolean true) h = absurd (omega (arith, h.0))
-  container_case (spec.boolean false) h = absurd (omega (arith, h.0))
-  container_case (spec.number x) h = absurd (omega (arith, h.0))
-  container_case (spec.text s) h = absurd (omega (arith, h.0))
-  container_case (spec.extension x) h = absurd (omega (arith, h.0))
   container_case (spec.array ts) h =
       let is = header_read container word (h.1.words ++ h.1.contents) array_header (count ts) m h.1.headed first read in
       let fits = h.1.headed.fits in
@@ -687,18 +697,15 @@ module _ (form : Form) (container word : List ℕ) (m : ℕ) (first : word ≡ t
       let is = header_read container word (h.1.words ++ h.1.contents) object_header (length (spec.keys ps)) m h.1.headed first read in
       let fits = h.1.headed.fits in
       inr (omega (arith, is, fits), record { pairs = ps; is = refl; content = h; counted = omega (arith, is, fits) })
+  container_case _ h = absurd (omega (arith, h.0))
 
 pub container_is_long : (form : Form) (t : Tree) (container : List ℕ) → IsContent (number_reader form) t container_entry container → length container < 4 → ⊥
-container_is_long form spec.null container h short = omega (arith, h.0)
 container_is_long form (spec.boolean true) container h short = omega (arith, h.0)
-container_is_long form (spec.boolean false) container h short = omega (arith, h.0)
-container_is_long form (spec.number x) container h short = omega (arith, h.0)
-container_is_long form (spec.text s) container h short = omega (arith, h.0)
-container_is_long form (spec.extension x) container h short = omega (arith, h.0)
 container_is_long form (spec.array ts) container h short = omega
     (arith, short, ap length h.1.headed.joined, length-append (header array_header (count ts)) (h.1.words ++ h.1.contents))
 container_is_long form (spec.object ps) container h short = omega
     (arith, short, ap length h.1.headed.joined, length-append (header object_header (length (spec.keys ps))) (h.1.words ++ h.1.contents))
+container_is_long form _ container h short = omega (arith, h.0)
 
 -- ---- how the walk begins
 

@@ -1,12 +1,17 @@
 -- What calls told of texts that are joined.
-use Rattle.std.proofs.Common.{ℕ, Option, Some, None, ◌+◌, zero, suc, Bool, true, false, List, [], ◌∷◌, ◌++◌, length, refl, ◌∙◌, arith, length-append}
+use Rattle.std.proofs.Common.{◌≡◌, ◌==◌, ℕ, Option, Some, None, ◌+◌, zero, suc, Bool, true, false, List, [], ◌∷◌, ◌++◌, length, refl, ◌∙◌, arith, length-append, true≢false}
+use Rattle.std.proofs.lemmas.Bool.{eqb-true}
+use Rattle.jsonb_doc.specs.Payload.{number_reader}
+use Rattle.jsonb_doc.specs.Private.Stored.{Stores}
+use Rattle.jsonb_doc.specs.declared.entry_iter.StoredEntry.{StoredEntry}
+use Rattle.jsonb_doc.proofs.ScalarLemmas.{text_content}
 use Rattle.std.specs.Prelude.{All, Any}
 use Rattle.std.specs.Borrow.{Bor}
 use Rattle.std.specs.Fn.{Shared, FnReturnsAt}
 use Rattle.std.proofs.lemmas.List.{get_or_append_left, get_or-append-add}
 use Rattle.std.proofs.lemmas.List.Elements.{All-append}
 use Rattle.jsonb_raw.specs.Texts.{Tells, LargeTells, LeavesTexts, texts}
-use Rattle.jsonb_doc.specs.Tree.{Tree}
+use Rattle.jsonb_doc.specs.Tree.{Tree, null, boolean, number, text, extension, array, object}
 use Rattle.jsonb_doc.specs.Payload.{Form}
 use Rattle.jsonb_doc.specs.Item.{StandsFor}
 use Rattle.jsonb_doc.specs.declared.item.Item.{Item}
@@ -92,3 +97,21 @@ module _ {F : Type 0} (calls : Shared F (Bor (List ℕ) × Unit {0}) Bool) (func
     pub leaves_told : (ss : List (List ℕ)) (answer : Bool) → Tells calls func ss answer → LeavesTexts calls func form ss answer None
     leaves_told ss true h = h
     leaves_told ss false h = h
+
+module _ (form : Form) (e : StoredEntry) where
+  -- an entry of that kind is the text of its bytes
+  pub text_stored : (t : Tree) → Stores form e t → (e.kind == 1) ≡ true → texts t ≡ e.content.now ∷ []
+  text_stored t h k =
+      let is : e.kind ≡ 1 = eqb-true e.kind 1 k in
+      let told = text_content (number_reader form) e.kind e.content.now t is h.content in
+      rw told.0 refl
+
+  -- what is neither a text nor a container has none
+  pub no_texts : (t : Tree) → Stores form e t → (e.kind == 1) ≡ false → (e.kind == 5) ≡ false → texts t ≡ []
+  no_texts null h k l = refl
+  no_texts (boolean b) h k l = refl
+  no_texts (number n) h k l = refl
+  no_texts (text s) h k l = absurd (true≢false (rw h.content.0 at k))
+  no_texts (extension x) h k l = refl
+  no_texts (array ts) h k l = absurd (true≢false (rw h.content.0 at l))
+  no_texts (object ps) h k l = absurd (true≢false (rw h.content.0 at l))

@@ -21,12 +21,7 @@ key_trees_are_texts (key ∷ ks) = key_trees_are_texts ks
 -- the entry of the first of them is its bytes
 pub first_text : (form : Form) (e : StoredEntry) (t : Tree) (ts : Trees) → AreTexts (tree t ts) → Stores form e t → (t ≡ text e.content.now) × AreTexts ts
 first_text form e (text s) ts are h = (ap text (sym h.content.1), are)
-first_text form e null ts are h = absurd are
-first_text form e (boolean b) ts are h = absurd are
-first_text form e (number n) ts are h = absurd are
-first_text form e (extension x) ts are h = absurd are
-first_text form e (array us) ts are h = absurd are
-first_text form e (object ps) ts are h = absurd are
+first_text form e _ ts are h = absurd are
 
 -- texts are equal where their bytes are
 pub texts_by_bytes : (form other_form : Form) (e o : StoredEntry) (t u : Tree) (ts us : Trees) → AreTexts (tree t ts) → AreTexts (tree u us) → Stores form e t

@@ -92,17 +92,11 @@ IsRest-item w d k xs r = inr (d, k ∷ xs ++ r, omega arith, append_assoc (to_be
 -- bytes that begin with a depth are not empty
 pub nothing_below_depth : (w : Width) (d : ℕ) (s : List ℕ) → bytes_cmp [] (to_be_bytes w d ++ s) ≡ Less
 nothing_below_depth w8 d s = refl
-nothing_below_depth w16 d s = refl
-nothing_below_depth w32 d s = refl
-nothing_below_depth w64 d s = refl
-nothing_below_depth w128 d s = refl
+nothing_below_depth _ d s = refl
 
 pub nothing_above_depth : (w : Width) (d : ℕ) (r : List ℕ) → bytes_cmp (to_be_bytes w d ++ r) [] ≡ Greater
 nothing_above_depth w8 d r = refl
-nothing_above_depth w16 d r = refl
-nothing_above_depth w32 d r = refl
-nothing_above_depth w64 d r = refl
-nothing_above_depth w128 d r = refl
+nothing_above_depth _ d r = refl
 
 -- a rest is below an item that lies deeper
 rest_below : (w : Width) (d k : ℕ) (xs r s : List ℕ) → suc d < depths w → IsRest w d r → bytes_cmp r (item_bytes w (suc d) k xs ++ s) ≡ Less

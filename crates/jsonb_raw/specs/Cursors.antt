@@ -12,6 +12,7 @@ use Rattle.jsonb_doc.specs.Format.{Decodes, AreKeys, IsBelowFirst}
 use Rattle.jsonb_doc.specs.Private.Stored.{HasEntriesLeft, key_trees}
 use Rattle.jsonb_raw.specs.Exists.{has_text}
 use Rattle.jsonb_raw.specs.declared.functions.path.exists.KeyCursor.{KeyCursor}
+use Rattle.jsonb_raw.specs.declared.functions.path.exists.KeySearch.{KeySearch}
 use Rattle.jsonb_raw.specs.declared.functions.path.exists.Texts.{Texts}
 use Rattle.jsonb_raw.specs.declared.functions.path.exists.Texts.TheVariants.{Keys, Elements, Root, Without}
 
@@ -35,9 +36,15 @@ pub record IsCursorOf (form : Form) (c : KeyCursor) (ks : List (List ℕ)) : Typ
   pub before : IsBefore c.passed behind
   pub decides : (name : List ℕ) → IsPassed c.passed name → list_any (λ key. bytes_eq key name) behind ≡ list_any (λ key. bytes_eq key name) ks
 
+-- each cursor of the search stands among these keys
+pub record IsSearchOf (form : Form) (s : KeySearch) (ks : List (List ℕ)) : Type 0 where
+  pub near : IsCursorOf form s.near ks
+  pub middle : IsCursorOf form s.middle ks
+  pub behind : IsCursorOf form s.behind ks
+
 -- these are the texts of the tree
 abbrev pub HoldsTexts : Form → Texts → Tree → Type 0
-HoldsTexts form (Keys c) t = (ps : Pairs) × (t ≡ object ps) × IsCursorOf form c (keys ps)
+HoldsTexts form (Keys s) t = (ps : Pairs) × (t ≡ object ps) × IsSearchOf form s (keys ps)
 HoldsTexts form (Elements bytes) t = (ts : Trees) × (t ≡ array ts) × Decodes form bytes.now (array ts)
 HoldsTexts form (Root s) t = t ≡ text s.now
 HoldsTexts form Without t = (name : List ℕ) → has_text name t ≡ false

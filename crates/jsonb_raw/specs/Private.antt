@@ -6,5 +6,7 @@ pub mod KeyParts
 pub mod KeyWidth
 pub mod PairSteps
 pub mod SetCounts
+pub mod Marks
+pub mod Starts
 pub mod Complements
 pub mod Rows

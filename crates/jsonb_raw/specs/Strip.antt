@@ -1,18 +1,14 @@
 -- A tree without the pairs whose value is null.
 use Rattle.std.specs.Prelude.{if◌then◌else◌}
-use Rattle.jsonb_doc.specs.Tree.{Tree, null, boolean, number, text, extension, array, object, Trees, no_trees, tree, Pairs, no_pairs, pair}
+use Rattle.jsonb_doc.specs.Tree.{Tree, array, object, Trees, no_trees, tree, Pairs, no_pairs, pair}
 use Rattle.jsonb_raw.specs.Scalars.{is_null}
 
 -- at every depth; elements of arrays and the root stay
 abbrev mutual
   pub strip : Tree → Tree
-  strip null = null
-  strip (boolean b) = boolean b
-  strip (number n) = number n
-  strip (text s) = text s
-  strip (extension x) = extension x
   strip (array ts) = array (strip_trees ts)
   strip (object ps) = object (strip_pairs ps)
+  strip t = t
 
   pub strip_trees : Trees → Trees
   strip_trees no_trees = no_trees

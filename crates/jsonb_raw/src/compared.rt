@@ -2,8 +2,8 @@
 
 use jsonb_doc::Item;
 
-/// What a walk along two containers answers. It goes into all pairs of their parts but one, so that calls nest no deeper than the
-/// lengths can be halved.
+/// What a walk along two containers answers. It goes into all pairs of their parts but one, so that calls nest no
+/// deeper than the lengths can be halved.
 #[derive(Clone, Copy)]
 pub(crate) enum Compared<'a> {
     /// The answer.

@@ -1,6 +1,7 @@
-//! Equality by value, of items and of stored entries. It takes no memory, and calls nest no deeper than the length can be halved.
+//! Equality by value, of items and of stored entries. It takes no memory, and calls nest no deeper than the length can
+//! be halved.
 
-ghost use Rattle.std.specs.Prelude.{◌≡◌, ◌+◌, ℕ, List, length, IsOkAnd, IfOk, IfErr, IfSome};
+ghost use Rattle.std.specs.Prelude.{◌≡◌, ◌+◌, ℕ, true, List, length, take, IsOkAnd, IfOk, IfErr, IfSome};
 ghost use Rattle.std.specs.List.{list_any};
 ghost use Rattle.std.specs.Ordering.{eq_by_cmp};
 ghost use Rattle.jsonb_doc.specs.Number.{number_cmp};
@@ -17,7 +18,7 @@ ghost use Rattle.jsonb_raw.specs.Compared.{Decides, IsShorter, IsShortOf, Passes
 use crate::compared::Compared;
 use jsonb_doc::{
     EntryIter, Error, ExtensionValue, Item, Number, ShortNumber, StoredEntry, array_entries,
-    digits_tell, object_entries,
+    digits_equal, object_entries,
 };
 
 /// Whether two numbers have one exact value.
@@ -118,7 +119,8 @@ fn texts_equal(found: EntryIter<'_>, others: EntryIter<'_>) -> Result<bool, Erro
     Ok(rest.next().is_none())
 }
 
-/// Whether the entries that are left are equal, one by one, but for a pair of containers whose first is longer than `half`.
+/// Whether the entries that are left are equal, one by one, but for a pair of containers whose first is longer than
+/// `half`.
 #[cycle(equal)]
 fn entries_equal<'a>(
     found: EntryIter<'a>,
@@ -154,8 +156,8 @@ fn entries_equal<'a>(
     Ok(Compared::AsOf(entry.item()?, other.item()?))
 }
 
-/// Whether an entry equals the wanted one, which is this number where it is a short one. Items are made of them only where the
-/// bytes don't tell.
+/// Whether an entry equals the wanted one, which is this number where it is a short one. Items are made of them only
+/// where the bytes don't tell.
 #[cycle(equal)]
 #[inline(always)]
 pub(crate) fn stored_equal(
@@ -203,7 +205,7 @@ fn bytes_tell(
         return Some(entry.content == wanted.content);
     }
     if let (Some(number), Some(other)) = (entry.short_number(), short) {
-        return digits_tell(number, other);
+        return Some(digits_equal(number, other));
     }
     if entry.content == wanted.content {
         return Some(true);
@@ -227,5 +229,53 @@ pub(crate) fn find_equal(found: &mut EntryIter<'_>, wanted: &StoredEntry<'_>) ->
         }
     }
     *found = left;
+    Ok(false)
+}
+
+/// Whether the next of the entries equals the wanted one. It is passed then.
+pub(crate) fn next_equals(
+    found: &mut EntryIter<'_>,
+    wanted: &StoredEntry<'_>,
+) -> Result<bool, Error>
+    ensures found { (form other_form : Form) (ts : Trees) (u : Tree) → HasEntriesLeft form found.old ts
+        → Stores other_form wanted.now u
+        → IsOkAnd result (λ b. b ≡ true → list_any (λ t. is_equal t u) (elements ts) ≡ true) }
+    ensures passed { PassesOver found.old found.new }
+    ensures errors { IfErr result IsDecodingError }
+{
+    let mut left = *found;
+    let Some(entry) = left.next() else {
+        return Ok(false);
+    };
+    if !stored_equal(&entry?, wanted, wanted.short_number())? {
+        return Ok(false);
+    }
+    *found = left;
+    Ok(true)
+}
+
+/// Whether one of the first entries, of so many at most, equals the wanted one.
+pub(crate) fn find_equal_among(
+    found: EntryIter<'_>,
+    wanted: &StoredEntry<'_>,
+    count: usize,
+) -> Result<bool, Error>
+    ensures found { (form other_form : Form) (ts : Trees) (u : Tree) → HasEntriesLeft form found.entry ts
+        → Stores other_form wanted.now u
+        → IsOkAnd result (λ b. b ≡ list_any (λ t. is_equal t u) (take count (elements ts))) }
+    ensures errors { IfErr result IsDecodingError }
+{
+    let short = wanted.short_number();
+    let mut left = found;
+    let mut more = count;
+    while more > 0 {
+        let Some(entry) = left.next() else {
+            return Ok(false);
+        };
+        if stored_equal(&entry?, wanted, short)? {
+            return Ok(true);
+        }
+        more -= 1;
+    }
     Ok(false)
 }

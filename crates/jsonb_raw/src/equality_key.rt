@@ -39,8 +39,8 @@ fn set_len(out: &mut Vec<u8>, at: usize, len: u64)
     out[at..at + 8].copy_from_slice(&len.to_be_bytes());
 }
 
-/// Appends the kind, the length in eight bytes and the payload of an extension. The length is written over zeros, once the
-/// payload stands behind them.
+/// Appends the kind, the length in eight bytes and the payload of an extension. The length is written over zeros, once
+/// the payload stands behind them.
 fn push_extension(out: &mut Vec<u8>, value: &ExtensionValue<'_>) -> Result<(), Error>
     ensures { MatchResult result
         (λ _. out.new.items ≡ out.old.items ++ equality_key (Tree.extension (extension_view value.now))) IsOutOfMemory }

@@ -2,13 +2,12 @@
 
 mod array;
 mod cast;
-mod entries;
+pub(crate) mod entries;
 mod entry_words;
 mod joined;
 mod object;
 mod operator;
 mod parts;
 mod path;
-mod push;
 mod runs;
 mod scalar;

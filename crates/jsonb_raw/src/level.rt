@@ -1,5 +1,5 @@
-//! What a walk has left of a container. A walk keeps the levels that it is within in a `Vec`, so that depth takes none of the
-//! machine's stack.
+//! What a walk has left of a container. A walk keeps the levels that it is within in a `Vec`, so that depth takes none
+//! of the machine's stack.
 
 ghost use Rattle.std.specs.Prelude.{◌≤◌, ◌<◌, ◌^◌, ◌≡◌, IsOkAnd, IfOk, IfSome, IfErr, List, length};
 ghost use Rattle.jsonb_doc.specs.Tree.{Tree, Trees, Pairs, array, object};
@@ -20,6 +20,7 @@ pub enum Level<'a> {
 
 impl<'a> Level<'a> {
     /// All that an array or an object has, and `None` for any other item.
+    #[inline(always)]
     pub fn of(item: &Item<'a>) -> Result<Option<Level<'a>>, Error>
         ensures level { (form : Form) (tree : Tree) → StandsFor form item.now tree
             → IsOkAnd result (IsLevelOf form tree) }

@@ -9,12 +9,13 @@ ghost use Rattle.jsonb_doc.specs.declared.error.Error.TheVariants.{OutOfMemory, 
 ghost use Rattle.jsonb_doc.specs.Spots.{Locates};
 ghost use Rattle.jsonb_raw.specs.Documents.{raw_bytes, Makes};
 
+use crate::functions::entries::entry_document;
 use crate::raw::RawJsonb;
-use jsonb_doc::{Error, Spot, encode_item, spot_item};
+use jsonb_doc::{Error, Spot, spot_entry};
 use std::alloc::Global;
 use std::marker::Model;
 
-/// The bytes of a document.
+/// The bytes of a document, owned. `as_raw` gives the calls on it.
 #[derive(Drop)]
 pub struct OwnedJsonb {
     bytes: Vec<u8>,
@@ -30,6 +31,10 @@ impl Model for OwnedJsonb {
 
 impl OwnedJsonb {
     /// These bytes, as they are. They need not decode.
+    ///
+    /// # Cost
+    ///
+    /// Constant, without memory.
     pub fn new(bytes: Vec<u8>) -> OwnedJsonb
         ensures { result ≡ bytes.items }
     {
@@ -43,11 +48,15 @@ impl OwnedJsonb {
             → Makes form t result }
         ensures errors { IfErr result (IsDecodingError or OutOfMemory or TooLarge) }
     {
-        let item = spot_item(bytes, spot)?;
-        Ok(OwnedJsonb::new(encode_item(alloc, &item)?))
+        let entry = spot_entry(bytes, spot)?;
+        entry_document(alloc, entry.kind, entry.content)
     }
 
     /// The document, borrowed.
+    ///
+    /// # Cost
+    ///
+    /// Constant, without memory.
     pub fn as_raw(&self) -> RawJsonb<'_>
         ensures { raw_bytes result ≡ self.now }
     {
@@ -55,6 +64,10 @@ impl OwnedJsonb {
     }
 
     /// The bytes.
+    ///
+    /// # Cost
+    ///
+    /// Constant, without memory.
     pub fn to_vec(self) -> Vec<u8>
         ensures { result.items ≡ self }
     {
@@ -62,7 +75,15 @@ impl OwnedJsonb {
         bytes
     }
 
-    /// The same bytes in memory of their own. `OutOfMemory` where memory is refused.
+    /// The same bytes in memory of their own.
+    ///
+    /// # Errors
+    ///
+    /// `OutOfMemory` where memory is refused.
+    ///
+    /// # Cost
+    ///
+    /// Linear in n. Takes memory once.
     pub fn clone(&self, alloc: Global) -> Result<OwnedJsonb, Error>
         ensures { MatchResult result (λ copy. copy ≡ self.now) IsOutOfMemory }
     {

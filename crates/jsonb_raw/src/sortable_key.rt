@@ -30,6 +30,7 @@ pub enum DepthWidth {
 }
 
 /// Appends the depth and the kind of an item. `TooDeep` where the width has no bytes for the depth.
+#[inline(always)]
 fn push_front(out: &mut Vec<u8>, depth: usize, kind: u8, width: DepthWidth) -> Result<(), Error>
     ensures { MatchResult result
         (λ _. (out.new.items ≡ out.old.items ++ item_bytes (width_of width) depth kind [])
@@ -56,6 +57,7 @@ fn push_front(out: &mut Vec<u8>, depth: usize, kind: u8, width: DepthWidth) -> R
 }
 
 /// Appends the key of a text, also of an object's key.
+#[inline(always)]
 fn push_string(out: &mut Vec<u8>, text: &[u8], depth: usize, width: DepthWidth) -> Result<(), Error>
     ensures { MatchResult result
         (λ _. (out.new.items ≡ out.old.items ++ item_bytes (width_of width) depth 5 (text_bytes text.now))
@@ -68,6 +70,7 @@ fn push_string(out: &mut Vec<u8>, text: &[u8], depth: usize, width: DepthWidth) 
 }
 
 /// Appends the key of an item that has no parts, and of any other what stands before its parts.
+#[inline(always)]
 fn push_start(
     out: &mut Vec<u8>,
     item: &Item<'_>,
@@ -102,6 +105,7 @@ fn push_start(
 }
 
 /// Appends the start of a part, behind its key where it has one.
+#[inline(always)]
 fn push_part(
     out: &mut Vec<u8>,
     key: Option<&str>,

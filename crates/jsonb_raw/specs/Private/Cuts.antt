@@ -1,5 +1,5 @@
 -- Containers as bytes: their entries in a row, one of them replaced or left out.
-use Rattle.std.specs.Prelude.{◌≡◌, ℕ, ◌+◌, ◌*◌, ◌^◌, ◌<◌, ◌≤◌, List, [], ◌∷◌, ◌++◌, length, slice_range, Option, Some, None, ⊤}
+use Rattle.std.specs.Prelude.{◌≡◌, ℕ, ◌+◌, ◌-◌, ◌*◌, ◌^◌, ◌<◌, ◌≤◌, List, [], ◌∷◌, ◌++◌, length, slice_get, slice_range, Option, Some, None, ⊤}
 use Rattle.std.specs.Int.{w32, to_be_bytes}
 use Rattle.jsonb_doc.specs.Tree.{Tree}
 use Rattle.jsonb_doc.specs.Payload.{NumberReader}
@@ -8,6 +8,7 @@ use Rattle.jsonb_doc.specs.Encoding.{EntryParts}
 use Rattle.jsonb_doc.specs.ObjectBuilder.{FitsEntry, words_of_entries, contents_of_entries}
 use Rattle.jsonb_raw.specs.declared.functions.path.entry_place.EntryPlace.{EntryPlace}
 use Rattle.jsonb_raw.specs.declared.functions.path.entry_place.ChildEntries.{ChildEntries}
+use Rattle.jsonb_raw.specs.Places.{children}
 use Rattle.jsonb_raw.specs.Deletes.{change_child}
 
 -- each of the entries has its place in the format
@@ -76,6 +77,54 @@ pub record AreOfChild (number_at : NumberReader) (bytes : List ℕ) (t : Tree) (
       → IsContent number_at (change_child n change t) container_entry (with_content bytes entries.value content')
   pub no_longer : (content' : List ℕ) → length content' ≤ length (content_at bytes entries.value)
       → length (with_content bytes entries.value content') ≤ length bytes
+
+-- how many bytes the entry of a key takes, where there is one
+abbrev pub key_size : Option EntryPlace → ℕ
+key_size None = 0
+key_size (Some key) = key.end - key.start + 4
+
+-- how many bytes the entries of a child take, with their words
+abbrev pub entries_size : ChildEntries → ℕ
+entries_size child = (child.value.end - child.value.start + 4) + key_size child.key
+
+-- ---- children within children
+
+-- the child at a position is a container, whose content stands at this place
+pub record StepsInto (number_at : NumberReader) (bytes : List ℕ) (t : Tree) (n : ℕ) (child : Tree) (place : EntryPlace) : Type 0 where
+  pub entries : ChildEntries
+  pub value_is : entries.value ≡ place
+  pub of_child : AreOfChild number_at bytes t n child entries
+  pub container : IsContent number_at child container_entry (content_at bytes place)
+
+-- the children at these positions, each within the one before it, have these places, and the last is this tree with this content
+abbrev pub LeadTo : NumberReader → List ℕ → Tree → List ℕ → List EntryPlace → List ℕ → Tree → Type 0
+LeadTo number_at bytes t [] [] inner u = (bytes ≡ inner) × (t ≡ u)
+LeadTo number_at bytes t (n ∷ ns) (place ∷ places) inner u =
+    (child : Tree) × StepsInto number_at bytes t n child place × LeadTo number_at (content_at bytes place) child ns places inner u
+LeadTo number_at bytes t _ _ inner u = ⊥
+
+-- the same, and the last is a container with a child at this position
+pub record LeadInto (number_at : NumberReader) (bytes : List ℕ) (t : Tree) (ns : List ℕ) (places : List EntryPlace) (inner : List ℕ) (last : ℕ) : Type 0 where
+  pub u : Tree
+  pub child : Tree
+  pub walk : LeadTo number_at bytes t ns places inner u
+  pub content : IsContent number_at u container_entry inner
+  pub there : slice_get (children u) last ≡ Some child
+
+-- the bytes in front of the content of a child that is told to be so many bytes shorter
+abbrev pub front_of : List ℕ → EntryPlace → ℕ → List ℕ
+front_of bytes place removed =
+    slice_range bytes 0 place.word ++ (entry_word container_entry (place.end - place.start - removed) ++ slice_range bytes (place.word + 4) place.start)
+
+-- those in front of the innermost child
+abbrev pub fronts : List ℕ → List EntryPlace → ℕ → List ℕ
+fronts bytes [] removed = []
+fronts bytes (place ∷ places) removed = front_of bytes place removed ++ fronts (content_at bytes place) places removed
+
+-- where the innermost child stands
+abbrev pub starts : List EntryPlace → ℕ
+starts [] = 0
+starts (place ∷ places) = place.start + starts places
 
 -- the bytes of a container of this tree, of so many bytes at most, were put behind the others
 pub record IsPushed (number_at : NumberReader) (t : Tree) (most : ℕ) (before after : List ℕ) : Type 0 where

@@ -91,9 +91,7 @@ ArePairsOf form _ None = ⊤
 pub record IsFirstPair (form : Form) (row : PairEntries) (p : List ℕ × Tree) (ps : List (List ℕ × Tree)) (first : FirstPair) : Type 0 where
   pub key : first.key.now ≡ p.0
   pub name : IsFirst form row.keys (text p.0) (map text (keys_of ps)) text_entry p.0 first.others.keys
-  pub kind : ℕ
-  pub content : List ℕ
-  pub value : IsFirst form row.values p.1 (values_of ps) kind content first.others.values
+  pub value : IsFirst form row.values p.1 (values_of ps) first.kind first.content.now first.others.values
 
 abbrev pub TakesFirstPair : Form → PairEntries → List (List ℕ × Tree) → Option FirstPair → Type 0
 TakesFirstPair form row [] None = ⊤

@@ -2,33 +2,43 @@
 //!
 //! On bytes that don't decode each call returns; which answer or refusal it gives is not fixed.
 
-ghost use Rattle.std.specs.Prelude.{◌≡◌, List, [], ◌∷◌, IfErr, IsOkAnd};
-ghost use Rattle.std.specs.List.{insert};
+ghost use Rattle.std.specs.Prelude.{◌≡◌, List, [], ◌∷◌, IfErr, IsOkAnd, MatchResult};
+ghost use Rattle.std.specs.List.{insert, Any, AllZip};
 ghost use Rattle.jsonb_doc.specs.Tree.{Tree, array, trees_of};
 ghost use Rattle.jsonb_doc.specs.Payload.{Form};
 ghost use Rattle.jsonb_doc.specs.Format.{Decodes};
 ghost use Rattle.jsonb_raw.specs.Documents.{raw_bytes, Makes};
-ghost use Rattle.jsonb_doc.specs.Answer.{◌or◌, IsDecodingError};
+ghost use Rattle.jsonb_doc.specs.Limits.{IsTooLarge};
+ghost use Rattle.jsonb_doc.specs.Answer.{◌or◌, ◌or◌when◌, IsOutOfMemory, IsDecodingError};
 ghost use Rattle.jsonb_doc.specs.declared.error.Error.TheVariants.{OutOfMemory, TooLarge};
 ghost use Rattle.jsonb_raw.specs.Making.{MakesEach};
 ghost use Rattle.jsonb_raw.specs.Private.Rows.{HoldTrees};
 ghost use Rattle.jsonb_raw.specs.Arrays.{array_length, array_values, array_insert, insert_place};
 
 mod counts;
+pub(crate) mod marks;
+mod overlap;
 mod sets;
 
-use crate::functions::entries::{entry_count, split_row};
+use crate::functions::entries::{element_entries, entry_count, entry_document, split_row};
 use crate::functions::joined::array_of;
 use crate::functions::parts::{Elements, Entries, LoneEntry};
+use crate::functions::runs::first_entry;
 use crate::owned::OwnedJsonb;
 use crate::raw::RawJsonb;
-use jsonb_doc::{Error, elements, encode_item};
+use jsonb_doc::{Error, elements};
 use std::alloc::Global;
 
 impl RawJsonb<'_> {
-    /// How many elements the array has, and `None` where the root is no array. It takes no memory.
+    /// How many elements the array has, and `None` where the root is no array. PostgreSQL has `jsonb_array_length`.
     ///
-    /// `InvalidJsonb` and `UnsupportedNumber` come only where the bytes don't decode.
+    /// # Errors
+    ///
+    /// Those of reading.
+    ///
+    /// # Cost
+    ///
+    /// Constant, without memory.
     pub fn array_length(&self) -> Result<Option<usize>, Error>
         ensures length { (form : Form) (t : Tree) → Decodes form (raw_bytes self.now) t
             → IsOkAnd result (λ found. found ≡ array_length t) }
@@ -40,31 +50,38 @@ impl RawJsonb<'_> {
         Ok(Some(elements.len()))
     }
 
-    /// The elements, each as a document of its own, and `None` where the root is no array.
+    /// The elements, each as a document of its own, and `None` where the root is no array. PostgreSQL has
+    /// `jsonb_array_elements`.
     ///
-    /// `InvalidJsonb` and `UnsupportedNumber` come only where the bytes don't decode, `TooLarge` only where an element is
-    /// too large for a document of its own, and `OutOfMemory` where memory is refused.
+    /// # Errors
+    ///
+    /// Those of making documents.
+    ///
+    /// # Cost
+    ///
+    /// Linear in n, each element copied. Takes memory.
     pub fn array_values(&self, alloc: Global) -> Result<Option<Vec<OwnedJsonb>>, Error>
         ensures values { (form : Form) (t : Tree) → Decodes form (raw_bytes self.now) t
             → MakesEach form (array_values t) result }
         ensures errors { IfErr result (IsDecodingError or OutOfMemory or TooLarge) }
     {
-        let Some(elements) = elements(self.as_bytes())? else {
+        let Some(row) = element_entries(self.as_bytes())? else {
             return Ok(None);
         };
-        let mut values = Vec::new(alloc);
-        for element in elements {
-            let document = encode_item(alloc, &element?)?;
-            values.push(OwnedJsonb::new(document))?;
-        }
-        Ok(Some(values))
+        Ok(Some(entry_documents(alloc, row)?))
     }
 
-    /// The array with the root of the other document as one element more. It gets the place `pos`, counted from the end
-    /// where `pos` is negative and moved into 0 to the length. A root that is no array counts as an array of one element.
+    /// The array with the root of the other document as one element more. It gets the place `pos`, counted from the
+    /// end where `pos` is negative and moved into 0 to the length. A root that is no array counts as an array of one
+    /// element. PostgreSQL has `jsonb_insert`.
     ///
-    /// `InvalidJsonb` and `UnsupportedNumber` come only where the bytes of either document don't decode, `TooLarge` only
-    /// where the answer passes the limits of a document, and `OutOfMemory` where memory is refused.
+    /// # Errors
+    ///
+    /// Those of making documents.
+    ///
+    /// # Cost
+    ///
+    /// Linear in n of both, each byte copied once. Takes memory.
     pub fn array_insert(
         &self,
         alloc: Global,
@@ -77,6 +94,22 @@ impl RawJsonb<'_> {
     {
         array_with_element(alloc, self.as_bytes(), pos, new_val.as_bytes())
     }
+}
+
+/// Each of these entries as a document of its own.
+fn entry_documents(alloc: Global, row: Entries<'_>) -> Result<Vec<OwnedJsonb>, Error>
+    ensures documents { (form : Form) (ts : List Tree) → HoldTrees form row.entry ts
+        → MatchResult result (λ made. AllZip (Decodes form) made.items ts)
+        (IsOutOfMemory or TooLarge when Any (IsTooLarge form) ts) }
+    ensures errors { IfErr result (IsDecodingError or OutOfMemory or TooLarge) }
+{
+    let mut documents = Vec::with_capacity(alloc, entry_count(row))?;
+    let mut left = row;
+    while let Some(entry) = first_entry(left)? {
+        documents.push(entry_document(alloc, entry.kind, entry.content)?)?;
+        left = entry.others;
+    }
+    Ok(documents)
 }
 
 /// The place that a position means in a list of this length: from the end where it is negative, and moved into 0 to the

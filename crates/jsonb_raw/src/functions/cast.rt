@@ -24,7 +24,13 @@ use std::alloc::Global;
 impl RawJsonb<'_> {
     /// The truth value, which is also read from the strings true, yes, false and no in any case of ASCII letters.
     ///
-    /// `InvalidCast` for every other document. `InvalidJsonb` or `UnsupportedNumber` only where the bytes don't decode.
+    /// # Errors
+    ///
+    /// `InvalidCast` for every other document, and those of reading.
+    ///
+    /// # Cost
+    ///
+    /// Constant, but a text is read whole. No memory.
     pub fn to_bool(&self) -> Result<bool, Error>
         ensures value { (form : Form) (tree : Tree) → Decodes form (raw_bytes self.now) tree → CastsToBool tree result }
         ensures errors { IfErr result (IsDecodingError or InvalidCast) }
@@ -36,11 +42,16 @@ impl RawJsonb<'_> {
         }
     }
 
-    /// The document as an `i64`: a boolean as 1 or 0, a number rounded half away from zero (this project's profile), and
-    /// a string as Rust's `parse` reads it, which is an optional `+` or `-` and one or more ASCII digits.
+    /// The document as an `i64`: a boolean as 1 or 0, a number rounded half away from zero (this project's profile),
+    /// and a string as Rust's `parse` reads it, which is an optional `+` or `-` and one or more ASCII digits.
     ///
-    /// `InvalidCast` for every other document, and where the value doesn't fit. `InvalidJsonb` or `UnsupportedNumber` only
-    /// where the bytes don't decode.
+    /// # Errors
+    ///
+    /// `InvalidCast` for every other document and where the value doesn't fit, and those of reading.
+    ///
+    /// # Cost
+    ///
+    /// Constant, but a text is read whole. No memory.
     pub fn to_i64(&self) -> Result<i64, Error>
         ensures value { (form : Form) (tree : Tree) → Decodes form (raw_bytes self.now) tree → CastsToI64 tree result }
         ensures errors { IfErr result (IsDecodingError or InvalidCast) }
@@ -53,11 +64,16 @@ impl RawJsonb<'_> {
         }
     }
 
-    /// The document as a `u64`: a boolean as 1 or 0, a number rounded half away from zero (this project's profile), and
-    /// a string as Rust's `parse` reads it, which is an optional `+` and one or more ASCII digits.
+    /// The document as a `u64`: a boolean as 1 or 0, a number rounded half away from zero (this project's profile),
+    /// and a string as Rust's `parse` reads it, which is an optional `+` and one or more ASCII digits.
     ///
-    /// `InvalidCast` for every other document, and where the value doesn't fit. `InvalidJsonb` or `UnsupportedNumber` only
-    /// where the bytes don't decode.
+    /// # Errors
+    ///
+    /// `InvalidCast` for every other document and where the value doesn't fit, and those of reading.
+    ///
+    /// # Cost
+    ///
+    /// Constant, but a text is read whole. No memory.
     pub fn to_u64(&self) -> Result<u64, Error>
         ensures value { (form : Form) (tree : Tree) → Decodes form (raw_bytes self.now) tree → CastsToU64 tree result }
         ensures errors { IfErr result (IsDecodingError or InvalidCast) }
@@ -70,10 +86,16 @@ impl RawJsonb<'_> {
         }
     }
 
-    /// The document as a text: a boolean as `true` or `false`, a number in decimal, as it prints, and a string as it is.
+    /// The document as a text: a boolean as `true` or `false`, a number in decimal, as it prints, and a string as it
+    /// is.
     ///
-    /// `InvalidCast` for every other document, and `OutOfMemory` where memory is refused. `InvalidJsonb` or
-    /// `UnsupportedNumber` only where the bytes don't decode.
+    /// # Errors
+    ///
+    /// `InvalidCast` for every other document, and those of taking memory.
+    ///
+    /// # Cost
+    ///
+    /// Linear in the text, which is copied. Takes memory.
     pub fn to_str(&self, alloc: Global) -> Result<String, Error>
         ensures value { (form : Form) (tree : Tree) → Decodes form (raw_bytes self.now) tree
             → CastsToText (text_of tree) result }

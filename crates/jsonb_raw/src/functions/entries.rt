@@ -1,18 +1,22 @@
 //! Entries of containers in rows, as they are stored.
 
-ghost use Rattle.std.specs.Prelude.{◌≡◌, ◌^◌, ◌<◌, List, ◌++◌, length, take, drop, IsSomeAnd, IsOkAnd, IfErr};
+ghost use Rattle.std.specs.Prelude.{◌≡◌, ◌+◌, ◌^◌, ◌<◌, List, ◌++◌, length, take, drop, IsSomeAnd, IsOkAnd, IfErr};
 ghost use Rattle.jsonb_doc.specs.Tree.{Tree};
 ghost use Rattle.jsonb_doc.specs.Payload.{Form, number_reader};
 ghost use Rattle.jsonb_doc.specs.Format.{Decodes, IsContent, entry_word};
 ghost use Rattle.jsonb_doc.specs.Encoding.{EntryParts};
-ghost use Rattle.jsonb_doc.specs.Answer.{IsDecodingError};
+ghost use Rattle.jsonb_doc.specs.Answer.{IsDecodingError, ◌or◌};
+ghost use Rattle.jsonb_doc.specs.declared.error.Error.TheVariants.{OutOfMemory, TooLarge};
+ghost use Rattle.jsonb_raw.specs.Documents.{Makes};
 ghost use Rattle.jsonb_raw.specs.Private.Inserts.{AreBytesOf};
 ghost use Rattle.jsonb_raw.specs.Private.Rows.{HoldTrees, AreElementsOf};
 
 use crate::functions::entry_words::contents_len;
 use crate::functions::parts::{Elements, Entries, LoneEntry, RootEntry};
-use jsonb_doc::layout::{CONTAINER, LENGTHS, MAX_CONTENT, WORD};
-use jsonb_doc::{Container, Error, read_container};
+use crate::owned::OwnedJsonb;
+use jsonb_doc::layout::{CONTAINER, KINDS, LENGTHS, MAX_CONTENT, TEXT, WORD};
+use jsonb_doc::{Container, Error, StoredEntry, read_container, scalar_document};
+use std::alloc::Global;
 
 /// The entries of an array, and `None` where the root is none.
 pub fn element_entries(bytes: &[u8]) -> Result<Option<Entries<'_>>, Error>
@@ -65,6 +69,18 @@ pub fn split_row(row: Entries<'_>, count: usize) -> Result<(Entries<'_>, Entries
     }
 }
 
+/// The entries in front of the one at a position, and those behind it.
+pub fn around_entry(row: Entries<'_>, position: usize) -> Result<(Entries<'_>, Entries<'_>), Error>
+    ensures around { (form : Form) (ts : List Tree) → HoldTrees form row.entry ts
+        → IsOkAnd result (λ parts. HoldTrees form parts.0 (take position ts)
+        × HoldTrees form parts.1 (drop (position + 1) ts)) }
+    ensures errors { IfErr result IsDecodingError }
+{
+    let (front, others) = split_row(row, position)?;
+    let (_, back) = split_row(others, 1)?;
+    Ok((front, back))
+}
+
 /// The entry that the root of a document becomes within another, as it is stored.
 pub fn root_entry(document: &[u8]) -> Result<RootEntry<'_>, Error>
     ensures entry { (form : Form) (t : Tree) → Decodes form document.now t
@@ -93,6 +109,28 @@ pub fn word_of(kind: u32, len: usize) -> [u8; WORD]
     ensures { result ≡ entry_word kind len }
 {
     (kind * LENGTHS + len as u32).to_be_bytes()
+}
+
+/// The entry as a document of its own, as it is stored. An entry in which nothing can be read is refused, but for a
+/// text.
+pub fn entry_document(alloc: Global, kind: u32, content: &[u8]) -> Result<OwnedJsonb, Error>
+    ensures document { (form : Form) (t : Tree) → IsContent (number_reader form) t kind content.now
+        → Makes form t result }
+    ensures errors { IfErr result (IsDecodingError or OutOfMemory or TooLarge) }
+{
+    if kind != TEXT {
+        StoredEntry { kind, content }.item()?;
+    }
+    if kind == CONTAINER {
+        return Ok(OwnedJsonb::new(Vec::from_slice(alloc, content)?));
+    }
+    if kind >= KINDS {
+        return Err(Error::InvalidJsonb);
+    }
+    if content.len() > MAX_CONTENT {
+        return Err(Error::TooLarge);
+    }
+    Ok(OwnedJsonb::new(scalar_document(alloc, kind, content)?))
 }
 
 impl<'a> LoneEntry<'a> {

@@ -2,13 +2,14 @@
 //!
 //! On bytes that don't decode each call returns; which answer or refusal it gives is not fixed.
 
-ghost use Rattle.std.specs.Map.{keys_of};
-ghost use Rattle.std.specs.Prelude.{◌≡◌, ℕ, List, ◌⊎◌, ◌||◌, false, not, None, Ok, IsTrue, IfErr, IsErrOf, MatchResult, MatchOption, Err};
+ghost use Rattle.std.specs.List.{Any, AllZip};
+ghost use Rattle.std.specs.Map.{keys_of, values_of};
+ghost use Rattle.std.specs.Prelude.{◌≡◌, ℕ, List, ◌⊎◌, ◌||◌, false, not, None, Ok, IsTrue, IfErr, IsErrOf, MatchResult, MatchOption, Err, IsUtf8};
 ghost use Rattle.jsonb_doc.specs.Tree.{Tree, object, pairs_of};
-ghost use Rattle.jsonb_doc.specs.Payload.{Form};
-ghost use Rattle.jsonb_doc.specs.Format.{Decodes, AreKeys};
-ghost use Rattle.jsonb_doc.specs.Item.{StandsFor};
-ghost use Rattle.jsonb_doc.specs.Answer.{IsOutOfMemory, IsOutOfMemoryOrTooLarge, IsDecodingError, ◌or◌};
+ghost use Rattle.jsonb_doc.specs.Payload.{Form, number_reader};
+ghost use Rattle.jsonb_doc.specs.Format.{Decodes, AreKeys, IsContent};
+ghost use Rattle.jsonb_doc.specs.Limits.{IsTooLarge};
+ghost use Rattle.jsonb_doc.specs.Answer.{IsOutOfMemory, IsOutOfMemoryOrTooLarge, IsDecodingError, ◌or◌, ◌or◌when◌};
 ghost use Rattle.jsonb_doc.specs.declared.error.Error.TheVariants.{OutOfMemory, TooLarge, InvalidObject, ObjectDuplicateKey};
 ghost use Rattle.jsonb_raw.specs.Documents.{raw_bytes, MakesOption, Makes};
 ghost use Rattle.jsonb_raw.specs.Private.Rows.{HoldPairs};
@@ -20,20 +21,26 @@ mod insert;
 mod pair_parts;
 
 use self::insert::{object_with_pair, pair_place};
-use crate::functions::parts::{PairEntries, PairRows};
+use crate::functions::entries::{entry_count, entry_document};
+use crate::functions::joined::array_of;
+use crate::functions::parts::{FirstPair, PairEntries, PairRows};
 use crate::functions::runs::{first_pair, pair_entries};
 use crate::owned::OwnedJsonb;
 use crate::raw::RawJsonb;
-use jsonb_doc::{ArrayBuilder, Error, Item, encode_item, keys, pairs};
+use jsonb_doc::Error;
 use std::alloc::Global;
 use std::collections::BTreeSet;
 
 impl RawJsonb<'_> {
     /// The object of the pairs whose keys are in the set.
     ///
-    /// `InvalidObject` where the root is no object. `InvalidJsonb` and `UnsupportedNumber` come only where the bytes
-    /// don't decode, `TooLarge` only where the answer passes the limits of a document, and `OutOfMemory` where memory is
-    /// refused.
+    /// # Errors
+    ///
+    /// `InvalidObject` where the root is no object, and those of making documents.
+    ///
+    /// # Cost
+    ///
+    /// Linear in n, and a look-up in the set for each pair. Takes memory.
     pub fn object_pick(&self, alloc: Global, keys: &BTreeSet<&str>) -> Result<OwnedJsonb, Error>
         ensures pairs { (form : Form) (t : Tree) → Decodes form (raw_bytes self.now) t
             → MatchOption (object_pick keys.now t) (result ≡ Err InvalidObject) (λ wanted. Makes form wanted result) }
@@ -45,11 +52,15 @@ impl RawJsonb<'_> {
         pairs_by_set(alloc, row, keys, true)
     }
 
-    /// The object without the pairs whose keys are in the set.
+    /// The object without the pairs whose keys are in the set. PostgreSQL has `-` with an array of texts.
     ///
-    /// `InvalidObject` where the root is no object. `InvalidJsonb` and `UnsupportedNumber` come only where the bytes
-    /// don't decode, `TooLarge` only where the answer passes the limits of a document, and `OutOfMemory` where memory is
-    /// refused.
+    /// # Errors
+    ///
+    /// `InvalidObject` where the root is no object, and those of making documents.
+    ///
+    /// # Cost
+    ///
+    /// Linear in n, and a look-up in the set for each pair. Takes memory.
     pub fn object_delete(&self, alloc: Global, keys: &BTreeSet<&str>) -> Result<OwnedJsonb, Error>
         ensures pairs { (form : Form) (t : Tree) → Decodes form (raw_bytes self.now) t
             → MatchOption (object_delete keys.now t) (result ≡ Err InvalidObject) (λ wanted. Makes form wanted result) }
@@ -61,10 +72,16 @@ impl RawJsonb<'_> {
         pairs_by_set(alloc, row, keys, false)
     }
 
-    /// The keys of the object, in order, as an array, and `None` where the root is no object.
+    /// The keys of the object, in order, as an array, and `None` where the root is no object. PostgreSQL has
+    /// `jsonb_object_keys`.
     ///
-    /// `InvalidJsonb` and `UnsupportedNumber` come only where the bytes don't decode, `TooLarge` only where the answer
-    /// passes the limits of a document, and `OutOfMemory` where memory is refused.
+    /// # Errors
+    ///
+    /// Those of making documents.
+    ///
+    /// # Cost
+    ///
+    /// Linear in k and the keys' bytes, which are copied. Takes memory.
     pub fn object_keys(&self, alloc: Global) -> Result<Option<OwnedJsonb>, Error>
         ensures keys { (form : Form) (t : Tree) → Decodes form (raw_bytes self.now) t
             → MakesOption form (object_keys t) result }
@@ -72,43 +89,44 @@ impl RawJsonb<'_> {
             → result ≡ Ok None }
         ensures errors { IfErr result (IsDecodingError or OutOfMemory or TooLarge) }
     {
-        let Some(keys) = keys(self.as_bytes())? else {
+        let Some(pairs) = pair_entries(self.as_bytes())? else {
             return Ok(None);
         };
-        let mut builder = ArrayBuilder::new(alloc);
-        for key in keys {
-            builder.push_item(&Item::String(key?))?;
-        }
-        Ok(Some(OwnedJsonb::new(builder.build()?)))
+        Ok(Some(array_of(alloc, &[pairs.keys])?))
     }
 
-    /// The keys of the object, in order, each with its value as a document of its own, and `None` where the root is no
-    /// object.
+    /// The keys of the object, in order, each with its value as a document of its own, and `None` where the root is
+    /// no object. PostgreSQL has `jsonb_each`.
     ///
-    /// `InvalidJsonb` and `UnsupportedNumber` come only where the bytes don't decode, `TooLarge` only where a value is
-    /// too large for a document of its own, and `OutOfMemory` where memory is refused.
+    /// # Errors
+    ///
+    /// Those of making documents.
+    ///
+    /// # Cost
+    ///
+    /// Linear in n, each key and value copied. Takes memory.
     pub fn object_each(&self, alloc: Global) -> Result<Option<Vec<(String, OwnedJsonb)>>, Error>
         ensures pairs { (form : Form) (t : Tree) → Decodes form (raw_bytes self.now) t
             → MakesPairs form (object_each t) result }
         ensures errors { IfErr result (IsDecodingError or OutOfMemory or TooLarge) }
     {
-        let Some(pairs) = pairs(self.as_bytes())? else {
+        let Some(row) = pair_entries(self.as_bytes())? else {
             return Ok(None);
         };
-        let mut each = Vec::new(alloc);
-        for pair in pairs {
-            let (key, value) = pair?;
-            each.push(owned_pair(alloc, key, &value)?)?;
-        }
-        Ok(Some(each))
+        Ok(Some(owned_pairs(alloc, row)?))
     }
 
-    /// The object with one pair more: this key with the root of the other document. Where the key is there, its value is
-    /// replaced if `update_flag` is set.
+    /// The object with one pair more: this key with the root of the other document. Where the key is there, its value
+    /// is replaced if `update_flag` is set. PostgreSQL has `jsonb_set` and `jsonb_insert`.
     ///
-    /// `InvalidObject` where the root is no object, and `ObjectDuplicateKey` where the key is there and the flag isn't
-    /// set. `InvalidJsonb` and `UnsupportedNumber` come only where the bytes of either document don't decode, `TooLarge`
-    /// only where the answer passes the limits of a document, and `OutOfMemory` where memory is refused.
+    /// # Errors
+    ///
+    /// `InvalidObject` where the root is no object, `ObjectDuplicateKey` where the key is there and the flag isn't
+    /// set, and those of making documents.
+    ///
+    /// # Cost
+    ///
+    /// Linear in n of both and the key. Takes memory.
     pub fn object_insert(
         &self,
         alloc: Global,
@@ -164,12 +182,32 @@ fn pairs_by_set<'a>(
     rows.object(alloc)
 }
 
-/// A key, and the value as a document of its own.
-fn owned_pair(alloc: Global, key: &str, value: &Item<'_>) -> Result<(String, OwnedJsonb), Error>
-    ensures pair { (form : Form) (t : Tree) → StandsFor form value.now t
-        → MatchResult result (λ made. IsPairOf form made (key.now, t)) (IsOutOfMemoryOrTooLarge form t) }
-    ensures errors { IfErr result (IsOutOfMemory or TooLarge) }
+/// The keys of these pairs, each with its value as a document of its own.
+fn owned_pairs(alloc: Global, row: PairEntries<'_>) -> Result<Vec<(String, OwnedJsonb)>, Error>
+    ensures pairs { (form : Form) (ps : List (List ℕ × Tree)) → HoldPairs form row.entry ps
+        → MatchResult result (λ made. AllZip (IsPairOf form) made.items ps)
+        (IsOutOfMemory or TooLarge when Any (IsTooLarge form) (values_of ps)) }
+    ensures errors { IfErr result (IsDecodingError or OutOfMemory or TooLarge) }
 {
-    let document = OwnedJsonb::new(encode_item(alloc, value)?);
+    let mut each = Vec::with_capacity(alloc, entry_count(row.keys))?;
+    let mut left = row;
+    while let Some(pair) = first_pair(left)? {
+        each.push(owned_pair(alloc, pair)?)?;
+        left = pair.others;
+    }
+    Ok(each)
+}
+
+/// The key of a pair, and the value as a document of its own.
+fn owned_pair(alloc: Global, pair: FirstPair<'_>) -> Result<(String, OwnedJsonb), Error>
+    ensures pair { (form : Form) (t : Tree) → IsUtf8 pair.entry.key.now
+        → IsContent (number_reader form) t pair.entry.kind pair.entry.content.now
+        → MatchResult result (λ made. IsPairOf form made (pair.entry.key.now, t)) (IsOutOfMemoryOrTooLarge form t) }
+    ensures errors { IfErr result (IsDecodingError or OutOfMemory or TooLarge) }
+{
+    let Ok(key) = str::from_utf8(pair.key) else {
+        return Err(Error::InvalidJsonb);
+    };
+    let document = entry_document(alloc, pair.kind, pair.content)?;
     Ok((String::from_str(alloc, key)?, document))
 }

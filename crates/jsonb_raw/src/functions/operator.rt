@@ -13,6 +13,7 @@ ghost use Rattle.jsonb_raw.specs.EqualityKey.{equality_key};
 
 mod concat;
 mod contains;
+mod starts;
 mod step;
 mod strip;
 mod stripping;
@@ -27,15 +28,21 @@ use jsonb_doc::{Error, root_item};
 use std::alloc::Global;
 
 impl RawJsonb<'_> {
-    /// The sortable key: bytes that compare, as bytes do, as the documents compare.
+    /// The sortable key: bytes that compare, as bytes do, as the documents compare. docs/FORMAT.md has its layout and
+    /// the order.
     ///
     /// Two documents without extensions have one key exactly where they are equal by value. Where an extension occurs
     /// no order is promised, and documents that differ may share a key. Nor is anything promised beside a key of
     /// `convert_to_comparable_wide`.
     ///
-    /// Each item gives its depth in one byte (the root's is 0), the byte of its kind and its content, as
-    /// `docs/FORMAT.md` lays them out; an object's keys lie as deep as its values. `TooDeep` exactly where an item lies deeper than 255. `InvalidJsonb` or
-    /// `UnsupportedNumber` only where the bytes don't decode, and `OutOfMemory` where memory is refused.
+    /// # Errors
+    ///
+    /// `TooDeep` exactly where an item lies deeper than 255 (the root lies at 0, an object's keys as deep as its
+    /// values), and those of taking memory.
+    ///
+    /// # Cost
+    ///
+    /// Linear in n. Takes memory.
     pub fn convert_to_comparable(&self, alloc: Global) -> Result<Vec<u8>, Error>
         ensures key { (form : Form) (tree : Tree) → Decodes form (raw_bytes self.now) tree
             → MakesKey w8 tree result }
@@ -46,10 +53,16 @@ impl RawJsonb<'_> {
         document_key(alloc, self.as_bytes(), DepthWidth::OneByte)
     }
 
-    /// The wide sortable key: as `convert_to_comparable`, with each depth in two bytes, the high byte first.
+    /// The wide sortable key: as `convert_to_comparable`, with each depth in two bytes, the high byte first. Nothing
+    /// is promised of it beside a key of that call.
     ///
-    /// `TooDeep` exactly where an item lies deeper than 65,535; the other errors are the same. Nothing is said of
-    /// it beside a key of `convert_to_comparable`.
+    /// # Errors
+    ///
+    /// `TooDeep` exactly where an item lies deeper than 65,535, and those of taking memory.
+    ///
+    /// # Cost
+    ///
+    /// Linear in n. Takes memory.
     pub fn convert_to_comparable_wide(&self, alloc: Global) -> Result<Vec<u8>, Error>
         ensures key { (form : Form) (tree : Tree) → Decodes form (raw_bytes self.now) tree
             → MakesKey w16 tree result }
@@ -61,12 +74,15 @@ impl RawJsonb<'_> {
     }
 
     /// The equality key: bytes that two documents share exactly where they are equal by value, at every depth and
-    /// with extensions. Their order means nothing.
+    /// with extensions. Their order means nothing. docs/FORMAT.md has its layout.
     ///
-    /// Kinds, counts, lengths and contents stand one after the other, as `docs/FORMAT.md` lays them out.
+    /// # Errors
     ///
-    /// `InvalidJsonb` or `UnsupportedNumber` only where the bytes don't decode, and `OutOfMemory` where memory is
-    /// refused.
+    /// Those of taking memory.
+    ///
+    /// # Cost
+    ///
+    /// Linear in n. Takes memory.
     pub fn equality_key(&self, alloc: Global) -> Result<Vec<u8>, Error>
         ensures key { (form : Form) (tree : Tree) → Decodes form (raw_bytes self.now) tree
             → MatchResult result (λ v. v.items ≡ equality_key tree) IsOutOfMemory }

@@ -49,10 +49,12 @@ pub struct PairEntries<'a> {
     pub values: Entries<'a>,
 }
 
-/// The key of the first of some pairs, and the others.
+/// The key of the first of some pairs, the entry of its value, and the others.
 #[derive(Clone, Copy)]
 pub struct FirstPair<'a> {
     pub key: &'a [u8],
+    pub kind: u32,
+    pub content: &'a [u8],
     pub others: PairEntries<'a>,
 }
 

@@ -127,13 +127,18 @@ fn child_at_step(
 }
 
 impl RawJsonb<'_> {
-    /// The part of the document at the place that the steps meet, as a document of its own. At an array only an
-    /// index meets an element, counted from the end where it is negative. At an object a name meets the value
-    /// under it, and an index the value under its decimal text. `None` where a step meets nothing. Without steps it
-    /// is the whole document.
+    /// The part of the document at the place that the steps meet, as a document of its own. At an array only an index
+    /// meets an element, counted from the end where it is negative. At an object a name meets the value under it, and
+    /// an index the value under its decimal text. `None` where a step meets nothing. Without steps it is the whole
+    /// document. The iterator must end. PostgreSQL has `#>`.
     ///
-    /// `InvalidJsonb` and `UnsupportedNumber` come only where the bytes don't decode, `TooLarge` only where the
-    /// part is too large for a document of its own, and `OutOfMemory` where memory is refused.
+    /// # Errors
+    ///
+    /// Those of making documents.
+    ///
+    /// # Cost
+    ///
+    /// Linear in the elements or pairs of each container on the way, and the part is copied. Takes memory.
     pub fn get_by_keypath<'k, I: Iterator<Item = &'k KeyPath<'k>> + Drop>(
         &self,
         alloc: Global,

@@ -1,7 +1,8 @@
 //! Entries that are gone through one by one, and runs of them that are kept.
 
-ghost use Rattle.std.specs.Prelude.{◌≡◌, ◌++◌, ◌<◌, ℕ, List, length, IfOk, IfSome, IsOkAnd, IfErr, MatchResult};
-ghost use Rattle.jsonb_doc.specs.Tree.{Tree};
+ghost use Rattle.std.specs.Prelude.{◌≡◌, ◌++◌, ◌<◌, ℕ, List, map, length, position as first_position, IfOk, IfSome, IsOkAnd, IfErr, MatchResult};
+ghost use Rattle.std.specs.Str.{bytes_eq};
+ghost use Rattle.jsonb_doc.specs.Tree.{Tree, text};
 ghost use Rattle.jsonb_doc.specs.Payload.{Form};
 ghost use Rattle.jsonb_doc.specs.Format.{Decodes};
 ghost use Rattle.jsonb_doc.specs.Answer.{IsDecodingError, IsOutOfMemory, ◌or◌};
@@ -79,11 +80,31 @@ pub fn first_pair(row: PairEntries<'_>) -> Result<Option<FirstPair<'_>>, Error>
     };
     Ok(Some(FirstPair {
         key: key.content,
+        kind: value.kind,
+        content: value.content,
         others: PairEntries {
             keys: key.others,
             values: value.others,
         },
     }))
+}
+
+/// The position of the first of the entries, which are texts, that is this name.
+pub fn name_position(row: Entries<'_>, name: &[u8]) -> Result<Option<usize>, Error>
+    ensures position { (form : Form) (ks : List (List ℕ)) → HoldTrees form row.entry (map text ks)
+        → IsOkAnd result (λ found. found ≡ first_position (λ key. bytes_eq key name.now) ks) }
+    ensures errors { IfErr result IsDecodingError }
+{
+    let mut passed = 0;
+    let mut left = row;
+    while let Some(key) = first_entry(left)? {
+        if key.content == name {
+            return Ok(Some(passed));
+        }
+        passed += 1;
+        left = key.others;
+    }
+    Ok(None)
 }
 
 /// Puts the entries of a row in front of those that are left of it behind the rows.
@@ -136,7 +157,8 @@ impl<'a> PairRows<'a> {
 
     /// Puts the pairs of a row in front of those that are left of it behind the others.
     pub fn push_run(&mut self, run: PairEntries<'a>, left: PairEntries<'a>) -> Result<(), Error>
-        ensures pushed { (form : Form) (xs ys : List (List ℕ × Tree)) → PairsOpen form self.old run.entry left.entry xs ys
+        ensures pushed { (form : Form) (xs ys : List (List ℕ × Tree))
+            → PairsOpen form self.old run.entry left.entry xs ys
             → MatchResult result (λ _. PairsHeld form self.new xs) IsOutOfMemory }
         ensures errors { IfErr result (IsDecodingError or OutOfMemory) }
     {

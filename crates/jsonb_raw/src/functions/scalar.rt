@@ -30,9 +30,15 @@ use std::borrow::CowStr;
 impl<'a> RawJsonb<'a> {
     /// The kind of the root: `NULL_VALUE`, `BOOLEAN`, `INTEGER`, `DECIMAL`, `STRING`, `BINARY`, `DATE`, `TIMESTAMP`,
     /// `TIMESTAMP_TZ`, `INTERVAL`, `ARRAY` or `OBJECT` (this project's profile). A zero is an `INTEGER`, whatever
-    /// variant it is stored as.
+    /// variant it is stored as. PostgreSQL has `jsonb_typeof`, with other words.
     ///
-    /// `InvalidJsonb` or `UnsupportedNumber` only where the bytes don't decode.
+    /// # Errors
+    ///
+    /// Those of reading.
+    ///
+    /// # Cost
+    ///
+    /// Constant, but a text is read whole. No memory.
     pub fn type_of(&self) -> Result<&'static str, Error>
         ensures name { (form : Form) (tree : Tree) → Decodes form (raw_bytes self.now) tree
             → IsOkAnd result (λ name. name.now ≡ type_name tree) }
@@ -51,7 +57,13 @@ impl<'a> RawJsonb<'a> {
 
     /// Whether the document is null.
     ///
-    /// `InvalidJsonb` or `UnsupportedNumber` only where the bytes don't decode.
+    /// # Errors
+    ///
+    /// Those of reading.
+    ///
+    /// # Cost
+    ///
+    /// Constant, but a text is read whole. No memory.
     pub fn is_null(&self) -> Result<bool, Error>
         ensures kind { (form : Form) (tree : Tree) → Decodes form (raw_bytes self.now) tree
             → IsOkAnd result (λ b. b ≡ is_null tree) }
@@ -62,7 +74,13 @@ impl<'a> RawJsonb<'a> {
 
     /// Whether the document is a truth value.
     ///
-    /// `InvalidJsonb` or `UnsupportedNumber` only where the bytes don't decode.
+    /// # Errors
+    ///
+    /// Those of reading.
+    ///
+    /// # Cost
+    ///
+    /// Constant, but a text is read whole. No memory.
     pub fn is_boolean(&self) -> Result<bool, Error>
         ensures kind { (form : Form) (tree : Tree) → Decodes form (raw_bytes self.now) tree
             → IsOkAnd result (λ b. b ≡ is_boolean tree) }
@@ -73,7 +91,13 @@ impl<'a> RawJsonb<'a> {
 
     /// Whether the document is a number.
     ///
-    /// `InvalidJsonb` or `UnsupportedNumber` only where the bytes don't decode.
+    /// # Errors
+    ///
+    /// Those of reading.
+    ///
+    /// # Cost
+    ///
+    /// Constant, but a text is read whole. No memory.
     pub fn is_number(&self) -> Result<bool, Error>
         ensures kind { (form : Form) (tree : Tree) → Decodes form (raw_bytes self.now) tree
             → IsOkAnd result (λ b. b ≡ is_number tree) }
@@ -84,7 +108,13 @@ impl<'a> RawJsonb<'a> {
 
     /// Whether the document is a text.
     ///
-    /// `InvalidJsonb` or `UnsupportedNumber` only where the bytes don't decode.
+    /// # Errors
+    ///
+    /// Those of reading.
+    ///
+    /// # Cost
+    ///
+    /// Constant, but a text is read whole. No memory.
     pub fn is_string(&self) -> Result<bool, Error>
         ensures kind { (form : Form) (tree : Tree) → Decodes form (raw_bytes self.now) tree
             → IsOkAnd result (λ b. b ≡ is_string tree) }
@@ -95,7 +125,13 @@ impl<'a> RawJsonb<'a> {
 
     /// Whether the document is an array.
     ///
-    /// `InvalidJsonb` or `UnsupportedNumber` only where the bytes don't decode.
+    /// # Errors
+    ///
+    /// Those of reading.
+    ///
+    /// # Cost
+    ///
+    /// Constant, but a text is read whole. No memory.
     pub fn is_array(&self) -> Result<bool, Error>
         ensures kind { (form : Form) (tree : Tree) → Decodes form (raw_bytes self.now) tree
             → IsOkAnd result (λ b. b ≡ is_array tree) }
@@ -106,7 +142,13 @@ impl<'a> RawJsonb<'a> {
 
     /// Whether the document is an object.
     ///
-    /// `InvalidJsonb` or `UnsupportedNumber` only where the bytes don't decode.
+    /// # Errors
+    ///
+    /// Those of reading.
+    ///
+    /// # Cost
+    ///
+    /// Constant, but a text is read whole. No memory.
     pub fn is_object(&self) -> Result<bool, Error>
         ensures kind { (form : Form) (tree : Tree) → Decodes form (raw_bytes self.now) tree
             → IsOkAnd result (λ b. b ≡ is_object tree) }
@@ -117,7 +159,13 @@ impl<'a> RawJsonb<'a> {
 
     /// Whether the document is a value that JSON itself lacks.
     ///
-    /// `InvalidJsonb` or `UnsupportedNumber` only where the bytes don't decode.
+    /// # Errors
+    ///
+    /// Those of reading.
+    ///
+    /// # Cost
+    ///
+    /// Constant, but a text is read whole. No memory.
     pub fn is_extension_value(&self) -> Result<bool, Error>
         ensures kind { (form : Form) (tree : Tree) → Decodes form (raw_bytes self.now) tree
             → IsOkAnd result (λ b. b ≡ is_extension_value tree) }
@@ -128,7 +176,13 @@ impl<'a> RawJsonb<'a> {
 
     /// Whether the document is a binary value.
     ///
-    /// `InvalidJsonb` or `UnsupportedNumber` only where the bytes don't decode.
+    /// # Errors
+    ///
+    /// Those of reading.
+    ///
+    /// # Cost
+    ///
+    /// Constant, but a text is read whole. No memory.
     pub fn is_binary(&self) -> Result<bool, Error>
         ensures kind { (form : Form) (tree : Tree) → Decodes form (raw_bytes self.now) tree
             → IsOkAnd result (λ b. b ≡ is_binary tree) }
@@ -142,7 +196,13 @@ impl<'a> RawJsonb<'a> {
 
     /// Whether the document is a day.
     ///
-    /// `InvalidJsonb` or `UnsupportedNumber` only where the bytes don't decode.
+    /// # Errors
+    ///
+    /// Those of reading.
+    ///
+    /// # Cost
+    ///
+    /// Constant, but a text is read whole. No memory.
     pub fn is_date(&self) -> Result<bool, Error>
         ensures kind { (form : Form) (tree : Tree) → Decodes form (raw_bytes self.now) tree
             → IsOkAnd result (λ b. b ≡ is_date tree) }
@@ -156,7 +216,13 @@ impl<'a> RawJsonb<'a> {
 
     /// Whether the document is a point in time without a time zone.
     ///
-    /// `InvalidJsonb` or `UnsupportedNumber` only where the bytes don't decode.
+    /// # Errors
+    ///
+    /// Those of reading.
+    ///
+    /// # Cost
+    ///
+    /// Constant, but a text is read whole. No memory.
     pub fn is_timestamp(&self) -> Result<bool, Error>
         ensures kind { (form : Form) (tree : Tree) → Decodes form (raw_bytes self.now) tree
             → IsOkAnd result (λ b. b ≡ is_timestamp tree) }
@@ -170,7 +236,13 @@ impl<'a> RawJsonb<'a> {
 
     /// Whether the document is a point in time with a time zone.
     ///
-    /// `InvalidJsonb` or `UnsupportedNumber` only where the bytes don't decode.
+    /// # Errors
+    ///
+    /// Those of reading.
+    ///
+    /// # Cost
+    ///
+    /// Constant, but a text is read whole. No memory.
     pub fn is_timestamp_tz(&self) -> Result<bool, Error>
         ensures kind { (form : Form) (tree : Tree) → Decodes form (raw_bytes self.now) tree
             → IsOkAnd result (λ b. b ≡ is_timestamp_tz tree) }
@@ -184,7 +256,13 @@ impl<'a> RawJsonb<'a> {
 
     /// Whether the document is a length of time.
     ///
-    /// `InvalidJsonb` or `UnsupportedNumber` only where the bytes don't decode.
+    /// # Errors
+    ///
+    /// Those of reading.
+    ///
+    /// # Cost
+    ///
+    /// Constant, but a text is read whole. No memory.
     pub fn is_interval(&self) -> Result<bool, Error>
         ensures kind { (form : Form) (tree : Tree) → Decodes form (raw_bytes self.now) tree
             → IsOkAnd result (λ b. b ≡ is_interval tree) }
@@ -198,7 +276,13 @@ impl<'a> RawJsonb<'a> {
 
     /// Whether the document is a number that is whole and fits `i64`. The decimal 1.0 is whole.
     ///
-    /// `InvalidJsonb` or `UnsupportedNumber` only where the bytes don't decode.
+    /// # Errors
+    ///
+    /// Those of reading.
+    ///
+    /// # Cost
+    ///
+    /// Constant, but a text is read whole. No memory.
     pub fn is_i64(&self) -> Result<bool, Error>
         ensures kind { (form : Form) (tree : Tree) → Decodes form (raw_bytes self.now) tree
             → IsOkAnd result (λ b. IsTrue b ↔ ((z : ℤ) × IsWholeNumber tree z × FitsSigned w64 z)) }
@@ -209,7 +293,13 @@ impl<'a> RawJsonb<'a> {
 
     /// Whether the document is a number that is whole and fits `u64`. The decimal 1.0 is whole.
     ///
-    /// `InvalidJsonb` or `UnsupportedNumber` only where the bytes don't decode.
+    /// # Errors
+    ///
+    /// Those of reading.
+    ///
+    /// # Cost
+    ///
+    /// Constant, but a text is read whole. No memory.
     pub fn is_u64(&self) -> Result<bool, Error>
         ensures kind { (form : Form) (tree : Tree) → Decodes form (raw_bytes self.now) tree
             → IsOkAnd result (λ b. IsTrue b ↔ ((n : ℕ) × IsWholeNumber tree (pos n) × (n < 2 ^ 64))) }
@@ -220,7 +310,13 @@ impl<'a> RawJsonb<'a> {
 
     /// `()` where the document is null, else `None`.
     ///
-    /// `InvalidJsonb` or `UnsupportedNumber` only where the bytes don't decode.
+    /// # Errors
+    ///
+    /// Those of reading.
+    ///
+    /// # Cost
+    ///
+    /// Constant, but a text is read whole. No memory.
     pub fn as_null(&self) -> Result<Option<()>, Error>
         ensures value { (form : Form) (tree : Tree) → Decodes form (raw_bytes self.now) tree
             → IsOkAnd result (λ found. is_some found ≡ is_null tree) }
@@ -234,7 +330,13 @@ impl<'a> RawJsonb<'a> {
 
     /// The truth value, where the document is one, else `None`.
     ///
-    /// `InvalidJsonb` or `UnsupportedNumber` only where the bytes don't decode.
+    /// # Errors
+    ///
+    /// Those of reading.
+    ///
+    /// # Cost
+    ///
+    /// Constant, but a text is read whole. No memory.
     pub fn as_bool(&self) -> Result<Option<bool>, Error>
         ensures value { (form : Form) (tree : Tree) → Decodes form (raw_bytes self.now) tree
             → IsOkAnd result (λ found. found ≡ boolean_in tree) }
@@ -248,7 +350,13 @@ impl<'a> RawJsonb<'a> {
 
     /// The number, where the document is one, else `None`. A zero is `UInt64(0)`, whatever variant it is stored as.
     ///
-    /// `InvalidJsonb` or `UnsupportedNumber` only where the bytes don't decode.
+    /// # Errors
+    ///
+    /// Those of reading.
+    ///
+    /// # Cost
+    ///
+    /// Constant, but a text is read whole. No memory.
     pub fn as_number(&self) -> Result<Option<Number>, Error>
         ensures value { (form : Form) (tree : Tree) → Decodes form (raw_bytes self.now) tree
             → IsOkAnd result (λ found. SameOption (λ n m. number_parts n ≡ m) found (number_in tree)) }
@@ -262,7 +370,13 @@ impl<'a> RawJsonb<'a> {
 
     /// The text, borrowed, where the document is one, else `None`.
     ///
-    /// `InvalidJsonb` or `UnsupportedNumber` only where the bytes don't decode.
+    /// # Errors
+    ///
+    /// Those of reading.
+    ///
+    /// # Cost
+    ///
+    /// Constant, but a text is read whole. No memory.
     pub fn as_str(&self) -> Result<Option<CowStr<'a, Global>>, Error>
         ensures value { (form : Form) (tree : Tree) → Decodes form (raw_bytes self.now) tree
             → IsOkAnd result (λ found. SameOption BorrowsText found (text_in tree)) }
@@ -276,7 +390,13 @@ impl<'a> RawJsonb<'a> {
 
     /// The extension value, where the document is one, else `None`.
     ///
-    /// `InvalidJsonb` or `UnsupportedNumber` only where the bytes don't decode.
+    /// # Errors
+    ///
+    /// Those of reading.
+    ///
+    /// # Cost
+    ///
+    /// Constant, but a text is read whole. No memory.
     pub fn as_extension_value(&self) -> Result<Option<ExtensionValue<'a>>, Error>
         ensures value { (form : Form) (tree : Tree) → Decodes form (raw_bytes self.now) tree
             → IsOkAnd result (λ found. SameOption (λ x y. extension_view x ≡ y) found (extension_in tree)) }
@@ -290,7 +410,13 @@ impl<'a> RawJsonb<'a> {
 
     /// The day, where the document is one, else `None`.
     ///
-    /// `InvalidJsonb` or `UnsupportedNumber` only where the bytes don't decode.
+    /// # Errors
+    ///
+    /// Those of reading.
+    ///
+    /// # Cost
+    ///
+    /// Constant, but a text is read whole. No memory.
     pub fn as_date(&self) -> Result<Option<Date>, Error>
         ensures value { (form : Form) (tree : Tree) → Decodes form (raw_bytes self.now) tree
             → IsOkAnd result (λ found. SameOption IsDate found (date_in tree)) }
@@ -304,7 +430,13 @@ impl<'a> RawJsonb<'a> {
 
     /// The point in time without a time zone, where the document is one, else `None`.
     ///
-    /// `InvalidJsonb` or `UnsupportedNumber` only where the bytes don't decode.
+    /// # Errors
+    ///
+    /// Those of reading.
+    ///
+    /// # Cost
+    ///
+    /// Constant, but a text is read whole. No memory.
     pub fn as_timestamp(&self) -> Result<Option<Timestamp>, Error>
         ensures value { (form : Form) (tree : Tree) → Decodes form (raw_bytes self.now) tree
             → IsOkAnd result (λ found. SameOption IsTimestamp found (timestamp_in tree)) }
@@ -318,7 +450,13 @@ impl<'a> RawJsonb<'a> {
 
     /// The point in time with a time zone, where the document is one, else `None`.
     ///
-    /// `InvalidJsonb` or `UnsupportedNumber` only where the bytes don't decode.
+    /// # Errors
+    ///
+    /// Those of reading.
+    ///
+    /// # Cost
+    ///
+    /// Constant, but a text is read whole. No memory.
     pub fn as_timestamp_tz(&self) -> Result<Option<TimestampTz>, Error>
         ensures value { (form : Form) (tree : Tree) → Decodes form (raw_bytes self.now) tree
             → IsOkAnd result (λ found. SameOption IsTimestampTz found (timestamp_tz_in tree)) }
@@ -332,7 +470,13 @@ impl<'a> RawJsonb<'a> {
 
     /// The length of time, where the document is one, else `None`.
     ///
-    /// `InvalidJsonb` or `UnsupportedNumber` only where the bytes don't decode.
+    /// # Errors
+    ///
+    /// Those of reading.
+    ///
+    /// # Cost
+    ///
+    /// Constant, but a text is read whole. No memory.
     pub fn as_interval(&self) -> Result<Option<Interval>, Error>
         ensures value { (form : Form) (tree : Tree) → Decodes form (raw_bytes self.now) tree
             → IsOkAnd result (λ found. SameOption IsInterval found (interval_in tree)) }
@@ -344,9 +488,15 @@ impl<'a> RawJsonb<'a> {
         }
     }
 
-    /// A copy of the bytes, where the document is a binary value, else `None`. `OutOfMemory` where memory is refused.
+    /// A copy of the bytes, where the document is a binary value, else `None`.
     ///
-    /// `InvalidJsonb` or `UnsupportedNumber` only where the bytes don't decode.
+    /// # Errors
+    ///
+    /// Those of taking memory.
+    ///
+    /// # Cost
+    ///
+    /// Linear in the bytes, which are copied. Takes memory.
     pub fn as_binary(&self, alloc: Global) -> Result<Option<Vec<u8>>, Error>
         ensures value { (form : Form) (tree : Tree) → Decodes form (raw_bytes self.now) tree
             → CopiesBytes (binary_in tree) result }
@@ -363,7 +513,13 @@ impl<'a> RawJsonb<'a> {
     /// The number as an `i64`, where the document is a number that is whole and fits, else `None`. The decimal 1.0 is
     /// whole.
     ///
-    /// `InvalidJsonb` or `UnsupportedNumber` only where the bytes don't decode.
+    /// # Errors
+    ///
+    /// Those of reading.
+    ///
+    /// # Cost
+    ///
+    /// Constant, but a text is read whole. No memory.
     pub fn as_i64(&self) -> Result<Option<i64>, Error>
         ensures value { (form : Form) (tree : Tree) → Decodes form (raw_bytes self.now) tree
             → IsOkAnd result (λ found. MatchOption found
@@ -380,7 +536,13 @@ impl<'a> RawJsonb<'a> {
     /// The number as a `u64`, where the document is a number that is whole and fits, else `None`. The decimal 1.0 is
     /// whole.
     ///
-    /// `InvalidJsonb` or `UnsupportedNumber` only where the bytes don't decode.
+    /// # Errors
+    ///
+    /// Those of reading.
+    ///
+    /// # Cost
+    ///
+    /// Constant, but a text is read whole. No memory.
     pub fn as_u64(&self) -> Result<Option<u64>, Error>
         ensures value { (form : Form) (tree : Tree) → Decodes form (raw_bytes self.now) tree
             → IsOkAnd result (λ found. MatchOption found

@@ -4,6 +4,7 @@ use crate::raw::RawJsonb;
 use jsonb_doc::{Error, Value};
 use jsonb_keypath::KeyPath;
 use std::alloc::Global;
+use std::borrow::CowStr;
 use std::test::Fail;
 
 /// So many arrays of one element, the text `x` in the innermost: 8 bytes a level and one.
@@ -60,6 +61,55 @@ fn leaf_depth(alloc: Global, document: &[u8], indexes: bool) -> Result<Option<us
         return Ok(None);
     }
     Ok(Some(leaf.0.paths.len()))
+}
+
+#[test]
+fn parts_taken_out_of_deep_arrays(rt: HostRuntime) -> Result<(), Fail> {
+    // The innermost array is empty then, and each one around it 5 bytes shorter: a word and a byte.
+    let alloc = rt.alloc();
+    let mut steps = Vec::new(alloc);
+    let mut wanted = Vec::new(alloc);
+    for within in (1..200_000u32).rev() {
+        steps.push(KeyPath::Index(0))?;
+        wanted.extend_from_slice(b"\x80\0\0\x01")?;
+        wanted.extend_from_slice(
+            &within
+                .wrapping_mul(8)
+                .wrapping_add(0x4fff_fffc)
+                .to_be_bytes(),
+        )?;
+    }
+    steps.push(KeyPath::Index(0))?;
+    wanted.extend_from_slice(b"\x80\0\0\0")?;
+    let document = arrays(alloc, 200_000)?;
+    let left = RawJsonb::new(&document).delete_by_keypath(alloc, steps.iter())?;
+    assert_eq!(rt; left.as_raw().as_bytes(), wanted.as_slice());
+    Ok(())
+}
+
+#[test]
+fn parts_taken_out_of_deep_objects(rt: HostRuntime) -> Result<(), Fail> {
+    // The innermost object is empty then, and each one around it 10 bytes shorter: two words and two bytes.
+    let alloc = rt.alloc();
+    let mut steps = Vec::new(alloc);
+    let mut wanted = Vec::new(alloc);
+    for within in (1..200_000u32).rev() {
+        steps.push(KeyPath::Name(CowStr::Borrowed("a")))?;
+        wanted.extend_from_slice(b"\x40\0\0\x01\x10\0\0\x01")?;
+        wanted.extend_from_slice(
+            &within
+                .wrapping_mul(13)
+                .wrapping_add(0x4fff_fff7)
+                .to_be_bytes(),
+        )?;
+        wanted.push(b'a')?;
+    }
+    steps.push(KeyPath::Name(CowStr::Borrowed("a")))?;
+    wanted.extend_from_slice(b"\x40\0\0\0")?;
+    let document = objects(alloc, 200_000)?;
+    let left = RawJsonb::new(&document).delete_by_keypath(alloc, steps.iter())?;
+    assert_eq!(rt; left.as_raw().as_bytes(), wanted.as_slice());
+    Ok(())
 }
 
 #[test]

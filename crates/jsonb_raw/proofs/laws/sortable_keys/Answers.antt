@@ -2,14 +2,5 @@ use Rattle.std.specs.Int.{w8}
 use Rattle.jsonb_raw.proofs.KeyLawProofs.{keys_keep_below, keys_keep_equal, keys_order, keys_tell_apart}
 use Rattle.jsonb_raw.proofs.laws.sortable_keys.Goals as goal
 
-pub returns-clause-below : goal.returns-clause-below
-returns-clause-below c = keys_keep_below w8
-
-pub returns-clause-equal : goal.returns-clause-equal
-returns-clause-equal c = keys_keep_equal w8
-
-pub returns-clause-order : goal.returns-clause-order
-returns-clause-order c = keys_order w8
-
-pub returns-clause-apart : goal.returns-clause-apart
-returns-clause-apart c = keys_tell_apart w8
+pub returns : goal.returns
+returns c = record { below = keys_keep_below w8; equal = keys_keep_equal w8; order = keys_order w8; apart = keys_tell_apart w8 }

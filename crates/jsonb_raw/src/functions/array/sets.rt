@@ -9,7 +9,6 @@ ghost use Rattle.jsonb_doc.specs.Payload.{Form};
 ghost use Rattle.jsonb_doc.specs.Format.{Decodes};
 ghost use Rattle.jsonb_doc.specs.Item.{StandsFor};
 ghost use Rattle.jsonb_doc.specs.Elements.{HasElementsLeft};
-ghost use Rattle.jsonb_doc.specs.Private.Stored.{HasEntriesLeft};
 ghost use Rattle.jsonb_doc.specs.ArrayBuilder.{HoldsElements};
 ghost use Rattle.jsonb_doc.specs.Answer.{IsOutOfMemory, IsOutOfMemoryOrTooLarge, ◌or◌, IsDecodingError};
 ghost use Rattle.jsonb_doc.specs.declared.error.Error.TheVariants.{OutOfMemory, TooLarge};
@@ -20,13 +19,12 @@ ghost use Rattle.jsonb_raw.specs.Sets.{select_occurrences, distinct, intersectio
 ghost use Rattle.jsonb_raw.specs.Private.SetCounts.{CountsKeys, CountsBehind, keeps, kept_one};
 
 use super::counts::KeyCounts;
-use crate::equal_items::{find_equal, items_equal};
+use super::overlap::entries_overlap;
+use crate::equal_items::items_equal;
 use crate::equality_key::item_key;
 use crate::owned::OwnedJsonb;
 use crate::raw::RawJsonb;
-use jsonb_doc::{
-    ArrayBuilder, ElementIter, EntryIter, Error, Item, array_entries, elements, root_item,
-};
+use jsonb_doc::{ArrayBuilder, ElementIter, Error, Item, array_entries, elements, root_item};
 use std::alloc::Global;
 
 /// Which elements of an array are kept.
@@ -215,22 +213,6 @@ fn elements_overlap(found: ElementIter<'_>, other: &[u8]) -> Result<bool, Error>
     Ok(false)
 }
 
-/// Whether an entry that is left equals one of the others.
-fn entries_overlap(found: EntryIter<'_>, others: EntryIter<'_>) -> Result<bool, Error>
-    ensures overlap { (form other_form : Form) (ts us : Trees) → HasEntriesLeft form found.entry ts
-        → HasEntriesLeft other_form others.entry us
-        → IsOkAnd result (λ b. b ≡ overlap (elements_of ts) (elements_of us)) }
-    ensures errors { IfErr result IsDecodingError }
-{
-    for entry in found {
-        let mut rest = others;
-        if find_equal(&mut rest, &entry?)? {
-            return Ok(true);
-        }
-    }
-    Ok(false)
-}
-
 /// The same of a document, where a root that is no array counts as one element.
 fn documents_overlap(bytes: &[u8], other: &[u8]) -> Result<bool, Error>
     ensures overlap { (form other_form : Form) (t u : Tree) → Decodes form bytes.now t
@@ -250,8 +232,13 @@ impl RawJsonb<'_> {
     /// The array of the first of each group of elements that are equal by value, in order. A document that is no
     /// array becomes an array of one.
     ///
-    /// `InvalidJsonb` and `UnsupportedNumber` come only where the bytes don't decode, `TooLarge` only where the
-    /// array passes the limits, and `OutOfMemory` where memory is refused.
+    /// # Errors
+    ///
+    /// Those of making documents.
+    ///
+    /// # Cost
+    ///
+    /// Linear in n, and k times log k comparisons of equality keys. Takes memory.
     pub fn array_distinct(&self, alloc: Global) -> Result<OwnedJsonb, Error>
         ensures distinct { (form : Form) (t : Tree) → Decodes form (raw_bytes self.now) t
             → Makes form (array (trees_of (distinct (as_elements t)))) result }
@@ -260,12 +247,16 @@ impl RawJsonb<'_> {
         kept_of_document(alloc, Kept::First, KeyCounts::new(alloc), self.as_bytes())
     }
 
-    /// The array of the elements that the other document holds too: an element stays while fewer elements before
-    /// it equal it by value than elements of the other document do. A document that is no array counts as one
-    /// element.
+    /// The array of the elements that the other document holds too: an element stays while fewer elements before it
+    /// equal it by value than elements of the other document do. A document that is no array counts as one element.
     ///
-    /// `InvalidJsonb` and `UnsupportedNumber` come only where the bytes of one don't decode, `TooLarge` only
-    /// where the array passes the limits, and `OutOfMemory` where memory is refused.
+    /// # Errors
+    ///
+    /// Those of making documents.
+    ///
+    /// # Cost
+    ///
+    /// Linear in n of both, and k times log k comparisons of equality keys. Takes memory.
     pub fn array_intersection(
         &self,
         alloc: Global,
@@ -282,8 +273,13 @@ impl RawJsonb<'_> {
 
     /// The array of the elements that `array_intersection` drops, in order.
     ///
-    /// `InvalidJsonb` and `UnsupportedNumber` come only where the bytes of one don't decode, `TooLarge` only
-    /// where the array passes the limits, and `OutOfMemory` where memory is refused.
+    /// # Errors
+    ///
+    /// Those of making documents.
+    ///
+    /// # Cost
+    ///
+    /// That of `array_intersection`.
     pub fn array_except(&self, alloc: Global, other: &RawJsonb<'_>) -> Result<OwnedJsonb, Error>
         ensures unshared { (form other_form : Form) (t u : Tree) → Decodes form (raw_bytes self.now) t
             → Decodes other_form (raw_bytes other.now) u
@@ -294,10 +290,16 @@ impl RawJsonb<'_> {
         kept_of_document(alloc, Kept::Unshared, counts, self.as_bytes())
     }
 
-    /// Whether an element equals one of the other document by value, where a document that is no array counts as
-    /// one element. It takes no memory, and its calls nest no deeper than the lengths can be halved.
+    /// Whether an element equals one of the other document by value, where a document that is no array counts as one
+    /// element. PostgreSQL has `&&` of arrays.
     ///
-    /// `InvalidJsonb` and `UnsupportedNumber` come only where the bytes of one don't decode.
+    /// # Errors
+    ///
+    /// Those of reading.
+    ///
+    /// # Cost
+    ///
+    /// Up to a comparison of each element with each of the other's. No memory.
     pub fn array_overlap(&self, other: &RawJsonb<'_>) -> Result<bool, Error>
         ensures overlap { (form other_form : Form) (t u : Tree) → Decodes form (raw_bytes self.now) t
             → Decodes other_form (raw_bytes other.now) u

@@ -2,7 +2,8 @@
 
 use crate::functions::parts::Entries;
 
-/// Where a pair goes into an object: behind so many of its keys, in place of so many of its pairs, which is one at most.
+/// Where a pair goes into an object: behind so many of its keys, in place of so many of its pairs, which is one at
+/// most.
 #[derive(Clone, Copy)]
 pub struct PairPlace {
     pub passed: usize,

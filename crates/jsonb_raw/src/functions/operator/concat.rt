@@ -23,10 +23,16 @@ use std::cmp::Ordering;
 
 impl RawJsonb<'_> {
     /// Two objects give the object of all their pairs, with the other's value where both have the key. Any other two
-    /// documents give the array of their elements, where one that is no array counts as one element.
+    /// documents give the array of their elements, where one that is no array counts as one element. PostgreSQL has
+    /// `||`.
     ///
-    /// `TooLarge` only where the answer passes the limits of a document, `InvalidJsonb` or `UnsupportedNumber` only
-    /// where the bytes of a document don't decode, and `OutOfMemory` where memory is refused.
+    /// # Errors
+    ///
+    /// Those of making documents.
+    ///
+    /// # Cost
+    ///
+    /// Linear in n of both, each byte copied once. Takes memory.
     pub fn concat(&self, alloc: Global, other: &RawJsonb<'_>) -> Result<OwnedJsonb, Error>
         ensures document { (form : Form) (tree other_tree : Tree)
             → Decodes form (raw_bytes self.now) tree → Decodes form (raw_bytes other.now) other_tree
@@ -58,8 +64,8 @@ fn joined_objects<'a>(alloc: Global, bytes: &'a [u8], others: &'a [u8]) -> Resul
     merged_pairs(alloc, first, second)
 }
 
-/// The object of these and those pairs, by rising keys. Both are gone through in step, and those that come from one in a row are
-/// copied as one run. Where both have a key, the first's pair is passed over.
+/// The object of these and those pairs, by rising keys. Both are gone through in step, and those that come from one in
+/// a row are copied as one run. Where both have a key, the first's pair is passed over.
 fn merged_pairs<'a>(
     alloc: Global,
     first: PairEntries<'a>,

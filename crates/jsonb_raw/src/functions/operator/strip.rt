@@ -18,10 +18,15 @@ use std::alloc::Global;
 
 impl RawJsonb<'_> {
     /// The document without the pairs of objects whose value is null, at every depth. Nulls in arrays stay, and so
-    /// does a null that is the document.
+    /// does a null that is the document. PostgreSQL has `jsonb_strip_nulls`.
     ///
-    /// `TooLarge` only where the answer passes the limits of a document, `InvalidJsonb` or `UnsupportedNumber` only
-    /// where the bytes don't decode, and `OutOfMemory` where memory is refused.
+    /// # Errors
+    ///
+    /// Those of making documents.
+    ///
+    /// # Cost
+    ///
+    /// Linear in n, each byte copied once. Takes memory.
     pub fn strip_nulls(&self, alloc: Global) -> Result<OwnedJsonb, Error>
         ensures document { (form : Form) (tree : Tree) → Decodes form (raw_bytes self.now) tree
             → Makes form (strip tree) result }

@@ -28,8 +28,8 @@ struct StoredEntry<'a> {
     contents: &'a [u8],
 }
 
-/// A container that is being written. Its header, its keys and the words of its entries are written at once; the word of a
-/// container among them is written again when that container is done, with the length that it has then.
+/// A container that is being written. Its header, its keys and the words of its entries are written at once; the word
+/// of a container among them is written again when that container is done, with the length that it has then.
 #[derive(Clone, Copy)]
 struct Writing<'a> {
     /// The words and the contents of the entries that are left in the source.
@@ -241,7 +241,8 @@ fn begin<'a>(out: &mut Vec<u8>, container: &'a [u8]) -> Result<Writing<'a>, Erro
     }
 }
 
-/// A container without the nulls of its objects. What is left of the containers that the walk is within lies in a `Vec`.
+/// A container without the nulls of its objects. What is left of the containers that the walk is within lies in a
+/// `Vec`.
 pub fn strip_container(alloc: Global, container: &[u8]) -> Result<Vec<u8>, Error>
     ensures stripped { (form : Form) (t : Tree) → IsContent (number_reader form) t container_entry container.now
         → MatchResult result (λ made. IsContent (number_reader form)

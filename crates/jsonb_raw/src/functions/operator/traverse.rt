@@ -5,20 +5,28 @@ ghost use Rattle.jsonb_doc.specs.Tree.{Tree, Trees, Pairs, array, object};
 ghost use Rattle.jsonb_doc.specs.Payload.{Form};
 ghost use Rattle.jsonb_doc.specs.Format.{Decodes};
 ghost use Rattle.jsonb_doc.specs.Item.{StandsFor, item_size};
+ghost use Rattle.jsonb_doc.specs.Private.Stored.{Stores};
 ghost use Rattle.jsonb_doc.specs.Answer.{IsDecodingError};
 ghost use Rattle.jsonb_raw.specs.Documents.{raw_bytes};
 ghost use Rattle.jsonb_raw.specs.Texts.{texts, texts_of_trees, texts_of_pairs, Tells, LeavesTexts};
 
 use crate::raw::RawJsonb;
-use jsonb_doc::{Error, Item, array_elements, object_pairs, root_item};
+use jsonb_doc::{Error, Item, StoredEntry, array_entries, object_entries, root_item};
 
 impl RawJsonb<'_> {
     /// Asks `func` about the strings of the document and the keys of its objects, at every depth. `func` must be
-    /// callable on any bytes, and return. The call itself takes no memory.
+    /// callable on any bytes, and return.
     ///
     /// True only where a call on one of them answered true, false only where a call on each of them answered false.
-    /// Which calls are made before the answer is true, and their order, isn't fixed. `InvalidJsonb` or
-    /// `UnsupportedNumber` only where the bytes don't decode.
+    /// Which calls are made before the answer is true, and their order, isn't fixed.
+    ///
+    /// # Errors
+    ///
+    /// Those of reading.
+    ///
+    /// # Cost
+    ///
+    /// Linear in n, and what `func` costs. No memory of its own.
     pub fn traverse_check_string<F: Fn(&[u8]) -> bool + Drop>(&self, func: F) -> Result<bool, Error>
         requires { F.IsAlwaysCallable func }
         ensures told { (form : Form) (tree : Tree) → Decodes form (raw_bytes self.now) tree
@@ -40,8 +48,8 @@ struct Told<'a> {
 
 /// Whether `func` answers true for a text of the item.
 ///
-/// It goes into a part that is longer than half of all by this loop, and into the others by a call. So calls nest no deeper
-/// than the length can be halved.
+/// It goes into a part that is longer than half of all by this loop, and into the others by a call. So calls nest no
+/// deeper than the length can be halved.
 #[cycle(texts)]
 fn item_tells<F: Fn(&[u8]) -> bool>(item: &Item<'_>, func: &F) -> Result<bool, Error>
     requires { F.IsAlwaysCallable func.now }
@@ -85,6 +93,23 @@ fn part_tells<'a, F: Fn(&[u8]) -> bool>(item: &Item<'a>, func: &F) -> Result<Tol
     }
 }
 
+/// The same of an entry. No item is made of a text.
+#[cycle(texts)]
+fn entry_tells<F: Fn(&[u8]) -> bool>(entry: &StoredEntry<'_>, func: &F) -> Result<bool, Error>
+    requires { F.IsAlwaysCallable func.now }
+    ensures told { (form : Form) (tree : Tree) → Stores form entry.now tree
+        → IsOkAnd result (λ answer. Tells F.Fn func.now (texts tree) answer) }
+    ensures errors { IfErr result IsDecodingError }
+{
+    if entry.is_text() {
+        return Ok(func(entry.content));
+    }
+    if !entry.is_container() {
+        return Ok(false);
+    }
+    item_tells(&entry.item()?, func)
+}
+
 /// The same of the elements of an array, but for a container among them.
 #[cycle(texts)]
 fn array_tells<'a, F: Fn(&[u8]) -> bool>(bytes: &'a [u8], func: &F) -> Result<Told<'a>, Error>
@@ -94,13 +119,14 @@ fn array_tells<'a, F: Fn(&[u8]) -> bool>(bytes: &'a [u8], func: &F) -> Result<To
     ensures size { IfOk result (λ told. IfSome told.large (λ item. item_size item < length bytes.now)) }
     ensures errors { IfErr result IsDecodingError }
 {
-    let found = array_elements(bytes)?;
+    let found = array_entries(bytes)?;
     let mut large = None;
-    for item in found {
-        let item = item?;
-        if large.is_none() && container_len(&item) > bytes.len() / 2 {
+    for entry in found {
+        let entry = entry?;
+        if large.is_none() && entry.is_container() && entry.content.len() > bytes.len() / 2 {
+            let item = entry.item()?;
             large = Some(item);
-        } else if item_tells(&item, func)? {
+        } else if entry_tells(&entry, func)? {
             return Ok(Told {
                 answer: true,
                 large: None,
@@ -122,19 +148,20 @@ fn object_tells<'a, F: Fn(&[u8]) -> bool>(bytes: &'a [u8], func: &F) -> Result<T
     ensures size { IfOk result (λ told. IfSome told.large (λ item. item_size item < length bytes.now)) }
     ensures errors { IfErr result IsDecodingError }
 {
-    let found = object_pairs(bytes)?;
+    let found = object_entries(bytes)?;
     let mut large = None;
     for pair in found {
         let (key, value) = pair?;
-        if func(key.as_bytes()) {
+        if func(key) {
             return Ok(Told {
                 answer: true,
                 large: None,
             });
         }
-        if large.is_none() && container_len(&value) > bytes.len() / 2 {
-            large = Some(value);
-        } else if item_tells(&value, func)? {
+        if large.is_none() && value.is_container() && value.content.len() > bytes.len() / 2 {
+            let item = value.item()?;
+            large = Some(item);
+        } else if entry_tells(&value, func)? {
             return Ok(Told {
                 answer: true,
                 large: None,
@@ -145,14 +172,4 @@ fn object_tells<'a, F: Fn(&[u8]) -> bool>(bytes: &'a [u8], func: &F) -> Result<T
         answer: false,
         large,
     })
-}
-
-/// How many bytes an array or an object has, and 0 for another item.
-fn container_len(item: &Item<'_>) -> usize
-    ensures { result ≡ item_size item.now }
-{
-    match item {
-        Item::Array(bytes) | Item::Object(bytes) => bytes.len(),
-        _ => 0,
-    }
 }

@@ -2,39 +2,43 @@
 //!
 //! On bytes that don't decode each call returns; which answer or refusal it gives is not fixed.
 
-ghost use Rattle.std.specs.Prelude.{◌≡◌, List, not, None, Ok, filter, length, IfErr, MatchResult, MatchOption, Err};
+ghost use Rattle.std.specs.Prelude.{◌≡◌, ℕ, List, not, None, Ok, filter, length, IfErr, MatchResult, MatchOption, Err};
 ghost use Rattle.std.specs.List.{remove};
+ghost use Rattle.std.specs.Map.{keys_of};
 ghost use Rattle.std.specs.Str.{bytes_eq};
 ghost use Rattle.jsonb_doc.specs.Tree.{Tree, Trees, Pairs, array, object, elements as element_list, members, trees_of, pairs_of};
 ghost use Rattle.jsonb_doc.specs.Payload.{Form};
-ghost use Rattle.jsonb_doc.specs.Format.{Decodes};
+ghost use Rattle.jsonb_doc.specs.Format.{Decodes, AreKeys};
 ghost use Rattle.jsonb_doc.specs.Item.{StandsFor};
 ghost use Rattle.jsonb_doc.specs.Answer.{IsOutOfMemory, IsDecodingError, ◌or◌};
 ghost use Rattle.jsonb_doc.specs.declared.error.Error.TheVariants.{OutOfMemory, TooLarge, InvalidJsonType};
-ghost use Rattle.jsonb_raw.specs.Private.Rows.{HoldTrees};
+ghost use Rattle.jsonb_raw.specs.Private.Rows.{HoldTrees, HoldPairs};
 ghost use Rattle.jsonb_raw.specs.Documents.{raw_bytes, Makes, MakesOption};
 ghost use Rattle.jsonb_raw.specs.Places.{index_position};
 ghost use Rattle.jsonb_raw.specs.Children.{element_at, field_ignoring_case, named_child, without_index, without_name};
 ghost use Rattle.jsonb_raw.specs.Exists.{is_text};
 
 use super::nth_child;
-use crate::functions::entries::{element_entries, entry_count, split_row};
-use crate::functions::joined::array_of_both;
-use crate::functions::parts::Entries;
-use crate::functions::push::push_pair;
+use crate::functions::entries::{around_entry, element_entries, entry_count, entry_document};
+use crate::functions::joined::{array_of_both, object_of};
+use crate::functions::parts::{Entries, PairEntries};
+use crate::functions::runs::{first_pair, name_position, pair_entries};
 use crate::owned::OwnedJsonb;
 use crate::raw::RawJsonb;
-use jsonb_doc::{
-    ArrayBuilder, Error, Item, ObjectBuilder, array_elements, encode_item, field_spot,
-    object_pairs, pairs, root_item, root_spot,
-};
+use jsonb_doc::{ArrayBuilder, Error, Item, array_elements, field_spot, root_item, root_spot};
 use std::alloc::Global;
 
 impl RawJsonb<'_> {
-    /// The element at a position, as a document of its own, and `None` where there is none or where the root is no array.
+    /// The element at a position, counted from 0, as a document of its own, and `None` where there is none or where
+    /// the root is no array. PostgreSQL has `->` with a number.
     ///
-    /// `InvalidJsonb` and `UnsupportedNumber` come only where the bytes don't decode, `TooLarge` only where the element is
-    /// too large for a document of its own, and `OutOfMemory` where memory is refused.
+    /// # Errors
+    ///
+    /// Those of making documents.
+    ///
+    /// # Cost
+    ///
+    /// Linear in the position, and the element is copied. Takes memory.
     pub fn get_by_index(&self, alloc: Global, index: usize) -> Result<Option<OwnedJsonb>, Error>
         ensures element { (form : Form) (t : Tree) → Decodes form (raw_bytes self.now) t
             → MakesOption form (element_at index t) result }
@@ -54,11 +58,16 @@ impl RawJsonb<'_> {
     }
 
     /// The value under the name, as a document of its own. With `ignore_case` and no such key it is the value of the
-    /// first pair, in the order of the keys, whose key is the name in some case of ASCII letters. `None` where there is
-    /// no such value, or where the root is no object.
+    /// first pair, in the order of the keys, whose key is the name in some case of ASCII letters. `None` where there
+    /// is no such value, or where the root is no object. PostgreSQL has `->` with a text.
     ///
-    /// `InvalidJsonb` and `UnsupportedNumber` come only where the bytes don't decode, `TooLarge` only where the value is
-    /// too large for a document of its own, and `OutOfMemory` where memory is refused.
+    /// # Errors
+    ///
+    /// Those of making documents.
+    ///
+    /// # Cost
+    ///
+    /// Linear in k and, with `ignore_case`, the keys' bytes, and the value is copied. Takes memory.
     pub fn get_by_name(
         &self,
         alloc: Global,
@@ -83,12 +92,16 @@ impl RawJsonb<'_> {
         }
     }
 
-    /// The array without the element that an index means, counted from the end where it is negative. Where there is no
-    /// such element the answer has the same bytes.
+    /// The array without the element that an index means, counted from the end where it is negative. Where there is
+    /// no such element the answer has the same bytes. PostgreSQL has `-` with a number.
     ///
-    /// `InvalidJsonType` where the root is no array. `InvalidJsonb` and `UnsupportedNumber` come only where the bytes
-    /// don't decode, `TooLarge` only where the answer passes the limits of a document, and `OutOfMemory` where memory is
-    /// refused.
+    /// # Errors
+    ///
+    /// `InvalidJsonType` where the root is no array, and those of making documents.
+    ///
+    /// # Cost
+    ///
+    /// Linear in n, each byte copied once. Takes memory.
     pub fn delete_by_index(&self, alloc: Global, index: i32) -> Result<OwnedJsonb, Error>
         ensures deleted { (form : Form) (t : Tree) → Decodes form (raw_bytes self.now) t
             → MatchOption (without_index index t) (result ≡ Err InvalidJsonType) (λ wanted. Makes form wanted result) }
@@ -107,10 +120,15 @@ impl RawJsonb<'_> {
         }
     }
 
-    /// The object without the key, or the array without the texts that are the name.
+    /// The object without the key, or the array without the texts that are the name. PostgreSQL has `-` with a text.
     ///
-    /// `InvalidJsonType` for another root. `InvalidJsonb` and `UnsupportedNumber` come only where the bytes don't decode,
-    /// `TooLarge` only where the answer passes the limits of a document, and `OutOfMemory` where memory is refused.
+    /// # Errors
+    ///
+    /// `InvalidJsonType` where the root is neither, and those of making documents.
+    ///
+    /// # Cost
+    ///
+    /// Linear in n. Takes memory.
     pub fn delete_by_name(&self, alloc: Global, name: &str) -> Result<OwnedJsonb, Error>
         ensures deleted { (form : Form) (t : Tree) → Decodes form (raw_bytes self.now) t
             → MatchOption (without_name name.now t) (result ≡ Err InvalidJsonType)
@@ -133,14 +151,15 @@ fn value_ignoring_case(alloc: Global, bytes: &[u8], name: &str) -> Result<Option
         → result ≡ Ok None }
     ensures errors { IfErr result (IsDecodingError or OutOfMemory or TooLarge) }
 {
-    let Some(pairs) = pairs(bytes)? else {
+    let Some(row) = pair_entries(bytes)? else {
         return Ok(None);
     };
-    for pair in pairs {
-        let (key, value) = pair?;
-        if key.eq_ignore_ascii_case(name) {
-            return Ok(Some(OwnedJsonb::new(encode_item(alloc, &value)?)));
+    let mut left = row;
+    while let Some(pair) = first_pair(left)? {
+        if pair.key.eq_ignore_ascii_case(name.as_bytes()) {
+            return Ok(Some(entry_document(alloc, pair.kind, pair.content)?));
         }
+        left = pair.others;
     }
     Ok(None)
 }
@@ -170,8 +189,7 @@ fn array_without_element(
         → Makes form (array (trees_of (remove ts position))) result }
     ensures errors { IfErr result (IsDecodingError or OutOfMemory or TooLarge) }
 {
-    let (front, others) = split_row(row, position)?;
-    let (_, back) = split_row(others, 1)?;
+    let (front, back) = around_entry(row, position)?;
     array_of_both(alloc, front, back)
 }
 
@@ -208,13 +226,26 @@ fn object_without_key(alloc: Global, bytes: &[u8], name: &str) -> Result<OwnedJs
         → Makes form (object (pairs_of (filter (λ p. not (bytes_eq p.0 name.now)) (members ps)))) result }
     ensures errors { IfErr result (IsDecodingError or OutOfMemory or TooLarge) }
 {
-    let pairs = object_pairs(bytes)?;
-    let mut builder = ObjectBuilder::new(alloc);
-    for pair in pairs {
-        let (key, value) = pair?;
-        if key != name {
-            push_pair(&mut builder, key, &value)?;
-        }
-    }
-    Ok(OwnedJsonb::new(builder.build()?))
+    let Some(row) = pair_entries(bytes)? else {
+        return Err(Error::InvalidJsonb);
+    };
+    let Some(position) = name_position(row.keys, name.as_bytes())? else {
+        return Ok(OwnedJsonb::new(Vec::from_slice(alloc, bytes)?));
+    };
+    object_without_pair(alloc, row, position)
+}
+
+/// The object of these pairs without the one at a position.
+fn object_without_pair(
+    alloc: Global,
+    row: PairEntries<'_>,
+    position: usize,
+) -> Result<OwnedJsonb, Error>
+    ensures deleted { (form : Form) (ps : List (List ℕ × Tree)) → HoldPairs form row.entry ps
+        → AreKeys (keys_of (remove ps position)) → Makes form (object (pairs_of (remove ps position))) result }
+    ensures errors { IfErr result (IsDecodingError or OutOfMemory or TooLarge) }
+{
+    let (keys, other_keys) = around_entry(row.keys, position)?;
+    let (values, other_values) = around_entry(row.values, position)?;
+    object_of(alloc, &[keys, other_keys], &[values, other_values])
 }

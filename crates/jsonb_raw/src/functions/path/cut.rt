@@ -1,9 +1,9 @@
 //! Containers as bytes, with the entries of a child left out.
 
-ghost use Rattle.std.specs.Prelude.{◌≡◌, ℕ, ◌+◌, ◌*◌, ◌^◌, ◌<◌, ◌≤◌, List, ◌∷◌, ◌++◌, length, take, drop, IsSomeAnd, IsOkAnd, IfErr, Some, None, slice_get, slice_range, MatchResult};
+ghost use Rattle.std.specs.Prelude.{◌≡◌, ℕ, ◌+◌, ◌*◌, ◌^◌, ◌<◌, ◌≤◌, ◌-◌, List, [], ◌∷◌, ◌++◌, length, take, drop, IsSomeAnd, IsOkAnd, IfErr, Some, None, slice_get, slice_range, MatchResult};
 ghost use Rattle.std.specs.Int.{w32, to_be_bytes};
 ghost use Rattle.jsonb_doc.specs.Tree.{Tree};
-ghost use Rattle.jsonb_doc.specs.Payload.{Form, number_reader};
+ghost use Rattle.jsonb_doc.specs.Payload.{NumberReader, Form, number_reader};
 ghost use Rattle.jsonb_doc.specs.Format.{IsContent, container_entry, entry_word};
 ghost use Rattle.jsonb_doc.specs.Encoding.{EntryParts};
 ghost use Rattle.jsonb_doc.specs.ObjectBuilder.{words_of_entries, contents_of_entries};
@@ -11,12 +11,16 @@ ghost use Rattle.jsonb_doc.specs.Answer.{IsOutOfMemory, IsDecodingError, ◌or�
 ghost use Rattle.jsonb_doc.specs.declared.error.Error.TheVariants.{OutOfMemory};
 ghost use Rattle.jsonb_raw.specs.Places.{children, tree_at};
 ghost use Rattle.jsonb_raw.specs.Deletes.{remove_at};
-ghost use Rattle.jsonb_raw.specs.Private.Cuts.{FitEntries, HoldEntries, IsPlaceOf, AreInOrder, AreOfChild, around, without_child, IsPushed};
+ghost use Rattle.jsonb_raw.specs.Private.Cuts.{FitEntries, HoldEntries, IsPlaceOf, LiesWithin, AreInOrder, AreOfChild, LeadTo, LeadInto, around, without_child, entries_size, front_of, fronts, starts, IsPushed};
 
 use super::entry_place::{ChildEntries, EntryPlace};
+use crate::functions::entries::word_of;
 use crate::functions::entry_words::contents_len;
 use jsonb_doc::Error;
-use jsonb_doc::layout::{ARRAY_HEADER, CONTAINER, COUNTS, LENGTHS, OBJECT_HEADER, WORD};
+use jsonb_doc::layout::{
+    ARRAY_HEADER, CONTAINER, COUNTS, LENGTHS, MAX_CONTENT, OBJECT_HEADER, WORD,
+};
+use std::alloc::Global;
 
 /// The place of the entry that so many others stand before, of so many in all.
 fn entry_place(container: &[u8], total: usize, passed: usize) -> Option<EntryPlace>
@@ -148,31 +152,130 @@ pub fn set_container_word(out: &mut Vec<u8>, word: usize, start: usize) -> Resul
     Ok(())
 }
 
-/// Puts a container without the place of these positions at the end.
-pub fn push_without(out: &mut Vec<u8>, container: &[u8], positions: &[usize]) -> Result<(), Error>
+/// How many bytes the entries of a child take, with their words.
+fn entries_len(entries: &ChildEntries) -> usize
+    ensures { (len : ℕ) → len < 2 ^ 64 → AreInOrder entries.now.key entries.now.value len
+        → result ≡ entries_size entries.now }
+{
+    let value = entries.value;
+    let value_len = value.end.saturating_sub(value.start).saturating_add(WORD);
+    match entries.key {
+        Some(key) => value_len
+            .saturating_add(key.end.saturating_sub(key.start))
+            .saturating_add(WORD),
+        None => value_len,
+    }
+}
+
+/// The places of the children at these positions, each within the one before it, and the content of the last.
+fn places_within<'a>(
+    alloc: Global,
+    container: &'a [u8],
+    positions: &[usize],
+) -> Result<(Vec<EntryPlace>, &'a [u8]), Error>
+    ensures places { (form : Form) (t end : Tree) (last : ℕ)
+        → IsContent (number_reader form) t container_entry container.now
+        → tree_at (positions.now ++ last ∷ []) t ≡ Some end
+        → MatchResult result (λ found.
+        LeadInto (number_reader form) container.now t positions.now found.0.items found.1.now last) IsOutOfMemory }
+    ensures errors { IfErr result (IsDecodingError or OutOfMemory) }
+{
+    let mut places = Vec::with_capacity(alloc, positions.len())?;
+    let mut inner = container;
+    for position in positions {
+        let Some(entries) = child_entries(inner, *position) else {
+            return Err(Error::InvalidJsonb);
+        };
+        let child = entries.value;
+        let Some(content) = inner.get(child.start..child.end) else {
+            return Err(Error::InvalidJsonb);
+        };
+        places.push(child)?;
+        inner = content;
+    }
+    Ok((places, inner))
+}
+
+/// Puts the bytes in front of a child's content at the end. The child, a container, is told to be so many bytes
+/// shorter.
+fn push_front(
+    out: &mut Vec<u8>,
+    container: &[u8],
+    child: EntryPlace,
+    removed: usize,
+) -> Result<(), Error>
+    ensures pushed { LiesWithin child (length container.now) → removed ≤ child.end - child.start
+        → child.end - child.start < 2 ^ 28
+        → MatchResult result (λ _. out.new.items ≡ out.old.items ++ front_of container.now child removed)
+        IsOutOfMemory }
+    ensures errors { IfErr result (IsDecodingError or OutOfMemory) }
+{
+    let len = child
+        .end
+        .saturating_sub(child.start)
+        .saturating_sub(removed);
+    if len > MAX_CONTENT {
+        return Err(Error::InvalidJsonb);
+    }
+    push_part(out, container, 0, child.word)?;
+    out.extend_from_slice(&word_of(CONTAINER, len))?;
+    push_part(out, container, child.word + WORD, child.start)
+}
+
+/// Puts the bytes in front of the innermost of the children at these places at the end, each told to be so many bytes
+/// shorter. Tells where the innermost stands.
+fn push_fronts(
+    out: &mut Vec<u8>,
+    container: &[u8],
+    places: &[EntryPlace],
+    removed: usize,
+) -> Result<usize, Error>
+    ensures pushed { (number_at : NumberReader) (t u : Tree) (ns inner : List ℕ)
+        → LeadTo number_at container.now t ns places.now inner u → removed ≤ length inner
+        → MatchResult result (λ start. (start ≡ starts places.now)
+        × (out.new.items ≡ out.old.items ++ fronts container.now places.now removed)) IsOutOfMemory }
+    ensures errors { IfErr result (IsDecodingError or OutOfMemory) }
+{
+    let mut inner = container;
+    let mut start = 0;
+    for place in places {
+        push_front(out, inner, *place, removed)?;
+        let Some(content) = inner.get(place.start..place.end) else {
+            return Err(Error::InvalidJsonb);
+        };
+        inner = content;
+        start += place.start;
+    }
+    Ok(start)
+}
+
+/// Puts a container without the place of these positions at the end. One walk down finds where each child stands, so
+/// that the words on the way are written with their new lengths and each byte is copied once.
+pub fn push_without(
+    alloc: Global,
+    out: &mut Vec<u8>,
+    container: &[u8],
+    positions: &[usize],
+) -> Result<(), Error>
     ensures pushed { (form : Form) (t end left : Tree) → IsContent (number_reader form) t container_entry container.now
         → tree_at positions.now t ≡ Some end → remove_at positions.now t ≡ Some left
         → MatchResult result (λ _. IsPushed (number_reader form) left
         (length container.now) out.old.items out.new.items) IsOutOfMemory }
     ensures errors { IfErr result (IsDecodingError or OutOfMemory) }
 {
-    let Some((first, others)) = positions.split_first() else {
+    let Some((last, around)) = positions.split_last() else {
         return Err(Error::InvalidJsonb);
     };
-    let Some(entries) = child_entries(container, *first) else {
+    let (places, inner) = places_within(alloc, container, around)?;
+    let Some(entries) = child_entries(inner, *last) else {
         return Err(Error::InvalidJsonb);
     };
-    if others.is_empty() {
-        return push_without_child(out, container, &entries);
-    }
-    let child = entries.value;
-    let Some(content) = container.get(child.start..child.end) else {
-        return Err(Error::InvalidJsonb);
-    };
-    let word = out.len() + child.word;
-    push_part(out, container, 0, child.start)?;
-    let start = out.len();
-    push_without(out, content, others)?;
-    set_container_word(out, word, start)?;
-    push_part(out, container, child.end, container.len())
+    let start = push_fronts(out, container, places.as_slice(), entries_len(&entries))?;
+    push_without_child(out, inner, &entries)?;
+    push_part(
+        out,
+        container,
+        start.saturating_add(inner.len()),
+        container.len(),
+    )
 }

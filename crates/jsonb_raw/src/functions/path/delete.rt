@@ -134,11 +134,16 @@ fn copied(alloc: Global, bytes: &[u8]) -> Result<OwnedJsonb, Error>
 impl RawJsonb<'_> {
     /// The document without the place that the steps meet, as `get_by_keypath` walks them: an element of an array, or
     /// a pair of an object. The same bytes where there are no steps, where a step meets nothing, and where the root
-    /// is an extension value.
+    /// is an extension value. The iterator must end. PostgreSQL has `#-`.
     ///
-    /// `InvalidJsonType` exactly where the root is null, a boolean, a number or a string, `InvalidJsonb` and
-    /// `UnsupportedNumber` only where the bytes don't decode, and `OutOfMemory` where memory is refused. What is left is
-    /// copied once.
+    /// # Errors
+    ///
+    /// `InvalidJsonType` exactly where the root is null, a boolean, a number or a string, and those of taking memory.
+    /// `TooLarge` never comes: the answer is no larger than the document.
+    ///
+    /// # Cost
+    ///
+    /// Linear in n, and what is left is copied once. Takes memory.
     pub fn delete_by_keypath<'k, I: Iterator<Item = &'k KeyPath<'k>> + Drop>(
         &self,
         alloc: Global,
@@ -168,7 +173,7 @@ impl RawJsonb<'_> {
             return copied(alloc, bytes);
         }
         let mut document = Vec::with_capacity(alloc, bytes.len())?;
-        push_without(&mut document, bytes, positions.as_slice())?;
+        push_without(alloc, &mut document, bytes, positions.as_slice())?;
         Ok(OwnedJsonb::new(document))
     }
 }

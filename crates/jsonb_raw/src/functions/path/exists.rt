@@ -1,6 +1,6 @@
 //! Which texts a document has.
 
-ghost use Rattle.std.specs.Prelude.{◌≡◌, ℕ, List, IsOkAnd, IfOk, IfErr};
+ghost use Rattle.std.specs.Prelude.{◌≡◌, ℕ, List, IsTrue, IsOkAnd, IfOk, IfErr};
 ghost use Rattle.std.specs.List.{list_any};
 ghost use Rattle.std.specs.Iterator.{IsFinite};
 ghost use Rattle.std.specs.Str.{bytes_eq};
@@ -11,17 +11,17 @@ ghost use Rattle.jsonb_doc.specs.Private.Stored.{HasEntriesLeft, key_trees};
 ghost use Rattle.jsonb_doc.specs.Answer.{IsDecodingError};
 ghost use Rattle.jsonb_raw.specs.Documents.{raw_bytes};
 ghost use Rattle.jsonb_raw.specs.Exists.{is_text, has_text, has_all, has_any};
-ghost use Rattle.jsonb_raw.specs.Cursors.{IsCursorOf, IsPassed, HoldsTexts};
+ghost use Rattle.jsonb_raw.specs.Cursors.{IsCursorOf, IsSearchOf, IsPassed, HoldsTexts};
 ghost use Rattle.jsonb_raw.specs.Iterators.{YieldsItemsLeft};
 
 use crate::raw::RawJsonb;
 use jsonb_doc::{EntryIter, Error, Item, elements, object_entries, root_item};
 use std::cmp::Ordering;
 
-/// The keys of an object, in which names are looked up: all, and those that are left behind the last one that was passed.
+/// A place among the keys of an object: all of them, and those that are left behind the last one that was passed.
 ///
-/// Entry words hold lengths and no places, so that a key is reached only along those before it. A name that is above the key
-/// that was passed last is looked up from there, and another from the front.
+/// Entry words hold lengths and no places, so that a key is reached only along those before it. A name that is above
+/// the key that was passed last is looked up from there.
 #[derive(Clone, Copy)]
 pub(crate) struct KeyCursor<'a> {
     all: EntryIter<'a>,
@@ -41,32 +41,105 @@ impl<'a> KeyCursor<'a> {
         }
     }
 
+    /// Whether the key that was passed last, where there is one, is below the name.
+    fn is_below(&self, name: &[u8]) -> bool
+        ensures { IsTrue result → IsPassed self.now.passed name.now }
+    {
+        let Some(passed) = self.passed else {
+            return true;
+        };
+        if let Ordering::Less = passed.cmp(&name) {
+            return true;
+        }
+        false
+    }
+
     /// Goes back to the front, unless the key that was passed last is below the name.
     fn rewind(&mut self, name: &[u8])
         ensures cursor { (form : Form) (ks : List (List ℕ)) → IsCursorOf form self.old ks
             → IsCursorOf form self.new ks }
         ensures passed { IsPassed self.new.passed name.now }
     {
-        let Some(passed) = self.passed else {
-            return;
-        };
-        if let Ordering::Less = passed.cmp(&name) {
+        if self.is_below(name) {
             return;
         }
         self.left = self.all;
         self.passed = None;
     }
+}
+
+/// How many keys a cursor goes on before the one behind it follows.
+const STRIDE: usize = 64;
+
+/// A search for names among the keys of an object. Names that rise are found in one walk. Where a name falls, the
+/// search goes on from a cursor some keys behind, if the name is above that, and else from the front.
+#[derive(Clone, Copy)]
+pub(crate) struct KeySearch<'a> {
+    near: KeyCursor<'a>,
+    /// Where `near` was at the last stride, and at the one before that.
+    middle: KeyCursor<'a>,
+    behind: KeyCursor<'a>,
+    /// How many keys `near` has passed since the last stride.
+    run: usize,
+}
+
+impl<'a> KeySearch<'a> {
+    fn new(keys: EntryIter<'a>) -> KeySearch<'a>
+        ensures { (form : Form) (ks : List (List ℕ)) → AreKeys ks → HasEntriesLeft form keys.entry (key_trees ks)
+            → IsSearchOf form result ks }
+    {
+        let front = KeyCursor::new(keys);
+        KeySearch {
+            near: front,
+            middle: front,
+            behind: front,
+            run: 0,
+        }
+    }
+
+    /// Goes back, unless the key that was passed last is below the name.
+    fn turn_back(&mut self, name: &[u8])
+        ensures search { (form : Form) (ks : List (List ℕ)) → IsSearchOf form self.old ks
+            → IsSearchOf form self.new ks }
+        ensures passed { IsPassed self.new.near.passed name.now }
+    {
+        if self.near.is_below(name) {
+            return;
+        }
+        let mut back = self.behind;
+        back.rewind(name);
+        self.near = back;
+        self.middle = back;
+        self.run = 0;
+    }
+
+    /// Goes on to this place among the keys.
+    fn go_on(&mut self, place: KeyCursor<'a>)
+        ensures search { (form : Form) (ks : List (List ℕ)) → IsSearchOf form self.old ks
+            → IsCursorOf form place.entry ks → IsSearchOf form self.new ks }
+        ensures near { self.new.near ≡ place.entry }
+    {
+        self.near = place;
+        if self.run < STRIDE {
+            self.run += 1;
+            return;
+        }
+        self.behind = self.middle;
+        self.middle = place;
+        self.run = 0;
+    }
 
     /// Whether a key is this name.
     fn has(&mut self, name: &[u8]) -> Result<bool, Error>
-        ensures has { (form : Form) (ks : List (List ℕ)) → IsCursorOf form self.old ks
+        ensures has { (form : Form) (ks : List (List ℕ)) → IsSearchOf form self.old ks
             → IsOkAnd result (λ b. b ≡ list_any (λ key. bytes_eq key name.now) ks) }
-        ensures cursor { (form : Form) (ks : List (List ℕ)) → IsCursorOf form self.old ks
-            → IfOk result (λ _. IsCursorOf form self.new ks) }
+        ensures search { (form : Form) (ks : List (List ℕ)) → IsSearchOf form self.old ks
+            → IfOk result (λ _. IsSearchOf form self.new ks) }
         ensures errors { IfErr result IsDecodingError }
     {
-        self.rewind(name);
-        let mut ahead = self.left;
+        self.turn_back(name);
+        let all = self.near.all;
+        let mut ahead = self.near.left;
         while let Some(entry) = ahead.next() {
             let key = entry?.content;
             match key.cmp(&name) {
@@ -74,8 +147,11 @@ impl<'a> KeyCursor<'a> {
                 Ordering::Equal => return Ok(true),
                 Ordering::Greater => return Ok(false),
             }
-            self.left = ahead;
-            self.passed = Some(key);
+            self.go_on(KeyCursor {
+                all,
+                left: ahead,
+                passed: Some(key),
+            });
         }
         Ok(false)
     }
@@ -103,7 +179,7 @@ fn array_has(bytes: &[u8], name: &str) -> Result<bool, Error>
 #[derive(Clone, Copy)]
 pub(crate) enum Texts<'a> {
     /// The keys of an object.
-    Keys(KeyCursor<'a>),
+    Keys(KeySearch<'a>),
     /// Those among the elements of an array, which are read as items, so that floats are refused.
     Elements(&'a [u8]),
     /// The root.
@@ -119,7 +195,7 @@ fn document_texts(bytes: &[u8]) -> Result<Texts<'_>, Error>
     ensures errors { IfErr result IsDecodingError }
 {
     match root_item(bytes)? {
-        Item::Object(object) => Ok(Texts::Keys(KeyCursor::new(object_entries(object)?.keys()))),
+        Item::Object(object) => Ok(Texts::Keys(KeySearch::new(object_entries(object)?.keys()))),
         Item::Array(array) => Ok(Texts::Elements(array)),
         Item::String(text) => Ok(Texts::Root(text)),
         _ => Ok(Texts::Without),
@@ -143,10 +219,16 @@ fn texts_have(texts: &mut Texts<'_>, name: &str) -> Result<bool, Error>
 }
 
 impl RawJsonb<'_> {
-    /// Whether the document has all of these texts: as keys of an object, as strings in an array, or as a string
-    /// that is the root. Without texts it is true. It takes no memory.
+    /// Whether the document has all of these texts: as keys of an object, as strings in an array, or as a string that
+    /// is the root. Without texts it is true. The iterator must end. PostgreSQL has `?&`.
     ///
-    /// `InvalidJsonb` and `UnsupportedNumber` come only where the bytes don't decode.
+    /// # Errors
+    ///
+    /// Those of reading.
+    ///
+    /// # Cost
+    ///
+    /// Of an object k while the texts rise, and else k for each. Of an array n for each. No memory.
     pub fn exists_all_keys<'k, I: Iterator<Item = &'k str> + Drop>(
         &self,
         names: I,
@@ -168,9 +250,15 @@ impl RawJsonb<'_> {
     }
 
     /// Whether the document has one of these texts: as a key of an object, as a string in an array, or as a string
-    /// that is the root. Without texts it is false. It takes no memory.
+    /// that is the root. Without texts it is false. The iterator must end. PostgreSQL has `?|`, and `?` for one.
     ///
-    /// `InvalidJsonb` and `UnsupportedNumber` come only where the bytes don't decode.
+    /// # Errors
+    ///
+    /// Those of reading.
+    ///
+    /// # Cost
+    ///
+    /// That of `exists_all_keys`.
     pub fn exists_any_keys<'k, I: Iterator<Item = &'k str> + Drop>(
         &self,
         names: I,

@@ -82,8 +82,8 @@ fn parts_entered<'a>(item: &Item<'a>, ignore_array: bool) -> Result<Option<Level
     Ok(Some(level))
 }
 
-/// The leaves within an item. What is left of the containers that the walk is within lies in a `Vec`; the steps to a part are
-/// written once, where it is a leaf.
+/// The leaves within an item. What is left of the containers that the walk is within lies in a `Vec`; the steps to a
+/// part are written once, where it is a leaf.
 fn leaves_within<'a>(
     alloc: Global,
     item: &Item<'a>,
@@ -128,13 +128,18 @@ fn leaves_within<'a>(
 }
 
 impl<'a> RawJsonb<'a> {
-    /// The leaves of the document in stored order, each with its key path: an index for an element, a name for a
-    /// key. A leaf is a scalar or an empty container, and with `ignore_array` every array; the other containers are
+    /// The leaves of the document in stored order, each with its key path: an index for an element, a name for a key.
+    /// A leaf is a scalar or an empty container, and with `ignore_array` every array; the other containers are
     /// entered. The root itself is never a leaf, and with `ignore_array` an array as the root has no leaves. Names
     /// and texts are borrowed from the document.
     ///
-    /// `InvalidJsonb` and `UnsupportedNumber` come only where the bytes don't decode, else `OutOfMemory` where
-    /// memory is refused.
+    /// # Errors
+    ///
+    /// Those of taking memory.
+    ///
+    /// # Cost
+    ///
+    /// Linear in n, and for each leaf in the length of its key path. Takes memory.
     pub fn extract_scalar_key_values(
         &self,
         alloc: Global,

@@ -15,6 +15,7 @@ use Rattle.jsonb_raw.proofs.EntriesLeft.{SomeEntries-first, SomeEntries-error, S
 use Rattle.jsonb_raw.proofs.EntryEquals.{same_tree}
 use Rattle.jsonb_raw.proofs.Aside.{IsAnswer, IsItemAnswer, none_aside, put_aside, part_holds, part_fails, whole_fails, aside_along, IsOneAnswer, put_one_aside, one_holds, one_fails}
 use Rattle.jsonb_raw.proofs.MatchLemmas.{unmatched_key, matched_pair, no_entry_found, entry_found, scalar_match, scalar_matches, matches_if_equal, no_object}
+use Rattle.jsonb_raw.proofs.StartLemmas.{scalar_told, scalar_found, scalars_left, scalars_decide}
 use Rattle.jsonb_raw.proofs.functions.operator.contains.+contains.Goals as goal
 use Rattle.jsonb_raw.proofs.functions.operator.contains.+contains.Goals.{parts_match-in_default-via-in-Array+in_default, parts_match-in_default-via-in-Object+in_default, parts_match-in_default-via-in_default}
 
@@ -71,12 +72,14 @@ array_contains-loop-wanted-init t c = record {
   can = tt;
   finite = tt;
   room = search rules;
-  passed = passes_none _;
   size = tt;
   left = λ form other_form xs ys d e. record {
     trees = ys;
-    left = rw c.into_iter-wanted-iterator.ensures.into_iter_gives (c.in_ok-wanted-items.ensures.decodes other_form ys e);
-    fact = none_aside (IsItemAnswer matches form other_form None) (each_is_matched ys (elements xs)) refl;
+    left = rw c.into_iter-wanted-iterator.ensures.into_iter_gives (c.in_ok-entries.ensures.decodes other_form ys e);
+    fact = (
+      sym (c.in_ok-scalars_matched.ensures.matched form other_form xs ys (c.in_ok-all.ensures.decodes form xs d) (c.in_ok-entries.ensures.decodes other_form ys e)) ∙ c.if-not-branch.false,
+      none_aside (IsItemAnswer matches form other_form None) (each_is_matched ys (elements xs)) refl,
+    );
   };
 }
 
@@ -84,28 +87,30 @@ pub array_contains-returns-in_err-wanted-clause-answer : goal.array_contains-ret
 array_contains-returns-in_err-wanted-clause-answer t c = λ form other_form xs ys d e.
     SomeEntries-error other_form _ _ _ _ _ c.in_err-wanted.was c.in-Some.ensures.steps (c.loop-wanted.invariant.left form other_form xs ys d e)
 
-pub array_contains-returns-in_err-element_match-clause-answer : goal.array_contains-returns-in_err-element_match-clause-answer
-array_contains-returns-in_err-element_match-clause-answer t c = λ form other_form xs ys d e.
+pub array_contains-returns-in_err-container_match-clause-answer : goal.array_contains-returns-in_err-container_match-clause-answer
+array_contains-returns-in_err-container_match-clause-answer t c = λ form other_form xs ys d e.
     SomeEntries-first other_form _ _ _ _ _ c.in_ok-wanted.was c.in-Some.ensures.steps (c.loop-wanted.invariant.left form other_form xs ys d e)
-    (λ first rest left stored fact. absurd (c.in_err-element_match.ensures.answer form other_form xs first (c.in_ok-all.ensures.decodes form xs d) stored))
+    (λ first rest left stored fact. absurd (c.in_err-container_match.ensures.answer form other_form xs first (c.in_ok-all.ensures.decodes form xs d) stored))
 
 pub array_contains-loop-wanted-preserved-in-Known-true : goal.array_contains-loop-wanted-preserved-in-Known-true
 array_contains-loop-wanted-preserved-in-Known-true t c = record {
   can = tt;
   finite = tt;
   room = omega (arith, c.in-Some.ensures.steps.room, c.loop-wanted.invariant.room);
-  passed = c.in_ok-element_match.ensures.passed;
   size = c.loop-wanted.invariant.size;
   left = λ form other_form xs ys d e.
       SomeEntries-first other_form _ _ _ _ _ c.in_ok-wanted.was c.in-Some.ensures.steps (c.loop-wanted.invariant.left form other_form xs ys d e)
       (λ first rest left stored fact.
-      let told = rw c.in-Known-true.is at (c.in_ok-element_match.ensures.answer form other_form xs first (c.in_ok-all.ensures.decodes form xs d) stored) in
+      let told = rw c.in-Known-true.is at (c.in_ok-container_match.ensures.answer form other_form xs first (c.in_ok-all.ensures.decodes form xs d) stored) in
       let holds : list_any (is_part_of first) (elements xs) ≡ true = sym told ∙ c.in-Known-true.field-0-test in
       record {
         trees = rest;
         left = left;
-        fact = part_holds _ (list_any (is_part_of first) (elements xs)) (each_is_matched rest (elements xs))
-            (each_is_matched ys (elements xs)) holds fact;
+        fact = (
+          scalars_left first rest (elements xs) fact.0,
+          part_holds _ (list_any (is_part_of first) (elements xs)) (each_is_matched rest (elements xs))
+              (each_is_matched ys (elements xs)) holds fact.1,
+        );
       });
 }
 
@@ -113,32 +118,34 @@ pub array_contains-returns-in-Known-false-clause-answer : goal.array_contains-re
 array_contains-returns-in-Known-false-clause-answer t c = λ form other_form xs ys d e.
     SomeEntries-first other_form _ _ _ _ _ c.in_ok-wanted.was c.in-Some.ensures.steps (c.loop-wanted.invariant.left form other_form xs ys d e)
     (λ first rest left stored fact.
-    let told = rw c.in-Known-false.is at (c.in_ok-element_match.ensures.answer form other_form xs first (c.in_ok-all.ensures.decodes form xs d) stored) in
+    let told = rw c.in-Known-false.is at (c.in_ok-container_match.ensures.answer form other_form xs first (c.in_ok-all.ensures.decodes form xs d) stored) in
     let fails : list_any (is_part_of first) (elements xs) ≡ false = sym told ∙ c.in-Known-false.field-0-test in
-    part_fails _ (list_any (is_part_of first) (elements xs)) (each_is_matched rest (elements xs)) (each_is_matched ys (elements xs)) fails fact)
+    part_fails _ (list_any (is_part_of first) (elements xs)) (each_is_matched rest (elements xs)) (each_is_matched ys (elements xs)) fails fact.1)
 
 pub array_contains-loop-wanted-preserved-then-wanted-others : goal.array_contains-loop-wanted-preserved-then-wanted-others
 array_contains-loop-wanted-preserved-then-wanted-others t c =
     let none : c.loop-wanted.large ≡ None = search rules in
     let size = rw c.in_ok-wanted.was at c.in-Some.ensures.steps.size in
-    let within = rw c.in-AsOf.is at c.in_ok-element_match.ensures.within in
+    let within = rw c.in-AsOf.is at c.in_ok-container_match.ensures.within in
     record {
       can = tt;
       finite = tt;
       room = omega (arith, c.in-Some.ensures.steps.room, c.loop-wanted.invariant.room);
-      passed = c.in_ok-element_match.ensures.passed;
       size = (omega (arith, within.0, c.in_ok-all.ensures.room), omega (arith, within.1, size, c.loop-wanted.invariant.room));
       left = λ form other_form xs ys d e.
           SomeEntries-first other_form _ _ _ _ _ c.in_ok-wanted.was c.in-Some.ensures.steps
           (rw none at (c.loop-wanted.invariant.left form other_form xs ys d e))
           (λ first rest left stored fact.
-          let m = rw c.in-AsOf.is at (c.in_ok-element_match.ensures.answer form other_form xs first (c.in_ok-all.ensures.decodes form xs d) stored) in
+          let m = rw c.in-AsOf.is at (c.in_ok-container_match.ensures.answer form other_form xs first (c.in_ok-all.ensures.decodes form xs d) stored) in
           record {
             trees = rest;
             left = left;
-            fact = put_aside (IsItemAnswer matches form other_form None) (IsItemAnswer matches form other_form (Some (c.in-AsOf.item, c.in-AsOf.other)))
-                (list_any (is_part_of first) (elements xs)) (each_is_matched rest (elements xs)) (each_is_matched ys (elements xs)) (λ b h. h)
-                (m.0, m.1, m.2, m.3, m.4) fact;
+            fact = (
+              scalars_left first rest (elements xs) fact.0,
+              put_aside (IsItemAnswer matches form other_form None) (IsItemAnswer matches form other_form (Some (c.in-AsOf.item, c.in-AsOf.other)))
+                  (list_any (is_part_of first) (elements xs)) (each_is_matched rest (elements xs)) (each_is_matched ys (elements xs)) (λ b h. h)
+                  (m.0, m.1, m.2, m.3, m.4) fact.1,
+            );
           });
     }
 
@@ -146,62 +153,86 @@ pub array_contains-returns-in_err-item_matches-in-AsOf-clause-answer : goal.arra
 array_contains-returns-in_err-item_matches-in-AsOf-clause-answer t c = λ form other_form xs ys d e.
     SomeEntries-first other_form _ _ _ _ _ c.in_ok-wanted.was c.in-Some.ensures.steps (c.loop-wanted.invariant.left form other_form xs ys d e)
     (λ first rest left stored fact.
-    let m = rw c.in-AsOf.is at (c.in_ok-element_match.ensures.answer form other_form xs first (c.in_ok-all.ensures.decodes form xs d) stored) in
+    let m = rw c.in-AsOf.is at (c.in_ok-container_match.ensures.answer form other_form xs first (c.in_ok-all.ensures.decodes form xs d) stored) in
     absurd (c.in_err-item_matches-in-AsOf.ensures.answer form other_form m.0 m.1 m.2 m.3))
 
 pub array_contains-returns-then-not-branch-clause-answer : goal.array_contains-returns-then-not-branch-clause-answer
 array_contains-returns-then-not-branch-clause-answer t c = λ form other_form xs ys d e.
+    let told = c.in_ok-scalars_matched.ensures.matched form other_form xs ys (c.in_ok-all.ensures.decodes form xs d) (c.in_ok-entries.ensures.decodes other_form ys e) in
+    sym (scalars_decide ys (elements xs) (sym told ∙ c.if-not-branch.true))
+
+pub array_contains-returns-then-not-branch-2-clause-answer : goal.array_contains-returns-then-not-branch-2-clause-answer
+array_contains-returns-then-not-branch-2-clause-answer t c = λ form other_form xs ys d e.
     SomeEntries-first other_form _ _ _ _ _ c.in_ok-wanted.was c.in-Some.ensures.steps (c.loop-wanted.invariant.left form other_form xs ys d e)
     (λ first rest left stored fact.
-    let m = rw c.in-AsOf.is at (c.in_ok-element_match.ensures.answer form other_form xs first (c.in_ok-all.ensures.decodes form xs d) stored) in
+    let m = rw c.in-AsOf.is at (c.in_ok-container_match.ensures.answer form other_form xs first (c.in_ok-all.ensures.decodes form xs d) stored) in
     let fails : list_any (is_part_of first) (elements xs) ≡ false = sym m.4 ∙ sym (c.in_ok-item_matches-in-AsOf.ensures.answer form other_form m.0 m.1 m.2 m.3)
-    ∙ c.if-not-branch.true in
-    part_fails _ (list_any (is_part_of first) (elements xs)) (each_is_matched rest (elements xs)) (each_is_matched ys (elements xs)) fails fact)
+    ∙ c.if-not-branch-2.true in
+    part_fails _ (list_any (is_part_of first) (elements xs)) (each_is_matched rest (elements xs)) (each_is_matched ys (elements xs)) fails fact.1)
 
 pub array_contains-loop-wanted-preserved : goal.array_contains-loop-wanted-preserved
 array_contains-loop-wanted-preserved t c = record {
   can = tt;
   finite = tt;
   room = omega (arith, c.in-Some.ensures.steps.room, c.loop-wanted.invariant.room);
-  passed = c.in_ok-element_match.ensures.passed;
   size = c.loop-wanted.invariant.size;
   left = λ form other_form xs ys d e.
       SomeEntries-first other_form _ _ _ _ _ c.in_ok-wanted.was c.in-Some.ensures.steps (c.loop-wanted.invariant.left form other_form xs ys d e)
       (λ first rest left stored fact.
-      let m = rw c.in-AsOf.is at (c.in_ok-element_match.ensures.answer form other_form xs first (c.in_ok-all.ensures.decodes form xs d) stored) in
+      let m = rw c.in-AsOf.is at (c.in_ok-container_match.ensures.answer form other_form xs first (c.in_ok-all.ensures.decodes form xs d) stored) in
       let holds : list_any (is_part_of first) (elements xs) ≡ true = sym m.4
-      ∙ sym (c.in_ok-item_matches-in-AsOf.ensures.answer form other_form m.0 m.1 m.2 m.3) ∙ c.if-not-branch.false in
+      ∙ sym (c.in_ok-item_matches-in-AsOf.ensures.answer form other_form m.0 m.1 m.2 m.3) ∙ c.if-not-branch-2.false in
       record {
         trees = rest;
         left = left;
-        fact = part_holds _ (list_any (is_part_of first) (elements xs)) (each_is_matched rest (elements xs))
-            (each_is_matched ys (elements xs)) holds fact;
+        fact = (
+          scalars_left first rest (elements xs) fact.0,
+          part_holds _ (list_any (is_part_of first) (elements xs)) (each_is_matched rest (elements xs))
+              (each_is_matched ys (elements xs)) holds fact.1,
+        );
       });
 }
 
 pub array_contains-returns-in-Some-large-clause-answer : goal.array_contains-returns-in-Some-large-clause-answer
 array_contains-returns-in-Some-large-clause-answer t c = λ form other_form xs ys d e.
-    let a = rw c.in-Some-large.is at (SomeEntries-none other_form _ _ _ c.in-None.ensures.steps (c.loop-wanted.invariant.left form other_form xs ys d e)) in
+    let a = rw c.in-Some-large.is at (SomeEntries-none other_form _ _ _ c.in-None.ensures.steps (c.loop-wanted.invariant.left form other_form xs ys d e)).1 in
     (a.is.0, a.is.1, a.is.2, a.is.3, a.is.4 ∙ a.fact)
 
 pub array_contains-returns-in-None-large-clause-answer : goal.array_contains-returns-in-None-large-clause-answer
 array_contains-returns-in-None-large-clause-answer t c = λ form other_form xs ys d e.
-    let a = rw c.in-None-large.is at (SomeEntries-none other_form _ _ _ c.in-None.ensures.steps (c.loop-wanted.invariant.left form other_form xs ys d e)) in
+    let a = rw c.in-None-large.is at (SomeEntries-none other_form _ _ _ c.in-None.ensures.steps (c.loop-wanted.invariant.left form other_form xs ys d e)).1 in
     sym a.is ∙ a.fact
 
+-- a scalar was found
+pub array_contains-loop-wanted-preserved-then-not-is_container : goal.array_contains-loop-wanted-preserved-then-not-is_container
+array_contains-loop-wanted-preserved-then-not-is_container t c = record {
+  can = tt;
+  finite = tt;
+  room = omega (arith, c.in-Some.ensures.steps.room, c.loop-wanted.invariant.room);
+  size = c.loop-wanted.invariant.size;
+  left = λ form other_form xs ys d e.
+      SomeEntries-first other_form _ _ _ _ _ c.in_ok-wanted.was c.in-Some.ensures.steps (c.loop-wanted.invariant.left form other_form xs ys d e)
+      (λ first rest left stored fact.
+      let scalar = scalar_told other_form _ first stored (sym c.is_container.ensures ∙ c.if-not-is_container.true) in
+      record {
+        trees = rest;
+        left = left;
+        fact = (
+          scalars_left first rest (elements xs) fact.0,
+          part_holds _ (list_any (is_part_of first) (elements xs)) (each_is_matched rest (elements xs))
+              (each_is_matched ys (elements xs)) (scalar_found first rest (elements xs) fact.0 scalar) fact.1,
+        );
+      });
+}
+
+pub array_contains-returns-in_err-entries-clause-answer : goal.array_contains-returns-in_err-entries-clause-answer
+array_contains-returns-in_err-entries-clause-answer t c = λ form other_form xs ys d e. absurd (c.in_err-entries.ensures.decodes other_form ys e)
+
+pub array_contains-returns-in_err-scalars_matched-clause-answer : goal.array_contains-returns-in_err-scalars_matched-clause-answer
+array_contains-returns-in_err-scalars_matched-clause-answer t c = λ form other_form xs ys d e.
+    absurd (c.in_err-scalars_matched.ensures.matched form other_form xs ys (c.in_ok-all.ensures.decodes form xs d) (c.in_ok-entries.ensures.decodes other_form ys e))
+
 -- ---- entries
-
-pub element_match-returns-then-branch-clause-answer : goal.element_match-returns-then-branch-clause-answer
-element_match-returns-then-branch-clause-answer t c = λ form other_form xs y h k.
-    let others = c.requires.others form xs h in
-    let found = sym (c.in_ok-find_equal.ensures.found form other_form others.0 y others.1 k) ∙ c.if-branch.true in
-    let scalar = scalar_matches other_form c.args.wanted.now y k (sym c.is_container.ensures ∙ c.if-is_container.false) (elements xs) in
-    sym (others.2 (λ x. is_equal x y) found) ∙ scalar
-
-pub element_match-returns-clause-answer : goal.element_match-returns-clause-answer
-element_match-returns-clause-answer t c = λ form other_form xs y h k.
-    let scalar = scalar_matches other_form c.args.wanted.now y k (sym c.is_container.ensures ∙ c.if-is_container.false) (elements xs) in
-    c.in_ok-find_equal-2.ensures.found form other_form xs y h k ∙ scalar
 
 pub container_match-returns-in_err-entry-clause-answer : goal.container_match-returns-in_err-entry-clause-answer
 container_match-returns-in_err-entry-clause-answer t c = λ form other_form xs y h k.

@@ -1,4 +1,4 @@
-use Rattle.std.proofs.Common.{◌≡◌, ◌<◌, ◌≤◌, ◌+◌, ◌*◌, length}
+use Rattle.std.proofs.Common.{◌≡◌, ◌<◌, ◌≤◌, ◌+◌, ◌*◌, true, length}
 use Rattle.std.specs.Prelude.{IfSome}
 use Rattle.std.specs.List.{list_any}
 use Rattle.jsonb_doc.specs.Tree.{Tree, Trees, Pairs, array, object, keys, elements, members}
@@ -8,7 +8,8 @@ use Rattle.jsonb_doc.specs.Item.{StandsFor, item_size}
 use Rattle.jsonb_doc.specs.Private.Stored.{HasEntriesLeft, Stores, entries_room}
 use Rattle.jsonb_doc.proofs.BuilderSteps.{AreRising}
 use Rattle.jsonb_raw.specs.Contains.{is_part_of, each_is_matched, each_pair_is_matched}
-use Rattle.jsonb_raw.specs.Compared.{PassesOver, matches}
+use Rattle.jsonb_raw.specs.Compared.{matches}
+use Rattle.jsonb_raw.specs.Private.Starts.{scalars_matched}
 use Rattle.jsonb_raw.proofs.EntriesLeft.{SomeEntries, SomePairEntries}
 use Rattle.jsonb_raw.proofs.Aside.{Aside, IsAnswer, IsItemAnswer, OneAside, IsOneAnswer}
 use Rattle.jsonb_raw.proofs.functions.operator.contains.+contains.Given as goal
@@ -24,9 +25,6 @@ decreases-array_contains l = 8 * (length l.bytes.now + length l.others.now) + 2
 
 abbrev pub decreases-object_contains : goal.decreases-object_contains
 decreases-object_contains l = 8 * (length l.bytes.now + length l.others.now) + 2
-
-abbrev pub decreases-element_match : goal.decreases-element_match
-decreases-element_match l = 8 * (entries_room l.all + length l.wanted.now.content.now) + 9
 
 abbrev pub decreases-container_match : goal.decreases-container_match
 decreases-container_match l = 8 * (entries_room l.found + length l.wanted.now.content.now) + 8
@@ -51,11 +49,11 @@ invariant-array_contains-loop-wanted l = record {
   can : (goal.iterator-array_contains-loop-wanted).can_next l.wanted-iterator;
   finite : (goal.iterator-array_contains-loop-wanted).is_finite l.wanted-iterator;
   room : entries_room l.wanted-iterator < length l.fn.others;
-  passed : PassesOver l.all l.left;
   size : IfSome l.large (λ pair. (item_size pair.0 < length l.fn.bytes) × (item_size pair.1 < length l.fn.others));
   left : (form other_form : Form) (xs ys : Trees) → Decodes form l.fn.bytes (array xs) → Decodes other_form l.fn.others (array ys)
       → SomeEntries other_form l.wanted-iterator
-      (λ left. Aside (IsItemAnswer matches form other_form l.large) (each_is_matched left (elements xs)) (each_is_matched ys (elements xs)));
+      (λ left. (scalars_matched left (elements xs) ≡ true)
+      × Aside (IsItemAnswer matches form other_form l.large) (each_is_matched left (elements xs)) (each_is_matched ys (elements xs)));
 }
 
 -- the entries that are left decide, with the one that was put aside

@@ -5,7 +5,19 @@ use Rattle.jsonb_raw.proofs.functions.operator.stripping.push_keys_kept.Goals as
 
 pub loop-value-init : goal.loop-value-init
 loop-value-init c = record {
-  left = λ es ks within are many values words keys. record { entries = es; names = ks; within = within; are = are; above = tt; as_many = many; values_are = values; words_are = words; keys_are = keys; fact = refl };
+  left = λ es ks within are many values words keys. record {
+    entries = es;
+    names = ks;
+    within = within;
+    are = are;
+    above = tt;
+    as_many = many;
+    values_are = values;
+    words_are = words;
+    keys_are = keys;
+    fact =
+        refl;
+  };
 }
 
 pub returns-in_err-key-clause-pushed : goal.returns-in_err-key-clause-pushed

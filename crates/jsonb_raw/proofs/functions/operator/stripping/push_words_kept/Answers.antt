@@ -6,7 +6,8 @@ use Rattle.jsonb_raw.proofs.functions.operator.stripping.push_words_kept.Goals a
 
 pub loop-value-init : goal.loop-value-init
 loop-value-init c = record {
-  left = λ es xs within many values words. record { entries = es; others = xs; within = within; as_many = many; values_are = values; words_are = words; fact = refl };
+  left = λ es xs within many values words. record
+      { entries = es; others = xs; within = within; as_many = many; values_are = values; words_are = words; fact = refl };
 }
 
 pub returns-in_default-split_first_chunk-clause-pushed : goal.returns-in_default-split_first_chunk-clause-pushed

@@ -77,5 +77,6 @@ walk-preserved c = record {
   left = λ form t is.
       one_done form _ _ _ _ _ _ _ _ (λ es w a b. rw c.in-None.is at (c.in_ok-entry.ensures.reads es w a b))
       (c.walk.invariant.left form t is) _ _ _ _ c.in-Some-pop.ensures.items (omega (arith, c.walk.out.ok.0)) refl
-      (λ front old between content joined four at from short. c.in_ok-set_container_word-in-None.ensures.set front old between content joined four at from short);
+      (λ front old between content joined four at from short. c.in_ok-set_container_word-in-None.ensures.set front old between content joined four at from
+      short);
 }

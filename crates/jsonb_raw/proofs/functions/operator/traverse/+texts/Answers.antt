@@ -1,8 +1,8 @@
-use Rattle.std.proofs.Common.{rules, arith, true, false, ◌++◌, ◌∷◌, [], None, ◌≡◌, refl}
+use Rattle.std.proofs.Common.{rules, arith, true, false, ◌++◌, ◌∷◌, [], None, ◌≡◌, refl, sym, ◌∙◌}
 use Rattle.std.specs.Fn.{FnReturnsAt}
 use Rattle.jsonb_raw.specs.Texts.{texts, texts_of_trees, texts_of_pairs}
-use Rattle.jsonb_raw.proofs.TextLemmas.{told_none, told_alone, told_first, told_head, told_after, leaves_all, leaves_after, leaves_aside, leaves_told}
-use Rattle.jsonb_raw.proofs.IteratorItems.{SomeElements-all, SomeElements-first, SomeElements-error, SomeElements-none, SomePairs-all, SomePairs-first, SomePairs-error, SomePairs-none}
+use Rattle.jsonb_raw.proofs.TextLemmas.{told_none, told_alone, told_first, told_head, told_after, leaves_all, leaves_after, leaves_aside, leaves_told, text_stored, no_texts}
+use Rattle.jsonb_raw.proofs.EntriesLeft.{SomeEntries-first, SomeEntries-error, SomeEntries-none, SomePairEntries-first, SomePairEntries-error, SomePairEntries-none}
 use Rattle.jsonb_raw.proofs.functions.operator.traverse.+texts.Goals as goal
 
 -- ---- items
@@ -47,72 +47,88 @@ part_tells-returns-in-Object-clause-told g t c = λ form tree stands.
     let (ps, is, d) = rw c.in-Object.is at stands in
     rw is (c.object_tells.ensures.told form ps d)
 
+-- ---- entries
+
+pub entry_tells-returns-then-is_text-clause-told : goal.entry_tells-returns-then-is_text-clause-told
+entry_tells-returns-then-is_text-clause-told g t c = λ form tree stored.
+    let is = text_stored form c.args.entry.now tree stored (sym c.is_text.ensures ∙ c.if-is_text.true) in
+    let told : FnReturnsAt g.F.Fn c.args.func.now c.args.entry.now.content.now c.func.result = record { shown = c.args.entry.now.content; shows = refl; says = record { met = c.func.ensures } } in
+    rw is (told_alone g.F.Fn c.args.func.now _ c.func.result told)
+
+pub entry_tells-returns-then-not-is_container-clause-told : goal.entry_tells-returns-then-not-is_container-clause-told
+entry_tells-returns-then-not-is_container-clause-told g t c = λ form tree stored.
+    let none = no_texts form c.args.entry.now tree stored (sym c.is_text.ensures ∙ c.if-is_text.false) (sym c.is_container.ensures ∙ c.if-not-is_container.true) in
+    rw none (told_none g.F.Fn c.args.func.now)
+
 -- ---- arrays
 
 pub array_tells-returns-in_err-found-clause-told : goal.array_tells-returns-in_err-found-clause-told
 array_tells-returns-in_err-found-clause-told g t c = λ form ts d. absurd (c.in_err-found.ensures.decodes form ts d)
 
-pub array_tells-loop-item-init : goal.array_tells-loop-item-init
-array_tells-loop-item-init g t c = record {
+pub array_tells-loop-entry-init : goal.array_tells-loop-entry-init
+array_tells-loop-entry-init g t c = record {
   can = tt;
   finite = tt;
   size = tt;
   room = search rules;
-  left = λ form ts d. SomeElements-all form ts _ _ _ _ refl c.into_iter-item-iterator.ensures.into_iter_gives (c.in_ok-found.ensures.decodes form ts d)
-      (leaves_all g.F.Fn c.args.func.now form (texts_of_trees ts));
+  left = λ form ts d. record {
+    trees = ts;
+    left = rw c.into_iter-entry-iterator.ensures.into_iter_gives (c.in_ok-found.ensures.decodes form ts d);
+    fact = leaves_all g.F.Fn c.args.func.now form (texts_of_trees ts);
+  };
 }
 
-pub array_tells-loop-item-preserved : goal.array_tells-loop-item-preserved
-array_tells-loop-item-preserved g t c = record {
+pub array_tells-loop-entry-preserved : goal.array_tells-loop-entry-preserved
+array_tells-loop-entry-preserved g t c = record {
   can = tt;
   finite = tt;
-  size = c.loop-item.invariant.size;
-  room = omega (arith, c.in-Some.ensures.steps.room);
+  size = c.loop-entry.invariant.size;
+  room = omega (arith, c.in-Some.ensures.steps.room, c.loop-entry.invariant.room);
   left = λ form ts d.
-      SomeElements-first form _ _ _ _ _ c.in_ok-item.was c.in-Some.ensures.steps (c.loop-item.invariant.left form ts d)
-      (λ first rest left stands fact. record {
+      SomeEntries-first form _ _ _ _ _ c.in_ok-entry.was c.in-Some.ensures.steps (c.loop-entry.invariant.left form ts d)
+      (λ first rest left stored fact. record {
         trees = rest;
         left = left;
         fact = leaves_after g.F.Fn c.args.func.now form (texts_of_trees ts) _ (texts first) (texts_of_trees rest)
-            (rw c.if-branch.false at (c.in_ok-item_tells.ensures.told form first stands)) fact;
+            (rw c.if-branch.false at (c.in_ok-entry_tells.ensures.told form first stored)) fact;
       });
 }
 
-pub array_tells-returns-in_err-item-clause-told : goal.array_tells-returns-in_err-item-clause-told
-array_tells-returns-in_err-item-clause-told g t c = λ form ts d.
-    SomeElements-error form _ _ _ _ _ c.in_err-item.was c.in-Some.ensures.steps (c.loop-item.invariant.left form ts d)
+pub array_tells-returns-in_err-entry-clause-told : goal.array_tells-returns-in_err-entry-clause-told
+array_tells-returns-in_err-entry-clause-told g t c = λ form ts d.
+    SomeEntries-error form _ _ _ _ _ c.in_err-entry.was c.in-Some.ensures.steps (c.loop-entry.invariant.left form ts d)
 
-pub array_tells-returns-in_err-item_tells-clause-told : goal.array_tells-returns-in_err-item_tells-clause-told
-array_tells-returns-in_err-item_tells-clause-told g t c = λ form ts d.
-    SomeElements-first form _ _ _ _ _ c.in_ok-item.was c.in-Some.ensures.steps (c.loop-item.invariant.left form ts d)
-    (λ first rest left stands fact. absurd (c.in_err-item_tells.ensures.told form first stands))
+pub array_tells-returns-in_err-entry_tells-clause-told : goal.array_tells-returns-in_err-entry_tells-clause-told
+array_tells-returns-in_err-entry_tells-clause-told g t c = λ form ts d.
+    SomeEntries-first form _ _ _ _ _ c.in_ok-entry.was c.in-Some.ensures.steps (c.loop-entry.invariant.left form ts d)
+    (λ first rest left stored fact. absurd (c.in_err-entry_tells.ensures.told form first stored))
 
 pub array_tells-returns-then-branch-clause-told : goal.array_tells-returns-then-branch-clause-told
 array_tells-returns-then-branch-clause-told g t c = λ form ts d.
-    SomeElements-first form _ _ _ _ _ c.in_ok-item.was c.in-Some.ensures.steps (c.loop-item.invariant.left form ts d)
-    (λ first rest left stands fact. fact.found
-    (told_first g.F.Fn c.args.func.now (texts first) (texts_of_trees rest) (rw c.if-branch.true at (c.in_ok-item_tells.ensures.told form first stands))))
+    SomeEntries-first form _ _ _ _ _ c.in_ok-entry.was c.in-Some.ensures.steps (c.loop-entry.invariant.left form ts d)
+    (λ first rest left stored fact. fact.found
+    (told_first g.F.Fn c.args.func.now (texts first) (texts_of_trees rest) (rw c.if-branch.true at (c.in_ok-entry_tells.ensures.told form first stored))))
 
 pub array_tells-returns-clause-told : goal.array_tells-returns-clause-told
 array_tells-returns-clause-told g t c = λ form ts d.
-    (SomeElements-none form _ _ _ c.in-None.ensures.steps (c.loop-item.invariant.left form ts d)).rest (told_none g.F.Fn c.args.func.now)
+    (SomeEntries-none form _ _ _ c.in-None.ensures.steps (c.loop-entry.invariant.left form ts d)).rest (told_none g.F.Fn c.args.func.now)
 
-pub array_tells-loop-item-preserved-then-container_len-bytes : goal.array_tells-loop-item-preserved-then-container_len-bytes
-array_tells-loop-item-preserved-then-container_len-bytes g t c =
-    let none : c.loop-item.large ≡ None = search rules in
-    let size = rw c.in_ok-item.was at c.in-Some.ensures.steps.size in
+pub array_tells-loop-entry-preserved-then-entry-bytes : goal.array_tells-loop-entry-preserved-then-entry-bytes
+array_tells-loop-entry-preserved-then-entry-bytes g t c =
+    let none : c.loop-entry.large ≡ None = search rules in
+    let size = rw c.in_ok-entry.was at c.in-Some.ensures.steps.size in
     record {
       can = tt;
       finite = tt;
-      size = omega (arith, size, c.loop-item.invariant.room);
-      room = omega (arith, c.in-Some.ensures.steps.room);
+      size = omega (arith, c.in_ok-item.ensures.size, size, c.loop-entry.invariant.room);
+      room = omega (arith, c.in-Some.ensures.steps.room, c.loop-entry.invariant.room);
       left = λ form ts d.
-          SomeElements-first form _ _ _ _ _ c.in_ok-item.was c.in-Some.ensures.steps (rw none at (c.loop-item.invariant.left form ts d))
-          (λ first rest left stands fact. record {
+          SomeEntries-first form _ _ _ _ _ c.in_ok-entry.was c.in-Some.ensures.steps (rw none at (c.loop-entry.invariant.left form ts d))
+          (λ first rest left stored fact. record {
             trees = rest;
             left = left;
             fact = leaves_aside g.F.Fn c.args.func.now form
-                (texts_of_trees ts) c.in_ok-item.item first (texts_of_trees rest) stands fact;
+                (texts_of_trees ts) c.in_ok-item.item first (texts_of_trees rest) (c.in_ok-item.ensures.decodes form first stored.content) fact;
           });
     }
 
@@ -127,76 +143,90 @@ object_tells-loop-pair-init g t c = record {
   finite = tt;
   size = tt;
   room = search rules;
-  left = λ form ps d. SomePairs-all form ps _ _ _ _ refl c.into_iter-pair-iterator.ensures.into_iter_gives (c.in_ok-found.ensures.decodes form ps d)
-      (leaves_all g.F.Fn c.args.func.now form (texts_of_pairs ps));
+  left = λ form ps d. record {
+    pairs = ps;
+    left = rw c.into_iter-pair-iterator.ensures.into_iter_gives (c.in_ok-found.ensures.decodes form ps d);
+    fact = leaves_all g.F.Fn c.args.func.now form (texts_of_pairs ps);
+  };
 }
 
 pub object_tells-returns-in_err-key-clause-told : goal.object_tells-returns-in_err-key-clause-told
 object_tells-returns-in_err-key-clause-told g t c = λ form ps d.
-    SomePairs-error form _ _ _ _ _ c.in_err-key.was c.in-Some.ensures.steps (c.loop-pair.invariant.left form ps d)
+    SomePairEntries-error form _ _ _ _ _ c.in_err-key.was c.in-Some.ensures.steps (c.loop-pair.invariant.left form ps d)
 
-pub object_tells-returns-in_err-item_tells-clause-told : goal.object_tells-returns-in_err-item_tells-clause-told
-object_tells-returns-in_err-item_tells-clause-told g t c = λ form ps d.
-    SomePairs-first form _ _ _ _ _ c.in_ok-key.was c.in-Some.ensures.steps (c.loop-pair.invariant.left form ps d)
-    (λ value rest left stands fact. absurd (c.in_err-item_tells.ensures.told form value stands))
+pub object_tells-returns-in_err-entry_tells-clause-told : goal.object_tells-returns-in_err-entry_tells-clause-told
+object_tells-returns-in_err-entry_tells-clause-told g t c = λ form ps d.
+    SomePairEntries-first form _ _ _ _ _ c.in_ok-key.was c.in-Some.ensures.steps (c.loop-pair.invariant.left form ps d)
+    (λ value rest left stored fact. absurd (c.in_err-entry_tells.ensures.told form value stored))
 
 pub object_tells-returns-then-func-clause-told : goal.object_tells-returns-then-func-clause-told
 object_tells-returns-then-func-clause-told g t c = λ form ps d.
-    SomePairs-first form _ _ _ _ _ c.in_ok-key.was c.in-Some.ensures.steps (c.loop-pair.invariant.left form ps d)
-    (λ value rest left stands fact.
-    let told : FnReturnsAt g.F.Fn c.args.func.now c.in_ok-key.key.now true = record { shown = c.as_bytes.result; shows = c.as_bytes.ensures.value; says = record { met = rw c.if-func.true at c.func.ensures } } in
+    SomePairEntries-first form _ _ _ _ _ c.in_ok-key.was c.in-Some.ensures.steps (c.loop-pair.invariant.left form ps d)
+    (λ value rest left stored fact.
+    let told : FnReturnsAt g.F.Fn c.args.func.now c.in_ok-key.key.now true = record { shown = c.in_ok-key.key; shows = refl; says = record { met = rw c.if-func.true at c.func.ensures } } in
     fact.found (told_head g.F.Fn c.args.func.now c.in_ok-key.key.now (texts value ++ texts_of_pairs rest) told))
 
 pub object_tells-returns-then-branch-clause-told : goal.object_tells-returns-then-branch-clause-told
 object_tells-returns-then-branch-clause-told g t c = λ form ps d.
-    SomePairs-first form _ _ _ _ _ c.in_ok-key.was c.in-Some.ensures.steps (c.loop-pair.invariant.left form ps d)
-    (λ value rest left stands fact.
-    let told : FnReturnsAt g.F.Fn c.args.func.now c.in_ok-key.key.now false = record { shown = c.as_bytes.result; shows = c.as_bytes.ensures.value; says = record { met = rw c.if-func.false at c.func.ensures } } in
+    SomePairEntries-first form _ _ _ _ _ c.in_ok-key.was c.in-Some.ensures.steps (c.loop-pair.invariant.left form ps d)
+    (λ value rest left stored fact.
+    let told : FnReturnsAt g.F.Fn c.args.func.now c.in_ok-key.key.now false = record { shown = c.in_ok-key.key; shows = refl; says = record { met = rw c.if-func.false at c.func.ensures } } in
     fact.found (told_after g.F.Fn c.args.func.now c.in_ok-key.key.now (texts value ++ texts_of_pairs rest) told true
-    (told_first g.F.Fn c.args.func.now (texts value) (texts_of_pairs rest) (rw c.if-branch.true at (c.in_ok-item_tells.ensures.told form value stands)))))
+    (told_first g.F.Fn c.args.func.now (texts value) (texts_of_pairs rest) (rw c.if-branch.true at (c.in_ok-entry_tells.ensures.told form value stored)))))
 
 pub object_tells-loop-pair-preserved : goal.object_tells-loop-pair-preserved
 object_tells-loop-pair-preserved g t c = record {
   can = tt;
   finite = tt;
   size = c.loop-pair.invariant.size;
-  room = omega (arith, c.in-Some.ensures.steps.room);
+  room = omega (arith, c.in-Some.ensures.steps.room, c.loop-pair.invariant.room);
   left = λ form ps d.
-      SomePairs-first form _ _ _ _ _ c.in_ok-key.was c.in-Some.ensures.steps (c.loop-pair.invariant.left form ps d)
-      (λ value rest left stands fact.
-      let told : FnReturnsAt g.F.Fn c.args.func.now c.in_ok-key.key.now false = record { shown = c.as_bytes.result; shows = c.as_bytes.ensures.value; says = record { met = rw c.if-func.false at c.func.ensures } } in
+      SomePairEntries-first form _ _ _ _ _ c.in_ok-key.was c.in-Some.ensures.steps (c.loop-pair.invariant.left form ps d)
+      (λ value rest left stored fact.
+      let told : FnReturnsAt g.F.Fn c.args.func.now c.in_ok-key.key.now false = record { shown = c.in_ok-key.key; shows = refl; says = record { met = rw c.if-func.false at c.func.ensures } } in
       let none = told_alone g.F.Fn c.args.func.now c.in_ok-key.key.now false told in
       record {
         pairs = rest;
         left = left;
         fact = leaves_after g.F.Fn c.args.func.now form (texts_of_pairs ps) _ (texts value) (texts_of_pairs rest)
-            (rw c.if-branch.false at (c.in_ok-item_tells.ensures.told form value stands))
+            (rw c.if-branch.false at (c.in_ok-entry_tells.ensures.told form value stored))
             (leaves_after g.F.Fn c.args.func.now form (texts_of_pairs ps) _ (c.in_ok-key.key.now ∷ []) (texts value ++ texts_of_pairs rest) none fact);
       });
 }
 
-pub object_tells-loop-pair-preserved-then-container_len-bytes : goal.object_tells-loop-pair-preserved-then-container_len-bytes
-object_tells-loop-pair-preserved-then-container_len-bytes g t c =
+pub object_tells-loop-pair-preserved-then-value-bytes : goal.object_tells-loop-pair-preserved-then-value-bytes
+object_tells-loop-pair-preserved-then-value-bytes g t c =
     let none : c.loop-pair.large ≡ None = search rules in
     let size = rw c.in_ok-key.was at c.in-Some.ensures.steps.size in
     record {
       can = tt;
       finite = tt;
-      size = omega (arith, size, c.loop-pair.invariant.room);
-      room = omega (arith, c.in-Some.ensures.steps.room);
+      size = omega (arith, c.in_ok-item.ensures.size, size, c.loop-pair.invariant.room);
+      room = omega (arith, c.in-Some.ensures.steps.room, c.loop-pair.invariant.room);
       left = λ form ps d.
-          SomePairs-first form _ _ _ _ _ c.in_ok-key.was c.in-Some.ensures.steps (rw none at (c.loop-pair.invariant.left form ps d))
-          (λ value rest left stands fact.
-          let told : FnReturnsAt g.F.Fn c.args.func.now c.in_ok-key.key.now false = record { shown = c.as_bytes.result; shows = c.as_bytes.ensures.value; says = record { met = rw c.if-func.false at c.func.ensures } } in
+          SomePairEntries-first form _ _ _ _ _ c.in_ok-key.was c.in-Some.ensures.steps (rw none at (c.loop-pair.invariant.left form ps d))
+          (λ value rest left stored fact.
+          let told : FnReturnsAt g.F.Fn c.args.func.now c.in_ok-key.key.now false = record { shown = c.in_ok-key.key; shows = refl; says = record { met = rw c.if-func.false at c.func.ensures } } in
           let none = told_alone g.F.Fn c.args.func.now c.in_ok-key.key.now false told in
           record {
             pairs = rest;
             left = left;
-            fact = leaves_aside g.F.Fn c.args.func.now form (texts_of_pairs ps) c.in_ok-key.value value (texts_of_pairs rest) stands
+            fact = leaves_aside g.F.Fn c.args.func.now form (texts_of_pairs ps) c.in_ok-item.item value (texts_of_pairs rest) (c.in_ok-item.ensures.decodes form value stored.content)
                 (leaves_after g.F.Fn c.args.func.now form (texts_of_pairs ps) None (c.in_ok-key.key.now ∷ []) (texts value ++ texts_of_pairs rest) none fact);
           });
     }
 
 pub object_tells-returns-clause-told : goal.object_tells-returns-clause-told
 object_tells-returns-clause-told g t c = λ form ps d.
-    (SomePairs-none form _ _ _ c.in-None.ensures.steps (c.loop-pair.invariant.left form ps d)).rest (told_none g.F.Fn c.args.func.now)
+    (SomePairEntries-none form _ _ _ c.in-None.ensures.steps (c.loop-pair.invariant.left form ps d)).rest (told_none g.F.Fn c.args.func.now)
+
+-- what is stored can be read
+pub array_tells-returns-in_err-item-clause-told : goal.array_tells-returns-in_err-item-clause-told
+array_tells-returns-in_err-item-clause-told g t c = λ form ts d.
+    SomeEntries-first form _ _ _ _ _ c.in_ok-entry.was c.in-Some.ensures.steps (c.loop-entry.invariant.left form ts d)
+    (λ first rest left stored fact. absurd (c.in_err-item.ensures.decodes form first stored.content))
+
+pub object_tells-returns-in_err-item-clause-told : goal.object_tells-returns-in_err-item-clause-told
+object_tells-returns-in_err-item-clause-told g t c = λ form ps d.
+    SomePairEntries-first form _ _ _ _ _ c.in_ok-key.was c.in-Some.ensures.steps (c.loop-pair.invariant.left form ps d)
+    (λ value rest left stored fact. absurd (c.in_err-item.ensures.decodes form value stored.content))

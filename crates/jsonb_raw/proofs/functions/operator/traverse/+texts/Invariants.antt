@@ -3,19 +3,18 @@ use Rattle.jsonb_doc.specs.Tree.{Tree, Trees, Pairs, array, object}
 use Rattle.jsonb_doc.specs.Payload.{Form}
 use Rattle.jsonb_doc.specs.Format.{Decodes}
 use Rattle.jsonb_doc.specs.Item.{StandsFor, item_size}
-use Rattle.jsonb_doc.specs.Elements.{elements_room}
-use Rattle.jsonb_doc.specs.ObjectPairs.{pairs_room}
+use Rattle.jsonb_doc.specs.Private.Stored.{entries_room}
 use Rattle.jsonb_raw.specs.Texts.{texts, texts_of_trees, texts_of_pairs, Tells}
 use Rattle.std.specs.Prelude.{IfSome}
 use Rattle.jsonb_raw.proofs.TextLemmas.{Leaves}
-use Rattle.jsonb_raw.proofs.IteratorItems.{SomeElements, SomePairs}
+use Rattle.jsonb_raw.proofs.EntriesLeft.{SomeEntries, SomePairEntries}
 use Rattle.jsonb_raw.proofs.functions.operator.traverse.+texts.Given as goal
 
 abbrev pub decreases-item_tells : goal.decreases-item_tells
-decreases-item_tells g l = 3 * item_size l.item.now + 2
+decreases-item_tells g l = 4 * item_size l.item.now + 2
 
 abbrev pub decreases-part_tells : goal.decreases-part_tells
-decreases-part_tells g l = 3 * item_size l.item.now + 1
+decreases-part_tells g l = 4 * item_size l.item.now + 1
 
 -- the item that is left decides the whole
 abbrev pub invariant-item_tells-loop-told : goal.invariant-item_tells-loop-told
@@ -28,21 +27,24 @@ invariant-item_tells-loop-told g l = record {
 abbrev pub decreases-item_tells-loop-told : goal.decreases-item_tells-loop-told
 decreases-item_tells-loop-told g l = item_size l.left
 
+abbrev pub decreases-entry_tells : goal.decreases-entry_tells
+decreases-entry_tells g l = 4 * length l.entry.now.content.now + 3
+
 abbrev pub decreases-array_tells : goal.decreases-array_tells
-decreases-array_tells g l = 3 * length l.bytes.now
+decreases-array_tells g l = 4 * length l.bytes.now
 
 abbrev pub decreases-object_tells : goal.decreases-object_tells
-decreases-object_tells g l = 3 * length l.bytes.now
+decreases-object_tells g l = 4 * length l.bytes.now
 
 -- each call so far answered false, so what is left decides
-abbrev pub invariant-array_tells-loop-item : goal.invariant-array_tells-loop-item
-invariant-array_tells-loop-item g l = record {
-  can : (goal.iterator-array_tells-loop-item g).can_next l.item-iterator;
-  finite : (goal.iterator-array_tells-loop-item g).is_finite l.item-iterator;
+abbrev pub invariant-array_tells-loop-entry : goal.invariant-array_tells-loop-entry
+invariant-array_tells-loop-entry g l = record {
+  can : (goal.iterator-array_tells-loop-entry g).can_next l.entry-iterator;
+  finite : (goal.iterator-array_tells-loop-entry g).is_finite l.entry-iterator;
   size : IfSome l.large (λ item. item_size item < length l.fn.bytes);
-  room : elements_room l.item-iterator < length l.fn.bytes;
+  room : entries_room l.entry-iterator < length l.fn.bytes;
   left : (form : Form) (ts : Trees) → Decodes form l.fn.bytes (array ts)
-      → SomeElements form l.item-iterator (λ left. Leaves g.F.Fn l.fn.func form (texts_of_trees ts) (texts_of_trees left) l.large);
+      → SomeEntries form l.entry-iterator (λ left. Leaves g.F.Fn l.fn.func form (texts_of_trees ts) (texts_of_trees left) l.large);
 }
 
 abbrev pub invariant-object_tells-loop-pair : goal.invariant-object_tells-loop-pair
@@ -50,7 +52,7 @@ invariant-object_tells-loop-pair g l = record {
   can : (goal.iterator-object_tells-loop-pair g).can_next l.pair-iterator;
   finite : (goal.iterator-object_tells-loop-pair g).is_finite l.pair-iterator;
   size : IfSome l.large (λ item. item_size item < length l.fn.bytes);
-  room : pairs_room l.pair-iterator < length l.fn.bytes;
+  room : entries_room l.pair-iterator.values < length l.fn.bytes;
   left : (form : Form) (ps : Pairs) → Decodes form l.fn.bytes (object ps)
-      → SomePairs form l.pair-iterator (λ left. Leaves g.F.Fn l.fn.func form (texts_of_pairs ps) (texts_of_pairs left) l.large);
+      → SomePairEntries form l.pair-iterator (λ left. Leaves g.F.Fn l.fn.func form (texts_of_pairs ps) (texts_of_pairs left) l.large);
 }

@@ -1,17 +1,10 @@
-use Rattle.std.proofs.Common.{drop, take}
-use Rattle.jsonb_raw.proofs.ChildAnswers.{drop_one_more}
+use Rattle.std.proofs.Common.{drop, take, add-one}
 use Rattle.jsonb_raw.proofs.functions.path.child.array_without_element.Goals as goal
 
 pub returns-in_err-front-clause-deleted : goal.returns-in_err-front-clause-deleted
-returns-in_err-front-clause-deleted c = λ form ts h. absurd (c.in_err-front.ensures.split form ts h)
-
-pub returns-in_err-back-clause-deleted : goal.returns-in_err-back-clause-deleted
-returns-in_err-back-clause-deleted c = λ form ts h.
-    absurd (c.in_err-back.ensures.split form (drop c.args.position ts) (c.in_ok-front.ensures.split form ts h).1)
+returns-in_err-front-clause-deleted c = λ form ts h. absurd (c.in_err-front.ensures.around form ts h)
 
 pub returns-clause-deleted : goal.returns-clause-deleted
 returns-clause-deleted c = λ form ts h.
-    let parts = c.in_ok-front.ensures.split form ts h in
-    let behind = c.in_ok-back.ensures.split form (drop c.args.position ts) parts.1 in
-    rw (← drop_one_more c.args.position ts)
-    (c.array_of_both.ensures.array form (take c.args.position ts) (drop 1 (drop c.args.position ts)) parts.0 behind.1)
+    let parts = rw add-one at (c.in_ok-front.ensures.around form ts h) in
+    c.array_of_both.ensures.array form (take c.args.position ts) _ parts.0 parts.1

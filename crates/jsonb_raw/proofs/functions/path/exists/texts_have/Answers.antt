@@ -1,4 +1,5 @@
 use Rattle.jsonb_doc.specs.Tree.{keys}
+use Rattle.jsonb_raw.proofs.CursorSteps.{still_texts}
 use Rattle.jsonb_raw.proofs.functions.path.exists.texts_have.Goals as goal
 
 pub returns-in-Keys-clause-has : goal.returns-in-Keys-clause-has
@@ -10,3 +11,8 @@ pub returns-in-Elements-clause-has : goal.returns-in-Elements-clause-has
 returns-in-Elements-clause-has c = λ form t h.
     let s = rw c.in-Elements.is at h in
     rw s.1 (c.array_has.ensures.has form s.0 s.2)
+
+pub returns-in-Keys-clause-texts : goal.returns-in-Keys-clause-texts
+returns-in-Keys-clause-texts c = λ form t h.
+    let s = rw c.in-Keys.is at h in
+    still_texts form t s.0 _ _ s.1 (c.has.ensures.search form (keys s.0) s.2)

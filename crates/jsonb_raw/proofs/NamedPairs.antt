@@ -1,0 +1,114 @@
+-- Texts gone through one by one, and pairs without the one of a key.
+use Rattle.std.proofs.Common.{◌≡◌, ℕ, zero, suc, Bool, true, false, not, List, [], ◌∷◌, ◌++◌, map, filter, cond, take, drop, Option, Some, None, refl, sym, ap, ◌∙◌}
+use Rattle.std.specs.Prelude.{position, option_map}
+use Rattle.std.specs.List.{remove}
+use Rattle.std.specs.Map.{keys_of, values_of}
+use Rattle.std.specs.Str.{bytes_eq}
+use Rattle.jsonb_doc.specs.Tree.{Tree, text}
+use Rattle.jsonb_doc.specs.Payload.{Form}
+use Rattle.jsonb_doc.specs.Format.{AreKeys}
+use Rattle.jsonb_doc.proofs.BuilderSteps.{AreRising, keys_rise, AreRising-filter}
+use Rattle.jsonb_doc.proofs.WordLemmas.{bytes_eq-true}
+use Rattle.jsonb_raw.specs.declared.functions.parts.Entries.{Entries}
+use Rattle.jsonb_raw.specs.declared.functions.parts.FirstEntry.{FirstEntry}
+use Rattle.jsonb_raw.specs.Private.Rows.{HoldTrees, TakesFirst}
+use Rattle.jsonb_raw.proofs.PlaceLemmas.{position-cons}
+use Rattle.jsonb_raw.proofs.GoneLemmas.{below_all}
+
+abbrev Member : Type 0
+Member = List ℕ × Tree
+
+-- ---- texts
+
+-- the first of the texts is this entry's content
+pub record TextFirst (form : Form) (ks : List (List ℕ)) (first : FirstEntry) : Type 0 where
+  pub rest : List (List ℕ)
+  pub split : ks ≡ first.content.now ∷ rest
+  pub others : HoldTrees form first.others (map text rest)
+
+pub text_first : (form : Form) (row : Entries) (ks : List (List ℕ)) (found : Option FirstEntry) (first : FirstEntry) → found ≡ Some first
+    → TakesFirst form row (map text ks) found → TextFirst form ks first
+text_first form row ks found first is h = by ks (rw is at h)
+  where
+    by : (ls : List (List ℕ)) → TakesFirst form row (map text ls) (Some first) → TextFirst form ls first
+    by [] g = absurd g
+    by (l ∷ ls) g = record { rest = ls; split = ap (λ (k : List ℕ). k ∷ ls) (sym g.part.1); others = g.others_hold }
+
+pub no_text_left : (form : Form) (row : Entries) (ks : List (List ℕ)) (found : Option FirstEntry) → found ≡ None
+    → TakesFirst form row (map text ks) found → ks ≡ []
+no_text_left form row [] found is h = refl
+no_text_left form row (k ∷ ks) found is h = absurd (rw is at h)
+
+-- ---- pairs without the one of a key
+
+-- the keys of some of the pairs are keys
+pub AreKeys-filter : (test : Member → Bool) (ps : List Member) → AreKeys (keys_of ps) → AreKeys (keys_of (filter test ps))
+AreKeys-filter test [] are = tt
+AreKeys-filter test (p ∷ ps) are =
+    go (test p) (AreRising-filter test (p ∷ ps) (keys_rise (keys_of (p ∷ ps)) are)) (AreKeys-filter test ps are.2)
+  where
+    go : (b : Bool) → AreRising (keys_of (cond b (p ∷ filter test ps) (filter test ps))) → AreKeys (keys_of (filter test ps))
+        → AreKeys (keys_of (cond b (p ∷ filter test ps) (filter test ps)))
+    go true rising rest = (are.0, rising.0, rest)
+    go false rising rest = rest
+
+abbrev without_key : List ℕ → List Member → List Member
+without_key name ps = filter (λ p. not (bytes_eq p.0 name)) ps
+
+not_none : (n : ℕ) → Some n ≡ None → ⊥
+not_none n e = cc
+
+-- where no key is the name, all pairs stay
+pub all_stay : (name : List ℕ) (ps : List Member) → position (λ k. bytes_eq k name) (keys_of ps) ≡ None → without_key name ps ≡ ps
+all_stay name [] none = refl
+all_stay name (p ∷ ps) none = by (λ others. all_stay name ps others) (bytes_eq p.0 name) refl
+  where
+    by : (position (λ k. bytes_eq k name) (keys_of ps) ≡ None → without_key name ps ≡ ps) → (b : Bool) → bytes_eq p.0 name ≡ b
+        → without_key name (p ∷ ps) ≡ p ∷ ps
+    by stay true same =
+        absurd (not_none 0 (sym (position-cons (λ k. bytes_eq k name) p.0 (keys_of ps) true same) ∙ none))
+    by stay false other = rw other (ap (λ (qs : List Member). p ∷ qs) (stay (rest (position (λ k. bytes_eq k name) (keys_of ps)) refl)))
+      where
+        rest : (o : Option ℕ) → position (λ k. bytes_eq k name) (keys_of ps) ≡ o → position (λ k. bytes_eq k name) (keys_of ps) ≡ None
+        rest None is = is
+        rest (Some m) is =
+            absurd (not_none (suc m) (ap (option_map suc) (sym is)
+            ∙ sym (position-cons (λ k. bytes_eq k name) p.0 (keys_of ps) false other) ∙ none))
+
+-- where the first key that is the name has this position, the pair there is all that goes
+pub one_goes : (name : List ℕ) (ps : List Member) (n : ℕ) → AreKeys (keys_of ps) → position (λ k. bytes_eq k name) (keys_of ps) ≡ Some n
+    → without_key name ps ≡ remove ps n
+one_goes name [] n are at = let bad : None ≡ Some n = at in absurd (cc)
+one_goes name (p ∷ ps) n are at = by (λ m is. one_goes name ps m are.2 is) (bytes_eq p.0 name) refl
+  where
+    OneGoes : Type 0
+    OneGoes = (m : ℕ) → position (λ k. bytes_eq k name) (keys_of ps) ≡ Some m → without_key name ps ≡ remove ps m
+
+    behind : OneGoes → (o : Option ℕ) → position (λ k. bytes_eq k name) (keys_of ps) ≡ o → option_map suc o ≡ Some n → bytes_eq p.0 name ≡ false
+        → p ∷ without_key name ps ≡ remove (p ∷ ps) n
+    behind goes None is e other = let bad : None ≡ Some n = e in absurd (cc)
+    behind goes (Some m) is e other =
+        let e' : suc m ≡ n = cc e in
+        rw (← e') (ap (λ (qs : List Member). p ∷ qs) (goes m is))
+
+    by : OneGoes → (b : Bool) → bytes_eq p.0 name ≡ b → without_key name (p ∷ ps) ≡ remove (p ∷ ps) n
+    by goes true same =
+        let first : 0 ≡ n = cc (sym (position-cons (λ k. bytes_eq k name) p.0 (keys_of ps) true same) ∙ at) in
+        let is : p.0 ≡ name = bytes_eq-true p.0 name same in
+        rw (same, ← first) (all_stay name ps (rw (← is) (below_all p.0 (keys_of ps) are.1 are.2)))
+    by goes false other =
+        rw other (behind goes (position (λ k. bytes_eq k name) (keys_of ps)) refl
+        (sym (position-cons (λ k. bytes_eq k name) p.0 (keys_of ps) false other) ∙ at) other)
+
+-- the keys and the values around a pair
+pub names_around : (n : ℕ) (ps : List Member) → map text (keys_of (remove ps n)) ≡ remove (map text (keys_of ps)) n
+names_around zero [] = refl
+names_around zero (p ∷ ps) = refl
+names_around (suc n) [] = refl
+names_around (suc n) (p ∷ ps) = ap (λ (ts : List Tree). text p.0 ∷ ts) (names_around n ps)
+
+pub values_around : (n : ℕ) (ps : List Member) → values_of (remove ps n) ≡ remove (values_of ps) n
+values_around zero [] = refl
+values_around zero (p ∷ ps) = refl
+values_around (suc n) [] = refl
+values_around (suc n) (p ∷ ps) = ap (λ (ts : List Tree). p.1 ∷ ts) (values_around n ps)

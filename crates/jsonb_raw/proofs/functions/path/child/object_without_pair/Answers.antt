@@ -1,0 +1,22 @@
+use Rattle.std.proofs.Common.{◌≡◌, take, drop, map, add-one, sym, ◌∙◌}
+use Rattle.std.proofs.lemmas.List.{take-map, drop-map}
+use Rattle.std.specs.Map.{keys_of, values_of}
+use Rattle.std.specs.List.{remove}
+use Rattle.jsonb_doc.specs.Tree.{text}
+use Rattle.jsonb_raw.proofs.RowLemmas.{two_rows}
+use Rattle.jsonb_raw.proofs.NamedPairs.{names_around, values_around}
+use Rattle.jsonb_raw.proofs.functions.path.child.object_without_pair.Goals as goal
+
+pub returns-in_err-keys-clause-deleted : goal.returns-in_err-keys-clause-deleted
+returns-in_err-keys-clause-deleted c = λ form ps h are. absurd (c.in_err-keys.ensures.around form _ h.names)
+
+pub returns-in_err-values-clause-deleted : goal.returns-in_err-values-clause-deleted
+returns-in_err-values-clause-deleted c = λ form ps h are. absurd (c.in_err-values.ensures.around form _ h.parts)
+
+pub returns-clause-deleted : goal.returns-clause-deleted
+returns-clause-deleted c = λ form ps h are.
+    let k = rw add-one at (c.in_ok-keys.ensures.around form _ h.names) in
+    let v = rw add-one at (c.in_ok-values.ensures.around form _ h.parts) in
+    c.object_of.ensures.object form (remove ps c.args.position) are
+    (rw (names_around c.args.position ps) (two_rows form _ _ _ _ k.0 k.1))
+    (rw (values_around c.args.position ps) (two_rows form _ _ _ _ v.0 v.1))

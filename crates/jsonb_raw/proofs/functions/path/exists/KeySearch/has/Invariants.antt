@@ -1,0 +1,17 @@
+use Rattle.std.proofs.Common.{◌≡◌, ℕ, List}
+use Rattle.jsonb_doc.specs.Payload.{Form}
+use Rattle.jsonb_doc.specs.Private.Stored.{entries_bound}
+use Rattle.jsonb_raw.specs.Cursors.{IsSearchOf, IsPassed}
+use Rattle.jsonb_raw.proofs.functions.path.exists.KeySearch.has.Given as goal
+
+-- the cursor stands in front of what is looked at next, and the keys it has passed are below the name
+abbrev pub invariant-loop-entry : goal.invariant-loop-entry
+invariant-loop-entry l = record {
+  ahead : l.ahead ≡ l.self.near.left;
+  all : l.all ≡ l.self.near.all;
+  passed : IsPassed l.self.near.passed l.name;
+  search : (form : Form) (ks : List (List ℕ)) → IsSearchOf form l.fn.self ks → IsSearchOf form l.self ks;
+}
+
+abbrev pub decreases-loop-entry : goal.decreases-loop-entry
+decreases-loop-entry l = entries_bound l.ahead

@@ -1,0 +1,205 @@
+//! Whether each of some entries equals one of a list, without memory: where searches in the list begin.
+
+ghost use Rattle.std.specs.Prelude.{◌≡◌, ◌<◌, true, IsOkAnd, IfOk, IfErr, IfSome};
+ghost use Rattle.std.specs.List.{list_any};
+ghost use Rattle.jsonb_doc.specs.Tree.{Tree, Trees, elements};
+ghost use Rattle.jsonb_doc.specs.Equal.{is_equal};
+ghost use Rattle.jsonb_doc.specs.Payload.{Form};
+ghost use Rattle.jsonb_doc.specs.Private.Stored.{HasEntriesLeft, Stores};
+ghost use Rattle.jsonb_doc.specs.Answer.{IsDecodingError};
+ghost use Rattle.jsonb_raw.specs.Compared.{PassesOver};
+ghost use Rattle.jsonb_raw.specs.Private.Starts.{AreStarts, scalars_matched};
+
+use crate::equal_items::{find_equal, next_equals};
+use crate::functions::array::marks::{MARKS, mark};
+use jsonb_doc::{EntryIter, Error, StoredEntry};
+
+/// For how many wanted entries a start is looked up at once.
+const BLOCK: usize = 32;
+
+/// In so few entries no start is looked up.
+const FEW: usize = 16;
+
+/// The next of the wanted entries that are no containers, by their marks.
+#[derive(Drop)]
+struct Wanted<'a> {
+    contents: [&'a [u8]; BLOCK],
+    /// The place among them of one with this mark, or `BLOCK`.
+    places: [u8; MARKS],
+}
+
+impl<'a> Wanted<'a> {
+    /// The first of the entries.
+    fn of(entries: EntryIter<'a>) -> Wanted<'a> {
+        let mut wanted = Wanted {
+            contents: [&[]; BLOCK],
+            places: [BLOCK as u8; MARKS],
+        };
+        let mut taken = 0;
+        for entry in entries {
+            let Ok(entry) = entry else {
+                break;
+            };
+            if taken >= BLOCK {
+                break;
+            }
+            if !entry.is_container() {
+                wanted.put(taken, &entry);
+                taken += 1;
+            }
+        }
+        wanted
+    }
+
+    /// Puts an entry at its place.
+    fn put(&mut self, place: usize, entry: &StoredEntry<'a>)
+        requires { place < 32 }
+    {
+        if let Some(mark) = mark(entry) {
+            self.places[mark] = place as u8;
+            self.contents[place] = entry.content;
+        }
+    }
+
+    /// The place of one with the content of the entry.
+    fn place_of(&self, entry: &StoredEntry<'_>) -> Option<usize>
+        ensures { IfSome result (λ place. place < 32) }
+    {
+        let place = self.places[mark(entry)?] as usize;
+        if place < BLOCK && self.contents[place] == entry.content {
+            Some(place)
+        } else {
+            None
+        }
+    }
+}
+
+/// Where in a list searches begin.
+#[derive(Drop)]
+struct Starts<'a> {
+    /// Behind the entry that was found last.
+    left: EntryIter<'a>,
+    /// Where the next of the wanted entries may be found, each at its place.
+    at: [EntryIter<'a>; BLOCK],
+    /// How many of these are passed.
+    passed: usize,
+}
+
+impl<'a> Starts<'a> {
+    /// All searches begin with the first entry.
+    fn new(all: EntryIter<'a>) -> Starts<'a>
+        ensures { AreStarts all.entry result }
+    {
+        Starts {
+            left: all,
+            at: [all; BLOCK],
+            passed: BLOCK,
+        }
+    }
+
+    /// Looks up where the next of the wanted entries are found.
+    fn fill(&mut self, all: EntryIter<'a>, entries: EntryIter<'_>)
+        requires { AreStarts all self.old }
+        ensures { AreStarts all.entry self.new }
+    {
+        let wanted = Wanted::of(entries);
+        self.passed = 0;
+        let mut rest = all;
+        'walk: loop {
+            let here = rest;
+            let Some(Ok(entry)) = rest.next() else {
+                return;
+            };
+            if let Some(place) = wanted.place_of(&entry) {
+                self.at[place] = here;
+            }
+        }
+    }
+
+    /// Where the search for the next wanted entry begins, where that is known.
+    fn take(&mut self, all: EntryIter<'a>) -> EntryIter<'a>
+        requires { AreStarts all self.old }
+        ensures starts { AreStarts all.entry self.new }
+        ensures start { PassesOver all.entry result }
+    {
+        let place = self.passed;
+        if place >= BLOCK {
+            return all;
+        }
+        self.passed = place + 1;
+        self.at[place]
+    }
+
+    /// Where the search for the next wanted entry begins, which is the first of these.
+    fn next(&mut self, all: EntryIter<'a>, entries: EntryIter<'_>) -> EntryIter<'a>
+        requires { AreStarts all self.old }
+        ensures starts { AreStarts all.entry self.new }
+        ensures start { PassesOver all.entry result }
+    {
+        if self.passed < BLOCK {
+            return self.take(all);
+        }
+        if all.len() <= FEW {
+            return self.left;
+        }
+        self.fill(all, entries);
+        self.take(all)
+    }
+
+    /// Whether one of all entries equals the wanted one, the first of the wanted entries that are left. It is looked
+    /// for behind the last that was found, then where it may be found, and then among all.
+    fn find(
+        &mut self,
+        all: EntryIter<'a>,
+        wanted: &StoredEntry<'_>,
+        entries: EntryIter<'_>,
+    ) -> Result<bool, Error>
+        requires { AreStarts all self.old }
+        ensures found { (form other_form : Form) (xs : Trees) (y : Tree) → HasEntriesLeft form all.entry xs
+            → Stores other_form wanted.now y → IsOkAnd result (λ b. b ≡ list_any (λ x. is_equal x y) (elements xs)) }
+        ensures starts { AreStarts all.entry self.new }
+        ensures errors { IfErr result IsDecodingError }
+    {
+        if next_equals(&mut self.left, wanted)? {
+            if self.passed < BLOCK {
+                self.passed += 1;
+            }
+            return Ok(true);
+        }
+        let mut left = self.next(all, entries);
+        if find_equal(&mut left, wanted)? {
+            self.left = left;
+            return Ok(true);
+        }
+        let mut again = all;
+        let found = find_equal(&mut again, wanted)?;
+        self.left = again;
+        Ok(found)
+    }
+}
+
+/// Whether each of the wanted entries that is no container equals one of the entries. It stands apart, so that calls
+/// that nest hold none of its tables.
+#[inline(never)]
+pub(super) fn scalars_matched(all: EntryIter<'_>, wanted: EntryIter<'_>) -> Result<bool, Error>
+    ensures matched { (form other_form : Form) (xs ys : Trees) → HasEntriesLeft form all.entry xs
+        → HasEntriesLeft other_form wanted.entry ys
+        → IsOkAnd result (λ b. b ≡ scalars_matched ys (elements xs)) }
+    ensures errors { IfErr result IsDecodingError }
+{
+    let mut starts = Starts::new(all);
+    let mut rest = wanted;
+    'walk: loop {
+        let here = rest;
+        let Some(entry) = rest.next() else {
+            return Ok(true);
+        };
+        let entry = entry?;
+        if entry.is_container() {
+            continue;
+        }
+        if !starts.find(all, &entry, here)? {
+            return Ok(false);
+        }
+    }
+}
