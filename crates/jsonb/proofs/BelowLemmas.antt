@@ -1,19 +1,17 @@
 -- A walk over the items below an item: what is given, and then what each level has left, the innermost first, is the whole.
-use Rattle.std.proofs.Common.{◌≡◌, ℕ, suc, ◌+◌, ◌*◌, ◌^◌, ◌<◌, ◌≤◌, min, List, [], ◌∷◌, ◌++◌, flat_map, length, Option, Some, None, Result, Ok, Err, refl, sym, ap, subst, ◌∙◌, arith, append_assoc, append-nil}
+use Rattle.std.proofs.Common.{◌≡◌, ℕ, ◌+◌, ◌^◌, ◌<◌, ◌≤◌, min, List, [], ◌∷◌, ◌++◌, flat_map, length, Option, Some, None, Result, Ok, Err, inl, inr, refl, sym, ap, subst, ◌∙◌, arith, append_assoc, append-nil}
 use Rattle.std.specs.Prelude.{reverse}
 use Rattle.std.proofs.lemmas.List.{reverse-append}
-use Rattle.std.proofs.Math.Nat.{one-le-pow, pow-le-pow_right, mul-le-mul_right}
-use Rattle.std.proofs.lemmas.Nat.{mul-le}
-use Rattle.std.proofs.lemmas.Grind.{pow_more}
 use Rattle.jsonb_doc.specs.Spots.{HasSpotsLeft, Locates, GivesSpot, spots_room, spots_bound, spot_size}
 use Rattle.jsonb_doc.specs.Tree.{Tree}
+use Rattle.jsonb_doc.proofs.Weights.{weight_of, weight-pos, inner_weighs, taken_weighs, weight_of_all, falls_inward, falls_outward}
 use Rattle.jsonb_doc.specs.declared.error.Error.{Error}
 use Rattle.jsonb_doc.specs.declared.spot.Spot.{Spot}
 use Rattle.jsonb_doc.specs.declared.spot_iter.SpotIter.{SpotIter}
 use Rattle.jsonb.specs.PathTree.{Levels}
 use Rattle.jsonb.specs.Preorder.{own, preorder}
 use Rattle.jsonb.specs.Related.{AllRelated}
-use Rattle.jsonb.specs.Private.Below.{HasLeft}
+use Rattle.jsonb.specs.Private.Below.{HasLeft, KeepsLevel}
 use Rattle.jsonb.specs.declared.selector.levels.OpenLevel.{OpenLevel}
 use Rattle.jsonb.proofs.Progress.{First, spot_first, spot_end}
 
@@ -103,30 +101,47 @@ module _ (bytes : List ℕ) (levels : Option Levels) where
       (f : First (HasSpotsLeft bytes within'.children) (λ t. (before : List Tree) → AllRelated (Locates bytes) nodes before
       → AllRelated (Locates bytes) nodes' (before ++ own levels w.level t) × ((ts : List Tree) × HasLeft bytes inner ts (w.level + 1)
       × (preorder levels w.level t ≡ own levels w.level t ++ flat_map (preorder levels (w.level + 1)) ts))) w.here)
-      → within'.level ≡ within.level → around' ≡ around ++ within' ∷ [] → Walked bytes levels inner around' nodes' whole
-  item_entered within within' inner around around' nodes nodes' whole w f same pushed =
+      → within'.level ≡ within.level → KeepsLevel around within' around' → Walked bytes levels inner around' nodes' whole
+  item_entered within within' inner around around' nodes nodes' whole w f same kept =
       let told = f.holds w.given w.done in
       let ts = told.1.0 in
       let below = flat_map (preorder levels (w.level + 1)) ts in
       let mine = own levels w.level f.first in
       let beside = flat_map (preorder levels w.level) f.others in
-      let outside = items_of levels w.others in record {
-        here = ts;
-        level = w.level + 1;
-        others = (f.others, w.level) ∷ w.others;
-        given = w.given ++ mine;
-        left = told.1.1;
-        left_around = subst (λ l. HaveLeft bytes l ((f.others, w.level) ∷ w.others)) (sym (ap reverse pushed ∙ innermost around within'))
-            ((f.left, same ∙ w.left.1), w.left_around);
-        done = told.0;
-        is = regrouped w.given mine below (beside ++ outside)
-            ∙ ap (λ l. w.given ++ (l ++ (beside ++ outside))) (sym told.1.2)
-            ∙ ap (λ l. w.given ++ l) (sym (append_assoc (preorder levels w.level f.first) beside outside))
-            ∙ ap (λ l. w.given ++ (flat_map (preorder levels w.level) l ++ outside)) (sym f.whole)
-            ∙ w.is;
-      }
+      let outside = items_of levels w.others in
+      elim kept [
+        | inl pushed ↦ record {
+          here = ts;
+          level = w.level + 1;
+          others = (f.others, w.level) ∷ w.others;
+          given = w.given ++ mine;
+          left = told.1.1;
+          left_around = subst (λ l. HaveLeft bytes l ((f.others, w.level) ∷ w.others)) (sym (ap reverse pushed ∙ innermost around within'))
+              ((f.left, same ∙ w.left.1), w.left_around);
+          done = told.0;
+          is = regrouped w.given mine below (beside ++ outside)
+              ∙ ap (λ l. w.given ++ (l ++ (beside ++ outside))) (sym told.1.2)
+              ∙ ap (λ l. w.given ++ l) (sym (append_assoc (preorder levels w.level f.first) beside outside))
+              ∙ ap (λ l. w.given ++ (flat_map (preorder levels w.level) l ++ outside)) (sym f.whole)
+              ∙ w.is;
+        }
+        | inr done ↦ record {
+          here = ts;
+          level = w.level + 1;
+          others = w.others;
+          given = w.given ++ mine;
+          left = told.1.1;
+          left_around = subst (λ l. HaveLeft bytes (reverse l) w.others) (sym done.0) w.left_around;
+          done = told.0;
+          is = regrouped w.given mine below outside
+              ∙ ap (λ l. w.given ++ (l ++ outside)) (sym told.1.2)
+              ∙ ap (λ l. w.given ++ (l ++ outside)) (sym (append-nil (preorder levels w.level f.first)))
+              ∙ ap (λ l. w.given ++ (flat_map (preorder levels w.level) (f.first ∷ l) ++ outside)) (sym (done.1 bytes f.others f.left))
+              ∙ ap (λ l. w.given ++ (flat_map (preorder levels w.level) l ++ outside)) (sym f.whole)
+              ∙ w.is;
+        }
+      ]
 
-  -- a level is done
   pub level_done : (within outer : OpenLevel) (around around' : List OpenLevel) (nodes : List Spot) (whole : List Tree)
       (w : Walked bytes levels within around nodes whole)
       → w.here ≡ [] → around ≡ around' ++ outer ∷ [] → Walked bytes levels outer around' nodes whole
@@ -149,96 +164,35 @@ module _ (bytes : List ℕ) (levels : Option Levels) where
       go [] h is = subst (AllRelated (Locates bytes) nodes) (sym (append-nil w.given) ∙ is) w.done
       go (r ∷ rs) h is = absurd h
 
--- ---- how the levels shrink: a level outweighs all that can lie sized one of its items
-
--- more by two than any level gives
-unfoldable pub base : ℕ
-base = 2 ^ 65
+-- ---- how the levels shrink
 
 unfoldable pub weight : OpenLevel → ℕ
-weight within = (spots_bound within.children + 1) * base ^ spots_room within.children
+weight within = weight_of (spots_bound within.children) (spots_room within.children)
 
 abbrev pub weights : List OpenLevel → ℕ
-weights [] = 0
-weights (within ∷ os) = weight within + weights os
-
-base_big : (n : ℕ) → n < 2 ^ 64 → n + 2 ≤ base
-unfolding base
-base_big n h = omega (arith, h)
-
-base_pos : 0 < base
-unfolding base
-base_pos = omega arith
-
-power_pos : (m n : ℕ) → 0 < m → 1 ≤ m ^ n
-power_pos m n h = one-le-pow n m h
-
--- with an item taken a level weighs less, by more than all in the item can weigh
-shrunk : (m b c i r s j : ℕ) → 0 < m → c < b → s ≤ r → j < r → i + 2 ≤ m → (i + 1) * m ^ j + (c + 1) * m ^ s < (b + 1) * m ^ r
-shrunk m b c i r s j pos fewer less inner few =
-    let left : (c + 1) * m ^ s ≤ b * m ^ r = mul-le (c + 1) (m ^ s) b (m ^ r) (omega arith) (pow-le-pow_right pos less) in
-    let more : (i + 2) * m ^ j ≤ m * m ^ j = mul-le-mul_right (m ^ j) few in
-    let up : m ^ (j + 1) ≤ m ^ r = pow-le-pow_right pos (omega arith) in
-    let one : 1 ≤ m ^ j = power_pos m j pos in
-    let is : m ^ (j + 1) ≡ m ^ j * m = pow_more m j in
-    summed (m ^ j) (m ^ s) (m ^ r) m i b c left more (rw is at up) one
-  where
-    summed : (x y z m i b c : ℕ) → (c + 1) * y ≤ b * z → (i + 2) * x ≤ m * x → x * m ≤ z → 1 ≤ x → (i + 1) * x + (c + 1) * y < (b + 1) * z
-    summed x y z m i b c left more up one = grind (arith, left, more, up, one)
-
-weight_pos : (within : OpenLevel) → 0 < weight within
-unfolding weight
-weight_pos within =
-    let one = power_pos base (spots_room within.children) base_pos in
-    let up : 1 * 1 ≤ (spots_bound within.children + 1) * base ^ spots_room within.children =
-    mul-le 1 1 (spots_bound within.children + 1) (base ^ spots_room within.children) (omega arith) one in
-    omega (arith, up)
-
-inner_weighs : (within within' inner : OpenLevel) (size : ℕ) → size ≤ spots_room within.children → spots_room within'.children ≤ spots_room within.children
-    → spots_bound within'.children < spots_bound within.children → spots_room inner.children < size → spots_bound inner.children < 2 ^ 64
-    → weight inner + weight within' < weight within
-unfolding weight
-inner_weighs within within' inner size sized less fewer room bound =
-    shrunk base (spots_bound within.children) (spots_bound within'.children) (spots_bound inner.children) (spots_room within.children)
-    (spots_room within'.children)
-    (spots_room inner.children) base_pos fewer less (omega (arith, sized, room)) (base_big (spots_bound inner.children) bound)
-
-taken_weighs : (within within' : OpenLevel) → spots_room within'.children ≤ spots_room within.children
-    → spots_bound within'.children < spots_bound within.children
-    → weight within' < weight within
-unfolding weight
-taken_weighs within within' less fewer =
-    let left : (spots_bound within'.children + 1) * base ^ spots_room within'.children ≤ spots_bound within.children * base ^ spots_room within.children
-    = mul-le (spots_bound within'.children + 1) (base ^ spots_room within'.children) (spots_bound within.children) (base ^ spots_room within.children)
-    (omega (arith, fewer)) (pow-le-pow_right base_pos less) in
-    one_more (spots_bound within.children) (base ^ spots_room within.children) ((spots_bound within'.children + 1) * base ^ spots_room within'.children) left
-    (power_pos base (spots_room within.children) base_pos)
-  where
-    one_more : (b z x : ℕ) → x ≤ b * z → 1 ≤ z → x < (b + 1) * z
-    one_more b z x h one = grind (arith, h, one)
-
-around_pushed : (around around' : List OpenLevel) (within : OpenLevel) → around' ≡ around ++ within ∷ []
-    → weights (reverse around') ≡ weight within + weights (reverse around)
-around_pushed around around' within e = ap (λ os. weights (reverse os)) e ∙ ap weights (innermost around within)
+weights os = weight_of_all weight os
 
 -- the measure of a walk falls where an item is entered, where it is passed, and where a level is done
 pub falls_within : (within within' inner : OpenLevel) (around around' : List OpenLevel) (size : ℕ) → size ≤ spots_room within.children
     → spots_room within'.children ≤ spots_room within.children → spots_bound within'.children < spots_bound within.children
-    → spots_room inner.children < size → spots_bound inner.children < 2 ^ 64 → around' ≡ around ++ within' ∷ []
+    → spots_room inner.children < size → spots_bound inner.children < 2 ^ 64 → KeepsLevel around within' around'
     → weight inner + weights (reverse around') < weight within + weights (reverse around)
-falls_within within within' inner around around' size sized less fewer room bound e =
-    let is = around_pushed around around' within' e in
-    let light = inner_weighs within within' inner size sized less fewer room bound in
-    omega (arith, is, light)
+unfolding weight
+falls_within within within' inner around around' size sized less fewer room bound kept =
+    let light : weight inner + weight within' < weight within = inner_weighs _ _ _ _ _ _ fewer less (omega (arith, sized, room)) bound in
+    elim kept [
+      | inl pushed ↦ falls_inward weight within within' inner around around' light pushed
+      | inr done ↦ let is = ap (λ os. weights (reverse os)) done.0 in omega (arith, is, light)
+    ]
 
 pub falls_beside : (within within' : OpenLevel) (around : List OpenLevel) → spots_room within'.children ≤ spots_room within.children
     → spots_bound within'.children < spots_bound within.children
     → weight within' + weights (reverse around) < weight within + weights (reverse around)
-falls_beside within within' around less fewer = let light = taken_weighs within within' less fewer in omega (arith, light)
+unfolding weight
+falls_beside within within' around less fewer = let light = taken_weighs _ _ _ _ fewer less in omega (arith, light)
 
 pub falls_done : (within outer : OpenLevel) (around around' : List OpenLevel) → around ≡ around' ++ outer ∷ []
     → weight outer + weights (reverse around') < weight within + weights (reverse around)
+unfolding weight
 falls_done within outer around around' e =
-    let is = around_pushed around' around outer e in
-    let pos = weight_pos within in
-    omega (arith, is, pos)
+    falls_outward weight within outer around around' (weight-pos (spots_bound within.children) (spots_room within.children)) e

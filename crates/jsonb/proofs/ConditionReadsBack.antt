@@ -397,15 +397,8 @@ inner_start_is_step_start b h = rw h refl
 pub begins-step : (s : Step) (rest : List ℕ) → IsPathStep s → begins is_step_start (step_text s ++ rest) ≡ true
 begins-step root rest is = absurd is
 begins-step current rest is = absurd is
-begins-step dot_wildcard rest is = refl
-begins-step (recursive_dot_wildcard l) rest is = refl
-begins-step bracket_wildcard rest is = refl
-begins-step (dot_field text) rest is = refl
-begins-step (colon_field text) rest is = refl
-begins-step (object_field text) rest is = refl
-begins-step (array_indices es) rest is = refl
-begins-step (filter e) rest is = refl
 begins-step (whole_expression e) rest is = absurd is
+begins-step _ rest is = refl
 
 pub step_start_is_no_space : (b : ℕ) → is_step_start b ≡ true → is_space b ≡ false
 step_start_is_no_space b h = grind (arith, nat_tests)
@@ -479,18 +472,7 @@ joined-condition : (op : BinaryOp) (left right : Expression) → joins op ≡ tr
     ConditionReads (binary op left right)
 joined-condition and_op left right j l r = and-condition left right l r
 joined-condition or_op left right j l r = or-condition left right l r
-joined-condition eq left right j l r = cc
-joined-condition not_eq left right j l r = cc
-joined-condition lt left right j l r = cc
-joined-condition lte left right j l r = cc
-joined-condition gt left right j l r = cc
-joined-condition gte left right j l r = cc
-joined-condition starts_with_op left right j l r = cc
-joined-condition add left right j l r = cc
-joined-condition subtract left right j l r = cc
-joined-condition multiply left right j l r = cc
-joined-condition divide left right j l r = cc
-joined-condition modulo left right j l r = cc
+joined-condition _ left right j l r = cc
 
 binary-reads : (op : BinaryOp) (left right : Expression) → AtomReads left → AtomReads right →
     ConditionReads (binary op left right) × AtomReads (binary op left right)

@@ -110,19 +110,7 @@ operator_of tree.modulo = operator.Modulo
 operator_of-operator_view : (a : BinaryOperator) → operator_of (operator_view a) ≡ a
 unfolding operator_of
 operator_of-operator_view operator.And = refl
-operator_of-operator_view operator.Or = refl
-operator_of-operator_view operator.Eq = refl
-operator_of-operator_view operator.NotEq = refl
-operator_of-operator_view operator.Lt = refl
-operator_of-operator_view operator.Lte = refl
-operator_of-operator_view operator.Gt = refl
-operator_of-operator_view operator.Gte = refl
-operator_of-operator_view operator.StartsWith = refl
-operator_of-operator_view operator.Add = refl
-operator_of-operator_view operator.Subtract = refl
-operator_of-operator_view operator.Multiply = refl
-operator_of-operator_view operator.Divide = refl
-operator_of-operator_view operator.Modulo = refl
+operator_of-operator_view _ = refl
 
 pub operator-equal : (a b : BinaryOperator) → Decides (operator_equal.it a b) (operator_view a ≡ operator_view b)
 operator-equal a b = (

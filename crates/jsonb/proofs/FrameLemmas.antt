@@ -68,35 +68,25 @@ behind-none : (op : BinaryOp) (another : Rule Expression) (o : Parsed Expression
 behind-none op another None = refl
 behind-none op another (Some p) = refl
 
+-- a rule's list of conditions, joined as it is read
+joined-is : (op : BinaryOp) (another : Rule Expression) (o : Parsed Expression) → joined_from op another o ≡
+    option_and_then (λ (p : List Expression × List ℕ). Some (joined_by op p.0, p.1))
+    (option_and_then (λ (q : Expression × List ℕ). option_and_then (λ (p : List Expression × List ℕ). Some (q.0 ∷ p.0, p.1)) (repeat another q.1)) o)
+joined-is op another None = refl
+joined-is op another (Some q) = more (repeat another q.1) where
+  more : (o : Parsed (List Expression)) → parsed_map (λ others. fold (λ left right. binary op left right) q.0 others) o ≡
+      option_and_then (λ (p : List Expression × List ℕ). Some (joined_by op p.0, p.1))
+      (option_and_then (λ (p : List Expression × List ℕ). Some (q.0 ∷ p.0, p.1)) o)
+  more None = refl
+  more (Some p) = refl
+
 and-is : (f : Bool) (input : List ℕ) → joined_from and_op (another_atom expression f) (atom_with expression f input) ≡ and_with expression f input
 unfolding and_with
-and-is f input = go (atom_with expression f input) where
-  go : (o : Parsed Expression) → joined_from and_op (another_atom expression f) o ≡
-      option_and_then (λ (p : List Expression × List ℕ). Some (joined_by and_op p.0, p.1))
-      (option_and_then (λ (q : Expression × List ℕ). option_and_then (λ (p : List Expression × List ℕ). Some (q.0 ∷ p.0, p.1))
-      (repeat (another_atom expression f) q.1)) o)
-  go None = refl
-  go (Some q) = more (repeat (another_atom expression f) q.1) where
-    more : (o : Parsed (List Expression)) → parsed_map (λ others. fold (λ left right. binary and_op left right) q.0 others) o ≡
-        option_and_then (λ (p : List Expression × List ℕ). Some (joined_by and_op p.0, p.1))
-        (option_and_then (λ (p : List Expression × List ℕ). Some (q.0 ∷ p.0, p.1)) o)
-    more None = refl
-    more (Some p) = refl
+and-is f input = joined-is and_op (another_atom expression f) (atom_with expression f input)
 
 or-is : (f : Bool) (input : List ℕ) → joined_from or_op (another_and expression f) (and_with expression f input) ≡ or_with expression f input
 unfolding or_with
-or-is f input = go (and_with expression f input) where
-  go : (o : Parsed Expression) → joined_from or_op (another_and expression f) o ≡
-      option_and_then (λ (p : List Expression × List ℕ). Some (joined_by or_op p.0, p.1))
-      (option_and_then (λ (q : Expression × List ℕ). option_and_then (λ (p : List Expression × List ℕ). Some (q.0 ∷ p.0, p.1))
-      (repeat (another_and expression f) q.1)) o)
-  go None = refl
-  go (Some q) = more (repeat (another_and expression f) q.1) where
-    more : (o : Parsed (List Expression)) → parsed_map (λ others. fold (λ left right. binary or_op left right) q.0 others) o ≡
-        option_and_then (λ (p : List Expression × List ℕ). Some (joined_by or_op p.0, p.1))
-        (option_and_then (λ (p : List Expression × List ℕ). Some (q.0 ∷ p.0, p.1)) o)
-    more None = refl
-    more (Some p) = refl
+or-is f input = joined-is or_op (another_and expression f) (and_with expression f input)
 
 -- a level before its first condition
 pub level-begins : (f : Bool) (input : List ℕ) →
@@ -124,7 +114,8 @@ and-goes l e j after left reads =
     ∙ ap (λ (x : Expression). joined_from and_op (another_atom expression l.is_in_filter) (Some (x, j.before.now))) left)
 
 or-here : (l : Level) (e : Expression) (input : List ℕ) → spaced (literal "&&") input ≡ None →
-    level_outcome l (Some (e, input)) ≡ joined_from or_op (another_and expression l.is_in_filter) (Some (joined_view or_op l.any (joined_view and_op l.all e), input))
+    level_outcome l (Some (e, input)) ≡ joined_from or_op (another_and expression l.is_in_filter)
+    (Some (joined_view or_op l.any (joined_view and_op l.all e), input))
 unfolding level_outcome
 or-here l e input none =
     ap (joined_behind or_op (another_and expression l.is_in_filter) l.any)
@@ -193,7 +184,8 @@ pub level-ended-all : (l : Level) (j : Joined) → l.all ≡ Some j → spaced (
     level_outcome l None ≡ Some (joined_view or_op l.any (expression_view j.left.value), j.before.now)
 unfolding level_outcome
 level-ended-all l j at none =
-    rw at (join-ends or_op (spaced (literal "||")) (and_with expression l.is_in_filter) (joined_view or_op l.any (expression_view j.left.value)) j.before.now none)
+    rw at (join-ends or_op (spaced (literal "||")) (and_with expression l.is_in_filter) (joined_view or_op l.any (expression_view j.left.value))
+    j.before.now none)
 
 -- nothing is closed there
 pub unclosed-here : {A B : Type 0} (e : A) (input : List ℕ) (next : A → Rule B) → IsUnclosed input →
@@ -270,7 +262,8 @@ path_step-is = λ i input. (rules_hold input).1 i
 pub without_bound : (front front' : List Step) (input input' : List ℕ) →
     behind front (repeat path_step input) ≡ behind front' (repeat path_step input') →
     behind front (repeat (path_with expression) input) ≡ behind front' (repeat (path_with expression) input')
-without_bound front front' input input' same = subst (λ (rule : Rule Step). behind front (repeat rule input) ≡ behind front' (repeat rule input')) path_step-is same
+without_bound front front' input input' same = subst (λ (rule : Rule Step). behind front (repeat rule input) ≡ behind front' (repeat rule input'))
+    path_step-is same
 
 -- a filter, where no plain step stands
 pub step-is_filter : (input inside : List ℕ) → spaced_inner input ≡ None → filter_front input ≡ Some (tt, inside) →
@@ -351,7 +344,8 @@ dollar (b ∷ input) p e = go (36 == b) refl where
   go false at = absurd (nothing p.0 p.1 (rw at at e))
 
 binary-of : (f : Bool) (input : List ℕ) → binary_atom f input ≡ option_and_then {U = Expression × List ℕ} (λ (p : Expression × List ℕ).
-    option_and_then {U = Expression × List ℕ} (λ (q : (BinaryOp × Expression) × List ℕ). Some (binary q.0.0 p.0 q.0.1, q.1)) (operation f p.1)) (spaced_operand f input)
+    option_and_then {U = Expression × List ℕ} (λ (q : (BinaryOp × Expression) × List ℕ). Some (binary q.0.0 p.0 q.0.1, q.1)) (operation f p.1))
+    (spaced_operand f input)
 unfolding binary_atom operation
 binary-of f input = go (spaced_operand f input) where
   third : (p : Expression × List ℕ) (op : BinaryOp) (o : Parsed Expression) →
@@ -362,21 +356,26 @@ binary-of f input = go (spaced_operand f input) where
   third p op (Some r) = refl
 
   second : (p : Expression × List ℕ) (o : Parsed BinaryOp) →
-      option_and_then {U = Expression × List ℕ} (λ (q : BinaryOp × List ℕ). option_and_then {U = Expression × List ℕ} (λ (r : Expression × List ℕ). Some (binary q.0 p.0 r.0, r.1)) (spaced_operand f q.1)) o
+      option_and_then {U = Expression × List ℕ}
+      (λ (q : BinaryOp × List ℕ). option_and_then {U = Expression × List ℕ} (λ (r : Expression × List ℕ). Some (binary q.0 p.0 r.0, r.1))
+      (spaced_operand f q.1)) o
       ≡ option_and_then {U = Expression × List ℕ} (λ (q : (BinaryOp × Expression) × List ℕ). Some (binary q.0.0 p.0 q.0.1, q.1))
       (option_and_then {U = (BinaryOp × Expression) × List ℕ} (λ (q : BinaryOp × List ℕ).
       option_and_then {U = (BinaryOp × Expression) × List ℕ} (λ (r : Expression × List ℕ). Some ((q.0, r.0), r.1)) (spaced_operand f q.1)) o)
   second p None = refl
   second p (Some q) = third p q.0 (spaced_operand f q.1)
 
-  go : (o : Parsed Expression) → option_and_then {U = Expression × List ℕ} (λ (p : Expression × List ℕ). (operator >>= λ op. spaced_operand f >>= λ right. give (binary op p.0 right)) p.1) o
+  go : (o : Parsed Expression) → option_and_then {U = Expression × List ℕ}
+      (λ (p : Expression × List ℕ). (operator >>= λ op. spaced_operand f >>= λ right. give (binary op p.0 right)) p.1) o
       ≡ option_and_then {U = Expression × List ℕ} (λ (p : Expression × List ℕ).
-      option_and_then {U = Expression × List ℕ} (λ (q : (BinaryOp × Expression) × List ℕ). Some (binary q.0.0 p.0 q.0.1, q.1)) ((operator >>= λ op. spaced_operand f >>= λ right.
+      option_and_then {U = Expression × List ℕ} (λ (q : (BinaryOp × Expression) × List ℕ). Some (binary q.0.0 p.0 q.0.1, q.1))
+      ((operator >>= λ op. spaced_operand f >>= λ right.
       give (op, right)) p.1)) o
   go None = refl
   go (Some p) = second p (operator p.1)
 
-module _ (tail : List ℕ) (ss : List Step) (rest here : List ℕ) (reads : operand_steps false (36 ∷ tail) ≡ Some (ss, rest)) (space : ws rest ≡ Some (tt, here)) where
+module _ (tail : List ℕ) (ss : List Step) (rest here : List ℕ) (reads : operand_steps false (36 ∷ tail) ≡ Some (ss, rest))
+    (space : ws rest ≡ Some (tt, here)) where
   first_operand : spaced_operand false (36 ∷ tail) ≡ Some (paths (steps_of ss), here)
   unfolding spaced_operand operand
   first_operand = rw (ws-dollar tail, reads, space) refl
@@ -385,7 +384,8 @@ module _ (tail : List ℕ) (ss : List Step) (rest here : List ℕ) (reads : oper
       atom_with expression false (36 ∷ tail) ≡ Some (binary op (paths (steps_of ss)) e, after)
   unfolding atom_with unary_atom unary_operator
   atom-some op e after is =
-      let second : binary_atom false (36 ∷ tail) ≡ Some (binary op (paths (steps_of ss)) e, after) = binary-of false (36 ∷ tail) ∙ (rw (first_operand, is) refl) in
+      let second : binary_atom false (36 ∷ tail) ≡ Some (binary op (paths (steps_of ss)) e, after) = binary-of false (36 ∷ tail) ∙
+      (rw (first_operand, is) refl) in
       rw second refl
 
   atom-none : operation false here ≡ None → atom_with expression false (36 ∷ tail) ≡ None
@@ -419,7 +419,8 @@ front-operation input rest here ss op e after reads space is = go (dollar input 
       (Some (binary op (paths (steps_of ss)) e, after))) ≡ root_expression input
   go d = subst (λ (i : List ℕ). as_path (level_outcome (record { is_in_filter = false; all = None; any = None })
       (Some (binary op (paths (steps_of ss)) e, after))) ≡ root_expression i) (sym d.1)
-      (front-is (36 ∷ d.0) (36 ∷ d.0) _ (ws-dollar d.0) (sym (atom-some d.0 ss rest here (subst (λ (i : List ℕ). operand_steps false i ≡ Some (ss, rest)) d.1 reads)
+      (front-is (36 ∷ d.0) (36 ∷ d.0) _ (ws-dollar d.0)
+      (sym (atom-some d.0 ss rest here (subst (λ (i : List ℕ). operand_steps false i ≡ Some (ss, rest)) d.1 reads)
       space op e after is)))
 
 -- steps alone
@@ -429,7 +430,8 @@ unfolding level_outcome
 front-steps input rest here ss reads space none = go (dollar input (ss, rest) reads) where
   go : (tail : List ℕ) × (input ≡ 36 ∷ tail) → root_expression input ≡ None
   go d = subst (λ (i : List ℕ). root_expression i ≡ None) (sym d.1)
-      (sym (front-is (36 ∷ d.0) (36 ∷ d.0) None (ws-dollar d.0) (sym (atom-none d.0 ss rest here (subst (λ (i : List ℕ). operand_steps false i ≡ Some (ss, rest)) d.1 reads)
+      (sym (front-is (36 ∷ d.0) (36 ∷ d.0) None (ws-dollar d.0)
+      (sym (atom-none d.0 ss rest here (subst (λ (i : List ℕ). operand_steps false i ≡ Some (ss, rest)) d.1 reads)
       space none))))
 
 -- ---- the loop over what is open

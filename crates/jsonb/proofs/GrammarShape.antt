@@ -470,17 +470,8 @@ filter_is_condition nested h =
     (λ _. yields-give (IsCondition true) e is)))))))
 
 inner_is_path_step : (s : Step) → IsInner s → IsPathStep s
-inner_is_path_step root is = is
-inner_is_path_step current is = is
-inner_is_path_step dot_wildcard is = is
-inner_is_path_step (recursive_dot_wildcard l) is = is
-inner_is_path_step bracket_wildcard is = is
-inner_is_path_step (dot_field text) is = is
-inner_is_path_step (colon_field text) is = is
-inner_is_path_step (object_field text) is = is
-inner_is_path_step (array_indices es) is = is
 inner_is_path_step (filter e) is = absurd is
-inner_is_path_step (whole_expression e) is = is
+inner_is_path_step _ is = is
 
 step_is_path_step : (nested : Bool → Rule Expression) → NestedIs nested → Yields IsPathStep (path_with nested)
 unfolding path_with

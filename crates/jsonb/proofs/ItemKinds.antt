@@ -18,22 +18,14 @@ pub object_children : (item : Item) (bytes : Bor (List ℕ)) (t : Tree) → item
 object_children item bytes t is h = let s = rw is at h in rw s.1 refl
 
 pub no_elements : (item : Item) (t : Tree) → ((bytes : Bor (List ℕ)) → item ≡ Array bytes → ⊥) → StandsFor any item t → elements_of t ≡ None
-no_elements Null t n h = rw h refl
-no_elements (Boolean b) t n h = rw h refl
-no_elements (Number m) t n h = rw h refl
-no_elements (String s) t n h = rw h refl
-no_elements (Extension x) t n h = rw h refl
 no_elements (Array bytes) t n h = absurd (n bytes refl)
 no_elements (Object bytes) t n h = rw h.1 refl
+no_elements _ t n h = rw h refl
 
 pub no_values : (item : Item) (t : Tree) → ((bytes : Bor (List ℕ)) → item ≡ Object bytes → ⊥) → StandsFor any item t → values_of t ≡ None
-no_values Null t n h = rw h refl
-no_values (Boolean b) t n h = rw h refl
-no_values (Number m) t n h = rw h refl
-no_values (String s) t n h = rw h refl
-no_values (Extension x) t n h = rw h refl
 no_values (Array bytes) t n h = rw h.1 refl
 no_values (Object bytes) t n h = absurd (n bytes refl)
+no_values _ t n h = rw h refl
 
 -- the values of an array, and of another item
 pub array_values : (t : Tree) (ts : List Tree) → elements_of t ≡ Some ts → values_of_item t ≡ flat_map value_of_item ts

@@ -8,10 +8,12 @@ use Rattle.jsonb_doc.specs.declared.error.Error.{Error}
 use Rattle.jsonb.specs.PathTree as math
 use Rattle.jsonb.specs.PathTree.{Step, Expression, steps_of}
 use Rattle.jsonb.specs.Meaning.{steps_meaning, truth, operand_values, start, is_some_item}
-use Rattle.jsonb.specs.Private.Selection.{begins_with_current}
+use Rattle.jsonb.specs.Private.Selection.{atoms_view, begins_with_current}
 use Rattle.jsonb.specs.Private.Kept.{is_fixed, is_comparison, is_condition, conditions, IsSame, AreSame, AreKept, kept_part}
 use Rattle.jsonb.specs.declared.selector.document.Mode.{Mode}
+use Rattle.jsonb.specs.declared.selector.atom.Atoms.{Atoms}
 use Rattle.jsonb.specs.declared.selector.kept.KeptPart.{KeptPart}
+use Rattle.jsonb.specs.declared.selector.kept.KeptPart.TheVariants as part
 use Rattle.jsonb.specs.declared.selector.kept.Kept.{Kept}
 use Rattle.jsonb.specs.declared.selector.kept.Kept.TheVariants as kept
 use Rattle.jsonb.specs.PathViews.{expression_view, operator_view}
@@ -92,18 +94,12 @@ not_joined : (op : BinaryOperator) → op ≢ And → op ≢ Or → op ≢ Add �
     → is_comparison (operator_view op) ≡ true
 not_joined And a b c d e f g = absurd (a refl)
 not_joined Or a b c d e f g = absurd (b refl)
-not_joined Eq a b c d e f g = refl
-not_joined NotEq a b c d e f g = refl
-not_joined Lt a b c d e f g = refl
-not_joined Lte a b c d e f g = refl
-not_joined Gt a b c d e f g = refl
-not_joined Gte a b c d e f g = refl
-not_joined StartsWith a b c d e f g = refl
 not_joined Add a b c d e f g = absurd (c refl)
 not_joined Subtract a b c d e f g = absurd (d refl)
 not_joined Multiply a b c d e f g = absurd (e refl)
 not_joined Divide a b c d e f g = absurd (f refl)
 not_joined Modulo a b c d e f g = absurd (g refl)
+not_joined _ a b c d e f g = refl
 
 one_of : (op : math.BinaryOp) (l r : Expression) → is_comparison op ≡ true → conditions (math.binary op l r) ≡ math.binary op l r ∷ []
 one_of math.and_op l r h = cc
@@ -166,6 +162,21 @@ pub compared : (mode : Mode) (op : math.BinaryOp) (l r : Expression) (top u : Tr
     → operand_values mode l top u ≡ Ok ls → operand_values mode r top u ≡ Ok rs → truth mode (math.binary op l r) top u ≡ Ok (compare op ls rs)
 compared mode op l r top u ls rs h p q = comparison_is mode op l r top u h
     ∙ (λ i. and_then (p i) (λ ls. and_then (q i) (λ rs. Ok (compare op ls rs))))
+
+-- the values of the right operand are kept
+pub by_right : (mode : Mode) (top u : Tree) (e : Expr) (op : BinaryOperator) (l r : Box Expr Global) (p : KeptPart) (rights : Atoms) (left : Expr)
+    (steps : math.Steps) → e ≡ expr.BinaryOp op l r → p ≡ part.Right rights → left ≡ l.value → expression_view left ≡ math.paths steps
+    → is_condition (expression_view e) ≡ true → IsSame mode top p (expression_view e) →
+    truth mode (expression_view e) top u
+    ≡ and_then (operand_values mode (math.paths steps) top u) (λ ls. Ok (compare (operator_view op) ls (atoms_view rights)))
+by_right mode top u e op l r p rights left steps is kept lent named condition same =
+    let view : expression_view e ≡ math.binary (operator_view op) (math.paths steps) (expression_view r.value) =
+    binary_is e op l r is ∙ (λ i. math.binary (operator_view op) ((ap expression_view (sym lent) ∙ named) i) (expression_view r.value)) in
+    let values = subst (λ q. IsSame mode top q (math.binary (operator_view op) (math.paths steps) (expression_view r.value))) kept
+    (subst (λ x. IsSame mode top p x) view same) in
+    ap (λ x. truth mode x top u) view
+    ∙ comparison_is mode (operator_view op) (math.paths steps) (expression_view r.value) top u (sym (ap is_condition view) ∙ condition)
+    ∙ (λ i. and_then (operand_values mode (math.paths steps) top u) (λ ls. and_then (values u i) (λ rs. Ok (compare (operator_view op) ls rs))))
 
 -- what is kept of the condition that comes next
 pub kept_same : (mode : Mode) (top : Tree) (k : Kept) (all more : List Expression) (e : Expression) (p : KeptPart) → AreKept mode top k all (e ∷ more)

@@ -1,5 +1,7 @@
 pub mod ExpressionLemmas
 pub mod ViewLemmas
+pub mod PartLemmas
+pub mod ChainLemmas
 pub mod PositionLemmas
 pub mod EntryReadsSome
 pub mod InnerReadsSome
@@ -21,6 +23,7 @@ pub mod LevelLemmas
 pub mod BelowLemmas
 pub mod PathNodes
 pub mod StepLemmas
+pub mod MemberLemmas
 pub mod KeptLemmas
 pub mod CalculateLemmas
 pub mod ReadMeans

@@ -70,15 +70,9 @@ spaced_inner-none input h = spaced-none inner input (inner-none (past is_space i
 pub begins-inner : (s : Step) (rest : List ℕ) → IsInner s → begins is_inner_start (step_text s ++ rest) ≡ true
 begins-inner root rest is = absurd is
 begins-inner current rest is = absurd is
-begins-inner dot_wildcard rest is = refl
-begins-inner (recursive_dot_wildcard l) rest is = refl
-begins-inner bracket_wildcard rest is = refl
-begins-inner (dot_field text) rest is = refl
-begins-inner (colon_field text) rest is = refl
-begins-inner (object_field text) rest is = refl
-begins-inner (array_indices es) rest is = refl
 begins-inner (filter e) rest is = absurd is
 begins-inner (whole_expression e) rest is = absurd is
+begins-inner _ rest is = refl
 
 pub begins-some : (test : ℕ → Bool) (xs : List ℕ) → begins test (xs ++ []) ≡ true → 0 < length xs
 begins-some test [] h = cc
@@ -152,17 +146,9 @@ inners-text (step s ss) rest are h =
     (sym here) ∙ inners_past-text (step s ss) rest are h)
 
 settled-inner : (s : Step) → IsInner s → settled_step s ≡ s
-settled-inner root is = refl
-settled-inner current is = refl
-settled-inner dot_wildcard is = refl
-settled-inner (recursive_dot_wildcard l) is = refl
-settled-inner bracket_wildcard is = refl
-settled-inner (dot_field text) is = refl
-settled-inner (colon_field text) is = refl
-settled-inner (object_field text) is = refl
-settled-inner (array_indices es) is = refl
 settled-inner (filter e) is = absurd is
 settled-inner (whole_expression e) is = absurd is
+settled-inner _ is = refl
 
 settled-inners : (ss : Steps) → AreInner ss → settled_steps ss ≡ ss
 settled-inners no_steps are = refl
@@ -286,42 +272,18 @@ pub path_root-text : (is_in_filter : Bool) (s : Step) (rest : List ℕ) → IsBe
 unfolding path_root
 path_root-text is_in_filter root rest is = refl
 path_root-text is_in_filter current rest is = rw is refl
-path_root-text is_in_filter dot_wildcard rest is = absurd is
-path_root-text is_in_filter (recursive_dot_wildcard l) rest is = absurd is
-path_root-text is_in_filter bracket_wildcard rest is = absurd is
-path_root-text is_in_filter (dot_field text) rest is = absurd is
-path_root-text is_in_filter (colon_field text) rest is = absurd is
-path_root-text is_in_filter (object_field text) rest is = absurd is
-path_root-text is_in_filter (array_indices es) rest is = absurd is
-path_root-text is_in_filter (filter e) rest is = absurd is
-path_root-text is_in_filter (whole_expression e) rest is = absurd is
+path_root-text is_in_filter _ rest is = absurd is
 
 pub settled-beginning : (is_in_filter : Bool) (s : Step) → IsBeginning is_in_filter s → settled_step s ≡ s
 settled-beginning is_in_filter root is = refl
 settled-beginning is_in_filter current is = refl
-settled-beginning is_in_filter dot_wildcard is = absurd is
-settled-beginning is_in_filter (recursive_dot_wildcard l) is = absurd is
-settled-beginning is_in_filter bracket_wildcard is = absurd is
-settled-beginning is_in_filter (dot_field text) is = absurd is
-settled-beginning is_in_filter (colon_field text) is = absurd is
-settled-beginning is_in_filter (object_field text) is = absurd is
-settled-beginning is_in_filter (array_indices es) is = absurd is
-settled-beginning is_in_filter (filter e) is = absurd is
-settled-beginning is_in_filter (whole_expression e) is = absurd is
+settled-beginning is_in_filter _ is = absurd is
 
 pub begins-beginning : (is_in_filter : Bool) (s : Step) (rest : List ℕ) → IsBeginning is_in_filter s →
     begins is_path_root (step_text s ++ rest) ≡ true
 begins-beginning is_in_filter root rest is = refl
 begins-beginning is_in_filter current rest is = refl
-begins-beginning is_in_filter dot_wildcard rest is = absurd is
-begins-beginning is_in_filter (recursive_dot_wildcard l) rest is = absurd is
-begins-beginning is_in_filter bracket_wildcard rest is = absurd is
-begins-beginning is_in_filter (dot_field text) rest is = absurd is
-begins-beginning is_in_filter (colon_field text) rest is = absurd is
-begins-beginning is_in_filter (object_field text) rest is = absurd is
-begins-beginning is_in_filter (array_indices es) rest is = absurd is
-begins-beginning is_in_filter (filter e) rest is = absurd is
-begins-beginning is_in_filter (whole_expression e) rest is = absurd is
+begins-beginning is_in_filter _ rest is = absurd is
 
 operand-paths : (is_in_filter : Bool) (s : Step) (ss : Steps) (rest : List ℕ) → IsBeginning is_in_filter s → AreInner ss →
     IsBehindOperand rest →
@@ -473,36 +435,13 @@ operator-read : (op : BinaryOp) (rest : List ℕ) → joins op ≡ false → ope
 unfolding operator arithmetic_operator
 operator-read and_op rest h = cc
 operator-read or_op rest h = cc
-operator-read eq rest h = refl
-operator-read not_eq rest h = refl
-operator-read lt rest h = refl
-operator-read lte rest h = refl
-operator-read gt rest h = refl
-operator-read gte rest h = refl
-operator-read starts_with_op rest h = refl
-operator-read add rest h = refl
-operator-read subtract rest h = refl
-operator-read multiply rest h = refl
-operator-read divide rest h = refl
-operator-read modulo rest h = refl
+operator-read _ rest h = refl
 
 -- an operator between spaces stands behind an operand, and is no space itself
 pub behind_operator : (op : BinaryOp) (rest : List ℕ) → IsBehindOperand (32 ∷ operator_text op ++ rest) × (past is_space
     (32 ∷ operator_text op ++ rest) ≡ operator_text op ++ rest)
 behind_operator and_op rest = ((refl, refl), refl)
-behind_operator or_op rest = ((refl, refl), refl)
-behind_operator eq rest = ((refl, refl), refl)
-behind_operator not_eq rest = ((refl, refl), refl)
-behind_operator lt rest = ((refl, refl), refl)
-behind_operator lte rest = ((refl, refl), refl)
-behind_operator gt rest = ((refl, refl), refl)
-behind_operator gte rest = ((refl, refl), refl)
-behind_operator starts_with_op rest = ((refl, refl), refl)
-behind_operator add rest = ((refl, refl), refl)
-behind_operator subtract rest = ((refl, refl), refl)
-behind_operator multiply rest = ((refl, refl), refl)
-behind_operator divide rest = ((refl, refl), refl)
-behind_operator modulo rest = ((refl, refl), refl)
+behind_operator _ rest = ((refl, refl), refl)
 
 pub binary-text : (is_in_filter : Bool) (op : BinaryOp) (left right : Expression) (rest : List ℕ) → joins op ≡ false →
     IsOperand is_in_filter left → IsOperand is_in_filter right → IsBehindOperand rest →

@@ -8,30 +8,15 @@ use Rattle.jsonb.proofs.PathReadsBack.{path-text}
 use Rattle.jsonb.proofs.GrammarShape.{json_path_is_path}
 
 settled_literal-twice : (l : Literal) → settled_literal (settled_literal l) ≡ settled_literal l
-settled_literal-twice null = refl
-settled_literal-twice (boolean b) = refl
-settled_literal-twice (unsigned n) = refl
 settled_literal-twice (signed (pos n)) = refl
-settled_literal-twice (signed (negsuc n)) = refl
-settled_literal-twice (decimal64 whole scale) = refl
-settled_literal-twice (decimal128 whole scale) = refl
-settled_literal-twice (string text) = refl
-settled_literal-twice (raw document) = refl
+settled_literal-twice _ = refl
 
 -- settling once more changes nothing
 mutual
   settled_step-twice : (s : Step) → settled_step (settled_step s) ≡ settled_step s
-  settled_step-twice root = refl
-  settled_step-twice current = refl
-  settled_step-twice dot_wildcard = refl
-  settled_step-twice (recursive_dot_wildcard l) = refl
-  settled_step-twice bracket_wildcard = refl
-  settled_step-twice (dot_field text) = refl
-  settled_step-twice (colon_field text) = refl
-  settled_step-twice (object_field text) = refl
-  settled_step-twice (array_indices es) = refl
   settled_step-twice (filter e) = rw (settled-twice e) refl
   settled_step-twice (whole_expression e) = rw (settled-twice e) refl
+  settled_step-twice _ = refl
 
   settled_steps-twice : (ss : Steps) → settled_steps (settled_steps ss) ≡ settled_steps ss
   settled_steps-twice no_steps = refl

@@ -119,15 +119,9 @@ record Leading (input : List ℕ) : Type 0 where
 inner_or_filter : (s : Step) (rest : List ℕ) → IsPathStep s → IsInner s ⊎ (begins is_question (step_text s ++ rest) ≡ true)
 inner_or_filter root rest is = absurd is
 inner_or_filter current rest is = absurd is
-inner_or_filter dot_wildcard rest is = inl is
-inner_or_filter (recursive_dot_wildcard l) rest is = inl is
-inner_or_filter bracket_wildcard rest is = inl is
-inner_or_filter (dot_field text) rest is = inl is
-inner_or_filter (colon_field text) rest is = inl is
-inner_or_filter (object_field text) rest is = inl is
-inner_or_filter (array_indices es) rest is = inl is
 inner_or_filter (filter e) rest is = inr refl
 inner_or_filter (whole_expression e) rest is = absurd is
+inner_or_filter _ rest is = inl is
 
 step_start_is_step_end : (b : ℕ) → is_step_start b ≡ true → is_step_end b ≡ true
 step_start_is_step_end b h = grind (arith, nat_tests)

@@ -29,19 +29,16 @@ AreLevels None = ⊤
 AreLevels (Some levels) = (nat_lt levels.start (2 ^ 8) ≡ true) × IsLevelEnd levels.end
 
 abbrev pub IsLiteral : Literal → Type 0
-IsLiteral null = ⊤
-IsLiteral (boolean b) = ⊤
 IsLiteral (unsigned n) = nat_lt n (2 ^ 64) ≡ true
 IsLiteral (signed z) = is_within (2 ^ 63) z ≡ true
 IsLiteral (decimal64 whole scale) = ⊥
 IsLiteral (decimal128 whole scale) = ⊥
 IsLiteral (string text) = IsName text
 IsLiteral (raw document) = ⊥
+IsLiteral _ = ⊤
 
 -- a step that may stand in an operand: no filter, and not a beginning
 abbrev pub IsInner : Step → Type 0
-IsInner root = ⊥
-IsInner current = ⊥
 IsInner dot_wildcard = ⊤
 IsInner (recursive_dot_wildcard levels) = AreLevels levels
 IsInner bracket_wildcard = ⊤
@@ -49,8 +46,7 @@ IsInner (dot_field name) = IsName name
 IsInner (colon_field name) = IsName name
 IsInner (object_field name) = IsName name
 IsInner (array_indices entries) = (0 < length entries) × Each IsEntry entries
-IsInner (filter e) = ⊥
-IsInner (whole_expression e) = ⊥
+IsInner _ = ⊥
 
 abbrev pub AreInner : Steps → Type 0
 AreInner no_steps = ⊤
@@ -60,56 +56,27 @@ AreInner (step s ss) = IsInner s × AreInner ss
 abbrev pub IsBeginning : Bool → Step → Type 0
 IsBeginning is_in_filter root = ⊤
 IsBeginning is_in_filter current = is_in_filter ≡ true
-IsBeginning is_in_filter dot_wildcard = ⊥
-IsBeginning is_in_filter (recursive_dot_wildcard levels) = ⊥
-IsBeginning is_in_filter bracket_wildcard = ⊥
-IsBeginning is_in_filter (dot_field name) = ⊥
-IsBeginning is_in_filter (colon_field name) = ⊥
-IsBeginning is_in_filter (object_field name) = ⊥
-IsBeginning is_in_filter (array_indices entries) = ⊥
-IsBeginning is_in_filter (filter e) = ⊥
-IsBeginning is_in_filter (whole_expression e) = ⊥
+IsBeginning is_in_filter _ = ⊥
 
 abbrev pub IsOperand : Bool → Expression → Type 0
-IsOperand is_in_filter (paths no_steps) = ⊥
 IsOperand is_in_filter (paths (step s ss)) = IsBeginning is_in_filter s × AreInner ss
 IsOperand is_in_filter (value l) = IsLiteral l
-IsOperand is_in_filter (binary op left right) = ⊥
-IsOperand is_in_filter (unary op operand) = ⊥
-IsOperand is_in_filter (exists steps) = ⊥
+IsOperand is_in_filter _ = ⊥
 
 abbrev pub is_signed_literal : Literal → Bool
-is_signed_literal null = false
-is_signed_literal (boolean b) = false
-is_signed_literal (unsigned n) = false
 is_signed_literal (signed z) = true
-is_signed_literal (decimal64 whole scale) = false
-is_signed_literal (decimal128 whole scale) = false
-is_signed_literal (string text) = false
-is_signed_literal (raw document) = false
+is_signed_literal _ = false
 
 -- whether a sign may stand in front; such an operand is no left side
 abbrev pub is_signed : Expression → Bool
-is_signed (paths steps) = false
 is_signed (value l) = is_signed_literal l
-is_signed (binary op left right) = false
-is_signed (unary op operand) = false
-is_signed (exists steps) = false
+is_signed _ = false
 
 abbrev mutual
   -- a step behind the first one
   pub IsPathStep : Step → Type 0
-  IsPathStep root = ⊥
-  IsPathStep current = ⊥
-  IsPathStep dot_wildcard = ⊤
-  IsPathStep (recursive_dot_wildcard levels) = AreLevels levels
-  IsPathStep bracket_wildcard = ⊤
-  IsPathStep (dot_field name) = IsName name
-  IsPathStep (colon_field name) = IsName name
-  IsPathStep (object_field name) = IsName name
-  IsPathStep (array_indices entries) = (0 < length entries) × Each IsEntry entries
   IsPathStep (filter e) = IsCondition true e
-  IsPathStep (whole_expression e) = ⊥
+  IsPathStep s = IsInner s
 
   pub ArePathSteps : Steps → Type 0
   ArePathSteps no_steps = ⊤

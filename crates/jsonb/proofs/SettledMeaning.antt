@@ -83,10 +83,7 @@ starts_with_truth-settled _ _ = refl
 
 raw-settled : (v : Value) → is_raw (settled_value v) ≡ is_raw v
 raw-settled null = refl
-raw-settled (boolean b) = refl
-raw-settled (number n) = refl
-raw-settled (text bs) = refl
-raw-settled raw = refl
+raw-settled _ = refl
 
 pair-settled : (op : BinaryOp) (v w : Value) → pair_truth op (settled_value v) (settled_value w) ≡ pair_truth op v w
 pair-settled starts_with_op v w = starts_with_truth-settled v w
@@ -125,16 +122,8 @@ same_compared op l l' r r' e f = sym (compared-settled op l' r') ∙ ap (λ (o :
 
 literal-settled : (l : Literal)
     → map settled_value (values_of_literal (literal_item (settled_literal l))) ≡ map settled_value (values_of_literal (literal_item l))
-literal-settled path.null = refl
-literal-settled (path.boolean b) = refl
-literal-settled (path.unsigned n) = refl
 literal-settled (path.signed (pos zero)) = refl
-literal-settled (path.signed (pos (suc n))) = refl
-literal-settled (path.signed (negsuc n)) = refl
-literal-settled (path.decimal64 w s) = refl
-literal-settled (path.decimal128 w s) = refl
-literal-settled (path.string bs) = refl
-literal-settled (path.raw bytes) = refl
+literal-settled _ = refl
 
 -- ---- steps, operands and truths
 
@@ -179,11 +168,7 @@ binary-truth lte l r vl vr tl tr mode top item = same_compared lte _ _ _ _ (vl m
 binary-truth gt l r vl vr tl tr mode top item = same_compared gt _ _ _ _ (vl mode top item) (vr mode top item)
 binary-truth gte l r vl vr tl tr mode top item = same_compared gte _ _ _ _ (vl mode top item) (vr mode top item)
 binary-truth starts_with_op l r vl vr tl tr mode top item = same_compared starts_with_op _ _ _ _ (vl mode top item) (vr mode top item)
-binary-truth add l r vl vr tl tr mode top item = refl
-binary-truth subtract l r vl vr tl tr mode top item = refl
-binary-truth multiply l r vl vr tl tr mode top item = refl
-binary-truth divide l r vl vr tl tr mode top item = refl
-binary-truth modulo l r vl vr tl tr mode top item = refl
+binary-truth _ l r vl vr tl tr mode top item = refl
 
 steps-same : (s : Step) (ss : Steps) → StepSame s → StepsSame ss → StepsSame (step s ss)
 steps-same s ss one more mode top items =
@@ -192,17 +177,8 @@ steps-same s ss one more mode top items =
 
 mutual
   step_same : (s : Step) → StepSame s
-  step_same root = λ mode top item. refl
-  step_same current = λ mode top item. refl
-  step_same dot_wildcard = λ mode top item. refl
-  step_same (recursive_dot_wildcard levels) = λ mode top item. refl
-  step_same bracket_wildcard = λ mode top item. refl
-  step_same (dot_field name) = λ mode top item. refl
-  step_same (colon_field name) = λ mode top item. refl
-  step_same (object_field name) = λ mode top item. refl
-  step_same (array_indices entries) = λ mode top item. refl
   step_same (filter e) = λ mode top item. rw ((expression_same e).1 mode top item) refl
-  step_same (whole_expression e) = λ mode top item. refl
+  step_same _ = λ mode top item. refl
 
   expression_same : (e : Expression) → Values e × Truths e
   expression_same (paths ss) = (path-values ss (steps_same ss), λ mode top item. refl)
@@ -304,16 +280,8 @@ same_calculation op l l' r r' e f =
     through (Ok ls) (Ok rs) = two-settled op ls rs
 
 scalar-settled : (l : Literal) → settled_outcome (literal_list (literal_item (settled_literal l))) ≡ settled_outcome (literal_list (literal_item l))
-scalar-settled path.null = refl
-scalar-settled (path.boolean b) = refl
-scalar-settled (path.unsigned n) = refl
 scalar-settled (path.signed (pos zero)) = refl
-scalar-settled (path.signed (pos (suc n))) = refl
-scalar-settled (path.signed (negsuc n)) = refl
-scalar-settled (path.decimal64 w s) = refl
-scalar-settled (path.decimal128 w s) = refl
-scalar-settled (path.string bs) = refl
-scalar-settled (path.raw bytes) = refl
+scalar-settled _ = refl
 
 binary-meaning : (op : BinaryOp) (l r : Expression) (mode : Mode) (top : Tree)
     → expression_meaning mode (settled (binary op l r)) top ≡ expression_meaning mode (binary op l r) top
@@ -332,16 +300,7 @@ expression-meaning (exists ss) mode top = rw ((expression_same (exists ss)).1 mo
 
 filter-settled : (s : Step) → as_filter (settled_step s) ≡ settled_step (as_filter s)
 filter-settled root = refl
-filter-settled current = refl
-filter-settled dot_wildcard = refl
-filter-settled (recursive_dot_wildcard levels) = refl
-filter-settled bracket_wildcard = refl
-filter-settled (dot_field name) = refl
-filter-settled (colon_field name) = refl
-filter-settled (object_field name) = refl
-filter-settled (array_indices entries) = refl
-filter-settled (filter e) = refl
-filter-settled (whole_expression e) = refl
+filter-settled _ = refl
 
 filters-settled : (p : List Step) → steps_of (map as_filter (map settled_step p)) ≡ settled_steps (steps_of (map as_filter p))
 filters-settled [] = refl
@@ -414,12 +373,7 @@ same_by_value _ _ e = cc
 
 item_truth-settled : (t : Tree) → item_truth (settled_tree t) ≡ item_truth t
 item_truth-settled tree.null = refl
-item_truth-settled (tree.boolean b) = refl
-item_truth-settled (tree.number n) = refl
-item_truth-settled (tree.text bs) = refl
-item_truth-settled (tree.extension x) = refl
-item_truth-settled (tree.array ts) = refl
-item_truth-settled (tree.object ps) = refl
+item_truth-settled _ = refl
 
 list_truth-settled : (ts : List Tree) → list_truth (map settled_tree ts) ≡ list_truth ts
 list_truth-settled [] = refl

@@ -98,13 +98,7 @@ comparison mode Subtract l r top u a b c d e f g = absurd (d refl)
 comparison mode Multiply l r top u a b c d e f g = absurd (e refl)
 comparison mode Divide l r top u a b c d e f g = absurd (f refl)
 comparison mode Modulo l r top u a b c d e f g = absurd (g refl)
-comparison mode Eq l r top u a b c d e f g = refl
-comparison mode NotEq l r top u a b c d e f g = refl
-comparison mode Lt l r top u a b c d e f g = refl
-comparison mode Lte l r top u a b c d e f g = refl
-comparison mode Gt l r top u a b c d e f g = refl
-comparison mode Gte l r top u a b c d e f g = refl
-comparison mode StartsWith l r top u a b c d e f g = refl
+comparison mode _ l r top u a b c d e f g = refl
 
 pub compared_is : (mode : Mode) (e : Expr) (op : BinaryOperator) (l r : Box Expr Global) (top u : Tree) (x y : Expr) → e ≡ expr.BinaryOp op l r → x ≡ l.value
     → y ≡ r.value →

@@ -27,17 +27,8 @@ use Rattle.jsonb.proofs.PathNodes.{step_is}
 -- a step that is no expression is the same as a filter
 others : (s : Path) (x : Path-F Expr Path) → out-Path s ≡ x → ((e : Box Expr Global) → s ≡ step.Expr e → ⊥)
     → (as_filter (step_view s) ≡ step_view s) × (step_expression (step_view s) ≡ None)
-others s Path-F.Root h n = (ap as_filter (step_is s _ h) ∙ sym (step_is s _ h), ap step_expression (step_is s _ h))
-others s Path-F.Current h n = (ap as_filter (step_is s _ h) ∙ sym (step_is s _ h), ap step_expression (step_is s _ h))
-others s Path-F.DotWildcard h n = (ap as_filter (step_is s _ h) ∙ sym (step_is s _ h), ap step_expression (step_is s _ h))
-others s (Path-F.RecursiveDotWildcard r) h n = (ap as_filter (step_is s _ h) ∙ sym (step_is s _ h), ap step_expression (step_is s _ h))
-others s Path-F.BracketWildcard h n = (ap as_filter (step_is s _ h) ∙ sym (step_is s _ h), ap step_expression (step_is s _ h))
-others s (Path-F.DotField x) h n = (ap as_filter (step_is s _ h) ∙ sym (step_is s _ h), ap step_expression (step_is s _ h))
-others s (Path-F.ColonField x) h n = (ap as_filter (step_is s _ h) ∙ sym (step_is s _ h), ap step_expression (step_is s _ h))
-others s (Path-F.ObjectField x) h n = (ap as_filter (step_is s _ h) ∙ sym (step_is s _ h), ap step_expression (step_is s _ h))
-others s (Path-F.ArrayIndices v) h n = (ap as_filter (step_is s _ h) ∙ sym (step_is s _ h), ap step_expression (step_is s _ h))
-others s (Path-F.FilterExpr e) h n = (ap as_filter (step_is s _ h) ∙ sym (step_is s _ h), ap step_expression (step_is s _ h))
 others s (Path-F.Expr e) h n = absurd (n e (sym (roll-out-Path s) ∙ ap roll-Path h ∙ step.rolls-Expr e))
+others s _ h n = (ap as_filter (step_is s _ h) ∙ sym (step_is s _ h), ap step_expression (step_is s _ h))
 
 pub no_step_expression : (s : Path) → ((e : Box Expr Global) → s ≡ step.Expr e → ⊥) → step_expression (step_view s) ≡ None
 no_step_expression s n = (others s (out-Path s) refl n).1

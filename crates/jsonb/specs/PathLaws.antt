@@ -6,30 +6,15 @@ use Rattle.jsonb.specs.PathText.{path_text}
 
 -- the literal, as an unsigned number where it is a whole number that is not negative
 abbrev pub settled_literal : Literal → Literal
-settled_literal null = null
-settled_literal (boolean b) = boolean b
-settled_literal (unsigned n) = unsigned n
 settled_literal (signed (pos n)) = unsigned n
-settled_literal (signed (negsuc n)) = signed (negsuc n)
-settled_literal (decimal64 whole scale) = decimal64 whole scale
-settled_literal (decimal128 whole scale) = decimal128 whole scale
-settled_literal (string text) = string text
-settled_literal (raw document) = raw document
+settled_literal l = l
 
 -- the same with each literal settled
 abbrev mutual
   pub settled_step : Step → Step
-  settled_step root = root
-  settled_step current = current
-  settled_step dot_wildcard = dot_wildcard
-  settled_step (recursive_dot_wildcard levels) = recursive_dot_wildcard levels
-  settled_step bracket_wildcard = bracket_wildcard
-  settled_step (dot_field name) = dot_field name
-  settled_step (colon_field name) = colon_field name
-  settled_step (object_field name) = object_field name
-  settled_step (array_indices entries) = array_indices entries
   settled_step (filter e) = filter (settled e)
   settled_step (whole_expression e) = whole_expression (settled e)
+  settled_step s = s
 
   pub settled_steps : Steps → Steps
   settled_steps no_steps = no_steps

@@ -4,3 +4,6 @@ pub mod Selected
 pub mod Kept
 pub mod Below
 pub mod Frames
+pub mod Parts
+pub mod Chain
+pub mod Members

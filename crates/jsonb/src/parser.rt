@@ -48,15 +48,18 @@ mod token;
 /// Nothing but want of memory refuses.
 type Reading<'a, T> = Result<Option<(T, &'a [u8])>, AllocError>;
 
-/// Reads a whole text, of any bytes, as a JSON path.
-///
-/// A name without escapes borrows from the text. Reading takes time in proportion to the text's length. What is open
-/// while an expression is read lies in memory, so that a deep text takes no more stack than a flat one.
+/// Reads a whole text, of any bytes, as a JSON path. docs/PATHS.md has the grammar, and how it differs from
+/// SQL/JSON's, PostgreSQL's and that of RFC 9535. A name without escapes borrows from the text.
 ///
 /// # Errors
 ///
-/// `InvalidJsonPath` exactly where the grammar does not read the whole text, and `OutOfMemory` where
-/// memory is refused.
+/// `InvalidJsonPath` exactly where the grammar does not read the whole text, else `OutOfMemory` where memory is
+/// refused.
+///
+/// # Cost
+///
+/// Linear in the text. Takes memory: what is open while an expression is read lies there too, so that a deep text
+/// takes no more of the machine's stack than a flat one.
 #[tactic(auto, unfolding(crate::specs::PathGrammar::json_path))]
 pub fn parse_json_path(alloc: Global, input: &[u8]) -> Result<JsonPath<'_>, Error>
     ensures { MatchResult result

@@ -10,14 +10,20 @@ use jsonb_raw::RawJsonb;
 use std::alloc::Global;
 use std::borrow::CowStr;
 
+mod chain;
 mod compare;
 mod copy;
 mod display;
 mod level;
 mod own;
 mod position;
+mod release;
 
 /// A JSON path: the steps that a selection takes one after the other, from the root on.
+///
+/// It prints so that it reads back, where it was read from a text. Two are equal where they have the same steps, part
+/// by part, and literals that are equal by value. docs/DECISIONS.md, "Stack", says which of copying, comparing,
+/// printing and letting go nest as deep as its filters and conditions.
 #[derive(PartialEq, Drop)]
 pub struct JsonPath<'a> {
     /// The steps, the first one first.
@@ -30,6 +36,10 @@ impl JsonPath<'_> {
     ghost use Rattle.jsonb.specs.PathViews.{path_view};
 
     /// Whether the path is one expression, as in `$.a == 1`, and no list of steps.
+    ///
+    /// # Cost
+    ///
+    /// Constant, without memory.
     pub fn is_predicate(&self) -> bool
         ensures { result ≡ is_predicate (path_view self.now) }
     {
@@ -214,19 +224,9 @@ pub enum Expr<'a> {
     ExistsFunc(Vec<Path<'a>>),
 }
 
-// A chain of conditions is as long on the left as the text, so that side goes by a loop.
+// A text of conditions may be as deep as it is long: it is let go in a loop.
 impl Drop for Expr<'_> {
-    #[cycle(path)]
-    fn drop(mut self) {
-        loop {
-            match self {
-                Expr::BinaryOp { op: _, left, right } => {
-                    drop(right);
-                    self = Box::into_inner(left);
-                }
-                Expr::UnaryOp { op: _, operand } => self = Box::into_inner(operand),
-                Expr::Paths(_) | Expr::Value(_) | Expr::ExistsFunc(_) => return,
-            }
-        }
+    fn drop(self) {
+        self.release();
     }
 }

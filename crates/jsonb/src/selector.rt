@@ -17,10 +17,12 @@ mod atom;
 mod by_path;
 mod calculate;
 mod children;
+mod compared_member;
 mod document;
 mod documents;
 mod kept;
 mod levels;
+mod members;
 mod node_list;
 mod selected;
 mod steps;
@@ -37,13 +39,30 @@ use jsonb_doc::{Error, root_spot};
 use jsonb_raw::{OwnedJsonb, RawJsonb};
 use std::alloc::Global;
 
-/// Runs paths on a document. docs/PATHS.md says what a path selects, in lax and in strict mode.
+/// Runs paths on a document. docs/PATHS.md says what a path selects, in lax and in strict mode, and how that differs
+/// from SQL/JSON.
 ///
 /// Each call executes the whole path, but `predicate_match` a path that is no single expression. What it answers
 /// depends on the root, the mode and the path alone, so that a selector may be used again after any refusal.
 ///
 /// Every call returns, whatever the root's bytes are. On bytes that don't decode it may answer all the same, also
 /// with documents that don't decode: ask `check` first of bytes from strangers.
+///
+/// # Errors
+///
+/// Those of **selecting**, which all six calls have:
+///
+/// - `InvalidJsonPath` where the path has no value on the document, `Arithmetic` where a number has no result, and in
+///   strict mode alone `StrictPath`: on a document that decodes exactly the path's own refusal;
+/// - `InvalidJsonb` and `UnsupportedNumber`, only where the root or a document in the path doesn't decode. Bytes
+///   whose root can't be read are never answered;
+/// - `OutOfMemory` where memory is refused.
+///
+/// # Cost
+///
+/// The sum of what each step walks over, `.**` the whole of each item that it begins at. A comparison looks at the
+/// pairs of both sides' values, up to their product. Takes memory for a list of places and for what is handed out,
+/// which is copied once. docs/STACK.md has the stack that filters and conditions take.
 #[derive(Drop)]
 pub struct Selector<'a> {
     alloc: Global,
@@ -70,7 +89,10 @@ impl<'a> Selector<'a> {
     ghost use Rattle.jsonb.specs.declared.selector.document.Mode.TheVariants.{Lax, Strict};
 
     /// A lax selector: a step that does not fit an item gives nothing of it, and `[*]` gives the item itself.
-    /// It takes no memory.
+    ///
+    /// # Cost
+    ///
+    /// Constant, without memory.
     pub fn new(alloc: Global, root: RawJsonb<'a>) -> Selector<'a>
         ensures root { root_bytes result ≡ raw_bytes root.entry }
         ensures mode { mode_of result ≡ Lax }
@@ -82,11 +104,15 @@ impl<'a> Selector<'a> {
         }
     }
 
-    /// A strict selector: `StrictPath` where a step does not fit an item. It takes no memory.
+    /// A strict selector: `StrictPath` where a step does not fit an item.
     ///
-    /// So are a field step on an item that is no object or lacks the name, `.*` on an item that is no object,
-    /// and `[*]` or index entries on an item that is no array, within filters, operands and `exists` too. A position
-    /// past an array's end gives nothing, and `.**` is as in a lax selector.
+    /// These do not fit: a field step on an item that is no object or lacks the name, `.*` on an item that is no
+    /// object, `[*]` and index entries on an item that is no array, within filters, operands and `exists` too. A
+    /// position past an array's end gives nothing, and `.**` is as in a lax selector.
+    ///
+    /// # Cost
+    ///
+    /// Constant, without memory.
     pub fn new_strict(alloc: Global, root: RawJsonb<'a>) -> Selector<'a>
         ensures root { root_bytes result ≡ raw_bytes root.entry }
         ensures mode { mode_of result ≡ Strict }
@@ -98,13 +124,15 @@ impl<'a> Selector<'a> {
         }
     }
 
-    /// Each item of the path's list as a document, in order with repeats.
+    /// Each item of the path's list as a document, in order with repeats. PostgreSQL has `jsonb_path_query`.
     ///
-    /// It is refused as the path is on the document: with `InvalidJsonPath`, `Arithmetic`, or in strict mode
-    /// `StrictPath`. `TooLarge` comes only where an item passes the limits of a document, `InvalidJsonb` and
-    /// `UnsupportedNumber` only where the root or a document in the path doesn't decode, and `OutOfMemory` where
-    /// memory is refused. Bytes whose root can't be read are never answered. The calls below refuse for the same
-    /// causes: `TooLarge` is there for what is handed out, and never comes from `exists` and `predicate_match`.
+    /// # Errors
+    ///
+    /// Those of selecting, and `TooLarge` only where an item passes the limits of a document.
+    ///
+    /// # Cost
+    ///
+    /// That of selecting, and each item is copied once.
     pub fn select_values(&mut self, path: &JsonPath<'_>) -> Result<Vec<OwnedJsonb>, Error>
         ensures kept { self.new ≡ self.old }
         ensures values { (form : Form) (top : Tree) (outcome : Outcome (List Tree))
@@ -121,7 +149,15 @@ impl<'a> Selector<'a> {
         documents(self.alloc, document, &selected)
     }
 
-    /// One array of the path's list.
+    /// One array of the path's list. PostgreSQL has `jsonb_path_query_array`.
+    ///
+    /// # Errors
+    ///
+    /// Those of selecting, and `TooLarge` only where the array passes the limits of a document.
+    ///
+    /// # Cost
+    ///
+    /// That of selecting, and the items are copied.
     pub fn select_array(&mut self, path: &JsonPath<'_>) -> Result<OwnedJsonb, Error>
         ensures kept { self.new ≡ self.old }
         ensures array { (form : Form) (top : Tree) (outcome : Outcome (List Tree))
@@ -138,8 +174,16 @@ impl<'a> Selector<'a> {
         array_document(self.alloc, document, &selected)
     }
 
-    /// The first of the path's list, or none. The whole path is executed, so that a refusal behind the first
-    /// item is the answer.
+    /// The first of the path's list, or none. The whole path is executed, so that a refusal behind the first item is
+    /// the answer. PostgreSQL has `jsonb_path_query_first`.
+    ///
+    /// # Errors
+    ///
+    /// Those of selecting, and `TooLarge` only where the first item passes the limits of a document.
+    ///
+    /// # Cost
+    ///
+    /// That of selecting, and the first item is copied.
     pub fn select_first(&mut self, path: &JsonPath<'_>) -> Result<Option<OwnedJsonb>, Error>
         ensures kept { self.new ≡ self.old }
         ensures first { (form : Form) (top : Tree) (outcome : Outcome (List Tree))
@@ -156,7 +200,15 @@ impl<'a> Selector<'a> {
         first_document(self.alloc, document, &selected)
     }
 
-    /// None for an empty list, its only item, or one array of several.
+    /// `None` for an empty list, its only item, or one array of several.
+    ///
+    /// # Errors
+    ///
+    /// Those of selecting, and `TooLarge` only where the item or the array passes the limits of a document.
+    ///
+    /// # Cost
+    ///
+    /// That of selecting, and the items are copied.
     pub fn select_value(&mut self, path: &JsonPath<'_>) -> Result<Option<OwnedJsonb>, Error>
         ensures kept { self.new ≡ self.old }
         ensures value { (form : Form) (top : Tree) (outcome : Outcome (List Tree))
@@ -173,7 +225,16 @@ impl<'a> Selector<'a> {
         value_document(self.alloc, document, &selected)
     }
 
-    /// Whether the path's list has an item. So it is true of every comparison that is not refused.
+    /// Whether the path's list has an item. So it is true of every comparison that is not refused. PostgreSQL has
+    /// `@?` and `jsonb_path_exists`.
+    ///
+    /// # Errors
+    ///
+    /// Those of selecting.
+    ///
+    /// # Cost
+    ///
+    /// That of selecting. Nothing is copied.
     pub fn exists(&mut self, path: &JsonPath<'_>) -> Result<bool, Error>
         ensures kept { self.new ≡ self.old }
         ensures exists { (form : Form) (top : Tree) (outcome : Outcome (List Tree))
@@ -188,9 +249,17 @@ impl<'a> Selector<'a> {
         Ok(is_some(&selected))
     }
 
-    /// Whether a path that is a comparison, `&&`, `||` or `exists` is true. None is for unknown. A sign or arithmetic
-    /// is executed, refused as it is, and else None. A path that is no single expression is None at once, without
-    /// memory.
+    /// Whether a path that is a comparison, `&&`, `||` or `exists` is true. `None` is for unknown. A sign or
+    /// arithmetic is executed, refused as it is, and else `None`. A path that is no single expression is `None` at
+    /// once. PostgreSQL has `@@` and `jsonb_path_match`.
+    ///
+    /// # Errors
+    ///
+    /// Those of selecting, and none for a path that is no single expression.
+    ///
+    /// # Cost
+    ///
+    /// That of selecting. Nothing is copied. A path that is no single expression takes constant time and no memory.
     pub fn predicate_match(&mut self, path: &JsonPath<'_>) -> Result<Option<bool>, Error>
         ensures kept { self.new ≡ self.old }
         ensures other { is_predicate (path_view path.now) ≡ false → result ≡ Ok None }

@@ -1,5 +1,6 @@
 //! What no clause says: rows worked by hand, and that names borrow.
 
+mod deep;
 mod grammar;
 mod natural;
 mod path;

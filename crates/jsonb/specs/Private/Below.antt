@@ -1,5 +1,5 @@
 -- What a recursive step has left of the containers that it is sized.
-use Rattle.std.specs.Prelude.{◌≡◌, ℕ, ◌+◌, min, Bool, not, ◌&&◌, List, [], ◌++◌, flat_map, Option, Some, None}
+use Rattle.std.specs.Prelude.{◌≡◌, ◌⊎◌, ℕ, ◌+◌, min, Bool, not, ◌&&◌, List, [], ◌∷◌, ◌++◌, flat_map, Option, Some, None}
 use Rattle.jsonb_doc.specs.Spots.{HasSpotsLeft}
 use Rattle.jsonb_doc.specs.Tree.{Tree}
 use Rattle.jsonb.specs.PathTree.{Levels}
@@ -20,3 +20,9 @@ AreBelow bytes levels n t (Some within) =
 -- nothing of this level and of those below it is taken
 abbrev pub is_shut : Option Levels → ℕ → Bool
 is_shut levels n = not (answer_at levels n).0 && not (answer_at levels n).1
+
+-- the level is put behind those around it, or it has nothing left
+abbrev pub KeepsLevel : List OpenLevel → OpenLevel → List OpenLevel → Type 0
+KeepsLevel around within kept =
+    (kept ≡ around ++ within ∷ [])
+    ⊎ ((kept ≡ around) × ((bytes : List ℕ) (ts : List Tree) → HasSpotsLeft bytes within.children ts → ts ≡ []))

@@ -4,12 +4,21 @@ ghost use Rattle.std.specs.Prelude.{◌≡◌, MatchResult};
 ghost use Rattle.jsonb_doc.specs.Answer.{IsOutOfMemory};
 ghost use Rattle.jsonb.specs.PathViews.{literal_view, step_view, steps_view, expression_view, path_view};
 
+use super::chain::{Link, joined};
 use super::{Expr, JsonPath, Path, PathValue};
 use jsonb_doc::Error;
 use std::alloc::Global;
 
 impl<'a> JsonPath<'a> {
-    /// The same steps. Names that borrow borrow again. `OutOfMemory` where memory is refused.
+    /// The same steps. Names that borrow borrow again.
+    ///
+    /// # Errors
+    ///
+    /// `OutOfMemory` where memory is refused.
+    ///
+    /// # Cost
+    ///
+    /// Linear in the path. Takes memory; its stack is told on the type.
     pub fn clone(&self, alloc: Global) -> Result<JsonPath<'a>, Error>
         ensures { MatchResult result (λ copy. path_view copy ≡ path_view self.now) IsOutOfMemory }
     {
@@ -19,7 +28,15 @@ impl<'a> JsonPath<'a> {
 }
 
 impl<'a> Path<'a> {
-    /// The same step. `OutOfMemory` where memory is refused.
+    /// The same step. Names that borrow borrow again.
+    ///
+    /// # Errors
+    ///
+    /// `OutOfMemory` where memory is refused.
+    ///
+    /// # Cost
+    ///
+    /// Linear in the step. Takes memory only for a list, an expression, or a name that does not borrow.
     #[cycle(copy)]
     pub fn clone(&self, alloc: Global) -> Result<Path<'a>, Error>
         ensures { MatchResult result (λ copy. step_view copy ≡ step_view self.now) IsOutOfMemory }
@@ -47,41 +64,57 @@ impl<'a> Path<'a> {
 }
 
 impl<'a> Expr<'a> {
-    /// The same expression. `OutOfMemory` where memory is refused.
+    /// The same expression. Texts that borrow borrow again.
+    ///
+    /// # Errors
+    ///
+    /// `OutOfMemory` where memory is refused.
+    ///
+    /// # Cost
+    ///
+    /// Linear in the expression. Takes memory.
     #[cycle(copy)]
     pub fn clone(&self, alloc: Global) -> Result<Expr<'a>, Error>
         ensures { MatchResult result (λ copy. expression_view copy ≡ expression_view self.now) IsOutOfMemory }
     {
-        match self {
-            Expr::Paths(steps) => Ok(Expr::Paths(copy_steps(steps, alloc)?)),
-            Expr::Value(literal) => {
-                let copy = (**literal).clone(alloc)?;
-                Ok(Expr::Value(Box::new(alloc, copy)?))
+        let mut links = Vec::new(alloc);
+        let mut inner = self;
+        loop {
+            match inner {
+                Expr::BinaryOp { op, left, right } => {
+                    let right = Box::new(alloc, (**right).clone(alloc)?)?;
+                    links.push(Link { op: *op, right })?;
+                    inner = left;
+                }
+                Expr::Paths(steps) => {
+                    return joined(alloc, links, Expr::Paths(copy_steps(steps, alloc)?));
+                }
+                Expr::Value(literal) => {
+                    let copy = (**literal).clone(alloc)?;
+                    return joined(alloc, links, Expr::Value(Box::new(alloc, copy)?));
+                }
+                Expr::UnaryOp { op, operand } => {
+                    let operand = Box::new(alloc, (**operand).clone(alloc)?)?;
+                    return joined(alloc, links, Expr::UnaryOp { op: *op, operand });
+                }
+                Expr::ExistsFunc(steps) => {
+                    return joined(alloc, links, Expr::ExistsFunc(copy_steps(steps, alloc)?));
+                }
             }
-            Expr::BinaryOp { op, left, right } => {
-                let left = (**left).clone(alloc)?;
-                let right = (**right).clone(alloc)?;
-                Ok(Expr::BinaryOp {
-                    op: *op,
-                    left: Box::new(alloc, left)?,
-                    right: Box::new(alloc, right)?,
-                })
-            }
-            Expr::UnaryOp { op, operand } => {
-                let operand = (**operand).clone(alloc)?;
-                Ok(Expr::UnaryOp {
-                    op: *op,
-                    operand: Box::new(alloc, operand)?,
-                })
-            }
-            Expr::ExistsFunc(steps) => Ok(Expr::ExistsFunc(copy_steps(steps, alloc)?)),
         }
     }
 }
 
 impl<'a> PathValue<'a> {
-    /// The same literal. Only a text that does not borrow takes memory, and `OutOfMemory` is
-    /// answered where that is refused.
+    /// The same literal. A text that borrows borrows again.
+    ///
+    /// # Errors
+    ///
+    /// `OutOfMemory` where memory is refused.
+    ///
+    /// # Cost
+    ///
+    /// Constant, without memory; a text that does not borrow is copied.
     pub fn clone(&self, _alloc: Global) -> Result<PathValue<'a>, Error>
         ensures { MatchResult result (λ copy. literal_view copy ≡ literal_view self.now) IsOutOfMemory }
     {

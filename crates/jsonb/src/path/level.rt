@@ -9,10 +9,13 @@ use super::{RecursiveLevel, RecursiveLevelEnd};
 impl RecursiveLevel {
     /// Whether an item of this level is taken, and whether its children are looked at.
     ///
-    /// Below the start the item is not taken, and its children are looked at unless the end lies below the
-    /// start. From the start on: with no end the start alone is taken, and no children are looked at; with an
-    /// end the items up to it are taken and their children looked at, and nothing behind it; with `Last` both,
-    /// always.
+    /// Below the start the item is not taken, and its children are looked at unless the end lies below the start.
+    /// From the start on: with no end the start alone is taken, and no children are looked at; with an end the items
+    /// up to it are taken and their children looked at, and nothing behind it; with `Last` both, always.
+    ///
+    /// # Cost
+    ///
+    /// Constant, without memory.
     pub fn check_recursive_level(&self, level: u8) -> (bool, bool)
         ensures { result ≡ level_answer (levels_view self.now) level }
     {

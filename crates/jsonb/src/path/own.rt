@@ -6,14 +6,23 @@ ghost use Rattle.jsonb_doc.specs.Answer.{IsOutOfMemory};
 ghost use Rattle.jsonb.specs.PathDocuments.{is_document, step_has_document, expression_has_document, has_document, IsOwningError};
 ghost use Rattle.jsonb.specs.PathViews.{literal_view, step_view, steps_view, expression_view, path_view};
 
+use super::chain::{Link, joined};
 use super::{Expr, JsonPath, Path, PathValue};
 use jsonb_doc::Error;
 use std::alloc::Global;
 use std::borrow::CowStr;
 
 impl JsonPath<'_> {
-    /// The same steps, with texts of their own. `OutOfMemory` where memory is refused, and `InvalidJsonPath` where a
-    /// literal is a document, which borrows its bytes. No path that was read from a text has one.
+    /// The same steps, with texts of their own.
+    ///
+    /// # Errors
+    ///
+    /// `InvalidJsonPath` where a literal is a document, which borrows its bytes (no path that was read from a text
+    /// has one), and `OutOfMemory` where memory is refused.
+    ///
+    /// # Cost
+    ///
+    /// Linear in the path. Takes memory; its stack is told on the type.
     pub fn to_owned(&self, alloc: Global) -> Result<JsonPath<'static>, Error>
         ensures copy { IfOk result (λ copy. path_view copy ≡ path_view self.now) }
         ensures whole { OnOk result (has_document (path_view self.now) ≡ false) }
@@ -25,7 +34,15 @@ impl JsonPath<'_> {
 }
 
 impl Path<'_> {
-    /// The same step, with texts of its own. It is refused as a path of it is.
+    /// The same step, with texts of its own.
+    ///
+    /// # Errors
+    ///
+    /// `InvalidJsonPath` where a literal is a document, and `OutOfMemory` where memory is refused.
+    ///
+    /// # Cost
+    ///
+    /// Linear in the step. Takes memory for names, lists and expressions.
     #[cycle(own)]
     pub fn to_owned(&self, alloc: Global) -> Result<Path<'static>, Error>
         ensures copy { IfOk result (λ copy. step_view copy ≡ step_view self.now) }
@@ -55,43 +72,59 @@ impl Path<'_> {
 }
 
 impl Expr<'_> {
-    /// The same expression, with texts of its own. It is refused as a path of it is.
+    /// The same expression, with texts of its own.
+    ///
+    /// # Errors
+    ///
+    /// `InvalidJsonPath` where a literal is a document, and `OutOfMemory` where memory is refused.
+    ///
+    /// # Cost
+    ///
+    /// Linear in the expression. Takes memory.
     #[cycle(own)]
     pub fn to_owned(&self, alloc: Global) -> Result<Expr<'static>, Error>
         ensures copy { IfOk result (λ copy. expression_view copy ≡ expression_view self.now) }
         ensures whole { OnOk result (expression_has_document (expression_view self.now) ≡ false) }
         ensures errors { IfErr result (IsOwningError (expression_has_document (expression_view self.now))) }
     {
-        match self {
-            Expr::Paths(steps) => Ok(Expr::Paths(owned_steps(steps, alloc)?)),
-            Expr::Value(literal) => {
-                let copy = (**literal).to_owned(alloc)?;
-                Ok(Expr::Value(Box::new(alloc, copy)?))
+        let mut links = Vec::new(alloc);
+        let mut inner = self;
+        loop {
+            match inner {
+                Expr::BinaryOp { op, left, right } => {
+                    let right = Box::new(alloc, (**right).to_owned(alloc)?)?;
+                    links.push(Link { op: *op, right })?;
+                    inner = left;
+                }
+                Expr::Paths(steps) => {
+                    return joined(alloc, links, Expr::Paths(owned_steps(steps, alloc)?));
+                }
+                Expr::Value(literal) => {
+                    let copy = (**literal).to_owned(alloc)?;
+                    return joined(alloc, links, Expr::Value(Box::new(alloc, copy)?));
+                }
+                Expr::UnaryOp { op, operand } => {
+                    let operand = Box::new(alloc, (**operand).to_owned(alloc)?)?;
+                    return joined(alloc, links, Expr::UnaryOp { op: *op, operand });
+                }
+                Expr::ExistsFunc(steps) => {
+                    return joined(alloc, links, Expr::ExistsFunc(owned_steps(steps, alloc)?));
+                }
             }
-            Expr::BinaryOp { op, left, right } => {
-                let left = (**left).to_owned(alloc)?;
-                let right = (**right).to_owned(alloc)?;
-                Ok(Expr::BinaryOp {
-                    op: *op,
-                    left: Box::new(alloc, left)?,
-                    right: Box::new(alloc, right)?,
-                })
-            }
-            Expr::UnaryOp { op, operand } => {
-                let operand = (**operand).to_owned(alloc)?;
-                Ok(Expr::UnaryOp {
-                    op: *op,
-                    operand: Box::new(alloc, operand)?,
-                })
-            }
-            Expr::ExistsFunc(steps) => Ok(Expr::ExistsFunc(owned_steps(steps, alloc)?)),
         }
     }
 }
 
 impl PathValue<'_> {
-    /// The same literal, with a text of its own. `OutOfMemory` where memory is refused, and `InvalidJsonPath` for a
-    /// document.
+    /// The same literal, with a text of its own.
+    ///
+    /// # Errors
+    ///
+    /// `InvalidJsonPath` for a document, and `OutOfMemory` where memory is refused.
+    ///
+    /// # Cost
+    ///
+    /// Linear in the text. Takes memory for a text alone.
     pub fn to_owned(&self, alloc: Global) -> Result<PathValue<'static>, Error>
         ensures copy { IfOk result (λ copy. literal_view copy ≡ literal_view self.now) }
         ensures whole { OnOk result (is_document (literal_view self.now) ≡ false) }

@@ -12,11 +12,16 @@ use std::alloc::Global;
 use std::collections::HashSet;
 
 impl ArrayIndex {
-    /// The positions of an array of `length` elements that the entry means: for a slice all from its
-    /// first end to its second, both included. Those that the array does not have are left out.
+    /// The positions of an array of `length` elements that the entry means: for a slice all from its first end to its
+    /// second, both included. Those that the array does not have are left out. The set's seed is fixed.
     ///
-    /// It reserves for all positions first, and answers `OutOfMemory` where memory is refused. The
-    /// set's seed is fixed.
+    /// # Errors
+    ///
+    /// `OutOfMemory` where memory is refused.
+    ///
+    /// # Cost
+    ///
+    /// Linear in the count of positions. It reserves for all of them first.
     pub fn to_indices(&self, alloc: Global, length: usize) -> Result<HashSet<usize>, Error>
         ensures { MatchResult result (λ found. (k : ℕ) →
             IsTrue (contains nat_eq found k) ↔ IsPosition (entry_view self.now) length k) IsOutOfMemory }

@@ -1,6 +1,6 @@
 //! The values of operands, and how they compare.
 
-ghost use Rattle.std.specs.Prelude.{◌≡◌, map, Some};
+ghost use Rattle.std.specs.Prelude.{◌≡◌, ◌∷◌, [], map, Some};
 ghost use Rattle.jsonb_doc.specs.Payload.{any};
 ghost use Rattle.jsonb_doc.specs.Tree.{Tree};
 ghost use Rattle.jsonb_doc.specs.Item.{StandsFor};
@@ -115,6 +115,17 @@ pub(crate) fn compare(op: BinaryOperator, ls: &[Atom<'_>], rs: &[Atom<'_>]) -> O
         }
     }
     Some(false)
+}
+
+/// One left value with all right values.
+#[inline(always)]
+pub(crate) fn compare_one(op: BinaryOperator, l: &Atom<'_>, rs: &[Atom<'_>]) -> Option<bool>
+    ensures { result ≡ compare (operator_view op) (atom_value l.now ∷ []) (map atom_value rs.now) }
+{
+    match rs {
+        [r] => pair_truth(op, l, r),
+        _ => compare(op, slice::from_ref(l), rs),
+    }
 }
 
 // Of one pair: with a container it is unknown.

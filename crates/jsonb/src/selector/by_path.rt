@@ -22,15 +22,20 @@ use jsonb_doc::Error;
 use jsonb_raw::{OwnedJsonb, RawJsonb};
 use std::alloc::Global;
 
-/// Asks a document by JSON paths. Each call answers as that of a new lax `Selector` does.
-///
-/// Each is refused as its path is: with `InvalidJsonPath`, or with `Arithmetic` for numbers without a result. `TooLarge`
-/// comes only where what is handed out passes the limits of a document, `InvalidJsonb` and `UnsupportedNumber` only
-/// where the document or one in the path does not decode, and `OutOfMemory` where memory is refused.
+/// Asks a document by JSON paths. Each call answers as the one of a new lax `Selector` does: errors and cost are
+/// those of that call.
 pub trait SelectByPath<'a> {
     ghost document: { Self → List ℕ };
 
     /// The items that the path selects, each as a document, in their order and with repeats.
+    ///
+    /// # Errors
+    ///
+    /// Those of `Selector::select_values`, `StrictPath` apart.
+    ///
+    /// # Cost
+    ///
+    /// That of `Selector::select_values`.
     fn select_by_path(&self, alloc: Global, path: &JsonPath<'_>) -> Result<Vec<OwnedJsonb>, Error>
         ensures values { (form : Form) (top : Tree) (outcome : Outcome (List Tree))
             → Decodes form (document self.now) top
@@ -41,6 +46,14 @@ pub trait SelectByPath<'a> {
         ensures readable { OnOk result (HasReadableRoot (document self.now)) };
 
     /// One array of the items that the path selects.
+    ///
+    /// # Errors
+    ///
+    /// Those of `Selector::select_array`, `StrictPath` apart.
+    ///
+    /// # Cost
+    ///
+    /// That of `Selector::select_array`.
     fn select_array_by_path(&self, alloc: Global, path: &JsonPath<'_>) -> Result<OwnedJsonb, Error>
         ensures array { (form : Form) (top : Tree) (outcome : Outcome (List Tree))
             → Decodes form (document self.now) top
@@ -51,6 +64,14 @@ pub trait SelectByPath<'a> {
         ensures readable { OnOk result (HasReadableRoot (document self.now)) };
 
     /// The first item that the path selects; none where it selects nothing.
+    ///
+    /// # Errors
+    ///
+    /// Those of `Selector::select_first`, `StrictPath` apart.
+    ///
+    /// # Cost
+    ///
+    /// That of `Selector::select_first`.
     fn select_first_by_path(
         &self,
         alloc: Global,
@@ -65,6 +86,14 @@ pub trait SelectByPath<'a> {
         ensures readable { OnOk result (HasReadableRoot (document self.now)) };
 
     /// The only item that the path selects, or one array of several; none where it selects nothing.
+    ///
+    /// # Errors
+    ///
+    /// Those of `Selector::select_value`, `StrictPath` apart.
+    ///
+    /// # Cost
+    ///
+    /// That of `Selector::select_value`.
     fn select_value_by_path(
         &self,
         alloc: Global,
@@ -79,6 +108,14 @@ pub trait SelectByPath<'a> {
         ensures readable { OnOk result (HasReadableRoot (document self.now)) };
 
     /// Whether the path selects anything.
+    ///
+    /// # Errors
+    ///
+    /// Those of `Selector::exists`, `StrictPath` apart.
+    ///
+    /// # Cost
+    ///
+    /// That of `Selector::exists`.
     fn path_exists(&self, alloc: Global, path: &JsonPath<'_>) -> Result<bool, Error>
         ensures exists { (form : Form) (top : Tree) (outcome : Outcome (List Tree))
             → Decodes form (document self.now) top
@@ -87,8 +124,16 @@ pub trait SelectByPath<'a> {
         ensures errors { IfErr result (IsSelectionError Lax) }
         ensures readable { OnOk result (HasReadableRoot (document self.now)) };
 
-    /// Whether a path that is a comparison, `&&`, `||` or `exists` is true of the document; none where that is unknown, and
-    /// for every other path. One that is no single expression is not executed.
+    /// Whether a path that is a comparison, `&&`, `||` or `exists` is true of the document; none where that is
+    /// unknown, and for every other path. One that is no single expression is not executed.
+    ///
+    /// # Errors
+    ///
+    /// Those of `Selector::predicate_match`, `StrictPath` apart.
+    ///
+    /// # Cost
+    ///
+    /// That of `Selector::predicate_match`.
     fn path_match(&self, alloc: Global, path: &JsonPath<'_>) -> Result<Option<bool>, Error>
         ensures other { is_predicate (path_view path.now) ≡ false → result ≡ Ok None }
         ensures truth { (form : Form) (top : Tree) → Decodes form (document self.now) top

@@ -93,7 +93,7 @@ fn all_numbers(alloc: Global, values: &[Atom<'_>]) -> Result<Vec<Number>, Error>
         (all_numbers (map atom_value values.now)) }
     ensures errors { (mode : Mode) → IfErr result (IsSelectionError mode) }
 {
-    let mut numbers = Vec::new(alloc);
+    let mut numbers = Vec::with_capacity(alloc, values.len())?;
     for value in values {
         numbers.push(number_of(value)?)?;
     }
@@ -121,7 +121,7 @@ fn each_signed<'a>(
         (try_flat_map (signed_number (sign_view op)) (map number_view numbers.now)) }
     ensures errors { (mode : Mode) → IfErr result (IsSelectionError mode) }
 {
-    let mut parts = Vec::new(alloc);
+    let mut parts = Vec::with_capacity(alloc, numbers.len())?;
     for number in numbers {
         parts.push(MadeItem::Item(Item::Number(signed(op, *number)?)))?;
     }

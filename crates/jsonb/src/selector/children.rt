@@ -11,11 +11,9 @@ ghost use Rattle.jsonb.specs.PathTree.{single, from_front};
 ghost use Rattle.jsonb.specs.PathViews.{entry_view};
 ghost use Rattle.jsonb.specs.Related.{AllRelated};
 ghost use Rattle.jsonb.specs.ItemSteps.{elements_of, values_of, field_step, values_step, elements_step, indices_step, picked_by, picked};
-ghost use Rattle.jsonb.specs.Private.Selection.{node_spots};
 ghost use Rattle.jsonb.specs.SelectionErrors.{IsSelectionError};
 
 use super::document::Mode;
-use super::node_list::NodeList;
 use crate::path::{ArrayIndex, Index};
 use jsonb_doc::{Error, Item, Spot, SpotIter, child_spots, field_spot, spot_item};
 use std::alloc::Global;
@@ -95,29 +93,6 @@ pub(crate) fn push_spots(spots: SpotIter<'_>, nodes: &mut Vec<Spot>) -> Result<(
         push_spot(nodes, spot?)?;
     }
     Ok(())
-}
-
-/// The value under a key of an object.
-#[inline(always)]
-pub(crate) fn field(
-    alloc: Global,
-    bytes: &[u8],
-    mode: Mode,
-    name: &str,
-    item: Spot,
-) -> Result<NodeList, Error>
-    ensures meant { (t : Tree) → Locates bytes.now item t
-        → Gives (λ found us. AllRelated (Locates bytes.now) (node_spots found) us) IsOutOfMemory result
-        (field_step mode name.now t) }
-    ensures errors { IfErr result (IsSelectionError mode) }
-{
-    match field_spot(bytes, item, name)? {
-        Some(value) => Ok(NodeList::One(value)),
-        None => match mode {
-            Mode::Lax => Ok(NodeList::Many(Vec::new(alloc))),
-            Mode::Strict => Err(Error::StrictPath),
-        },
-    }
 }
 
 /// The value under a key of an object, behind what the nodes has.

@@ -16,7 +16,7 @@ ghost use Rattle.jsonb.specs.Private.Selected.{selected_len};
 
 use super::document::Document;
 use super::selected::{MadeItem, Selected};
-use jsonb_doc::{ArrayBuilder, Error, Item, encode_item, spot_item};
+use jsonb_doc::{ArrayBuilder, Error, Item, encode_item, spot_document, spot_item};
 use jsonb_raw::OwnedJsonb;
 use std::alloc::Global;
 
@@ -63,14 +63,35 @@ fn array_of_one(alloc: Global, item: &Item<'_>) -> Result<Vec<u8>, Error>
     builder.build()
 }
 
-/// A part as a document.
-fn part_document(alloc: Global, part: &MadeItem<'_>) -> Result<OwnedJsonb, Error>
+/// A part that an expression makes, as a document.
+fn made_document(alloc: Global, part: &MadeItem<'_>) -> Result<OwnedJsonb, Error>
     ensures document { (form : Form) (t : Tree) → IsMadeItem form part.now t → Makes form t result }
     ensures errors { IfErr result (IsOutOfMemory or TooLarge) }
 {
     match part {
         MadeItem::Item(item) => Ok(OwnedJsonb::new(encode_item(alloc, item)?)),
         MadeItem::ArrayOf(item) => Ok(OwnedJsonb::new(array_of_one(alloc, item)?)),
+    }
+}
+
+/// The part at a position as a document. An item of the document is copied as it is stored.
+fn document_at(
+    alloc: Global,
+    document: Document<'_>,
+    selected: &Selected<'_>,
+    position: usize,
+) -> Result<OwnedJsonb, Error>
+    requires { position < selected_len selected.now }
+    ensures document { (form : Form) (top : Tree) (ts : List Tree) → Decodes form document.entry.bytes.now top
+        → AreSelected form document.entry selected.now ts → HoldsAt (λ t. Makes form t result) ts position }
+    ensures errors { IfErr result (IsDecodingError or OutOfMemory or TooLarge) }
+{
+    match selected {
+        Selected::Nodes(spots) => {
+            let spot = spots.as_slice()[position];
+            Ok(OwnedJsonb::new(spot_document(alloc, document.bytes, spot)?))
+        },
+        Selected::Items(parts) => made_document(alloc, &parts[position]),
     }
 }
 
@@ -103,10 +124,10 @@ pub(crate) fn documents(
         (Ok ts) }
     ensures errors { IfErr result (IsDecodingError or OutOfMemory or TooLarge) }
 {
-    let mut documents = Vec::new(alloc);
-    for position in 0..selected_len(selected) {
-        let part = part_at(document, selected, position)?;
-        documents.push(part_document(alloc, &part)?)?;
+    let count = selected_len(selected);
+    let mut documents = Vec::with_capacity(alloc, count)?;
+    for position in 0..count {
+        documents.push(document_at(alloc, document, selected, position)?)?;
     }
     Ok(documents)
 }
@@ -142,8 +163,7 @@ pub(crate) fn first_document(
     if selected_len(selected) == 0 {
         return Ok(None);
     }
-    let part = part_at(document, selected, 0)?;
-    Ok(Some(part_document(alloc, &part)?))
+    Ok(Some(document_at(alloc, document, selected, 0)?))
 }
 
 /// None where nothing is selected, the only part as a document, or one array of several.

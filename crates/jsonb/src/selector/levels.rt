@@ -1,6 +1,6 @@
 //! The items below an item, level by level.
 
-ghost use Rattle.std.specs.Prelude.{◌≡◌, ℕ, ◌<◌, ◌^◌, ◌++◌, ◌+◌, min, List, Ok, Option, option_map, IfOk, IfErr, IfSome, MatchResult};
+ghost use Rattle.std.specs.Prelude.{◌≡◌, ℕ, ◌<◌, ◌^◌, ◌++◌, ◌+◌, min, List, Ok, Option, option_map, IfOk, IfErr, OnOk, IfSome, MatchResult};
 ghost use Rattle.jsonb_doc.specs.Answer.{Gives, IsOutOfMemory, IsDecodingError, ◌or◌};
 ghost use Rattle.jsonb_doc.specs.declared.error.Error.TheVariants.{OutOfMemory};
 ghost use Rattle.jsonb_doc.specs.Spots.{Locates, spot_size, spots_room, spots_bound};
@@ -8,7 +8,7 @@ ghost use Rattle.jsonb_doc.specs.Tree.{Tree};
 ghost use Rattle.jsonb.specs.PathViews.{levels_view};
 ghost use Rattle.jsonb.specs.Related.{AllRelated};
 ghost use Rattle.jsonb.specs.Preorder.{answer_at, own, preorder};
-ghost use Rattle.jsonb.specs.Private.Below.{AreBelow, is_shut};
+ghost use Rattle.jsonb.specs.Private.Below.{AreBelow, KeepsLevel, is_shut};
 
 use super::children::push_if;
 use crate::path::RecursiveLevel;
@@ -47,7 +47,7 @@ pub(crate) fn push_levels(
         match within.children.next() {
             Some(child) => {
                 if let Some(inner) = push_item(bytes, levels, within.level, child?, nodes)? {
-                    around.push(within)?;
+                    keep_level(&mut around, within)?;
                     within = inner;
                 }
             }
@@ -56,6 +56,22 @@ pub(crate) fn push_levels(
                 None => return Ok(()),
             },
         }
+    }
+}
+
+/// Keeps what is left of a level until the walk comes back to it. Nothing is kept of one that has nothing left.
+#[inline(always)]
+fn keep_level<'a>(around: &mut Vec<OpenLevel<'a>>, within: OpenLevel<'a>) -> Result<(), Error>
+    ensures kept { OnOk result (KeepsLevel around.old.items within.entry around.new.items) }
+    ensures err { IfErr result IsOutOfMemory }
+{
+    let mut children = within.children;
+    match children.next() {
+        Some(_) => {
+            around.push(within)?;
+            Ok(())
+        }
+        None => Ok(()),
     }
 }
 

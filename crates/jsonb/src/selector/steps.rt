@@ -1,26 +1,26 @@
 //! The steps of a path, one after the other, and the filters in them.
 
-ghost use Rattle.std.specs.Prelude.{◌≡◌, ◌<◌, ◌++◌, ◌∷◌, [], List, map, true, false, ⊤, IfErr, OnOk, MatchOption};
+ghost use Rattle.std.specs.Prelude.{◌≡◌, ◌<◌, ◌++◌, ◌∷◌, [], List, map, None, true, false, ⊤, IfErr, OnOk, MatchOption};
 ghost use Rattle.jsonb_doc.specs.Answer.{Gives, try_flat_map, and_then, IsOutOfMemory};
 ghost use Rattle.jsonb_doc.specs.Spots.{Locates};
 ghost use Rattle.jsonb_doc.specs.Tree.{Tree};
 ghost use Rattle.jsonb.specs.PathTree.{Expression, steps_of, filter};
 ghost use Rattle.jsonb.specs.PathViews.{step_view, steps_view, expression_view};
 ghost use Rattle.jsonb.specs.Related.{AllRelated};
-ghost use Rattle.jsonb.specs.Meaning.{step_meaning, steps_meaning, truth, operand_values, start, filtered};
+ghost use Rattle.jsonb.specs.Meaning.{step_meaning, steps_meaning, truth, operand_values, filtered};
 ghost use Rattle.jsonb.specs.Private.Selection.{IsAt, HasTree, node_spots, atoms_view, IsKept, taken_step, is_filter, IsPlain};
-ghost use Rattle.jsonb.specs.Private.Kept.{conditions, is_condition, IsSame, AreKept, IsKeptFor};
+ghost use Rattle.jsonb.specs.Private.Kept.{conditions, is_condition, IsSame, AreKept, IsKeptFor, kept_part};
 ghost use Rattle.jsonb.specs.declared.path.Expr.{size-Expr};
 ghost use Rattle.jsonb.specs.declared.path.Path.{size-Path};
 ghost use Rattle.jsonb.specs.SelectionErrors.{IsSelectionError};
 
 use super::atom::{Atoms, and_truth, compare, literal_atom, or_truth};
-use super::children::{
-    field, push_elements, push_field, push_if, push_positions, push_spot, push_values,
-};
+use super::children::{push_elements, push_field, push_if, push_positions, push_spot, push_values};
+use super::compared_member::member_truth;
 use super::document::{Document, Expressions, Mode};
 use super::kept::{Kept, KeptPart, comparison_part, exists_part};
 use super::levels::push_levels;
+use super::members::{are_members, first_item, is_member, member, member_of, member_steps};
 use super::node_list::NodeList;
 use super::values::found_values;
 use crate::path::{BinaryOperator, Expr, Path};
@@ -57,7 +57,7 @@ fn push_step(
 }
 
 /// One step of one item that is no filter. What gives one item at most needs no memory.
-#[inline(always)]
+#[inline(never)]
 fn plain_step(
     alloc: Global,
     mode: Mode,
@@ -70,16 +70,13 @@ fn plain_step(
         IsOutOfMemory result (step_meaning mode (step_view step.now) top t) }
     ensures errors { IfErr result (IsSelectionError mode) }
 {
-    match step {
-        Path::DotField(name) => field(alloc, bytes, mode, name.as_str(), item),
-        Path::ColonField(name) => field(alloc, bytes, mode, name.as_str(), item),
-        Path::ObjectField(name) => field(alloc, bytes, mode, name.as_str(), item),
-        _ => {
-            let mut nodes = Vec::new(alloc);
-            push_step(alloc, mode, step, bytes, item, &mut nodes)?;
-            Ok(NodeList::Many(nodes))
-        }
+    if is_member(step) {
+        let found = member_of(mode, step, bytes, item)?;
+        return Ok(NodeList::at_most_one(alloc, found));
     }
+    let mut nodes = Vec::new(alloc);
+    push_step(alloc, mode, step, bytes, item, &mut nodes)?;
+    Ok(NodeList::Many(nodes))
 }
 
 /// One step that is no filter of each of many items, in order.
@@ -96,7 +93,7 @@ fn plain_steps(
         IsOutOfMemory result (try_flat_map (step_meaning mode (step_view step.now) top) ts) }
     ensures errors { IfErr result (IsSelectionError mode) }
 {
-    let mut nodes = Vec::new(alloc);
+    let mut nodes = Vec::with_capacity(alloc, items.len())?;
     for item in items {
         push_step(alloc, mode, step, bytes, *item, &mut nodes)?;
     }
@@ -170,6 +167,7 @@ pub(crate) fn step_list<'a>(
 
 /// One step of each of many items, in order.
 #[cycle(steps)]
+#[inline(never)]
 fn step_many<'a>(
     alloc: Global,
     mode: Mode,
@@ -192,6 +190,7 @@ fn step_many<'a>(
 
 /// The items of a list that a filter keeps, in order.
 #[cycle(steps)]
+#[inline(never)]
 fn filter_many<'a>(
     alloc: Global,
     mode: Mode,
@@ -241,6 +240,7 @@ fn push_kept<'a>(
 
 /// Several steps, one after the other, from one item.
 #[cycle(steps)]
+#[inline(never)]
 pub(crate) fn select_steps<'a>(
     alloc: Global,
     mode: Mode,
@@ -255,23 +255,15 @@ pub(crate) fn select_steps<'a>(
         (steps_meaning mode (steps_of (map (taken_step expressions) (steps_view steps.now))) top (t ∷ [])) }
     ensures errors { IfErr result (IsSelectionError mode) }
 {
+    if are_members(steps) {
+        let found = member(mode, steps, document.bytes, first)?;
+        return Ok(NodeList::at_most_one(alloc, found));
+    }
     let mut items = NodeList::One(first);
     for step in steps {
         items = step_list(alloc, mode, expressions, step, document, items)?;
     }
     Ok(items)
-}
-
-/// Where a path within an expression starts.
-#[inline(always)]
-fn first_item(steps: &[Path<'_>], document: Document<'_>, item: Spot) -> Spot
-    ensures { (top t : Tree) → HasTree document.entry top → IsAt document.entry item t
-        → IsAt document.entry result (start (steps_of (steps_view steps.now)) top t) }
-{
-    match steps.first() {
-        Some(Path::Current) => item,
-        _ => document.root,
-    }
 }
 
 /// Whether a filter keeps an item of which it says this.
@@ -303,6 +295,7 @@ pub(crate) fn truth<'a>(
 
 /// The same with what is kept from the items before.
 #[cycle(steps)]
+#[inline(never)]
 fn truth_by_kept<'a>(
     alloc: Global,
     mode: Mode,
@@ -345,7 +338,7 @@ fn truth_by_kept<'a>(
 
 /// Whether a comparison or `exists` is true of an item. What is the same for each item is kept.
 #[cycle(steps)]
-#[inline(always)]
+#[inline(never)]
 fn condition<'a>(
     alloc: Global,
     mode: Mode,
@@ -370,12 +363,33 @@ fn condition<'a>(
             kept.pass();
             Ok(truth)
         }
-        None => {
-            let (truth, part) = first_truth(alloc, mode, e, document, item)?;
-            kept.add(part)?;
-            Ok(truth)
-        }
+        None => first_kept(alloc, mode, e, kept, document, item),
     }
+}
+
+/// The same of the first item, whose part is kept.
+#[cycle(steps)]
+#[inline(never)]
+fn first_kept<'a>(
+    alloc: Global,
+    mode: Mode,
+    e: &'a Expr<'_>,
+    kept: &mut Kept<'a>,
+    document: Document<'a>,
+    item: Spot,
+) -> Result<Option<bool>, Error>
+    ensures meant { (top t : Tree) → is_condition (expression_view e.now) ≡ true → HasTree document.entry top
+        → IsAt document.entry item t
+        → Gives (λ b c. b ≡ c) IsOutOfMemory result (truth mode (expression_view e.now) top t) }
+    ensures kept { (top t : Tree) (all more : List Expression) → is_condition (expression_view e.now) ≡ true
+        → HasTree document.entry top → IsAt document.entry item t → kept_part kept.old ≡ None
+        → AreKept mode top kept.old all (expression_view e.now ∷ more)
+        → OnOk result (AreKept mode top kept.new all more) }
+    ensures errors { IfErr result (IsSelectionError mode) }
+{
+    let (truth, part) = first_truth(alloc, mode, e, document, item)?;
+    kept.add(part)?;
+    Ok(truth)
 }
 
 /// Whether a comparison or `exists` is true of an item, with what is kept of it.
@@ -396,6 +410,33 @@ fn later_truth<'a>(
 {
     match (part, e) {
         (KeptPart::Truth(truth), _) => Ok(*truth),
+        (KeptPart::Right(rights), Expr::BinaryOp { op, left, .. }) => match member_steps(left) {
+            Some(steps) => {
+                member_truth(alloc, mode, *op, steps, rights.as_slice(), document, item)
+            }
+            None => later_values(alloc, mode, e, part, document, item),
+        },
+        _ => later_values(alloc, mode, e, part, document, item),
+    }
+}
+
+/// The same by the lists of the operands' values.
+#[cycle(steps)]
+#[inline(never)]
+fn later_values<'a>(
+    alloc: Global,
+    mode: Mode,
+    e: &'a Expr<'_>,
+    part: &KeptPart<'a>,
+    document: Document<'a>,
+    item: Spot,
+) -> Result<Option<bool>, Error>
+    ensures meant { (top t : Tree) → is_condition (expression_view e.now) ≡ true → HasTree document.entry top
+        → IsAt document.entry item t → IsSame mode top part.now (expression_view e.now)
+        → Gives (λ b c. b ≡ c) IsOutOfMemory result (truth mode (expression_view e.now) top t) }
+    ensures errors { IfErr result (IsSelectionError mode) }
+{
+    match (part, e) {
         (KeptPart::Left(lefts), Expr::BinaryOp { op, right, .. }) => {
             let rights = operand_values(alloc, mode, right, document, item)?;
             Ok(compare(*op, lefts.as_slice(), rights.as_slice()))
@@ -413,6 +454,7 @@ fn later_truth<'a>(
 
 /// Whether a comparison or `exists` is true of an item, and what of it is the same for each item.
 #[cycle(steps)]
+#[inline(never)]
 fn first_truth<'a>(
     alloc: Global,
     mode: Mode,
@@ -445,6 +487,7 @@ fn first_truth<'a>(
 
 /// The values of an operand.
 #[cycle(steps)]
+#[inline(never)]
 pub(crate) fn operand_values<'a>(
     alloc: Global,
     mode: Mode,

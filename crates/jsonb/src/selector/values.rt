@@ -18,7 +18,7 @@ use jsonb_doc::{Error, Item, Spot, SpotIter, spot_item};
 use std::alloc::Global;
 
 /// The values of items.
-#[inline(always)]
+#[inline(never)]
 pub(crate) fn found_values<'a>(
     alloc: Global,
     bytes: &'a [u8],
@@ -40,7 +40,7 @@ fn many_values<'a>(alloc: Global, bytes: &'a [u8], items: &[Spot]) -> Result<Ato
         → Gives (λ values vs. atoms_view values ≡ vs) IsOutOfMemory result (Ok (flat_map values_of_item ts)) }
     ensures errors { IfErr result (IsDecodingError or OutOfMemory) }
 {
-    let mut values = Vec::new(alloc);
+    let mut values = Vec::with_capacity(alloc, items.len())?;
     for item in items {
         push_values(bytes, *item, &mut values)?;
     }

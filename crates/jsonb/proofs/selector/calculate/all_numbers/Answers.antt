@@ -10,13 +10,13 @@ use Rattle.jsonb.proofs.selector.calculate.all_numbers.Goals as goal
 
 pub loop-value-init : goal.loop-value-init
 loop-value-init c =
-    rw (c.new-numbers.ensures.items, all_numbers-joined)
+    rw (c.in_ok-numbers.ensures.items, all_numbers-joined)
     (at_start value_number (AllRelated (Is atom_value) c.args.values.now) (λ ns. [] ≡ ns) (map atom_value c.args.values.now)
     (related_of_map atom_value c.args.values.now (map atom_value c.args.values.now) refl) refl)
 
 pub returns-in_err-number_of-clause-meant : goal.returns-in_err-number_of-clause-meant
 returns-in_err-number_of-clause-meant c =
-    let p = err_from_is_err_and c.from_residual.result c.from_residual.ensures.1 in
+    let p = err_from_is_err_and c.from_residual-in_err-number_of.result c.from_residual-in_err-number_of.ensures.1 in
     rw (p.1, p.2)
     (refused_in value_number (λ v ns. map number_view v.items ≡ ns) _ _ _ (λ ns. map number_view c.loop-value.numbers.items ≡ ns) _ _ _ c.loop-value.invariant
     (list_first (Is atom_value) c.args.values.now c.loop-value.value-index _ c.loop-value-test.true)

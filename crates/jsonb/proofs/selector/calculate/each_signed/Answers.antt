@@ -12,14 +12,14 @@ use Rattle.jsonb.proofs.selector.calculate.each_signed.Goals as goal
 
 pub loop-number-init : goal.loop-number-init
 loop-number-init c = λ form.
-    rw c.new-parts.ensures.items
+    rw c.in_ok-parts.ensures.items
     (at_start (signed_number (sign_view c.args.op)) (AllRelated (Is number_view) c.args.numbers.now) (AllRelated (IsMadeItem form) [])
     (map number_view c.args.numbers.now)
     (related_of_map number_view c.args.numbers.now (map number_view c.args.numbers.now) refl) tt)
 
 pub returns-in_err-signed-clause-meant : goal.returns-in_err-signed-clause-meant
 returns-in_err-signed-clause-meant c = λ form.
-    let p = err_from_is_err_and c.from_residual.result c.from_residual.ensures.1 in
+    let p = err_from_is_err_and c.from_residual-in_err-signed.result c.from_residual-in_err-signed.ensures.1 in
     rw (p.1, p.2)
     (refused_in (signed_number (sign_view c.args.op)) (λ v ts. AllRelated (IsMadeItem form) v.items ts) _ _ _
     (AllRelated (IsMadeItem form) c.loop-number.parts.items) _ _ _ (c.loop-number.invariant form)

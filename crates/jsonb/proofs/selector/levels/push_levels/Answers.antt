@@ -47,7 +47,7 @@ walk-smaller-in-Some-2 c =
     let fewer : spots_bound c.next.new.self < spots_bound c.walk.within.children = (c.in-Some-next.ensures.goes.on tt).2 in
     falls_within _ _ _ _ _ _ (rw c.in_ok-child-in-Some-next.was at c.in-Some-next.ensures.steps.size) c.in-Some-next.ensures.steps.room fewer
     (rw c.in-Some-2.is at c.in_ok-inner-in-Some-next.ensures.room) (rw c.in-Some-2.is at c.in_ok-inner-in-Some-next.ensures.bound)
-    c.in_ok-push-in-Some-next.ensures.items
+    c.in_ok-keep_level-in-Some-next.ensures.kept
 
 pub walk-preserved-in-Some-2 : goal.walk-preserved-in-Some-2
 walk-preserved-in-Some-2 c = record {
@@ -56,7 +56,7 @@ walk-preserved-in-Some-2 c = record {
       let f = spot_first c.args.bytes.now _ _ _ _ c.in_ok-child-in-Some-next.was c.in-Some-next.ensures.steps w.here w.left.0 in
       item_entered c.args.bytes.now (option_map levels_view c.args.levels) _ _ _ _ _ _ _ _ w
       (told_first f (λ t marks given done. rw c.in-Some-2.is at (c.in_ok-inner-in-Some-next.ensures.meant t w.level given w.left.1 marks done)))
-      refl c.in_ok-push-in-Some-next.ensures.items;
+      refl c.in_ok-keep_level-in-Some-next.ensures.kept;
 }
 
 pub walk-smaller-in_default-2 : goal.walk-smaller-in_default-2

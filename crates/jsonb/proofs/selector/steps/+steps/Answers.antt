@@ -16,7 +16,7 @@ use Rattle.jsonb.specs.Meaning.{step_meaning, steps_meaning, truth, operand_valu
 use Rattle.jsonb.proofs.GivesLemmas.{same_outcome, same_answer, refused_as, pushed, one_ok, both_ok, first_refused, second_refused, followed, given_by, continued, some_related}
 use Rattle.jsonb.proofs.Progress.{no_spot, at_start, one_more, refused_in, at_end, list_first, list_end, joined_singles}
 use Rattle.jsonb.proofs.PathNodes.{root_is, current_is, values_is, elements_is, levels_is, dot_field_is, colon_field_is, object_field_is, indices_is, filter_is, whole_is, paths_is, binary_is, exists_is}
-use Rattle.jsonb.proofs.KeptLemmas.{comparison_is, value_of, one_condition, one_exists, kept_same, from_ok, without, always, known, value_is, compared}
+use Rattle.jsonb.proofs.KeptLemmas.{comparison_is, by_right, value_of, one_condition, one_exists, kept_same, from_ok, without, always, known, value_is, compared}
 use Rattle.jsonb.proofs.StepLemmas.{joined_one, only_one, kept_known, kept_unknown, kept_found, steps_at, from_start, compared_is}
 use Rattle.jsonb.proofs.selector.steps.+steps.Goals as goal
 
@@ -144,13 +144,24 @@ step_many-returns-in-None-clause-meant t c = λ top ts r a.
 
 -- ---- several steps
 
+pub select_steps-returns-in_err-found-clause-meant : goal.select_steps-returns-in_err-found-clause-meant
+select_steps-returns-in_err-found-clause-meant t c = λ top u r s.
+    let p = err_from_is_err_and c.from_residual.result c.from_residual.ensures.1 in
+    same_answer (p.1 ∙ ap Err p.2) (refused_as (c.in_err-found.ensures.meant c.args.expressions top u (sym c.are_members.ensures ∙ c.if-are_members.true) s))
+
+pub select_steps-returns-then-are_members-clause-meant : goal.select_steps-returns-then-are_members-clause-meant
+select_steps-returns-then-are_members-clause-meant t c = λ top u r s. record {
+  ok = rw c.at_most_one.ensures (c.in_ok-found.ensures.meant c.args.expressions top u (sym c.are_members.ensures ∙ c.if-are_members.true) s).ok;
+  err = tt;
+}
+
 pub select_steps-loop-step-init : goal.select_steps-loop-step-init
 select_steps-loop-step-init t c = λ top u r s. (u ∷ [], (s, tt), refl)
 
 pub select_steps-returns-in_err-items-clause-meant : goal.select_steps-returns-in_err-items-clause-meant
 select_steps-returns-in_err-items-clause-meant t c = λ top u r s.
     let inv = c.loop-step.invariant top u r s in
-    let p = err_from_is_err_and c.from_residual.result c.from_residual.ensures.1 in
+    let p = err_from_is_err_and c.from_residual-in_err-items.result c.from_residual-in_err-items.ensures.1 in
     same_answer (p.1 ∙ ap Err p.2)
     (same_outcome
     (inv.2
@@ -337,16 +348,27 @@ condition-returns-in_ok-truth-in-Some-clause-meant t c = λ top u all more is r 
   err = tt;
 }
 
-pub condition-returns-in_ok-add-in-None-clause-meant : goal.condition-returns-in_ok-add-in-None-clause-meant
-condition-returns-in_ok-add-in-None-clause-meant t c = λ top u all more is r s k. without _ _ (c.in_ok-truth-in-None.ensures.meant top u is r s).ok
+pub condition-returns-in-None-clause-kept : goal.condition-returns-in-None-clause-kept
+condition-returns-in-None-clause-kept t c = λ top u all more is r s k. c.first_kept.ensures.kept top u all more is r s c.in-None.ensures k
 
-pub condition-returns-in_ok-add-in-None-clause-kept : goal.condition-returns-in_ok-add-in-None-clause-kept
-condition-returns-in_ok-add-in-None-clause-kept t c = λ top u all more is r s k.
-    c.in_ok-add-in-None.ensures.ok c.args.mode top all more (expression_view c.args.e.now) c.in-None.ensures
-    (from_ok _ _ _ (c.in_ok-truth-in-None.ensures.meant top u is r s).ok) k
+pub first_kept-returns-clause-meant : goal.first_kept-returns-clause-meant
+first_kept-returns-clause-meant t c = λ top u is r s. without _ _ (c.in_ok-truth.ensures.meant top u is r s).ok
 
-pub later_truth-returns-in_ok-truth-in_default-clause-meant : goal.later_truth-returns-in_ok-truth-in_default-clause-meant
-later_truth-returns-in_ok-truth-in_default-clause-meant t c = λ top u is r s same. without _ _ (c.in_ok-truth-in_default.ensures.meant top u is r s).ok
+pub first_kept-returns-clause-kept : goal.first_kept-returns-clause-kept
+first_kept-returns-clause-kept t c = λ top u all more is r s none k.
+    c.in_ok-add.ensures.ok c.args.mode top all more (expression_view c.args.e.now) none
+    (from_ok _ _ _ (c.in_ok-truth.ensures.meant top u is r s).ok) k
+
+pub later_truth-returns-in-Some-clause-meant : goal.later_truth-returns-in-Some-clause-meant
+later_truth-returns-in-Some-clause-meant t c = λ top u is r s same.
+    same_outcome (by_right c.args.mode top u c.args.e.now c.in-Right-BinaryOp.op c.in-Right-BinaryOp.left _ c.args.part.now c.in-Right-BinaryOp.rights
+    c.deref.result.now _ c.in-Right-BinaryOp.is-1 c.in-Right-BinaryOp.is-0 c.deref.ensures c.in-Some.ensures.1 is same
+    ∙ ap (λ rs. and_then (operand_values c.args.mode (math.paths (steps_of (steps_view c.in-Some.steps.now))) top u)
+    (λ ls. Ok (compare (operator_view c.in-Right-BinaryOp.op) ls rs))) (sym c.as_slice.ensures))
+    (c.member_truth.ensures.meant top u c.in-Some.ensures.0 r s)
+
+pub later_values-returns-in_ok-truth-in_default-clause-meant : goal.later_values-returns-in_ok-truth-in_default-clause-meant
+later_values-returns-in_ok-truth-in_default-clause-meant t c = λ top u is r s same. without _ _ (c.in_ok-truth-in_default.ensures.meant top u is r s).ok
 
 -- a comparison takes the values of both operands
 pub first_truth-returns-in_err-lefts-in-BinaryOp-clause-meant : goal.first_truth-returns-in_err-lefts-in-BinaryOp-clause-meant

@@ -10,7 +10,7 @@ use Rattle.jsonb.proofs.selector.steps.plain_steps.Goals as goal
 
 pub returns-in_err-push_step-clause-meant : goal.returns-in_err-push_step-clause-meant
 returns-in_err-push_step-clause-meant c = λ top ts n a.
-    let p = err_from_is_err_and c.from_residual.result c.from_residual.ensures.1 in
+    let p = err_from_is_err_and c.from_residual-in_err-push_step.result c.from_residual-in_err-push_step.ensures.1 in
     same_answer (p.1 ∙ ap Err p.2) (refused_in (step_meaning c.args.mode (step_view c.args.step.now) top) _
     (AllRelated (Locates c.args.bytes.now) (drop c.loop-item.item-index c.args.items.now))
     (AllRelated (Locates c.args.bytes.now) (drop (c.loop-item.item-index + 1) c.args.items.now))

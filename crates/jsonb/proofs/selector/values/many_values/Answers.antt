@@ -10,12 +10,12 @@ use Rattle.jsonb.proofs.selector.values.many_values.Goals as goal
 
 pub loop-item-init : goal.loop-item-init
 loop-item-init c = λ ts h.
-    total_start values_of_item (AllRelated (Locates c.args.bytes.now) c.args.items.now) (λ vs. map atom_value c.new-values.result.items ≡ vs) ts [] h
-    (ap (map atom_value) c.new-values.ensures.items)
+    total_start values_of_item (AllRelated (Locates c.args.bytes.now) c.args.items.now) (λ vs. map atom_value c.in_ok-values.values.items ≡ vs) ts [] h
+    (ap (map atom_value) c.in_ok-values.ensures.items)
 
 pub returns-in_err-push_values-clause-meant : goal.returns-in_err-push_values-clause-meant
 returns-in_err-push_values-clause-meant c = λ ts h.
-    let p = err_from_is_err_and c.from_residual.result c.from_residual.ensures.1 in
+    let p = err_from_is_err_and c.from_residual-in_err-push_values.result c.from_residual-in_err-push_values.ensures.1 in
     same_answer (p.1 ∙ ap Err p.2)
     (only_memory (refused_in (λ t. Ok (values_of_item t)) (λ (_ : Unit {0}) vs. map atom_value c.push_values.new.values.items ≡ vs)
     (AllRelated (Locates c.args.bytes.now) (drop c.loop-item.item-index c.args.items.now))

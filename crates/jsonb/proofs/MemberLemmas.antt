@@ -1,0 +1,60 @@
+-- Steps that name one member at most.
+use Rattle.std.proofs.Common.{◌≡◌, ℕ, ◌+◌, ◌<◌, List, [], ◌∷◌, length, drop, get_or, suc, add-one, map, Bool, true, false, Option, Some, None, Ok, refl, sym, ap, ◌∙◌}
+use Rattle.std.specs.Prelude.{◌&&◌}
+use Rattle.std.proofs.Math.Seq.{drop-cons}
+use Rattle.jsonb_doc.specs.Answer.{and_then}
+use Rattle.jsonb_doc.specs.Tree.{Tree}
+use Rattle.jsonb_doc.specs.declared.spot.Spot.{Spot}
+use Rattle.jsonb.specs.PathTree as math
+use Rattle.jsonb.specs.PathTree.{Step, Steps, no_steps, steps_of}
+use Rattle.jsonb.specs.PathViews.{step_view, steps_view}
+use Rattle.jsonb.specs.Meaning.{step_meaning, steps_meaning}
+use Rattle.jsonb.specs.Private.Members.{is_member, are_members}
+use Rattle.jsonb.specs.Related.{AllRelated}
+use Rattle.jsonb.specs.Private.Selection.{option_spots, taken_step}
+use Rattle.jsonb.specs.declared.selector.document.Mode.{Mode}
+use Rattle.jsonb.specs.declared.selector.document.Expressions.{Expressions}
+use Rattle.jsonb.specs.declared.path.Path.{Path}
+use Rattle.jsonb.proofs.StepLemmas.{joined_one, only_one, steps_at}
+
+member_taken : (expressions : Expressions) (s : Step) → is_member s ≡ true → taken_step expressions s ≡ s
+member_taken expressions (math.whole_expression e) h = cc
+member_taken expressions _ h = refl
+
+-- steps of no items give none
+pub none_left : (mode : Mode) (ss : Steps) (top : Tree) → steps_meaning mode ss top [] ≡ Ok []
+none_left mode no_steps top = refl
+none_left mode (math.step s rest) top = none_left mode rest top
+
+-- what was found stands for one tree, or for none
+pub no_member : (R : Spot → Tree → Type 0) (found : Option Spot) (ts : List Tree) → found ≡ None → AllRelated R (option_spots found) ts → ts ≡ []
+no_member R found [] none h = refl
+no_member R None (t ∷ ts) none h = absurd h
+no_member R (Some x) (t ∷ ts) none h = cc
+
+pub one_member : (R : Spot → Tree → Type 0) (found : Option Spot) (x : Spot) (ts : List Tree) → found ≡ Some x → AllRelated R (option_spots found) ts
+    → (t : Tree) × (ts ≡ t ∷ []) × R x t
+one_member R found x ts is h = only_one R x ts (rw is at h)
+
+both_true : (a b : Bool) → a && b ≡ true → (a ≡ true) × (b ≡ true)
+both_true true b h = (refl, h)
+both_true false b h = cc
+
+module _ (steps : List Path) (i : ℕ) (s : Path) (h : i < length steps) (is : s ≡ get_or steps i s) where
+  left_is : drop i steps ≡ s ∷ drop (i + 1) steps
+  left_is = drop-cons steps i s h ∙ ap (λ x. x ∷ drop (suc i) steps) (sym is) ∙ ap (λ n. s ∷ drop n steps) (sym (add-one i))
+
+  -- the first of the steps that are left, and those behind it
+  pub member_first : are_members (steps_view (drop i steps)) ≡ true → (is_member (step_view s) ≡ true) × (are_members (steps_view (drop (i + 1) steps)) ≡ true)
+  member_first all = both_true (is_member (step_view s)) (are_members (steps_view (drop (i + 1) steps)))
+      (sym (ap (λ l. are_members (steps_view l)) left_is) ∙ all)
+
+  pub member_next : (mode : Mode) (expressions : Expressions) (top u : Tree) → is_member (step_view s) ≡ true →
+      steps_meaning mode (steps_of (map (taken_step expressions) (steps_view (drop i steps)))) top (u ∷ [])
+      ≡ and_then (step_meaning mode (step_view s) top u)
+      (steps_meaning mode (steps_of (map (taken_step expressions) (steps_view (drop (i + 1) steps)))) top)
+  member_next mode expressions top u member =
+      steps_at mode expressions steps i s top (u ∷ []) h is
+      ∙ ap (λ o. and_then o (steps_meaning mode (steps_of (map (taken_step expressions) (steps_view (drop (i + 1) steps)))) top))
+      (joined_one (step_meaning mode (taken_step expressions (step_view s)) top) u
+      ∙ ap (λ x. step_meaning mode x top u) (member_taken expressions (step_view s) member))

@@ -1,0 +1,88 @@
+-- The parts of a path, as it is let go of them one by one.
+use Rattle.std.proofs.Common.{◌≡◌, ℕ, ◌+◌, ◌*◌, ◌<◌, ◌≤◌, List, [], ◌∷◌, ◌++◌, Option, None, Some, IfSome, length, get_or, take, drop, Vec, Box, Global, refl, ap, ◌∙◌, arith}
+use Rattle.std.proofs.Math.Seq.{drop-cons}
+use Rattle.std.proofs.lemmas.List.{take-append-drop}
+use Rattle.std.proofs.lemmas.Nat.{mul-le}
+use Rattle.jsonb.specs.PathTree.{Step, filter, whole_expression, Steps, no_steps, step, Expression, paths, value, binary, unary, exists, steps_of}
+use Rattle.jsonb.specs.PathViews.{step_view, steps_view, expression_view, operator_view}
+use Rattle.jsonb.specs.Private.Parts.{step_parts, steps_parts, expression_parts, parts, waiting_parts, to_release, remaining}
+use Rattle.jsonb.specs.declared.path.BinaryOperator.{BinaryOperator}
+use Rattle.jsonb.specs.declared.path.Expr.{Expr}
+use Rattle.jsonb.specs.declared.path.Expr.TheVariants as expr
+use Rattle.jsonb.specs.declared.path.Path.{Path}
+use Rattle.jsonb.specs.declared.path.release.Remaining.{Remaining}
+use Rattle.jsonb.proofs.PathNodes.{paths_is, binary_is}
+
+-- ---- the measure
+
+square_more : (a : ℕ) → (a + 1) * (a + 1) ≡ a * a + a + a + 1
+square_more a = grind arith
+
+pub fewer_parts : (n w n' w' : ℕ) → n' + w' < n + w → to_release n' w' < to_release n w
+unfolding to_release
+fewer_parts n w n' w' less =
+    let squares = mul-le (n' + w' + 1) (n' + w' + 1) (n + w) (n + w) (omega arith) (omega arith) in
+    let more = square_more (n' + w') in
+    omega arith
+
+pub fewer_in_front : (n w n' w' : ℕ) → n' + w' ≡ n + w → n' < n → to_release n' w' < to_release n w
+unfolding to_release
+fewer_in_front n w n' w' same less = rw same (omega arith)
+
+pub as_many_parts : (n m w x : ℕ) → n ≡ m → x < to_release n w → x < to_release m w
+as_many_parts n m w x same less = rw (← same) less
+
+-- ---- no part is nothing
+
+pub some_parts : (e : Expression) → 0 < expression_parts e
+some_parts (paths ss) = omega arith
+some_parts (value l) = omega arith
+some_parts (binary op left right) = omega arith
+some_parts (unary op e) = omega arith
+some_parts (exists ss) = omega arith
+
+pub some_step_parts : (s : Step) → 0 < step_parts s
+some_step_parts (filter e) = omega arith
+some_step_parts (whole_expression e) = omega arith
+some_step_parts _ = omega arith
+
+-- ---- lists of steps, and what holds them
+
+abbrev pub row_parts : List Path → ℕ
+row_parts ss = steps_parts (steps_of (steps_view ss))
+
+pub row_parts-last : (ss : List Path) (s : Path) → row_parts (ss ++ s ∷ []) ≡ row_parts ss + step_parts (step_view s)
+row_parts-last [] s = omega arith
+row_parts-last (t ∷ ss) s = let rest = row_parts-last ss s in omega arith
+
+row_parts-append : (ss ts : List Path) → row_parts (ss ++ ts) ≡ row_parts ss + row_parts ts
+row_parts-append [] ts = omega arith
+row_parts-append (s ∷ ss) ts = let rest = row_parts-append ss ts in omega arith
+
+pub parts-paths : (steps : Vec Path Global) → parts (expr.Paths steps) ≡ 1 + row_parts steps.items
+parts-paths steps = ap expression_parts (paths_is _ steps refl)
+
+pub parts-binary : (op : BinaryOperator) (l r : Box Expr Global) → parts (expr.BinaryOp op l r) ≡ 1 + parts l.value + parts r.value
+parts-binary op l r = ap expression_parts (binary_is _ op l r refl)
+
+-- ---- the loop
+
+-- nothing, or one more than there is to release
+abbrev pub still : Option Remaining → ℕ
+still None = 0
+still (Some r) = 1 + remaining r
+
+pub less_still : (before after : Option Remaining) (r : Remaining) → before ≡ Some r → IfSome after (λ left. remaining left < remaining r)
+    → still after < still before
+less_still before None r is less = rw is (omega arith)
+less_still before (Some left) r is less = rw is (omega arith)
+
+-- ---- a step among others
+
+pub step_parts-among : (ss : List Path) (i : ℕ) (s : Path) → i < length ss → s ≡ get_or ss i s → step_parts (step_view s) ≤ row_parts ss
+step_parts-among ss i s short is =
+    let held = ap (λ (x : Path). step_parts (step_view x)) is in
+    let rest = row_parts-append (take i ss) (drop i ss) in
+    let split = ap row_parts (take-append-drop i ss) in
+    let front = ap row_parts (drop-cons ss i s short) in
+    omega arith

@@ -1,0 +1,11 @@
+use Rattle.std.proofs.Common.{ap, arith}
+use Rattle.jsonb.specs.Private.Parts.{expression_parts, parts, waiting_parts}
+use Rattle.jsonb.proofs.PartLemmas.{fewer_parts}
+use Rattle.jsonb.proofs.PathNodes.{unary_is}
+use Rattle.jsonb.proofs.path.Expr.without_a_part.Goals as goal
+
+pub returns-in-UnaryOp : goal.returns-in-UnaryOp
+returns-in-UnaryOp c =
+    let whole = ap expression_parts (unary_is c.args.self c.in-UnaryOp.op c.in-UnaryOp.operand c.in-UnaryOp.is) in
+    let next = ap parts c.into_inner.ensures in
+    fewer_parts (parts c.args.self) (waiting_parts c.args.waiting) (parts c.into_inner.result) (waiting_parts c.args.waiting) (omega arith)

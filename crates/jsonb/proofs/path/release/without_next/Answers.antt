@@ -1,0 +1,10 @@
+use Rattle.std.proofs.Common.{ap, arith}
+use Rattle.jsonb.specs.Private.Parts.{parts, waiting_parts}
+use Rattle.jsonb.proofs.PartLemmas.{fewer_parts}
+use Rattle.jsonb.proofs.path.release.without_next.Goals as goal
+
+pub returns-in-Some : goal.returns-in-Some
+returns-in-Some c = λ n some.
+    let next = ap parts c.into_inner.ensures in
+    let waits = ap waiting_parts c.in-Some.is in
+    fewer_parts n (waiting_parts c.args.waiting) (parts c.into_inner.result) 0 (omega arith)

@@ -1,0 +1,40 @@
+use Rattle.std.proofs.Common.{◌≡◌, ◌∷◌, [], List, Ok, Err, map, flat_map, refl, ap, ◌∙◌}
+use Rattle.std.proofs.lemmas.Result.{err_from_is_err_and}
+use Rattle.jsonb_doc.specs.Answer.{Outcome, and_then}
+use Rattle.jsonb_doc.specs.Tree.{Tree}
+use Rattle.jsonb.specs.Compare.{compare}
+use Rattle.jsonb.specs.PathViews.{operator_view}
+use Rattle.jsonb.specs.Private.Selection.{atom_value}
+use Rattle.jsonb.specs.Values.{Value, values_of_item}
+use Rattle.jsonb.specs.declared.selector.document.Expressions.TheVariants.{AreRefused}
+use Rattle.jsonb.proofs.GivesLemmas.{same_outcome, same_answer, first_refused, followed}
+use Rattle.jsonb.proofs.StepLemmas.{from_start}
+use Rattle.jsonb.proofs.selector.compared_member.member_truth.Goals as goal
+
+joined : {A B C : Type 0} (o : Outcome A) (f : A → B) (g : B → Outcome C) → and_then (and_then o (λ x. Ok (f x))) g ≡ and_then o (λ x. g (f x))
+joined (Ok x) f g = refl
+joined (Err e) f g = refl
+
+pub returns-in_err-member-clause-meant : goal.returns-in_err-member-clause-meant
+returns-in_err-member-clause-meant c = λ top u all r s.
+    let rights = map atom_value c.args.rights.now in
+    let compares = λ (vs : List Value). Ok (compare (operator_view c.args.op) vs rights) in
+    let p = err_from_is_err_and c.from_residual.result c.from_residual.ensures.1 in
+    same_answer (p.1 ∙ ap Err p.2) (same_outcome
+    (joined _ (flat_map values_of_item) compares
+    ∙ ap (λ o. and_then o (λ ts. compares (flat_map values_of_item ts)))
+    (from_start c.args.mode c.args.steps.now c.args.steps.now c.args.steps.now top u refl refl))
+    (first_refused (λ (ts : List Tree). compares (flat_map values_of_item ts))
+    (c.in_err-member.ensures.meant AreRefused top _ all (c.first_item-first.ensures top u r s))))
+
+pub returns-clause-meant : goal.returns-clause-meant
+returns-clause-meant c = λ top u all r s.
+    let rights = map atom_value c.args.rights.now in
+    let compares = λ (vs : List Value). Ok (compare (operator_view c.args.op) vs rights) in
+    same_outcome
+    (joined _ (flat_map values_of_item) compares
+    ∙ ap (λ o. and_then o (λ ts. compares (flat_map values_of_item ts)))
+    (from_start c.args.mode c.args.steps.now c.args.steps.now c.args.steps.now top u refl refl))
+    (followed (λ (ts : List Tree). compares (flat_map values_of_item ts))
+    (c.in_ok-member.ensures.meant AreRefused top _ all (c.first_item-first.ensures top u r s))
+    (λ ts related. c.compared.ensures.meant ts related))

@@ -1,0 +1,155 @@
+//! Letting go of an expression, part by part in a loop, without memory.
+//!
+//! What waits for its turn lies in the boxes that the parts before it have left.
+
+ghost use Rattle.std.specs.Prelude.{◌≡◌, ℕ, ◌+◌, ◌<◌, IfSome, vec_len, vec_capacity};
+ghost use Rattle.jsonb.specs.PathTree.{steps_of};
+ghost use Rattle.jsonb.specs.PathViews.{step_view, steps_view};
+ghost use Rattle.jsonb.specs.Private.Parts.{step_parts, steps_parts, parts, waiting_parts, to_release, remaining};
+
+use super::{BinaryOperator, Expr, Path};
+
+// An expression that is next to be let go, and one that waits behind it.
+struct Remaining<'a> {
+    next: Expr<'a>,
+    waiting: Option<Box<Expr<'a>>>,
+}
+
+impl<'a> Expr<'a> {
+    /// Lets go of all parts.
+    pub(super) fn release(self) {
+        let mut remaining = Some(Remaining {
+            next: self,
+            waiting: None,
+        });
+        while let Some(Remaining { next, waiting }) = remaining {
+            remaining = next.without_a_part(waiting);
+        }
+    }
+
+    // What is left behind one part at most.
+    fn without_a_part(self, waiting: Option<Box<Expr<'a>>>) -> Option<Remaining<'a>>
+        ensures { IfSome result (λ left. remaining left < to_release (parts self.entry) (waiting_parts waiting.entry)) }
+    {
+        match self {
+            Expr::BinaryOp { op, left, right } => Some(without_pair(op, left, right, waiting)),
+            Expr::UnaryOp { op: _, operand } => Some(Remaining {
+                next: Box::into_inner(operand),
+                waiting,
+            }),
+            Expr::Paths(steps) | Expr::ExistsFunc(steps) => without_last(steps, waiting),
+            Expr::Value(_) => without_next(waiting),
+        }
+    }
+}
+
+// Nothing is left in front of what waits.
+fn without_next(waiting: Option<Box<Expr<'_>>>) -> Option<Remaining<'_>>
+    ensures { IfSome result (λ left. (n : ℕ) → 0 < n → remaining left < to_release n (waiting_parts waiting.entry)) }
+{
+    match waiting {
+        None => None,
+        Some(behind) => Some(Remaining {
+            next: Box::into_inner(behind),
+            waiting: None,
+        }),
+    }
+}
+
+// The left side is next. The right one waits, in front of what waits already, which takes the box of the left one.
+fn without_pair<'a>(
+    op: BinaryOperator,
+    mut left: Box<Expr<'a>>,
+    right: Box<Expr<'a>>,
+    waiting: Option<Box<Expr<'a>>>,
+) -> Remaining<'a>
+    ensures { remaining result <
+        to_release (1 + parts left.entry.value + parts right.entry.value) (waiting_parts waiting.entry) }
+{
+    match waiting {
+        None => Remaining {
+            next: Box::into_inner(left),
+            waiting: Some(right),
+        },
+        Some(behind) => {
+            let both = Expr::BinaryOp {
+                op,
+                left: right,
+                right: behind,
+            };
+            let next = Box::replace(&mut left, both);
+            Remaining {
+                next,
+                waiting: Some(left),
+            }
+        }
+    }
+}
+
+// The steps without their last one, or what that holds.
+fn without_last<'a>(
+    mut steps: Vec<Path<'a>>,
+    waiting: Option<Box<Expr<'a>>>,
+) -> Option<Remaining<'a>>
+    ensures { IfSome result (λ left. remaining left <
+        to_release (1 + steps_parts (steps_of (steps_view steps.entry.items))) (waiting_parts waiting.entry)) }
+{
+    let Some(last) = steps.pop() else {
+        steps.destroy_empty();
+        return without_next(waiting);
+    };
+    match held(last) {
+        Some(inner) => Some(without_inner(steps, inner, waiting)),
+        None => Some(Remaining {
+            next: Expr::Paths(steps),
+            waiting,
+        }),
+    }
+}
+
+// The expression that a step holds, if it is one that holds any.
+fn held(step: Path<'_>) -> Option<Box<Expr<'_>>>
+    ensures { IfSome result (λ inner. step_parts (step_view step.entry) ≡ 1 + parts inner.value) }
+{
+    match step {
+        Path::FilterExpr(inner) => Some(inner),
+        Path::Expr(inner) => Some(inner),
+        Path::DotField(_)
+        | Path::ColonField(_)
+        | Path::ObjectField(_)
+        | Path::ArrayIndices(_)
+        | Path::RecursiveDotWildcard(_)
+        | Path::Root
+        | Path::Current
+        | Path::DotWildcard
+        | Path::BracketWildcard => None,
+    }
+}
+
+// The steps and the expression that stood behind them. Where something waits already, it takes the room of that
+// expression's step, and the steps take its box.
+fn without_inner<'a>(
+    mut steps: Vec<Path<'a>>,
+    mut inner: Box<Expr<'a>>,
+    waiting: Option<Box<Expr<'a>>>,
+) -> Remaining<'a>
+    requires { vec_len steps < vec_capacity steps }
+    ensures { remaining result < to_release
+        (2 + steps_parts (steps_of (steps_view steps.entry.items)) + parts inner.entry.value)
+        (waiting_parts waiting.entry) }
+{
+    match waiting {
+        None => Remaining {
+            next: Expr::Paths(steps),
+            waiting: Some(inner),
+        },
+        Some(behind) => {
+            steps.push_reserved(Path::Expr(behind));
+            let next = Box::replace(&mut inner, Expr::Paths(steps));
+            Remaining {
+                next,
+                waiting: Some(inner),
+            }
+        }
+    }
+}

@@ -1,0 +1,93 @@
+//! Comparisons whose left side names one member at most. No list is made of a single value.
+
+ghost use Rattle.std.specs.Prelude.{◌≡◌, ◌∷◌, [], Ok, List, map, flat_map, true, IfErr};
+ghost use Rattle.jsonb_doc.specs.Answer.{Gives, and_then, IsOutOfMemory, IsDecodingError, ◌or◌};
+ghost use Rattle.jsonb_doc.specs.declared.error.Error.TheVariants.{OutOfMemory};
+ghost use Rattle.jsonb_doc.specs.Spots.{Locates};
+ghost use Rattle.jsonb_doc.specs.Tree.{Tree};
+ghost use Rattle.jsonb.specs.PathTree.{steps_of, paths};
+ghost use Rattle.jsonb.specs.PathViews.{steps_view, operator_view};
+ghost use Rattle.jsonb.specs.Related.{AllRelated};
+ghost use Rattle.jsonb.specs.Compare.{compare};
+ghost use Rattle.jsonb.specs.Values.{values_of_item};
+ghost use Rattle.jsonb.specs.Meaning.{operand_values};
+ghost use Rattle.jsonb.specs.Private.Members.{are_members};
+ghost use Rattle.jsonb.specs.Private.Selection.{IsAt, HasTree, option_spots, atom_value};
+ghost use Rattle.jsonb.specs.SelectionErrors.{IsSelectionError};
+
+use super::atom::{Atom, compare, compare_one, item_atom};
+use super::document::{Document, Mode};
+use super::members::{first_item, member};
+use super::node_list::NodeList;
+use super::values::found_values;
+use crate::path::{BinaryOperator, Path};
+use jsonb_doc::{Error, Item, Spot, spot_item};
+use std::alloc::Global;
+
+/// How the values of the member that these steps name compare with others.
+#[inline(never)]
+pub(crate) fn member_truth(
+    alloc: Global,
+    mode: Mode,
+    op: BinaryOperator,
+    steps: &[Path<'_>],
+    rights: &[Atom<'_>],
+    document: Document<'_>,
+    item: Spot,
+) -> Result<Option<bool>, Error>
+    ensures meant { (top t : Tree) → are_members (steps_view steps.now) ≡ true → HasTree document.entry top
+        → IsAt document.entry item t
+        → Gives (λ b c. b ≡ c) IsOutOfMemory result
+        (and_then (operand_values mode (paths (steps_of (steps_view steps.now))) top t)
+        (λ ls. Ok (compare (operator_view op) ls (map atom_value rights.now)))) }
+    ensures errors { IfErr result (IsSelectionError mode) }
+{
+    let first = first_item(steps, document, item);
+    let member = member(mode, steps, document.bytes, first)?;
+    compared(alloc, op, document.bytes, member, rights)
+}
+
+/// How the values of a member compare with others.
+#[inline(always)]
+fn compared(
+    alloc: Global,
+    op: BinaryOperator,
+    bytes: &[u8],
+    member: Option<Spot>,
+    rights: &[Atom<'_>],
+) -> Result<Option<bool>, Error>
+    ensures meant { (ts : List Tree) → AllRelated (Locates bytes.now) (option_spots member) ts
+        → Gives (λ b c. b ≡ c) IsOutOfMemory result
+        (Ok (compare (operator_view op) (flat_map values_of_item ts) (map atom_value rights.now))) }
+    ensures errors { IfErr result (IsDecodingError or OutOfMemory) }
+{
+    let Some(spot) = member else {
+        return Ok(Some(false));
+    };
+    let item = spot_item(bytes, spot)?;
+    if let Item::Array(_) = item {
+        return list_compared(alloc, op, bytes, spot, rights);
+    }
+    match item_atom(item) {
+        Some(value) => Ok(compare_one(op, &value, rights)),
+        None => Ok(Some(false)),
+    }
+}
+
+/// How the values of an item compare with others.
+#[inline(never)]
+fn list_compared(
+    alloc: Global,
+    op: BinaryOperator,
+    bytes: &[u8],
+    item: Spot,
+    rights: &[Atom<'_>],
+) -> Result<Option<bool>, Error>
+    ensures meant { (ts : List Tree) → AllRelated (Locates bytes.now) (item ∷ []) ts
+        → Gives (λ b c. b ≡ c) IsOutOfMemory result
+        (Ok (compare (operator_view op) (flat_map values_of_item ts) (map atom_value rights.now))) }
+    ensures errors { IfErr result (IsDecodingError or OutOfMemory) }
+{
+    let values = found_values(alloc, bytes, NodeList::One(item))?;
+    Ok(compare(op, values.as_slice(), rights))
+}

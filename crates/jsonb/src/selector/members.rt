@@ -1,0 +1,158 @@
+//! Paths that name one member at most: `$` or `@`, and the names of fields.
+
+ghost use Rattle.std.specs.Prelude.{◌≡◌, ◌∷◌, [], Ok, map, true, MatchOption, ⊤, IfErr};
+ghost use Rattle.jsonb_doc.specs.Answer.{Gives, IsOutOfMemory};
+ghost use Rattle.jsonb_doc.specs.Spots.{Locates};
+ghost use Rattle.jsonb_doc.specs.Tree.{Tree};
+ghost use Rattle.jsonb.specs.PathTree.{steps_of, paths};
+ghost use Rattle.jsonb.specs.PathViews.{step_view, steps_view, expression_view};
+ghost use Rattle.jsonb.specs.Related.{AllRelated};
+ghost use Rattle.jsonb.specs.Meaning.{step_meaning, steps_meaning, start};
+ghost use Rattle.jsonb.specs.ItemSteps.{field_step};
+ghost use Rattle.jsonb.specs.Private.Members.{is_member, are_members};
+ghost use Rattle.jsonb.specs.Private.Selection.{IsAt, HasTree, option_spots, taken_step};
+ghost use Rattle.jsonb.specs.declared.selector.document.Expressions.{Expressions};
+ghost use Rattle.jsonb.specs.declared.selector.document.Mode.{Mode};
+ghost use Rattle.jsonb.specs.SelectionErrors.{IsSelectionError};
+
+use super::document::{Document, Mode};
+use crate::path::{Expr, Path};
+use jsonb_doc::{Error, Spot, field_spot};
+
+/// Where a path within an expression starts.
+#[inline(always)]
+pub(crate) fn first_item(steps: &[Path<'_>], document: Document<'_>, item: Spot) -> Spot
+    ensures { (top t : Tree) → HasTree document.entry top → IsAt document.entry item t
+        → IsAt document.entry result (start (steps_of (steps_view steps.now)) top t) }
+{
+    match steps.first() {
+        Some(Path::Current) => item,
+        _ => document.root,
+    }
+}
+
+/// Whether each step is `$`, `@` or a name.
+pub(crate) fn are_members(steps: &[Path<'_>]) -> bool
+    ensures { result ≡ are_members (steps_view steps.now) }
+{
+    for step in steps {
+        if !is_member(step) {
+            return false;
+        }
+    }
+    true
+}
+
+/// Whether a step is `$`, `@` or a name.
+#[inline(always)]
+pub(crate) fn is_member(step: &Path<'_>) -> bool
+    ensures { result ≡ is_member (step_view step.now) }
+{
+    match step {
+        Path::Root
+        | Path::Current
+        | Path::DotField(_)
+        | Path::ColonField(_)
+        | Path::ObjectField(_) => true,
+        Path::DotWildcard
+        | Path::BracketWildcard
+        | Path::RecursiveDotWildcard(_)
+        | Path::ArrayIndices(_)
+        | Path::FilterExpr(_)
+        | Path::Expr(_) => false,
+    }
+}
+
+/// The value under a key of an object.
+#[inline(always)]
+fn field(bytes: &[u8], mode: Mode, name: &str, item: Spot) -> Result<Option<Spot>, Error>
+    ensures meant { (t : Tree) → Locates bytes.now item t
+        → Gives (λ found us. AllRelated (Locates bytes.now) (option_spots found) us) IsOutOfMemory result
+        (field_step mode name.now t) }
+    ensures errors { IfErr result (IsSelectionError mode) }
+{
+    match field_spot(bytes, item, name)? {
+        Some(value) => Ok(Some(value)),
+        None => match mode {
+            Mode::Lax => Ok(None),
+            Mode::Strict => Err(Error::StrictPath),
+        },
+    }
+}
+
+/// The name of a step that is one.
+#[inline(always)]
+fn member_name<'s>(step: &'s Path<'_>) -> Option<&'s str>
+    ensures { (mode : Mode) (top t : Tree) → is_member (step_view step.now) ≡ true
+        → MatchOption result (step_meaning mode (step_view step.now) top t ≡ Ok (t ∷ []))
+        (λ name. step_meaning mode (step_view step.now) top t ≡ field_step mode name.now t) }
+{
+    match step {
+        Path::DotField(name) => Some(name.as_str()),
+        Path::ColonField(name) => Some(name.as_str()),
+        Path::ObjectField(name) => Some(name.as_str()),
+        Path::Root
+        | Path::Current
+        | Path::DotWildcard
+        | Path::BracketWildcard
+        | Path::RecursiveDotWildcard(_)
+        | Path::ArrayIndices(_)
+        | Path::FilterExpr(_)
+        | Path::Expr(_) => None,
+    }
+}
+
+/// What one of these steps gives of an item.
+#[inline(always)]
+pub(crate) fn member_of(
+    mode: Mode,
+    step: &Path<'_>,
+    bytes: &[u8],
+    item: Spot,
+) -> Result<Option<Spot>, Error>
+    ensures meant { (top t : Tree) → is_member (step_view step.now) ≡ true → Locates bytes.now item t
+        → Gives (λ found us. AllRelated (Locates bytes.now) (option_spots found) us) IsOutOfMemory result
+        (step_meaning mode (step_view step.now) top t) }
+    ensures errors { IfErr result (IsSelectionError mode) }
+{
+    match member_name(step) {
+        Some(name) => field(bytes, mode, name, item),
+        None => Ok(Some(item)),
+    }
+}
+
+/// The member that these steps name, from an item on.
+#[inline(never)]
+pub(crate) fn member(
+    mode: Mode,
+    steps: &[Path<'_>],
+    bytes: &[u8],
+    first: Spot,
+) -> Result<Option<Spot>, Error>
+    ensures meant { (expressions : Expressions) (top t : Tree) → are_members (steps_view steps.now) ≡ true
+        → Locates bytes.now first t
+        → Gives (λ found us. AllRelated (Locates bytes.now) (option_spots found) us) IsOutOfMemory result
+        (steps_meaning mode (steps_of (map (taken_step expressions) (steps_view steps.now))) top (t ∷ [])) }
+    ensures errors { IfErr result (IsSelectionError mode) }
+{
+    let mut item = first;
+    for step in steps {
+        match member_of(mode, step, bytes, item)? {
+            Some(next) => item = next,
+            None => return Ok(None),
+        }
+    }
+    Ok(Some(item))
+}
+
+/// The steps of an operand that names one member at most.
+#[inline(always)]
+pub(crate) fn member_steps<'s, 'a>(operand: &'s Expr<'a>) -> Option<&'s [Path<'a>]>
+    ensures { MatchOption result ⊤ (λ steps. (are_members (steps_view steps.now) ≡ true)
+        × (expression_view operand.now ≡ paths (steps_of (steps_view steps.now)))) }
+{
+    match operand {
+        Expr::Paths(steps) if are_members(steps) => Some(steps),
+        _ => None,
+    }
+}

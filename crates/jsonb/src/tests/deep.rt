@@ -1,0 +1,122 @@
+//! Expressions nested so deeply that a call for each level would overflow the machine's stack.
+
+use crate::{BinaryOperator, Expr, Path, PathValue, UnaryOperator};
+use jsonb_doc::Number;
+use std::alloc::{AllocError, Global};
+use std::test::Fail;
+
+const LEVELS: u32 = 100_000;
+
+fn truth(alloc: Global) -> Result<Expr<'static>, AllocError> {
+    Ok(Expr::Value(Box::new(alloc, PathValue::Boolean(true))?))
+}
+
+fn pair(
+    alloc: Global,
+    left: Expr<'static>,
+    right: Expr<'static>,
+) -> Result<Expr<'static>, AllocError> {
+    Ok(Expr::BinaryOp {
+        op: BinaryOperator::And,
+        left: Box::new(alloc, left)?,
+        right: Box::new(alloc, right)?,
+    })
+}
+
+fn number(alloc: Global, n: u32) -> Result<Expr<'static>, AllocError> {
+    let literal = PathValue::Number(Number::UInt64(u64::from(n)));
+    Ok(Expr::Value(Box::new(alloc, literal)?))
+}
+
+// `((true && 0) && 1) && ..`
+fn chain(alloc: Global) -> Result<Expr<'static>, AllocError> {
+    let mut found = truth(alloc)?;
+    for n in 0..LEVELS {
+        found = pair(alloc, found, number(alloc, n)?)?;
+    }
+    Ok(found)
+}
+
+// Whether an expression is that chain.
+fn is_chain(expression: &Expr<'_>) -> bool {
+    let mut inner = expression;
+    let mut left = LEVELS;
+    while let Expr::BinaryOp {
+        op: BinaryOperator::And,
+        left: next,
+        right,
+    } = inner
+    {
+        if left == 0 || !is_number(right, left - 1) {
+            return false;
+        }
+        left -= 1;
+        inner = next;
+    }
+    left == 0 && matches!(inner, Expr::Value(literal) if **literal == PathValue::Boolean(true))
+}
+
+fn is_number(expression: &Expr<'_>, n: u32) -> bool {
+    let wanted = PathValue::Number(Number::UInt64(u64::from(n)));
+    matches!(expression, Expr::Value(literal) if **literal == wanted)
+}
+
+// `true && (true && (true && ..))`
+fn right_sides(alloc: Global) -> Result<Expr<'static>, AllocError> {
+    let mut found = truth(alloc)?;
+    for _ in 0..LEVELS {
+        found = pair(alloc, truth(alloc)?, found)?;
+    }
+    Ok(found)
+}
+
+// `exists(@?(exists(@?(.. && true)?(true)) && true)?(true))`
+fn filters(alloc: Global) -> Result<Expr<'static>, AllocError> {
+    let mut found = truth(alloc)?;
+    for _ in 0..LEVELS {
+        let inner = pair(alloc, found, truth(alloc)?)?;
+        let mut steps = Vec::with_capacity(alloc, 3)?;
+        steps.push(Path::Current)?;
+        steps.push(Path::FilterExpr(Box::new(alloc, inner)?))?;
+        steps.push(Path::Expr(Box::new(alloc, truth(alloc)?)?))?;
+        found = Expr::ExistsFunc(steps);
+    }
+    Ok(found)
+}
+
+// `+-+-..true`
+fn signs(alloc: Global) -> Result<Expr<'static>, AllocError> {
+    let mut found = truth(alloc)?;
+    for _ in 0..LEVELS {
+        found = Expr::UnaryOp {
+            op: UnaryOperator::Subtract,
+            operand: Box::new(alloc, found)?,
+        };
+    }
+    Ok(found)
+}
+
+#[test]
+fn deep_expressions_are_let_go(rt: HostRuntime) -> Result<(), Fail> {
+    let alloc = rt.alloc();
+    drop(chain(alloc)?);
+    drop(right_sides(alloc)?);
+    drop(signs(alloc)?);
+    let nested = filters(alloc)?;
+    let step = Path::FilterExpr(Box::new(alloc, nested)?);
+    drop(step);
+    Ok(())
+}
+
+#[test]
+fn long_chains_are_copied(rt: HostRuntime) -> Result<(), Fail> {
+    let alloc = rt.alloc();
+    let whole = chain(alloc)?;
+    assert!(rt; is_chain(&whole));
+    let copy = whole.clone(alloc)?;
+    let owned = whole.to_owned(alloc)?;
+    drop(whole);
+    assert!(rt; is_chain(&copy));
+    assert!(rt; is_chain(&owned));
+    Ok(())
+}
