@@ -235,7 +235,7 @@ uint32_t jsonb_sort_key(const uint8_t *document, size_t document_len, bool wide,
 uint32_t jsonb_equality_key(const uint8_t *document, size_t document_len, uint8_t *out, size_t out_size,
                             size_t *out_len);
 
-/* MAKING DOCUMENTS: scalars, arrays, and objects by jsonb_object_insert into the empty one, the bytes 40 00 00 00 */
+/* MAKING DOCUMENTS: scalars, then arrays of a column, and objects of two columns */
 
 /* jsonb_from_i64 and jsonb_from_u64 of one number give documents that are equal by value, and differ in their bytes. */
 uint32_t jsonb_from_null(uint8_t *out, size_t out_size, size_t *out_len);
@@ -253,7 +253,16 @@ uint32_t jsonb_from_str(const uint8_t *text, size_t text_len, uint8_t *out, size
 uint32_t jsonb_array_from_column(const uint8_t *bytes, size_t bytes_len, const uint64_t *offsets, size_t offsets_len,
                                  uint8_t *out, size_t out_size, size_t *out_len);
 
-/* READING DOCUMENTS APART: jsonb_type, then the casts, or jsonb_len with jsonb_get_by_index or jsonb_pair */
+/* The object of a column of names and a column of documents, row by row, in whatever order. JSONB_BAD_OFFSETS: the
+ * positions of either, or one has more rows. JSONB_NOT_UTF8: the first name that is none.
+ * JSONB_OBJECT_DUPLICATE_KEY: a name comes twice. */
+uint32_t jsonb_object_from_columns(const uint8_t *names, size_t names_len, const uint64_t *name_offsets,
+                                   size_t name_offsets_len, const uint8_t *bytes, size_t bytes_len,
+                                   const uint64_t *offsets, size_t offsets_len, uint8_t *out, size_t out_size,
+                                   size_t *out_len);
+
+/* READING DOCUMENTS APART: jsonb_type, then the casts, or jsonb_len with jsonb_get_by_index or jsonb_pair; or all leaves
+ * at once */
 
 /* The count of elements or of pairs. JSONB_NONE: neither an array nor an object. */
 uint32_t jsonb_len(const uint8_t *document, size_t document_len, size_t *len);
@@ -262,6 +271,24 @@ uint32_t jsonb_len(const uint8_t *document, size_t document_len, size_t *len);
  * there is none. JSONB_BUFFER_TOO_SMALL: one of both buffers is; neither is written, and both lengths are said. */
 uint32_t jsonb_pair(const uint8_t *document, size_t document_len, size_t index, uint8_t *key, size_t key_size,
                     size_t *key_len, uint8_t *value, size_t value_size, size_t *value_len);
+
+typedef struct jsonb_leaf_sizes {
+    size_t rows;           /* how many leaves there are */
+    size_t path_bytes;     /* how many bytes their key paths have */
+    size_t document_bytes; /* how many bytes their documents have */
+} jsonb_leaf_sizes;
+
+/* The leaves of a document in stored order, as two columns: texts of key paths, as {phones,0,"a b"}, and documents. A
+ * leaf is a scalar, an empty array or an empty object; a document that is one itself has none. An empty key stands as
+ * "", which is in no key path that can be read. sizes->rows + 1 positions go into each of the two `.._positions`. JSONB_BUFFER_TOO_SMALL: one of the four buffers is; nothing was
+ * written, and *sizes says what is needed. With any other refusal *sizes is 0 throughout.
+ *
+ *   jsonb_leaf_sizes need;
+ *   jsonb_leaves(document, len, NULL, 0, NULL, 0, NULL, 0, NULL, 0, &need);
+ *   ... room for need.path_bytes and need.document_bytes bytes, and twice need.rows + 1 positions ... */
+uint32_t jsonb_leaves(const uint8_t *document, size_t document_len, uint8_t *paths, size_t paths_size,
+                      uint64_t *path_positions, size_t path_positions_len, uint8_t *documents, size_t documents_size,
+                      uint64_t *document_positions, size_t document_positions_len, jsonb_leaf_sizes *sizes);
 
 /* COLUMNS
  *

@@ -9,6 +9,7 @@ the status and the answer; bytes are in hexadecimal, and `-` is no bytes.
 """
 
 import os
+import struct
 import sys
 from dataclasses import dataclass
 
@@ -19,6 +20,7 @@ import documents
 OK, NONE = "JSONB_OK", "JSONB_NONE"
 STRICT_PATH, INVALID_JSON_PATH, INVALID_KEY_PATH = "JSONB_STRICT_PATH", "JSONB_INVALID_JSON_PATH", "JSONB_INVALID_KEY_PATH"
 INVALID_JSONB, UNSUPPORTED_NUMBER = "JSONB_INVALID_JSONB", "JSONB_UNSUPPORTED_NUMBER"
+BAD_OFFSETS, NOT_UTF8 = "JSONB_BAD_OFFSETS", "JSONB_NOT_UTF8"
 FALSE, TRUE, UNKNOWN = 0, 1, 2
 
 
@@ -38,7 +40,17 @@ class Names(list):
     """A column of texts or of documents."""
 
 
+@dataclass
+class Placed:
+    """A column whose positions are given, as wrong ones are."""
+
+    bytes: bytes
+    positions: tuple
+
+
 def words_of(it):
+    if isinstance(it, Placed):
+        return [hexadecimal(it.bytes), ",".join(map(str, it.positions))]
     if isinstance(it, Names):
         rows = [row.encode() if isinstance(row, str) else row for row in it]
         ends = [sum(map(len, rows[:count])) for count in range(len(rows) + 1)]
@@ -141,11 +153,11 @@ def places():
     yield from table("get_by_index", [(V[1], 1, json("10")), (V[1], 2, json('{"k":"v"}')), (V[1], 3, NONE), (V[10], 0, NONE)])
     yield from table("get_by_name", [
         (V[15], "ASD", True, json('"adf"')), (V[15], "ASD", False, NONE), (V[15], "asd", False, json('"adf"')),
-        (V[1], "k", False, NONE), (V[15], b"\xff", False, "JSONB_NOT_UTF8"),
+        (V[1], "k", False, NONE), (V[15], b"\xff", False, NOT_UTF8),
     ])
     yield from table("delete_by_name", [
         (V[3], "a", V[5]), (number(5), "a", "JSONB_INVALID_JSON_TYPE"), (V[10], "a", json('{"b":[null]}')),
-        (V[3], b"\xff", "JSONB_NOT_UTF8"),
+        (V[3], b"\xff", NOT_UTF8),
     ])
     yield from table("delete_by_index", [
         (V[5], -2147483648, V[5]), (V[2], -1, json("[10,20]")), (V[2], 0, json("[20,30]")), (V[2], 3, V[2]),
@@ -168,7 +180,7 @@ def edits():
         (V[15], one, "b", False, bytes.fromhex("40000002 10000003 10000001 10000003 20000002 617364 62 616466 5001")),
         (V[15], one, "asd", False, "JSONB_OBJECT_DUPLICATE_KEY"),
         (V[15], one, "asd", True, bytes.fromhex("40000001 10000003 20000002 617364 5001")),
-        (V[5], one, "a", True, "JSONB_INVALID_OBJECT"), (V[15], one, b"\xff", True, "JSONB_NOT_UTF8"),
+        (V[5], one, "a", True, "JSONB_INVALID_OBJECT"), (V[15], one, b"\xff", True, NOT_UTF8),
     ])
     yield from table("concat", [
         (V[5], V[9], bytes.fromhex("80000002 20000002 5000000a 5001 80000001 20000002 5001")),
@@ -182,12 +194,31 @@ def edits():
     yield from table("object_pick", [
         (V[10], Names(["a"]), bytes.fromhex("40000001 10000001 00000000 61")), (V[10], Names(), json("{}")),
         (V[10], Names(["b", "c", "b"]), json('{"b":[null]}')), (V[5], Names(["a"]), "JSONB_INVALID_OBJECT"),
-        (V[10], Names([b"\xff"]), "JSONB_NOT_UTF8"),
+        (V[10], Names([b"\xff"]), NOT_UTF8),
     ])
     yield from table("object_delete", [
         (V[10], Names(["a"]), bytes.fromhex("40000001 10000001 50000008 62 80000001 00000000")),
         (V[10], Names(), V[10]), (V[5], Names(["a"]), "JSONB_INVALID_OBJECT"),
     ])
+
+
+def places_of_names():
+    """The first name that is wrong is the status; the others are not looked at."""
+    wrong = [
+        (Placed(b"ab", (0, 2, 1)), BAD_OFFSETS), (Placed(b"ab", (0, 3)), BAD_OFFSETS), (Placed(b"ab", (0, 1, 2**64 - 1)), BAD_OFFSETS),
+        (Placed(b"ab", (2**63, 2)), BAD_OFFSETS), (Placed(b"", (0, 1)), BAD_OFFSETS), (Placed(b"a\xff", (0, 1, 2)), NOT_UTF8),
+        (Placed(b"a\xff", (0, 1, 2, 9)), NOT_UTF8), (Placed(b"a\xff", (0, 9, 1, 2)), BAD_OFFSETS),
+        (Placed("é".encode(), (0, 1, 2)), NOT_UTF8),
+    ]
+    for call in ("exists_all_keys", "exists_any_keys", "object_pick", "object_delete"):
+        yield from table(call, [(V[10], names, status) for names, status in wrong])
+        yield from table(call, [(DAMAGED, names, status) for names, status in wrong[:1]])
+    yield from table("object_from_columns", [
+        (names, Names([number(1)] * (len(names.positions) - 1)), status) for names, status in wrong
+    ])
+    yield from table("exists_all_keys", [(V[10], Placed(b"zab", (1, 2, 3)), TRUE), (V[10], Placed(b"a", (0, 1, 1)), FALSE)])
+    yield from table("exists_any_keys", [(V[10], Placed(b"a", (1, 1, 1)), FALSE), (V[10], Placed(b"a", (7,)), FALSE)])
+    yield from table("object_pick", [(V[10], Placed(b"za", (1, 2)), bytes.fromhex("40000001 10000001 00000000 61"))])
 
 
 def sets():
@@ -342,9 +373,21 @@ def making():
         (2**63 - 1, 2**64 - 1, 38, decimal(38, 2**127 - 1, 16)), (-1, 2**63, 0, decimal(0, -2**63)),
         (-2**63, 0, 255, decimal(255, -2**127, 16)), (0, 2**63, 0, decimal(0, 2**63, 16)),
     ])
-    yield from table("from_str", [("a", json('"a"')), ("", json('""')), ("é", json('"é"')), (b"\xff", "JSONB_NOT_UTF8")])
+    yield from table("from_str", [("a", json('"a"')), ("", json('""')), ("é", json('"é"')), (b"\xff", NOT_UTF8)])
     yield from table("array_from_column", [
         (Names(), EMPTY_ARRAY), (Names([number(1), json('"a"')]), V[3]), (Names([V[5]]), V[9]), (Names([DAMAGED]), INVALID_JSONB),
+        (Placed(V[5], (0, 10, 11)), BAD_OFFSETS), (Placed(V[5], (10, 0)), BAD_OFFSETS), (Placed(V[5], (10,)), EMPTY_ARRAY),
+        (Placed(V[5], (0, 10, 10)), INVALID_JSONB), (Placed(b"\0" + V[5], (1, 11)), V[9]),
+    ])
+    one, text = number(1), json('"adf"')
+    yield from table("object_from_columns", [
+        (Names(), Names(), json("{}")), (Names(["asd"]), Names([text]), V[15]),
+        (Names(["b", "a"]), Names([json("[null]"), json("null")]), V[10]), (Names(["b", ""]), Names([one, one]), json('{"":1,"b":1}')),
+        (Names(["a", "b", "a"]), Names([one, one, one]), "JSONB_OBJECT_DUPLICATE_KEY"),
+        (Names(["a", "a"]), Names([one, DAMAGED]), INVALID_JSONB), (Names(["a"]), Names([FLOAT]), UNSUPPORTED_NUMBER),
+        (Names(["a"]), Names(), BAD_OFFSETS), (Names(), Names([one]), BAD_OFFSETS), (Names(["a"]), Placed(one, (0, 11)), BAD_OFFSETS),
+        (Names([b"\xff"]), Placed(one, (0, 11)), BAD_OFFSETS), (Names([b"\xff"]), Names([one]), NOT_UTF8),
+        (Names(["a"]), Placed(V[5], (10, 0)), BAD_OFFSETS),
     ])
 
 
@@ -354,8 +397,35 @@ def reading():
     yield from table("pair_value", [(V[10], 0, json("null")), (V[10], 1, json("[null]")), (V[10], 2, NONE), (V[5], 0, NONE)])
 
 
+def leaves():
+    """Key paths and documents as columns, each with its positions in the machine's order."""
+    rows = [
+        (V[1], ["{0}", "{1}", "{2,k}"], ["2000000030000000", "2000000020000002500a", "200000001000000176"]),
+        (V[10], ["{a}", "{b,0}"], ["2000000000000000"] * 2),
+        (bytes.fromhex("40000001 10000003 20000002 612062 5001"), ['{"a b"}'], ["20000000200000025001"]),
+        (json(r'{"\"\\":1}'), [r'{"\"\\"}'], ["20000000200000025001"]), (json('{"":{"1":[[]]}}'), ['{"","1",0}'], ["80000000"]),
+        (json("[{}]"), ["{0}"], ["40000000"]), (json("[[[]],false]"), ["{0,0}", "{1}"], ["80000000", "2000000030000000"]),
+        (V[8], ["{0}", "{1}", "{2}", "{3}"],
+         ["20000000200000025001"] * 2 + ["20000000200000025002", "200000002000000a70000000000000000a01"]),
+        (V[14], ["{number}", "{type}"], ["200000002000000550 0038c505", "2000000010000004686f6d65"]),
+        (bytes.fromhex("80000001 60000005 1000000001"), ["{0}"], ["20000000 60000005 1000000001"]),
+        (bytes.fromhex("80000001 60000002 00ff"), ["{0}"], ["20000000 60000002 00ff"]),
+        (number(5), [], []), (EMPTY_ARRAY, [], []), (json("{}"), [], []), (V[12], [], []),
+        (nested(60), ["{" + ",".join(["0"] * 59) + "}"], ["80000000"]),
+    ]
+    for document, paths, parts in rows:
+        columns = [[path.encode() for path in paths], [bytes.fromhex(part) for part in parts]]
+        for call, column in zip(("leaf_paths", "leaf_documents"), columns):
+            yield Row(call, (document,), OK, b"".join(column))
+        for call, column in zip(("leaf_path_positions", "leaf_document_positions"), columns):
+            ends = [sum(map(len, column[:count])) for count in range(len(column) + 1)]
+            yield Row(call, (document,), OK, struct.pack(f"={len(ends)}Q", *ends))
+    for call in ("leaf_paths", "leaf_path_positions", "leaf_documents", "leaf_document_positions"):
+        yield from table(call, [(FLOAT, UNSUPPORTED_NUMBER), (DAMAGED, INVALID_JSONB), (b"", INVALID_JSONB)])
+
+
 def all_rows():
-    for part in (places, edits, sets, scalars, keys, paths, making, reading):
+    for part in (places, edits, places_of_names, sets, scalars, keys, paths, making, reading, leaves):
         yield from part()
 
 

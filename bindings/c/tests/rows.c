@@ -34,16 +34,19 @@ typedef uint32_t bcO_fn(const uint8_t *, size_t, const uint8_t *, size_t, const 
                         size_t *);
 typedef uint32_t bcT_fn(const uint8_t *, size_t, const uint8_t *, size_t, const uint64_t *, size_t, uint8_t *);
 typedef uint32_t cO_fn(const uint8_t *, size_t, const uint64_t *, size_t, uint8_t *, size_t, size_t *);
+typedef uint32_t ccO_fn(const uint8_t *, size_t, const uint64_t *, size_t, const uint8_t *, size_t, const uint64_t *,
+                        size_t, uint8_t *, size_t, size_t *);
 typedef uint32_t O_fn(uint8_t *, size_t, size_t *);
 typedef uint32_t fO_fn(bool, uint8_t *, size_t, size_t *);
 typedef uint32_t lO_fn(int64_t, uint8_t *, size_t, size_t *);
 typedef uint32_t uO_fn(uint64_t, uint8_t *, size_t, size_t *);
 typedef uint32_t luyO_fn(int64_t, uint64_t, uint8_t, uint8_t *, size_t, size_t *);
 
-/* The two answers of jsonb_pair as two calls: the other one has room enough, and is written with this one alone. */
+/* The answers of jsonb_pair and jsonb_leaves as calls of their own: the others have room enough, and are written with this
+ * one alone. */
 enum { OTHER = 256, WROTE_OTHER = 998 };
 
-static uint32_t pair_answered(uint32_t status, const uint8_t *other, size_t other_len) {
+static uint32_t answered_beside(uint32_t status, const uint8_t *other, size_t other_len) {
     size_t written = status == JSONB_OK ? other_len : 0;
     for (size_t i = written; i < OTHER; i++)
         if (other[i] != FILL) return WROTE_OTHER;
@@ -56,7 +59,7 @@ static uint32_t jsonb_pair_key(const uint8_t *document, size_t document_len, siz
     size_t other_len = 0;
     memset(other, FILL, sizeof other);
     uint32_t status = jsonb_pair(document, document_len, index, out, size, out_len, other, OTHER, &other_len);
-    return pair_answered(status, other, other_len);
+    return answered_beside(status, other, other_len);
 }
 
 static uint32_t jsonb_pair_value(const uint8_t *document, size_t document_len, size_t index, uint8_t *out, size_t size,
@@ -65,14 +68,49 @@ static uint32_t jsonb_pair_value(const uint8_t *document, size_t document_len, s
     size_t other_len = 0;
     memset(other, FILL, sizeof other);
     uint32_t status = jsonb_pair(document, document_len, index, other, OTHER, &other_len, out, size, out_len);
-    return pair_answered(status, other, other_len);
+    return answered_beside(status, other, other_len);
 }
+
+enum leaf_answer { LEAF_PATHS, LEAF_PATH_POSITIONS, LEAF_DOCUMENTS, LEAF_DOCUMENT_POSITIONS, LEAF_ANSWERS };
+
+static uint32_t leaves_by(enum leaf_answer asked, const uint8_t *document, size_t document_len, uint8_t *out,
+                          size_t size, size_t *out_len) {
+    _Alignas(8) uint8_t others[LEAF_ANSWERS][OTHER];
+    uint8_t *at[LEAF_ANSWERS];
+    size_t room[LEAF_ANSWERS];
+    jsonb_leaf_sizes sizes = {99, 99, 99};
+    memset(others, FILL, sizeof others);
+    for (int i = 0; i < LEAF_ANSWERS; i++) {
+        at[i] = i == (int)asked ? out : others[i];
+        room[i] = i == (int)asked ? size : OTHER;
+    }
+    uint32_t status = jsonb_leaves(document, document_len, at[0], room[0], (uint64_t *)at[1], room[1] / 8, at[2],
+                                   room[2], (uint64_t *)at[3], room[3] / 8, &sizes);
+    bool is_told = status == JSONB_OK || status == JSONB_BUFFER_TOO_SMALL;
+    if (!is_told && (sizes.rows || sizes.path_bytes || sizes.document_bytes)) return WROTE_OTHER;
+    size_t positions = is_told ? 8 * (sizes.rows + 1) : 0;
+    const size_t lens[LEAF_ANSWERS] = {sizes.path_bytes, positions, sizes.document_bytes, positions};
+    *out_len = lens[asked];
+    for (int i = 0; i < LEAF_ANSWERS; i++)
+        if (i != (int)asked && answered_beside(status, others[i], lens[i]) != status) return WROTE_OTHER;
+    return status;
+}
+
+#define LEAVES_BY(name, asked)                                                                                         \
+    static uint32_t jsonb_leaf_##name(const uint8_t *document, size_t document_len, uint8_t *out, size_t size,         \
+                                      size_t *out_len) {                                                               \
+        return leaves_by(asked, document, document_len, out, size, out_len);                                           \
+    }
+LEAVES_BY(paths, LEAF_PATHS)
+LEAVES_BY(path_positions, LEAF_PATH_POSITIONS)
+LEAVES_BY(documents, LEAF_DOCUMENTS)
+LEAVES_BY(document_positions, LEAF_DOCUMENT_POSITIONS)
 
 #define SHAPES(X)                                                                                                      \
     X(b)                                                                                                               \
     X(bT)                                                                                                              \
     X(bN) X(bW) X(bC) X(bO) X(bfO) X(bsO) X(biO) X(bbO) X(bbT) X(bbfO) X(bbfT) X(bbiO) X(bbbfO) X(bcO) X(bcT) X(cO)    \
-        X(O) X(fO) X(lO) X(uO) X(luyO)
+        X(ccO) X(O) X(fO) X(lO) X(uO) X(luyO)
 #define SHAPE_NAME(s)    SHAPE_##s,
 #define SHAPE_FIELD(s)   s##_fn *s;
 #define SHAPE_LETTERS(s) #s,
@@ -105,7 +143,7 @@ struct column {
 struct row {
     const struct call *call;
     struct bytes bytes[3];
-    struct column column;
+    struct column columns[2];
     int64_t number;
     uint64_t whole;
     uint8_t scale;
@@ -128,9 +166,9 @@ struct result {
 static struct result run(const struct row *row, uint8_t *out, size_t size) {
     struct result r = {.len = 99, .truth = FILL, .number = FILL, .whole = FILL, .count = FILL};
     const struct bytes *b = row->bytes;
-    const struct column *c = &row->column;
+    const struct column *c = row->columns;
 #define B(i) b[i].at, b[i].len
-#define C    c->bytes.at, c->bytes.len, c->offsets, c->len
+#define C(i) c[i].bytes.at, c[i].bytes.len, c[i].offsets, c[i].len
 #define OUT  out, size, &r.len
 #define RUN(s, ...)                                                                                                    \
     case SHAPE_##s:                                                                                                    \
@@ -152,9 +190,10 @@ static struct result run(const struct row *row, uint8_t *out, size_t size) {
         RUN(bbfT, B(0), B(1), row->flag, &r.truth)
         RUN(bbiO, B(0), B(1), (int32_t)row->number, OUT)
         RUN(bbbfO, B(0), B(1), B(2), row->flag, OUT)
-        RUN(bcO, B(0), C, OUT)
-        RUN(bcT, B(0), C, &r.truth)
-        RUN(cO, C, OUT)
+        RUN(bcO, B(0), C(0), OUT)
+        RUN(bcT, B(0), C(0), &r.truth)
+        RUN(cO, C(0), OUT)
+        RUN(ccO, C(0), C(1), OUT)
         RUN(O, OUT)
         RUN(fO, row->flag, OUT)
         RUN(lO, row->number, OUT)
@@ -205,7 +244,7 @@ static const struct call *find_call(const char *name) {
 
 static bool read_row(struct row *row, char *line) {
     char *words[MOST_WORDS] = {NULL};
-    size_t count = 0, at = 1, bytes = 0;
+    size_t count = 0, at = 1, bytes = 0, columns = 0;
     for (char *word = strtok(line, " \n"); word && count < MOST_WORDS; word = strtok(NULL, " \n"))
         words[count++] = word;
     memset(row, 0, sizeof *row);
@@ -213,7 +252,7 @@ static bool read_row(struct row *row, char *line) {
     for (const char *letter = letters[row->call->shape]; *letter; letter++) {
         if (isupper((unsigned char)*letter)) break;
         if (*letter == 'b') row->bytes[bytes++] = read_bytes(words[at++]);
-        if (*letter == 'c') row->column = read_column(words[at], words[at + 1]), at += 2;
+        if (*letter == 'c') row->columns[columns++] = read_column(words[at], words[at + 1]), at += 2;
         if (*letter == 'f') row->flag = *words[at++] == '1';
         if (strchr("isl", *letter)) row->number = strtoll(words[at++], NULL, 10);
         if (*letter == 'u') row->whole = strtoull(words[at++], NULL, 10);
@@ -228,7 +267,7 @@ static bool read_row(struct row *row, char *line) {
 
 static void free_row(struct row *row) {
     for (int i = 0; i < 3; i++) free(row->bytes[i].at);
-    free(row->column.bytes.at), free(row->column.offsets);
+    for (int i = 0; i < 2; i++) free(row->columns[i].bytes.at), free(row->columns[i].offsets);
     free(row->wanted.at);
 }
 

@@ -5,6 +5,7 @@ from __future__ import annotations
 import ctypes
 import ctypes.util
 import os
+from array import array
 from typing import Any, Dict, List, Optional, Sequence, Tuple
 
 from ._buffers import borrowed
@@ -31,6 +32,7 @@ _CROSSES: Dict[str, List[Any]] = {
     "R": [_POINTER, _SIZE] * 2 + [_POINTER],  # a byte or a number a row, statuses, rows that are done
     "S": [_POINTER, _SIZE, _POINTER],  # statuses alone, rows that are done
     "P": [_POINTER, _SIZE] * 3 + [_POINTER],  # bytes, positions, statuses, progress
+    "L": [_POINTER, _SIZE] * 4 + [_POINTER],  # bytes and positions of key paths, of documents, and how large they are
 }
 CALLS: Dict[str, str] = {
     "status_name": "uO", "check": "b", "type": "bT", "get_by_keypath": "bbO", "get_by_index": "bsO", "get_by_name": "bbfO",
@@ -41,7 +43,7 @@ CALLS: Dict[str, str] = {
     "exists_all_keys": "bcT", "exists_any_keys": "bcT", "as_bool": "bT", "as_i64": "bN", "as_u64": "bW", "as_str": "bO",
     "to_bool": "bT", "to_i64": "bN", "to_u64": "bW", "to_str": "bO", "sort_key": "bfO", "equality_key": "bO",
     "from_null": "O", "from_bool": "fO", "from_i64": "lO", "from_u64": "uO", "from_decimal": "luyO", "from_str": "bO",
-    "array_from_column": "cO", "len": "bC", "pair": "bsOO",
+    "array_from_column": "cO", "object_from_columns": "ccO", "leaves": "bL", "len": "bC", "pair": "bsOO",
     "column_check": "cS", "column_exists": "cbfR", "column_match": "cbfR", "column_contains": "cbR", "column_to_i64": "cR",
     "column_get": "cbP", "column_select_first": "cbfP", "column_select_value": "cbfP", "column_select_array": "cbfP",
     "column_key": "cfP", "column_equality_key": "cP", "column_to_str": "cP", "column_delete_by_keypath": "cbP",
@@ -57,6 +59,12 @@ class Progress(ctypes.Structure):
     """How far a call on a column came."""
 
     _fields_ = [("rows", _SIZE), ("bytes", _SIZE), ("next", _SIZE)]
+
+
+class LeafSizes(ctypes.Structure):
+    """How many leaves there are, and how many bytes their key paths and their documents have."""
+
+    _fields_ = [("rows", _SIZE), ("path_bytes", _SIZE), ("document_bytes", _SIZE)]
 
 
 def _find() -> str:
@@ -134,6 +142,26 @@ def bytes_of(name: str, *arguments: Any, room: int = 256) -> Optional[bytes]:
     if status == NONE:
         return None
     raise refusal(status, shown(arguments))
+
+
+def columns_of(name: str, *arguments: Any) -> Tuple[bytes, "array[int]", bytes, "array[int]"]:
+    """Makes a call that gives two columns: bytes and positions of the one and of the other. It is made twice, first for the sizes."""
+    call, (taken, kept) = FUNCTIONS[name], words(name, arguments)
+    sizes = LeafSizes()
+    status = call(*taken, *(None, 0) * 4, ctypes.byref(sizes))
+    if status == BUFFER_TOO_SMALL:
+        rooms = [it for length in (sizes.path_bytes, sizes.document_bytes) for it in _column_room(length, sizes.rows)]
+        status = call(*taken, *(word for room, count in rooms for word in (room, count)), ctypes.byref(sizes))
+    del kept
+    if status != OK:
+        raise refusal(status, shown(arguments))
+    (paths, _), (path_positions, _), (documents, _), (positions, _) = rooms
+    return paths.raw, array("Q", path_positions), documents.raw, array("Q", positions)
+
+
+def _column_room(length: int, rows: int) -> List[Tuple[Any, int]]:
+    """Buffers for the bytes and the positions of a column."""
+    return [(ctypes.create_string_buffer(length), length), ((ctypes.c_uint64 * (rows + 1))(), rows + 1)]
 
 
 def asked(name: str, *arguments: Any) -> None:

@@ -15,10 +15,10 @@ nothing answers None; each refusal raises the exception of its name (jsonb_paths
 
 from __future__ import annotations
 
-from typing import Any, Iterable, List, Optional
+from typing import Any, Iterable, List, Optional, Tuple
 
 from ._buffers import joined
-from ._library import asked, bytes_of, number_of
+from ._library import asked, bytes_of, columns_of, number_of
 from .values import elements
 
 KINDS = (
@@ -175,6 +175,31 @@ def object_pick(document: Any, names: Iterable[str]) -> bytes:
 def object_delete(document: Any, names: Iterable[str]) -> bytes:
     """The pairs of an object whose keys are not among the names."""
     return _known(bytes_of("object_delete", document, joined(names), room=_room(document)))
+
+
+def object_from_columns(names: Iterable[str], documents: Iterable[Any]) -> bytes:
+    """An object of names and documents, the first with the first and so on. A name that comes twice is refused.
+
+    >>> from jsonb_paths import dumps, loads
+    >>> loads(object_from_columns(["b", "a"], [dumps(1), dumps([2])]))
+    {'a': [2], 'b': 1}
+    """
+    names, documents = joined(names), joined(documents)
+    return _known(bytes_of("object_from_columns", names, documents, room=len(names[0]) + len(documents[0]) + 64))
+
+
+def leaves(document: Any) -> List[Tuple[str, bytes]]:
+    """The key paths and the documents of all scalars, empty arrays and empty objects in a document, in stored order.
+
+    An empty key stands as "", which is in no key path that can be read.
+
+    >>> from jsonb_paths import dumps, loads
+    >>> [(path, loads(it)) for path, it in leaves(dumps({"name": "Fred", "phones": [{"number": 7}, {}]}))]
+    [('{name}', 'Fred'), ('{phones,0,number}', 7), ('{phones,1}', {})]
+    """
+    paths, path_positions, parts, positions = columns_of("leaves", document)
+    texts = (paths[at:end].decode() for at, end in zip(path_positions, path_positions[1:]))
+    return list(zip(texts, (parts[at:end] for at, end in zip(positions, positions[1:]))))
 
 
 def contains(document: Any, other: Any) -> bool:

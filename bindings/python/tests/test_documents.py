@@ -50,8 +50,10 @@ class Values(unittest.TestCase):
         source = random.Random(1)
         for _ in range(400):
             value = random_value(source)
-            self.assertEqual(dumps(value), model.encode(value))
-            self.assertEqual(loads(dumps(value)), value)
+            document = dumps(value)
+            jsonb_paths.check(document)
+            self.assertEqual(document, model.encode(value))
+            self.assertEqual(loads(document), value)
 
     def test_long_arrays_and_objects(self):
         value = {"long": list(range(5000)), "wide": {str(it): it for it in range(300)}, "deep": [[[[["x"]]]]]}
@@ -137,6 +139,45 @@ class Calls(unittest.TestCase):
             (jsonb_paths.object_pick(document, ["b", "z"]), {"b": None}), (jsonb_paths.object_delete(document, ["a", "b"]), {"c": "x"}),
         ]:
             self.assertEqual(loads(made), wanted)
+
+    def test_objects_of_columns(self):
+        source = random.Random(3)
+        for _ in range(200):
+            names = source.sample(NAMES, source.randrange(len(NAMES)))
+            values = [random_value(source) for _ in names]
+            made = jsonb_paths.object_from_columns(names, map(dumps, values))
+            self.assertEqual(made, model.encode(dict(zip(names, values))))
+        for kind, names, values in [
+            (errors.ObjectDuplicateKey, ["a", "b", "a"], [1, 2, 3]), (errors.BadOffsets, ["a"], []), (errors.NotUtf8, ["\udcff"], [1]),
+        ]:
+            with self.assertRaises(kind):
+                jsonb_paths.object_from_columns(names, map(dumps, values))
+
+    def test_leaves(self):
+        def leaves(value, steps=()):
+            parts = value.items() if isinstance(value, dict) else enumerate(value)
+            for step, part in sorted(parts, key=lambda it: it[0].encode()) if isinstance(value, dict) else parts:
+                if isinstance(part, (list, dict)) and part:
+                    yield from leaves(part, (*steps, step))
+                else:
+                    yield (*steps, step), part
+
+        def text(steps):
+            plain = {"a", "b", "k"}
+            return "{" + ",".join(str(it) if isinstance(it, int) or it in plain else f'"{it}"' for it in steps) + "}"
+
+        source = random.Random(4)
+        for _ in range(200):
+            value = random_value(source)
+            wanted = list(leaves(value)) if isinstance(value, (list, dict)) else []
+            found = jsonb_paths.leaves(dumps(value))
+            self.assertEqual(found, [(text(steps), model.encode(part)) for steps, part in wanted])
+            for path, part in found:
+                if '""' in path:  # no key path holds an empty name
+                    continue
+                self.assertEqual(jsonb_paths.get(dumps(value), path), part)
+        with self.assertRaises(errors.InvalidJsonb):
+            jsonb_paths.leaves(b"?")
 
     def test_questions(self):
         document = dumps({"a": [1, 2], "b": "yes"})

@@ -16,6 +16,7 @@ C_TYPES = {
     "l": ["int64_t"], "u": ["uint64_t"], "y": ["uint8_t"], "O": ["byte *", "size", "size *"], "T": ["byte *"],
     "N": ["int64_t *"], "W": ["uint64_t *"], "C": ["size *"], "S": ["byte *", "size", "size *"],
     "P": ["byte *", "size", "uint64_t *", "size", "byte *", "size", "progress *"],
+    "L": ["byte *", "size", "uint64_t *", "size"] * 2 + ["leaf_sizes *"],
 }
 
 
@@ -33,7 +34,8 @@ def prototypes():
 def short(c_type):
     names = {
         "const uint8_t *": "bytes", "const uint64_t *": "positions", "size_t": "size", "size_t *": "size *",
-        "uint8_t *": "byte *", "jsonb_progress *": "progress *", "uint32_t": "uint64_t",
+        "uint8_t *": "byte *", "jsonb_progress *": "progress *", "jsonb_leaf_sizes *": "leaf_sizes *",
+        "uint32_t": "uint64_t",
     }
     c_type = re.sub(r"\s+", " ", c_type).strip()
     return names.get(c_type, c_type)

@@ -4,3 +4,5 @@ pub mod Names
 pub mod NameSets
 pub mod ColumnPaths
 pub mod MakingLemmas
+pub mod ObjectRows
+pub mod LeafRows

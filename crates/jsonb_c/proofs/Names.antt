@@ -55,6 +55,20 @@ names_all rows i names is so_far =
     let e : names_of (drop i rows) ≡ Ok [] = rw (is, drop_all rows) refl in
     so_far ∙ ap (behind names) e ∙ ap Ok (append-nil names)
 
+-- as many names are read as there are rows
+pub names_count : (rows : List (Option (List ℕ))) (names : List (List ℕ)) → names_of rows ≡ Ok names → length names ≡ length rows
+names_count [] names is = let e : [] ≡ names = cc in rw (← e) refl
+names_count (row ∷ rows) names is = go (name_of row) (names_of rows) refl (names_count rows) is
+  where
+    go : (first : Result (List ℕ) Status) (rest : Result (List (List ℕ)) Status) → names_of rows ≡ rest
+        → ((others : List (List ℕ)) → names_of rows ≡ Ok others → length others ≡ length rows) → in_front first rest ≡ Ok names
+        → length names ≡ suc (length rows)
+    go (Ok name) (Ok others) read count same =
+        let e : name ∷ others ≡ names = cc in rw (← e) (ap suc (count others read))
+    go (Ok name) (Err cause) read count same = cc
+    go (Err cause) (Ok others) read count same = cc
+    go (Err cause) (Err other) read count same = cc
+
 -- what a call promises by the names that it read, and by what is wrong with them
 pub answered : (read : Result (List (List ℕ)) Status) (names : List (List ℕ)) (Answered : List (List ℕ) → Type 0) (IsRefused : Status → Type 0)
     → read ≡ Ok names → Answered names → WithNames read Answered IsRefused

@@ -36,7 +36,7 @@ row_at bytes offsets column i is lt =
     let within = in_offsets bytes offsets column i is lt in
     rw (← is, add-one) (row_at_suc bytes offsets i (omega (arith, within)))
 
-take_one_more : {A : Type 0} (xs : List A) (i : ℕ) (x : A) → slice_get xs i ≡ Some x → take (suc i) xs ≡ take i xs ++ x ∷ []
+pub take_one_more : {A : Type 0} (xs : List A) (i : ℕ) (x : A) → slice_get xs i ≡ Some x → take (suc i) xs ≡ take i xs ++ x ∷ []
 take_one_more (y ∷ xs) zero x is = let e : y ≡ x = cc in ap (λ z. z ∷ []) e
 take_one_more (y ∷ xs) (suc i) x is = ap (λ zs. y ∷ zs) (take_one_more xs i x is)
 take_one_more [] i x is = cc
@@ -67,7 +67,7 @@ mapped_more f cells old new cell n is lt h =
 
 -- ---- cells
 
-related_more : {A B : Type 0} (R : A → B → Type 0) (xs : List A) (ys : List B) (x : A) (y : B)
+pub related_more : {A B : Type 0} (R : A → B → Type 0) (xs : List A) (ys : List B) (x : A) (y : B)
     → AllRelated R xs ys → R x y → AllRelated R (xs ++ x ∷ []) (ys ++ y ∷ [])
 related_more R [] [] x y h here = (here, tt)
 related_more R (a ∷ xs) (b ∷ ys) x y h here = (h.0, related_more R xs ys x y h.1 here)

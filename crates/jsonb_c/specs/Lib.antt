@@ -8,3 +8,5 @@ pub mod Rows
 pub mod Names
 pub mod Views
 pub mod Making
+pub mod Leaves
+pub mod LeafColumns

@@ -1,10 +1,14 @@
 -- What the calls that make and count documents answer.
-use Rattle.std.specs.Prelude.{◌≡◌, ◌⊎◌, ◌+ℤ◌, ◌*ℤ◌, ◌^◌, ℕ, ℤ, pos, Bool, true, ◌&&◌, List, [], ◌∷◌, length, Option, Some, None, option_map, is_some, slice_get, Result, Ok, Err, FitsSigned, MatchOption, MatchResult, IsSomeAnd, ◌<◌}
+use Rattle.std.specs.Prelude.{◌≡◌, ◌⊎◌, ◌+ℤ◌, ◌*ℤ◌, ◌^◌, ℕ, ℤ, pos, Bool, true, ◌&&◌, List, [], ◌∷◌, length, Option, Some, None, option_map, is_some, slice_get, Result, Ok, Err, FitsSigned, MatchOption, MatchResult, IsSomeAnd, ◌<◌, if◌then◌else◌}
 use Rattle.std.specs.Int.{w64}
 use Rattle.jsonb_doc.specs.declared.error.Error.{Error}
-use Rattle.jsonb_doc.specs.Answer.{IsOutOfMemoryOrTooLarge}
+use Rattle.std.specs.List.{zip}
+use Rattle.jsonb_doc.specs.declared.error.Error.TheVariants.{ObjectDuplicateKey, TooLarge}
+use Rattle.jsonb_doc.specs.Answer.{Gives, Outcome, IsOutOfMemory, IsOutOfMemoryOrTooLarge, ◌or◌when◌}
+use Rattle.jsonb_doc.specs.Limits.{IsTooLarge}
+use Rattle.jsonb_doc.specs.ObjectBuilder.{has_key, insert_pair}
 use Rattle.jsonb_doc.specs.Number.{number_from, decimal64, decimal128}
-use Rattle.jsonb_doc.specs.Tree.{Tree, array, number, object, members, trees_of, children_of}
+use Rattle.jsonb_doc.specs.Tree.{Tree, array, number, object, members, pairs_of, trees_of, children_of}
 use Rattle.jsonb_doc.specs.Payload.{Form}
 use Rattle.jsonb_doc.specs.Format.{Decodes}
 use Rattle.jsonb.specs.Related.{AllRelated}
@@ -42,6 +46,22 @@ IsRowOf form None t = ⊥
 abbrev pub MakesArray : List (Option (List ℕ)) → Result (List ℕ) Error → Type 0
 MakesArray column answer = (form : Form) (ts : List Tree) → AllRelated (IsRowOf form) column ts
     → MatchResult answer (λ made. Decodes form made (array (trees_of ts))) (IsOutOfMemoryOrTooLarge form (array (trees_of ts)))
+
+-- ---- an object of two columns
+
+-- the pairs with those of the rows put in, one row after the other; the first name that is there already is refused
+abbrev pub put_rows : List (List ℕ × Tree) → List (List ℕ × Tree) → Outcome (List (List ℕ × Tree))
+put_rows ps [] = Ok ps
+put_rows ps (row ∷ rows) = if has_key row.0 ps then Err ObjectDuplicateKey else put_rows (insert_pair row.0 row.1 ps) rows
+
+-- an object of the pairs in the rows; refused for its size only where a document of so many and such pairs passes the limits
+abbrev pub IsObjectOf : Form → List (List ℕ × Tree) → Result (List ℕ) Error → Type 0
+IsObjectOf form rows answer = Gives (λ made ps. Decodes form made (object (pairs_of ps)))
+    (IsOutOfMemory or TooLarge when IsTooLarge form (object (pairs_of rows))) answer (put_rows [] rows)
+
+-- the same of names beside a column of documents
+abbrev pub MakesObject : List (List ℕ) → List (Option (List ℕ)) → Result (List ℕ) Error → Type 0
+MakesObject names column answer = (form : Form) (ts : List Tree) → AllRelated (IsRowOf form) column ts → IsObjectOf form (zip names ts) answer
 
 -- ---- counts
 

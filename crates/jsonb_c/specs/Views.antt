@@ -6,8 +6,8 @@ use Rattle.jsonb_doc.specs.declared.error.Error.{Error}
 use Rattle.jsonb_c.specs.Answers.{Answer}
 use Rattle.jsonb_doc.specs.Tree.{Tree}
 use Rattle.jsonb.specs.SelectorAnswers.{array_of, first_item, single_or_array}
-use Rattle.jsonb_c.specs.declared.column.documents.Pick.{Pick}
-use Rattle.jsonb_c.specs.declared.column.documents.Pick.TheVariants.{First, Value, Array}
+use Rattle.jsonb_c.specs.declared.document.select.Pick.{Pick}
+use Rattle.jsonb_c.specs.declared.document.select.Pick.TheVariants.{First, Value, Array}
 use Rattle.jsonb_c.specs.declared.read.KeyValue.{KeyValue}
 
 abbrev pub key_answer : Result (Vec ℕ Global) Error → Result (List ℕ) Error

@@ -16,6 +16,8 @@ ghost use Rattle.jsonb_c.specs.Making.{Encodes, IsDecimalOf, MakesArray, is_plac
 ghost use Rattle.jsonb_c.specs.Status.{bad_offsets, not_utf8};
 ghost use Rattle.jsonb_c.specs.Views.{key_answer};
 
+pub(crate) mod object;
+
 use crate::column::Column;
 use crate::deliver::{deliver_key, deliver_nothing};
 use crate::status::Status;

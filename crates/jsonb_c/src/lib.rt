@@ -8,6 +8,7 @@ mod build;
 mod column;
 mod deliver;
 mod document;
+mod leaves;
 mod read;
 mod status;
 mod status_name;

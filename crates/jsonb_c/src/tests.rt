@@ -1,9 +1,11 @@
 //! Worked rows of the calls that make documents and read them apart.
 
+use crate::build::object::jsonb_object_from_columns;
 use crate::build::{
     jsonb_array_from_column, jsonb_from_bool, jsonb_from_decimal, jsonb_from_i64, jsonb_from_null,
     jsonb_from_str, jsonb_from_u64,
 };
+use crate::leaves::{LeafSizes, jsonb_leaves};
 use crate::read::{jsonb_len, jsonb_pair};
 use std::test::Fail;
 
@@ -136,5 +138,85 @@ fn containers(rt: HostRuntime) -> Result<(), Fail> {
         NONE
     );
     assert_eq!(rt; (key.len, value.len), (0, 0));
+    Ok(())
+}
+
+const OBJECT_DUPLICATE_KEY: u32 = 23;
+
+#[test]
+fn objects_of_columns(rt: HostRuntime) -> Result<(), Fail> {
+    let alloc = rt.alloc();
+    let rows = b"\x20\0\0\0\x20\0\0\x02\x50\x01\x20\0\0\0\0\0\0\0";
+    let both = &[0, 10, 18];
+    let mut a = Answer::new();
+    assert_eq!(rt;
+        jsonb_object_from_columns(alloc, b"ba", &[0, 1, 2], rows, both, &mut a.out, &mut a.len),
+        OK
+    );
+    assert!(rt; a.is(b"\x40\0\0\x02\x10\0\0\x01\x10\0\0\x01\0\0\0\0\x20\0\0\x02ab\x50\x01"));
+    let refusals: [(&[u8], &[u64], u32); 4] = [
+        (b"aa", &[0, 1, 2], OBJECT_DUPLICATE_KEY),
+        (b"a\xff", &[0, 1, 2], NOT_UTF8),
+        (b"ab", &[0, 1, 3], BAD_OFFSETS),
+        (b"ab", &[0, 1], BAD_OFFSETS),
+    ];
+    for (names, offsets, status) in &refusals {
+        let mut a = Answer::new();
+        assert_eq!(rt;
+            jsonb_object_from_columns(alloc, names, offsets, rows, both, &mut a.out, &mut a.len),
+            *status
+        );
+        assert!(rt; a.is(b""));
+    }
+    Ok(())
+}
+
+#[test]
+fn leaves(rt: HostRuntime) -> Result<(), Fail> {
+    let alloc = rt.alloc();
+    let document = b"\x40\0\0\x01\x10\0\0\x03\x50\0\0\x0aa b\x80\0\0\x01\x20\0\0\x02\x50\x01";
+    let mut paths = Answer::new();
+    let mut documents = Answer::new();
+    let mut path_positions = [9; 3];
+    let mut positions = [9; 2];
+    let mut sizes = LeafSizes {
+        rows: 9,
+        path_bytes: 9,
+        document_bytes: 9,
+    };
+    assert_eq!(rt;
+        jsonb_leaves(
+            alloc,
+            document,
+            &mut paths.out,
+            &mut path_positions,
+            &mut documents.out,
+            &mut positions,
+            &mut sizes
+        ),
+        OK
+    );
+    paths.len = sizes.path_bytes;
+    documents.len = sizes.document_bytes;
+    assert!(rt; paths.is(b"{\"a b\",0}"));
+    assert!(rt; documents.is(b"\x20\0\0\0\x20\0\0\x02\x50\x01"));
+    assert_eq!(rt;
+        (sizes.rows, path_positions, positions),
+        (1, [0, 9, 9], [0, 10])
+    );
+    let mut untouched = [9; 1];
+    assert_eq!(rt;
+        jsonb_leaves(
+            alloc,
+            document,
+            &mut paths.out,
+            &mut path_positions,
+            &mut documents.out,
+            &mut untouched,
+            &mut sizes
+        ),
+        BUFFER_TOO_SMALL
+    );
+    assert_eq!(rt; (sizes.rows, untouched), (1, [9]));
     Ok(())
 }

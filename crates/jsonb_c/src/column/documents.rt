@@ -20,21 +20,10 @@ ghost use Rattle.jsonb_c.specs.Views.{one_array, pick_of};
 use super::Column;
 use super::call::{Made, RowCall};
 use super::join::{Progress, do_nothing, join_rows};
-use crate::document::select::{array_by_path, first_by_path, value_by_path};
+use crate::document::select::{Pick, pick_by_path};
 use crate::status::Status;
 use jsonb::{Error, JsonPath, KeyPaths, OwnedJsonb, RawJsonb, parse_json_path, parse_key_paths};
 use std::alloc::Global;
-
-/// Which document is made of the items that a path selects.
-#[derive(Clone, Copy)]
-pub(crate) enum Pick {
-    /// The first.
-    First,
-    /// The only one, or one array of several.
-    Value,
-    /// One array.
-    Array,
-}
 
 /// What a path selects.
 #[derive(Drop)]
@@ -64,27 +53,6 @@ fn made_of(document: Option<OwnedJsonb>) -> Option<Made>
     ensures { result ≡ document }
 {
     Some(Made::new(document?.to_vec()))
-}
-
-fn pick_by_path<'a>(
-    alloc: Global,
-    document: &'a [u8],
-    path: &'a JsonPath<'_>,
-    strict: bool,
-    pick: Pick,
-) -> Result<Option<OwnedJsonb>, Error>
-    ensures picked { ByMeanings (mode_of strict) document.now (path_view path.now)
-        (λ form. IsPicked form (pick_of pick)) result }
-    ensures errors { IfErr result (IsDocumentError (mode_of strict)) }
-{
-    match pick {
-        Pick::First => first_by_path(alloc, document, path, strict),
-        Pick::Value => value_by_path(alloc, document, path, strict),
-        Pick::Array => match array_by_path(alloc, document, path, strict) {
-            Ok(array) => Ok(Some(array)),
-            Err(error) => Err(error),
-        },
-    }
 }
 
 /// The part at a place.

@@ -121,7 +121,7 @@ pub extern "C" fn jsonb_object_delete(
 }
 
 /// The names of a column, or why they can't be read.
-fn read_names<'a>(alloc: Global, column: &Column<'a>) -> Result<Vec<&'a str>, Status>
+pub(crate) fn read_names<'a>(alloc: Global, column: &Column<'a>) -> Result<Vec<&'a str>, Status>
     ensures { MatchResult result (λ names. names_of column.now ≡ Ok (map (λ name. name.now) names.items))
         (λ cause. (cause ≡ Refused OutOfMemory) ⊎ (names_of column.now ≡ Err cause)) }
 {

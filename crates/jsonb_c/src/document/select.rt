@@ -7,6 +7,7 @@ ghost use Rattle.jsonb.specs.SelectionErrors.{IsDocumentError, IsSelectionError}
 ghost use Rattle.jsonb.specs.SelectorAnswers.{first_item, root_bytes, single_or_array};
 ghost use Rattle.jsonb.specs.SelectorAnswers.{mode_of as selector_mode};
 ghost use Rattle.jsonb_c.specs.Answers.{HandsOverBool, HandsOverBytes, HandsOverFound, HandsOverTruth};
+ghost use Rattle.jsonb_c.specs.Views.{pick_of};
 ghost use Rattle.jsonb_c.specs.Calls.{ByMeaning, ByMeanings, IsArrayOf, IsFound, IsPicked, IsTruthOf, Says, mode_of};
 
 use crate::deliver::{deliver, deliver_made, show_bool, show_truth};
@@ -27,34 +28,8 @@ pub extern "C" fn jsonb_select_value(
         (ByMeaning (mode_of strict) document.now (json_path path.now) (λ form. IsPicked form single_or_array))
         (IsDocumentError (mode_of strict)) out.old out.new out_len.new result }
 {
-    deliver(select_value(alloc, document, path, strict), out, out_len)
-}
-
-fn select_value(
-    alloc: Global,
-    document: &[u8],
-    path: &[u8],
-    strict: bool,
-) -> Result<Option<OwnedJsonb>, Error>
-    ensures value { ByMeaning (mode_of strict) document.now (json_path path.now)
-        (λ form. IsPicked form single_or_array) result }
-    ensures errors { IfErr result (IsDocumentError (mode_of strict)) }
-{
-    let steps = parse_json_path(alloc, path)?;
-    value_by_path(alloc, document, &steps, strict)
-}
-
-pub(crate) fn value_by_path<'a>(
-    alloc: Global,
-    document: &'a [u8],
-    path: &'a JsonPath<'_>,
-    strict: bool,
-) -> Result<Option<OwnedJsonb>, Error>
-    ensures value { ByMeanings (mode_of strict) document.now (path_view path.now)
-        (λ form. IsPicked form single_or_array) result }
-    ensures errors { IfErr result (IsDocumentError (mode_of strict)) }
-{
-    selector(alloc, document, strict).select_value(path)
+    let item = select_item(alloc, document, path, strict, Pick::Value);
+    deliver(item, out, out_len)
 }
 
 /// The first item that a JSON path selects.
@@ -71,34 +46,56 @@ pub extern "C" fn jsonb_select_first(
         (ByMeaning (mode_of strict) document.now (json_path path.now) (λ form. IsPicked form first_item))
         (IsDocumentError (mode_of strict)) out.old out.new out_len.new result }
 {
-    deliver(select_first(alloc, document, path, strict), out, out_len)
+    let item = select_item(alloc, document, path, strict, Pick::First);
+    deliver(item, out, out_len)
 }
 
-fn select_first(
+/// Which document is made of the items that a path selects.
+#[derive(Clone, Copy)]
+pub(crate) enum Pick {
+    /// The first.
+    First,
+    /// The only one, or one array of several.
+    Value,
+    /// One array.
+    Array,
+}
+
+fn select_item(
     alloc: Global,
     document: &[u8],
     path: &[u8],
     strict: bool,
+    pick: Pick,
 ) -> Result<Option<OwnedJsonb>, Error>
-    ensures first { ByMeaning (mode_of strict) document.now (json_path path.now)
-        (λ form. IsPicked form first_item) result }
+    ensures item { ByMeaning (mode_of strict) document.now (json_path path.now)
+        (λ form. IsPicked form (pick_of pick)) result }
     ensures errors { IfErr result (IsDocumentError (mode_of strict)) }
 {
     let steps = parse_json_path(alloc, path)?;
-    first_by_path(alloc, document, &steps, strict)
+    pick_by_path(alloc, document, &steps, strict, pick)
 }
 
-pub(crate) fn first_by_path<'a>(
+/// What a path that was read selects.
+pub(crate) fn pick_by_path<'a>(
     alloc: Global,
     document: &'a [u8],
     path: &'a JsonPath<'_>,
     strict: bool,
+    pick: Pick,
 ) -> Result<Option<OwnedJsonb>, Error>
-    ensures first { ByMeanings (mode_of strict) document.now (path_view path.now)
-        (λ form. IsPicked form first_item) result }
+    ensures picked { ByMeanings (mode_of strict) document.now (path_view path.now)
+        (λ form. IsPicked form (pick_of pick)) result }
     ensures errors { IfErr result (IsDocumentError (mode_of strict)) }
 {
-    selector(alloc, document, strict).select_first(path)
+    match pick {
+        Pick::First => selector(alloc, document, strict).select_first(path),
+        Pick::Value => selector(alloc, document, strict).select_value(path),
+        Pick::Array => match array_by_path(alloc, document, path, strict) {
+            Ok(array) => Ok(Some(array)),
+            Err(error) => Err(error),
+        },
+    }
 }
 
 /// One array of what a JSON path selects.
@@ -131,7 +128,7 @@ fn select_array(
     array_by_path(alloc, document, &steps, strict)
 }
 
-pub(crate) fn array_by_path<'a>(
+fn array_by_path<'a>(
     alloc: Global,
     document: &'a [u8],
     path: &'a JsonPath<'_>,

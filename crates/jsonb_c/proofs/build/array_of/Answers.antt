@@ -29,7 +29,7 @@ returns-in-None-clause-array c = λ form ts h. absurd (row_there form c.args.col
 
 pub returns-clause-array : goal.returns-clause-array
 returns-clause-array c = λ form ts h.
-    let long : length ts ≤ c.loop-index.index = omega (arith, c.loop-index-test.false, c.len-index-end.ensures, rows_length form c.args.column.now ts h) in
+    let long : length ts ≤ c.loop-index.index = let rows = rows_length form c.args.column.now ts h in omega arith in
     let front = rw (left_none ts c.loop-index.index long) at (c.loop-index.invariant form ts h) in
     made_answer (λ made. Decodes form made (array (trees_of ts))) (IsOutOfMemoryOrTooLarge form (array (trees_of ts))) c.build.result
     (front_built form c.loop-index.builder ts (λ (v : Vec ℕ Global). v.items) c.build.result front (c.build.ensures.decodes form))

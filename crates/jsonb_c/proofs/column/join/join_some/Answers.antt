@@ -20,3 +20,15 @@ loop-index-preserved g c =
     rw c.cell_status.ensures
     (joined_more _ _ _ _ _ _ _ _ _ _ _ _ _ c.ask-cell.result c.row.ensures in_positions in_statuses c.loop-index.invariant c.ask-cell.ensures
     c.cell_bytes-made.ensures said)
+
+pub returns : goal.returns
+returns g c =
+    let all : c.loop-index.index ≡ c.min-room.result = omega arith in
+    (rw all at c.loop-index.invariant, search rules)
+
+pub overflow_add-at : goal.overflow_add-at
+overflow_add-at g c =
+    let done : c.place.result ≡ true = search (rules, c.if-not-place.false) in
+    let said = placed _ _ _ _ c.place.result done c.place.ensures in
+    let within = said.0 in
+    omega arith

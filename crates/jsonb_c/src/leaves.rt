@@ -1,0 +1,205 @@
+//! The leaves of a document as two columns: their key paths, and their documents.
+
+ghost use Rattle.std.specs.Prelude.{◌≡◌, ◌++◌, ◌∷◌, [], IfErr, IfOk, List, MatchResult, ℕ, ◌≤◌, false, length, nat_le, nat_lt, ◌&&◌, true};
+ghost use Rattle.std.specs.List.{concat};
+ghost use Rattle.jsonb_doc.specs.Answer.{IsDecodingError, IsOutOfMemory, IsOutOfMemoryOrTooLarge, ◌or◌};
+ghost use Rattle.jsonb_doc.specs.declared.error.Error.TheVariants.{OutOfMemory, TooLarge};
+ghost use Rattle.jsonb_doc.specs.Format.{Decodes};
+ghost use Rattle.jsonb_doc.specs.Payload.{Form};
+ghost use Rattle.jsonb_doc.specs.Tree.{Tree};
+ghost use Rattle.jsonb_doc.specs.Value.{value_tree};
+ghost use Rattle.jsonb.specs.KeyPathViews.{key_paths_view};
+ghost use Rattle.jsonb.specs.Related.{AllRelated};
+ghost use Rattle.jsonb_raw.specs.Leaves.{is_leaf, leaves};
+ghost use Rattle.jsonb_c.specs.Answers.{HandsOver, IsWritten, OfDocument};
+ghost use Rattle.jsonb_c.specs.LeafColumns.{HasLeaves, HasRows, IsLeafRefusal, IsRowOf};
+ghost use Rattle.jsonb_c.specs.Leaves.{AreLeavesOf, DeliversLeaves, IsRowOfLeaf, IsWrittenColumn, LeafRow, positions_from};
+ghost use Rattle.jsonb_c.specs.Status.{status_of};
+
+use crate::status::Status;
+use jsonb::{
+    ArrayBuilder, Error, ExtensionValue, Item, KeyPaths, ObjectBuilder, RawJsonb, Value,
+    encode_item,
+};
+use std::alloc::Global;
+
+/// How many leaves there are, and how many bytes their key paths and their documents have.
+#[repr(C)]
+#[derive(Clone, Copy)]
+pub struct LeafSizes {
+    pub rows: usize,
+    pub path_bytes: usize,
+    pub document_bytes: usize,
+}
+
+/// The leaves of a document in stored order: a column of key paths as texts, and a column of documents. Nothing is
+/// written where one of the buffers is too small.
+#[unsafe(no_mangle)]
+pub extern "C" fn jsonb_leaves(
+    alloc: Global,
+    document: &[u8],
+    paths: &mut [u8],
+    path_positions: &mut [u64],
+    documents: &mut [u8],
+    positions: &mut [u64],
+    sizes: &mut LeafSizes,
+) -> u32
+    ensures { HandsOver (OfDocument document.now (λ form t. AreLeavesOf form t))
+        (IsDecodingError or OutOfMemory or TooLarge)
+        (λ answer. DeliversLeaves answer paths.old paths.new path_positions.old path_positions.new
+        documents.old documents.new positions.old positions.new
+        sizes.new.rows sizes.new.path_bytes sizes.new.document_bytes result) }
+{
+    match leaf_columns(alloc, document) {
+        Ok(columns) => {
+            *sizes = columns.sizes();
+            if !columns.paths.has_room(paths, path_positions)
+                || !columns.documents.has_room(documents, positions)
+            {
+                return Status::BufferTooSmall.to_u32();
+            }
+            columns.paths.write(paths, path_positions);
+            columns.documents.write(documents, positions);
+            Status::Answered.to_u32()
+        }
+        Err(error) => {
+            *sizes = LeafSizes {
+                rows: 0,
+                path_bytes: 0,
+                document_bytes: 0,
+            };
+            Status::Refused(error).to_u32()
+        }
+    }
+}
+
+/// A column that is made: rows one behind the other, and the positions between them.
+#[derive(Drop)]
+struct MadeColumn {
+    bytes: Vec<u8>,
+    positions: Vec<u64>,
+}
+
+impl MadeColumn {
+    /// A column without rows.
+    fn new(alloc: Global) -> Result<MadeColumn, Error>
+        ensures { MatchResult result (λ column. HasRows column []) IsOutOfMemory }
+    {
+        let mut positions = Vec::new(alloc);
+        positions.push(0)?;
+        Ok(MadeColumn {
+            bytes: Vec::new(alloc),
+            positions,
+        })
+    }
+
+    /// One row more.
+    fn push(&mut self, row: &[u8]) -> Result<(), Error>
+        ensures rows { (rows : List (List ℕ)) → HasRows self.old rows
+            → IfOk result (λ _. HasRows self.new (rows ++ row.now ∷ [])) }
+        ensures errors { IfErr result IsOutOfMemory }
+    {
+        self.bytes.extend_from_slice(row)?;
+        self.positions.push(self.bytes.len() as u64)?;
+        Ok(())
+    }
+
+    /// Whether the buffers take the column.
+    fn has_room(&self, bytes: &[u8], positions: &[u64]) -> bool
+        ensures { result ≡ (nat_le (length self.now.bytes.items) (length bytes.now)
+            && nat_le (length self.now.positions.items) (length positions.now)) }
+    {
+        self.bytes.len() <= bytes.len() && self.positions.len() <= positions.len()
+    }
+
+    /// Writes the column into buffers that take it.
+    fn write(&self, bytes: &mut [u8], positions: &mut [u64])
+        requires bytes { length self.now.bytes.items ≤ length bytes.old }
+        requires positions { length self.now.positions.items ≤ length positions.old }
+        ensures bytes { IsWritten self.now.bytes.items bytes.old bytes.new }
+        ensures positions { IsWritten self.now.positions.items positions.old positions.new }
+    {
+        bytes[..self.bytes.len()].copy_from_slice(&self.bytes);
+        positions[..self.positions.len()].copy_from_slice(&self.positions);
+    }
+}
+
+/// The columns of key paths and of documents.
+#[derive(Drop)]
+struct LeafColumns {
+    paths: MadeColumn,
+    documents: MadeColumn,
+}
+
+impl LeafColumns {
+    /// How large the columns are.
+    fn sizes(&self) -> LeafSizes
+        ensures rows { (found : List LeafRow) → HasLeaves self.now found → result.rows ≡ length found }
+        ensures path_bytes { result.path_bytes ≡ length self.now.paths.bytes.items }
+        ensures document_bytes { result.document_bytes ≡ length self.now.documents.bytes.items }
+    {
+        LeafSizes {
+            rows: self.documents.positions.len().saturating_sub(1),
+            path_bytes: self.paths.bytes.len(),
+            document_bytes: self.documents.bytes.len(),
+        }
+    }
+
+    /// One leaf more.
+    fn push(&mut self, alloc: Global, path: &KeyPaths<'_>, value: &Value<'_>) -> Result<(), Error>
+        ensures row { (found : List LeafRow) → HasLeaves self.old found
+            → IfOk result (λ _. (row : LeafRow) × IsRowOf (key_paths_view path.now, value_tree value.now) row
+            × HasLeaves self.new (found ++ row ∷ [])) }
+        ensures refused { IfErr result (IsLeafRefusal (key_paths_view path.now, value_tree value.now)) }
+        ensures errors { IfErr result (IsOutOfMemory or TooLarge) }
+    {
+        let text = format!(in alloc; "{path}")?;
+        let document = leaf_document(alloc, value)?;
+        self.paths.push(text.as_bytes())?;
+        self.documents.push(&document)?;
+        Ok(())
+    }
+}
+
+/// The leaves of a document, as columns.
+fn leaf_columns(alloc: Global, document: &[u8]) -> Result<LeafColumns, Error>
+    ensures leaves { MatchResult result
+        (λ columns. (found : List LeafRow) × HasLeaves columns found
+        × ((form : Form) (t : Tree) → Decodes form document.now t
+        → AllRelated (IsRowOfLeaf form) (leaves false t) found))
+        (λ e. (form : Form) (t : Tree) → Decodes form document.now t → IsOutOfMemory e) }
+    ensures errors { IfErr result (IsDecodingError or OutOfMemory or TooLarge) }
+{
+    let leaves = RawJsonb::new(document).extract_scalar_key_values(alloc, false)?;
+    let mut columns = LeafColumns {
+        paths: MadeColumn::new(alloc)?,
+        documents: MadeColumn::new(alloc)?,
+    };
+    for (path, value) in &leaves {
+        columns.push(alloc, path, value)?;
+    }
+    Ok(columns)
+}
+
+/// The document of a leaf: a container is an empty one.
+fn leaf_document(alloc: Global, leaf: &Value<'_>) -> Result<Vec<u8>, Error>
+    ensures document { is_leaf false (value_tree leaf.now) ≡ true → (form : Form)
+        → MatchResult result (λ made. Decodes form made.items (value_tree leaf.now))
+        (IsOutOfMemoryOrTooLarge form (value_tree leaf.now)) }
+    ensures errors { IfErr result (IsOutOfMemory or TooLarge) }
+{
+    let item = match leaf {
+        Value::Null => Item::Null,
+        Value::Bool(value) => Item::Boolean(*value),
+        Value::String(text) => Item::String(text.as_str()),
+        Value::Number(number) => Item::Number(*number),
+        Value::Binary(bytes) => Item::Extension(ExtensionValue::Binary(bytes)),
+        Value::Date(date) => Item::Extension(ExtensionValue::Date(*date)),
+        Value::Timestamp(time) => Item::Extension(ExtensionValue::Timestamp(*time)),
+        Value::TimestampTz(time) => Item::Extension(ExtensionValue::TimestampTz(*time)),
+        Value::Interval(interval) => Item::Extension(ExtensionValue::Interval(*interval)),
+        Value::Array(_) => return ArrayBuilder::new(alloc).build(),
+        Value::Object(_) => return ObjectBuilder::new(alloc).build(),
+    };
+    encode_item(alloc, &item)
+}
