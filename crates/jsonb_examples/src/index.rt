@@ -1,7 +1,7 @@
 //! An index of documents by two values, over sortable keys.
 //!
-//! Each key is the sortable key of the first value with that of the second one behind it. Such keys order as the pairs of
-//! values do. A value that is missing has the key `00 00`, which no value has and which sorts first.
+//! Each key is the sortable key of the first value with that of the second one behind it. Such keys order as the pairs
+//! of values do. A value that is missing has the key `00 00`, which no value has and which sorts first.
 
 use jsonb::{Error, JsonPath, RawJsonb, SelectByPath, parse_json_path};
 use std::alloc::Global;

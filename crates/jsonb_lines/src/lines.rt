@@ -19,9 +19,9 @@ const USAGE: u8 = 2;
 
 /// Writes the answer to each document, and gives the greatest status of all lines.
 ///
-/// A document that is refused has one line, `refused: ` with the error's text, or `usage` where it isn't hexadecimal, and the next one is
-/// looked at. Words that are no question, and a path that is refused, end the run with their line before a document is read. The error is
-/// that of the reader or the writer.
+/// A document that is refused has one line, `refused: ` with the error's text, or `usage` where it isn't hexadecimal,
+/// and the next one is looked at. Words that are no question, and a path that is refused, end the run with their line
+/// before a document is read. The error is that of the reader or the writer.
 pub fn answer_lines<I: BufRead + Drop, W: Write>(
     alloc: Global,
     words: &[String],

@@ -137,6 +137,7 @@ fn json_path(
 #[derive(Clone, Copy)]
 enum TextCall {
     Encode,
+    CopyAsStored,
     PushItem,
     PushPair,
     PushPayload,
@@ -158,8 +159,9 @@ enum TextCall {
     OwnLiteral,
 }
 
-const TEXT_CALLS: [(&str, TextCall); 23] = [
+const TEXT_CALLS: [(&str, TextCall); 24] = [
     ("encode_item", TextCall::Encode),
+    ("spot_document", TextCall::CopyAsStored),
     ("ArrayBuilder::push_item", TextCall::PushItem),
     ("ObjectBuilder::push_item", TextCall::PushPair),
     ("push_extension_payload", TextCall::PushPayload),
@@ -205,6 +207,7 @@ fn of_text(rt: &HostRuntime, call: TextCall, count: u64) -> Result<bool, Error> 
     let item = Item::String(text);
     match call {
         TextCall::Encode => values::encode(rt, &encode_item(rt.alloc(), &item)?),
+        TextCall::CopyAsStored => values::copy(rt, &encode_item(rt.alloc(), &item)?),
         TextCall::PushItem => builders::array_takes(rt, &item),
         TextCall::PushPair => builders::object_takes(rt, text, &item),
         TextCall::PushPayload => values::push_payload(rt, text.as_bytes()),

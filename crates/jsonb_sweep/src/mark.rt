@@ -4,7 +4,8 @@ use jsonb::Error;
 use std::fmt::Display;
 use std::io;
 
-/// Marks where a call begins: from here on growths are counted, and refused. A mark that is not written shows in the count.
+/// Marks where a call begins: from here on growths are counted, and refused. A mark that is not written shows in the
+/// count.
 pub fn begin(rt: &HostRuntime) {
     let _ = print!(rt; "[");
 }

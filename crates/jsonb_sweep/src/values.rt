@@ -3,7 +3,7 @@
 use crate::documents::*;
 use crate::mark::{begin, end, tell};
 use jsonb::{Error, ExtensionValue, Value, encode_item, root_item, to_value};
-use jsonb_doc::push_extension_payload;
+use jsonb_doc::{push_extension_payload, root_spot, spot_document};
 use std::borrow::CowStr;
 use std::io;
 
@@ -22,6 +22,8 @@ pub fn cases(rt: &HostRuntime) -> io::Result<()> {
     for (kind, document) in &DOCUMENTS {
         let is_right = encode(rt, document);
         tell(rt, format_args!("encode_item of {kind}"), is_right)?;
+        let is_right = copy(rt, document);
+        tell(rt, format_args!("spot_document of {kind}"), is_right)?;
         let is_right = decode(rt, document);
         tell(rt, format_args!("to_value of {kind}"), is_right)?;
         let is_right = clone(rt, document);
@@ -40,6 +42,15 @@ pub fn encode(rt: &HostRuntime, document: &[u8]) -> Result<bool, Error> {
     let item = root_item(document)?;
     begin(rt);
     let answer = encode_item(rt.alloc(), &item);
+    end(rt);
+    Ok(answer?.as_slice() == document)
+}
+
+/// The item at the root's spot is, as a document, that document again.
+pub fn copy(rt: &HostRuntime, document: &[u8]) -> Result<bool, Error> {
+    let root = root_spot(document)?;
+    begin(rt);
+    let answer = spot_document(rt.alloc(), document, root);
     end(rt);
     Ok(answer?.as_slice() == document)
 }

@@ -25,10 +25,16 @@ pub enum Command<'w> {
 }
 
 impl<'w> Command<'w> {
-    /// The command that the words are, with its document turned to bytes.
+    /// The command that the words are, with its document turned to bytes. `None` where they are another command, or
+    /// too few or too many words, or where the document isn't hexadecimal.
     ///
-    /// None where they are another command, or too few or too many words, or where the document isn't hexadecimal.
-    /// The only error is `OutOfMemory`.
+    /// # Errors
+    ///
+    /// `OutOfMemory` where memory is refused.
+    ///
+    /// # Cost
+    ///
+    /// Linear in the document's digits. Takes memory for its bytes.
     pub fn read(alloc: Global, words: &'w [String]) -> Result<Option<Command<'w>>, Error>
         ensures value { IfOk result (λ found. option_map request found ≡ request_of (map string_bytes words.now)) }
         ensures err { IfErr result IsOutOfMemory }

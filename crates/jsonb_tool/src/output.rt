@@ -19,7 +19,16 @@ use jsonb::keypath::KeyPaths;
 use jsonb::{Error, OwnedJsonb, RawJsonb, SelectByPath, parse_json_path, parse_key_paths};
 use std::alloc::{AllocError, Global};
 
-/// The lines that a command prints, each with its line feed, or its refusal.
+/// The lines that a command prints, each with its line feed.
+///
+/// # Errors
+///
+/// The command's refusal, as docs/PROGRAM.md lists them, or `OutOfMemory` where memory is refused.
+///
+/// # Cost
+///
+/// That of `check` and of the call that the command makes. `leaves` looks each leaf up from the root again. Takes
+/// memory for all lines.
 pub fn output(alloc: Global, command: &Command<'_>) -> Result<String, Error>
     ensures { MatchResult result
         (λ lines. IsOutputOf (request command.now) (Ok (string_bytes lines)))

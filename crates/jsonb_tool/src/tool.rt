@@ -34,12 +34,19 @@ struct Answer {
     status: u8,
 }
 
-/// Writes the answer to the words, and gives the exit status.
+/// Writes the answer to the words, and gives the exit status. `words` are the arguments without the program's name.
+/// docs/PROGRAM.md has the lines.
 ///
-/// `words` are the arguments without the program's name. All lines are made before the first byte is written.
 /// The status is 0 behind the lines of a command, 1 behind `refused: ` with the error's text, and 2 behind `usage`,
 /// for words that are no command. A refused growth is `refused: OutOfMemory`.
-/// `ToolFault::Write` is answered where a write fails; how much was written before is not said.
+///
+/// # Errors
+///
+/// `ToolFault::Write` where a write fails; how much was written before is not said.
+///
+/// # Cost
+///
+/// That of the call that the command makes, and its lines: all are in memory before the first byte is written.
 pub fn run<W: Write>(alloc: Global, words: &[String], out: &mut W) -> Result<u8, ToolFault>
     ensures { IfOk result (λ status. (lines : List ℕ)
         × Appends (W.contents out.old) (W.contents out.new) lines

@@ -125,8 +125,8 @@ fn all_calls_return_where_two_bytes_are_changed(rt: HostRuntime) -> Result<(), F
     Ok(())
 }
 
-/// Other words in the place of one. As an entry word: of each kind, and of the lengths 0, 1, one more, one less, and the
-/// largest. As a header: of each kind, and of those counts.
+/// Other words in the place of one. As an entry word: of each kind, and of the lengths 0, 1, one more, one less, and
+/// the largest. As a header: of each kind, and of those counts.
 fn other_words(word: u32) -> [u32; 26] {
     let (length, count) = (word & 0x0fff_ffff, word & 0x1fff_ffff);
     let (entry, header) = (word & 0xf000_0000, word & 0xe000_0000);
