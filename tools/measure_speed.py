@@ -102,9 +102,9 @@ def place_cases(people):
     yield Case("get by name without case, of 1,000 keys", "get_by_name_ignore_case", document(wide_object(1000)), "K0999")
     yield Case("delete by key path, of 1,000 keys", "delete_by_keypath", document(wide_object(1000)), "{k0500}")
     yield Case("delete at depth 200", "delete_by_keypath", deep, steps)
-    yield Case("delete by index, of 1,000 objects", "delete_by_index", people)
+    yield Case("delete by index, of 1,000 objects", "delete_by_index", people, "500")
     yield Case("delete by name, of 1,000 keys", "delete_by_name", document(wide_object(1000)), "k0500")
-    yield Case("insert into 1,000 objects", "array_insert", people, other=document(7))
+    yield Case("insert into 1,000 objects", "array_insert", people, "500", document(7))
     yield Case("insert a pair into 1,000", "object_insert", document(wide_object(1000)), "k0500x", document("new"))
 
 
@@ -206,7 +206,7 @@ def our_library():
     shutil.copy(os.path.join(TOP, "HANDLES"), copy)
     lines = [line for line in open(os.path.join(TOP, "crates.txt")) if line.split(":")[0] in CRATES]
     with open(os.path.join(copy, "crates.txt"), "w") as crates:
-        crates.writelines([*lines, "jsonb_speed staticlib: jsonb\n"])
+        crates.writelines([*lines, f"jsonb_speed staticlib: {' '.join(CRATES)}\n"])
     for name in CRATES:
         shutil.copytree(os.path.join(TOP, "crates", name), os.path.join(copy, "crates", name), dirs_exist_ok=True)
     crate = os.path.join(copy, "crates", "jsonb_speed")
@@ -285,21 +285,29 @@ def nanoseconds(value):
     return f"{value:,.0f} ns" if value < 10_000 else f"{value / 1000:,.0f} us"
 
 
+def line_of(cells):
+    """A line of a table of Markdown, where a bar within a cell stands behind a backslash."""
+    return "| " + " | ".join(cell.replace("|", "\\|") for cell in cells) + " |"
+
+
 def table(rows):
-    lines = ["| Case | Rust | This | Time, this by Rust | Instructions |", "|---|---|---|---|---|"]
+    has_counts = any(row.instructions is not None for row in rows)
+    lines = [line_of(["Case", "Rust", "This", "Time, this by Rust"] + ["Instructions"] * has_counts)]
+    lines.append("|" + "---|" * (4 + has_counts))
     for row in rows:
-        counts = "" if row.instructions is None else f"{row.instructions:.2f}"
-        lines.append(f"| {row.name} | {nanoseconds(row.rust)} | {nanoseconds(row.ours)} | {row.ratio:.2f} | {counts} |")
+        counts = [] if not has_counts else ["" if row.instructions is None else f"{row.instructions:.2f}"]
+        lines.append(line_of([row.name, nanoseconds(row.rust), nanoseconds(row.ours), f"{row.ratio:.2f}", *counts]))
     mean = statistics.geometric_mean(row.ratio for row in rows)
     slower = sum(row.ratio > 1 for row in rows)
     return "\n".join([*lines, "", f"Geometric mean of the times: {mean:.2f}. Slower than the Rust: {slower} of {len(rows)}."])
 
 
-def write(text):
-    path = os.path.join(TOP, "docs", "PERFORMANCE.md")
-    page = open(path).read()
-    start, end = "<!-- measured -->\n", "<!-- end of measured -->"
-    before, after = page.split(start)[0], page.split(end)[1]
+def write_between(mark, text, page="PERFORMANCE.md"):
+    """Puts a text between the two comments of this mark in a page of docs/."""
+    path = os.path.join(TOP, "docs", page)
+    start, end = f"<!-- {mark} -->\n", f"<!-- end of {mark} -->"
+    before, rest = open(path).read().split(start)
+    after = rest.split(end)[1]
     with open(path, "w") as file:
         file.write(f"{before}{start}\n{text}\n\n{end}{after}")
 
@@ -315,7 +323,7 @@ def main():
     program = driver(asked.crate)
     path = write_cases([case for case in cases() if asked.only in case.name])
     text = table(list(measured(program, path, asked.rounds)))
-    write(text) if asked.write else print(text)
+    write_between("measured", text) if asked.write else print(text)
 
 
 if __name__ == "__main__":

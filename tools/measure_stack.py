@@ -4,21 +4,30 @@
   measure_stack.py            each call under a stack of 256 KiB: it must end with the answer of a model, or be known to need
                               more (NEEDS_MORE). The last line is 'N passed, M failed'
   measure_stack.py --table    the least stack that each call ends in, as the table of docs/STACK.md
+  measure_stack.py --more     both for the calls that C lacks. The gate does not run it
 
-bindings/c/deep.c makes the documents and the calls; this script builds it with the library of bindings/c (`make -C bindings/c`).
+With --write a table goes into docs/STACK.md. bindings/c/deep.c makes the documents and the calls; this script builds it with the
+library of bindings/c (`make -C bindings/c`). For --more, tools/speed/calls.c makes the calls and tools/nested.py the documents; the
+library is built as tools/measure_growth.py builds it, and the work lies in tools/speed/out.
 """
 import os
 import resource
+import shutil
 import subprocess
 import sys
 from dataclasses import dataclass
 
+sys.dont_write_bytecode = True
 TOP = os.path.dirname(os.path.dirname(os.path.abspath(__file__)))
+sys.path.insert(0, os.path.join(TOP, "tools"))
+import measure_growth
+from measure_speed import write_between
+from nested import SHAPES, TURNS, nested
+
 DEEP = os.path.join(TOP, "bindings", "c", "out", "deep")
+SPEED = os.path.join(TOP, "tools", "speed", "out")
 TEXT = 1 << 20
 MILLION = 1_000_000
-SHAPES = ["only", "last", "first", "middle", "pair", "alternating"]
-TURNS = ["first", "pair", "last", "only"]
 # The greatest level that a wide sortable key has room for.
 WIDE = 65_535
 
@@ -90,8 +99,12 @@ def path_runs():
 
 def ends(run, stack):
     """What a run prints under a stack of so many bytes, or None where it was killed."""
+    return printed([DEEP, run.call, run.shape, str(run.levels)], stack)
+
+
+def printed(words, stack):
     limit = lambda: resource.setrlimit(resource.RLIMIT_STACK, (stack, resource.getrlimit(resource.RLIMIT_STACK)[1]))
-    made = subprocess.run([DEEP, run.call, run.shape, str(run.levels)], preexec_fn=limit, capture_output=True, text=True)
+    made = subprocess.run(words, preexec_fn=limit, capture_output=True, text=True)
     return made.stdout.strip() if made.returncode == 0 else None
 
 
@@ -103,8 +116,6 @@ SMALL_STACK = 256 << 10
 # Calls that need a stack that grows with the path (docs/DECISIONS.md says why). They are run all the same: one that no longer
 # needs it is a failure, so that this list stays true.
 NEEDS_MORE = {
-    ("delete_by_keypath", "only"),
-    ("delete_by_keypath", "first"),
     ("exists", "filters"),
     ("exists", "and_chain"),
     ("exists", "or_chain"),
@@ -139,18 +150,22 @@ def test():
 # ---- the table
 
 
-def least_stack(run):
+def least_stack(ends_in):
     """The least stack that a run ends in, to 4 KiB, or None where 1 GiB does not do."""
     low, high = 8 << 10, 1 << 30
-    if ends(run, high) is None:
+    if ends_in(high) is None:
         return None
     while high - low > 4 << 10:
         middle = (low + high) // 2 // 4096 * 4096
-        if ends(run, middle) is None:
+        if ends_in(middle) is None:
             low = middle
         else:
             high = middle
     return high
+
+
+def least_of(run):
+    return least_stack(lambda stack: ends(run, stack))
 
 
 def kibibytes(stack):
@@ -163,23 +178,158 @@ def table():
     calls = dict.fromkeys(run.call for run in document_runs("only"))
     asked = [(call, SHAPES) for call in calls] + [("exists", [run.shape]) for run in path_runs()]
     for call, shapes in asked:
-        stacks = {s: least_stack(Run(call, s, 100_000, None)) for s in shapes}
+        stacks = {s: least_of(Run(call, s, 100_000, None)) for s in shapes}
         worst = max(stacks, key=lambda s: stacks[s] or 1 << 40)
-        few = least_stack(Run(call, worst, 10_000, None))
+        few = least_of(Run(call, worst, 10_000, None))
         rows.append(f"| `{call}` | {worst} | {kibibytes(few)} | {kibibytes(stacks[worst])} |")
         print(rows[-1], file=sys.stderr)
     return "\n".join(rows)
+
+
+# ---- the calls that C lacks
+
+# Each with what it does to the document of a shape, or to the text of a path.
+MORE_ON_DOCUMENTS = {
+    "depth": "`depth`",
+    "check_depth": "`check_depth`",
+    "traverse_check_string": "`traverse_check_string`",
+    "leaves": "leaves",
+    "to_value": "`to_value`, and letting the value go",
+    "value_clone": "the same and `clone`",
+    "value_equal": "the same and `==`",
+}
+MORE_ON_PATHS = {
+    "parse_path": "read a path, and let it go",
+    "path_clone": "the same and `clone`",
+    "path_to_owned": "the same and `to_owned`",
+    "path_equal": "the same and `==`",
+    "path_print": "the same and print",
+}
+MORE_ON_KEY_PATHS = {
+    "parse_keypath": "read a key path, and let it go",
+    "keypath_clone": "the same and `clone`",
+    "keypath_to_owned": "the same and `to_owned`",
+    "keypath_print": "the same and print",
+}
+# As bindings/c/deep.c has them: what stands before, so many times, behind, and so many times at the end.
+PATHS = {
+    "parentheses": ("$?", "(", "@ == 1", ")"),
+    "filters": ("$", "?(exists(@", "", "))"),
+    "and_chain": ("$?(1==1", "&&1==1", ")", ""),
+    "or_chain": ("$?(1==2", "||1==2", ")", ""),
+    "right_sides": ("$?(", "1==1&&(", "1==1)", ")"),
+    "fields": ("$", ".k", "", ""),
+}
+KEY_PATH = ("{0", ",0", "}", "")
+# A refusal would be an answer too: it is none here.
+LIMIT = str(2 * MILLION)
+
+
+def path_text(parts, times):
+    before, again, behind, closed = parts
+    return (before + again * times + behind + closed * times).encode()
+
+
+def written(name, content):
+    path = os.path.join(SPEED, "files", name)
+    if not os.path.exists(path):
+        with open(path, "wb") as file:
+            file.write(content)
+    return path
+
+
+def content_of(shape, levels):
+    if shape in SHAPES:
+        return nested(shape, levels, TEXT)
+    return path_text(PATHS.get(shape, KEY_PATH), levels)
+
+
+def more_ends(program, call, shape, levels, stack):
+    argument = written("limit", LIMIT.encode()) if call == "check_depth" else "-"
+    text = written(f"{shape}_{levels}", content_of(shape, levels))
+    return printed([program, "once", call, argument, "-", text], stack)
+
+
+def more_answer(call, shape, levels):
+    """What a run prints, or None where only the end is asked for. The innermost text lies in an array of its own."""
+    numbers = {"only": 0, "pair": 0, "first": 1, "last": 1, "middle": 2}
+    answers = {
+        "depth": levels + 1,
+        "check_depth": 1,
+        "traverse_check_string": 0,
+        "to_value": 0,
+        "value_clone": 0,
+        "value_equal": 1,
+        "path_equal": 1,
+    }
+    if call == "leaves":
+        return str(1 + sum(numbers[s] * n for s, n in turns(shape, levels).items()))
+    return str(answers[call]) if call in answers else None
+
+
+def more_asked():
+    """Each call with its name in the table and its shapes: together those of documents, and each of a path alone."""
+    yield from ((call, name, SHAPES) for call, name in MORE_ON_DOCUMENTS.items())
+    yield from ((call, name, [shape]) for shape in PATHS for call, name in MORE_ON_PATHS.items())
+    yield from ((call, name, ["key_path"]) for call, name in MORE_ON_KEY_PATHS.items())
+
+
+def more_test(program):
+    """The calls at a million levels under the small stack. Those that end in no more than a few KiB are compared with a model."""
+    passed, more = 0, []
+    for call, _, shapes in more_asked():
+        for shape in shapes:
+            said, answer = more_ends(program, call, shape, MILLION, SMALL_STACK), more_answer(call, shape, MILLION)
+            if said is not None and said != "refused" and answer in (None, said):
+                passed += 1
+            else:
+                more.append(f"{call} on {shape}: " + ("needs more" if said is None else f"answered {said}, and not {answer}"))
+    print("\n".join([*more, f"{passed} end under 256 KiB, {len(more)} do not"]))
+    return 0
+
+
+def more_table(program):
+    rows = ["| Call | Worst shape | 10,000 levels | 100,000 levels |", "|---|---|---|---|"]
+    for call, name, shapes in more_asked():
+        least = lambda shape, levels: least_stack(lambda stack: more_ends(program, call, shape, levels, stack))
+        stacks = {shape: least(shape, 100_000) for shape in shapes}
+        worst = max(stacks, key=lambda shape: stacks[shape] or 1 << 40)
+        rows.append(f"| {name} | {worst} | {kibibytes(least(worst, 10_000))} | {kibibytes(stacks[worst])} |")
+        print(rows[-1], file=sys.stderr)
+    return "\n".join(rows)
+
+
+def more(wants_table):
+    files = os.path.join(SPEED, "files")
+    shutil.rmtree(files, ignore_errors=True)
+    os.makedirs(files)
+    program = measure_growth.driver()
+    said = more_table(program) if wants_table else more_test(program)
+    shutil.rmtree(files)
+    return said
+
+
+# ---- what is asked
 
 
 def build():
     subprocess.run(["make", "-s", "-C", os.path.join(TOP, "bindings", "c"), "deep"], check=True)
 
 
+def show(mark, text, is_written):
+    write_between(mark, text, "STACK.md") if is_written else print(text)
+    return 0
+
+
 def main(words):
+    wanted, is_written = [word for word in words if word != "--write"], "--write" in words
+    if wanted == ["--more", "--table"]:
+        return show("more", more(True), is_written)
+    if wanted == ["--more"] and not is_written:
+        return more(False)
     build()
-    if words == ["--table"]:
-        print(table())
-        return 0
+    if wanted == ["--table"]:
+        return show("measured", table(), is_written)
     if words:
         print(__doc__)
         return 2

@@ -7,8 +7,6 @@ use jsonb::{OwnedJsonb, RawJsonb};
 use std::collections::BTreeSet;
 use std::hint::black_box;
 
-const POSITION: i32 = 500;
-
 fn length(document: OwnedJsonb) -> usize {
     document.to_vec().len()
 }
@@ -27,6 +25,7 @@ pub fn calls(case: &Case, times: usize) -> u64 {
     let other = RawJsonb::new(&case.other);
     let names: Vec<&str> = text.split(',').collect();
     let keys: BTreeSet<&str> = names.iter().copied().collect();
+    let position = || text.parse::<i32>().expect("a position");
     let run = |call: &dyn Fn(RawJsonb<'_>) -> usize| repeat(case, times, call);
     match case.call.as_str() {
         "parse_path" => {
@@ -55,9 +54,9 @@ pub fn calls(case: &Case, times: usize) -> u64 {
         "get_by_name_ignore_case" => run(&|d| option_length(d.get_by_name(text, true).unwrap())),
         "delete_by_name" => run(&|d| length(d.delete_by_name(text).unwrap())),
         "object_insert" => run(&|d| length(d.object_insert(text, &other, false).unwrap())),
-        "get_by_index" => run(&|d| option_length(d.get_by_index(POSITION as usize).unwrap())),
-        "delete_by_index" => run(&|d| length(d.delete_by_index(POSITION).unwrap())),
-        "array_insert" => run(&|d| length(d.array_insert(POSITION, &other).unwrap())),
+        "get_by_index" => run(&|d| option_length(d.get_by_index(position() as usize).unwrap())),
+        "delete_by_index" => run(&|d| length(d.delete_by_index(position()).unwrap())),
+        "array_insert" => run(&|d| length(d.array_insert(position(), &other).unwrap())),
         "exists_all_keys" => run(&|d| d.exists_all_keys(names.iter().copied()).unwrap() as usize),
         "exists_any_keys" => run(&|d| d.exists_any_keys(names.iter().copied()).unwrap() as usize),
         "object_pick" => run(&|d| length(d.object_pick(&keys).unwrap())),

@@ -1,0 +1,142 @@
+#!/usr/bin/env python3
+"""Tells which public items lack a part of their doc comment.
+
+    tools/check_docs.py [CRATE..]     of these crates, or of the four that users name; the last line is 'N passed, M failed'
+
+Public are the names that src/lib.rt hands out, all in its `pub mod` files, and the public functions of such types. Each item, each
+variant and each public field has a comment. A function's comment has a heading `# Cost`, and `# Errors` where it answers a Result
+and nowhere else. A law, in laws.rt, says its fact alone.
+"""
+
+import re
+import sys
+from dataclasses import dataclass
+from pathlib import Path
+
+ROOT = Path(__file__).resolve().parent.parent
+CRATES = ["jsonb_doc", "jsonb_keypath", "jsonb_raw", "jsonb"]
+
+ITEM = re.compile(r"pub (?:const )?(fn|struct|enum|trait|const) (\w+)")
+METHOD = re.compile(r"    (?:pub )?(?:const )?(fn|const) (\w+)")
+MEMBER = re.compile(r"    (pub )?(\w+)(:|,|\(| \{)")
+OWNER = re.compile(r"(?:pub )?(impl|trait)(?:<[^>]*>)? (\w+)(.*)")
+
+
+@dataclass
+class Item:
+    place: str
+    name: str
+    kind: str
+    comment: list
+    answers_result: bool
+
+
+def exported(crate):
+    """The names and the modules that a crate's lib.rt hands out."""
+    text = (crate / "src/lib.rt").read_text()
+    names = set()
+    for listed in re.findall(r"pub use [\w:]+::(\{[^}]*\}|\w+);", text):
+        names.update(re.findall(r"\w+", listed))
+    return names, set(re.findall(r"pub mod (\w+);", text))
+
+
+def sources(crate):
+    """The files of a crate but its tests, each with the module at the top that it is in."""
+    for path in sorted((crate / "src").rglob("*.rt")):
+        parts = path.relative_to(crate / "src").with_suffix("").parts
+        if "tests" not in parts:
+            yield path, parts[0]
+
+
+def comment_above(lines, at):
+    """The doc comment above a line, behind the attributes between them."""
+    at -= 1
+    while at >= 0 and not lines[at].startswith(("    ///", "///")) and lines[at].strip():
+        at -= 1
+    found = []
+    while at >= 0 and lines[at].strip().startswith("///"):
+        found.append(lines[at].strip()[3:].strip())
+        at -= 1
+    return found[::-1]
+
+
+def answers_result(lines, at):
+    """Whether the function at a line answers a Result: its head ends before the first clause."""
+    head = re.split(r"\n\s+(?:requires|ensures)|\{", "\n".join(lines[at:at + 12]))[0]
+    return re.search(r"-> (fmt::)?Result", head) is not None
+
+
+def methods(lines, at):
+    """The lines of the functions and constants of the impl or trait that begins at a line."""
+    is_trait = "trait" in OWNER.match(lines[at])[1]
+    while lines[at] != "}":
+        if METHOD.match(lines[at]) and (is_trait or lines[at].startswith("    pub ")):
+            yield at
+        at += 1
+
+
+def members(lines, at):
+    """The lines of the public fields, or of the variants, of the type that begins at a line."""
+    is_enum = lines[at].startswith("pub enum")
+    while lines[at] != "}" and not lines[at].endswith("}"):
+        found = MEMBER.match(lines[at])
+        if found and (is_enum or found[1]):
+            yield at
+        at += 1
+
+
+def items(path, is_public):
+    """The public items of a file; `is_public` tells which names are."""
+    lines = path.read_text().split("\n#[cfg(test)]\nmod tests {")[0].splitlines()
+
+    def item(at, name, kind):
+        place = f"{path.relative_to(ROOT)}:{at + 1}"
+        return Item(place, name, kind, comment_above(lines, at), kind == "fn" and answers_result(lines, at))
+
+    for at, line in enumerate(lines):
+        found, owner = ITEM.match(line), OWNER.match(line)
+        if found and is_public(found[2]):
+            yield item(at, found[2], found[1])
+            if found[1] in ("struct", "enum"):
+                yield from (item(at, f"{found[2]}.{MEMBER.match(lines[at])[2]}", "member") for at in members(lines, at))
+        if owner and is_public(owner[2]) and not owner[3].startswith(" for"):
+            for at in methods(lines, at):
+                yield item(at, f"{owner[2]}::{METHOD.match(lines[at])[2]}", METHOD.match(lines[at])[1])
+
+
+def public_items(crate):
+    names, modules = exported(crate)
+    for path, module in sources(crate):
+        yield from items(path, lambda name: name in names or module in modules)
+
+
+def lacks(item):
+    """What the comment of an item lacks, or has too much."""
+    if not item.comment:
+        yield "a comment"
+    if item.kind != "fn" or "/laws.rt" in item.place:
+        return
+    if "# Cost" not in item.comment:
+        yield "# Cost"
+    if item.answers_result and "# Errors" not in item.comment:
+        yield "# Errors"
+    if not item.answers_result and "# Errors" in item.comment:
+        yield "a Result for its # Errors"
+
+
+def main(arguments):
+    passed = failed = 0
+    for name in arguments or CRATES:
+        for item in public_items(ROOT / "crates" / name):
+            missing = list(lacks(item))
+            if missing:
+                print(f"{item.place} {item.name} lacks {', '.join(missing)}")
+                failed += 1
+            else:
+                passed += 1
+    print(f"{passed} passed, {failed} failed")
+    return 1 if failed or not passed else 0
+
+
+if __name__ == "__main__":
+    sys.exit(main(sys.argv[1:]))
