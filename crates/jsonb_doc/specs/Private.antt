@@ -5,4 +5,7 @@ pub mod Stored
 pub mod Checking
 pub mod Depths
 pub mod Filling
+pub mod Parts
+pub mod Copying
+pub mod Comparing
 pub mod Containers

@@ -32,6 +32,7 @@ pub fn skip_contents<'a>(words: &[u8], contents: &'a [u8]) -> Option<&'a [u8]>
 }
 
 /// The first entry behind this many bytes of entry words.
+#[inline(always)]
 pub fn entry_behind<'w, 'c>(
     words: &'w [u8],
     passed: usize,

@@ -11,6 +11,7 @@ use std::collections::BTreeMap;
 mod copy;
 mod decode;
 mod equal;
+mod release;
 #[cfg(test)]
 mod tests;
 
@@ -22,7 +23,6 @@ pub use decode::to_value;
 /// their fields.
 ///
 /// Comparing values and letting one go take no memory; docs/STACK.md says how much of the machine's stack they take.
-#[derive(Drop)]
 pub enum Value<'a> {
     /// null.
     Null,
@@ -67,5 +67,12 @@ impl<'a> Value<'a> {
         ensures parts { IfOk result (λ copy. value_parts copy ≡ value_parts self.now) }
     {
         Ok(copy(alloc, self)?)
+    }
+}
+
+// A document may be as deep as it is long: its value is let go in a loop.
+impl Drop for Value<'_> {
+    fn drop(self) {
+        self.release();
     }
 }

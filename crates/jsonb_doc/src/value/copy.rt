@@ -1,15 +1,19 @@
-//! Copies of decoded values.
+//! Copies of decoded values, with what is left to be copied in a list.
 
-ghost use Rattle.std.specs.Prelude.{◌≡◌, IfOk};
+ghost use Rattle.std.specs.Prelude.{◌≡◌, ◌≤◌, ◌<◌, IfOk};
 ghost use Rattle.std.specs.Cow.{cow_str_bytes};
+ghost use Rattle.std.specs.Slice.Iter.{iter_rest};
 ghost use Rattle.jsonb_doc.specs.Number as spec;
-ghost use Rattle.jsonb_doc.specs.Value.{tree_seen, trees_seen, members_seen};
+ghost use Rattle.jsonb_doc.specs.Value.{tree_seen, trees_seen};
+ghost use Rattle.jsonb_doc.specs.Private.Parts.{values_parts, entries_parts};
+ghost use Rattle.jsonb_doc.specs.Private.Copying.{part_tree, part_parts, left_parts, filled_parts, filled_tree, array_seen, object_seen, with_part};
 ghost use Rattle.jsonb_doc.specs.declared.number.Number.{Number};
 
 use crate::value::Value;
 use std::alloc::{AllocError, Global};
 use std::borrow::CowStr;
-use std::collections::BTreeMap;
+use std::collections::{BTreeMap, btree_map};
+use std::slice;
 
 /// The same text. One that is borrowed stays so.
 fn copy_text<'a>(text: &CowStr<'a, Global>) -> Result<CowStr<'a, Global>, AllocError>
@@ -21,51 +25,139 @@ fn copy_text<'a>(text: &CowStr<'a, Global>) -> Result<CowStr<'a, Global>, AllocE
     }
 }
 
+/// A copy, or a container that is to be copied.
+#[derive(Drop)]
+enum Part<'v, 'a> {
+    Scalar(Value<'a>),
+    Array(&'v Vec<Value<'a>>),
+    Object(&'v BTreeMap<String, Value<'a>>),
+}
+
+/// A container of which a part is being copied: the copies of the parts before it, and those that are left behind it.
+#[derive(Drop)]
+enum Open<'v, 'a> {
+    Array(Vec<Value<'a>>, slice::Iter<'v, Value<'a>>),
+    /// The key is that of the member that is being copied.
+    Object(BTreeMap<String, Value<'a>>, &'v String, btree_map::Iter<'v, String, Value<'a>>),
+}
+
+/// How far a container is copied.
+#[derive(Drop)]
+enum Filled<'v, 'a> {
+    /// All of it.
+    Whole(Value<'a>),
+    /// Up to a container within it.
+    Within(Open<'v, 'a>, Part<'v, 'a>),
+}
+
 /// The same value, however its numbers are seen.
-#[cycle(copy)]
 pub fn copy<'a>(alloc: Global, value: &Value<'a>) -> Result<Value<'a>, AllocError>
     ensures { (seen : Number → spec.Number)
         → IfOk result (λ v. tree_seen seen v ≡ tree_seen seen value.now) }
 {
-    match value {
-        Value::Null => Ok(Value::Null),
-        Value::Bool(b) => Ok(Value::Bool(*b)),
-        Value::String(text) => Ok(Value::String(copy_text(text)?)),
-        Value::Number(number) => Ok(Value::Number(*number)),
-        Value::Binary(bytes) => Ok(Value::Binary(bytes)),
-        Value::Date(date) => Ok(Value::Date(*date)),
-        Value::Timestamp(timestamp) => Ok(Value::Timestamp(*timestamp)),
-        Value::TimestampTz(timestamp) => Ok(Value::TimestampTz(*timestamp)),
-        Value::Interval(interval) => Ok(Value::Interval(*interval)),
-        Value::Array(values) => Ok(Value::Array(copy_all(alloc, values)?)),
-        Value::Object(members) => Ok(Value::Object(copy_members(alloc, members)?)),
+    let mut around = Vec::new(alloc);
+    let mut filled = filled_from(alloc, part_of(value)?)?;
+    loop {
+        filled = match filled {
+            Filled::Within(outer, part) => {
+                around.push(outer)?;
+                filled_from(alloc, part)?
+            }
+            Filled::Whole(copy) => match around.pop() {
+                None => return Ok(copy),
+                Some(outer) => filled_behind(outer, copy)?,
+            },
+        };
     }
 }
 
-#[cycle(copy)]
-fn copy_all<'a>(alloc: Global, values: &Vec<Value<'a>>) -> Result<Vec<Value<'a>>, AllocError>
+/// The copy of a value that is no container, or the container.
+#[inline(always)]
+fn part_of<'v, 'a>(value: &'v Value<'a>) -> Result<Part<'v, 'a>, AllocError>
     ensures { (seen : Number → spec.Number)
-        → IfOk result (λ v. trees_seen seen v.items ≡ trees_seen seen values.now.items) }
+        → IfOk result (λ part. part_tree seen part ≡ tree_seen seen value.now) }
 {
-    let mut copies = Vec::with_capacity(alloc, values.len())?;
-    for value in values {
-        copies.push(copy(alloc, value)?)?;
-    }
-    Ok(copies)
+    Ok(match value {
+        Value::Array(values) => Part::Array(values),
+        Value::Object(members) => Part::Object(members),
+        Value::Null => Part::Scalar(Value::Null),
+        Value::Bool(b) => Part::Scalar(Value::Bool(*b)),
+        Value::String(text) => Part::Scalar(Value::String(copy_text(text)?)),
+        Value::Number(number) => Part::Scalar(Value::Number(*number)),
+        Value::Binary(bytes) => Part::Scalar(Value::Binary(bytes)),
+        Value::Date(date) => Part::Scalar(Value::Date(*date)),
+        Value::Timestamp(timestamp) => Part::Scalar(Value::Timestamp(*timestamp)),
+        Value::TimestampTz(timestamp) => Part::Scalar(Value::TimestampTz(*timestamp)),
+        Value::Interval(interval) => Part::Scalar(Value::Interval(*interval)),
+    })
 }
 
-#[cycle(copy)]
-fn copy_members<'a>(
-    alloc: Global,
-    members: &BTreeMap<String, Value<'a>>,
-) -> Result<BTreeMap<String, Value<'a>>, AllocError>
-    ensures { (seen : Number → spec.Number)
-        → IfOk result (λ m. members_seen seen m.entries ≡ members_seen seen members.now.entries) }
+/// The copy of a part, up to a container within it.
+fn filled_from<'v, 'a>(alloc: Global, part: Part<'v, 'a>) -> Result<Filled<'v, 'a>, AllocError>
+    ensures copies { (seen : Number → spec.Number)
+        → IfOk result (λ filled. filled_tree seen filled ≡ part_tree seen part.entry) }
+    ensures fewer { IfOk result (λ filled. filled_parts filled < part_parts part.entry) }
 {
-    let mut copies = BTreeMap::new(alloc);
-    for (key, member) in members.iter() {
-        let name = key.clone()?;
-        drop(copies.insert(name, copy(alloc, member)?)?);
+    match part {
+        Part::Scalar(copy) => Ok(Filled::Whole(copy)),
+        Part::Array(values) => {
+            fill_array(Vec::with_capacity(alloc, values.len())?, values.iter())
+        }
+        Part::Object(members) => fill_object(BTreeMap::new(alloc), members.iter()),
     }
-    Ok(copies)
+}
+
+/// The array of these copies, and of those of the values that are left.
+fn fill_array<'v, 'a>(
+    mut copies: Vec<Value<'a>>,
+    mut left: slice::Iter<'v, Value<'a>>,
+) -> Result<Filled<'v, 'a>, AllocError>
+    ensures copies { (seen : Number → spec.Number)
+        → IfOk result (λ filled. filled_tree seen filled
+        ≡ array_seen seen copies.entry.items (trees_seen seen (iter_rest left.entry))) }
+    ensures fewer { IfOk result (λ filled. filled_parts filled ≤ values_parts (iter_rest left.entry)) }
+{
+    while let Some(value) = left.next() {
+        match part_of(value)? {
+            Part::Scalar(copy) => copies.push(copy)?,
+            part => return Ok(Filled::Within(Open::Array(copies, left), part)),
+        }
+    }
+    Ok(Filled::Whole(Value::Array(copies)))
+}
+
+/// The object of these copies, and of those of the members that are left.
+fn fill_object<'v, 'a>(
+    mut copies: BTreeMap<String, Value<'a>>,
+    mut left: btree_map::Iter<'v, String, Value<'a>>,
+) -> Result<Filled<'v, 'a>, AllocError>
+    ensures copies { (seen : Number → spec.Number)
+        → IfOk result (λ filled. filled_tree seen filled ≡ object_seen seen copies.entry.entries left.entry) }
+    ensures fewer { IfOk result (λ filled. filled_parts filled ≤ entries_parts left.entry) }
+{
+    while let Some((key, value)) = left.next() {
+        match part_of(value)? {
+            Part::Scalar(copy) => drop(copies.insert(key.clone()?, copy)?),
+            part => return Ok(Filled::Within(Open::Object(copies, key, left), part)),
+        }
+    }
+    Ok(Filled::Whole(Value::Object(copies)))
+}
+
+/// The container with this copy of the part that was missing, and with those of the parts behind it.
+fn filled_behind<'v, 'a>(outer: Open<'v, 'a>, copy: Value<'a>) -> Result<Filled<'v, 'a>, AllocError>
+    ensures copies { (seen : Number → spec.Number)
+        → IfOk result (λ filled. filled_tree seen filled ≡ with_part seen outer.entry (tree_seen seen copy.entry)) }
+    ensures fewer { IfOk result (λ filled. filled_parts filled ≤ left_parts outer.entry) }
+{
+    match outer {
+        Open::Array(mut copies, left) => {
+            copies.push(copy)?;
+            fill_array(copies, left)
+        }
+        Open::Object(mut copies, key, left) => {
+            drop(copies.insert(key.clone()?, copy)?);
+            fill_object(copies, left)
+        }
+    }
 }

@@ -22,12 +22,14 @@ fn with<'a>(
     key: &str,
     value: Value<'a>,
 ) -> Result<Value<'a>, Error> {
-    let mut members = match object {
-        Value::Object(members) => members,
-        _ => BTreeMap::new(alloc),
+    let mut object = match &object {
+        Value::Object(_) => object,
+        _ => Value::Object(BTreeMap::new(alloc)),
     };
-    drop(members.insert(String::from_str(alloc, key)?, value)?);
-    Ok(Value::Object(members))
+    if let Value::Object(members) = &mut object {
+        drop(members.insert(String::from_str(alloc, key)?, value)?);
+    }
+    Ok(object)
 }
 
 fn text(text: &str) -> Value<'_> {
@@ -59,7 +61,7 @@ fn decodes_an_array(rt: HostRuntime) -> Result<(), Fail> {
         rt.alloc(),
         b"\x80\0\0\x03\x30\0\0\0\x20\0\0\x02\x50\0\0\x0e\x50\x0a\x40\0\0\x01\x10\0\0\x01\x10\0\0\x01kv",
     )?;
-    let Value::Array(values) = value else {
+    let Value::Array(values) = &value else {
         return Err(Fail::from("no array"));
     };
     let object = with(rt.alloc(), Value::Null, "k", text("v"))?;
@@ -107,13 +109,13 @@ fn decodes_containers_in_containers(rt: HostRuntime) -> Result<(), Fail> {
 #[test]
 fn decodes_extensions(rt: HostRuntime) -> Result<(), Fail> {
     let date = decoded(rt.alloc(), b"\x20\0\0\0\x60\0\0\x05\x10\0\0\0\x01")?;
-    assert!(rt; matches!(date, Value::Date(Date { value: 1 })));
+    assert!(rt; matches!(&date, Value::Date(Date { value: 1 })));
     let span = decoded(
         rt.alloc(),
         b"\x20\0\0\0\x60\0\0\x11\x40\0\0\0\x01\0\0\0\x02\0\0\0\0\0\0\0\x03",
     )?;
     let is_span = matches!(
-        span,
+        &span,
         Value::Interval(Interval {
             months: 1,
             days: 2,
@@ -125,7 +127,7 @@ fn decodes_extensions(rt: HostRuntime) -> Result<(), Fail> {
         rt.alloc(),
         &Item::Extension(ExtensionValue::Binary(b"\xff\0")),
     )?;
-    assert!(rt; matches!(bytes, Value::Binary(b"\xff\0")));
+    assert!(rt; matches!(&bytes, Value::Binary(b"\xff\0")));
     Ok(())
 }
 
@@ -133,7 +135,7 @@ fn decodes_extensions(rt: HostRuntime) -> Result<(), Fail> {
 #[test]
 fn borrows_texts(rt: HostRuntime) -> Result<(), Fail> {
     let value = decoded(rt.alloc(), b"\x40\0\0\x01\x10\0\0\x03\x10\0\0\x03asdadf")?;
-    let Value::Object(members) = value else {
+    let Value::Object(members) = &value else {
         return Err(Fail::from("no object"));
     };
     let is_borrowed = matches!(
@@ -186,7 +188,7 @@ fn clones(rt: HostRuntime) -> Result<(), Fail> {
     assert!(rt; copy == object);
     let one = tenths(10).clone(rt.alloc())?;
     let has_scale = matches!(
-        one,
+        &one,
         Value::Number(Number::Decimal64(Decimal64 {
             scale: 1,
             value: 10,
@@ -195,9 +197,83 @@ fn clones(rt: HostRuntime) -> Result<(), Fail> {
     assert!(rt; has_scale);
     assert!(rt;
         matches!(
-            text("a").clone(rt.alloc())?,
+            &text("a").clone(rt.alloc())?,
             Value::String(CowStr::Borrowed("a"))
         )
     );
+    Ok(())
+}
+
+/// A container of this value alone, or with a null before it or behind it.
+fn around<'a>(
+    alloc: Global,
+    value: Value<'a>,
+    before: bool,
+    behind: bool,
+    object: bool,
+) -> Result<Value<'a>, Error> {
+    if object {
+        let mut members = Value::Object(BTreeMap::new(alloc));
+        if before {
+            members = with(alloc, members, "a", Value::Null)?;
+        }
+        if behind {
+            members = with(alloc, members, "c", Value::Null)?;
+        }
+        return with(alloc, members, "b", value);
+    }
+    let mut values = Vec::new(alloc);
+    if before {
+        values.push(Value::Null)?;
+    }
+    values.push(value)?;
+    if behind {
+        values.push(Value::Null)?;
+    }
+    Ok(Value::Array(values))
+}
+
+// Each is cloned, compared and let go.
+#[test]
+fn deep_values(rt: HostRuntime) -> Result<(), Fail> {
+    let rows = [
+        (100, true, true, false),
+        (100, true, true, true),
+        (100_000, false, false, false),
+        (20_000, false, false, true),
+        (100_000, true, false, false),
+        (20_000, true, false, true),
+    ];
+    for (levels, before, behind, object) in rows {
+        let mut value = text("x");
+        for _ in 0..levels {
+            value = around(rt.alloc(), value, before, behind, object)?;
+        }
+        let copy = value.clone(rt.alloc())?;
+        assert!(rt; copy == value);
+        let deeper = around(rt.alloc(), copy, before, behind, object)?;
+        assert!(rt; deeper != value);
+    }
+    Ok(())
+}
+
+// Parts behind the deep one: cloned and let go.
+#[test]
+fn deep_values_before_others(rt: HostRuntime) -> Result<(), Fail> {
+    let rows = [
+        (100_000, false, false),
+        (20_000, false, true),
+        (100_000, true, false),
+        (20_000, true, true),
+    ];
+    for (levels, before, object) in rows {
+        let mut value = text("x");
+        for _ in 0..levels {
+            value = around(rt.alloc(), value, before, true, object)?;
+        }
+        let copy = value.clone(rt.alloc())?;
+        let both = two(rt.alloc(), value, copy)?;
+        assert!(rt; both != Value::Null);
+    }
     Ok(())
 }

@@ -1,0 +1,70 @@
+-- Values that are copied part by part.
+use Rattle.std.proofs.Common.{◌≡◌, ℕ, ◌+◌, ◌*◌, List, [], ◌∷◌, ◌++◌, Result, Ok, Err, String, Global, string_bytes, string_cmp, refl, sym, ap, subst, ◌∙◌, append_assoc, append-nil}
+use Rattle.std.specs.Prelude.{reverse, IfOk}
+use Rattle.std.specs.declared.alloc.AllocError.{AllocError}
+use Rattle.std.specs.BTreeMap.{insert_entry}
+use Rattle.std.specs.List.Sorted.{IsStrictlySortedBy}
+use Rattle.std.specs.Map.{keys_of}
+use Rattle.std.proofs.lemmas.List.{map-append, reverse-append}
+use Rattle.jsonb_doc.specs.Number as spec
+use Rattle.jsonb_doc.specs.Tree.{Tree}
+use Rattle.jsonb_doc.specs.ObjectBuilder.{insert_pair}
+use Rattle.jsonb_doc.specs.Value.{tree_seen, trees_seen, members_seen}
+use Rattle.jsonb_doc.specs.Private.Copying.{insert_pairs, with_part, filled_tree, left_parts}
+use Rattle.jsonb_doc.specs.declared.number.Number.{Number}
+use Rattle.jsonb_doc.specs.declared.value.Value.{Value}
+use Rattle.jsonb_doc.specs.declared.value.copy.Open.{Open}
+use Rattle.jsonb_doc.specs.declared.value.copy.Filled.{Filled}
+use Rattle.jsonb_doc.proofs.ValueTrees.{Entry, members_seen-insert_entry, insert_last}
+
+-- what these containers, the innermost first, have left to be copied
+abbrev pub around_parts : List Open → ℕ
+around_parts [] = 0
+around_parts (o ∷ around) = 1 + 2 * left_parts o + around_parts around
+
+innermost : (around around' : List Open) (o : Open) → around' ≡ around ++ o ∷ [] → reverse around' ≡ o ∷ reverse around
+innermost around around' o e = ap reverse e ∙ reverse-append around (o ∷ [])
+
+-- one container more, as the innermost
+pub around_parts-with : (around around' : List Open) (o : Open) → around' ≡ around ++ o ∷ []
+    → around_parts (reverse around') ≡ 1 + 2 * left_parts o + around_parts (reverse around)
+around_parts-with around around' o e = ap around_parts (innermost around around' o e)
+
+module _ (seen : Number → spec.Number) where
+  -- the tree with these containers around it, the innermost first
+  abbrev pub tree_within : List Open → Tree → Tree
+  tree_within [] t = t
+  tree_within (o ∷ around) t = tree_within around (with_part seen o t)
+
+  pub tree_within-with : (around around' : List Open) (o : Open) (t : Tree) → around' ≡ around ++ o ∷ []
+      → tree_within (reverse around') t ≡ tree_within (reverse around) (with_part seen o t)
+  tree_within-with around around' o t e = ap (λ (os : List Open). tree_within os t) (innermost around around' o e)
+
+  -- one value more is copied
+  pub value_copied : (vs vs' : List Value) (v : Value) (t : Tree) (more : List Tree) → vs' ≡ vs ++ v ∷ [] → tree_seen seen v ≡ t
+      → trees_seen seen vs' ++ more ≡ trees_seen seen vs ++ t ∷ more
+  value_copied vs vs' v t more is same =
+      ap (λ ws. trees_seen seen ws ++ more) is ∙ ap (λ us. us ++ more) (map-append (tree_seen seen) vs (v ∷ []))
+      ∙ append_assoc (trees_seen seen vs) (tree_seen seen v ∷ []) more
+      ∙ ap (λ u. trees_seen seen vs ++ u ∷ more) same
+
+  -- one member more is copied
+  pub member_copied : (es es' : List Entry) (name : String Global) (v : Value) (key : List ℕ) (t : Tree) → es' ≡ insert_entry string_cmp es name v
+      → string_bytes name ≡ key → tree_seen seen v ≡ t → members_seen seen es' ≡ insert_pair key t (members_seen seen es)
+  member_copied es es' name v key t is named same = ap (members_seen seen) is ∙ members_seen-insert_entry seen es name v ∙ rw (named, same) refl
+
+  -- members in order go in order
+  pub copied_in_order : (done left : List Entry) → IsStrictlySortedBy string_cmp (keys_of (done ++ left))
+      → insert_pairs (members_seen seen left) (members_seen seen done) ≡ members_seen seen (done ++ left)
+  copied_in_order done [] rising = ap (members_seen seen) (sym (append-nil done))
+  copied_in_order done (e ∷ left) rising =
+      let joined = append_assoc done (e ∷ []) left in
+      ap (insert_pairs (members_seen seen left)) (insert_last seen done e left rising)
+      ∙ copied_in_order (done ++ e ∷ []) left (subst (λ (es : List Entry). IsStrictlySortedBy string_cmp (keys_of es)) (sym joined) rising)
+      ∙ ap (members_seen seen) joined
+
+  -- what is filled to a tree is filled to the same one
+  pub copies_same : (r : Result Filled AllocError) {t u : Tree} → IfOk r (λ filled. filled_tree seen filled ≡ t) → t ≡ u
+      → IfOk r (λ filled. filled_tree seen filled ≡ u)
+  copies_same (Ok filled) h same = h ∙ same
+  copies_same (Err e) h same = tt

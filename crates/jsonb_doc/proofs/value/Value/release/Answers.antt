@@ -1,0 +1,6 @@
+use Rattle.jsonb_doc.proofs.PartLemmas.{less_still}
+use Rattle.jsonb_doc.proofs.value.Value.release.Goals as goal
+
+pub loop-remaining-smaller : goal.loop-remaining-smaller
+loop-remaining-smaller c =
+    less_still c.loop-remaining.remaining c.without_a_part-remaining.result c.in-Some.field-0 c.in-Some.is c.without_a_part-remaining.ensures

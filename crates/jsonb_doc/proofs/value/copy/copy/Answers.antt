@@ -1,0 +1,28 @@
+use Rattle.std.proofs.Common.{◌≡◌, List, sym, ap, subst, ◌∙◌, arith}
+use Rattle.std.specs.Prelude.{reverse}
+use Rattle.std.proofs.lemmas.List.{nil_from_length}
+use Rattle.jsonb_doc.specs.Value.{tree_seen}
+use Rattle.jsonb_doc.specs.Private.Copying.{filled_tree, with_part}
+use Rattle.jsonb_doc.specs.declared.value.copy.Open.{Open}
+use Rattle.jsonb_doc.proofs.CopiedValues.{tree_within, tree_within-with}
+use Rattle.jsonb_doc.proofs.value.copy.copy.Goals as goal
+
+pub returns-in-None : goal.returns-in-None
+returns-in-None c = λ seen.
+    subst (λ (os : List Open). tree_within seen (reverse os) (tree_seen seen c.in-Whole.copy) ≡ tree_seen seen c.args.value.now)
+    (nil_from_length c.loop-filled.around.items (omega (arith, c.in-None.ensures.cases.0, c.loop-filled.around.ok.0)))
+    (rw c.in-Whole.is at (c.loop-filled.invariant seen))
+
+pub loop-filled-preserved-in_ok-filled-in-Within : goal.loop-filled-preserved-in_ok-filled-in-Within
+loop-filled-preserved-in_ok-filled-in-Within c = λ seen.
+    let around = c.loop-filled.around.items in
+    tree_within-with seen around _ c.in-Within.outer (filled_tree seen c.in_ok-filled-in-Within.filled) c.in_ok-push-in-Within.ensures.items
+    ∙ ap (λ t. tree_within seen (reverse around) (with_part seen c.in-Within.outer t)) (c.in_ok-filled-in-Within.ensures.copies seen)
+    ∙ (rw c.in-Within.is at (c.loop-filled.invariant seen))
+
+pub loop-filled-preserved : goal.loop-filled-preserved
+loop-filled-preserved c = λ seen.
+    let left = c.pop.new.self.items in
+    ap (tree_within seen (reverse left)) (c.in_ok-filled-in-Some.ensures.copies seen)
+    ∙ sym (tree_within-with seen left c.loop-filled.around.items c.in-Some.outer (tree_seen seen c.in-Whole.copy) c.in-Some.ensures.items)
+    ∙ (rw c.in-Whole.is at (c.loop-filled.invariant seen))

@@ -1,0 +1,16 @@
+use Rattle.std.proofs.Common.{◌≡◌, ◌+◌, ◌*◌}
+use Rattle.std.specs.Prelude.{reverse}
+use Rattle.jsonb_doc.specs.Number as spec
+use Rattle.jsonb_doc.specs.Value.{tree_seen}
+use Rattle.jsonb_doc.specs.Private.Copying.{filled_tree, filled_parts}
+use Rattle.jsonb_doc.specs.declared.number.Number.{Number}
+use Rattle.jsonb_doc.proofs.CopiedValues.{tree_within, around_parts}
+use Rattle.jsonb_doc.proofs.value.copy.copy.Given as goal
+
+-- what is filled is the value, with the containers around it
+abbrev pub invariant-loop-filled : goal.invariant-loop-filled
+invariant-loop-filled l = (seen : Number → spec.Number)
+    → tree_within seen (reverse l.around.items) (filled_tree seen l.filled) ≡ tree_seen seen l.fn.value
+
+abbrev pub decreases-loop-filled : goal.decreases-loop-filled
+decreases-loop-filled l = 2 * filled_parts l.filled + around_parts (reverse l.around.items)

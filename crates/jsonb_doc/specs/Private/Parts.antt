@@ -1,0 +1,43 @@
+-- How many parts a value has: each value within it, at every depth, and itself. How many steps letting go of it still takes.
+use Rattle.std.specs.Prelude.{ℕ, ◌+◌, ◌*◌, List, String, Option, None, Some}
+use Rattle.std.specs.declared.alloc.Global.{Global}
+use Rattle.jsonb_doc.specs.Tree.{Tree, array, object, Trees, no_trees, tree, Pairs, no_pairs, pair, trees_of, pairs_of}
+use Rattle.jsonb_doc.specs.View.{number_view}
+use Rattle.jsonb_doc.specs.Value.{value_tree, trees_seen, members_seen}
+use Rattle.jsonb_doc.specs.declared.value.Value.{Value}
+use Rattle.jsonb_doc.specs.declared.value.release.Remaining.{Remaining}
+
+abbrev mutual
+  pub tree_parts : Tree → ℕ
+  tree_parts (array ts) = 1 + trees_parts ts
+  tree_parts (object ps) = 1 + pairs_parts ps
+  tree_parts _ = 1
+
+  pub trees_parts : Trees → ℕ
+  trees_parts no_trees = 0
+  trees_parts (tree t ts) = tree_parts t + trees_parts ts
+
+  pub pairs_parts : Pairs → ℕ
+  pairs_parts no_pairs = 0
+  pairs_parts (pair key t ps) = tree_parts t + pairs_parts ps
+
+abbrev pub parts : Value → ℕ
+parts v = tree_parts (value_tree v)
+
+-- the values of an array, and the members of an object, with all that is within them
+abbrev pub values_parts : List Value → ℕ
+values_parts vs = trees_parts (trees_of (trees_seen number_view vs))
+
+abbrev pub entries_parts : List (String Global × Value) → ℕ
+entries_parts es = pairs_parts (pairs_of (members_seen number_view es))
+
+abbrev pub waiting_parts : Option Value → ℕ
+waiting_parts None = 0
+waiting_parts (Some v) = parts v
+
+-- with so many parts in the value and so many that wait: it falls with their sum, and where that stays, with the first
+unfoldable pub to_release : ℕ → ℕ → ℕ
+to_release next waiting = (next + waiting) * (next + waiting) + next
+
+abbrev pub remaining : Remaining → ℕ
+remaining r = to_release (parts r.next) (waiting_parts r.waiting)

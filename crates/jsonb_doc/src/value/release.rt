@@ -1,0 +1,169 @@
+//! Letting go of a value, part by part in a loop, without memory.
+//!
+//! What waits for its turn lies in the room that a part before it has left in its container.
+
+ghost use Rattle.std.specs.Prelude.{◌≡◌, ℕ, ◌+◌, ◌<◌, IfSome, vec_len, vec_capacity};
+ghost use Rattle.jsonb_doc.specs.Private.Parts.{parts, values_parts, entries_parts, waiting_parts, to_release, remaining};
+
+use crate::value::Value;
+use std::collections::BTreeMap;
+use std::mem::replace;
+
+// A value that is next to be let go, and one that waits behind it.
+struct Remaining<'a> {
+    next: Value<'a>,
+    waiting: Option<Value<'a>>,
+}
+
+impl<'a> Value<'a> {
+    /// Lets go of all parts.
+    pub(super) fn release(self) {
+        let mut remaining = Some(Remaining {
+            next: self,
+            waiting: None,
+        });
+        while let Some(Remaining { next, waiting }) = remaining {
+            remaining = next.without_a_part(waiting);
+        }
+    }
+
+    // What is left behind one part at least.
+    fn without_a_part(self, waiting: Option<Value<'a>>) -> Option<Remaining<'a>>
+        ensures { IfSome result (λ left. remaining left < to_release (parts self.entry) (waiting_parts waiting.entry)) }
+    {
+        match self {
+            Value::Array(values) => without_value(values, waiting),
+            Value::Object(members) => without_member(members, waiting),
+            Value::Null
+            | Value::Bool(_)
+            | Value::String(_)
+            | Value::Number(_)
+            | Value::Binary(_)
+            | Value::Date(_)
+            | Value::Timestamp(_)
+            | Value::TimestampTz(_)
+            | Value::Interval(_) => without_next(waiting),
+        }
+    }
+
+    // The value, if it is a container.
+    #[inline(always)]
+    fn container(self) -> Option<Value<'a>>
+        ensures { IfSome result (λ inner. inner ≡ self.entry) }
+    {
+        match self {
+            Value::Array(values) => Some(Value::Array(values)),
+            Value::Object(members) => Some(Value::Object(members)),
+            Value::Null
+            | Value::Bool(_)
+            | Value::String(_)
+            | Value::Number(_)
+            | Value::Binary(_)
+            | Value::Date(_)
+            | Value::Timestamp(_)
+            | Value::TimestampTz(_)
+            | Value::Interval(_) => None,
+        }
+    }
+}
+
+// Nothing is left in front of what waits.
+fn without_next(waiting: Option<Value<'_>>) -> Option<Remaining<'_>>
+    ensures { IfSome result (λ left. (n : ℕ) → 0 < n → remaining left < to_release n (waiting_parts waiting.entry)) }
+{
+    match waiting {
+        None => None,
+        Some(behind) => Some(Remaining {
+            next: behind,
+            waiting: None,
+        }),
+    }
+}
+
+// The values without the last container among them, and without those behind it.
+fn without_value<'a>(
+    mut values: Vec<Value<'a>>,
+    waiting: Option<Value<'a>>,
+) -> Option<Remaining<'a>>
+    ensures { IfSome result (λ left.
+        remaining left < to_release (1 + values_parts values.entry.items) (waiting_parts waiting.entry)) }
+{
+    while let Some(last) = values.pop() {
+        if let Some(inner) = last.container() {
+            return Some(without_inner(values, inner, waiting));
+        }
+    }
+    values.destroy_empty();
+    without_next(waiting)
+}
+
+// The values and the container that stood behind them. Where something waits already, it takes the room of that
+// container.
+fn without_inner<'a>(
+    mut values: Vec<Value<'a>>,
+    inner: Value<'a>,
+    waiting: Option<Value<'a>>,
+) -> Remaining<'a>
+    requires { vec_len values < vec_capacity values }
+    ensures { remaining result < to_release
+        (1 + values_parts values.entry.items + parts inner.entry) (waiting_parts waiting.entry) }
+{
+    match waiting {
+        None => Remaining {
+            next: Value::Array(values),
+            waiting: Some(inner),
+        },
+        Some(behind) => {
+            values.push_reserved(behind);
+            Remaining {
+                next: inner,
+                waiting: Some(Value::Array(values)),
+            }
+        }
+    }
+}
+
+// The members without the last one. Where something waits already, it takes the place of its value.
+fn without_member<'a>(
+    mut members: BTreeMap<String, Value<'a>>,
+    waiting: Option<Value<'a>>,
+) -> Option<Remaining<'a>>
+    ensures { IfSome result (λ left.
+        remaining left < to_release (1 + entries_parts members.entry.entries) (waiting_parts waiting.entry)) }
+{
+    match waiting {
+        None => {
+            let Some((_, last)) = members.pop_last() else {
+                members.destroy_empty();
+                return None;
+            };
+            Some(Remaining {
+                next: Value::Object(members),
+                waiting: last.container(),
+            })
+        }
+        Some(behind) => Some(with_behind(members, behind)),
+    }
+}
+
+// The value of the last member, with the others and what waits in its place. Without members, what waits.
+fn with_behind<'a>(mut members: BTreeMap<String, Value<'a>>, behind: Value<'a>) -> Remaining<'a>
+    ensures { remaining result < to_release (1 + entries_parts members.entry.entries) (parts behind.entry) }
+{
+    match members.last_entry() {
+        None => {
+            members.destroy_empty();
+            Remaining {
+                next: behind,
+                waiting: None,
+            }
+        }
+        Some(last) => {
+            let next = replace(last.into_mut(), behind);
+            Remaining {
+                next,
+                waiting: Some(Value::Object(members)),
+            }
+        }
+    }
+}
