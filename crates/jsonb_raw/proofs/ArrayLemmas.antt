@@ -1,8 +1,7 @@
 -- Which trees are arrays, and what is made of them.
 use Rattle.std.proofs.Common.{◌≡◌, ◌⊎◌, inl, inr, suc, List, [], ◌∷◌, length, Option, Some, None, refl, ap}
 use Rattle.std.specs.List.{Any}
-use Rattle.jsonb_doc.specs.Tree as spec
-use Rattle.jsonb_doc.specs.Tree.{Tree, array, Trees, no_trees, tree, elements, count, trees_of}
+use Rattle.jsonb_doc.specs.Tree.{Tree, array, Trees, no_trees, tree, elements, count}
 use Rattle.jsonb_doc.specs.Payload.{Form}
 use Rattle.jsonb_doc.specs.Format.{Decodes}
 use Rattle.jsonb_doc.specs.Answer.{IsOutOfMemoryOrTooLarge}

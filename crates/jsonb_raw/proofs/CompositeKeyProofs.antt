@@ -1,5 +1,5 @@
 -- Keys of several values, one behind the other, from the keys of each with what follows it.
-use Rattle.std.proofs.Common.{◌≡◌, ℕ, zero, suc, ◌<◌, ◌^◌, List, [], ◌∷◌, ◌++◌, Option, None, Some, IfSome, true, false, Ordering, Less, Greater, inl, inr, refl, sym, ap, ap₂, subst, ◌∙◌, arith, append_assoc}
+use Rattle.std.proofs.Common.{◌≡◌, ℕ, ◌<◌, List, [], ◌∷◌, ◌++◌, Option, None, Some, IfSome, true, Less, Greater, inl, refl, sym, ap, subst, ◌∙◌, arith, append_assoc}
 use Rattle.std.specs.Ordering.{ordering_then}
 use Rattle.std.specs.Option.{option_cmp}
 use Rattle.std.specs.Int.{Width, to_be_bytes, byte_len}
@@ -12,7 +12,7 @@ use Rattle.jsonb_raw.specs.KeyLaws.{HasKey}
 use Rattle.jsonb_raw.specs.CompositeKeys.{column_key, composite_key, CompositeKeysOrder}
 use Rattle.jsonb_raw.proofs.Ranking.{bytes_cmp}
 use Rattle.jsonb_raw.proofs.KeyLawProofs.{ranked}
-use Rattle.jsonb_raw.proofs.TreeKeys.{items_rank, key_is_item, rank_boolean, IsRest-item, nothing_below_depth, nothing_above_depth}
+use Rattle.jsonb_raw.proofs.TreeKeys.{items_rank, key_is_item, IsRest-item, nothing_below_depth, nothing_above_depth}
 
 some_depth : (w : Width) → 0 < depths w
 some_depth w = one-le-pow (byte_len w) 256 (omega arith)

@@ -6,7 +6,7 @@ use Rattle.jsonb_doc.specs.declared.item.Item.{Item}
 use Rattle.jsonb_doc.specs.declared.item.Item.TheVariants as item
 use Rattle.jsonb_doc.specs.declared.extension.ExtensionValue.{ExtensionValue}
 use Rattle.jsonb_doc.specs.Extension.{Extension}
-use Rattle.jsonb_doc.specs.Tree.{Tree, null, boolean, number, text, extension, array, object, Trees, Pairs, elements}
+use Rattle.jsonb_doc.specs.Tree.{Tree, null, boolean, extension, array, object, Trees, Pairs, elements}
 use Rattle.jsonb_doc.specs.Equal.{is_equal}
 use Rattle.jsonb_doc.specs.Payload.{Form}
 use Rattle.jsonb_doc.specs.Item.{StandsFor}

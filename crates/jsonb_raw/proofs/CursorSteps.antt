@@ -1,5 +1,5 @@
 -- How a cursor goes on along keys.
-use Rattle.std.proofs.Common.{◌≡◌, ◌||◌, ℕ, Bool, true, false, List, [], ◌∷◌, Option, Some, None, Result, Ok, Err, refl, sym, ap, ◌∙◌, subst, Ordering, Less, Equal, Greater}
+use Rattle.std.proofs.Common.{◌≡◌, ℕ, Bool, true, false, List, [], ◌∷◌, Option, Some, None, Result, Ok, Err, refl, sym, ap, ◌∙◌, subst, Less, Equal, Greater}
 use Rattle.std.specs.Borrow.{Bor}
 use Rattle.std.specs.List.{list_any}
 use Rattle.std.specs.Ordering.{nat_cmp}
@@ -11,7 +11,7 @@ use Rattle.jsonb_doc.specs.declared.entry_iter.EntryIter.{EntryIter}
 use Rattle.jsonb_doc.specs.declared.entry_iter.StoredEntry.{StoredEntry}
 use Rattle.jsonb_doc.specs.Payload.{Form}
 use Rattle.jsonb_doc.specs.Format.{AreKeys, IsBelowFirst}
-use Rattle.jsonb_doc.specs.Private.Stored.{HasEntriesLeft, Stores, GivesEntry, TakesEntry, key_trees}
+use Rattle.jsonb_doc.specs.Private.Stored.{HasEntriesLeft, GivesEntry, TakesEntry, key_trees}
 use Rattle.jsonb_doc.proofs.BuilderSteps.{AreRising, keys_rise}
 use Rattle.jsonb_raw.specs.Cursors.{IsCursorOf, IsSearchOf, IsPassed, IsBefore, HoldsTexts}
 use Rattle.jsonb_raw.specs.declared.functions.path.exists.KeyCursor.{KeyCursor}

@@ -1,8 +1,8 @@
 -- A container is an array or an object, by its header.
-use Rattle.std.proofs.Common.{◌≡◌, ◌⊎◌, inl, inr, ℕ, ◌+◌, ◌*◌, ◌-◌, ◌/◌, ◌%◌, ◌^◌, ◌<◌, ◌≤◌, true, false, List, ◌∷◌, ◌++◌, length, take, Some, None, refl, sym, subst, ◌∙◌, arith, slice_get}
+use Rattle.std.proofs.Common.{◌≡◌, ◌⊎◌, inl, inr, ℕ, ◌+◌, ◌*◌, ◌-◌, ◌/◌, ◌%◌, ◌^◌, ◌<◌, ◌≤◌, true, List, ◌∷◌, ◌++◌, length, take, Some, None, refl, sym, subst, ◌∙◌, arith, slice_get}
 use Rattle.std.specs.Int.{w32, from_be_bytes}
 use Rattle.std.proofs.lemmas.Option.{slice_get_within}
-use Rattle.jsonb_doc.specs.Tree.{Tree, null, boolean, number, text, extension, array, object, Trees, Pairs, elements, count, keys, values}
+use Rattle.jsonb_doc.specs.Tree.{Tree, boolean, array, object, Trees, Pairs, elements, count, keys, values}
 use Rattle.jsonb_doc.specs.Payload.{NumberReader}
 use Rattle.jsonb_doc.specs.Format.{array_header, object_header, container_entry, IsContainer, AreMembers, IsContent, AreEntries, AreValues}
 use Rattle.jsonb_doc.specs.Encoding.{EntryParts}

@@ -1,7 +1,7 @@
 -- A container without a place deep within it: the walk down to that place, and what is written of the way.
-use Rattle.std.proofs.Common.{◌≡◌, ℕ, zero, suc, ◌+◌, ◌-◌, ◌^◌, ◌<◌, ◌≤◌, List, [], ◌∷◌, ◌++◌, length, take, drop, Option, Some, None, refl, sym, ap, subst, ◌∙◌, arith, append_assoc, append-nil, add-one, drop-cons, get_or, slice_get, Result, Ok, Err, MatchResult}
+use Rattle.std.proofs.Common.{◌≡◌, ℕ, zero, suc, ◌+◌, ◌-◌, ◌^◌, ◌<◌, ◌≤◌, List, [], ◌∷◌, ◌++◌, length, drop, Option, Some, None, refl, sym, ap, subst, ◌∙◌, arith, append_assoc, append-nil, add-one, drop-cons, get_or, slice_get, Result, Ok, Err, MatchResult}
 use Rattle.std.specs.Prelude.{slice_range, option_and_then}
-use Rattle.std.proofs.lemmas.List.{length-append, length-drop, drop-drop, drop-append-le}
+use Rattle.std.proofs.lemmas.List.{length-append, drop-drop, drop-append-le}
 use Rattle.std.proofs.lemmas.List.Edits.{length-between}
 use Rattle.std.proofs.lemmas.List.Folds.{drop_split}
 use Rattle.jsonb_doc.specs.Tree.{Tree}
@@ -13,8 +13,8 @@ use Rattle.jsonb_raw.specs.declared.functions.path.entry_place.EntryPlace.{Entry
 use Rattle.jsonb_raw.specs.declared.functions.path.entry_place.ChildEntries.{ChildEntries}
 use Rattle.jsonb_raw.specs.Places.{children, tree_at}
 use Rattle.jsonb_raw.specs.Deletes.{change_child, remove_at}
-use Rattle.jsonb_raw.specs.Private.Cuts.{AreOfChild, AreInOrder, LiesWithin, StepsInto, LeadTo, LeadInto, content_at, with_content, without_child, entries_size, front_of, fronts, starts, IsPushed}
-use Rattle.jsonb_raw.proofs.PushSteps.{as_container, empty_of, front}
+use Rattle.jsonb_raw.specs.Private.Cuts.{AreOfChild, AreInOrder, LiesWithin, LeadTo, LeadInto, content_at, with_content, without_child, entries_size, front_of, fronts, starts, IsPushed}
+use Rattle.jsonb_raw.proofs.PushSteps.{as_container, front}
 
 -- ---- lists
 

@@ -1,9 +1,9 @@
 -- Steps from a number's digits to those of the number without its last digit.
-use Rattle.std.proofs.Common.{◌≡◌, ◌≢◌, ℕ, zero, suc, ◌+◌, ◌-◌, ◌*◌, ◌/◌, ◌%◌, ◌^◌, ◌<◌, ◌≤◌, ◌==◌, ◌&&◌, Bool, true, false, cond, List, [], ◌∷◌, ◌++◌, map, length, refl, sym, ap, ap₂, ◌∙◌, arith, nat_cmp, Less, pow-suc, mul_comm, mul_assoc, mul-le-mul_left, append_assoc}
+use Rattle.std.proofs.Common.{◌≡◌, ◌≢◌, ℕ, zero, suc, ◌+◌, ◌-◌, ◌*◌, ◌/◌, ◌%◌, ◌^◌, ◌<◌, ◌≤◌, ◌==◌, ◌&&◌, Bool, true, false, cond, List, [], ◌∷◌, ◌++◌, map, length, drop, set, refl, sym, ap, ap₂, ◌∙◌, arith, nat_cmp, Less, pow-suc, mul_comm, mul_assoc, mul-le-mul_left, append_assoc}
 use native.Mathlib.Nat.{one-le-pow}
 use Rattle.std.specs.List.{list_all}
 use Rattle.std.specs.Int.Digits.{digits_of}
-use Rattle.std.proofs.lemmas.List.{map-append}
+use Rattle.std.proofs.lemmas.List.{map-append, drop-set}
 use Rattle.std.proofs.lemmas.Bool.{ne_eqb}
 use Rattle.std.proofs.lemmas.Int.Digits.{digits_of_step, length-digits_of_step, length-digits_of-le}
 use Rattle.jsonb_doc.specs.Proofs.Orderings.{nat_cmp-lt}
@@ -25,6 +25,20 @@ digits_pushed negative old n h =
     (sym (map-append (complement_byte negative) (map suc (digits_of 10 (n / 10))) (suc (n % 10) ∷ []))
     ∙ ap (map (complement_byte negative))
     (sym (map-append suc (digits_of 10 (n / 10)) (n % 10 ∷ [])) ∙ ap (map suc) (sym (digits_of_step 10 n (omega arith) h))))
+
+-- one digit more is written in front of a place
+pub digit_written : (negative : Bool) (n m at : ℕ) (row row' whole : List ℕ) (byte : ℕ) → 0 < n → m ≡ n / 10 → 0 < at → at ≤ length row
+    → byte ≡ complement_byte negative (suc (n % 10)) → row' ≡ set row (at - 1) byte
+    → complement_bytes negative (map suc (digits_of 10 n)) ++ drop at row ≡ whole
+    → complement_bytes negative (map suc (digits_of 10 m)) ++ drop (at - 1) row' ≡ whole
+digit_written negative n m at row row' whole byte some less room within is e h =
+    let others = complement_bytes negative (map suc (digits_of 10 (n / 10))) in
+    let next : at - 1 + 1 ≡ at = omega arith in
+    ap (λ k. complement_bytes negative (map suc (digits_of 10 k)) ++ drop (at - 1) row') less
+    ∙ ap (λ x. others ++ x) (ap (drop (at - 1)) e ∙ drop-set row (at - 1) byte (omega arith) ∙ ap (λ k. byte ∷ drop k row) next)
+    ∙ sym (append_assoc others (byte ∷ []) (drop at row))
+    ∙ ap (λ x. x ++ drop at row) (ap (λ b. others ++ b ∷ []) is ∙ digits_pushed negative [] n some)
+    ∙ h
 
 all_zero_behind : (ds : List ℕ) → list_all (λ d. d == 0) (ds ++ 0 ∷ []) ≡ list_all (λ d. d == 0) ds
 all_zero_behind [] = refl
@@ -61,6 +75,10 @@ significant_whole n ne =
 pub significant-nothing : (n : ℕ) → n ≡ 0 → significant (digits_of 10 n) ≡ digits_of 10 n
 significant-nothing zero e = refl
 significant-nothing (suc n) e = absurd (omega arith)
+
+pub no_digits : (n : ℕ) → n ≡ 0 → digits_of 10 n ≡ []
+no_digits zero e = refl
+no_digits (suc n) e = absurd (omega arith)
 
 pub power_step : (b k : ℕ) → 0 < k → b * 10 * 10 ^ (k - 1) ≡ b * 10 ^ k
 power_step b zero h = absurd (omega arith)

@@ -1,7 +1,7 @@
 -- A walk over levels that finds leaves: what is found, and then the leaves of what each level has left, the innermost first, are
 -- all.
-use Rattle.std.proofs.Common.{◌≡◌, ◌+◌, ◌%◌, ◌<◌, ◌^◌, ◌++◌, ℕ, suc, ℤ, pos, Bool, true, false, List, [], ◌∷◌, Option, Some, None, length, refl, sym, ap, ◌∙◌, arith, append_assoc, append-nil}
-use Rattle.std.specs.Prelude.{if◌then◌else◌, reverse, map}
+use Rattle.std.proofs.Common.{◌≡◌, ◌==◌, ◌+◌, ◌%◌, ◌<◌, ◌^◌, ◌++◌, ℕ, suc, pos, Bool, true, false, List, [], ◌∷◌, Option, Some, None, length, refl, sym, ap, ◌∙◌, arith, append_assoc, append-nil, true≢false}
+use Rattle.std.specs.Prelude.{reverse, map}
 use Rattle.std.specs.Borrow.{Bor}
 use Rattle.std.specs.Int.{w32, cast_signed}
 use Rattle.std.proofs.lemmas.List.{map-append, reverse-reverse}
@@ -10,6 +10,8 @@ use Rattle.jsonb_doc.specs.Tree as spec
 use Rattle.jsonb_doc.specs.Tree.{Tree, Trees, no_trees, tree, Pairs, no_pairs, pair, count, keys}
 use Rattle.jsonb_doc.specs.Payload.{Form, number_reader}
 use Rattle.jsonb_doc.specs.Item.{StandsFor}
+use Rattle.jsonb_doc.specs.Private.Stored.{Stores}
+use Rattle.jsonb_doc.specs.declared.entry_iter.StoredEntry.{StoredEntry}
 use Rattle.jsonb_doc.specs.declared.item.Item.{Item}
 use Rattle.jsonb_doc.specs.declared.item.Item.TheVariants as item
 use Rattle.jsonb_doc.specs.declared.value.Value.{Value}
@@ -117,11 +119,27 @@ pub item_leaves : (form : Form) (x : Item) (ignore_array : Bool) (t : Tree) → 
     → leaves ignore_array t ≡ leaves_of_parts ignore_array 0 (parts t)
 item_leaves form x ignore_array t stands entered = parts_leaves ignore_array t (few_parts form x t stands) entered
 
+-- the same of an entry
+few_stored : (form : Form) (e : StoredEntry) (t : Tree) → Stores form e t → length (parts t) < 2 ^ 31
+few_stored form e (spec.array ts) h = let fits = h.content.1.headed.fits in omega (arith, fits, count_of_trees ts)
+few_stored form e (spec.object ps) h = let fits = h.content.1.headed.fits in omega (arith, fits, count_of_pairs ps)
+few_stored form e _ h = omega arith
+
+pub entry_leaves : (form : Form) (e : StoredEntry) (ignore_array : Bool) (t : Tree) → Stores form e t → is_leaf ignore_array t ≡ false
+    → leaves ignore_array t ≡ leaves_of_parts ignore_array 0 (parts t)
+entry_leaves form e ignore_array t stored entered = parts_leaves ignore_array t (few_stored form e t stored) entered
+
+-- an entry that is no container is a leaf
+pub lone_leaf : (form : Form) (e : StoredEntry) (ignore_array : Bool) (t : Tree) → Stores form e t → (e.kind == 5) ≡ false → is_leaf ignore_array t ≡ true
+lone_leaf form e ignore_array (spec.array ts) h k = absurd (true≢false (rw h.content.0 at k))
+lone_leaf form e ignore_array (spec.object ps) h k = absurd (true≢false (rw h.content.0 at k))
+lone_leaf form e ignore_array _ h k = refl
+
 pub keyed_step : (key : Option (Bor (List ℕ))) (k : Option (List ℕ)) (n : ℕ) → IsKeyOf key k → step_at key n ≡ part_step k n
 keyed_step None None n h = refl
 keyed_step None (Some k) n h = absurd h
 keyed_step (Some key) None n h = absurd h
-keyed_step (Some key) (Some k) n h = ap unquoted_name h
+keyed_step (Some key) (Some k) n h = ap unquoted_name h.0
 
 -- ---- what is left at levels
 

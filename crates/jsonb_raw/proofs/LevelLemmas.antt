@@ -4,15 +4,14 @@ use Rattle.std.specs.Prelude.{reverse}
 use Rattle.std.specs.Borrow.{Bor}
 use Rattle.std.proofs.lemmas.List.{reverse-append, length-reverse}
 use Rattle.jsonb_doc.specs.declared.error.Error.{Error}
-use Rattle.jsonb_doc.specs.declared.item.Item.{Item}
-use Rattle.jsonb_doc.specs.declared.element_iter.ElementIter.{ElementIter}
-use Rattle.jsonb_doc.specs.declared.pair_iter.PairIter.{PairIter}
+use Rattle.jsonb_doc.specs.declared.entry_iter.StoredEntry.{StoredEntry}
+use Rattle.jsonb_doc.specs.declared.entry_iter.EntryIter.{EntryIter}
+use Rattle.jsonb_doc.specs.declared.entry_iter.PairEntryIter.{PairEntryIter}
 use Rattle.jsonb_doc.specs.Tree as spec
 use Rattle.jsonb_doc.specs.Tree.{Tree, Trees, count, keys}
 use Rattle.jsonb_doc.specs.Payload.{Form}
-use Rattle.jsonb_doc.specs.Item.{StandsFor, item_size}
-use Rattle.jsonb_doc.specs.Elements.{TakesElement}
-use Rattle.jsonb_doc.specs.ObjectPairs.{TakesPair}
+use Rattle.jsonb_doc.specs.Format.{AreKeys}
+use Rattle.jsonb_doc.specs.Private.Stored.{Stores, TakesEntry, TakesPairEntry, key_trees}
 use Rattle.jsonb_doc.proofs.Weights.{weight_of, weight-pos, inner_weighs, taken_weighs, weight_of_all, falls_inward, falls_outward}
 use Rattle.jsonb_raw.specs.declared.level.Level.{Level}
 use Rattle.jsonb_raw.specs.declared.level.Level.TheVariants.{Elements, Pairs}
@@ -20,37 +19,38 @@ use Rattle.jsonb_raw.specs.Private.Levels.{Part, parts_of_trees, parts_of_pairs,
 
 -- ---- the first part
 
-part_is : (form : Form) (level : Level) (r : Result (Option (Option (Bor (List ℕ)) × Item)) Error) (ps qs : List Part) → ps ≡ qs → TakesPart form qs r level
+part_is : (form : Form) (level : Level) (r : Result (Option (Option (Bor (List ℕ)) × StoredEntry)) Error)
+    (ps qs : List Part) → ps ≡ qs → TakesPart form qs r level
     → TakesPart form ps r level
 part_is form level r ps qs e h = subst (λ (xs : List Part). TakesPart form xs r level) (sym e) h
 
-pub element_none : (form : Form) (it : ElementIter) (ps : List Part) (ts : Trees) → ps ≡ parts_of_trees ts → TakesElement form ts None it
+pub element_none : (form : Form) (it : EntryIter) (ps : List Part) (ts : Trees) → ps ≡ parts_of_trees ts → TakesEntry form ts None it
     → TakesPart form ps (Ok None) (Elements it)
 element_none form it ps spec.no_trees e h = part_is form (Elements it) (Ok None) ps [] e tt
 element_none form it ps (spec.tree t ts) e h = absurd h
 
-pub element_some : (form : Form) (it : ElementIter) (x : Item) (ps : List Part) (ts : Trees) → ps ≡ parts_of_trees ts → TakesElement form ts (Some (Ok x)) it
+pub element_some : (form : Form) (it : EntryIter) (x : StoredEntry) (ps : List Part) (ts : Trees) → ps ≡ parts_of_trees ts → TakesEntry form ts (Some (Ok x)) it
     → TakesPart form ps (Ok (Some (None, x))) (Elements it)
 element_some form it x ps spec.no_trees e h = absurd h
 element_some form it x ps (spec.tree t ts) e h = part_is form (Elements it) (Ok (Some (None, x))) ps ((None, t) ∷ parts_of_trees ts) e
     (tt, h.0, (ts, h.1, refl))
 
-pub no_element_error : (form : Form) (it : ElementIter) (e : Error) (ts : Trees) → TakesElement form ts (Some (Err e)) it → ⊥
+pub no_element_error : (form : Form) (it : EntryIter) (e : Error) (ts : Trees) → TakesEntry form ts (Some (Err e)) it → ⊥
 no_element_error form it e spec.no_trees h = h
 no_element_error form it e (spec.tree t ts) h = h
 
-pub pair_none : (form : Form) (it : PairIter) (ps : List Part) (qs : spec.Pairs) → ps ≡ parts_of_pairs qs → TakesPair form qs None it
+pub pair_none : (form : Form) (it : PairEntryIter) (ps : List Part) (qs : spec.Pairs) → ps ≡ parts_of_pairs qs → TakesPairEntry form qs None it
     → TakesPart form ps (Ok None) (Pairs it)
 pair_none form it ps spec.no_pairs e h = part_is form (Pairs it) (Ok None) ps [] e tt
 pair_none form it ps (spec.pair k t qs) e h = absurd h
 
-pub pair_some : (form : Form) (it : PairIter) (x : Bor (List ℕ) × Item) (ps : List Part) (qs : spec.Pairs) → ps ≡ parts_of_pairs qs
-    → TakesPair form qs (Some (Ok x)) it → TakesPart form ps (Ok (Some (Some x.0, x.1))) (Pairs it)
-pair_some form it x ps spec.no_pairs e h = absurd h
-pair_some form it x ps (spec.pair k t qs) e h = part_is form (Pairs it) (Ok (Some (Some x.0, x.1))) ps ((Some k, t) ∷ parts_of_pairs qs) e
-    (h.0, h.1, (qs, h.2, refl))
+pub pair_some : (form : Form) (it : PairEntryIter) (x : Bor (List ℕ) × StoredEntry) (ps : List Part) (qs : spec.Pairs) → ps ≡ parts_of_pairs qs
+    → AreKeys (keys qs) → TakesPairEntry form qs (Some (Ok x)) it → TakesPart form ps (Ok (Some (Some x.0, x.1))) (Pairs it)
+pair_some form it x ps spec.no_pairs e are h = absurd h
+pair_some form it x ps (spec.pair k t qs) e are h = part_is form (Pairs it) (Ok (Some (Some x.0, x.1))) ps ((Some k, t) ∷ parts_of_pairs qs) e
+    ((h.0, are.0.0), h.1, (qs, h.2, refl))
 
-pub no_pair_error : (form : Form) (it : PairIter) (e : Error) (qs : spec.Pairs) → TakesPair form qs (Some (Err e)) it → ⊥
+pub no_pair_error : (form : Form) (it : PairEntryIter) (e : Error) (qs : spec.Pairs) → TakesPairEntry form qs (Some (Err e)) it → ⊥
 no_pair_error form it e spec.no_pairs h = h
 no_pair_error form it e (spec.pair k t qs) h = h
 
@@ -62,6 +62,10 @@ count_of_trees (spec.tree t ts) = ap suc (count_of_trees ts)
 pub count_of_pairs : (ps : spec.Pairs) → length (keys ps) ≡ length (parts_of_pairs ps)
 count_of_pairs spec.no_pairs = refl
 count_of_pairs (spec.pair k t ps) = ap suc (count_of_pairs ps)
+
+pub count_of_keys : (ks : List (List ℕ)) → count (key_trees ks) ≡ length ks
+count_of_keys [] = refl
+count_of_keys (key ∷ ks) = ap suc (count_of_keys ks)
 
 -- ---- the levels that a walk is within, the innermost first
 
@@ -100,14 +104,14 @@ pushed_around form around around' l rest others e left h =
 
 module _ {G : Type 0} where
   -- the part that `take` gave is the first of what was left
-  pub SomeParts-first : (form : Form) (level level' : Level) (around : List Level) (key : Option (Bor (List ℕ))) (item : Item)
+  pub SomeParts-first : (form : Form) (level level' : Level) (around : List Level) (key : Option (Bor (List ℕ))) (entry : StoredEntry)
       (Q : List Part → List (List Part) → Type 0)
-      → ((ps : List Part) → HasPartsLeft form level ps → TakesPart form ps (Ok (Some (key, item))) level') → SomeParts form level around Q
-      → ((p : Part) (rest : List Part) (others : List (List Part)) → IsKeyOf key p.0 → StandsFor form item p.1 → HasPartsLeft form level' rest
+      → ((ps : List Part) → HasPartsLeft form level ps → TakesPart form ps (Ok (Some (key, entry))) level') → SomeParts form level around Q
+      → ((p : Part) (rest : List Part) (others : List (List Part)) → IsKeyOf key p.0 → Stores form entry p.1 → HasPartsLeft form level' rest
       → HavePartsLeft form (reverse around) others → Q (p ∷ rest) others → G) → G
-  SomeParts-first form level level' around key item Q takes s go = first s.here (takes s.here s.left) s.fact
+  SomeParts-first form level level' around key entry Q takes s go = first s.here (takes s.here s.left) s.fact
     where
-      first : (ps : List Part) → TakesPart form ps (Ok (Some (key, item))) level' → Q ps s.others → G
+      first : (ps : List Part) → TakesPart form ps (Ok (Some (key, entry))) level' → Q ps s.others → G
       first [] t q = absurd t
       first (p ∷ ps) t q = go p ps s.others t.0 t.1 t.2 s.left_around q
 
@@ -150,18 +154,19 @@ abbrev pub weights : List Level → ℕ
 weights ls = weight_of_all weight ls
 
 -- the measure of a walk falls where a level is left for a part of it, where a part has no level, and where a level is done
-pub falls_within : (level level' inner : Level) (around around' : List Level) (item : Item) → IsSmaller level item level' → level_room inner < item_size item
+pub falls_within : (level level' inner : Level) (around around' : List Level) (entry : StoredEntry) → IsSmaller level
+    entry level' → level_room inner < length entry.content.now
     → level_bound inner < 2 ^ 64 → around' ≡ around ++ level' ∷ []
     → weight inner + weights (reverse around') < weight level + weights (reverse around)
 unfolding weight
-falls_within level level' inner around around' item s room bound e =
+falls_within level level' inner around around' entry s room bound e =
     let size = s.size in
     falls_inward weight level level' inner around around' (inner_weighs _ _ _ _ _ _ s.bound s.room (omega (arith, size, room)) bound) e
 
-pub falls_beside : (level level' : Level) (around : List Level) (item : Item) → IsSmaller level item level'
+pub falls_beside : (level level' : Level) (around : List Level) (entry : StoredEntry) → IsSmaller level entry level'
     → weight level' + weights (reverse around) < weight level + weights (reverse around)
 unfolding weight
-falls_beside level level' around item s = let less = taken_weighs _ _ _ _ s.bound s.room in omega (arith, less)
+falls_beside level level' around entry s = let less = taken_weighs _ _ _ _ s.bound s.room in omega (arith, less)
 
 pub falls_done : (level outer : Level) (around around' : List Level) → around ≡ around' ++ outer ∷ []
     → weight outer + weights (reverse around') < weight level + weights (reverse around)

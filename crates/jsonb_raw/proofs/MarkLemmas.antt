@@ -1,5 +1,5 @@
 -- Marks of numbers, and of trees that are equal by value.
-use Rattle.std.proofs.Common.{◌≡◌, ℕ, zero, suc, ◌-◌, ◌*◌, ◌^◌, ◌<◌, ◌≤◌, Bool, true, false, List, length, slice_index_or, slice_set, ℤ, pos, negsuc, neg_ℤ, refl, sym, ap, ◌∙◌, arith, true≢false, mul-pos, unsigned_abs, int_lt}
+use Rattle.std.proofs.Common.{◌≡◌, ℕ, zero, suc, ◌-◌, ◌*◌, ◌^◌, ◌<◌, ◌≤◌, Bool, true, false, List, length, slice_index_or, slice_set, ℤ, pos, negsuc, neg_ℤ, refl, sym, ap, ◌∙◌, arith, true≢false, unsigned_abs, int_lt}
 use native.Mathlib.Nat.{one-le-pow}
 use Rattle.std.specs.Ordering.{eq_by_cmp, is_eq, int_cmp}
 use Rattle.std.specs.declared.cmp.Ordering.{Ordering}

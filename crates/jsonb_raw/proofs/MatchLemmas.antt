@@ -16,7 +16,7 @@ use Rattle.jsonb_doc.specs.Item.{StandsFor}
 use Rattle.jsonb_doc.specs.Private.Stored.{Stores}
 use Rattle.jsonb_doc.specs.declared.entry_iter.StoredEntry.{StoredEntry}
 use Rattle.jsonb_doc.specs.Answer.{SameOption}
-use Rattle.jsonb_doc.specs.Tree.{Tree, null, boolean, number, text, extension, array, object, Pairs, no_pairs, pair, keys, members, value_under}
+use Rattle.jsonb_doc.specs.Tree.{Tree, array, object, Pairs, no_pairs, pair, keys, members, value_under}
 use Rattle.jsonb_doc.specs.Equal.{is_equal}
 use Rattle.jsonb_doc.specs.Format.{IsBelowFirst}
 use Rattle.jsonb_doc.proofs.BuilderSteps.{AreRising}

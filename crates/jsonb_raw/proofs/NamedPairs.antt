@@ -1,5 +1,5 @@
 -- Texts gone through one by one, and pairs without the one of a key.
-use Rattle.std.proofs.Common.{◌≡◌, ℕ, zero, suc, Bool, true, false, not, List, [], ◌∷◌, ◌++◌, map, filter, cond, take, drop, Option, Some, None, refl, sym, ap, ◌∙◌}
+use Rattle.std.proofs.Common.{◌≡◌, ℕ, zero, suc, Bool, true, false, not, List, [], ◌∷◌, map, filter, cond, Option, Some, None, refl, sym, ap, ◌∙◌}
 use Rattle.std.specs.Prelude.{position, option_map}
 use Rattle.std.specs.List.{remove}
 use Rattle.std.specs.Map.{keys_of, values_of}

@@ -1,10 +1,9 @@
 -- Which trees have pairs, and what is made of them.
-use Rattle.std.proofs.Common.{◌≡◌, ◌⊎◌, inl, inr, ℕ, List, [], ◌∷◌, ◌++◌, String, Global, subst, Option, Some, None, Result, Ok, Err, refl, sym, ap, ◌∙◌, MatchOption}
+use Rattle.std.proofs.Common.{◌≡◌, ◌⊎◌, inl, inr, ℕ, List, [], ◌∷◌, ◌++◌, String, Global, subst, Option, Some, None, Result, Ok, Err, refl, sym, ap, ◌∙◌}
 use Rattle.std.specs.Borrow.{Bor}
 use Rattle.std.specs.Map.{keys_of, values_of}
 use Rattle.std.specs.List.{Any}
-use Rattle.jsonb_doc.specs.Tree as spec
-use Rattle.jsonb_doc.specs.Tree.{Tree, object, Pairs, keys, members, pairs_of}
+use Rattle.jsonb_doc.specs.Tree.{Tree, object, Pairs, keys, members}
 use Rattle.jsonb_doc.specs.Payload.{Form}
 use Rattle.jsonb_doc.specs.Format.{Decodes}
 use Rattle.jsonb_doc.specs.Answer.{IsOutOfMemoryOrTooLarge}
@@ -18,9 +17,7 @@ use Rattle.jsonb_doc.specs.declared.pair_iter.PairIter.{PairIter}
 use Rattle.jsonb_doc.proofs.LimitLemmas.{decoded_members}
 use Rattle.jsonb_doc.proofs.BuilderSteps.{AreRising, keys_rise}
 use Rattle.jsonb_raw.specs.declared.owned.OwnedJsonb.{OwnedJsonb}
-use Rattle.jsonb_raw.specs.Documents.{Makes}
 use Rattle.jsonb_raw.specs.Making.{IsPairOf}
-use Rattle.jsonb_raw.specs.Objects.{with_pairs}
 use Rattle.jsonb_raw.proofs.CollectLoops.{Made, any_here}
 
 -- a tree with an iterator over pairs is an object

@@ -1,9 +1,8 @@
 -- The pairs of an object that a set parts, as runs.
-use Rattle.std.proofs.Common.{◌≡◌, ◌≢◌, ℕ, Bool, true, false, not, List, [], ◌∷◌, ◌++◌, Option, Some, None, refl, sym, ap, subst, ◌∙◌, append_assoc, append-nil, cond, filter}
+use Rattle.std.proofs.Common.{◌≡◌, ℕ, Bool, true, false, not, List, [], ◌∷◌, ◌++◌, Option, Some, None, refl, sym, ap, ◌∙◌, append_assoc, append-nil}
 use Rattle.std.specs.Map.{keys_of}
 use Rattle.std.specs.Prelude.{IsUtf8}
 use Rattle.std.specs.Bool.{beq}
-use Rattle.jsonb_doc.specs.Tree as spec
 use Rattle.jsonb_doc.specs.Tree.{Tree, object, Pairs, members}
 use Rattle.jsonb_doc.specs.Payload.{Form}
 use Rattle.jsonb_doc.proofs.BuilderSteps.{AreRising, AreRising-filter}

@@ -4,7 +4,7 @@ use Rattle.std.specs.Prelude.{position, option_and_then, option_map}
 use Rattle.std.specs.List.{position_or_len}
 use Rattle.std.specs.Str.{bytes_eq}
 use Rattle.std.proofs.lemmas.Bool.Decides.{nat_tests}
-use Rattle.jsonb_doc.specs.Tree.{Tree, null, boolean, number, text, extension, array, object, Pairs, no_pairs, pair, elements, keys, values, value_under, field_of}
+use Rattle.jsonb_doc.specs.Tree.{Tree, object, Pairs, no_pairs, pair, elements, keys, values, value_under, field_of}
 use Rattle.jsonb_doc.specs.Payload.{Form}
 use Rattle.jsonb_doc.specs.Item.{StandsFor}
 use Rattle.jsonb_doc.specs.declared.item.Item.{Item}

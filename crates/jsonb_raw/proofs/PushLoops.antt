@@ -1,24 +1,18 @@
 -- A loop over a document's parts that pushes into a builder: what is held, followed by what the parts that are left give, is
 -- the whole. `gives` is what the parts that are left are to give, `whole` what all of them give.
-use Rattle.std.proofs.Common.{◌≡◌, ℕ, not, IsTrue, List, [], ◌∷◌, ◌++◌, Option, Some, Result, Ok, subst}
-use Rattle.std.specs.Borrow.{Bor}
-use Rattle.std.specs.Map.{keys_of}
+use Rattle.std.proofs.Common.{◌≡◌, List, [], ◌∷◌, ◌++◌, Option, Some, Result, Ok, subst}
 use Rattle.jsonb_doc.specs.declared.error.Error.{Error}
 use Rattle.jsonb_doc.specs.declared.item.Item.{Item}
-use Rattle.jsonb_doc.specs.declared.pair_iter.PairIter.{PairIter}
 use Rattle.jsonb_doc.specs.declared.element_iter.ElementIter.{ElementIter}
-use Rattle.jsonb_doc.specs.Tree.{Tree, array, object, Trees, tree, Pairs, pair, trees_of, pairs_of}
+use Rattle.jsonb_doc.specs.Tree.{Tree, array, Trees, tree, trees_of}
 use Rattle.jsonb_doc.specs.Payload.{Form}
 use Rattle.jsonb_doc.specs.Item.{StandsFor}
 use Rattle.jsonb_doc.specs.Answer.{IsOutOfMemoryOrTooLarge}
 use Rattle.jsonb_doc.specs.Elements.{GivesElement, IsElementsOf}
-use Rattle.jsonb_doc.specs.ObjectPairs.{GivesPair, IsPairsOf}
-use Rattle.jsonb_doc.specs.Encoding.{EntryParts}
 use Rattle.jsonb_doc.specs.ArrayBuilder.{Parts, no_parts, HoldsElements}
-use Rattle.jsonb_doc.specs.ObjectBuilder.{has_key, insert_pair, HoldsPairs}
-use Rattle.jsonb_doc.proofs.BuilderSteps.{front_empty, front_pushed, front_refused, front_part_refused, AreRising, HoldsFrontPairs, pairs_empty, pair_not_there, pair_pushed, pair_refused, pair_part_refused}
+use Rattle.jsonb_doc.proofs.BuilderSteps.{front_empty, front_pushed, front_refused, front_part_refused}
 use Rattle.jsonb_doc.specs.Private.Builders.{HoldsFront}
-use Rattle.jsonb_raw.proofs.IteratorItems.{SomeElements, SomeElements-all, SomeElements-first, SomePairs, SomePairs-all, SomePairs-first}
+use Rattle.jsonb_raw.proofs.IteratorItems.{SomeElements, SomeElements-all, SomeElements-first}
 
 -- the trees that the builder holds, followed by what the elements that are left give, are the whole
 abbrev pub HeldElements : Form → Parts → ElementIter → (Trees → List Tree) → List Tree → Type 0

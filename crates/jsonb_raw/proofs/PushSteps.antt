@@ -1,18 +1,13 @@
 -- Positions, and the way from a container to a child.
-use Rattle.std.proofs.Common.{◌≡◌, ℕ, ◌+◌, ◌-◌, ◌≤◌, true, false, ◌==◌, List, [], ◌∷◌, ◌++◌, length, take, drop, Option, Some, None, Result, Ok, Err, refl, sym, ap, subst, ◌∙◌, arith, append_assoc, slice_get, MatchResult}
-use Rattle.std.specs.Prelude.{slice_range, option_and_then}
+use Rattle.std.proofs.Common.{◌≡◌, ℕ, ◌+◌, ◌-◌, ◌≤◌, true, false, ◌==◌, List, [], ◌∷◌, ◌++◌, length, take, drop, Some, None, refl, sym, ap, ◌∙◌, arith, append_assoc}
+use Rattle.std.specs.Prelude.{slice_range}
 use Rattle.std.proofs.lemmas.List.{length-append, length-take-le, take-append-drop}
 use Rattle.std.proofs.lemmas.Bool.Decides.{nat_tests}
 use Rattle.std.proofs.lemmas.List.Edits.{split_between, length-between}
-use Rattle.jsonb_doc.specs.declared.error.Error.{Error}
 use Rattle.jsonb_doc.specs.Tree.{Tree, null, boolean, number, text, extension, array, object}
 use Rattle.jsonb_doc.specs.Payload.{NumberReader}
-use Rattle.jsonb_doc.specs.Format.{container_entry, entry_word, IsContent}
-use Rattle.jsonb_doc.specs.Answer.{IsOutOfMemory}
-use Rattle.jsonb_raw.specs.declared.functions.path.entry_place.ChildEntries.{ChildEntries}
-use Rattle.jsonb_raw.specs.Places.{children, tree_at}
-use Rattle.jsonb_raw.specs.Deletes.{change_child, remove_at}
-use Rattle.jsonb_raw.specs.Private.Cuts.{AreOfChild, IsPushed, content_at, with_content, without_child}
+use Rattle.jsonb_doc.specs.Format.{container_entry, IsContent}
+use Rattle.jsonb_raw.specs.Places.{tree_at}
 use Rattle.jsonb_raw.proofs.CutLemmas.{slice_of}
 
 -- ---- no positions

@@ -1,8 +1,8 @@
 -- What pushes of the parts of a number's bytes leave.
-use Rattle.std.proofs.Common.{◌≡◌, ◌≢◌, ◌⊎◌, inl, inr, subst, ℕ, zero, suc, ◌+◌, ◌-◌, ◌<◌, Bool, true, false, List, [], ◌∷◌, ◌++◌, map, length, ℤ, pos, negsuc, nat_abs, int_lt, refl, sym, ap, ap₂, ◌∙◌, arith, append_assoc, true≢false, w16}
+use Rattle.std.proofs.Common.{◌≡◌, ◌≢◌, ◌⊎◌, inl, inr, subst, ℕ, zero, suc, ◌+◌, ◌-◌, ◌<◌, Bool, true, false, List, [], ◌∷◌, ◌++◌, map, length, take, drop, replicate, length-drop, ℤ, pos, negsuc, nat_abs, int_lt, refl, sym, ap, ap₂, ◌∙◌, arith, append_assoc, true≢false, w16}
 use Rattle.std.specs.Int.{to_be_bytes}
 use Rattle.std.specs.Int.Digits.{digits_of}
-use Rattle.std.proofs.lemmas.List.{map-append}
+use Rattle.std.proofs.lemmas.List.{map-append, take_all}
 use Rattle.std.proofs.lemmas.Bool.{ltb-true}
 use Rattle.jsonb_raw.specs.SortableKey.{significant, magnitude_bytes, number_bytes}
 use Rattle.jsonb_raw.specs.Private.Complements.{complement_byte, complement_bytes}
@@ -45,6 +45,11 @@ positive_pushed old (pos zero) scale h ne = absurd (ne refl)
 positive_pushed old (pos (suc n)) scale h ne = append_assoc old (0x81 ∷ []) (complement_bytes false (magnitude_bytes (suc n) scale))
     ∙ ap (λ x. old ++ 0x81 ∷ x) (same_bytes (magnitude_bytes (suc n) scale))
 positive_pushed old (negsuc n) scale h ne = absurd (true≢false h)
+
+-- what a row of digits holds from a place on
+pub row_from : (first : ℕ) (row ds : List ℕ) (byte : ℕ) → drop first row ≡ ds ++ drop 39 (replicate 40 byte) → length row ≡ 40
+    → take (40 - first) (drop first row) ≡ ds ++ byte ∷ []
+row_from first row ds byte e long = take_all (40 - first) (drop first row) (omega (arith, length-drop first row, long)) ∙ e
 
 -- the same, push by push
 pub magnitude_steps : (negative : Bool) (old first second last : List ℕ) (n scale e byte : ℕ) → e ≡ length (digits_of 10 n) + 1000 - scale

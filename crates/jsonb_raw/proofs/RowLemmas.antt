@@ -2,8 +2,7 @@
 use Rattle.std.proofs.Common.{◌≡◌, inl, inr, ℕ, zero, suc, min, ◌/◌, ◌^◌, ◌<◌, ◌≤◌, List, [], ◌∷◌, ◌++◌, length, take, drop, Option, Some, None, refl, sym, ap, subst, ◌∙◌, arith, append_assoc, append-nil}
 use Rattle.std.specs.Prelude.{IsSomeAnd, IfOk, IfErr, Result, Ok, Err}
 use Rattle.std.proofs.lemmas.List.{length-take, take-append-drop}
-use Rattle.jsonb_doc.specs.Tree as spec
-use Rattle.jsonb_doc.specs.Tree.{Tree, Trees, array, no_trees, tree, trees_of, elements}
+use Rattle.jsonb_doc.specs.Tree.{Tree, Trees, array, trees_of, elements}
 use Rattle.jsonb_doc.specs.Payload.{NumberReader, Form, number_reader}
 use Rattle.jsonb_doc.specs.Format.{Decodes, IsContent, AreEntries, entry_word, header, array_header}
 use Rattle.jsonb_doc.specs.Limits.{IsShort, HasShortElements, IsTooLarge}

@@ -1,7 +1,7 @@
 -- Key paths that differ in their quotes alone have the same places.
 use Rattle.std.proofs.Common.{◌≡◌, ℕ, List, [], ◌∷◌, Option, Some, None, IfSome, refl, sym, ap, slice_get}
 use Rattle.std.specs.Prelude.{option_and_then, option_map}
-use Rattle.jsonb_doc.specs.Tree.{Tree, null, boolean, number, text, extension, array, object}
+use Rattle.jsonb_doc.specs.Tree.{Tree, null}
 use Rattle.jsonb_keypath.specs.KeyPathGrammar.{Key, index, quoted_name, unquoted_name}
 use Rattle.jsonb_keypath.specs.KeyPathLaws.{SamePlace, SamePlaces, ReadsBack}
 use Rattle.jsonb_raw.specs.Places.{children, child_position, location}

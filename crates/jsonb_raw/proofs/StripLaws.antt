@@ -1,6 +1,6 @@
 -- What is stripped has nothing to strip.
 use Rattle.std.proofs.Common.{◌≡◌, ℕ, Bool, true, false, List, cond, refl, ap, ◌∙◌}
-use Rattle.jsonb_doc.specs.Tree.{Tree, null, boolean, number, text, extension, array, object, Trees, no_trees, tree, Pairs, no_pairs, pair}
+use Rattle.jsonb_doc.specs.Tree.{Tree, null, array, object, Trees, no_trees, tree, Pairs, no_pairs, pair}
 use Rattle.jsonb_raw.specs.Scalars.{is_null}
 use Rattle.jsonb_raw.specs.Strip.{strip, strip_trees, strip_pairs}
 

@@ -1,23 +1,23 @@
 -- Which entries, trees and keys stay where nulls are left out.
-use Rattle.std.proofs.Common.{◌≡◌, ◌+◌, ◌*◌, ◌/◌, ◌%◌, ◌^◌, ◌<◌, ◌≤◌, ◌++◌, ℕ, zero, suc, Bool, true, false, List, [], ◌∷◌, Option, Some, None, Result, Ok, Err, length, take, drop, cond, refl, sym, ap, subst, ◌∙◌, arith, append_assoc, append-nil}
+use Rattle.std.proofs.Common.{◌≡◌, ◌+◌, ◌*◌, ◌/◌, ◌^◌, ◌<◌, ◌≤◌, ◌++◌, ℕ, zero, suc, Bool, true, false, List, [], ◌∷◌, Option, Some, Result, Ok, length, take, drop, cond, refl, sym, ap, ◌∙◌, arith, append_assoc, append-nil}
 use Rattle.std.specs.Prelude.{if◌then◌else◌, ◌==◌}
 use Rattle.std.specs.Borrow.{Bor}
 use Rattle.std.specs.Int.{w32, from_be_bytes}
 use Rattle.std.proofs.lemmas.Nat.{from_be_bytes-to_be_bytes_4}
 use Rattle.std.proofs.lemmas.Bool.Decides.{nat_tests}
 use Rattle.std.proofs.lemmas.List.{length-append}
-use Rattle.jsonb_doc.specs.Tree.{Tree, null, boolean, number, text, extension, array, object, Trees, no_trees, tree, Pairs, no_pairs, pair, elements, values, keys, trees_of}
+use Rattle.jsonb_doc.specs.Tree.{Tree, boolean, array, object, Trees, no_trees, tree, Pairs, no_pairs, pair, elements, values, keys, trees_of}
 use Rattle.jsonb_doc.specs.Payload.{Form, number_reader}
-use Rattle.jsonb_doc.specs.Format.{IsContent, container_entry, null_entry, text_entry, entry_word, key_bytes, key_words, AreKeys, IsKey, IsBelowFirst}
+use Rattle.jsonb_doc.specs.Format.{IsContent, container_entry, null_entry, text_entry, entry_word, key_bytes, AreKeys}
 use Rattle.jsonb_doc.specs.Encoding.{EntryParts}
 use Rattle.jsonb_doc.specs.ObjectBuilder.{words_of_entries, contents_of_entries}
-use Rattle.jsonb_doc.proofs.BuilderSteps.{AreRising, keys_rise}
+use Rattle.jsonb_doc.proofs.BuilderSteps.{keys_rise}
 use Rattle.jsonb_doc.specs.declared.error.Error.{Error}
 use Rattle.jsonb_raw.specs.declared.functions.operator.stripping.StoredEntry.{StoredEntry}
 use Rattle.jsonb_raw.specs.Private.Cuts.{FitEntries}
 use Rattle.jsonb_raw.specs.Scalars.{is_null}
 use Rattle.jsonb_raw.specs.Strip.{strip, strip_trees, strip_pairs}
-use Rattle.jsonb_raw.specs.Stripping.{leaves_out, staying, stripped, beside, key_entries, IsAboveLast, AreOfEach, IsEntry, ReadsEntry}
+use Rattle.jsonb_raw.specs.Stripping.{staying, stripped, beside, key_entries, IsAboveLast, AreOfEach, ReadsEntry}
 use Rattle.jsonb_raw.proofs.EntryLists.{AreOf, key-within}
 use Rattle.jsonb_raw.proofs.StripLemmas.{below_stripped}
 

@@ -1,5 +1,5 @@
 -- A walk that writes containers again without the nulls of their objects: how a container is begun, goes on and is done.
-use Rattle.std.proofs.Common.{◌≡◌, ◌⊎◌, inl, inr, ◌+◌, ◌*◌, ◌-◌, ◌/◌, ◌%◌, ◌^◌, ◌<◌, ◌≤◌, ◌++◌, ℕ, suc, Bool, true, false, List, [], ◌∷◌, Option, Some, None, Result, Ok, Err, length, take, drop, refl, sym, ap, subst, ◌∙◌, arith, append_assoc, append-nil, MatchResult}
+use Rattle.std.proofs.Common.{◌≡◌, ◌⊎◌, inl, inr, ◌+◌, ◌*◌, ◌/◌, ◌%◌, ◌^◌, ◌<◌, ◌≤◌, ◌++◌, ℕ, suc, Bool, true, false, List, [], ◌∷◌, Some, None, Result, Ok, Err, length, take, drop, refl, sym, ap, subst, ◌∙◌, arith, append_assoc, append-nil, MatchResult}
 use Rattle.std.specs.Prelude.{reverse, slice_range, ◌==◌}
 use Rattle.std.specs.Int.{w32, to_be_bytes, from_be_bytes}
 use Rattle.std.proofs.lemmas.List.{length-append, take_at, drop_at, take-append-drop}
@@ -7,7 +7,7 @@ use Rattle.jsonb_doc.specs.declared.error.Error.{Error}
 use Rattle.jsonb_doc.specs.Tree as spec
 use Rattle.jsonb_doc.specs.Tree.{Tree, Trees, Pairs, elements, values, count, trees_of}
 use Rattle.jsonb_doc.specs.Payload.{Form, number_reader}
-use Rattle.jsonb_doc.specs.Format.{Decodes, IsContent, AreEntries, AreValues, IsContainer, AreMembers, AreKeys, header, array_header, object_header, container_entry, null_entry, entry_word, key_bytes}
+use Rattle.jsonb_doc.specs.Format.{Decodes, IsContent, AreKeys, header, array_header, object_header, container_entry, null_entry, entry_word, key_bytes}
 use Rattle.jsonb_doc.specs.Format.{key_words as key_words_of}
 use Rattle.jsonb_doc.proofs.Containers.{entries_of, count-values}
 use Rattle.jsonb_doc.specs.Answer.{IsOutOfMemory, IsOutOfMemoryOrTooLarge}
@@ -19,7 +19,7 @@ use Rattle.jsonb_raw.specs.Private.Cuts.{FitEntries}
 use Rattle.jsonb_raw.specs.Scalars.{is_null}
 use Rattle.jsonb_raw.specs.Strip.{strip, strip_trees, strip_pairs}
 use Rattle.jsonb_raw.specs.Stripping.{leaves_out, staying, stripped, beside, key_entries, AreOfEach, IsEntry, ReadsEntry, IsWrittenTo, IsOpen}
-use Rattle.jsonb_raw.proofs.EntryLists.{AreOf, Listed, listed, joined, joined_values, count_are, words-append, contents-append, length-kept_words, within-both, key-words, key-contents, key-within, key-count}
+use Rattle.jsonb_raw.proofs.EntryLists.{AreOf, listed, joined, joined_values, count_are, words-append, contents-append, length-kept_words, within-both, key-words, key-contents, key-within, key-count}
 use Rattle.jsonb_raw.proofs.CutLemmas.{slice_of, slice_end}
 use Rattle.jsonb_raw.proofs.CutChild.{header_read}
 use Rattle.jsonb_raw.proofs.LevelLemmas.{innermost}

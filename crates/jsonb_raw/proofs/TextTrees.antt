@@ -2,7 +2,7 @@
 use Rattle.std.proofs.Common.{◌≡◌, ℕ, List, [], ◌∷◌, ◌&&◌, Bool, true, false, refl, sym, ap, ◌∙◌}
 use Rattle.std.specs.Prelude.{⊤}
 use Rattle.std.specs.Str.{bytes_eq}
-use Rattle.jsonb_doc.specs.Tree.{Tree, null, boolean, number, text, extension, array, object, Trees, no_trees, tree, Pairs, no_pairs, pair, keys, values}
+use Rattle.jsonb_doc.specs.Tree.{Tree, text, Trees, no_trees, tree, Pairs, no_pairs, pair, keys, values}
 use Rattle.jsonb_doc.specs.Equal.{is_equal, are_equal, pairs_are_equal}
 use Rattle.jsonb_doc.specs.Payload.{Form}
 use Rattle.jsonb_doc.specs.Private.Stored.{Stores, key_trees}

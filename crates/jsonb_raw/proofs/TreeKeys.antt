@@ -1,7 +1,7 @@
 -- The keys of trees, with any rests behind them, rank as the trees do.
-use Rattle.std.proofs.Common.{◌≡◌, ◌≢◌, ◌⊎◌, ℕ, suc, ◌+◌, ◌<◌, ◌≤◌, List, [], ◌∷◌, ◌++◌, Bool, true, false, inl, inr, refl, sym, ap, ap₂, subst, ◌∙◌, arith, nat_cmp, Ordering, Less, Greater, append_assoc, mod-eq_of_lt, w8, w16, w32, w64}
+use Rattle.std.proofs.Common.{◌≡◌, ◌≢◌, ◌⊎◌, ℕ, suc, ◌+◌, ◌<◌, ◌≤◌, List, [], ◌∷◌, ◌++◌, Bool, true, false, inl, inr, refl, sym, ap, ap₂, subst, ◌∙◌, arith, nat_cmp, Ordering, Less, Greater, append_assoc, mod-eq_of_lt, w8}
 use Rattle.std.specs.Ordering.{ordering_then}
-use Rattle.std.specs.Int.{Width, w128, to_be_bytes, byte_len}
+use Rattle.std.specs.Int.{Width, to_be_bytes, byte_len}
 use Rattle.std.proofs.lemmas.Bool.{cases_order}
 use Rattle.jsonb_doc.specs.Proofs.Orderings.{nat_cmp-lt, nat_cmp-gt, nat_cmp_refl, then_assoc}
 use Rattle.jsonb_raw.proofs.Ranking.{bytes_cmp, Ranks-bytes_high_first, Ranks-text_bytes}

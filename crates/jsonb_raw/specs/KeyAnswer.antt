@@ -1,5 +1,5 @@
 -- What a call that writes a sortable key answers.
-use Rattle.std.specs.Prelude.{◌≡◌, ◌⊎◌, ◌↔◌, ◌≤◌, ◌<◌, ℕ, List, Result, MatchResult, IfOk, Vec}
+use Rattle.std.specs.Prelude.{◌≡◌, ◌⊎◌, ◌↔◌, ◌≤◌, ◌<◌, ℕ, List, ◌++◌, Result, MatchResult, IfOk, Vec}
 use Rattle.std.specs.Int.{Width}
 use Rattle.std.specs.Ordering.{nat_cmp}
 use Rattle.std.specs.Cmp.Lexicographic.{slice_cmp}
@@ -20,6 +20,11 @@ IsOutOfMemoryOrTooDeep deepest_item limit e = (e ≡ OutOfMemory) ⊎ ((e ≡ To
 -- the sortable key of a document, refused as too deep exactly where an item lies too deep for the width
 abbrev pub MakesKey : Width → Tree → Result (Vec ℕ Global) Error → Type 0
 MakesKey w tree r = MatchResult r (λ v. (v.items ≡ key w tree 0) × ((deepest tree) < (depths w))) (IsOutOfMemoryOrTooDeep (deepest tree) (depths w))
+
+-- the same call, where the key is written into a vector that then has these items
+abbrev pub WritesKey : Width → Tree → Result (Unit {0}) Error → List ℕ → Type 0
+WritesKey w tree r items =
+    MatchResult r (λ _. (items ≡ key w tree 0) × ((deepest tree) < (depths w))) (IsOutOfMemoryOrTooDeep (deepest tree) (depths w))
 
 -- The bytes compare with the key of the tree u as the tree t does with u, and are that key where the two are equal.
 pub record RanksWith (w : Width) (t u : Tree) (bytes : List ℕ) : Type 0 where

@@ -9,14 +9,18 @@ ghost use Rattle.jsonb_raw.specs.EqualityParts.{equality_start, equality_part_st
 ghost use Rattle.jsonb_raw.specs.Private.Levels.{Part, IsKeyOf, IsLevelOf, level_room, level_bound};
 ghost use Rattle.jsonb_raw.specs.SortableKey.{text_bytes};
 ghost use Rattle.jsonb_doc.specs.Payload.{Form};
+ghost use Rattle.jsonb_doc.specs.Format.{Decodes};
 ghost use Rattle.jsonb_doc.specs.Item.{StandsFor, item_size};
+ghost use Rattle.jsonb_doc.specs.Private.Stored.{Stores};
 ghost use Rattle.jsonb_doc.specs.Answer.{IsOutOfMemory, IsDecodingError, ◌or◌};
 ghost use Rattle.jsonb_doc.specs.declared.error.Error.TheVariants.{OutOfMemory};
 
-use crate::key_bytes::{push_number, push_text};
+use crate::key_bytes::{push_number, push_short_number, push_text};
 use crate::key_kind;
 use crate::level::Level;
-use jsonb_doc::{Error, ExtensionValue, Item, Number, push_extension_payload};
+use jsonb_doc::{
+    Error, ExtensionValue, Item, Number, StoredEntry, push_extension_payload, root_item,
+};
 use std::alloc::Global;
 
 /// Appends a kind and a count in four bytes, the highest first.
@@ -24,10 +28,8 @@ fn push_count(out: &mut Vec<u8>, kind: u8, count: usize) -> Result<(), Error>
     ensures { MatchResult result (λ _. out.new.items ≡ out.old.items ++ kind ∷ to_be_bytes w32 count) IsOutOfMemory }
 {
     out.push(kind)?;
-    out.push((count / 16777216 % 256) as u8)?;
-    out.push((count / 65536 % 256) as u8)?;
-    out.push((count / 256 % 256) as u8)?;
-    out.push((count % 256) as u8)?;
+    let count = (count % 0x1_0000_0000) as u32;
+    out.extend_from_slice(&count.to_be_bytes())?;
     Ok(())
 }
 
@@ -105,24 +107,48 @@ fn push_start<'a>(out: &mut Vec<u8>, item: &Item<'a>) -> Result<Option<Level<'a>
     Ok(None)
 }
 
+/// The same of an entry. No item is made of a text or of a short number.
+#[inline(always)]
+fn push_entry<'a>(out: &mut Vec<u8>, entry: &StoredEntry<'a>) -> Result<Option<Level<'a>>, Error>
+    ensures key { (form : Form) (tree : Tree) → Stores form entry.now tree
+        → MatchResult result (λ found. (out.new.items ≡ out.old.items ++ equality_start tree)
+        × IsLevelOf form tree found) IsOutOfMemory }
+    ensures room { IfOk result
+        (λ found. IfSome found (λ level. level_room level < length entry.now.content.now)) }
+    ensures bound { IfOk result (λ found. IfSome found (λ level. level_bound level < 2 ^ 64)) }
+    ensures errors { IfErr result (IsDecodingError or OutOfMemory) }
+{
+    if entry.is_text() {
+        push_string(out, entry.content)?;
+        return Ok(None);
+    }
+    if let Some(number) = entry.short_number() {
+        out.push(key_kind::NUMBER)?;
+        push_short_number(out, number)?;
+        return Ok(None);
+    }
+    push_start(out, &entry.item()?)
+}
+
 /// Appends the start of a part, behind its key where it has one, and hands out its own parts.
 #[inline(always)]
 fn push_part<'a>(
     out: &mut Vec<u8>,
-    key: Option<&str>,
-    item: &Item<'a>,
+    key: Option<&[u8]>,
+    entry: &StoredEntry<'a>,
 ) -> Result<Option<Level<'a>>, Error>
-    ensures key { (form : Form) (part : Part) → IsKeyOf key.entry part.0 → StandsFor form item.now part.1
+    ensures key { (form : Form) (part : Part) → IsKeyOf key.entry part.0 → Stores form entry.now part.1
         → MatchResult result (λ found. (out.new.items ≡ out.old.items ++ equality_part_start part)
         × IsLevelOf form part.1 found) IsOutOfMemory }
-    ensures room { IfOk result (λ found. IfSome found (λ level. level_room level < item_size item.now)) }
+    ensures room { IfOk result
+        (λ found. IfSome found (λ level. level_room level < length entry.now.content.now)) }
     ensures bound { IfOk result (λ found. IfSome found (λ level. level_bound level < 2 ^ 64)) }
     ensures errors { IfErr result (IsDecodingError or OutOfMemory) }
 {
     if let Some(key) = key {
-        push_string(out, key.as_bytes())?;
+        push_string(out, key)?;
     }
-    push_start(out, item)
+    push_entry(out, entry)
 }
 
 /// Appends the equality key of an item. What is left of the containers that the walk is within lies in a `Vec`.
@@ -170,4 +196,15 @@ pub fn item_key(alloc: Global, item: &Item<'_>) -> Result<Vec<u8>, Error>
     let mut out = Vec::with_capacity(alloc, first_capacity(item))?;
     push_item(alloc, &mut out, item)?;
     Ok(out)
+}
+
+/// Appends the equality key of a document.
+pub fn push_document_key(alloc: Global, out: &mut Vec<u8>, bytes: &[u8]) -> Result<(), Error>
+    ensures key { (form : Form) (tree : Tree) → Decodes form bytes.now tree
+        → MatchResult result (λ _. out.new.items ≡ out.old.items ++ equality_key tree) IsOutOfMemory }
+    ensures errors { IfErr result (IsDecodingError or OutOfMemory) }
+{
+    let root = root_item(bytes)?;
+    out.reserve(bytes.len())?;
+    push_item(alloc, out, &root)
 }

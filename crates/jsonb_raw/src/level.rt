@@ -2,49 +2,22 @@
 //! of the machine's stack.
 
 ghost use Rattle.std.specs.Prelude.{◌≤◌, ◌<◌, ◌^◌, ◌≡◌, IsOkAnd, IfOk, IfSome, IfErr, List, length};
-ghost use Rattle.jsonb_doc.specs.Tree.{Tree, Trees, Pairs, array, object};
+ghost use Rattle.jsonb_doc.specs.Tree.{Trees, Pairs, array, object};
 ghost use Rattle.jsonb_doc.specs.Payload.{Form};
 ghost use Rattle.jsonb_doc.specs.Format.{Decodes};
-ghost use Rattle.jsonb_doc.specs.Item.{StandsFor, IsNormal, item_size};
 ghost use Rattle.jsonb_doc.specs.Answer.{IsDecodingError};
-ghost use Rattle.jsonb_raw.specs.Private.Levels.{Part, parts_of_trees, parts_of_pairs, HasPartsLeft, IsLevelOf, TakesPart, IsSmaller, level_room, level_bound};
+ghost use Rattle.jsonb_raw.specs.Private.Levels.{Part, parts_of_trees, parts_of_pairs, HasPartsLeft, TakesPart, IsSmaller, level_room, level_bound};
 
-use jsonb_doc::{ElementIter, Error, Item, PairIter, elements, pairs};
+use jsonb_doc::{EntryIter, Error, PairEntryIter, StoredEntry, array_entries, object_entries};
 
-/// The elements or the pairs of a container that are left.
+/// The elements or the pairs of a container that are left, as they are stored.
 #[derive(Clone, Copy)]
 pub enum Level<'a> {
-    Elements(ElementIter<'a>),
-    Pairs(PairIter<'a>),
+    Elements(EntryIter<'a>),
+    Pairs(PairEntryIter<'a>),
 }
 
 impl<'a> Level<'a> {
-    /// All that an array or an object has, and `None` for any other item.
-    #[inline(always)]
-    pub fn of(item: &Item<'a>) -> Result<Option<Level<'a>>, Error>
-        ensures level { (form : Form) (tree : Tree) → StandsFor form item.now tree
-            → IsOkAnd result (IsLevelOf form tree) }
-        ensures room { IfOk result (λ found. IfSome found (λ level. level_room level < item_size item.now)) }
-        ensures bound { IfOk result (λ found. IfSome found (λ level. level_bound level < 2 ^ 64)) }
-        ensures errors { IfErr result IsDecodingError }
-    {
-        match item {
-            Item::Array(bytes) => {
-                let Some(found) = elements(bytes)? else {
-                    return Err(Error::InvalidJsonb);
-                };
-                Ok(Some(Level::Elements(found)))
-            }
-            Item::Object(bytes) => {
-                let Some(found) = pairs(bytes)? else {
-                    return Err(Error::InvalidJsonb);
-                };
-                Ok(Some(Level::Pairs(found)))
-            }
-            _ => Ok(None),
-        }
-    }
-
     /// All elements of an array. Bytes that are no array are `InvalidJsonb`.
     #[inline(always)]
     pub fn of_array(bytes: &'a [u8]) -> Result<Level<'a>, Error>
@@ -54,10 +27,7 @@ impl<'a> Level<'a> {
         ensures bound { IfOk result (λ level. level_bound level < 2 ^ 64) }
         ensures errors { IfErr result IsDecodingError }
     {
-        match elements(bytes)? {
-            Some(found) => Ok(Level::Elements(found)),
-            None => Err(Error::InvalidJsonb),
-        }
+        Ok(Level::Elements(array_entries(bytes)?))
     }
 
     /// All pairs of an object. Bytes that are no object are `InvalidJsonb`.
@@ -69,10 +39,7 @@ impl<'a> Level<'a> {
         ensures bound { IfOk result (λ level. level_bound level < 2 ^ 64) }
         ensures errors { IfErr result IsDecodingError }
     {
-        match pairs(bytes)? {
-            Some(found) => Ok(Level::Pairs(found)),
-            None => Err(Error::InvalidJsonb),
-        }
+        Ok(Level::Pairs(object_entries(bytes)?))
     }
 
     /// How many parts are left.
@@ -81,25 +48,24 @@ impl<'a> Level<'a> {
     {
         match self {
             Level::Elements(left) => left.len(),
-            Level::Pairs(left) => left.len(),
+            Level::Pairs(left) => left.keys().len(),
         }
     }
 
-    /// Takes the first of what is left: its key, where it is a value of an object, and its item.
+    /// Takes the first of what is left: the bytes of its key, where it is a value of an object, and its entry.
     #[inline(always)]
-    pub fn take(&mut self) -> Result<Option<(Option<&'a str>, Item<'a>)>, Error>
+    pub fn take(&mut self) -> Result<Option<(Option<&'a [u8]>, StoredEntry<'a>)>, Error>
         ensures takes { (form : Form) (ps : List Part) → HasPartsLeft form self.old ps
             → TakesPart form ps result self.new }
         ensures smaller { IfOk result (λ found. IfSome found (λ given. IsSmaller self.old given.1 self.new)) }
-        ensures normal { IfOk result (λ found. IfSome found (λ given. IsNormal given.1)) }
         ensures errors { IfErr result IsDecodingError }
     {
         match self {
             Level::Elements(left) => {
-                let Some(item) = left.next() else {
+                let Some(entry) = left.next() else {
                     return Ok(None);
                 };
-                Ok(Some((None, item?)))
+                Ok(Some((None, entry?)))
             }
             Level::Pairs(left) => {
                 let Some(pair) = left.next() else {

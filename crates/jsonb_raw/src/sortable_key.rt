@@ -1,23 +1,24 @@
 //! The sortable key of a document: a walk over its items that writes each behind its depth and its kind.
 
-ghost use Rattle.std.specs.Prelude.{◌≡◌, ◌++◌, [], IfErr, MatchResult, ◌<◌};
+ghost use Rattle.std.specs.Prelude.{◌≡◌, ◌++◌, ◌^◌, [], length, IfOk, IfSome, IfErr, MatchResult, ◌<◌};
 ghost use Rattle.jsonb_doc.specs.Tree.{Tree};
 ghost use Rattle.jsonb_doc.specs.Payload.{Form};
 ghost use Rattle.jsonb_doc.specs.Format.{Decodes};
-ghost use Rattle.jsonb_doc.specs.Item.{StandsFor};
+ghost use Rattle.jsonb_doc.specs.Item.{StandsFor, item_size};
+ghost use Rattle.jsonb_doc.specs.Private.Stored.{Stores};
 ghost use Rattle.jsonb_doc.specs.Depth.{deepest};
 ghost use Rattle.jsonb_raw.specs.SortableKey.{key, item_bytes, text_bytes, depths};
-ghost use Rattle.jsonb_raw.specs.Private.Levels.{Part, IsKeyOf};
-ghost use Rattle.jsonb_raw.specs.Private.KeyParts.{start, part_start};
+ghost use Rattle.jsonb_raw.specs.Private.Levels.{Part, IsKeyOf, IsLevelOf, level_room, level_bound};
+ghost use Rattle.jsonb_raw.specs.Private.KeyParts.{start, part_start, AppendsKey};
 ghost use Rattle.jsonb_raw.specs.Private.KeyWidth.{width_of};
 ghost use Rattle.jsonb_raw.specs.KeyAnswer.{MakesKey, RanksAsTree, IsOutOfMemoryOrTooDeep};
 ghost use Rattle.jsonb_doc.specs.Answer.{IsDecodingError, ◌or◌};
 ghost use Rattle.jsonb_doc.specs.declared.error.Error.TheVariants.{OutOfMemory, TooDeep};
 
-use crate::key_bytes::{push_number, push_text};
+use crate::key_bytes::{push_number, push_short_number, push_text};
 use crate::key_kind;
 use crate::level::Level;
-use jsonb_doc::{Error, Item, push_extension_payload, root_item};
+use jsonb_doc::{Error, Item, StoredEntry, push_extension_payload, root_item};
 use std::alloc::Global;
 
 /// How many bytes a key has for each depth.
@@ -42,17 +43,15 @@ fn push_front(out: &mut Vec<u8>, depth: usize, kind: u8, width: DepthWidth) -> R
             if depth > 255 {
                 return Err(Error::TooDeep);
             }
-            out.push(depth as u8)?;
+            out.extend_from_slice(&[depth as u8, kind])?;
         }
         DepthWidth::TwoBytes => {
             if depth > 65535 {
                 return Err(Error::TooDeep);
             }
-            out.push((depth / 256) as u8)?;
-            out.push((depth % 256) as u8)?;
+            out.extend_from_slice(&[(depth / 256) as u8, (depth % 256) as u8, kind])?;
         }
     }
-    out.push(kind)?;
     Ok(())
 }
 
@@ -69,19 +68,21 @@ fn push_string(out: &mut Vec<u8>, text: &[u8], depth: usize, width: DepthWidth) 
     Ok(())
 }
 
-/// Appends the key of an item that has no parts, and of any other what stands before its parts.
-#[inline(always)]
-fn push_start(
+/// Appends the key of an item that has no parts, and of any other what stands before its parts, which it hands out.
+#[inline(never)]
+fn push_start<'a>(
     out: &mut Vec<u8>,
-    item: &Item<'_>,
+    item: &Item<'a>,
     depth: usize,
     width: DepthWidth,
-) -> Result<(), Error>
+) -> Result<Option<Level<'a>>, Error>
     ensures key { (form : Form) (tree : Tree) → StandsFor form item.now tree
         → MatchResult result
-        (λ _. (out.new.items ≡ out.old.items ++ start (width_of width) tree depth)
-        × (depth < (depths (width_of width))))
+        (λ found. (out.new.items ≡ out.old.items ++ start (width_of width) tree depth)
+        × (depth < (depths (width_of width))) × IsLevelOf form tree found)
         (IsOutOfMemoryOrTooDeep depth (depths (width_of width))) }
+    ensures room { IfOk result (λ found. IfSome found (λ level. level_room level < item_size item.now)) }
+    ensures bound { IfOk result (λ found. IfSome found (λ level. level_bound level < 2 ^ 64)) }
     ensures errors { IfErr result (IsDecodingError or OutOfMemory or TooDeep) }
 {
     match item {
@@ -98,32 +99,71 @@ fn push_start(
             push_extension_payload(out, value)?;
             out.push(0)?;
         }
-        Item::Array(_) => push_front(out, depth, key_kind::ARRAY, width)?,
-        Item::Object(_) => push_front(out, depth, key_kind::OBJECT, width)?,
+        Item::Array(bytes) => {
+            push_front(out, depth, key_kind::ARRAY, width)?;
+            return Ok(Some(Level::of_array(bytes)?));
+        }
+        Item::Object(bytes) => {
+            push_front(out, depth, key_kind::OBJECT, width)?;
+            return Ok(Some(Level::of_object(bytes)?));
+        }
     }
-    Ok(())
+    Ok(None)
 }
 
-/// Appends the start of a part, behind its key where it has one.
+/// The same of an entry. No item is made of a text or of a short number.
 #[inline(always)]
-fn push_part(
+fn push_entry<'a>(
     out: &mut Vec<u8>,
-    key: Option<&str>,
-    item: &Item<'_>,
+    entry: &StoredEntry<'a>,
     depth: usize,
     width: DepthWidth,
-) -> Result<(), Error>
-    ensures key { (form : Form) (part : Part) → IsKeyOf key.entry part.0 → StandsFor form item.now part.1
+) -> Result<Option<Level<'a>>, Error>
+    ensures key { (form : Form) (tree : Tree) → Stores form entry.now tree
         → MatchResult result
-        (λ _. (out.new.items ≡ out.old.items ++ part_start (width_of width) part depth)
-        × (depth < (depths (width_of width))))
+        (λ found. (out.new.items ≡ out.old.items ++ start (width_of width) tree depth)
+        × (depth < (depths (width_of width))) × IsLevelOf form tree found)
         (IsOutOfMemoryOrTooDeep depth (depths (width_of width))) }
+    ensures room { IfOk result
+        (λ found. IfSome found (λ level. level_room level < length entry.now.content.now)) }
+    ensures bound { IfOk result (λ found. IfSome found (λ level. level_bound level < 2 ^ 64)) }
+    ensures errors { IfErr result (IsDecodingError or OutOfMemory or TooDeep) }
+{
+    if entry.is_text() {
+        push_string(out, entry.content, depth, width)?;
+        return Ok(None);
+    }
+    if let Some(number) = entry.short_number() {
+        push_front(out, depth, key_kind::NUMBER, width)?;
+        push_short_number(out, number)?;
+        return Ok(None);
+    }
+    push_start(out, &entry.item()?, depth, width)
+}
+
+/// Appends the start of a part, behind its key where it has one, and hands out its own parts.
+#[inline(always)]
+fn push_part<'a>(
+    out: &mut Vec<u8>,
+    key: Option<&[u8]>,
+    entry: &StoredEntry<'a>,
+    depth: usize,
+    width: DepthWidth,
+) -> Result<Option<Level<'a>>, Error>
+    ensures key { (form : Form) (part : Part) → IsKeyOf key.entry part.0 → Stores form entry.now part.1
+        → MatchResult result
+        (λ found. (out.new.items ≡ out.old.items ++ part_start (width_of width) part depth)
+        × (depth < (depths (width_of width))) × IsLevelOf form part.1 found)
+        (IsOutOfMemoryOrTooDeep depth (depths (width_of width))) }
+    ensures room { IfOk result
+        (λ found. IfSome found (λ level. level_room level < length entry.now.content.now)) }
+    ensures bound { IfOk result (λ found. IfSome found (λ level. level_bound level < 2 ^ 64)) }
     ensures errors { IfErr result (IsDecodingError or OutOfMemory or TooDeep) }
 {
     if let Some(key) = key {
-        push_string(out, key.as_bytes(), depth, width)?;
+        push_string(out, key, depth, width)?;
     }
-    push_start(out, item, depth, width)
+    push_entry(out, entry, depth, width)
 }
 
 /// Appends the key of an item. What is left of the containers that the walk is within lies in a `Vec`.
@@ -140,8 +180,7 @@ fn push_item(
         (IsOutOfMemoryOrTooDeep (deepest tree) (depths (width_of width))) }
     ensures errors { IfErr result (IsDecodingError or OutOfMemory or TooDeep) }
 {
-    push_start(out, item, 0, width)?;
-    let Some(found) = Level::of(item)? else {
+    let Some(found) = push_start(out, item, 0, width)? else {
         return Ok(());
     };
     let mut level = found;
@@ -149,8 +188,7 @@ fn push_item(
     'walk: loop {
         match level.take()? {
             Some((key, part)) => {
-                push_part(out, key, &part, around.len() + 1, width)?;
-                if let Some(inner) = Level::of(&part)? {
+                if let Some(inner) = push_part(out, key, &part, around.len() + 1, width)? {
                     around.push(level)?;
                     level = inner;
                 }
@@ -163,6 +201,22 @@ fn push_item(
     }
 }
 
+/// Appends the sortable key of a document.
+pub fn push_document_key(
+    alloc: Global,
+    out: &mut Vec<u8>,
+    bytes: &[u8],
+    width: DepthWidth,
+) -> Result<(), Error>
+    ensures key { (form : Form) (tree : Tree) → Decodes form bytes.now tree
+        → AppendsKey (width_of width) tree out.old.items result out.new.items }
+    ensures errors { IfErr result (IsDecodingError or OutOfMemory or TooDeep) }
+{
+    let root = root_item(bytes)?;
+    out.reserve(bytes.len())?;
+    push_item(alloc, out, &root, width)
+}
+
 /// The sortable key of a document.
 pub fn document_key(alloc: Global, bytes: &[u8], width: DepthWidth) -> Result<Vec<u8>, Error>
     ensures key { (form : Form) (tree : Tree) → Decodes form bytes.now tree
@@ -172,6 +226,6 @@ pub fn document_key(alloc: Global, bytes: &[u8], width: DepthWidth) -> Result<Ve
     ensures errors { IfErr result (IsDecodingError or OutOfMemory or TooDeep) }
 {
     let mut out = Vec::new(alloc);
-    push_item(alloc, &mut out, &root_item(bytes)?, width)?;
+    push_document_key(alloc, &mut out, bytes, width)?;
     Ok(out)
 }

@@ -148,7 +148,7 @@ fn steps_come_from_any_iterator(rt: HostRuntime) -> Result<(), Fail> {
 }
 
 #[test]
-fn damage_is_refused(rt: HostRuntime) {
+fn places_in_what_does_not_decode_are_refused(rt: HostRuntime) {
     for (bytes, error) in [
         (b"\x80\0\0".as_slice(), Error::InvalidJsonb),
         (b"".as_slice(), Error::InvalidJsonb),

@@ -1,14 +1,12 @@
 -- What walks have left of containers.
-use Rattle.std.specs.Prelude.{◌≡◌, ◌≤◌, ◌<◌, ℕ, List, [], ◌∷◌, Option, Some, None, Result, Ok, ⊤}
+use Rattle.std.specs.Prelude.{◌≡◌, ◌≤◌, ◌<◌, ℕ, List, [], ◌∷◌, length, IsUtf8, Option, Some, None, Result, Ok, ⊤}
 use Rattle.std.specs.Borrow.{Bor}
 use Rattle.jsonb_doc.specs.declared.error.Error.{Error}
-use Rattle.jsonb_doc.specs.declared.item.Item.{Item}
+use Rattle.jsonb_doc.specs.declared.entry_iter.StoredEntry.{StoredEntry}
 use Rattle.jsonb_doc.specs.Tree as spec
 use Rattle.jsonb_doc.specs.Tree.{Tree, Trees}
 use Rattle.jsonb_doc.specs.Payload.{Form}
-use Rattle.jsonb_doc.specs.Item.{StandsFor, item_size}
-use Rattle.jsonb_doc.specs.Elements.{HasElementsLeft, elements_bound, elements_room}
-use Rattle.jsonb_doc.specs.ObjectPairs.{HasPairsLeft, pairs_bound, pairs_room}
+use Rattle.jsonb_doc.specs.Private.Stored.{HasEntriesLeft, HasPairEntriesLeft, Stores, entries_bound, entries_room}
 use Rattle.jsonb_raw.specs.declared.level.Level.{Level}
 use Rattle.jsonb_raw.specs.declared.level.Level.TheVariants.{Elements, Pairs}
 
@@ -31,38 +29,39 @@ parts _ = []
 
 -- these parts are left
 abbrev pub HasPartsLeft : Form → Level → List Part → Type 0
-HasPartsLeft form (Elements it) ps = (ts : Trees) × HasElementsLeft form it ts × (ps ≡ parts_of_trees ts)
-HasPartsLeft form (Pairs it) ps = (qs : spec.Pairs) × HasPairsLeft form it qs × (ps ≡ parts_of_pairs qs)
+HasPartsLeft form (Elements it) ps = (ts : Trees) × HasEntriesLeft form it ts × (ps ≡ parts_of_trees ts)
+HasPartsLeft form (Pairs it) ps = (qs : spec.Pairs) × HasPairEntriesLeft form it qs × (ps ≡ parts_of_pairs qs)
 
 -- the level of a tree's parts; only what has none has no level
 abbrev pub IsLevelOf : Form → Tree → Option Level → Type 0
 IsLevelOf form t (Some level) = HasPartsLeft form level (parts t)
 IsLevelOf form t None = parts t ≡ []
 
+-- the bytes are the key, where there is one
 abbrev pub IsKeyOf : Option (Bor (List ℕ)) → Option (List ℕ) → Type 0
-IsKeyOf (Some text) (Some k) = text.now ≡ k
+IsKeyOf (Some text) (Some k) = (text.now ≡ k) × IsUtf8 k
 IsKeyOf None None = ⊤
 IsKeyOf _ _ = ⊥
 
 -- the answer is the first of the parts, and the others are left
-abbrev pub TakesPart : Form → List Part → Result (Option (Option (Bor (List ℕ)) × Item)) Error → Level → Type 0
+abbrev pub TakesPart : Form → List Part → Result (Option (Option (Bor (List ℕ)) × StoredEntry)) Error → Level → Type 0
 TakesPart form [] (Ok None) after = ⊤
 TakesPart form [] _ after = ⊥
-TakesPart form (p ∷ ps) (Ok (Some given)) after = IsKeyOf given.0 p.0 × StandsFor form given.1 p.1 × HasPartsLeft form after ps
+TakesPart form (p ∷ ps) (Ok (Some given)) after = IsKeyOf given.0 p.0 × Stores form given.1 p.1 × HasPartsLeft form after ps
 TakesPart form (p ∷ ps) _ after = ⊥
 
--- at most how many bytes an item of the level has, on any bytes
+-- at most how many bytes an entry of the level has, on any bytes
 abbrev pub level_room : Level → ℕ
-level_room (Elements it) = elements_room it
-level_room (Pairs it) = pairs_room it
+level_room (Elements it) = entries_room it
+level_room (Pairs it) = entries_room it.values
 
--- at most how many items the level gives, on any bytes
+-- at most how many entries the level gives, on any bytes
 abbrev pub level_bound : Level → ℕ
-level_bound (Elements it) = elements_bound it
-level_bound (Pairs it) = pairs_bound it
+level_bound (Elements it) = entries_bound it
+level_bound (Pairs it) = entries_bound it.keys
 
--- with this item taken the level is smaller, on any bytes
-pub record IsSmaller (before : Level) (item : Item) (after : Level) : Type 0 where
-  pub size : item_size item ≤ level_room before
+-- with this entry taken the level is smaller, on any bytes
+pub record IsSmaller (before : Level) (entry : StoredEntry) (after : Level) : Type 0 where
+  pub size : length entry.content.now ≤ level_room before
   pub room : level_room after ≤ level_room before
   pub bound : level_bound after < level_bound before

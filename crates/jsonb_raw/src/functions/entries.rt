@@ -111,18 +111,19 @@ pub fn word_of(kind: u32, len: usize) -> [u8; WORD]
     (kind * LENGTHS + len as u32).to_be_bytes()
 }
 
-/// The entry as a document of its own, as it is stored. An entry in which nothing can be read is refused, but for a
-/// text.
+/// The entry as a document of its own, as it is stored. A number or an extension value that can't be read is refused,
+/// and so is an entry of no kind; a text and a container are copied unread.
 pub fn entry_document(alloc: Global, kind: u32, content: &[u8]) -> Result<OwnedJsonb, Error>
     ensures document { (form : Form) (t : Tree) → IsContent (number_reader form) t kind content.now
         → Makes form t result }
     ensures errors { IfErr result (IsDecodingError or OutOfMemory or TooLarge) }
 {
-    if kind != TEXT {
-        StoredEntry { kind, content }.item()?;
-    }
     if kind == CONTAINER {
         return Ok(OwnedJsonb::new(Vec::from_slice(alloc, content)?));
+    }
+    let entry = StoredEntry { kind, content };
+    if kind != TEXT && entry.short_number().is_none() {
+        entry.item()?;
     }
     if kind >= KINDS {
         return Err(Error::InvalidJsonb);

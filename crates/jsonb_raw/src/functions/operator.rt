@@ -1,6 +1,6 @@
 //! Functions on documents of every kind.
 
-ghost use Rattle.std.specs.Prelude.{◌≡◌, IfErr, MatchResult};
+ghost use Rattle.std.specs.Prelude.{◌≡◌, [], IfErr, IfOk, MatchResult};
 ghost use Rattle.std.specs.Int.{w8, w16};
 ghost use Rattle.jsonb_doc.specs.Tree.{Tree};
 ghost use Rattle.jsonb_doc.specs.Payload.{Form};
@@ -8,7 +8,7 @@ ghost use Rattle.jsonb_doc.specs.Format.{Decodes};
 ghost use Rattle.jsonb_doc.specs.Answer.{IsOutOfMemory, IsDecodingError, ◌or◌};
 ghost use Rattle.jsonb_doc.specs.declared.error.Error.TheVariants.{OutOfMemory, TooDeep};
 ghost use Rattle.jsonb_raw.specs.Documents.{raw_bytes};
-ghost use Rattle.jsonb_raw.specs.KeyAnswer.{MakesKey, RanksAsTree};
+ghost use Rattle.jsonb_raw.specs.KeyAnswer.{MakesKey, WritesKey, RanksAsTree};
 ghost use Rattle.jsonb_raw.specs.EqualityKey.{equality_key};
 
 mod concat;
@@ -21,9 +21,9 @@ mod stripping;
 mod tests;
 mod traverse;
 
-use crate::equality_key::item_key;
+use crate::equality_key::{item_key, push_document_key as push_equality_key_of};
 use crate::raw::RawJsonb;
-use crate::sortable_key::{DepthWidth, document_key};
+use crate::sortable_key::{DepthWidth, document_key, push_document_key};
 use jsonb_doc::{Error, root_item};
 use std::alloc::Global;
 
@@ -90,4 +90,81 @@ impl RawJsonb<'_> {
     {
         item_key(alloc, &root_item(self.as_bytes())?)
     }
+
+    /// Writes what `convert_to_comparable` answers into a vector that is used again: what it held is gone, and its memory
+    /// is kept.
+    ///
+    /// # Errors
+    ///
+    /// Those of `convert_to_comparable`. Then the vector is empty.
+    ///
+    /// # Cost
+    ///
+    /// Linear in n. Takes memory where the vector has to grow, and for the levels that the document is deep.
+    pub fn convert_to_comparable_into(&self, alloc: Global, key: &mut Vec<u8>) -> Result<(), Error>
+        ensures key { (form : Form) (tree : Tree) → Decodes form (raw_bytes self.now) tree
+            → WritesKey w8 tree result key.new.items }
+        ensures empty { IfErr result (λ _. key.new.items ≡ []) }
+        ensures errors { IfErr result (IsDecodingError or OutOfMemory or TooDeep) }
+    {
+        key.clear();
+        let written = push_document_key(alloc, key, self.as_bytes(), DepthWidth::OneByte);
+        kept_where_written(key, written)
+    }
+
+    /// Writes what `convert_to_comparable_wide` answers into a vector that is used again.
+    ///
+    /// # Errors
+    ///
+    /// Those of `convert_to_comparable_wide`. Then the vector is empty.
+    ///
+    /// # Cost
+    ///
+    /// That of `convert_to_comparable_into`.
+    pub fn convert_to_comparable_wide_into(
+        &self,
+        alloc: Global,
+        key: &mut Vec<u8>,
+    ) -> Result<(), Error>
+        ensures key { (form : Form) (tree : Tree) → Decodes form (raw_bytes self.now) tree
+            → WritesKey w16 tree result key.new.items }
+        ensures empty { IfErr result (λ _. key.new.items ≡ []) }
+        ensures errors { IfErr result (IsDecodingError or OutOfMemory or TooDeep) }
+    {
+        key.clear();
+        let written = push_document_key(alloc, key, self.as_bytes(), DepthWidth::TwoBytes);
+        kept_where_written(key, written)
+    }
+
+    /// Writes what `equality_key` answers into a vector that is used again.
+    ///
+    /// # Errors
+    ///
+    /// Those of `equality_key`. Then the vector is empty.
+    ///
+    /// # Cost
+    ///
+    /// That of `convert_to_comparable_into`.
+    pub fn equality_key_into(&self, alloc: Global, key: &mut Vec<u8>) -> Result<(), Error>
+        ensures key { (form : Form) (tree : Tree) → Decodes form (raw_bytes self.now) tree
+            → MatchResult result (λ _. key.new.items ≡ equality_key tree) IsOutOfMemory }
+        ensures empty { IfErr result (λ _. key.new.items ≡ []) }
+        ensures errors { IfErr result (IsDecodingError or OutOfMemory) }
+    {
+        key.clear();
+        let written = push_equality_key_of(alloc, key, self.as_bytes());
+        kept_where_written(key, written)
+    }
+}
+
+// The vector as it is where it was written, and an empty one where that was refused.
+fn kept_where_written(key: &mut Vec<u8>, written: Result<(), Error>) -> Result<(), Error>
+    ensures same { result ≡ written }
+    ensures kept { IfOk result (λ _. key.new.items ≡ key.old.items) }
+    ensures empty { IfErr result (λ _. key.new.items ≡ []) }
+{
+    if written.is_err() {
+        key.clear();
+    }
+    written
 }

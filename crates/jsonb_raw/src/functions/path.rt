@@ -34,18 +34,22 @@ fn nth_child(bytes: &[u8], spot: Spot, position: usize) -> Result<Option<Spot>, 
         → IsOkAnd result (λ found. SameOption (Locates bytes.now) found (slice_get (children t) position)) }
     ensures errors { IfErr result IsDecodingError }
 {
-    let Some(children) = child_spots(bytes, spot)? else {
+    let Some(found) = child_spots(bytes, spot)? else {
         return Ok(None);
     };
+    let mut left = found;
     let mut before = position;
-    for child in children {
-        let child = child?;
-        if before == 0 {
-            return Ok(Some(child));
-        }
+    while before > 0 {
+        let Some(passed) = left.next() else {
+            return Ok(None);
+        };
+        passed?;
         before -= 1;
     }
-    Ok(None)
+    let Some(child) = left.next() else {
+        return Ok(None);
+    };
+    Ok(Some(child?))
 }
 
 /// The child that so many others follow. A second walk over the children stays so many behind the first.

@@ -110,21 +110,15 @@ fn inserts_containers(rt: HostRuntime) -> Result<(), Fail> {
 }
 
 #[test]
-fn damage_is_refused(rt: HostRuntime) {
+fn arrays_that_do_not_decode_are_refused(rt: HostRuntime) {
     let alloc = rt.alloc();
     let cut = RawJsonb::new(CUT_ARRAY);
     let one = RawJsonb::new(ONE_ELEMENT);
     assert!(rt; matches!(cut.array_values(alloc), Err(Error::InvalidJsonb)));
     assert!(rt; matches!(cut.array_insert(alloc, 0, &one), Err(Error::InvalidJsonb)));
     assert!(rt; matches!(one.array_insert(alloc, 0, &cut), Err(Error::InvalidJsonb)));
-}
-
-#[test]
-fn floats_are_refused(rt: HostRuntime) {
-    let alloc = rt.alloc();
     let floats = RawJsonb::new(FLOATS);
     let float = RawJsonb::new(FLOAT);
-    let one = RawJsonb::new(ONE_ELEMENT);
     assert!(rt; matches!(floats.array_values(alloc), Err(Error::UnsupportedNumber)));
     assert!(rt;
         matches!(

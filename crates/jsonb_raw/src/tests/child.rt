@@ -154,18 +154,13 @@ fn takes_a_name_out(rt: HostRuntime) -> Result<(), Fail> {
 }
 
 #[test]
-fn damage_is_refused(rt: HostRuntime) {
+fn parts_of_what_does_not_decode_are_refused(rt: HostRuntime) -> Result<(), Fail> {
     let alloc = rt.alloc();
     let cut = RawJsonb::new(CUT_ARRAY);
     assert!(rt; matches!(cut.get_by_index(alloc, 0), Err(Error::InvalidJsonb)));
     assert!(rt; matches!(cut.get_by_name(alloc, "a", true), Err(Error::InvalidJsonb)));
     assert!(rt; matches!(cut.delete_by_index(alloc, 0), Err(Error::InvalidJsonb)));
     assert!(rt; matches!(cut.delete_by_name(alloc, "a"), Err(Error::InvalidJsonb)));
-}
-
-#[test]
-fn floats_are_refused(rt: HostRuntime) -> Result<(), Fail> {
-    let alloc = rt.alloc();
     let floats = RawJsonb::new(FLOATS);
     let float = RawJsonb::new(FLOAT_UNDER_A);
     assert!(rt; matches!(floats.get_by_index(alloc, 0), Err(Error::UnsupportedNumber)));

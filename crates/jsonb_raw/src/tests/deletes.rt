@@ -164,7 +164,7 @@ fn the_innermost_of_300_arrays(rt: HostRuntime) -> Result<(), Fail> {
 }
 
 #[test]
-fn damage_is_refused(rt: HostRuntime) {
+fn deletes_from_what_does_not_decode_are_refused(rt: HostRuntime) {
     for bytes in [b"".as_slice(), b"\x80\0\0".as_slice()] {
         let refused = without(rt.alloc(), bytes, b"{0}").err();
         assert_eq!(rt; refused, Some(Error::InvalidJsonb));

@@ -77,7 +77,7 @@ fn other_roots_have_no_texts(rt: HostRuntime) {
 }
 
 #[test]
-fn damage_is_refused(rt: HostRuntime) {
+fn names_of_what_does_not_decode_are_refused(rt: HostRuntime) {
     assert_eq!(rt; all_and_any(b"", &["a"]), Err(Error::InvalidJsonb));
     assert_eq!(rt; all_and_any(b"\x80\0\0", &["a"]), Err(Error::InvalidJsonb));
     assert_eq!(rt; all_and_any(FLOATS, &["a"]), Err(Error::UnsupportedNumber));

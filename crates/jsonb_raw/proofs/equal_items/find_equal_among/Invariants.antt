@@ -11,7 +11,8 @@ use Rattle.jsonb_raw.proofs.EntriesLeft.{SomeEntries}
 abbrev pub invariant-loop-more : goal.invariant-loop-more
 invariant-loop-more l = record {
   left : (form other_form : Form) (ts : Trees) (u : Tree) → HasEntriesLeft form l.fn.found ts → Stores other_form l.wanted u
-      → SomeEntries form l.left (λ left. list_any (λ t. is_equal t u) (take l.more (elements left)) ≡ list_any (λ t. is_equal t u) (take l.fn.count (elements ts)));
+      → SomeEntries form l.left (λ left. list_any (λ t. is_equal t u) (take l.more (elements left))
+      ≡ list_any (λ t. is_equal t u) (take l.fn.count (elements ts)));
 }
 
 abbrev pub decreases-loop-more : goal.decreases-loop-more

@@ -1,6 +1,3 @@
-use Rattle.std.proofs.Common.{refl, ◌∙◌, ap, ◌++◌, ◌∷◌}
-use Rattle.std.specs.Int.{w32, to_be_bytes}
-use Rattle.jsonb_doc.specs.Tree.{Tree}
 use Rattle.jsonb_raw.proofs.EqualityWalk.{array_started, object_started}
 use Rattle.jsonb_raw.proofs.equality_key.push_start.Goals as goal
 

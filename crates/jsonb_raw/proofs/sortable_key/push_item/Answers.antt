@@ -8,29 +8,30 @@ use Rattle.jsonb_raw.proofs.sortable_key.push_item.Goals as goal
 
 pub returns-in_default-clause-key : goal.returns-in_default-clause-key
 returns-in_default-clause-key c = λ form tree stands.
-    only_start (width_of c.args.width) tree _ _ (rw c.in_default.is at (c.in_ok-found.ensures.level form tree stands))
-    (c.in_ok-push_start.ensures.key form tree stands)
+    let begun = rw c.in_default.is at (c.in_ok-found.ensures.key form tree stands) in
+    only_start (width_of c.args.width) tree _ _ begun.2 (begun.0, begun.1)
 
 pub walk-init : goal.walk-init
 walk-init c = record {
-  left = λ form tree stands. record {
-    here = parts tree;
-    others = [];
-    left = rw c.in-Some.is at (c.in_ok-found.ensures.level form tree stands);
-    left_around = rw c.new-around.ensures.items tt;
-    fact = walk_begun (width_of c.args.width) tree _ _ (c.in_ok-push_start.ensures.key form tree stands);
-  };
+  left = λ form tree stands.
+      let begun = rw c.in-Some.is at (c.in_ok-found.ensures.key form tree stands) in
+      record {
+        here = parts tree;
+        others = [];
+        left = begun.2;
+        left_around = rw c.new-around.ensures.items tt;
+        fact = walk_begun (width_of c.args.width) tree _ _ (begun.0, begun.1);
+      };
 }
 
-pub returns-in_err-push_part-in-Some-2-clause-key :
-    goal.returns-in_err-push_part-in-Some-2-clause-key
-returns-in_err-push_part-in-Some-2-clause-key c = λ form tree stands.
-    let p = err_from_is_err_and c.from_residual-in_err-push_part-in-Some-2.result c.from_residual-in_err-push_part-in-Some-2.ensures.1 in
+pub returns-in_err-inner-in-Some-2-clause-key : goal.returns-in_err-inner-in-Some-2-clause-key
+returns-in_err-inner-in-Some-2-clause-key c = λ form tree stands.
+    let p = err_from_is_err_and c.from_residual-in_err-inner-in-Some-2.result c.from_residual-in_err-inner-in-Some-2.ensures.1 in
     SomeParts-first form _ _ _ _ _ _ (λ ps h. rw c.in-Some-2.is at (c.in_ok-key.ensures.takes form ps h)) (c.walk.invariant.left form tree stands)
     (λ part rest others keyed is left around fact.
     rw (p.1, p.2) (part_refused_at (width_of c.args.width) part rest others _ _ _ _ _ _
     (omega (arith, c.len.ensures, as_many_around form c.walk.around.items others around)) fact
-    (c.in_err-push_part-in-Some-2.ensures.key form part keyed is)))
+    (c.in_err-inner-in-Some-2.ensures.key form part keyed is)))
 
 pub walk-smaller-in-Some-3 : goal.walk-smaller-in-Some-3
 walk-smaller-in-Some-3 c =
@@ -41,14 +42,15 @@ pub walk-preserved-in-Some-3 : goal.walk-preserved-in-Some-3
 walk-preserved-in-Some-3 c = record {
   left = λ form tree stands.
       SomeParts-first form _ _ _ _ _ _ (λ ps h. rw c.in-Some-2.is at (c.in_ok-key.ensures.takes form ps h)) (c.walk.invariant.left form tree stands)
-      (λ part rest others keyed is left around fact. record {
+      (λ part rest others keyed is left around fact.
+      let begun = rw c.in-Some-3.is at (c.in_ok-inner-in-Some-2.ensures.key form part keyed is) in
+      record {
         here = parts part.1;
         others = rest ∷ others;
-        left = rw c.in-Some-3.is at (c.in_ok-inner-in-Some-2.ensures.level form part.1 is);
+        left = begun.2;
         left_around = pushed_around form _ _ _ rest others c.in_ok-push-in-Some-2.ensures.items left around;
         fact = part_begun_at (width_of c.args.width) part rest others _ _ _ _ _ _
-            (omega (arith, c.len.ensures, as_many_around form c.walk.around.items others around)) fact
-            (c.in_ok-push_part-in-Some-2.ensures.key form part keyed is);
+            (omega (arith, c.len.ensures, as_many_around form c.walk.around.items others around)) fact (begun.0, begun.1);
       });
 }
 
@@ -59,15 +61,16 @@ pub walk-preserved-in_default-2 : goal.walk-preserved-in_default-2
 walk-preserved-in_default-2 c = record {
   left = λ form tree stands.
       SomeParts-first form _ _ _ _ _ _ (λ ps h. rw c.in-Some-2.is at (c.in_ok-key.ensures.takes form ps h)) (c.walk.invariant.left form tree stands)
-      (λ part rest others keyed is left around fact. record {
+      (λ part rest others keyed is left around fact.
+      let begun = rw c.in_default-2.is at (c.in_ok-inner-in-Some-2.ensures.key form part keyed is) in
+      record {
         here = rest;
         others = others;
         left = left;
         left_around = around;
-        fact = part_done (width_of c.args.width) part rest others _ _ _ _ (rw c.in_default-2.is at (c.in_ok-inner-in-Some-2.ensures.level form part.1 is))
+        fact = part_done (width_of c.args.width) part rest others _ _ _ _ begun.2
             (part_begun_at (width_of c.args.width) part rest others _ _ _ _ _ _
-            (omega (arith, c.len.ensures, as_many_around form c.walk.around.items others around)) fact
-            (c.in_ok-push_part-in-Some-2.ensures.key form part keyed is));
+            (omega (arith, c.len.ensures, as_many_around form c.walk.around.items others around)) fact (begun.0, begun.1));
       });
 }
 

@@ -162,6 +162,25 @@ fn equality_keys(rt: HostRuntime) -> Result<(), Fail> {
 }
 
 #[test]
+fn keys_in_a_vector_that_is_used_again(rt: HostRuntime) -> Result<(), Fail> {
+    let alloc = rt.alloc();
+    let mut key = Vec::new(alloc);
+    for document in [ONE_ELEMENT, NULL, NULLS, DATE] {
+        let document = RawJsonb::new(document);
+        document.convert_to_comparable_into(alloc, &mut key)?;
+        assert_eq!(rt; key, document.convert_to_comparable(alloc)?);
+        document.convert_to_comparable_wide_into(alloc, &mut key)?;
+        assert_eq!(rt; key, document.convert_to_comparable_wide(alloc)?);
+        document.equality_key_into(alloc, &mut key)?;
+        assert_eq!(rt; key, document.equality_key(alloc)?);
+    }
+    let float = RawJsonb::new(FLOAT).convert_to_comparable_into(alloc, &mut key);
+    assert_eq!(rt; float, Err(Error::UnsupportedNumber));
+    assert!(rt; key.is_empty());
+    Ok(())
+}
+
+#[test]
 fn what_does_not_decode_has_no_key(rt: HostRuntime) -> Result<(), Fail> {
     for (bytes, error) in [
         (FLOAT, Error::UnsupportedNumber),

@@ -1,10 +1,11 @@
 //! The leaves of a document, with their key paths.
 
-ghost use Rattle.std.specs.Prelude.{◌≡◌, ◌<◌, ◌^◌, ◌++◌, [], ◌∷◌, IsOkAnd, IfOk, IfSome, IfErr, MatchResult};
+ghost use Rattle.std.specs.Prelude.{◌≡◌, ◌<◌, ◌^◌, ◌++◌, [], ◌∷◌, ℕ, List, Option, length, IsOkAnd, IfOk, IfSome, IfErr, MatchResult};
 ghost use Rattle.jsonb_doc.specs.Tree.{Tree};
 ghost use Rattle.jsonb_doc.specs.Payload.{Form};
 ghost use Rattle.jsonb_doc.specs.Format.{Decodes};
 ghost use Rattle.jsonb_doc.specs.Item.{StandsFor, item_size};
+ghost use Rattle.jsonb_doc.specs.Private.Stored.{Stores};
 ghost use Rattle.jsonb_doc.specs.Answer.{IsOutOfMemory, ◌or◌, IsDecodingError};
 ghost use Rattle.jsonb_doc.specs.declared.error.Error.TheVariants.{OutOfMemory};
 ghost use Rattle.jsonb_doc.specs.Value.{value_tree, value_parts};
@@ -13,11 +14,11 @@ ghost use Rattle.jsonb_keypath.specs.KeyPathViews.{key_view, key_paths_view};
 ghost use Rattle.jsonb_raw.specs.Documents.{raw_bytes};
 ghost use Rattle.jsonb_raw.specs.Leaves.{leaves};
 ghost use Rattle.jsonb_raw.specs.LeafViews.{leaves_seen, SeesDecoded, IsEntered, step_at, steps_into};
-ghost use Rattle.jsonb_raw.specs.Private.Levels.{level_room, level_bound};
+ghost use Rattle.jsonb_raw.specs.Private.Levels.{IsKeyOf, level_room, level_bound};
 
 use crate::level::Level;
 use crate::raw::RawJsonb;
-use jsonb_doc::{Error, Item, Value, root_item, to_value};
+use jsonb_doc::{Error, Item, StoredEntry, Value, root_item, to_value};
 use jsonb_keypath::{KeyPath, KeyPaths};
 use std::alloc::Global;
 use std::borrow::CowStr;
@@ -56,9 +57,9 @@ fn path_to<'a>(
 {
     let mut paths = Vec::with_capacity(alloc, around.len() + 1)?;
     for entered in around {
-        paths.push(step_to(entered.key, entered.index))?;
+        paths.push_reserved(step_to(entered.key, entered.index));
     }
-    paths.push(step_to(key, index))?;
+    paths.push_reserved(step_to(key, index));
     Ok(KeyPaths { paths })
 }
 
@@ -80,6 +81,40 @@ fn parts_entered<'a>(item: &Item<'a>, ignore_array: bool) -> Result<Option<Level
         return Ok(None);
     }
     Ok(Some(level))
+}
+
+/// The same of an entry.
+#[inline(always)]
+fn entry_entered<'a>(
+    entry: &StoredEntry<'a>,
+    ignore_array: bool,
+) -> Result<Option<Level<'a>>, Error>
+    ensures leaf { (form : Form) (t : Tree) → Stores form entry.now t
+        → IsOkAnd result (IsEntered form ignore_array t) }
+    ensures room { IfOk result
+        (λ found. IfSome found (λ level. level_room level < length entry.now.content.now)) }
+    ensures bound { IfOk result (λ found. IfSome found (λ level. level_bound level < 2 ^ 64)) }
+    ensures errors { IfErr result IsDecodingError }
+{
+    if !entry.is_container() {
+        return Ok(None);
+    }
+    parts_entered(&entry.item()?, ignore_array)
+}
+
+/// The key of a part as a name.
+#[inline(always)]
+fn name_of(key: Option<&[u8]>) -> Result<Option<&str>, Error>
+    ensures name { (k : Option (List ℕ)) → IsKeyOf key.entry k → IsOkAnd result (λ name. IsKeyOf name k) }
+    ensures errors { IfErr result IsDecodingError }
+{
+    let Some(bytes) = key else {
+        return Ok(None);
+    };
+    match str::from_utf8(bytes) {
+        Ok(name) => Ok(Some(name)),
+        Err(_) => Err(Error::InvalidJsonb),
+    }
 }
 
 /// The leaves within an item. What is left of the containers that the walk is within lies in a `Vec`; the steps to a
@@ -104,18 +139,22 @@ fn leaves_within<'a>(
     let mut around = Vec::new(alloc);
     'walk: loop {
         match level.take()? {
-            Some((key, part)) => match parts_entered(&part, ignore_array)? {
-                Some(inner) => {
-                    around.push(Entered { level, key, index })?;
-                    level = inner;
-                    index = 0;
+            Some((name, part)) => {
+                let key = name_of(name)?;
+                match entry_entered(&part, ignore_array)? {
+                    Some(inner) => {
+                        around.push(Entered { level, key, index })?;
+                        level = inner;
+                        index = 0;
+                    }
+                    None => {
+                        let item = part.item()?;
+                        let path = path_to(alloc, &around, key, index)?;
+                        found.push((path, to_value(alloc, &item)?))?;
+                        index = index.wrapping_add(1);
+                    }
                 }
-                None => {
-                    let path = path_to(alloc, &around, key, index)?;
-                    found.push((path, to_value(alloc, &part)?))?;
-                    index = index.wrapping_add(1);
-                }
-            },
+            }
             None => match around.pop() {
                 Some(outer) => {
                     level = outer.level;

@@ -119,11 +119,6 @@ fn reads_extensions(rt: HostRuntime) -> Result<(), Fail> {
         micros: 3,
     };
     assert_eq!(rt; interval.as_interval()?, Some(wanted));
-    Ok(())
-}
-
-#[test]
-fn reads_times_and_bytes(rt: HostRuntime) -> Result<(), Fail> {
     let time = Item::Extension(ExtensionValue::Timestamp(TIMESTAMP));
     let time = encode_item(rt.alloc(), &time)?;
     let time = RawJsonb::new(time.as_slice());

@@ -26,7 +26,8 @@ loop-rows-preserved c = record {
   left = λ form ps h a.
       let m = c.loop-rows.invariant.left form ps h a in
       let mine = rw c.in-Some.is at (c.in_ok-pair.ensures.first form m.rest (rest_of form _ _ _ _ _ _ m)) in
-      let found : c.contains.result ≡ is_in c.args.names.now c.in-Some.pair.key.now = c.contains.ensures ∙ ap (is_in c.args.names.now) c.in-Ok.ensures.cases.0 in
+      let found : c.contains.result ≡ is_in c.args.names.now c.in-Some.pair.key.now =
+      c.contains.ensures ∙ ap (is_in c.args.names.now) c.in-Ok.ensures.cases.0 in
       elim c.if-contains-wanted.branch [
         | then-contains-wanted+in_ok-push_run w ↦
             rw (w.rows-is, w.run-is) (parting_dropped form _ _ _ _ _ _ m c.in-Some.pair mine w.push_run.new.self

@@ -5,6 +5,9 @@ use Rattle.jsonb_raw.specs.Places.{children}
 use Rattle.jsonb_raw.proofs.functions.path.nth_child.Given as goal
 
 -- of the children that are left, so many stand before the one at the position
-abbrev pub invariant-loop-child : goal.invariant-loop-child
-invariant-loop-child l = (t : Tree) → Locates l.bytes l.fn.spot t
-    → (ts : List Tree) × HasSpotsLeft l.bytes l.child-iterator ts × (slice_get ts l.before ≡ slice_get (children t) l.position)
+abbrev pub invariant-loop-before : goal.invariant-loop-before
+invariant-loop-before l = (t : Tree) → Locates l.bytes l.fn.spot t
+    → (ts : List Tree) × HasSpotsLeft l.bytes l.left ts × (slice_get ts l.before ≡ slice_get (children t) l.position)
+
+abbrev pub decreases-loop-before : goal.decreases-loop-before
+decreases-loop-before l = l.before

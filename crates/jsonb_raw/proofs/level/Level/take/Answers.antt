@@ -14,4 +14,4 @@ returns-in_err-key-in-Pairs-clause-takes c = λ form ps h.
 pub returns-in_ok-key-in-Pairs-clause-takes : goal.returns-in_ok-key-in-Pairs-clause-takes
 returns-in_ok-key-in-Pairs-clause-takes c = λ form ps h.
     let (qs, left, is) = rw c.in-Pairs.is at h in
-    pair_some form _ _ ps qs is (rw c.in_ok-key-in-Pairs.was at (c.in-Some-next.ensures.steps.takes form qs left))
+    pair_some form _ _ ps qs is left.are_keys (rw c.in_ok-key-in-Pairs.was at (c.in-Some-next.ensures.steps.takes form qs left))

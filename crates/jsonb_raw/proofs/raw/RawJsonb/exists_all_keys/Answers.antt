@@ -1,4 +1,4 @@
-use Rattle.std.proofs.Common.{rules, refl, sym, ◌∙◌}
+use Rattle.std.proofs.Common.{rules, sym, ◌∙◌}
 use Rattle.jsonb_raw.specs.Exists.{has_text}
 use Rattle.jsonb_raw.proofs.ExistsLemmas.{all_first, all_next}
 use Rattle.jsonb_raw.proofs.raw.RawJsonb.exists_all_keys.Goals as goal

@@ -9,7 +9,8 @@ use Rattle.jsonb_raw.proofs.raw.RawJsonb.object_delete.Goals as goal
 pub returns-in_default-clause-pairs : goal.returns-in_default-clause-pairs
 returns-in_default-clause-pairs c = λ form t d.
     let d' : Decodes form c.as_bytes.result.now t = rw c.as_bytes.ensures d in
-    let none : object_delete c.args.keys.now t ≡ None = no_pairs_there form t _ (dropped c.args.keys.now) c.in_default.is (c.in_ok-row.ensures.entries form t d') in
+    let none : object_delete c.args.keys.now t ≡ None = no_pairs_there form t _ (dropped c.args.keys.now)
+    c.in_default.is (c.in_ok-row.ensures.entries form t d') in
     rw none refl
 
 pub returns-clause-pairs : goal.returns-clause-pairs

@@ -5,16 +5,15 @@ use Rattle.std.specs.List.{list_any}
 use Rattle.std.specs.Borrow.{Bor}
 use Rattle.jsonb_doc.specs.declared.item.Item.TheVariants as item
 use Rattle.jsonb_doc.specs.Tree.{keys, elements, members}
-use Rattle.jsonb_doc.specs.Equal.{is_equal}
 use Rattle.jsonb_doc.proofs.BuilderSteps.{keys_rise}
 use Rattle.jsonb_raw.specs.Private.PairSteps.{pairs_above}
 use Rattle.jsonb_raw.specs.Contains.{is_part_of, each_is_matched, each_pair_is_matched}
 use Rattle.jsonb_raw.specs.Compared.{matches}
 use Rattle.jsonb_raw.proofs.ContainsLaws.{matched_refl}
-use Rattle.jsonb_raw.proofs.EntriesLeft.{SomeEntries-first, SomeEntries-error, SomeEntries-none, SomePairEntries-first, SomePairEntries-error, SomePairEntries-none, passes_none}
+use Rattle.jsonb_raw.proofs.EntriesLeft.{SomeEntries-first, SomeEntries-error, SomeEntries-none, SomePairEntries-first, SomePairEntries-error, SomePairEntries-none}
 use Rattle.jsonb_raw.proofs.EntryEquals.{same_tree}
 use Rattle.jsonb_raw.proofs.Aside.{IsAnswer, IsItemAnswer, none_aside, put_aside, part_holds, part_fails, whole_fails, aside_along, IsOneAnswer, put_one_aside, one_holds, one_fails}
-use Rattle.jsonb_raw.proofs.MatchLemmas.{unmatched_key, matched_pair, no_entry_found, entry_found, scalar_match, scalar_matches, matches_if_equal, no_object}
+use Rattle.jsonb_raw.proofs.MatchLemmas.{unmatched_key, matched_pair, no_entry_found, entry_found, scalar_match, matches_if_equal, no_object}
 use Rattle.jsonb_raw.proofs.StartLemmas.{scalar_told, scalar_found, scalars_left, scalars_decide}
 use Rattle.jsonb_raw.proofs.functions.operator.contains.+contains.Goals as goal
 use Rattle.jsonb_raw.proofs.functions.operator.contains.+contains.Goals.{parts_match-in_default-via-in-Array+in_default, parts_match-in_default-via-in-Object+in_default, parts_match-in_default-via-in_default}
@@ -77,7 +76,8 @@ array_contains-loop-wanted-init t c = record {
     trees = ys;
     left = rw c.into_iter-wanted-iterator.ensures.into_iter_gives (c.in_ok-entries.ensures.decodes other_form ys e);
     fact = (
-      sym (c.in_ok-scalars_matched.ensures.matched form other_form xs ys (c.in_ok-all.ensures.decodes form xs d) (c.in_ok-entries.ensures.decodes other_form ys e)) ∙ c.if-not-branch.false,
+      sym (c.in_ok-scalars_matched.ensures.matched form other_form xs ys (c.in_ok-all.ensures.decodes form xs d)
+          (c.in_ok-entries.ensures.decodes other_form ys e)) ∙ c.if-not-branch.false,
       none_aside (IsItemAnswer matches form other_form None) (each_is_matched ys (elements xs)) refl,
     );
   };
@@ -158,7 +158,8 @@ array_contains-returns-in_err-item_matches-in-AsOf-clause-answer t c = λ form o
 
 pub array_contains-returns-then-not-branch-clause-answer : goal.array_contains-returns-then-not-branch-clause-answer
 array_contains-returns-then-not-branch-clause-answer t c = λ form other_form xs ys d e.
-    let told = c.in_ok-scalars_matched.ensures.matched form other_form xs ys (c.in_ok-all.ensures.decodes form xs d) (c.in_ok-entries.ensures.decodes other_form ys e) in
+    let told = c.in_ok-scalars_matched.ensures.matched form other_form xs ys (c.in_ok-all.ensures.decodes form xs d)
+    (c.in_ok-entries.ensures.decodes other_form ys e) in
     sym (scalars_decide ys (elements xs) (sym told ∙ c.if-not-branch.true))
 
 pub array_contains-returns-then-not-branch-2-clause-answer : goal.array_contains-returns-then-not-branch-2-clause-answer
@@ -230,7 +231,8 @@ array_contains-returns-in_err-entries-clause-answer t c = λ form other_form xs 
 
 pub array_contains-returns-in_err-scalars_matched-clause-answer : goal.array_contains-returns-in_err-scalars_matched-clause-answer
 array_contains-returns-in_err-scalars_matched-clause-answer t c = λ form other_form xs ys d e.
-    absurd (c.in_err-scalars_matched.ensures.matched form other_form xs ys (c.in_ok-all.ensures.decodes form xs d) (c.in_ok-entries.ensures.decodes other_form ys e))
+    absurd (c.in_err-scalars_matched.ensures.matched form other_form xs ys (c.in_ok-all.ensures.decodes form xs d)
+    (c.in_ok-entries.ensures.decodes other_form ys e))
 
 -- ---- entries
 
@@ -292,8 +294,13 @@ container_match-returns-in_err-item-in-Some-large-clause-answer t c = λ form ot
 
 pub container_match-returns-in_ok-item-in-Some-large-2-clause-answer : goal.container_match-returns-in_ok-item-in-Some-large-2-clause-answer
 container_match-returns-in_ok-item-in-Some-large-2-clause-answer t c = λ form other_form xs y h k.
-    let a = rw c.in-Some-large.is at (SomeEntries-none form _ _ _ c.in-None.ensures.steps (c.loop-entry.invariant.left form other_form xs y h k)) in
-    (a.is.0, y, c.in_ok-item-in-Some-large.ensures.decodes form a.is.0 a.is.1.content, c.in_ok-item-in-Some-large-2.ensures.decodes other_form y k.content, a.is.2 ∙ a.fact)
+    let a = rw c.in-Some-large.is at (SomeEntries-none form _ _ _ c.in-None.ensures.steps (c.loop-entry.invariant.left form other_form xs y h k)) in (
+      a.is.0,
+      y,
+      c.in_ok-item-in-Some-large.ensures.decodes form a.is.0 a.is.1.content,
+      c.in_ok-item-in-Some-large-2.ensures.decodes other_form y k.content,
+      a.is.2 ∙ a.fact,
+    )
 
 pub container_match-returns-in-None-large-clause-answer : goal.container_match-returns-in-None-large-clause-answer
 container_match-returns-in-None-large-clause-answer t c = λ form other_form xs y h k.
@@ -457,8 +464,13 @@ object_contains-returns-in_err-item-in-Some-large-2-clause-answer t c = λ form 
 pub object_contains-returns-in_ok-item-in-Some-large-2-clause-answer : goal.object_contains-returns-in_ok-item-in-Some-large-2-clause-answer
 object_contains-returns-in_ok-item-in-Some-large-2-clause-answer t c = λ form other_form ps qs d e.
     let a = rw c.in-Some-large.is at
-    (SomePairEntries-none other_form _ _ _ c.in-None.ensures.steps (c.loop-pair.invariant.left form other_form ps qs d e)).1.fact in
-    (a.is.0, a.is.1, c.in_ok-item-in-Some-large.ensures.decodes form a.is.0 a.is.2.content, c.in_ok-item-in-Some-large-2.ensures.decodes other_form a.is.1 a.is.3.content, a.is.4 ∙ a.fact)
+    (SomePairEntries-none other_form _ _ _ c.in-None.ensures.steps (c.loop-pair.invariant.left form other_form ps qs d e)).1.fact in (
+      a.is.0,
+      a.is.1,
+      c.in_ok-item-in-Some-large.ensures.decodes form a.is.0 a.is.2.content,
+      c.in_ok-item-in-Some-large-2.ensures.decodes other_form a.is.1 a.is.3.content,
+      a.is.4 ∙ a.fact,
+    )
 
 pub object_contains-returns-in-None-large-clause-answer : goal.object_contains-returns-in-None-large-clause-answer
 object_contains-returns-in-None-large-clause-answer t c = λ form other_form ps qs d e.

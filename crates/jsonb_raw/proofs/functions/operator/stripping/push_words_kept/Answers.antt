@@ -1,6 +1,4 @@
-use Rattle.std.proofs.Common.{arith, refl, ◌++◌}
-use Rattle.jsonb_doc.specs.ObjectBuilder.{words_of_entries}
-use Rattle.jsonb_raw.specs.Stripping.{beside}
+use Rattle.std.proofs.Common.{arith, refl}
 use Rattle.jsonb_raw.proofs.StripLists.{word_left_out, word_pushed, words_pushed, no_word_missing}
 use Rattle.jsonb_raw.proofs.functions.operator.stripping.push_words_kept.Goals as goal
 

@@ -1,8 +1,6 @@
-use Rattle.std.proofs.Common.{arith, refl, ◌+◌, sym, ap}
+use Rattle.std.proofs.Common.{arith, refl}
 use Rattle.std.proofs.lemmas.Result.{err_from_is_err_and}
-use Rattle.jsonb_raw.specs.Strip.{strip}
-use Rattle.jsonb_raw.proofs.StripLists.{is_none, is_some}
-use Rattle.jsonb_raw.proofs.StripWalk.{all_done, entry_skipped, entry_copied, entry_entered, one_done, word_place, rooms-pushed, begun_alone, null_out, other_stays, array_stays, no_entry_error, first_content}
+use Rattle.jsonb_raw.proofs.StripWalk.{all_done, entry_skipped, entry_copied, entry_entered, one_done, word_place, rooms-pushed, begun_alone, null_out, other_stays, array_stays, first_content}
 use Rattle.jsonb_raw.proofs.LeafWalk.{no_items}
 use Rattle.jsonb_raw.proofs.functions.operator.stripping.strip_container.Goals as goal
 use Rattle.jsonb_raw.proofs.functions.operator.stripping.strip_container.Goals.{in_default-via-in-0+else-inner, in_default-via-in_default-1}

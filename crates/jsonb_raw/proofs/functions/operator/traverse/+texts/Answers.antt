@@ -34,7 +34,8 @@ item_tells-loop-told-preserved g t c = record {
 pub part_tells-returns-in-String-clause-told : goal.part_tells-returns-in-String-clause-told
 part_tells-returns-in-String-clause-told g t c = λ form tree stands.
     let is = rw c.in-String.is at stands in
-    let told : FnReturnsAt g.F.Fn c.args.func.now c.in-String.text.now c.func.result = record { shown = c.as_bytes.result; shows = c.as_bytes.ensures.value; says = record { met = c.func.ensures } } in
+    let told : FnReturnsAt g.F.Fn c.args.func.now c.in-String.text.now c.func.result = record
+    { shown = c.as_bytes.result; shows = c.as_bytes.ensures.value; says = record { met = c.func.ensures } } in
     rw is (leaves_told g.F.Fn c.args.func.now form [] (c.in-String.text.now ∷ []) c.func.result (told_alone g.F.Fn c.args.func.now _ c.func.result told))
 
 pub part_tells-returns-in-Array-clause-told : goal.part_tells-returns-in-Array-clause-told
@@ -52,12 +53,14 @@ part_tells-returns-in-Object-clause-told g t c = λ form tree stands.
 pub entry_tells-returns-then-is_text-clause-told : goal.entry_tells-returns-then-is_text-clause-told
 entry_tells-returns-then-is_text-clause-told g t c = λ form tree stored.
     let is = text_stored form c.args.entry.now tree stored (sym c.is_text.ensures ∙ c.if-is_text.true) in
-    let told : FnReturnsAt g.F.Fn c.args.func.now c.args.entry.now.content.now c.func.result = record { shown = c.args.entry.now.content; shows = refl; says = record { met = c.func.ensures } } in
+    let told : FnReturnsAt g.F.Fn c.args.func.now c.args.entry.now.content.now c.func.result = record
+    { shown = c.args.entry.now.content; shows = refl; says = record { met = c.func.ensures } } in
     rw is (told_alone g.F.Fn c.args.func.now _ c.func.result told)
 
 pub entry_tells-returns-then-not-is_container-clause-told : goal.entry_tells-returns-then-not-is_container-clause-told
 entry_tells-returns-then-not-is_container-clause-told g t c = λ form tree stored.
-    let none = no_texts form c.args.entry.now tree stored (sym c.is_text.ensures ∙ c.if-is_text.false) (sym c.is_container.ensures ∙ c.if-not-is_container.true) in
+    let none = no_texts form c.args.entry.now tree stored (sym c.is_text.ensures ∙ c.if-is_text.false)
+    (sym c.is_container.ensures ∙ c.if-not-is_container.true) in
     rw none (told_none g.F.Fn c.args.func.now)
 
 -- ---- arrays
@@ -163,14 +166,16 @@ pub object_tells-returns-then-func-clause-told : goal.object_tells-returns-then-
 object_tells-returns-then-func-clause-told g t c = λ form ps d.
     SomePairEntries-first form _ _ _ _ _ c.in_ok-key.was c.in-Some.ensures.steps (c.loop-pair.invariant.left form ps d)
     (λ value rest left stored fact.
-    let told : FnReturnsAt g.F.Fn c.args.func.now c.in_ok-key.key.now true = record { shown = c.in_ok-key.key; shows = refl; says = record { met = rw c.if-func.true at c.func.ensures } } in
+    let told : FnReturnsAt g.F.Fn c.args.func.now c.in_ok-key.key.now true = record
+    { shown = c.in_ok-key.key; shows = refl; says = record { met = rw c.if-func.true at c.func.ensures } } in
     fact.found (told_head g.F.Fn c.args.func.now c.in_ok-key.key.now (texts value ++ texts_of_pairs rest) told))
 
 pub object_tells-returns-then-branch-clause-told : goal.object_tells-returns-then-branch-clause-told
 object_tells-returns-then-branch-clause-told g t c = λ form ps d.
     SomePairEntries-first form _ _ _ _ _ c.in_ok-key.was c.in-Some.ensures.steps (c.loop-pair.invariant.left form ps d)
     (λ value rest left stored fact.
-    let told : FnReturnsAt g.F.Fn c.args.func.now c.in_ok-key.key.now false = record { shown = c.in_ok-key.key; shows = refl; says = record { met = rw c.if-func.false at c.func.ensures } } in
+    let told : FnReturnsAt g.F.Fn c.args.func.now c.in_ok-key.key.now false = record
+    { shown = c.in_ok-key.key; shows = refl; says = record { met = rw c.if-func.false at c.func.ensures } } in
     fact.found (told_after g.F.Fn c.args.func.now c.in_ok-key.key.now (texts value ++ texts_of_pairs rest) told true
     (told_first g.F.Fn c.args.func.now (texts value) (texts_of_pairs rest) (rw c.if-branch.true at (c.in_ok-entry_tells.ensures.told form value stored)))))
 
@@ -183,7 +188,8 @@ object_tells-loop-pair-preserved g t c = record {
   left = λ form ps d.
       SomePairEntries-first form _ _ _ _ _ c.in_ok-key.was c.in-Some.ensures.steps (c.loop-pair.invariant.left form ps d)
       (λ value rest left stored fact.
-      let told : FnReturnsAt g.F.Fn c.args.func.now c.in_ok-key.key.now false = record { shown = c.in_ok-key.key; shows = refl; says = record { met = rw c.if-func.false at c.func.ensures } } in
+      let told : FnReturnsAt g.F.Fn c.args.func.now c.in_ok-key.key.now false = record
+      { shown = c.in_ok-key.key; shows = refl; says = record { met = rw c.if-func.false at c.func.ensures } } in
       let none = told_alone g.F.Fn c.args.func.now c.in_ok-key.key.now false told in
       record {
         pairs = rest;
@@ -206,12 +212,14 @@ object_tells-loop-pair-preserved-then-value-bytes g t c =
       left = λ form ps d.
           SomePairEntries-first form _ _ _ _ _ c.in_ok-key.was c.in-Some.ensures.steps (rw none at (c.loop-pair.invariant.left form ps d))
           (λ value rest left stored fact.
-          let told : FnReturnsAt g.F.Fn c.args.func.now c.in_ok-key.key.now false = record { shown = c.in_ok-key.key; shows = refl; says = record { met = rw c.if-func.false at c.func.ensures } } in
+          let told : FnReturnsAt g.F.Fn c.args.func.now c.in_ok-key.key.now false = record
+          { shown = c.in_ok-key.key; shows = refl; says = record { met = rw c.if-func.false at c.func.ensures } } in
           let none = told_alone g.F.Fn c.args.func.now c.in_ok-key.key.now false told in
           record {
             pairs = rest;
             left = left;
-            fact = leaves_aside g.F.Fn c.args.func.now form (texts_of_pairs ps) c.in_ok-item.item value (texts_of_pairs rest) (c.in_ok-item.ensures.decodes form value stored.content)
+            fact = leaves_aside g.F.Fn c.args.func.now form (texts_of_pairs ps) c.in_ok-item.item value
+                (texts_of_pairs rest) (c.in_ok-item.ensures.decodes form value stored.content)
                 (leaves_after g.F.Fn c.args.func.now form (texts_of_pairs ps) None (c.in_ok-key.key.now ∷ []) (texts value ++ texts_of_pairs rest) none fact);
           });
     }

@@ -1,4 +1,4 @@
-use Rattle.std.proofs.Common.{drop, take, add-one}
+use Rattle.std.proofs.Common.{take, add-one}
 use Rattle.jsonb_raw.proofs.functions.path.child.array_without_element.Goals as goal
 
 pub returns-in_err-front-clause-deleted : goal.returns-in_err-front-clause-deleted

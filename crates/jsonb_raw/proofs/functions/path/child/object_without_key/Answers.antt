@@ -2,8 +2,7 @@ use Rattle.std.proofs.Common.{◌≡◌, Some, None, not, sym, ◌∙◌}
 use Rattle.std.specs.Prelude.{position}
 use Rattle.std.specs.Map.{keys_of}
 use Rattle.std.specs.Str.{bytes_eq}
-use Rattle.jsonb_doc.specs.Tree.{object, members, pairs_of}
-use Rattle.jsonb_doc.specs.Format.{Decodes}
+use Rattle.jsonb_doc.specs.Tree.{object, members}
 use Rattle.jsonb_doc.proofs.TreeLists.{pairs_of-members}
 use Rattle.jsonb_doc.proofs.LimitLemmas.{decoded_members}
 use Rattle.jsonb_raw.proofs.NamedPairs.{AreKeys-filter, all_stay, one_goes}

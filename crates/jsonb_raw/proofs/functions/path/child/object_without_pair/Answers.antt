@@ -1,8 +1,5 @@
-use Rattle.std.proofs.Common.{◌≡◌, take, drop, map, add-one, sym, ◌∙◌}
-use Rattle.std.proofs.lemmas.List.{take-map, drop-map}
-use Rattle.std.specs.Map.{keys_of, values_of}
+use Rattle.std.proofs.Common.{add-one}
 use Rattle.std.specs.List.{remove}
-use Rattle.jsonb_doc.specs.Tree.{text}
 use Rattle.jsonb_raw.proofs.RowLemmas.{two_rows}
 use Rattle.jsonb_raw.proofs.NamedPairs.{names_around, values_around}
 use Rattle.jsonb_raw.proofs.functions.path.child.object_without_pair.Goals as goal

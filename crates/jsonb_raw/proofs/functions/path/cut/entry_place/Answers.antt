@@ -19,7 +19,8 @@ overflow_add-result-2 c = omega (arith, c.in_ok-before.ensures.cases.3, c.conten
 pub returns : goal.returns
 returns c = λ front back e h total passed.
     let cut = c.in_ok-before.ensures.cases in
-    let read = entry_read _ _ _ _ _ c.args.total c.args.passed front back e h total passed c.in_ok-words.ensures.lookup.0.2 cut.1 cut.2 c.in_ok-word.ensures.cases.0 in
+    let read = entry_read _ _ _ _ _ c.args.total c.args.passed front back e h total passed
+    c.in_ok-words.ensures.lookup.0.2 cut.1 cut.2 c.in_ok-word.ensures.cases.0 in
     let before = c.contents_len.ensures.contents front read.within_front read.before_is in
     let size = word_len e.0 _ _ _ read.within.0 read.within.1 read.word_is c.from_be_bytes.ensures in
     record { word = omega (arith, passed); start = omega (arith, before); end = omega (arith, before, size) }

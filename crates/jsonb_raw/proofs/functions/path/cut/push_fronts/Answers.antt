@@ -21,7 +21,15 @@ pub loop-place-preserved : goal.loop-place-preserved
 loop-place-preserved c = record {
   room =
       let l = c.in-Some.ensures.lookup.0 in
-      omega (arith, l.0, l.1, ap length l.2, length-between c.loop-place.inner.now c.place-item.result.start c.place-item.result.end l.1, c.loop-place.invariant.room);
+      omega (
+        arith,
+        l.0,
+        l.1,
+        ap length l.2,
+        length-between c.loop-place.inner.now c.place-item.result.start
+            c.place-item.result.end l.1,
+        c.loop-place.invariant.room,
+      );
   left = λ number_at t u ns inner walk fits.
       let next = drop_first c.args.places.now c.loop-place.place-index c.place-item.result c.loop-place-test.true c.place-item.is in
       let f = next_front _ _ _ _ _ _ _ _ _ _ _ _ next (c.loop-place.invariant.left number_at t u ns inner walk fits) in

@@ -18,7 +18,8 @@ returns-in_err-start-clause-pushed c = λ form t end left is there out.
     let a = c.in-Some-child_entries.ensures form p.u p.child p.content p.there in
     let size = c.entries_len.ensures (length c.in_ok-places.inner.now) (omega arith) a.ordered in
     let gone = entries_gone c.in_ok-places.inner.now c.in-Some-child_entries.entries a.ordered in
-    rw (e.1, e.2) (c.in_err-start.ensures.pushed (number_reader form) t p.u c.in-Some.around.now c.in_ok-places.inner.now (rw c.as_slice.ensures.value p.walk) (omega (arith, size, gone)))
+    rw (e.1, e.2) (c.in_err-start.ensures.pushed (number_reader form) t p.u c.in-Some.around.now
+    c.in_ok-places.inner.now (rw c.as_slice.ensures.value p.walk) (omega (arith, size, gone)))
 
 pub returns-in_err-push_without_child-clause-pushed : goal.returns-in_err-push_without_child-clause-pushed
 returns-in_err-push_without_child-clause-pushed c = λ form t end left is there out.

@@ -1,4 +1,4 @@
-use Rattle.std.proofs.Common.{rules, arith}
+use Rattle.std.proofs.Common.{rules}
 use Rattle.jsonb_raw.proofs.MarkLemmas.{mark_taken}
 use Rattle.jsonb_raw.proofs.functions.array.marks.Marks.add.Goals as goal
 

@@ -1,4 +1,4 @@
-use Rattle.std.proofs.Common.{◌≡◌, ap, refl, sym, ◌∙◌}
+use Rattle.std.proofs.Common.{refl, sym, ◌∙◌}
 use Rattle.jsonb_raw.proofs.CursorSteps.{cursor_next, cursor_meets, cursor_misses, cursor_ends, cursor_error}
 use Rattle.jsonb_raw.proofs.functions.path.exists.KeySearch.has.Goals as goal
 
