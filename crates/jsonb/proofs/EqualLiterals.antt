@@ -5,6 +5,7 @@ use Rattle.std.specs.Cmp.{Equal-is}
 use Rattle.std.specs.Cmp.Lexicographic.{slice_cmp}
 use Rattle.std.specs.Cow.{cow_str_bytes}
 use Rattle.std.specs.Ordering.{is_eq, bool_cmp, nat_cmp}
+use Rattle.std.proofs.lemmas.Bool.Decides.{same_from_decides}
 use Rattle.std.proofs.lemmas.Map.Text.{is_eq-slice_cmp}
 use Rattle.std.proofs.lemmas.Slice.Eq.{bytes_eq-Decides}
 use Rattle.jsonb_doc.specs.Tree as tree
@@ -15,6 +16,8 @@ use Rattle.jsonb_doc.proofs.EqualValues.{number_cmp-number_view}
 use Rattle.jsonb.specs.PathEquality.{SameLiteral}
 use Rattle.jsonb.specs.PathOrder.{number_order, path_value_equal}
 use Rattle.jsonb.specs.PathViews.{number_literal, literal_view}
+use Rattle.jsonb.specs.Proofs.SamePath.{literal-same}
+use Rattle.jsonb.specs.SamePath.{is_same_literal}
 use Rattle.jsonb.specs.Values.{literal_item}
 use Rattle.jsonb.specs.declared.path.PathValue.{PathValue}
 use Rattle.jsonb.specs.declared.path.PathValue.TheVariants.{Null, Boolean, String, Raw}
@@ -48,3 +51,6 @@ literal-equal (Raw d) b = (λ h. cc, λ h. absurd h)
 literal-equal (PathValue'.Number m) b = rw (number_item m) (λ h. cc, λ h. absurd h)
 literal-equal a (PathValue'.Number n) = rw (number_item n) (λ h. cc, λ h. absurd h)
 literal-equal a b = (λ h. cc, λ h. absurd h)
+
+pub literal-is : (a b : PathValue) → path_value_equal a b ≡ is_same_literal (literal_view a) (literal_view b)
+literal-is a b = same_from_decides _ _ (literal-equal a b) (literal-same (literal_view a) (literal_view b))

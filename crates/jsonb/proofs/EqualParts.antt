@@ -1,15 +1,16 @@
 -- Equality of the small parts of paths is equality of what they stand for.
-use Rattle.std.proofs.Common.{◌≡◌, List, [], ◌∷◌, map, Bool, true, false, Some, None, Option, refl, sym, ◌∙◌, ap}
+use Rattle.std.proofs.Common.{◌≡◌, List, [], ◌∷◌, map, Bool, Some, None, Option, refl, sym, ◌∙◌, ap, ap₂}
 use Rattle.std.specs.Prelude.{◌&&◌, nat_eq, option_map}
 use Rattle.std.specs.Bool.{Decides}
 use Rattle.std.specs.Option.{option_eq}
 use Rattle.std.specs.Cmp.Lexicographic.{pointwise}
-use Rattle.std.proofs.lemmas.Bool.Decides.{Decides-int_eq, Decides-eqb}
-use Rattle.std.proofs.lemmas.Option.{same_Some}
+use Rattle.std.proofs.lemmas.Bool.Decides.{same_from_decides}
 use denote.Enum.Bare.{same_true, true_same}
 use Rattle.jsonb.specs.PathTree as tree
-use Rattle.jsonb.specs.PathTree.{Levels, BinaryOp}
+use Rattle.jsonb.specs.PathTree.{BinaryOp}
 use Rattle.jsonb.specs.PathViews.{place_view, entry_view, end_view, levels_view, operator_view, sign_view}
+use Rattle.jsonb.specs.Proofs.SamePath.{place-same, entry-same, end-same, level-same, operator-same, sign-same}
+use Rattle.jsonb.specs.SamePath.{is_same_place, is_same_entry, is_same_end, is_same_level, is_same_operator, is_same_sign}
 use Rattle.jsonb.specs.declared.path.Index.{Index}
 use Rattle.jsonb.specs.declared.path.Index.TheVariants as index
 use Rattle.jsonb.specs.declared.path.ArrayIndex.{ArrayIndex}
@@ -29,64 +30,59 @@ use Rattle.jsonb.specs.contracts.path.BinaryOperator.{the_type as the_operator}
 use Rattle.jsonb.specs.contracts.path.BinaryOperatorPartialEq.TheImpl.{eq-value as operator_equal}
 use Rattle.jsonb.specs.contracts.path.UnaryOperatorPartialEq.TheImpl.{eq-value as sign_equal}
 
--- ---- ways to take values apart
+module _ {A B : Type 0} (E : A → A → Bool) (F : B → B → Bool) (view : A → B) (same : (a b : A) → E a b ≡ F (view a) (view b)) where
+  maybe-is : (o p : Option A) → option_eq E o p ≡ option_eq F (option_map view o) (option_map view p)
+  maybe-is None None = refl
+  maybe-is (Some a) (Some b) = same a b
+  maybe-is None (Some b) = refl
+  maybe-is (Some a) None = refl
 
--- a constructor around both sides
-pub around : {A B : Type 0} (f : A → B) (x y : A) (b : Bool) → (f x ≡ f y → x ≡ y) → Decides b (x ≡ y) → Decides b (f x ≡ f y)
-around f x y b inside d = (λ h. ap f (d.0 h), λ e. d.1 (inside e))
-
-pub both : {P Q : Type 0} (s t : Bool) → Decides s P → Decides t Q → Decides (s && t) (P × Q)
-both true t d e = (λ h. (d.0 refl, e.0 h), λ h. e.1 h.1)
-both false t d e = (λ h. absurd (cc), λ h. let same = d.1 h.0 in cc)
-
-module _ {A B : Type 0} (E : A → A → Bool) (view : A → B) (decides : (a b : A) → Decides (E a b) (view a ≡ view b)) where
-  pub maybe-equal : (o p : Option A) → Decides (option_eq E o p) (option_map view o ≡ option_map view p)
-  maybe-equal None None = (λ h. refl, λ e. refl)
-  maybe-equal (Some a) (Some b) = around (λ (x : B). Some x) (view a) (view b) _ (same_Some _ _) (decides a b)
-  maybe-equal None (Some b) = (λ h. cc, λ e. cc)
-  maybe-equal (Some a) None = (λ h. cc, λ e. cc)
-
-  pub list-equal : (xs ys : List A) → Decides (pointwise E xs ys) (map view xs ≡ map view ys)
-  list-equal [] [] = (λ h. refl, λ e. refl)
-  list-equal (x ∷ xs) (y ∷ ys) =
-      let d = both (E x y) (pointwise E xs ys) (decides x y) (list-equal xs ys) in (
-        λ h. (let parts = d.0 h in rw (parts.0, parts.1) refl),
-        λ e. (let first : view x ≡ view y = cc in let others : map view xs ≡ map view ys = cc in d.1 (first, others)),
-      )
-  list-equal [] (y ∷ ys) = (λ h. cc, λ e. cc)
-  list-equal (x ∷ xs) [] = (λ h. cc, λ e. cc)
+  list-is : (xs ys : List A) → pointwise E xs ys ≡ pointwise F (map view xs) (map view ys)
+  list-is [] [] = refl
+  list-is (x ∷ xs) (y ∷ ys) = ap₂ (λ a b. a && b) (same x y) (list-is xs ys)
+  list-is [] (y ∷ ys) = refl
+  list-is (x ∷ xs) [] = refl
 
 -- ---- places, entries and levels
 
+index-is : (a b : Index) → index_equal.it a b ≡ is_same_place (place_view a) (place_view b)
+index-is (index.Index i) (index.Index j) = refl
+index-is (index.LastIndex i) (index.LastIndex j) = refl
+index-is (index.Index i) (index.LastIndex j) = refl
+index-is (index.LastIndex i) (index.Index j) = refl
+
 pub index-equal : (a b : Index) → Decides (index_equal.it a b) (place_view a ≡ place_view b)
-index-equal (index.Index i) (index.Index j) = around tree.from_front i j _ (λ e. cc) (Decides-int_eq i j)
-index-equal (index.LastIndex i) (index.LastIndex j) = around tree.from_last i j _ (λ e. cc) (Decides-int_eq i j)
-index-equal (index.Index i) (index.LastIndex j) = (λ h. cc, λ e. cc)
-index-equal (index.LastIndex i) (index.Index j) = (λ h. cc, λ e. cc)
+index-equal a b = rw (index-is a b) (place-same (place_view a) (place_view b))
+
+array_index-is : (a b : ArrayIndex) → array_index_equal.it a b ≡ is_same_entry (entry_view a) (entry_view b)
+array_index-is (array_index.Index i) (array_index.Index j) = index-is i j
+array_index-is (array_index.Slice (i, k)) (array_index.Slice (j, l)) = ap₂ (λ a b. a && b) (index-is i j) (index-is k l)
+array_index-is (array_index.Index i) (array_index.Slice ends) = refl
+array_index-is (array_index.Slice ends) (array_index.Index j) = refl
 
 pub array_index-equal : (a b : ArrayIndex) → Decides (array_index_equal.it a b) (entry_view a ≡ entry_view b)
-array_index-equal (array_index.Index i) (array_index.Index j) = around tree.single (place_view i) (place_view j) _ (λ e. cc) (index-equal i j)
-array_index-equal (array_index.Slice (i, k)) (array_index.Slice (j, l)) =
-    let d = both (index_equal.it i j) (index_equal.it k l) (index-equal i j) (index-equal k l) in (
-      λ h. (let parts = d.0 h in rw (parts.0, parts.1) refl),
-      λ e. (let first : place_view i ≡ place_view j = cc in let last : place_view k ≡ place_view l = cc in d.1 (first, last)),
-    )
-array_index-equal (array_index.Index i) (array_index.Slice ends) = (λ h. cc, λ e. cc)
-array_index-equal (array_index.Slice ends) (array_index.Index j) = (λ h. cc, λ e. cc)
+array_index-equal a b = rw (array_index-is a b) (entry-same (entry_view a) (entry_view b))
+
+pub entries-is : (es fs : List ArrayIndex) → pointwise array_index_equal.it es fs ≡ pointwise is_same_entry (map entry_view es) (map entry_view fs)
+entries-is es fs = list-is array_index_equal.it is_same_entry entry_view array_index-is es fs
+
+level_end-is : (a b : RecursiveLevelEnd) → level_end_equal.it a b ≡ is_same_end (end_view a) (end_view b)
+level_end-is (level_end.Index m) (level_end.Index n) = refl
+level_end-is level_end.Last level_end.Last = refl
+level_end-is (level_end.Index m) level_end.Last = refl
+level_end-is level_end.Last (level_end.Index n) = refl
 
 pub level_end-equal : (a b : RecursiveLevelEnd) → Decides (level_end_equal.it a b) (end_view a ≡ end_view b)
-level_end-equal (level_end.Index m) (level_end.Index n) = around tree.level m n _ (λ e. cc) (Decides-eqb m n)
-level_end-equal level_end.Last level_end.Last = (λ h. refl, λ e. refl)
-level_end-equal (level_end.Index m) level_end.Last = (λ h. cc, λ e. cc)
-level_end-equal level_end.Last (level_end.Index n) = (λ h. cc, λ e. cc)
+level_end-equal a b = rw (level_end-is a b) (end-same (end_view a) (end_view b))
+
+level-is : (a b : RecursiveLevel) → level_equal.it a b ≡ is_same_level (levels_view a) (levels_view b)
+level-is a b = ap (λ x. nat_eq a.start b.start && x) (maybe-is level_end_equal.it is_same_end end_view level_end-is a.end b.end)
 
 pub level-equal : (a b : RecursiveLevel) → Decides (level_equal.it a b) (levels_view a ≡ levels_view b)
-level-equal a b =
-    let d = both (nat_eq a.start b.start) (option_eq level_end_equal.it a.end b.end) (Decides-eqb a.start b.start)
-    (maybe-equal level_end_equal.it end_view level_end-equal a.end b.end) in (
-      λ h. (let parts = d.0 h in rw (parts.0, parts.1) refl),
-      λ e. d.1 (ap (λ (l : Levels). l.start) e, ap (λ (l : Levels). l.end) e),
-    )
+level-equal a b = rw (level-is a b) (level-same (levels_view a) (levels_view b))
+
+pub levels-is : (k l : Option RecursiveLevel) → option_eq level_equal.it k l ≡ option_eq is_same_level (option_map levels_view k) (option_map levels_view l)
+levels-is k l = maybe-is level_equal.it is_same_level levels_view level-is k l
 
 -- ---- operators
 
@@ -118,8 +114,14 @@ operator-equal a b = (
   λ e. true_same the_operator a b (sym (operator_of-operator_view a) ∙ ap operator_of e ∙ operator_of-operator_view b),
 )
 
+pub operator-is : (a b : BinaryOperator) → operator_equal.it a b ≡ is_same_operator (operator_view a) (operator_view b)
+operator-is a b = same_from_decides _ _ (operator-equal a b) (operator-same (operator_view a) (operator_view b))
+
+pub sign-is : (a b : UnaryOperator) → sign_equal.it a b ≡ is_same_sign (sign_view a) (sign_view b)
+sign-is sign.Add sign.Add = refl
+sign-is sign.Subtract sign.Subtract = refl
+sign-is sign.Add sign.Subtract = refl
+sign-is sign.Subtract sign.Add = refl
+
 pub sign-equal : (a b : UnaryOperator) → Decides (sign_equal.it a b) (sign_view a ≡ sign_view b)
-sign-equal sign.Add sign.Add = (λ h. refl, λ e. refl)
-sign-equal sign.Subtract sign.Subtract = (λ h. refl, λ e. refl)
-sign-equal sign.Add sign.Subtract = (λ h. cc, λ e. cc)
-sign-equal sign.Subtract sign.Add = (λ h. cc, λ e. cc)
+sign-equal a b = rw (sign-is a b) (sign-same (sign_view a) (sign_view b))

@@ -12,7 +12,7 @@ use Rattle.jsonb.specs.PathText.{joins}
 use Rattle.jsonb.specs.PathTree.{Literal, null, boolean, unsigned, signed, decimal64, decimal128, string, raw, Step, filter, whole_expression, Steps, no_steps, step, Expression, paths, value, binary, unary, exists}
 use Rattle.jsonb.proofs.GrammarShape.{json_path_is_path}
 use Rattle.jsonb.proofs.PathReadsBack.{path-text}
-use Rattle.jsonb.proofs.SamePathLaws.{path-symmetric, path-transitive}
+use Rattle.jsonb.specs.Proofs.SameParts.{path-symmetric, path-transitive}
 use Rattle.jsonb.proofs.PathShape.{IsLiteral, IsInner, AreInner, IsBeginning, IsOperand, is_signed, IsPathStep, ArePathSteps, IsExistsPath, IsCondition, IsPath}
 
 number_itself : (n : Number) → number_cmp n n ≡ Equal

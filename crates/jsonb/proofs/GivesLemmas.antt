@@ -102,6 +102,13 @@ first_refused {e = e} {o = o} next h = record {
   err = elim h.err [ inl memory ↦ inl memory | inr is ↦ inr (ap (λ v. and_then v next) is) ];
 }
 
+pub first_of_three_refused : {A B C D E : Type 0} {R : A → B → Type 0} {S : D → E → Type 0} {e : Error} {o : Outcome B}
+    (next : B → Outcome C) (last : C → Outcome E) → Gives R IsOutOfMemory (Err e) o → Gives S IsOutOfMemory (Err e) (and_then (and_then o next) last)
+first_of_three_refused {e = e} {o = o} next last h = record {
+  ok = tt;
+  err = elim h.err [ inl memory ↦ inl memory | inr is ↦ inr (ap (λ v. and_then (and_then v next) last) is) ];
+}
+
 -- a value of the first part, and the answer of what follows
 pub followed : {A B C D : Type 0} {R : A → B → Type 0} {S : C → D → Type 0} {x : A} {r : Outcome C} {o : Outcome B} (next : B → Outcome D) →
     Gives R IsOutOfMemory (Ok x) o → ((a : B) → R x a → Gives S IsOutOfMemory r (next a)) → Gives S IsOutOfMemory r (and_then o next)

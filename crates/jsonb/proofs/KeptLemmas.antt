@@ -1,10 +1,9 @@
 -- What is kept of a filter from one item to the next.
-use Rattle.std.proofs.Common.{◌≡◌, ◌≢◌, Vec, Box, Global, ℕ, ◌≤◌, ◌+◌, zero, suc, List, [], ◌∷◌, ◌++◌, length, drop, Bool, true, false, not, Option, Some, None, Result, Ok, Err, IsOkAnd, OnOk, arith, refl, sym, ap, ◌∙◌, subst, inl, inr, append_assoc, add-one}
+use Rattle.std.proofs.Common.{◌≡◌, Vec, Box, Global, ℕ, ◌≤◌, ◌+◌, zero, suc, List, [], ◌∷◌, ◌++◌, length, drop, true, false, not, Some, None, Ok, Err, IsOkAnd, OnOk, arith, refl, sym, ap, ◌∙◌, subst, inl, inr, add-one}
 use Rattle.std.specs.List.{slice_get}
-use Rattle.std.proofs.lemmas.Option.{slice_get_within, slice_get_cases}
+use Rattle.std.proofs.lemmas.Option.{slice_get_cases}
 use Rattle.jsonb_doc.specs.Answer.{Outcome, and_then, Gives, IsOutOfMemory}
 use Rattle.jsonb_doc.specs.Tree.{Tree}
-use Rattle.jsonb_doc.specs.declared.error.Error.{Error}
 use Rattle.jsonb.specs.PathTree as math
 use Rattle.jsonb.specs.PathTree.{Step, Expression, steps_of}
 use Rattle.jsonb.specs.Meaning.{steps_meaning, truth, operand_values, start, is_some_item}
@@ -23,7 +22,6 @@ use Rattle.jsonb.specs.declared.path.Path.{Path}
 use Rattle.jsonb.specs.declared.path.Expr.{Expr}
 use Rattle.jsonb.specs.declared.path.Expr.TheVariants as expr
 use Rattle.jsonb.specs.declared.path.BinaryOperator.{BinaryOperator}
-use Rattle.jsonb.specs.declared.path.BinaryOperator.TheVariants.{And, Or, Eq, NotEq, Lt, Lte, Gt, Gte, StartsWith, Add, Subtract, Multiply, Divide, Modulo}
 use Rattle.jsonb.proofs.PathNodes.{binary_is, exists_is}
 
 -- ---- what does not look at the item
@@ -90,17 +88,6 @@ at_last ps n none short = elim (slice_get_cases ps n).1 [
 
 -- ---- comparisons
 
-not_joined : (op : BinaryOperator) → op ≢ And → op ≢ Or → op ≢ Add → op ≢ Subtract → op ≢ Multiply → op ≢ Divide → op ≢ Modulo
-    → is_comparison (operator_view op) ≡ true
-not_joined And a b c d e f g = absurd (a refl)
-not_joined Or a b c d e f g = absurd (b refl)
-not_joined Add a b c d e f g = absurd (c refl)
-not_joined Subtract a b c d e f g = absurd (d refl)
-not_joined Multiply a b c d e f g = absurd (e refl)
-not_joined Divide a b c d e f g = absurd (f refl)
-not_joined Modulo a b c d e f g = absurd (g refl)
-not_joined _ a b c d e f g = refl
-
 one_of : (op : math.BinaryOp) (l r : Expression) → is_comparison op ≡ true → conditions (math.binary op l r) ≡ math.binary op l r ∷ []
 one_of math.and_op l r h = cc
 one_of math.or_op l r h = cc
@@ -130,13 +117,11 @@ fixed_truth mode op l r top t u h hl hr =
     ∙ (λ i. and_then (fixed_values mode l top t u hl i) (λ ls. and_then (fixed_values mode r top t u hr i) (λ rs. Ok (compare op ls rs))))
     ∙ sym (comparison_is mode op l r top u h)
 
--- an operator that is none of these makes one condition
-pub one_condition : (e : Expr) (op : BinaryOperator) (l r : Box Expr Global) → e ≡ expr.BinaryOp op l r →
-    op ≢ And → op ≢ Or → op ≢ Add → op ≢ Subtract → op ≢ Multiply → op ≢ Divide → op ≢ Modulo →
+-- a comparison is one condition
+pub one_comparison : (e : Expr) (op : BinaryOperator) (l r : Box Expr Global) → e ≡ expr.BinaryOp op l r → is_comparison (operator_view op) ≡ true →
     (is_condition (expression_view e) ≡ true) × (conditions (expression_view e) ≡ expression_view e ∷ [])
-one_condition e op l r is na nor n1 n2 n3 n4 n5 =
-    let view = binary_is e op l r is in
-    let compares = not_joined op na nor n1 n2 n3 n4 n5 in (
+one_comparison e op l r is compares =
+    let view = binary_is e op l r is in (
       ap is_condition view ∙ compares,
       ap conditions view ∙ one_of (operator_view op) (expression_view l.value) (expression_view r.value) compares ∙ ap (λ x. x ∷ []) (sym view),
     )

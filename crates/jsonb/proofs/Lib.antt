@@ -1,7 +1,8 @@
 pub mod ExpressionLemmas
 pub mod ViewLemmas
 pub mod PartLemmas
-pub mod ChainLemmas
+pub mod CopyingLemmas
+pub mod ChainText
 pub mod PositionLemmas
 pub mod EntryReadsSome
 pub mod InnerReadsSome
@@ -25,6 +26,7 @@ pub mod PathNodes
 pub mod StepLemmas
 pub mod MemberLemmas
 pub mod KeptLemmas
+pub mod TermLemmas
 pub mod CalculateLemmas
 pub mod ReadMeans
 -- lemmas of the crates below, for the crates above
@@ -40,7 +42,7 @@ mod MeaningRows
 pub mod EqualParts
 pub mod EqualLiterals
 pub mod EqualPaths
-pub mod SamePathLaws
+pub mod EqualSteps
 pub mod EqualPrinted
 pub mod DocumentLemmas
 mod EqualRows

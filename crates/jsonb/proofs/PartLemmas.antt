@@ -1,11 +1,12 @@
 -- The parts of a path, as it is let go of them one by one.
-use Rattle.std.proofs.Common.{◌≡◌, ℕ, ◌+◌, ◌*◌, ◌<◌, ◌≤◌, List, [], ◌∷◌, ◌++◌, Option, None, Some, IfSome, length, get_or, take, drop, Vec, Box, Global, refl, ap, ◌∙◌, arith}
+use Rattle.std.proofs.Common.{◌≡◌, ℕ, zero, suc, true, ◌+◌, ◌*◌, ◌<◌, ◌≤◌, List, [], ◌∷◌, ◌++◌, Option, None, Some, IfSome, length, get_or, take, drop, Vec, Box, Global, refl, ap, arith}
 use Rattle.std.proofs.Math.Seq.{drop-cons}
 use Rattle.std.proofs.lemmas.List.{take-append-drop}
 use Rattle.std.proofs.lemmas.Nat.{mul-le}
-use Rattle.jsonb.specs.PathTree.{Step, filter, whole_expression, Steps, no_steps, step, Expression, paths, value, binary, unary, exists, steps_of}
-use Rattle.jsonb.specs.PathViews.{step_view, steps_view, expression_view, operator_view}
-use Rattle.jsonb.specs.Private.Parts.{step_parts, steps_parts, expression_parts, parts, waiting_parts, to_release, remaining}
+use Rattle.jsonb.specs.PathTree.{Step, filter, whole_expression, Expression, paths, value, binary, unary, exists, steps_of}
+use Rattle.jsonb.specs.PathViews.{step_view, steps_view}
+use Rattle.jsonb.specs.Private.Chain.{is_pair, left_of, below}
+use Rattle.jsonb.specs.Private.Parts.{step_parts, steps_parts, expression_parts, parts, to_release, remaining}
 use Rattle.jsonb.specs.declared.path.BinaryOperator.{BinaryOperator}
 use Rattle.jsonb.specs.declared.path.Expr.{Expr}
 use Rattle.jsonb.specs.declared.path.Expr.TheVariants as expr
@@ -86,3 +87,21 @@ step_parts-among ss i s short is =
     let split = ap row_parts (take-append-drop i ss) in
     let front = ap row_parts (drop-cons ss i s short) in
     omega arith
+
+-- ---- a chain, some left sides below
+
+left_parts : (e : Expression) → expression_parts (left_of e) ≤ expression_parts e
+left_parts (binary op left right) = omega arith
+left_parts (paths ss) = omega arith
+left_parts (value l) = omega arith
+left_parts (unary op e) = omega arith
+left_parts (exists ss) = omega arith
+
+pub below_parts : (n : ℕ) (e : Expression) → expression_parts (below n e) ≤ expression_parts e
+below_parts zero e = omega arith
+below_parts (suc n) e = let rest = below_parts n (left_of e) in let left = left_parts e in omega arith
+
+pub below_fewer : (n : ℕ) (e : Expression) → is_pair e ≡ true → 0 < n → expression_parts (below n e) < expression_parts e
+below_fewer zero e pair some = omega arith
+below_fewer (suc n) (binary op left right) pair some = let rest = below_parts n left in omega arith
+below_fewer (suc n) e pair some = absurd (cc)

@@ -2,8 +2,11 @@
 pub mod Selection
 pub mod Selected
 pub mod Kept
+pub mod Terms
 pub mod Below
 pub mod Frames
 pub mod Parts
 pub mod Chain
+pub mod Copying
+pub mod ChainText
 pub mod Members

@@ -13,10 +13,10 @@ ghost use Rattle.jsonb.specs.PathViews.{place_view, entry_view, end_view, levels
 ghost use Rattle.jsonb.specs.SelectorLaws.{StrictImpliesLax, VariantsChangeNoMeaning, PrintsWithMeaning, PositionsAreMeant};
 ghost use Rattle.jsonb.specs.contracts.path.ArrayIndexPartialEq.TheImpl.{eq-value as entries_equal};
 ghost use Rattle.jsonb.specs.contracts.path.BinaryOperatorPartialEq.TheImpl.{eq-value as operators_equal};
-ghost use Rattle.jsonb.specs.contracts.path.ExprPartialEq.TheImpl.{eq-value as expressions_equal};
+ghost use Rattle.jsonb.specs.contracts.path.compare.ExprPartialEq.TheImpl.{eq-value as expressions_equal};
 ghost use Rattle.jsonb.specs.contracts.path.IndexPartialEq.TheImpl.{eq-value as indices_equal};
 ghost use Rattle.jsonb.specs.contracts.path.JsonPathPartialEq.TheImpl.{eq-value as json_paths_equal};
-ghost use Rattle.jsonb.specs.contracts.path.PathPartialEq.TheImpl.{eq-value as steps_equal};
+ghost use Rattle.jsonb.specs.contracts.path.compare.PathPartialEq.TheImpl.{eq-value as steps_equal};
 ghost use Rattle.jsonb.specs.contracts.path.RecursiveLevelEndPartialEq.TheImpl.{eq-value as level_ends_equal};
 ghost use Rattle.jsonb.specs.contracts.path.RecursiveLevelPartialEq.TheImpl.{eq-value as levels_equal};
 ghost use Rattle.jsonb.specs.contracts.path.UnaryOperatorPartialEq.TheImpl.{eq-value as signs_equal};

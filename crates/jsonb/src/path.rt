@@ -13,6 +13,7 @@ use std::borrow::CowStr;
 mod chain;
 mod compare;
 mod copy;
+mod copying;
 mod display;
 mod level;
 mod own;
@@ -54,7 +55,7 @@ impl JsonPath<'_> {
 ///
 /// Names borrow from the text that was read, unless they have escapes there.
 #[cycle(path)]
-#[derive(PartialEq, Drop)]
+#[derive(Drop)]
 pub enum Path<'a> {
     /// `$`: the root of the document. As a later step it leaves the list as it is.
     Root,
@@ -203,7 +204,6 @@ pub enum UnaryOperator {
 
 /// An expression: in a filter, or as the whole path.
 #[cycle(path)]
-#[derive(PartialEq)]
 pub enum Expr<'a> {
     /// A path that begins at `$` or `@`.
     Paths(Vec<Path<'a>>),

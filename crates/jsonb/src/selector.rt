@@ -26,6 +26,7 @@ mod members;
 mod node_list;
 mod selected;
 mod steps;
+mod terms;
 mod values;
 mod whole_path;
 

@@ -1,10 +1,17 @@
--- A chain of expressions: what it begins with, and what stands to the right of it, level by level.
-use Rattle.std.specs.Prelude.{List, [], ◌∷◌}
+-- A chain of expressions: pairs whose left side is a pair again.
+use Rattle.std.specs.Prelude.{ℕ, zero, suc, Bool, true, false}
 use Rattle.jsonb.specs.PathTree.{Expression, binary}
-use Rattle.jsonb.specs.PathViews.{operator_view, expression_view}
-use Rattle.jsonb.specs.declared.path.chain.Link.{Link}
 
--- an expression with these links behind it, the outermost first
-abbrev pub chained : List Link → Expression → Expression
-chained [] first = first
-chained (link ∷ links) first = binary (operator_view link.op) (chained links first) (expression_view link.right.value)
+abbrev pub is_pair : Expression → Bool
+is_pair (binary op left right) = true
+is_pair _ = false
+
+-- the left side of a pair, or what is no pair itself
+abbrev pub left_of : Expression → Expression
+left_of (binary op left right) = left
+left_of e = e
+
+-- the expression so many left sides below
+abbrev pub below : ℕ → Expression → Expression
+below zero e = e
+below (suc n) e = below n (left_of e)

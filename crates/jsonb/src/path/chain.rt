@@ -1,37 +1,41 @@
 //! Chains of expressions: pairs whose left side is a pair again, as `a && b && c`.
 
-ghost use Rattle.std.specs.Prelude.{◌≡◌, MatchResult};
-ghost use Rattle.jsonb_doc.specs.Answer.{IsOutOfMemory};
+ghost use Rattle.std.specs.Prelude.{◌≡◌, ◌<◌, true};
 ghost use Rattle.jsonb.specs.PathViews.{expression_view};
-ghost use Rattle.jsonb.specs.Private.Chain.{chained};
+ghost use Rattle.jsonb.specs.Private.Chain.{is_pair, left_of, below};
 
-use super::{BinaryOperator, Expr};
-use jsonb_doc::Error;
-use std::alloc::Global;
+use super::Expr;
 
-/// An operator and what stands to the right of it.
-#[derive(Drop)]
-pub(super) struct Link<'a> {
-    pub op: BinaryOperator,
-    pub right: Box<Expr<'a>>,
+/// How many left sides lie one in another, as far as a number counts them.
+pub(super) fn links_of(expression: &Expr<'_>) -> usize
+    ensures { is_pair (expression_view expression.now) ≡ true → 0 < result }
+{
+    let mut inner = expression;
+    let mut links = 0_usize;
+    while let Expr::BinaryOp { left, .. } = inner {
+        links = links.saturating_add(1);
+        inner = left;
+    }
+    links
 }
 
-/// The chain that begins with an expression and goes on with these links, the outermost of which comes first.
-pub(super) fn joined<'a>(
-    alloc: Global,
-    mut links: Vec<Link<'a>>,
-    first: Expr<'a>,
-) -> Result<Expr<'a>, Error>
-    ensures { MatchResult result (λ found. expression_view found ≡ chained links.entry.items (expression_view first.entry))
-        IsOutOfMemory }
+/// The expression so many left sides below.
+pub(super) fn below<'e, 'a>(expression: &'e Expr<'a>, links: usize) -> &'e Expr<'a>
+    ensures { expression_view result.now ≡ below links (expression_view expression.now) }
 {
-    let mut found = first;
-    while let Some(link) = links.pop() {
-        found = Expr::BinaryOp {
-            op: link.op,
-            left: Box::new(alloc, found)?,
-            right: link.right,
-        };
+    let mut inner = expression;
+    for _ in 0..links {
+        inner = left_of(inner);
     }
-    Ok(found)
+    inner
+}
+
+/// The left side of a pair; what is no pair is its own.
+pub(super) fn left_of<'e, 'a>(expression: &'e Expr<'a>) -> &'e Expr<'a>
+    ensures { expression_view result.now ≡ left_of (expression_view expression.now) }
+{
+    match expression {
+        Expr::BinaryOp { left, .. } => left,
+        _ => expression,
+    }
 }

@@ -1,11 +1,120 @@
-//! How two literals compare.
+//! How two steps, expressions and literals compare.
 
 ghost use Rattle.std.specs.Prelude.{◌≡◌};
+ghost use Rattle.std.specs.Cmp.{on_per};
 ghost use Rattle.jsonb.specs.PathOrder.{path_value_order, path_value_equal};
+ghost use Rattle.jsonb.specs.PathTree.{steps_of};
+ghost use Rattle.jsonb.specs.PathViews.{step_view, steps_view, expression_view};
 ghost use Rattle.jsonb.specs.Proofs.PathOrder.{path_value_order_laws, path_value_equal_laws};
+ghost use Rattle.jsonb.specs.Proofs.SamePath.{is_same_step_laws, is_same_expression_laws};
+ghost use Rattle.jsonb.specs.SamePath.{is_same_step, are_same_steps, is_same_expression};
 
-use super::PathValue;
+use super::{Expr, Path, PathValue};
 use std::cmp::Ordering;
+
+/// Equal part by part, with literals that are equal by value.
+impl PartialEq for Path<'_> {
+    ghost eq = { λ s t. is_same_step (step_view s) (step_view t) };
+
+    ghost laws = { on_per step_view is_same_step_laws };
+
+    fn eq(&self, other: &Self) -> bool {
+        same_step(self, other)
+    }
+}
+
+/// Equal part by part, with literals that are equal by value. A chain of left sides is compared in a loop.
+impl PartialEq for Expr<'_> {
+    ghost eq = { λ e f. is_same_expression (expression_view e) (expression_view f) };
+
+    ghost laws = { on_per expression_view is_same_expression_laws };
+
+    fn eq(&self, other: &Self) -> bool {
+        same_expression(self, other)
+    }
+}
+
+#[cycle(same)]
+fn same_step(step: &Path<'_>, other: &Path<'_>) -> bool
+    ensures { result ≡ is_same_step (step_view step.now) (step_view other.now) }
+{
+    match (step, other) {
+        (Path::Root, Path::Root) => true,
+        (Path::Current, Path::Current) => true,
+        (Path::DotWildcard, Path::DotWildcard) => true,
+        (Path::BracketWildcard, Path::BracketWildcard) => true,
+        (Path::RecursiveDotWildcard(k), Path::RecursiveDotWildcard(l)) => k == l,
+        (Path::DotField(n), Path::DotField(o)) => n == o,
+        (Path::ColonField(n), Path::ColonField(o)) => n == o,
+        (Path::ObjectField(n), Path::ObjectField(o)) => n == o,
+        (Path::ArrayIndices(k), Path::ArrayIndices(l)) => k == l,
+        (Path::FilterExpr(e), Path::FilterExpr(f)) => same_expression(e, f),
+        (Path::Expr(e), Path::Expr(f)) => same_expression(e, f),
+        _ => false,
+    }
+}
+
+#[cycle(same)]
+fn same_steps(steps: &Vec<Path<'_>>, others: &Vec<Path<'_>>) -> bool
+    ensures { result ≡ are_same_steps (steps_of (steps_view steps.now.items)) (steps_of (steps_view others.now.items)) }
+{
+    let mut rest = others.iter();
+    for step in steps {
+        let Some(other) = rest.next() else {
+            return false;
+        };
+        if !same_step(step, other) {
+            return false;
+        }
+    }
+    rest.next().is_none()
+}
+
+// Goes down the left sides of both, and looks at the right ones on the way.
+#[cycle(same)]
+fn same_expression(expression: &Expr<'_>, other: &Expr<'_>) -> bool
+    ensures { result ≡ is_same_expression (expression_view expression.now) (expression_view other.now) }
+{
+    let mut inner = expression;
+    let mut other_inner = other;
+    loop {
+        match (inner, other_inner) {
+            (
+                Expr::BinaryOp { op, left, right },
+                Expr::BinaryOp {
+                    op: other_op,
+                    left: other_left,
+                    right: other_right,
+                },
+            ) => {
+                if op != other_op || !same_expression(right, other_right) {
+                    return false;
+                }
+                inner = left;
+                other_inner = other_left;
+            }
+            (
+                Expr::UnaryOp { op, operand },
+                Expr::UnaryOp {
+                    op: other_op,
+                    operand: other_operand,
+                },
+            ) => {
+                if op != other_op {
+                    return false;
+                }
+                inner = operand;
+                other_inner = other_operand;
+            }
+            (Expr::Paths(steps), Expr::Paths(others)) => return same_steps(steps, others),
+            (Expr::Value(literal), Expr::Value(wanted)) => return **literal == **wanted,
+            (Expr::ExistsFunc(steps), Expr::ExistsFunc(others)) => {
+                return same_steps(steps, others);
+            }
+            _ => return false,
+        }
+    }
+}
 
 /// Equal exactly where `partial_cmp` answers `Equal`. A document is equal to none, not even to
 /// itself, so there is no `Eq`.

@@ -3,8 +3,9 @@
 ghost use Rattle.std.specs.Prelude.{◌≡◌, MatchResult};
 ghost use Rattle.jsonb_doc.specs.Answer.{IsOutOfMemory};
 ghost use Rattle.jsonb.specs.PathViews.{literal_view, step_view, steps_view, expression_view, path_view};
+ghost use Rattle.jsonb.specs.Private.Copying.{leaf_view};
 
-use super::chain::{Link, joined};
+use super::copying::{Leaf, Next, Reached, first_leaf, put_in};
 use super::{Expr, JsonPath, Path, PathValue};
 use jsonb_doc::Error;
 use std::alloc::Global;
@@ -77,29 +78,13 @@ impl<'a> Expr<'a> {
     pub fn clone(&self, alloc: Global) -> Result<Expr<'a>, Error>
         ensures { MatchResult result (λ copy. expression_view copy ≡ expression_view self.now) IsOutOfMemory }
     {
-        let mut links = Vec::new(alloc);
-        let mut inner = self;
+        let mut reached = first_leaf(self, Vec::new(alloc))?;
         loop {
-            match inner {
-                Expr::BinaryOp { op, left, right } => {
-                    let right = Box::new(alloc, (**right).clone(alloc)?)?;
-                    links.push(Link { op: *op, right })?;
-                    inner = left;
-                }
-                Expr::Paths(steps) => {
-                    return joined(alloc, links, Expr::Paths(copy_steps(steps, alloc)?));
-                }
-                Expr::Value(literal) => {
-                    let copy = (**literal).clone(alloc)?;
-                    return joined(alloc, links, Expr::Value(Box::new(alloc, copy)?));
-                }
-                Expr::UnaryOp { op, operand } => {
-                    let operand = Box::new(alloc, (**operand).clone(alloc)?)?;
-                    return joined(alloc, links, Expr::UnaryOp { op: *op, operand });
-                }
-                Expr::ExistsFunc(steps) => {
-                    return joined(alloc, links, Expr::ExistsFunc(copy_steps(steps, alloc)?));
-                }
+            let Reached { leaf, mut frames } = reached;
+            let copy = copied_leaf(leaf, alloc)?;
+            match put_in(alloc, copy, &mut frames)? {
+                Next::Whole(whole) => return Ok(whole),
+                Next::Right(right) => reached = first_leaf(right, frames)?,
             }
         }
     }
@@ -125,6 +110,20 @@ impl<'a> PathValue<'a> {
             PathValue::String(text) => Ok(PathValue::String(text.clone()?)),
             PathValue::Raw(document) => Ok(PathValue::Raw(*document)),
         }
+    }
+}
+
+#[cycle(copy)]
+fn copied_leaf<'a>(leaf: Leaf<'_, 'a>, alloc: Global) -> Result<Expr<'a>, Error>
+    ensures { MatchResult result (λ copy. expression_view copy ≡ leaf_view leaf.entry) IsOutOfMemory }
+{
+    match leaf {
+        Leaf::Paths(steps) => Ok(Expr::Paths(copy_steps(steps, alloc)?)),
+        Leaf::Value(literal) => {
+            let copy = literal.clone(alloc)?;
+            Ok(Expr::Value(Box::new(alloc, copy)?))
+        }
+        Leaf::Exists(steps) => Ok(Expr::ExistsFunc(copy_steps(steps, alloc)?)),
     }
 }
 

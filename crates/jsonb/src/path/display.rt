@@ -1,11 +1,13 @@
 //! How the parts of a path print.
-ghost use Rattle.std.specs.Prelude.{[], ◌∷◌, ◌++◌, Some, codes, map, flat_map};
+ghost use Rattle.std.specs.Prelude.{◌≡◌, [], ◌∷◌, ◌++◌, Some, codes, map, flat_map};
 ghost use Rattle.std.specs.Fmt.{WritesOnOk};
 ghost use Rattle.hex.specs.Hex.{encode_lower};
-ghost use Rattle.jsonb.specs.PathText.{offset_text, place_text, entry_text, entries_text, other_entry_text, level_text, operator_text, sign_text, literal_text, side_text, step_text, steps_text, expression_text, path_text};
+ghost use Rattle.jsonb.specs.PathText.{offset_text, place_text, entry_text, entries_text, other_entry_text, level_text, operator_text, sign_text, literal_text, is_joined, side_text, step_text, steps_text, expression_text, path_text};
 ghost use Rattle.jsonb.specs.PathTree.{steps_of};
+ghost use Rattle.jsonb.specs.Private.ChainText.{front_text, fronts_text, link_text, links_text};
 ghost use Rattle.jsonb.specs.PathViews.{place_view, entry_view, levels_view, operator_view, sign_view, literal_view, step_view, steps_view, expression_view, path_view};
 
+use super::chain::{below, left_of, links_of};
 use super::{
     ArrayIndex, BinaryOperator, Expr, Index, JsonPath, Path, PathValue, RecursiveLevel,
     RecursiveLevelEnd, UnaryOperator,
@@ -88,10 +90,11 @@ fn write_expression<W: fmt::Write>(expression: &Expr<'_>, f: &mut fmt::Formatter
     match expression {
         Expr::Paths(steps) => write_steps(steps, f),
         Expr::Value(literal) => write!(f, "{}", **literal),
-        Expr::BinaryOp { op, left, right } => {
-            write_side(left, f)?;
-            write!(f, " {op} ")?;
-            write_side(right, f)
+        Expr::BinaryOp { .. } => {
+            let links = links_of(expression);
+            write_fronts(expression, links, f)?;
+            write_expression(below(expression, links), f)?;
+            write_links(expression, links, f)
         }
         Expr::UnaryOp { op, operand } => {
             write!(f, "{op}")?;
@@ -105,23 +108,94 @@ fn write_expression<W: fmt::Write>(expression: &Expr<'_>, f: &mut fmt::Formatter
     }
 }
 
+/// Opens the parentheses of so many left sides, one in another.
+fn write_fronts<W: fmt::Write>(
+    chain: &Expr<'_>,
+    links: usize,
+    f: &mut fmt::Formatter<W>,
+) -> fmt::Result
+    ensures { WritesOnOk W.write_str_gives f.old result (fronts_text links (expression_view chain.now)) f.new }
+{
+    let mut inner = chain;
+    for _ in 0..links {
+        write_front(inner, f)?;
+        inner = left_of(inner);
+    }
+    Ok(())
+}
+
+/// Writes what stands in front of the left side of a pair.
+fn write_front<W: fmt::Write>(pair: &Expr<'_>, f: &mut fmt::Formatter<W>) -> fmt::Result
+    ensures { WritesOnOk W.write_str_gives f.old result (front_text (expression_view pair.now)) f.new }
+{
+    match pair {
+        Expr::BinaryOp { left, .. } if is_joined(left) => f.write_str("("),
+        _ => Ok(()),
+    }
+}
+
+/// Writes the outermost links of a chain, the inner ones first. They can be reached from the outside alone: so each
+/// half is written by a call, the inner one first, and the calls nest as often as the number can be halved.
+#[cycle(write)]
+fn write_links<W: fmt::Write>(
+    chain: &Expr<'_>,
+    links: usize,
+    f: &mut fmt::Formatter<W>,
+) -> fmt::Result
+    ensures { WritesOnOk W.write_str_gives f.old result (links_text links (expression_view chain.now)) f.new }
+{
+    match links {
+        0 => Ok(()),
+        1 => write_link(chain, f),
+        _ => {
+            let outer = links / 2;
+            write_links(below(chain, outer), links - outer, f)?;
+            write_links(chain, outer, f)
+        }
+    }
+}
+
+/// Writes what stands behind the left side of a pair.
+#[cycle(write)]
+fn write_link<W: fmt::Write>(pair: &Expr<'_>, f: &mut fmt::Formatter<W>) -> fmt::Result
+    ensures { WritesOnOk W.write_str_gives f.old result (link_text (expression_view pair.now)) f.new }
+{
+    let Expr::BinaryOp { op, left, right } = pair else {
+        return Ok(());
+    };
+    if is_joined(left) {
+        f.write_str(")")?;
+    }
+    write!(f, " {op} ")?;
+    write_side(right, f)
+}
+
 /// Writes a side of a binary expression.
 #[cycle(write)]
 fn write_side<W: fmt::Write>(side: &Expr<'_>, f: &mut fmt::Formatter<W>) -> fmt::Result
     ensures { WritesOnOk W.write_str_gives f.old result
         (side_text (expression_view side.now) (expression_text (expression_view side.now))) f.new }
 {
-    if let Expr::BinaryOp {
-        op: BinaryOperator::And | BinaryOperator::Or,
-        ..
-    } = side
-    {
+    if is_joined(side) {
         f.write_str("(")?;
         write_expression(side, f)?;
         f.write_str(")")
     } else {
         write_expression(side, f)
     }
+}
+
+/// Whether the expression joins conditions: as a side it stands in parentheses.
+fn is_joined(expression: &Expr<'_>) -> bool
+    ensures { result ≡ is_joined (expression_view expression.now) }
+{
+    matches!(
+        expression,
+        Expr::BinaryOp {
+            op: BinaryOperator::And | BinaryOperator::Or,
+            ..
+        }
+    )
 }
 
 fn write_array_indices<W: fmt::Write>(

@@ -4,9 +4,10 @@ ghost use Rattle.std.specs.Prelude.{◌≡◌, false, IfOk, IfErr, OnOk};
 ghost use Rattle.std.specs.Cow.{cow_str_bytes};
 ghost use Rattle.jsonb_doc.specs.Answer.{IsOutOfMemory};
 ghost use Rattle.jsonb.specs.PathDocuments.{is_document, step_has_document, expression_has_document, has_document, IsOwningError};
+ghost use Rattle.jsonb.specs.Private.Copying.{leaf_view};
 ghost use Rattle.jsonb.specs.PathViews.{literal_view, step_view, steps_view, expression_view, path_view};
 
-use super::chain::{Link, joined};
+use super::copying::{Leaf, Next, Reached, first_leaf, put_in};
 use super::{Expr, JsonPath, Path, PathValue};
 use jsonb_doc::Error;
 use std::alloc::Global;
@@ -87,29 +88,13 @@ impl Expr<'_> {
         ensures whole { OnOk result (expression_has_document (expression_view self.now) ≡ false) }
         ensures errors { IfErr result (IsOwningError (expression_has_document (expression_view self.now))) }
     {
-        let mut links = Vec::new(alloc);
-        let mut inner = self;
+        let mut reached = first_leaf(self, Vec::new(alloc))?;
         loop {
-            match inner {
-                Expr::BinaryOp { op, left, right } => {
-                    let right = Box::new(alloc, (**right).to_owned(alloc)?)?;
-                    links.push(Link { op: *op, right })?;
-                    inner = left;
-                }
-                Expr::Paths(steps) => {
-                    return joined(alloc, links, Expr::Paths(owned_steps(steps, alloc)?));
-                }
-                Expr::Value(literal) => {
-                    let copy = (**literal).to_owned(alloc)?;
-                    return joined(alloc, links, Expr::Value(Box::new(alloc, copy)?));
-                }
-                Expr::UnaryOp { op, operand } => {
-                    let operand = Box::new(alloc, (**operand).to_owned(alloc)?)?;
-                    return joined(alloc, links, Expr::UnaryOp { op: *op, operand });
-                }
-                Expr::ExistsFunc(steps) => {
-                    return joined(alloc, links, Expr::ExistsFunc(owned_steps(steps, alloc)?));
-                }
+            let Reached { leaf, mut frames } = reached;
+            let copy = owned_leaf(leaf, alloc)?;
+            match put_in(alloc, copy, &mut frames)? {
+                Next::Whole(whole) => return Ok(whole),
+                Next::Right(right) => reached = first_leaf(right, frames)?,
             }
         }
     }
@@ -137,6 +122,22 @@ impl PathValue<'_> {
             PathValue::String(text) => Ok(PathValue::String(owned_text(text, alloc)?)),
             PathValue::Raw(_) => Err(Error::InvalidJsonPath),
         }
+    }
+}
+
+#[cycle(own)]
+fn owned_leaf(leaf: Leaf<'_, '_>, alloc: Global) -> Result<Expr<'static>, Error>
+    ensures copy { IfOk result (λ copy. expression_view copy ≡ leaf_view leaf.entry) }
+    ensures whole { OnOk result (expression_has_document (leaf_view leaf.entry) ≡ false) }
+    ensures errors { IfErr result (IsOwningError (expression_has_document (leaf_view leaf.entry))) }
+{
+    match leaf {
+        Leaf::Paths(steps) => Ok(Expr::Paths(owned_steps(steps, alloc)?)),
+        Leaf::Value(literal) => {
+            let copy = literal.to_owned(alloc)?;
+            Ok(Expr::Value(Box::new(alloc, copy)?))
+        }
+        Leaf::Exists(steps) => Ok(Expr::ExistsFunc(owned_steps(steps, alloc)?)),
     }
 }
 

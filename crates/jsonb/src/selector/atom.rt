@@ -5,7 +5,8 @@ ghost use Rattle.jsonb_doc.specs.Payload.{any};
 ghost use Rattle.jsonb_doc.specs.Tree.{Tree};
 ghost use Rattle.jsonb_doc.specs.Item.{StandsFor};
 ghost use Rattle.jsonb.specs.PathViews.{operator_view, literal_view};
-ghost use Rattle.jsonb.specs.Values.{value_of_item, literal_item, values_of_literal};
+ghost use Rattle.jsonb_doc.specs.View.{number_view};
+ghost use Rattle.jsonb.specs.Values.{number, value_of_item, literal_item, values_of_literal};
 ghost use Rattle.jsonb.specs.Compare.{compare, pair_truth, value_order, is_met_by, truth_of_order, starts_with_truth, and_truth, or_truth, is_raw};
 ghost use Rattle.jsonb.specs.Private.Selection.{atom_value, atoms_view, option_atoms};
 
@@ -125,6 +126,28 @@ pub(crate) fn compare_one(op: BinaryOperator, l: &Atom<'_>, rs: &[Atom<'_>]) -> 
     match rs {
         [r] => pair_truth(op, l, r),
         _ => compare(op, slice::from_ref(l), rs),
+    }
+}
+
+/// One number with all right values.
+#[inline(always)]
+pub(crate) fn compare_number(op: BinaryOperator, l: &Number, rs: &[Atom<'_>]) -> Option<bool>
+    ensures { result ≡ compare (operator_view op) (number (number_view l.now) ∷ []) (map atom_value rs.now) }
+{
+    match rs {
+        [Atom::Number(r)] => number_truth(op, l, r),
+        _ => compare(op, slice::from_ref(&Atom::Number(*l)), rs),
+    }
+}
+
+// Of a pair of numbers.
+#[inline(always)]
+fn number_truth(op: BinaryOperator, l: &Number, r: &Number) -> Option<bool>
+    ensures { result ≡ pair_truth (operator_view op) (number (number_view l.now)) (number (number_view r.now)) }
+{
+    match op {
+        BinaryOperator::StartsWith => None,
+        _ => truth_of_order(op, Some(l.cmp(r))),
     }
 }
 

@@ -15,7 +15,7 @@ ghost use Rattle.jsonb.specs.Private.Members.{are_members};
 ghost use Rattle.jsonb.specs.Private.Selection.{IsAt, HasTree, option_spots, atom_value};
 ghost use Rattle.jsonb.specs.SelectionErrors.{IsSelectionError};
 
-use super::atom::{Atom, compare, compare_one, item_atom};
+use super::atom::{Atom, compare, compare_number, compare_one, item_atom};
 use super::document::{Document, Mode};
 use super::members::{first_item, member};
 use super::node_list::NodeList;
@@ -25,7 +25,7 @@ use jsonb_doc::{Error, Item, Spot, spot_item};
 use std::alloc::Global;
 
 /// How the values of the member that these steps name compare with others.
-#[inline(never)]
+#[inline(always)]
 pub(crate) fn member_truth(
     alloc: Global,
     mode: Mode,
@@ -65,12 +65,13 @@ fn compared(
         return Ok(Some(false));
     };
     let item = spot_item(bytes, spot)?;
-    if let Item::Array(_) = item {
-        return list_compared(alloc, op, bytes, spot, rights);
-    }
-    match item_atom(item) {
-        Some(value) => Ok(compare_one(op, &value, rights)),
-        None => Ok(Some(false)),
+    match item {
+        Item::Array(_) => list_compared(alloc, op, bytes, spot, rights),
+        Item::Number(number) => Ok(compare_number(op, &number, rights)),
+        _ => match item_atom(item) {
+            Some(value) => Ok(compare_one(op, &value, rights)),
+            None => Ok(Some(false)),
+        },
     }
 }
 

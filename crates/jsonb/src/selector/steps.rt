@@ -5,16 +5,17 @@ ghost use Rattle.jsonb_doc.specs.Answer.{Gives, try_flat_map, and_then, IsOutOfM
 ghost use Rattle.jsonb_doc.specs.Spots.{Locates};
 ghost use Rattle.jsonb_doc.specs.Tree.{Tree};
 ghost use Rattle.jsonb.specs.PathTree.{Expression, steps_of, filter};
-ghost use Rattle.jsonb.specs.PathViews.{step_view, steps_view, expression_view};
+ghost use Rattle.jsonb.specs.PathViews.{step_view, steps_view, expression_view, operator_view};
 ghost use Rattle.jsonb.specs.Related.{AllRelated};
 ghost use Rattle.jsonb.specs.Meaning.{step_meaning, steps_meaning, truth, operand_values, filtered};
 ghost use Rattle.jsonb.specs.Private.Selection.{IsAt, HasTree, node_spots, atoms_view, IsKept, taken_step, is_filter, IsPlain};
-ghost use Rattle.jsonb.specs.Private.Kept.{conditions, is_condition, IsSame, AreKept, IsKeptFor, kept_part};
+ghost use Rattle.jsonb.specs.Private.Terms.{is_joined, AreTermsOf};
+ghost use Rattle.jsonb.specs.Private.Kept.{conditions, is_condition, is_comparison, IsSame, AreKept, IsKeptFor, kept_part};
 ghost use Rattle.jsonb.specs.declared.path.Expr.{size-Expr};
 ghost use Rattle.jsonb.specs.declared.path.Path.{size-Path};
 ghost use Rattle.jsonb.specs.SelectionErrors.{IsSelectionError};
 
-use super::atom::{Atoms, and_truth, compare, literal_atom, or_truth};
+use super::atom::{Atoms, compare, literal_atom};
 use super::children::{push_elements, push_field, push_if, push_positions, push_spot, push_values};
 use super::compared_member::member_truth;
 use super::document::{Document, Expressions, Mode};
@@ -22,6 +23,7 @@ use super::kept::{Kept, KeptPart, comparison_part, exists_part};
 use super::levels::push_levels;
 use super::members::{are_members, first_item, is_member, member, member_of, member_steps};
 use super::node_list::NodeList;
+use super::terms::{Run, Term, is_joined, terms_of};
 use super::values::found_values;
 use crate::path::{BinaryOperator, Expr, Path};
 use jsonb_doc::{Error, Spot};
@@ -204,10 +206,14 @@ fn filter_many<'a>(
         IsOutOfMemory result (try_flat_map (step_meaning mode (filter (expression_view e.now)) top) ts) }
     ensures errors { IfErr result (IsSelectionError mode) }
 {
-    let mut kept = Kept::new(alloc);
+    let terms = terms_of(alloc, e)?;
+    let kept = Kept::new(alloc);
+    let mut run = Run::new(alloc, kept);
     let mut nodes = Vec::new(alloc);
     for item in items {
-        push_kept(alloc, mode, e, &mut kept, document, *item, &mut nodes)?;
+        push_kept(
+            alloc, mode, e, &terms, &mut run, document, *item, &mut nodes,
+        )?;
     }
     Ok(NodeList::Many(nodes))
 }
@@ -219,22 +225,25 @@ fn push_kept<'a>(
     alloc: Global,
     mode: Mode,
     e: &'a Expr<'_>,
-    kept: &mut Kept<'a>,
+    terms: &[Term<'a, '_>],
+    run: &mut Run<'a>,
     document: Document<'a>,
     item: Spot,
     nodes: &mut Vec<Spot>,
 ) -> Result<(), Error>
+    requires { is_joined (expression_view e.now) ≡ true → AreTermsOf e.now terms.now }
     ensures meant { (top t : Tree) (before : List Tree) → HasTree document.entry top → IsAt document.entry item t
-        → IsKeptFor mode top (expression_view e.now) kept.old → AllRelated (IsAt document.entry) nodes.old.items before
+        → IsKeptFor mode top (expression_view e.now) run.old.kept
+        → AllRelated (IsAt document.entry) nodes.old.items before
         → Gives (λ _ ts. AllRelated (IsAt document.entry) nodes.new.items (before ++ ts)) IsOutOfMemory result
         (step_meaning mode (filter (expression_view e.now)) top t) }
     ensures kept { (top t : Tree) → HasTree document.entry top → IsAt document.entry item t
-        → IsKeptFor mode top (expression_view e.now) kept.old
-        → OnOk result (IsKeptFor mode top (expression_view e.now) kept.new) }
+        → IsKeptFor mode top (expression_view e.now) run.old.kept
+        → OnOk result (IsKeptFor mode top (expression_view e.now) run.new.kept) }
     ensures errors { IfErr result (IsSelectionError mode) }
 {
-    let keeps = is_kept(truth_by_kept(alloc, mode, e, kept, document, item)?);
-    kept.restart();
+    let keeps = is_kept(truth_by_kept(alloc, mode, e, terms, run, document, item)?);
+    run.kept.restart();
     push_if(keeps, item, nodes)
 }
 
@@ -279,6 +288,7 @@ fn is_kept(truth: Option<bool>) -> bool
 
 /// Whether an expression is true of an item. None is for unknown.
 #[cycle(steps)]
+#[inline(never)]
 pub(crate) fn truth<'a>(
     alloc: Global,
     mode: Mode,
@@ -290,13 +300,80 @@ pub(crate) fn truth<'a>(
         → Gives (λ b c. b ≡ c) IsOutOfMemory result (truth mode (expression_view e.now) top t) }
     ensures errors { IfErr result (IsSelectionError mode) }
 {
-    truth_by_kept(alloc, mode, e, &mut Kept::Nothing, document, item)
+    let terms = terms_of(alloc, e)?;
+    let mut run = Run::new(alloc, Kept::Nothing);
+    truth_by_kept(alloc, mode, e, &terms, &mut run, document, item)
 }
 
 /// The same with what is kept from the items before.
 #[cycle(steps)]
-#[inline(never)]
+#[inline(always)]
 fn truth_by_kept<'a>(
+    alloc: Global,
+    mode: Mode,
+    e: &'a Expr<'_>,
+    terms: &[Term<'a, '_>],
+    run: &mut Run<'a>,
+    document: Document<'a>,
+    item: Spot,
+) -> Result<Option<bool>, Error>
+    requires { is_joined (expression_view e.now) ≡ true → AreTermsOf e.now terms.now }
+    ensures meant { (top t : Tree) (all more : List Expression) → HasTree document.entry top
+        → IsAt document.entry item t → AreKept mode top run.old.kept all (conditions (expression_view e.now) ++ more)
+        → Gives (λ b c. b ≡ c) IsOutOfMemory result (truth mode (expression_view e.now) top t) }
+    ensures kept { (top t : Tree) (all more : List Expression) → HasTree document.entry top
+        → IsAt document.entry item t → AreKept mode top run.old.kept all (conditions (expression_view e.now) ++ more)
+        → OnOk result (AreKept mode top run.new.kept all more) }
+    ensures errors { IfErr result (IsSelectionError mode) }
+{
+    if is_joined(e) {
+        joined_truth(alloc, mode, e, terms, run, document, item)
+    } else {
+        single_truth(alloc, mode, e, &mut run.kept, document, item)
+    }
+}
+
+/// The same of an expression that joins others: its terms one after the other.
+#[cycle(steps)]
+#[inline(never)]
+fn joined_truth<'a>(
+    alloc: Global,
+    mode: Mode,
+    e: &'a Expr<'_>,
+    terms: &[Term<'a, '_>],
+    run: &mut Run<'a>,
+    document: Document<'a>,
+    item: Spot,
+) -> Result<Option<bool>, Error>
+    requires { AreTermsOf e.now terms.now }
+    ensures meant { (top t : Tree) (all more : List Expression) → HasTree document.entry top
+        → IsAt document.entry item t → AreKept mode top run.old.kept all (conditions (expression_view e.now) ++ more)
+        → Gives (λ b c. b ≡ c) IsOutOfMemory result (truth mode (expression_view e.now) top t) }
+    ensures kept { (top t : Tree) (all more : List Expression) → HasTree document.entry top
+        → IsAt document.entry item t → AreKept mode top run.old.kept all (conditions (expression_view e.now) ++ more)
+        → OnOk result (AreKept mode top run.new.kept all more) }
+    ensures errors { IfErr result (IsSelectionError mode) }
+{
+    run.truths.clear();
+    for term in terms {
+        match term {
+            Term::Condition(part) => {
+                let truth = single_truth(alloc, mode, part, &mut run.kept, document, item)?;
+                run.truths.push(truth)?;
+            }
+            Term::Join(join) => run.truths.join(*join)?,
+        }
+    }
+    match run.truths.pop() {
+        Some(truth) => Ok(truth),
+        None => Err(Error::InvalidJsonPath),
+    }
+}
+
+/// The same of an expression that joins no others.
+#[cycle(steps)]
+#[inline(always)]
+fn single_truth<'a>(
     alloc: Global,
     mode: Mode,
     e: &'a Expr<'_>,
@@ -304,41 +381,55 @@ fn truth_by_kept<'a>(
     document: Document<'a>,
     item: Spot,
 ) -> Result<Option<bool>, Error>
-    ensures meant { (top t : Tree) (all more : List Expression) → HasTree document.entry top
-        → IsAt document.entry item t → AreKept mode top kept.old all (conditions (expression_view e.now) ++ more)
+    ensures meant { (top t : Tree) (all more : List Expression) → is_joined (expression_view e.now) ≡ false
+        → HasTree document.entry top → IsAt document.entry item t
+        → AreKept mode top kept.old all (conditions (expression_view e.now) ++ more)
         → Gives (λ b c. b ≡ c) IsOutOfMemory result (truth mode (expression_view e.now) top t) }
-    ensures kept { (top t : Tree) (all more : List Expression) → HasTree document.entry top
-        → IsAt document.entry item t → AreKept mode top kept.old all (conditions (expression_view e.now) ++ more)
+    ensures kept { (top t : Tree) (all more : List Expression) → is_joined (expression_view e.now) ≡ false
+        → HasTree document.entry top → IsAt document.entry item t
+        → AreKept mode top kept.old all (conditions (expression_view e.now) ++ more)
         → OnOk result (AreKept mode top kept.new all more) }
     ensures errors { IfErr result (IsSelectionError mode) }
 {
     match e {
-        Expr::BinaryOp { op, left, right } => match op {
-            BinaryOperator::And => {
-                let a = truth_by_kept(alloc, mode, left, kept, document, item)?;
-                let b = truth_by_kept(alloc, mode, right, kept, document, item)?;
-                Ok(and_truth(a, b))
+        Expr::BinaryOp { op, .. } => {
+            if is_comparison(*op) {
+                condition(alloc, mode, e, kept, document, item)
+            } else {
+                Ok(None)
             }
-            BinaryOperator::Or => {
-                let a = truth_by_kept(alloc, mode, left, kept, document, item)?;
-                let b = truth_by_kept(alloc, mode, right, kept, document, item)?;
-                Ok(or_truth(a, b))
-            }
-            BinaryOperator::Add
-            | BinaryOperator::Subtract
-            | BinaryOperator::Multiply
-            | BinaryOperator::Divide
-            | BinaryOperator::Modulo => Ok(None),
-            _ => condition(alloc, mode, e, kept, document, item),
-        },
+        }
         Expr::ExistsFunc(_) => condition(alloc, mode, e, kept, document, item),
         Expr::Paths(_) | Expr::Value(_) | Expr::UnaryOp { .. } => Err(Error::InvalidJsonPath),
     }
 }
 
+/// Whether the operator compares values.
+#[inline(always)]
+fn is_comparison(op: BinaryOperator) -> bool
+    ensures { result ≡ is_comparison (operator_view op) }
+{
+    match op {
+        BinaryOperator::Eq
+        | BinaryOperator::NotEq
+        | BinaryOperator::Lt
+        | BinaryOperator::Lte
+        | BinaryOperator::Gt
+        | BinaryOperator::Gte
+        | BinaryOperator::StartsWith => true,
+        BinaryOperator::And
+        | BinaryOperator::Or
+        | BinaryOperator::Add
+        | BinaryOperator::Subtract
+        | BinaryOperator::Multiply
+        | BinaryOperator::Divide
+        | BinaryOperator::Modulo => false,
+    }
+}
+
 /// Whether a comparison or `exists` is true of an item. What is the same for each item is kept.
 #[cycle(steps)]
-#[inline(never)]
+#[inline(always)]
 fn condition<'a>(
     alloc: Global,
     mode: Mode,

@@ -30,11 +30,29 @@ fn number(alloc: Global, n: u32) -> Result<Expr<'static>, AllocError> {
 
 // `((true && 0) && 1) && ..`
 fn chain(alloc: Global) -> Result<Expr<'static>, AllocError> {
-    let mut found = truth(alloc)?;
+    chain_behind(alloc, truth(alloc)?)
+}
+
+fn chain_behind(alloc: Global, first: Expr<'static>) -> Result<Expr<'static>, AllocError> {
+    let mut found = first;
     for n in 0..LEVELS {
         found = pair(alloc, found, number(alloc, n)?)?;
     }
     Ok(found)
+}
+
+// What that chain prints.
+fn chain_text(alloc: Global) -> Result<String, AllocError> {
+    let mut text = String::new(alloc);
+    for _ in 1..LEVELS {
+        text.push_str("(")?;
+    }
+    text.push_str("true && 0")?;
+    for n in 1..LEVELS {
+        text.push_str(") && ")?;
+        text.push_str(n.to_string(alloc)?.as_str())?;
+    }
+    Ok(text)
 }
 
 // Whether an expression is that chain.
@@ -68,6 +86,25 @@ fn right_sides(alloc: Global) -> Result<Expr<'static>, AllocError> {
         found = pair(alloc, truth(alloc)?, found)?;
     }
     Ok(found)
+}
+
+// Whether an expression is that one.
+fn are_right_sides(expression: &Expr<'_>) -> bool {
+    let mut inner = expression;
+    let mut left = LEVELS;
+    while let Expr::BinaryOp {
+        op: BinaryOperator::And,
+        left: _,
+        right,
+    } = inner
+    {
+        if left == 0 {
+            return false;
+        }
+        left -= 1;
+        inner = right;
+    }
+    left == 0 && matches!(inner, Expr::Value(literal) if **literal == PathValue::Boolean(true))
 }
 
 // `exists(@?(exists(@?(.. && true)?(true)) && true)?(true))`
@@ -118,5 +155,46 @@ fn long_chains_are_copied(rt: HostRuntime) -> Result<(), Fail> {
     drop(whole);
     assert!(rt; is_chain(&copy));
     assert!(rt; is_chain(&owned));
+    Ok(())
+}
+
+#[test]
+fn right_sides_and_signs_are_copied(rt: HostRuntime) -> Result<(), Fail> {
+    let alloc = rt.alloc();
+    let whole = right_sides(alloc)?;
+    let copy = whole.clone(alloc)?;
+    let owned = whole.to_owned(alloc)?;
+    drop(whole);
+    assert!(rt; are_right_sides(&copy));
+    assert!(rt; are_right_sides(&owned));
+    let signs = signs(alloc)?;
+    let same = signs.clone(alloc)?;
+    assert!(rt; signs == same);
+    Ok(())
+}
+
+#[test]
+fn long_chains_are_compared(rt: HostRuntime) -> Result<(), Fail> {
+    let alloc = rt.alloc();
+    let whole = chain(alloc)?;
+    let same = chain(alloc)?;
+    assert!(rt; whole == same);
+    let other_first = chain_behind(alloc, number(alloc, 0)?)?;
+    assert!(rt; whole != other_first);
+    let longer = chain_behind(alloc, pair(alloc, truth(alloc)?, truth(alloc)?)?)?;
+    assert!(rt; whole != longer);
+    let signs = signs(alloc)?;
+    assert!(rt; signs != whole);
+    assert!(rt; signs == signs);
+    Ok(())
+}
+
+#[test]
+fn long_chains_are_printed(rt: HostRuntime) -> Result<(), Fail> {
+    let alloc = rt.alloc();
+    let whole = chain(alloc)?;
+    let printed = format!(in alloc; "{whole}")?;
+    let wanted = chain_text(alloc)?;
+    assert!(rt; printed == wanted);
     Ok(())
 }

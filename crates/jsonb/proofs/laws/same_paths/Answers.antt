@@ -1,4 +1,4 @@
-use Rattle.jsonb.proofs.SamePathLaws.{path-symmetric, path-transitive}
+use Rattle.jsonb.specs.Proofs.SameParts.{path-symmetric, path-transitive}
 use Rattle.jsonb.proofs.laws.same_paths.Goals as goal
 
 pub returns : goal.returns

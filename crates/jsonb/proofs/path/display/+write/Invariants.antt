@@ -1,8 +1,10 @@
-use Rattle.std.proofs.Common.{take}
+use Rattle.std.proofs.Common.{take, ◌+◌, ◌*◌}
 use Rattle.std.specs.Fmt.{HasWritten, IsPlainFormatter}
 use Rattle.jsonb.specs.PathText.{steps_text}
 use Rattle.jsonb.specs.PathTree.{steps_of}
-use Rattle.jsonb.specs.PathViews.{steps_view}
+use Rattle.jsonb.specs.PathViews.{step_view, steps_view}
+use Rattle.jsonb.specs.Private.Parts.{step_parts, parts}
+use Rattle.jsonb.proofs.PartLemmas.{row_parts}
 use Rattle.jsonb.proofs.path.display.+write.Given as goal
 
 -- the steps before the index are written
@@ -10,3 +12,22 @@ abbrev pub invariant-write_steps-loop-step : goal.invariant-write_steps-loop-ste
 invariant-write_steps-loop-step g l =
     IsPlainFormatter l.initial.f → HasWritten g.W.Write.write_str_gives l.initial.f (steps_text (steps_of (steps_view
     (take l.step-index l.step-items)))) l.f
+
+-- Each writes fewer parts than the one that calls it, or of the same part fewer links. A number of links is below 2 ^ 64.
+abbrev pub decreases-write_steps : goal.decreases-write_steps
+decreases-write_steps g l = 0x40000000000000000 * row_parts l.steps.now.items + 1
+
+abbrev pub decreases-write_step : goal.decreases-write_step
+decreases-write_step g l = 0x40000000000000000 * step_parts (step_view l.step.now)
+
+abbrev pub decreases-write_expression : goal.decreases-write_expression
+decreases-write_expression g l = 0x40000000000000000 * parts l.expression.now + 0x20000000000000000
+
+abbrev pub decreases-write_side : goal.decreases-write_side
+decreases-write_side g l = 0x40000000000000000 * parts l.side.now + 0x20000000000000001
+
+abbrev pub decreases-write_links : goal.decreases-write_links
+decreases-write_links g l = 0x40000000000000000 * parts l.chain.now + l.links
+
+abbrev pub decreases-write_link : goal.decreases-write_link
+decreases-write_link g l = 0x40000000000000000 * parts l.pair.now

@@ -18,4 +18,5 @@ returns-in-Lax-clause-meant c = λ t before m a.
     unlisted c.args.mode (t ∷ []) (HasSpotsLeft c.args.bytes.now) (elements_of t) (rw c.in-None.is at (c.in_ok-elements.ensures.meant t m))
     (rw c.in-Lax.is
     (pushed
-    (Locates c.args.bytes.now) c.push_spot.result c.args.nodes.now.items c.push_spot.new.nodes.items c.args.item before t c.push_spot.ensures.ok c.push_spot.ensures.err a m))
+    (Locates c.args.bytes.now) c.push_spot.result c.args.nodes.now.items c.push_spot.new.nodes.items c.args.item
+    before t c.push_spot.ensures.ok c.push_spot.ensures.err a m))

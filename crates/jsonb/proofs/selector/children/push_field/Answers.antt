@@ -12,4 +12,5 @@ returns-in-Some-clause-meant c = λ t before m a.
     found_one c.args.mode [] (Locates c.args.bytes.now) (λ u. u ∷ []) c.in-Some.value (field_of c.args.name.now t)
     (rw c.in-Some.is at (c.in_ok-value.ensures.field t m))
     (λ u h. pushed
-    (Locates c.args.bytes.now) c.push_spot.result c.args.nodes.now.items c.push_spot.new.nodes.items c.in-Some.value before u c.push_spot.ensures.ok c.push_spot.ensures.err a h)
+    (Locates c.args.bytes.now) c.push_spot.result c.args.nodes.now.items c.push_spot.new.nodes.items c.in-Some.value
+    before u c.push_spot.ensures.ok c.push_spot.ensures.err a h)

@@ -1,4 +1,6 @@
-use Rattle.std.proofs.Common.{◌≡◌, List, [], ◌∷◌, ap, sym, ◌∙◌, append-nil, flat_map, map}
+use Rattle.std.proofs.Common.{◌≡◌, List, [], ◌∷◌, ap, sym, ◌∙◌, append-nil, flat_map, map, subst}
+use Rattle.jsonb_doc.specs.Item.{StandsFor}
+use Rattle.jsonb_doc.specs.Payload.{any}
 use Rattle.jsonb_doc.specs.Spots.{Locates}
 use Rattle.jsonb_doc.specs.Tree.{Tree}
 use Rattle.jsonb.specs.Compare.{compare}
@@ -17,6 +19,16 @@ pub returns-in_err-item-clause-meant : goal.returns-in_err-item-clause-meant
 returns-in_err-item-clause-meant c = λ ts related.
     let one = one_member (Locates c.args.bytes.now) c.args.member c.in-Some.spot ts c.in-Some.is related in
     absurd (c.in_err-item.ensures.item one.0 one.2)
+
+pub returns-in-Number-clause-meant : goal.returns-in-Number-clause-meant
+returns-in-Number-clause-meant c = λ ts related.
+    let one = one_member (Locates c.args.bytes.now) c.args.member c.in-Some.spot ts c.in-Some.is related in
+    let stands = subst (λ x. StandsFor any x one.0) c.in-Number.is (c.in_ok-item.ensures.item one.0 one.2) in
+    record {
+      ok = c.compare_number.ensures
+          ∙ ap (λ l. compare (operator_view c.args.op) l (map atom_value c.args.rights.now)) (of_one one.0 ts _ one.1 (ap values_of_item stands));
+      err = tt;
+    }
 
 pub returns-in-Some-item_atom : goal.returns-in-Some-item_atom
 returns-in-Some-item_atom c = record {

@@ -18,7 +18,8 @@ returns-in_err-next-clause-meant c = λ expressions top t all m.
     let first = member_first c.args.steps.now c.loop-step.step-index c.step-item.result c.loop-step-test.true c.step-item.is inv.2 in
     let p = err_from_is_err_and c.from_residual.result c.from_residual.ensures.1 in
     same_answer (p.1 ∙ ap Err p.2) (same_outcome
-    (inv.3 ∙ member_next c.args.steps.now c.loop-step.step-index c.step-item.result c.loop-step-test.true c.step-item.is c.args.mode expressions top inv.0 first.0)
+    (inv.3 ∙ member_next c.args.steps.now c.loop-step.step-index c.step-item.result c.loop-step-test.true
+    c.step-item.is c.args.mode expressions top inv.0 first.0)
     (first_refused (steps_meaning c.args.mode (steps_of (map (taken_step expressions) (steps_view (drop (c.loop-step.step-index + 1) c.args.steps.now)))) top)
     (c.in_err-next.ensures.meant top inv.0 first.0 inv.1)))
 
@@ -28,7 +29,8 @@ returns-in-None-clause-meant c = λ expressions top t all m.
     let first = member_first c.args.steps.now c.loop-step.step-index c.step-item.result c.loop-step-test.true c.step-item.is inv.2 in
     let left = steps_of (map (taken_step expressions) (steps_view (drop (c.loop-step.step-index + 1) c.args.steps.now))) in
     same_outcome
-    (inv.3 ∙ member_next c.args.steps.now c.loop-step.step-index c.step-item.result c.loop-step-test.true c.step-item.is c.args.mode expressions top inv.0 first.0)
+    (inv.3 ∙ member_next c.args.steps.now c.loop-step.step-index c.step-item.result c.loop-step-test.true
+    c.step-item.is c.args.mode expressions top inv.0 first.0)
     (one_ok (steps_meaning c.args.mode left top) (c.in_ok-next.ensures.meant top inv.0 first.0 inv.1) (λ us related.
     subst (λ o. IsOkAnd o (AllRelated (Locates c.args.bytes.now) []))
     (sym (ap (steps_meaning c.args.mode left top) (no_member (Locates c.args.bytes.now) _ us c.in-None.is related) ∙ none_left c.args.mode left top)) tt))
@@ -46,7 +48,8 @@ loop-step-preserved c = λ expressions top t all m.
       one.2,
       first.1,
       inv.3
-          ∙ member_next c.args.steps.now c.loop-step.step-index c.step-item.result c.loop-step-test.true c.step-item.is c.args.mode expressions top inv.0 first.0
+          ∙ member_next c.args.steps.now c.loop-step.step-index c.step-item.result c.loop-step-test.true
+          c.step-item.is c.args.mode expressions top inv.0 first.0
           ∙ next.2 ∙ ap (steps_meaning c.args.mode left top) one.1,
     )
 

@@ -5,34 +5,38 @@ use Rattle.std.proofs.lemmas.Result.{err_from_is_err_and}
 use Rattle.jsonb_doc.specs.Answer.{try_flat_map, and_then, Gives, IsOutOfMemory}
 use Rattle.jsonb.specs.PathTree as math
 use Rattle.jsonb.specs.PathTree.{steps_of}
-use Rattle.jsonb.specs.PathViews.{step_view, steps_view, expression_view, operator_view, entry_view}
+use Rattle.jsonb.specs.PathViews.{step_view, steps_view, expression_view, operator_view}
 use Rattle.jsonb.specs.Related.{AllRelated}
 use Rattle.jsonb.specs.Values.{values_of_item}
-use Rattle.jsonb.specs.Compare.{compare, and_truth, or_truth}
+use Rattle.jsonb.specs.Compare.{compare}
 use Rattle.jsonb.specs.Private.Selection.{IsAt, node_spots, taken_step, atoms_view}
-use Rattle.jsonb.specs.Private.Kept.{conditions, is_condition, IsSame, AreKept}
-use Rattle.jsonb.specs.ItemSteps.{field_step, indices_step}
+use Rattle.jsonb.specs.Private.Kept.{conditions, is_condition, IsSame, AreKept, IsKeptFor}
+use Rattle.jsonb.specs.Private.Terms.{IsBelow, executed, last_truth, term_conditions, term_view, truths_view}
+use Rattle.jsonb.specs.declared.path.Expr.{size-Expr}
 use Rattle.jsonb.specs.Meaning.{step_meaning, steps_meaning, truth, operand_values, filtered, is_some_item}
-use Rattle.jsonb.proofs.GivesLemmas.{same_outcome, same_answer, refused_as, pushed, one_ok, both_ok, first_refused, second_refused, followed, given_by, continued, some_related}
+use Rattle.jsonb.proofs.GivesLemmas.{same_outcome, same_answer, refused_as, one_ok, first_refused, first_of_three_refused, second_refused, followed, continued, some_related}
 use Rattle.jsonb.proofs.Progress.{no_spot, at_start, one_more, refused_in, at_end, list_first, list_end, joined_singles}
-use Rattle.jsonb.proofs.PathNodes.{root_is, current_is, values_is, elements_is, levels_is, dot_field_is, colon_field_is, object_field_is, indices_is, filter_is, whole_is, paths_is, binary_is, exists_is}
-use Rattle.jsonb.proofs.KeptLemmas.{comparison_is, by_right, value_of, one_condition, one_exists, kept_same, from_ok, without, always, known, value_is, compared}
-use Rattle.jsonb.proofs.StepLemmas.{joined_one, only_one, kept_known, kept_unknown, kept_found, steps_at, from_start, compared_is}
+use Rattle.jsonb.proofs.PathNodes.{root_is, current_is, paths_is, binary_is, exists_is}
+use Rattle.jsonb.proofs.KeptLemmas.{comparison_is, by_right, value_of, one_comparison, one_exists, kept_same, from_ok, without, always, known, value_is, compared}
+use Rattle.jsonb.proofs.TermLemmas.{executed-whole, conditions-postorder, at_term}
+use Rattle.jsonb.proofs.StepLemmas.{joined_one, only_one, kept_found, steps_at, from_start}
+use Rattle.jsonb.specs.declared.selector.terms.Run.{Run}
 use Rattle.jsonb.proofs.selector.steps.+steps.Goals as goal
+use Rattle.jsonb.proofs.selector.steps.+steps.Goals.{joined_truth-in-Condition+in_ok-truth-in-Condition+in_ok-push-in-Condition, joined_truth-in-Join+in_ok-join-in-Join}
 
 -- ---- filters
 
 pub push_kept-returns-in_err-truth_by_kept-clause-meant : goal.push_kept-returns-in_err-truth_by_kept-clause-meant
 push_kept-returns-in_err-truth_by_kept-clause-meant t c = λ top u before r s k a.
     let all = conditions (expression_view c.args.e.now) in
-    let first = subst (λ l. AreKept c.args.mode top c.args.kept.now all l) (sym (append-nil all)) k in
+    let first = subst (λ l. AreKept c.args.mode top c.args.run.now.kept all l) (sym (append-nil all)) k in
     let p = err_from_is_err_and c.from_residual.result c.from_residual.ensures.1 in
     same_answer (p.1 ∙ ap Err p.2) (first_refused (λ b. Ok (filtered u b)) (c.in_err-truth_by_kept.ensures.meant top u all [] r s first))
 
 pub push_kept-returns-clause-meant : goal.push_kept-returns-clause-meant
 push_kept-returns-clause-meant t c = λ top u before r s k a.
     let all = conditions (expression_view c.args.e.now) in
-    let first = subst (λ l. AreKept c.args.mode top c.args.kept.now all l) (sym (append-nil all)) k in
+    let first = subst (λ l. AreKept c.args.mode top c.args.run.now.kept all l) (sym (append-nil all)) k in
     followed (λ b. Ok (filtered u b)) (c.in_ok-truth_by_kept.ensures.meant top u all [] r s first)
     (λ b is. same_outcome (ap (λ z. Ok (filtered u z)) (sym is) ∙ ap Ok (c.is_kept-keeps.ensures u))
     (c.push_if.ensures.meant c.args.document.bytes.now u before s a))
@@ -40,7 +44,7 @@ push_kept-returns-clause-meant t c = λ top u before r s k a.
 pub push_kept-returns-clause-kept : goal.push_kept-returns-clause-kept
 push_kept-returns-clause-kept t c = λ top u r s k.
     let all = conditions (expression_view c.args.e.now) in
-    let first = subst (λ l. AreKept c.args.mode top c.args.kept.now all l) (sym (append-nil all)) k in
+    let first = subst (λ l. AreKept c.args.mode top c.args.run.now.kept all l) (sym (append-nil all)) k in
     always c.push_if.result (c.restart.ensures c.args.mode top all [] (c.in_ok-truth_by_kept.ensures.kept top u all [] r s first))
 
 pub filter_many-loop-item-init : goal.filter_many-loop-item-init
@@ -48,13 +52,14 @@ filter_many-loop-item-init t c = λ top ts r a. (
   at_start (step_meaning c.args.mode (math.filter (expression_view c.args.e.now)) top) (AllRelated (IsAt c.args.document) c.args.items.now)
       (AllRelated (IsAt c.args.document) c.new-nodes.result.items) ts a
       (subst (λ l. AllRelated (IsAt c.args.document) l []) (sym c.new-nodes.ensures.items) tt),
-  c.new-kept.ensures c.args.mode top (conditions (expression_view c.args.e.now)),
+  subst (λ k. IsKeptFor c.args.mode top (expression_view c.args.e.now) k) (sym c.new-run.ensures)
+      (c.new-kept.ensures c.args.mode top (conditions (expression_view c.args.e.now))),
 )
 
 pub filter_many-returns-in_err-push_kept-clause-meant : goal.filter_many-returns-in_err-push_kept-clause-meant
 filter_many-returns-in_err-push_kept-clause-meant t c = λ top ts r a.
     let inv = c.loop-item.invariant top ts r a in
-    let p = err_from_is_err_and c.from_residual.result c.from_residual.ensures.1 in
+    let p = err_from_is_err_and c.from_residual-in_err-push_kept.result c.from_residual-in_err-push_kept.ensures.1 in
     same_answer (p.1 ∙ ap Err p.2) (refused_in (step_meaning c.args.mode (math.filter (expression_view c.args.e.now)) top) _
     (AllRelated (IsAt c.args.document) (drop c.loop-item.item-index c.args.items.now))
     (AllRelated (IsAt c.args.document) (drop (c.loop-item.item-index + 1) c.args.items.now))
@@ -208,130 +213,132 @@ operand_values-returns-in_ok-found-in-Paths-clause-meant t c = λ top u r s.
 
 -- ---- truths
 
+-- ---- truths
+
 pub truth-returns-clause-meant : goal.truth-returns-clause-meant
-truth-returns-clause-meant t c = λ top u r s. c.truth_by_kept.ensures.meant top u [] [] r s tt
+truth-returns-clause-meant t c = λ top u r s.
+    c.truth_by_kept.ensures.meant top u [] [] r s
+    (subst (λ k. AreKept c.args.mode top k [] (conditions (expression_view c.args.e.now) ++ [])) (sym c.new-run.ensures) tt)
 
-pub truth_by_kept-returns-in_err-a-in-And-clause-meant : goal.truth_by_kept-returns-in_err-a-in-And-clause-meant
-truth_by_kept-returns-in_err-a-in-And-clause-meant t c = λ top u all more r s k.
-    let view = binary_is c.args.e.now c.in-BinaryOp.op c.in-BinaryOp.left c.in-BinaryOp.right c.in-BinaryOp.is
-    ∙ (λ i. math.binary (operator_view (c.in-And.is i)) (expression_view (sym c.deref.ensures i)) (expression_view c.in-BinaryOp.right.value)) in
-    let first = subst (λ l. AreKept c.args.mode top c.args.kept.now all l)
-    (ap (λ x. conditions x ++ more) view
-    ∙ append_assoc (conditions (expression_view c.deref.result.now)) (conditions (expression_view c.in-BinaryOp.right.value)) more) k in
-    let p = err_from_is_err_and c.from_residual.result c.from_residual.ensures.1 in
-    same_answer (p.1 ∙ ap Err p.2) (same_outcome (ap (λ x. truth c.args.mode x top u) view)
-    (first_refused (λ a. and_then (truth c.args.mode (expression_view c.in-BinaryOp.right.value) top u) (λ b. Ok (and_truth a b)))
-    (c.in_err-a-in-And.ensures.meant top u all (conditions (expression_view c.in-BinaryOp.right.value) ++ more) r s first)))
+pub truth_by_kept-returns-else-is_joined-clause-meant : goal.truth_by_kept-returns-else-is_joined-clause-meant
+truth_by_kept-returns-else-is_joined-clause-meant t c = λ top u all more r s k.
+    c.single_truth.ensures.meant top u all more (sym c.is_joined.ensures ∙ c.if-is_joined.false) r s k
 
-pub truth_by_kept-returns-in_err-b-in-And-clause-meant : goal.truth_by_kept-returns-in_err-b-in-And-clause-meant
-truth_by_kept-returns-in_err-b-in-And-clause-meant t c = λ top u all more r s k.
-    let view = binary_is c.args.e.now c.in-BinaryOp.op c.in-BinaryOp.left c.in-BinaryOp.right c.in-BinaryOp.is
-    ∙ (λ i. math.binary (operator_view (c.in-And.is i)) (expression_view (sym c.deref.ensures i)) (expression_view (sym c.deref-in-And.ensures i))) in
-    let first = subst (λ l. AreKept c.args.mode top c.args.kept.now all l)
-    (ap (λ x. conditions x ++ more) view
-    ∙ append_assoc (conditions (expression_view c.deref.result.now)) (conditions (expression_view c.deref-in-And.result.now)) more) k in
-    let second = c.in_ok-a-in-And.ensures.kept top u all (conditions (expression_view c.deref-in-And.result.now) ++ more) r s first in
-    let p = err_from_is_err_and c.from_residual-in_err-b-in-And.result c.from_residual-in_err-b-in-And.ensures.1 in
-    same_answer (p.1 ∙ ap Err p.2) (same_outcome (ap (λ x. truth c.args.mode x top u) view)
-    (second_refused (λ a b. Ok (and_truth a b))
-    (c.in_ok-a-in-And.ensures.meant top u all (conditions (expression_view c.deref-in-And.result.now) ++ more) r s first)
-    (c.in_err-b-in-And.ensures.meant top u all more r s second)))
+pub truth_by_kept-returns-else-is_joined-clause-kept : goal.truth_by_kept-returns-else-is_joined-clause-kept
+truth_by_kept-returns-else-is_joined-clause-kept t c = λ top u all more r s k.
+    c.single_truth.ensures.kept top u all more (sym c.is_joined.ensures ∙ c.if-is_joined.false) r s k
 
-pub truth_by_kept-returns-in_ok-b-in-And-clause-meant : goal.truth_by_kept-returns-in_ok-b-in-And-clause-meant
-truth_by_kept-returns-in_ok-b-in-And-clause-meant t c = λ top u all more r s k.
-    let view = binary_is c.args.e.now c.in-BinaryOp.op c.in-BinaryOp.left c.in-BinaryOp.right c.in-BinaryOp.is
-    ∙ (λ i. math.binary (operator_view (c.in-And.is i)) (expression_view (sym c.deref.ensures i)) (expression_view (sym c.deref-in-And.ensures i))) in
-    let first = subst (λ l. AreKept c.args.mode top c.args.kept.now all l)
-    (ap (λ x. conditions x ++ more) view
-    ∙ append_assoc (conditions (expression_view c.deref.result.now)) (conditions (expression_view c.deref-in-And.result.now)) more) k in
-    let second = c.in_ok-a-in-And.ensures.kept top u all (conditions (expression_view c.deref-in-And.result.now) ++ more) r s first in
-    same_outcome (ap (λ x. truth c.args.mode x top u) view)
-    (both_ok (λ a b. Ok (and_truth a b))
-    (c.in_ok-a-in-And.ensures.meant top u all (conditions (expression_view c.deref-in-And.result.now) ++ more) r s first)
-    (c.in_ok-b-in-And.ensures.meant top u all more r s second)
-    (λ a b p q. c.and_truth.ensures ∙ (λ i. and_truth (p i) (q i))))
-
-pub truth_by_kept-returns-in_ok-b-in-And-clause-kept : goal.truth_by_kept-returns-in_ok-b-in-And-clause-kept
-truth_by_kept-returns-in_ok-b-in-And-clause-kept t c = λ top u all more r s k.
-    let view = binary_is c.args.e.now c.in-BinaryOp.op c.in-BinaryOp.left c.in-BinaryOp.right c.in-BinaryOp.is
-    ∙ (λ i. math.binary (operator_view (c.in-And.is i)) (expression_view (sym c.deref.ensures i)) (expression_view (sym c.deref-in-And.ensures i))) in
-    let first = subst (λ l. AreKept c.args.mode top c.args.kept.now all l)
-    (ap (λ x. conditions x ++ more) view
-    ∙ append_assoc (conditions (expression_view c.deref.result.now)) (conditions (expression_view c.deref-in-And.result.now)) more) k in
-    c.in_ok-b-in-And.ensures.kept top u all more r s
-    (c.in_ok-a-in-And.ensures.kept top u all (conditions (expression_view c.deref-in-And.result.now) ++ more) r s first)
-
-pub truth_by_kept-returns-in_err-a-in-Or-clause-meant : goal.truth_by_kept-returns-in_err-a-in-Or-clause-meant
-truth_by_kept-returns-in_err-a-in-Or-clause-meant t c = λ top u all more r s k.
-    let view = binary_is c.args.e.now c.in-BinaryOp.op c.in-BinaryOp.left c.in-BinaryOp.right c.in-BinaryOp.is
-    ∙ (λ i. math.binary (operator_view (c.in-Or.is i)) (expression_view (sym c.deref-in-Or.ensures i)) (expression_view c.in-BinaryOp.right.value)) in
-    let first = subst (λ l. AreKept c.args.mode top c.args.kept.now all l)
-    (ap (λ x. conditions x ++ more) view
-    ∙ append_assoc (conditions (expression_view c.deref-in-Or.result.now)) (conditions (expression_view c.in-BinaryOp.right.value)) more) k in
-    let p = err_from_is_err_and c.from_residual-in_err-a-in-Or.result c.from_residual-in_err-a-in-Or.ensures.1 in
-    same_answer (p.1 ∙ ap Err p.2) (same_outcome (ap (λ x. truth c.args.mode x top u) view)
-    (first_refused (λ a. and_then (truth c.args.mode (expression_view c.in-BinaryOp.right.value) top u) (λ b. Ok (or_truth a b)))
-    (c.in_err-a-in-Or.ensures.meant top u all (conditions (expression_view c.in-BinaryOp.right.value) ++ more) r s first)))
-
-pub truth_by_kept-returns-in_err-b-in-Or-clause-meant : goal.truth_by_kept-returns-in_err-b-in-Or-clause-meant
-truth_by_kept-returns-in_err-b-in-Or-clause-meant t c = λ top u all more r s k.
-    let view = binary_is c.args.e.now c.in-BinaryOp.op c.in-BinaryOp.left c.in-BinaryOp.right c.in-BinaryOp.is
-    ∙ (λ i. math.binary (operator_view (c.in-Or.is i)) (expression_view (sym c.deref-in-Or.ensures i)) (expression_view (sym c.deref-in-Or-2.ensures i))) in
-    let first = subst (λ l. AreKept c.args.mode top c.args.kept.now all l)
-    (ap (λ x. conditions x ++ more) view
-    ∙ append_assoc (conditions (expression_view c.deref-in-Or.result.now)) (conditions (expression_view c.deref-in-Or-2.result.now)) more) k in
-    let second = c.in_ok-a-in-Or.ensures.kept top u all (conditions (expression_view c.deref-in-Or-2.result.now) ++ more) r s first in
-    let p = err_from_is_err_and c.from_residual-in_err-b-in-Or.result c.from_residual-in_err-b-in-Or.ensures.1 in
-    same_answer (p.1 ∙ ap Err p.2) (same_outcome (ap (λ x. truth c.args.mode x top u) view)
-    (second_refused (λ a b. Ok (or_truth a b))
-    (c.in_ok-a-in-Or.ensures.meant top u all (conditions (expression_view c.deref-in-Or-2.result.now) ++ more) r s first)
-    (c.in_err-b-in-Or.ensures.meant top u all more r s second)))
-
-pub truth_by_kept-returns-in_ok-b-in-Or-clause-meant : goal.truth_by_kept-returns-in_ok-b-in-Or-clause-meant
-truth_by_kept-returns-in_ok-b-in-Or-clause-meant t c = λ top u all more r s k.
-    let view = binary_is c.args.e.now c.in-BinaryOp.op c.in-BinaryOp.left c.in-BinaryOp.right c.in-BinaryOp.is
-    ∙ (λ i. math.binary (operator_view (c.in-Or.is i)) (expression_view (sym c.deref-in-Or.ensures i)) (expression_view (sym c.deref-in-Or-2.ensures i))) in
-    let first = subst (λ l. AreKept c.args.mode top c.args.kept.now all l)
-    (ap (λ x. conditions x ++ more) view
-    ∙ append_assoc (conditions (expression_view c.deref-in-Or.result.now)) (conditions (expression_view c.deref-in-Or-2.result.now)) more) k in
-    let second = c.in_ok-a-in-Or.ensures.kept top u all (conditions (expression_view c.deref-in-Or-2.result.now) ++ more) r s first in
-    same_outcome (ap (λ x. truth c.args.mode x top u) view)
-    (both_ok (λ a b. Ok (or_truth a b))
-    (c.in_ok-a-in-Or.ensures.meant top u all (conditions (expression_view c.deref-in-Or-2.result.now) ++ more) r s first)
-    (c.in_ok-b-in-Or.ensures.meant top u all more r s second)
-    (λ a b p q. c.or_truth.ensures ∙ (λ i. or_truth (p i) (q i))))
-
-pub truth_by_kept-returns-in_ok-b-in-Or-clause-kept : goal.truth_by_kept-returns-in_ok-b-in-Or-clause-kept
-truth_by_kept-returns-in_ok-b-in-Or-clause-kept t c = λ top u all more r s k.
-    let view = binary_is c.args.e.now c.in-BinaryOp.op c.in-BinaryOp.left c.in-BinaryOp.right c.in-BinaryOp.is
-    ∙ (λ i. math.binary (operator_view (c.in-Or.is i)) (expression_view (sym c.deref-in-Or.ensures i)) (expression_view (sym c.deref-in-Or-2.ensures i))) in
-    let first = subst (λ l. AreKept c.args.mode top c.args.kept.now all l)
-    (ap (λ x. conditions x ++ more) view
-    ∙ append_assoc (conditions (expression_view c.deref-in-Or.result.now)) (conditions (expression_view c.deref-in-Or-2.result.now)) more) k in
-    c.in_ok-b-in-Or.ensures.kept top u all more r s
-    (c.in_ok-a-in-Or.ensures.kept top u all (conditions (expression_view c.deref-in-Or-2.result.now) ++ more) r s first)
-
-pub truth_by_kept-returns-in_default-clause-meant : goal.truth_by_kept-returns-in_default-clause-meant
-truth_by_kept-returns-in_default-clause-meant t c = λ top u all more r s k.
-    let one = one_condition c.args.e.now c.in-BinaryOp.op c.in-BinaryOp.left c.in-BinaryOp.right c.in-BinaryOp.is c.in_default.not-And c.in_default.not-Or
-    c.in_default.not-Add c.in_default.not-Subtract c.in_default.not-Multiply c.in_default.not-Divide c.in_default.not-Modulo in
+pub single_truth-returns-then-is_comparison-clause-meant : goal.single_truth-returns-then-is_comparison-clause-meant
+single_truth-returns-then-is_comparison-clause-meant t c = λ top u all more alone r s k.
+    let one = one_comparison c.args.e.now c.in-BinaryOp.op c.in-BinaryOp.left c.in-BinaryOp.right c.in-BinaryOp.is
+    (sym c.is_comparison.ensures ∙ c.if-is_comparison.true) in
     c.condition.ensures.meant top u all more one.0 r s (subst (λ l. AreKept c.args.mode top c.args.kept.now all (l ++ more)) one.1 k)
 
-pub truth_by_kept-returns-in_default-clause-kept : goal.truth_by_kept-returns-in_default-clause-kept
-truth_by_kept-returns-in_default-clause-kept t c = λ top u all more r s k.
-    let one = one_condition c.args.e.now c.in-BinaryOp.op c.in-BinaryOp.left c.in-BinaryOp.right c.in-BinaryOp.is c.in_default.not-And c.in_default.not-Or
-    c.in_default.not-Add c.in_default.not-Subtract c.in_default.not-Multiply c.in_default.not-Divide c.in_default.not-Modulo in
+pub single_truth-returns-then-is_comparison-clause-kept : goal.single_truth-returns-then-is_comparison-clause-kept
+single_truth-returns-then-is_comparison-clause-kept t c = λ top u all more alone r s k.
+    let one = one_comparison c.args.e.now c.in-BinaryOp.op c.in-BinaryOp.left c.in-BinaryOp.right c.in-BinaryOp.is
+    (sym c.is_comparison.ensures ∙ c.if-is_comparison.true) in
     c.condition.ensures.kept top u all more one.0 r s (subst (λ l. AreKept c.args.mode top c.args.kept.now all (l ++ more)) one.1 k)
 
-pub truth_by_kept-returns-in-ExistsFunc-clause-meant : goal.truth_by_kept-returns-in-ExistsFunc-clause-meant
-truth_by_kept-returns-in-ExistsFunc-clause-meant t c = λ top u all more r s k.
+pub single_truth-returns-in-ExistsFunc-clause-meant : goal.single_truth-returns-in-ExistsFunc-clause-meant
+single_truth-returns-in-ExistsFunc-clause-meant t c = λ top u all more alone r s k.
     let one = one_exists c.args.e.now c.in-ExistsFunc.field-0 c.in-ExistsFunc.is in
     c.condition-in-ExistsFunc.ensures.meant top u all more one.0 r s (subst (λ l. AreKept c.args.mode top c.args.kept.now all (l ++ more)) one.1 k)
 
-pub truth_by_kept-returns-in-ExistsFunc-clause-kept : goal.truth_by_kept-returns-in-ExistsFunc-clause-kept
-truth_by_kept-returns-in-ExistsFunc-clause-kept t c = λ top u all more r s k.
+pub single_truth-returns-in-ExistsFunc-clause-kept : goal.single_truth-returns-in-ExistsFunc-clause-kept
+single_truth-returns-in-ExistsFunc-clause-kept t c = λ top u all more alone r s k.
     let one = one_exists c.args.e.now c.in-ExistsFunc.field-0 c.in-ExistsFunc.is in
     c.condition-in-ExistsFunc.ensures.kept top u all more one.0 r s (subst (λ l. AreKept c.args.mode top c.args.kept.now all (l ++ more)) one.1 k)
+
+-- term after term
+
+pub joined_truth-loop-term-init : goal.joined_truth-loop-term-init
+joined_truth-loop-term-init t c = λ top u all more r s k. (
+  executed-whole c.args.mode top u (expression_view c.args.e.now)
+      ∙ (λ i. and_then (executed c.args.mode top u (sym c.requires.0 i) (sym c.clear.ensures i)) last_truth),
+  subst (λ l. AreKept c.args.mode top c.args.run.now.kept all (l ++ more))
+      (sym (conditions-postorder (expression_view c.args.e.now)) ∙ ap (flat_map term_conditions) (sym c.requires.0)) k,
+)
+
+pub joined_truth-returns-in_err-truth-in-Condition-clause-meant : goal.joined_truth-returns-in_err-truth-in-Condition-clause-meant
+joined_truth-returns-in_err-truth-in-Condition-clause-meant t c = λ top u all more r s k.
+    let inv = c.loop-term.invariant top u all more r s k in
+    let next = map term_view (drop (c.loop-term.term-index + 1) c.args.terms.now) in
+    let here = at_term c.args.terms.now c.loop-term.term-index c.term-item.result c.loop-term-test.true c.term-item.is
+    ∙ ap (λ x. term_view x ∷ next) c.in-Condition.is in
+    let below = subst (IsBelow (size-Expr c.args.e.now)) (sym c.term-item.is ∙ c.in-Condition.is)
+    (c.requires.1 c.loop-term.term-index c.term-item.result c.loop-term-test.true) in
+    let comes = subst (λ l. AreKept c.args.mode top c.loop-term.run.kept all l) (ap (λ l. flat_map term_conditions l ++ more) here
+    ∙ append_assoc (conditions (expression_view c.in-Condition.part.now)) (flat_map term_conditions next) more) inv.1 in
+    let p = err_from_is_err_and c.from_residual.result c.from_residual.ensures.1 in
+    same_answer (p.1 ∙ ap Err p.2)
+    (same_outcome (inv.0 ∙ ap (λ l. and_then (executed c.args.mode top u l (truths_view c.loop-term.run.truths)) last_truth) here)
+    (first_of_three_refused (λ b. executed c.args.mode top u next (b ∷ truths_view c.loop-term.run.truths)) last_truth
+    (c.in_err-truth-in-Condition.ensures.meant top u all (flat_map term_conditions next ++ more) below.1 r s comes)))
+
+pub joined_truth-returns-in_err-join-in-Join-clause-meant : goal.joined_truth-returns-in_err-join-in-Join-clause-meant
+joined_truth-returns-in_err-join-in-Join-clause-meant t c = λ top u all more r s k.
+    let inv = c.loop-term.invariant top u all more r s k in
+    let next = map term_view (drop (c.loop-term.term-index + 1) c.args.terms.now) in
+    let here = at_term c.args.terms.now c.loop-term.term-index c.term-item.result c.loop-term-test.true c.term-item.is
+    ∙ ap (λ x. term_view x ∷ next) c.in-Join.is in
+    let p = err_from_is_err_and c.from_residual-in_err-join-in-Join.result c.from_residual-in_err-join-in-Join.ensures.1 in
+    same_answer (p.1 ∙ ap Err p.2)
+    (same_outcome (inv.0 ∙ ap (λ l. and_then (executed c.args.mode top u l (truths_view c.loop-term.run.truths)) last_truth) here)
+    (first_of_three_refused (executed c.args.mode top u next) last_truth c.in_err-join-in-Join.ensures.meant))
+
+pub joined_truth-loop-term-preserved : goal.joined_truth-loop-term-preserved
+joined_truth-loop-term-preserved t c = λ top u all more r s k.
+    let inv = c.loop-term.invariant top u all more r s k in
+    let next = map term_view (drop (c.loop-term.term-index + 1) c.args.terms.now) in
+    let rest = flat_map term_conditions next ++ more in
+    let truths = truths_view c.loop-term.run.truths in
+    let first = at_term c.args.terms.now c.loop-term.term-index c.term-item.result c.loop-term-test.true c.term-item.is in
+    let Holds = λ (run : Run). (truth c.args.mode (expression_view c.args.e.now) top u
+    ≡ and_then (executed c.args.mode top u next (truths_view run.truths)) last_truth) × AreKept c.args.mode top run.kept all rest in
+    elim c.match-term.branch [
+      | joined_truth-in-Condition+in_ok-truth-in-Condition+in_ok-push-in-Condition w ↦
+          let here = first ∙ ap (λ x. term_view x ∷ next) w.in-Condition.is in
+          let below = subst (IsBelow (size-Expr c.args.e.now)) (sym c.term-item.is ∙ w.in-Condition.is)
+          (c.requires.1 c.loop-term.term-index c.term-item.result c.loop-term-test.true) in
+          let comes = subst (λ l. AreKept c.args.mode top c.loop-term.run.kept all l) (ap (λ l. flat_map term_conditions l ++ more) here
+          ∙ append_assoc (conditions (expression_view w.in-Condition.part.now)) (flat_map term_conditions next) more) inv.1 in
+          subst Holds (sym w.run-is) (
+            inv.0 ∙ ap (λ l. and_then (executed c.args.mode top u l truths) last_truth) here
+                ∙ ap (λ o. and_then (and_then o (λ b. executed c.args.mode top u next (b ∷ truths))) last_truth)
+                (value_is (w.in_ok-truth-in-Condition.ensures.meant top u all rest below.1 r s comes).ok)
+                ∙ ap (λ ts. and_then (executed c.args.mode top u next ts) last_truth) (sym w.in_ok-push-in-Condition.ensures.ok),
+            w.in_ok-truth-in-Condition.ensures.kept top u all rest below.1 r s comes,
+          )
+      | joined_truth-in-Join+in_ok-join-in-Join w ↦
+          let here = first ∙ ap (λ x. term_view x ∷ next) w.in-Join.is in
+          subst Holds (sym w.run-is) (
+            inv.0 ∙ ap (λ l. and_then (executed c.args.mode top u l truths) last_truth) here
+                ∙ ap (λ o. and_then (and_then o (executed c.args.mode top u next)) last_truth) (value_is w.in_ok-join-in-Join.ensures.meant.ok),
+            subst (λ l. AreKept c.args.mode top c.loop-term.run.kept all (flat_map term_conditions l ++ more)) here inv.1,
+          )
+    ]
+
+pub joined_truth-returns-in-Some-clause-meant : goal.joined_truth-returns-in-Some-clause-meant
+joined_truth-returns-in-Some-clause-meant t c = λ top u all more r s k.
+    known ((c.loop-term.invariant top u all more r s k).0
+    ∙ ap (λ l. and_then (executed c.args.mode top u (map term_view l) (truths_view c.loop-term.run.truths)) last_truth)
+    (drop_of_length-le c.args.terms.now c.loop-term-test.false)
+    ∙ ap last_truth c.in-Some.ensures) refl
+
+pub joined_truth-returns-in-Some-clause-kept : goal.joined_truth-returns-in-Some-clause-kept
+joined_truth-returns-in-Some-clause-kept t c = λ top u all more r s k.
+    subst (λ l. AreKept c.args.mode top c.loop-term.run.kept all (flat_map term_conditions (map term_view l) ++ more))
+    (drop_of_length-le c.args.terms.now c.loop-term-test.false) (c.loop-term.invariant top u all more r s k).1
+
+pub joined_truth-returns-in-None-clause-meant : goal.joined_truth-returns-in-None-clause-meant
+joined_truth-returns-in-None-clause-meant t c = λ top u all more r s k. record {
+  ok = tt;
+  err = inr ((c.loop-term.invariant top u all more r s k).0
+      ∙ ap (λ l. and_then (executed c.args.mode top u (map term_view l) (truths_view c.loop-term.run.truths)) last_truth)
+      (drop_of_length-le c.args.terms.now c.loop-term-test.false)
+      ∙ ap last_truth c.in-None.ensures);
+}
 
 -- ---- comparisons and `exists`
 

@@ -1,12 +1,13 @@
-use Rattle.std.proofs.Common.{◌≡◌, ◌∷◌, [], List, drop, map}
-use Rattle.jsonb_doc.specs.Answer.{try_flat_map}
+use Rattle.std.proofs.Common.{◌≡◌, ◌∷◌, [], ◌++◌, List, drop, map, flat_map}
+use Rattle.jsonb_doc.specs.Answer.{try_flat_map, and_then}
 use Rattle.jsonb_doc.specs.Tree.{Tree}
-use Rattle.jsonb.specs.PathTree.{steps_of, filter}
-use Rattle.jsonb.specs.PathViews.{step_view, steps_view, expression_view}
+use Rattle.jsonb.specs.PathTree.{Expression, steps_of, filter}
+use Rattle.jsonb.specs.PathViews.{steps_view, expression_view}
 use Rattle.jsonb.specs.Related.{AllRelated}
 use Rattle.jsonb.specs.Private.Selection.{IsAt, HasTree, node_spots, taken_step}
-use Rattle.jsonb.specs.Private.Kept.{IsKeptFor}
-use Rattle.jsonb.specs.Meaning.{step_meaning, steps_meaning}
+use Rattle.jsonb.specs.Private.Kept.{conditions, AreKept, IsKeptFor}
+use Rattle.jsonb.specs.Private.Terms.{executed, last_truth, term_conditions, term_view, truths_view}
+use Rattle.jsonb.specs.Meaning.{step_meaning, steps_meaning, truth}
 use Rattle.jsonb.proofs.Progress.{Progress}
 use Rattle.jsonb.proofs.selector.steps.+steps.Given as goal
 
@@ -24,4 +25,13 @@ invariant-filter_many-loop-item l =
     Progress (AllRelated (IsAt l.document) (drop l.item-index l.items)) (AllRelated (IsAt l.document) l.nodes.items)
     (step_meaning l.mode (filter (expression_view l.e)) top)
     (try_flat_map (step_meaning l.mode (filter (expression_view l.e)) top) ts)
-    × IsKeptFor l.mode top (expression_view l.e) l.kept
+    × IsKeptFor l.mode top (expression_view l.e) l.run.kept
+
+-- the terms that are left, with the truths so far, tell the truth of all; their conditions come next
+abbrev pub invariant-joined_truth-loop-term : goal.invariant-joined_truth-loop-term
+invariant-joined_truth-loop-term l =
+    (top t : Tree) (all more : List Expression) → HasTree l.document top → IsAt l.document l.item t →
+    AreKept l.mode top l.fn.run.kept all (conditions (expression_view l.e) ++ more) →
+    (truth l.mode (expression_view l.e) top t
+    ≡ and_then (executed l.mode top t (map term_view (drop l.term-index l.terms)) (truths_view l.run.truths)) last_truth)
+    × AreKept l.mode top l.run.kept all (flat_map term_conditions (map term_view (drop l.term-index l.terms)) ++ more)

@@ -27,7 +27,8 @@ returns-in_err-push_value-clause-meant c = λ ts h.
     (λ vs. map atom_value c.loop-element.values.items ≡ vs) (λ vs. map atom_value c.push_value.new.values.items ≡ vs)
     (Locates c.args.bytes.now c.in_ok-element.field-0) _
     (Ok (map atom_value c.args.values.now.items ++ flat_map value_of_item ts)) (c.loop-element.invariant ts h)
-    (spot_first c.args.bytes.now c.loop-element.element-iterator c.next.new.self c.in-Some.element c.in_ok-element.field-0 c.in_ok-element.was c.in-Some.ensures.steps)
+    (spot_first c.args.bytes.now c.loop-element.element-iterator c.next.new.self c.in-Some.element
+    c.in_ok-element.field-0 c.in_ok-element.was c.in-Some.ensures.steps)
     (λ t so_far m d. only_memory (c.in_err-push_value.ensures.meant t m))))
 
 pub loop-element-preserved : goal.loop-element-preserved
@@ -36,7 +37,8 @@ loop-element-preserved c = λ ts h.
     (λ vs. map atom_value c.loop-element.values.items ≡ vs) (λ vs. map atom_value c.push_value.new.values.items ≡ vs)
     (Locates c.args.bytes.now c.in_ok-element.field-0)
     (Ok (map atom_value c.args.values.now.items ++ flat_map value_of_item ts)) (c.loop-element.invariant ts h)
-    (spot_first c.args.bytes.now c.loop-element.element-iterator c.next.new.self c.in-Some.element c.in_ok-element.field-0 c.in_ok-element.was c.in-Some.ensures.steps)
+    (spot_first c.args.bytes.now c.loop-element.element-iterator c.next.new.self c.in-Some.element
+    c.in_ok-element.field-0 c.in_ok-element.was c.in-Some.ensures.steps)
     (λ t so_far m d. (c.in_ok-push_value.ensures.meant t m).ok ∙ ap (λ l. l ++ value_of_item t) d)
 
 pub returns-clause-meant : goal.returns-clause-meant

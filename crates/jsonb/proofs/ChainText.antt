@@ -1,0 +1,54 @@
+-- The text of a chain of expressions, part by part.
+use Rattle.std.proofs.Common.{◌≡◌, ℕ, zero, suc, ◌+◌, List, [], ◌++◌, Bool, true, false, refl, sym, ap, ◌∙◌, append_assoc, add-zero, arith}
+use Rattle.std.specs.Prelude.{codes, if◌then◌else◌}
+use Rattle.std.proofs.lemmas.List.{append-nil}
+use Rattle.jsonb.specs.PathText.{operator_text, is_joined, side_text, expression_text}
+use Rattle.jsonb.specs.PathTree.{Expression, paths, value, binary, unary, exists}
+use Rattle.jsonb.specs.Private.Chain.{left_of, below}
+use Rattle.jsonb.specs.Private.ChainText.{front_text, fronts_text, link_text, links_text}
+
+-- ---- one more
+
+pub left_more : (n : ℕ) (e : Expression) → below (suc n) e ≡ left_of (below n e)
+left_more zero e = refl
+left_more (suc n) e = left_more n (left_of e)
+
+pub fronts_more : (n : ℕ) (e : Expression) → fronts_text (suc n) e ≡ fronts_text n e ++ front_text (below n e)
+fronts_more zero e = append-nil (front_text e)
+fronts_more (suc n) e = ap (λ text. front_text e ++ text) (fronts_more n (left_of e))
+    ∙ sym (append_assoc (front_text e) (fronts_text n (left_of e)) (front_text (below n (left_of e))))
+
+-- ---- the links, in two parts
+
+suc_more : (m n : ℕ) → m + suc n ≡ suc (m + n)
+suc_more m n = omega arith
+
+pub links_halved : (m n : ℕ) (e : Expression) → links_text (m + n) e ≡ links_text m (below n e) ++ links_text n e
+links_halved m zero e = ap (λ k. links_text k e) (add-zero m) ∙ sym (append-nil (links_text m e))
+links_halved m (suc n) e = ap (λ k. links_text k e) (suc_more m n)
+    ∙ ap (λ text. text ++ link_text e) (links_halved m n (left_of e))
+    ∙ append_assoc (links_text m (below n (left_of e))) (links_text n (left_of e)) (link_text e)
+
+-- ---- the whole
+
+around_side : (is_around : Bool) (left operator right : List ℕ) →
+    (if is_around then codes "(" ++ left ++ codes ")" else left) ++ codes " " ++ operator ++ codes " " ++ right
+    ≡ (if is_around then codes "(" else []) ++ left ++ ((if is_around then codes ")" else []) ++ codes " " ++ operator ++ codes " " ++ right)
+around_side true left operator right = simp append_assoc refl
+around_side false left operator right = simp append_assoc refl
+
+one_link : (e : Expression) → expression_text e ≡ front_text e ++ expression_text (left_of e) ++ link_text e
+one_link (binary op left right) = around_side (is_joined left) (expression_text left) (operator_text op) (side_text right (expression_text right))
+one_link (paths ss) = sym (append-nil (expression_text (paths ss)))
+one_link (value l) = sym (append-nil (expression_text (value l)))
+one_link (unary op e) = sym (append-nil (expression_text (unary op e)))
+one_link (exists ss) = sym (append-nil (expression_text (exists ss)))
+
+inside : (front fronts text links link : List ℕ) → front ++ (fronts ++ text ++ links) ++ link ≡ (front ++ fronts) ++ text ++ (links ++ link)
+inside front fronts text links link = simp append_assoc refl
+
+pub chain_text : (n : ℕ) (e : Expression) → expression_text e ≡ fronts_text n e ++ expression_text (below n e) ++ links_text n e
+chain_text zero e = sym (append-nil (expression_text e))
+chain_text (suc n) e = one_link e
+    ∙ ap (λ text. front_text e ++ text ++ link_text e) (chain_text n (left_of e))
+    ∙ inside (front_text e) (fronts_text n (left_of e)) (expression_text (below n (left_of e))) (links_text n (left_of e)) (link_text e)

@@ -1,0 +1,177 @@
+-- Expressions in the order in which they are executed.
+use Rattle.std.proofs.Common.{◌≡◌, ℕ, ◌+◌, ◌<◌, List, [], ◌∷◌, ◌++◌, length, drop, get_or, map, flat_map, false, Ok, Err, refl, sym, ap, ◌∙◌, append_assoc, append-nil, add-one, arith}
+use Rattle.std.specs.Prelude.{reverse}
+use Rattle.std.specs.Borrow.{Bor}
+use Rattle.std.specs.List.{All}
+use Rattle.std.proofs.Math.Seq.{drop-cons}
+use Rattle.std.proofs.lemmas.Grind.{flat_map-append}
+use Rattle.std.proofs.lemmas.List.{map-append, reverse-append, reverse-reverse}
+use Rattle.std.proofs.lemmas.List.Sorted.{All-permutation, IsPermutation-reverse}
+use Rattle.std.proofs.lemmas.List.Sums.{sum_by-append}
+use Rattle.jsonb_doc.specs.Answer.{Outcome, and_then}
+use Rattle.jsonb_doc.specs.Tree.{Tree}
+use Rattle.jsonb.specs.Compare.{Truth}
+use Rattle.jsonb.specs.Meaning.{truth}
+use Rattle.jsonb.specs.PathTree.{Expression, binary, exists, and_op, or_op}
+use Rattle.jsonb.specs.PathViews.{expression_view}
+use Rattle.jsonb.specs.Private.Kept.{conditions}
+use Rattle.jsonb.specs.Private.Parts.{expression_parts, parts}
+use Rattle.jsonb.specs.Private.Terms.{Term, condition, join, joining, joining_op, postorder, executed, last_truth, term_conditions, term_view, order_left, parts_left, IsBelow, AreTermsOf, IsPairOf, is_joined}
+use Rattle.jsonb.specs.declared.path.Expr.{Expr, size-Expr}
+use Rattle.jsonb.specs.declared.selector.document.Mode.{Mode}
+use Rattle.jsonb.specs.declared.selector.terms.Join.{Join}
+use Rattle.jsonb.specs.declared.selector.terms.Join.TheVariants.{And, Or}
+use Rattle.jsonb.specs.declared.selector.terms.Pair.{Pair}
+use Rattle.jsonb.specs.declared.selector.terms.Term.{Term as CodeTerm}
+use Rattle.jsonb.specs.declared.selector.terms.Term.TheVariants as code
+use Rattle.jsonb.proofs.PartLemmas.{some_parts}
+
+-- ---- executing
+
+-- what stands behind the last of three
+behind_three : {A : Type 0} (a b : List A) (x : A) (rest : List A) → (a ++ (b ++ x ∷ [])) ++ rest ≡ a ++ (b ++ (x ∷ rest))
+behind_three a b x rest = append_assoc a (b ++ x ∷ []) rest ∙ ap (λ l. a ++ l) (append_assoc b (x ∷ []) rest)
+
+two_parts : {A B : Type 0} (o p : Outcome A) (f : A → A → A) (next : A → Outcome B) →
+    and_then o (λ a. and_then p (λ b. next (f a b))) ≡ and_then (and_then o (λ a. and_then p (λ b. Ok (f a b)))) next
+two_parts (Ok a) (Ok b) f next = refl
+two_parts (Ok a) (Err e) f next = refl
+two_parts (Err e) p f next = refl
+
+module _ (mode : Mode) (top item : Tree) where
+  executed-pair : (l r : List Term) (o p : Outcome Truth) (j : Join) (rest : List Term) (truths : List Truth) →
+      ((more : List Term) (ts : List Truth) → executed mode top item (l ++ more) ts ≡ and_then o (λ a. executed mode top item more (a ∷ ts))) →
+      ((more : List Term) (ts : List Truth) → executed mode top item (r ++ more) ts ≡ and_then p (λ b. executed mode top item more (b ∷ ts))) →
+      executed mode top item ((l ++ (r ++ join j ∷ [])) ++ rest) truths
+      ≡ and_then (and_then o (λ a. and_then p (λ b. Ok (joining j a b)))) (λ c. executed mode top item rest (c ∷ truths))
+  executed-pair l r o p j rest truths left right =
+      ap (λ ts. executed mode top item ts truths) (behind_three l r (join j) rest)
+      ∙ left (r ++ (join j ∷ rest)) truths
+      ∙ (λ i. and_then o (λ a. right (join j ∷ rest) (a ∷ truths) i))
+      ∙ two_parts o p (joining j) (λ c. executed mode top item rest (c ∷ truths))
+
+  -- the terms of an expression put its truth in front of the others
+  pub executed-behind : (e : Expression) (rest : List Term) (truths : List Truth) →
+      executed mode top item (postorder e ++ rest) truths ≡ and_then (truth mode e top item) (λ b. executed mode top item rest (b ∷ truths))
+  executed-behind (binary and_op l r) rest truths =
+      executed-pair (postorder l) (postorder r) (truth mode l top item) (truth mode r top item) And rest truths (executed-behind l) (executed-behind r)
+  executed-behind (binary or_op l r) rest truths =
+      executed-pair (postorder l) (postorder r) (truth mode l top item) (truth mode r top item) Or rest truths (executed-behind l) (executed-behind r)
+  executed-behind e rest truths = refl
+
+  last_of : (o : Outcome Truth) → o ≡ and_then (and_then o (λ b. Ok (b ∷ []))) last_truth
+  last_of (Ok b) = refl
+  last_of (Err e) = refl
+
+  pub executed-whole : (e : Expression) → truth mode e top item ≡ and_then (executed mode top item (postorder e) []) last_truth
+  executed-whole e = last_of (truth mode e top item)
+      ∙ ap (λ o. and_then o last_truth) (sym (executed-behind e [] []) ∙ ap (λ ts. executed mode top item ts []) (append-nil (postorder e)))
+
+-- ---- conditions
+
+pub conditions-postorder : (e : Expression) → flat_map term_conditions (postorder e) ≡ conditions e
+conditions-postorder (binary and_op l r) = of_pair l r And (conditions-postorder l) (conditions-postorder r)
+  where
+    of_pair : (l r : Expression) (j : Join) → flat_map term_conditions (postorder l) ≡ conditions l → flat_map term_conditions (postorder r) ≡ conditions r
+        → flat_map term_conditions (postorder l ++ (postorder r ++ join j ∷ [])) ≡ conditions l ++ conditions r
+    of_pair l r j left right =
+        flat_map-append term_conditions (postorder l) (postorder r ++ join j ∷ [])
+        ∙ (λ i. left i ++ (flat_map-append term_conditions (postorder r) (join j ∷ []) ∙ append-nil (flat_map term_conditions (postorder r)) ∙ right) i)
+conditions-postorder (binary or_op l r) =
+    flat_map-append term_conditions (postorder l) (postorder r ++ join Or ∷ [])
+    ∙ (λ i. conditions-postorder l i
+    ++ (flat_map-append term_conditions (postorder r) (join Or ∷ []) ∙ append-nil (flat_map term_conditions (postorder r)) ∙ conditions-postorder r) i)
+conditions-postorder (exists steps) = refl
+conditions-postorder (binary op l r) = append-nil (conditions (binary op l r))
+conditions-postorder e = refl
+
+-- ---- finding the terms
+
+postorder-pair : (j : Join) (l r : Expression) → postorder (binary (joining_op j) l r) ≡ postorder l ++ (postorder r ++ join j ∷ [])
+postorder-pair And l r = refl
+postorder-pair Or l r = refl
+
+-- the terms of an expression from the last to the first
+abbrev backward : Bor Expr → List Term
+backward e = reverse (postorder (expression_view e.now))
+
+backward-pair : (e : Bor Expr) (p : Pair) → IsPairOf e.now p → backward e ≡ join p.join ∷ (backward p.right ++ backward p.left)
+backward-pair e p is =
+    let l = postorder (expression_view p.left.now) in
+    let r = postorder (expression_view p.right.now) in
+    ap (λ x. reverse (postorder x)) is.0
+    ∙ ap reverse (postorder-pair p.join (expression_view p.left.now) (expression_view p.right.now))
+    ∙ reverse-append l (r ++ join p.join ∷ [])
+    ∙ ap (λ ts. ts ++ reverse l) (reverse-append r (join p.join ∷ []))
+
+-- a pair leaves its operator, and both sides wait
+pub order-pair : (terms : List CodeTerm) (waiting : List (Bor Expr)) (e : Bor Expr) (p : Pair) → IsPairOf e.now p →
+    order_left (terms ++ code.Join p.join ∷ []) ((waiting ++ p.left ∷ []) ++ p.right ∷ []) ≡ order_left terms (waiting ++ e ∷ [])
+order-pair terms waiting e p is =
+    let rest = flat_map backward (reverse waiting) in
+    (λ i. map-append term_view terms (code.Join p.join ∷ []) i
+    ++ flat_map backward ((reverse-append (waiting ++ p.left ∷ []) (p.right ∷ []) ∙ ap (λ ws. p.right ∷ ws) (reverse-append waiting (p.left ∷ []))) i))
+    ∙ append_assoc (map term_view terms) (join p.join ∷ []) (backward p.right ++ (backward p.left ++ rest))
+    ∙ ap (λ ts. map term_view terms ++ (join p.join ∷ ts)) (sym (append_assoc (backward p.right) (backward p.left) rest))
+    ∙ ap (λ ts. map term_view terms ++ (ts ++ rest)) (sym (backward-pair e p is))
+    ∙ ap (λ ws. map term_view terms ++ flat_map backward ws) (sym (reverse-append waiting (e ∷ [])))
+
+-- a condition is a term itself
+pub order-condition : (terms : List CodeTerm) (waiting : List (Bor Expr)) (e : Bor Expr) → is_joined (expression_view e.now) ≡ false →
+    order_left (terms ++ code.Condition e ∷ []) waiting ≡ order_left terms (waiting ++ e ∷ [])
+order-condition terms waiting e alone =
+    let rest = flat_map backward (reverse waiting) in
+    ap (λ ts. ts ++ rest) (map-append term_view terms (code.Condition e ∷ []))
+    ∙ append_assoc (map term_view terms) (condition (expression_view e.now) ∷ []) rest
+    ∙ ap (λ ts. map term_view terms ++ (reverse ts ++ rest)) (sym (postorder-alone (expression_view e.now) alone))
+    ∙ ap (λ ws. map term_view terms ++ flat_map backward ws) (sym (reverse-append waiting (e ∷ [])))
+  where
+    postorder-alone : (x : Expression) → is_joined x ≡ false → postorder x ≡ condition x ∷ []
+    postorder-alone (binary and_op l r) h = cc
+    postorder-alone (binary or_op l r) h = cc
+    postorder-alone x h = refl
+
+parts_left-last : (waiting : List (Bor Expr)) (e : Bor Expr) → parts_left (waiting ++ e ∷ []) ≡ parts_left waiting + parts e.now
+parts_left-last waiting e = sum_by-append (λ (x : Bor Expr). parts x.now) waiting (e ∷ []) ∙ omega arith
+
+pub fewer-pair : (waiting : List (Bor Expr)) (e : Bor Expr) (p : Pair) → IsPairOf e.now p →
+    parts_left ((waiting ++ p.left ∷ []) ++ p.right ∷ []) < parts_left (waiting ++ e ∷ [])
+fewer-pair waiting e p is =
+    let whole = ap expression_parts is.0 in
+    let all = parts_left-last waiting e in
+    let left = parts_left-last waiting p.left in
+    let both = parts_left-last (waiting ++ p.left ∷ []) p.right in
+    omega arith
+
+pub fewer-condition : (waiting : List (Bor Expr)) (e : Bor Expr) → parts_left waiting < parts_left (waiting ++ e ∷ [])
+fewer-condition waiting e =
+    let all = parts_left-last waiting e in
+    let one = some_parts (expression_view e.now) in
+    omega arith
+
+map-reverse : {A B : Type 0} (f : A → B) (xs : List A) → map f (reverse xs) ≡ reverse (map f xs)
+map-reverse f [] = refl
+map-reverse f (x ∷ xs) =
+    ap (map f) (reverse-append (x ∷ []) xs) ∙ map-append f (reverse xs) (x ∷ [])
+    ∙ ap (λ ys. ys ++ f x ∷ []) (map-reverse f xs) ∙ sym (reverse-append (f x ∷ []) (map f xs))
+
+-- all terms, turned
+pub turned : (e : Expr) (terms : List CodeTerm) → order_left terms [] ≡ reverse (postorder (expression_view e)) → All (IsBelow (size-Expr e)) terms
+    → AreTermsOf e (reverse terms)
+turned e terms order below = (
+  map-reverse term_view terms
+      ∙ ap reverse (sym (append-nil (map term_view terms)) ∙ order)
+      ∙ reverse-reverse (postorder (expression_view e)),
+  All-permutation (IsBelow (size-Expr e)) terms (reverse terms) (IsPermutation-reverse terms) below,
+)
+
+pub none_waiting : (waiting : List (Bor Expr)) → length waiting ≡ 0 → waiting ≡ []
+none_waiting [] none = refl
+none_waiting (e ∷ waiting) none = cc
+
+-- ---- the term that comes next
+
+pub at_term : (terms : List CodeTerm) (i : ℕ) (x : CodeTerm) → i < length terms → x ≡ get_or terms i x →
+    map term_view (drop i terms) ≡ term_view x ∷ map term_view (drop (i + 1) terms)
+at_term terms i x short is =
+    ap (map term_view) (drop-cons terms i x short ∙ (λ k. sym is k ∷ drop (sym (add-one i) k) terms))

@@ -1,0 +1,92 @@
+use Rattle.std.proofs.Common.{◌≡◌, List, [], ◌∷◌, ◌++◌, false, refl, sym, ap, ◌∙◌, arith}
+use Rattle.jsonb.specs.PathDocuments.{expression_has_document}
+use Rattle.jsonb.specs.PathTree.{binary, unary}
+use Rattle.jsonb.specs.PathViews.{operator_view, sign_view, expression_view}
+use Rattle.jsonb.specs.Private.Copying.{framed, waiting, have_document, frame_has_document}
+use Rattle.jsonb.specs.declared.path.copying.Frame.{Frame}
+use Rattle.jsonb.specs.declared.path.copying.Frame.TheVariants as frame
+use Rattle.jsonb.proofs.CopyingLemmas.{framed-more, waiting-push, have_document-push, none_of_both, not_first, not_second}
+use Rattle.jsonb.proofs.ViewLemmas.{view-binary, view-unary}
+use Rattle.jsonb.proofs.path.copying.put_in.Goals as goal
+
+-- no frame that is left has a document
+none_left : (rest frames : List Frame) (f : Frame) → frames ≡ rest ++ f ∷ [] → have_document frames ≡ false → have_document rest ≡ false
+none_left rest frames f had none = not_first (have_document rest) (frame_has_document f) (sym (ap have_document had ∙ have_document-push rest f) ∙ none)
+
+none_taken : (rest frames : List Frame) (f : Frame) → frames ≡ rest ++ f ∷ [] → have_document frames ≡ false → frame_has_document f ≡ false
+none_taken rest frames f had none = not_second (have_document rest) (frame_has_document f) (sym (ap have_document had ∙ have_document-push rest f) ∙ none)
+
+pub returns-in-Right-clause-whole : goal.returns-in-Right-clause-whole
+returns-in-Right-clause-whole c =
+    let rest = c.pop.new.self.items in
+    let op = c.in-Right.op in
+    let taken : Frame = frame.Right op c.in-Right.right in
+    let put : Frame = frame.Left op c.in_ok-left-in-Right.left in
+    let had : c.loop-frame.frames.items ≡ rest ++ taken ∷ [] = c.in-Some.ensures.items ∙ ap (λ f. rest ++ f ∷ []) c.in-Right.is in
+    let copied = ap expression_view c.in_ok-left-in-Right.ensures.ok in
+    framed-more rest c.push.new.self.items put (expression_view c.in-Right.right.now) _ c.in_ok-push-in-Right.ensures.items
+    (ap (λ e. binary (operator_view op) e (expression_view c.in-Right.right.now)) copied)
+    ∙ sym (framed-more rest c.loop-frame.frames.items taken (expression_view c.loop-frame.copy) _ had refl)
+    ∙ c.loop-frame.invariant.whole
+
+pub returns-in-Right-clause-fewer : goal.returns-in-Right-clause-fewer
+returns-in-Right-clause-fewer c =
+    let rest = c.pop.new.self.items in
+    let taken : Frame = frame.Right c.in-Right.op c.in-Right.right in
+    let put : Frame = frame.Left c.in-Right.op c.in_ok-left-in-Right.left in
+    let had : c.loop-frame.frames.items ≡ rest ++ taken ∷ [] = c.in-Some.ensures.items ∙ ap (λ f. rest ++ f ∷ []) c.in-Right.is in
+    let has : c.push.new.self.items ≡ rest ++ put ∷ [] = c.in_ok-push-in-Right.ensures.items in
+    let before = ap waiting had ∙ waiting-push rest taken in
+    let after = ap waiting has ∙ waiting-push rest put in
+    omega (arith, c.loop-frame.invariant.fewer)
+
+pub returns-in-Right-clause-documents : goal.returns-in-Right-clause-documents
+returns-in-Right-clause-documents c none clean =
+    let rest = c.pop.new.self.items in
+    let taken : Frame = frame.Right c.in-Right.op c.in-Right.right in
+    let put : Frame = frame.Left c.in-Right.op c.in_ok-left-in-Right.left in
+    let had : c.loop-frame.frames.items ≡ rest ++ taken ∷ [] = c.in-Some.ensures.items ∙ ap (λ f. rest ++ f ∷ []) c.in-Right.is in
+    let so_far = c.loop-frame.invariant.documents none clean in
+    let copied = ap (λ e. expression_has_document (expression_view e)) c.in_ok-left-in-Right.ensures.ok in
+    ap have_document c.in_ok-push-in-Right.ensures.items ∙ have_document-push rest put
+    ∙ none_of_both (have_document rest) (frame_has_document put) (none_left rest c.loop-frame.frames.items taken had so_far.0) (copied ∙ so_far.1)
+
+pub loop-frame-preserved-in-Left : goal.loop-frame-preserved-in-Left
+loop-frame-preserved-in-Left c =
+    let rest = c.pop.new.self.items in
+    let op = c.in-Left.op in
+    let left = c.in-Left.left in
+    let right = c.in_ok-right-in-Left.right in
+    let taken : Frame = frame.Left op left in
+    let had : c.loop-frame.frames.items ≡ rest ++ taken ∷ [] = c.in-Some.ensures.items ∙ ap (λ f. rest ++ f ∷ []) c.in-Left.is in
+    let before = ap waiting had ∙ waiting-push rest taken in
+    let made = view-binary op left right
+    ∙ ap (λ e. binary (operator_view op) (expression_view left.value) (expression_view e)) c.in_ok-right-in-Left.ensures.ok in
+    record {
+      whole = ap (framed rest) made ∙ sym (framed-more rest c.loop-frame.frames.items taken (expression_view c.loop-frame.copy) _ had refl)
+          ∙ c.loop-frame.invariant.whole;
+      fewer = omega (arith, c.loop-frame.invariant.fewer);
+      documents = λ none clean.
+          let so_far = c.loop-frame.invariant.documents none clean in (
+            none_left rest c.loop-frame.frames.items taken had so_far.0,
+            ap expression_has_document made ∙ none_of_both _ _ (none_taken rest c.loop-frame.frames.items taken had so_far.0) so_far.1,
+          );
+    }
+
+pub loop-frame-preserved : goal.loop-frame-preserved
+loop-frame-preserved c =
+    let rest = c.pop.new.self.items in
+    let op = c.in-Sign.op in
+    let operand = c.in_ok-operand-in-Sign.operand in
+    let taken : Frame = frame.Sign op in
+    let had : c.loop-frame.frames.items ≡ rest ++ taken ∷ [] = c.in-Some.ensures.items ∙ ap (λ f. rest ++ f ∷ []) c.in-Sign.is in
+    let before = ap waiting had ∙ waiting-push rest taken in
+    let made = view-unary op operand ∙ ap (λ e. unary (sign_view op) (expression_view e)) c.in_ok-operand-in-Sign.ensures.ok in
+    record {
+      whole = ap (framed rest) made ∙ sym (framed-more rest c.loop-frame.frames.items taken (expression_view c.loop-frame.copy) _ had refl)
+          ∙ c.loop-frame.invariant.whole;
+      fewer = omega (arith, c.loop-frame.invariant.fewer);
+      documents = λ none clean.
+          let so_far = c.loop-frame.invariant.documents none clean in
+          (none_left rest c.loop-frame.frames.items taken had so_far.0, ap expression_has_document made ∙ so_far.1);
+    }

@@ -1,0 +1,212 @@
+//! Expressions in the order in which they are executed: their conditions, and the operators that join them.
+
+ghost use Rattle.std.specs.Prelude.{◌≡◌, ◌<◌, ◌+◌, ◌++◌, ◌∷◌, ℕ, [], true, false, if◌then◌else◌, IfOk, IfErr, OnOk, MatchOption, All};
+ghost use Rattle.jsonb_doc.specs.Answer.{Gives, IsOutOfMemory};
+ghost use Rattle.jsonb.specs.PathViews.{expression_view, operator_view};
+ghost use Rattle.jsonb.specs.Private.Terms.{join_of, is_joined, joining, joined, truths_view, IsPairOf, AreTermsOf, order_left, parts_left, IsBelow, IsSmaller};
+ghost use Rattle.jsonb.specs.declared.path.Expr.{size-Expr};
+ghost use Rattle.jsonb.specs.declared.selector.document.Mode.{Mode};
+ghost use Rattle.jsonb.specs.SelectionErrors.{IsSelectionError};
+
+use super::atom::{and_truth, or_truth};
+use super::kept::Kept;
+use crate::path::{BinaryOperator, Expr};
+use jsonb_doc::Error;
+use std::alloc::Global;
+
+/// An operator that joins two truths.
+#[derive(Clone, Copy)]
+pub(crate) enum Join {
+    And,
+    Or,
+}
+
+/// What comes next where an expression is executed.
+#[derive(Clone, Copy)]
+pub(crate) enum Term<'s, 'p> {
+    /// An expression that joins no others.
+    Condition(&'s Expr<'p>),
+    /// The last two truths become one.
+    Join(Join),
+}
+
+/// Two expressions, and the operator that joins them.
+#[derive(Clone, Copy)]
+pub(crate) struct Pair<'s, 'p> {
+    join: Join,
+    left: &'s Expr<'p>,
+    right: &'s Expr<'p>,
+}
+
+// The operator as one that joins truths.
+fn join_of(op: BinaryOperator) -> Option<Join>
+    ensures { result ≡ join_of (operator_view op) }
+{
+    match op {
+        BinaryOperator::And => Some(Join::And),
+        BinaryOperator::Or => Some(Join::Or),
+        _ => None,
+    }
+}
+
+/// Whether an expression is two that `&&` or `||` joins.
+#[inline(always)]
+pub(crate) fn is_joined(e: &Expr<'_>) -> bool
+    ensures { result ≡ is_joined (expression_view e.now) }
+{
+    match e {
+        Expr::BinaryOp { op, .. } => join_of(*op).is_some(),
+        Expr::Paths(_) | Expr::Value(_) | Expr::UnaryOp { .. } | Expr::ExistsFunc(_) => false,
+    }
+}
+
+// The two expressions that one is.
+fn pair_of<'s, 'p>(e: &'s Expr<'p>) -> Option<Pair<'s, 'p>>
+    ensures { MatchOption result (is_joined (expression_view e.now) ≡ false) (IsPairOf e.now) }
+{
+    match e {
+        Expr::BinaryOp { op, left, right } => {
+            let join = join_of(*op)?;
+            Some(Pair { join, left, right })
+        }
+        Expr::Paths(_) | Expr::Value(_) | Expr::UnaryOp { .. } | Expr::ExistsFunc(_) => None,
+    }
+}
+
+/// The terms of an expression, in the order in which they are executed; none of one that joins no others.
+pub(crate) fn terms_of<'s, 'p>(alloc: Global, e: &'s Expr<'p>) -> Result<Vec<Term<'s, 'p>>, Error>
+    ensures terms { IfOk result (λ v. is_joined (expression_view e.now) ≡ true → AreTermsOf e.now v.items) }
+    ensures errors { IfErr result IsOutOfMemory }
+{
+    if is_joined(e) {
+        joined_terms(alloc, e)
+    } else {
+        Ok(Vec::new(alloc))
+    }
+}
+
+// The same of one that joins others. They are found from the last to the first; what waits lies in a `Vec`.
+#[inline(never)]
+fn joined_terms<'s, 'p>(alloc: Global, e: &'s Expr<'p>) -> Result<Vec<Term<'s, 'p>>, Error>
+    requires { is_joined (expression_view e.now) ≡ true }
+    ensures terms { IfOk result (λ v. AreTermsOf e.now v.items) }
+    ensures errors { IfErr result IsOutOfMemory }
+{
+    let mut terms = Vec::new(alloc);
+    let mut waiting = Vec::new(alloc);
+    push_term(e, &mut terms, &mut waiting)?;
+    while let Some(next) = waiting.pop() {
+        push_term(next, &mut terms, &mut waiting)?;
+    }
+    terms.reverse();
+    Ok(terms)
+}
+
+// The last term of an expression, behind those that come after it. The two that it joins wait, the right one in front.
+fn push_term<'s, 'p>(
+    e: &'s Expr<'p>,
+    terms: &mut Vec<Term<'s, 'p>>,
+    waiting: &mut Vec<&'s Expr<'p>>,
+) -> Result<(), Error>
+    ensures order { IfOk result (λ _. order_left terms.new.items waiting.new.items
+        ≡ order_left terms.old.items (waiting.old.items ++ e.entry ∷ [])) }
+    ensures fewer { IfOk result (λ _. parts_left waiting.new.items < parts_left (waiting.old.items ++ e.entry ∷ [])) }
+    ensures below { (n : ℕ) → size-Expr e.now < n + (if is_joined (expression_view e.now) then 1 else 0)
+        → All (IsBelow n) terms.old.items → All (IsSmaller n) waiting.old.items
+        → IfOk result (λ _. All (IsBelow n) terms.new.items × All (IsSmaller n) waiting.new.items) }
+    ensures errors { IfErr result IsOutOfMemory }
+{
+    match pair_of(e) {
+        Some(pair) => {
+            terms.push(Term::Join(pair.join))?;
+            waiting.push(pair.left)?;
+            waiting.push(pair.right)?;
+        }
+        None => terms.push(Term::Condition(e))?,
+    }
+    Ok(())
+}
+
+/// The truths that no operator has joined yet, the last one last.
+#[derive(Drop)]
+pub(crate) struct Truths {
+    truths: Vec<Option<bool>>,
+}
+
+impl Truths {
+    /// It takes no memory.
+    #[inline(always)]
+    pub(crate) fn new(alloc: Global) -> Truths
+        ensures { truths_view result ≡ [] }
+    {
+        Truths {
+            truths: Vec::new(alloc),
+        }
+    }
+
+    pub(crate) fn clear(&mut self)
+        ensures { truths_view self.new ≡ [] }
+    {
+        self.truths.clear();
+    }
+
+    pub(crate) fn push(&mut self, truth: Option<bool>) -> Result<(), Error>
+        ensures ok { OnOk result (truths_view self.new ≡ truth ∷ truths_view self.old) }
+        ensures err { IfErr result IsOutOfMemory }
+    {
+        self.truths.push(truth)?;
+        Ok(())
+    }
+
+    /// The last truth.
+    pub(crate) fn pop(&mut self) -> Option<Option<bool>>
+        ensures { MatchOption result (truths_view self.old ≡ [])
+            (λ truth. truths_view self.old ≡ truth ∷ truths_view self.new) }
+    {
+        self.truths.pop()
+    }
+
+    /// One truth in place of the last two.
+    pub(crate) fn join(&mut self, join: Join) -> Result<(), Error>
+        ensures meant { Gives (λ _ ts. truths_view self.new ≡ ts) IsOutOfMemory result
+            (joined join (truths_view self.old)) }
+        ensures errors { (mode : Mode) → IfErr result (IsSelectionError mode) }
+    {
+        let Some(right) = self.pop() else {
+            return Err(Error::InvalidJsonPath);
+        };
+        let Some(left) = self.pop() else {
+            return Err(Error::InvalidJsonPath);
+        };
+        self.push(joining(join, left, right))
+    }
+}
+
+fn joining(join: Join, left: Option<bool>, right: Option<bool>) -> Option<bool>
+    ensures { result ≡ joining join left right }
+{
+    match join {
+        Join::And => and_truth(left, right),
+        Join::Or => or_truth(left, right),
+    }
+}
+
+/// What is kept while an expression is executed for one item after the other.
+#[derive(Drop)]
+pub(crate) struct Run<'a> {
+    pub(crate) kept: Kept<'a>,
+    pub(crate) truths: Truths,
+}
+
+impl<'a> Run<'a> {
+    /// It takes no memory.
+    #[inline(always)]
+    pub(crate) fn new(alloc: Global, kept: Kept<'a>) -> Run<'a>
+        ensures { result.kept ≡ kept.entry }
+    {
+        Run {
+            kept,
+            truths: Truths::new(alloc),
+        }
+    }
+}
