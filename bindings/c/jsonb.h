@@ -23,10 +23,11 @@
  * Buffers of one call must not overlap. Calls share nothing: any number of threads may call at the same time.
  *
  * Refusals that any call may answer, and that are not listed with each:
- *   JSONB_INVALID_JSONB, JSONB_UNSUPPORTED_NUMBER   the bytes are no document. Every call returns on any bytes, but
- * only jsonb_check looks at all of them: give it documents from strangers first, since what other calls answer on
- * damaged bytes is not fixed JSONB_OUT_OF_MEMORY   memory was refused. Nothing is kept and nothing was written
- *   JSONB_TOO_LARGE       a call that makes documents: the answer passes the limits of the format
+ *   JSONB_INVALID_JSONB       the bytes are no document. Every call returns on any bytes, but only jsonb_check looks
+ *   JSONB_UNSUPPORTED_NUMBER  at all of them: give it documents from strangers first, since what other calls answer
+ *                             on damaged bytes is not fixed
+ *   JSONB_OUT_OF_MEMORY       memory was refused. Nothing is kept and nothing was written
+ *   JSONB_TOO_LARGE           a call that makes documents: the answer passes the limits of the format
  *
  * Paths. A key path is a text such as {phones,0,"a b"}; a JSON path is a text such as $.phones[*]?(@.type == "home")
  * (docs/PATHS.md). Both are UTF-8, without an end byte. A text outside the grammar, or that is no UTF-8, is
@@ -218,6 +219,12 @@ uint32_t jsonb_as_i64(const uint8_t *document, size_t document_len, int64_t *num
 uint32_t jsonb_as_u64(const uint8_t *document, size_t document_len, uint64_t *number);
 uint32_t jsonb_as_str(const uint8_t *document, size_t document_len, uint8_t *out, size_t out_size, size_t *out_len);
 
+/* The parts of a number, whole or decimal: it is (*high * 2^64 + *low) / 10^*scale. A whole number has the scale 0, and
+ * so has zero in whatever form. jsonb_from_decimal of the parts gives a decimal that is equal by value; where jsonb_type
+ * says JSONB_KIND_INTEGER, jsonb_from_i64 or jsonb_from_u64 gives the whole number again. JSONB_NONE: no number. Takes no
+ * memory. */
+uint32_t jsonb_as_decimal(const uint8_t *document, size_t document_len, int64_t *high, uint64_t *low, uint8_t *scale);
+
 /* The value cast. JSONB_INVALID_CAST: it can't be. Truths: truth values, and true, yes, false, no in any case. Numbers:
  * truth values as 1 and 0, numbers rounded half away from zero, texts of digits with a sign. Texts: truth values,
  * numbers and texts. */
@@ -243,7 +250,7 @@ uint32_t jsonb_from_bool(bool value, uint8_t *out, size_t out_size, size_t *out_
 uint32_t jsonb_from_i64(int64_t value, uint8_t *out, size_t out_size, size_t *out_len);
 uint32_t jsonb_from_u64(uint64_t value, uint8_t *out, size_t out_size, size_t *out_len);
 
-/* The number (high * 2^64 + low) / 10^scale. */
+/* The number (high * 2^64 + low) / 10^scale, as jsonb_as_decimal gives its parts. */
 uint32_t jsonb_from_decimal(int64_t high, uint64_t low, uint8_t scale, uint8_t *out, size_t out_size, size_t *out_len);
 
 /* JSONB_NOT_UTF8: the text. */
@@ -280,8 +287,9 @@ typedef struct jsonb_leaf_sizes {
 
 /* The leaves of a document in stored order, as two columns: texts of key paths, as {phones,0,"a b"}, and documents. A
  * leaf is a scalar, an empty array or an empty object; a document that is one itself has none. An empty key stands as
- * "", which is in no key path that can be read. sizes->rows + 1 positions go into each of the two `.._positions`. JSONB_BUFFER_TOO_SMALL: one of the four buffers is; nothing was
- * written, and *sizes says what is needed. With any other refusal *sizes is 0 throughout.
+ * "", which is in no key path that can be read. sizes->rows + 1 positions go into each of the two `.._positions`.
+ * JSONB_BUFFER_TOO_SMALL: one of the four buffers is; nothing was written, and *sizes says what is needed. With any
+ * other refusal *sizes is 0 throughout.
  *
  *   jsonb_leaf_sizes need;
  *   jsonb_leaves(document, len, NULL, 0, NULL, 0, NULL, 0, NULL, 0, &need);

@@ -40,6 +40,10 @@ class Names(list):
     """A column of texts or of documents."""
 
 
+class Parts(tuple):
+    """The halves of a whole value, and a scale."""
+
+
 @dataclass
 class Placed:
     """A column whose positions are given, as wrong ones are."""
@@ -51,6 +55,8 @@ class Placed:
 def words_of(it):
     if isinstance(it, Placed):
         return [hexadecimal(it.bytes), ",".join(map(str, it.positions))]
+    if isinstance(it, Parts):
+        return [",".join(map(str, it))]
     if isinstance(it, Names):
         rows = [row.encode() if isinstance(row, str) else row for row in it]
         ends = [sum(map(len, rows[:count])) for count in range(len(rows) + 1)]
@@ -263,6 +269,14 @@ def scalars():
     ])
     yield from table("as_u64", [(number(2**64 - 1), 2**64 - 1), (number(-1), NONE), (number(0), 0)])
     yield from table("as_str", [(json('"abc"'), b"abc"), (json('""'), b""), (number(1), NONE)])
+    yield from table("as_decimal", [
+        (decimal(2, 1234), Parts((0, 1234, 2))), (decimal(3, -5), Parts((-1, 2**64 - 5, 3))), (decimal(9, 0), Parts((0, 0, 0))),
+        (number(7), Parts((0, 7, 0))), (number(-1), Parts((-1, 2**64 - 1, 0))), (number(2**64 - 1), Parts((0, 2**64 - 1, 0))),
+        (number(-2**63), Parts((-1, 2**63, 0))), (decimal(38, 2**127 - 1, 16), Parts((2**63 - 1, 2**64 - 1, 38))),
+        (decimal(255, -2**127, 16), Parts((-2**63, 0, 255))), (decimal(0, 2**64, 16), Parts((1, 0, 0))),
+        (decimal(1, -2**64, 16), Parts((-1, 0, 1))), (json('"1"'), NONE), (V[5], NONE), (V[12], NONE), (FLOAT, UNSUPPORTED_NUMBER),
+        (DAMAGED, INVALID_JSONB),
+    ])
     yield from table("to_bool", [
         (json('"YES"'), TRUE), (json('"1"'), "JSONB_INVALID_CAST"), (json("false"), FALSE), (json('"no"'), FALSE),
     ])

@@ -336,6 +336,35 @@ static void test_growths(const struct column *column, const struct bytes_call *c
     }
 }
 
+/* The same of rows of one width. A call that reads no path meets no growth. */
+static void test_fixed_growths(const struct column *column, const struct fixed_call *call) {
+    struct cell cells[MOST_ROWS];
+    size_t rows = wanted_cells(column, call->row, call, cells);
+    for (long refused = 0, growths = 1; can_refuse() && growths > refused; refused++) {
+        struct rows given = {malloc(rows * 8), rows, malloc(rows), rows, 99};
+        memset(given.answers, FILL, rows * 8), memset(given.statuses, FILL, rows);
+        refuse_growth(refused);
+        start_counting();
+        uint32_t status = call->column(column, 0, &given);
+        growths = stop_counting();
+        refuse_growth(-1);
+        bool met = growths > refused, right = live_blocks() == 0;
+        size_t lacking = 0;
+        for (size_t i = 0; status == JSONB_OK && i < rows; i++) {
+            bool is_refused = given.statuses[i] == JSONB_OUT_OF_MEMORY;
+            lacking += is_refused;
+            right = right && (is_refused ? given.answers[i * call->width] == call->none
+                                         : given.statuses[i] == cells[i].status &&
+                                               !memcmp(given.answers + i * call->width, cells[i].bytes, call->width));
+        }
+        if (status != JSONB_OK)
+            right = right && met && status == JSONB_OUT_OF_MEMORY && given.done == 0 &&
+                    is_filled(given.answers, rows * 8) && is_filled(given.statuses, rows);
+        judge(right && (status != JSONB_OK || lacking == met), call->name, "growth refused", (size_t)refused);
+        free(given.answers), free(given.statuses);
+    }
+}
+
 int main(void) {
     struct column column;
     fill_column(&column);
@@ -344,6 +373,7 @@ int main(void) {
     test_refused_paths(&column);
     test_no_rows();
     for (size_t i = 0; i < sizeof bytes_calls / sizeof *bytes_calls; i++) test_growths(&column, &bytes_calls[i]);
+    for (size_t i = 0; i < sizeof fixed_calls / sizeof *fixed_calls; i++) test_fixed_growths(&column, &fixed_calls[i]);
     spoil_column(&column);
     test_fixed(&column, "wrong positions");
     test_bytes(&column, "wrong positions");

@@ -1,6 +1,7 @@
 /* rows FILE: runs each row of a file that bindings/tests/rows.py made, with buffers of every length from 0 to two bytes
  * more than the answer needs and guard bytes behind. With -DREFUSING and malloc, realloc and free wrapped (see the
- * Makefile), each growth of each row is refused in turn as well. The last line is `N passed, M failed`. */
+ * Makefile), each growth of each row is refused in turn as well. Each status has to come at least once. The last line is
+ * `N passed, M failed`. */
 #define _POSIX_C_SOURCE 200809L
 #include "jsonb.h"
 #include "growths.h"
@@ -13,12 +14,13 @@
 enum { GUARD = 16, FILL = 0xee, MOST_WORDS = 12, ALL_LENGTHS = 1024 };
 
 /* What a call takes, by its letters: b bytes, c column, f flag, i and s a position, l and u numbers, y a scale; and
- * what it gives: O bytes, T truth, N and W numbers, C count. */
+ * what it gives: O bytes, T truth, N and W numbers, C count, D the parts of a decimal. */
 typedef uint32_t b_fn(const uint8_t *, size_t);
 typedef uint32_t bT_fn(const uint8_t *, size_t, uint8_t *);
 typedef uint32_t bN_fn(const uint8_t *, size_t, int64_t *);
 typedef uint32_t bW_fn(const uint8_t *, size_t, uint64_t *);
 typedef uint32_t bC_fn(const uint8_t *, size_t, size_t *);
+typedef uint32_t bD_fn(const uint8_t *, size_t, int64_t *, uint64_t *, uint8_t *);
 typedef uint32_t bO_fn(const uint8_t *, size_t, uint8_t *, size_t, size_t *);
 typedef uint32_t bfO_fn(const uint8_t *, size_t, bool, uint8_t *, size_t, size_t *);
 typedef uint32_t bsO_fn(const uint8_t *, size_t, size_t, uint8_t *, size_t, size_t *);
@@ -109,7 +111,7 @@ LEAVES_BY(document_positions, LEAF_DOCUMENT_POSITIONS)
 #define SHAPES(X)                                                                                                      \
     X(b)                                                                                                               \
     X(bT)                                                                                                              \
-    X(bN) X(bW) X(bC) X(bO) X(bfO) X(bsO) X(biO) X(bbO) X(bbT) X(bbfO) X(bbfT) X(bbiO) X(bbbfO) X(bcO) X(bcT) X(cO)    \
+    X(bN) X(bW) X(bC) X(bD) X(bO) X(bfO) X(bsO) X(biO) X(bbO) X(bbT) X(bbfO) X(bbfT) X(bbiO) X(bbbfO) X(bcO) X(bcT) X(cO)    \
         X(ccO) X(O) X(fO) X(lO) X(uO) X(luyO)
 #define SHAPE_NAME(s)    SHAPE_##s,
 #define SHAPE_FIELD(s)   s##_fn *s;
@@ -161,10 +163,14 @@ struct result {
     int64_t number;
     uint64_t whole;
     size_t count;
+    uint8_t scale;
 };
 
+/* The statuses that came so far. */
+static bool is_reached[64];
+
 static struct result run(const struct row *row, uint8_t *out, size_t size) {
-    struct result r = {.len = 99, .truth = FILL, .number = FILL, .whole = FILL, .count = FILL};
+    struct result r = {.len = 99, .truth = FILL, .number = FILL, .whole = FILL, .count = FILL, .scale = FILL};
     const struct bytes *b = row->bytes;
     const struct column *c = row->columns;
 #define B(i) b[i].at, b[i].len
@@ -180,6 +186,7 @@ static struct result run(const struct row *row, uint8_t *out, size_t size) {
         RUN(bN, B(0), &r.number)
         RUN(bW, B(0), &r.whole)
         RUN(bC, B(0), &r.count)
+        RUN(bD, B(0), &r.number, &r.whole, &r.scale)
         RUN(bO, B(0), OUT)
         RUN(bfO, B(0), row->flag, OUT)
         RUN(bsO, B(0), (size_t)row->number, OUT)
@@ -202,6 +209,7 @@ static struct result run(const struct row *row, uint8_t *out, size_t size) {
     case SHAPE_COUNT:
         abort();
     }
+    if (r.status < sizeof is_reached) is_reached[r.status] = true;
     return r;
 }
 
@@ -273,15 +281,26 @@ static void free_row(struct row *row) {
 
 /* Judging. */
 
+/* What a value holds that is not answered: FILL, in each of its parts. */
+#define UNTOUCHED "238,238,238"
+
 static bool is_filled(const uint8_t *at, size_t len) {
     for (size_t i = 0; i < len; i++)
         if (at[i] != FILL) return false;
     return true;
 }
 
+/* Whether the parts are those of a text such as -1,5,2. */
+static bool has_parts(const char *answer, const struct result *r) {
+    char *rest;
+    int64_t high = strtoll(answer, &rest, 10);
+    uint64_t low = *rest ? strtoull(rest + 1, &rest, 10) : 0;
+    return *rest && r->number == high && r->whole == low && r->scale == strtoul(rest + 1, NULL, 10);
+}
+
 static bool has_scalar(const struct row *row, const struct result *r) {
     bool is_answered = r->status == JSONB_OK;
-    const char *answer = is_answered ? row->answer : "238";
+    const char *answer = is_answered ? row->answer : UNTOUCHED;
     if (is_answered && !answer) return r->len == 99;
     switch (letters[row->call->shape][strlen(letters[row->call->shape]) - 1]) {
     case 'T':
@@ -292,6 +311,8 @@ static bool has_scalar(const struct row *row, const struct result *r) {
         return r->whole == strtoull(answer, NULL, 10);
     case 'C':
         return r->count == strtoull(answer, NULL, 10);
+    case 'D':
+        return has_parts(answer, r);
     default:
         return true;
     }
@@ -350,6 +371,30 @@ static bool every_refusal_is_right(const struct row *row) {
     return true;
 }
 
+/* A text of 2^28 bytes passes the format, and takes no memory to be refused. */
+static bool too_large_is_right(void) {
+    enum { PASSES = 1 << 28 };
+    uint8_t *text = calloc(PASSES, 1), out[GUARD];
+    memset(out, FILL, sizeof out);
+    struct row row = {.call = find_call("from_str"), .bytes = {{text, PASSES}}};
+    struct result r = run(&row, out, sizeof out);
+    free(text);
+    return r.status == JSONB_TOO_LARGE && r.len == 0 && is_filled(out, sizeof out);
+}
+
+static int unreached_statuses(void) {
+    int unreached = 0;
+    for (uint32_t status = 0; status < sizeof is_reached; status++) {
+        uint8_t name[40];
+        size_t len;
+        if (jsonb_status_name(status, name, sizeof name, &len) || is_reached[status]) continue;
+        if (status == JSONB_OUT_OF_MEMORY && !can_refuse()) continue;
+        printf("NOT REACHED: %.*s\n", (int)len, (const char *)name);
+        unreached++;
+    }
+    return unreached;
+}
+
 int main(int argc, char **argv) {
     FILE *file = argc == 2 ? fopen(argv[1], "r") : NULL;
     char *line = NULL;
@@ -367,7 +412,8 @@ int main(int argc, char **argv) {
     }
     free(line);
     if (file) fclose(file);
-    failed += !has_refused();
+    too_large_is_right() ? passed++ : failed++;
+    failed += unreached_statuses() + !has_refused();
     printf("%d passed, %d failed\n", passed, failed);
     return failed != 0 || passed == 0;
 }

@@ -17,6 +17,7 @@ from .documents import (
     array_intersection,
     array_overlap,
     as_bool,
+    as_decimal,
     as_int,
     as_str,
     check,

@@ -29,6 +29,7 @@ _CROSSES: Dict[str, List[Any]] = {
     "N": [_POINTER],
     "W": [_POINTER],
     "C": [_POINTER],
+    "D": [_POINTER] * 3,  # the halves of a whole value, and a scale
     "R": [_POINTER, _SIZE] * 2 + [_POINTER],  # a byte or a number a row, statuses, rows that are done
     "S": [_POINTER, _SIZE, _POINTER],  # statuses alone, rows that are done
     "P": [_POINTER, _SIZE] * 3 + [_POINTER],  # bytes, positions, statuses, progress
@@ -40,7 +41,7 @@ CALLS: Dict[str, str] = {
     "delete_by_keypath": "bbO", "delete_by_index": "biO", "delete_by_name": "bbO", "array_insert": "bbiO",
     "object_insert": "bbbfO", "concat": "bbO", "strip_nulls": "bO", "array_distinct": "bO", "array_intersection": "bbO",
     "array_except": "bbO", "array_overlap": "bbT", "object_pick": "bcO", "object_delete": "bcO", "contains": "bbT",
-    "exists_all_keys": "bcT", "exists_any_keys": "bcT", "as_bool": "bT", "as_i64": "bN", "as_u64": "bW", "as_str": "bO",
+    "exists_all_keys": "bcT", "exists_any_keys": "bcT", "as_bool": "bT", "as_i64": "bN", "as_u64": "bW", "as_str": "bO", "as_decimal": "bD",
     "to_bool": "bT", "to_i64": "bN", "to_u64": "bW", "to_str": "bO", "sort_key": "bfO", "equality_key": "bO",
     "from_null": "O", "from_bool": "fO", "from_i64": "lO", "from_u64": "uO", "from_decimal": "luyO", "from_str": "bO",
     "array_from_column": "cO", "object_from_columns": "ccO", "leaves": "bL", "len": "bC", "pair": "bsOO",
@@ -181,6 +182,19 @@ def number_of(name: str, *arguments: Any) -> Optional[int]:
     del kept
     if status == OK:
         return number.value
+    if status == NONE:
+        return None
+    raise refusal(status, shown(arguments))
+
+
+def parts_of(name: str, *arguments: Any) -> Optional[Tuple[int, int]]:
+    """Makes a call that gives a decimal: its whole value, and its scale. None: it answers that there is none."""
+    call, (taken, kept) = FUNCTIONS[name], words(name, arguments)
+    high, low, scale = ctypes.c_int64(), ctypes.c_uint64(), ctypes.c_uint8()
+    status = call(*taken, *map(ctypes.byref, (high, low, scale)))
+    del kept
+    if status == OK:
+        return (high.value << 64) + low.value, scale.value
     if status == NONE:
         return None
     raise refusal(status, shown(arguments))

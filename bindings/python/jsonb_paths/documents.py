@@ -15,11 +15,12 @@ nothing answers None; each refusal raises the exception of its name (jsonb_paths
 
 from __future__ import annotations
 
+from decimal import Decimal
 from typing import Any, Iterable, List, Optional, Tuple
 
 from ._buffers import joined
-from ._library import asked, bytes_of, columns_of, number_of
-from .values import elements
+from ._library import asked, bytes_of, columns_of, number_of, parts_of
+from .values import decimal_of, elements
 
 KINDS = (
     "null", "boolean", "integer", "decimal", "string", "binary", "date", "timestamp", "timestamp_tz", "interval", "array", "object",
@@ -231,6 +232,17 @@ def as_int(document: Any) -> Optional[int]:
     """The value of a number that is whole and has 64 bits."""
     signed = number_of("as_i64", document)
     return number_of("as_u64", document) if signed is None else signed
+
+
+def as_decimal(document: Any) -> Optional[Decimal]:
+    """The value of a number, whole or not.
+
+    >>> from jsonb_paths import dumps
+    >>> as_decimal(dumps(Decimal("-12.50"))), as_decimal(dumps("12.50"))
+    (Decimal('-12.50'), None)
+    """
+    parts = parts_of("as_decimal", document)
+    return None if parts is None else decimal_of(*parts)
 
 
 def as_str(document: Any) -> Optional[str]:

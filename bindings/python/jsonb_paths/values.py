@@ -205,9 +205,12 @@ def _number(payload: memoryview) -> Value:
         return 0
     if payload[0] in (0x40, 0x50):
         return int.from_bytes(payload[1:], "big", signed=payload[0] == 0x40)
-    whole = int.from_bytes(payload[1:-1], "big", signed=True)
-    digits = tuple(map(int, str(abs(whole))))
-    return Decimal((int(whole < 0), digits, -payload[-1]))
+    return decimal_of(int.from_bytes(payload[1:-1], "big", signed=True), payload[-1])
+
+
+def decimal_of(whole: int, scale: int) -> Decimal:
+    """The decimal whole / 10**scale, with as many digits behind the point as the scale says."""
+    return Decimal((int(whole < 0), tuple(map(int, str(abs(whole)))), -scale))
 
 
 def _extension(payload: memoryview) -> Value:

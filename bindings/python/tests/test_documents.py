@@ -1,6 +1,7 @@
 """Calls on one document: what the worked rows of the C tests leave out, which is what Python adds."""
 
 import array
+import ctypes
 import os
 import random
 import subprocess
@@ -10,6 +11,8 @@ from decimal import Decimal
 
 import jsonb_paths
 from jsonb_paths import dumps, errors, loads
+from jsonb_paths._buffers import joined
+from jsonb_paths._library import FUNCTIONS, bytes_of, number_of
 
 TOP = os.path.join(os.path.dirname(os.path.abspath(__file__)), "..", "..", "..")
 sys.path.append(os.path.join(TOP, "tools"))
@@ -190,6 +193,50 @@ class Calls(unittest.TestCase):
         self.assertEqual((jsonb_paths.to_bool(dumps("yes")), jsonb_paths.to_u64(dumps(True)), jsonb_paths.to_str(dumps(5))), (True, 1, "5"))
         self.assertEqual((jsonb_paths.as_bool(dumps(1)), jsonb_paths.as_int(dumps(2**64 - 1)), jsonb_paths.as_str(dumps("x"))),
                          (None, 2**64 - 1, "x"))
+
+
+class AcrossByCalls(unittest.TestCase):
+    """A value is taken apart and made again by calls of the library alone: without JSON text, and without the format."""
+
+    def test_every_json_value_crosses_both_ways(self):
+        source = random.Random(5)
+        for value in [random_value(source) for _ in range(300)] + [Decimal(2**127 - 1), Decimal(-(2**127)), -(2**63), 2**64 - 1]:
+            document = dumps(value)
+            self.assertEqual(self.apart(document), value)
+            self.assertEqual(self.made(self.apart(document)), document)
+
+    def apart(self, document):
+        kind, read = jsonb_paths.kind(document), {"boolean": "as_bool", "integer": "as_int", "decimal": "as_decimal", "string": "as_str"}
+        count = number_of("len", document) if kind in ("array", "object") else 0
+        if kind == "array":
+            return [self.apart(bytes_of("get_by_index", document, it)) for it in range(count)]
+        if kind == "object":
+            return {key: self.apart(part) for key, part in (self.pair(document, it) for it in range(count))}
+        return None if kind == "null" else getattr(jsonb_paths, read[kind])(document)
+
+    def pair(self, document, index):
+        (key, key_len), (value, value_len) = [(ctypes.create_string_buffer(len(document) + 8), ctypes.c_size_t()) for _ in range(2)]
+        status = FUNCTIONS["pair"](document, len(document), index, key, len(key), ctypes.byref(key_len), value, len(value),
+                                   ctypes.byref(value_len))
+        self.assertEqual(status, 0)
+        return key.raw[: key_len.value].decode(), value.raw[: value_len.value]
+
+    def made(self, value):
+        if value is None:
+            return bytes_of("from_null")
+        if isinstance(value, bool):
+            return bytes_of("from_bool", value)
+        if isinstance(value, int):
+            return bytes_of("from_i64" if value < 0 else "from_u64", value)
+        if isinstance(value, Decimal):
+            sign, digits, exponent = value.as_tuple()
+            whole = int("".join(map(str, digits))) * (-1 if sign else 1)
+            return bytes_of("from_decimal", whole >> 64, whole % 2**64, -exponent)
+        if isinstance(value, str):
+            return bytes_of("from_str", value)
+        if isinstance(value, list):
+            return bytes_of("array_from_column", joined(map(self.made, value)))
+        return bytes_of("object_from_columns", joined(value), joined(map(self.made, value.values())))
 
 
 @unittest.skipUnless(os.path.exists(LINES), "the program jsonb_lines is not built (rt run in crates/jsonb_lines)")

@@ -9,12 +9,20 @@ from jsonb_paths import _library, documents
 from jsonb_paths._library import CALLS, _find, status_name
 from jsonb_paths.errors import REFUSALS
 
-HEADER = os.path.join(os.path.dirname(os.path.abspath(__file__)), "..", "..", "c", "jsonb.h")
+BINDINGS = os.path.join(os.path.dirname(os.path.abspath(__file__)), "..", "..")
+HEADER = os.path.join(BINDINGS, "c", "jsonb.h")
+RUST = os.path.join(BINDINGS, "rust", "src", "lib.rs")
+# The types of the header, as Rust has them.
+RUST_TYPES = {
+    "bytes": "*const u8", "positions": "*const u64", "size": "usize", "size *": "*mut usize", "byte *": "*mut u8",
+    "uint64_t *": "*mut u64", "int64_t *": "*mut i64", "int32_t": "i32", "int64_t": "i64", "uint64_t": "u64", "uint8_t": "u8",
+    "leaf_sizes *": "*mut super::LeafSizes",
+}
 # How many arguments of C each letter is, and of which types.
 C_TYPES = {
     "b": ["bytes", "size"], "c": ["bytes", "size", "positions", "size"], "f": ["bool"], "i": ["int32_t"], "s": ["size"],
     "l": ["int64_t"], "u": ["uint64_t"], "y": ["uint8_t"], "O": ["byte *", "size", "size *"], "T": ["byte *"],
-    "N": ["int64_t *"], "W": ["uint64_t *"], "C": ["size *"], "S": ["byte *", "size", "size *"],
+    "N": ["int64_t *"], "W": ["uint64_t *"], "C": ["size *"], "D": ["int64_t *", "uint64_t *", "byte *"], "S": ["byte *", "size", "size *"],
     "P": ["byte *", "size", "uint64_t *", "size", "byte *", "size", "progress *"],
     "L": ["byte *", "size", "uint64_t *", "size"] * 2 + ["leaf_sizes *"],
 }
@@ -53,10 +61,20 @@ class Names(unittest.TestCase):
             self.assertEqual(types, wanted, name)
         self.assertEqual({name for name, _ in prototypes()}, set(CALLS))
 
-    def test_library_exports_them_alone(self):
-        said = subprocess.run(["nm", "-D", "--defined-only", _find()], capture_output=True, text=True, check=True).stdout
-        exported = {line.split()[-1] for line in said.splitlines()}
-        self.assertEqual(exported, {f"jsonb_{name}" for name in CALLS})
+    def test_libraries_export_them_alone(self):
+        for words in (["-D", _find()], ["-g", os.path.join(os.path.dirname(_find()), "libjsonb.a")]):
+            said = subprocess.run(["nm", "--defined-only", *words], capture_output=True, text=True, check=True).stdout
+            exported = {line.split()[-1] for line in said.splitlines() if len(line.split()) == 3}
+            self.assertEqual(exported, {f"jsonb_{name}" for name in CALLS})
+
+    def test_rust_declares_the_arguments_of_the_header(self):
+        with open(RUST) as file:
+            [declared] = re.findall(r"declare! \{(.*?)\n    \}", file.read(), flags=re.S)
+        calls = dict(prototypes())
+        for name, arguments in re.findall(r"jsonb_(\w+)\(([^)]*)\);", declared):
+            wanted = [RUST_TYPES.get(it, it) for it in calls[name]]
+            given = [it.strip() for it in arguments.split(",") if it.strip()]
+            self.assertEqual([{"u32": "u64"}.get(it, it) for it in given], wanted, name)
 
     def test_statuses_have_the_numbers_and_names_of_the_header(self):
         listed = {int(number): name for name, number in re.findall(r"(JSONB_(?!KIND)\w+) = (\d+)", header())}

@@ -7,8 +7,12 @@ use Rattle.jsonb.specs.PathGrammar.{json_path}
 use Rattle.jsonb.specs.PathTree.{Step}
 use Rattle.jsonb.specs.declared.selector.document.Mode.{Mode}
 use Rattle.jsonb.proofs.ReadMeans.{read_means}
-use Rattle.jsonb_c.specs.Columns.{Found, Cell, IsCell, FillsRows, JoinsRows}
-use Rattle.jsonb_c.specs.Rows.{SelectsItem, SelectsItemBy, TellsExistence, TellsExistenceBy}
+use Rattle.jsonb_c.specs.Columns.{BytesRoom, Cell, FillsRows, Found, IsCell, JoinsRows, ValueRoom}
+use Rattle.jsonb_c.specs.declared.column.join.Progress.{Progress}
+use Rattle.jsonb_c.specs.Rows.{SelectsItem, TellsExistence}
+use Rattle.jsonb_c.specs.Private.ByHand.{SelectsItemBy, TellsBy, TellsExistenceBy, told}
+use Rattle.jsonb_c.specs.declared.column.truths.Question.{Question}
+use Rattle.jsonb_c.specs.declared.column.truths.Question.TheVariants.{Existence, Truth}
 
 -- ---- rows that say one thing say what follows from it
 
@@ -28,10 +32,9 @@ related_as R S follows [] (c ∷ cs) h = absurd h
 related_as R S follows (d ∷ ds) [] h = absurd h
 
 fills_as : {A : Type 0} (R S : List ℕ → Found A → Type 0) → ((d : List ℕ) (row : Found A) → R d row → S d row)
-    → (other : A) (column : List (Option (List ℕ))) (old_values new_values : List A) (old_statuses new_statuses : List ℕ) (done status : ℕ)
-    → FillsRows R other column old_values new_values old_statuses new_statuses done status
-    → FillsRows S other column old_values new_values old_statuses new_statuses done status
-fills_as R S follows other column old_values new_values old_statuses new_statuses done status h = (
+    → (other : A) (column : List (Option (List ℕ))) (old new : ValueRoom A) (done status : ℕ)
+    → FillsRows R other column old new done status → FillsRows S other column old new done status
+fills_as R S follows other column old new done status h = (
   record {
     cells = h.0.cells;
     count = h.0.count;
@@ -43,11 +46,10 @@ fills_as R S follows other column old_values new_values old_statuses new_statuse
 )
 
 joins_as : (R S : List ℕ → Found (List ℕ) → Type 0) → ((d : List ℕ) (row : Found (List ℕ)) → R d row → S d row)
-    → (column : List (Option (List ℕ))) (old_out new_out old_positions new_positions old_statuses new_statuses : List ℕ) (done total next status : ℕ)
-    → JoinsRows R column old_out new_out old_positions new_positions old_statuses new_statuses done total next status
-    → JoinsRows S column old_out new_out old_positions new_positions old_statuses new_statuses done total next status
-joins_as R S follows column old_out new_out old_positions new_positions old_statuses new_statuses done total next status (inl none) = inl none
-joins_as R S follows column old_out new_out old_positions new_positions old_statuses new_statuses done total next status (inr h) = inr (
+    → (column : List (Option (List ℕ))) (old new : BytesRoom) (progress : Progress) (status : ℕ)
+    → JoinsRows R column old new progress status → JoinsRows S column old new progress status
+joins_as R S follows column old new progress status (inl none) = inl none
+joins_as R S follows column old new progress status (inr h) = inr (
   record {
     cells = h.0.cells;
     count = h.0.count;
@@ -65,20 +67,28 @@ joins_as R S follows column old_out new_out old_positions new_positions old_stat
 
 -- ---- each call
 
-pub fills_existence : (mode : Mode) (text : List ℕ) (path : List Step) → json_path text ≡ Some path
-    → (other : ℕ) (column : List (Option (List ℕ))) (old_values new_values old_statuses new_statuses : List ℕ) (done status : ℕ)
-    → FillsRows (TellsExistenceBy mode path) other column old_values new_values old_statuses new_statuses done status
-    → FillsRows (TellsExistence mode path) other column old_values new_values old_statuses new_statuses done status
-fills_existence mode text path read other column old_values new_values old_statuses new_statuses done status h =
+fills_existence : (mode : Mode) (text : List ℕ) (path : List Step) → json_path text ≡ Some path
+    → (other : ℕ) (column : List (Option (List ℕ))) (old new : ValueRoom ℕ) (done status : ℕ)
+    → FillsRows (TellsExistenceBy mode path) other column old new done status
+    → FillsRows (TellsExistence mode path) other column old new done status
+fills_existence mode text path read other column old new done status h =
     fills_as (TellsExistenceBy mode path) (TellsExistence mode path)
     (λ d row r. (r.0, (λ form t decodes. r.1 form t (meaning mode path t) decodes (read_means form mode text path t read)), r.2, r.3))
-    other column old_values new_values old_statuses new_statuses done status h
+    other column old new done status h
+
+pub fills_told : (question : Question) (mode : Mode) (text : List ℕ) (path : List Step) → json_path text ≡ Some path
+    → (other : ℕ) (column : List (Option (List ℕ))) (old new : ValueRoom ℕ) (done status : ℕ)
+    → FillsRows (TellsBy question mode path) other column old new done status
+    → FillsRows (told question mode path) other column old new done status
+fills_told Existence mode text path read other column old new done status h =
+    fills_existence mode text path read other column old new done status h
+fills_told Truth mode text path read other column old new done status h = h
 
 pub joins_item : (mode : Mode) (pick : List Tree → Option Tree) (text : List ℕ) (path : List Step) → json_path text ≡ Some path
-    → (column : List (Option (List ℕ))) (old_out new_out old_positions new_positions old_statuses new_statuses : List ℕ) (done total next status : ℕ)
-    → JoinsRows (SelectsItemBy mode pick path) column old_out new_out old_positions new_positions old_statuses new_statuses done total next status
-    → JoinsRows (SelectsItem mode pick path) column old_out new_out old_positions new_positions old_statuses new_statuses done total next status
-joins_item mode pick text path read column old_out new_out old_positions new_positions old_statuses new_statuses done total next status h =
+    → (column : List (Option (List ℕ))) (old new : BytesRoom) (progress : Progress) (status : ℕ)
+    → JoinsRows (SelectsItemBy mode pick path) column old new progress status
+    → JoinsRows (SelectsItem mode pick path) column old new progress status
+joins_item mode pick text path read column old new progress status h =
     joins_as (SelectsItemBy mode pick path) (SelectsItem mode pick path)
     (λ d row r. ((λ form t decodes. r.0 form t (meaning mode path t) decodes (read_means form mode text path t read)), r.1))
-    column old_out new_out old_positions new_positions old_statuses new_statuses done total next status h
+    column old new progress status h

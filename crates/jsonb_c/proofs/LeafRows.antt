@@ -24,7 +24,7 @@ use Rattle.jsonb_raw.specs.LeafViews.{leaves_seen}
 use Rattle.jsonb_raw.specs.Leaves.{Leaf, behind, is_leaf, leaves_at, leaves, leaves_of_trees, leaves_of_pairs}
 use Rattle.jsonb_raw.proofs.LeafLimits.{each_within_limits}
 use Rattle.jsonb_raw.proofs.LeafPlaces.{Each-append}
-use Rattle.jsonb_c.specs.LeafColumns.{HasLeaves, HasRows, IsLeafRefusal, IsRowOf}
+use Rattle.jsonb_c.specs.Private.LeafColumns.{HasLeaves, HasRows, IsLeafRefusal, IsRowOf}
 use Rattle.jsonb_c.specs.Leaves.{HasRoom, IsRowOfLeaf, LeafRow, documents_of, paths_of, positions_from}
 use Rattle.jsonb_c.specs.declared.leaves.LeafColumns.{LeafColumns}
 use Rattle.jsonb_c.proofs.Rows.{related_more, take_one_more}
@@ -76,7 +76,7 @@ document_more found row = map-append (λ (r : LeafRow). r.1) found (row ∷ [])
 -- buffers that do not take a column have no room for its rows
 pub no_room : (rows : List (List ℕ)) (bytes positions out offsets : List ℕ) (b : Bool)
     → b ≡ (nat_le (length bytes) (length out) && nat_le (length positions) (length offsets)) → b ≡ false
-    → (bytes ≡ concat rows) × (positions ≡ positions_from 0 rows) → HasRoom rows out offsets → ⊥
+    → (bytes ≡ concat rows) × (positions ≡ positions_from 0 rows) → HasRoom rows (out, offsets) → ⊥
 no_room rows bytes positions out offsets b is none has room =
     let len : length bytes ≤ length out = rw has.0 room.0 in
     let more = positions_count 0 rows in

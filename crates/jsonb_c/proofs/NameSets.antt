@@ -9,7 +9,8 @@ use Rattle.std.specs.Cmp.Lexicographic.{slice_cmp}
 use Rattle.std.proofs.lemmas.Map.Text.{is_eq-slice_cmp}
 use Rattle.jsonb_doc.specs.Tree.{Tree, null, boolean, number, text, extension, array, object, members, pairs_of}
 use Rattle.jsonb_raw.specs.Objects.{TextSet, is_in, object_delete, object_pick}
-use Rattle.jsonb_c.specs.Names.{HasNames, WithNames, dropped_names, picked_names}
+use Rattle.jsonb_c.specs.Names.{WithNames, dropped_names, picked_names}
+use Rattle.jsonb_c.specs.Private.NameColumns.{HasNames}
 use Rattle.jsonb_c.specs.declared.status.Status.{Status}
 
 -- the set and the names behind are the names
@@ -80,5 +81,6 @@ pub answered_by_set : (read : Result (List (List ℕ)) Status) (set : TextSet) (
 answered_by_set (Ok names) set Answered IsRefused has go = inl (go names has)
 answered_by_set (Err cause) set Answered IsRefused has go = absurd has
 
-pub read_as_set : (read : Result (List (List ℕ)) Status) (names : List (List ℕ)) (set : TextSet) → read ≡ Ok names → HasNames set names → IsOkAnd read (HasNames set)
+pub read_as_set : (read : Result (List (List ℕ)) Status) (names : List (List ℕ)) (set : TextSet) → read ≡ Ok names
+    → HasNames set names → IsOkAnd read (HasNames set)
 read_as_set read names set is has = rw is has

@@ -6,8 +6,10 @@ use Rattle.std.proofs.lemmas.Grind.{flat_map-append}
 use Rattle.std.proofs.Math.Seq.{take-append_seam}
 use Rattle.jsonb.specs.Related.{AllRelated}
 use Rattle.jsonb_c.specs.Status.{buffer_too_small}
-use Rattle.jsonb_c.specs.Answers.{IsWritten, Places}
-use Rattle.jsonb_c.specs.Columns.{Found, Cell, IsCell, AreCells, row, rows, ends, cell_value, cell_bytes, cell_status, Checked, Filled, Joined, LacksRoom}
+use Rattle.jsonb_c.specs.Answers.{IsWritten}
+use Rattle.jsonb_c.specs.Private.Buffers.{Places}
+use Rattle.jsonb_c.specs.Columns.{Found, Cell, IsCell, AreCells, BytesRoom, ValueRoom, row, rows, ends, cell_value, cell_bytes, cell_status, Checked, Filled, Joined, LacksRoom}
+use Rattle.jsonb_c.specs.declared.column.join.Progress.{Progress}
 
 -- ---- rows
 
@@ -98,17 +100,17 @@ checked_more IsAnswerTo column old_statuses statuses i document cell at lt m her
   statuses = mapped_more cell_status m.cells old_statuses statuses cell i m.count lt m.statuses;
 }
 
-pub filled_more : {A : Type 0} (IsAnswerTo : List ℕ → Found A → Type 0) (other : A) (column : List (Option (List ℕ))) (old_values values : List A)
-    (old_statuses statuses : List ℕ) (i : ℕ) (document : Option (List ℕ)) (cell : Cell A)
-    → slice_get column i ≡ Some document → i < length old_values → i < length old_statuses
-    → Filled IsAnswerTo other column old_values values old_statuses statuses i → IsCell IsAnswerTo document cell
-    → Filled IsAnswerTo other column old_values (set values i (cell_value other cell)) old_statuses (set statuses i (cell_status cell)) (i + 1)
-filled_more IsAnswerTo other column old_values values old_statuses statuses i document cell at lt_values lt_statuses m here = record {
+pub filled_more : {A : Type 0} (IsAnswerTo : List ℕ → Found A → Type 0) (other : A) (column : List (Option (List ℕ))) (old new : ValueRoom A)
+    (i : ℕ) (document : Option (List ℕ)) (cell : Cell A)
+    → slice_get column i ≡ Some document → i < length old.0 → i < length old.1
+    → Filled IsAnswerTo other column old new i → IsCell IsAnswerTo document cell
+    → Filled IsAnswerTo other column old (set new.0 i (cell_value other cell), set new.1 i (cell_status cell)) (i + 1)
+filled_more IsAnswerTo other column old new i document cell at lt_values lt_statuses m here = record {
   cells = m.cells ++ cell ∷ [];
   count = count_more m.cells cell i m.count;
   answers = are_more IsAnswerTo column m.cells document cell i m.count at m.answers here;
-  values = mapped_more (cell_value other) m.cells old_values values cell i m.count lt_values m.values;
-  statuses = mapped_more cell_status m.cells old_statuses statuses cell i m.count lt_statuses m.statuses;
+  values = mapped_more (cell_value other) m.cells old.0 new.0 cell i m.count lt_values m.values;
+  statuses = mapped_more cell_status m.cells old.1 new.1 cell i m.count lt_statuses m.statuses;
 }
 
 -- ---- bytes
@@ -151,17 +153,13 @@ ends_more at (d ∷ cells) cell x is =
     let both = length-append (cell_bytes d) (flat_map cell_bytes cells) in
     ap (λ zs. (at + length (cell_bytes d)) ∷ zs) (ends_more (at + length (cell_bytes d)) cells cell x (omega (arith, is, both)))
 
-pub joined_more : (IsAnswerTo : List ℕ → Found (List ℕ) → Type 0) (column : List (Option (List ℕ))) (old_out out made old_positions positions
-    old_statuses statuses bytes : List ℕ)
-    (i at : ℕ) (document : Option (List ℕ)) (cell : Cell (List ℕ))
-    → slice_get column i ≡ Some document → i + 1 < length old_positions → i < length old_statuses
-    → Joined IsAnswerTo column old_out out old_positions positions old_statuses statuses i at
+pub joined_more : (IsAnswerTo : List ℕ → Found (List ℕ) → Type 0) (column : List (Option (List ℕ))) (old new : BytesRoom)
+    (made bytes : List ℕ) (i at : ℕ) (document : Option (List ℕ)) (cell : Cell (List ℕ))
+    → slice_get column i ≡ Some document → i + 1 < length old.1 → i < length old.2 → Joined IsAnswerTo column old new i at
     → IsCell IsAnswerTo document cell → bytes ≡ cell_bytes cell
-    → (at + length bytes ≤ length out) × (made ≡ take at out ++ (bytes ++ drop (at + length bytes) out))
-    → Joined IsAnswerTo column old_out made old_positions (set positions (i + 1) (at + length bytes)) old_statuses
-    (set statuses i (cell_status cell)) (i + 1) (at + length bytes)
-joined_more IsAnswerTo column old_out out made old_positions positions old_statuses statuses bytes i at document cell in_column
-    lt_positions lt_statuses k here is put =
+    → (at + length bytes ≤ length new.0) × (made ≡ take at new.0 ++ (bytes ++ drop (at + length bytes) new.0))
+    → Joined IsAnswerTo column old (made, set new.1 (i + 1) (at + length bytes), set new.2 i (cell_status cell)) (i + 1) (at + length bytes)
+joined_more IsAnswerTo column old new made bytes i at document cell in_column lt_positions lt_statuses k here is put =
     let flat = flat_more k.cells cell in
     let same : length bytes ≡ length (cell_bytes cell) = ap length is in
     let both = length-append (flat_map cell_bytes k.cells) (cell_bytes cell) in
@@ -172,10 +170,10 @@ joined_more IsAnswerTo column old_out out made old_positions positions old_statu
       count = count_more k.cells cell i k.count;
       answers = are_more IsAnswerTo column k.cells document cell i k.count in_column k.answers here;
       sum = rw flat (omega (arith, both, same, k.sum));
-      out = rw (flat, ← is) (written_behind (flat_map cell_bytes k.cells) old_out out made bytes at k.sum put.0 put.1 k.out);
-      positions = subst (λ zs. IsWritten (0 ∷ zs) old_positions (set positions (i + 1) (at + length bytes))) (sym ends_is)
-          (written_more (0 ∷ ends 0 k.cells) old_positions positions (at + length bytes) (i + 1) len lt_positions k.positions);
-      statuses = mapped_more cell_status k.cells old_statuses statuses cell i k.count lt_statuses k.statuses;
+      out = rw (flat, ← is) (written_behind (flat_map cell_bytes k.cells) old.0 new.0 made bytes at k.sum put.0 put.1 k.out);
+      positions = subst (λ zs. IsWritten (0 ∷ zs) old.1 (set new.1 (i + 1) (at + length bytes))) (sym ends_is)
+          (written_more (0 ∷ ends 0 k.cells) old.1 new.1 (at + length bytes) (i + 1) len lt_positions k.positions);
+      statuses = mapped_more cell_status k.cells old.2 new.2 cell i k.count lt_statuses k.statuses;
     }
 
 pub placed : (bytes : List ℕ) (at : ℕ) (old new : List ℕ) (b : Bool) → b ≡ true → Places bytes at old new b
@@ -188,12 +186,11 @@ pub not_placed : (bytes : List ℕ) (at : ℕ) (old new : List ℕ) (b : Bool) �
 not_placed bytes at old new true is h = cc
 not_placed bytes at old new false is h = h
 
-pub lacks_room : (IsAnswerTo : List ℕ → Found (List ℕ) → Type 0) (column : List (Option (List ℕ))) (old_out out old_positions positions old_statuses
-    statuses : List ℕ)
-    (i at next status : ℕ) (document : Option (List ℕ)) (cell : Cell (List ℕ))
-    → slice_get column i ≡ Some document → Joined IsAnswerTo column old_out out old_positions positions old_statuses statuses i at
-    → IsCell IsAnswerTo document cell → next ≡ length (cell_bytes cell)
-    → length out < at + next → status ≡ buffer_too_small → LacksRoom IsAnswerTo column (length old_out) i at next status
-lacks_room IsAnswerTo column old_out out old_positions positions old_statuses statuses i at next status document cell in_column k here is no_room too_small =
-    let len = written_len (flat_map cell_bytes k.cells) old_out out k.out in
+pub lacks_room : (IsAnswerTo : List ℕ → Found (List ℕ) → Type 0) (column : List (Option (List ℕ))) (old new : BytesRoom)
+    (progress : Progress) (status : ℕ) (document : Option (List ℕ)) (cell : Cell (List ℕ))
+    → slice_get column progress.rows ≡ Some document → Joined IsAnswerTo column old new progress.rows progress.bytes
+    → IsCell IsAnswerTo document cell → progress.next ≡ length (cell_bytes cell)
+    → length new.0 < progress.bytes + progress.next → status ≡ buffer_too_small → LacksRoom IsAnswerTo column (length old.0) progress status
+lacks_room IsAnswerTo column old new progress status document cell in_column k here is no_room too_small =
+    let len = written_len (flat_map cell_bytes k.cells) old.0 new.0 k.out in
     (too_small, omega (arith, len, no_room), (document, cell, in_column, here, is))

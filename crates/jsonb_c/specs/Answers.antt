@@ -1,5 +1,5 @@
 -- How answers lie in the caller's memory, and which status says so.
-use Rattle.std.specs.Prelude.{◌≡◌, ◌⊎◌, ◌≤◌, ◌<◌, ◌+◌, ◌++◌, ℕ, Bool, true, false, List, take, drop, length, Option, Some, None, Result, Ok, Err, IfErr}
+use Rattle.std.specs.Prelude.{◌≡◌, ◌⊎◌, ◌≤◌, ◌<◌, ◌++◌, ℕ, Bool, true, false, List, drop, length, Option, Some, None, Result, Ok, Err, IfErr}
 use Rattle.jsonb_doc.specs.declared.error.Error.{Error}
 use Rattle.jsonb_doc.specs.Payload.{Form}
 use Rattle.jsonb_doc.specs.Format.{Decodes}
@@ -21,11 +21,6 @@ whole (Err e) = Err e
 -- the list begins with the new members, and is behind them as it was
 abbrev pub IsWritten : {A : Type 0} → List A → List A → List A → Type 0
 IsWritten written old new = (length written ≤ length old) × (new ≡ written ++ drop (length written) old)
-
--- the bytes stand at a place in the buffer, which is else as it was; or they have no room there, and it is as it was
-abbrev pub Places : List ℕ → ℕ → List ℕ → List ℕ → Bool → Type 0
-Places bytes at old new true = (at + length bytes ≤ length old) × (new ≡ take at old ++ (bytes ++ drop (at + length bytes) old))
-Places bytes at old new false = (length old < at + length bytes) × (new ≡ old)
 
 -- The bytes are handed over: the length is theirs. They are written, or the buffer is too small, and as it was.
 abbrev pub DeliversBytes : List ℕ → List ℕ → List ℕ → ℕ → ℕ → Type 0

@@ -19,7 +19,7 @@ use Rattle.jsonb_doc.specs.Depth.{deepest}
 use Rattle.jsonb_raw.specs.EqualityKey.{equality_key}
 use Rattle.jsonb_raw.specs.SortableKey.{key, depths}
 use Rattle.jsonb.specs.Compare.{Truth}
-use Rattle.jsonb.specs.Meaning.{Means, meaning, predicate, is_some_item}
+use Rattle.jsonb.specs.Meaning.{meaning, predicate, is_some_item}
 use Rattle.jsonb.specs.PathTree.{Step}
 use Rattle.jsonb.specs.SelectorAnswers.{IsDocumentOf, IsPast, array_of}
 use Rattle.jsonb.specs.declared.selector.document.Mode.{Mode}
@@ -59,11 +59,6 @@ IsArrayOf form outcome answer =
 -- whether the path selects anything
 abbrev pub IsFound : Outcome (List Tree) → Result Bool Error → Type 0
 IsFound outcome answer = Gives (λ b ts. b ≡ is_some_item ts) IsOutOfMemory answer outcome
-
--- the answer of a path that may be built by hand, by each meaning that it has
-abbrev pub ByMeanings : {A : Type 0} → Mode → List ℕ → List Step → (Form → Outcome (List Tree) → Result A Error → Type 0) → Result A Error → Type 0
-ByMeanings mode document path Promise answer = (form : Form) (t : Tree) (outcome : Outcome (List Tree))
-    → Decodes form document t → Means form mode path t outcome → Promise form outcome answer
 
 -- the answer of a path that was read, by its one meaning
 abbrev pub ByMeaning : {A : Type 0} → Mode → List ℕ → Option (List Step) → (Form → Outcome (List Tree) → Result A Error → Type 0) → Result A Error → Type 0

@@ -1,10 +1,11 @@
 -- Columns: rows of documents in one buffer, and what the calls write for them.
-use Rattle.std.specs.Prelude.{◌≡◌, ◌⊎◌, ◌≤◌, ◌<◌, ◌+◌, ◌-◌, nat_le, ℕ, List, [], ◌∷◌, map, flat_map, take, length, slice_range, slice_get, Option, Some, None, Result, Ok, Err, if◌then◌else◌, ⊤}
+use Rattle.std.specs.Prelude.{◌≡◌, ◌⊎◌, ◌<◌, ◌+◌, ◌-◌, nat_le, ℕ, List, [], ◌∷◌, map, flat_map, take, length, slice_range, slice_get, Option, Some, None, Result, Ok, Err, if◌then◌else◌, ⊤}
 use Rattle.jsonb_doc.specs.declared.error.Error.{Error}
 use Rattle.jsonb_doc.specs.declared.error.Error.TheVariants.{OutOfMemory}
 use Rattle.jsonb.specs.Related.{AllRelated}
 use Rattle.jsonb_c.specs.Status.{ok, none, buffer_too_small, bad_offsets, status_of}
 use Rattle.jsonb_c.specs.Answers.{IsWritten}
+use Rattle.jsonb_c.specs.declared.column.join.Progress.{Progress}
 
 -- ---- rows
 
@@ -55,15 +56,12 @@ AreCells IsAnswerTo column cells = AllRelated (IsCell IsAnswerTo) (take (length 
 -- ---- a status a row
 
 -- the first rows are done: their statuses are written, and nothing behind
-pub record Checked {A : Type 0} (IsAnswerTo : List ℕ → Found A → Type 0) (column : List (Option (List ℕ))) (old_statuses new_statuses : List ℕ) (done : ℕ) : Type 0 where
+pub record Checked {A : Type 0} (IsAnswerTo : List ℕ → Found A → Type 0) (column : List (Option (List ℕ)))
+    (old_statuses new_statuses : List ℕ) (done : ℕ) : Type 0 where
   pub cells : List (Cell A)
   pub count : length cells ≡ done
   pub answers : AreCells IsAnswerTo column cells
   pub statuses : IsWritten (map cell_status cells) old_statuses new_statuses
-
--- the status of a call that did so many rows of all
-abbrev pub EndsAs : ℕ → ℕ → ℕ → Type 0
-EndsAs done all status = ((all ≤ done) × (status ≡ ok)) ⊎ ((done < all) × (status ≡ buffer_too_small))
 
 -- all rows are done, or as many as the buffer has room for
 abbrev pub Ends : ℕ → ℕ → ℕ → ℕ → Type 0
@@ -75,25 +73,33 @@ ChecksRows IsAnswerTo column old_statuses new_statuses done status =
 
 -- ---- a value and a status a row
 
+-- the caller's memory for values and statuses
+abbrev pub ValueRoom : Type 0 → Type 0
+ValueRoom A = List A × List ℕ
+
 -- the first rows are done: their values and statuses are written, and nothing behind
-pub record Filled {A : Type 0} (IsAnswerTo : List ℕ → Found A → Type 0) (other : A) (column : List (Option (List ℕ))) (old_values new_values : List A) (old_statuses new_statuses : List ℕ) (done : ℕ) : Type 0 where
+pub record Filled {A : Type 0} (IsAnswerTo : List ℕ → Found A → Type 0) (other : A) (column : List (Option (List ℕ)))
+    (old new : ValueRoom A) (done : ℕ) : Type 0 where
   pub cells : List (Cell A)
   pub count : length cells ≡ done
   pub answers : AreCells IsAnswerTo column cells
-  pub values : IsWritten (map (cell_value other) cells) old_values new_values
-  pub statuses : IsWritten (map cell_status cells) old_statuses new_statuses
+  pub values : IsWritten (map (cell_value other) cells) old.0 new.0
+  pub statuses : IsWritten (map cell_status cells) old.1 new.1
 
 -- all rows are done, or as many as the shorter buffer has room for
 abbrev pub EndsOfTwo : ℕ → ℕ → ℕ → ℕ → ℕ → Type 0
 EndsOfTwo all room other_room done status = ((status ≡ ok) × (done ≡ all))
     ⊎ ((status ≡ buffer_too_small) × (done < all) × ((done ≡ room) ⊎ (done ≡ other_room)))
 
-abbrev pub FillsRows : {A : Type 0} → (List ℕ → Found A → Type 0) → A → List (Option (List ℕ)) → List A → List A → List ℕ → List ℕ → ℕ → ℕ → Type 0
-FillsRows IsAnswerTo other column old_values new_values old_statuses new_statuses done status =
-    Filled IsAnswerTo other column old_values new_values old_statuses new_statuses done
-    × EndsOfTwo (length column) (length old_values) (length old_statuses) done status
+abbrev pub FillsRows : {A : Type 0} → (List ℕ → Found A → Type 0) → A → List (Option (List ℕ)) → ValueRoom A → ValueRoom A → ℕ → ℕ → Type 0
+FillsRows IsAnswerTo other column old new done status =
+    Filled IsAnswerTo other column old new done × EndsOfTwo (length column) (length old.0) (length old.1) done status
 
 -- ---- bytes and a status a row
+
+-- the caller's memory for bytes, positions and statuses
+abbrev pub BytesRoom : Type 0
+BytesRoom = List ℕ × List ℕ × List ℕ
 
 -- where the bytes of each cell end
 abbrev pub ends : ℕ → List (Cell (List ℕ)) → List ℕ
@@ -101,38 +107,36 @@ ends at [] = []
 ends at (cell ∷ cells) = (at + length (cell_bytes cell)) ∷ ends (at + length (cell_bytes cell)) cells
 
 -- The first rows are done: their bytes are written one behind the other, with the offsets between them and their statuses.
-pub record Joined (IsAnswerTo : List ℕ → Found (List ℕ) → Type 0) (column : List (Option (List ℕ))) (old_out new_out old_positions new_positions old_statuses new_statuses : List ℕ) (done total : ℕ) : Type 0 where
+pub record Joined (IsAnswerTo : List ℕ → Found (List ℕ) → Type 0) (column : List (Option (List ℕ))) (old new : BytesRoom)
+    (done total : ℕ) : Type 0 where
   pub cells : List (Cell (List ℕ))
   pub count : length cells ≡ done
   pub answers : AreCells IsAnswerTo column cells
   pub sum : length (flat_map cell_bytes cells) ≡ total
-  pub out : IsWritten (flat_map cell_bytes cells) old_out new_out
-  pub positions : IsWritten (0 ∷ ends 0 cells) old_positions new_positions
-  pub statuses : IsWritten (map cell_status cells) old_statuses new_statuses
+  pub out : IsWritten (flat_map cell_bytes cells) old.0 new.0
+  pub positions : IsWritten (0 ∷ ends 0 cells) old.1 new.1
+  pub statuses : IsWritten (map cell_status cells) old.2 new.2
 
 -- the bytes of the next row, of which the length is said, have no room
-abbrev pub LacksRoom : (List ℕ → Found (List ℕ) → Type 0) → List (Option (List ℕ)) → ℕ → ℕ → ℕ → ℕ → ℕ → Type 0
-LacksRoom IsAnswerTo column room done total next status = (status ≡ buffer_too_small) × (room < total + next)
-    × ((document : Option (List ℕ)) × (cell : Cell (List ℕ)) × (slice_get column done ≡ Some document)
-    × IsCell IsAnswerTo document cell × (next ≡ length (cell_bytes cell)))
+abbrev pub LacksRoom : (List ℕ → Found (List ℕ) → Type 0) → List (Option (List ℕ)) → ℕ → Progress → ℕ → Type 0
+LacksRoom IsAnswerTo column room progress status = (status ≡ buffer_too_small) × (room < progress.bytes + progress.next)
+    × ((document : Option (List ℕ)) × (cell : Cell (List ℕ)) × (slice_get column progress.rows ≡ Some document)
+    × IsCell IsAnswerTo document cell × (progress.next ≡ length (cell_bytes cell)))
 
 -- the bytes of the first rows are written, where there is room for the first offset
-abbrev pub JoinsSome : (List ℕ → Found (List ℕ) → Type 0) → List (Option (List ℕ)) → List ℕ → List ℕ → List ℕ → List ℕ → List ℕ → List ℕ → ℕ → ℕ → ℕ → ℕ → Type 0
-JoinsSome IsAnswerTo column old_out new_out old_positions new_positions old_statuses new_statuses done total next status =
-    Joined IsAnswerTo column old_out new_out old_positions new_positions old_statuses new_statuses done total
-    × (((next ≡ 0) × EndsOfTwo (length column) (length old_positions - 1) (length old_statuses) done status)
-    ⊎ LacksRoom IsAnswerTo column (length old_out) done total next status)
+abbrev pub JoinsSome : (List ℕ → Found (List ℕ) → Type 0) → List (Option (List ℕ)) → BytesRoom → BytesRoom → Progress → ℕ → Type 0
+JoinsSome IsAnswerTo column old new progress status = Joined IsAnswerTo column old new progress.rows progress.bytes
+    × (((progress.next ≡ 0) × EndsOfTwo (length column) (length old.1 - 1) (length old.2) progress.rows status)
+    ⊎ LacksRoom IsAnswerTo column (length old.0) progress status)
 
 -- nothing is written
-abbrev pub IsUntouched : List ℕ → List ℕ → List ℕ → List ℕ → List ℕ → List ℕ → ℕ → ℕ → ℕ → Type 0
-IsUntouched old_out new_out old_positions new_positions old_statuses new_statuses done total next =
-    (done ≡ 0) × (total ≡ 0) × (next ≡ 0) × (new_out ≡ old_out) × (new_positions ≡ old_positions) × (new_statuses ≡ old_statuses)
+abbrev pub IsUntouched : BytesRoom → BytesRoom → Progress → Type 0
+IsUntouched old new progress = (progress.rows ≡ 0) × (progress.bytes ≡ 0) × (progress.next ≡ 0) × (new ≡ old)
 
-abbrev pub JoinsRows : (List ℕ → Found (List ℕ) → Type 0) → List (Option (List ℕ)) → List ℕ → List ℕ → List ℕ → List ℕ → List ℕ → List ℕ → ℕ → ℕ → ℕ → ℕ → Type 0
-JoinsRows IsAnswerTo column old_out new_out old_positions new_positions old_statuses new_statuses done total next status =
-    ((status ≡ buffer_too_small) × (length old_positions ≡ 0)
-    × IsUntouched old_out new_out old_positions new_positions old_statuses new_statuses done total next)
-    ⊎ JoinsSome IsAnswerTo column old_out new_out old_positions new_positions old_statuses new_statuses done total next status
+abbrev pub JoinsRows : (List ℕ → Found (List ℕ) → Type 0) → List (Option (List ℕ)) → BytesRoom → BytesRoom → Progress → ℕ → Type 0
+JoinsRows IsAnswerTo column old new progress status =
+    ((status ≡ buffer_too_small) × (length old.1 ≡ 0) × IsUntouched old new progress)
+    ⊎ JoinsSome IsAnswerTo column old new progress status
 
 -- ---- calls with a path
 
@@ -141,16 +145,14 @@ abbrev pub IsRefused : Error → ℕ → Type 0
 IsRefused e status = (status ≡ status_of e) ⊎ (status ≡ status_of OutOfMemory)
 
 -- The rows are filled by the path, where the text is one; else nothing is written.
-abbrev pub FillsByPath : {P A : Type 0} → Error → Option P → (P → List ℕ → Found A → Type 0) → A → List (Option (List ℕ)) → List A → List A → List ℕ → List ℕ → ℕ → ℕ → Type 0
-FillsByPath refusal None IsAnswerBy other column old_values new_values old_statuses new_statuses done status =
-    IsRefused refusal status × (done ≡ 0) × (new_values ≡ old_values) × (new_statuses ≡ old_statuses)
-FillsByPath refusal (Some path) IsAnswerBy other column old_values new_values old_statuses new_statuses done status =
-    ((status ≡ status_of OutOfMemory) × (done ≡ 0) × (new_values ≡ old_values) × (new_statuses ≡ old_statuses))
-    ⊎ FillsRows (IsAnswerBy path) other column old_values new_values old_statuses new_statuses done status
+abbrev pub FillsByPath : {P A : Type 0} → Error → Option P → (P → List ℕ → Found A → Type 0) → A → List (Option (List ℕ))
+    → ValueRoom A → ValueRoom A → ℕ → ℕ → Type 0
+FillsByPath refusal None IsAnswerBy other column old new done status = IsRefused refusal status × (done ≡ 0) × (new ≡ old)
+FillsByPath refusal (Some path) IsAnswerBy other column old new done status =
+    ((status ≡ status_of OutOfMemory) × (done ≡ 0) × (new ≡ old)) ⊎ FillsRows (IsAnswerBy path) other column old new done status
 
-abbrev pub JoinsByPath : {P : Type 0} → Error → Option P → (P → List ℕ → Found (List ℕ) → Type 0) → List (Option (List ℕ)) → List ℕ → List ℕ → List ℕ → List ℕ → List ℕ → List ℕ → ℕ → ℕ → ℕ → ℕ → Type 0
-JoinsByPath refusal None IsAnswerBy column old_out new_out old_positions new_positions old_statuses new_statuses done total next status =
-    IsRefused refusal status × IsUntouched old_out new_out old_positions new_positions old_statuses new_statuses done total next
-JoinsByPath refusal (Some path) IsAnswerBy column old_out new_out old_positions new_positions old_statuses new_statuses done total next status =
-    ((status ≡ status_of OutOfMemory) × IsUntouched old_out new_out old_positions new_positions old_statuses new_statuses done total next)
-    ⊎ JoinsRows (IsAnswerBy path) column old_out new_out old_positions new_positions old_statuses new_statuses done total next status
+abbrev pub JoinsByPath : {P : Type 0} → Error → Option P → (P → List ℕ → Found (List ℕ) → Type 0) → List (Option (List ℕ))
+    → BytesRoom → BytesRoom → Progress → ℕ → Type 0
+JoinsByPath refusal None IsAnswerBy column old new progress status = IsRefused refusal status × IsUntouched old new progress
+JoinsByPath refusal (Some path) IsAnswerBy column old new progress status =
+    ((status ≡ status_of OutOfMemory) × IsUntouched old new progress) ⊎ JoinsRows (IsAnswerBy path) column old new progress status

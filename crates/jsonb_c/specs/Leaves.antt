@@ -11,6 +11,7 @@ use Rattle.jsonb.specs.Related.{AllRelated}
 use Rattle.jsonb_raw.specs.Leaves.{Leaf, leaves}
 use Rattle.jsonb_c.specs.Status.{ok, buffer_too_small, status_of}
 use Rattle.jsonb_c.specs.Answers.{IsWritten}
+use Rattle.jsonb_c.specs.declared.leaves.LeafSizes.{LeafSizes}
 
 -- the text of a key path, and a document
 abbrev pub LeafRow : Type 0
@@ -37,36 +38,37 @@ abbrev pub positions_from : ℕ → List (List ℕ) → List ℕ
 positions_from at [] = at ∷ []
 positions_from at (row ∷ rows) = at ∷ positions_from (at + length row) rows
 
+-- a column in the caller's memory: its bytes, and its positions
+abbrev pub Buffers : Type 0
+Buffers = List ℕ × List ℕ
+
 -- the buffers take the rows and the positions between them
-abbrev pub HasRoom : List (List ℕ) → List ℕ → List ℕ → Type 0
-HasRoom rows bytes positions = (length (concat rows) ≤ length bytes) × (length rows < length positions)
+abbrev pub HasRoom : List (List ℕ) → Buffers → Type 0
+HasRoom rows column = (length (concat rows) ≤ length column.0) × (length rows < length column.1)
 
 -- the rows are written one behind the other, with the positions between them
-abbrev pub IsWrittenColumn : List (List ℕ) → List ℕ → List ℕ → List ℕ → List ℕ → Type 0
-IsWrittenColumn rows old_bytes new_bytes old_positions new_positions =
-    IsWritten (concat rows) old_bytes new_bytes × IsWritten (positions_from 0 rows) old_positions new_positions
+abbrev pub IsWrittenColumn : List (List ℕ) → Buffers → Buffers → Type 0
+IsWrittenColumn rows old new = IsWritten (concat rows) old.0 new.0 × IsWritten (positions_from 0 rows) old.1 new.1
 
 -- ---- both columns
 
--- Rows are handed over as two columns: it is said how many they are and how many bytes each column has. Both are written, or they have no
--- room, and nothing is.
-abbrev pub DeliversRows : List LeafRow → List ℕ → List ℕ → List ℕ → List ℕ → List ℕ → List ℕ → List ℕ → List ℕ → ℕ → ℕ → ℕ → ℕ → Type 0
-DeliversRows found old_paths new_paths old_path_positions new_path_positions old_documents new_documents old_positions new_positions
-    count path_bytes document_bytes status =
-    (count ≡ length found) × (path_bytes ≡ length (concat (paths_of found))) × (document_bytes ≡ length (concat (documents_of found)))
-    × (((status ≡ ok) × IsWrittenColumn (paths_of found) old_paths new_paths old_path_positions new_path_positions
-    × IsWrittenColumn (documents_of found) old_documents new_documents old_positions new_positions)
+-- how many rows there are, and how many bytes each column has
+abbrev pub AreSizesOf : LeafSizes → List LeafRow → Type 0
+AreSizesOf sizes found = (sizes.rows ≡ length found) × (sizes.path_bytes ≡ length (concat (paths_of found)))
+    × (sizes.document_bytes ≡ length (concat (documents_of found)))
+
+-- Rows are handed over as two columns, and their sizes are said. Both are written, or they have no room, and nothing is.
+abbrev pub DeliversRows : List LeafRow → Buffers → Buffers → Buffers → Buffers → LeafSizes → ℕ → Type 0
+DeliversRows found old_paths new_paths old_documents new_documents sizes status = AreSizesOf sizes found
+    × (((status ≡ ok) × IsWrittenColumn (paths_of found) old_paths new_paths
+    × IsWrittenColumn (documents_of found) old_documents new_documents)
     ⊎ ((status ≡ buffer_too_small)
-    × (HasRoom (paths_of found) old_paths old_path_positions → HasRoom (documents_of found) old_documents old_positions → ⊥)
-    × (new_paths ≡ old_paths) × (new_path_positions ≡ old_path_positions) × (new_documents ≡ old_documents) × (new_positions ≡ old_positions)))
+    × (HasRoom (paths_of found) old_paths → HasRoom (documents_of found) old_documents → ⊥)
+    × (new_paths ≡ old_paths) × (new_documents ≡ old_documents)))
 
 -- the same, or nothing is handed over
-abbrev pub DeliversLeaves : Result (List LeafRow) Error → List ℕ → List ℕ → List ℕ → List ℕ → List ℕ → List ℕ → List ℕ → List ℕ → ℕ → ℕ → ℕ → ℕ → Type 0
-DeliversLeaves (Ok found) old_paths new_paths old_path_positions new_path_positions old_documents new_documents old_positions new_positions
-    count path_bytes document_bytes status =
-    DeliversRows found old_paths new_paths old_path_positions new_path_positions old_documents new_documents old_positions new_positions
-    count path_bytes document_bytes status
-DeliversLeaves (Err e) old_paths new_paths old_path_positions new_path_positions old_documents new_documents old_positions new_positions
-    count path_bytes document_bytes status =
-    (status ≡ status_of e) × (count ≡ 0) × (path_bytes ≡ 0) × (document_bytes ≡ 0)
-    × (new_paths ≡ old_paths) × (new_path_positions ≡ old_path_positions) × (new_documents ≡ old_documents) × (new_positions ≡ old_positions)
+abbrev pub DeliversLeaves : Result (List LeafRow) Error → Buffers → Buffers → Buffers → Buffers → LeafSizes → ℕ → Type 0
+DeliversLeaves (Ok found) old_paths new_paths old_documents new_documents sizes status =
+    DeliversRows found old_paths new_paths old_documents new_documents sizes status
+DeliversLeaves (Err e) old_paths new_paths old_documents new_documents sizes status =
+    (status ≡ status_of e) × AreSizesOf sizes [] × (new_paths ≡ old_paths) × (new_documents ≡ old_documents)

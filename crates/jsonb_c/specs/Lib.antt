@@ -9,4 +9,4 @@ pub mod Names
 pub mod Views
 pub mod Making
 pub mod Leaves
-pub mod LeafColumns
+pub mod Private

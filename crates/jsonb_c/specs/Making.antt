@@ -7,7 +7,7 @@ use Rattle.jsonb_doc.specs.declared.error.Error.TheVariants.{ObjectDuplicateKey,
 use Rattle.jsonb_doc.specs.Answer.{Gives, Outcome, IsOutOfMemory, IsOutOfMemoryOrTooLarge, ◌or◌when◌}
 use Rattle.jsonb_doc.specs.Limits.{IsTooLarge}
 use Rattle.jsonb_doc.specs.ObjectBuilder.{has_key, insert_pair}
-use Rattle.jsonb_doc.specs.Number.{number_from, decimal64, decimal128}
+use Rattle.jsonb_doc.specs.Number.{Number, number_from, decimal64, decimal128}
 use Rattle.jsonb_doc.specs.Tree.{Tree, array, number, object, members, pairs_of, trees_of, children_of}
 use Rattle.jsonb_doc.specs.Payload.{Form}
 use Rattle.jsonb_doc.specs.Format.{Decodes}
@@ -24,6 +24,10 @@ Encodes t answer = (form : Form) → MatchResult answer (λ made. Decodes form m
 -- the whole value of two halves, of which the lower is unsigned
 abbrev pub whole_of : ℤ → ℕ → ℤ
 whole_of high low = (high *ℤ pos (2 ^ 64)) +ℤ pos low
+
+-- two halves and a scale that are the parts of the number
+abbrev pub ArePartsOf : ℤ × ℕ × ℕ → Number → Type 0
+ArePartsOf parts n = (whole_of parts.0 parts.1 ≡ n.whole) × (parts.2 ≡ n.scale)
 
 -- the decimal of a whole value and a scale: of 64 bits where the value fits, else of 128
 abbrev pub IsDecimalOf : ℤ → ℕ → Tree → Type 0

@@ -1,11 +1,10 @@
 -- Columns of names.
-use Rattle.std.specs.Prelude.{◌≡◌, ◌⊎◌, not, filter, ℕ, List, [], ◌∷◌, Option, Some, None, Result, Ok, Err, MatchResult, if◌then◌else◌}
-use Rattle.std.specs.Borrow.{Bor}
+use Rattle.std.specs.Prelude.{◌≡◌, ◌⊎◌, not, filter, ℕ, List, [], ◌∷◌, Option, Some, None, Result, Ok, Err, if◌then◌else◌}
 use Rattle.std.specs.List.{list_any}
 use Rattle.std.specs.Str.{bytes_eq, is_utf8}
 use Rattle.jsonb_doc.specs.declared.error.Error.TheVariants.{OutOfMemory}
 use Rattle.jsonb_doc.specs.Tree.{Tree}
-use Rattle.jsonb_raw.specs.Objects.{TextSet, is_in, with_pairs}
+use Rattle.jsonb_raw.specs.Objects.{with_pairs}
 use Rattle.jsonb_c.specs.Status.{code}
 use Rattle.jsonb_c.specs.declared.status.Status.{Status}
 use Rattle.jsonb_c.specs.declared.status.Status.TheVariants.{BadOffsets, NotUtf8, Refused}
@@ -25,10 +24,6 @@ abbrev pub names_of : List (Option (List ℕ)) → Result (List (List ℕ)) Stat
 names_of [] = Ok []
 names_of (row ∷ rows) = in_front (name_of row) (names_of rows)
 
--- the name that was read of a row, or what is wrong with it
-abbrev pub IsNameOf : Result (Bor (List ℕ)) Status → Option (List ℕ) → Type 0
-IsNameOf answer row = MatchResult answer (λ name. name_of row ≡ Ok name.now) (λ cause. name_of row ≡ Err cause)
-
 -- the call is answered by the names, or it is refused for what is wrong with them
 abbrev pub ByNames : Result (List (List ℕ)) Status → (List (List ℕ) → Type 0) → (Status → Type 0) → Type 0
 ByNames (Ok names) Answered IsRefused = Answered names
@@ -43,10 +38,6 @@ abbrev pub IsAsItWas : {A : Type 0} → A → A → ℕ → Status → Type 0
 IsAsItWas old new status cause = (new ≡ old) × (status ≡ code cause)
 
 -- ---- sets of names
-
--- the set holds these names
-abbrev pub HasNames : TextSet → List (List ℕ) → Type 0
-HasNames set names = (q : List ℕ) → is_in set q ≡ list_any (λ name. bytes_eq name q) names
 
 -- an object's pairs whose keys are among the names
 abbrev pub picked_names : List (List ℕ) → Tree → Option Tree

@@ -15,7 +15,7 @@ use Rattle.jsonb.specs.PathTree.{Step}
 use Rattle.jsonb.specs.SelectionErrors.{IsDocumentError, IsSelectionError}
 use Rattle.jsonb.specs.declared.selector.document.Mode.{Mode}
 use Rattle.jsonb_c.specs.Answers.{OfDocument, OfBoth, bool_byte, truth_byte}
-use Rattle.jsonb_c.specs.Calls.{ByMeanings, DeletesPlace, IsCheckOf, IsEqualityKeyOf, IsFound, IsKeyOf, IsPicked, IsTruthOf}
+use Rattle.jsonb_c.specs.Calls.{DeletesPlace, IsCheckOf, IsEqualityKeyOf, IsFound, IsKeyOf, IsPicked, IsTruthOf}
 use Rattle.jsonb_c.specs.Columns.{Found, cell_status}
 use Rattle.jsonb_c.specs.Views.{key_answer}
 
@@ -34,11 +34,6 @@ Writes {A} IsAnswer Refusals written row = (answer : Result A Error) × IsAnswer
 abbrev pub TellsExistence : Mode → List Step → List ℕ → Found ℕ → Type 0
 TellsExistence mode path document row =
     Writes (OfDocument document (λ form t. IsFound (meaning mode path t))) (IsSelectionError mode) bool_byte row
-
--- the same by each meaning that a path may have which is built by hand
-abbrev pub TellsExistenceBy : Mode → List Step → List ℕ → Found ℕ → Type 0
-TellsExistenceBy mode path document row =
-    Writes (ByMeanings mode document path (λ form. IsFound)) (IsSelectionError mode) bool_byte row
 
 -- what the path says
 abbrev pub TellsTruth : Mode → List Step → List ℕ → Found ℕ → Type 0
@@ -90,7 +85,3 @@ DeletesPart steps document row =
 abbrev pub SelectsItem : Mode → (List Tree → Option Tree) → List Step → List ℕ → Found (List ℕ) → Type 0
 SelectsItem mode pick path document row =
     OfDocument document (λ form t. IsPicked form pick (meaning mode path t)) row × IfErr row (IsDocumentError mode)
-
--- the same by each meaning that a path may have which is built by hand
-abbrev pub SelectsItemBy : Mode → (List Tree → Option Tree) → List Step → List ℕ → Found (List ℕ) → Type 0
-SelectsItemBy mode pick path document row = ByMeanings mode document path (λ form. IsPicked form pick) row × IfErr row (IsDocumentError mode)

@@ -2,8 +2,10 @@
 
 ghost use Rattle.std.specs.Prelude.{◌≡◌, ◌≤◌, ◌+◌, ◌++◌, take, drop, length};
 ghost use Rattle.jsonb_c.specs.Status.{code};
-ghost use Rattle.jsonb_c.specs.Answers.{Delivers, DeliversBytes, Places, Shows, ShowsBool, ShowsFound, ShowsFoundBool, ShowsTruth, bool_byte, truth_byte, whole};
-ghost use Rattle.jsonb_c.specs.Views.{found_text, key_answer, text_answer};
+ghost use Rattle.jsonb_c.specs.Answers.{Delivers, DeliversBytes, Shows, ShowsBool, ShowsFound, ShowsFoundBool, ShowsTruth, bool_byte, truth_byte, whole};
+ghost use Rattle.jsonb_c.specs.Private.Buffers.{Places};
+ghost use Rattle.jsonb_c.specs.Views.{key_answer};
+ghost use Rattle.jsonb_c.specs.Private.Views.{found_text, text_answer};
 
 use crate::status::Status;
 use jsonb::{Error, OwnedJsonb};

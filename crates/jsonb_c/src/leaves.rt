@@ -12,7 +12,7 @@ ghost use Rattle.jsonb.specs.KeyPathViews.{key_paths_view};
 ghost use Rattle.jsonb.specs.Related.{AllRelated};
 ghost use Rattle.jsonb_raw.specs.Leaves.{is_leaf, leaves};
 ghost use Rattle.jsonb_c.specs.Answers.{HandsOver, IsWritten, OfDocument};
-ghost use Rattle.jsonb_c.specs.LeafColumns.{HasLeaves, HasRows, IsLeafRefusal, IsRowOf};
+ghost use Rattle.jsonb_c.specs.Private.LeafColumns.{HasLeaves, HasRows, IsLeafRefusal, IsRowOf};
 ghost use Rattle.jsonb_c.specs.Leaves.{AreLeavesOf, DeliversLeaves, IsRowOfLeaf, IsWrittenColumn, LeafRow, positions_from};
 ghost use Rattle.jsonb_c.specs.Status.{status_of};
 
@@ -46,9 +46,8 @@ pub extern "C" fn jsonb_leaves(
 ) -> u32
     ensures { HandsOver (OfDocument document.now (λ form t. AreLeavesOf form t))
         (IsDecodingError or OutOfMemory or TooLarge)
-        (λ answer. DeliversLeaves answer paths.old paths.new path_positions.old path_positions.new
-        documents.old documents.new positions.old positions.new
-        sizes.new.rows sizes.new.path_bytes sizes.new.document_bytes result) }
+        (λ answer. DeliversLeaves answer (paths.old, path_positions.old) (paths.new, path_positions.new)
+        (documents.old, positions.old) (documents.new, positions.new) sizes.new result) }
 {
     match leaf_columns(alloc, document) {
         Ok(columns) => {

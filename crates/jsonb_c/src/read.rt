@@ -6,7 +6,7 @@ ghost use Rattle.jsonb_doc.specs.declared.error.Error.{Error};
 ghost use Rattle.jsonb_doc.specs.declared.error.Error.TheVariants.{OutOfMemory, TooLarge};
 ghost use Rattle.jsonb_c.specs.Answers.{HandsOver, OfDocument, ShowsFound};
 ghost use Rattle.jsonb_c.specs.Making.{DeliversPair, FindsPair, children_count};
-ghost use Rattle.jsonb_c.specs.Views.{pair_answer};
+ghost use Rattle.jsonb_c.specs.Private.Views.{pair_answer};
 
 use crate::deliver::{place, show_found};
 use crate::status::Status;

@@ -1,12 +1,12 @@
 //! What a call asks of each row, and what came of a row.
 
-ghost use Rattle.std.specs.Prelude.{◌≡◌, option_copied};
-ghost use Rattle.jsonb_c.specs.Columns.{EndsAs, IsCell, cell_bytes, cell_status, cell_value};
+ghost use Rattle.std.specs.Prelude.{◌≡◌, ℕ, List, option_copied};
+ghost use Rattle.jsonb_c.specs.Columns.{IsCell, cell_bytes, cell_status, cell_value};
+ghost use Rattle.jsonb_c.specs.Private.Buffers.{EndsAs, written_cell};
 
 use crate::status::Status;
 use jsonb::Error;
 use std::alloc::Global;
-use std::marker::Model;
 
 /// What a call asks of each row.
 pub(crate) trait RowCall<A> {
@@ -54,35 +54,54 @@ pub(crate) fn cell_value<A: Copy>(cell: &Cell<A>, other: A) -> A
     }
 }
 
-/// The bytes of an answer.
-#[derive(Drop)]
-pub(crate) struct Made {
-    bytes: Vec<u8>,
-}
-
-impl Model for Made {
+/// What a call writes for each row.
+pub(crate) trait RowWriter {
     ghost use Rattle.std.specs.Prelude.{ℕ, List};
+    ghost use Rattle.jsonb_c.specs.Columns.{Found};
+    ghost use Rattle.jsonb_c.specs.Private.Buffers.{written_answer};
 
-    ghost Value = { List ℕ };
+    ghost IsAnswerTo: { Self → List ℕ → Found (List ℕ) → Type 0 };
 
-    ghost view = { λ made. made.bytes.items };
+    /// Writes what the call answers of a row's document over what the buffer holds; answers whether there is anything.
+    fn write(&self, alloc: Global, document: &[u8], out: &mut Vec<u8>) -> Result<bool, Error>
+        ensures { IsAnswerTo self.now document.now (written_answer result out.new.items) };
 }
 
-impl Made {
-    /// These bytes.
-    pub(crate) fn new(bytes: Vec<u8>) -> Made
-        ensures { result ≡ bytes.items }
-    {
-        Made { bytes }
-    }
+/// What came of a row whose bytes lie in a buffer: whether there are any, none where its offsets are wrong.
+pub(crate) type Written = Option<Result<bool, Error>>;
+
+/// Asks a row for its bytes.
+pub(crate) fn ask_for_bytes<C: RowWriter>(
+    alloc: Global,
+    call: &C,
+    row: Option<&[u8]>,
+    out: &mut Vec<u8>,
+) -> Written
+    ensures { IsCell (C.IsAnswerTo call.now) (option_copied row.entry) (written_cell result out.new.items) }
+{
+    let document = row?;
+    Some(call.write(alloc, document, out))
+}
+
+/// The status of a row.
+pub(crate) fn written_status(cell: Written) -> u8
+    ensures { (bytes : List ℕ) → result ≡ cell_status (written_cell cell bytes) }
+{
+    let status = match cell {
+        Some(Ok(true)) => Status::Answered,
+        Some(Ok(false)) => Status::Absent,
+        Some(Err(error)) => Status::Refused(error),
+        None => Status::BadOffsets,
+    };
+    status.to_u8()
 }
 
 /// The bytes of a row, which has none where it has no answer.
-pub(crate) fn cell_bytes(cell: &Cell<Made>) -> &[u8]
-    ensures { result.now ≡ cell_bytes cell.now }
+pub(crate) fn written_bytes(cell: Written, bytes: &[u8]) -> &[u8]
+    ensures { result.now ≡ cell_bytes (written_cell cell bytes.entry.now) }
 {
     match cell {
-        Some(Ok(Some(made))) => made.bytes.as_slice(),
+        Some(Ok(true)) => bytes,
         _ => &[],
     }
 }

@@ -9,7 +9,7 @@ ghost use Rattle.jsonb_c.specs.Columns.{FillsRows, JoinsRows, rows};
 ghost use Rattle.jsonb_c.specs.Rows.{WritesI64, WritesText};
 
 use super::Column;
-use super::call::{Made, RowCall};
+use super::call::{RowCall, RowWriter};
 use super::fill::fill_rows;
 use super::join::{Progress, join_rows};
 use jsonb::{Error, RawJsonb};
@@ -41,14 +41,15 @@ fn i64_of(document: &[u8]) -> Result<i64, Error>
 #[derive(Clone, Copy)]
 struct ToText;
 
-impl RowCall<Made> for ToText {
+impl RowWriter for ToText {
     ghost use Rattle.jsonb_c.specs.Rows.{WritesText};
 
     ghost IsAnswerTo = { λ call document answer. WritesText document answer };
 
-    fn answer(&self, alloc: Global, document: &[u8]) -> Result<Option<Made>, Error> {
+    fn write(&self, alloc: Global, document: &[u8], out: &mut Vec<u8>) -> Result<bool, Error> {
         let text = text_of(alloc, document)?;
-        Ok(Some(Made::new(text.into_bytes())))
+        *out = text.into_bytes();
+        Ok(true)
     }
 }
 
@@ -69,8 +70,8 @@ pub extern "C" fn jsonb_column_to_i64(
     statuses: &mut [u8],
     done: &mut usize,
 ) -> u32
-    ensures { FillsRows WritesI64 (pos 0) (rows bytes.now offsets.now) numbers.old numbers.new
-        statuses.old statuses.new done.new result }
+    ensures { FillsRows WritesI64 (pos 0) (rows bytes.now offsets.now)
+        (numbers.old, statuses.old) (numbers.new, statuses.new) done.new result }
 {
     let column = Column::new(bytes, offsets);
     fill_rows(alloc, &ToI64, 0, &column, numbers, statuses, done)
@@ -87,9 +88,8 @@ pub extern "C" fn jsonb_column_to_str(
     statuses: &mut [u8],
     progress: &mut Progress,
 ) -> u32
-    ensures { JoinsRows WritesText (rows bytes.now offsets.now) out.old out.new
-        positions.old positions.new statuses.old statuses.new
-        progress.new.rows progress.new.bytes progress.new.next result }
+    ensures { JoinsRows WritesText (rows bytes.now offsets.now)
+        (out.old, positions.old, statuses.old) (out.new, positions.new, statuses.new) progress.new result }
 {
     let column = Column::new(bytes, offsets);
     join_rows(alloc, &ToText, &column, out, positions, statuses, progress)

@@ -1,6 +1,6 @@
 //! A document a row: what a path selects, the part at a place, and the document without it.
 
-ghost use Rattle.std.specs.Prelude.{◌≡◌, IfErr};
+ghost use Rattle.std.specs.Prelude.{◌≡◌, IfErr, Ok};
 ghost use Rattle.jsonb_doc.specs.Answer.{IsDecodingError, ◌or◌};
 ghost use Rattle.jsonb_doc.specs.declared.error.Error.TheVariants.{InvalidJsonPath, InvalidJsonType, InvalidKeyPath, OutOfMemory, TooLarge};
 ghost use Rattle.jsonb_raw.specs.Documents.{MakesOption};
@@ -12,13 +12,17 @@ ghost use Rattle.jsonb.specs.PathViews.{path_view};
 ghost use Rattle.jsonb.specs.SelectionErrors.{IsDocumentError};
 ghost use Rattle.jsonb.specs.SelectorAnswers.{first_item, single_or_array};
 ghost use Rattle.jsonb_c.specs.Answers.{OfDocument};
-ghost use Rattle.jsonb_c.specs.Calls.{ByMeanings, DeletesPlace, IsPicked, mode_of};
+ghost use Rattle.jsonb_c.specs.Calls.{DeletesPlace, IsPicked, mode_of};
+ghost use Rattle.jsonb_c.specs.Private.ByHand.{ByMeanings};
 ghost use Rattle.jsonb_c.specs.Columns.{JoinsByPath, rows};
+ghost use Rattle.jsonb_c.specs.Private.Buffers.{written_answer};
+ghost use Rattle.jsonb_c.specs.Private.ByHand.{place_of};
 ghost use Rattle.jsonb_c.specs.Rows.{DeletesPart, FindsPart, SelectsItem};
-ghost use Rattle.jsonb_c.specs.Views.{one_array, pick_of};
+ghost use Rattle.jsonb_c.specs.Views.{one_array};
+ghost use Rattle.jsonb_c.specs.Private.Views.{pick_of};
 
 use super::Column;
-use super::call::{Made, RowCall};
+use super::call::RowWriter;
 use super::join::{Progress, do_nothing, join_rows};
 use crate::document::select::{Pick, pick_by_path};
 use crate::status::Status;
@@ -33,43 +37,68 @@ struct Selects<'p> {
     pick: Pick,
 }
 
-impl RowCall<Made> for Selects<'_> {
+impl RowWriter for Selects<'_> {
     ghost use Rattle.jsonb.specs.PathViews.{path_view};
     ghost use Rattle.jsonb_c.specs.Calls.{mode_of};
-    ghost use Rattle.jsonb_c.specs.Rows.{SelectsItemBy};
-    ghost use Rattle.jsonb_c.specs.Views.{pick_of};
+    ghost use Rattle.jsonb_c.specs.Private.ByHand.{SelectsItemBy};
+    ghost use Rattle.jsonb_c.specs.Private.Views.{pick_of};
 
     ghost IsAnswerTo = { λ call document answer.
         SelectsItemBy (mode_of call.strict) (pick_of call.pick) (path_view call.path) document answer };
 
-    fn answer(&self, alloc: Global, document: &[u8]) -> Result<Option<Made>, Error> {
+    fn write(&self, alloc: Global, document: &[u8], out: &mut Vec<u8>) -> Result<bool, Error> {
         let picked = pick_by_path(alloc, document, &self.path, self.strict, self.pick)?;
-        Ok(made_of(picked))
+        Ok(write_found(picked, out))
     }
 }
 
-/// The bytes of a document.
-fn made_of(document: Option<OwnedJsonb>) -> Option<Made>
-    ensures { result ≡ document }
+/// Writes a document that was found.
+fn write_found(document: Option<OwnedJsonb>, out: &mut Vec<u8>) -> bool
+    ensures { written_answer (Ok result) out.new.items ≡ Ok document }
 {
-    Some(Made::new(document?.to_vec()))
+    match document {
+        Some(document) => {
+            *out = document.to_vec();
+            true
+        }
+        None => false,
+    }
 }
 
-/// The part at a place.
+/// What is wanted of a place.
+#[derive(Clone, Copy)]
+enum Wanted {
+    /// The part there.
+    Part,
+    /// The document without it.
+    Rest,
+}
+
+/// The part at a place, or the document without it.
 #[derive(Drop)]
-struct Gets<'p> {
+struct AtPlace<'p> {
     steps: KeyPaths<'p>,
+    wanted: Wanted,
 }
 
-impl RowCall<Made> for Gets<'_> {
+impl RowWriter for AtPlace<'_> {
     ghost use Rattle.jsonb.specs.KeyPathViews.{key_paths_view};
-    ghost use Rattle.jsonb_c.specs.Rows.{FindsPart};
+    ghost use Rattle.jsonb_c.specs.Private.ByHand.{place_of};
 
-    ghost IsAnswerTo = { λ call document answer. FindsPart (key_paths_view call.steps) document answer };
+    ghost IsAnswerTo = { λ call document answer. place_of call.wanted (key_paths_view call.steps) document answer };
 
-    fn answer(&self, alloc: Global, document: &[u8]) -> Result<Option<Made>, Error> {
-        let part = part_at(alloc, document, &self.steps)?;
-        Ok(made_of(part))
+    fn write(&self, alloc: Global, document: &[u8], out: &mut Vec<u8>) -> Result<bool, Error> {
+        match self.wanted {
+            Wanted::Part => {
+                let part = part_at(alloc, document, &self.steps)?;
+                Ok(write_found(part, out))
+            }
+            Wanted::Rest => {
+                let left = without_part(alloc, document, &self.steps)?;
+                *out = left.to_vec();
+                Ok(true)
+            }
+        }
     }
 }
 
@@ -83,24 +112,6 @@ fn part_at<'a>(
     ensures errors { IfErr result (IsDecodingError or OutOfMemory or TooLarge) }
 {
     RawJsonb::new(document).get_by_keypath(alloc, steps.paths.iter())
-}
-
-/// A document without a place.
-#[derive(Drop)]
-struct Deletes<'p> {
-    steps: KeyPaths<'p>,
-}
-
-impl RowCall<Made> for Deletes<'_> {
-    ghost use Rattle.jsonb.specs.KeyPathViews.{key_paths_view};
-    ghost use Rattle.jsonb_c.specs.Rows.{DeletesPart};
-
-    ghost IsAnswerTo = { λ call document answer. DeletesPart (key_paths_view call.steps) document answer };
-
-    fn answer(&self, alloc: Global, document: &[u8]) -> Result<Option<Made>, Error> {
-        let left = without_part(alloc, document, &self.steps)?;
-        Ok(Some(Made::new(left.to_vec())))
-    }
 }
 
 fn without_part<'a>(
@@ -126,23 +137,14 @@ pub extern "C" fn jsonb_column_get(
     statuses: &mut [u8],
     progress: &mut Progress,
 ) -> u32
-    ensures { JoinsByPath InvalidKeyPath (key_path path.now) FindsPart (rows bytes.now offsets.now) out.old out.new
-        positions.old positions.new statuses.old statuses.new
-        progress.new.rows progress.new.bytes progress.new.next result }
+    ensures { JoinsByPath InvalidKeyPath (key_path path.now) FindsPart (rows bytes.now offsets.now)
+        (out.old, positions.old, statuses.old) (out.new, positions.new, statuses.new) progress.new result }
 {
     let column = Column::new(bytes, offsets);
-    match parse_key_paths(alloc, path) {
-        Ok(steps) => join_rows(
-            alloc,
-            &Gets { steps },
-            &column,
-            out,
-            positions,
-            statuses,
-            progress,
-        ),
-        Err(error) => do_nothing(Status::Refused(error), progress),
-    }
+    let wanted = Wanted::Part;
+    place_rows(
+        alloc, &column, path, wanted, out, positions, statuses, progress,
+    )
 }
 
 /// Each document without the place that a key path meets.
@@ -157,21 +159,34 @@ pub extern "C" fn jsonb_column_delete_by_keypath(
     statuses: &mut [u8],
     progress: &mut Progress,
 ) -> u32
-    ensures { JoinsByPath InvalidKeyPath (key_path path.now) DeletesPart (rows bytes.now offsets.now) out.old out.new
-        positions.old positions.new statuses.old statuses.new
-        progress.new.rows progress.new.bytes progress.new.next result }
+    ensures { JoinsByPath InvalidKeyPath (key_path path.now) DeletesPart (rows bytes.now offsets.now)
+        (out.old, positions.old, statuses.old) (out.new, positions.new, statuses.new) progress.new result }
 {
     let column = Column::new(bytes, offsets);
+    let wanted = Wanted::Rest;
+    place_rows(
+        alloc, &column, path, wanted, out, positions, statuses, progress,
+    )
+}
+
+fn place_rows(
+    alloc: Global,
+    column: &Column<'_>,
+    path: &[u8],
+    wanted: Wanted,
+    out: &mut [u8],
+    positions: &mut [u64],
+    statuses: &mut [u8],
+    progress: &mut Progress,
+) -> u32
+    ensures { JoinsByPath InvalidKeyPath (key_path path.now) (place_of wanted) column.now
+        (out.old, positions.old, statuses.old) (out.new, positions.new, statuses.new) progress.new result }
+{
     match parse_key_paths(alloc, path) {
-        Ok(steps) => join_rows(
-            alloc,
-            &Deletes { steps },
-            &column,
-            out,
-            positions,
-            statuses,
-            progress,
-        ),
+        Ok(steps) => {
+            let call = AtPlace { steps, wanted };
+            join_rows(alloc, &call, column, out, positions, statuses, progress)
+        }
         Err(error) => do_nothing(Status::Refused(error), progress),
     }
 }
@@ -190,20 +205,13 @@ pub extern "C" fn jsonb_column_select_first(
     progress: &mut Progress,
 ) -> u32
     ensures { JoinsByPath InvalidJsonPath (json_path path.now) (SelectsItem (mode_of strict) first_item)
-        (rows bytes.now offsets.now) out.old out.new positions.old positions.new statuses.old statuses.new
-        progress.new.rows progress.new.bytes progress.new.next result }
+        (rows bytes.now offsets.now)
+        (out.old, positions.old, statuses.old) (out.new, positions.new, statuses.new) progress.new result }
 {
     let column = Column::new(bytes, offsets);
+    let pick = Pick::First;
     select_rows(
-        alloc,
-        &column,
-        path,
-        strict,
-        Pick::First,
-        out,
-        positions,
-        statuses,
-        progress,
+        alloc, &column, path, strict, pick, out, positions, statuses, progress,
     )
 }
 
@@ -221,20 +229,13 @@ pub extern "C" fn jsonb_column_select_value(
     progress: &mut Progress,
 ) -> u32
     ensures { JoinsByPath InvalidJsonPath (json_path path.now) (SelectsItem (mode_of strict) single_or_array)
-        (rows bytes.now offsets.now) out.old out.new positions.old positions.new statuses.old statuses.new
-        progress.new.rows progress.new.bytes progress.new.next result }
+        (rows bytes.now offsets.now)
+        (out.old, positions.old, statuses.old) (out.new, positions.new, statuses.new) progress.new result }
 {
     let column = Column::new(bytes, offsets);
+    let pick = Pick::Value;
     select_rows(
-        alloc,
-        &column,
-        path,
-        strict,
-        Pick::Value,
-        out,
-        positions,
-        statuses,
-        progress,
+        alloc, &column, path, strict, pick, out, positions, statuses, progress,
     )
 }
 
@@ -252,20 +253,13 @@ pub extern "C" fn jsonb_column_select_array(
     progress: &mut Progress,
 ) -> u32
     ensures { JoinsByPath InvalidJsonPath (json_path path.now) (SelectsItem (mode_of strict) one_array)
-        (rows bytes.now offsets.now) out.old out.new positions.old positions.new statuses.old statuses.new
-        progress.new.rows progress.new.bytes progress.new.next result }
+        (rows bytes.now offsets.now)
+        (out.old, positions.old, statuses.old) (out.new, positions.new, statuses.new) progress.new result }
 {
     let column = Column::new(bytes, offsets);
+    let pick = Pick::Array;
     select_rows(
-        alloc,
-        &column,
-        path,
-        strict,
-        Pick::Array,
-        out,
-        positions,
-        statuses,
-        progress,
+        alloc, &column, path, strict, pick, out, positions, statuses, progress,
     )
 }
 
@@ -281,8 +275,8 @@ fn select_rows(
     progress: &mut Progress,
 ) -> u32
     ensures { JoinsByPath InvalidJsonPath (json_path path.now) (SelectsItem (mode_of strict) (pick_of pick))
-        column.now out.old out.new positions.old positions.new statuses.old statuses.new
-        progress.new.rows progress.new.bytes progress.new.next result }
+        column.now
+        (out.old, positions.old, statuses.old) (out.new, positions.new, statuses.new) progress.new result }
 {
     match parse_json_path(alloc, path) {
         Ok(path) => {

@@ -40,8 +40,8 @@ pub(crate) fn fill_rows<A: Copy, C: RowCall<A>>(
     statuses: &mut [u8],
     done: &mut usize,
 ) -> u32
-    ensures { FillsRows (C.IsAnswerTo call.now) other column.now values.old values.new statuses.old statuses.new
-        done.new result }
+    ensures { FillsRows (C.IsAnswerTo call.now) other column.now
+        (values.old, statuses.old) (values.new, statuses.new) done.new result }
 {
     let rows = column.len();
     let room = rows.min(values.len()).min(statuses.len());

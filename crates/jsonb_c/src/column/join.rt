@@ -5,7 +5,7 @@ ghost use Rattle.jsonb_c.specs.Columns.{JoinsRows, JoinsSome};
 ghost use Rattle.jsonb_c.specs.Status.{code};
 
 use super::Column;
-use super::call::{Made, RowCall, ask, cell_bytes, cell_status, end_of};
+use super::call::{RowWriter, ask_for_bytes, end_of, written_bytes, written_status};
 use crate::deliver::place;
 use crate::status::Status;
 use std::alloc::Global;
@@ -21,7 +21,7 @@ pub struct Progress {
 }
 
 /// The answers' bytes, the offsets between them, and a status a row.
-pub(crate) fn join_rows<C: RowCall<Made>>(
+pub(crate) fn join_rows<C: RowWriter>(
     alloc: Global,
     call: &C,
     column: &Column<'_>,
@@ -30,8 +30,8 @@ pub(crate) fn join_rows<C: RowCall<Made>>(
     statuses: &mut [u8],
     progress: &mut Progress,
 ) -> u32
-    ensures { JoinsRows (C.IsAnswerTo call.now) column.now out.old out.new positions.old positions.new
-        statuses.old statuses.new progress.new.rows progress.new.bytes progress.new.next result }
+    ensures { JoinsRows (C.IsAnswerTo call.now) column.now
+        (out.old, positions.old, statuses.old) (out.new, positions.new, statuses.new) progress.new result }
 {
     if positions.is_empty() {
         return do_nothing(Status::BufferTooSmall, progress);
@@ -39,7 +39,7 @@ pub(crate) fn join_rows<C: RowCall<Made>>(
     join_some(alloc, call, column, out, positions, statuses, progress)
 }
 
-fn join_some<C: RowCall<Made>>(
+fn join_some<C: RowWriter>(
     alloc: Global,
     call: &C,
     column: &Column<'_>,
@@ -49,16 +49,17 @@ fn join_some<C: RowCall<Made>>(
     progress: &mut Progress,
 ) -> u32
     requires { 0 < length positions.old }
-    ensures { JoinsSome (C.IsAnswerTo call.now) column.now out.old out.new positions.old positions.new
-        statuses.old statuses.new progress.new.rows progress.new.bytes progress.new.next result }
+    ensures { JoinsSome (C.IsAnswerTo call.now) column.now
+        (out.old, positions.old, statuses.old) (out.new, positions.new, statuses.new) progress.new result }
 {
     let rows = column.len();
     let room = rows.min(positions.len() - 1).min(statuses.len());
     positions[0] = 0;
     let mut at = 0;
+    let mut buffer = Vec::new(alloc);
     for index in 0..room {
-        let cell = ask(alloc, call, column.row(index));
-        let made = cell_bytes(&cell);
+        let cell = ask_for_bytes(alloc, call, column.row(index), &mut buffer);
+        let made = written_bytes(cell, &buffer);
         if !place(made, out, at) {
             *progress = Progress {
                 rows: index,
@@ -69,7 +70,7 @@ fn join_some<C: RowCall<Made>>(
         }
         at += made.len();
         positions[index + 1] = at as u64;
-        statuses[index] = cell_status(&cell);
+        statuses[index] = written_status(cell);
     }
     *progress = Progress {
         rows: room,

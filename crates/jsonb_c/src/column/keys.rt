@@ -5,9 +5,9 @@ ghost use Rattle.jsonb_c.specs.Columns.{JoinsRows, rows};
 ghost use Rattle.jsonb_c.specs.Rows.{WritesEqualityKey, WritesKey};
 
 use super::Column;
-use super::call::{Made, RowCall};
+use super::call::RowWriter;
 use super::join::{Progress, join_rows};
-use crate::document::keys::{equality_key, sort_key};
+use crate::document::keys::{write_equality_key, write_sort_key};
 use jsonb::Error;
 use std::alloc::Global;
 
@@ -17,15 +17,15 @@ struct SortKeys {
     wide: bool,
 }
 
-impl RowCall<Made> for SortKeys {
+impl RowWriter for SortKeys {
     ghost use Rattle.jsonb_c.specs.Calls.{width_of};
     ghost use Rattle.jsonb_c.specs.Rows.{WritesKey};
 
     ghost IsAnswerTo = { λ call document answer. WritesKey (width_of call.wide) document answer };
 
-    fn answer(&self, alloc: Global, document: &[u8]) -> Result<Option<Made>, Error> {
-        let key = sort_key(alloc, document, self.wide)?;
-        Ok(Some(Made::new(key)))
+    fn write(&self, alloc: Global, document: &[u8], out: &mut Vec<u8>) -> Result<bool, Error> {
+        write_sort_key(alloc, document, self.wide, out)?;
+        Ok(true)
     }
 }
 
@@ -33,14 +33,14 @@ impl RowCall<Made> for SortKeys {
 #[derive(Clone, Copy)]
 struct EqualityKeys;
 
-impl RowCall<Made> for EqualityKeys {
+impl RowWriter for EqualityKeys {
     ghost use Rattle.jsonb_c.specs.Rows.{WritesEqualityKey};
 
     ghost IsAnswerTo = { λ call document answer. WritesEqualityKey document answer };
 
-    fn answer(&self, alloc: Global, document: &[u8]) -> Result<Option<Made>, Error> {
-        let key = equality_key(alloc, document)?;
-        Ok(Some(Made::new(key)))
+    fn write(&self, alloc: Global, document: &[u8], out: &mut Vec<u8>) -> Result<bool, Error> {
+        write_equality_key(alloc, document, out)?;
+        Ok(true)
     }
 }
 
@@ -56,9 +56,8 @@ pub extern "C" fn jsonb_column_key(
     statuses: &mut [u8],
     progress: &mut Progress,
 ) -> u32
-    ensures { JoinsRows (WritesKey (width_of wide)) (rows bytes.now offsets.now) out.old out.new
-        positions.old positions.new statuses.old statuses.new
-        progress.new.rows progress.new.bytes progress.new.next result }
+    ensures { JoinsRows (WritesKey (width_of wide)) (rows bytes.now offsets.now)
+        (out.old, positions.old, statuses.old) (out.new, positions.new, statuses.new) progress.new result }
 {
     let column = Column::new(bytes, offsets);
     join_rows(
@@ -83,9 +82,8 @@ pub extern "C" fn jsonb_column_equality_key(
     statuses: &mut [u8],
     progress: &mut Progress,
 ) -> u32
-    ensures { JoinsRows WritesEqualityKey (rows bytes.now offsets.now) out.old out.new
-        positions.old positions.new statuses.old statuses.new
-        progress.new.rows progress.new.bytes progress.new.next result }
+    ensures { JoinsRows WritesEqualityKey (rows bytes.now offsets.now)
+        (out.old, positions.old, statuses.old) (out.new, positions.new, statuses.new) progress.new result }
 {
     let column = Column::new(bytes, offsets);
     join_rows(

@@ -37,94 +37,62 @@ const SCALARS: &[u8] = b"\x20\0\0\0\0\0\0\0\x20\0\0\0\x10\0\0\x017\x20\0\0\0\x20
 
 const SCALAR_OFFSETS: &[u64] = &[0, 8, 17, 27];
 
+/// Makes a call that gives a truth a row, and asserts the truths and the statuses of all four.
+macro_rules! assert_tells {
+    ($rt:ident; $call:ident($($word:expr),*), $truths:expr) => {{
+        let mut truths = [9; 4];
+        let mut statuses = [9; 4];
+        let mut done = 9;
+        let status = $call($($word,)* &mut truths, &mut statuses, &mut done);
+        assert_eq!($rt; (status, done), (OK, 4));
+        assert_eq!($rt; truths, $truths);
+        assert_eq!($rt; statuses, STATUSES);
+    }};
+}
+
 #[test]
 fn truths(rt: HostRuntime) -> Result<(), Fail> {
     let alloc = rt.alloc();
-    let mut truths = [9; 4];
+    assert_tells!(rt; jsonb_column_match(alloc, ROWS, OFFSETS, b"$.a > 1", false), [0, 2, 1, 2]);
+    assert_tells!(rt; jsonb_column_exists(alloc, ROWS, OFFSETS, b"$.a?(@ > 1)", false), [0, 2, 1, 2]);
+    assert_tells!(rt; jsonb_column_contains(alloc, ROWS, OFFSETS, A_ONE), [1, 2, 0, 2]);
+    Ok(())
+}
+
+#[test]
+fn checks(rt: HostRuntime) -> Result<(), Fail> {
     let mut statuses = [9; 4];
     let mut done = 9;
-    assert_eq!(rt;
-        jsonb_column_check(alloc, ROWS, OFFSETS, &mut statuses, &mut done),
-        OK
-    );
-    assert_eq!(rt; done, 4);
+    let status = jsonb_column_check(rt.alloc(), ROWS, OFFSETS, &mut statuses, &mut done);
+    assert_eq!(rt; (status, done), (OK, 4));
     assert_eq!(rt; statuses, STATUSES);
-    let above_one = b"$.a > 1";
-    assert_eq!(rt;
-        jsonb_column_match(
+    Ok(())
+}
+
+#[test]
+fn truths_of_fewer_rows(rt: HostRuntime) -> Result<(), Fail> {
+    let alloc = rt.alloc();
+    let mut truths = [9; 2];
+    let mut statuses = [9; 4];
+    let mut done = 9;
+    let paths: [(&[u8], u32, usize); 2] = [
+        (b"$.a > 1", BUFFER_TOO_SMALL, 2),
+        (b"$.", INVALID_JSON_PATH, 0),
+    ];
+    for (path, status, rows) in &paths {
+        let ended = jsonb_column_match(
             alloc,
             ROWS,
             OFFSETS,
-            above_one,
+            path,
             false,
             &mut truths,
             &mut statuses,
-            &mut done
-        ),
-        OK
-    );
-    assert_eq!(rt; truths, [0, 2, 1, 2]);
-    assert_eq!(rt; statuses, STATUSES);
-    let some_above_one = b"$.a?(@ > 1)";
-    assert_eq!(rt;
-        jsonb_column_exists(
-            alloc,
-            ROWS,
-            OFFSETS,
-            some_above_one,
-            false,
-            &mut truths,
-            &mut statuses,
-            &mut done
-        ),
-        OK
-    );
-    assert_eq!(rt; truths, [0, 2, 1, 2]);
-    assert_eq!(rt;
-        jsonb_column_contains(
-            alloc,
-            ROWS,
-            OFFSETS,
-            A_ONE,
-            &mut truths,
-            &mut statuses,
-            &mut done
-        ),
-        OK
-    );
-    assert_eq!(rt; truths, [1, 2, 0, 2]);
-    assert_eq!(rt; statuses, STATUSES);
-    assert_eq!(rt; done, 4);
-    let mut short = [9; 2];
-    assert_eq!(rt;
-        jsonb_column_match(
-            alloc,
-            ROWS,
-            OFFSETS,
-            above_one,
-            false,
-            &mut short,
-            &mut statuses,
-            &mut done
-        ),
-        BUFFER_TOO_SMALL
-    );
-    assert_eq!(rt; short, [0, 2]);
-    assert_eq!(rt; done, 2);
-    assert_eq!(rt;
-        jsonb_column_match(
-            alloc,
-            ROWS,
-            OFFSETS,
-            b"$.",
-            false,
-            &mut short,
-            &mut statuses,
-            &mut done
-        ),
-        INVALID_JSON_PATH
-    );
-    assert_eq!(rt; done, 0);
+            &mut done,
+        );
+        assert_eq!(rt; (ended, done), (*status, *rows));
+        assert_eq!(rt; (truths, statuses), ([0, 2], [0, 16, 9, 9]));
+    }
     Ok(())
 }
 
@@ -162,88 +130,28 @@ impl Answer {
     }
 }
 
+/// Makes a call that gives bytes a row, and asserts what it wrote: bytes, positions, statuses.
+macro_rules! assert_joins {
+    ($rt:ident; $call:ident($($word:expr),*), $bytes:expr, $positions:expr, $statuses:expr) => {{
+        let mut a = Answer::new();
+        let status = $call($($word,)* &mut a.out, &mut a.positions, &mut a.statuses, &mut a.progress);
+        assert_eq!($rt; status, OK);
+        assert!($rt; a.is($bytes, $positions, $statuses));
+    }};
+}
+
+// Where the answers for the rows end that give a document of ten bytes each.
+const ENDS: [u64; 5] = [0, 10, 10, 20, 20];
+
 #[test]
 fn documents(rt: HostRuntime) -> Result<(), Fail> {
     let alloc = rt.alloc();
-    let ends = [0, 10, 10, 20, 20];
-    let mut a = Answer::new();
-    assert_eq!(rt;
-        jsonb_column_get(
-            alloc,
-            ROWS,
-            OFFSETS,
-            b"{a}",
-            &mut a.out,
-            &mut a.positions,
-            &mut a.statuses,
-            &mut a.progress
-        ),
-        OK
-    );
-    assert!(rt; a.is(ONE_AND_TWO, ends, STATUSES));
-    let mut a = Answer::new();
-    assert_eq!(rt;
-        jsonb_column_select_first(
-            alloc,
-            ROWS,
-            OFFSETS,
-            b"$.a",
-            true,
-            &mut a.out,
-            &mut a.positions,
-            &mut a.statuses,
-            &mut a.progress
-        ),
-        OK
-    );
-    assert!(rt; a.is(ONE_AND_TWO, ends, STATUSES));
-    let mut a = Answer::new();
-    assert_eq!(rt;
-        jsonb_column_select_value(
-            alloc,
-            ROWS,
-            OFFSETS,
-            b"$.a",
-            false,
-            &mut a.out,
-            &mut a.positions,
-            &mut a.statuses,
-            &mut a.progress
-        ),
-        OK
-    );
-    assert!(rt; a.is(ONE_AND_TWO, ends, STATUSES));
-    let mut a = Answer::new();
-    assert_eq!(rt;
-        jsonb_column_select_array(
-            alloc,
-            ROWS,
-            OFFSETS,
-            b"$.a",
-            false,
-            &mut a.out,
-            &mut a.positions,
-            &mut a.statuses,
-            &mut a.progress
-        ),
-        OK
-    );
-    assert!(rt; a.is(ONES_AND_TWOS, ends, STATUSES));
-    let mut a = Answer::new();
-    assert_eq!(rt;
-        jsonb_column_delete_by_keypath(
-            alloc,
-            ROWS,
-            OFFSETS,
-            b"{a}",
-            &mut a.out,
-            &mut a.positions,
-            &mut a.statuses,
-            &mut a.progress
-        ),
-        OK
-    );
-    assert!(rt; a.is(b"\x40\0\0\0\x40\0\0\0", [0, 4, 4, 8, 8], STATUSES));
+    assert_joins!(rt; jsonb_column_get(alloc, ROWS, OFFSETS, b"{a}"), ONE_AND_TWO, ENDS, STATUSES);
+    assert_joins!(rt; jsonb_column_delete_by_keypath(alloc, ROWS, OFFSETS, b"{a}"),
+        b"\x40\0\0\0\x40\0\0\0", [0, 4, 4, 8, 8], STATUSES);
+    assert_joins!(rt; jsonb_column_select_first(alloc, ROWS, OFFSETS, b"$.a", true), ONE_AND_TWO, ENDS, STATUSES);
+    assert_joins!(rt; jsonb_column_select_value(alloc, ROWS, OFFSETS, b"$.a", false), ONE_AND_TWO, ENDS, STATUSES);
+    assert_joins!(rt; jsonb_column_select_array(alloc, ROWS, OFFSETS, b"$.a", false), ONES_AND_TWOS, ENDS, STATUSES);
     Ok(())
 }
 
@@ -295,7 +203,7 @@ fn goes_on_behind_a_full_buffer(rt: HostRuntime) -> Result<(), Fail> {
 }
 
 #[test]
-fn casts_and_keys(rt: HostRuntime) -> Result<(), Fail> {
+fn casts(rt: HostRuntime) -> Result<(), Fail> {
     let alloc = rt.alloc();
     let mut numbers = [9; 3];
     let mut statuses = [9; 3];
@@ -313,64 +221,20 @@ fn casts_and_keys(rt: HostRuntime) -> Result<(), Fail> {
     );
     assert_eq!(rt; numbers, [0, 7, 8]);
     assert_eq!(rt; statuses, [20, 0, 0]);
-    let mut a = Answer::new();
-    assert_eq!(rt;
-        jsonb_column_to_str(
-            alloc,
-            SCALARS,
-            SCALAR_OFFSETS,
-            &mut a.out,
-            &mut a.positions,
-            &mut a.statuses,
-            &mut a.progress
-        ),
-        OK
-    );
-    assert!(rt; a.is(b"78", [0, 0, 1, 2, 9], [20, 0, 0, 9]));
+    assert_joins!(rt; jsonb_column_to_str(alloc, SCALARS, SCALAR_OFFSETS),
+        b"78", [0, 0, 1, 2, 9], [20, 0, 0, 9]);
+    Ok(())
+}
+
+#[test]
+fn keys_of_a_null(rt: HostRuntime) -> Result<(), Fail> {
+    let alloc = rt.alloc();
     let null = &SCALAR_OFFSETS[..2];
-    let mut a = Answer::new();
-    assert_eq!(rt;
-        jsonb_column_key(
-            alloc,
-            SCALARS,
-            null,
-            false,
-            &mut a.out,
-            &mut a.positions,
-            &mut a.statuses,
-            &mut a.progress
-        ),
-        OK
-    );
-    assert!(rt; a.is(b"\x00\x08", [0, 2, 9, 9, 9], [0, 9, 9, 9]));
-    let mut a = Answer::new();
-    assert_eq!(rt;
-        jsonb_column_key(
-            alloc,
-            SCALARS,
-            null,
-            true,
-            &mut a.out,
-            &mut a.positions,
-            &mut a.statuses,
-            &mut a.progress
-        ),
-        OK
-    );
-    assert!(rt; a.is(b"\x00\x00\x08", [0, 3, 9, 9, 9], [0, 9, 9, 9]));
-    let mut a = Answer::new();
-    assert_eq!(rt;
-        jsonb_column_equality_key(
-            alloc,
-            SCALARS,
-            null,
-            &mut a.out,
-            &mut a.positions,
-            &mut a.statuses,
-            &mut a.progress
-        ),
-        OK
-    );
-    assert!(rt; a.is(b"\x08", [0, 1, 9, 9, 9], [0, 9, 9, 9]));
+    assert_joins!(rt; jsonb_column_key(alloc, SCALARS, null, false),
+        b"\x00\x08", [0, 2, 9, 9, 9], [0, 9, 9, 9]);
+    assert_joins!(rt; jsonb_column_key(alloc, SCALARS, null, true),
+        b"\x00\x00\x08", [0, 3, 9, 9, 9], [0, 9, 9, 9]);
+    assert_joins!(rt; jsonb_column_equality_key(alloc, SCALARS, null),
+        b"\x08", [0, 1, 9, 9, 9], [0, 9, 9, 9]);
     Ok(())
 }

@@ -5,11 +5,10 @@ ghost use Rattle.jsonb_doc.specs.Answer.{IsDecodingError};
 ghost use Rattle.jsonb_raw.specs.Contains.{contains};
 ghost use Rattle.jsonb_doc.specs.declared.error.Error.TheVariants.{InvalidJsonPath};
 ghost use Rattle.jsonb.specs.PathGrammar.{json_path};
-ghost use Rattle.jsonb.specs.SelectionErrors.{IsSelectionError};
-ghost use Rattle.jsonb.specs.PathViews.{path_view};
 ghost use Rattle.jsonb_c.specs.Answers.{OfBoth};
-ghost use Rattle.jsonb_c.specs.Calls.{ByMeanings, IsFound, mode_of};
+ghost use Rattle.jsonb_c.specs.Calls.{mode_of};
 ghost use Rattle.jsonb_c.specs.Columns.{FillsByPath, FillsRows, rows};
+ghost use Rattle.jsonb_c.specs.Private.ByHand.{told};
 ghost use Rattle.jsonb_c.specs.Rows.{TellsContainment, TellsExistence, TellsTruth};
 
 use super::Column;
@@ -23,45 +22,42 @@ use std::alloc::Global;
 /// The byte of a row without a truth.
 const UNKNOWN: u8 = 2;
 
-/// Whether a path selects anything.
+/// What is asked of a path.
+#[derive(Clone, Copy)]
+enum Question {
+    /// Whether it selects anything.
+    Existence,
+    /// What it says.
+    Truth,
+}
+
+/// What a path tells of a document.
 #[derive(Drop)]
-struct Exists<'p> {
+struct Tells<'p> {
     path: JsonPath<'p>,
     strict: bool,
+    question: Question,
 }
 
-impl RowCall<u8> for Exists<'_> {
+impl RowCall<u8> for Tells<'_> {
     ghost use Rattle.jsonb.specs.PathViews.{path_view};
     ghost use Rattle.jsonb_c.specs.Calls.{mode_of};
-    ghost use Rattle.jsonb_c.specs.Rows.{TellsExistenceBy};
+    ghost use Rattle.jsonb_c.specs.Private.ByHand.{TellsBy};
 
     ghost IsAnswerTo = { λ call document answer.
-        TellsExistenceBy (mode_of call.strict) (path_view call.path) document answer };
+        TellsBy call.question (mode_of call.strict) (path_view call.path) document answer };
 
     fn answer(&self, alloc: Global, document: &[u8]) -> Result<Option<u8>, Error> {
-        let exists = exists_by_path(alloc, document, &self.path, self.strict)?;
-        Ok(Some(bool_byte(exists)))
-    }
-}
-
-/// What a path says.
-#[derive(Drop)]
-struct Matches<'p> {
-    path: JsonPath<'p>,
-    strict: bool,
-}
-
-impl RowCall<u8> for Matches<'_> {
-    ghost use Rattle.jsonb.specs.PathViews.{path_view};
-    ghost use Rattle.jsonb_c.specs.Calls.{mode_of};
-    ghost use Rattle.jsonb_c.specs.Rows.{TellsTruth};
-
-    ghost IsAnswerTo = { λ call document answer.
-        TellsTruth (mode_of call.strict) (path_view call.path) document answer };
-
-    fn answer(&self, alloc: Global, document: &[u8]) -> Result<Option<u8>, Error> {
-        let truth = match_by_path(alloc, document, &self.path, self.strict)?;
-        Ok(Some(truth_byte(truth)))
+        match self.question {
+            Question::Existence => {
+                let exists = exists_by_path(alloc, document, &self.path, self.strict)?;
+                Ok(Some(bool_byte(exists)))
+            }
+            Question::Truth => {
+                let truth = match_by_path(alloc, document, &self.path, self.strict)?;
+                Ok(Some(truth_byte(truth)))
+            }
+        }
     }
 }
 
@@ -103,21 +99,13 @@ pub extern "C" fn jsonb_column_exists(
     done: &mut usize,
 ) -> u32
     ensures { FillsByPath InvalidJsonPath (json_path path.now) (TellsExistence (mode_of strict)) 2
-        (rows bytes.now offsets.now) truths.old truths.new statuses.old statuses.new done.new result }
+        (rows bytes.now offsets.now) (truths.old, statuses.old) (truths.new, statuses.new) done.new result }
 {
     let column = Column::new(bytes, offsets);
-    match parse_json_path(alloc, path) {
-        Ok(path) => fill_rows(
-            alloc,
-            &Exists { path, strict },
-            UNKNOWN,
-            &column,
-            truths,
-            statuses,
-            done,
-        ),
-        Err(error) => refuse_rows(error, done),
-    }
+    let question = Question::Existence;
+    tell_rows(
+        alloc, &column, path, strict, question, truths, statuses, done,
+    )
 }
 
 /// What a JSON path says of each document.
@@ -133,19 +121,37 @@ pub extern "C" fn jsonb_column_match(
     done: &mut usize,
 ) -> u32
     ensures { FillsByPath InvalidJsonPath (json_path path.now) (TellsTruth (mode_of strict)) 2
-        (rows bytes.now offsets.now) truths.old truths.new statuses.old statuses.new done.new result }
+        (rows bytes.now offsets.now) (truths.old, statuses.old) (truths.new, statuses.new) done.new result }
 {
     let column = Column::new(bytes, offsets);
+    let question = Question::Truth;
+    tell_rows(
+        alloc, &column, path, strict, question, truths, statuses, done,
+    )
+}
+
+fn tell_rows(
+    alloc: Global,
+    column: &Column<'_>,
+    path: &[u8],
+    strict: bool,
+    question: Question,
+    truths: &mut [u8],
+    statuses: &mut [u8],
+    done: &mut usize,
+) -> u32
+    ensures { FillsByPath InvalidJsonPath (json_path path.now) (told question (mode_of strict)) 2 column.now
+        (truths.old, statuses.old) (truths.new, statuses.new) done.new result }
+{
     match parse_json_path(alloc, path) {
-        Ok(path) => fill_rows(
-            alloc,
-            &Matches { path, strict },
-            UNKNOWN,
-            &column,
-            truths,
-            statuses,
-            done,
-        ),
+        Ok(path) => {
+            let call = Tells {
+                path,
+                strict,
+                question,
+            };
+            fill_rows(alloc, &call, UNKNOWN, column, truths, statuses, done)
+        }
         Err(error) => refuse_rows(error, done),
     }
 }
@@ -161,8 +167,8 @@ pub extern "C" fn jsonb_column_contains(
     statuses: &mut [u8],
     done: &mut usize,
 ) -> u32
-    ensures { FillsRows (TellsContainment wanted.now) 2
-        (rows bytes.now offsets.now) truths.old truths.new statuses.old statuses.new done.new result }
+    ensures { FillsRows (TellsContainment wanted.now) 2 (rows bytes.now offsets.now)
+        (truths.old, statuses.old) (truths.new, statuses.new) done.new result }
 {
     let column = Column::new(bytes, offsets);
     fill_rows(

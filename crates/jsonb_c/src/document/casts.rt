@@ -7,7 +7,7 @@ ghost use Rattle.jsonb_raw.specs.Casts.{CastsToBool, CastsToI64, CastsToU64, tex
 ghost use Rattle.jsonb_raw.specs.Scalars.{boolean_in, text_in};
 ghost use Rattle.jsonb_c.specs.Answers.{HandsOver, HandsOverBool, HandsOverBytes, HandsOverFound, OfDocument, Shows, ShowsFound, ShowsFoundBool};
 ghost use Rattle.jsonb_c.specs.Calls.{FindsSigned, FindsUnsigned, IsTextOf};
-ghost use Rattle.jsonb_c.specs.Views.{found_text, text_answer};
+ghost use Rattle.jsonb_c.specs.Private.Views.{found_text, text_answer};
 
 use crate::deliver::{
     deliver_found_text, deliver_text, show, show_bool, show_found, show_found_bool,

@@ -6,6 +6,7 @@ ghost use Rattle.jsonb_doc.specs.declared.error.Error.TheVariants.{OutOfMemory, 
 ghost use Rattle.jsonb_c.specs.Answers.{HandsOverBytes};
 ghost use Rattle.jsonb_c.specs.Calls.{IsEqualityKeyOf, IsKeyOf, width_of};
 ghost use Rattle.jsonb_c.specs.Views.{key_answer};
+ghost use Rattle.jsonb_c.specs.Private.Buffers.{written_key};
 
 use crate::deliver::deliver_key;
 use jsonb::{Error, RawJsonb};
@@ -39,6 +40,24 @@ pub(crate) fn sort_key(alloc: Global, document: &[u8], wide: bool) -> Result<Vec
     }
 }
 
+/// The same, written over what a vector holds.
+pub(crate) fn write_sort_key(
+    alloc: Global,
+    document: &[u8],
+    wide: bool,
+    key: &mut Vec<u8>,
+) -> Result<(), Error>
+    ensures key { IsKeyOf (width_of wide) document.now (written_key result key.new.items) }
+    ensures errors { IfErr result (IsDecodingError or OutOfMemory or TooDeep) }
+{
+    let document = RawJsonb::new(document);
+    if wide {
+        document.convert_to_comparable_wide_into(alloc, key)
+    } else {
+        document.convert_to_comparable_into(alloc, key)
+    }
+}
+
 /// The equality key.
 #[unsafe(no_mangle)]
 pub extern "C" fn jsonb_equality_key(
@@ -59,4 +78,16 @@ pub(crate) fn equality_key(alloc: Global, document: &[u8]) -> Result<Vec<u8>, Er
     ensures errors { IfErr result (IsDecodingError or OutOfMemory) }
 {
     RawJsonb::new(document).equality_key(alloc)
+}
+
+/// The same, written over what a vector holds.
+pub(crate) fn write_equality_key(
+    alloc: Global,
+    document: &[u8],
+    key: &mut Vec<u8>,
+) -> Result<(), Error>
+    ensures key { IsEqualityKeyOf document.now (written_key result key.new.items) }
+    ensures errors { IfErr result (IsDecodingError or OutOfMemory) }
+{
+    RawJsonb::new(document).equality_key_into(alloc, key)
 }

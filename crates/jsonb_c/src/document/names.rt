@@ -1,6 +1,6 @@
 //! Calls that take a column of names.
 
-ghost use Rattle.std.specs.Prelude.{◌≡◌, ◌⊎◌, Err, IfErr, IsOkAnd, MatchResult, Ok, map, option_copied};
+ghost use Rattle.std.specs.Prelude.{◌≡◌, ◌⊎◌, ℕ, List, Err, IfErr, IsOkAnd, MatchResult, Ok, map, option_copied};
 ghost use Rattle.jsonb_doc.specs.Answer.{IsDecodingError, IsOutOfMemory, ◌or◌};
 ghost use Rattle.jsonb_doc.specs.declared.error.Error.TheVariants.{InvalidObject, OutOfMemory, TooLarge};
 ghost use Rattle.jsonb_raw.specs.Exists.{has_all, has_any};
@@ -8,13 +8,14 @@ ghost use Rattle.jsonb_c.specs.Answers.{DeliversNothing, HandsOverBool, HandsOve
 ghost use Rattle.jsonb_c.specs.Calls.{MakesOr};
 ghost use Rattle.jsonb_c.specs.Status.{code};
 ghost use Rattle.jsonb_c.specs.Columns.{rows};
-ghost use Rattle.jsonb_c.specs.Names.{HasNames, IsAsItWas, IsNameOf, WithNames, dropped_names, names_of, picked_names};
+ghost use Rattle.jsonb_c.specs.Names.{IsAsItWas, WithNames, dropped_names, names_of, picked_names};
+ghost use Rattle.jsonb_c.specs.Private.NameColumns.{HasNames, IsNameOf, has_keys, kept_pairs};
 ghost use Rattle.jsonb_c.specs.declared.status.Status.TheVariants.{Refused};
 
 use crate::column::Column;
 use crate::deliver::{deliver_made, deliver_nothing, show_bool};
 use crate::status::Status;
-use jsonb::{Error, RawJsonb};
+use jsonb::{Error, OwnedJsonb, RawJsonb};
 use std::alloc::Global;
 use std::collections::BTreeSet;
 
@@ -31,18 +32,8 @@ pub extern "C" fn jsonb_exists_all_keys(
         (OfDocument document.now (λ form t said. IsOkAnd said (λ b. b ≡ has_all wanted t)))
         IsDecodingError truth.old truth.new result) (IsAsItWas truth.old truth.new result) }
 {
-    match read_names(alloc, &Column::new(names, offsets)) {
-        Ok(names) => show_bool(exists_all_keys(document, &names), truth),
-        Err(cause) => cause.to_u32(),
-    }
-}
-
-fn exists_all_keys(document: &[u8], names: &[&str]) -> Result<bool, Error>
-    ensures all { OfDocument document.now
-        (λ form t said. IsOkAnd said (λ b. b ≡ has_all (map (λ name. name.now) names.now) t)) result }
-    ensures errors { IfErr result IsDecodingError }
-{
-    RawJsonb::new(document).exists_all_keys(names.iter().copied())
+    let names = Column::new(names, offsets);
+    show_keys(alloc, document, &names, Quantity::All, truth)
 }
 
 /// Whether the document has one of the texts: as a key of an object, as an element of an array, or as the root.
@@ -58,18 +49,47 @@ pub extern "C" fn jsonb_exists_any_keys(
         (OfDocument document.now (λ form t said. IsOkAnd said (λ b. b ≡ has_any wanted t)))
         IsDecodingError truth.old truth.new result) (IsAsItWas truth.old truth.new result) }
 {
-    match read_names(alloc, &Column::new(names, offsets)) {
-        Ok(names) => show_bool(exists_any_keys(document, &names), truth),
+    let names = Column::new(names, offsets);
+    show_keys(alloc, document, &names, Quantity::Any, truth)
+}
+
+/// How many of the names are to be there.
+#[derive(Clone, Copy)]
+enum Quantity {
+    /// Each.
+    All,
+    /// One at least.
+    Any,
+}
+
+/// Hands over whether the document has so many of the names.
+fn show_keys(
+    alloc: Global,
+    document: &[u8],
+    names: &Column<'_>,
+    quantity: Quantity,
+    truth: &mut u8,
+) -> u32
+    ensures { WithNames (names_of names.now) (λ wanted. HandsOverBool
+        (OfDocument document.now (λ form t said. IsOkAnd said (λ b. b ≡ has_keys quantity wanted t)))
+        IsDecodingError truth.old truth.new result) (IsAsItWas truth.old truth.new result) }
+{
+    match read_names(alloc, names) {
+        Ok(names) => show_bool(exists_keys(document, &names, quantity), truth),
         Err(cause) => cause.to_u32(),
     }
 }
 
-fn exists_any_keys(document: &[u8], names: &[&str]) -> Result<bool, Error>
-    ensures any { OfDocument document.now
-        (λ form t said. IsOkAnd said (λ b. b ≡ has_any (map (λ name. name.now) names.now) t)) result }
+fn exists_keys(document: &[u8], names: &[&str], quantity: Quantity) -> Result<bool, Error>
+    ensures keys { OfDocument document.now
+        (λ form t said. IsOkAnd said (λ b. b ≡ has_keys quantity (map (λ name. name.now) names.now) t)) result }
     ensures errors { IfErr result IsDecodingError }
 {
-    RawJsonb::new(document).exists_any_keys(names.iter().copied())
+    let document = RawJsonb::new(document);
+    match quantity {
+        Quantity::All => document.exists_all_keys(names.iter().copied()),
+        Quantity::Any => document.exists_any_keys(names.iter().copied()),
+    }
 }
 
 /// The object of the pairs whose keys are among the names.
@@ -87,13 +107,8 @@ pub extern "C" fn jsonb_object_pick(
         (IsDecodingError or OutOfMemory or TooLarge or InvalidObject) out.old out.new out_len.new result)
         (λ cause. DeliversNothing (code cause) out.old out.new out_len.new result) }
 {
-    match read_set(alloc, &Column::new(names, offsets)) {
-        Ok(keys) => {
-            let document = RawJsonb::new(document);
-            deliver_made(document.object_pick(alloc, &keys), out, out_len)
-        }
-        Err(cause) => deliver_nothing(cause, out_len),
-    }
+    let names = Column::new(names, offsets);
+    deliver_pairs(alloc, document, &names, Kept::Named, out, out_len)
 }
 
 /// The object without the pairs whose keys are among the names.
@@ -111,12 +126,53 @@ pub extern "C" fn jsonb_object_delete(
         (IsDecodingError or OutOfMemory or TooLarge or InvalidObject) out.old out.new out_len.new result)
         (λ cause. DeliversNothing (code cause) out.old out.new out_len.new result) }
 {
-    match read_set(alloc, &Column::new(names, offsets)) {
-        Ok(keys) => {
-            let document = RawJsonb::new(document);
-            deliver_made(document.object_delete(alloc, &keys), out, out_len)
-        }
+    let names = Column::new(names, offsets);
+    deliver_pairs(alloc, document, &names, Kept::Others, out, out_len)
+}
+
+/// Which pairs of an object are kept.
+#[derive(Clone, Copy)]
+enum Kept {
+    /// Those whose keys are among the names.
+    Named,
+    /// The others.
+    Others,
+}
+
+/// Hands over the object of the pairs that are kept.
+fn deliver_pairs(
+    alloc: Global,
+    document: &[u8],
+    names: &Column<'_>,
+    kept: Kept,
+    out: &mut [u8],
+    out_len: &mut usize,
+) -> u32
+    ensures { WithNames (names_of names.now) (λ wanted. HandsOverBytes
+        (OfDocument document.now (λ form t. MakesOr InvalidObject form (kept_pairs kept wanted t)))
+        (IsDecodingError or OutOfMemory or TooLarge or InvalidObject) out.old out.new out_len.new result)
+        (λ cause. DeliversNothing (code cause) out.old out.new out_len.new result) }
+{
+    match read_set(alloc, names) {
+        Ok(keys) => deliver_made(object_of_kept(alloc, document, &keys, kept), out, out_len),
         Err(cause) => deliver_nothing(cause, out_len),
+    }
+}
+
+fn object_of_kept(
+    alloc: Global,
+    document: &[u8],
+    keys: &BTreeSet<&str>,
+    kept: Kept,
+) -> Result<OwnedJsonb, Error>
+    ensures object { (names : List (List ℕ)) → HasNames keys.now names
+        → OfDocument document.now (λ form t. MakesOr InvalidObject form (kept_pairs kept names t)) result }
+    ensures errors { IfErr result (IsDecodingError or OutOfMemory or TooLarge or InvalidObject) }
+{
+    let document = RawJsonb::new(document);
+    match kept {
+        Kept::Named => document.object_pick(alloc, keys),
+        Kept::Others => document.object_delete(alloc, keys),
     }
 }
 

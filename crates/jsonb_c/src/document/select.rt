@@ -7,8 +7,9 @@ ghost use Rattle.jsonb.specs.SelectionErrors.{IsDocumentError, IsSelectionError}
 ghost use Rattle.jsonb.specs.SelectorAnswers.{first_item, root_bytes, single_or_array};
 ghost use Rattle.jsonb.specs.SelectorAnswers.{mode_of as selector_mode};
 ghost use Rattle.jsonb_c.specs.Answers.{HandsOverBool, HandsOverBytes, HandsOverFound, HandsOverTruth};
-ghost use Rattle.jsonb_c.specs.Views.{pick_of};
-ghost use Rattle.jsonb_c.specs.Calls.{ByMeaning, ByMeanings, IsArrayOf, IsFound, IsPicked, IsTruthOf, Says, mode_of};
+ghost use Rattle.jsonb_c.specs.Private.Views.{pick_of};
+ghost use Rattle.jsonb_c.specs.Calls.{ByMeaning, IsArrayOf, IsFound, IsPicked, IsTruthOf, Says, mode_of};
+ghost use Rattle.jsonb_c.specs.Private.ByHand.{ByMeanings};
 
 use crate::deliver::{deliver, deliver_made, show_bool, show_truth};
 use jsonb::{Error, JsonPath, OwnedJsonb, RawJsonb, Selector, parse_json_path};

@@ -7,21 +7,21 @@ use Rattle.jsonb_c.proofs.leaves.jsonb_leaves.Goals.{then-not-has_room-via-then-
 pub returns-then-not-has_room : goal.returns-then-not-has_room
 returns-then-not-has_room c =
     let (found, has, rows) = c.in-Ok.ensures.leaves in
-    let none : HasRoom (paths_of found) c.args.paths.now c.args.path_positions.now → HasRoom (documents_of found) c.args.documents.now c.args.positions.now → ⊥ =
+    let none : HasRoom (paths_of found) (c.args.paths.now, c.args.path_positions.now)
+    → HasRoom (documents_of found) (c.args.documents.now, c.args.positions.now) → ⊥ =
     elim c.then-not-has_room.branch [
       | then-not-has_room-via-then-not-has_room w ↦ λ paths documents.
           no_room (paths_of found) _ _ c.args.paths.now c.args.path_positions.now _ c.has_room.ensures w.if-not-has_room.true has.0 paths
       | then-not-has_room-via-else-not-has_room+then-not-has_room-2 w ↦ λ paths documents.
-          no_room (documents_of found) _ _ c.args.documents.now c.args.positions.now _ w.has_room-else-not-has_room.ensures w.if-not-has_room-2.true has.1 documents
+          no_room (documents_of found) _ _ c.args.documents.now c.args.positions.now _
+          w.has_room-else-not-has_room.ensures w.if-not-has_room-2.true has.1 documents
     ] in (
       Ok found,
       rows,
       tt,
       (
-        c.sizes.ensures.rows found has,
-        c.sizes.ensures.path_bytes ∙ ap length has.0.0,
-        c.sizes.ensures.document_bytes ∙ ap length has.1.0,
-        inr (c.to_u32.ensures, none, refl, refl, refl, refl),
+        (c.sizes.ensures.rows found has, c.sizes.ensures.path_bytes ∙ ap length has.0.0, c.sizes.ensures.document_bytes ∙ ap length has.1.0),
+        inr (c.to_u32.ensures, none, refl, refl),
       ),
     )
 
@@ -32,9 +32,7 @@ returns-else-not-has_room-2 c =
       rows,
       tt,
       (
-        c.sizes.ensures.rows found has,
-        c.sizes.ensures.path_bytes ∙ ap length has.0.0,
-        c.sizes.ensures.document_bytes ∙ ap length has.1.0,
+        (c.sizes.ensures.rows found has, c.sizes.ensures.path_bytes ∙ ap length has.0.0, c.sizes.ensures.document_bytes ∙ ap length has.1.0),
         inl (
           c.to_u32-in-Ok.ensures,
           (rw has.0.0 at c.write.ensures.bytes, rw has.0.1 at c.write.ensures.positions),
@@ -44,4 +42,4 @@ returns-else-not-has_room-2 c =
     )
 
 pub returns-in-Err : goal.returns-in-Err
-returns-in-Err c = (Err c.in-Err.error, c.in-Err.ensures.leaves, c.in-Err.ensures.errors, (c.to_u32-in-Err.ensures, refl, refl, refl, refl, refl, refl, refl))
+returns-in-Err c = (Err c.in-Err.error, c.in-Err.ensures.leaves, c.in-Err.ensures.errors, (c.to_u32-in-Err.ensures, (refl, refl, refl), refl, refl))

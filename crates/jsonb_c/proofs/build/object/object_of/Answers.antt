@@ -29,4 +29,5 @@ returns-in-None-clause-object c = λ form ts h. absurd (row_there form c.args.do
 pub returns-clause-object : goal.returns-clause-object
 returns-clause-object c = λ form ts h.
     let done : length c.args.names.now ≤ c.loop-index.index = omega (arith, c.loop-index-test.false) in
-    object_built form c.loop-index.builder c.loop-index.index c.args.names.now ts c.build.result done (c.loop-index.invariant form ts h) (c.build.ensures.decodes form)
+    object_built form c.loop-index.builder c.loop-index.index c.args.names.now ts c.build.result done
+    (c.loop-index.invariant form ts h) (c.build.ensures.decodes form)

@@ -3,4 +3,4 @@ use Rattle.jsonb_c.proofs.ColumnPaths.{joins_item}
 use Rattle.jsonb_c.proofs.column.documents.select_rows.Goals as goal
 
 pub returns-in-Ok : goal.returns-in-Ok
-returns-in-Ok c = rw c.in-Ok.ensures (inr (joins_item _ _ _ _ c.in-Ok.ensures _ _ _ _ _ _ _ _ _ _ _ c.join_rows.ensures))
+returns-in-Ok c = rw c.in-Ok.ensures (inr (joins_item _ _ _ _ c.in-Ok.ensures _ _ _ _ _ c.join_rows.ensures))

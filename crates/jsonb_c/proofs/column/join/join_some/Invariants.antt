@@ -3,4 +3,4 @@ use Rattle.jsonb_c.proofs.column.join.join_some.Given as goal
 
 abbrev pub invariant-loop-index : goal.invariant-loop-index
 invariant-loop-index g l =
-    Joined (g.C.RowCall.IsAnswerTo l.call) l.column l.fn.out l.out l.fn.positions l.positions l.fn.statuses l.statuses l.index l.at
+    Joined (g.C.RowWriter.IsAnswerTo l.call) l.column (l.fn.out, l.fn.positions, l.fn.statuses) (l.out, l.positions, l.statuses) l.index l.at

@@ -6,7 +6,8 @@ use Rattle.jsonb_c.proofs.document.names.read_names.Goals as goal
 pub returns-in_err-name : goal.returns-in_err-name
 returns-in_err-name c =
     let p = err_from_is_err_and c.from_residual.result c.from_residual.ensures.1 in
-    let wrong = names_wrong c.args.column.now c.loop-index.index (option_copied c.row.result) (map (λ n. n.now) c.loop-index.names.items) c.in_err-name.field-0.0
+    let wrong = names_wrong c.args.column.now c.loop-index.index (option_copied c.row.result)
+    (map (λ n. n.now) c.loop-index.names.items) c.in_err-name.field-0.0
     c.row.ensures c.in_err-name.ensures c.loop-index.invariant in
     rw p.1 (inr (wrong ∙ ap Err (sym p.2)))
 

@@ -8,7 +8,8 @@ loop-name-init c = λ q. rw c.new-set.ensures.empty refl
 
 pub loop-name-preserved : goal.loop-name-preserved
 loop-name-preserved c =
-    gathers_step _ _ _ _ _ c.loop-name-test.true (λ q. c.in_ok-insert.ensures.updates.0 (record { ref_ptr = c.args.names.ref_ptr; now = q })) c.loop-name.invariant
+    gathers_step _ _ _ _ _ c.loop-name-test.true (λ q. c.in_ok-insert.ensures.updates.0
+    (record { ref_ptr = c.args.names.ref_ptr; now = q })) c.loop-name.invariant
 
 pub returns : goal.returns
 returns c = gathers_all _ _ _ (drop_of_length-le _ c.loop-name-test.false) c.loop-name.invariant

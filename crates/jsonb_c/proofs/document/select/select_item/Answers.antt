@@ -1,5 +1,5 @@
 use Rattle.jsonb_c.specs.Calls.{IsPicked}
-use Rattle.jsonb_c.specs.Views.{pick_of}
+use Rattle.jsonb_c.specs.Private.Views.{pick_of}
 use Rattle.jsonb_c.proofs.Paths.{by_meaning}
 use Rattle.jsonb_c.proofs.document.select.select_item.Goals as goal
 

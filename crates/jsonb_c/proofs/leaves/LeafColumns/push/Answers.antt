@@ -1,6 +1,6 @@
 use Rattle.std.proofs.Common.{◌++◌, ◌∷◌, [], string_bytes}
 use Rattle.std.proofs.lemmas.Result.{err_from_is_err_and}
-use Rattle.jsonb_c.specs.LeafColumns.{HasRows}
+use Rattle.jsonb_c.specs.Private.LeafColumns.{HasRows}
 use Rattle.jsonb_c.specs.Leaves.{LeafRow, documents_of, paths_of}
 use Rattle.jsonb_c.proofs.LeafRows.{document_more, path_more}
 use Rattle.jsonb_c.proofs.leaves.LeafColumns.push.Goals as goal

@@ -1,0 +1,30 @@
+-- How private functions write to the caller's buffers, and end.
+use Rattle.std.specs.Prelude.{◌≡◌, ◌⊎◌, ◌≤◌, ◌<◌, ◌+◌, ◌++◌, ℕ, Bool, true, false, List, take, drop, length, Option, Some, None, Result, Ok, Err}
+use Rattle.jsonb_doc.specs.declared.error.Error.{Error}
+use Rattle.jsonb_c.specs.Columns.{Cell, Found}
+use Rattle.jsonb_c.specs.Status.{ok, buffer_too_small}
+
+-- the bytes stand at a place in the buffer, which is else as it was; or they have no room there, and it is as it was
+abbrev pub Places : List ℕ → ℕ → List ℕ → List ℕ → Bool → Type 0
+Places bytes at old new true = (at + length bytes ≤ length old) × (new ≡ take at old ++ (bytes ++ drop (at + length bytes) old))
+Places bytes at old new false = (length old < at + length bytes) × (new ≡ old)
+
+-- the status of a call that did so many rows of all
+abbrev pub EndsAs : ℕ → ℕ → ℕ → Type 0
+EndsAs done all status = ((all ≤ done) × (status ≡ ok)) ⊎ ((done < all) × (status ≡ buffer_too_small))
+
+-- the key that a call wrote into a buffer
+abbrev pub written_key : Result (Unit {0}) Error → List ℕ → Result (List ℕ) Error
+written_key (Ok _) bytes = Ok bytes
+written_key (Err e) bytes = Err e
+
+-- what a row gives whose bytes lie in a buffer: these, where there are any
+abbrev pub written_answer : Result Bool Error → List ℕ → Found (List ℕ)
+written_answer (Ok true) bytes = Ok (Some bytes)
+written_answer (Ok false) bytes = Ok None
+written_answer (Err e) bytes = Err e
+
+-- the same, and none where the row's offsets are wrong
+abbrev pub written_cell : Option (Result Bool Error) → List ℕ → Cell (List ℕ)
+written_cell None bytes = None
+written_cell (Some answer) bytes = Some (written_answer answer bytes)

@@ -1,0 +1,101 @@
+//! A number as its whole value and its scale.
+
+ghost use Rattle.std.specs.Prelude.{◌≡◌, IfErr, IsOkAnd};
+ghost use Rattle.jsonb_doc.specs.Answer.{IsDecodingError, SameOption};
+ghost use Rattle.jsonb_doc.specs.View.{decimal128_parts, number_parts};
+ghost use Rattle.jsonb_raw.specs.Scalars.{number_in};
+ghost use Rattle.jsonb_c.specs.Answers.{HandsOver, OfDocument, ShowsFound};
+ghost use Rattle.jsonb_c.specs.Making.{ArePartsOf};
+
+use crate::status::Status;
+use jsonb::{Decimal128, Error, Number, RawJsonb};
+use std::marker::Model;
+
+/// What the upper half of a whole value counts.
+const UPPER_UNIT: i128 = 18_446_744_073_709_551_616;
+
+/// The number of a document, as `jsonb_from_decimal` takes it: a whole value of two halves, `high * 2^64 + low`, over
+/// ten to the power of the scale. A whole number has the scale 0.
+#[unsafe(no_mangle)]
+pub extern "C" fn jsonb_as_decimal(
+    document: &[u8],
+    high: &mut i64,
+    low: &mut u64,
+    scale: &mut u8,
+) -> u32
+    ensures { HandsOver
+        (OfDocument document.now (λ form t answer. IsOkAnd answer (λ found. SameOption ArePartsOf found (number_in t))))
+        IsDecodingError
+        (λ answer. ShowsFound answer (high.old, low.old, scale.old) (high.new, low.new, scale.new) result) }
+{
+    match as_parts(document) {
+        Ok(Some(parts)) => {
+            *high = parts.high;
+            *low = parts.low;
+            *scale = parts.scale;
+            Status::Answered.to_u32()
+        }
+        Ok(None) => Status::Absent.to_u32(),
+        Err(error) => Status::Refused(error).to_u32(),
+    }
+}
+
+/// A number over ten to the power of its scale, with its whole value in two halves.
+#[derive(Drop)]
+struct Parts {
+    high: i64,
+    low: u64,
+    scale: u8,
+}
+
+impl Model for Parts {
+    ghost use Rattle.std.specs.Prelude.{ℕ, ℤ};
+
+    ghost Value = { ℤ × ℕ × ℕ };
+
+    ghost view = { λ parts. (parts.high, parts.low, parts.scale) };
+}
+
+fn as_parts(document: &[u8]) -> Result<Option<Parts>, Error>
+    ensures parts { OfDocument document.now
+        (λ form t answer. IsOkAnd answer (λ found. SameOption ArePartsOf found (number_in t))) result }
+    ensures errors { IfErr result IsDecodingError }
+{
+    match RawJsonb::new(document).as_number()? {
+        Some(number) => Ok(Some(parts_of(decimal_of(number)))),
+        None => Ok(None),
+    }
+}
+
+/// The number as a decimal.
+fn decimal_of(number: Number) -> Decimal128
+    ensures whole { result.value ≡ (number_parts number).whole }
+    ensures scale { result.scale ≡ (number_parts number).scale }
+{
+    match number {
+        Number::Int64(value) => Decimal128 {
+            scale: 0,
+            value: i128::from(value),
+        },
+        Number::UInt64(value) => Decimal128 {
+            scale: 0,
+            value: i128::from(value),
+        },
+        Number::Decimal64(decimal) => Decimal128 {
+            scale: decimal.scale,
+            value: i128::from(decimal.value),
+        },
+        Number::Decimal128(decimal) => decimal,
+    }
+}
+
+/// The halves of the whole value, and the scale.
+fn parts_of(decimal: Decimal128) -> Parts
+    ensures { ArePartsOf result (decimal128_parts decimal) }
+{
+    Parts {
+        high: decimal.value.div_euclid(UPPER_UNIT) as i64,
+        low: decimal.value.rem_euclid(UPPER_UNIT) as u64,
+        scale: decimal.scale,
+    }
+}
