@@ -14,13 +14,22 @@ use jsonb::{ArrayBuilder, Error, ObjectBuilder, RawJsonb};
 use std::io;
 
 /// The calls that make one key of a whole document.
-const KEYS_OF: [(&str, WholeCall<'static>); 3] = [
+const KEYS_OF: [(&str, WholeCall<'static>); 6] = [
     ("convert_to_comparable", WholeCall::ConvertToComparable),
     (
         "convert_to_comparable_wide",
         WholeCall::ConvertToComparableWide,
     ),
     ("equality_key", WholeCall::EqualityKey),
+    (
+        "convert_to_comparable_into",
+        WholeCall::ConvertToComparableInto,
+    ),
+    (
+        "convert_to_comparable_wide_into",
+        WholeCall::ConvertToComparableWideInto,
+    ),
+    ("equality_key_into", WholeCall::EqualityKeyInto),
 ];
 
 /// Makes the calls on an array that give it back, and tells what came of each.

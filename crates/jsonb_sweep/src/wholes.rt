@@ -17,6 +17,10 @@ pub enum WholeCall<'a> {
     ConvertToComparable,
     ConvertToComparableWide,
     EqualityKey,
+    /// The same three into a vector of their own.
+    ConvertToComparableInto,
+    ConvertToComparableWideInto,
+    EqualityKeyInto,
     ToStr,
     AsBinary,
 }
@@ -33,13 +37,28 @@ impl Call for WholeCall<'_> {
                 Answer::Bytes(whole.convert_to_comparable_wide(alloc)?)
             }
             WholeCall::EqualityKey => Answer::Bytes(whole.equality_key(alloc)?),
+            WholeCall::ConvertToComparableInto => {
+                let mut key = Vec::new(alloc);
+                whole.convert_to_comparable_into(alloc, &mut key)?;
+                Answer::Bytes(key)
+            }
+            WholeCall::ConvertToComparableWideInto => {
+                let mut key = Vec::new(alloc);
+                whole.convert_to_comparable_wide_into(alloc, &mut key)?;
+                Answer::Bytes(key)
+            }
+            WholeCall::EqualityKeyInto => {
+                let mut key = Vec::new(alloc);
+                whole.equality_key_into(alloc, &mut key)?;
+                Answer::Bytes(key)
+            }
             WholeCall::ToStr => Answer::Text(whole.to_str(alloc)?),
             WholeCall::AsBinary => Answer::found_bytes(whole.as_binary(alloc)?),
         })
     }
 }
 
-const CASES: [Case<WholeCall<'static>>; 12] = [
+const CASES: [Case<WholeCall<'static>>; 15] = [
     Case {
         name: "concat of arrays",
         call: WholeCall::Concat(ONE_ELEMENT),
@@ -87,6 +106,24 @@ const CASES: [Case<WholeCall<'static>>; 12] = [
         call: WholeCall::ConvertToComparableWide,
         document: ONE_ELEMENT,
         wanted: Wanted::Bytes(b"\x00\x00\x07\x00\x01\x04\x81\x03\xe9\x02\x00"),
+    },
+    Case {
+        name: "convert_to_comparable_into",
+        call: WholeCall::ConvertToComparableInto,
+        document: ONE_ELEMENT,
+        wanted: Wanted::Bytes(b"\x00\x07\x01\x04\x81\x03\xe9\x02\x00"),
+    },
+    Case {
+        name: "convert_to_comparable_wide_into",
+        call: WholeCall::ConvertToComparableWideInto,
+        document: ONE_ELEMENT,
+        wanted: Wanted::Bytes(b"\x00\x00\x07\x00\x01\x04\x81\x03\xe9\x02\x00"),
+    },
+    Case {
+        name: "equality_key_into",
+        call: WholeCall::EqualityKeyInto,
+        document: ONE_ELEMENT,
+        wanted: Wanted::Bytes(b"\x07\x00\x00\x00\x01\x04\x81\x03\xe9\x02\x00"),
     },
     Case {
         name: "to_str of a text",

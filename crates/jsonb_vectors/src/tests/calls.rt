@@ -132,6 +132,10 @@ pub(super) fn ask_scalars(alloc: Global, raw: &RawJsonb<'_>) {
     let _key = raw.convert_to_comparable(alloc);
     let _wide_key = raw.convert_to_comparable_wide(alloc);
     let _equality_key = raw.equality_key(alloc);
+    let mut key = Vec::new(alloc);
+    let _key_again = raw.convert_to_comparable_into(alloc, &mut key);
+    let _wide_key_again = raw.convert_to_comparable_wide_into(alloc, &mut key);
+    let _equality_key_again = raw.equality_key_into(alloc, &mut key);
     let _kind = raw.type_of();
     let _kinds = [
         raw.is_null(),
