@@ -1,5 +1,6 @@
 #!/usr/bin/env python3
-"""Tells which public items lack a part of their doc comment.
+"""Tells which public items lack a part of their doc comment, which files docs/PROOFS.md names that are not there, and which types
+docs/API.md gives that calls don't have.
 
     tools/check_docs.py [CRATE..]     of these crates, or of the four that users name; the last line is 'N passed, M failed'
 
@@ -19,6 +20,8 @@ CRATES = ["jsonb_doc", "jsonb_keypath", "jsonb_raw", "jsonb"]
 ITEM = re.compile(r"pub (?:const )?(fn|struct|enum|trait|const) (\w+)")
 METHOD = re.compile(r"    (?:pub )?(?:const )?(fn|const) (\w+)")
 MEMBER = re.compile(r"    (pub )?(\w+)(:|,|\(| \{)")
+HEAD = re.compile(r"\n(?:impl|pub trait)(?:<[^>]*>)? (\w+)|\n *(?:pub )?fn (\w+)([^{;]*?)(?=\n\s+(?:ensures|requires|\{)| \{)")
+LIFETIME = re.compile(r"<'(?!static)\w+(?:, Global)?>|'(?!static)\w+ ")
 OWNER = re.compile(r"(?:pub )?(impl|trait)(?:<[^>]*>)? (\w+)(.*)")
 
 
@@ -124,16 +127,74 @@ def lacks(item):
         yield "a Result for its # Errors"
 
 
+def named_places():
+    """The files of specs/ and proofs/ that docs/PROOFS.md names, each in the crate of its part of the page, or in the one it says."""
+    crate = ""
+    for at, line in enumerate((ROOT / "docs/PROOFS.md").read_text().splitlines()):
+        heading = re.match(r"## `(\w+)`", line)
+        crate = heading[1] if heading else crate
+        for owner, place in re.findall(r"`(?:(\w+)/)?((?:specs|proofs)/[\w/]+)`", line):
+            yield f"docs/PROOFS.md:{at + 1}", ROOT / "crates" / (owner or crate) / place
+
+
+def answered_types():
+    """For each public function's name, alone and behind its type and `::`, the types that functions of that name answer."""
+    found = {}
+    for name in CRATES:
+        for path, _ in sources(ROOT / "crates" / name):
+            owner = ""
+            for head in HEAD.finditer(path.read_text()):
+                owner = head[1] or owner
+                if head[2]:
+                    for key in (head[2], f"{owner}::{head[2]}"):
+                        found.setdefault(key, set()).add(plain_type(head[3].rpartition("->")[2]))
+    return found
+
+
+def plain_type(text):
+    """A type without lifetimes and `Global`: what is in a `Result`, and another type with API.md's words behind it."""
+    text = LIFETIME.sub("", " ".join(text.split()))
+    inner = re.fullmatch(r"Result<(.*), \w+>", text)
+    return inner[1] if inner else f"{text}, no Result"
+
+
+def given_types():
+    """The calls of docs/API.md in tables that have a column `Gives`, each with its line and that type."""
+    is_given = False
+    for at, line in enumerate((ROOT / "docs/API.md").read_text().splitlines()):
+        cells = [cell.strip() for cell in re.split(r"(?<!\\)\|", line)]
+        if not line.startswith("|"):
+            is_given = False
+        elif "Gives" in cells:
+            is_given = cells.index("Gives") == 2
+        elif is_given and "`" in cells[2]:
+            for call in re.findall(r"`(\w+(?:::\w+)?)\(", cells[1]):
+                yield f"docs/API.md:{at + 1}", call, cells[2].replace("`", "")
+
+
+def faults(crates):
+    """For each thing that is looked at what is wrong with it, or nothing."""
+    for name in crates:
+        for item in public_items(ROOT / "crates" / name):
+            missing = ", ".join(lacks(item))
+            yield missing and f"{item.place} {item.name} lacks {missing}"
+    for line, place in named_places():
+        is_there = place.is_dir() or place.with_suffix(".antt").is_file()
+        yield "" if is_there else f"{line} names {place.relative_to(ROOT)}, which is not there"
+    types = answered_types()
+    for line, call, given in given_types():
+        has = types.get(call, set())
+        yield "" if given in has else f"{line} gives {call} as {given}, which is {' or '.join(sorted(has)) or 'no public call'}"
+
+
 def main(arguments):
     passed = failed = 0
-    for name in arguments or CRATES:
-        for item in public_items(ROOT / "crates" / name):
-            missing = list(lacks(item))
-            if missing:
-                print(f"{item.place} {item.name} lacks {', '.join(missing)}")
-                failed += 1
-            else:
-                passed += 1
+    for fault in faults(arguments or CRATES):
+        if fault:
+            print(fault)
+            failed += 1
+        else:
+            passed += 1
     print(f"{passed} passed, {failed} failed")
     return 1 if failed or not passed else 0
 

@@ -18,7 +18,7 @@ from dataclasses import dataclass, field
 sys.dont_write_bytecode = True
 import edits
 
-MOST = 4
+MOST = 8
 
 
 @dataclass

@@ -117,9 +117,6 @@ SMALL_STACK = 256 << 10
 # needs it is a failure, so that this list stays true.
 NEEDS_MORE = {
     ("exists", "filters"),
-    ("exists", "and_chain"),
-    ("exists", "or_chain"),
-    ("exists", "right_sides"),
 }
 
 
