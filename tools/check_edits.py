@@ -38,6 +38,7 @@ from edits import rt, say
 
 # The most memory that a check was seen to take, in bytes: 4.5 GB for a proof from nothing, 2.8 GB for an edit.
 MEMORY_OF_A_CHECK = 4_500_000_000
+BEGUN = time.time()
 # What the prover says of a proof that names something which the edit took away: that says nothing of the contract.
 NAMES_WHAT_IS_GONE = re.compile(r"has no field|is not in scope|has no `|was not admitted")
 # Where it says that a goal without a written proof is open.
@@ -134,7 +135,7 @@ def try_edit(crate, edit, proof):
         return Result(0, 1, "")  # (what is wrong with the crate has been said)
     result = Result(0, 1, "")
     for is_last in (False, True):
-        kept, started = tempfile.mkdtemp(prefix="kept-"), time.time()
+        kept = tempfile.mkdtemp(prefix="kept-")
         try:
             link_folder(f"{crate.folder}/out/incremental", kept)
             result = judge_edit(crate, edit, kept, proof)
@@ -143,7 +144,7 @@ def try_edit(crate, edit, proof):
         finally:
             shutil.rmtree(kept)
         # A check may have been killed for memory.
-        say(f"[{time.time() - started:.1f} s] {'' if is_last or not result.failed else 'once more: '}{result.text}")
+        say(f"{'' if is_last or not result.failed else 'once more: '}{result.text}")
         if not result.failed:
             break
     return result
@@ -170,6 +171,19 @@ def prove(crate, jobs):
 # ---- many at a time
 
 
+def do_task(key, call, *given):
+    """Does a task, says how long it took, and returns what it gave."""
+    started = time.time()
+    result = call(*given)
+    if time.time() - started > 1:
+        say(f"[{minutes(started)}, {minutes(BEGUN)} since the start] {key[0]} {os.path.basename(key[1])}")
+    return result
+
+
+def minutes(since):
+    return f"{(time.time() - since) / 60:.1f} min"
+
+
 def in_lanes(tasks, lanes):
     """Does tasks side by side, so many at once, and returns what each gave, by its key.
 
@@ -184,7 +198,7 @@ def in_lanes(tasks, lanes):
             for key in ready[: lanes - len(running)]:
                 left.remove(key)
                 jobs = max(1, lanes // proofs) if key[1] == "proof" else 1
-                running[pool.submit(tasks[key][-1], given, jobs)] = key
+                running[pool.submit(do_task, key, tasks[key][-1], given, jobs)] = key
             for it in wait(running, return_when=FIRST_COMPLETED).done:
                 given[running.pop(it)] = it.result()
     return given

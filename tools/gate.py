@@ -133,6 +133,8 @@ def main():
     os.chdir(work_tree)
     hand_over(top, work_tree)
     shutil.rmtree(room, ignore_errors=True)
+    processor = sum(os.times()[:4]) / 60
+    print(f"gate: {check_edits.minutes(check_edits.BEGUN)}, {processor:.0f} min of processor, on {rt.processors()} processors")
     print(f"{passed} passed, {failed + len(faults)} failed")
     return 1 if failed or faults else 0
 
