@@ -3,7 +3,8 @@ use Rattle.std.proofs.Common.{◌≡◌, ◌≢◌, ℕ, suc, ◌+◌, ◌*◌, 
 use Rattle.std.proofs.lemmas.List.{length-append, take_at, drop_at, append-nil}
 use Rattle.jsonb_doc.specs.Tree.{Tree, null, boolean, number, text, extension, array, object, Trees, no_trees, tree, Pairs, no_pairs, pair, count, keys, values}
 use Rattle.jsonb_doc.specs.Payload.{NumberReader, Form, number_reader}
-use Rattle.jsonb_doc.specs.Private.Containers.{IsLoneEntry, IsCut, Holds, HasPairParts}
+use Rattle.jsonb_doc.specs.Private.Containers.{Holds, HasPairParts}
+use Rattle.jsonb_doc.specs.Readable.{IsLoneEntry, IsCut}
 use Rattle.jsonb_doc.specs.Private.Lengths.{HoldKeys}
 use Rattle.jsonb_doc.specs.declared.entry_iter.StoredEntry.{StoredEntry}
 use Rattle.jsonb_doc.specs.declared.container.ArrayParts.{ArrayParts}

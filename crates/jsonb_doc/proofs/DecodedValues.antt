@@ -18,7 +18,8 @@ use Rattle.jsonb_doc.specs.ObjectPairs.{HasPairsLeft, TakesPair}
 use Rattle.jsonb_doc.specs.Answer.{IsOutOfMemory}
 use Rattle.jsonb_doc.specs.ObjectBuilder.{insert_pair}
 use Rattle.jsonb_doc.specs.View.{number_view}
-use Rattle.jsonb_doc.specs.Value.{tree_seen, trees_seen, members_seen, KeepsNormal, SeesItem}
+use Rattle.jsonb_doc.specs.Value.{tree_seen}
+use Rattle.jsonb_doc.specs.Private.Values.{trees_seen, members_seen, KeepsNormal, SeesItem}
 use Rattle.jsonb_doc.specs.declared.item.Item.{Item}
 use Rattle.jsonb_doc.specs.declared.item.Item.TheVariants as item
 use Rattle.jsonb_doc.specs.declared.element_iter.ElementIter.{ElementIter}

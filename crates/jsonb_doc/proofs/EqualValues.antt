@@ -6,7 +6,7 @@ use Rattle.std.proofs.lemmas.Cmp.{tied_itself, alike_right}
 use Rattle.jsonb_doc.specs.Number.{Variant, int64, uint64, decimal64, number_cmp, number_from}
 use Rattle.jsonb_doc.specs.Number.{Number as Number'}
 use Rattle.jsonb_doc.specs.Proofs.NumberOrder.{number_cmp_total, int_cmp_scaled}
-use Rattle.jsonb_doc.specs.Short.{short_value, short_parts}
+use Rattle.jsonb_doc.specs.Private.Short.{short_value, short_parts}
 use Rattle.jsonb_doc.specs.View.{number_parts, number_view}
 use Rattle.jsonb_doc.specs.declared.number.Number.{Number}
 use Rattle.jsonb_doc.specs.declared.short_number.ShortNumber.{ShortNumber}
@@ -33,21 +33,33 @@ decimals_tied a b scale =
     ∙ alike_right number_cmp_total (number_from decimal64 b scale) n m (same_value decimal64 b scale))
     )
 
+same_short : (n : ShortNumber) → number_cmp (short_value n) (short_parts n) ≡ Equal
+same_short (Unsigned n) = same_value uint64 (pos n) 0
+same_short (Signed z) = same_value int64 z 0
+same_short (Decimal z scale) = same_value decimal64 z scale
+
 -- numbers whose digits are stored in at most 64 bits compare as their parts do
 short_cmp : (m n : ShortNumber) → number_cmp (short_value m) (short_value n) ≡ number_cmp (short_parts m) (short_parts n)
 short_cmp m n =
-    number_cmp_total.congr (short_value m) (short_parts m) (short_value n) (same m)
-    ∙ alike_right number_cmp_total (short_value n) (short_parts n) (short_parts m) (same n)
-  where
-    same : (n : ShortNumber) → number_cmp (short_value n) (short_parts n) ≡ Equal
-    same (Unsigned n) = same_value uint64 (pos n) 0
-    same (Signed z) = same_value int64 z 0
-    same (Decimal z scale) = same_value decimal64 z scale
+    number_cmp_total.congr (short_value m) (short_parts m) (short_value n) (same_short m)
+    ∙ alike_right number_cmp_total (short_value n) (short_parts n) (short_parts m) (same_short n)
 
 pub short_tied : (m n : ShortNumber)
     → is_eq (int_cmp ((short_parts m).whole *ℤ pos (10 ^ (short_parts n).scale)) ((short_parts n).whole *ℤ pos (10 ^ (short_parts m).scale)))
     ≡ eq_by_cmp number_cmp (short_value m) (short_value n)
 short_tied m n = ap is_eq (sym (short_cmp m n))
+
+-- a number whose digits are stored in at most 64 bits compares with another as its parts do
+pub short_number_cmp : (m : ShortNumber) (n : Number) → number_cmp (short_value m) (number_view n) ≡ number_cmp (short_parts m) (number_parts n)
+short_number_cmp m n =
+    number_cmp_total.congr (short_value m) (short_parts m) (number_view n) (same_short m)
+    ∙ alike_right number_cmp_total (number_view n) (number_parts n) (short_parts m)
+    (same_value (number_parts n).variant (number_parts n).whole (number_parts n).scale)
+
+-- numbers of one scale compare as their digits do
+pub digits_tell : (v w : Variant) (a b : ℤ) (scale : ℕ)
+    → int_cmp a b ≡ number_cmp (record { variant = v; whole = a; scale = scale }) (record { variant = w; whole = b; scale = scale })
+digits_tell v w a b scale = sym (int_cmp_scaled a b (10 ^ scale) (let h : 1 ≤ 10 ^ scale = one-le-pow scale 10 (omega arith) in omega arith))
 
 -- numbers compare as those of their trees do
 pub number_cmp-number_view : (m n : Number) → number_cmp (number_view m) (number_view n) ≡ number_cmp (number_parts m) (number_parts n)

@@ -8,7 +8,8 @@ use Rattle.jsonb_doc.specs.Tree.{Tree, array, object, Trees, tree, Pairs, pair, 
 use Rattle.jsonb_doc.specs.Payload.{Form}
 use Rattle.jsonb_doc.specs.Format.{AreKeys}
 use Rattle.jsonb_doc.specs.Answer.{IsOutOfMemory}
-use Rattle.jsonb_doc.specs.Value.{tree_seen, trees_seen, members_seen}
+use Rattle.jsonb_doc.specs.Value.{tree_seen}
+use Rattle.jsonb_doc.specs.Private.Values.{trees_seen, members_seen}
 use Rattle.jsonb_doc.specs.Private.Filling.{open_room, IsWhole, FillsTo, MakesWhole, LeadsTo}
 use Rattle.jsonb_doc.specs.declared.error.Error.{Error}
 use Rattle.jsonb_doc.specs.declared.number.Number.{Number}

@@ -7,7 +7,7 @@ use Rattle.jsonb_doc.specs.Format.{HeadedBy, HasItsWords}
 use Rattle.jsonb_doc.specs.Item.{StandsFor, IsItemOf, IsRootOf}
 use Rattle.jsonb_doc.specs.Tree.{Tree}
 use Rattle.jsonb_doc.specs.Format.{IsContent, Decodes}
-use Rattle.jsonb_doc.specs.Private.Containers.{IsCut}
+use Rattle.jsonb_doc.specs.Readable.{IsCut}
 use Rattle.jsonb_doc.specs.declared.container.ArrayParts.{ArrayParts}
 use Rattle.jsonb_doc.specs.declared.container.ObjectParts.{ObjectParts}
 use Rattle.jsonb_doc.specs.declared.container.Container.TheVariants.{Scalar, Array as ArrayOf, Object as ObjectOf}

@@ -7,7 +7,7 @@ use Rattle.jsonb_doc.specs.Tree.{Tree, null, boolean, number, text, extension, a
 use Rattle.jsonb_doc.specs.Payload.{NumberReader, any, number_of, number_or_unsupported, is_unsupported, extension_of}
 use Rattle.jsonb_doc.specs.Format.{IsContent, Decodes, WouldDecode}
 use Rattle.jsonb_doc.specs.Private.Checking.{HasContent, HasDocument, IsValidationError, Validates}
-use Rattle.jsonb_doc.specs.View.{IsNoNumber}
+use Rattle.jsonb_doc.specs.Private.Payloads.{IsNoNumber}
 use Rattle.jsonb_doc.specs.declared.error.Error.{Error}
 use Rattle.jsonb_doc.specs.declared.error.Error.TheVariants.{InvalidJsonb, UnsupportedNumber}
 use Rattle.jsonb_doc.proofs.Entries.{kind_below, document_lenient}

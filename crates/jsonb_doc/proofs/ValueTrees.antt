@@ -10,7 +10,8 @@ use Rattle.std.specs.BTreeMap.{insert_entry}
 use Rattle.jsonb_doc.specs.Number as spec
 use Rattle.jsonb_doc.specs.Tree.{array, object, trees_of, pairs_of}
 use Rattle.jsonb_doc.specs.ObjectBuilder.{insert_pair}
-use Rattle.jsonb_doc.specs.Value.{tree_seen, trees_seen, members_seen}
+use Rattle.jsonb_doc.specs.Value.{tree_seen}
+use Rattle.jsonb_doc.specs.Private.Values.{trees_seen, members_seen}
 use Rattle.jsonb_doc.specs.declared.number.Number.{Number}
 use Rattle.jsonb_doc.specs.declared.value.Value.{Value, Array, Object, the_lemmas}
 

@@ -1,7 +1,7 @@
 -- What a call answers: what is right, or a refusal out of a stated set.
 --
--- A clause `MatchResult result P Refusals` says of a call that either it is `Ok` with a value of which P holds, or it is
--- `Err` with one of the refusals. `Gives` says it of a call whose meaning may itself be a refusal.
+-- A clause `MatchResult result P Refusals` says of a call that either it is `Ok` with a value of which P holds, or it
+-- is `Err` with one of the refusals. `Gives` says it of a call whose meaning may itself be a refusal.
 use Rattle.std.specs.Prelude.{◌≡◌, ◌⊎◌, List, [], ◌∷◌, ◌++◌, Option, Some, None, Result, Ok, Err, IfOk, IfErr, IsOkAnd, ⊤}
 use Rattle.jsonb_doc.specs.declared.error.Error.{Error}
 use Rattle.jsonb_doc.specs.declared.error.Error.TheVariants.{InvalidJsonb, UnsupportedNumber, OutOfMemory, TooLarge}
@@ -49,8 +49,10 @@ abbrev pub try_flat_map : {A B : Type 0} → (A → Outcome (List B)) → List A
 try_flat_map f [] = Ok []
 try_flat_map f (x ∷ xs) = and_then (f x) (λ front. and_then (try_flat_map f xs) (λ back. Ok (front ++ back)))
 
--- The answer is that of the meaning: a value that stands for its value, or its refusal. The other refusals are those of the call.
-pub record Gives {A B : Type 0} (R : A → B → Type 0) (Other : Error → Type 0) (answer : Outcome A) (meaning : Outcome B) : Type 0 where
+-- The answer is that of the meaning: a value that stands for its value, or its refusal. The other refusals are those of
+-- the call.
+pub record Gives {A B : Type 0} (R : A → B → Type 0) (Other : Error → Type 0) (answer : Outcome A)
+    (meaning : Outcome B) : Type 0 where
   pub ok : IfOk answer (λ x. IsOkAnd meaning (R x))
   pub err : IfErr answer (λ e. Other e ⊎ (meaning ≡ Err e))
 

@@ -1,6 +1,8 @@
 -- What an array's builder holds.
-use Rattle.std.specs.Prelude.{ℕ, ◌+◌, ◌/◌, ◌^◌, ◌≤◌, ◌⊎◌, List, [], ◌++◌, length}
-use Rattle.jsonb_doc.specs.Tree.{Tree, trees_of}
+use Rattle.std.specs.Prelude.{ℕ, ◌+◌, ◌/◌, ◌^◌, ◌≤◌, ◌⊎◌, List, [], ◌∷◌, ◌++◌, length, Result, MatchResult}
+use Rattle.jsonb_doc.specs.declared.error.Error.{Error}
+use Rattle.jsonb_doc.specs.Tree.{Tree, array, trees_of}
+use Rattle.jsonb_doc.specs.Answer.{IsOutOfMemoryOrTooLarge}
 use Rattle.jsonb_doc.specs.Payload.{Form, number_reader}
 use Rattle.jsonb_doc.specs.Format.{AreEntries}
 use Rattle.jsonb_doc.specs.Encoding.{IsTooLong, item_word, item_content}
@@ -25,6 +27,12 @@ add_entry parts item = record { words = parts.words ++ item_word item; contents 
 -- the builder holds the trees, in order
 abbrev pub HoldsElements : Form → Parts → List Tree → Type 0
 HoldsElements form parts ts = AreEntries (number_reader form) (trees_of ts) parts.words parts.contents
+
+-- The tree is pushed behind these: the builder then holds it too, or memory was refused, or the array is too large.
+abbrev pub PushesElement : Form → List Tree → Tree → Result (Unit {0}) Error → Parts → Type 0
+PushesElement form ts t answer after =
+    MatchResult answer (λ _. HoldsElements form after (ts ++ t ∷ []))
+    (IsOutOfMemoryOrTooLarge form (array (trees_of (ts ++ t ∷ []))))
 
 -- one more entry for the item passes the limits
 abbrev pub IsTooLargeElement : Parts → Item → Type 0

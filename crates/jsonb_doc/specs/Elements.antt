@@ -16,7 +16,8 @@ pub record HasElementsLeft (form : Form) (it : ElementIter) (ts : Trees) : Type 
 -- the bytes are the header of an array, and all that is left in the iterator
 abbrev pub HasWholeArray : List ℕ → ElementIter → Type 0
 HasWholeArray bytes it =
-    (n : ℕ) × HeadedBy bytes array_header n (it.entries.words.now ++ it.entries.contents.now) × (length it.entries.words.now ≡ 4 * n)
+    (n : ℕ) × HeadedBy bytes array_header n (it.entries.words.now ++ it.entries.contents.now)
+    × (length it.entries.words.now ≡ 4 * n)
 
 -- at most how many items the iterator gives, on any bytes
 abbrev pub elements_bound : ElementIter → ℕ
@@ -37,13 +38,15 @@ TakesElement form (tree t ts) (Some (Ok item)) after = StandsFor form item t × 
 -- the first entry that is left is of this kind and content, and the others are left
 abbrev pub PassesElement : ElementIter → ℕ → List ℕ → ElementIter → Type 0
 PassesElement before kind content after =
-    BeginWith before.entries.words.now before.entries.contents.now kind content after.entries.words.now after.entries.contents.now
+    BeginWith before.entries.words.now before.entries.contents.now kind content
+    after.entries.words.now after.entries.contents.now
 
--- What is read, on any bytes. While entry words are left there is an answer: the item in the first entry, or an error where it has none. Behind
--- an entry whose end isn't known nothing is left.
+-- What is read, on any bytes. While entry words are left there is an answer: the item in the first entry, or an error
+-- where it has none. Behind an entry whose end isn't known nothing is left.
 abbrev pub ReadsElement : ElementIter → Option (Result Item Error) → ElementIter → Type 0
 ReadsElement before None after = before.entries.words.now ≡ []
-ReadsElement before (Some (Ok item)) after = (kind : ℕ) × (content : List ℕ) × PassesElement before kind content after × IsItemOf kind content item
+ReadsElement before (Some (Ok item)) after =
+    (kind : ℕ) × (content : List ℕ) × PassesElement before kind content after × IsItemOf kind content item
 ReadsElement before (Some (Err e)) after =
     (BeginWithNone before.entries.words.now before.entries.contents.now × (after.entries.words.now ≡ []))
     ⊎ ((kind : ℕ) × (content : List ℕ) × PassesElement before kind content after × (HasItem kind content → ⊥))

@@ -1,9 +1,7 @@
 -- The entry that an item is written as.
-use Rattle.std.specs.Prelude.{◌≡◌, ℕ, ◌^◌, ◌≤◌, true, false, List, [], ◌++◌, take, length, ⊤, IsUtf8}
-use Rattle.jsonb_doc.specs.Number.{FitsNumber}
-use Rattle.jsonb_doc.specs.Extension.{FitsExtension}
+use Rattle.std.specs.Prelude.{ℕ, ◌^◌, ◌≤◌, true, false, List, [], length}
 use Rattle.jsonb_doc.specs.Payload.{number_payload, extension_payload}
-use Rattle.jsonb_doc.specs.Format.{header, scalar_header, entry_word, null_entry, text_entry, number_entry, false_entry, true_entry, container_entry, extension_entry}
+use Rattle.jsonb_doc.specs.Format.{entry_word, null_entry, text_entry, number_entry, false_entry, true_entry, container_entry, extension_entry}
 use Rattle.jsonb_doc.specs.View.{number_view, extension_view}
 use Rattle.jsonb_doc.specs.declared.item.Item.{Item}
 use Rattle.jsonb_doc.specs.declared.item.Item.TheVariants.{Null, Boolean, Number, String, Extension, Array, Object}
@@ -33,23 +31,12 @@ item_content (Object bytes) = bytes.now
 abbrev pub item_word : Item → List ℕ
 item_word item = entry_word (item_kind item) (length (item_content item))
 
--- the document of the item's entry alone
-abbrev pub scalar_bytes : Item → List ℕ
-scalar_bytes item = header scalar_header 0 ++ (item_word item ++ item_content item)
-
 -- an entry: its kind and its content
 abbrev pub EntryParts : Type 0
 EntryParts = ℕ × List ℕ
 
 abbrev pub entry_of : Item → EntryParts
 entry_of item = (item_kind item, item_content item)
-
--- the numbers and fields of the item lie in the ranges of their types, and its text is UTF-8
-abbrev pub FitsItem : Item → Type 0
-FitsItem (Number n) = FitsNumber (number_view n)
-FitsItem (String s) = IsUtf8 s.now
-FitsItem (Extension x) = FitsExtension (extension_view x)
-FitsItem _ = ⊤
 
 -- the content is too long for an entry
 abbrev pub IsTooLong : List ℕ → Type 0
@@ -60,7 +47,3 @@ abbrev pub IsTooLargeItem : Item → Type 0
 IsTooLargeItem (Array bytes) = ⊥
 IsTooLargeItem (Object bytes) = ⊥
 IsTooLargeItem item = IsTooLong (item_content item)
-
--- what was there stays in front
-abbrev pub StaysInFront : List ℕ → List ℕ → Type 0
-StaysInFront old new = take (length old) new ≡ old

@@ -3,7 +3,6 @@ pub mod Bytes
 pub mod Number
 pub mod NumberText
 pub mod Rounding
-pub mod Short
 pub mod Extension
 pub mod Tree
 pub mod Depth
@@ -27,3 +26,4 @@ pub mod Value
 pub mod Equal
 pub mod Private
 pub mod Proofs
+pub mod Readable

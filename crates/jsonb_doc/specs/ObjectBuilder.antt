@@ -1,15 +1,16 @@
 -- What an object's builder holds, and which bytes it builds.
-use Rattle.std.specs.Prelude.{◌≡◌, ◌⊎◌, ℕ, ◌+◌, ◌^◌, ◌<◌, ◌≤◌, Bool, List, [], ◌∷◌, ◌++◌, length, flat_map, string_bytes}
+use Rattle.std.specs.Prelude.{◌≡◌, ◌⊎◌, ℕ, ◌+◌, ◌^◌, ◌<◌, ◌≤◌, Bool, List, [], ◌∷◌, length, string_bytes, Result, MatchResult}
 use Rattle.std.specs.declared.alloc.Global.{Global}
 use Rattle.std.specs.declared.string.String.{String}
 use Rattle.std.specs.List.{list_any, AllZip}
-use Rattle.std.specs.Map.{keys_of, values_of}
 use Rattle.std.specs.Ordering.{nat_cmp, match_ordering}
 use Rattle.std.specs.Cmp.Lexicographic.{slice_cmp}
 use Rattle.std.specs.Str.{bytes_eq}
-use Rattle.jsonb_doc.specs.Tree.{Tree}
+use Rattle.jsonb_doc.specs.declared.error.Error.{Error}
+use Rattle.jsonb_doc.specs.Tree.{Tree, object, pairs_of}
+use Rattle.jsonb_doc.specs.Answer.{IsOutOfMemoryOrTooLarge}
 use Rattle.jsonb_doc.specs.Payload.{Form, number_reader}
-use Rattle.jsonb_doc.specs.Format.{header, object_header, entry_word, key_words, key_bytes, IsContent}
+use Rattle.jsonb_doc.specs.Format.{IsContent}
 use Rattle.jsonb_doc.specs.Encoding.{EntryParts, IsTooLong, item_content}
 use Rattle.jsonb_doc.specs.declared.item.Item.{Item}
 use Rattle.jsonb_doc.specs.declared.kept_entry.KeptEntry.{KeptEntry}
@@ -47,6 +48,14 @@ IsMemberOf form e p = (e.0 ≡ p.0) × IsEntryOf form e.1 p.1
 abbrev pub HoldsPairs : Form → List (List ℕ × EntryParts) → List (List ℕ × Tree) → Type 0
 HoldsPairs form es ps = AllZip (IsMemberOf form) es ps
 
+-- The tree is pushed under the key: the builder then holds the pair too, or memory was refused, or the object is too
+-- large.
+abbrev pub PushesPair :
+    Form → List (List ℕ × Tree) → List ℕ → Tree → Result (Unit {0}) Error → List (List ℕ × EntryParts) → Type 0
+PushesPair form ps key t answer after =
+    MatchResult answer (λ _. HoldsPairs form after (insert_pair key t ps))
+    (IsOutOfMemoryOrTooLarge form (object (pairs_of (insert_pair key t ps))))
+
 -- the pair that an entry of a map is
 abbrev pub member : String Global × KeptEntry → List ℕ × EntryParts
 member e = (string_bytes e.0, entry_parts e.1)
@@ -58,17 +67,3 @@ FitsMember e = (length (string_bytes e.0) < 2 ^ 28) × FitsEntry (entry_parts e.
 -- one more pair of the key and the item passes the limits
 abbrev pub IsTooLargePair : List (List ℕ × EntryParts) → List ℕ → Item → Type 0
 IsTooLargePair es key item = IsTooLong key ⊎ (IsTooLong (item_content item) ⊎ (2 ^ 29 ≤ length es + 1))
-
--- ---- bytes
-
-abbrev pub words_of_entries : List EntryParts → List ℕ
-words_of_entries es = flat_map (λ e. entry_word e.0 (length e.1)) es
-
-abbrev pub contents_of_entries : List EntryParts → List ℕ
-contents_of_entries es = flat_map (λ e. e.1) es
-
--- the object of these keys with their entries
-abbrev pub object_bytes : List (List ℕ × EntryParts) → List ℕ
-object_bytes es =
-    header object_header (length es)
-    ++ ((key_words (keys_of es) ++ words_of_entries (values_of es)) ++ (key_bytes (keys_of es) ++ contents_of_entries (values_of es)))

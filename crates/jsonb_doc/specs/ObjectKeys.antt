@@ -18,9 +18,12 @@ pub record HasKeysLeft (it : KeyIter) (ks : List (List ℕ)) : Type 0 where
   pub words : it.key_words.now ≡ key_words ks
   pub bytes : it.key_bytes.now ≡ key_bytes ks ++ rest
 
--- the bytes are the header of an object, and all words of keys and all contents of the iterator, with the words of values between
+-- the bytes are the header of an object, and all words of keys and all contents of the iterator, with the words of
+-- values between
 abbrev pub HasAllKeys : List ℕ → KeyIter → Type 0
-HasAllKeys bytes it = (n : ℕ) × (value_words : List ℕ) × HeadedBy bytes object_header n ((it.key_words.now ++ value_words) ++ it.key_bytes.now)
+HasAllKeys bytes it =
+    (n : ℕ) × (value_words : List ℕ)
+    × HeadedBy bytes object_header n ((it.key_words.now ++ value_words) ++ it.key_bytes.now)
     × (length it.key_words.now ≡ 4 * n) × (length value_words ≡ 4 * n)
 
 -- at most how many keys the iterator gives, on any bytes
@@ -40,8 +43,8 @@ abbrev pub PassesKey : KeyIter → List ℕ → KeyIter → Type 0
 PassesKey before key after =
     (kind : ℕ) × BeginWith before.key_words.now before.key_bytes.now kind key after.key_words.now after.key_bytes.now
 
--- What is read, on any bytes. While words are left there is an answer: the first key, or an error where it is no text. Behind a key whose end
--- isn't known nothing is left.
+-- What is read, on any bytes. While words are left there is an answer: the first key, or an error where it is no text.
+-- Behind a key whose end isn't known nothing is left.
 abbrev pub ReadsKey : KeyIter → Option (Result (Bor (List ℕ)) Error) → KeyIter → Type 0
 ReadsKey before None after = before.key_words.now ≡ []
 ReadsKey before (Some (Ok given)) after = PassesKey before given.now after × IsUtf8 given.now

@@ -20,7 +20,8 @@ pub record HasPairsLeft (form : Form) (it : PairIter) (ps : Pairs) : Type 0 wher
 
 -- the bytes are the header of an object, and all words and contents of the iterator, the keys before the values
 abbrev pub HasWholeObject : List ℕ → PairIter → Type 0
-HasWholeObject bytes it = (n : ℕ) × HeadedBy bytes object_header n ((it.key_words.now ++ it.value_words.now) ++ it.key_bytes.now)
+HasWholeObject bytes it =
+    (n : ℕ) × HeadedBy bytes object_header n ((it.key_words.now ++ it.value_words.now) ++ it.key_bytes.now)
     × (length it.key_words.now ≡ 4 * n) × (length it.value_words.now ≡ 4 * n)
 
 -- at most how many pairs the iterator gives, on any bytes
@@ -37,27 +38,33 @@ TakesPair form no_pairs None after = HasPairsLeft form after no_pairs
 TakesPair form no_pairs (Some r) after = ⊥
 TakesPair form (pair key t ps) None after = ⊥
 TakesPair form (pair key t ps) (Some (Err e)) after = ⊥
-TakesPair form (pair key t ps) (Some (Ok given)) after = (given.0.now ≡ key) × StandsFor form given.1 t × HasPairsLeft form after ps
+TakesPair form (pair key t ps) (Some (Ok given)) after =
+    (given.0.now ≡ key) × StandsFor form given.1 t × HasPairsLeft form after ps
 
 -- The first key that is left has these bytes, the first value is of this kind and content, and the others are left.
 pub record PassesPair (before : PairIter) (key : List ℕ) (kind : ℕ) (content : List ℕ) (after : PairIter) : Type 0 where
   pub key_kind : ℕ
   pub name : BeginWith before.key_words.now before.key_bytes.now key_kind key after.key_words.now after.key_bytes.now
-  pub value : BeginWith before.value_words.now before.value_contents.now kind content after.value_words.now after.value_contents.now
+  pub value : BeginWith before.value_words.now before.value_contents.now kind content
+      after.value_words.now after.value_contents.now
 
--- What is read, on any bytes. While words of keys are left there is an answer: the first key and the item of its value, or an error where the key
--- is no text or the value has no item. Behind a pair whose end isn't known nothing is left.
+-- What is read, on any bytes. While words of keys are left there is an answer: the first key and the item of its value,
+-- or an error where the key is no text or the value has no item. Behind a pair whose end isn't known nothing is left.
 abbrev pub ReadsPair : PairIter → Option (Result (Bor (List ℕ) × Item) Error) → PairIter → Type 0
 ReadsPair before None after = before.key_words.now ≡ []
 ReadsPair before (Some (Ok given)) after =
-    (kind : ℕ) × (content : List ℕ) × PassesPair before given.0.now kind content after × IsUtf8 given.0.now × IsItemOf kind content given.1
+    (kind : ℕ) × (content : List ℕ) × PassesPair before given.0.now kind content after × IsUtf8 given.0.now
+    × IsItemOf kind content given.1
 ReadsPair before (Some (Err e)) after =
-    ((BeginWithNone before.key_words.now before.key_bytes.now ⊎ BeginWithNone before.value_words.now before.value_contents.now)
+    ((BeginWithNone before.key_words.now before.key_bytes.now
+    ⊎ BeginWithNone before.value_words.now before.value_contents.now)
     × (after.key_words.now ≡ []))
-    ⊎ ((key : List ℕ) × (kind : ℕ) × (content : List ℕ) × PassesPair before key kind content after × (IsUtf8 key → HasItem kind content → ⊥))
+    ⊎ ((key : List ℕ) × (kind : ℕ) × (content : List ℕ) × PassesPair before key kind content after
+    × (IsUtf8 key → HasItem kind content → ⊥))
 
 -- What a call of `next` does. On any bytes it gives a pair, an error or `None`, and after `None` nothing more.
-pub record GivesPair (before : PairIter) (r : Option (Result (Bor (List ℕ) × Item) Error)) (after : PairIter) : Type 0 where
+pub record GivesPair (before : PairIter) (r : Option (Result (Bor (List ℕ) × Item) Error))
+    (after : PairIter) : Type 0 where
   pub reads : ReadsPair before r after
   pub takes : (form : Form) (ps : Pairs) → HasPairsLeft form before ps → TakesPair form ps r after
   pub normal : IfSome r (λ x. IfOk x (λ given. IsNormal given.1))

@@ -9,3 +9,9 @@ pub mod Parts
 pub mod Copying
 pub mod Comparing
 pub mod Containers
+pub mod Short
+pub mod Integers
+pub mod Writing
+pub mod ObjectBytes
+pub mod Values
+pub mod Payloads

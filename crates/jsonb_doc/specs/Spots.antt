@@ -22,7 +22,8 @@ pub record Locates (bytes : List ℕ) (spot : Spot) (t : Tree) : Type 0 where
   pub decodes : Decodes any bytes whole
   pub ordered : spot.start ≤ spot.end
   pub within : spot.end ≤ length bytes
-  pub content : (form : Form) (top : Tree) → Decodes form bytes top → IsContent (number_reader form) t spot.kind (spot_content bytes spot)
+  pub content : (form : Form) (top : Tree) → Decodes form bytes top
+      → IsContent (number_reader form) t spot.kind (spot_content bytes spot)
 
 -- These trees are left in the iterator, for spots of these bytes.
 pub record HasSpotsLeft (bytes : List ℕ) (it : SpotIter) (ts : List Tree) : Type 0 where
@@ -49,7 +50,8 @@ TakesSpot bytes (t ∷ ts) None after = ⊥
 TakesSpot bytes (t ∷ ts) (Some (Err e)) after = ⊥
 TakesSpot bytes (t ∷ ts) (Some (Ok spot)) after = Locates bytes spot t × HasSpotsLeft bytes after ts
 
--- The first word that is left tells of the content at this spot, which lies within the contents, and the others are left.
+-- The first word that is left tells of the content at this spot, which lies within the contents, and the others are
+-- left.
 pub record PassesSpot (before : SpotIter) (spot : Spot) (after : SpotIter) : Type 0 where
   pub word : before.words.now ≡ entry_word spot.kind (spot.end - spot.start) ++ after.words.now
   pub known : spot.kind < 8
@@ -60,12 +62,13 @@ pub record PassesSpot (before : SpotIter) (spot : Spot) (after : SpotIter) : Typ
   pub next : after.start ≡ spot.end
   pub last : after.end ≡ before.end
 
--- What is read, on any bytes. While words are left there is an answer: the spot of the first, or an error where it has none, behind which nothing is
--- left.
+-- What is read, on any bytes. While words are left there is an answer: the spot of the first, or an error where it has
+-- none, behind which nothing is left.
 abbrev pub ReadsSpot : SpotIter → Option (Result Spot Error) → SpotIter → Type 0
 ReadsSpot before None after = before.words.now ≡ []
 ReadsSpot before (Some (Ok spot)) after = PassesSpot before spot after
-ReadsSpot before (Some (Err e)) after = ((spot : Spot) (rest : SpotIter) → PassesSpot before spot rest → ⊥) × (after.words.now ≡ [])
+ReadsSpot before (Some (Err e)) after =
+    ((spot : Spot) (rest : SpotIter) → PassesSpot before spot rest → ⊥) × (after.words.now ≡ [])
 
 -- what a call of `next` does
 pub record GivesSpot (before : SpotIter) (r : Option (Result Spot Error)) (after : SpotIter) : Type 0 where

@@ -1,13 +1,11 @@
 -- Which tree a value is.
-use Rattle.std.specs.Prelude.{◌≡◌, ⊤, ℕ, List, map, String, string_bytes}
+use Rattle.std.specs.Prelude.{ℕ, List, map, String, string_bytes}
 use Rattle.std.specs.Cow.{cow_str_bytes}
 use Rattle.std.specs.declared.alloc.Global.{Global}
 use Rattle.jsonb_doc.specs.Number as spec
 use Rattle.jsonb_doc.specs.Extension.{binary, date, timestamp, timestamp_tz, interval}
 use Rattle.jsonb_doc.specs.Tree.{Tree, null, boolean, number, text, extension, array, object, trees_of, pairs_of}
 use Rattle.jsonb_doc.specs.View.{number_parts, number_view}
-use Rattle.jsonb_doc.specs.declared.item.Item.{Item}
-use Rattle.jsonb_doc.specs.declared.item.Item.TheVariants as item
 use Rattle.jsonb_doc.specs.declared.number.Number.{Number}
 use Rattle.jsonb_doc.specs.declared.value.Value.{Value, fold-Value}
 use Rattle.jsonb_doc.specs.declared.value.Value.TheOpen.{Value-F}
@@ -34,14 +32,6 @@ value_layer seen (Value-F.Object m) = object (pairs_of (keyed m.entries))
 abbrev pub tree_seen : (Number → spec.Number) → Value → Tree
 tree_seen seen = fold-Value Tree (value_layer seen)
 
--- the same for the values of an array
-abbrev pub trees_seen : (Number → spec.Number) → List Value → List Tree
-trees_seen seen vs = map (tree_seen seen) vs
-
--- the same for the entries of an object, in the byte order of their keys
-abbrev pub members_seen : (Number → spec.Number) → List (String Global × Value) → List (List ℕ × Tree)
-members_seen seen es = keyed (map (λ e. (e.0, tree_seen seen e.1)) es)
-
 -- the tree of a value, where every zero is one number
 abbrev pub value_tree : Value → Tree
 value_tree = tree_seen number_view
@@ -49,12 +39,3 @@ value_tree = tree_seen number_view
 -- The tree of a value, where each number keeps its parts. Zeros of other variants and scales are other numbers.
 abbrev pub value_parts : Value → Tree
 value_parts = tree_seen number_parts
-
--- each number whose zero, if it is one, is the unsigned one is seen as it is
-abbrev pub KeepsNormal : (Number → spec.Number) → Type 0
-KeepsNormal seen = (n : Number) → number_parts n ≡ number_view n → seen n ≡ number_view n
-
--- where the item is a number, that is seen as in the item's tree
-abbrev pub SeesItem : (Number → spec.Number) → Item → Type 0
-SeesItem seen (item.Number n) = seen n ≡ number_view n
-SeesItem seen _ = ⊤

@@ -3,7 +3,7 @@
 ghost use Rattle.std.specs.Prelude.{◌≡◌, ◌≢◌, ◌↔◌, IsOk, IsErrOf, ℕ, List, [], MatchOption, MatchResult, option_copied};
 ghost use Rattle.jsonb_doc.specs.Tree.{Tree};
 ghost use Rattle.jsonb_doc.specs.Payload.{any, number_or_unsupported};
-ghost use Rattle.jsonb_doc.specs.Format.{Decodes, WouldDecode};
+ghost use Rattle.jsonb_doc.specs.Format.{Decodes, IsUnsupportedDocument, IsNoDocument};
 ghost use Rattle.jsonb_doc.specs.Private.Checking.{Validates, HasContent, HasEntries, HasDocument, HasKeys, IsNextKey, HasParts, HasLarge, IsNoLonger, ReducesTo};
 
 use crate::container::{Container, read_container};
@@ -26,9 +26,8 @@ use std::cmp::Ordering;
 /// Linear in the bytes, without memory. Calls nest no deeper than the length can be halved.
 pub fn check(bytes: &[u8]) -> Result<(), Error>
     ensures ok { IsOk result ↔ ((t : Tree) × Decodes any bytes.now t) }
-    ensures unsupported { IsErrOf result Error.UnsupportedNumber
-        ↔ (((t : Tree) → Decodes any bytes.now t → ⊥) × ((t : Tree) × WouldDecode bytes.now t)) }
-    ensures invalid { IsErrOf result Error.InvalidJsonb ↔ ((t : Tree) → WouldDecode bytes.now t → ⊥) }
+    ensures unsupported { IsErrOf result Error.UnsupportedNumber ↔ IsUnsupportedDocument bytes.now }
+    ensures invalid { IsErrOf result Error.InvalidJsonb ↔ IsNoDocument bytes.now }
 {
     check_document(bytes)
 }

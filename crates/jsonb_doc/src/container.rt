@@ -4,7 +4,8 @@ ghost use Rattle.std.specs.Prelude.{◌≡◌, ◌≤◌, ℕ, ◌*◌, ◌+◌,
 ghost use Rattle.jsonb_doc.specs.Tree.{Tree};
 ghost use Rattle.jsonb_doc.specs.Payload.{NumberReader};
 ghost use Rattle.jsonb_doc.specs.Format.{HeadedBy, IsDocument};
-ghost use Rattle.jsonb_doc.specs.Private.Containers.{IsLoneEntry, IsCut, container_words, container_room};
+ghost use Rattle.jsonb_doc.specs.Private.Containers.{container_words, container_room};
+ghost use Rattle.jsonb_doc.specs.Readable.{IsLoneEntry, IsCut};
 
 use crate::entry_iter::StoredEntry;
 use crate::error::Error;

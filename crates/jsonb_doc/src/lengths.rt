@@ -2,7 +2,8 @@
 
 ghost use Rattle.std.specs.Prelude.{◌≡◌, ℕ, ◌+◌, ◌^◌, ◌<◌, ◌≤◌, List, MatchOption, IsSomeAnd, IfSome, length, take, drop};
 ghost use Rattle.jsonb_doc.specs.Format.{BeginWith};
-ghost use Rattle.jsonb_doc.specs.Private.Lengths.{StandBefore, StartWith};
+ghost use Rattle.jsonb_doc.specs.Private.Lengths.{StandBefore};
+ghost use Rattle.jsonb_doc.specs.Readable.{StartWith};
 
 use crate::layout::{Entry, KINDS, LENGTHS, split_entry, split_word};
 

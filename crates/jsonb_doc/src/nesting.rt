@@ -1,9 +1,9 @@
 //! How deep documents are nested, told without a tree.
 
-ghost use Rattle.std.specs.Prelude.{◌≡◌, ◌↔◌, ◌≤◌, ◌<◌, ◌+◌, IsOk, IsErrOf, IsOkAnd, IfSome, ℕ, length, option_copied, MatchOption, Ok};
+ghost use Rattle.std.specs.Prelude.{◌≡◌, ◌↔◌, ◌≤◌, ◌<◌, ◌+◌, IsOk, IsErrOf, IfSome, length, option_copied, MatchOption, Ok};
 ghost use Rattle.jsonb_doc.specs.Tree.{Tree, Trees, no_trees};
 ghost use Rattle.jsonb_doc.specs.Payload.{Form, any, number_reader};
-ghost use Rattle.jsonb_doc.specs.Format.{AreEntries, Decodes, WouldDecode};
+ghost use Rattle.jsonb_doc.specs.Format.{AreEntries, Decodes, IsUnsupportedDocument, IsNoDocument};
 ghost use Rattle.jsonb_doc.specs.Depth.{deepest};
 ghost use Rattle.jsonb_doc.specs.Private.Checking.{IsNoLonger};
 ghost use Rattle.jsonb_doc.specs.Private.Depths.{parts_of, AreDeep};
@@ -27,9 +27,8 @@ use crate::layout::{CONTAINER, split_entry};
 pub fn depth(bytes: &[u8]) -> Result<usize, Error>
     ensures depth { (form : Form) (t : Tree) → Decodes form bytes.now t → result ≡ Ok (deepest t) }
     ensures ok { IsOk result ↔ ((t : Tree) × Decodes any bytes.now t) }
-    ensures unsupported { IsErrOf result Error.UnsupportedNumber
-        ↔ (((t : Tree) → Decodes any bytes.now t → ⊥) × ((t : Tree) × WouldDecode bytes.now t)) }
-    ensures invalid { IsErrOf result Error.InvalidJsonb ↔ ((t : Tree) → WouldDecode bytes.now t → ⊥) }
+    ensures unsupported { IsErrOf result Error.UnsupportedNumber ↔ IsUnsupportedDocument bytes.now }
+    ensures invalid { IsErrOf result Error.InvalidJsonb ↔ IsNoDocument bytes.now }
 {
     check(bytes)?;
     Ok(document_depth(bytes))
@@ -48,9 +47,8 @@ pub fn depth(bytes: &[u8]) -> Result<usize, Error>
 pub fn check_depth(bytes: &[u8], limit: usize) -> Result<(), Error>
     ensures ok { IsOk result ↔ ((t : Tree) × Decodes any bytes.now t × (deepest t ≤ limit)) }
     ensures too_deep { IsErrOf result Error.TooDeep ↔ ((t : Tree) × Decodes any bytes.now t × (limit < deepest t)) }
-    ensures unsupported { IsErrOf result Error.UnsupportedNumber
-        ↔ (((t : Tree) → Decodes any bytes.now t → ⊥) × ((t : Tree) × WouldDecode bytes.now t)) }
-    ensures invalid { IsErrOf result Error.InvalidJsonb ↔ ((t : Tree) → WouldDecode bytes.now t → ⊥) }
+    ensures unsupported { IsErrOf result Error.UnsupportedNumber ↔ IsUnsupportedDocument bytes.now }
+    ensures invalid { IsErrOf result Error.InvalidJsonb ↔ IsNoDocument bytes.now }
 {
     if depth(bytes)? > limit {
         Err(Error::TooDeep)

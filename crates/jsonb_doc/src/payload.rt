@@ -5,7 +5,7 @@ ghost use Rattle.byteorder.specs.Endian.{big_bytes};
 ghost use Rattle.jsonb_doc.specs.Number.{FitsNumber};
 ghost use Rattle.jsonb_doc.specs.Extension.{binary, date, timestamp, timestamp_tz, interval, FitsExtension};
 ghost use Rattle.jsonb_doc.specs.Payload.{fixed_bytes, unsigned_width, signed_size, signed_bytes, number_payload, extension_payload};
-ghost use Rattle.jsonb_doc.specs.Encoding.{StaysInFront};
+ghost use Rattle.jsonb_doc.specs.Private.Writing.{StaysInFront};
 ghost use Rattle.jsonb_doc.specs.View.{number_view, extension_view};
 
 use crate::extension::ExtensionValue;

@@ -4,11 +4,14 @@ ghost use Rattle.std.specs.Prelude.{◌≡◌, ◌∷◌, IfSome, Some};
 ghost use Rattle.std.specs.Ordering.{eq_by_cmp};
 ghost use Rattle.jsonb_doc.specs.Number.{number_cmp, number_from, decimal64};
 ghost use Rattle.jsonb_doc.specs.Payload.{number_of};
-ghost use Rattle.jsonb_doc.specs.Short.{short_value, short_parts};
+ghost use Rattle.jsonb_doc.specs.Private.Short.{short_value, short_parts};
+ghost use Rattle.jsonb_doc.specs.View.{number_view};
 
 use crate::layout::DECIMAL64_LEN;
+use crate::number::Number;
 use crate::number_order::exact_cmp;
 use byteorder::{BigEndian, ByteOrder};
+use std::cmp::Ordering;
 
 /// A number as it is stored, where its digits take at most 64 bits.
 #[derive(Clone, Copy, Debug)]
@@ -81,6 +84,37 @@ pub fn digits_equal(number: ShortNumber, other: ShortNumber) -> bool
             }
         }
         _ => parts_equal(number, other),
+    }
+}
+
+/// The order of two numbers that are not stored alike.
+#[inline(never)]
+fn parts_cmp(number: ShortNumber, other: &Number) -> Ordering
+    ensures { result ≡ number_cmp (short_value number) (number_view other.now) }
+{
+    exact_cmp(number.whole(), number.scale(), other.whole(), other.scale())
+}
+
+/// The order of two numbers by value. Where they are stored alike their digits tell it.
+///
+/// # Cost
+///
+/// Constant, without memory.
+#[inline(always)]
+pub fn digits_cmp(number: ShortNumber, other: &Number) -> Ordering
+    ensures { result ≡ number_cmp (short_value number) (number_view other.now) }
+{
+    match (number, other) {
+        (ShortNumber::Unsigned(a), Number::UInt64(b)) => a.cmp(b),
+        (ShortNumber::Signed(a), Number::Int64(b)) => a.cmp(b),
+        (ShortNumber::Decimal(a, scale), Number::Decimal64(b)) => {
+            if scale == b.scale {
+                a.cmp(&b.value)
+            } else {
+                parts_cmp(number, other)
+            }
+        }
+        _ => parts_cmp(number, other),
     }
 }
 

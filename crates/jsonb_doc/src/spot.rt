@@ -6,7 +6,7 @@ ghost use Rattle.jsonb_doc.specs.Payload.{Form, any, number_reader};
 ghost use Rattle.jsonb_doc.specs.Format.{Decodes, IsContent, HeadedBy};
 ghost use Rattle.jsonb_doc.specs.Item.{StandsFor, IsNormal, item_size};
 ghost use Rattle.jsonb_doc.specs.Answer.{SameOption, IsDecodingError};
-ghost use Rattle.jsonb_doc.specs.Private.Containers.{HasReadableRoot};
+ghost use Rattle.jsonb_doc.specs.Readable.{HasReadableRoot};
 ghost use Rattle.jsonb_doc.specs.Private.Lengths.{HoldKeys, FindsKey};
 ghost use Rattle.jsonb_doc.specs.Spots.{Locates, HasSpotsLeft, spot_size, spot_content, spots_bound, spots_room};
 
@@ -163,6 +163,7 @@ pub fn child_spots<'a>(bytes: &'a [u8], spot: Spot) -> Result<Option<SpotIter<'a
 /// # Cost
 ///
 /// Linear in the count of pairs, without memory.
+#[inline(always)]
 pub fn field_spot(bytes: &[u8], spot: Spot, name: &str) -> Result<Option<Spot>, Error>
     ensures field { (t : Tree) → Locates bytes.now spot t
         → IsOkAnd result (λ found. SameOption (Locates bytes.now) found (field_of name.now t)) }

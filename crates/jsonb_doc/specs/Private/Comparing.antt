@@ -1,10 +1,11 @@
 -- Values that are compared part by part.
-use Rattle.std.specs.Prelude.{ℕ, Bool, List, String}
+use Rattle.std.specs.Prelude.{ℕ, Bool, List, String, ⊤}
 use Rattle.std.specs.declared.alloc.Global.{Global}
 use Rattle.jsonb_doc.specs.Tree.{trees_of, pairs_of}
 use Rattle.jsonb_doc.specs.Equal.{is_equal, are_equal, pairs_are_equal}
 use Rattle.jsonb_doc.specs.View.{number_view}
-use Rattle.jsonb_doc.specs.Value.{value_tree, trees_seen, members_seen}
+use Rattle.jsonb_doc.specs.Value.{value_tree}
+use Rattle.jsonb_doc.specs.Private.Values.{trees_seen, members_seen}
 use Rattle.jsonb_doc.specs.Private.Parts.{parts}
 use Rattle.jsonb_doc.specs.declared.value.Value.{Value}
 use Rattle.jsonb_doc.specs.declared.value.equal.Compared.{Compared}
@@ -27,3 +28,8 @@ told (As v w) = is_equal (value_tree v.now) (value_tree w.now)
 abbrev pub told_parts : Compared → ℕ
 told_parts (Told answer) = 0
 told_parts (As v w) = parts v.now
+
+-- nothing is left
+abbrev pub IsTold : Compared → Type 0
+IsTold (Told answer) = ⊤
+IsTold (As v w) = ⊥

@@ -6,7 +6,8 @@ use Rattle.jsonb_doc.specs.Number as spec
 use Rattle.jsonb_doc.specs.Tree.{Tree, array, object, trees_of, pairs_of}
 use Rattle.jsonb_doc.specs.ObjectBuilder.{insert_pair}
 use Rattle.jsonb_doc.specs.View.{number_view}
-use Rattle.jsonb_doc.specs.Value.{tree_seen, trees_seen, members_seen}
+use Rattle.jsonb_doc.specs.Value.{tree_seen}
+use Rattle.jsonb_doc.specs.Private.Values.{trees_seen, members_seen}
 use Rattle.jsonb_doc.specs.Private.Parts.{tree_parts, values_parts, entries_parts}
 use Rattle.jsonb_doc.specs.declared.number.Number.{Number}
 use Rattle.jsonb_doc.specs.declared.value.Value.{Value}
@@ -40,7 +41,8 @@ module _ (seen : Number → spec.Number) where
   abbrev pub with_part : Open → Tree → Tree
   with_part (open_at.Array copies left) t = array_seen copies.items (t ∷ trees_seen seen (iter_rest left))
   with_part (open_at.Object copies key left) t =
-      object (pairs_of (insert_pairs (members_seen seen left) (insert_pair (string_bytes key.now) t (members_seen seen copies.entries))))
+      object (pairs_of (insert_pairs (members_seen seen left)
+      (insert_pair (string_bytes key.now) t (members_seen seen copies.entries))))
 
   -- what is filled, once the part is copied
   abbrev pub filled_tree : Filled → Tree

@@ -7,7 +7,8 @@ use Rattle.jsonb_doc.specs.Format.{AreKeys}
 use Rattle.jsonb_doc.specs.Item.{StandsFor, item_size}
 use Rattle.jsonb_doc.specs.Elements.{HasElementsLeft, elements_room}
 use Rattle.jsonb_doc.specs.ObjectPairs.{HasPairsLeft, pairs_room}
-use Rattle.jsonb_doc.specs.Value.{tree_seen, trees_seen, members_seen, SeesItem}
+use Rattle.jsonb_doc.specs.Value.{tree_seen}
+use Rattle.jsonb_doc.specs.Private.Values.{trees_seen, members_seen, SeesItem}
 use Rattle.jsonb_doc.specs.declared.item.Item.{Item}
 use Rattle.jsonb_doc.specs.declared.item.Item.TheVariants as item
 use Rattle.jsonb_doc.specs.declared.number.Number.{Number}
@@ -41,7 +42,8 @@ module _ (seen : Number → spec.Number) (form : Form) where
   -- with this tree as the missing part the container is this one
   abbrev pub MakesWhole : Open → Tree → Tree → Type 0
   MakesWhole (open_at.Array values left) part whole =
-      (ts : Trees) × HasElementsLeft form left ts × (array (trees_of (trees_seen seen values.items ++ part ∷ elements ts)) ≡ whole)
+      (ts : Trees) × HasElementsLeft form left ts
+      × (array (trees_of (trees_seen seen values.items ++ part ∷ elements ts)) ≡ whole)
   MakesWhole (open_at.Object made name left) part whole =
       (ps : Pairs) × HasPairsLeft form left ps
       × AreKeys (keys (pairs_of (members_seen seen made.entries ++ (string_bytes name, part) ∷ members ps)))
@@ -52,7 +54,8 @@ module _ (seen : Number → spec.Number) (form : Form) where
   FillsTo whole (Whole v) = tree_seen seen v ≡ whole
   FillsTo whole (Within o part) = (t : Tree) × StandsFor form part t × SeesItem seen part × MakesWhole o t whole
 
-  -- with this tree as the missing part of the first container, and each container as that of the next, the last is this one
+  -- with this tree as the missing part of the first container, and each container as that of the next, the last is this
+  -- one
   abbrev pub LeadsTo : List Open → Tree → Tree → Type 0
   LeadsTo [] part whole = part ≡ whole
   LeadsTo (o ∷ around) part whole = (t : Tree) × MakesWhole o part t × LeadsTo around t whole

@@ -1,9 +1,11 @@
--- How many parts a value has: each value within it, at every depth, and itself. How many steps letting go of it still takes.
+-- How many parts a value has: each value within it, at every depth, and itself. How many steps letting go of it still
+-- takes.
 use Rattle.std.specs.Prelude.{ℕ, ◌+◌, ◌*◌, List, String, Option, None, Some}
 use Rattle.std.specs.declared.alloc.Global.{Global}
 use Rattle.jsonb_doc.specs.Tree.{Tree, array, object, Trees, no_trees, tree, Pairs, no_pairs, pair, trees_of, pairs_of}
 use Rattle.jsonb_doc.specs.View.{number_view}
-use Rattle.jsonb_doc.specs.Value.{value_tree, trees_seen, members_seen}
+use Rattle.jsonb_doc.specs.Value.{value_tree}
+use Rattle.jsonb_doc.specs.Private.Values.{trees_seen, members_seen}
 use Rattle.jsonb_doc.specs.declared.value.Value.{Value}
 use Rattle.jsonb_doc.specs.declared.value.release.Remaining.{Remaining}
 

@@ -37,7 +37,8 @@ TakesEntry form (tree t ts) (Some (Ok entry)) after = Stores form entry t × Has
 -- What is read, on any bytes: the first of the entries that are left, or an error where they begin with none.
 abbrev pub ReadsEntry : EntryIter → Option (Result StoredEntry Error) → EntryIter → Type 0
 ReadsEntry before None after = before.words.now ≡ []
-ReadsEntry before (Some (Ok e)) after = BeginWith before.words.now before.contents.now e.kind e.content.now after.words.now after.contents.now
+ReadsEntry before (Some (Ok e)) after =
+    BeginWith before.words.now before.contents.now e.kind e.content.now after.words.now after.contents.now
 ReadsEntry before (Some (Err e)) after = BeginWithNone before.words.now before.contents.now × (after.words.now ≡ [])
 
 -- What a call of `next` does. On any bytes it gives an entry, an error or `None`, and after `None` nothing more.
@@ -68,10 +69,12 @@ TakesPairEntry form no_pairs None after = HasPairEntriesLeft form after no_pairs
 TakesPairEntry form no_pairs (Some r) after = ⊥
 TakesPairEntry form (pair key t ps) None after = ⊥
 TakesPairEntry form (pair key t ps) (Some (Err e)) after = ⊥
-TakesPairEntry form (pair key t ps) (Some (Ok given)) after = (given.0.now ≡ key) × Stores form given.1 t × HasPairEntriesLeft form after ps
+TakesPairEntry form (pair key t ps) (Some (Ok given)) after =
+    (given.0.now ≡ key) × Stores form given.1 t × HasPairEntriesLeft form after ps
 
 -- What a call of `next` does. On any bytes it gives a pair, an error or `None`, and after `None` nothing more.
-pub record GivesPairEntry (before : PairEntryIter) (r : Option (Result (Bor (List ℕ) × StoredEntry) Error)) (after : PairEntryIter) : Type 0 where
+pub record GivesPairEntry (before : PairEntryIter) (r : Option (Result (Bor (List ℕ) × StoredEntry) Error))
+    (after : PairEntryIter) : Type 0 where
   pub takes : (form : Form) (ps : Pairs) → HasPairEntriesLeft form before ps → TakesPairEntry form ps r after
   pub errors : IfSome r (λ x. IfErr x IsDecodingError)
   pub ended : IfNone r (entries_bound after.keys ≡ 0)

@@ -12,8 +12,8 @@ ghost use Rattle.jsonb_doc.specs.Private.Filling.{IsContainerItem, IsWhole, IsSh
 ghost use Rattle.jsonb_doc.specs.View.{extension_view};
 ghost use Rattle.jsonb_doc.specs.Answer.{IsOutOfMemory, ◌or◌, IsDecodingError};
 ghost use Rattle.jsonb_doc.specs.declared.error.Error.TheVariants.{OutOfMemory};
-ghost use Rattle.jsonb_doc.specs.Value.{value_tree, value_parts, tree_seen, trees_seen, members_seen};
-ghost use Rattle.jsonb_doc.specs.Value.{KeepsNormal, SeesItem};
+ghost use Rattle.jsonb_doc.specs.Value.{value_tree, value_parts, tree_seen};
+ghost use Rattle.jsonb_doc.specs.Private.Values.{trees_seen, members_seen, KeepsNormal, SeesItem};
 ghost use Rattle.jsonb_doc.specs.declared.number.Number.{Number};
 
 use crate::element_iter::ElementIter;

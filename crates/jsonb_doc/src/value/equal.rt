@@ -1,6 +1,6 @@
-//! Equality of decoded values, without memory: the last parts are gone into by a loop, those before them by calls.
+//! Equality of decoded values, without memory. Calls nest 48 deep at most: what they leave open is gone into by a loop.
 
-ghost use Rattle.std.specs.Prelude.{◌≡◌, ◌+◌, ◌<◌};
+ghost use Rattle.std.specs.Prelude.{◌≡◌, ◌+◌, ◌<◌, ◌≤◌, ◌&&◌, IfSome, MatchOption};
 ghost use Rattle.std.specs.Cmp.{on_equiv, partial_equiv_from_equiv};
 ghost use Rattle.std.specs.Ordering.{eq_by_cmp};
 ghost use Rattle.std.specs.Slice.Iter.{iter_rest};
@@ -10,12 +10,20 @@ ghost use Rattle.jsonb_doc.specs.Proofs.Equality.{is_equal_equiv};
 ghost use Rattle.jsonb_doc.specs.View.{number_view};
 ghost use Rattle.jsonb_doc.specs.Value.{value_tree};
 ghost use Rattle.jsonb_doc.specs.Private.Parts.{parts, values_parts, entries_parts};
-ghost use Rattle.jsonb_doc.specs.Private.Comparing.{values_same, entries_same, told, told_parts};
+ghost use Rattle.jsonb_doc.specs.Private.Comparing.{values_same, entries_same, told, told_parts, IsTold};
 
 use crate::number::Number;
 use crate::value::Value;
-use std::collections::{BTreeMap, btree_map};
+use std::collections::btree_map;
 use std::slice;
+
+/// How deep calls nest for parts within parts. What is open with 48 calls left has two open parts with 47 left, those
+/// have four with 46 and so on to 2^24 with 24 left, each of hundreds of parts: more parts than memory holds.
+const MOST_CALLS: u32 = 48;
+
+/// With more calls left each part gets all of them but one, which suits what is not deep. With so many or fewer a part
+/// gets none at first, and more only where two are open, so that a deep part is tried in vain for little.
+const FEW_CALLS: u32 = 24;
 
 impl PartialEq for Value<'_> {
     ghost eq = { λ a b. is_equal (value_tree a) (value_tree b) };
@@ -32,7 +40,7 @@ impl Eq for Value<'_> {
 }
 
 /// What is told of two values.
-#[derive(Drop)]
+#[derive(Clone, Copy)]
 enum Compared<'v, 'a, 'w, 'b> {
     Told(bool),
     /// They are equal where these are, which are within them.
@@ -44,38 +52,63 @@ enum Compared<'v, 'a, 'w, 'b> {
 fn equal(value: &Value<'_>, other: &Value<'_>) -> bool
     ensures { result ≡ is_equal (value_tree value.now) (value_tree other.now) }
 {
+    match reduced(value, other, MOST_CALLS) {
+        Compared::Told(answer) => answer,
+        // Only nested calls leave values open.
+        Compared::As(_, _) => false,
+    }
+}
+
+/// Two values, compared as far as the calls that are left tell.
+#[cycle(equal)]
+fn reduced<'v, 'a, 'w, 'b>(
+    value: &'v Value<'a>,
+    other: &'w Value<'b>,
+    calls: u32,
+) -> Compared<'v, 'a, 'w, 'b>
+    ensures same { told result ≡ is_equal (value_tree value.now) (value_tree other.now) }
+    ensures fewer { told_parts result ≤ parts value.now }
+    ensures told { 48 ≤ calls → IsTold result }
+{
     let mut left = Compared::As(value, other);
     loop {
         left = match left {
-            Compared::Told(answer) => return answer,
-            Compared::As(value, other) => parts_compared(value, other),
+            Compared::Told(answer) => return Compared::Told(answer),
+            Compared::As(value, other) => match parts_compared(value, other, calls) {
+                Some(next) => next,
+                None => return Compared::As(value, other),
+            },
         };
     }
 }
 
-/// Two values without their last parts.
+/// Two values, where at most one of their parts is open.
 #[cycle(equal)]
 fn parts_compared<'v, 'a, 'w, 'b>(
     value: &'v Value<'a>,
     other: &'w Value<'b>,
-) -> Compared<'v, 'a, 'w, 'b>
-    ensures same { told result ≡ is_equal (value_tree value.now) (value_tree other.now) }
-    ensures fewer { told_parts result < parts value.now }
+    calls: u32,
+) -> Option<Compared<'v, 'a, 'w, 'b>>
+    ensures same { MatchOption result (calls < 48)
+        (λ left. told left ≡ is_equal (value_tree value.now) (value_tree other.now)) }
+    ensures fewer { IfSome result (λ left. told_parts left < parts value.now) }
 {
-    match (value, other) {
-        (Value::Null, Value::Null) => Compared::Told(true),
-        (Value::Bool(a), Value::Bool(b)) => Compared::Told(a == b),
-        (Value::String(a), Value::String(b)) => Compared::Told(a == b),
-        (Value::Number(a), Value::Number(b)) => Compared::Told(numbers_equal(a, b)),
-        (Value::Binary(a), Value::Binary(b)) => Compared::Told(a == b),
-        (Value::Date(a), Value::Date(b)) => Compared::Told(a == b),
-        (Value::Timestamp(a), Value::Timestamp(b)) => Compared::Told(a == b),
-        (Value::TimestampTz(a), Value::TimestampTz(b)) => Compared::Told(a == b),
-        (Value::Interval(a), Value::Interval(b)) => Compared::Told(a == b),
-        (Value::Array(a), Value::Array(b)) => arrays_compared(a, b),
-        (Value::Object(a), Value::Object(b)) => objects_compared(a, b),
-        _ => Compared::Told(false),
-    }
+    Some(Compared::Told(match (value, other) {
+        (Value::Null, Value::Null) => true,
+        (Value::Bool(a), Value::Bool(b)) => a == b,
+        (Value::String(a), Value::String(b)) => a == b,
+        (Value::Number(a), Value::Number(b)) => numbers_equal(a, b),
+        (Value::Binary(a), Value::Binary(b)) => a == b,
+        (Value::Date(a), Value::Date(b)) => a == b,
+        (Value::Timestamp(a), Value::Timestamp(b)) => a == b,
+        (Value::TimestampTz(a), Value::TimestampTz(b)) => a == b,
+        (Value::Interval(a), Value::Interval(b)) => a == b,
+        (Value::Array(a), Value::Array(b)) => return values_compared(a.iter(), b.iter(), calls),
+        (Value::Object(a), Value::Object(b)) => {
+            return members_compared(a.iter(), b.iter(), calls);
+        }
+        _ => false,
+    }))
 }
 
 /// Whether two numbers have one exact value.
@@ -86,89 +119,177 @@ fn numbers_equal(number: &Number, other: &Number) -> bool
     number == other
 }
 
-/// The values of two arrays, without the last ones.
-#[cycle(equal)]
-fn arrays_compared<'v, 'a, 'w, 'b>(
-    values: &'v Vec<Value<'a>>,
-    others: &'w Vec<Value<'b>>,
-) -> Compared<'v, 'a, 'w, 'b>
-    ensures same { told result ≡ values_same values.now.items others.now.items }
-    ensures fewer { told_parts result < 1 + values_parts values.now.items }
-{
-    let mut left = values.iter();
-    let mut rest = others.iter();
-    let Some(value) = left.next_back() else {
-        return Compared::Told(rest.next().is_none());
-    };
-    let Some(other) = rest.next_back() else {
-        return Compared::Told(false);
-    };
-    if !values_equal(left, rest) {
-        return Compared::Told(false);
-    }
-    Compared::As(value, other)
+/// How many calls the first parts get.
+fn first_calls(calls: u32) -> u32 {
+    if calls > FEW_CALLS { calls - 1 } else { 0 }
 }
 
-/// The members of two objects, without the values of the last ones.
+/// The values that are left, one by one.
 #[cycle(equal)]
-fn objects_compared<'v, 'a, 'w, 'b>(
-    members: &'v BTreeMap<String, Value<'a>>,
-    others: &'w BTreeMap<String, Value<'b>>,
-) -> Compared<'v, 'a, 'w, 'b>
-    ensures same { told result ≡ entries_same members.now.entries others.now.entries }
-    ensures fewer { told_parts result < 1 + entries_parts members.now.entries }
+fn values_compared<'v, 'a, 'w, 'b>(
+    mut values: slice::Iter<'v, Value<'a>>,
+    mut others: slice::Iter<'w, Value<'b>>,
+    calls: u32,
+) -> Option<Compared<'v, 'a, 'w, 'b>>
+    ensures same { MatchOption result (calls < 48)
+        (λ left. told left ≡ values_same (iter_rest values.entry) (iter_rest others.entry)) }
+    ensures fewer { IfSome result (λ left. told_parts left ≤ values_parts (iter_rest values.entry)) }
 {
-    let mut left = members.iter();
-    let mut rest = others.iter();
-    let Some((key, value)) = left.next_back() else {
-        return Compared::Told(rest.next().is_none());
-    };
-    let Some((name, other)) = rest.next_back() else {
-        return Compared::Told(false);
-    };
-    if key != name {
-        return Compared::Told(false);
-    }
-    if !members_equal(left, rest) {
-        return Compared::Told(false);
-    }
-    Compared::As(value, other)
-}
-
-/// Whether the values that are left are equal, one by one.
-#[cycle(equal)]
-fn values_equal(
-    mut values: slice::Iter<'_, Value<'_>>,
-    mut others: slice::Iter<'_, Value<'_>>,
-) -> bool
-    ensures { result ≡ values_same (iter_rest values.entry) (iter_rest others.entry) }
-{
+    let mut within = first_calls(calls);
+    let mut left = Compared::Told(true);
     while let Some(value) = values.next() {
         let Some(other) = others.next() else {
-            return false;
+            return Some(Compared::Told(false));
         };
-        if !equal(value, other) {
-            return false;
+        match part_compared(value, other, within) {
+            Compared::Told(true) => {}
+            Compared::Told(false) => return Some(Compared::Told(false)),
+            Compared::As(value, other) => {
+                let joined = with_open(left, Compared::As(value, other), within, calls)?;
+                left = joined.left;
+                within = joined.within;
+            }
         }
     }
-    others.next().is_none()
+    if others.next().is_some() {
+        return Some(Compared::Told(false));
+    }
+    Some(left)
 }
 
-/// Whether the members that are left are equal, one by one.
+/// The members that are left, one by one.
 #[cycle(equal)]
-fn members_equal(
-    mut members: btree_map::Iter<'_, String, Value<'_>>,
-    mut others: btree_map::Iter<'_, String, Value<'_>>,
-) -> bool
-    ensures { result ≡ entries_same members.entry others.entry }
+fn members_compared<'v, 'a, 'w, 'b>(
+    mut members: btree_map::Iter<'v, String, Value<'a>>,
+    mut others: btree_map::Iter<'w, String, Value<'b>>,
+    calls: u32,
+) -> Option<Compared<'v, 'a, 'w, 'b>>
+    ensures same { MatchOption result (calls < 48)
+        (λ left. told left ≡ entries_same members.entry others.entry) }
+    ensures fewer { IfSome result (λ left. told_parts left ≤ entries_parts members.entry) }
 {
+    let mut within = first_calls(calls);
+    let mut left = Compared::Told(true);
     while let Some((key, value)) = members.next() {
         let Some((name, other)) = others.next() else {
-            return false;
+            return Some(Compared::Told(false));
         };
-        if key != name || !equal(value, other) {
-            return false;
+        if key != name {
+            return Some(Compared::Told(false));
+        }
+        match part_compared(value, other, within) {
+            Compared::Told(true) => {}
+            Compared::Told(false) => return Some(Compared::Told(false)),
+            Compared::As(value, other) => {
+                let joined = with_open(left, Compared::As(value, other), within, calls)?;
+                left = joined.left;
+                within = joined.within;
+            }
         }
     }
-    others.next().is_none()
+    if others.next().is_some() {
+        return Some(Compared::Told(false));
+    }
+    Some(left)
+}
+
+/// Two parts, for which so many calls may nest. With none a container is left open.
+#[cycle(equal)]
+fn part_compared<'v, 'a, 'w, 'b>(
+    value: &'v Value<'a>,
+    other: &'w Value<'b>,
+    calls: u32,
+) -> Compared<'v, 'a, 'w, 'b>
+    ensures same { told result ≡ is_equal (value_tree value.now) (value_tree other.now) }
+    ensures fewer { told_parts result ≤ parts value.now }
+{
+    if calls == 0 && matches!(value, Value::Array(_) | Value::Object(_)) {
+        return Compared::As(value, other);
+    }
+    reduced(value, other, calls)
+}
+
+/// What is told of parts, at most one of which is open, and how many calls the next one gets.
+#[derive(Clone, Copy)]
+struct Joined<'v, 'a, 'w, 'b> {
+    left: Compared<'v, 'a, 'w, 'b>,
+    within: u32,
+}
+
+/// What is told of parts and of one more. Of two open ones each is tried with more calls until one is told.
+#[cycle(equal)]
+fn with_open<'v, 'a, 'w, 'b>(
+    left: Compared<'v, 'a, 'w, 'b>,
+    part: Compared<'v, 'a, 'w, 'b>,
+    within: u32,
+    calls: u32,
+) -> Option<Joined<'v, 'a, 'w, 'b>>
+    ensures same { MatchOption result (calls < 48) (λ joined. told joined.left ≡ (told left.entry && told part.entry)) }
+    ensures fewer { IfSome result (λ joined. told_parts joined.left ≤ told_parts left.entry + told_parts part.entry) }
+{
+    let most = calls.saturating_sub(1);
+    let mut first = left;
+    let mut second = part;
+    let mut within = within;
+    while within < most && is_open(first) && is_open(second) {
+        within = within.saturating_mul(4).saturating_add(3).min(most);
+        second = compared_again(second, within);
+        if is_open(second) {
+            first = compared_again(first, within);
+        }
+    }
+    let left = both(first, second, calls)?;
+    Some(Joined { left, within })
+}
+
+fn is_open(compared: Compared<'_, '_, '_, '_>) -> bool {
+    matches!(compared, Compared::As(_, _))
+}
+
+/// What is open, for which so many calls may nest.
+#[cycle(equal)]
+fn compared_again<'v, 'a, 'w, 'b>(
+    left: Compared<'v, 'a, 'w, 'b>,
+    calls: u32,
+) -> Compared<'v, 'a, 'w, 'b>
+    ensures same { told result ≡ told left.entry }
+    ensures fewer { told_parts result ≤ told_parts left.entry }
+{
+    match left {
+        Compared::Told(answer) => Compared::Told(answer),
+        Compared::As(value, other) => part_compared(value, other, calls),
+    }
+}
+
+/// What is told of two, not both of which are to be open. Two open ones are left to the calls around, which may nest
+/// more; where there are none, one is compared anew.
+#[cycle(equal)]
+fn both<'v, 'a, 'w, 'b>(
+    first: Compared<'v, 'a, 'w, 'b>,
+    second: Compared<'v, 'a, 'w, 'b>,
+    calls: u32,
+) -> Option<Compared<'v, 'a, 'w, 'b>>
+    ensures same { MatchOption result (calls < 48) (λ both. told both ≡ (told first.entry && told second.entry)) }
+    ensures fewer { IfSome result (λ both. told_parts both ≤ told_parts first.entry + told_parts second.entry) }
+{
+    let Compared::As(value, other) = second else {
+        return Some(match second {
+            Compared::Told(true) => first,
+            _ => Compared::Told(false),
+        });
+    };
+    match first {
+        Compared::Told(true) => Some(second),
+        Compared::Told(false) => Some(Compared::Told(false)),
+        Compared::As(_, _) => {
+            if calls < MOST_CALLS {
+                return None;
+            }
+            if equal(value, other) {
+                Some(first)
+            } else {
+                Some(Compared::Told(false))
+            }
+        }
+    }
 }

@@ -204,7 +204,7 @@ fn clones(rt: HostRuntime) -> Result<(), Fail> {
     Ok(())
 }
 
-/// A container of this value alone, or with a null before it or behind it.
+/// A container of this value alone, or with something before it or behind it: an empty array, or the null of a member.
 fn around<'a>(
     alloc: Global,
     value: Value<'a>,
@@ -224,56 +224,89 @@ fn around<'a>(
     }
     let mut values = Vec::new(alloc);
     if before {
-        values.push(Value::Null)?;
+        values.push(Value::Array(Vec::new(alloc)))?;
     }
     values.push(value)?;
     if behind {
-        values.push(Value::Null)?;
+        values.push(Value::Array(Vec::new(alloc)))?;
     }
     Ok(Value::Array(values))
+}
+
+/// Where the part that goes on lies in its container.
+#[derive(Clone, Copy)]
+enum Place {
+    Only,
+    First,
+    Middle,
+    Last,
+    /// By turns.
+    Any,
+}
+
+impl Place {
+    /// Whether something stands before it and behind it, so many levels above the innermost.
+    fn neighbours(self, level: u32) -> (bool, bool) {
+        match self {
+            Place::Only => (false, false),
+            Place::First => (false, true),
+            Place::Middle => (true, true),
+            Place::Last => (true, false),
+            Place::Any => (level % 3 > 0, level % 2 > 0),
+        }
+    }
+}
+
+/// A text in so many containers, with something else beside it in each.
+fn nested<'a>(
+    alloc: Global,
+    innermost: &'a str,
+    levels: u32,
+    place: Place,
+    object: bool,
+) -> Result<Value<'a>, Error> {
+    let mut value = text(innermost);
+    for level in 0..levels {
+        let (before, behind) = place.neighbours(level);
+        value = around(alloc, value, before, behind, object)?;
+    }
+    Ok(value)
 }
 
 // Each is cloned, compared and let go.
 #[test]
 fn deep_values(rt: HostRuntime) -> Result<(), Fail> {
-    let rows = [
-        (100, true, true, false),
-        (100, true, true, true),
-        (100_000, false, false, false),
-        (20_000, false, false, true),
-        (100_000, true, false, false),
-        (20_000, true, false, true),
+    let places = [
+        Place::Only,
+        Place::First,
+        Place::Middle,
+        Place::Last,
+        Place::Any,
     ];
-    for (levels, before, behind, object) in rows {
-        let mut value = text("x");
-        for _ in 0..levels {
-            value = around(rt.alloc(), value, before, behind, object)?;
+    for place in places {
+        for (levels, object) in [(100, false), (100, true), (10_000, false), (2_000, true)] {
+            let value = nested(rt.alloc(), "x", levels, place, object)?;
+            let copy = value.clone(rt.alloc())?;
+            assert!(rt; copy == value);
+            let other = nested(rt.alloc(), "y", levels, place, object)?;
+            assert!(rt; other != value);
+            let (before, behind) = place.neighbours(levels);
+            let deeper = around(rt.alloc(), copy, before, behind, object)?;
+            assert!(rt; deeper != value);
         }
-        let copy = value.clone(rt.alloc())?;
-        assert!(rt; copy == value);
-        let deeper = around(rt.alloc(), copy, before, behind, object)?;
-        assert!(rt; deeper != value);
     }
     Ok(())
 }
 
-// Parts behind the deep one: cloned and let go.
+// So are much deeper ones.
 #[test]
-fn deep_values_before_others(rt: HostRuntime) -> Result<(), Fail> {
-    let rows = [
-        (100_000, false, false),
-        (20_000, false, true),
-        (100_000, true, false),
-        (20_000, true, true),
-    ];
-    for (levels, before, object) in rows {
-        let mut value = text("x");
-        for _ in 0..levels {
-            value = around(rt.alloc(), value, before, true, object)?;
+fn much_deeper_values(rt: HostRuntime) -> Result<(), Fail> {
+    for place in [Place::Only, Place::First, Place::Middle, Place::Last] {
+        for (levels, object) in [(100_000, false), (20_000, true)] {
+            let value = nested(rt.alloc(), "x", levels, place, object)?;
+            let copy = value.clone(rt.alloc())?;
+            assert!(rt; copy == value);
         }
-        let copy = value.clone(rt.alloc())?;
-        let both = two(rt.alloc(), value, copy)?;
-        assert!(rt; both != Value::Null);
     }
     Ok(())
 }

@@ -3,7 +3,8 @@ use Rattle.std.proofs.lemmas.List.{nil_from_length}
 use Rattle.std.specs.Slice.Iter.{iter_rest}
 use Rattle.jsonb_doc.specs.Tree.{array, trees_of}
 use Rattle.jsonb_doc.specs.View.{number_view}
-use Rattle.jsonb_doc.specs.Value.{tree_seen, trees_seen}
+use Rattle.jsonb_doc.specs.Value.{tree_seen}
+use Rattle.jsonb_doc.specs.Private.Values.{trees_seen}
 use Rattle.jsonb_doc.specs.Private.Parts.{tree_parts, values_parts}
 use Rattle.jsonb_doc.proofs.ValueTrees.{tree_seen-Array}
 use Rattle.jsonb_doc.proofs.CopiedValues.{value_copied}

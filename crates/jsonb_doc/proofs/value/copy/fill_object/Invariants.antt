@@ -1,6 +1,6 @@
 use Rattle.std.proofs.Common.{◌≡◌, ◌≤◌}
 use Rattle.jsonb_doc.specs.Number as spec
-use Rattle.jsonb_doc.specs.Value.{members_seen}
+use Rattle.jsonb_doc.specs.Private.Values.{members_seen}
 use Rattle.jsonb_doc.specs.Private.Parts.{entries_parts}
 use Rattle.jsonb_doc.specs.Private.Copying.{insert_pairs}
 use Rattle.jsonb_doc.specs.declared.number.Number.{Number}

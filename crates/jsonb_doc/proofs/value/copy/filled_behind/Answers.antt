@@ -1,7 +1,8 @@
 use Rattle.std.proofs.Common.{string_bytes, refl, sym, ap, ◌∙◌}
 use Rattle.std.specs.Slice.Iter.{iter_rest}
 use Rattle.jsonb_doc.specs.Tree.{array, object, trees_of, pairs_of}
-use Rattle.jsonb_doc.specs.Value.{tree_seen, trees_seen, members_seen}
+use Rattle.jsonb_doc.specs.Value.{tree_seen}
+use Rattle.jsonb_doc.specs.Private.Values.{trees_seen, members_seen}
 use Rattle.jsonb_doc.specs.Private.Copying.{insert_pairs, with_part}
 use Rattle.jsonb_doc.proofs.CopiedValues.{value_copied, member_copied, copies_same}
 use Rattle.jsonb_doc.proofs.value.copy.filled_behind.Goals as goal

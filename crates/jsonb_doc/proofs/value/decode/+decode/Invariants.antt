@@ -7,7 +7,8 @@ use Rattle.jsonb_doc.specs.Format.{AreKeys}
 use Rattle.jsonb_doc.specs.Item.{StandsFor, item_size}
 use Rattle.jsonb_doc.specs.Elements.{HasElementsLeft, elements_room}
 use Rattle.jsonb_doc.specs.ObjectPairs.{HasPairsLeft, pairs_room}
-use Rattle.jsonb_doc.specs.Value.{tree_seen, trees_seen, members_seen, KeepsNormal, SeesItem}
+use Rattle.jsonb_doc.specs.Value.{tree_seen}
+use Rattle.jsonb_doc.specs.Private.Values.{trees_seen, members_seen, KeepsNormal, SeesItem}
 use Rattle.jsonb_doc.specs.Private.Filling.{LeadsTo, open_room}
 use Rattle.jsonb_doc.specs.declared.number.Number.{Number}
 use Rattle.jsonb_doc.proofs.FilledValues.{widest}

@@ -1,4 +1,4 @@
-use Rattle.std.proofs.Common.{◌≡◌, ◌+◌, ◌*◌, ◌≤◌}
+use Rattle.std.proofs.Common.{◌≡◌, ◌+◌, ◌-◌, ◌*◌, ◌≤◌, ◌&&◌}
 use Rattle.std.specs.Slice.Iter.{iter_rest}
 use Rattle.jsonb_doc.specs.Equal.{is_equal}
 use Rattle.jsonb_doc.specs.Value.{value_tree}
@@ -6,42 +6,63 @@ use Rattle.jsonb_doc.specs.Private.Parts.{parts, values_parts, entries_parts}
 use Rattle.jsonb_doc.specs.Private.Comparing.{values_same, entries_same, told, told_parts}
 use Rattle.jsonb_doc.proofs.value.equal.+equal.Given as goal
 
-abbrev pub decreases-equal : goal.decreases-equal
-decreases-equal l = 3 * parts l.value.now + 2
-
+-- so many parts, and then the functions in turn
 abbrev pub decreases-parts_compared : goal.decreases-parts_compared
-decreases-parts_compared l = 3 * parts l.value.now + 1
+decreases-parts_compared l = 8 * parts l.value.now
 
-abbrev pub decreases-arrays_compared : goal.decreases-arrays_compared
-decreases-arrays_compared l = 3 * values_parts l.values.now.items + 1
+abbrev pub decreases-reduced : goal.decreases-reduced
+decreases-reduced l = 8 * parts l.value.now + 1
 
-abbrev pub decreases-objects_compared : goal.decreases-objects_compared
-decreases-objects_compared l = 3 * entries_parts l.members.now.entries + 1
+abbrev pub decreases-equal : goal.decreases-equal
+decreases-equal l = 8 * parts l.value.now + 2
 
-abbrev pub decreases-values_equal : goal.decreases-values_equal
-decreases-values_equal l = 3 * values_parts (iter_rest l.values) + 3
+abbrev pub decreases-part_compared : goal.decreases-part_compared
+decreases-part_compared l = 8 * parts l.value.now + 3
 
-abbrev pub decreases-members_equal : goal.decreases-members_equal
-decreases-members_equal l = 3 * entries_parts l.members + 3
+abbrev pub decreases-compared_again : goal.decreases-compared_again
+decreases-compared_again l = 8 * told_parts l.left + 4
+
+abbrev pub decreases-both : goal.decreases-both
+decreases-both l = 8 * (told_parts l.first + told_parts l.second) + 4
+
+abbrev pub decreases-with_open : goal.decreases-with_open
+decreases-with_open l = 8 * (told_parts l.left + told_parts l.part) + 5
+
+abbrev pub decreases-values_compared : goal.decreases-values_compared
+decreases-values_compared l = 8 * values_parts (iter_rest l.values) + 6
+
+abbrev pub decreases-members_compared : goal.decreases-members_compared
+decreases-members_compared l = 8 * entries_parts l.members + 6
 
 -- what is left decides what all decides
-abbrev pub invariant-equal-loop-left : goal.invariant-equal-loop-left
-invariant-equal-loop-left l = record {
+abbrev pub invariant-reduced-loop-left : goal.invariant-reduced-loop-left
+invariant-reduced-loop-left l = record {
   same : told l.left ≡ is_equal (value_tree l.fn.value) (value_tree l.fn.other);
   fewer : told_parts l.left ≤ parts l.fn.value;
 }
 
-abbrev pub decreases-equal-loop-left : goal.decreases-equal-loop-left
-decreases-equal-loop-left l = told_parts l.left
+abbrev pub decreases-reduced-loop-left : goal.decreases-reduced-loop-left
+decreases-reduced-loop-left l = told_parts l.left
 
-abbrev pub invariant-values_equal-loop-value : goal.invariant-values_equal-loop-value
-invariant-values_equal-loop-value l = record {
-  same : values_same (iter_rest l.values) (iter_rest l.others) ≡ values_same (iter_rest l.fn.values) (iter_rest l.fn.others);
-  fewer : values_parts (iter_rest l.values) ≤ values_parts (iter_rest l.fn.values);
+-- what is left of those before, and those that are left
+abbrev pub invariant-values_compared-loop-value : goal.invariant-values_compared-loop-value
+invariant-values_compared-loop-value l = record {
+  same : (told l.left && values_same (iter_rest l.values) (iter_rest l.others)) ≡ values_same (iter_rest l.fn.values) (iter_rest l.fn.others);
+  fewer : told_parts l.left + values_parts (iter_rest l.values) ≤ values_parts (iter_rest l.fn.values);
 }
 
-abbrev pub invariant-members_equal-loop-key : goal.invariant-members_equal-loop-key
-invariant-members_equal-loop-key l = record {
-  same : entries_same l.members l.others ≡ entries_same l.fn.members l.fn.others;
-  fewer : entries_parts l.members ≤ entries_parts l.fn.members;
+abbrev pub invariant-members_compared-loop-key : goal.invariant-members_compared-loop-key
+invariant-members_compared-loop-key l = record {
+  same : (told l.left && entries_same l.members l.others) ≡ entries_same l.fn.members l.fn.others;
+  fewer : told_parts l.left + entries_parts l.members ≤ entries_parts l.fn.members;
 }
+
+-- both are as they were
+abbrev pub invariant-with_open-loop-within : goal.invariant-with_open-loop-within
+invariant-with_open-loop-within l = record {
+  same : (told l.first && told l.second) ≡ (told l.fn.left && told l.fn.part);
+  fewer : told_parts l.first + told_parts l.second ≤ told_parts l.fn.left + told_parts l.fn.part;
+}
+
+abbrev pub decreases-with_open-loop-within : goal.decreases-with_open-loop-within
+decreases-with_open-loop-within l = l.most - l.within

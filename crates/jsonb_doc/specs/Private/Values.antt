@@ -1,0 +1,28 @@
+-- Values in the making, as trees.
+use Rattle.std.specs.Prelude.{◌≡◌, ⊤, ℕ, List, map, String}
+use Rattle.std.specs.declared.alloc.Global.{Global}
+use Rattle.jsonb_doc.specs.Number as spec
+use Rattle.jsonb_doc.specs.Tree.{Tree}
+use Rattle.jsonb_doc.specs.View.{number_parts, number_view}
+use Rattle.jsonb_doc.specs.declared.item.Item.{Item}
+use Rattle.jsonb_doc.specs.declared.item.Item.TheVariants as item
+use Rattle.jsonb_doc.specs.declared.number.Number.{Number}
+use Rattle.jsonb_doc.specs.declared.value.Value.{Value}
+use Rattle.jsonb_doc.specs.Value.{keyed, tree_seen}
+
+-- the same for the values of an array
+abbrev pub trees_seen : (Number → spec.Number) → List Value → List Tree
+trees_seen seen vs = map (tree_seen seen) vs
+
+-- the same for the entries of an object, in the byte order of their keys
+abbrev pub members_seen : (Number → spec.Number) → List (String Global × Value) → List (List ℕ × Tree)
+members_seen seen es = keyed (map (λ e. (e.0, tree_seen seen e.1)) es)
+
+-- each number whose zero, if it is one, is the unsigned one is seen as it is
+abbrev pub KeepsNormal : (Number → spec.Number) → Type 0
+KeepsNormal seen = (n : Number) → number_parts n ≡ number_view n → seen n ≡ number_view n
+
+-- where the item is a number, that is seen as in the item's tree
+abbrev pub SeesItem : (Number → spec.Number) → Item → Type 0
+SeesItem seen (item.Number n) = seen n ≡ number_view n
+SeesItem seen _ = ⊤

@@ -1,0 +1,24 @@
+-- Items that are written behind other bytes.
+use Rattle.std.specs.Prelude.{◌≡◌, ℕ, List, ◌++◌, take, length, ⊤, IsUtf8}
+use Rattle.jsonb_doc.specs.Number.{FitsNumber}
+use Rattle.jsonb_doc.specs.Extension.{FitsExtension}
+use Rattle.jsonb_doc.specs.Format.{header, scalar_header}
+use Rattle.jsonb_doc.specs.View.{number_view, extension_view}
+use Rattle.jsonb_doc.specs.declared.item.Item.{Item}
+use Rattle.jsonb_doc.specs.declared.item.Item.TheVariants.{Number, String, Extension}
+use Rattle.jsonb_doc.specs.Encoding.{item_content, item_word}
+
+-- the document of the item's entry alone
+abbrev pub scalar_bytes : Item → List ℕ
+scalar_bytes item = header scalar_header 0 ++ (item_word item ++ item_content item)
+
+-- the numbers and fields of the item lie in the ranges of their types, and its text is UTF-8
+abbrev pub FitsItem : Item → Type 0
+FitsItem (Number n) = FitsNumber (number_view n)
+FitsItem (String s) = IsUtf8 s.now
+FitsItem (Extension x) = FitsExtension (extension_view x)
+FitsItem _ = ⊤
+
+-- what was there stays in front
+abbrev pub StaysInFront : List ℕ → List ℕ → Type 0
+StaysInFront old new = take (length old) new ≡ old
