@@ -7,3 +7,4 @@ pub mod KeyPathViews
 pub mod TokenLaws
 pub mod Each
 pub mod KeyPathLaws
+pub mod Private

@@ -1,22 +1,7 @@
 -- What the code's own types stand for in the grammar.
-use Rattle.std.specs.Prelude.{ℕ, ◌<◌, Bool, List, [], ◌∷◌, length, Option, option_map, IfSome, encode_utf8}
+use Rattle.std.specs.Prelude.{ℕ, ◌<◌, List, length, Option, option_map, IfSome}
 use Rattle.std.specs.Borrow.{Bor}
-use Rattle.jsonb_keypath.specs.declared.token.text.Ending.{Ending}
-use Rattle.jsonb_keypath.specs.declared.token.text.Ending.TheVariants.{Stop, Quote}
-use Rattle.jsonb_keypath.specs.declared.token.text.Unit.{Unit as TextUnit}
-use Rattle.jsonb_keypath.specs.declared.token.text.Unit.TheVariants.{Byte, Escape}
 use Rattle.jsonb_keypath.specs.Rules.{Parsed}
-use Rattle.jsonb_keypath.specs.Tokens.{is_stop, is_quote}
-
--- the bytes that may not stand in the text
-abbrev pub excluded : Ending → ℕ → Bool
-excluded Stop = is_stop
-excluded Quote = is_quote
-
--- the bytes that the unit stands for
-abbrev pub unit_bytes : TextUnit → List ℕ
-unit_bytes (Byte b) = b ∷ []
-unit_bytes (Escape c) = encode_utf8 c
 
 -- what a reader found, as an outcome: its value, seen by `view`, and the rest
 abbrev pub read_as : {A B : Type 0} → (A → B) → Option (A × Bor (List ℕ)) → Parsed B

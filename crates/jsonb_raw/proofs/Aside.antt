@@ -10,7 +10,7 @@ use Rattle.jsonb_doc.specs.declared.error.Error.{Error}
 use Rattle.jsonb_doc.specs.declared.item.Item.{Item}
 use Rattle.jsonb_doc.specs.declared.entry_iter.EntryIter.{EntryIter}
 use Rattle.jsonb_doc.specs.declared.entry_iter.StoredEntry.{StoredEntry}
-use Rattle.jsonb_raw.specs.Compared.{IsShorter}
+use Rattle.jsonb_raw.specs.Private.Compared.{IsShorter}
 use Rattle.jsonb_raw.specs.declared.compared.Compared.{Compared}
 use Rattle.jsonb_raw.specs.declared.compared.Compared.TheVariants.{Known, AsOf}
 use Rattle.jsonb_raw.proofs.EntriesLeft.{SomeEntries}

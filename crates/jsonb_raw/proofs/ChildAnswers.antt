@@ -1,10 +1,9 @@
 -- What the calls on children answer, by the item or the spot that was found.
 use Rattle.std.proofs.Common.{◌≡◌, ◌↔◌, ℕ, suc, zero, ℤ, Bool, true, false, not, IsTrue, List, [], ◌∷◌, map, length, drop, slice_get, Option, Some, None, Bor, refl, sym, ap, ◌∙◌}
-use Rattle.std.specs.Prelude.{option_map}
-use Rattle.std.specs.List.{find, remove}
+use Rattle.std.specs.List.{remove}
 use Rattle.std.specs.Char.{to_ascii_lowercase}
 use Rattle.std.proofs.lemmas.Slice.Eq.{bytes_eq-Decides}
-use Rattle.jsonb_doc.specs.Tree.{Tree, array, object, Trees, Pairs, elements, members, trees_of, field_of}
+use Rattle.jsonb_doc.specs.Tree.{Tree, array, object, Trees, Pairs, elements, trees_of, field_of}
 use Rattle.jsonb_doc.specs.Payload.{Form}
 use Rattle.jsonb_doc.specs.Format.{Decodes}
 use Rattle.jsonb_doc.specs.Item.{StandsFor}
@@ -12,7 +11,7 @@ use Rattle.jsonb_doc.specs.declared.item.Item.{Item}
 use Rattle.jsonb_doc.specs.declared.item.Item.TheVariants as item
 use Rattle.jsonb_doc.proofs.TreeLists.{trees_of-elements}
 use Rattle.jsonb_raw.specs.Places.{children, index_position}
-use Rattle.jsonb_raw.specs.Children.{element_at, same_ignoring_case, field_ignoring_case, named_child, without_index, without_name}
+use Rattle.jsonb_raw.specs.Children.{element_at, same_ignoring_case, named_child, without_index, without_name}
 
 -- ---- arrays and objects by their items
 
@@ -57,9 +56,6 @@ without_none i ts is = rw is (ap (λ us. Some (array us)) (trees_of-elements ts)
 pub named_there : (name : List ℕ) (ignore : Bool) (t u : Tree) → field_of name t ≡ Some u → named_child name ignore t ≡ Some u
 named_there name ignore t u is = rw is refl
 
-pub named_otherwise : (name : List ℕ) (t : Tree) → field_of name t ≡ None → named_child name true t ≡ field_ignoring_case name t
-named_otherwise name t is = rw is refl
-
 pub named_nowhere : (name : List ℕ) (t : Tree) → field_of name t ≡ None → named_child name false t ≡ None
 named_nowhere name t is = rw is refl
 
@@ -71,16 +67,6 @@ decided a b false test = go (same_ignoring_case a b) refl
     go : (s : Bool) → same_ignoring_case a b ≡ s → s ≡ false
     go false e = refl
     go true e = sym (test.1 ((bytes_eq-Decides (map to_ascii_lowercase a) (map to_ascii_lowercase b)).0 e))
-
--- the value of the first pair that passes, or the search goes on behind it
-pub found_here : (name key : List ℕ) (t : Tree) (rest : List (List ℕ × Tree)) (ps : Pairs) → same_ignoring_case key name ≡ true
-    → find (λ p. same_ignoring_case p.0 name) ((key, t) ∷ rest) ≡ find (λ p. same_ignoring_case p.0 name) (members ps)
-    → field_ignoring_case name (object ps) ≡ Some t
-found_here name key t rest ps passes same = ap (option_map (λ p. p.1)) (sym (rw passes at same))
-
-pub found_behind : (name key : List ℕ) (t : Tree) (rest : List (List ℕ × Tree)) (wanted : Option (List ℕ × Tree)) → same_ignoring_case key name ≡ false
-    → find (λ p. same_ignoring_case p.0 name) ((key, t) ∷ rest) ≡ wanted → find (λ p. same_ignoring_case p.0 name) rest ≡ wanted
-found_behind name key t rest wanted fails same = rw fails at same
 
 -- ---- what `!=` answers
 

@@ -13,7 +13,7 @@ use Rattle.jsonb_doc.specs.Payload.{Form}
 use Rattle.jsonb_doc.specs.Format.{AreKeys, IsBelowFirst}
 use Rattle.jsonb_doc.specs.Private.Stored.{HasEntriesLeft, GivesEntry, TakesEntry, key_trees}
 use Rattle.jsonb_doc.proofs.BuilderSteps.{AreRising, keys_rise}
-use Rattle.jsonb_raw.specs.Cursors.{IsCursorOf, IsSearchOf, IsPassed, IsBefore, HoldsTexts}
+use Rattle.jsonb_raw.specs.Private.Cursors.{IsCursorOf, IsSearchOf, IsPassed, IsBefore, HoldsTexts}
 use Rattle.jsonb_raw.specs.declared.functions.path.exists.KeyCursor.{KeyCursor}
 use Rattle.jsonb_raw.specs.declared.functions.path.exists.KeySearch.{KeySearch}
 use Rattle.jsonb_raw.specs.declared.functions.path.exists.Texts.TheVariants.{Keys}

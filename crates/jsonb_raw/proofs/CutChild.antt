@@ -8,7 +8,7 @@ use Rattle.jsonb_doc.specs.Tree.{Tree, array, object, Trees, Pairs, elements, co
 use Rattle.jsonb_doc.specs.Payload.{NumberReader}
 use Rattle.jsonb_doc.specs.Format.{header, array_header, object_header, container_entry, text_entry, entry_word, key_words, key_bytes, IsBelowFirst, AreKeys, HeadedBy, IsContainer, AreMembers, AreEntries, AreValues}
 use Rattle.jsonb_doc.specs.Encoding.{EntryParts}
-use Rattle.jsonb_doc.specs.ObjectBuilder.{words_of_entries, contents_of_entries}
+use Rattle.jsonb_doc.specs.Private.ObjectBytes.{words_of_entries, contents_of_entries}
 use Rattle.jsonb_doc.proofs.Containers.{entries_of, count-values}
 use Rattle.jsonb_raw.specs.declared.functions.path.entry_place.EntryPlace.{EntryPlace}
 use Rattle.jsonb_raw.specs.Deletes.{change_tree, change_value}

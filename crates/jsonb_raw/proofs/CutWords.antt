@@ -6,7 +6,8 @@ use Rattle.std.proofs.lemmas.List.{length-append, take_at, drop_at}
 use Rattle.std.proofs.lemmas.Nat.{from_be_bytes-to_be_bytes_4}
 use Rattle.jsonb_doc.specs.Format.{entry_word}
 use Rattle.jsonb_doc.specs.Encoding.{EntryParts}
-use Rattle.jsonb_doc.specs.ObjectBuilder.{FitsEntry, words_of_entries, contents_of_entries}
+use Rattle.jsonb_doc.specs.ObjectBuilder.{FitsEntry}
+use Rattle.jsonb_doc.specs.Private.ObjectBytes.{words_of_entries, contents_of_entries}
 use Rattle.jsonb_raw.specs.Private.Cuts.{FitEntries, HoldEntries}
 use Rattle.jsonb_raw.proofs.EntryLists.{words-append, within-front, within-back, length-kept_words}
 use Rattle.jsonb_raw.proofs.CutLemmas.{slice_of}

@@ -16,6 +16,9 @@ count_step n h = sym (length-digits_of_step 10 n (omega arith) h)
 pub count_few : (n : ℕ) → n < 2 ^ 128 → length (digits_of 10 n) ≤ 39
 count_few n h = length-digits_of-le 10 39 n (omega arith) (omega arith)
 
+pub count_short : (n : ℕ) → n < 2 ^ 64 → length (digits_of 10 n) ≤ 20
+count_short n h = length-digits_of-le 10 20 n (omega arith) (omega arith)
+
 pub digits_pushed : (negative : Bool) (old : List ℕ) (n : ℕ) → 0 < n
     → (old ++ complement_bytes negative (map suc (digits_of 10 (n / 10)))) ++ complement_byte negative (suc (n % 10)) ∷ []
     ≡ old ++ complement_bytes negative (map suc (digits_of 10 n))

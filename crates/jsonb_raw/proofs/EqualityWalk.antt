@@ -5,7 +5,7 @@ use Rattle.std.specs.Int.{w32, to_be_bytes}
 use Rattle.jsonb_doc.specs.Tree.{Tree, Trees, Pairs, count, keys}
 use Rattle.jsonb_raw.specs.SortableKey.{text_bytes}
 use Rattle.jsonb_raw.specs.EqualityKey.{equality_key, equality_keys_of_trees, equality_keys_of_pairs}
-use Rattle.jsonb_raw.specs.EqualityParts.{equality_start, equality_part_start}
+use Rattle.jsonb_raw.specs.Private.EqualityParts.{equality_start, equality_part_start}
 use Rattle.jsonb_raw.specs.Private.Levels.{Part, parts, parts_of_trees, parts_of_pairs}
 use Rattle.jsonb_raw.proofs.LevelLemmas.{count_of_trees, count_of_pairs}
 

@@ -12,7 +12,8 @@ use Rattle.jsonb_doc.specs.declared.item.Item.{Item}
 use Rattle.jsonb_doc.specs.declared.item.Item.TheVariants as item
 use Rattle.jsonb_doc.specs.declared.spot.Spot.{Spot}
 use Rattle.jsonb_keypath.specs.KeyPathGrammar.{index}
-use Rattle.jsonb_raw.specs.Places.{children, child_met, index_position}
+use Rattle.jsonb_raw.specs.Places.{children, index_position}
+use Rattle.jsonb_raw.specs.Private.Steps.{child_met}
 use Rattle.jsonb_raw.proofs.AnswerLemmas.{answered}
 use Rattle.jsonb_raw.proofs.PlaceLemmas.{field_met}
 

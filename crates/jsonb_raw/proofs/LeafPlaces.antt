@@ -12,7 +12,8 @@ use Rattle.jsonb_keypath.specs.Each.{Each}
 use Rattle.jsonb_keypath.specs.KeyPathGrammar.{Key, index, unquoted_name}
 use Rattle.jsonb_raw.specs.Leaves.{Leaf, behind, is_leaf, leaves_at, leaves, leaves_of_trees, leaves_of_pairs}
 use Rattle.jsonb_raw.specs.LeavesLaws.{LeavesAreInPlace}
-use Rattle.jsonb_raw.specs.Places.{child_met, tree_at_steps}
+use Rattle.jsonb_raw.specs.Places.{tree_at_steps}
+use Rattle.jsonb_raw.specs.Private.Steps.{child_met}
 use Rattle.jsonb_raw.proofs.ChildLemmas.{split_at, from_front}
 use Rattle.jsonb_raw.proofs.PlaceLemmas.{field_met, step_by_step}
 

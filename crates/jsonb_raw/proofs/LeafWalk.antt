@@ -23,7 +23,8 @@ use Rattle.jsonb_raw.specs.declared.functions.path.leaves.Entered.{Entered}
 use Rattle.jsonb_raw.specs.declared.level.Level.{Level}
 use Rattle.jsonb_raw.specs.Private.Levels.{Part, parts, parts_of_trees, parts_of_pairs, IsKeyOf}
 use Rattle.jsonb_raw.specs.Leaves.{Leaf, behind, is_leaf, leaves_at, leaves, leaves_of_trees, leaves_of_pairs}
-use Rattle.jsonb_raw.specs.LeafViews.{leaves_seen, step_at, steps_into}
+use Rattle.jsonb_raw.specs.LeafViews.{leaves_seen}
+use Rattle.jsonb_raw.specs.Private.LeafSteps.{step_at, steps_into}
 use Rattle.jsonb_raw.proofs.LevelLemmas.{count_of_trees, count_of_pairs, innermost}
 
 -- ---- which parts are entered

@@ -85,6 +85,7 @@ pub mod InsertLemmas
 pub mod IteratorLemmas
 pub mod PlaceRows
 pub mod NamedPairs
+pub mod NamePlaces
 pub mod EntryDocuments
 pub mod RowWalks
 pub mod CutWalks

@@ -10,7 +10,8 @@ use Rattle.jsonb_doc.specs.Item.{StandsFor}
 use Rattle.jsonb_doc.specs.declared.item.Item.{Item}
 use Rattle.jsonb_doc.specs.declared.item.Item.TheVariants as item
 use Rattle.jsonb_keypath.specs.KeyPathGrammar.{Key, index, quoted_name, unquoted_name}
-use Rattle.jsonb_raw.specs.Places.{children, asked_key, child_position, child_met, location, tree_at, tree_at_steps}
+use Rattle.jsonb_raw.specs.Places.{children, asked_key, child_position, location, tree_at, tree_at_steps}
+use Rattle.jsonb_raw.specs.Private.Steps.{child_met}
 
 -- ---- the child that a step meets
 

@@ -72,3 +72,31 @@ number_steps old first sign m z v scale e ne a f (inr h) =
     ap₂ (λ xs k. xs ++ complement_bytes (int_lt v (pos 0)) (magnitude_bytes k scale)) (f ∙ ap (λ b. old ++ b ∷ []) h.1) (a ∙ ap nat_abs e)
     ∙ ap (λ b. (old ++ 0x81 ∷ []) ++ complement_bytes b (magnitude_bytes (nat_abs z) scale)) h.0
     ∙ positive_pushed old z scale (subst (λ x. int_lt x (pos 0) ≡ false) e h.0) ne
+
+-- the same of a row that holds the sign byte, the exponent, the digits and the end byte
+pub row_steps : (negative : Bool) (old last whole front tail : List ℕ) (sign n scale e byte : ℕ) → e ≡ length (digits_of 10 n) + 1000 - scale
+    → whole ≡ sign ∷ front → front ≡ complement_bytes negative (to_be_bytes w16 e) ++ tail
+    → tail ≡ complement_bytes negative (map suc (significant (digits_of 10 n))) ++ byte ∷ [] → byte ≡ complement_byte negative 0 → last ≡ old ++ whole
+    → last ≡ (old ++ sign ∷ []) ++ complement_bytes negative (magnitude_bytes n scale)
+row_steps negative old last whole front tail sign n scale e byte h w f t b l =
+    l ∙ ap (λ x. old ++ x) w ∙ sym (append_assoc old (sign ∷ []) front)
+    ∙ ap (λ x. (old ++ sign ∷ []) ++ x) (f ∙ ap (λ x. exponent ++ x) (t ∙ ap (λ c. digits ++ c ∷ []) b))
+    ∙ sym (append_assoc (old ++ sign ∷ []) exponent (digits ++ end))
+    ∙ sym (append_assoc ((old ++ sign ∷ []) ++ exponent) digits end)
+    ∙ magnitude_pushed negative (old ++ sign ∷ []) n scale e h
+  where
+    exponent : List ℕ
+    exponent = complement_bytes negative (to_be_bytes w16 e)
+
+    digits : List ℕ
+    digits = complement_bytes negative (map suc (significant (digits_of 10 n)))
+
+    end : List ℕ
+    end = complement_byte negative 0 ∷ []
+
+-- a whole number without a sign
+pub unsigned_pushed : (old : List ℕ) (n scale : ℕ) → n ≢ 0
+    → (old ++ 0x81 ∷ []) ++ complement_bytes false (magnitude_bytes n scale) ≡ old ++ number_bytes (pos n) scale
+unsigned_pushed old zero scale ne = absurd (ne refl)
+unsigned_pushed old (suc n) scale ne = append_assoc old (0x81 ∷ []) (complement_bytes false (magnitude_bytes (suc n) scale))
+    ∙ ap (λ x. old ++ 0x81 ∷ x) (same_bytes (magnitude_bytes (suc n) scale))

@@ -5,7 +5,8 @@ use Rattle.jsonb_doc.specs.Tree.{Tree}
 use Rattle.jsonb_doc.specs.Answer.{SameOption}
 use Rattle.jsonb_keypath.specs.declared.key_path.KeyPath.{KeyPath}
 use Rattle.jsonb_keypath.specs.KeyPathViews.{key_view, keys_view}
-use Rattle.jsonb_raw.specs.Places.{child_met, tree_at_steps}
+use Rattle.jsonb_raw.specs.Places.{tree_at_steps}
+use Rattle.jsonb_raw.specs.Private.Steps.{child_met}
 use Rattle.jsonb_raw.proofs.PlaceLemmas.{step_by_step}
 
 pub next_child : (step : KeyPath) (steps now : List KeyPath) (here : Tree) (wanted : Option Tree) → now ≡ step ∷ steps

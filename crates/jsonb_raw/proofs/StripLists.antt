@@ -10,14 +10,14 @@ use Rattle.jsonb_doc.specs.Tree.{Tree, boolean, array, object, Trees, no_trees, 
 use Rattle.jsonb_doc.specs.Payload.{Form, number_reader}
 use Rattle.jsonb_doc.specs.Format.{IsContent, container_entry, null_entry, text_entry, entry_word, key_bytes, AreKeys}
 use Rattle.jsonb_doc.specs.Encoding.{EntryParts}
-use Rattle.jsonb_doc.specs.ObjectBuilder.{words_of_entries, contents_of_entries}
+use Rattle.jsonb_doc.specs.Private.ObjectBytes.{words_of_entries, contents_of_entries}
 use Rattle.jsonb_doc.proofs.BuilderSteps.{keys_rise}
 use Rattle.jsonb_doc.specs.declared.error.Error.{Error}
 use Rattle.jsonb_raw.specs.declared.functions.operator.stripping.StoredEntry.{StoredEntry}
 use Rattle.jsonb_raw.specs.Private.Cuts.{FitEntries}
 use Rattle.jsonb_raw.specs.Scalars.{is_null}
 use Rattle.jsonb_raw.specs.Strip.{strip, strip_trees, strip_pairs}
-use Rattle.jsonb_raw.specs.Stripping.{staying, stripped, beside, key_entries, IsAboveLast, AreOfEach, ReadsEntry}
+use Rattle.jsonb_raw.specs.Private.Stripping.{staying, stripped, beside, key_entries, IsAboveLast, AreOfEach, ReadsEntry}
 use Rattle.jsonb_raw.proofs.EntryLists.{AreOf, key-within}
 use Rattle.jsonb_raw.proofs.StripLemmas.{below_stripped}
 

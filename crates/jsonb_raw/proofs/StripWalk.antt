@@ -12,13 +12,14 @@ use Rattle.jsonb_doc.specs.Format.{key_words as key_words_of}
 use Rattle.jsonb_doc.proofs.Containers.{entries_of, count-values}
 use Rattle.jsonb_doc.specs.Answer.{IsOutOfMemory, IsOutOfMemoryOrTooLarge}
 use Rattle.jsonb_doc.specs.Encoding.{EntryParts}
-use Rattle.jsonb_doc.specs.ObjectBuilder.{FitsEntry, words_of_entries, contents_of_entries}
+use Rattle.jsonb_doc.specs.ObjectBuilder.{FitsEntry}
+use Rattle.jsonb_doc.specs.Private.ObjectBytes.{words_of_entries, contents_of_entries}
 use Rattle.jsonb_raw.specs.declared.functions.operator.stripping.Writing.{Writing}
 use Rattle.jsonb_raw.specs.declared.functions.operator.stripping.StoredEntry.{StoredEntry}
 use Rattle.jsonb_raw.specs.Private.Cuts.{FitEntries}
 use Rattle.jsonb_raw.specs.Scalars.{is_null}
 use Rattle.jsonb_raw.specs.Strip.{strip, strip_trees, strip_pairs}
-use Rattle.jsonb_raw.specs.Stripping.{leaves_out, staying, stripped, beside, key_entries, AreOfEach, IsEntry, ReadsEntry, IsWrittenTo, IsOpen}
+use Rattle.jsonb_raw.specs.Private.Stripping.{leaves_out, staying, stripped, beside, key_entries, AreOfEach, IsEntry, ReadsEntry, IsWrittenTo, IsOpen}
 use Rattle.jsonb_raw.proofs.EntryLists.{AreOf, listed, joined, joined_values, count_are, words-append, contents-append, length-kept_words, within-both, key-words, key-contents, key-within, key-count}
 use Rattle.jsonb_raw.proofs.CutLemmas.{slice_of, slice_end}
 use Rattle.jsonb_raw.proofs.CutChild.{header_read}

@@ -10,7 +10,8 @@ use Rattle.std.specs.Borrow.{Bor}
 use Rattle.std.specs.Fn.{Shared, FnReturnsAt}
 use Rattle.std.proofs.lemmas.List.{get_or_append_left, get_or-append-add}
 use Rattle.std.proofs.lemmas.List.Elements.{All-append}
-use Rattle.jsonb_raw.specs.Texts.{Tells, LargeTells, LeavesTexts, texts}
+use Rattle.jsonb_raw.specs.Texts.{Tells, texts}
+use Rattle.jsonb_raw.specs.Private.LargeTexts.{LargeTells, LeavesTexts}
 use Rattle.jsonb_doc.specs.Tree.{Tree, null, boolean, number, text, extension, array, object}
 use Rattle.jsonb_doc.specs.Payload.{Form}
 use Rattle.jsonb_doc.specs.Item.{StandsFor}

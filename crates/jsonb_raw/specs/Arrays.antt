@@ -17,7 +17,8 @@ abbrev pub as_elements : Tree → List Tree
 as_elements (array ts) = elements ts
 as_elements t = t ∷ []
 
--- The place that a position means in a list of this length: from the end where it is negative, and moved into 0 to the length.
+-- The place that a position means in a list of this length: from the end where it is negative, and moved into 0 to the
+-- length.
 abbrev pub insert_place : ℕ → ℤ → ℕ
 insert_place len (pos n) = min n len
 insert_place len (negsuc n) = len - suc n

@@ -7,8 +7,8 @@ use Rattle.jsonb_doc.specs.Equal.{is_equal}
 use Rattle.jsonb_raw.specs.Scalars.{is_json_scalar}
 
 abbrev mutual
-  -- A part of the other tree is matched by a part of the tree: an array or an object by one that contains it, anything else
-  -- by what is equal by value.
+  -- A part of the other tree is matched by a part of the tree: an array or an object by one that contains it, anything
+  -- else by what is equal by value.
   pub is_part_of : Tree → Tree → Bool
   is_part_of (array ys) (array xs) = each_is_matched ys (elements xs)
   is_part_of (object qs) (object ps) = each_pair_is_matched qs (members ps)

@@ -9,5 +9,6 @@ use Rattle.jsonb_raw.specs.Deletes.{without}
 -- Where the steps before the last meet an object, so that the last may meet a pair, the steps meet nothing in the tree
 -- without their place.
 abbrev pub PairsAreGone : Type 0
-PairsAreGone = (t : Tree) → Fits t → (front : List Key) (last : Key) (ps : Pairs) → tree_at_steps front t ≡ Some (object ps)
+PairsAreGone =
+    (t : Tree) → Fits t → (front : List Key) (last : Key) (ps : Pairs) → tree_at_steps front t ≡ Some (object ps)
     → location (front ++ last ∷ []) (without (front ++ last ∷ []) t) ≡ None

@@ -19,5 +19,6 @@ Makes form t r = MatchResult r (λ made. Decodes form made t) (IsOutOfMemoryOrTo
 
 -- a document of the tree that there is, or none where there is none
 abbrev pub MakesOption : Form → Option Tree → Result (Option OwnedJsonb) Error → Type 0
-MakesOption form (Some t) r = MatchResult r (λ found. IsSomeAnd found (λ made. Decodes form made t)) (IsOutOfMemoryOrTooLarge form t)
+MakesOption form (Some t) r =
+    MatchResult r (λ found. IsSomeAnd found (λ made. Decodes form made t)) (IsOutOfMemoryOrTooLarge form t)
 MakesOption form None r = MatchResult r IsNone IsOutOfMemory

@@ -1,5 +1,5 @@
 -- What a call that writes a sortable key answers.
-use Rattle.std.specs.Prelude.{◌≡◌, ◌⊎◌, ◌↔◌, ◌≤◌, ◌<◌, ℕ, List, ◌++◌, Result, MatchResult, IfOk, Vec}
+use Rattle.std.specs.Prelude.{◌≡◌, ◌⊎◌, ◌↔◌, ◌≤◌, ◌<◌, ℕ, List, Result, MatchResult, IfOk, Vec}
 use Rattle.std.specs.Int.{Width}
 use Rattle.std.specs.Ordering.{nat_cmp}
 use Rattle.std.specs.Cmp.Lexicographic.{slice_cmp}
@@ -17,14 +17,18 @@ use Rattle.jsonb_raw.specs.SortableKey.{key, depths}
 abbrev pub IsOutOfMemoryOrTooDeep : ℕ → ℕ → Error → Type 0
 IsOutOfMemoryOrTooDeep deepest_item limit e = (e ≡ OutOfMemory) ⊎ ((e ≡ TooDeep) × (limit ≤ deepest_item))
 
--- the sortable key of a document, refused as too deep exactly where an item lies too deep for the width
+-- What is made of the tree's sortable key. It is refused as too deep exactly where an item lies too deep for the width.
+abbrev pub GivesKey : {A : Type 0} → Width → Tree → Result A Error → (A → Type 0) → Type 0
+GivesKey w tree r IsMade =
+    MatchResult r (λ made. IsMade made × (deepest tree < depths w)) (IsOutOfMemoryOrTooDeep (deepest tree) (depths w))
+
+-- the sortable key of a document
 abbrev pub MakesKey : Width → Tree → Result (Vec ℕ Global) Error → Type 0
-MakesKey w tree r = MatchResult r (λ v. (v.items ≡ key w tree 0) × ((deepest tree) < (depths w))) (IsOutOfMemoryOrTooDeep (deepest tree) (depths w))
+MakesKey w tree r = GivesKey w tree r (λ v. v.items ≡ key w tree 0)
 
 -- the same call, where the key is written into a vector that then has these items
 abbrev pub WritesKey : Width → Tree → Result (Unit {0}) Error → List ℕ → Type 0
-WritesKey w tree r items =
-    MatchResult r (λ _. (items ≡ key w tree 0) × ((deepest tree) < (depths w))) (IsOutOfMemoryOrTooDeep (deepest tree) (depths w))
+WritesKey w tree r items = GivesKey w tree r (λ _. items ≡ key w tree 0)
 
 -- The bytes compare with the key of the tree u as the tree t does with u, and are that key where the two are equal.
 pub record RanksWith (w : Width) (t u : Tree) (bytes : List ℕ) : Type 0 where

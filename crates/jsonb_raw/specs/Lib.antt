@@ -14,16 +14,12 @@ pub mod Sets
 pub mod SetLaws
 pub mod Texts
 pub mod Strip
-pub mod Stripping
-pub mod Compared
 pub mod Contains
 pub mod Concat
 pub mod Leaves
-pub mod EqualityParts
 pub mod LeafViews
 pub mod LeavesLaws
 pub mod Exists
-pub mod Cursors
 pub mod ExistsLaws
 pub mod Deletes
 pub mod DeletesLaws

@@ -24,7 +24,8 @@ abbrev pub IsPairOf : Form → String Global × OwnedJsonb → List ℕ × Tree 
 IsPairOf form made p = (string_bytes made.0 ≡ p.0) × Decodes form made.1 p.1
 
 -- the keys with documents of their values, in order, or none where there are no pairs
-abbrev pub MakesPairs : Form → Option (List (List ℕ × Tree)) → Result (Option (Vec (String Global × OwnedJsonb) Global)) Error → Type 0
+abbrev pub MakesPairs : Form → Option (List (List ℕ × Tree))
+    → Result (Option (Vec (String Global × OwnedJsonb) Global)) Error → Type 0
 MakesPairs form (Some ps) r = MatchResult r (λ found. IsSomeAnd found (λ made. AllZip (IsPairOf form) made.items ps))
     (IsOutOfMemory or TooLarge when Any (IsTooLarge form) (values_of ps))
 MakesPairs form None r = r ≡ Ok None

@@ -22,7 +22,8 @@ ContainsIsTransitive = (t u v : Tree) → IsTrue (contains t u) → IsTrue (cont
 -- Which two of three arrays are put together first does not matter.
 abbrev pub ConcatOfArraysIsAssociative : Type 0
 ConcatOfArraysIsAssociative =
-    (ts us vs : Trees) → concat (concat (array ts) (array us)) (array vs) ≡ concat (array ts) (concat (array us) (array vs))
+    (ts us vs : Trees)
+    → concat (concat (array ts) (array us)) (array vs) ≡ concat (array ts) (concat (array us) (array vs))
 
 -- Nor does it for three objects that fit, whose keys rise.
 abbrev pub ConcatOfObjectsIsAssociative : Type 0

@@ -26,15 +26,12 @@ child_position (index i) (array ts) = index_position (length (elements ts)) i
 child_position step (object ps) = position (λ key. bytes_eq key (asked_key step)) (keys ps)
 child_position _ _ = None
 
--- the child that a step meets
-abbrev pub child_met : Key → Tree → Option Tree
-child_met step t = option_and_then (λ n. slice_get (children t) n) (child_position step t)
-
 -- the child positions that the steps meet, one after the other, from the root on
 abbrev pub location : List Key → Tree → Option (List ℕ)
 location [] t = Some []
 location (step ∷ steps) t =
-    option_and_then (λ n. option_map (λ ns. n ∷ ns) (option_and_then (location steps) (slice_get (children t) n))) (child_position step t)
+    option_and_then (λ n. option_map (λ ns. n ∷ ns) (option_and_then (location steps) (slice_get (children t) n)))
+    (child_position step t)
 
 -- the tree at a place
 abbrev pub tree_at : List ℕ → Tree → Option Tree

@@ -11,4 +11,6 @@ NoStepsMeetTheWhole = (t : Tree) → (location [] t ≡ Some []) × (tree_at_ste
 
 -- the printed text reads as a key path that has the same place on every tree
 abbrev pub PrintsToItsPlace : List Key → Type 0
-PrintsToItsPlace steps = (found : List Key) × (key_path (key_path_text steps) ≡ Some found) × ((t : Tree) → location found t ≡ location steps t)
+PrintsToItsPlace steps =
+    (found : List Key) × (key_path (key_path_text steps) ≡ Some found)
+    × ((t : Tree) → location found t ≡ location steps t)

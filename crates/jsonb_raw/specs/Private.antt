@@ -1,4 +1,11 @@
 -- What the contracts of private functions say beyond the words of the others. No public clause cites these.
+pub mod Compared
+pub mod Cursors
+pub mod EqualityParts
+pub mod Stripping
+pub mod LeafSteps
+pub mod Steps
+pub mod LargeTexts
 pub mod Cuts
 pub mod Inserts
 pub mod Levels
@@ -10,3 +17,4 @@ pub mod Marks
 pub mod Starts
 pub mod Complements
 pub mod Rows
+pub mod NamePositions

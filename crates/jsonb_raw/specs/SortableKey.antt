@@ -15,7 +15,8 @@ significant (c ∷ cs) = if list_all (λ d. d == 0) (c ∷ cs) then [] else c �
 -- The number n / 10 ^ scale above 0 is 0.c1..ck times ten to the E, where c1 and ck are not 0: E + 1000 in two
 -- bytes, each digit plus 1, and an end byte. E is the count of n's digits less the scale.
 unfoldable pub magnitude_bytes : ℕ → ℕ → List ℕ
-magnitude_bytes n scale = to_be_bytes w16 (length (digits_of 10 n) + 1000 - scale) ++ (map suc (significant (digits_of 10 n)) ++ 0 ∷ [])
+magnitude_bytes n scale =
+    to_be_bytes w16 (length (digits_of 10 n) + 1000 - scale) ++ (map suc (significant (digits_of 10 n)) ++ 0 ∷ [])
 
 -- A negative number has the complement of each byte, so that a greater magnitude is below.
 abbrev pub number_bytes : ℤ → ℕ → List ℕ

@@ -1,11 +1,8 @@
 -- The texts of a tree, and what calls of a closure told of them.
-use Rattle.std.specs.Prelude.{ℕ, Bool, true, false, List, [], ◌∷◌, ◌++◌, All, Any, MatchBool, Option, Some, None}
+use Rattle.std.specs.Prelude.{ℕ, Bool, true, false, List, [], ◌∷◌, ◌++◌, All, Any, MatchBool}
 use Rattle.std.specs.Borrow.{Bor}
 use Rattle.std.specs.Fn.{Shared, FnReturnsAt}
 use Rattle.jsonb_doc.specs.Tree.{Tree, null, boolean, number, text, extension, array, object, Trees, no_trees, tree, Pairs, no_pairs, pair}
-use Rattle.jsonb_doc.specs.Payload.{Form}
-use Rattle.jsonb_doc.specs.Item.{StandsFor}
-use Rattle.jsonb_doc.specs.declared.item.Item.{Item}
 
 -- the strings at every depth, a root string among them, and the keys of objects
 abbrev mutual
@@ -30,13 +27,3 @@ abbrev mutual
 abbrev pub Tells : {F : Type 0} → Shared F (Bor (List ℕ) × Unit {0}) Bool → F → List (List ℕ) → Bool → Type 0
 Tells calls func ss answer =
     MatchBool answer (Any (λ s. FnReturnsAt calls func s true) ss) (All (λ s. FnReturnsAt calls func s false) ss)
-
--- the texts of the item that was not asked about, where there is one, decide
-abbrev pub LargeTells : {F : Type 0} → Shared F (Bor (List ℕ) × Unit {0}) Bool → F → Form → List (List ℕ) → Option Item → Type 0
-LargeTells calls func form ss None = Tells calls func ss false
-LargeTells calls func form ss (Some item) =
-    (t : Tree) × StandsFor form item t × ((b : Bool) → Tells calls func (texts t) b → Tells calls func ss b)
-
--- a call answered true, or what was not asked about decides
-abbrev pub LeavesTexts : {F : Type 0} → Shared F (Bor (List ℕ) × Unit {0}) Bool → F → Form → List (List ℕ) → Bool → Option Item → Type 0
-LeavesTexts calls func form ss answer large = MatchBool answer (Tells calls func ss true) (LargeTells calls func form ss large)

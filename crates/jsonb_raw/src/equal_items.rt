@@ -13,7 +13,7 @@ ghost use Rattle.jsonb_doc.specs.Item.{StandsFor, item_size};
 ghost use Rattle.jsonb_doc.specs.Private.Stored.{HasEntriesLeft, Stores, entries_room, key_trees};
 ghost use Rattle.jsonb_doc.specs.View.{number_view, extension_view};
 ghost use Rattle.jsonb_doc.specs.Answer.{IsDecodingError};
-ghost use Rattle.jsonb_raw.specs.Compared.{Decides, IsShorter, IsShortOf, PassesOver};
+ghost use Rattle.jsonb_raw.specs.Private.Compared.{Decides, IsShorter, IsShortOf, PassesOver};
 
 use crate::compared::Compared;
 use jsonb_doc::{

@@ -5,7 +5,7 @@ ghost use Rattle.std.specs.Int.{w32, w64, to_be_bytes};
 ghost use Rattle.jsonb_doc.specs.Tree.{Tree};
 ghost use Rattle.jsonb_doc.specs.View.{number_view, extension_view};
 ghost use Rattle.jsonb_raw.specs.EqualityKey.{equality_key};
-ghost use Rattle.jsonb_raw.specs.EqualityParts.{equality_start, equality_part_start};
+ghost use Rattle.jsonb_raw.specs.Private.EqualityParts.{equality_start, equality_part_start};
 ghost use Rattle.jsonb_raw.specs.Private.Levels.{Part, IsKeyOf, IsLevelOf, level_room, level_bound};
 ghost use Rattle.jsonb_raw.specs.SortableKey.{text_bytes};
 ghost use Rattle.jsonb_doc.specs.Payload.{Form};

@@ -3,7 +3,7 @@
 ghost use Rattle.std.specs.Prelude.{◌≡◌, ◌↔◌, ◌≤◌, ◌<◌, IsOk, IsErrOf, Ok};
 ghost use Rattle.jsonb_doc.specs.Tree.{Tree};
 ghost use Rattle.jsonb_doc.specs.Payload.{Form, any};
-ghost use Rattle.jsonb_doc.specs.Format.{Decodes, WouldDecode};
+ghost use Rattle.jsonb_doc.specs.Format.{Decodes, IsUnsupportedDocument, IsNoDocument};
 ghost use Rattle.jsonb_doc.specs.Depth.{deepest};
 ghost use Rattle.jsonb_raw.specs.Documents.{raw_bytes};
 
@@ -68,10 +68,8 @@ impl<'a> RawJsonb<'a> {
     /// Linear in n, without memory.
     pub fn check(&self) -> Result<(), Error>
         ensures ok { IsOk result ↔ ((t : Tree) × Decodes any (raw_bytes self.now) t) }
-        ensures unsupported { IsErrOf result Error.UnsupportedNumber
-            ↔ (((t : Tree) → Decodes any (raw_bytes self.now) t → ⊥)
-            × ((t : Tree) × WouldDecode (raw_bytes self.now) t)) }
-        ensures invalid { IsErrOf result Error.InvalidJsonb ↔ ((t : Tree) → WouldDecode (raw_bytes self.now) t → ⊥) }
+        ensures unsupported { IsErrOf result Error.UnsupportedNumber ↔ IsUnsupportedDocument (raw_bytes self.now) }
+        ensures invalid { IsErrOf result Error.InvalidJsonb ↔ IsNoDocument (raw_bytes self.now) }
     {
         jsonb_doc::check(self.bytes)
     }
@@ -89,10 +87,8 @@ impl<'a> RawJsonb<'a> {
     pub fn depth(&self) -> Result<usize, Error>
         ensures depth { (form : Form) (t : Tree) → Decodes form (raw_bytes self.now) t → result ≡ Ok (deepest t) }
         ensures ok { IsOk result ↔ ((t : Tree) × Decodes any (raw_bytes self.now) t) }
-        ensures unsupported { IsErrOf result Error.UnsupportedNumber
-            ↔ (((t : Tree) → Decodes any (raw_bytes self.now) t → ⊥)
-            × ((t : Tree) × WouldDecode (raw_bytes self.now) t)) }
-        ensures invalid { IsErrOf result Error.InvalidJsonb ↔ ((t : Tree) → WouldDecode (raw_bytes self.now) t → ⊥) }
+        ensures unsupported { IsErrOf result Error.UnsupportedNumber ↔ IsUnsupportedDocument (raw_bytes self.now) }
+        ensures invalid { IsErrOf result Error.InvalidJsonb ↔ IsNoDocument (raw_bytes self.now) }
     {
         jsonb_doc::depth(self.bytes)
     }
@@ -111,10 +107,8 @@ impl<'a> RawJsonb<'a> {
         ensures ok { IsOk result ↔ ((t : Tree) × Decodes any (raw_bytes self.now) t × (deepest t ≤ limit)) }
         ensures too_deep { IsErrOf result Error.TooDeep
             ↔ ((t : Tree) × Decodes any (raw_bytes self.now) t × (limit < deepest t)) }
-        ensures unsupported { IsErrOf result Error.UnsupportedNumber
-            ↔ (((t : Tree) → Decodes any (raw_bytes self.now) t → ⊥)
-            × ((t : Tree) × WouldDecode (raw_bytes self.now) t)) }
-        ensures invalid { IsErrOf result Error.InvalidJsonb ↔ ((t : Tree) → WouldDecode (raw_bytes self.now) t → ⊥) }
+        ensures unsupported { IsErrOf result Error.UnsupportedNumber ↔ IsUnsupportedDocument (raw_bytes self.now) }
+        ensures invalid { IsErrOf result Error.InvalidJsonb ↔ IsNoDocument (raw_bytes self.now) }
     {
         jsonb_doc::check_depth(self.bytes, limit)
     }

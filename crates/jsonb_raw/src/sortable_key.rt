@@ -69,7 +69,7 @@ fn push_string(out: &mut Vec<u8>, text: &[u8], depth: usize, width: DepthWidth) 
 }
 
 /// Appends the key of an item that has no parts, and of any other what stands before its parts, which it hands out.
-#[inline(never)]
+#[inline(always)]
 fn push_start<'a>(
     out: &mut Vec<u8>,
     item: &Item<'a>,
@@ -111,7 +111,28 @@ fn push_start<'a>(
     Ok(None)
 }
 
-/// The same of an entry. No item is made of a text or of a short number.
+/// The same of an entry. It stands apart, so that a walk over texts and numbers has no room for items.
+#[inline(never)]
+fn push_stored_start<'a>(
+    out: &mut Vec<u8>,
+    entry: &StoredEntry<'a>,
+    depth: usize,
+    width: DepthWidth,
+) -> Result<Option<Level<'a>>, Error>
+    ensures key { (form : Form) (tree : Tree) → Stores form entry.now tree
+        → MatchResult result
+        (λ found. (out.new.items ≡ out.old.items ++ start (width_of width) tree depth)
+        × (depth < (depths (width_of width))) × IsLevelOf form tree found)
+        (IsOutOfMemoryOrTooDeep depth (depths (width_of width))) }
+    ensures room { IfOk result
+        (λ found. IfSome found (λ level. level_room level < length entry.now.content.now)) }
+    ensures bound { IfOk result (λ found. IfSome found (λ level. level_bound level < 2 ^ 64)) }
+    ensures errors { IfErr result (IsDecodingError or OutOfMemory or TooDeep) }
+{
+    push_start(out, &entry.item()?, depth, width)
+}
+
+/// The same. No item is made of a text or of a short number.
 #[inline(always)]
 fn push_entry<'a>(
     out: &mut Vec<u8>,
@@ -138,7 +159,7 @@ fn push_entry<'a>(
         push_short_number(out, number)?;
         return Ok(None);
     }
-    push_start(out, &entry.item()?, depth, width)
+    push_stored_start(out, entry, depth, width)
 }
 
 /// Appends the start of a part, behind its key where it has one, and hands out its own parts.

@@ -5,7 +5,8 @@ ghost use Rattle.std.specs.List.{prefix_len};
 ghost use Rattle.std.specs.Cow.{cow_str_bytes};
 ghost use Rattle.jsonb_doc.specs.declared.error.Error.TheVariants.{OutOfMemory};
 ghost use Rattle.jsonb_keypath.specs.Tokens.{is_unescaped, is_stop as spec_is_stop, unit, units, text, name, quoted};
-ghost use Rattle.jsonb_keypath.specs.Views.{excluded, unit_bytes, read_as, LeavesLess};
+ghost use Rattle.jsonb_keypath.specs.Views.{read_as, LeavesLess};
+ghost use Rattle.jsonb_keypath.specs.Private.Units.{excluded, unit_bytes};
 ghost use Rattle.jsonb_doc.specs.Answer.{IsOutOfMemory};
 
 use super::escape::escape_at;

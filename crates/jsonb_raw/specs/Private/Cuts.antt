@@ -5,7 +5,8 @@ use Rattle.jsonb_doc.specs.Tree.{Tree}
 use Rattle.jsonb_doc.specs.Payload.{NumberReader}
 use Rattle.jsonb_doc.specs.Format.{IsContent, container_entry, entry_word}
 use Rattle.jsonb_doc.specs.Encoding.{EntryParts}
-use Rattle.jsonb_doc.specs.ObjectBuilder.{FitsEntry, words_of_entries, contents_of_entries}
+use Rattle.jsonb_doc.specs.ObjectBuilder.{FitsEntry}
+use Rattle.jsonb_doc.specs.Private.ObjectBytes.{words_of_entries, contents_of_entries}
 use Rattle.jsonb_raw.specs.declared.functions.path.entry_place.EntryPlace.{EntryPlace}
 use Rattle.jsonb_raw.specs.declared.functions.path.entry_place.ChildEntries.{ChildEntries}
 use Rattle.jsonb_raw.specs.Places.{children}
@@ -42,9 +43,11 @@ with_content bytes place content =
 -- the parts of the bytes around the entries of a child
 abbrev pub around : List ℕ → Option EntryPlace → EntryPlace → List ℕ
 around bytes None value =
-    slice_range bytes 4 value.word ++ (slice_range bytes (value.word + 4) value.start ++ slice_range bytes value.end (length bytes))
+    slice_range bytes 4 value.word ++ (slice_range bytes (value.word + 4) value.start
+    ++ slice_range bytes value.end (length bytes))
 around bytes (Some key) value =
-    slice_range bytes 4 key.word ++ (slice_range bytes (key.word + 4) value.word ++ (slice_range bytes (value.word + 4) key.start
+    slice_range bytes 4 key.word ++ (slice_range bytes (key.word + 4) value.word
+    ++ (slice_range bytes (value.word + 4) key.start
     ++ (slice_range bytes key.end value.start ++ slice_range bytes value.end (length bytes))))
 
 -- the container without a child
@@ -59,18 +62,21 @@ LiesWithin place len = (place.word + 4 ≤ place.start) × (place.start ≤ plac
 abbrev pub AreInOrder : Option EntryPlace → EntryPlace → ℕ → Type 0
 AreInOrder None value len = (4 ≤ value.word) × LiesWithin value len
 AreInOrder (Some key) value len =
-    (4 ≤ key.word) × (key.word + 4 ≤ value.word) × (value.word + 4 ≤ key.start) × (key.start ≤ key.end) × (key.end ≤ value.start)
+    (4 ≤ key.word) × (key.word + 4 ≤ value.word) × (value.word + 4 ≤ key.start) × (key.start ≤ key.end)
+    × (key.end ≤ value.start)
     × (value.start ≤ value.end) × (value.end ≤ len)
 
 -- The entries are those of the child at a position of a container's tree: its content stands there, and without it, or
 -- with another content in its place, the bytes are those of the changed tree.
-pub record AreOfChild (number_at : NumberReader) (bytes : List ℕ) (t : Tree) (n : ℕ) (child : Tree) (entries : ChildEntries) : Type 0 where
+pub record AreOfChild (number_at : NumberReader) (bytes : List ℕ) (t : Tree) (n : ℕ) (child : Tree)
+    (entries : ChildEntries) : Type 0 where
   pub kind : ℕ
   pub content : IsContent number_at child kind (content_at bytes entries.value)
   pub short : length (content_at bytes entries.value) < 2 ^ 28
   pub within : LiesWithin entries.value (length bytes)
   pub ordered : AreInOrder entries.key entries.value (length bytes)
-  pub cut : (change : Tree → Option Tree) → change child ≡ None → IsContent number_at (change_child n change t) container_entry (without_child bytes entries)
+  pub cut : (change : Tree → Option Tree) → change child ≡ None
+      → IsContent number_at (change_child n change t) container_entry (without_child bytes entries)
   pub shorter : length (without_child bytes entries) ≤ length bytes
   pub changed : (change : Tree → Option Tree) (child' : Tree) (content' : List ℕ) → change child ≡ Some child'
       → IsContent number_at child' container_entry content' → length content' ≤ length (content_at bytes entries.value)
@@ -90,21 +96,25 @@ entries_size child = (child.value.end - child.value.start + 4) + key_size child.
 -- ---- children within children
 
 -- the child at a position is a container, whose content stands at this place
-pub record StepsInto (number_at : NumberReader) (bytes : List ℕ) (t : Tree) (n : ℕ) (child : Tree) (place : EntryPlace) : Type 0 where
+pub record StepsInto (number_at : NumberReader) (bytes : List ℕ) (t : Tree) (n : ℕ) (child : Tree)
+    (place : EntryPlace) : Type 0 where
   pub entries : ChildEntries
   pub value_is : entries.value ≡ place
   pub of_child : AreOfChild number_at bytes t n child entries
   pub container : IsContent number_at child container_entry (content_at bytes place)
 
--- the children at these positions, each within the one before it, have these places, and the last is this tree with this content
+-- the children at these positions, each within the one before it, have these places, and the last is this tree with
+-- this content
 abbrev pub LeadTo : NumberReader → List ℕ → Tree → List ℕ → List EntryPlace → List ℕ → Tree → Type 0
 LeadTo number_at bytes t [] [] inner u = (bytes ≡ inner) × (t ≡ u)
 LeadTo number_at bytes t (n ∷ ns) (place ∷ places) inner u =
-    (child : Tree) × StepsInto number_at bytes t n child place × LeadTo number_at (content_at bytes place) child ns places inner u
+    (child : Tree) × StepsInto number_at bytes t n child place
+    × LeadTo number_at (content_at bytes place) child ns places inner u
 LeadTo number_at bytes t _ _ inner u = ⊥
 
 -- the same, and the last is a container with a child at this position
-pub record LeadInto (number_at : NumberReader) (bytes : List ℕ) (t : Tree) (ns : List ℕ) (places : List EntryPlace) (inner : List ℕ) (last : ℕ) : Type 0 where
+pub record LeadInto (number_at : NumberReader) (bytes : List ℕ) (t : Tree) (ns : List ℕ) (places : List EntryPlace)
+    (inner : List ℕ) (last : ℕ) : Type 0 where
   pub u : Tree
   pub child : Tree
   pub walk : LeadTo number_at bytes t ns places inner u
@@ -114,7 +124,8 @@ pub record LeadInto (number_at : NumberReader) (bytes : List ℕ) (t : Tree) (ns
 -- the bytes in front of the content of a child that is told to be so many bytes shorter
 abbrev pub front_of : List ℕ → EntryPlace → ℕ → List ℕ
 front_of bytes place removed =
-    slice_range bytes 0 place.word ++ (entry_word container_entry (place.end - place.start - removed) ++ slice_range bytes (place.word + 4) place.start)
+    slice_range bytes 0 place.word ++ (entry_word container_entry (place.end - place.start - removed)
+    ++ slice_range bytes (place.word + 4) place.start)
 
 -- those in front of the innermost child
 abbrev pub fronts : List ℕ → List EntryPlace → ℕ → List ℕ

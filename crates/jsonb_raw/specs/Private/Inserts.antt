@@ -6,7 +6,7 @@ use Rattle.std.specs.declared.cmp.Ordering.TheVariants.{Less}
 use Rattle.jsonb_doc.specs.Tree.{Tree, object, keys}
 use Rattle.jsonb_doc.specs.Format.{IsBelowFirst, header, object_header, text_entry, entry_word}
 use Rattle.jsonb_doc.specs.Encoding.{EntryParts}
-use Rattle.jsonb_doc.specs.ObjectBuilder.{words_of_entries, contents_of_entries}
+use Rattle.jsonb_doc.specs.Private.ObjectBytes.{words_of_entries, contents_of_entries}
 use Rattle.jsonb_raw.specs.declared.functions.object.pair_parts.PairPlace.{PairPlace}
 use Rattle.jsonb_raw.specs.declared.functions.parts.Entries.{Entries}
 use Rattle.jsonb_raw.specs.declared.functions.object.pair_parts.KeptEntries.{KeptEntries}
@@ -54,10 +54,12 @@ pub record AreBytesOf (entries : Entries) (es : List EntryParts) : Type 0 where
 
 -- The object's entries are those before the key in this place, that key where it is there, those between it and its
 -- value, that value, and those behind it.
-pub record IsCutAt (bytes : List ℕ) (place : PairPlace) (before key between value behind : List EntryParts) : Type 0 where
+pub record IsCutAt (bytes : List ℕ) (place : PairPlace)
+    (before key between value behind : List EntryParts) : Type 0 where
   pub within : FitEntries (before ++ (key ++ (between ++ (value ++ behind))))
   pub joined : bytes ≡ header object_header (length key + length between)
-      ++ (words_of_entries (before ++ (key ++ (between ++ (value ++ behind)))) ++ contents_of_entries (before ++ (key ++ (between ++ (value ++ behind)))))
+      ++ (words_of_entries (before ++ (key ++ (between ++ (value ++ behind))))
+      ++ contents_of_entries (before ++ (key ++ (between ++ (value ++ behind)))))
   pub fits : length key + length between < 2 ^ 29
   pub passed : place.passed ≡ length before
   pub keys : place.taken ≡ length key

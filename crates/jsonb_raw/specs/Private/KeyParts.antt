@@ -1,13 +1,12 @@
 -- The sortable key of a part of a container, as a walk writes it: its start, and then the keys of its own parts.
-use Rattle.std.specs.Prelude.{◌≡◌, ◌<◌, ℕ, List, [], ◌++◌, Some, None, Result, MatchResult}
+use Rattle.std.specs.Prelude.{◌≡◌, ℕ, List, [], ◌++◌, Some, None, Result}
 use Rattle.std.specs.Int.{Width}
 use Rattle.jsonb_doc.specs.Tree as spec
 use Rattle.jsonb_doc.specs.Tree.{Tree}
-use Rattle.jsonb_doc.specs.Depth.{deepest}
 use Rattle.jsonb_doc.specs.declared.error.Error.{Error}
-use Rattle.jsonb_raw.specs.KeyAnswer.{IsOutOfMemoryOrTooDeep}
+use Rattle.jsonb_raw.specs.KeyAnswer.{GivesKey}
 use Rattle.jsonb_raw.specs.Private.Levels.{Part}
-use Rattle.jsonb_raw.specs.SortableKey.{key, depths, item_bytes, text_bytes}
+use Rattle.jsonb_raw.specs.SortableKey.{key, item_bytes, text_bytes}
 
 -- what stands before the keys of a tree's parts: of a tree without parts the whole key
 abbrev pub start : Width → Tree → ℕ → List ℕ
@@ -21,5 +20,4 @@ part_start w (Some k, t) d = item_bytes w d 5 (text_bytes k) ++ start w t d
 
 -- the sortable key of a document, written behind the bytes `old`
 abbrev pub AppendsKey : Width → Tree → List ℕ → Result (Unit {0}) Error → List ℕ → Type 0
-AppendsKey w tree old r new =
-    MatchResult r (λ _. (new ≡ old ++ key w tree 0) × ((deepest tree) < (depths w))) (IsOutOfMemoryOrTooDeep (deepest tree) (depths w))
+AppendsKey w tree old r new = GivesKey w tree r (λ _. new ≡ old ++ key w tree 0)

@@ -47,7 +47,8 @@ IsKeyOf _ _ = ⊥
 abbrev pub TakesPart : Form → List Part → Result (Option (Option (Bor (List ℕ)) × StoredEntry)) Error → Level → Type 0
 TakesPart form [] (Ok None) after = ⊤
 TakesPart form [] _ after = ⊥
-TakesPart form (p ∷ ps) (Ok (Some given)) after = IsKeyOf given.0 p.0 × Stores form given.1 p.1 × HasPartsLeft form after ps
+TakesPart form (p ∷ ps) (Ok (Some given)) after =
+    IsKeyOf given.0 p.0 × Stores form given.1 p.1 × HasPartsLeft form after ps
 TakesPart form (p ∷ ps) _ after = ⊥
 
 -- at most how many bytes an entry of the level has, on any bytes

@@ -62,7 +62,8 @@ IsTooLongElement form t e = IsTooLongRoot form t e × (as_elements t ≡ t ∷ [
 -- ---- entries gone through one by one
 
 -- the row begins with an entry of this tree, of this kind and content, and these others follow
-pub record IsFirst (form : Form) (row : Entries) (t : Tree) (ts : List Tree) (kind : ℕ) (content : List ℕ) (others : Entries) : Type 0 where
+pub record IsFirst (form : Form) (row : Entries) (t : Tree) (ts : List Tree) (kind : ℕ) (content : List ℕ)
+    (others : Entries) : Type 0 where
   pub part : IsContent (number_reader form) t kind content
   pub begin : BeginWith row.words.now row.contents.now kind content others.words.now others.contents.now
   pub others_hold : HoldTrees form others ts
@@ -88,7 +89,8 @@ ArePairsOf form _ (Some row) = ⊥
 ArePairsOf form _ None = ⊤
 
 -- the row begins with a pair, and the others follow
-pub record IsFirstPair (form : Form) (row : PairEntries) (p : List ℕ × Tree) (ps : List (List ℕ × Tree)) (first : FirstPair) : Type 0 where
+pub record IsFirstPair (form : Form) (row : PairEntries) (p : List ℕ × Tree) (ps : List (List ℕ × Tree))
+    (first : FirstPair) : Type 0 where
   pub key : first.key.now ≡ p.0
   pub name : IsFirst form row.keys (text p.0) (map text (keys_of ps)) text_entry p.0 first.others.keys
   pub value : IsFirst form row.values p.1 (values_of ps) first.kind first.content.now first.others.values
@@ -103,13 +105,15 @@ TakesFirstPair form row (p ∷ ps) (Some first) = IsFirstPair form row p ps firs
 
 -- these words and contents were put behind those of the rows
 abbrev pub HasRowMore : List Entries → List ℕ → List ℕ → List Entries → Type 0
-HasRowMore before words contents after = (row_words after ≡ row_words before ++ words) × (row_contents after ≡ row_contents before ++ contents)
+HasRowMore before words contents after =
+    (row_words after ≡ row_words before ++ words) × (row_contents after ≡ row_contents before ++ contents)
 
 -- The rows, and the run in front of what is left of it, hold the first of the trees; the others are left.
 pub record Holding (form : Form) (rows : List Entries) (run left : Entries) (xs ys : List Tree) : Type 0 where
   pub run_words : List ℕ
   pub run_contents : List ℕ
-  pub held : AreEntries (number_reader form) (trees_of xs) (row_words rows ++ run_words) (row_contents rows ++ run_contents)
+  pub held : AreEntries (number_reader form) (trees_of xs) (row_words rows ++ run_words)
+      (row_contents rows ++ run_contents)
   pub words_joined : run.words.now ≡ run_words ++ left.words.now
   pub contents_joined : run.contents.now ≡ run_contents ++ left.contents.now
   pub left_hold : HoldTrees form left ys
@@ -120,6 +124,7 @@ pub record PairsHeld (form : Form) (rows : PairRows) (ps : List (List ℕ × Tre
   pub parts : RowsHold form rows.values.items (values_of ps)
 
 -- the rows, and the run in front of what is left of it, hold the first of the pairs; the others are left
-pub record PairsOpen (form : Form) (rows : PairRows) (run left : PairEntries) (xs ys : List (List ℕ × Tree)) : Type 0 where
+pub record PairsOpen (form : Form) (rows : PairRows) (run left : PairEntries)
+    (xs ys : List (List ℕ × Tree)) : Type 0 where
   pub names : Holding form rows.keys.items run.keys left.keys (map text (keys_of xs)) (map text (keys_of ys))
   pub parts : Holding form rows.values.items run.values left.values (values_of xs) (values_of ys)

@@ -45,7 +45,8 @@ keeps Unshared other o = not (is_shared other o)
 abbrev pub kept_one : Kept → List Tree → Occurrence → List Tree
 kept_one kind other o = if keeps kind other o then o.1 ∷ [] else []
 
--- how often a key is counted behind the elements `before`: as often as they have it, or as they leave it of the other list
+-- how often a key is counted behind the elements `before`: as often as they have it, or as they leave it of the other
+-- list
 abbrev pub count_behind : Kept → List Tree → List Tree → Vec ℕ Global → ℕ
 count_behind First other before key = with_key key before
 count_behind Shared other before key = with_key key other - with_key key before

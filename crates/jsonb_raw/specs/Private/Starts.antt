@@ -4,7 +4,7 @@ use Rattle.std.specs.List.{list_any}
 use Rattle.jsonb_doc.specs.Tree.{Tree, null, boolean, number, text, extension, array, object, Trees, no_trees, tree}
 use Rattle.jsonb_doc.specs.declared.entry_iter.EntryIter.{EntryIter}
 use Rattle.jsonb_raw.specs.Contains.{is_part_of}
-use Rattle.jsonb_raw.specs.Compared.{PassesOver}
+use Rattle.jsonb_raw.specs.Private.Compared.{PassesOver}
 use Rattle.jsonb_raw.specs.declared.functions.operator.starts.Starts.{Starts}
 
 -- what a search begins with is left of all

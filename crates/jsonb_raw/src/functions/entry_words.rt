@@ -2,7 +2,7 @@
 
 ghost use Rattle.std.specs.Prelude.{◌≡◌, ◌*◌, ◌^◌, ◌<◌, ◌≤◌, List, length};
 ghost use Rattle.jsonb_doc.specs.Encoding.{EntryParts};
-ghost use Rattle.jsonb_doc.specs.ObjectBuilder.{words_of_entries, contents_of_entries};
+ghost use Rattle.jsonb_doc.specs.Private.ObjectBytes.{words_of_entries, contents_of_entries};
 ghost use Rattle.jsonb_raw.specs.Private.Cuts.{FitEntries};
 
 use jsonb_doc::layout::{LENGTHS, WORD};

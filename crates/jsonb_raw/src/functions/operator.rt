@@ -91,8 +91,8 @@ impl RawJsonb<'_> {
         item_key(alloc, &root_item(self.as_bytes())?)
     }
 
-    /// Writes what `convert_to_comparable` answers into a vector that is used again: what it held is gone, and its memory
-    /// is kept.
+    /// Writes what `convert_to_comparable` answers into a vector that is used again: what it held is gone, and its
+    /// memory is kept.
     ///
     /// # Errors
     ///

@@ -12,7 +12,8 @@ ghost use Rattle.jsonb_keypath.specs.declared.key_path.KeyPath.{KeyPath};
 ghost use Rattle.jsonb_keypath.specs.KeyPathGrammar.{index as index_step};
 ghost use Rattle.jsonb_keypath.specs.KeyPathViews.{key_view, keys_view};
 ghost use Rattle.jsonb_raw.specs.Documents.{raw_bytes, MakesOption};
-ghost use Rattle.jsonb_raw.specs.Places.{children, child_met, index_position, tree_at_steps};
+ghost use Rattle.jsonb_raw.specs.Places.{children, index_position, tree_at_steps};
+ghost use Rattle.jsonb_raw.specs.Private.Steps.{child_met};
 ghost use Rattle.jsonb_raw.specs.Iterators.{YieldsItemsLeft};
 
 mod child;

@@ -3,7 +3,7 @@ use Rattle.std.specs.Prelude.{IsOkAnd}
 use Rattle.jsonb_doc.specs.Tree.{keys, values}
 use Rattle.jsonb_doc.specs.Equal.{is_equal, are_equal, pairs_are_equal}
 use Rattle.jsonb_doc.specs.Private.Stored.{key_trees}
-use Rattle.jsonb_raw.specs.Compared.{Decides}
+use Rattle.jsonb_raw.specs.Private.Compared.{Decides}
 use Rattle.jsonb_raw.proofs.EntriesLeft.{SomeEntries-first, SomeEntries-error, SomeEntries-none}
 use Rattle.jsonb_raw.proofs.Aside.{Aside, IsAnswer, put_aside, part_holds, part_fails, rest_fails, entries_ended, shorter_than}
 use Rattle.jsonb_raw.proofs.TextTrees.{equal_by_parts}

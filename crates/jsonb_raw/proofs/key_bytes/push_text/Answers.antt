@@ -1,13 +1,7 @@
 use Rattle.std.proofs.Common.{sym, ◌∙◌}
-use Rattle.jsonb_raw.proofs.TextChunks.{chunk_escaped, chunk_copied}
+use Rattle.jsonb_raw.proofs.TextChunks.{plain_written}
 use Rattle.jsonb_raw.proofs.key_bytes.push_text.Goals as goal
 
-pub loop-left-preserved-in_ok-extend_from_slice : goal.loop-left-preserved-in_ok-extend_from_slice
-loop-left-preserved-in_ok-extend_from_slice c =
-    chunk_copied _ _ _ _ _ _ _
-    (sym c.is_plain.ensures
-    ∙ c.if-is_plain.true) c.in_ok-extend_from_slice.ensures.items c.split_at.ensures.front c.split_at.ensures.back c.loop-left.invariant
-
-pub loop-left-preserved : goal.loop-left-preserved
-loop-left-preserved c =
-    chunk_escaped _ _ _ _ _ _ _ c.in_ok-push_escaped.ensures c.split_at.ensures.front c.split_at.ensures.back c.loop-left.invariant
+pub returns : goal.returns
+returns c =
+    plain_written _ _ _ _ (sym c.is_short_plain.ensures ∙ c.if-not-is_short_plain.false) c.in_ok-extend_from_slice.ensures.items c.in_ok-push.ensures.items

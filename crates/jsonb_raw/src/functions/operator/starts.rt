@@ -7,7 +7,7 @@ ghost use Rattle.jsonb_doc.specs.Equal.{is_equal};
 ghost use Rattle.jsonb_doc.specs.Payload.{Form};
 ghost use Rattle.jsonb_doc.specs.Private.Stored.{HasEntriesLeft, Stores};
 ghost use Rattle.jsonb_doc.specs.Answer.{IsDecodingError};
-ghost use Rattle.jsonb_raw.specs.Compared.{PassesOver};
+ghost use Rattle.jsonb_raw.specs.Private.Compared.{PassesOver};
 ghost use Rattle.jsonb_raw.specs.Private.Starts.{AreStarts, scalars_matched};
 
 use crate::equal_items::{find_equal, next_equals};

@@ -5,12 +5,12 @@ ghost use Rattle.jsonb_doc.specs.Tree.{Tree, array, object, Trees, Pairs, count,
 ghost use Rattle.jsonb_doc.specs.Payload.{Form, number_reader};
 ghost use Rattle.jsonb_doc.specs.Format.{IsContent, container_entry, AreKeys, key_bytes};
 ghost use Rattle.jsonb_doc.specs.Encoding.{EntryParts};
-ghost use Rattle.jsonb_doc.specs.ObjectBuilder.{words_of_entries, contents_of_entries};
+ghost use Rattle.jsonb_doc.specs.Private.ObjectBytes.{words_of_entries, contents_of_entries};
 ghost use Rattle.jsonb_doc.specs.Answer.{IsOutOfMemory, IsDecodingError, ◌or◌};
 ghost use Rattle.jsonb_doc.specs.declared.error.Error.TheVariants.{OutOfMemory};
 ghost use Rattle.jsonb_raw.specs.Private.Cuts.{FitEntries};
 ghost use Rattle.jsonb_raw.specs.Strip.{strip};
-ghost use Rattle.jsonb_raw.specs.Stripping.{beside, key_entries, IsAboveLast, ReadsEntry, Begins};
+ghost use Rattle.jsonb_raw.specs.Private.Stripping.{beside, key_entries, IsAboveLast, ReadsEntry, Begins};
 
 use crate::functions::entry_words::contents_len;
 use crate::functions::path::cut::set_container_word;

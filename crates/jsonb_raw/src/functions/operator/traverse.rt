@@ -8,7 +8,8 @@ ghost use Rattle.jsonb_doc.specs.Item.{StandsFor, item_size};
 ghost use Rattle.jsonb_doc.specs.Private.Stored.{Stores};
 ghost use Rattle.jsonb_doc.specs.Answer.{IsDecodingError};
 ghost use Rattle.jsonb_raw.specs.Documents.{raw_bytes};
-ghost use Rattle.jsonb_raw.specs.Texts.{texts, texts_of_trees, texts_of_pairs, Tells, LeavesTexts};
+ghost use Rattle.jsonb_raw.specs.Texts.{texts, texts_of_trees, texts_of_pairs, Tells};
+ghost use Rattle.jsonb_raw.specs.Private.LargeTexts.{LeavesTexts};
 
 use crate::raw::RawJsonb;
 use jsonb_doc::{Error, Item, StoredEntry, array_entries, object_entries, root_item};

@@ -2,11 +2,11 @@
 //!
 //! On bytes that don't decode each call returns; which answer or refusal it gives is not fixed.
 
-ghost use Rattle.std.specs.Prelude.{◌≡◌, ℕ, List, not, None, Ok, filter, length, IfErr, MatchResult, MatchOption, Err};
+ghost use Rattle.std.specs.Prelude.{◌≡◌, ℕ, List, not, true, None, Ok, filter, map, length, IfErr, IsOkAnd, MatchResult, MatchOption, Err};
 ghost use Rattle.std.specs.List.{remove};
 ghost use Rattle.std.specs.Map.{keys_of};
 ghost use Rattle.std.specs.Str.{bytes_eq};
-ghost use Rattle.jsonb_doc.specs.Tree.{Tree, Trees, Pairs, array, object, elements as element_list, members, trees_of, pairs_of};
+ghost use Rattle.jsonb_doc.specs.Tree.{Tree, Trees, Pairs, array, object, text, elements as element_list, members, trees_of, pairs_of};
 ghost use Rattle.jsonb_doc.specs.Payload.{Form};
 ghost use Rattle.jsonb_doc.specs.Format.{Decodes, AreKeys};
 ghost use Rattle.jsonb_doc.specs.Item.{StandsFor};
@@ -15,14 +15,17 @@ ghost use Rattle.jsonb_doc.specs.declared.error.Error.TheVariants.{OutOfMemory, 
 ghost use Rattle.jsonb_raw.specs.Private.Rows.{HoldTrees, HoldPairs};
 ghost use Rattle.jsonb_raw.specs.Documents.{raw_bytes, Makes, MakesOption};
 ghost use Rattle.jsonb_raw.specs.Places.{index_position};
-ghost use Rattle.jsonb_raw.specs.Children.{element_at, field_ignoring_case, named_child, without_index, without_name};
+ghost use Rattle.jsonb_raw.specs.Children.{element_at, named_child, without_index, without_name};
+ghost use Rattle.jsonb_raw.specs.Private.NamePositions.{position_in_some_case};
 ghost use Rattle.jsonb_raw.specs.Exists.{is_text};
 
 use super::nth_child;
-use crate::functions::entries::{around_entry, element_entries, entry_count, entry_document};
+use crate::functions::entries::{
+    around_entry, element_entries, entry_count, entry_document, split_row,
+};
 use crate::functions::joined::{array_of_both, object_of};
 use crate::functions::parts::{Entries, PairEntries};
-use crate::functions::runs::{first_pair, name_position, pair_entries};
+use crate::functions::runs::{first_entry, name_position, pair_entries};
 use crate::owned::OwnedJsonb;
 use crate::raw::RawJsonb;
 use jsonb_doc::{ArrayBuilder, Error, Item, array_elements, field_spot, root_item, root_spot};
@@ -81,14 +84,13 @@ impl RawJsonb<'_> {
         ensures errors { IfErr result (IsDecodingError or OutOfMemory or TooLarge) }
     {
         let bytes = self.as_bytes();
-        let root = root_spot(bytes)?;
-        if let Some(spot) = field_spot(bytes, root, name)? {
-            return Ok(Some(OwnedJsonb::from_spot(alloc, bytes, spot)?));
-        }
         if ignore_case {
-            value_ignoring_case(alloc, bytes, name)
-        } else {
-            Ok(None)
+            return value_ignoring_case(alloc, bytes, name);
+        }
+        let root = root_spot(bytes)?;
+        match field_spot(bytes, root, name)? {
+            Some(spot) => Ok(Some(OwnedJsonb::from_spot(alloc, bytes, spot)?)),
+            None => Ok(None),
         }
     }
 
@@ -143,25 +145,48 @@ impl RawJsonb<'_> {
     }
 }
 
-/// The value of the first pair whose key is the name in some case of ASCII letters.
+/// The position of the first of the entries, which are texts, that is this name, or else of the first that is it in
+/// some case of ASCII letters.
+fn position_ignoring_case(row: Entries<'_>, name: &[u8]) -> Result<Option<usize>, Error>
+    ensures position { (form : Form) (ks : List (List ℕ)) → HoldTrees form row.entry (map text ks)
+        → IsOkAnd result (λ found. found ≡ position_in_some_case name.now ks) }
+    ensures errors { IfErr result IsDecodingError }
+{
+    let mut passed = 0;
+    let mut in_other_case = None;
+    let mut left = row;
+    while let Some(key) = first_entry(left)? {
+        if key.content.eq_ignore_ascii_case(name) {
+            if key.content == name {
+                return Ok(Some(passed));
+            }
+            in_other_case = in_other_case.or(Some(passed));
+        }
+        passed += 1;
+        left = key.others;
+    }
+    Ok(in_other_case)
+}
+
+/// The value under the name, or else of the first pair whose key is the name in some case of ASCII letters.
 fn value_ignoring_case(alloc: Global, bytes: &[u8], name: &str) -> Result<Option<OwnedJsonb>, Error>
     ensures value { (form : Form) (t : Tree) → Decodes form bytes.now t
-        → MakesOption form (field_ignoring_case name.now t) result }
-    ensures none { (form : Form) (t : Tree) → Decodes form bytes.now t → field_ignoring_case name.now t ≡ None
+        → MakesOption form (named_child name.now true t) result }
+    ensures none { (form : Form) (t : Tree) → Decodes form bytes.now t → named_child name.now true t ≡ None
         → result ≡ Ok None }
     ensures errors { IfErr result (IsDecodingError or OutOfMemory or TooLarge) }
 {
     let Some(row) = pair_entries(bytes)? else {
         return Ok(None);
     };
-    let mut left = row;
-    while let Some(pair) = first_pair(left)? {
-        if pair.key.eq_ignore_ascii_case(name.as_bytes()) {
-            return Ok(Some(entry_document(alloc, pair.kind, pair.content)?));
-        }
-        left = pair.others;
-    }
-    Ok(None)
+    let Some(position) = position_ignoring_case(row.keys, name.as_bytes())? else {
+        return Ok(None);
+    };
+    let (_, values) = split_row(row.values, position)?;
+    let Some(value) = first_entry(values)? else {
+        return Err(Error::InvalidJsonb);
+    };
+    Ok(Some(entry_document(alloc, value.kind, value.content)?))
 }
 
 /// The position of the element that an index means in an array of this length.

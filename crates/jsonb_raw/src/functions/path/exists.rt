@@ -11,7 +11,7 @@ ghost use Rattle.jsonb_doc.specs.Private.Stored.{HasEntriesLeft, key_trees};
 ghost use Rattle.jsonb_doc.specs.Answer.{IsDecodingError};
 ghost use Rattle.jsonb_raw.specs.Documents.{raw_bytes};
 ghost use Rattle.jsonb_raw.specs.Exists.{is_text, has_text, has_all, has_any};
-ghost use Rattle.jsonb_raw.specs.Cursors.{IsCursorOf, IsSearchOf, IsPassed, HoldsTexts};
+ghost use Rattle.jsonb_raw.specs.Private.Cursors.{IsCursorOf, IsSearchOf, IsPassed, HoldsTexts};
 ghost use Rattle.jsonb_raw.specs.Iterators.{YieldsItemsLeft};
 
 use crate::raw::RawJsonb;

@@ -13,7 +13,8 @@ ghost use Rattle.jsonb_doc.specs.declared.value.Value.{Value};
 ghost use Rattle.jsonb_keypath.specs.KeyPathViews.{key_view, key_paths_view};
 ghost use Rattle.jsonb_raw.specs.Documents.{raw_bytes};
 ghost use Rattle.jsonb_raw.specs.Leaves.{leaves};
-ghost use Rattle.jsonb_raw.specs.LeafViews.{leaves_seen, SeesDecoded, IsEntered, step_at, steps_into};
+ghost use Rattle.jsonb_raw.specs.LeafViews.{leaves_seen};
+ghost use Rattle.jsonb_raw.specs.Private.LeafSteps.{SeesDecoded, IsEntered, step_at, steps_into};
 ghost use Rattle.jsonb_raw.specs.Private.Levels.{IsKeyOf, level_room, level_bound};
 
 use crate::level::Level;

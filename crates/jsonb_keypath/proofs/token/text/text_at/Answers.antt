@@ -5,7 +5,7 @@ use Rattle.std.proofs.lemmas.List.Sums.{prefix_len-le-length}
 use Rattle.std.proofs.lemmas.Str.{is_utf8-from_IsUtf8}
 use Rattle.jsonb_keypath.specs.Rules.{bytes}
 use Rattle.jsonb_keypath.specs.Tokens.{is_unescaped, past}
-use Rattle.jsonb_keypath.specs.Views.{excluded}
+use Rattle.jsonb_keypath.specs.Private.Units.{excluded}
 use Rattle.jsonb_keypath.proofs.TextLemmas.{units-plain, units-no_plain, text-none, text-some, text-damaged, is_utf8-false}
 use Rattle.jsonb_keypath.proofs.token.text.text_at.Goals as goal
 

@@ -1,7 +1,7 @@
 use Rattle.std.proofs.Common.{◌≡◌, length}
 use Rattle.jsonb_keypath.specs.Rules.{repeat}
 use Rattle.jsonb_keypath.specs.Tokens.{unit, units}
-use Rattle.jsonb_keypath.specs.Views.{excluded}
+use Rattle.jsonb_keypath.specs.Private.Units.{excluded}
 use Rattle.jsonb_keypath.proofs.TextLemmas.{gathered}
 use Rattle.std.proofs.Common.{◌<◌}
 use Rattle.jsonb_keypath.proofs.token.text.units_at.Given as goal

@@ -1,5 +1,5 @@
 use Rattle.std.proofs.Common.{◌≡◌, arith, length}
-use Rattle.jsonb_doc.specs.ObjectBuilder.{contents_of_entries}
+use Rattle.jsonb_doc.specs.Private.ObjectBytes.{contents_of_entries}
 use Rattle.jsonb_raw.proofs.EntryLists.{within-front}
 use Rattle.jsonb_raw.proofs.InsertSplits.{words_enough, front_words, contents_enough, front_are, back_are}
 use Rattle.jsonb_raw.proofs.functions.entries.split_entries.Goals as goal

@@ -1,5 +1,5 @@
 use Rattle.std.proofs.Common.{arith, length}
-use Rattle.jsonb_doc.specs.ObjectBuilder.{contents_of_entries}
+use Rattle.jsonb_doc.specs.Private.ObjectBytes.{contents_of_entries}
 use Rattle.jsonb_raw.proofs.CutWords.{words_next, words_done}
 use Rattle.jsonb_raw.proofs.functions.entry_words.contents_len.Goals as goal
 

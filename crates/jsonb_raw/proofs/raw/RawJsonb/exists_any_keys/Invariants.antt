@@ -4,7 +4,7 @@ use Rattle.jsonb_doc.specs.Payload.{Form}
 use Rattle.jsonb_doc.specs.Format.{Decodes}
 use Rattle.jsonb_raw.specs.Documents.{raw_bytes}
 use Rattle.jsonb_raw.specs.Exists.{has_any}
-use Rattle.jsonb_raw.specs.Cursors.{HoldsTexts}
+use Rattle.jsonb_raw.specs.Private.Cursors.{HoldsTexts}
 use Rattle.jsonb_raw.specs.Iterators.{YieldsItemsLeft}
 use Rattle.jsonb_raw.proofs.raw.RawJsonb.exists_any_keys.Given as goal
 

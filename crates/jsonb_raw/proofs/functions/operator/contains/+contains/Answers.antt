@@ -8,7 +8,7 @@ use Rattle.jsonb_doc.specs.Tree.{keys, elements, members}
 use Rattle.jsonb_doc.proofs.BuilderSteps.{keys_rise}
 use Rattle.jsonb_raw.specs.Private.PairSteps.{pairs_above}
 use Rattle.jsonb_raw.specs.Contains.{is_part_of, each_is_matched, each_pair_is_matched}
-use Rattle.jsonb_raw.specs.Compared.{matches}
+use Rattle.jsonb_raw.specs.Private.Compared.{matches}
 use Rattle.jsonb_raw.proofs.ContainsLaws.{matched_refl}
 use Rattle.jsonb_raw.proofs.EntriesLeft.{SomeEntries-first, SomeEntries-error, SomeEntries-none, SomePairEntries-first, SomePairEntries-error, SomePairEntries-none}
 use Rattle.jsonb_raw.proofs.EntryEquals.{same_tree}

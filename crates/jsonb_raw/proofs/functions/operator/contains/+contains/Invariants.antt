@@ -8,7 +8,7 @@ use Rattle.jsonb_doc.specs.Item.{StandsFor, item_size}
 use Rattle.jsonb_doc.specs.Private.Stored.{HasEntriesLeft, Stores, entries_room}
 use Rattle.jsonb_doc.proofs.BuilderSteps.{AreRising}
 use Rattle.jsonb_raw.specs.Contains.{is_part_of, each_is_matched, each_pair_is_matched}
-use Rattle.jsonb_raw.specs.Compared.{matches}
+use Rattle.jsonb_raw.specs.Private.Compared.{matches}
 use Rattle.jsonb_raw.specs.Private.Starts.{scalars_matched}
 use Rattle.jsonb_raw.proofs.EntriesLeft.{SomeEntries, SomePairEntries}
 use Rattle.jsonb_raw.proofs.Aside.{Aside, IsAnswer, IsItemAnswer, OneAside, IsOneAnswer}

@@ -1,7 +1,7 @@
 use Rattle.std.proofs.Common.{refl, ◌∙◌, ap, List, ℕ, ◌++◌}
 use Rattle.std.proofs.lemmas.Result.{err_from_is_err_and}
 use Rattle.jsonb_doc.specs.Tree.{keys}
-use Rattle.jsonb_raw.specs.Stripping.{key_entries}
+use Rattle.jsonb_raw.specs.Private.Stripping.{key_entries}
 use Rattle.jsonb_raw.proofs.EntryLists.{key-count, key-within}
 use Rattle.jsonb_raw.proofs.StripWalk.{object_read, object_begun, object_long, not_short}
 use Rattle.jsonb_raw.proofs.functions.operator.stripping.begin_object.Goals as goal

@@ -1,5 +1,5 @@
 use Rattle.std.proofs.Common.{arith, length}
-use Rattle.jsonb_raw.specs.Stripping.{beside}
+use Rattle.jsonb_raw.specs.Private.Stripping.{beside}
 use Rattle.jsonb_raw.proofs.StripLists.{count_null, count_other, count_done}
 use Rattle.jsonb_raw.proofs.functions.operator.stripping.count_kept.Goals as goal
 

@@ -1,8 +1,8 @@
 use Rattle.std.proofs.Common.{◌≡◌, ◌+◌, ◌*◌, ◌≤◌, List, length}
 use Rattle.jsonb_doc.specs.Encoding.{EntryParts}
-use Rattle.jsonb_doc.specs.ObjectBuilder.{words_of_entries}
+use Rattle.jsonb_doc.specs.Private.ObjectBytes.{words_of_entries}
 use Rattle.jsonb_raw.specs.Private.Cuts.{FitEntries}
-use Rattle.jsonb_raw.specs.Stripping.{beside}
+use Rattle.jsonb_raw.specs.Private.Stripping.{beside}
 use Rattle.jsonb_raw.proofs.StripLists.{CountLeft}
 use Rattle.jsonb_raw.proofs.functions.operator.stripping.count_kept.Given as goal
 

@@ -1,5 +1,5 @@
 use Rattle.std.proofs.Common.{arith, refl, sym, subst, ℕ, List, ◌∷◌}
-use Rattle.jsonb_raw.specs.Stripping.{IsAboveLast}
+use Rattle.jsonb_raw.specs.Private.Stripping.{IsAboveLast}
 use Rattle.jsonb_raw.proofs.StripLists.{both_ways, next_key, key_left_out, key_pushed, keys_pushed}
 use Rattle.jsonb_raw.proofs.functions.operator.stripping.push_keys_kept.Goals as goal
 

@@ -1,9 +1,9 @@
 use Rattle.std.proofs.Common.{◌≡◌, ◌++◌, List, ℕ, length}
 use Rattle.jsonb_doc.specs.Encoding.{EntryParts}
 use Rattle.jsonb_doc.specs.Format.{AreKeys, key_bytes}
-use Rattle.jsonb_doc.specs.ObjectBuilder.{words_of_entries, contents_of_entries}
+use Rattle.jsonb_doc.specs.Private.ObjectBytes.{words_of_entries, contents_of_entries}
 use Rattle.jsonb_raw.specs.Private.Cuts.{FitEntries}
-use Rattle.jsonb_raw.specs.Stripping.{beside, key_entries}
+use Rattle.jsonb_raw.specs.Private.Stripping.{beside, key_entries}
 use Rattle.jsonb_raw.proofs.StripLists.{KeysToPush}
 use Rattle.jsonb_raw.proofs.functions.operator.stripping.push_keys_kept.Given as goal
 

@@ -5,7 +5,7 @@ use Rattle.jsonb_doc.specs.Payload.{Form}
 use Rattle.jsonb_doc.specs.Item.{StandsFor}
 use Rattle.jsonb_doc.specs.declared.value.Value.{Value}
 use Rattle.jsonb_raw.specs.Leaves.{leaves}
-use Rattle.jsonb_raw.specs.LeafViews.{SeesDecoded}
+use Rattle.jsonb_raw.specs.Private.LeafSteps.{SeesDecoded}
 use Rattle.jsonb_raw.proofs.LevelLemmas.{SomeParts, weight, weights}
 use Rattle.jsonb_raw.proofs.LeafWalk.{LeavesToward, levels}
 use Rattle.jsonb_raw.proofs.functions.path.leaves.leaves_within.Given as goal

@@ -1,7 +1,7 @@
 use Rattle.std.proofs.Common.{◌≡◌, ◌+◌, take, length, vec_len}
 use Rattle.std.specs.Vec.{vec_capacity}
 use Rattle.jsonb_keypath.specs.KeyPathViews.{keys_view}
-use Rattle.jsonb_raw.specs.LeafViews.{steps_into}
+use Rattle.jsonb_raw.specs.Private.LeafSteps.{steps_into}
 use Rattle.jsonb_raw.proofs.functions.path.leaves.path_to.Given as goal
 
 -- the steps into the containers so far, with room for the others

@@ -1,5 +1,5 @@
 use Rattle.std.proofs.Common.{◌∙◌}
-use Rattle.jsonb_raw.specs.Compared.{PassesOver}
+use Rattle.jsonb_raw.specs.Private.Compared.{PassesOver}
 use Rattle.jsonb_raw.proofs.EntriesLeft.{passes_next}
 use Rattle.jsonb_raw.proofs.StartLemmas.{set_each, set_length}
 use Rattle.jsonb_raw.proofs.functions.operator.starts.Starts.fill.Goals as goal

@@ -1,5 +1,5 @@
 use Rattle.jsonb_doc.specs.Private.Stored.{entries_bound}
-use Rattle.jsonb_raw.specs.Compared.{PassesOver}
+use Rattle.jsonb_raw.specs.Private.Compared.{PassesOver}
 use Rattle.jsonb_raw.specs.Private.Starts.{AreStarts}
 use Rattle.jsonb_raw.proofs.functions.operator.starts.Starts.fill.Given as goal
 

@@ -1,5 +1,5 @@
 use Rattle.std.proofs.Common.{refl}
-use Rattle.jsonb_raw.specs.Compared.{PassesOver}
+use Rattle.jsonb_raw.specs.Private.Compared.{PassesOver}
 use Rattle.jsonb_raw.proofs.EntriesLeft.{passes_none}
 use Rattle.jsonb_raw.proofs.StartLemmas.{repeated_each}
 use Rattle.jsonb_raw.proofs.functions.operator.starts.Starts.new.Goals as goal

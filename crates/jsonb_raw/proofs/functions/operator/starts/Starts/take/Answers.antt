@@ -1,5 +1,5 @@
 use Rattle.std.proofs.Common.{arith, ◌<◌, length, subst}
-use Rattle.jsonb_raw.specs.Compared.{PassesOver}
+use Rattle.jsonb_raw.specs.Private.Compared.{PassesOver}
 use Rattle.jsonb_raw.proofs.StartLemmas.{any_default}
 use Rattle.jsonb_raw.proofs.functions.operator.starts.Starts.take.Goals as goal
 

@@ -1,7 +1,7 @@
 use Rattle.std.proofs.Common.{◌≡◌, ℕ, List}
 use Rattle.jsonb_doc.specs.Payload.{Form}
 use Rattle.jsonb_doc.specs.Private.Stored.{entries_bound}
-use Rattle.jsonb_raw.specs.Cursors.{IsSearchOf, IsPassed}
+use Rattle.jsonb_raw.specs.Private.Cursors.{IsSearchOf, IsPassed}
 use Rattle.jsonb_raw.proofs.functions.path.exists.KeySearch.has.Given as goal
 
 -- the cursor stands in front of what is looked at next, and the keys it has passed are below the name

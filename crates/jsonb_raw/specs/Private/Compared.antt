@@ -4,7 +4,7 @@ use Rattle.std.specs.List.{list_any}
 use Rattle.jsonb_doc.specs.Tree.{Tree, Trees, elements}
 use Rattle.jsonb_doc.specs.Payload.{Form, number_of}
 use Rattle.jsonb_doc.specs.Item.{StandsFor, item_size}
-use Rattle.jsonb_doc.specs.Short.{short_value}
+use Rattle.jsonb_doc.specs.Private.Short.{short_value}
 use Rattle.jsonb_doc.specs.Private.Stored.{HasEntriesLeft}
 use Rattle.jsonb_doc.specs.declared.short_number.ShortNumber.{ShortNumber}
 use Rattle.jsonb_doc.specs.declared.entry_iter.StoredEntry.{StoredEntry}
@@ -41,4 +41,5 @@ pub record IsShortOf (entry : StoredEntry) (short : Option ShortNumber) : Type 0
 -- what is left afterwards was left before
 pub record PassesOver (before after : EntryIter) : Type 0 where
   pub others : (form : Form) (ts : Trees) → HasEntriesLeft form before ts
-      → (us : Trees) × HasEntriesLeft form after us × ((test : Tree → Bool) → list_any test (elements us) ≡ true → list_any test (elements ts) ≡ true)
+      → (us : Trees) × HasEntriesLeft form after us
+      × ((test : Tree → Bool) → list_any test (elements us) ≡ true → list_any test (elements ts) ≡ true)

@@ -34,7 +34,8 @@ pub record IsCursorOf (form : Form) (c : KeyCursor) (ks : List (List ℕ)) : Typ
   pub are_keys : AreKeys behind
   pub left : HasEntriesLeft form c.left (key_trees behind)
   pub before : IsBefore c.passed behind
-  pub decides : (name : List ℕ) → IsPassed c.passed name → list_any (λ key. bytes_eq key name) behind ≡ list_any (λ key. bytes_eq key name) ks
+  pub decides : (name : List ℕ) → IsPassed c.passed name
+      → list_any (λ key. bytes_eq key name) behind ≡ list_any (λ key. bytes_eq key name) ks
 
 -- each cursor of the search stands among these keys
 pub record IsSearchOf (form : Form) (s : KeySearch) (ks : List (List ℕ)) : Type 0 where

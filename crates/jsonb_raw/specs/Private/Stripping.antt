@@ -6,7 +6,7 @@ use Rattle.jsonb_doc.specs.Tree.{Tree}
 use Rattle.jsonb_doc.specs.Payload.{Form, number_reader}
 use Rattle.jsonb_doc.specs.Format.{IsContent, container_entry, null_entry, text_entry, IsBelowFirst}
 use Rattle.jsonb_doc.specs.Encoding.{EntryParts}
-use Rattle.jsonb_doc.specs.ObjectBuilder.{words_of_entries, contents_of_entries}
+use Rattle.jsonb_doc.specs.Private.ObjectBytes.{words_of_entries, contents_of_entries}
 use Rattle.jsonb_raw.specs.declared.functions.operator.stripping.Writing.{Writing}
 use Rattle.jsonb_raw.specs.declared.functions.operator.stripping.StoredEntry.{StoredEntry}
 use Rattle.jsonb_raw.specs.Private.Cuts.{FitEntries}
@@ -21,12 +21,14 @@ leaves_out false is_none = false
 -- the entries that stay: of an object those that are no nulls
 abbrev pub staying : Bool → List EntryParts → List EntryParts
 staying is_object [] = []
-staying is_object (e ∷ es) = if leaves_out is_object (e.0 == null_entry) then staying is_object es else e ∷ staying is_object es
+staying is_object (e ∷ es) =
+    if leaves_out is_object (e.0 == null_entry) then staying is_object es else e ∷ staying is_object es
 
 -- the trees that stay, without the nulls within them
 abbrev pub stripped : Bool → List Tree → List Tree
 stripped is_object [] = []
-stripped is_object (t ∷ ts) = if leaves_out is_object (is_null t) then stripped is_object ts else strip t ∷ stripped is_object ts
+stripped is_object (t ∷ ts) =
+    if leaves_out is_object (is_null t) then stripped is_object ts else strip t ∷ stripped is_object ts
 
 -- what stands beside the entries that are no nulls
 abbrev pub beside : {A : Type 0} → List EntryParts → List A → List A
@@ -63,16 +65,18 @@ ReadsEntry [] _ = ⊥
 ReadsEntry (e ∷ es) (Ok (Some given)) = IsEntry given e es
 ReadsEntry (e ∷ es) _ = ⊥
 
--- Behind what was there before, a container is written up to the entries that are left: a header and an object's key words, the
--- words of all entries that stay, an object's keys, and the contents so far. Once the others are written it is the container
--- of the target, of so many bytes at most.
-pub record IsWrittenTo (form : Form) (is_object : Bool) (before out : List ℕ) (start word : ℕ) (es : List EntryParts) (ts : List Tree) (target : Tree)
+-- Behind what was there before, a container is written up to the entries that are left: a header and an object's key
+-- words, the words of all entries that stay, an object's keys, and the contents so far. Once the others are written it
+-- is the container of the target, of so many bytes at most.
+pub record IsWrittenTo (form : Form) (is_object : Bool) (before out : List ℕ) (start word : ℕ) (es : List EntryParts)
+    (ts : List Tree) (target : Tree)
     (most : ℕ) : Type 0 where
   pub front : List ℕ
   pub keys : List ℕ
   pub done : List EntryParts
   pub made : List Tree
-  pub joined : out ≡ before ++ (front ++ ((words_of_entries done ++ words_of_entries (staying is_object es)) ++ (keys ++ contents_of_entries done)))
+  pub joined : out ≡ before ++ (front ++
+      ((words_of_entries done ++ words_of_entries (staying is_object es)) ++ (keys ++ contents_of_entries done)))
   pub start_is : start ≡ length before
   pub word_is : word ≡ length before + length front + length (words_of_entries done)
   pub done_within : FitEntries done
@@ -80,12 +84,15 @@ pub record IsWrittenTo (form : Form) (is_object : Bool) (before out : List ℕ) 
   pub left_within : FitEntries es
   pub left_are : AreOfEach form ts es
   pub closes : (xs : List EntryParts) → FitEntries xs → AreOfEach form (made ++ stripped is_object ts) xs
-      → IsContent (number_reader form) target container_entry (front ++ (words_of_entries xs ++ (keys ++ contents_of_entries xs)))
-  pub short : length front + length (words_of_entries done) + length (words_of_entries (staying is_object es)) + length keys + length
+      → IsContent (number_reader form) target container_entry
+      (front ++ (words_of_entries xs ++ (keys ++ contents_of_entries xs)))
+  pub short : length front + length (words_of_entries done) + length (words_of_entries (staying is_object es))
+      + length keys + length
       (contents_of_entries done) + length (contents_of_entries es) ≤ most
 
 -- the same, where the words and the contents of the entries that are left are these
-pub record IsOpen (form : Form) (is_object : Bool) (before out : List ℕ) (start word : ℕ) (words contents : List ℕ) (target : Tree) (most : ℕ) : Type 0 where
+pub record IsOpen (form : Form) (is_object : Bool) (before out : List ℕ) (start word : ℕ) (words contents : List ℕ)
+    (target : Tree) (most : ℕ) : Type 0 where
   pub entries : List EntryParts
   pub trees : List Tree
   pub words_are : words ≡ words_of_entries entries
@@ -94,4 +101,5 @@ pub record IsOpen (form : Form) (is_object : Bool) (before out : List ℕ) (star
 
 -- the container of a tree is begun behind what was there
 abbrev pub Begins : Form → Tree → List ℕ → List ℕ → List ℕ → Writing → Type 0
-Begins form t container before out w = IsOpen form w.is_object before out w.start w.word w.words.now w.contents.now (strip t) (length container)
+Begins form t container before out w =
+    IsOpen form w.is_object before out w.start w.word w.words.now w.contents.now (strip t) (length container)

@@ -1,0 +1,17 @@
+-- The units of texts, as the code has them.
+use Rattle.std.specs.Prelude.{ℕ, Bool, List, [], ◌∷◌, encode_utf8}
+use Rattle.jsonb_keypath.specs.declared.token.text.Ending.{Ending}
+use Rattle.jsonb_keypath.specs.declared.token.text.Ending.TheVariants.{Stop, Quote}
+use Rattle.jsonb_keypath.specs.declared.token.text.Unit.{Unit as TextUnit}
+use Rattle.jsonb_keypath.specs.declared.token.text.Unit.TheVariants.{Byte, Escape}
+use Rattle.jsonb_keypath.specs.Tokens.{is_stop, is_quote}
+
+-- the bytes that may not stand in the text
+abbrev pub excluded : Ending → ℕ → Bool
+excluded Stop = is_stop
+excluded Quote = is_quote
+
+-- the bytes that the unit stands for
+abbrev pub unit_bytes : TextUnit → List ℕ
+unit_bytes (Byte b) = b ∷ []
+unit_bytes (Escape c) = encode_utf8 c
