@@ -1,13 +1,23 @@
 -- Frames that grow and shrink at their inner end.
-use Rattle.std.proofs.Common.{◌≡◌, ◌+◌, List, [], ◌∷◌, ◌++◌, Bool, true, false, refl, sym, ap, ◌∙◌, arith, inl, inr}
+use Rattle.std.proofs.Common.{◌≡◌, ◌+◌, ◌<◌, List, [], ◌∷◌, ◌++◌, Bool, true, false, refl, sym, ap, ◌∙◌, append_assoc, arith, inl, inr}
 use Rattle.std.specs.Prelude.{◌||◌}
+use Rattle.std.specs.Slice.Iter.{iter_rest}
+use Rattle.std.proofs.lemmas.List.{append-nil, map-append}
 use Rattle.jsonb_doc.specs.declared.error.Error.{Error}
-use Rattle.jsonb.specs.PathDocuments.{expression_has_document, IsOwningError}
-use Rattle.jsonb.specs.PathTree.{Expression}
-use Rattle.jsonb.specs.PathViews.{expression_view}
-use Rattle.jsonb.specs.Private.Copying.{around, framed, frame_waiting, waiting, frame_has_document, have_document}
+use Rattle.jsonb.specs.PathDocuments.{step_has_document, expression_has_document, has_document, IsOwningError}
+use Rattle.jsonb.specs.PathTree.{Step, Expression, steps_of}
+use Rattle.jsonb.specs.PathViews.{step_view, steps_view, expression_view}
+use Rattle.jsonb.specs.Private.Copying.{listed, held, around, framed, frame_waiting, waiting, frame_has_document, have_document}
+use Rattle.jsonb.specs.Private.Parts.{step_parts, expression_parts}
+use Rattle.jsonb.specs.declared.path.Path.{Path}
 use Rattle.jsonb.specs.declared.path.copying.Frame.{Frame}
 use Rattle.jsonb.specs.declared.path.copying.Frame.TheVariants as frame
+use Rattle.jsonb.specs.declared.path.copying.Holder.{Holder}
+use Rattle.jsonb.specs.declared.path.copying.Holder.TheVariants as holder
+use Rattle.jsonb.specs.declared.path.copying.StepsKind.{StepsKind}
+use Rattle.jsonb.specs.declared.path.copying.StepsKind.TheVariants as kind
+use Rattle.jsonb.proofs.PartLemmas.{row_parts, some_step_parts}
+use Rattle.jsonb.proofs.DocumentLemmas.{has_document-append}
 
 pub framed-push : (fs : List Frame) (f : Frame) (e : Expression) → framed (fs ++ f ∷ []) e ≡ framed fs (around f e)
 framed-push [] f e = refl
@@ -49,13 +59,72 @@ pub not_second : (a b : Bool) → a || b ≡ false → b ≡ false
 not_second true b h = absurd (cc)
 not_second false b h = h
 
+-- ---- steps, the first ones copied
+
+pub held-document : (h : Holder) (e : Expression) → step_has_document (held h e) ≡ expression_has_document e
+held-document holder.Filter e = refl
+held-document holder.Whole e = refl
+
+-- one more copy
+pub clean_more : (copies more : List Path) (copy : Path) → more ≡ copies ++ copy ∷ [] → step_has_document (step_view copy) ≡ false
+    → has_document (steps_view copies) ≡ false → has_document (steps_view more) ≡ false
+clean_more copies more copy is clean before = ap (λ l. has_document (steps_view l)) is
+    ∙ ap has_document (map-append step_view copies (copy ∷ [])) ∙ has_document-append (steps_view copies) (step_view copy ∷ [])
+    ∙ none_of_both _ _ before (or_false (step_has_document (step_view copy)) ∙ clean)
+
+-- a copy goes from the rest to the copies
+pub copies_more : (copies more : List Path) (copy : Path) (rest : List Step) → more ≡ copies ++ copy ∷ []
+    → steps_view more ++ rest ≡ steps_view copies ++ step_view copy ∷ rest
+copies_more copies more copy rest is = ap (λ l. steps_view l ++ rest) is
+    ∙ ap (λ l. l ++ rest) (map-append step_view copies (copy ∷ []))
+    ∙ append_assoc (steps_view copies) (step_view copy ∷ []) rest
+
 -- ---- a document inside is one of the whole
+
+held-parts : (h : Holder) (e : Expression) → step_parts (held h e) ≡ 1 + expression_parts e
+held-parts holder.Filter e = refl
+held-parts holder.Whole e = refl
+
+pub step_more : (copies more : List Path) (copy : Path) (left behind : List Path) (s : Path) → more ≡ copies ++ copy ∷ [] → step_view copy ≡ step_view s
+    → left ≡ s ∷ behind → steps_view more ++ steps_view behind ≡ steps_view copies ++ steps_view left
+step_more copies more copy left behind s is same front = copies_more copies more copy (steps_view behind) is
+    ∙ ap (λ x. steps_view copies ++ x ∷ steps_view behind) same ∙ sym (ap (λ l. steps_view copies ++ steps_view l) front)
+
+-- the next step holds an expression
+pub step_held : (copies left behind : List Path) (s : Path) (h : Holder) (e : Expression) → held h e ≡ step_view s → left ≡ s ∷ behind
+    → steps_view copies ++ held h e ∷ steps_view behind ≡ steps_view copies ++ steps_view left
+step_held copies left behind s h e same front =
+    ap (λ x. steps_view copies ++ x ∷ steps_view behind) same ∙ sym (ap (λ l. steps_view copies ++ steps_view l) front)
+
+pub step_held-parts : (left behind : List Path) (s : Path) (h : Holder) (e : Expression) → held h e ≡ step_view s → left ≡ s ∷ behind
+    → row_parts left ≡ 1 + expression_parts e + row_parts behind
+step_held-parts left behind s h e same front =
+    let all = ap row_parts front in
+    let this = ap step_parts same in
+    let inner = held-parts h e in
+    omega arith
+
+pub step_fewer : (left behind : List Path) (s : Path) → left ≡ s ∷ behind → row_parts behind < row_parts left
+step_fewer left behind s front = let all = ap row_parts front in let some = some_step_parts (step_view s) in omega arith
+
+pub none_left_view : (copies left : List Path) → left ≡ [] → steps_view copies ≡ steps_view copies ++ steps_view left
+none_left_view copies left none = sym (append-nil (steps_view copies)) ∙ sym (ap (λ l. steps_view copies ++ steps_view l) none)
+
+among-document : (ss ts : List Step) (s : Step) → step_has_document s ≡ true → has_document (ss ++ s ∷ ts) ≡ true
+among-document ss ts s h = has_document-append ss (s ∷ ts) ∙ ap (λ b. has_document ss || (b || has_document ts)) h ∙ or_true (has_document ss)
+
+steps-document : (k : StepsKind) (ss ts : List Step) (s : Step) → step_has_document s ≡ true
+    → expression_has_document (listed k (steps_of (ss ++ s ∷ ts))) ≡ true
+steps-document kind.Paths ss ts s h = among-document ss ts s h
+steps-document kind.Exists ss ts s h = among-document ss ts s h
 
 around-document : (f : Frame) (e : Expression) → expression_has_document e ≡ true → expression_has_document (around f e) ≡ true
 around-document (frame.Right op right) e h = ap (λ b. b || expression_has_document (expression_view right.now)) h
 around-document (frame.Left op left) e h =
     ap (λ b. expression_has_document (expression_view left.value) || b) h ∙ or_true (expression_has_document (expression_view left.value))
 around-document (frame.Sign op) e h = h
+around-document (frame.Held h s) e some =
+    steps-document s.kind (steps_view s.copies.items) (steps_view (iter_rest s.rest)) (held h e) (held-document h e ∙ some)
 
 framed-document : (fs : List Frame) (e : Expression) → expression_has_document e ≡ true → expression_has_document (framed fs e) ≡ true
 framed-document [] e h = h

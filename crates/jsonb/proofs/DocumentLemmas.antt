@@ -52,7 +52,7 @@ or_true : (a : Bool) → a || true ≡ true
 or_true true = refl
 or_true false = refl
 
-has_document-append : (ss ts : List Step) → has_document (ss ++ ts) ≡ has_document ss || has_document ts
+pub has_document-append : (ss ts : List Step) → has_document (ss ++ ts) ≡ has_document ss || has_document ts
 has_document-append [] ts = refl
 has_document-append (s ∷ ss) ts = ap (λ b. step_has_document s || b) (has_document-append ss ts)
     ∙ or_assoc (step_has_document s) (has_document ss) (has_document ts)

@@ -25,7 +25,9 @@ pub mod BelowLemmas
 pub mod PathNodes
 pub mod StepLemmas
 pub mod MemberLemmas
+pub mod ExistsLemmas
 pub mod KeptLemmas
+pub mod ComparedLemmas
 pub mod TermLemmas
 pub mod CalculateLemmas
 pub mod ReadMeans

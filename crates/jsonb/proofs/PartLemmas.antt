@@ -2,36 +2,16 @@
 use Rattle.std.proofs.Common.{◌≡◌, ℕ, zero, suc, true, ◌+◌, ◌*◌, ◌<◌, ◌≤◌, List, [], ◌∷◌, ◌++◌, Option, None, Some, IfSome, length, get_or, take, drop, Vec, Box, Global, refl, ap, arith}
 use Rattle.std.proofs.Math.Seq.{drop-cons}
 use Rattle.std.proofs.lemmas.List.{take-append-drop}
-use Rattle.std.proofs.lemmas.Nat.{mul-le}
 use Rattle.jsonb.specs.PathTree.{Step, filter, whole_expression, Expression, paths, value, binary, unary, exists, steps_of}
 use Rattle.jsonb.specs.PathViews.{step_view, steps_view}
 use Rattle.jsonb.specs.Private.Chain.{is_pair, left_of, below}
-use Rattle.jsonb.specs.Private.Parts.{step_parts, steps_parts, expression_parts, parts, to_release, remaining}
+use Rattle.jsonb.specs.Private.Parts.{step_parts, steps_parts, expression_parts, parts, remaining}
 use Rattle.jsonb.specs.declared.path.BinaryOperator.{BinaryOperator}
 use Rattle.jsonb.specs.declared.path.Expr.{Expr}
 use Rattle.jsonb.specs.declared.path.Expr.TheVariants as expr
 use Rattle.jsonb.specs.declared.path.Path.{Path}
 use Rattle.jsonb.specs.declared.path.release.Remaining.{Remaining}
 use Rattle.jsonb.proofs.PathNodes.{paths_is, binary_is}
-
--- ---- the measure
-
-square_more : (a : ℕ) → (a + 1) * (a + 1) ≡ a * a + a + a + 1
-square_more a = grind arith
-
-pub fewer_parts : (n w n' w' : ℕ) → n' + w' < n + w → to_release n' w' < to_release n w
-unfolding to_release
-fewer_parts n w n' w' less =
-    let squares = mul-le (n' + w' + 1) (n' + w' + 1) (n + w) (n + w) (omega arith) (omega arith) in
-    let more = square_more (n' + w') in
-    omega arith
-
-pub fewer_in_front : (n w n' w' : ℕ) → n' + w' ≡ n + w → n' < n → to_release n' w' < to_release n w
-unfolding to_release
-fewer_in_front n w n' w' same less = rw same (omega arith)
-
-pub as_many_parts : (n m w x : ℕ) → n ≡ m → x < to_release n w → x < to_release m w
-as_many_parts n m w x same less = rw (← same) less
 
 -- ---- no part is nothing
 

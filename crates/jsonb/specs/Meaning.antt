@@ -47,7 +47,8 @@ abbrev mutual
   -- one step after the other, each of all the items
   pub steps_meaning : Mode → Steps → Tree → List Tree → Outcome (List Tree)
   steps_meaning mode no_steps top items = Ok items
-  steps_meaning mode (step s rest) top items = and_then (try_flat_map (step_meaning mode s top) items) (steps_meaning mode rest top)
+  steps_meaning mode (step s rest) top items =
+      and_then (try_flat_map (step_meaning mode s top) items) (steps_meaning mode rest top)
 
   -- the values of an operand
   pub operand_values : Mode → Expression → Tree → Tree → Outcome (List Value)
@@ -58,8 +59,10 @@ abbrev mutual
 
   -- whether an expression is true of an item
   pub truth : Mode → Expression → Tree → Tree → Outcome Truth
-  truth mode (binary and_op l r) top item = and_then (truth mode l top item) (λ a. and_then (truth mode r top item) (λ b. Ok (and_truth a b)))
-  truth mode (binary or_op l r) top item = and_then (truth mode l top item) (λ a. and_then (truth mode r top item) (λ b. Ok (or_truth a b)))
+  truth mode (binary and_op l r) top item =
+      and_then (truth mode l top item) (λ a. and_then (truth mode r top item) (λ b. Ok (and_truth a b)))
+  truth mode (binary or_op l r) top item =
+      and_then (truth mode l top item) (λ a. and_then (truth mode r top item) (λ b. Ok (or_truth a b)))
   -- arithmetic is unknown, its operands not looked at
   truth mode (binary add l r) top item = Ok None
   truth mode (binary subtract l r) top item = Ok None
@@ -68,7 +71,8 @@ abbrev mutual
   truth mode (binary modulo l r) top item = Ok None
   -- a comparison takes the values of both operands first
   truth mode (binary op l r) top item =
-      and_then (operand_values mode l top item) (λ ls. and_then (operand_values mode r top item) (λ rs. Ok (compare op ls rs)))
+      and_then (operand_values mode l top item)
+      (λ ls. and_then (operand_values mode r top item) (λ rs. Ok (compare op ls rs)))
   truth mode (exists steps) top item =
       and_then (steps_meaning mode steps top (start steps top item ∷ [])) (λ ts. Ok (Some (is_some_item ts)))
   truth mode _ top item = Err InvalidJsonPath
@@ -89,7 +93,8 @@ calculation op left right = and_then left (λ ls. and_then right (λ rs. two_num
 
 -- a number where the operator is one of arithmetic, else a truth
 abbrev pub binary_meaning : Mode → Option Operation → BinaryOp → Expression → Expression → Tree → Outcome (List Tree)
-binary_meaning mode (Some arithmetic) op l r top = calculation arithmetic (operand_values mode l top top) (operand_values mode r top top)
+binary_meaning mode (Some arithmetic) op l r top =
+    calculation arithmetic (operand_values mode l top top) (operand_values mode r top top)
 binary_meaning mode None op l r top = truth_list (truth mode (binary op l r) top top)
 
 -- an array of the literal; of a document as a literal `Means` says the list

@@ -12,7 +12,8 @@ abbrev pub AreEqualItems : Option Tree → Option Tree → Type 0
 AreEqualItems (Some t) (Some u) = IsEqual t u
 AreEqualItems _ _ = ⊥
 
--- Literals go by the items that they are: null, truth values, numbers by exact value, and texts by bytes. A document equals none, not even itself.
+-- Literals go by the items that they are: null, truth values, numbers by exact value, and texts by bytes. A document
+-- equals none, not even itself.
 abbrev pub SameLiteral : Literal → Literal → Type 0
 SameLiteral l m = AreEqualItems (literal_item l) (literal_item m)
 
@@ -31,7 +32,8 @@ abbrev mutual
   pub SameExpression : Expression → Expression → Type 0
   SameExpression (paths ss) (paths ts) = SameSteps ss ts
   SameExpression (value l) (value m) = SameLiteral l m
-  SameExpression (binary op left right) (binary op' left' right') = (op ≡ op') × SameExpression left left' × SameExpression right right'
+  SameExpression (binary op left right) (binary op' left' right') =
+      (op ≡ op') × SameExpression left left' × SameExpression right right'
   SameExpression (unary op e) (unary op' f) = (op ≡ op') × SameExpression e f
   SameExpression (exists ss) (exists ts) = SameSteps ss ts
   SameExpression _ _ = ⊥

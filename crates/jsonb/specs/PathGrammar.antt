@@ -8,7 +8,9 @@ use Rattle.jsonb.specs.PathTree.{Place, from_front, from_last, Entry, single, sl
 
 -- these letters, each in any case
 abbrev pub in_any_case : List ℕ → Rule (Unit {0})
-in_any_case text = λ input. if str_eq_ignore_ascii_case (take (length text) input) text then Some (tt, drop (length text) input) else None
+in_any_case text =
+    λ input.
+    if str_eq_ignore_ascii_case (take (length text) input) text then Some (tt, drop (length text) input) else None
 
 abbrev pub word : String → Rule (Unit {0})
 word text = in_any_case (codes text)
@@ -125,7 +127,9 @@ wildcard =
       give bracket_wildcard)
 
 unfoldable pub named_field : Rule Step
-named_field = (literal ":" >> field >>= λ text. give (colon_field text)) </> (literal "." >> field >>= λ text. give (dot_field text))
+named_field =
+    (literal ":" >> field >>= λ text. give (colon_field text))
+    </> (literal "." >> field >>= λ text. give (dot_field text))
 
 unfoldable pub bracket_field : Rule Step
 bracket_field = do
@@ -164,7 +168,8 @@ operand_steps is_in_filter = do
   give (first ∷ others)
 
 unfoldable pub operand : Bool → Rule Expression
-operand is_in_filter = (operand_steps is_in_filter >>= λ steps. give (paths (steps_of steps))) </> (literal_value >>= λ l. give (value l))
+operand is_in_filter =
+    (operand_steps is_in_filter >>= λ steps. give (paths (steps_of steps))) </> (literal_value >>= λ l. give (value l))
 
 unfoldable pub spaced_operand : Bool → Rule Expression
 spaced_operand is_in_filter = spaced (operand is_in_filter)
@@ -258,21 +263,24 @@ module _ (nested : Bool → Rule Expression) where
     give (exists (steps_of steps))
 
   unfoldable pub atom_with : Bool → Rule Expression
-  atom_with is_in_filter = unary_atom is_in_filter </> binary_atom is_in_filter </> group_with is_in_filter </> exists_with
+  atom_with is_in_filter =
+      unary_atom is_in_filter </> binary_atom is_in_filter </> group_with is_in_filter </> exists_with
 
   -- `&&`, and the part behind it
   abbrev pub another_atom : Bool → Rule Expression
   another_atom is_in_filter = spaced (literal "&&") >> atom_with is_in_filter
 
   unfoldable pub and_with : Bool → Rule Expression
-  and_with is_in_filter = list_of (atom_with is_in_filter) (spaced (literal "&&")) >>= λ members. give (joined_by and_op members)
+  and_with is_in_filter =
+      list_of (atom_with is_in_filter) (spaced (literal "&&")) >>= λ members. give (joined_by and_op members)
 
   -- `||`, and the part behind it
   abbrev pub another_and : Bool → Rule Expression
   another_and is_in_filter = spaced (literal "||") >> and_with is_in_filter
 
   unfoldable pub or_with : Bool → Rule Expression
-  or_with is_in_filter = list_of (and_with is_in_filter) (spaced (literal "||")) >>= λ members. give (joined_by or_op members)
+  or_with is_in_filter =
+      list_of (and_with is_in_filter) (spaced (literal "||")) >>= λ members. give (joined_by or_op members)
 
 -- An expression with at most so many parentheses within one another. The length of the input is bound enough.
 unfoldable pub nested_or : ℕ → Bool → Rule Expression

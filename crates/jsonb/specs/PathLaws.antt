@@ -35,7 +35,8 @@ SameButVariants p q = map settled_step p ≡ map settled_step q
 abbrev pub ReadsBack : List Step → Type 0
 ReadsBack p = (q : List Step) × (json_path (path_text p) ≡ Some q) × SameButVariants p q
 
--- The rules for expressions and for steps hold with no bound on parentheses: what stands inside them is read by the same rules.
+-- The rules for expressions and for steps hold with no bound on parentheses: what stands inside them is read by the
+-- same rules.
 abbrev pub RulesHold : List ℕ → Type 0
 RulesHold input = ((is_in_filter : Bool) → expression is_in_filter input ≡ or_with expression is_in_filter input) ×
     (path_step input ≡ path_with expression input)

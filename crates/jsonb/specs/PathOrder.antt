@@ -1,4 +1,5 @@
--- How two literals of a path compare. Literals of two kinds do not compare, and a document compares with none, not even with itself.
+-- How two literals of a path compare. Literals of two kinds do not compare, and a document compares with none, not even
+-- with itself.
 use Rattle.std.specs.Prelude.{Bool, Option, Some, None}
 use Rattle.std.specs.declared.cmp.Ordering.{Ordering}
 use Rattle.std.specs.declared.cmp.Ordering.TheVariants.{Equal}

@@ -122,7 +122,8 @@ abbrev mutual
   expression_text (paths steps) = steps_text steps
   expression_text (value l) = literal_text l
   expression_text (binary op left right) =
-      side_text left (expression_text left) ++ codes " " ++ operator_text op ++ codes " " ++ side_text right (expression_text right)
+      side_text left (expression_text left) ++ codes " " ++ operator_text op ++ codes " "
+      ++ side_text right (expression_text right)
   expression_text (unary op operand) = sign_text op ++ expression_text operand
   expression_text (exists steps) = codes "exists(" ++ steps_text steps ++ codes ")"
 

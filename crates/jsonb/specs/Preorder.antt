@@ -16,8 +16,10 @@ own levels n t = if (answer_at levels n).0 then t ∷ [] else []
 -- the items from this one down, each before its children
 abbrev mutual
   pub preorder : Option Levels → ℕ → Tree → List Tree
-  preorder levels n (array ts) = own levels n (array ts) ++ (if (answer_at levels n).1 then preorder_elements levels (n + 1) ts else [])
-  preorder levels n (object ps) = own levels n (object ps) ++ (if (answer_at levels n).1 then preorder_values levels (n + 1) ps else [])
+  preorder levels n (array ts) =
+      own levels n (array ts) ++ (if (answer_at levels n).1 then preorder_elements levels (n + 1) ts else [])
+  preorder levels n (object ps) =
+      own levels n (object ps) ++ (if (answer_at levels n).1 then preorder_values levels (n + 1) ps else [])
   preorder levels n t = own levels n t
 
   pub preorder_elements : Option Levels → ℕ → Trees → List Tree

@@ -10,3 +10,5 @@ pub mod Chain
 pub mod Copying
 pub mod ChainText
 pub mod Members
+pub mod Compared
+pub mod Exists

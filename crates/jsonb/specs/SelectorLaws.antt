@@ -17,7 +17,9 @@ use Rattle.jsonb.specs.declared.selector.document.Mode.TheVariants.{Lax, Strict}
 
 -- where the strict meaning is a list, the lax meaning is the same list
 abbrev pub StrictImpliesLax : Type 0
-StrictImpliesLax = (form : Form) (path : List Step) (top : Tree) (ts : List Tree) → Means form Strict path top (Ok ts) → Means form Lax path top (Ok ts)
+StrictImpliesLax =
+    (form : Form) (path : List Step) (top : Tree) (ts : List Tree) → Means form Strict path top (Ok ts)
+    → Means form Lax path top (Ok ts)
 
 -- the same refusal, or lists that are equal by value member by member
 abbrev pub SameByValue : Outcome (List Tree) → Outcome (List Tree) → Type 0
@@ -27,7 +29,9 @@ SameByValue _ _ = ⊥
 
 -- the paths mean the same on every tree, and say the same as predicates
 abbrev pub MeanTheSame : List Step → List Step → Type 0
-MeanTheSame p q = (mode : Mode) (top : Tree) → SameByValue (meaning mode p top) (meaning mode q top) × (predicate mode p top ≡ predicate mode q top)
+MeanTheSame p q =
+    (mode : Mode) (top : Tree) → SameByValue (meaning mode p top) (meaning mode q top)
+    × (predicate mode p top ≡ predicate mode q top)
 
 -- so do paths that differ at most in which variant holds a whole number
 abbrev pub VariantsChangeNoMeaning : Type 0
@@ -39,4 +43,5 @@ PrintsWithMeaning p = (q : List Step) × (json_path (path_text p) ≡ Some q) ×
 
 -- the listed positions of an entry are those that it means
 abbrev pub PositionsAreMeant : Type 0
-PositionsAreMeant = (entry : Entry) (length k : ℕ) → k < length → (is_meant length entry k ≡ true) ↔ IsPosition entry length k
+PositionsAreMeant =
+    (entry : Entry) (length k : ℕ) → k < length → (is_meant length entry k ≡ true) ↔ IsPosition entry length k

@@ -23,8 +23,8 @@ mod release;
 /// A JSON path: the steps that a selection takes one after the other, from the root on.
 ///
 /// It prints so that it reads back, where it was read from a text. Two are equal where they have the same steps, part
-/// by part, and literals that are equal by value. docs/DECISIONS.md, "Stack", says which of copying, comparing,
-/// printing and letting go nest as deep as its filters and conditions.
+/// by part, and literals that are equal by value. Comparing and printing nest as deep as its filters and its right
+/// sides: docs/DECISIONS.md, "Stack", says where.
 #[derive(PartialEq, Drop)]
 pub struct JsonPath<'a> {
     /// The steps, the first one first.

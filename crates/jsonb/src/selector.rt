@@ -9,7 +9,7 @@ ghost use Rattle.jsonb_doc.specs.Tree.{Tree};
 ghost use Rattle.jsonb.specs.Meaning.{is_some_item};
 ghost use Rattle.jsonb_doc.specs.Format.{Decodes};
 ghost use Rattle.jsonb_doc.specs.Answer.{IsDecodingError};
-ghost use Rattle.jsonb_doc.specs.Private.Containers.{HasReadableRoot};
+ghost use Rattle.jsonb_doc.specs.Readable.{HasReadableRoot};
 ghost use Rattle.jsonb.specs.Private.Selection.{AreSelected, HasTree};
 ghost use Rattle.jsonb.specs.declared.selector.document.Document.{Document};
 
@@ -17,9 +17,11 @@ mod atom;
 mod by_path;
 mod calculate;
 mod children;
+mod compared_items;
 mod compared_member;
 mod document;
 mod documents;
+mod exists;
 mod kept;
 mod levels;
 mod members;
@@ -72,21 +74,13 @@ pub struct Selector<'a> {
 }
 
 impl<'a> Selector<'a> {
-    ghost use Rattle.std.specs.Prelude.{◌≡◌, List, Ok, None, true, false, IfErr, OnOk};
-    ghost use Rattle.jsonb_doc.specs.Answer.{Gives, Outcome, IsOutOfMemory, ◌or◌when◌};
-    ghost use Rattle.jsonb_doc.specs.declared.error.Error.TheVariants.{TooLarge};
-    ghost use Rattle.jsonb_doc.specs.Payload.{Form};
-    ghost use Rattle.jsonb_doc.specs.Format.{Decodes};
-    ghost use Rattle.jsonb_doc.specs.Limits.{IsTooLarge};
-    ghost use Rattle.jsonb_doc.specs.Tree.{Tree};
+    ghost use Rattle.std.specs.Prelude.{◌≡◌, Ok, None, true, false, IfErr, OnOk};
     ghost use Rattle.jsonb_raw.specs.Documents.{raw_bytes};
     ghost use Rattle.jsonb.specs.PathTree.{is_predicate};
     ghost use Rattle.jsonb.specs.PathViews.{path_view};
-    ghost use Rattle.jsonb.specs.Meaning.{Means, is_some_item, predicate};
-    ghost use Rattle.jsonb.specs.Private.Selection.{HasTree};
     ghost use Rattle.jsonb.specs.SelectionErrors.{IsSelectionError, IsDocumentError};
-    ghost use Rattle.jsonb_doc.specs.Private.Containers.{HasReadableRoot};
-    ghost use Rattle.jsonb.specs.SelectorAnswers.{root_bytes, mode_of, AreDocuments, HasTooLarge, IsDocumentOf, IsPast, array_of, first_item, single_or_array};
+    ghost use Rattle.jsonb_doc.specs.Readable.{HasReadableRoot};
+    ghost use Rattle.jsonb.specs.SelectorAnswers.{root_bytes, mode_of, first_item, single_or_array, ByMeanings, AreAll, IsArrayOf, IsPicked, IsFound, IsTruthOf};
     ghost use Rattle.jsonb.specs.declared.selector.document.Mode.TheVariants.{Lax, Strict};
 
     /// A lax selector: a step that does not fit an item gives nothing of it, and `[*]` gives the item itself.
@@ -136,11 +130,7 @@ impl<'a> Selector<'a> {
     /// That of selecting, and each item is copied once.
     pub fn select_values(&mut self, path: &JsonPath<'_>) -> Result<Vec<OwnedJsonb>, Error>
         ensures kept { self.new ≡ self.old }
-        ensures values { (form : Form) (top : Tree) (outcome : Outcome (List Tree))
-            → Decodes form (root_bytes self.old) top
-            → Means form (mode_of self.old) (path_view path.now) top outcome
-            → Gives (λ v ts. AreDocuments form v.items ts)
-            (IsOutOfMemory or TooLarge when IsOkAnd outcome (HasTooLarge form)) result outcome }
+        ensures values { ByMeanings (mode_of self.old) (root_bytes self.old) (path_view path.now) AreAll result }
         ensures errors { IfErr result (IsDocumentError (mode_of self.old)) }
         ensures readable { OnOk result (HasReadableRoot (root_bytes self.old)) }
     {
@@ -161,11 +151,7 @@ impl<'a> Selector<'a> {
     /// That of selecting, and the items are copied.
     pub fn select_array(&mut self, path: &JsonPath<'_>) -> Result<OwnedJsonb, Error>
         ensures kept { self.new ≡ self.old }
-        ensures array { (form : Form) (top : Tree) (outcome : Outcome (List Tree))
-            → Decodes form (root_bytes self.old) top
-            → Means form (mode_of self.old) (path_view path.now) top outcome
-            → Gives (λ made ts. Decodes form made (array_of ts))
-            (IsOutOfMemory or TooLarge when IsOkAnd outcome (λ ts. IsTooLarge form (array_of ts))) result outcome }
+        ensures array { ByMeanings (mode_of self.old) (root_bytes self.old) (path_view path.now) IsArrayOf result }
         ensures errors { IfErr result (IsDocumentError (mode_of self.old)) }
         ensures readable { OnOk result (HasReadableRoot (root_bytes self.old)) }
     {
@@ -187,11 +173,8 @@ impl<'a> Selector<'a> {
     /// That of selecting, and the first item is copied.
     pub fn select_first(&mut self, path: &JsonPath<'_>) -> Result<Option<OwnedJsonb>, Error>
         ensures kept { self.new ≡ self.old }
-        ensures first { (form : Form) (top : Tree) (outcome : Outcome (List Tree))
-            → Decodes form (root_bytes self.old) top
-            → Means form (mode_of self.old) (path_view path.now) top outcome
-            → Gives (λ found ts. IsDocumentOf form found (first_item ts))
-            (IsOutOfMemory or TooLarge when IsOkAnd outcome (λ ts. IsPast form (first_item ts))) result outcome }
+        ensures first { ByMeanings (mode_of self.old) (root_bytes self.old) (path_view path.now)
+            (IsPicked first_item) result }
         ensures errors { IfErr result (IsDocumentError (mode_of self.old)) }
         ensures readable { OnOk result (HasReadableRoot (root_bytes self.old)) }
     {
@@ -212,11 +195,8 @@ impl<'a> Selector<'a> {
     /// That of selecting, and the items are copied.
     pub fn select_value(&mut self, path: &JsonPath<'_>) -> Result<Option<OwnedJsonb>, Error>
         ensures kept { self.new ≡ self.old }
-        ensures value { (form : Form) (top : Tree) (outcome : Outcome (List Tree))
-            → Decodes form (root_bytes self.old) top
-            → Means form (mode_of self.old) (path_view path.now) top outcome
-            → Gives (λ found ts. IsDocumentOf form found (single_or_array ts))
-            (IsOutOfMemory or TooLarge when IsOkAnd outcome (λ ts. IsPast form (single_or_array ts))) result outcome }
+        ensures value { ByMeanings (mode_of self.old) (root_bytes self.old) (path_view path.now)
+            (IsPicked single_or_array) result }
         ensures errors { IfErr result (IsDocumentError (mode_of self.old)) }
         ensures readable { OnOk result (HasReadableRoot (root_bytes self.old)) }
     {
@@ -238,10 +218,7 @@ impl<'a> Selector<'a> {
     /// That of selecting. Nothing is copied.
     pub fn exists(&mut self, path: &JsonPath<'_>) -> Result<bool, Error>
         ensures kept { self.new ≡ self.old }
-        ensures exists { (form : Form) (top : Tree) (outcome : Outcome (List Tree))
-            → Decodes form (root_bytes self.old) top
-            → Means form (mode_of self.old) (path_view path.now) top outcome
-            → Gives (λ b ts. b ≡ is_some_item ts) IsOutOfMemory result outcome }
+        ensures exists { ByMeanings (mode_of self.old) (root_bytes self.old) (path_view path.now) IsFound result }
         ensures errors { IfErr result (IsSelectionError (mode_of self.old)) }
         ensures readable { OnOk result (HasReadableRoot (root_bytes self.old)) }
     {
@@ -264,8 +241,7 @@ impl<'a> Selector<'a> {
     pub fn predicate_match(&mut self, path: &JsonPath<'_>) -> Result<Option<bool>, Error>
         ensures kept { self.new ≡ self.old }
         ensures other { is_predicate (path_view path.now) ≡ false → result ≡ Ok None }
-        ensures truth { (form : Form) (top : Tree) → Decodes form (root_bytes self.old) top
-            → Gives (λ b c. b ≡ c) IsOutOfMemory result (predicate (mode_of self.old) (path_view path.now) top) }
+        ensures truth { IsTruthOf (mode_of self.old) (path_view path.now) (root_bytes self.old) result }
         ensures errors { IfErr result (IsSelectionError (mode_of self.old)) }
         ensures readable { is_predicate (path_view path.now) ≡ true
             → OnOk result (HasReadableRoot (root_bytes self.old)) }

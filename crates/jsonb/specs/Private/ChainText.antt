@@ -1,4 +1,5 @@
--- The text of a chain of expressions in parts: what stands in front of it, its innermost expression, and its links from there on.
+-- The text of a chain of expressions in parts: what stands in front of it, its innermost expression, and its links from
+-- there on.
 use Rattle.std.specs.Prelude.{ℕ, zero, suc, List, [], ◌++◌, codes, if◌then◌else◌}
 use Rattle.jsonb.specs.PathText.{operator_text, is_joined, side_text, expression_text}
 use Rattle.jsonb.specs.PathTree.{Expression, binary}
@@ -19,7 +20,8 @@ fronts_text (suc n) e = front_text e ++ fronts_text n (left_of e)
 -- what stands behind the left side of a pair
 abbrev pub link_text : Expression → List ℕ
 link_text (binary op left right) =
-    parenthesis left (codes ")") ++ codes " " ++ operator_text op ++ codes " " ++ side_text right (expression_text right)
+    parenthesis left (codes ")") ++ codes " " ++ operator_text op ++ codes " "
+    ++ side_text right (expression_text right)
 link_text _ = []
 
 -- the outermost links, the inner ones first

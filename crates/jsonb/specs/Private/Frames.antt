@@ -36,7 +36,8 @@ abbrev pub joined_view : BinaryOp → Option Joined → Expression → Expressio
 joined_view op None e = e
 joined_view op (Some j) e = binary op (expression_view j.left.value) e
 
--- the members so far, the next one and those that still follow; where the next one fails, the list ends before its separator
+-- the members so far, the next one and those that still follow; where the next one fails, the list ends before its
+-- separator
 abbrev pub joined_behind : BinaryOp → Rule Expression → Option Joined → Parsed Expression → Parsed Expression
 joined_behind op another j (Some p) = joined_from op another (Some (joined_view op j p.0, p.1))
 joined_behind op another None None = None
@@ -102,12 +103,14 @@ exists_closed steps = option_and_then (λ (p : List Step × List ℕ). (do
 -- the steps so far, the next one and those that still follow; where the next one fails, the steps end before it
 abbrev pub steps_behind : List Step → List ℕ → Parsed Step → Parsed (List Step)
 steps_behind steps before None = Some (steps, before)
-steps_behind steps before (Some p) = parsed_map (λ others. (steps ++ p.0 ∷ []) ++ others) (repeat (path_with expression) p.1)
+steps_behind steps before (Some p) =
+    parsed_map (λ others. (steps ++ p.0 ∷ []) ++ others) (repeat (path_with expression) p.1)
 
 -- the atom, of the expression inside
 unfoldable pub opened_outcome : Opened → Parsed Expression → Parsed Expression
 opened_outcome opened.Group inside = closed inside
-opened_outcome (opened.Filter steps before) inside = exists_closed (steps_behind (steps_view steps.items) before.now (filter_step inside))
+opened_outcome (opened.Filter steps before) inside =
+    exists_closed (steps_behind (steps_view steps.items) before.now (filter_step inside))
 
 -- whether what stands inside is part of a filter
 abbrev pub goes_in_filter : Opened → Bool → Bool

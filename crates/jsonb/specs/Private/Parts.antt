@@ -1,7 +1,8 @@
 -- How many parts a path has, and how many steps letting go of an expression still takes.
-use Rattle.std.specs.Prelude.{ℕ, ◌+◌, ◌*◌, Option, None, Some}
+use Rattle.std.specs.Prelude.{ℕ, ◌+◌, Option, None, Some}
 use Rattle.std.specs.declared.alloc.Global.{Global}
 use Rattle.std.specs.declared.boxed.Box.{Box}
+use Rattle.jsonb_doc.specs.Private.Parts.{to_release}
 use Rattle.jsonb.specs.PathTree.{Step, filter, whole_expression, Steps, no_steps, step, Expression, paths, value, binary, unary, exists}
 use Rattle.jsonb.specs.PathViews.{expression_view}
 use Rattle.jsonb.specs.declared.path.Expr.{Expr}
@@ -32,9 +33,6 @@ abbrev pub waiting_parts : Option (Box Expr Global) → ℕ
 waiting_parts None = 0
 waiting_parts (Some b) = parts b.value
 
--- with so many parts in the expression and so many that wait: it falls with their sum, and where that stays, with the first
-unfoldable pub to_release : ℕ → ℕ → ℕ
-to_release next waiting = (next + waiting) * (next + waiting) + next
-
+-- how many steps letting go of what remains still takes, as of a value
 abbrev pub remaining : Remaining → ℕ
 remaining r = to_release (parts r.next) (waiting_parts r.waiting)

@@ -88,10 +88,12 @@ abbrev pub AreTermsOf : Expr → List CodeTerm → Type 0
 AreTermsOf e terms = (map term_view terms ≡ postorder (expression_view e)) × All (IsBelow (size-Expr e)) terms
 
 abbrev pub IsPairOf : Expr → Pair → Type 0
-IsPairOf e p = (expression_view e ≡ binary (joining_op p.join) (expression_view p.left.now) (expression_view p.right.now))
+IsPairOf e p =
+    (expression_view e ≡ binary (joining_op p.join) (expression_view p.left.now) (expression_view p.right.now))
     × (size-Expr p.left.now < size-Expr e) × (size-Expr p.right.now < size-Expr e)
 
--- the terms from the last to the first: those that are found, and those of the expressions that wait, the last one first
+-- the terms from the last to the first: those that are found, and those of the expressions that wait, the last one
+-- first
 abbrev pub order_left : List CodeTerm → List (Bor Expr) → List Term
 order_left terms waiting =
     map term_view terms ++ flat_map (λ (e : Bor Expr). reverse (postorder (expression_view e.now))) (reverse waiting)

@@ -1,11 +1,14 @@
 //! `clone`, which takes memory, and answers the same parts.
 
-ghost use Rattle.std.specs.Prelude.{◌≡◌, MatchResult};
+ghost use Rattle.std.specs.Prelude.{◌≡◌, ◌<◌, IfOk, MatchResult};
 ghost use Rattle.jsonb_doc.specs.Answer.{IsOutOfMemory};
 ghost use Rattle.jsonb.specs.PathViews.{literal_view, step_view, steps_view, expression_view, path_view};
-ghost use Rattle.jsonb.specs.Private.Copying.{leaf_view};
+ghost use Rattle.jsonb.specs.Private.Copying.{leaf_view, leaf_parts, so_far_view, so_far_parts, copied_view, copied_parts, step_copy_view};
 
-use super::copying::{Leaf, Next, Reached, first_leaf, put_in};
+use super::copying::{
+    Copied, Frame, Holder, Leaf, Progress, Reached, StepCopy, StepsSoFar, first_leaf, go_on,
+    holding, listed,
+};
 use super::{Expr, JsonPath, Path, PathValue};
 use jsonb_doc::Error;
 use std::alloc::Global;
@@ -38,27 +41,14 @@ impl<'a> Path<'a> {
     /// # Cost
     ///
     /// Linear in the step. Takes memory only for a list, an expression, or a name that does not borrow.
-    #[cycle(copy)]
     pub fn clone(&self, alloc: Global) -> Result<Path<'a>, Error>
         ensures { MatchResult result (λ copy. step_view copy ≡ step_view self.now) IsOutOfMemory }
     {
-        match self {
-            Path::Root => Ok(Path::Root),
-            Path::Current => Ok(Path::Current),
-            Path::DotWildcard => Ok(Path::DotWildcard),
-            Path::RecursiveDotWildcard(level) => Ok(Path::RecursiveDotWildcard(*level)),
-            Path::BracketWildcard => Ok(Path::BracketWildcard),
-            Path::DotField(name) => Ok(Path::DotField(name.clone()?)),
-            Path::ColonField(name) => Ok(Path::ColonField(name.clone()?)),
-            Path::ObjectField(name) => Ok(Path::ObjectField(name.clone()?)),
-            Path::ArrayIndices(indices) => Ok(Path::ArrayIndices(indices.to_vec(alloc)?)),
-            Path::FilterExpr(expression) => {
-                let copy = (**expression).clone(alloc)?;
-                Ok(Path::FilterExpr(Box::new(alloc, copy)?))
-            }
-            Path::Expr(expression) => {
-                let copy = (**expression).clone(alloc)?;
-                Ok(Path::Expr(Box::new(alloc, copy)?))
+        match copied_step(self, alloc)? {
+            StepCopy::Whole(copy) => Ok(copy),
+            StepCopy::Holding { holder, inner } => {
+                let copy = inner.clone(alloc)?;
+                Ok(holding(holder, Box::new(alloc, copy)?))
             }
         }
     }
@@ -74,17 +64,16 @@ impl<'a> Expr<'a> {
     /// # Cost
     ///
     /// Linear in the expression. Takes memory.
-    #[cycle(copy)]
     pub fn clone(&self, alloc: Global) -> Result<Expr<'a>, Error>
         ensures { MatchResult result (λ copy. expression_view copy ≡ expression_view self.now) IsOutOfMemory }
     {
-        let mut reached = first_leaf(self, Vec::new(alloc))?;
+        let mut reached = first_leaf(alloc, self, Vec::new(alloc))?;
         loop {
-            let Reached { leaf, mut frames } = reached;
-            let copy = copied_leaf(leaf, alloc)?;
-            match put_in(alloc, copy, &mut frames)? {
-                Next::Whole(whole) => return Ok(whole),
-                Next::Right(right) => reached = first_leaf(right, frames)?,
+            let Reached { leaf, frames } = reached;
+            let copied = copied_leaf(leaf, alloc)?;
+            match go_on(alloc, copied, frames)? {
+                Progress::Whole(whole) => return Ok(whole),
+                Progress::Leaf(next) => reached = next,
             }
         }
     }
@@ -113,22 +102,72 @@ impl<'a> PathValue<'a> {
     }
 }
 
-#[cycle(copy)]
-fn copied_leaf<'a>(leaf: Leaf<'_, 'a>, alloc: Global) -> Result<Expr<'a>, Error>
-    ensures { MatchResult result (λ copy. expression_view copy ≡ leaf_view leaf.entry) IsOutOfMemory }
+fn copied_leaf<'e, 'a>(leaf: Leaf<'e, 'a, 'a>, alloc: Global) -> Result<Copied<'e, 'a, 'a>, Error>
+    ensures whole { MatchResult result (λ copied. copied_view copied ≡ leaf_view leaf.entry) IsOutOfMemory }
+    ensures fewer { IfOk result (λ copied. copied_parts copied < leaf_parts leaf.entry) }
 {
     match leaf {
-        Leaf::Paths(steps) => Ok(Expr::Paths(copy_steps(steps, alloc)?)),
         Leaf::Value(literal) => {
             let copy = literal.clone(alloc)?;
-            Ok(Expr::Value(Box::new(alloc, copy)?))
+            Ok(Copied::Whole(Expr::Value(Box::new(alloc, copy)?)))
         }
-        Leaf::Exists(steps) => Ok(Expr::ExistsFunc(copy_steps(steps, alloc)?)),
+        Leaf::Steps(steps) => copied_steps(steps, alloc),
     }
 }
 
+// Copies the rest of the steps, up to one that holds an expression.
+fn copied_steps<'e, 'a>(
+    steps: StepsSoFar<'e, 'a, 'a>,
+    alloc: Global,
+) -> Result<Copied<'e, 'a, 'a>, Error>
+    ensures whole { MatchResult result (λ copied. copied_view copied ≡ so_far_view steps.entry) IsOutOfMemory }
+    ensures fewer { IfOk result (λ copied. copied_parts copied < so_far_parts steps.entry) }
+{
+    let StepsSoFar {
+        kind,
+        mut copies,
+        mut rest,
+    } = steps;
+    while let Some(step) = rest.next() {
+        match copied_step(step, alloc)? {
+            StepCopy::Whole(copy) => copies.push(copy)?,
+            StepCopy::Holding { holder, inner } => {
+                let steps = StepsSoFar { kind, copies, rest };
+                let frame = Frame::Held { holder, steps };
+                return Ok(Copied::Within { inner, frame });
+            }
+        }
+    }
+    Ok(Copied::Whole(listed(kind, copies)))
+}
+
+// The same step, but for an expression that it holds.
+fn copied_step<'e, 'a>(step: &'e Path<'a>, alloc: Global) -> Result<StepCopy<'e, 'a, 'a>, Error>
+    ensures { MatchResult result (λ copy. step_copy_view copy ≡ step_view step.now) IsOutOfMemory }
+{
+    let copy = match step {
+        Path::Root => Path::Root,
+        Path::Current => Path::Current,
+        Path::DotWildcard => Path::DotWildcard,
+        Path::RecursiveDotWildcard(level) => Path::RecursiveDotWildcard(*level),
+        Path::BracketWildcard => Path::BracketWildcard,
+        Path::DotField(name) => Path::DotField(name.clone()?),
+        Path::ColonField(name) => Path::ColonField(name.clone()?),
+        Path::ObjectField(name) => Path::ObjectField(name.clone()?),
+        Path::ArrayIndices(indices) => Path::ArrayIndices(indices.to_vec(alloc)?),
+        Path::FilterExpr(inner) => {
+            let holder = Holder::Filter;
+            return Ok(StepCopy::Holding { holder, inner });
+        }
+        Path::Expr(inner) => {
+            let holder = Holder::Whole;
+            return Ok(StepCopy::Holding { holder, inner });
+        }
+    };
+    Ok(StepCopy::Whole(copy))
+}
+
 // The same steps, one after the other.
-#[cycle(copy)]
 fn copy_steps<'a>(steps: &Vec<Path<'a>>, alloc: Global) -> Result<Vec<Path<'a>>, Error>
     ensures { MatchResult result (λ copies. steps_view copies.items ≡ steps_view steps.now.items) IsOutOfMemory }
 {

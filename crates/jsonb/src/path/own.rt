@@ -1,13 +1,16 @@
 //! `to_owned`: the same parts with texts of their own, which outlive the text that was read.
 
-ghost use Rattle.std.specs.Prelude.{◌≡◌, false, IfOk, IfErr, OnOk};
+ghost use Rattle.std.specs.Prelude.{◌≡◌, ◌<◌, false, IfOk, IfErr, OnOk};
 ghost use Rattle.std.specs.Cow.{cow_str_bytes};
 ghost use Rattle.jsonb_doc.specs.Answer.{IsOutOfMemory};
 ghost use Rattle.jsonb.specs.PathDocuments.{is_document, step_has_document, expression_has_document, has_document, IsOwningError};
-ghost use Rattle.jsonb.specs.Private.Copying.{leaf_view};
+ghost use Rattle.jsonb.specs.Private.Copying.{leaf_view, leaf_parts, leaf_has_document, so_far_view, so_far_parts, so_far_has_document, copied_view, copied_parts, copied_has_document, step_copy_view, step_copy_has_document};
 ghost use Rattle.jsonb.specs.PathViews.{literal_view, step_view, steps_view, expression_view, path_view};
 
-use super::copying::{Leaf, Next, Reached, first_leaf, put_in};
+use super::copying::{
+    Copied, Frame, Holder, Leaf, Progress, Reached, StepCopy, StepsSoFar, first_leaf, go_on,
+    holding, listed,
+};
 use super::{Expr, JsonPath, Path, PathValue};
 use jsonb_doc::Error;
 use std::alloc::Global;
@@ -44,29 +47,16 @@ impl Path<'_> {
     /// # Cost
     ///
     /// Linear in the step. Takes memory for names, lists and expressions.
-    #[cycle(own)]
     pub fn to_owned(&self, alloc: Global) -> Result<Path<'static>, Error>
         ensures copy { IfOk result (λ copy. step_view copy ≡ step_view self.now) }
         ensures whole { OnOk result (step_has_document (step_view self.now) ≡ false) }
         ensures errors { IfErr result (IsOwningError (step_has_document (step_view self.now))) }
     {
-        match self {
-            Path::Root => Ok(Path::Root),
-            Path::Current => Ok(Path::Current),
-            Path::DotWildcard => Ok(Path::DotWildcard),
-            Path::RecursiveDotWildcard(level) => Ok(Path::RecursiveDotWildcard(*level)),
-            Path::BracketWildcard => Ok(Path::BracketWildcard),
-            Path::DotField(name) => Ok(Path::DotField(owned_text(name, alloc)?)),
-            Path::ColonField(name) => Ok(Path::ColonField(owned_text(name, alloc)?)),
-            Path::ObjectField(name) => Ok(Path::ObjectField(owned_text(name, alloc)?)),
-            Path::ArrayIndices(indices) => Ok(Path::ArrayIndices(indices.to_vec(alloc)?)),
-            Path::FilterExpr(expression) => {
-                let copy = (**expression).to_owned(alloc)?;
-                Ok(Path::FilterExpr(Box::new(alloc, copy)?))
-            }
-            Path::Expr(expression) => {
-                let copy = (**expression).to_owned(alloc)?;
-                Ok(Path::Expr(Box::new(alloc, copy)?))
+        match owned_step(self, alloc)? {
+            StepCopy::Whole(copy) => Ok(copy),
+            StepCopy::Holding { holder, inner } => {
+                let copy = inner.to_owned(alloc)?;
+                Ok(holding(holder, Box::new(alloc, copy)?))
             }
         }
     }
@@ -82,19 +72,18 @@ impl Expr<'_> {
     /// # Cost
     ///
     /// Linear in the expression. Takes memory.
-    #[cycle(own)]
     pub fn to_owned(&self, alloc: Global) -> Result<Expr<'static>, Error>
         ensures copy { IfOk result (λ copy. expression_view copy ≡ expression_view self.now) }
         ensures whole { OnOk result (expression_has_document (expression_view self.now) ≡ false) }
         ensures errors { IfErr result (IsOwningError (expression_has_document (expression_view self.now))) }
     {
-        let mut reached = first_leaf(self, Vec::new(alloc))?;
+        let mut reached = first_leaf(alloc, self, Vec::new(alloc))?;
         loop {
-            let Reached { leaf, mut frames } = reached;
-            let copy = owned_leaf(leaf, alloc)?;
-            match put_in(alloc, copy, &mut frames)? {
-                Next::Whole(whole) => return Ok(whole),
-                Next::Right(right) => reached = first_leaf(right, frames)?,
+            let Reached { leaf, frames } = reached;
+            let copied = owned_leaf(leaf, alloc)?;
+            match go_on(alloc, copied, frames)? {
+                Progress::Whole(whole) => return Ok(whole),
+                Progress::Leaf(next) => reached = next,
             }
         }
     }
@@ -125,24 +114,83 @@ impl PathValue<'_> {
     }
 }
 
-#[cycle(own)]
-fn owned_leaf(leaf: Leaf<'_, '_>, alloc: Global) -> Result<Expr<'static>, Error>
-    ensures copy { IfOk result (λ copy. expression_view copy ≡ leaf_view leaf.entry) }
-    ensures whole { OnOk result (expression_has_document (leaf_view leaf.entry) ≡ false) }
+fn owned_leaf<'e, 'a>(
+    leaf: Leaf<'e, 'a, 'static>,
+    alloc: Global,
+) -> Result<Copied<'e, 'a, 'static>, Error>
+    ensures copy { IfOk result (λ copied. copied_view copied ≡ leaf_view leaf.entry) }
+    ensures fewer { IfOk result (λ copied. copied_parts copied < leaf_parts leaf.entry) }
+    ensures whole { leaf_has_document leaf.entry ≡ false
+        → IfOk result (λ copied. copied_has_document copied ≡ false) }
     ensures errors { IfErr result (IsOwningError (expression_has_document (leaf_view leaf.entry))) }
 {
     match leaf {
-        Leaf::Paths(steps) => Ok(Expr::Paths(owned_steps(steps, alloc)?)),
         Leaf::Value(literal) => {
             let copy = literal.to_owned(alloc)?;
-            Ok(Expr::Value(Box::new(alloc, copy)?))
+            Ok(Copied::Whole(Expr::Value(Box::new(alloc, copy)?)))
         }
-        Leaf::Exists(steps) => Ok(Expr::ExistsFunc(owned_steps(steps, alloc)?)),
+        Leaf::Steps(steps) => Ok(owned_rest(steps, alloc)?),
     }
 }
 
+// Copies the rest of the steps, up to one that holds an expression.
+fn owned_rest<'e, 'a>(
+    steps: StepsSoFar<'e, 'a, 'static>,
+    alloc: Global,
+) -> Result<Copied<'e, 'a, 'static>, Error>
+    ensures copy { IfOk result (λ copied. copied_view copied ≡ so_far_view steps.entry) }
+    ensures fewer { IfOk result (λ copied. copied_parts copied < so_far_parts steps.entry) }
+    ensures whole { so_far_has_document steps.entry ≡ false
+        → IfOk result (λ copied. copied_has_document copied ≡ false) }
+    ensures errors { IfErr result IsOutOfMemory }
+{
+    let StepsSoFar {
+        kind,
+        mut copies,
+        mut rest,
+    } = steps;
+    while let Some(step) = rest.next() {
+        match owned_step(step, alloc)? {
+            StepCopy::Whole(copy) => copies.push(copy)?,
+            StepCopy::Holding { holder, inner } => {
+                let steps = StepsSoFar { kind, copies, rest };
+                let frame = Frame::Held { holder, steps };
+                return Ok(Copied::Within { inner, frame });
+            }
+        }
+    }
+    Ok(Copied::Whole(listed(kind, copies)))
+}
+
+// The same step with texts of its own, but for an expression that it holds.
+fn owned_step<'e, 'a>(step: &'e Path<'a>, alloc: Global) -> Result<StepCopy<'e, 'a, 'static>, Error>
+    ensures copy { IfOk result (λ copy. step_copy_view copy ≡ step_view step.now) }
+    ensures whole { IfOk result (λ copy. step_copy_has_document copy ≡ false) }
+    ensures errors { IfErr result IsOutOfMemory }
+{
+    let copy = match step {
+        Path::Root => Path::Root,
+        Path::Current => Path::Current,
+        Path::DotWildcard => Path::DotWildcard,
+        Path::RecursiveDotWildcard(level) => Path::RecursiveDotWildcard(*level),
+        Path::BracketWildcard => Path::BracketWildcard,
+        Path::DotField(name) => Path::DotField(owned_text(name, alloc)?),
+        Path::ColonField(name) => Path::ColonField(owned_text(name, alloc)?),
+        Path::ObjectField(name) => Path::ObjectField(owned_text(name, alloc)?),
+        Path::ArrayIndices(indices) => Path::ArrayIndices(indices.to_vec(alloc)?),
+        Path::FilterExpr(inner) => {
+            let holder = Holder::Filter;
+            return Ok(StepCopy::Holding { holder, inner });
+        }
+        Path::Expr(inner) => {
+            let holder = Holder::Whole;
+            return Ok(StepCopy::Holding { holder, inner });
+        }
+    };
+    Ok(StepCopy::Whole(copy))
+}
+
 // The same steps, one after the other.
-#[cycle(own)]
 fn owned_steps(steps: &Vec<Path<'_>>, alloc: Global) -> Result<Vec<Path<'static>>, Error>
     ensures copy { IfOk result (λ copies. steps_view copies.items ≡ steps_view steps.now.items) }
     ensures whole { OnOk result (has_document (steps_view steps.now.items) ≡ false) }

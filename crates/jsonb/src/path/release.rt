@@ -5,7 +5,8 @@
 ghost use Rattle.std.specs.Prelude.{◌≡◌, ℕ, ◌+◌, ◌<◌, IfSome, vec_len, vec_capacity};
 ghost use Rattle.jsonb.specs.PathTree.{steps_of};
 ghost use Rattle.jsonb.specs.PathViews.{step_view, steps_view};
-ghost use Rattle.jsonb.specs.Private.Parts.{step_parts, steps_parts, parts, waiting_parts, to_release, remaining};
+ghost use Rattle.jsonb_doc.specs.Private.Parts.{to_release};
+ghost use Rattle.jsonb.specs.Private.Parts.{step_parts, steps_parts, parts, waiting_parts, remaining};
 
 use super::{BinaryOperator, Expr, Path};
 

@@ -5,13 +5,14 @@ ghost use Rattle.jsonb_doc.specs.Payload.{any};
 ghost use Rattle.jsonb_doc.specs.Tree.{Tree};
 ghost use Rattle.jsonb_doc.specs.Item.{StandsFor};
 ghost use Rattle.jsonb.specs.PathViews.{operator_view, literal_view};
+ghost use Rattle.jsonb_doc.specs.Private.Short.{short_value};
 ghost use Rattle.jsonb_doc.specs.View.{number_view};
 ghost use Rattle.jsonb.specs.Values.{number, value_of_item, literal_item, values_of_literal};
 ghost use Rattle.jsonb.specs.Compare.{compare, pair_truth, value_order, is_met_by, truth_of_order, starts_with_truth, and_truth, or_truth, is_raw};
 ghost use Rattle.jsonb.specs.Private.Selection.{atom_value, atoms_view, option_atoms};
 
 use crate::path::{BinaryOperator, PathValue};
-use jsonb_doc::{Item, Number};
+use jsonb_doc::{Item, Number, ShortNumber, digits_cmp};
 use std::alloc::Global;
 use std::cmp::Ordering;
 use std::slice;
@@ -137,6 +138,19 @@ pub(crate) fn compare_number(op: BinaryOperator, l: &Number, rs: &[Atom<'_>]) ->
     match rs {
         [Atom::Number(r)] => number_truth(op, l, r),
         _ => compare(op, slice::from_ref(&Atom::Number(*l)), rs),
+    }
+}
+
+/// A number that is stored in at most 64 bits, with a right value.
+#[inline(always)]
+pub(crate) fn short_number_truth(op: BinaryOperator, l: ShortNumber, r: &Atom<'_>) -> Option<bool>
+    ensures { result ≡ pair_truth (operator_view op) (number (short_value l)) (atom_value r.now) }
+{
+    match (op, r) {
+        (BinaryOperator::StartsWith, _) => None,
+        (_, Atom::Number(r)) => truth_of_order(op, Some(digits_cmp(l, r))),
+        (_, Atom::Raw) => None,
+        _ => truth_of_order(op, None),
     }
 }
 

@@ -1,19 +1,12 @@
 //! Paths on documents that are borrowed.
 
-ghost use Rattle.std.specs.Prelude.{◌≡◌, ℕ, true, false, List, None, Ok, IfErr, OnOk, IsOkAnd};
-ghost use Rattle.jsonb_doc.specs.Answer.{Outcome, Gives, IsOutOfMemory, ◌or◌when◌};
-ghost use Rattle.jsonb_doc.specs.declared.error.Error.TheVariants.{TooLarge};
-ghost use Rattle.jsonb_doc.specs.Format.{Decodes};
-ghost use Rattle.jsonb_doc.specs.Limits.{IsTooLarge};
-ghost use Rattle.jsonb_doc.specs.Payload.{Form};
-ghost use Rattle.jsonb_doc.specs.Tree.{Tree};
+ghost use Rattle.std.specs.Prelude.{◌≡◌, ℕ, true, false, List, None, Ok, IfErr, OnOk};
 ghost use Rattle.jsonb_raw.specs.Documents.{raw_bytes};
-ghost use Rattle.jsonb.specs.Meaning.{Means, is_some_item, predicate};
 ghost use Rattle.jsonb.specs.PathTree.{is_predicate};
 ghost use Rattle.jsonb.specs.PathViews.{path_view};
-ghost use Rattle.jsonb_doc.specs.Private.Containers.{HasReadableRoot};
+ghost use Rattle.jsonb_doc.specs.Readable.{HasReadableRoot};
 ghost use Rattle.jsonb.specs.SelectionErrors.{IsSelectionError, IsDocumentError};
-ghost use Rattle.jsonb.specs.SelectorAnswers.{AreDocuments, HasTooLarge, IsDocumentOf, IsPast, array_of, first_item, single_or_array};
+ghost use Rattle.jsonb.specs.SelectorAnswers.{first_item, single_or_array, ByMeanings, AreAll, IsArrayOf, IsPicked, IsFound, IsTruthOf};
 ghost use Rattle.jsonb.specs.declared.selector.document.Mode.TheVariants.{Lax};
 
 use crate::path::JsonPath;
@@ -37,11 +30,7 @@ pub trait SelectByPath<'a> {
     ///
     /// That of `Selector::select_values`.
     fn select_by_path(&self, alloc: Global, path: &JsonPath<'_>) -> Result<Vec<OwnedJsonb>, Error>
-        ensures values { (form : Form) (top : Tree) (outcome : Outcome (List Tree))
-            → Decodes form (document self.now) top
-            → Means form Lax (path_view path.now) top outcome
-            → Gives (λ v ts. AreDocuments form v.items ts)
-            (IsOutOfMemory or TooLarge when IsOkAnd outcome (HasTooLarge form)) result outcome }
+        ensures values { ByMeanings Lax (document self.now) (path_view path.now) AreAll result }
         ensures errors { IfErr result (IsDocumentError Lax) }
         ensures readable { OnOk result (HasReadableRoot (document self.now)) };
 
@@ -55,11 +44,7 @@ pub trait SelectByPath<'a> {
     ///
     /// That of `Selector::select_array`.
     fn select_array_by_path(&self, alloc: Global, path: &JsonPath<'_>) -> Result<OwnedJsonb, Error>
-        ensures array { (form : Form) (top : Tree) (outcome : Outcome (List Tree))
-            → Decodes form (document self.now) top
-            → Means form Lax (path_view path.now) top outcome
-            → Gives (λ made ts. Decodes form made (array_of ts))
-            (IsOutOfMemory or TooLarge when IsOkAnd outcome (λ ts. IsTooLarge form (array_of ts))) result outcome }
+        ensures array { ByMeanings Lax (document self.now) (path_view path.now) IsArrayOf result }
         ensures errors { IfErr result (IsDocumentError Lax) }
         ensures readable { OnOk result (HasReadableRoot (document self.now)) };
 
@@ -77,11 +62,7 @@ pub trait SelectByPath<'a> {
         alloc: Global,
         path: &JsonPath<'_>,
     ) -> Result<Option<OwnedJsonb>, Error>
-        ensures first { (form : Form) (top : Tree) (outcome : Outcome (List Tree))
-            → Decodes form (document self.now) top
-            → Means form Lax (path_view path.now) top outcome
-            → Gives (λ found ts. IsDocumentOf form found (first_item ts))
-            (IsOutOfMemory or TooLarge when IsOkAnd outcome (λ ts. IsPast form (first_item ts))) result outcome }
+        ensures first { ByMeanings Lax (document self.now) (path_view path.now) (IsPicked first_item) result }
         ensures errors { IfErr result (IsDocumentError Lax) }
         ensures readable { OnOk result (HasReadableRoot (document self.now)) };
 
@@ -99,11 +80,7 @@ pub trait SelectByPath<'a> {
         alloc: Global,
         path: &JsonPath<'_>,
     ) -> Result<Option<OwnedJsonb>, Error>
-        ensures value { (form : Form) (top : Tree) (outcome : Outcome (List Tree))
-            → Decodes form (document self.now) top
-            → Means form Lax (path_view path.now) top outcome
-            → Gives (λ found ts. IsDocumentOf form found (single_or_array ts))
-            (IsOutOfMemory or TooLarge when IsOkAnd outcome (λ ts. IsPast form (single_or_array ts))) result outcome }
+        ensures value { ByMeanings Lax (document self.now) (path_view path.now) (IsPicked single_or_array) result }
         ensures errors { IfErr result (IsDocumentError Lax) }
         ensures readable { OnOk result (HasReadableRoot (document self.now)) };
 
@@ -117,10 +94,7 @@ pub trait SelectByPath<'a> {
     ///
     /// That of `Selector::exists`.
     fn path_exists(&self, alloc: Global, path: &JsonPath<'_>) -> Result<bool, Error>
-        ensures exists { (form : Form) (top : Tree) (outcome : Outcome (List Tree))
-            → Decodes form (document self.now) top
-            → Means form Lax (path_view path.now) top outcome
-            → Gives (λ b ts. b ≡ is_some_item ts) IsOutOfMemory result outcome }
+        ensures exists { ByMeanings Lax (document self.now) (path_view path.now) IsFound result }
         ensures errors { IfErr result (IsSelectionError Lax) }
         ensures readable { OnOk result (HasReadableRoot (document self.now)) };
 
@@ -136,8 +110,7 @@ pub trait SelectByPath<'a> {
     /// That of `Selector::predicate_match`.
     fn path_match(&self, alloc: Global, path: &JsonPath<'_>) -> Result<Option<bool>, Error>
         ensures other { is_predicate (path_view path.now) ≡ false → result ≡ Ok None }
-        ensures truth { (form : Form) (top : Tree) → Decodes form (document self.now) top
-            → Gives (λ b c. b ≡ c) IsOutOfMemory result (predicate Lax (path_view path.now) top) }
+        ensures truth { IsTruthOf Lax (path_view path.now) (document self.now) result }
         ensures errors { IfErr result (IsSelectionError Lax) }
         ensures readable { is_predicate (path_view path.now) ≡ true
             → OnOk result (HasReadableRoot (document self.now)) };

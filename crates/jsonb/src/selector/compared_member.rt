@@ -49,7 +49,7 @@ pub(crate) fn member_truth(
 
 /// How the values of a member compare with others.
 #[inline(always)]
-fn compared(
+pub(crate) fn compared(
     alloc: Global,
     op: BinaryOperator,
     bytes: &[u8],

@@ -4,14 +4,14 @@ ghost use Rattle.std.specs.Prelude.{◌≡◌, ◌∷◌, List, Ok, Some, None, 
 ghost use Rattle.jsonb_doc.specs.Answer.{IsOutOfMemory};
 ghost use Rattle.jsonb_doc.specs.Tree.{Tree};
 ghost use Rattle.jsonb.specs.PathTree.{Expression, BinaryOp, binary, exists, steps_of};
-ghost use Rattle.jsonb.specs.PathViews.{expression_view, steps_view};
-ghost use Rattle.jsonb.specs.Meaning.{truth, operand_values};
-ghost use Rattle.jsonb.specs.Private.Selection.{atoms_view, begins_with_current};
-ghost use Rattle.jsonb.specs.Private.Kept.{AreKept, IsSame, kept_part, is_condition, is_fixed};
+ghost use Rattle.jsonb.specs.PathViews.{expression_view, operator_view, steps_view};
+ghost use Rattle.jsonb.specs.Meaning.{truth, operand_values, filtered};
+ghost use Rattle.jsonb.specs.Private.Selection.{atoms_view, begins_with_current, IsKept};
+ghost use Rattle.jsonb.specs.Private.Kept.{AreKept, IsSame, kept_part, is_condition, is_comparison, is_fixed};
 ghost use Rattle.jsonb.specs.declared.selector.document.Mode.{Mode};
 
 use super::atom::Atoms;
-use crate::path::{Expr, Path};
+use crate::path::{BinaryOperator, Expr, Path};
 use jsonb_doc::Error;
 use std::alloc::Global;
 
@@ -164,5 +164,39 @@ pub(crate) fn begins_with_current(steps: &[Path<'_>]) -> bool
     match steps.first() {
         Some(Path::Current) => true,
         _ => false,
+    }
+}
+
+/// Whether a filter keeps an item of which it says this.
+#[inline(always)]
+pub(crate) fn is_kept(truth: Option<bool>) -> bool
+    ensures { (t : Tree) → IsKept t result (filtered t truth) }
+{
+    match truth {
+        Some(keeps) => keeps,
+        None => false,
+    }
+}
+
+/// Whether the operator compares values.
+#[inline(always)]
+pub(crate) fn is_comparison(op: BinaryOperator) -> bool
+    ensures { result ≡ is_comparison (operator_view op) }
+{
+    match op {
+        BinaryOperator::Eq
+        | BinaryOperator::NotEq
+        | BinaryOperator::Lt
+        | BinaryOperator::Lte
+        | BinaryOperator::Gt
+        | BinaryOperator::Gte
+        | BinaryOperator::StartsWith => true,
+        BinaryOperator::And
+        | BinaryOperator::Or
+        | BinaryOperator::Add
+        | BinaryOperator::Subtract
+        | BinaryOperator::Multiply
+        | BinaryOperator::Divide
+        | BinaryOperator::Modulo => false,
     }
 }

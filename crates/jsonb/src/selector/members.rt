@@ -122,7 +122,7 @@ pub(crate) fn member_of(
 }
 
 /// The member that these steps name, from an item on.
-#[inline(always)]
+#[inline(never)]
 pub(crate) fn member(
     mode: Mode,
     steps: &[Path<'_>],

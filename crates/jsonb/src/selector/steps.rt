@@ -5,27 +5,30 @@ ghost use Rattle.jsonb_doc.specs.Answer.{Gives, try_flat_map, and_then, IsOutOfM
 ghost use Rattle.jsonb_doc.specs.Spots.{Locates};
 ghost use Rattle.jsonb_doc.specs.Tree.{Tree};
 ghost use Rattle.jsonb.specs.PathTree.{Expression, steps_of, filter};
-ghost use Rattle.jsonb.specs.PathViews.{step_view, steps_view, expression_view, operator_view};
+ghost use Rattle.jsonb.specs.PathViews.{step_view, steps_view, expression_view};
 ghost use Rattle.jsonb.specs.Related.{AllRelated};
-ghost use Rattle.jsonb.specs.Meaning.{step_meaning, steps_meaning, truth, operand_values, filtered};
-ghost use Rattle.jsonb.specs.Private.Selection.{IsAt, HasTree, node_spots, atoms_view, IsKept, taken_step, is_filter, IsPlain};
+ghost use Rattle.jsonb.specs.Meaning.{step_meaning, steps_meaning, truth, operand_values};
+ghost use Rattle.jsonb.specs.Private.Selection.{IsAt, HasTree, node_spots, atoms_view, taken_step, is_filter, IsPlain};
+ghost use Rattle.jsonb.specs.Private.Exists.{is_exists};
 ghost use Rattle.jsonb.specs.Private.Terms.{is_joined, AreTermsOf};
-ghost use Rattle.jsonb.specs.Private.Kept.{conditions, is_condition, is_comparison, IsSame, AreKept, IsKeptFor, kept_part};
+ghost use Rattle.jsonb.specs.Private.Kept.{conditions, is_condition, IsSame, AreKept, IsKeptFor, kept_part};
 ghost use Rattle.jsonb.specs.declared.path.Expr.{size-Expr};
 ghost use Rattle.jsonb.specs.declared.path.Path.{size-Path};
 ghost use Rattle.jsonb.specs.SelectionErrors.{IsSelectionError};
 
 use super::atom::{Atoms, compare, literal_atom};
 use super::children::{push_elements, push_field, push_if, push_positions, push_spot, push_values};
+use super::compared_items::{compared_items, member_compared};
 use super::compared_member::member_truth;
 use super::document::{Document, Expressions, Mode};
-use super::kept::{Kept, KeptPart, comparison_part, exists_part};
+use super::exists::innermost;
+use super::kept::{Kept, KeptPart, comparison_part, exists_part, is_comparison, is_kept};
 use super::levels::push_levels;
 use super::members::{are_members, first_item, is_member, member, member_of, member_steps};
 use super::node_list::NodeList;
 use super::terms::{Run, Term, is_joined, terms_of};
 use super::values::found_values;
-use crate::path::{BinaryOperator, Expr, Path};
+use crate::path::{Expr, Path};
 use jsonb_doc::{Error, Spot};
 use std::alloc::Global;
 
@@ -185,7 +188,10 @@ fn step_many<'a>(
     ensures errors { IfErr result (IsSelectionError mode) }
 {
     match filter_of(expressions, step) {
-        Some(e) => filter_many(alloc, mode, e, document, items),
+        Some(e) => match member_compared(e) {
+            Some(comparison) => compared_items(alloc, mode, comparison, document.bytes, items),
+            None => filter_many(alloc, mode, e, document, items),
+        },
         None => plain_steps(alloc, mode, step, document.bytes, items),
     }
 }
@@ -273,17 +279,6 @@ pub(crate) fn select_steps<'a>(
         items = step_list(alloc, mode, expressions, step, document, items)?;
     }
     Ok(items)
-}
-
-/// Whether a filter keeps an item of which it says this.
-#[inline(always)]
-fn is_kept(truth: Option<bool>) -> bool
-    ensures { (t : Tree) → IsKept t result (filtered t truth) }
-{
-    match truth {
-        Some(keeps) => keeps,
-        None => false,
-    }
 }
 
 /// Whether an expression is true of an item. None is for unknown.
@@ -401,29 +396,6 @@ fn single_truth<'a>(
         }
         Expr::ExistsFunc(_) => condition(alloc, mode, e, kept, document, item),
         Expr::Paths(_) | Expr::Value(_) | Expr::UnaryOp { .. } => Err(Error::InvalidJsonPath),
-    }
-}
-
-/// Whether the operator compares values.
-#[inline(always)]
-fn is_comparison(op: BinaryOperator) -> bool
-    ensures { result ≡ is_comparison (operator_view op) }
-{
-    match op {
-        BinaryOperator::Eq
-        | BinaryOperator::NotEq
-        | BinaryOperator::Lt
-        | BinaryOperator::Lte
-        | BinaryOperator::Gt
-        | BinaryOperator::Gte
-        | BinaryOperator::StartsWith => true,
-        BinaryOperator::And
-        | BinaryOperator::Or
-        | BinaryOperator::Add
-        | BinaryOperator::Subtract
-        | BinaryOperator::Multiply
-        | BinaryOperator::Divide
-        | BinaryOperator::Modulo => false,
     }
 }
 
@@ -567,12 +539,38 @@ fn first_truth<'a>(
             Ok((truth, comparison_part(left, right, lefts, rights, truth)))
         }
         Expr::ExistsFunc(steps) => {
-            let first = first_item(steps, document, item);
-            let found = select_steps(alloc, mode, Expressions::AreRefused, steps, document, first)?;
-            let truth = Some(!found.as_slice().is_empty());
+            let truth = exists_truth(alloc, mode, e, document, item)?;
             Ok((truth, exists_part(steps, truth)))
         }
         Expr::Paths(_) | Expr::Value(_) | Expr::UnaryOp { .. } => Err(Error::InvalidJsonPath),
+    }
+}
+
+/// Whether an `exists` is true of an item. Filters by `exists` behind names are no calls, however many they are.
+#[cycle(steps)]
+#[inline(never)]
+fn exists_truth<'a>(
+    alloc: Global,
+    mode: Mode,
+    e: &'a Expr<'_>,
+    document: Document<'a>,
+    item: Spot,
+) -> Result<Option<bool>, Error>
+    ensures meant { (top t : Tree) → is_exists (expression_view e.now) ≡ true → HasTree document.entry top
+        → IsAt document.entry item t
+        → Gives (λ b c. b ≡ c) IsOutOfMemory result (truth mode (expression_view e.now) top t) }
+    ensures errors { IfErr result (IsSelectionError mode) }
+{
+    let Some(asked) = innermost(mode, e, document, item)? else {
+        return Ok(Some(false));
+    };
+    match asked.exists {
+        Expr::ExistsFunc(steps) => {
+            let first = first_item(steps, document, asked.item);
+            let found = select_steps(alloc, mode, Expressions::AreRefused, steps, document, first)?;
+            Ok(Some(!found.as_slice().is_empty()))
+        }
+        _ => Err(Error::InvalidJsonPath),
     }
 }
 

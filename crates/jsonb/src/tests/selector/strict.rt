@@ -44,6 +44,18 @@ fn a_step_that_does_not_fit_is_refused(rt: HostRuntime) -> Result<(), Fail> {
             "80000001200000025001",
             "80000001200000025001",
         ),
+        (
+            "$[*]?(exists(@.k?(exists(@?(exists($[2].k))))))",
+            MIXED,
+            "StrictPath",
+            pair,
+        ),
+        (
+            "$[*]?(exists(@?(exists($[0]?(exists(@.k))))))",
+            MIXED,
+            "StrictPath",
+            "",
+        ),
         ("$[*]?(@ == $.a)", TENS, "StrictPath", ""),
         (
             "$[*]?(@.k == 1 && exists($?(-@.a)))",

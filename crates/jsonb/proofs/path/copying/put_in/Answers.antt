@@ -51,6 +51,32 @@ returns-in-Right-clause-documents c none clean =
     ap have_document c.in_ok-push-in-Right.ensures.items ∙ have_document-push rest put
     ∙ none_of_both (have_document rest) (frame_has_document put) (none_left rest c.loop-frame.frames.items taken had so_far.0) (copied ∙ so_far.1)
 
+pub returns-in-Held-clause-whole : goal.returns-in-Held-clause-whole
+returns-in-Held-clause-whole c =
+    let rest = c.pop.new.self.items in
+    let taken : Frame = frame.Held c.in-Held.holder c.in-Held.steps in
+    let had : c.loop-frame.frames.items ≡ rest ++ taken ∷ [] = c.in-Some.ensures.items ∙ ap (λ f. rest ++ f ∷ []) c.in-Held.is in
+    ap (framed rest) c.in_ok-with_held-in-Held.ensures.whole
+    ∙ sym (framed-more rest c.loop-frame.frames.items taken (expression_view c.loop-frame.copy) _ had refl) ∙ c.loop-frame.invariant.whole
+
+pub returns-in-Held-clause-fewer : goal.returns-in-Held-clause-fewer
+returns-in-Held-clause-fewer c =
+    let rest = c.pop.new.self.items in
+    let taken : Frame = frame.Held c.in-Held.holder c.in-Held.steps in
+    let had : c.loop-frame.frames.items ≡ rest ++ taken ∷ [] = c.in-Some.ensures.items ∙ ap (λ f. rest ++ f ∷ []) c.in-Held.is in
+    let before = ap waiting had ∙ waiting-push rest taken in
+    let same = c.in_ok-with_held-in-Held.ensures.fewer in
+    omega (arith, c.loop-frame.invariant.fewer)
+
+pub returns-in-Held-clause-documents : goal.returns-in-Held-clause-documents
+returns-in-Held-clause-documents c none clean =
+    let rest = c.pop.new.self.items in
+    let taken : Frame = frame.Held c.in-Held.holder c.in-Held.steps in
+    let had : c.loop-frame.frames.items ≡ rest ++ taken ∷ [] = c.in-Some.ensures.items ∙ ap (λ f. rest ++ f ∷ []) c.in-Held.is in
+    let so_far = c.loop-frame.invariant.documents none clean in
+    none_of_both (have_document rest) _ (none_left rest c.loop-frame.frames.items taken had so_far.0)
+    (c.in_ok-with_held-in-Held.ensures.documents (none_taken rest c.loop-frame.frames.items taken had so_far.0) so_far.1)
+
 pub loop-frame-preserved-in-Left : goal.loop-frame-preserved-in-Left
 loop-frame-preserved-in-Left c =
     let rest = c.pop.new.self.items in

@@ -1,6 +1,6 @@
 use Rattle.std.proofs.Common.{ap, arith}
 use Rattle.jsonb.specs.Private.Parts.{parts, waiting_parts}
-use Rattle.jsonb.proofs.PartLemmas.{fewer_parts}
+use Rattle.jsonb_doc.proofs.PartLemmas.{fewer_parts}
 use Rattle.jsonb.proofs.path.release.without_next.Goals as goal
 
 pub returns-in-Some : goal.returns-in-Some

@@ -10,6 +10,7 @@ use Rattle.jsonb.specs.Related.{AllRelated}
 use Rattle.jsonb.specs.Values.{values_of_item}
 use Rattle.jsonb.specs.Compare.{compare}
 use Rattle.jsonb.specs.Private.Selection.{IsAt, node_spots, taken_step, atoms_view}
+use Rattle.jsonb.specs.Private.Exists.{LeadsTo}
 use Rattle.jsonb.specs.Private.Kept.{conditions, is_condition, IsSame, AreKept, IsKeptFor}
 use Rattle.jsonb.specs.Private.Terms.{IsBelow, executed, last_truth, term_conditions, term_view, truths_view}
 use Rattle.jsonb.specs.declared.path.Expr.{size-Expr}
@@ -138,8 +139,13 @@ step_list-returns-in-Many-clause-meant t c = λ top ts r a.
     (subst (λ l. AllRelated (IsAt c.args.document) l ts) (sym c.deref.ensures.value)
     (subst (λ f. AllRelated (IsAt c.args.document) (node_spots f) ts) c.in-Many.is a))
 
-pub step_many-returns-in-Some-clause-meant : goal.step_many-returns-in-Some-clause-meant
-step_many-returns-in-Some-clause-meant t c = λ top ts r a.
+pub step_many-returns-in-Some-member_compared-clause-meant : goal.step_many-returns-in-Some-member_compared-clause-meant
+step_many-returns-in-Some-member_compared-clause-meant t c = λ top ts r a.
+    same_outcome (ap (λ x. try_flat_map (step_meaning c.args.mode x top) ts) c.in-Some.ensures.expression)
+    (c.compared_items.ensures.meant (expression_view c.in-Some.e.now) top ts c.in-Some-member_compared.ensures a)
+
+pub step_many-returns-in-None-member_compared-clause-meant : goal.step_many-returns-in-None-member_compared-clause-meant
+step_many-returns-in-None-member_compared-clause-meant t c = λ top ts r a.
     same_outcome (ap (λ x. try_flat_map (step_meaning c.args.mode x top) ts) c.in-Some.ensures.expression) (c.filter_many.ensures.meant top ts r a)
 
 pub step_many-returns-in-None-clause-meant : goal.step_many-returns-in-None-clause-meant
@@ -414,26 +420,26 @@ first_truth-returns-in_ok-rights-in-BinaryOp-clause-meant t c = λ top u is r s.
     let same = c.comparison_part.ensures c.args.mode top u (operator_view c.in-BinaryOp.op) compares lefts rights told in
     known (ap (λ x. truth c.args.mode x top u) view ∙ told) (refl, subst (λ x. IsSame c.args.mode top c.comparison_part.result x) (sym view) same)
 
--- so does `exists` the items that its path meets
-pub first_truth-returns-in_err-found-in-ExistsFunc-clause-meant : goal.first_truth-returns-in_err-found-in-ExistsFunc-clause-meant
-first_truth-returns-in_err-found-in-ExistsFunc-clause-meant t c = λ top u is r s.
+-- `exists` takes the items that the path of the innermost one meets
+pub exists_truth-returns-in_err-found-in-ExistsFunc-clause-meant : goal.exists_truth-returns-in_err-found-in-ExistsFunc-clause-meant
+exists_truth-returns-in_err-found-in-ExistsFunc-clause-meant t c = λ top u is r s.
+    let asked = subst (λ found. LeadsTo c.args.mode c.args.document top (Ok found) (truth c.args.mode (expression_view c.args.e.now) top u)) c.in-Some.is
+    (c.in_ok-asked.ensures.meant top u is r s) in
     let p = err_from_is_err_and c.from_residual-in_err-found-in-ExistsFunc.result c.from_residual-in_err-found-in-ExistsFunc.ensures.1 in
-    same_answer (p.1 ∙ ap Err p.2) (same_outcome (ap (λ x. truth c.args.mode x top u) (exists_is c.args.e.now c.in-ExistsFunc.steps c.in-ExistsFunc.is)
+    same_answer (p.1 ∙ ap Err p.2) (same_outcome (asked.2
+    ∙ ap (λ x. truth c.args.mode x top asked.0) (exists_is c.in-Some.asked.exists.now c.in-ExistsFunc.steps c.in-ExistsFunc.is)
     ∙ ap (λ o. and_then o (λ ts. Ok (Some (is_some_item ts))))
-    (from_start c.args.mode _ _ _ top u c.deref-in-ExistsFunc-2.ensures.value c.deref-in-ExistsFunc.ensures.value))
-    (first_refused (λ ts. Ok (Some (is_some_item ts))) (c.in_err-found-in-ExistsFunc.ensures.meant top _ r (c.first_item-first.ensures top u r s))))
+    (from_start c.args.mode _ _ _ top asked.0 c.deref-in-ExistsFunc.ensures.value c.deref.ensures.value))
+    (first_refused (λ ts. Ok (Some (is_some_item ts)))
+    (c.in_err-found-in-ExistsFunc.ensures.meant top _ r (c.first_item-first.ensures top asked.0 r asked.1))))
 
-pub first_truth-returns-in_ok-found-in-ExistsFunc-clause-meant : goal.first_truth-returns-in_ok-found-in-ExistsFunc-clause-meant
-first_truth-returns-in_ok-found-in-ExistsFunc-clause-meant t c = λ top u is r s.
-    let view = exists_is c.args.e.now c.in-ExistsFunc.steps c.in-ExistsFunc.is in
+pub exists_truth-returns-in_ok-found-in-ExistsFunc-clause-meant : goal.exists_truth-returns-in_ok-found-in-ExistsFunc-clause-meant
+exists_truth-returns-in_ok-found-in-ExistsFunc-clause-meant t c = λ top u is r s.
+    let asked = subst (λ found. LeadsTo c.args.mode c.args.document top (Ok found) (truth c.args.mode (expression_view c.args.e.now) top u)) c.in-Some.is
+    (c.in_ok-asked.ensures.meant top u is r s) in
     let met = one_ok {S = λ (b : Option Bool) d. b ≡ d} {z = Some (not c.is_empty.result)} (λ ts. Ok (Some (is_some_item ts)))
-    (c.in_ok-found-in-ExistsFunc.ensures.meant top _ r (c.first_item-first.ensures top u r s)) (λ ts related.
-    ap Some (ap not c.is_empty.ensures ∙ ap (λ l. not (length l == 0)) c.as_slice-in-ExistsFunc.ensures ∙ some_related (IsAt c.args.document) _ ts related)) in
-    let told = ap (λ x. truth c.args.mode x top u) view ∙ ap (λ o. and_then o (λ ts. Ok (Some (is_some_item ts))))
-    (from_start c.args.mode _ _ _ top u c.deref-in-ExistsFunc-2.ensures.value c.deref-in-ExistsFunc.ensures.value) ∙ value_is met.ok in
-    let lent = view ∙ ap (λ l. math.exists (steps_of (steps_view l))) (sym c.deref-in-ExistsFunc-3.ensures.value) in
-    known told (
-      refl,
-      subst (λ x. IsSame c.args.mode top c.exists_part.result x) (sym lent)
-          (c.exists_part.ensures c.args.mode top u (sym (ap (λ x. truth c.args.mode x top u) lent) ∙ told)),
-    )
+    (c.in_ok-found-in-ExistsFunc.ensures.meant top _ r (c.first_item-first.ensures top asked.0 r asked.1)) (λ ts related.
+    ap Some (ap not c.is_empty.ensures ∙ ap (λ l. not (length l == 0)) c.as_slice.ensures ∙ some_related (IsAt c.args.document) _ ts related)) in
+    known (asked.2 ∙ ap (λ x. truth c.args.mode x top asked.0) (exists_is c.in-Some.asked.exists.now c.in-ExistsFunc.steps c.in-ExistsFunc.is)
+    ∙ ap (λ o. and_then o (λ ts. Ok (Some (is_some_item ts))))
+    (from_start c.args.mode _ _ _ top asked.0 c.deref-in-ExistsFunc.ensures.value c.deref.ensures.value) ∙ value_is met.ok) refl

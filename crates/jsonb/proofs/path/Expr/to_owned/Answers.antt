@@ -1,0 +1,24 @@
+use Rattle.std.proofs.Common.{sym, ap, ◌∙◌}
+use Rattle.jsonb.specs.PathViews.{expression_view}
+use Rattle.jsonb.specs.Private.Copying.{leaf_view, framed, progress_view, progress_has_document}
+use Rattle.jsonb.proofs.CopyingLemmas.{not_first, not_second, owning_error-framed}
+use Rattle.std.proofs.lemmas.Result.{err_from_is_err_and}
+use Rattle.jsonb.proofs.path.Expr.to_owned.Goals as goal
+
+pub returns-in_err-copied-clause-errors : goal.returns-in_err-copied-clause-errors
+returns-in_err-copied-clause-errors c =
+    let p = err_from_is_err_and c.from_residual-in_err-copied.result c.from_residual-in_err-copied.ensures.1 in
+    let reached = c.loop-copied.reached in
+    rw (p.1, p.2) (owning_error-framed reached.frames.items (leaf_view reached.leaf) (expression_view c.args.self.now) _ c.loop-copied.invariant.whole
+    c.in_err-copied.ensures.errors)
+
+pub loop-copied-preserved : goal.loop-copied-preserved
+loop-copied-preserved c =
+    let so_far = c.loop-copied.invariant in
+    let none = sym (ap progress_has_document c.in-Leaf.is) ∙ c.in_ok-whole.ensures.documents so_far.documents (c.in_ok-copied.ensures.whole so_far.clean) in
+    record {
+      whole = sym (ap progress_view c.in-Leaf.is) ∙ c.in_ok-whole.ensures.whole
+          ∙ ap (framed c.loop-copied.reached.frames.items) c.in_ok-copied.ensures.copy ∙ so_far.whole;
+      documents = not_first _ _ none;
+      clean = not_second _ _ none;
+    }

@@ -1,0 +1,12 @@
+use Rattle.std.proofs.Common.{◌≡◌, ◌≤◌, ◌++◌}
+use Rattle.std.specs.Slice.Iter.{iter_rest}
+use Rattle.jsonb.specs.PathViews.{steps_view}
+use Rattle.jsonb.proofs.PartLemmas.{row_parts}
+use Rattle.jsonb.proofs.path.copy.copied_steps.Given as goal
+
+-- the copies, followed by the rest, are all
+abbrev pub invariant-loop-step : goal.invariant-loop-step
+invariant-loop-step l = record {
+  whole : steps_view l.copies.items ++ steps_view (iter_rest l.rest) ≡ steps_view l.fn.steps.copies.items ++ steps_view (iter_rest l.fn.steps.rest);
+  fewer : row_parts (iter_rest l.rest) ≤ row_parts (iter_rest l.fn.steps.rest);
+}

@@ -1,0 +1,41 @@
+use Rattle.std.proofs.Common.{◌≡◌, sym, ap, ◌∙◌, arith}
+use Rattle.std.proofs.lemmas.List.{nil_from_length}
+use Rattle.std.specs.Slice.Iter.{iter_rest}
+use Rattle.jsonb.specs.PathTree.{steps_of}
+use Rattle.jsonb.specs.PathViews.{step_view, expression_view}
+use Rattle.jsonb.specs.Private.Copying.{listed, held, step_copy_view, step_copy_has_document}
+use Rattle.jsonb.proofs.CopyingLemmas.{step_more, step_held, step_held-parts, step_fewer, none_left_view, clean_more}
+use Rattle.jsonb.proofs.path.own.owned_rest.Goals as goal
+
+pub loop-step-preserved : goal.loop-step-preserved
+loop-step-preserved c =
+    let same : step_view c.in-Whole.copy ≡ step_view c.in-Some.step.now = sym (ap step_copy_view c.in-Whole.is) ∙ c.in_ok-copy.ensures.copy in
+    let less = step_fewer (iter_rest c.loop-step.rest) (iter_rest c.next.new.self) c.in-Some.step.now c.in-Some.ensures.steps in
+    record {
+      copy = step_more c.loop-step.copies.items _ c.in-Whole.copy (iter_rest c.loop-step.rest) (iter_rest c.next.new.self) c.in-Some.step.now
+          c.in_ok-push-in-Whole.ensures.items same c.in-Some.ensures.steps ∙ c.loop-step.invariant.copy;
+      fewer = omega (arith, less, c.loop-step.invariant.fewer);
+      whole = λ none. clean_more c.loop-step.copies.items _ c.in-Whole.copy c.in_ok-push-in-Whole.ensures.items
+          (sym (ap step_copy_has_document c.in-Whole.is) ∙ c.in_ok-copy.ensures.whole) (c.loop-step.invariant.whole none);
+    }
+
+pub returns-in-Holding-clause-copy : goal.returns-in-Holding-clause-copy
+returns-in-Holding-clause-copy c =
+    let same : held c.in-Holding.holder (expression_view c.in-Holding.inner.now) ≡ step_view c.in-Some.step.now
+    = sym (ap step_copy_view c.in-Holding.is) ∙ c.in_ok-copy.ensures.copy in
+    ap (λ ss. listed c.args.steps.kind (steps_of ss))
+    (step_held c.loop-step.copies.items (iter_rest c.loop-step.rest) (iter_rest c.next.new.self) c.in-Some.step.now c.in-Holding.holder _ same
+    c.in-Some.ensures.steps ∙ c.loop-step.invariant.copy)
+
+pub returns-in-Holding-clause-fewer : goal.returns-in-Holding-clause-fewer
+returns-in-Holding-clause-fewer c =
+    let same : held c.in-Holding.holder (expression_view c.in-Holding.inner.now) ≡ step_view c.in-Some.step.now
+    = sym (ap step_copy_view c.in-Holding.is) ∙ c.in_ok-copy.ensures.copy in
+    let all = step_held-parts (iter_rest c.loop-step.rest) (iter_rest c.next.new.self) c.in-Some.step.now c.in-Holding.holder _ same c.in-Some.ensures.steps in
+    omega (arith, all, c.loop-step.invariant.fewer)
+
+pub returns-clause-copy : goal.returns-clause-copy
+returns-clause-copy c =
+    let none = nil_from_length (iter_rest c.loop-step.rest) c.in_default.ensures.steps.0 in
+    c.listed.ensures ∙ ap (λ ss. listed c.args.steps.kind (steps_of ss))
+    (none_left_view c.loop-step.copies.items (iter_rest c.loop-step.rest) none ∙ c.loop-step.invariant.copy)

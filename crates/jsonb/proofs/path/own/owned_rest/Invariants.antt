@@ -1,0 +1,15 @@
+use Rattle.std.proofs.Common.{◌≡◌, ◌≤◌, ◌++◌, false}
+use Rattle.jsonb.specs.PathDocuments.{has_document}
+use Rattle.std.specs.Slice.Iter.{iter_rest}
+use Rattle.jsonb.specs.PathViews.{steps_view}
+use Rattle.jsonb.specs.Private.Copying.{so_far_has_document}
+use Rattle.jsonb.proofs.PartLemmas.{row_parts}
+use Rattle.jsonb.proofs.path.own.owned_rest.Given as goal
+
+-- the copies, followed by the rest, are all, and no document is copied
+abbrev pub invariant-loop-step : goal.invariant-loop-step
+invariant-loop-step l = record {
+  copy : steps_view l.copies.items ++ steps_view (iter_rest l.rest) ≡ steps_view l.fn.steps.copies.items ++ steps_view (iter_rest l.fn.steps.rest);
+  fewer : row_parts (iter_rest l.rest) ≤ row_parts (iter_rest l.fn.steps.rest);
+  whole : so_far_has_document l.fn.steps ≡ false → has_document (steps_view l.copies.items) ≡ false;
+}
