@@ -110,6 +110,7 @@ static const Path PATHS[] = {
     {"open_parentheses", "$?", "(", "", ""},
     {"parentheses", "$?", "(", "@ == 1", ")"},
     {"filters", "$", "?(exists(@", "", "))"},
+    {"filters_of_elements", "$", "[*]?(exists(@", "", "))"},
     {"unfinished_filters", "$", "?(exists(@", "", ""},
     {"and_chain", "$?(1==1", "&&1==1", ")", ""},
     {"or_chain", "$?(1==2", "||1==2", ")", ""},

@@ -11,7 +11,7 @@ use Rattle.jsonb.specs.PathTree.{Step}
 use Rattle.jsonb.proofs.ReadMeans.{read_means}
 use Rattle.jsonb.specs.declared.selector.document.Mode.{Mode}
 use Rattle.jsonb_c.specs.Calls.{ByMeaning, ByPath, DeletesPlace}
-use Rattle.jsonb_c.specs.Private.ByHand.{ByMeanings}
+use Rattle.jsonb.specs.SelectorAnswers.{ByMeanings}
 
 -- a path that was read has one meaning
 pub by_meaning : {A : Type 0} (mode : Mode) (text document : List ℕ) (path : List Step) (Promise : Form → Outcome (List Tree) → Result A Error → Type 0)

@@ -83,7 +83,8 @@ OfDocument document Promise answer = (form : Form) (t : Tree) → Decodes form d
 
 -- of two documents that decode in one form
 abbrev pub OfDocuments : {A : Type 0} → List ℕ → List ℕ → (Form → Tree → Tree → A → Type 0) → A → Type 0
-OfDocuments document other Promise answer = (form : Form) (t u : Tree) → Decodes form document t → Decodes form other u → Promise form t u answer
+OfDocuments document other Promise answer =
+    (form : Form) (t u : Tree) → Decodes form document t → Decodes form other u → Promise form t u answer
 
 -- of two documents that decode, each in a form of its own
 abbrev pub OfBoth : {A : Type 0} → List ℕ → List ℕ → (Form → Tree → Tree → A → Type 0) → A → Type 0
@@ -92,18 +93,22 @@ OfBoth document other Promise answer = (form other_form : Form) (t u : Tree)
 
 -- There is such an answer, which is refused for no other cause, and it is handed over so.
 abbrev pub HandsOver : {A : Type 0} → (Result A Error → Type 0) → (Error → Type 0) → (Result A Error → Type 0) → Type 0
-HandsOver {A} IsAnswer Refusals IsShown = (answer : Result A Error) × IsAnswer answer × IfErr answer Refusals × IsShown answer
+HandsOver {A} IsAnswer Refusals IsShown =
+    (answer : Result A Error) × IsAnswer answer × IfErr answer Refusals × IsShown answer
 
 -- bytes that are there in any case
 abbrev pub HandsOverBytes : (Result (List ℕ) Error → Type 0) → (Error → Type 0) → List ℕ → List ℕ → ℕ → ℕ → Type 0
-HandsOverBytes IsAnswer Refusals old new len status = HandsOver IsAnswer Refusals (λ answer. Delivers (whole answer) old new len status)
+HandsOverBytes IsAnswer Refusals old new len status =
+    HandsOver IsAnswer Refusals (λ answer. Delivers (whole answer) old new len status)
 
 -- bytes that may not be there
 abbrev pub HandsOverFound : (Answer → Type 0) → (Error → Type 0) → List ℕ → List ℕ → ℕ → ℕ → Type 0
-HandsOverFound IsAnswer Refusals old new len status = HandsOver IsAnswer Refusals (λ answer. Delivers answer old new len status)
+HandsOverFound IsAnswer Refusals old new len status =
+    HandsOver IsAnswer Refusals (λ answer. Delivers answer old new len status)
 
 abbrev pub HandsOverBool : (Result Bool Error → Type 0) → (Error → Type 0) → ℕ → ℕ → ℕ → Type 0
 HandsOverBool IsAnswer Refusals old new status = HandsOver IsAnswer Refusals (λ answer. ShowsBool answer old new status)
 
 abbrev pub HandsOverTruth : (Result Truth Error → Type 0) → (Error → Type 0) → ℕ → ℕ → ℕ → Type 0
-HandsOverTruth IsAnswer Refusals old new status = HandsOver IsAnswer Refusals (λ answer. ShowsTruth answer old new status)
+HandsOverTruth IsAnswer Refusals old new status =
+    HandsOver IsAnswer Refusals (λ answer. ShowsTruth answer old new status)

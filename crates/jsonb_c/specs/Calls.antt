@@ -1,13 +1,12 @@
 -- What the calls on one document answer.
-use Rattle.std.specs.Prelude.{◌≡◌, ◌⊎◌, ◌≤◌, ◌<◌, ◌^◌, ◌↔◌, ◌||◌, not, ℕ, ℤ, pos, FitsSigned, Bool, true, false, IsTrue, List, length, Option, Some, None, Result, Ok, Err, IsOkAnd, MatchResult, MatchOption}
+use Rattle.std.specs.Prelude.{◌≡◌, ◌⊎◌, ◌≤◌, ◌<◌, ◌^◌, ◌↔◌, ◌||◌, not, ℕ, ℤ, pos, FitsSigned, Bool, true, false, IsTrue, List, length, Option, Some, None, Result, Ok, Err, MatchResult, MatchOption}
 use Rattle.std.specs.Int.{Width, w8, w16, w64}
 use Rattle.jsonb_doc.specs.declared.error.Error.{Error}
-use Rattle.jsonb_doc.specs.declared.error.Error.TheVariants.{OutOfMemory, InvalidJsonb, UnsupportedNumber, InvalidJsonPath, InvalidKeyPath, InvalidCast, InvalidJsonType, InvalidObject, ObjectDuplicateKey, TooDeep, TooLarge}
+use Rattle.jsonb_doc.specs.declared.error.Error.TheVariants.{OutOfMemory, InvalidJsonb, UnsupportedNumber, InvalidJsonPath, InvalidKeyPath, InvalidCast, InvalidJsonType, InvalidObject, ObjectDuplicateKey, TooDeep}
 use Rattle.jsonb_doc.specs.Tree.{Tree, Trees, array, elements}
 use Rattle.jsonb_doc.specs.Payload.{Form, any}
-use Rattle.jsonb_doc.specs.Format.{Decodes, WouldDecode}
-use Rattle.jsonb_doc.specs.Limits.{IsTooLarge}
-use Rattle.jsonb_doc.specs.Answer.{Gives, Outcome, IsOutOfMemory, ◌or◌when◌}
+use Rattle.jsonb_doc.specs.Format.{Decodes, IsUnsupportedDocument, IsNoDocument}
+use Rattle.jsonb_doc.specs.Answer.{Outcome, IsOutOfMemory}
 use Rattle.jsonb_raw.specs.Children.{without_index}
 use Rattle.jsonb_raw.specs.Deletes.{MeetNoPart, without}
 use Rattle.jsonb_raw.specs.Documents.{Makes, MakesOption}
@@ -19,9 +18,9 @@ use Rattle.jsonb_doc.specs.Depth.{deepest}
 use Rattle.jsonb_raw.specs.EqualityKey.{equality_key}
 use Rattle.jsonb_raw.specs.SortableKey.{key, depths}
 use Rattle.jsonb.specs.Compare.{Truth}
-use Rattle.jsonb.specs.Meaning.{meaning, predicate, is_some_item}
+use Rattle.jsonb.specs.Meaning.{meaning}
 use Rattle.jsonb.specs.PathTree.{Step}
-use Rattle.jsonb.specs.SelectorAnswers.{IsDocumentOf, IsPast, array_of}
+use Rattle.jsonb.specs.SelectorAnswers.{IsTruthOf}
 use Rattle.jsonb.specs.declared.selector.document.Mode.{Mode}
 use Rattle.jsonb.specs.declared.selector.document.Mode.TheVariants.{Lax, Strict}
 use Rattle.jsonb_c.specs.Status.{ok, status_of}
@@ -38,7 +37,9 @@ ByPath refusal (Some path) Promise answer = Promise path answer
 
 -- the part at the place that the steps meet, where the path is a key path
 abbrev pub Gets : Option (List Key) → List ℕ → Answer → Type 0
-Gets read document answer = ByPath InvalidKeyPath read (λ steps. OfDocument document (λ form t. MakesOption form (tree_at_steps steps t))) answer
+Gets read document answer =
+    ByPath InvalidKeyPath read
+    (λ steps. OfDocument document (λ form t. MakesOption form (tree_at_steps steps t))) answer
 
 -- ---- JSON paths
 
@@ -46,29 +47,13 @@ abbrev pub mode_of : Bool → Mode
 mode_of true = Strict
 mode_of false = Lax
 
--- one document of what the path selects
-abbrev pub IsPicked : Form → (List Tree → Option Tree) → Outcome (List Tree) → Answer → Type 0
-IsPicked form pick outcome answer =
-    Gives (λ found ts. IsDocumentOf form found (pick ts)) (IsOutOfMemory or TooLarge when IsOkAnd outcome (λ ts. IsPast form (pick ts))) answer outcome
-
--- one array of what the path selects
-abbrev pub IsArrayOf : Form → Outcome (List Tree) → Result (List ℕ) Error → Type 0
-IsArrayOf form outcome answer =
-    Gives (λ made ts. Decodes form made (array_of ts)) (IsOutOfMemory or TooLarge when IsOkAnd outcome (λ ts. IsTooLarge form (array_of ts))) answer outcome
-
--- whether the path selects anything
-abbrev pub IsFound : Outcome (List Tree) → Result Bool Error → Type 0
-IsFound outcome answer = Gives (λ b ts. b ≡ is_some_item ts) IsOutOfMemory answer outcome
-
 -- the answer of a path that was read, by its one meaning
-abbrev pub ByMeaning : {A : Type 0} → Mode → List ℕ → Option (List Step) → (Form → Outcome (List Tree) → Result A Error → Type 0) → Result A Error → Type 0
+abbrev pub ByMeaning : {A : Type 0} → Mode → List ℕ → Option (List Step)
+    → (Form → Outcome (List Tree) → Result A Error → Type 0) → Result A Error → Type 0
 ByMeaning mode document read Promise answer =
     ByPath InvalidJsonPath read (λ path. OfDocument document (λ form t. Promise form (meaning mode path t))) answer
 
 -- what the path says of the document as a predicate, unless memory is refused
-abbrev pub IsTruthOf : Mode → List Step → List ℕ → Result Truth Error → Type 0
-IsTruthOf mode path document answer = OfDocument document (λ form t said. Gives (λ b c. b ≡ c) IsOutOfMemory said (predicate mode path t)) answer
-
 abbrev pub Says : Mode → Option (List Step) → List ℕ → Result Truth Error → Type 0
 Says mode read document answer = ByPath InvalidJsonPath read (λ path. IsTruthOf mode path document) answer
 
@@ -91,21 +76,27 @@ MakesOr refusal form wanted answer = MatchOption wanted (answer ≡ Err refusal)
 -- The document without the element that the index means. Where it means none the bytes are the same.
 pub record DeletesIndex (index : ℤ) (document : List ℕ) (answer : Result (List ℕ) Error) : Type 0 where
   pub deleted : OfDocument document (λ form t. MakesOr InvalidJsonType form (without_index index t)) answer
-  pub unchanged : (form : Form) (ts : Trees) → Decodes form document (array ts) → index_position (length (elements ts)) index ≡ None
+  pub unchanged : (form : Form) (ts : Trees) → Decodes form document (array ts)
+      → index_position (length (elements ts)) index ≡ None
       → KeepsBytes document answer
 
--- The document without the place that the steps meet. Where they meet no part the bytes are the same; a scalar has no places.
+-- The document without the place that the steps meet. Where they meet no part the bytes are the same; a scalar has no
+-- places.
 pub record DeletesPlace (steps : List Key) (document : List ℕ) (answer : Result (List ℕ) Error) : Type 0 where
-  pub scalar : OfDocument document (λ form t said. IsTrue (is_json_scalar t) → (said ≡ Err OutOfMemory) ⊎ (said ≡ Err InvalidJsonType)) answer
+  pub scalar : OfDocument document (λ form t said. IsTrue (is_json_scalar t)
+      → (said ≡ Err OutOfMemory) ⊎ (said ≡ Err InvalidJsonType)) answer
   pub without : OfDocument document (λ form t said. IsTrue (not (is_json_scalar t))
       → MatchResult said (λ made. Decodes form made (without steps t)) IsOutOfMemory) answer
-  pub same : OfDocument document (λ form t said. IsTrue (not (is_json_scalar t)) → MeetNoPart steps t → KeepsBytes document said) answer
+  pub same : OfDocument document (λ form t said. IsTrue (not (is_json_scalar t)) → MeetNoPart steps t
+      → KeepsBytes document said) answer
 
 -- The object with the pair. Where the key is there and its value isn't to be replaced, the call is refused.
-pub record InsertsPair (name : List ℕ) (update : Bool) (document value : List ℕ) (answer : Result (List ℕ) Error) : Type 0 where
+pub record InsertsPair (name : List ℕ) (update : Bool) (document value : List ℕ)
+    (answer : Result (List ℕ) Error) : Type 0 where
   pub inserted : OfDocuments document value (λ form t v said. IsTrue (update || not (has_name name t))
       → MakesOr InvalidObject form (object_insert name v t) said) answer
-  pub duplicate : OfDocument document (λ form t said. IsTrue (has_name name t) → update ≡ false → said ≡ Err ObjectDuplicateKey) answer
+  pub duplicate : OfDocument document (λ form t said. IsTrue (has_name name t) → update ≡ false
+      → said ≡ Err ObjectDuplicateKey) answer
 
 -- ---- casts
 
@@ -115,7 +106,8 @@ FindsSigned t found = MatchOption found ((z : ℤ) → IsWholeNumber t z → Fit
 
 -- the number, where it is whole and fits 64 bits without a sign
 abbrev pub FindsUnsigned : Tree → Option ℕ → Type 0
-FindsUnsigned t found = MatchOption found ((n : ℕ) → IsWholeNumber t (pos n) → n < 2 ^ 64 → ⊥) (λ n. IsWholeNumber t (pos n))
+FindsUnsigned t found =
+    MatchOption found ((n : ℕ) → IsWholeNumber t (pos n) → n < 2 ^ 64 → ⊥) (λ n. IsWholeNumber t (pos n))
 
 -- the text that there is, which takes memory, or the refusal
 abbrev pub IsTextOf : Option (List ℕ) → Result (List ℕ) Error → Type 0
@@ -139,12 +131,13 @@ IsKeyOf w document answer = OfDocument document (λ form t. IsKey w t) answer
 -- ---- equality keys
 
 abbrev pub IsEqualityKeyOf : List ℕ → Result (List ℕ) Error → Type 0
-IsEqualityKeyOf document answer = OfDocument document (λ form t made. MatchResult made (λ bytes. bytes ≡ equality_key t) IsOutOfMemory) answer
+IsEqualityKeyOf document answer =
+    OfDocument document (λ form t made. MatchResult made (λ bytes. bytes ≡ equality_key t) IsOutOfMemory) answer
 
 -- ---- `check`
 
 -- the bytes are a document, or the status says why they are none
 abbrev pub IsCheckOf : List ℕ → ℕ → Type 0
 IsCheckOf document status = ((status ≡ ok) ↔ ((t : Tree) × Decodes any document t))
-    × ((status ≡ status_of UnsupportedNumber) ↔ (((t : Tree) → Decodes any document t → ⊥) × ((t : Tree) × WouldDecode document t)))
-    × ((status ≡ status_of InvalidJsonb) ↔ ((t : Tree) → WouldDecode document t → ⊥))
+    × ((status ≡ status_of UnsupportedNumber) ↔ IsUnsupportedDocument document)
+    × ((status ≡ status_of InvalidJsonb) ↔ IsNoDocument document)

@@ -65,9 +65,11 @@ pub record Checked {A : Type 0} (IsAnswerTo : List ℕ → Found A → Type 0) (
 
 -- all rows are done, or as many as the buffer has room for
 abbrev pub Ends : ℕ → ℕ → ℕ → ℕ → Type 0
-Ends all room done status = ((status ≡ ok) × (done ≡ all)) ⊎ ((status ≡ buffer_too_small) × (done < all) × (done ≡ room))
+Ends all room done status =
+    ((status ≡ ok) × (done ≡ all)) ⊎ ((status ≡ buffer_too_small) × (done < all) × (done ≡ room))
 
-abbrev pub ChecksRows : {A : Type 0} → (List ℕ → Found A → Type 0) → List (Option (List ℕ)) → List ℕ → List ℕ → ℕ → ℕ → Type 0
+abbrev pub ChecksRows : {A : Type 0} → (List ℕ → Found A → Type 0) → List (Option (List ℕ)) → List ℕ → List ℕ → ℕ → ℕ
+    → Type 0
 ChecksRows IsAnswerTo column old_statuses new_statuses done status =
     Checked IsAnswerTo column old_statuses new_statuses done × Ends (length column) (length old_statuses) done status
 
@@ -91,7 +93,8 @@ abbrev pub EndsOfTwo : ℕ → ℕ → ℕ → ℕ → ℕ → Type 0
 EndsOfTwo all room other_room done status = ((status ≡ ok) × (done ≡ all))
     ⊎ ((status ≡ buffer_too_small) × (done < all) × ((done ≡ room) ⊎ (done ≡ other_room)))
 
-abbrev pub FillsRows : {A : Type 0} → (List ℕ → Found A → Type 0) → A → List (Option (List ℕ)) → ValueRoom A → ValueRoom A → ℕ → ℕ → Type 0
+abbrev pub FillsRows : {A : Type 0} → (List ℕ → Found A → Type 0) → A → List (Option (List ℕ)) → ValueRoom A
+    → ValueRoom A → ℕ → ℕ → Type 0
 FillsRows IsAnswerTo other column old new done status =
     Filled IsAnswerTo other column old new done × EndsOfTwo (length column) (length old.0) (length old.1) done status
 
@@ -106,8 +109,10 @@ abbrev pub ends : ℕ → List (Cell (List ℕ)) → List ℕ
 ends at [] = []
 ends at (cell ∷ cells) = (at + length (cell_bytes cell)) ∷ ends (at + length (cell_bytes cell)) cells
 
--- The first rows are done: their bytes are written one behind the other, with the offsets between them and their statuses.
-pub record Joined (IsAnswerTo : List ℕ → Found (List ℕ) → Type 0) (column : List (Option (List ℕ))) (old new : BytesRoom)
+-- The first rows are done: their bytes are written one behind the other, with the offsets between them and their
+-- statuses.
+pub record Joined (IsAnswerTo : List ℕ → Found (List ℕ) → Type 0) (column : List (Option (List ℕ)))
+    (old new : BytesRoom)
     (done total : ℕ) : Type 0 where
   pub cells : List (Cell (List ℕ))
   pub count : length cells ≡ done
@@ -124,7 +129,8 @@ LacksRoom IsAnswerTo column room progress status = (status ≡ buffer_too_small)
     × IsCell IsAnswerTo document cell × (progress.next ≡ length (cell_bytes cell)))
 
 -- the bytes of the first rows are written, where there is room for the first offset
-abbrev pub JoinsSome : (List ℕ → Found (List ℕ) → Type 0) → List (Option (List ℕ)) → BytesRoom → BytesRoom → Progress → ℕ → Type 0
+abbrev pub JoinsSome : (List ℕ → Found (List ℕ) → Type 0) → List (Option (List ℕ)) → BytesRoom → BytesRoom → Progress
+    → ℕ → Type 0
 JoinsSome IsAnswerTo column old new progress status = Joined IsAnswerTo column old new progress.rows progress.bytes
     × (((progress.next ≡ 0) × EndsOfTwo (length column) (length old.1 - 1) (length old.2) progress.rows status)
     ⊎ LacksRoom IsAnswerTo column (length old.0) progress status)
@@ -133,7 +139,8 @@ JoinsSome IsAnswerTo column old new progress status = Joined IsAnswerTo column o
 abbrev pub IsUntouched : BytesRoom → BytesRoom → Progress → Type 0
 IsUntouched old new progress = (progress.rows ≡ 0) × (progress.bytes ≡ 0) × (progress.next ≡ 0) × (new ≡ old)
 
-abbrev pub JoinsRows : (List ℕ → Found (List ℕ) → Type 0) → List (Option (List ℕ)) → BytesRoom → BytesRoom → Progress → ℕ → Type 0
+abbrev pub JoinsRows : (List ℕ → Found (List ℕ) → Type 0) → List (Option (List ℕ)) → BytesRoom → BytesRoom → Progress
+    → ℕ → Type 0
 JoinsRows IsAnswerTo column old new progress status =
     ((status ≡ buffer_too_small) × (length old.1 ≡ 0) × IsUntouched old new progress)
     ⊎ JoinsSome IsAnswerTo column old new progress status
@@ -145,14 +152,20 @@ abbrev pub IsRefused : Error → ℕ → Type 0
 IsRefused e status = (status ≡ status_of e) ⊎ (status ≡ status_of OutOfMemory)
 
 -- The rows are filled by the path, where the text is one; else nothing is written.
-abbrev pub FillsByPath : {P A : Type 0} → Error → Option P → (P → List ℕ → Found A → Type 0) → A → List (Option (List ℕ))
+abbrev pub FillsByPath : {P A : Type 0} → Error → Option P → (P → List ℕ → Found A → Type 0) → A
+    → List (Option (List ℕ))
     → ValueRoom A → ValueRoom A → ℕ → ℕ → Type 0
-FillsByPath refusal None IsAnswerBy other column old new done status = IsRefused refusal status × (done ≡ 0) × (new ≡ old)
+FillsByPath refusal None IsAnswerBy other column old new done status =
+    IsRefused refusal status × (done ≡ 0) × (new ≡ old)
 FillsByPath refusal (Some path) IsAnswerBy other column old new done status =
-    ((status ≡ status_of OutOfMemory) × (done ≡ 0) × (new ≡ old)) ⊎ FillsRows (IsAnswerBy path) other column old new done status
+    ((status ≡ status_of OutOfMemory) × (done ≡ 0) × (new ≡ old))
+    ⊎ FillsRows (IsAnswerBy path) other column old new done status
 
-abbrev pub JoinsByPath : {P : Type 0} → Error → Option P → (P → List ℕ → Found (List ℕ) → Type 0) → List (Option (List ℕ))
+abbrev pub JoinsByPath : {P : Type 0} → Error → Option P → (P → List ℕ → Found (List ℕ) → Type 0)
+    → List (Option (List ℕ))
     → BytesRoom → BytesRoom → Progress → ℕ → Type 0
-JoinsByPath refusal None IsAnswerBy column old new progress status = IsRefused refusal status × IsUntouched old new progress
+JoinsByPath refusal None IsAnswerBy column old new progress status =
+    IsRefused refusal status × IsUntouched old new progress
 JoinsByPath refusal (Some path) IsAnswerBy column old new progress status =
-    ((status ≡ status_of OutOfMemory) × IsUntouched old new progress) ⊎ JoinsRows (IsAnswerBy path) column old new progress status
+    ((status ≡ status_of OutOfMemory) × IsUntouched old new progress)
+    ⊎ JoinsRows (IsAnswerBy path) column old new progress status

@@ -23,7 +23,8 @@ IsRowOfLeaf form leaf row = (row.0 ≡ key_path_text leaf.0) × Decodes form row
 
 -- a row for each leaf, in stored order
 abbrev pub AreLeavesOf : Form → Tree → Result (List LeafRow) Error → Type 0
-AreLeavesOf form t answer = MatchResult answer (λ found. AllRelated (IsRowOfLeaf form) (leaves false t) found) IsOutOfMemory
+AreLeavesOf form t answer =
+    MatchResult answer (λ found. AllRelated (IsRowOfLeaf form) (leaves false t) found) IsOutOfMemory
 
 abbrev pub paths_of : List LeafRow → List (List ℕ)
 paths_of found = map (λ row. row.0) found
@@ -57,7 +58,8 @@ abbrev pub AreSizesOf : LeafSizes → List LeafRow → Type 0
 AreSizesOf sizes found = (sizes.rows ≡ length found) × (sizes.path_bytes ≡ length (concat (paths_of found)))
     × (sizes.document_bytes ≡ length (concat (documents_of found)))
 
--- Rows are handed over as two columns, and their sizes are said. Both are written, or they have no room, and nothing is.
+-- Rows are handed over as two columns, and their sizes are said. Both are written, or they have no room, and nothing
+-- is.
 abbrev pub DeliversRows : List LeafRow → Buffers → Buffers → Buffers → Buffers → LeafSizes → ℕ → Type 0
 DeliversRows found old_paths new_paths old_documents new_documents sizes status = AreSizesOf sizes found
     × (((status ≡ ok) × IsWrittenColumn (paths_of found) old_paths new_paths

@@ -49,23 +49,27 @@ IsRowOf form None t = ⊥
 -- an array of the rows
 abbrev pub MakesArray : List (Option (List ℕ)) → Result (List ℕ) Error → Type 0
 MakesArray column answer = (form : Form) (ts : List Tree) → AllRelated (IsRowOf form) column ts
-    → MatchResult answer (λ made. Decodes form made (array (trees_of ts))) (IsOutOfMemoryOrTooLarge form (array (trees_of ts)))
+    → MatchResult answer (λ made. Decodes form made (array (trees_of ts)))
+    (IsOutOfMemoryOrTooLarge form (array (trees_of ts)))
 
 -- ---- an object of two columns
 
 -- the pairs with those of the rows put in, one row after the other; the first name that is there already is refused
 abbrev pub put_rows : List (List ℕ × Tree) → List (List ℕ × Tree) → Outcome (List (List ℕ × Tree))
 put_rows ps [] = Ok ps
-put_rows ps (row ∷ rows) = if has_key row.0 ps then Err ObjectDuplicateKey else put_rows (insert_pair row.0 row.1 ps) rows
+put_rows ps (row ∷ rows) =
+    if has_key row.0 ps then Err ObjectDuplicateKey else put_rows (insert_pair row.0 row.1 ps) rows
 
--- an object of the pairs in the rows; refused for its size only where a document of so many and such pairs passes the limits
+-- an object of the pairs in the rows; refused for its size only where a document of so many and such pairs passes the
+-- limits
 abbrev pub IsObjectOf : Form → List (List ℕ × Tree) → Result (List ℕ) Error → Type 0
 IsObjectOf form rows answer = Gives (λ made ps. Decodes form made (object (pairs_of ps)))
     (IsOutOfMemory or TooLarge when IsTooLarge form (object (pairs_of rows))) answer (put_rows [] rows)
 
 -- the same of names beside a column of documents
 abbrev pub MakesObject : List (List ℕ) → List (Option (List ℕ)) → Result (List ℕ) Error → Type 0
-MakesObject names column answer = (form : Form) (ts : List Tree) → AllRelated (IsRowOf form) column ts → IsObjectOf form (zip names ts) answer
+MakesObject names column answer =
+    (form : Form) (ts : List Tree) → AllRelated (IsRowOf form) column ts → IsObjectOf form (zip names ts) answer
 
 -- ---- counts
 
@@ -83,11 +87,13 @@ pairs_in _ = []
 -- the pair at a position: its key, and a document of its value
 abbrev pub FindsPair : Form → ℕ → Tree → Result (Option (List ℕ × List ℕ)) Error → Type 0
 FindsPair form index t answer = MatchOption (slice_get (pairs_in t) index) (answer ≡ Ok None)
-    (λ p. MatchResult answer (λ found. IsSomeAnd found (λ made. (made.0 ≡ p.0) × Decodes form made.1 p.1)) (IsOutOfMemoryOrTooLarge form p.1))
+    (λ p. MatchResult answer (λ found. IsSomeAnd found (λ made. (made.0 ≡ p.0) × Decodes form made.1 p.1))
+    (IsOutOfMemoryOrTooLarge form p.1))
 
 -- Two lists of bytes are handed over, each into a buffer of its own; neither is written where one has no room.
 abbrev pub DeliversBoth : List ℕ → List ℕ → List ℕ → List ℕ → ℕ → List ℕ → List ℕ → ℕ → ℕ → Type 0
-DeliversBoth key value old_key new_key key_len old_value new_value value_len status = (key_len ≡ length key) × (value_len ≡ length value)
+DeliversBoth key value old_key new_key key_len old_value new_value value_len status =
+    (key_len ≡ length key) × (value_len ≡ length value)
     × (((status ≡ ok) × IsWritten key old_key new_key × IsWritten value old_value new_value)
     ⊎ ((status ≡ buffer_too_small) × ((length old_key < length key) ⊎ (length old_value < length value))
     × (new_key ≡ old_key) × (new_value ≡ old_value)))
@@ -97,7 +103,8 @@ abbrev pub DeliversNeither : ℕ → List ℕ → List ℕ → ℕ → List ℕ 
 DeliversNeither cause old_key new_key key_len old_value new_value value_len status =
     DeliversNothing cause old_key new_key key_len status × DeliversNothing cause old_value new_value value_len status
 
-abbrev pub DeliversPair : Result (Option (List ℕ × List ℕ)) Error → List ℕ → List ℕ → ℕ → List ℕ → List ℕ → ℕ → ℕ → Type 0
+abbrev pub DeliversPair : Result (Option (List ℕ × List ℕ)) Error → List ℕ → List ℕ → ℕ → List ℕ → List ℕ → ℕ → ℕ
+    → Type 0
 DeliversPair (Ok (Some found)) old_key new_key key_len old_value new_value value_len status =
     DeliversBoth found.0 found.1 old_key new_key key_len old_value new_value value_len status
 DeliversPair (Ok None) old_key new_key key_len old_value new_value value_len status =

@@ -15,7 +15,8 @@ use Rattle.jsonb.specs.PathTree.{Step}
 use Rattle.jsonb.specs.SelectionErrors.{IsDocumentError, IsSelectionError}
 use Rattle.jsonb.specs.declared.selector.document.Mode.{Mode}
 use Rattle.jsonb_c.specs.Answers.{OfDocument, OfBoth, bool_byte, truth_byte}
-use Rattle.jsonb_c.specs.Calls.{DeletesPlace, IsCheckOf, IsEqualityKeyOf, IsFound, IsKeyOf, IsPicked, IsTruthOf}
+use Rattle.jsonb_c.specs.Calls.{DeletesPlace, IsCheckOf, IsEqualityKeyOf, IsKeyOf}
+use Rattle.jsonb.specs.SelectorAnswers.{IsFound, IsPicked, IsTruthOf}
 use Rattle.jsonb_c.specs.Columns.{Found, cell_status}
 use Rattle.jsonb_c.specs.Views.{key_answer}
 
@@ -26,14 +27,15 @@ found written (Err e) = Err e
 
 -- There is such an answer, which is refused for no other cause, and it is written so.
 abbrev pub Writes : {A B : Type 0} → (Result A Error → Type 0) → (Error → Type 0) → (A → B) → Found B → Type 0
-Writes {A} IsAnswer Refusals written row = (answer : Result A Error) × IsAnswer answer × IfErr answer Refusals × (row ≡ found written answer)
+Writes {A} IsAnswer Refusals written row =
+    (answer : Result A Error) × IsAnswer answer × IfErr answer Refusals × (row ≡ found written answer)
 
 -- ---- truths
 
 -- whether the path selects anything
 abbrev pub TellsExistence : Mode → List Step → List ℕ → Found ℕ → Type 0
 TellsExistence mode path document row =
-    Writes (OfDocument document (λ form t. IsFound (meaning mode path t))) (IsSelectionError mode) bool_byte row
+    Writes (OfDocument document (λ form t. IsFound form (meaning mode path t))) (IsSelectionError mode) bool_byte row
 
 -- what the path says
 abbrev pub TellsTruth : Mode → List Step → List ℕ → Found ℕ → Type 0
@@ -42,7 +44,8 @@ TellsTruth mode path document row = Writes (IsTruthOf mode path document) (IsSel
 -- whether the document contains the other
 abbrev pub TellsContainment : List ℕ → List ℕ → Found ℕ → Type 0
 TellsContainment wanted document row =
-    Writes (OfBoth document wanted (λ form t u answer. IsOkAnd answer (λ b. b ≡ contains t u))) IsDecodingError bool_byte row
+    Writes (OfBoth document wanted (λ form t u answer. IsOkAnd answer (λ b. b ≡ contains t u)))
+    IsDecodingError bool_byte row
 
 -- ---- `check`
 
@@ -53,28 +56,33 @@ ChecksDocument document row = IsCheckOf document (cell_status (Some row))
 -- ---- casts
 
 abbrev pub WritesI64 : List ℕ → Found ℤ → Type 0
-WritesI64 document row = Writes (OfDocument document (λ form t. CastsToI64 t)) (IsDecodingError or InvalidCast) (λ z. z) row
+WritesI64 document row =
+    Writes (OfDocument document (λ form t. CastsToI64 t)) (IsDecodingError or InvalidCast) (λ z. z) row
 
 abbrev pub WritesText : List ℕ → Found (List ℕ) → Type 0
 WritesText document row =
-    Writes (OfDocument document (λ form t. CastsToText (text_of t))) (IsDecodingError or OutOfMemory or InvalidCast) string_bytes row
+    Writes (OfDocument document (λ form t. CastsToText (text_of t)))
+    (IsDecodingError or OutOfMemory or InvalidCast) string_bytes row
 
 -- ---- keys
 
 abbrev pub WritesKey : Width → List ℕ → Found (List ℕ) → Type 0
 WritesKey w document row =
-    Writes (λ answer. IsKeyOf w document (key_answer answer)) (IsDecodingError or OutOfMemory or TooDeep) (λ made. made.items) row
+    Writes (λ answer. IsKeyOf w document (key_answer answer)) (IsDecodingError or OutOfMemory or TooDeep)
+    (λ made. made.items) row
 
 abbrev pub WritesEqualityKey : List ℕ → Found (List ℕ) → Type 0
 WritesEqualityKey document row =
-    Writes (λ answer. IsEqualityKeyOf document (key_answer answer)) (IsDecodingError or OutOfMemory) (λ made. made.items) row
+    Writes (λ answer. IsEqualityKeyOf document (key_answer answer)) (IsDecodingError or OutOfMemory)
+    (λ made. made.items) row
 
 -- ---- documents
 
 -- the part at the place that the steps meet
 abbrev pub FindsPart : List Key → List ℕ → Found (List ℕ) → Type 0
 FindsPart steps document row =
-    OfDocument document (λ form t. MakesOption form (tree_at_steps steps t)) row × IfErr row (IsDecodingError or OutOfMemory or TooLarge)
+    OfDocument document (λ form t. MakesOption form (tree_at_steps steps t)) row
+    × IfErr row (IsDecodingError or OutOfMemory or TooLarge)
 
 -- the document without the place that the steps meet
 abbrev pub DeletesPart : List Key → List ℕ → Found (List ℕ) → Type 0
@@ -84,4 +92,4 @@ DeletesPart steps document row =
 -- one document of what the path selects
 abbrev pub SelectsItem : Mode → (List Tree → Option Tree) → List Step → List ℕ → Found (List ℕ) → Type 0
 SelectsItem mode pick path document row =
-    OfDocument document (λ form t. IsPicked form pick (meaning mode path t)) row × IfErr row (IsDocumentError mode)
+    OfDocument document (λ form t. IsPicked pick form (meaning mode path t)) row × IfErr row (IsDocumentError mode)

@@ -5,7 +5,7 @@ use Rattle.jsonb.specs.Error.{Error}
 use Rattle.jsonb.specs.Error.TheVariants.{InvalidJsonb, UnsupportedNumber, InvalidJsonPath, InvalidKeyPath, TooLarge, TooDeep}
 use Rattle.jsonb.specs.Tree.{Tree}
 use Rattle.jsonb.specs.Payload.{Form, any}
-use Rattle.jsonb.specs.Format.{Decodes, WouldDecode}
+use Rattle.jsonb.specs.Format.{Decodes, IsUnsupportedDocument, IsNoDocument}
 use Rattle.jsonb.specs.Limits.{IsTooLarge}
 use Rattle.jsonb.specs.KeyPathGrammar.{Key, key_path}
 use Rattle.jsonb.specs.KeyPathText.{key_path_text}
@@ -29,10 +29,11 @@ use Rattle.jsonb_tool.specs.Requests.{Request, get, key, leaves, select, path_ma
 abbrev pub Output : Type 0
 Output = Result (List ℕ) Error
 
--- why bytes are no document: they would be one if each float and each decimal of 256 bits were a number, or not even then
+-- why bytes are no document: they would be one if each float and each decimal of 256 bits were a number, or not even
+-- then
 abbrev pub IsDamage : List ℕ → Error → Type 0
-IsDamage bytes UnsupportedNumber = ((t : Tree) → Decodes any bytes t → ⊥) × ((t : Tree) × WouldDecode bytes t)
-IsDamage bytes InvalidJsonb = (t : Tree) → WouldDecode bytes t → ⊥
+IsDamage bytes UnsupportedNumber = IsUnsupportedDocument bytes
+IsDamage bytes InvalidJsonb = IsNoDocument bytes
 IsDamage bytes _ = ⊥
 
 -- The outcome is as said of the tree that the bytes decode to, in each form in which they do.
@@ -67,7 +68,8 @@ ShowsKey t (Err e) = (e ≡ TooDeep) × (depths w8 ≤ deepest t)
 abbrev pub ShowsKeyOf : List ℕ → Output → Type 0
 ShowsKeyOf document outcome = OnDocument document (λ form t. ShowsKey t) outcome
 
--- The line of a leaf with these steps: a document of the tree at their place in hexadecimal, a space, and the steps as they print.
+-- The line of a leaf with these steps: a document of the tree at their place in hexadecimal, a space, and the steps as
+-- they print.
 abbrev pub IsLeafLine : Form → Tree → List Key → List ℕ → Type 0
 IsLeafLine form t steps line =
     (bytes : List ℕ) × IsSomeAnd (tree_at_steps steps t) (Decodes form bytes)
@@ -98,7 +100,8 @@ document_line bytes = encode_lower bytes ++ codes "\n"
 abbrev pub ShowsTrees : Form → List Tree → Output → Type 0
 ShowsTrees form [] outcome = outcome ≡ Ok (codes "none\n")
 ShowsTrees form (t ∷ ts) (Ok lines) =
-    (documents : List (List ℕ)) × AllRelated (Decodes form) documents (t ∷ ts) × (lines ≡ flat_map document_line documents)
+    (documents : List (List ℕ)) × AllRelated (Decodes form) documents (t ∷ ts)
+    × (lines ≡ flat_map document_line documents)
 ShowsTrees form (t ∷ ts) (Err e) = (e ≡ TooLarge) × HasTooLarge form (t ∷ ts)
 
 -- what a path has on a tree: its list, or its refusal
@@ -109,7 +112,8 @@ ShowsList form (Err e) outcome = outcome ≡ Err e
 -- `select`: the list of the path in lax mode, where it is a path
 abbrev pub ShowsSelection : Option (List Step) → List ℕ → Output → Type 0
 ShowsSelection None document outcome = outcome ≡ Err InvalidJsonPath
-ShowsSelection (Some path) document outcome = OnDocument document (λ form t. ShowsList form (meaning Lax path t)) outcome
+ShowsSelection (Some path) document outcome =
+    OnDocument document (λ form t. ShowsList form (meaning Lax path t)) outcome
 
 abbrev pub truth_line : Truth → List ℕ
 truth_line (Some true) = codes "true\n"

@@ -6,7 +6,8 @@ use Rattle.jsonb_c.specs.Status.{ok, buffer_too_small}
 
 -- the bytes stand at a place in the buffer, which is else as it was; or they have no room there, and it is as it was
 abbrev pub Places : List ℕ → ℕ → List ℕ → List ℕ → Bool → Type 0
-Places bytes at old new true = (at + length bytes ≤ length old) × (new ≡ take at old ++ (bytes ++ drop (at + length bytes) old))
+Places bytes at old new true =
+    (at + length bytes ≤ length old) × (new ≡ take at old ++ (bytes ++ drop (at + length bytes) old))
 Places bytes at old new false = (length old < at + length bytes) × (new ≡ old)
 
 -- the status of a call that did so many rows of all

@@ -1,17 +1,12 @@
 -- What a path tells or makes of a row, also one that is built by hand: by each meaning that it has.
-use Rattle.std.specs.Prelude.{ℕ, List, Option, Result, IfErr}
-use Rattle.jsonb_doc.specs.declared.error.Error.{Error}
-use Rattle.jsonb_doc.specs.Answer.{Outcome}
-use Rattle.jsonb_doc.specs.Format.{Decodes}
-use Rattle.jsonb_doc.specs.Payload.{Form}
+use Rattle.std.specs.Prelude.{ℕ, List, Option, IfErr}
 use Rattle.jsonb_doc.specs.Tree.{Tree}
 use Rattle.jsonb.specs.KeyPathGrammar.{Key}
-use Rattle.jsonb.specs.Meaning.{Means}
 use Rattle.jsonb.specs.PathTree.{Step}
 use Rattle.jsonb.specs.SelectionErrors.{IsDocumentError, IsSelectionError}
+use Rattle.jsonb.specs.SelectorAnswers.{ByMeanings, IsFound, IsPicked}
 use Rattle.jsonb.specs.declared.selector.document.Mode.{Mode}
 use Rattle.jsonb_c.specs.Answers.{bool_byte}
-use Rattle.jsonb_c.specs.Calls.{IsFound, IsPicked}
 use Rattle.jsonb_c.specs.Columns.{Found}
 use Rattle.jsonb_c.specs.Rows.{DeletesPart, FindsPart, TellsExistence, TellsTruth, Writes}
 use Rattle.jsonb_c.specs.declared.column.documents.Wanted.{Wanted}
@@ -19,15 +14,10 @@ use Rattle.jsonb_c.specs.declared.column.documents.Wanted.TheVariants.{Part, Res
 use Rattle.jsonb_c.specs.declared.column.truths.Question.{Question}
 use Rattle.jsonb_c.specs.declared.column.truths.Question.TheVariants.{Existence, Truth}
 
--- the answer of a path that may be built by hand, by each meaning that it has
-abbrev pub ByMeanings : {A : Type 0} → Mode → List ℕ → List Step → (Form → Outcome (List Tree) → Result A Error → Type 0) → Result A Error → Type 0
-ByMeanings mode document path Promise answer = (form : Form) (t : Tree) (outcome : Outcome (List Tree))
-    → Decodes form document t → Means form mode path t outcome → Promise form outcome answer
-
 -- whether the path selects anything
 abbrev pub TellsExistenceBy : Mode → List Step → List ℕ → Found ℕ → Type 0
 TellsExistenceBy mode path document row =
-    Writes (ByMeanings mode document path (λ form. IsFound)) (IsSelectionError mode) bool_byte row
+    Writes (ByMeanings mode document path IsFound) (IsSelectionError mode) bool_byte row
 
 -- what the path tells
 abbrev pub TellsBy : Question → Mode → List Step → List ℕ → Found ℕ → Type 0
@@ -41,7 +31,8 @@ told Truth = TellsTruth
 
 -- one document of what the path selects
 abbrev pub SelectsItemBy : Mode → (List Tree → Option Tree) → List Step → List ℕ → Found (List ℕ) → Type 0
-SelectsItemBy mode pick path document row = ByMeanings mode document path (λ form. IsPicked form pick) row × IfErr row (IsDocumentError mode)
+SelectsItemBy mode pick path document row =
+    ByMeanings mode document path (IsPicked pick) row × IfErr row (IsDocumentError mode)
 
 -- ---- key paths
 

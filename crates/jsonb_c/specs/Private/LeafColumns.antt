@@ -21,7 +21,8 @@ HasLeaves columns found = HasRows columns.paths (paths_of found) × HasRows colu
 
 -- the row is that of the leaf, if it is one
 abbrev pub IsRowOf : Leaf → LeafRow → Type 0
-IsRowOf leaf row = (row.0 ≡ key_path_text leaf.0) × (is_leaf false leaf.1 ≡ true → (form : Form) → Decodes form row.1 leaf.1)
+IsRowOf leaf row =
+    (row.0 ≡ key_path_text leaf.0) × (is_leaf false leaf.1 ≡ true → (form : Form) → Decodes form row.1 leaf.1)
 
 -- the refusal is that memory was refused, or that a document of the leaf is too large
 abbrev pub IsLeafRefusal : Leaf → Error → Type 0

@@ -4,12 +4,11 @@ ghost use Rattle.std.specs.Prelude.{◌≡◌, IfErr};
 ghost use Rattle.jsonb.specs.PathGrammar.{json_path};
 ghost use Rattle.jsonb.specs.PathViews.{path_view};
 ghost use Rattle.jsonb.specs.SelectionErrors.{IsDocumentError, IsSelectionError};
-ghost use Rattle.jsonb.specs.SelectorAnswers.{first_item, root_bytes, single_or_array};
+ghost use Rattle.jsonb.specs.SelectorAnswers.{first_item, root_bytes, single_or_array, IsArrayOf, IsFound, IsPicked, IsTruthOf, ByMeanings};
 ghost use Rattle.jsonb.specs.SelectorAnswers.{mode_of as selector_mode};
 ghost use Rattle.jsonb_c.specs.Answers.{HandsOverBool, HandsOverBytes, HandsOverFound, HandsOverTruth};
 ghost use Rattle.jsonb_c.specs.Private.Views.{pick_of};
-ghost use Rattle.jsonb_c.specs.Calls.{ByMeaning, IsArrayOf, IsFound, IsPicked, IsTruthOf, Says, mode_of};
-ghost use Rattle.jsonb_c.specs.Private.ByHand.{ByMeanings};
+ghost use Rattle.jsonb_c.specs.Calls.{ByMeaning, Says, mode_of};
 
 use crate::deliver::{deliver, deliver_made, show_bool, show_truth};
 use jsonb::{Error, JsonPath, OwnedJsonb, RawJsonb, Selector, parse_json_path};
@@ -26,7 +25,7 @@ pub extern "C" fn jsonb_select_value(
     out_len: &mut usize,
 ) -> u32
     ensures { HandsOverFound
-        (ByMeaning (mode_of strict) document.now (json_path path.now) (λ form. IsPicked form single_or_array))
+        (ByMeaning (mode_of strict) document.now (json_path path.now) (IsPicked single_or_array))
         (IsDocumentError (mode_of strict)) out.old out.new out_len.new result }
 {
     let item = select_item(alloc, document, path, strict, Pick::Value);
@@ -44,7 +43,7 @@ pub extern "C" fn jsonb_select_first(
     out_len: &mut usize,
 ) -> u32
     ensures { HandsOverFound
-        (ByMeaning (mode_of strict) document.now (json_path path.now) (λ form. IsPicked form first_item))
+        (ByMeaning (mode_of strict) document.now (json_path path.now) (IsPicked first_item))
         (IsDocumentError (mode_of strict)) out.old out.new out_len.new result }
 {
     let item = select_item(alloc, document, path, strict, Pick::First);
@@ -70,7 +69,7 @@ fn select_item(
     pick: Pick,
 ) -> Result<Option<OwnedJsonb>, Error>
     ensures item { ByMeaning (mode_of strict) document.now (json_path path.now)
-        (λ form. IsPicked form (pick_of pick)) result }
+        (IsPicked (pick_of pick)) result }
     ensures errors { IfErr result (IsDocumentError (mode_of strict)) }
 {
     let steps = parse_json_path(alloc, path)?;
@@ -86,7 +85,7 @@ pub(crate) fn pick_by_path<'a>(
     pick: Pick,
 ) -> Result<Option<OwnedJsonb>, Error>
     ensures picked { ByMeanings (mode_of strict) document.now (path_view path.now)
-        (λ form. IsPicked form (pick_of pick)) result }
+        (IsPicked (pick_of pick)) result }
     ensures errors { IfErr result (IsDocumentError (mode_of strict)) }
 {
     match pick {
@@ -150,14 +149,14 @@ pub extern "C" fn jsonb_exists(
     strict: bool,
     truth: &mut u8,
 ) -> u32
-    ensures { HandsOverBool (ByMeaning (mode_of strict) document.now (json_path path.now) (λ form. IsFound))
+    ensures { HandsOverBool (ByMeaning (mode_of strict) document.now (json_path path.now) IsFound)
         (IsSelectionError (mode_of strict)) truth.old truth.new result }
 {
     show_bool(path_exists(alloc, document, path, strict), truth)
 }
 
 fn path_exists(alloc: Global, document: &[u8], path: &[u8], strict: bool) -> Result<bool, Error>
-    ensures exists { ByMeaning (mode_of strict) document.now (json_path path.now) (λ form. IsFound) result }
+    ensures exists { ByMeaning (mode_of strict) document.now (json_path path.now) IsFound result }
     ensures errors { IfErr result (IsSelectionError (mode_of strict)) }
 {
     let steps = parse_json_path(alloc, path)?;
@@ -170,7 +169,7 @@ pub(crate) fn exists_by_path<'a>(
     path: &'a JsonPath<'_>,
     strict: bool,
 ) -> Result<bool, Error>
-    ensures exists { ByMeanings (mode_of strict) document.now (path_view path.now) (λ form. IsFound) result }
+    ensures exists { ByMeanings (mode_of strict) document.now (path_view path.now) IsFound result }
     ensures errors { IfErr result (IsSelectionError (mode_of strict)) }
 {
     selector(alloc, document, strict).exists(path)

@@ -1,6 +1,7 @@
 use Rattle.std.proofs.Common.{◌≡◌, [], refl}
 use Rattle.jsonb_doc.specs.Tree.{array, object, trees_of, pairs_of}
-use Rattle.jsonb_doc.specs.Value.{value_tree, trees_seen, members_seen}
+use Rattle.jsonb_doc.specs.Value.{value_tree}
+use Rattle.jsonb_doc.specs.Private.Values.{trees_seen, members_seen}
 use Rattle.jsonb_doc.specs.View.{number_view}
 use Rattle.jsonb_doc.proofs.ValueTrees.{tree_seen-Array, tree_seen-Object}
 use Rattle.jsonb_c.proofs.LeafRows.{empty_array, empty_object}

@@ -1,5 +1,6 @@
 use Rattle.jsonb.specs.PathViews.{path_view}
-use Rattle.jsonb_c.specs.Calls.{IsTruthOf, mode_of}
+use Rattle.jsonb_c.specs.Calls.{mode_of}
+use Rattle.jsonb.specs.SelectorAnswers.{IsTruthOf}
 use Rattle.jsonb_c.proofs.document.select.match_by_path.Goals as goal
 
 pub returns-clause-truth : goal.returns-clause-truth

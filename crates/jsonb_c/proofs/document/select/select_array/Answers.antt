@@ -1,4 +1,4 @@
-use Rattle.jsonb_c.specs.Calls.{IsArrayOf}
+use Rattle.jsonb.specs.SelectorAnswers.{IsArrayOf}
 use Rattle.jsonb_c.proofs.Paths.{by_meaning}
 use Rattle.jsonb_c.proofs.document.select.select_array.Goals as goal
 
