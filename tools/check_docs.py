@@ -1,6 +1,6 @@
 #!/usr/bin/env python3
-"""Tells which public items lack a part of their doc comment, which files docs/PROOFS.md names that are not there, and which types
-docs/API.md gives that calls don't have.
+"""Tells which public items lack a part of their doc comment, which files docs/PROOFS.md names that are not there or have other
+lines than it says, and which types docs/API.md gives that calls don't have.
 
     tools/check_docs.py [CRATE..]     of these crates, or of the four that users name; the last line is 'N passed, M failed'
 
@@ -137,6 +137,22 @@ def named_places():
             yield f"docs/PROOFS.md:{at + 1}", ROOT / "crates" / (owner or crate) / place
 
 
+def lines_to_believe(place):
+    """How many lines a file of specs/, or all that has to be believed there, has without comments and imports."""
+    if place.is_dir():
+        return sum(map(lines_to_believe, place.glob("*.antt")))
+    lines = (line.strip() for line in place.read_text().splitlines()) if place.is_file() else ()
+    return sum(bool(line) and not line.startswith(("--", "use ", "pub use ", "pub mod ")) for line in lines)
+
+
+def counted_places():
+    """The places in specs/ that docs/PROOFS.md gives with their lines: where, the place, and the lines."""
+    for at, line in enumerate((ROOT / "docs/PROOFS.md").read_text().splitlines()):
+        for crate, name, lines in re.findall(r"^\| (?:all of )?`(\w+)/specs(/\w+)?` \| (\d+) \|", line):
+            place = ROOT / "crates" / crate / "specs"
+            yield f"docs/PROOFS.md:{at + 1}", place / f"{name[1:]}.antt" if name else place, int(lines)
+
+
 def answered_types():
     """For each public function's name, alone and behind its type and `::`, the types that functions of that name answer."""
     found = {}
@@ -181,6 +197,9 @@ def faults(crates):
     for line, place in named_places():
         is_there = place.is_dir() or place.with_suffix(".antt").is_file()
         yield "" if is_there else f"{line} names {place.relative_to(ROOT)}, which is not there"
+    for line, place, lines in counted_places():
+        counted = lines_to_believe(place)
+        yield "" if lines == counted else f"{line} gives {place.relative_to(ROOT)} {lines} lines, it has {counted}"
     types = answered_types()
     for line, call, given in given_types():
         has = types.get(call, set())

@@ -90,7 +90,8 @@ def document_runs(shape):
 def path_runs():
     for shape in ("open_parentheses", "unfinished_filters"):
         yield Run("exists", shape, MILLION, "JSONB_INVALID_JSON_PATH 0 0")
-    for shape, truth in [("parentheses", 0), ("filters", 1), ("and_chain", 1), ("or_chain", 0), ("right_sides", 1), ("fields", 0)]:
+    truths = {"parentheses": 0, "filters": 1, "filters_of_elements": 1, "and_chain": 1, "or_chain": 0}
+    for shape, truth in {**truths, "right_sides": 1, "fields": 0}.items():
         yield Run("exists", shape, MILLION, f"JSONB_OK 0 {truth}")
 
 
@@ -116,7 +117,7 @@ SMALL_STACK = 256 << 10
 # Calls that need a stack that grows with the path (docs/DECISIONS.md says why). They are run all the same: one that no longer
 # needs it is a failure, so that this list stays true.
 NEEDS_MORE = {
-    ("exists", "filters"),
+    ("exists", "filters_of_elements"),
 }
 
 
@@ -212,6 +213,7 @@ MORE_ON_KEY_PATHS = {
 PATHS = {
     "parentheses": ("$?", "(", "@ == 1", ")"),
     "filters": ("$", "?(exists(@", "", "))"),
+    "filters_of_elements": ("$", "[*]?(exists(@", "", "))"),
     "and_chain": ("$?(1==1", "&&1==1", ")", ""),
     "or_chain": ("$?(1==2", "||1==2", ")", ""),
     "right_sides": ("$?(", "1==1&&(", "1==1)", ")"),
