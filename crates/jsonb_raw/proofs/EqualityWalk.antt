@@ -1,13 +1,16 @@
 -- A walk over levels that spells equality keys: what is written, and then the keys of what each level has left, the innermost
 -- first, is the whole.
-use Rattle.std.proofs.Common.{◌≡◌, ◌++◌, ℕ, List, [], ◌∷◌, Some, None, refl, sym, ap, ◌∙◌, append_assoc, append-nil, length}
+use Rattle.std.proofs.Common.{◌≡◌, ◌++◌, ℕ, List, [], ◌∷◌, Some, None, refl, sym, ap, ◌∙◌, append_assoc, append-nil, length, arith}
+use Rattle.std.specs.Prelude.{reverse}
 use Rattle.std.specs.Int.{w32, to_be_bytes}
 use Rattle.jsonb_doc.specs.Tree.{Tree, Trees, Pairs, count, keys}
+use Rattle.jsonb_doc.specs.Payload.{Form}
 use Rattle.jsonb_raw.specs.SortableKey.{text_bytes}
 use Rattle.jsonb_raw.specs.EqualityKey.{equality_key, equality_keys_of_trees, equality_keys_of_pairs}
 use Rattle.jsonb_raw.specs.Private.EqualityParts.{equality_start, equality_part_start}
 use Rattle.jsonb_raw.specs.Private.Levels.{Part, parts, parts_of_trees, parts_of_pairs}
-use Rattle.jsonb_raw.proofs.LevelLemmas.{count_of_trees, count_of_pairs}
+use Rattle.jsonb_raw.specs.declared.level.Level.{Level}
+use Rattle.jsonb_raw.proofs.LevelLemmas.{count_of_trees, count_of_pairs, HavePartsLeft, as_many_around}
 
 -- ---- the key of a tree by its parts
 
@@ -74,6 +77,14 @@ part_done p ps ls out out' whole none h e = rw none at (part_begun p ps ls out o
 -- nothing is left at any level
 pub walk_done : (out whole : List ℕ) → out ++ keys_of_levels ([] ∷ []) ≡ whole → out ≡ whole
 walk_done out whole h = sym (append-nil out) ∙ h
+
+pub all_written : (form : Form) (around : List Level) (others : List (List Part)) (out whole : List ℕ) → length around ≡ 0
+    → HavePartsLeft form (reverse around) others → out ++ keys_of_levels ([] ∷ others) ≡ whole → out ≡ whole
+all_written form around others out whole none h fact = by others (omega (arith, as_many_around form around others h, none)) fact
+  where
+    by : (ls : List (List Part)) → length ls ≡ 0 → out ++ keys_of_levels ([] ∷ ls) ≡ whole → out ≡ whole
+    by [] e f = walk_done out whole f
+    by (l ∷ ls) e f = absurd (omega (arith, e))
 
 -- a document without parts is its start
 pub only_start : (t : Tree) (old out : List ℕ) → parts t ≡ [] → out ≡ old ++ equality_start t → out ≡ old ++ equality_key t

@@ -54,6 +54,13 @@ counted_less m n key w u e q = inserted m n key w u q ∙ by (bytes_eq key.items
     by true d = e ∙ ap (λ x. x - 1) (same_count m key q (d refl))
     by false d = omega arith
 
+-- a new key, whose copy the map has
+pub counted_new : (m n : KeyCounts) (key copy : Vec ℕ Global) → copy.items ≡ key.items → map.Updates key_cmp m.counts n.counts copy (Some 1) → counted m key ≡ 0
+    → (q : Vec ℕ Global) → counted n q ≡ counted m q + one_at key.items q
+counted_new m n key copy same u none q =
+    let zero : counted m copy ≡ 0 = same_count m copy key same ∙ none in
+    counted_more m n copy 1 u (ap (λ x. x + 1) (sym zero)) q ∙ ap (λ k. counted m q + one_at k q) same
+
 pub counted_none : (m : KeyCounts) (key : Vec ℕ Global) → counted m key ≡ 0 → (q : Vec ℕ Global) → counted m q ≡ counted m q - one_at key.items q
 counted_none m key e q = by (bytes_eq key.items q.items) (bytes_eq-Decides key.items q.items).0
   where

@@ -1,6 +1,6 @@
 //! The equality key of a document: a walk over its items that writes kinds, counts and contents.
 
-ghost use Rattle.std.specs.Prelude.{◌≡◌, ◌≤◌, ◌<◌, ◌+◌, ◌^◌, ◌++◌, ◌∷◌, length, take, drop, IfOk, IfSome, IfErr, MatchResult};
+ghost use Rattle.std.specs.Prelude.{◌≡◌, ◌≤◌, ◌<◌, ◌+◌, ◌^◌, ◌++◌, ◌∷◌, ℕ, List, Some, length, take, drop, IfOk, IfSome, IfErr, MatchResult};
 ghost use Rattle.std.specs.Int.{w32, w64, to_be_bytes};
 ghost use Rattle.jsonb_doc.specs.Tree.{Tree};
 ghost use Rattle.jsonb_doc.specs.View.{number_view, extension_view};
@@ -151,15 +151,14 @@ fn push_part<'a>(
     push_entry(out, entry)
 }
 
-/// Appends the equality key of an item. What is left of the containers that the walk is within lies in a `Vec`.
-fn push_item(alloc: Global, out: &mut Vec<u8>, item: &Item<'_>) -> Result<(), Error>
-    ensures key { (form : Form) (tree : Tree) → StandsFor form item.now tree
-        → MatchResult result (λ _. out.new.items ≡ out.old.items ++ equality_key tree) IsOutOfMemory }
+/// Appends the keys of a tree's parts, behind what stands before them. What is left of the containers that the walk is
+/// within lies in a `Vec`.
+fn push_parts(alloc: Global, out: &mut Vec<u8>, found: Level<'_>) -> Result<(), Error>
+    ensures key { (form : Form) (tree : Tree) (front : List ℕ) → IsLevelOf form tree (Some found.entry)
+        → out.old.items ≡ front ++ equality_start tree
+        → MatchResult result (λ _. out.new.items ≡ front ++ equality_key tree) IsOutOfMemory }
     ensures errors { IfErr result (IsDecodingError or OutOfMemory) }
 {
-    let Some(found) = push_start(out, item)? else {
-        return Ok(());
-    };
     let mut level = found;
     let mut around = Vec::new(alloc);
     'walk: loop {
@@ -175,6 +174,18 @@ fn push_item(alloc: Global, out: &mut Vec<u8>, item: &Item<'_>) -> Result<(), Er
                 None => return Ok(()),
             },
         }
+    }
+}
+
+/// Appends the equality key of an item.
+fn push_item(alloc: Global, out: &mut Vec<u8>, item: &Item<'_>) -> Result<(), Error>
+    ensures key { (form : Form) (tree : Tree) → StandsFor form item.now tree
+        → MatchResult result (λ _. out.new.items ≡ out.old.items ++ equality_key tree) IsOutOfMemory }
+    ensures errors { IfErr result (IsDecodingError or OutOfMemory) }
+{
+    match push_start(out, item)? {
+        Some(found) => push_parts(alloc, out, found),
+        None => Ok(()),
     }
 }
 
@@ -196,6 +207,27 @@ pub fn item_key(alloc: Global, item: &Item<'_>) -> Result<Vec<u8>, Error>
     let mut out = Vec::with_capacity(alloc, first_capacity(item))?;
     push_item(alloc, &mut out, item)?;
     Ok(out)
+}
+
+/// How many bytes the key of a number of 64 bits takes at most, and of a truth value.
+const SHORT_KEY: usize = 25;
+
+/// Makes a vector the equality key of an entry. What it held is lost.
+pub fn write_entry_key(
+    alloc: Global,
+    out: &mut Vec<u8>,
+    entry: &StoredEntry<'_>,
+) -> Result<(), Error>
+    ensures key { (form : Form) (tree : Tree) → Stores form entry.now tree
+        → MatchResult result (λ _. out.new.items ≡ equality_key tree) IsOutOfMemory }
+    ensures errors { IfErr result (IsDecodingError or OutOfMemory) }
+{
+    out.clear();
+    out.reserve(entry.content.len().saturating_add(SHORT_KEY))?;
+    match push_entry(out, entry)? {
+        Some(found) => push_parts(alloc, out, found),
+        None => Ok(()),
+    }
 }
 
 /// Appends the equality key of a document.

@@ -19,6 +19,10 @@ const NESTED: &[u8] =
 const NESTED_DECIMALS: &[u8] =
     b"\x80\x00\x00\x02\x50\x00\x00\x12\x50\x00\x00\x17\x80\x00\x00\x01\x20\x00\x00\x0a\x70\x00\x00\x00\x00\x00\x00\x00\x0a\x01\x40\x00\x00\x01\x10\x00\x00\x01\x20\x00\x00\x0a\x6b\x70\x00\x00\x00\x00\x00\x00\x00\x0a\x01";
 
+// [1,1,2,1,3]
+const IN_RUNS: &[u8] =
+    b"\x80\x00\x00\x05\x20\x00\x00\x02\x20\x00\x00\x02\x20\x00\x00\x02\x20\x00\x00\x02\x20\x00\x00\x02\x50\x01\x50\x01\x50\x02\x50\x01\x50\x03";
+
 type Made = Result<OwnedJsonb, Error>;
 
 fn distinct(alloc: Global, bytes: &[u8]) -> Made {
@@ -44,6 +48,9 @@ fn the_first_of_equal_elements_stays(rt: HostRuntime) -> Result<(), Fail> {
     let object =
         b"\x80\x00\x00\x01\x50\x00\x00\x12\x40\x00\x00\x01\x10\x00\x00\x03\x10\x00\x00\x03\x61\x73\x64\x61\x64\x66".as_slice();
     let date = b"\x80\x00\x00\x01\x60\x00\x00\x05\x10\x00\x00\x00\x01".as_slice();
+    // [1,2,3]
+    let one_to_three =
+        b"\x80\x00\x00\x03\x20\x00\x00\x02\x20\x00\x00\x02\x20\x00\x00\x02\x50\x01\x50\x02\x50\x03".as_slice();
     for (bytes, wanted) in [
         (EQUAL_NUMBERS, one_and_two),
         (TENS, TENS),
@@ -52,6 +59,8 @@ fn the_first_of_equal_elements_stays(rt: HostRuntime) -> Result<(), Fail> {
         (ONE_PAIR, object),
         (DATE, date),
         (NESTED, NESTED),
+        (TEXT_AND_ONE, TEXT_AND_ONE),
+        (IN_RUNS, one_to_three),
     ] {
         let made = distinct(rt.alloc(), bytes)?;
         assert_eq!(rt; made.as_raw().as_bytes(), wanted);
@@ -74,6 +83,14 @@ fn a_split_keeps_and_drops_by_counts(rt: HostRuntime) -> Result<(), Fail> {
     // [2,1.0]
     let dropped_twice =
         b"\x80\x00\x00\x02\x20\x00\x00\x02\x20\x00\x00\x0a\x50\x02\x70\x00\x00\x00\x00\x00\x00\x00\x0a\x01".as_slice();
+    // [1,3] and [1,2,1]
+    let one_and_three =
+        b"\x80\x00\x00\x02\x20\x00\x00\x02\x20\x00\x00\x02\x50\x01\x50\x03".as_slice();
+    // [1,2,1,3]
+    let without_one =
+        b"\x80\x00\x00\x04\x20\x00\x00\x02\x20\x00\x00\x02\x20\x00\x00\x02\x20\x00\x00\x02\x50\x01\x50\x02\x50\x01\x50\x03".as_slice();
+    let others_in_runs =
+        b"\x80\x00\x00\x03\x20\x00\x00\x02\x20\x00\x00\x02\x20\x00\x00\x02\x50\x01\x50\x02\x50\x01".as_slice();
     for (bytes, other, kept, dropped) in [
         (EQUAL_NUMBERS, ONE_ELEMENT, ONE_ELEMENT, dropped_once),
         (EQUAL_NUMBERS, two_ones, two_ones, dropped_twice),
@@ -85,6 +102,9 @@ fn a_split_keeps_and_drops_by_counts(rt: HostRuntime) -> Result<(), Fail> {
         (NESTED, NESTED_DECIMALS, NESTED, EMPTY_ARRAY),
         (NESTED_DECIMALS, NESTED, NESTED_DECIMALS, EMPTY_ARRAY),
         (NESTED_ARRAY, ONE_ELEMENT, EMPTY_ARRAY, NESTED_ARRAY),
+        (IN_RUNS, one_and_three, one_and_three, others_in_runs),
+        (one_and_three, IN_RUNS, one_and_three, EMPTY_ARRAY),
+        (IN_RUNS, TEXT_AND_ONE, ONE_ELEMENT, without_one),
     ] {
         let intersection = intersection(rt.alloc(), bytes, other)?;
         assert_eq!(rt; intersection.as_raw().as_bytes(), kept);

@@ -25,36 +25,36 @@ impl KeyCounts {
         }
     }
 
-    /// How often the key is counted.
-    fn count(&self, key: &Vec<u8>) -> usize
-        ensures { result ≡ counted self.now key.now }
-    {
-        self.counts.get(key).copied().unwrap_or(0)
-    }
-
-    /// Counts the key once more, and answers how often it was counted before.
-    pub(super) fn add(&mut self, key: Vec<u8>) -> Result<usize, Error>
-        ensures before { MatchResult result (λ before. before ≡ counted self.old key) IsOutOfMemory }
-        ensures more { MatchResult result (λ _. counted self.old key < 2 ^ 63
+    /// Counts the key once more, and answers how often it was counted before. A key that is new is copied.
+    pub(super) fn add(&mut self, alloc: Global, key: &Vec<u8>) -> Result<usize, Error>
+        ensures before { MatchResult result (λ before. before ≡ counted self.old key.now) IsOutOfMemory }
+        ensures more { MatchResult result (λ _. counted self.old key.now < 2 ^ 63
             → (other : Vec ℕ Global) → counted self.new other
-            ≡ counted self.old other + one_at key.items other) IsOutOfMemory }
+            ≡ counted self.old other + one_at key.now.items other) IsOutOfMemory }
     {
-        let before = self.count(&key);
-        self.counts.insert(key, before.saturating_add(1))?;
-        Ok(before)
+        if let Some(count) = self.counts.get_mut(key) {
+            let before = *count;
+            *count = before.saturating_add(1);
+            return Ok(before);
+        }
+        let copy = Vec::from_slice(alloc, key.as_slice())?;
+        self.counts.insert(copy, 1)?;
+        Ok(0)
     }
 
     /// Takes one from the key's count, and answers whether there was one.
-    pub(super) fn take(&mut self, key: Vec<u8>) -> Result<bool, Error>
-        ensures taken { MatchResult result (λ taken. taken ≡ nat_lt 0 (counted self.old key)) IsOutOfMemory }
-        ensures less { MatchResult result (λ _. (other : Vec ℕ Global)
-            → counted self.new other ≡ counted self.old other - one_at key.items other) IsOutOfMemory }
+    pub(super) fn take(&mut self, key: &Vec<u8>) -> bool
+        ensures taken { result ≡ nat_lt 0 (counted self.old key.now) }
+        ensures less { (other : Vec ℕ Global)
+            → counted self.new other ≡ counted self.old other - one_at key.now.items other }
     {
-        let count = self.count(&key);
-        if count == 0 {
-            return Ok(false);
+        match self.counts.get_mut(key) {
+            Some(count) => {
+                let before = *count;
+                *count = before.saturating_sub(1);
+                before > 0
+            }
+            None => false,
         }
-        self.counts.insert(key, count - 1)?;
-        Ok(true)
     }
 }

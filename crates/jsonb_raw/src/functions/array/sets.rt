@@ -16,15 +16,22 @@ ghost use Rattle.jsonb_raw.specs.Documents.{raw_bytes, Makes};
 ghost use Rattle.jsonb_raw.specs.EqualityKey.{equality_key};
 ghost use Rattle.jsonb_raw.specs.Arrays.{as_elements};
 ghost use Rattle.jsonb_raw.specs.Sets.{select_occurrences, distinct, intersection_of, difference_of, overlap};
+ghost use Rattle.jsonb_raw.specs.Private.Rows.{HoldTrees};
 ghost use Rattle.jsonb_raw.specs.Private.SetCounts.{CountsKeys, CountsBehind, keeps, kept_one};
 
 use super::counts::KeyCounts;
 use super::overlap::entries_overlap;
 use crate::equal_items::items_equal;
-use crate::equality_key::item_key;
+use crate::equality_key::{item_key, write_entry_key};
+use crate::functions::entries::element_entries;
+use crate::functions::joined::array_of;
+use crate::functions::parts::{Entries, FirstEntry};
+use crate::functions::runs::{first_entry, push_run};
 use crate::owned::OwnedJsonb;
 use crate::raw::RawJsonb;
-use jsonb_doc::{ArrayBuilder, ElementIter, Error, Item, array_entries, elements, root_item};
+use jsonb_doc::{
+    ArrayBuilder, ElementIter, Error, Item, StoredEntry, array_entries, elements, root_item,
+};
 use std::alloc::Global;
 
 /// Which elements of an array are kept.
@@ -39,20 +46,60 @@ enum Kept {
 }
 
 /// Decides whether an element with this key is kept. The counts move on behind it.
-fn decide(kind: Kept, counts: &mut KeyCounts, key: Vec<u8>) -> Result<bool, Error>
+fn decide(alloc: Global, kind: Kept, counts: &mut KeyCounts, key: &Vec<u8>) -> Result<bool, Error>
     ensures kept { (other before : List Tree) (t : Tree) → CountsBehind kind counts.old other before
-        → Fits t → key.items ≡ equality_key t → length before < 2 ^ 63
+        → Fits t → key.now.items ≡ equality_key t → length before < 2 ^ 63
         → MatchResult result (λ b. b ≡ keeps kind other (before, t)) IsOutOfMemory }
     ensures behind { (other before : List Tree) (t : Tree) → CountsBehind kind counts.old other before
-        → Fits t → key.items ≡ equality_key t → length before < 2 ^ 63
+        → Fits t → key.now.items ≡ equality_key t → length before < 2 ^ 63
         → MatchResult result (λ b. CountsBehind kind counts.new other (t ∷ before)) IsOutOfMemory }
     ensures errors { IfErr result IsOutOfMemory }
 {
     match kind {
-        Kept::First => Ok(counts.add(key)? == 0),
-        Kept::Shared => counts.take(key),
-        Kept::Unshared => Ok(!counts.take(key)?),
+        Kept::First => Ok(counts.add(alloc, key)? == 0),
+        Kept::Shared => Ok(counts.take(key)),
+        Kept::Unshared => Ok(!counts.take(key)),
     }
+}
+
+/// The first entry as it is stored.
+#[inline(always)]
+fn stored<'a>(first: &FirstEntry<'a>) -> StoredEntry<'a>
+    ensures kind { result.kind ≡ first.now.kind }
+    ensures content { result.content.now ≡ first.now.content.now }
+{
+    StoredEntry {
+        kind: first.kind,
+        content: first.content,
+    }
+}
+
+/// The array of the elements of a row that are kept, copied in runs.
+fn kept_elements(
+    alloc: Global,
+    kind: Kept,
+    mut counts: KeyCounts,
+    row: Entries<'_>,
+) -> Result<OwnedJsonb, Error>
+    ensures made { (form : Form) (other ts : List Tree) → HoldTrees form row.entry ts
+        → AllByRecursion Fits ts → length ts < 2 ^ 63 → CountsBehind kind counts other []
+        → Makes form (array (trees_of (select_occurrences (keeps kind other) ts))) result }
+    ensures errors { IfErr result (IsDecodingError or OutOfMemory or TooLarge) }
+{
+    let mut key = Vec::new(alloc);
+    let mut rows = Vec::new(alloc);
+    let mut run = row;
+    let mut left = row;
+    while let Some(first) = first_entry(left)? {
+        write_entry_key(alloc, &mut key, &stored(&first))?;
+        if !decide(alloc, kind, &mut counts, &key)? {
+            push_run(&mut rows, run, left)?;
+            run = first.others;
+        }
+        left = first.others;
+    }
+    push_run(&mut rows, run, left)?;
+    array_of(alloc, rows.as_slice())
 }
 
 /// Adds the item behind the elements that the builder holds, where it is kept. The counts move on behind it.
@@ -75,30 +122,10 @@ fn push_kept(
     ensures errors { IfErr result (IsDecodingError or OutOfMemory or TooLarge) }
 {
     let key = item_key(alloc, item)?;
-    if !decide(kind, counts, key)? {
+    if !decide(alloc, kind, counts, &key)? {
         return Ok(());
     }
     builder.push_item(item)
-}
-
-/// The array of the elements that are kept.
-fn kept_elements(
-    alloc: Global,
-    kind: Kept,
-    mut counts: KeyCounts,
-    found: ElementIter<'_>,
-) -> Result<OwnedJsonb, Error>
-    ensures made { (form : Form) (other : List Tree) (ts : Trees) → HasElementsLeft form found.entry ts
-        → AllByRecursion Fits (elements_of ts) → length (elements_of ts) < 2 ^ 63
-        → CountsBehind kind counts other []
-        → Makes form (array (trees_of (select_occurrences (keeps kind other) (elements_of ts)))) result }
-    ensures errors { IfErr result (IsDecodingError or OutOfMemory or TooLarge) }
-{
-    let mut builder = ArrayBuilder::new(alloc);
-    for item in found {
-        push_kept(alloc, kind, &mut counts, &mut builder, &item?)?;
-    }
-    Ok(OwnedJsonb::new(builder.build()?))
 }
 
 /// The array of an item that counts as one element, or no element where it is not kept.
@@ -130,21 +157,25 @@ fn kept_of_document(
         → Makes form (array (trees_of (select_occurrences (keeps kind other) (as_elements t)))) result }
     ensures errors { IfErr result (IsDecodingError or OutOfMemory or TooLarge) }
 {
-    match elements(bytes)? {
-        Some(found) => kept_elements(alloc, kind, counts, found),
+    match element_entries(bytes)? {
+        Some(row) => kept_elements(alloc, kind, counts, row),
         None => kept_item(alloc, kind, counts, &root_item(bytes)?),
     }
 }
 
-/// Counts the keys of the elements.
-fn count_elements(alloc: Global, found: ElementIter<'_>) -> Result<KeyCounts, Error>
-    ensures counts { (form : Form) (ts : Trees) → HasElementsLeft form found.entry ts
-        → length (elements_of ts) < 2 ^ 63 → MatchResult result (λ m. CountsKeys m (elements_of ts)) IsOutOfMemory }
+/// Counts the keys of the elements of a row.
+fn count_elements(alloc: Global, row: Entries<'_>) -> Result<KeyCounts, Error>
+    ensures counts { (form : Form) (ts : List Tree) → HoldTrees form row.entry ts
+        → length ts < 2 ^ 63 → MatchResult result (λ m. CountsKeys m ts) IsOutOfMemory }
     ensures errors { IfErr result (IsDecodingError or OutOfMemory) }
 {
     let mut counts = KeyCounts::new(alloc);
-    for item in found {
-        counts.add(item_key(alloc, &item?)?)?;
+    let mut key = Vec::new(alloc);
+    let mut left = row;
+    while let Some(first) = first_entry(left)? {
+        write_entry_key(alloc, &mut key, &stored(&first))?;
+        counts.add(alloc, &key)?;
+        left = first.others;
     }
     Ok(counts)
 }
@@ -156,7 +187,7 @@ fn count_item(alloc: Global, item: &Item<'_>) -> Result<KeyCounts, Error>
     ensures errors { IfErr result (IsDecodingError or OutOfMemory) }
 {
     let mut counts = KeyCounts::new(alloc);
-    counts.add(item_key(alloc, item)?)?;
+    counts.add(alloc, &item_key(alloc, item)?)?;
     Ok(counts)
 }
 
@@ -167,8 +198,8 @@ fn count_document(alloc: Global, bytes: &[u8]) -> Result<KeyCounts, Error>
     ensures fit { (form : Form) (t : Tree) → Decodes form bytes.now t → AllByRecursion Fits (as_elements t) }
     ensures errors { IfErr result (IsDecodingError or OutOfMemory) }
 {
-    match elements(bytes)? {
-        Some(found) => count_elements(alloc, found),
+    match element_entries(bytes)? {
+        Some(row) => count_elements(alloc, row),
         None => count_item(alloc, &root_item(bytes)?),
     }
 }

@@ -1,6 +1,6 @@
 //! The leaves of a document, with their key paths.
 
-ghost use Rattle.std.specs.Prelude.{◌≡◌, ◌<◌, ◌^◌, ◌++◌, [], ◌∷◌, ℕ, List, Option, length, IsOkAnd, IfOk, IfSome, IfErr, MatchResult};
+ghost use Rattle.std.specs.Prelude.{◌≡◌, ◌+◌, ◌<◌, ◌^◌, ◌++◌, [], ◌∷◌, ℕ, List, Option, length, vec_len, vec_capacity, IsOkAnd, IfOk, IfSome, IfErr, MatchResult};
 ghost use Rattle.jsonb_doc.specs.Tree.{Tree};
 ghost use Rattle.jsonb_doc.specs.Payload.{Form};
 ghost use Rattle.jsonb_doc.specs.Format.{Decodes};
@@ -10,7 +10,7 @@ ghost use Rattle.jsonb_doc.specs.Answer.{IsOutOfMemory, ◌or◌, IsDecodingErro
 ghost use Rattle.jsonb_doc.specs.declared.error.Error.TheVariants.{OutOfMemory};
 ghost use Rattle.jsonb_doc.specs.Value.{value_tree, value_parts};
 ghost use Rattle.jsonb_doc.specs.declared.value.Value.{Value};
-ghost use Rattle.jsonb_keypath.specs.KeyPathViews.{key_view, key_paths_view};
+ghost use Rattle.jsonb_keypath.specs.KeyPathViews.{keys_view, key_paths_view};
 ghost use Rattle.jsonb_raw.specs.Documents.{raw_bytes};
 ghost use Rattle.jsonb_raw.specs.Leaves.{leaves};
 ghost use Rattle.jsonb_raw.specs.LeafViews.{leaves_seen};
@@ -35,14 +35,17 @@ struct Entered<'a> {
     index: u32,
 }
 
-/// The step to a part: its key, where it has one, and else its index.
+/// Puts the step to a part behind the others: its key, where it has one, and else its index.
 #[inline(always)]
-fn step_to<'a>(key: Option<&'a str>, index: u32) -> KeyPath<'a>
-    ensures { key_view result ≡ step_at key.entry index }
+fn push_step<'a>(steps: &mut Vec<KeyPath<'a>>, key: Option<&'a str>, index: u32)
+    requires room { vec_len steps.old < vec_capacity steps.old }
+    ensures steps { keys_view steps.new.items ≡ keys_view steps.old.items ++ step_at key.entry index ∷ [] }
+    ensures len { vec_len steps.new ≡ vec_len steps.old + 1 }
+    ensures capacity { vec_capacity steps.new ≡ vec_capacity steps.old }
 {
     match key {
-        Some(key) => KeyPath::Name(CowStr::Borrowed(key)),
-        None => KeyPath::Index(index.cast_signed()),
+        Some(key) => steps.push_reserved(KeyPath::Name(CowStr::Borrowed(key))),
+        None => steps.push_reserved(KeyPath::Index(index.cast_signed())),
     }
 }
 
@@ -58,9 +61,9 @@ fn path_to<'a>(
 {
     let mut paths = Vec::with_capacity(alloc, around.len() + 1)?;
     for entered in around {
-        paths.push_reserved(step_to(entered.key, entered.index));
+        push_step(&mut paths, entered.key, entered.index);
     }
-    paths.push_reserved(step_to(key, index));
+    push_step(&mut paths, key, index);
     Ok(KeyPaths { paths })
 }
 

@@ -1,38 +1,31 @@
-use Rattle.jsonb_doc.specs.Tree.{elements}
-use Rattle.jsonb_raw.proofs.IteratorItems.{SomeElements-first, SomeElements-error, SomeElements-none}
+use Rattle.std.proofs.lemmas.Result.{err_from_is_err_and}
+use Rattle.jsonb_raw.proofs.RowWalks.{entry_taken, no_entry_left}
+use Rattle.jsonb_raw.proofs.SetKept.{stores_next}
 use Rattle.jsonb_raw.proofs.KeysCounted.{CountsLeft-all, CountsLeft-next, CountsLeft-done}
 use Rattle.jsonb_raw.proofs.functions.array.sets.count_elements.Goals as goal
 
-pub loop-item-init : goal.loop-item-init
-loop-item-init c = record {
-  can = tt;
-  finite = tt;
-  left = λ form ts l few. record {
-    trees = ts;
-    left = rw c.into_iter-item-iterator.ensures.into_iter_gives l;
-    fact = CountsLeft-all _
-        (elements ts) c.new-counts.ensures;
-  };
+pub loop-key-init : goal.loop-key-init
+loop-key-init c = record { left = λ form ts h few. (ts, h, CountsLeft-all _ ts c.new-counts.ensures) }
+
+pub loop-key-preserved : goal.loop-key-preserved
+loop-key-preserved c = record {
+  left = λ form ts h few.
+      let i = c.loop-key.invariant.left form ts h few in
+      let f = entry_taken form _ i.0 _ _ c.in-Some.is (c.in_ok-first.ensures.first form _ i.1) in
+      let key = c.in_ok-write_entry_key.ensures.key form f.t (stores_next form f.t c.stored.result c.in-Some.first c.stored.ensures.kind c.stored.ensures.content f.part) in
+      (f.rest, f.others, CountsLeft-next c.loop-key.counts c.add.new.self c.write_entry_key.new.out f.t f.rest ts (rw f.split at i.2) key few c.in_ok-add.ensures.more);
 }
 
-pub returns-in_err-item-clause-counts : goal.returns-in_err-item-clause-counts
-returns-in_err-item-clause-counts c = λ form ts l few.
-    SomeElements-error form _ _ _ _ _ c.in_err-item.was c.in-Some.ensures.steps (c.loop-item.invariant.left form ts l few)
-
-pub loop-item-preserved : goal.loop-item-preserved
-loop-item-preserved c = record {
-  can = tt;
-  finite = tt;
-  left = λ form ts l few.
-      SomeElements-first form _ _ _ _ _ c.in_ok-item.was c.in-Some.ensures.steps (c.loop-item.invariant.left form ts l few)
-      (λ first rest left stands fact. record {
-        trees = rest;
-        left = left;
-        fact = CountsLeft-next c.loop-item.counts c.add.new.self c.in_ok-item_key.field-0 first (elements rest) (elements ts) fact
-            (c.in_ok-item_key.ensures.key form first stands) few c.in_ok-add.ensures.more;
-      });
-}
+pub returns-in_err-write_entry_key-clause-counts : goal.returns-in_err-write_entry_key-clause-counts
+returns-in_err-write_entry_key-clause-counts c = λ form ts h few.
+    let p = err_from_is_err_and c.from_residual-in_err-write_entry_key.result c.from_residual-in_err-write_entry_key.ensures.1 in
+    let i = c.loop-key.invariant.left form ts h few in
+    let f = entry_taken form _ i.0 _ _ c.in-Some.is (c.in_ok-first.ensures.first form _ i.1) in
+    rw (p.1, p.2)
+    (c.in_err-write_entry_key.ensures.key form f.t
+    (stores_next form f.t c.stored.result c.in-Some.first c.stored.ensures.kind c.stored.ensures.content f.part))
 
 pub returns-clause-counts : goal.returns-clause-counts
-returns-clause-counts c = λ form ts l few.
-    CountsLeft-done c.loop-item.counts (elements ts) (SomeElements-none form _ _ _ c.in-None.ensures.steps (c.loop-item.invariant.left form ts l few))
+returns-clause-counts c = λ form ts h few.
+    let i = c.loop-key.invariant.left form ts h few in
+    CountsLeft-done c.loop-key.counts ts (rw (no_entry_left form _ i.0 _ c.in_default.is (c.in_ok-first.ensures.first form _ i.1)) at i.2)

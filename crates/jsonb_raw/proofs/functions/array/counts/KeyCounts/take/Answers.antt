@@ -1,7 +1,14 @@
-use Rattle.std.proofs.Common.{ap, ◌-◌}
-use Rattle.jsonb_raw.proofs.KeysCounted.{counted_less}
+use Rattle.std.proofs.Common.{◌∙◌, ◌-◌, ap, sym, unwrap_or, rules}
+use Rattle.jsonb_raw.proofs.KeysCounted.{counted_less, counted_none}
 use Rattle.jsonb_raw.proofs.functions.array.counts.KeyCounts.take.Goals as goal
 
-pub returns-clause-less : goal.returns-clause-less
-returns-clause-less c = counted_less c.args.self.now (record { counts = c.insert.new.self }) c.args.key _ c.in_ok-insert.ensures.updates
-    (ap (λ x. x - 1) c.count-count.ensures)
+pub returns-in-Some-clause-less : goal.returns-in-Some-clause-less
+returns-in-Some-clause-less c = λ other.
+    let w = c.saturating_sub.result in
+    counted_less c.args.self.now (record { counts = c.get_mut.follows.lender w }) c.args.key.now w ((c.get_mut.follows.holds w).3 (search rules))
+    (c.saturating_sub.ensures ∙ ap (λ o. unwrap_or o 0 - 1) c.in-Some.ensures.value) other
+
+pub returns-in-None-clause-less : goal.returns-in-None-clause-less
+returns-in-None-clause-less c = λ other.
+    rw c.get_mut.follows.holds-at-none
+    (counted_none c.args.self.now c.args.key.now (ap (λ o. unwrap_or o 0) (sym c.in-None.ensures.value)) other)

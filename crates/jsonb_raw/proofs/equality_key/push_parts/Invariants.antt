@@ -1,18 +1,19 @@
-use Rattle.std.proofs.Common.{◌≡◌, ◌+◌, ◌++◌, ◌∷◌}
+use Rattle.std.proofs.Common.{◌≡◌, ◌+◌, ◌++◌, ◌∷◌, ℕ, List, Some}
 use Rattle.std.specs.Prelude.{reverse}
 use Rattle.jsonb_doc.specs.Tree.{Tree}
 use Rattle.jsonb_doc.specs.Payload.{Form}
-use Rattle.jsonb_doc.specs.Item.{StandsFor}
 use Rattle.jsonb_raw.specs.EqualityKey.{equality_key}
+use Rattle.jsonb_raw.specs.Private.EqualityParts.{equality_start}
+use Rattle.jsonb_raw.specs.Private.Levels.{IsLevelOf}
 use Rattle.jsonb_raw.proofs.LevelLemmas.{SomeParts, weight, weights}
 use Rattle.jsonb_raw.proofs.EqualityWalk.{keys_of_levels}
-use Rattle.jsonb_raw.proofs.equality_key.push_item.Given as goal
+use Rattle.jsonb_raw.proofs.equality_key.push_parts.Given as goal
 
 -- what is written, and then the keys of what each level has left, the innermost first, is the key of the whole
 abbrev pub invariant-walk : goal.invariant-walk
 invariant-walk l = record {
-  left : (form : Form) (tree : Tree) → StandsFor form l.fn.item tree
-      → SomeParts form l.level l.around.items (λ here others. l.out.items ++ keys_of_levels (here ∷ others) ≡ l.fn.out.items ++ equality_key tree);
+  left : (form : Form) (tree : Tree) (front : List ℕ) → IsLevelOf form tree (Some l.fn.found) → l.fn.out.items ≡ front ++ equality_start tree
+      → SomeParts form l.level l.around.items (λ here others. l.out.items ++ keys_of_levels (here ∷ others) ≡ front ++ equality_key tree);
 }
 
 abbrev pub decreases-walk : goal.decreases-walk
