@@ -1,27 +1,23 @@
 -- Values that are numbers, and the results of arithmetic.
 use Rattle.std.specs.Prelude.{◌+ℤ◌, ◌-ℤ◌, ◌*ℤ◌, int_div, int_rem, nat_lt, ◌||◌, ◌^◌}
-use Rattle.std.proofs.Common.{◌≡◌, zero, suc, ℤ, pos, negsuc, Bool, true, false, if◌then◌else◌, IfOk, IfErr, subst, List, [], ◌∷◌, ◌++◌, map, Some, Ok, Err, IsOkAnd, refl, sym, ap, inl, inr}
-use Rattle.std.proofs.lemmas.List.{map-append}
+use Rattle.std.proofs.Common.{◌≡◌, zero, suc, ℤ, pos, negsuc, Bool, true, false, if◌then◌else◌, IfOk, IfErr, subst, List, [], ◌∷◌, ◌++◌, Some, Ok, Err, IsOkAnd, refl, sym, ap, ◌∙◌, inl, inr}
 use Rattle.jsonb_doc.specs.Answer.{Outcome, Gives, and_then, try_flat_map, IsOutOfMemory}
 use Rattle.jsonb_doc.specs.Arithmetic as op
 use Rattle.jsonb_doc.specs.Arithmetic.{Operation, calculated, integer, on_integers, IsResultOf}
 use Rattle.jsonb_doc.specs.Number.{Number, number_from, int64, uint64}
-use Rattle.jsonb_doc.specs.declared.error.Error.TheVariants.{Arithmetic}
+use Rattle.jsonb_doc.specs.declared.error.Error.TheVariants.{Arithmetic, InvalidJsonPath}
 use Rattle.jsonb_doc.specs.declared.error.ArithmeticFault.TheVariants.{Overflow, ZeroDivisor, Inexact, DecimalOperand}
-use Rattle.jsonb_doc.specs.Payload.{Form}
 use Rattle.jsonb_doc.specs.Tree as tree
 use Rattle.jsonb_doc.specs.Tree.{Tree}
 use Rattle.jsonb_doc.specs.View.{number_view}
 use Rattle.jsonb_doc.specs.declared.number.Number.{Number as CodeNumber}
-use Rattle.jsonb_doc.specs.declared.item.Item.TheVariants as item
-use Rattle.jsonb.specs.PathArithmetic.{number_list, two_numbers, all_numbers}
+use Rattle.jsonb.specs.PathArithmetic.{number_list, two_numbers, all_numbers, signed_number, each_signed}
+use Rattle.jsonb.specs.PathTree.{UnaryOp}
 use Rattle.jsonb.specs.Related.{AllRelated}
-use Rattle.jsonb.specs.Private.Selection.{only_number, value_number, IsNumberTree, IsMadeItem}
+use Rattle.jsonb.specs.Private.Selection.{only_number, are_numbers, signed_value, IsNumberTree, IsNumberItem}
 use Rattle.jsonb.specs.SelectionErrors.{IsPathError, IsSelectionError}
 use Rattle.jsonb.specs.Values.{Value, number}
 use Rattle.jsonb.specs.declared.selector.document.Mode.{Mode}
-use Rattle.jsonb.specs.declared.selector.selected.MadeItem.{MadeItem}
-use Rattle.jsonb.specs.declared.selector.selected.MadeItem.TheVariants as made_item
 use Rattle.jsonb.proofs.GivesLemmas.{AllRelated-append}
 
 -- what is never refused for want of memory
@@ -116,19 +112,33 @@ pub two_given : (o : Operation) (ls rs : List Value) (m n : CodeNumber) (r : Out
     → IsResultOf (calculated o (number_view m) (number_view n)) r → Gives IsNumberTree (λ _. ⊥) r (two_numbers o ls rs)
 two_given o ls rs m n r p q is = rw (two_are o ls rs _ _ p q) (outcome_given _ r (calculated_normal o (number_view m) (number_view n)) is)
 
-pub all_numbers-joined : (vs : List Value) → all_numbers vs ≡ try_flat_map value_number vs
-all_numbers-joined [] = refl
-all_numbers-joined (number n ∷ rest) = ap (λ o. and_then o (λ ns. Ok (n ∷ ns))) (all_numbers-joined rest)
-all_numbers-joined (v ∷ rest) = refl
+-- ---- values behind a sign
+
+-- a value that is no number is refused
+pub other_refused : (vs : List Value) → are_numbers vs ≡ false → all_numbers vs ≡ Err InvalidJsonPath
+other_refused [] h = cc
+other_refused (number n ∷ rest) h = ap (λ o. and_then o (λ ns. Ok (n ∷ ns))) (other_refused rest h)
+other_refused (v ∷ rest) h = refl
+
+-- numbers are signed one by one
+module _ (op : UnaryOp) where
+  each_number : (vs : List Value) → are_numbers vs ≡ true →
+      (ns : List Number) × (all_numbers vs ≡ Ok ns) × (try_flat_map (signed_number op) ns ≡ try_flat_map (signed_value op) vs)
+  each_number [] h = ([], refl, refl)
+  each_number (number n ∷ rest) h =
+      let k = each_number rest h in (
+        n ∷ k.0,
+        ap (λ o. and_then o (λ ns. Ok (n ∷ ns))) k.1,
+        ap (λ o. and_then (signed_number op n) (λ front. and_then o (λ back. Ok (front ++ back)))) k.2,
+      )
+  each_number (v ∷ rest) h = cc
+
+  pub values_signed : (vs : List Value) → are_numbers vs ≡ true → each_signed op vs ≡ try_flat_map (signed_value op) vs
+  values_signed vs h = let k = each_number vs h in ap (λ o. and_then o (try_flat_map (signed_number op))) k.1 ∙ k.2
 
 -- one more number
-pub number_added : (old new : List CodeNumber) (n : CodeNumber) (v : Value) (before : List Number) → new ≡ old ++ n ∷ []
-    → value_number v ≡ Ok (number_view n ∷ []) → map number_view old ≡ before → IsOkAnd (value_number v) (λ us. map number_view new ≡ before ++ us)
-number_added old new n v before added is held = rw is (rw (added, map-append, held) refl)
-
--- one more part
-pub part_added : (form : Form) (old new : List MadeItem) (n : CodeNumber) (o : Outcome (List Tree)) (before : List Tree)
-    → new ≡ old ++ made_item.Item (item.Number n) ∷ [] → IsOkAnd o (IsNumberTree n) → AllRelated (IsMadeItem form) old before
-    → IsOkAnd o (λ us. AllRelated (IsMadeItem form) new (before ++ us))
-part_added form old new n (Ok us) before added is held = rw (added, ← is) (AllRelated-append (IsMadeItem form) old _ before _ held (refl, tt))
-part_added form old new n (Err e) before added is held = absurd is
+pub number_added : (old new : List CodeNumber) (n : CodeNumber) (o : Outcome (List Tree)) (before : List Tree)
+    → new ≡ old ++ n ∷ [] → IsOkAnd o (IsNumberTree n) → AllRelated IsNumberItem old before
+    → IsOkAnd o (λ us. AllRelated IsNumberItem new (before ++ us))
+number_added old new n (Ok us) before added is held = rw (added, ← is) (AllRelated-append IsNumberItem old _ before _ held (refl, tt))
+number_added old new n (Err e) before added is held = absurd is

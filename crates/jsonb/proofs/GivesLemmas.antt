@@ -73,6 +73,10 @@ same_outcome {A} {B} {R} {r} e h = subst (λ z. Gives R IsOutOfMemory r z) (sym 
 pub same_answer : {A B : Type 0} {R : A → B → Type 0} {r s : Outcome A} {o : Outcome B} → s ≡ r → Gives R IsOutOfMemory r o → Gives R IsOutOfMemory s o
 same_answer {A} {B} {R} {r} {s} {o} e h = subst (λ z. Gives R IsOutOfMemory z o) (sym e) h
 
+-- a value that is known
+pub one_given : {A B : Type 0} (R : A → List B → Type 0) (ts : List B) {x : A} → R x ts → Gives R IsOutOfMemory (Ok x) (Ok ts)
+one_given R ts h = record { ok = h; err = tt }
+
 -- a refusal, whatever the values would be
 pub refused_as : {A B C : Type 0} {R : A → B → Type 0} {Q : C → B → Type 0} {e : Error} {o : Outcome B} → Gives R IsOutOfMemory (Err e) o
     → Gives Q IsOutOfMemory (Err e) o

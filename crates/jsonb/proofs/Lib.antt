@@ -3,6 +3,7 @@ pub mod ViewLemmas
 pub mod PartLemmas
 pub mod CopyingLemmas
 pub mod ChainText
+pub mod LastLemmas
 pub mod PositionLemmas
 pub mod EntryReadsSome
 pub mod InnerReadsSome

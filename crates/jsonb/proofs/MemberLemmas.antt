@@ -36,7 +36,7 @@ pub one_member : (R : Spot → Tree → Type 0) (found : Option Spot) (x : Spot)
     → (t : Tree) × (ts ≡ t ∷ []) × R x t
 one_member R found x ts is h = only_one R x ts (rw is at h)
 
-both_true : (a b : Bool) → a && b ≡ true → (a ≡ true) × (b ≡ true)
+pub both_true : (a b : Bool) → a && b ≡ true → (a ≡ true) × (b ≡ true)
 both_true true b h = (refl, h)
 both_true false b h = cc
 

@@ -1,5 +1,5 @@
 -- The parts that are selected, position by position.
-use Rattle.std.proofs.Common.{◌≡◌, ℕ, zero, suc, ◌+◌, ◌<◌, ◌≤◌, List, [], ◌∷◌, ◌++◌, length, get_or, drop, Some, None, Ok, refl, ap, inl, inr, arith, add-one}
+use Rattle.std.proofs.Common.{◌≡◌, ℕ, zero, suc, ◌+◌, ◌<◌, ◌≤◌, List, [], ◌∷◌, ◌++◌, length, get_or, drop, Some, None, refl, ap, inl, inr, arith, add-one}
 use Rattle.std.proofs.Math.Seq.{drop-cons}
 use Rattle.std.proofs.Math.ListN.{drop_of_length-le}
 use Rattle.jsonb_doc.specs.Tree.{Tree}
@@ -9,6 +9,7 @@ use Rattle.jsonb_doc.specs.Spots.{Locates}
 use Rattle.jsonb_doc.specs.ArrayBuilder.{Parts, no_parts, HoldsElements}
 use Rattle.jsonb_doc.specs.Answer.{IsOutOfMemoryOrTooLarge, IsOutOfMemory, ◌or◌when◌}
 use Rattle.jsonb_doc.specs.declared.error.Error.{Error}
+use Rattle.jsonb_doc.specs.declared.number.Number.{Number}
 use Rattle.jsonb_doc.specs.declared.spot.Spot.{Spot}
 use Rattle.jsonb_doc.proofs.LimitLemmas.{array_too_large-element}
 use Rattle.jsonb.specs.declared.selector.selected.MadeItem.{MadeItem}
@@ -16,7 +17,7 @@ use Rattle.std.specs.Prelude.{Vec}
 use Rattle.std.specs.declared.alloc.Global.{Global}
 use Rattle.jsonb.specs.Related.{AllRelated}
 use Rattle.jsonb.specs.Private.Selected.{selected_len}
-use Rattle.jsonb.specs.Private.Selection.{IsAt, IsMadeItem, AreSelected, node_spots}
+use Rattle.jsonb.specs.Private.Selection.{IsAt, IsMadeItem, IsNumberItem, AreSelected, node_spots}
 use Rattle.jsonb.specs.SelectorAnswers.{HasTooLarge, first_item, single_or_array, array_of}
 use Rattle.jsonb_doc.specs.declared.error.Error.TheVariants.{TooLarge}
 use Rattle.jsonb.specs.declared.selector.document.Document.{Document}
@@ -50,7 +51,8 @@ related_more R (u ∷ xs) (v ∷ ys) x y h r = (h.0, related_more R xs ys x y h.
 
 pub Selects-length : (form : Form) (document : Document) (s : Selected) (ts : List Tree) → AreSelected form document s ts → selected_len s ≡ length ts
 Selects-length form document (selected.Nodes spots) ts h = related_length (IsAt document) (node_spots spots) ts h
-Selects-length form document (selected.Items parts) ts h = related_length (IsMadeItem form) parts.items ts h
+Selects-length form document (selected.Numbers numbers) ts h = related_length IsNumberItem numbers.items ts h
+Selects-length form document (selected.Made part) ts h = related_length (IsMadeItem form) (part ∷ []) ts h
 
 -- the spot at a position, and the part
 pub Selects-spot : (form : Form) (document : Document) (s : Selected) (found : NodeList) (spots : List Spot) (ts : List Tree) (k : ℕ) (d : Spot) (e : Tree)
@@ -59,10 +61,19 @@ pub Selects-spot : (form : Form) (document : Document) (s : Selected) (found : N
 Selects-spot form document s found spots ts k d e is same short h =
     rw same (related_at (IsAt document) (node_spots found) ts k d e (rw is at short) (rw is at h))
 
-pub Selects-part : (form : Form) (document : Document) (s : Selected) (parts : Vec MadeItem Global) (ts : List Tree) (k : ℕ) (d : MadeItem) (e : Tree)
-    → s ≡ selected.Items parts → k < selected_len s → AreSelected form document s ts → IsMadeItem form (get_or parts.items k d) (get_or ts k e)
-Selects-part form document s parts ts k d e is short h =
-    related_at (IsMadeItem form) parts.items ts k d e (rw is at short) (rw is at h)
+pub Selects-number : (form : Form) (document : Document) (s : Selected) (numbers : Vec Number Global) (ts : List Tree) (k : ℕ) (d : Number) (e : Tree)
+    → s ≡ selected.Numbers numbers → k < selected_len s → AreSelected form document s ts → IsNumberItem (get_or numbers.items k d) (get_or ts k e)
+Selects-number form document s numbers ts k d e is short h =
+    related_at IsNumberItem numbers.items ts k d e (rw is at short) (rw is at h)
+
+pub Selects-made : (form : Form) (document : Document) (s : Selected) (part : MadeItem) (ts : List Tree) (k : ℕ) (e : Tree)
+    → s ≡ selected.Made part → k < selected_len s → AreSelected form document s ts → IsMadeItem form part (get_or ts k e)
+Selects-made form document s part ts k e is short h = go ts k (rw is at short) (rw is at h)
+  where
+    go : (ts : List Tree) (k : ℕ) → k < 1 → AllRelated (IsMadeItem form) (part ∷ []) ts → IsMadeItem form part (get_or ts k e)
+    go [] k short h = absurd h
+    go (t ∷ ts) zero short h = h.0
+    go (t ∷ ts) (suc k) short h = absurd (omega (arith, short))
 
 -- the trees from a position on
 pub left_first : (ts : List Tree) (k : ℕ) (e : Tree) → k < length ts → drop k ts ≡ get_or ts k e ∷ drop (k + 1) ts

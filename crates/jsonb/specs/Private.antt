@@ -9,6 +9,7 @@ pub mod Parts
 pub mod Chain
 pub mod Copying
 pub mod ChainText
+pub mod Last
 pub mod Members
 pub mod Compared
 pub mod Exists

@@ -15,6 +15,7 @@ mod compare;
 mod copy;
 mod copying;
 mod display;
+mod last;
 mod level;
 mod own;
 mod position;
@@ -23,8 +24,8 @@ mod release;
 /// A JSON path: the steps that a selection takes one after the other, from the root on.
 ///
 /// It prints so that it reads back, where it was read from a text. Two are equal where they have the same steps, part
-/// by part, and literals that are equal by value. Comparing and printing nest as deep as its filters and its right
-/// sides: docs/DECISIONS.md, "Stack", says where.
+/// by part, and literals that are equal by value. Comparing and printing nest only as deep as parts that have something
+/// behind them: docs/DECISIONS.md, "Stack", says where.
 #[derive(PartialEq, Drop)]
 pub struct JsonPath<'a> {
     /// The steps, the first one first.

@@ -19,6 +19,7 @@ mod calculate;
 mod children;
 mod compared_items;
 mod compared_member;
+mod comparisons;
 mod document;
 mod documents;
 mod exists;
@@ -275,6 +276,7 @@ fn is_some(selected: &Selected<'_>) -> bool
 {
     match selected {
         Selected::Nodes(spots) => !spots.as_slice().is_empty(),
-        Selected::Items(parts) => !parts.is_empty(),
+        Selected::Numbers(numbers) => !numbers.is_empty(),
+        Selected::Made(_) => true,
     }
 }

@@ -23,7 +23,7 @@ abbrev pub IsNested : Expr → Nested → Type 0
 IsNested e nested = (are_members (steps_view nested.names.now) ≡ true)
     × (is_exists (expression_view nested.exists.now) ≡ true)
     × (expression_view e
-        ≡ exists (steps_of (steps_view nested.names.now ++ filter (expression_view nested.exists.now) ∷ [])))
+    ≡ exists (steps_of (steps_view nested.names.now ++ filter (expression_view nested.exists.now) ∷ [])))
 
 -- the truth is that of the `exists` that is found, of its item; false where none is found; else the refusal
 abbrev pub LeadsTo : Mode → Document → Tree → Outcome (Option Asked) → Outcome Truth → Type 0

@@ -6,4 +6,5 @@ use Rattle.jsonb.specs.declared.selector.selected.Selected.TheVariants as select
 
 abbrev pub selected_len : Selected → ℕ
 selected_len (selected.Nodes spots) = length (node_spots spots)
-selected_len (selected.Items parts) = length parts.items
+selected_len (selected.Numbers numbers) = length numbers.items
+selected_len (selected.Made part) = 1

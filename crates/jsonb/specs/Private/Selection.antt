@@ -1,5 +1,5 @@
 -- What a path selects: places of the document, or what an expression makes.
-use Rattle.std.specs.Prelude.{◌≡◌, Bool, true, false, List, [], ◌∷◌, map, Option, Some, None, Ok, Err, if◌then◌else◌}
+use Rattle.std.specs.Prelude.{◌≡◌, ◌&&◌, Bool, true, false, List, [], ◌∷◌, map, Option, Some, None, Err, if◌then◌else◌}
 use Rattle.jsonb_doc.specs.Answer.{Outcome}
 use Rattle.jsonb_doc.specs.declared.error.Error.TheVariants.{InvalidJsonPath}
 use Rattle.jsonb_doc.specs.declared.spot.Spot.{Spot}
@@ -10,7 +10,8 @@ use Rattle.jsonb_doc.specs.Payload.{Form}
 use Rattle.jsonb_doc.specs.Item.{StandsFor}
 use Rattle.jsonb_doc.specs.Spots.{Locates}
 use Rattle.jsonb_doc.specs.Tree.{Tree, number, array, trees_of}
-use Rattle.jsonb.specs.PathTree.{Expression, Step, current, filter, whole_expression}
+use Rattle.jsonb.specs.PathTree.{Expression, Step, UnaryOp, current, filter, whole_expression}
+use Rattle.jsonb.specs.PathArithmetic.{signed_number}
 use Rattle.jsonb.specs.Related.{AllRelated}
 use Rattle.jsonb.specs.Values as val
 use Rattle.jsonb.specs.declared.selector.document.Document.{Document}
@@ -68,10 +69,15 @@ abbrev pub IsMadeItem : Form → MadeItem → Tree → Type 0
 IsMadeItem form (made_item.Item item) t = StandsFor form item t
 IsMadeItem form (made_item.ArrayOf item) t = (u : Tree) × (t ≡ array (trees_of (u ∷ []))) × StandsFor form item u
 
+-- the tree is the number
+abbrev pub IsNumberItem : CodeNumber → Tree → Type 0
+IsNumberItem n t = t ≡ number (number_view n)
+
 -- what is selected are these trees
 abbrev pub AreSelected : Form → Document → Selected → List Tree → Type 0
 AreSelected form document (selected.Nodes places) ts = AllRelated (IsAt document) (node_spots places) ts
-AreSelected form document (selected.Items v) ts = AllRelated (IsMadeItem form) v.items ts
+AreSelected form document (selected.Numbers v) ts = AllRelated IsNumberItem v.items ts
+AreSelected form document (selected.Made part) ts = AllRelated (IsMadeItem form) (part ∷ []) ts
 
 -- what a step is where an expression is a filter, or refused
 abbrev pub taken_as : Expressions → Expression → Step
@@ -107,10 +113,18 @@ begins_with_current _ = false
 abbrev pub IsNumberTree : CodeNumber → List Tree → Type 0
 IsNumberTree m ts = number (number_view m) ∷ [] ≡ ts
 
--- the number that a value is; another value is refused
-abbrev pub value_number : val.Value → Outcome (List Number)
-value_number (val.number n) = Ok (n ∷ [])
-value_number _ = Err InvalidJsonPath
+abbrev pub is_number : val.Value → Bool
+is_number (val.number n) = true
+is_number _ = false
+
+abbrev pub are_numbers : List val.Value → Bool
+are_numbers [] = true
+are_numbers (v ∷ vs) = is_number v && are_numbers vs
+
+-- a sign in front of a value; one that is no number is refused
+abbrev pub signed_value : UnaryOp → val.Value → Outcome (List Tree)
+signed_value op (val.number n) = signed_number op n
+signed_value op _ = Err InvalidJsonPath
 
 -- the one value, where it is one number
 abbrev pub only_number : List val.Value → Option Number

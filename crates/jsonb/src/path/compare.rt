@@ -4,11 +4,13 @@ ghost use Rattle.std.specs.Prelude.{◌≡◌};
 ghost use Rattle.std.specs.Cmp.{on_per};
 ghost use Rattle.jsonb.specs.PathOrder.{path_value_order, path_value_equal};
 ghost use Rattle.jsonb.specs.PathTree.{steps_of};
+ghost use Rattle.jsonb.specs.Private.Last.{is_same_opening, are_same_before, is_same_before};
 ghost use Rattle.jsonb.specs.PathViews.{step_view, steps_view, expression_view};
 ghost use Rattle.jsonb.specs.Proofs.PathOrder.{path_value_order_laws, path_value_equal_laws};
 ghost use Rattle.jsonb.specs.Proofs.SamePath.{is_same_step_laws, is_same_expression_laws};
 ghost use Rattle.jsonb.specs.SamePath.{is_same_step, are_same_steps, is_same_expression};
 
+use super::last::{is_filter, last_of};
 use super::{Expr, Path, PathValue};
 use std::cmp::Ordering;
 
@@ -23,7 +25,7 @@ impl PartialEq for Path<'_> {
     }
 }
 
-/// Equal part by part, with literals that are equal by value. A chain of left sides is compared in a loop.
+/// Equal part by part, with literals that are equal by value.
 impl PartialEq for Expr<'_> {
     ghost eq = { λ e f. is_same_expression (expression_view e) (expression_view f) };
 
@@ -55,8 +57,8 @@ fn same_step(step: &Path<'_>, other: &Path<'_>) -> bool
 }
 
 #[cycle(same)]
-fn same_steps(steps: &Vec<Path<'_>>, others: &Vec<Path<'_>>) -> bool
-    ensures { result ≡ are_same_steps (steps_of (steps_view steps.now.items)) (steps_of (steps_view others.now.items)) }
+fn same_steps(steps: &[Path<'_>], others: &[Path<'_>]) -> bool
+    ensures { result ≡ are_same_steps (steps_of (steps_view steps.now)) (steps_of (steps_view others.now)) }
 {
     let mut rest = others.iter();
     for step in steps {
@@ -70,50 +72,91 @@ fn same_steps(steps: &Vec<Path<'_>>, others: &Vec<Path<'_>>) -> bool
     rest.next().is_none()
 }
 
-// Goes down the left sides of both, and looks at the right ones on the way.
+// Goes on with what stands last in both, so that no call has to come back from there.
 #[cycle(same)]
 fn same_expression(expression: &Expr<'_>, other: &Expr<'_>) -> bool
     ensures { result ≡ is_same_expression (expression_view expression.now) (expression_view other.now) }
 {
+    let mut next = Some((expression, other));
+    while let Some((inner, other_inner)) = next {
+        if !same_before(inner, other_inner) {
+            return false;
+        }
+        next = last_of(inner).zip(last_of(other_inner));
+    }
+    true
+}
+
+/// Whether two expressions are the same before what stands last in them.
+#[cycle(same)]
+fn same_before(expression: &Expr<'_>, other: &Expr<'_>) -> bool
+    ensures { result ≡ is_same_before (expression_view expression.now) (expression_view other.now) }
+{
+    match (expression, other) {
+        (
+            Expr::BinaryOp { op, left, .. },
+            Expr::BinaryOp {
+                op: other_op,
+                left: other_left,
+                ..
+            },
+        ) => op == other_op && same_chain(left, other_left),
+        (Expr::UnaryOp { op, .. }, Expr::UnaryOp { op: other_op, .. }) => op == other_op,
+        (Expr::Paths(steps), Expr::Paths(others)) => same_before_last(steps, others),
+        (Expr::Value(literal), Expr::Value(wanted)) => **literal == **wanted,
+        (Expr::ExistsFunc(steps), Expr::ExistsFunc(others)) => same_before_last(steps, others),
+        _ => false,
+    }
+}
+
+/// Whether the steps are the same, of the last ones only what stands before the expressions that they hold.
+#[cycle(same)]
+fn same_before_last(steps: &Vec<Path<'_>>, others: &Vec<Path<'_>>) -> bool
+    ensures { result ≡ are_same_before
+        (steps_of (steps_view steps.now.items)) (steps_of (steps_view others.now.items)) }
+{
+    match (steps.split_last(), others.split_last()) {
+        (Some((last, first_ones)), Some((other_last, other_first_ones))) => {
+            same_steps(first_ones, other_first_ones) && same_opening(last, other_last)
+        }
+        (None, None) => true,
+        _ => false,
+    }
+}
+
+/// Whether two steps hold expressions in the same way, or are the same.
+#[cycle(same)]
+fn same_opening(step: &Path<'_>, other: &Path<'_>) -> bool
+    ensures { result ≡ is_same_opening (step_view step.now) (step_view other.now) }
+{
+    (is_filter(step) && is_filter(other))
+        || (step.is_expression() && other.is_expression())
+        || same_step(step, other)
+}
+
+// Goes down the left sides of both, and looks at the right ones on the way.
+#[cycle(same)]
+fn same_chain(expression: &Expr<'_>, other: &Expr<'_>) -> bool
+    ensures { result ≡ is_same_expression (expression_view expression.now) (expression_view other.now) }
+{
     let mut inner = expression;
     let mut other_inner = other;
-    loop {
-        match (inner, other_inner) {
-            (
-                Expr::BinaryOp { op, left, right },
-                Expr::BinaryOp {
-                    op: other_op,
-                    left: other_left,
-                    right: other_right,
-                },
-            ) => {
-                if op != other_op || !same_expression(right, other_right) {
-                    return false;
-                }
-                inner = left;
-                other_inner = other_left;
-            }
-            (
-                Expr::UnaryOp { op, operand },
-                Expr::UnaryOp {
-                    op: other_op,
-                    operand: other_operand,
-                },
-            ) => {
-                if op != other_op {
-                    return false;
-                }
-                inner = operand;
-                other_inner = other_operand;
-            }
-            (Expr::Paths(steps), Expr::Paths(others)) => return same_steps(steps, others),
-            (Expr::Value(literal), Expr::Value(wanted)) => return **literal == **wanted,
-            (Expr::ExistsFunc(steps), Expr::ExistsFunc(others)) => {
-                return same_steps(steps, others);
-            }
-            _ => return false,
+    while let (
+        Expr::BinaryOp { op, left, right },
+        Expr::BinaryOp {
+            op: other_op,
+            left: other_left,
+            right: other_right,
+        },
+    ) = (inner, other_inner)
+    {
+        if op != other_op || !same_expression(right, other_right) {
+            return false;
         }
+        inner = left;
+        other_inner = other_left;
     }
+    same_expression(inner, other_inner)
 }
 
 /// Equal exactly where `partial_cmp` answers `Equal`. A document is equal to none, not even to

@@ -4,10 +4,12 @@ ghost use Rattle.std.specs.Fmt.{WritesOnOk};
 ghost use Rattle.hex.specs.Hex.{encode_lower};
 ghost use Rattle.jsonb.specs.PathText.{offset_text, place_text, entry_text, entries_text, other_entry_text, level_text, operator_text, sign_text, literal_text, is_joined, side_text, step_text, steps_text, expression_text, path_text};
 ghost use Rattle.jsonb.specs.PathTree.{steps_of};
-ghost use Rattle.jsonb.specs.Private.ChainText.{front_text, fronts_text, link_text, links_text};
+ghost use Rattle.jsonb.specs.Private.ChainText.{parenthesis, front_text, fronts_text, link_text, links_text};
+ghost use Rattle.jsonb.specs.Private.Last.{down, step_before, steps_before, text_before, between_text, closing};
 ghost use Rattle.jsonb.specs.PathViews.{place_view, entry_view, levels_view, operator_view, sign_view, literal_view, step_view, steps_view, expression_view, path_view};
 
 use super::chain::{below, left_of, links_of};
+use super::last::{ends_in_filter, last_of};
 use super::{
     ArrayIndex, BinaryOperator, Expr, Index, JsonPath, Path, PathValue, RecursiveLevel,
     RecursiveLevelEnd, UnaryOperator,
@@ -40,8 +42,8 @@ impl fmt::Display for Expr<'_> {
 }
 
 #[cycle(write)]
-fn write_steps<W: fmt::Write>(steps: &Vec<Path<'_>>, f: &mut fmt::Formatter<W>) -> fmt::Result
-    ensures { WritesOnOk W.write_str_gives f.old result (steps_text (steps_of (steps_view steps.now.items))) f.new }
+fn write_steps<W: fmt::Write>(steps: &[Path<'_>], f: &mut fmt::Formatter<W>) -> fmt::Result
+    ensures { WritesOnOk W.write_str_gives f.old result (steps_text (steps_of (steps_view steps.now))) f.new }
 {
     for step in steps {
         write_step(step, f)?;
@@ -87,25 +89,114 @@ fn write_step<W: fmt::Write>(step: &Path<'_>, f: &mut fmt::Formatter<W>) -> fmt:
 fn write_expression<W: fmt::Write>(expression: &Expr<'_>, f: &mut fmt::Formatter<W>) -> fmt::Result
     ensures { WritesOnOk W.write_str_gives f.old result (expression_text (expression_view expression.now)) f.new }
 {
+    write_down(expression, f)?;
+    write_closings(expression, f)
+}
+
+/// Writes an expression without the parentheses that close at its end. What stands last in it comes last, so that no
+/// call has to come back from there.
+#[cycle(write)]
+fn write_down<W: fmt::Write>(expression: &Expr<'_>, f: &mut fmt::Formatter<W>) -> fmt::Result
+    ensures { WritesOnOk W.write_str_gives f.old result (down text_before (expression_view expression.now)) f.new }
+{
+    let mut next = Some(expression);
+    while let Some(inner) = next {
+        write_before(inner, f)?;
+        next = last_of(inner);
+    }
+    Ok(())
+}
+
+/// Writes the parentheses that close at the end of an expression. They are all alike, so that the outer ones may come
+/// first.
+fn write_closings<W: fmt::Write>(expression: &Expr<'_>, f: &mut fmt::Formatter<W>) -> fmt::Result
+    ensures { WritesOnOk W.write_str_gives f.old result (down closing (expression_view expression.now)) f.new }
+{
+    let mut next = Some(expression);
+    while let Some(inner) = next {
+        f.write_str(closing_of(inner))?;
+        next = last_of(inner);
+    }
+    Ok(())
+}
+
+/// The parentheses that close behind what stands last.
+fn closing_of(expression: &Expr<'_>) -> &'static str
+    ensures { result.now ≡ closing (expression_view expression.now) }
+{
     match expression {
-        Expr::Paths(steps) => write_steps(steps, f),
+        Expr::BinaryOp { right, .. } if is_joined(right) => ")",
+        Expr::Paths(steps) if ends_in_filter(steps) => ")",
+        Expr::ExistsFunc(steps) if ends_in_filter(steps) => "))",
+        Expr::ExistsFunc(_) => ")",
+        _ => "",
+    }
+}
+
+/// Writes what stands before the expression that is last in this one; where there is none, all but the parenthesis at
+/// the end.
+#[cycle(write)]
+fn write_before<W: fmt::Write>(expression: &Expr<'_>, f: &mut fmt::Formatter<W>) -> fmt::Result
+    ensures { WritesOnOk W.write_str_gives f.old result (text_before (expression_view expression.now)) f.new }
+{
+    match expression {
+        Expr::Paths(steps) => write_before_last(steps, f),
         Expr::Value(literal) => write!(f, "{}", **literal),
-        Expr::BinaryOp { .. } => {
-            let links = links_of(expression);
-            write_fronts(expression, links, f)?;
-            write_expression(below(expression, links), f)?;
-            write_links(expression, links, f)
+        Expr::BinaryOp { left, right, .. } => {
+            write_opening(left, f)?;
+            write_chain(left, f)?;
+            write_between(expression, f)?;
+            write_opening(right, f)
         }
-        Expr::UnaryOp { op, operand } => {
-            write!(f, "{op}")?;
-            write_expression(operand, f)
-        }
+        Expr::UnaryOp { op, .. } => write!(f, "{op}"),
         Expr::ExistsFunc(steps) => {
             f.write_str("exists(")?;
-            write_steps(steps, f)?;
-            f.write_str(")")
+            write_before_last(steps, f)
         }
     }
+}
+
+/// Writes the steps, of the last one only what stands before the expression that it holds.
+#[cycle(write)]
+fn write_before_last<W: fmt::Write>(steps: &Vec<Path<'_>>, f: &mut fmt::Formatter<W>) -> fmt::Result
+    ensures { WritesOnOk W.write_str_gives f.old result (steps_before (steps_of (steps_view steps.now.items))) f.new }
+{
+    let Some((last, others)) = steps.split_last() else {
+        return Ok(());
+    };
+    write_steps(others, f)?;
+    write_step_before(last, f)
+}
+
+/// Writes a step, or what stands before the expression that it holds.
+#[cycle(write)]
+fn write_step_before<W: fmt::Write>(step: &Path<'_>, f: &mut fmt::Formatter<W>) -> fmt::Result
+    ensures { WritesOnOk W.write_str_gives f.old result (step_before (step_view step.now)) f.new }
+{
+    match step {
+        Path::FilterExpr(_) => f.write_str("?("),
+        Path::Expr(_) => Ok(()),
+        Path::DotField(_)
+        | Path::ColonField(_)
+        | Path::ObjectField(_)
+        | Path::ArrayIndices(_)
+        | Path::RecursiveDotWildcard(_)
+        | Path::Root
+        | Path::Current
+        | Path::DotWildcard
+        | Path::BracketWildcard => write_step(step, f),
+    }
+}
+
+/// Writes an expression from its innermost left side on.
+#[cycle(write)]
+fn write_chain<W: fmt::Write>(expression: &Expr<'_>, f: &mut fmt::Formatter<W>) -> fmt::Result
+    ensures { WritesOnOk W.write_str_gives f.old result (expression_text (expression_view expression.now)) f.new }
+{
+    let links = links_of(expression);
+    write_fronts(expression, links, f)?;
+    write_expression(below(expression, links), f)?;
+    write_links(expression, links, f)
 }
 
 /// Opens the parentheses of so many left sides, one in another.
@@ -160,14 +251,24 @@ fn write_links<W: fmt::Write>(
 fn write_link<W: fmt::Write>(pair: &Expr<'_>, f: &mut fmt::Formatter<W>) -> fmt::Result
     ensures { WritesOnOk W.write_str_gives f.old result (link_text (expression_view pair.now)) f.new }
 {
-    let Expr::BinaryOp { op, left, right } = pair else {
+    let Expr::BinaryOp { right, .. } = pair else {
+        return Ok(());
+    };
+    write_between(pair, f)?;
+    write_side(right, f)
+}
+
+/// Writes what stands between the sides of a pair.
+fn write_between<W: fmt::Write>(pair: &Expr<'_>, f: &mut fmt::Formatter<W>) -> fmt::Result
+    ensures { WritesOnOk W.write_str_gives f.old result (between_text (expression_view pair.now)) f.new }
+{
+    let Expr::BinaryOp { op, left, .. } = pair else {
         return Ok(());
     };
     if is_joined(left) {
         f.write_str(")")?;
     }
-    write!(f, " {op} ")?;
-    write_side(right, f)
+    write!(f, " {op} ")
 }
 
 /// Writes a side of a binary expression.
@@ -182,6 +283,17 @@ fn write_side<W: fmt::Write>(side: &Expr<'_>, f: &mut fmt::Formatter<W>) -> fmt:
         f.write_str(")")
     } else {
         write_expression(side, f)
+    }
+}
+
+/// Writes the parenthesis in front of a side, where it has one.
+fn write_opening<W: fmt::Write>(side: &Expr<'_>, f: &mut fmt::Formatter<W>) -> fmt::Result
+    ensures { WritesOnOk W.write_str_gives f.old result (parenthesis (expression_view side.now) (codes "(")) f.new }
+{
+    if is_joined(side) {
+        f.write_str("(")
+    } else {
+        Ok(())
     }
 }
 

@@ -1,21 +1,19 @@
 //! Arithmetic of an expression that is the whole path.
 
-ghost use Rattle.std.specs.Prelude.{◌≡◌, ◌∷◌, [], Ok, Err, Some, option_map, map, is_some, MatchResult, IfErr};
+ghost use Rattle.std.specs.Prelude.{◌≡◌, Some, option_map, map, is_some, IfErr};
 ghost use Rattle.jsonb_doc.specs.Answer.{Gives, try_flat_map, IsOutOfMemory};
 ghost use Rattle.jsonb_doc.specs.Arithmetic.{Operation, calculated, IsResultOf};
-ghost use Rattle.jsonb_doc.specs.Payload.{Form};
 ghost use Rattle.jsonb_doc.specs.View.{number_view};
-ghost use Rattle.jsonb.specs.PathArithmetic.{operation, two_numbers, all_numbers, signed_number, each_signed};
+ghost use Rattle.jsonb.specs.PathArithmetic.{operation, two_numbers, signed_number, each_signed};
 ghost use Rattle.jsonb.specs.PathViews.{operator_view, sign_view};
 ghost use Rattle.jsonb.specs.Related.{AllRelated};
-ghost use Rattle.jsonb.specs.Private.Selection.{atom_value, only_number, value_number, IsNumberTree, IsMadeItem};
+ghost use Rattle.jsonb.specs.Private.Selection.{atom_value, only_number, is_number, are_numbers, signed_value, IsNumberTree, IsNumberItem};
 ghost use Rattle.jsonb.specs.SelectionErrors.{IsPathError, IsSelectionError};
 ghost use Rattle.jsonb.specs.declared.selector.document.Mode.{Mode};
 
 use super::atom::Atom;
-use super::selected::MadeItem;
 use crate::path::{BinaryOperator, UnaryOperator};
-use jsonb_doc::{Error, Item, Number};
+use jsonb_doc::{Error, Number};
 use std::alloc::Global;
 
 /// Whether the operator is one of arithmetic.
@@ -75,29 +73,26 @@ pub(crate) fn binary_number(
     }
 }
 
-/// The number that a value is. Another value is refused with `InvalidJsonPath`.
-fn number_of(value: &Atom<'_>) -> Result<Number, Error>
-    ensures meant { MatchResult result (λ n. value_number (atom_value value.now) ≡ Ok (number_view n ∷ []))
-        (λ e. value_number (atom_value value.now) ≡ Err e) }
-    ensures errors { (mode : Mode) → IfErr result (IsPathError mode) }
+/// Whether each value is a number.
+fn are_numbers(values: &[Atom<'_>]) -> bool
+    ensures { result ≡ are_numbers (map atom_value values.now) }
 {
-    match value {
-        Atom::Number(number) => Ok(*number),
-        _ => Err(Error::InvalidJsonPath),
+    for value in values {
+        if !is_number(value) {
+            return false;
+        }
     }
+    true
 }
 
-/// The numbers that the values are. A value that is none is refused with `InvalidJsonPath`.
-fn all_numbers(alloc: Global, values: &[Atom<'_>]) -> Result<Vec<Number>, Error>
-    ensures meant { Gives (λ v ns. map number_view v.items ≡ ns) IsOutOfMemory result
-        (all_numbers (map atom_value values.now)) }
-    ensures errors { (mode : Mode) → IfErr result (IsSelectionError mode) }
+#[inline(always)]
+fn is_number(value: &Atom<'_>) -> bool
+    ensures { result ≡ is_number (atom_value value.now) }
 {
-    let mut numbers = Vec::with_capacity(alloc, values.len())?;
-    for value in values {
-        numbers.push(number_of(value)?)?;
+    match value {
+        Atom::Number(_) => true,
+        Atom::Null | Atom::Boolean(_) | Atom::String(_) | Atom::Raw => false,
     }
-    Ok(numbers)
 }
 
 /// A number behind a sign.
@@ -111,34 +106,45 @@ fn signed(op: UnaryOperator, number: Number) -> Result<Number, Error>
     }
 }
 
-/// Each number behind a sign, from left to right.
-fn each_signed<'a>(
-    alloc: Global,
-    op: UnaryOperator,
-    numbers: &[Number],
-) -> Result<Vec<MadeItem<'a>>, Error>
-    ensures meant { (form : Form) → Gives (λ v ts. AllRelated (IsMadeItem form) v.items ts) IsOutOfMemory result
-        (try_flat_map (signed_number (sign_view op)) (map number_view numbers.now)) }
+/// A value behind a sign. A value that is no number is refused with `InvalidJsonPath`.
+#[inline(always)]
+fn signed_value(op: UnaryOperator, value: &Atom<'_>) -> Result<Number, Error>
+    ensures meant { Gives IsNumberTree (λ _. ⊥) result (signed_value (sign_view op) (atom_value value.now)) }
+    ensures errors { (mode : Mode) → IfErr result (IsPathError mode) }
+{
+    match value {
+        Atom::Number(number) => signed(op, *number),
+        _ => Err(Error::InvalidJsonPath),
+    }
+}
+
+/// Each value behind a sign, from left to right.
+fn each_signed(alloc: Global, op: UnaryOperator, values: &[Atom<'_>]) -> Result<Vec<Number>, Error>
+    ensures meant { Gives (λ v ts. AllRelated IsNumberItem v.items ts) IsOutOfMemory result
+        (try_flat_map (signed_value (sign_view op)) (map atom_value values.now)) }
     ensures errors { (mode : Mode) → IfErr result (IsSelectionError mode) }
 {
-    let mut parts = Vec::with_capacity(alloc, numbers.len())?;
-    for number in numbers {
-        parts.push(MadeItem::Item(Item::Number(signed(op, *number)?)))?;
+    let mut numbers = Vec::with_capacity(alloc, values.len())?;
+    for value in values {
+        numbers.push(signed_value(op, value)?)?;
     }
-    Ok(parts)
+    Ok(numbers)
 }
 
 /// Each value behind a sign. First all have to be numbers: `InvalidJsonPath` is for another value, and else
 /// `Arithmetic` for the first number without a result.
-pub(crate) fn unary_numbers<'a>(
+pub(crate) fn unary_numbers(
     alloc: Global,
     op: UnaryOperator,
     values: &[Atom<'_>],
-) -> Result<Vec<MadeItem<'a>>, Error>
-    ensures meant { (form : Form) → Gives (λ v ts. AllRelated (IsMadeItem form) v.items ts) IsOutOfMemory result
+) -> Result<Vec<Number>, Error>
+    ensures meant { Gives (λ v ts. AllRelated IsNumberItem v.items ts) IsOutOfMemory result
         (each_signed (sign_view op) (map atom_value values.now)) }
     ensures errors { (mode : Mode) → IfErr result (IsSelectionError mode) }
 {
-    let numbers = all_numbers(alloc, values)?;
-    each_signed(alloc, op, &numbers)
+    if are_numbers(values) {
+        each_signed(alloc, op, values)
+    } else {
+        Err(Error::InvalidJsonPath)
+    }
 }

@@ -122,7 +122,7 @@ fn push_compared(
 
 /// Whether the comparison is true of an item.
 #[inline(always)]
-fn item_truth(
+pub(crate) fn item_truth(
     alloc: Global,
     mode: Mode,
     comparison: &MemberCompared<'_, '_>,

@@ -10,13 +10,13 @@ ghost use Rattle.jsonb_doc.specs.Answer.{IsOutOfMemory, IsOutOfMemoryOrTooLarge,
 ghost use Rattle.jsonb_doc.specs.declared.error.Error.TheVariants.{OutOfMemory, TooLarge};
 ghost use Rattle.jsonb_doc.specs.ArrayBuilder.{HoldsElements};
 ghost use Rattle.jsonb_raw.specs.Documents.{Makes, MakesOption};
-ghost use Rattle.jsonb.specs.Private.Selection.{IsMadeItem, AreSelected};
+ghost use Rattle.jsonb.specs.Private.Selection.{IsMadeItem, IsNumberItem, AreSelected};
 ghost use Rattle.jsonb.specs.SelectorAnswers.{AreDocuments, HasTooLarge, array_of, first_item, single_or_array};
 ghost use Rattle.jsonb.specs.Private.Selected.{selected_len};
 
 use super::document::Document;
 use super::selected::{MadeItem, Selected};
-use jsonb_doc::{ArrayBuilder, Error, Item, encode_item, spot_document, spot_item};
+use jsonb_doc::{ArrayBuilder, Error, Item, Number, encode_item, spot_document, spot_item};
 use jsonb_raw::OwnedJsonb;
 use std::alloc::Global;
 
@@ -26,7 +26,8 @@ pub(crate) fn selected_len(selected: &Selected<'_>) -> usize
 {
     match selected {
         Selected::Nodes(spots) => spots.as_slice().len(),
-        Selected::Items(parts) => parts.len(),
+        Selected::Numbers(numbers) => numbers.len(),
+        Selected::Made(_) => 1,
     }
 }
 
@@ -47,7 +48,8 @@ fn part_at<'a>(
             let spot = spots.as_slice()[position];
             Ok(MadeItem::Item(spot_item(document.bytes, spot)?))
         },
-        Selected::Items(parts) => Ok(parts[position]),
+        Selected::Numbers(numbers) => Ok(MadeItem::Item(Item::Number(numbers[position]))),
+        Selected::Made(part) => Ok(*part),
     }
 }
 
@@ -61,6 +63,15 @@ fn array_of_one(alloc: Global, item: &Item<'_>) -> Result<Vec<u8>, Error>
     let mut builder = ArrayBuilder::new(alloc);
     builder.push_item(item)?;
     builder.build()
+}
+
+/// A number as a document.
+#[inline(never)]
+fn number_document(alloc: Global, number: Number) -> Result<OwnedJsonb, Error>
+    ensures document { (form : Form) (t : Tree) → IsNumberItem number t → Makes form t result }
+    ensures errors { IfErr result (IsOutOfMemory or TooLarge) }
+{
+    Ok(OwnedJsonb::new(encode_item(alloc, &Item::Number(number))?))
 }
 
 /// A part that an expression makes, as a document.
@@ -91,7 +102,8 @@ fn document_at(
             let spot = spots.as_slice()[position];
             Ok(OwnedJsonb::new(spot_document(alloc, document.bytes, spot)?))
         },
-        Selected::Items(parts) => made_document(alloc, &parts[position]),
+        Selected::Numbers(numbers) => number_document(alloc, numbers[position]),
+        Selected::Made(part) => made_document(alloc, part),
     }
 }
 

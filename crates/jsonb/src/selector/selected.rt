@@ -1,7 +1,7 @@
 //! What a path selects.
 
 use super::node_list::NodeList;
-use jsonb_doc::Item;
+use jsonb_doc::{Item, Number};
 
 /// What an expression makes: an item, or an array of one.
 #[derive(Clone, Copy)]
@@ -10,9 +10,13 @@ pub(crate) enum MadeItem<'a> {
     ArrayOf(Item<'a>),
 }
 
-/// What a path selects: items of the document by their places, or what an expression makes.
+/// What a path selects.
 #[derive(Drop)]
 pub(crate) enum Selected<'a> {
+    /// Items of the document, by their places.
     Nodes(NodeList),
-    Items(Vec<MadeItem<'a>>),
+    /// What a sign makes of each value.
+    Numbers(Vec<Number>),
+    /// What any other expression makes.
+    Made(MadeItem<'a>),
 }

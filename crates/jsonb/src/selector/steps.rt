@@ -20,6 +20,7 @@ use super::atom::{Atoms, compare, literal_atom};
 use super::children::{push_elements, push_field, push_if, push_positions, push_spot, push_values};
 use super::compared_items::{compared_items, member_compared};
 use super::compared_member::member_truth;
+use super::comparisons::joined_filter;
 use super::document::{Document, Expressions, Mode};
 use super::exists::innermost;
 use super::kept::{Kept, KeptPart, comparison_part, exists_part, is_comparison, is_kept};
@@ -190,13 +191,35 @@ fn step_many<'a>(
     match filter_of(expressions, step) {
         Some(e) => match member_compared(e) {
             Some(comparison) => compared_items(alloc, mode, comparison, document.bytes, items),
-            None => filter_many(alloc, mode, e, document, items),
+            None => filter_list(alloc, mode, e, document, items),
         },
         None => plain_steps(alloc, mode, step, document.bytes, items),
     }
 }
 
-/// The items of a list that a filter keeps, in order.
+/// The items of a list that a filter by several conditions keeps, in order.
+#[cycle(steps)]
+#[inline(always)]
+fn filter_list<'a>(
+    alloc: Global,
+    mode: Mode,
+    e: &'a Expr<'_>,
+    document: Document<'a>,
+    items: &[Spot],
+) -> Result<NodeList, Error>
+    ensures meant { (top : Tree) (ts : List Tree) → HasTree document.entry top
+        → AllRelated (IsAt document.entry) items.now ts
+        → Gives (λ found us. AllRelated (IsAt document.entry) (node_spots found) us)
+        IsOutOfMemory result (try_flat_map (step_meaning mode (filter (expression_view e.now)) top) ts) }
+    ensures errors { IfErr result (IsSelectionError mode) }
+{
+    match joined_filter(alloc, mode, e, document.bytes, items)? {
+        Some(nodes) => Ok(nodes),
+        None => filter_many(alloc, mode, e, document, items),
+    }
+}
+
+/// The same of any filter.
 #[cycle(steps)]
 #[inline(never)]
 fn filter_many<'a>(

@@ -33,9 +33,9 @@ pub(crate) enum Term<'s, 'p> {
 /// Two expressions, and the operator that joins them.
 #[derive(Clone, Copy)]
 pub(crate) struct Pair<'s, 'p> {
-    join: Join,
-    left: &'s Expr<'p>,
-    right: &'s Expr<'p>,
+    pub(crate) join: Join,
+    pub(crate) left: &'s Expr<'p>,
+    pub(crate) right: &'s Expr<'p>,
 }
 
 // The operator as one that joins truths.
@@ -60,8 +60,8 @@ pub(crate) fn is_joined(e: &Expr<'_>) -> bool
     }
 }
 
-// The two expressions that one is.
-fn pair_of<'s, 'p>(e: &'s Expr<'p>) -> Option<Pair<'s, 'p>>
+/// The two expressions that one is.
+pub(crate) fn pair_of<'s, 'p>(e: &'s Expr<'p>) -> Option<Pair<'s, 'p>>
     ensures { MatchOption result (is_joined (expression_view e.now) ≡ false) (IsPairOf e.now) }
 {
     match e {
@@ -182,7 +182,9 @@ impl Truths {
     }
 }
 
-fn joining(join: Join, left: Option<bool>, right: Option<bool>) -> Option<bool>
+/// One truth of two.
+#[inline(always)]
+pub(crate) fn joining(join: Join, left: Option<bool>, right: Option<bool>) -> Option<bool>
     ensures { result ≡ joining join left right }
 {
     match join {

@@ -11,7 +11,8 @@ ghost use Rattle.jsonb.specs.PathViews.{step_view, steps_view, expression_view, 
 ghost use Rattle.jsonb.specs.Related.{AllRelated};
 ghost use Rattle.jsonb.specs.PathArithmetic.{operation, each_signed};
 ghost use Rattle.jsonb.specs.Meaning.{step_meaning, steps_meaning, operand_values, truth, as_filter, Means, truth_item, truth_list, calculation, expression_predicate};
-ghost use Rattle.jsonb.specs.Private.Selection.{IsAt, HasTree, node_spots, IsMadeItem, IsNumberTree, AreSelected, step_expression, only_expression};
+ghost use Rattle.jsonb.specs.Private.Selection.{IsAt, HasTree, node_spots, IsMadeItem, IsNumberItem, IsNumberTree, AreSelected, step_expression, only_expression};
+ghost use Rattle.jsonb.specs.declared.selector.document.Document.{Document};
 ghost use Rattle.jsonb.specs.declared.selector.document.Mode.{Mode};
 ghost use Rattle.jsonb.specs.declared.selector.selected.MadeItem.TheVariants as made_item;
 ghost use Rattle.jsonb.specs.SelectionErrors.{IsSelectionError};
@@ -38,8 +39,7 @@ pub(crate) fn selection<'a>(
     ensures errors { IfErr result (IsSelectionError mode) }
 {
     if let Some(e) = only_expression(steps) {
-        let parts = expression_parts(alloc, mode, e, document)?;
-        return Ok(Selected::Items(parts));
+        return expression_parts(alloc, mode, e, document);
     }
     if begins_with_current(steps) {
         return Err(Error::InvalidJsonPath);
@@ -84,20 +84,23 @@ fn expression_parts<'a>(
     mode: Mode,
     e: &'a Expr<'_>,
     document: Document<'a>,
-) -> Result<Vec<MadeItem<'a>>, Error>
+) -> Result<Selected<'a>, Error>
     ensures meant { (form : Form) (top : Tree) (outcome : Outcome (List Tree)) → HasTree document.entry top
         → Means form mode (whole_expression (expression_view e.now) ∷ []) top outcome
-        → Gives (λ v ts. AllRelated (IsMadeItem form) v.items ts) IsOutOfMemory result outcome }
+        → Gives (AreSelected form document.entry) IsOutOfMemory result outcome }
     ensures errors { IfErr result (IsSelectionError mode) }
 {
     match e {
         Expr::Paths(_) => Err(Error::InvalidJsonPath),
-        Expr::Value(value) => literal_parts(alloc, value),
-        Expr::UnaryOp { op, operand } => whole_unary(alloc, mode, *op, operand, document),
+        Expr::Value(value) => literal_parts(value),
+        Expr::UnaryOp { op, operand } => {
+            let numbers = whole_unary(alloc, mode, *op, operand, document)?;
+            Ok(Selected::Numbers(numbers))
+        }
         Expr::BinaryOp { op, left, right } => {
             if is_arithmetic(*op) {
                 let number = whole_binary(alloc, mode, *op, left, right, document)?;
-                one_item(alloc, MadeItem::Item(Item::Number(number)))
+                Ok(one_item(MadeItem::Item(Item::Number(number))))
             } else {
                 whole_truth(alloc, mode, e, document)
             }
@@ -107,20 +110,20 @@ fn expression_parts<'a>(
 }
 
 // A literal as the whole path: an array of it, and of a document the document.
-fn literal_parts<'a>(alloc: Global, literal: &'a PathValue<'_>) -> Result<Vec<MadeItem<'a>>, Error>
-    ensures meant { (form : Form) (mode : Mode) (top : Tree) (outcome : Outcome (List Tree))
+fn literal_parts<'a>(literal: &'a PathValue<'_>) -> Result<Selected<'a>, Error>
+    ensures meant { (form : Form) (document : Document) (mode : Mode) (top : Tree) (outcome : Outcome (List Tree))
         → Means form mode (whole_expression (value (literal_view literal.now)) ∷ []) top outcome
-        → Gives (λ v ts. AllRelated (IsMadeItem form) v.items ts) IsOutOfMemory result outcome }
+        → Gives (AreSelected form document) IsOutOfMemory result outcome }
     ensures errors { (mode : Mode) → IfErr result (IsSelectionError mode) }
 {
     match literal {
-        PathValue::Null => one_item(alloc, MadeItem::ArrayOf(Item::Null)),
-        PathValue::Boolean(b) => one_item(alloc, MadeItem::ArrayOf(Item::Boolean(*b))),
-        PathValue::Number(n) => one_item(alloc, MadeItem::ArrayOf(Item::Number(*n))),
-        PathValue::String(s) => one_item(alloc, MadeItem::ArrayOf(Item::String(s.as_str()))),
+        PathValue::Null => Ok(one_item(MadeItem::ArrayOf(Item::Null))),
+        PathValue::Boolean(b) => Ok(one_item(MadeItem::ArrayOf(Item::Boolean(*b)))),
+        PathValue::Number(n) => Ok(one_item(MadeItem::ArrayOf(Item::Number(*n)))),
+        PathValue::String(s) => Ok(one_item(MadeItem::ArrayOf(Item::String(s.as_str())))),
         PathValue::Raw(raw) => {
             let item = root_item(raw.as_bytes())?;
-            one_item(alloc, MadeItem::Item(item))
+            Ok(one_item(MadeItem::Item(item)))
         }
     }
 }
@@ -132,9 +135,9 @@ fn whole_unary<'a>(
     op: UnaryOperator,
     operand: &'a Expr<'_>,
     document: Document<'a>,
-) -> Result<Vec<MadeItem<'a>>, Error>
-    ensures meant { (form : Form) (top : Tree) → HasTree document.entry top
-        → Gives (λ v ts. AllRelated (IsMadeItem form) v.items ts) IsOutOfMemory result
+) -> Result<Vec<Number>, Error>
+    ensures meant { (top : Tree) → HasTree document.entry top
+        → Gives (λ v ts. AllRelated IsNumberItem v.items ts) IsOutOfMemory result
         (and_then (operand_values mode (expression_view operand.now) top top) (each_signed (sign_view op))) }
     ensures errors { IfErr result (IsSelectionError mode) }
 {
@@ -168,14 +171,14 @@ fn whole_truth<'a>(
     mode: Mode,
     e: &'a Expr<'_>,
     document: Document<'a>,
-) -> Result<Vec<MadeItem<'a>>, Error>
+) -> Result<Selected<'a>, Error>
     ensures meant { (form : Form) (top : Tree) → HasTree document.entry top
-        → Gives (λ v ts. AllRelated (IsMadeItem form) v.items ts) IsOutOfMemory result
+        → Gives (AreSelected form document.entry) IsOutOfMemory result
         (truth_list (truth mode (expression_view e.now) top top)) }
     ensures errors { IfErr result (IsSelectionError mode) }
 {
     let truth = truth(alloc, mode, e, document, document.root)?;
-    one_item(alloc, MadeItem::Item(truth_item(truth)))
+    Ok(one_item(MadeItem::Item(truth_item(truth))))
 }
 
 // A truth as an item: unknown is null.
@@ -188,14 +191,11 @@ fn truth_item<'a>(truth: Option<bool>) -> Item<'a>
     }
 }
 
-fn one_item<'a>(alloc: Global, part: MadeItem<'a>) -> Result<Vec<MadeItem<'a>>, Error>
-    ensures meant { (form : Form) (t : Tree) → IsMadeItem form part.entry t
-        → Gives (λ v ts. AllRelated (IsMadeItem form) v.items ts) IsOutOfMemory result (Ok (t ∷ [])) }
-    ensures errors { IfErr result (IsDecodingError or OutOfMemory) }
+fn one_item<'a>(part: MadeItem<'a>) -> Selected<'a>
+    ensures { (form : Form) (document : Document) (t : Tree) → IsMadeItem form part.entry t
+        → AreSelected form document result (t ∷ []) }
 {
-    let mut parts = Vec::new(alloc);
-    parts.push(part)?;
-    Ok(parts)
+    Selected::Made(part)
 }
 
 /// What an expression says as a predicate.
@@ -213,7 +213,7 @@ pub(crate) fn expression_truth<'a>(
         Expr::Paths(_) => Err(Error::InvalidJsonPath),
         Expr::Value(_) => Ok(None),
         Expr::UnaryOp { op, operand } => {
-            let _parts = whole_unary(alloc, mode, *op, operand, document)?;
+            let _numbers = whole_unary(alloc, mode, *op, operand, document)?;
             Ok(None)
         }
         Expr::BinaryOp { op, left, right } => {

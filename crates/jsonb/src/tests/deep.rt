@@ -81,7 +81,11 @@ fn is_number(expression: &Expr<'_>, n: u32) -> bool {
 
 // `true && (true && (true && ..))`
 fn right_sides(alloc: Global) -> Result<Expr<'static>, AllocError> {
-    let mut found = truth(alloc)?;
+    right_sides_before(alloc, truth(alloc)?)
+}
+
+fn right_sides_before(alloc: Global, last: Expr<'static>) -> Result<Expr<'static>, AllocError> {
+    let mut found = last;
     for _ in 0..LEVELS {
         found = pair(alloc, truth(alloc)?, found)?;
     }
@@ -119,6 +123,36 @@ fn filters(alloc: Global) -> Result<Expr<'static>, AllocError> {
         found = Expr::ExistsFunc(steps);
     }
     Ok(found)
+}
+
+// `exists(@?(exists(@?(..))))`
+fn last_filters(alloc: Global, last: Expr<'static>) -> Result<Expr<'static>, AllocError> {
+    let mut found = last;
+    for _ in 0..LEVELS {
+        let mut steps = Vec::with_capacity(alloc, 2)?;
+        steps.push(Path::Current)?;
+        steps.push(Path::FilterExpr(Box::new(alloc, found)?))?;
+        found = Expr::ExistsFunc(steps);
+    }
+    Ok(found)
+}
+
+// The middle with the others around it, once for each level.
+fn nested_text(
+    alloc: Global,
+    before: &str,
+    middle: &str,
+    behind: &str,
+) -> Result<String, AllocError> {
+    let mut text = String::new(alloc);
+    for _ in 0..LEVELS {
+        text.push_str(before)?;
+    }
+    text.push_str(middle)?;
+    for _ in 0..LEVELS {
+        text.push_str(behind)?;
+    }
+    Ok(text)
 }
 
 // `+-+-..true`
@@ -174,7 +208,7 @@ fn right_sides_and_signs_are_copied(rt: HostRuntime) -> Result<(), Fail> {
 }
 
 #[test]
-fn long_chains_are_compared(rt: HostRuntime) -> Result<(), Fail> {
+fn deep_expressions_are_compared(rt: HostRuntime) -> Result<(), Fail> {
     let alloc = rt.alloc();
     let whole = chain(alloc)?;
     let same = chain(alloc)?;
@@ -186,15 +220,28 @@ fn long_chains_are_compared(rt: HostRuntime) -> Result<(), Fail> {
     let signs = signs(alloc)?;
     assert!(rt; signs != whole);
     assert!(rt; signs == signs);
+    let rights = right_sides(alloc)?;
+    assert!(rt; rights == right_sides(alloc)?);
+    assert!(rt; rights != right_sides_before(alloc, number(alloc, 0)?)?);
+    let filters = last_filters(alloc, truth(alloc)?)?;
+    assert!(rt; filters == last_filters(alloc, truth(alloc)?)?);
+    assert!(rt; filters != last_filters(alloc, number(alloc, 0)?)?);
+    assert!(rt; filters != rights);
     Ok(())
 }
 
 #[test]
-fn long_chains_are_printed(rt: HostRuntime) -> Result<(), Fail> {
+fn deep_expressions_are_printed(rt: HostRuntime) -> Result<(), Fail> {
     let alloc = rt.alloc();
     let whole = chain(alloc)?;
     let printed = format!(in alloc; "{whole}")?;
     let wanted = chain_text(alloc)?;
     assert!(rt; printed == wanted);
+    let rights = pair(alloc, truth(alloc)?, right_sides(alloc)?)?;
+    let printed_rights = format!(in alloc; "{rights}")?;
+    assert!(rt; printed_rights == nested_text(alloc, "true && (", "true && true", ")")?);
+    let filters = last_filters(alloc, truth(alloc)?)?;
+    let printed_filters = format!(in alloc; "{filters}")?;
+    assert!(rt; printed_filters == nested_text(alloc, "exists(@?(", "true", "))")?);
     Ok(())
 }

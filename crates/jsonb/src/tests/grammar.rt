@@ -92,6 +92,14 @@ fn prints(rt: HostRuntime) -> Result<(), Fail> {
         (b"1 == -1".as_slice(), "1 == -1"),
         (b"$.**{2 to LAST}".as_slice(), "$.**{2 to last}"),
         (b"$[last - -2147483648]".as_slice(), "$[last+2147483647]"),
+        (
+            b"$?(@.a == 1&&(exists(@?(@ > 1))||@.c == -2)).e".as_slice(),
+            "$?(@.a == 1 && (exists(@?(@ > 1)) || @.c == -2)).e",
+        ),
+        (
+            b"$?((exists(@.f?(@.a == 1).b)&&2 < @)||(@.d == 1&&exists($?(@ == -1))))".as_slice(),
+            "$?((exists(@.f?(@.a == 1).b) && 2 < @) || (@.d == 1 && exists($?(@ == -1))))",
+        ),
     ] {
         assert!(rt; prints_as(&rt, text, expected)?);
     }

@@ -7,6 +7,7 @@ fn a_step_that_does_not_fit_is_refused(rt: HostRuntime) -> Result<(), Fail> {
     let pair = "4000000110000001100000016b76";
     let levels = "800000015000000a80000001200000025001 80000001200000025001 20000000200000025001";
     let last_two = "20000000200000025014 2000000020000002501e";
+    let home = "40000002100000061000000420000005100000046e756d62657274797065500038c505686f6d65";
     for (path, document, strict, lax) in [
         ("$.a", NULLS, "2000000000000000", "2000000000000000"),
         ("$.c", NULLS, "StrictPath", ""),
@@ -57,6 +58,37 @@ fn a_step_that_does_not_fit_is_refused(rt: HostRuntime) -> Result<(), Fail> {
             "",
         ),
         ("$[*]?(@ == $.a)", TENS, "StrictPath", ""),
+        (
+            "$.phones[*]?(@.type == \"home\" && @.number > 5)",
+            FRED,
+            home,
+            home,
+        ),
+        (
+            "$.phones[*]?(@.number < 4000000 || @.type == \"fax\")",
+            FRED,
+            home,
+            home,
+        ),
+        (
+            "$.phones[*]?(@.type == \"fax\" && @.code == 1)",
+            FRED,
+            "StrictPath",
+            "",
+        ),
+        (
+            "$.phones[*]?(@.code == 1 || @.type == \"home\")",
+            FRED,
+            "StrictPath",
+            home,
+        ),
+        ("$.phones[*]?(@.number > 5 || @ == 1)", FRED, "", ""),
+        (
+            "$.phones[*]?(@.type == \"work\" && @.number < 5 || @.number == 3720453)",
+            FRED,
+            home,
+            home,
+        ),
         (
             "$[*]?(@.k == 1 && exists($?(-@.a)))",
             MIXED,

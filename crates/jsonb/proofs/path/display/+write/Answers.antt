@@ -1,39 +1,100 @@
-use Rattle.std.proofs.Common.{◌≡◌, ◌+◌, ◌-◌, ◌*◌, ◌/◌, ◌<◌, ◌++◌, true, refl, sym, ap, ◌∙◌, arith}
-use Rattle.std.proofs.Output.{has_written_append, has_written_of_eq}
+use Rattle.std.proofs.Common.{◌≡◌, ◌+◌, ◌-◌, ◌*◌, ◌/◌, ◌<◌, [], ◌++◌, refl, sym, ap, ◌∙◌, arith}
+use Rattle.std.proofs.Output.{has_written_append, has_written_of_eq, writes_in_calls_nil}
+use Rattle.std.proofs.lemmas.List.{append-nil}
 use Rattle.jsonb.specs.PathText.{expression_text}
-use Rattle.jsonb.specs.PathViews.{step_view, expression_view}
-use Rattle.jsonb.specs.Private.Chain.{is_pair}
+use Rattle.jsonb.specs.PathTree.{steps_of}
+use Rattle.jsonb.specs.PathViews.{step_view, steps_view, expression_view}
 use Rattle.jsonb.specs.Private.ChainText.{fronts_text, links_text}
+use Rattle.jsonb.specs.Private.Last.{steps_before, text_before}
 use Rattle.jsonb.specs.Private.Parts.{step_parts, expression_parts, parts}
 use Rattle.jsonb.proofs.ChainText.{chain_text, links_halved}
-use Rattle.jsonb.proofs.PartLemmas.{row_parts, step_parts-among, below_parts, below_fewer}
-use Rattle.jsonb.proofs.PathNodes.{binary_is}
+use Rattle.jsonb.proofs.LastLemmas.{steps_before-end, down_of, one_down, seen, parts_of, fewer_parts, whole_text}
+use Rattle.jsonb.proofs.PartLemmas.{row_parts, row_parts-last, step_parts-among, below_parts}
 use Rattle.jsonb.proofs.TextLemmas.{steps_text-take_more}
 use Rattle.jsonb.proofs.path.display.+write.Goals as goal
 
 pub write_steps-loop-step-preserved : goal.write_steps-loop-step-preserved
 write_steps-loop-step-preserved g t c plain =
     let had = c.loop-step.invariant plain in
-    has_written_of_eq _ _ _ _ _ (steps_text-take_more c.deref-step-items.result.now c.loop-step.step-index c.step-item.result (omega arith))
+    has_written_of_eq _ _ _ _ _ (steps_text-take_more c.args.steps.now c.loop-step.step-index c.step-item.result (omega arith))
     (has_written_append _ _ _ _ _ _ had (rw (← c.step-item.is) (c.in_ok-write_step.ensures had.plain refl)))
 
-pub write_expression-write_expression-requires : goal.write_expression-write_expression-requires
-write_expression-write_expression-requires g t c =
-    let e = expression_view c.args.expression.now in
-    let is = binary_is c.args.expression.now c.in-BinaryOp.op c.in-BinaryOp.left c.in-BinaryOp.right c.in-BinaryOp.is in
-    let pair : is_pair e ≡ true = ap is_pair is in
-    let fewer = below_fewer c.links_of-links.result e pair (c.links_of-links.ensures pair) in
-    let reached = ap expression_parts c.below.ensures in
-    let whole : 0x40000000000000000 * parts c.args.expression.now + 0x20000000000000000 ≡ t = c.decreases in
-    let less : 0x40000000000000000 * parts c.below.result.now + 0x20000000000000000 < t = omega arith in
+pub write_expression-returns : goal.write_expression-returns
+write_expression-returns g t c plain ok =
+    let before = c.in_ok-write_down.ensures plain refl in
+    has_written_of_eq _ _ _ _ _ (sym (whole_text (expression_view c.args.expression.now)))
+    (has_written_append _ _ _ _ _ _ before (c.write_closings.ensures before.plain ok))
+
+pub write_down-loop-next-init : goal.write_down-loop-next-init
+write_down-loop-next-init g t c = record {
+  written = λ plain. ([], record { wrote = writes_in_calls_nil _ _; plain = plain }, refl);
+  fewer = omega arith;
+}
+
+pub write_down-loop-next-preserved : goal.write_down-loop-next-preserved
+write_down-loop-next-preserved g t c =
+    let e = expression_view c.in-Some.inner.now in
+    let was = ap (λ o. parts_of (seen o)) c.in-Some.is in
+    let is = ap parts_of c.last_of-next.ensures in
+    let less = fewer_parts e in
+    record {
+      written = λ plain.
+          let had = c.loop-next.invariant.written plain in
+          let more = c.in_ok-write_before.ensures had.1.plain refl in (
+            had.0 ++ text_before e,
+            has_written_append _ _ _ _ _ _ had.1 more,
+            one_down text_before had.0 _ e _ c.last_of-next.ensures (ap (λ o. had.0 ++ down_of text_before (seen o)) (sym c.in-Some.is) ∙ had.2),
+          );
+      fewer = omega (arith, c.loop-next.invariant.fewer);
+    }
+
+pub write_down-loop-next-smaller : goal.write_down-loop-next-smaller
+write_down-loop-next-smaller g t c =
+    let was = ap (λ o. parts_of (seen o)) c.in-Some.is in
+    let is = ap parts_of c.last_of-next.ensures in
+    let less = fewer_parts (expression_view c.in-Some.inner.now) in
+    omega arith
+
+pub write_down-returns : goal.write_down-returns
+write_down-returns g t c plain ok =
+    let had = c.loop-next.invariant.written plain in
+    has_written_of_eq _ _ _ _ _ (sym (append-nil had.0) ∙ ap (λ o. had.0 ++ down_of text_before (seen o)) (sym c.in_default.is) ∙ had.2) had.1
+
+pub write_before_last-write_steps-requires : goal.write_before_last-write_steps-requires
+write_before_last-write_steps-requires g t c =
+    let row = ap row_parts (sym c.deref.ensures.value ∙ c.in-Some.ensures.cases.0) ∙ row_parts-last c.in-Some.others.now c.in-Some.last.now in
+    let whole : 0x40000000000000000 * row_parts c.args.steps.now.items + 2 ≡ t = c.decreases in
+    let less : 0x40000000000000000 * row_parts c.in-Some.others.now + 1 < t = omega arith in
     λ κs within. (less, within)
 
-pub write_expression-returns-in_ok-write_expression-in-BinaryOp : goal.write_expression-returns-in_ok-write_expression-in-BinaryOp
-write_expression-returns-in_ok-write_expression-in-BinaryOp g t c plain ok =
+pub write_before_last-write_step_before-requires : goal.write_before_last-write_step_before-requires
+write_before_last-write_step_before-requires g t c =
+    let row = ap row_parts (sym c.deref.ensures.value ∙ c.in-Some.ensures.cases.0) ∙ row_parts-last c.in-Some.others.now c.in-Some.last.now in
+    let whole : 0x40000000000000000 * row_parts c.args.steps.now.items + 2 ≡ t = c.decreases in
+    let less : 0x40000000000000000 * step_parts (step_view c.in-Some.last.now) + 1 < t = omega arith in
+    λ κs within. (less, within)
+
+pub write_before_last-returns : goal.write_before_last-returns
+write_before_last-returns g t c plain ok =
+    let front = c.in_ok-write_steps.ensures plain refl in
+    has_written_of_eq _ _ _ _ _ (sym (ap (λ ss. steps_before (steps_of (steps_view ss))) (sym c.deref.ensures.value ∙ c.in-Some.ensures.cases.0)
+    ∙ steps_before-end c.in-Some.others.now c.in-Some.last.now))
+    (has_written_append _ _ _ _ _ _ front (c.write_step_before.ensures front.plain ok))
+
+pub write_chain-write_expression-requires : goal.write_chain-write_expression-requires
+write_chain-write_expression-requires g t c =
+    let fewer = below_parts c.links_of-links.result (expression_view c.args.expression.now) in
+    let reached = ap expression_parts c.below.ensures in
+    let whole : 0x40000000000000000 * parts c.args.expression.now + 0x20000000000000003 ≡ t = c.decreases in
+    let less : 0x40000000000000000 * parts c.below.result.now + 0x20000000000000002 < t = omega arith in
+    λ κs within. (less, within)
+
+pub write_chain-returns : goal.write_chain-returns
+write_chain-returns g t c plain ok =
     let e = expression_view c.args.expression.now in
     let n = c.links_of-links.result in
-    let front = c.in_ok-write_fronts-in-BinaryOp.ensures plain refl in
-    let inner = c.in_ok-write_expression-in-BinaryOp.ensures front.plain refl in
+    let front = c.in_ok-write_fronts.ensures plain refl in
+    let inner = c.in_ok-write_expression.ensures front.plain refl in
     has_written_of_eq _ _ _ _ _ (ap (λ x. fronts_text n e ++ expression_text x ++ links_text n e) c.below.ensures ∙ sym (chain_text n e))
     (has_written_append _ _ _ _ _ _ (has_written_append _ _ _ _ _ _ front inner) (c.write_links.ensures inner.plain ok))
 
@@ -58,8 +119,7 @@ write_links-returns-in_ok-write_links-in_default g t c plain ok =
 
 pub write_steps-write_step-requires : goal.write_steps-write_step-requires
 write_steps-write_step-requires g t c =
-    let among = step_parts-among c.deref-step-items.result.now c.loop-step.step-index c.step-item.result c.loop-step-test.true c.step-item.is in
-    let row = ap row_parts c.deref-step-items.ensures.value in
-    let whole : 0x40000000000000000 * row_parts c.args.steps.now.items + 1 ≡ t = c.decreases in
+    let among = step_parts-among c.args.steps.now c.loop-step.step-index c.step-item.result c.loop-step-test.true c.step-item.is in
+    let whole : 0x40000000000000000 * row_parts c.args.steps.now + 1 ≡ t = c.decreases in
     let less : 0x40000000000000000 * step_parts (step_view c.step-item.result) < t = omega arith in
     λ κs within. (less, within)

@@ -3,23 +3,38 @@ use Rattle.std.proofs.lemmas.Result.{err_from_is_err_and}
 use Rattle.jsonb_doc.specs.Answer.{and_then}
 use Rattle.jsonb_doc.specs.Tree.{number}
 use Rattle.jsonb_doc.specs.View.{number_view}
-use Rattle.jsonb.specs.PathViews.{expression_view, operator_view, sign_view}
+use Rattle.jsonb.specs.PathTree.{value}
+use Rattle.jsonb.specs.PathViews.{expression_view, literal_view, operator_view, sign_view}
 use Rattle.jsonb.specs.PathArithmetic.{operation, each_signed}
 use Rattle.jsonb.specs.Meaning.{operand_values, truth, truth_list, binary_meaning, calculation}
-use Rattle.jsonb.proofs.GivesLemmas.{same_outcome, same_answer, refused_as}
-use Rattle.jsonb.proofs.PathNodes.{unary_is, binary_is, exists_is}
+use Rattle.jsonb.specs.Private.Selection.{AreSelected}
+use Rattle.jsonb.proofs.GivesLemmas.{same_outcome, same_answer, refused_as, one_given}
+use Rattle.jsonb.proofs.PathNodes.{literal_is, unary_is, binary_is, exists_is}
 use Rattle.jsonb.proofs.WholeLemmas.{meant, some_of, none_of, is_outcome}
 use Rattle.jsonb.proofs.selector.whole_path.expression_parts.Goals as goal
 
-pub returns-in-UnaryOp-clause-meant : goal.returns-in-UnaryOp-clause-meant
-returns-in-UnaryOp-clause-meant c = λ form top outcome r h.
+pub returns-in-Value-clause-meant : goal.returns-in-Value-clause-meant
+returns-in-Value-clause-meant c = λ form top outcome r h.
+    c.literal_parts.ensures.meant form c.args.document c.args.mode top outcome
+    (meant form c.args.mode top outcome _ _ (literal_is c.args.e.now c.in-Value.value c.in-Value.is ∙ ap (λ v. value (literal_view v)) (sym c.deref.ensures)) h)
+
+pub returns-in_err-numbers-in-UnaryOp-clause-meant : goal.returns-in_err-numbers-in-UnaryOp-clause-meant
+returns-in_err-numbers-in-UnaryOp-clause-meant c = λ form top outcome r h.
+    let p = err_from_is_err_and c.from_residual.result c.from_residual.ensures.1 in
+    same_answer (p.1 ∙ ap Err p.2)
+    (same_outcome (meant form c.args.mode top outcome _ _ (unary_is c.args.e.now c.in-UnaryOp.op c.in-UnaryOp.operand c.in-UnaryOp.is) h
+    ∙ ap (λ x. and_then (operand_values c.args.mode (expression_view x) top top) (each_signed (sign_view c.in-UnaryOp.op))) (sym c.deref-in-UnaryOp.ensures))
+    (refused_as (c.in_err-numbers-in-UnaryOp.ensures.meant top r)))
+
+pub returns-in_ok-numbers-in-UnaryOp-clause-meant : goal.returns-in_ok-numbers-in-UnaryOp-clause-meant
+returns-in_ok-numbers-in-UnaryOp-clause-meant c = λ form top outcome r h.
     same_outcome (meant form c.args.mode top outcome _ _ (unary_is c.args.e.now c.in-UnaryOp.op c.in-UnaryOp.operand c.in-UnaryOp.is) h
     ∙ ap (λ x. and_then (operand_values c.args.mode (expression_view x) top top) (each_signed (sign_view c.in-UnaryOp.op))) (sym c.deref-in-UnaryOp.ensures))
-    (c.whole_unary.ensures.meant form top r)
+    (record { ok = (c.in_ok-numbers-in-UnaryOp.ensures.meant top r).ok; err = tt })
 
 pub returns-in_err-number-in-BinaryOp-clause-meant : goal.returns-in_err-number-in-BinaryOp-clause-meant
 returns-in_err-number-in-BinaryOp-clause-meant c = λ form top outcome r h.
-    let p = err_from_is_err_and c.from_residual.result c.from_residual.ensures.1 in
+    let p = err_from_is_err_and c.from_residual-in_err-number-in-BinaryOp.result c.from_residual-in_err-number-in-BinaryOp.ensures.1 in
     let o = some_of (operation (operator_view c.in-BinaryOp.op)) (sym c.is_arithmetic.ensures ∙ c.if-is_arithmetic.true) in
     same_answer (p.1 ∙ ap Err p.2)
     (same_outcome (meant form c.args.mode top outcome _ _
@@ -39,7 +54,8 @@ returns-in_ok-number-in-BinaryOp-clause-meant c = λ form top outcome r h.
     ∙ (λ i. calculation o.0 (operand_values c.args.mode (expression_view (sym c.deref-then-is_arithmetic.ensures i)) top top)
     (operand_values c.args.mode (expression_view (sym c.deref-then-is_arithmetic-2.ensures i)) top top))
     ∙ is_outcome _ (number (number_view c.in_ok-number-in-BinaryOp.number) ∷ []) ((c.in_ok-number-in-BinaryOp.ensures.meant top o.0 r o.1).ok))
-    (c.one_item.ensures.meant form (number (number_view c.in_ok-number-in-BinaryOp.number)) refl)
+    (one_given (AreSelected form c.args.document) _
+    (c.one_item.ensures form c.args.document (number (number_view c.in_ok-number-in-BinaryOp.number)) refl))
 
 pub returns-else-is_arithmetic-clause-meant : goal.returns-else-is_arithmetic-clause-meant
 returns-else-is_arithmetic-clause-meant c = λ form top outcome r h.

@@ -1,6 +1,5 @@
 use Rattle.std.proofs.Common.{Ok, Err, None, sym, ◌∙◌, ap, refl}
 use Rattle.std.proofs.lemmas.Result.{err_from_is_err_and}
-use Rattle.jsonb_doc.specs.Payload.{any}
 use Rattle.jsonb_doc.specs.Answer.{and_then}
 use Rattle.jsonb.specs.PathTree as math
 use Rattle.jsonb.specs.PathTree.{steps_of}
@@ -13,23 +12,23 @@ use Rattle.jsonb.proofs.PathNodes.{unary_is, binary_is, exists_is}
 use Rattle.jsonb.proofs.WholeLemmas.{some_of, none_of}
 use Rattle.jsonb.proofs.selector.whole_path.expression_truth.Goals as goal
 
-pub returns-in_err-_parts-in-UnaryOp-clause-meant : goal.returns-in_err-_parts-in-UnaryOp-clause-meant
-returns-in_err-_parts-in-UnaryOp-clause-meant c = λ top r.
+pub returns-in_err-_numbers-in-UnaryOp-clause-meant : goal.returns-in_err-_numbers-in-UnaryOp-clause-meant
+returns-in_err-_numbers-in-UnaryOp-clause-meant c = λ top r.
     let p = err_from_is_err_and c.from_residual.result c.from_residual.ensures.1 in
     same_answer (p.1 ∙ ap Err p.2)
     (same_outcome (ap (λ x. expression_predicate c.args.mode x top) (unary_is c.args.e.now c.in-UnaryOp.op c.in-UnaryOp.operand c.in-UnaryOp.is)
     ∙ predicate_by_cases c.args.mode (math.unary (sign_view c.in-UnaryOp.op) (expression_view c.in-UnaryOp.operand.value)) top
     ∙ ap (λ x. and_then (and_then (operand_values c.args.mode (expression_view x) top top) (each_signed (sign_view c.in-UnaryOp.op))) (λ ts. Ok None))
     (sym c.deref.ensures))
-    (first_refused (λ ts. Ok None) (c.in_err-_parts-in-UnaryOp.ensures.meant any top r)))
+    (first_refused (λ ts. Ok None) (c.in_err-_numbers-in-UnaryOp.ensures.meant top r)))
 
-pub returns-in_ok-_parts-in-UnaryOp-clause-meant : goal.returns-in_ok-_parts-in-UnaryOp-clause-meant
-returns-in_ok-_parts-in-UnaryOp-clause-meant c = λ top r.
+pub returns-in_ok-_numbers-in-UnaryOp-clause-meant : goal.returns-in_ok-_numbers-in-UnaryOp-clause-meant
+returns-in_ok-_numbers-in-UnaryOp-clause-meant c = λ top r.
     same_outcome (ap (λ x. expression_predicate c.args.mode x top) (unary_is c.args.e.now c.in-UnaryOp.op c.in-UnaryOp.operand c.in-UnaryOp.is)
     ∙ predicate_by_cases c.args.mode (math.unary (sign_view c.in-UnaryOp.op) (expression_view c.in-UnaryOp.operand.value)) top
     ∙ ap (λ x. and_then (and_then (operand_values c.args.mode (expression_view x) top top) (each_signed (sign_view c.in-UnaryOp.op))) (λ ts. Ok None))
     (sym c.deref.ensures))
-    (one_ok (λ ts. Ok None) (c.in_ok-_parts-in-UnaryOp.ensures.meant any top r) (λ ts h. refl))
+    (one_ok (λ ts. Ok None) (c.in_ok-_numbers-in-UnaryOp.ensures.meant top r) (λ ts h. refl))
 
 pub returns-in_err-_number-in-BinaryOp-clause-meant : goal.returns-in_err-_number-in-BinaryOp-clause-meant
 returns-in_err-_number-in-BinaryOp-clause-meant c = λ top r.

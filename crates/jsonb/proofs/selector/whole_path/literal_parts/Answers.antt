@@ -2,26 +2,30 @@ use Rattle.std.proofs.Common.{[], ◌∷◌, ap, sym, refl}
 use Rattle.std.specs.Cow.{cow_str_bytes}
 use Rattle.jsonb_doc.specs.Tree.{null, boolean, number, text, array, trees_of}
 use Rattle.jsonb_doc.specs.View.{number_view}
-use Rattle.jsonb.proofs.GivesLemmas.{same_outcome}
+use Rattle.jsonb.specs.Private.Selection.{AreSelected}
+use Rattle.jsonb.proofs.GivesLemmas.{same_outcome, one_given}
 use Rattle.jsonb.proofs.WholeLemmas.{literal_meant, number_meant}
 use Rattle.jsonb.proofs.selector.whole_path.literal_parts.Goals as goal
 
 pub returns-in-Null-clause-meant : goal.returns-in-Null-clause-meant
-returns-in-Null-clause-meant c = λ form mode top outcome h.
-    same_outcome (literal_meant form mode top outcome _ _ c.in-Null.is h) (c.one_item.ensures.meant form (array (trees_of (null ∷ []))) (null, refl, refl))
+returns-in-Null-clause-meant c = λ form document mode top outcome h.
+    same_outcome (literal_meant form mode top outcome _ _ c.in-Null.is h)
+    (one_given (AreSelected form document) _ (c.one_item.ensures form document (array (trees_of (null ∷ []))) (null, refl, refl)))
 
 pub returns-in-Boolean-clause-meant : goal.returns-in-Boolean-clause-meant
-returns-in-Boolean-clause-meant c = λ form mode top outcome h.
+returns-in-Boolean-clause-meant c = λ form document mode top outcome h.
     same_outcome (literal_meant form mode top outcome _ _ c.in-Boolean.is h)
-    (c.one_item-in-Boolean.ensures.meant form (array (trees_of (boolean c.in-Boolean.b ∷ []))) (boolean c.in-Boolean.b, refl, refl))
+    (one_given (AreSelected form document) _ (c.one_item-in-Boolean.ensures form document (array (trees_of (boolean c.in-Boolean.b ∷ [])))
+    (boolean c.in-Boolean.b, refl, refl)))
 
 pub returns-in-Number-clause-meant : goal.returns-in-Number-clause-meant
-returns-in-Number-clause-meant c = λ form mode top outcome h.
+returns-in-Number-clause-meant c = λ form document mode top outcome h.
     same_outcome (number_meant form mode top outcome c.in-Number.n (literal_meant form mode top outcome _ _ c.in-Number.is h))
-    (c.one_item-in-Number.ensures.meant form (array (trees_of (number (number_view c.in-Number.n) ∷ []))) (number (number_view c.in-Number.n), refl, refl))
+    (one_given (AreSelected form document) _ (c.one_item-in-Number.ensures form document (array (trees_of (number (number_view c.in-Number.n) ∷ [])))
+    (number (number_view c.in-Number.n), refl, refl)))
 
 pub returns-in-String-clause-meant : goal.returns-in-String-clause-meant
-returns-in-String-clause-meant c = λ form mode top outcome h.
+returns-in-String-clause-meant c = λ form document mode top outcome h.
     same_outcome (literal_meant form mode top outcome _ _ c.in-String.is h)
-    (c.one_item-in-String.ensures.meant form (array (trees_of (text (cow_str_bytes c.in-String.s) ∷ [])))
-    (text (cow_str_bytes c.in-String.s), refl, ap text (sym c.as_str.ensures.value)))
+    (one_given (AreSelected form document) _ (c.one_item-in-String.ensures form document (array (trees_of (text (cow_str_bytes c.in-String.s) ∷ [])))
+    (text (cow_str_bytes c.in-String.s), refl, ap text (sym c.as_str.ensures.value))))

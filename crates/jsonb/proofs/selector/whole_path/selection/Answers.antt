@@ -10,7 +10,7 @@ use Rattle.jsonb.proofs.selector.whole_path.selection.Goals as goal
 
 pub returns-in_err-spots-clause-meant : goal.returns-in_err-spots-clause-meant
 returns-in_err-spots-clause-meant c = λ form top outcome r h.
-    let p = err_from_is_err_and c.from_residual-in_err-spots.result c.from_residual-in_err-spots.ensures.1 in
+    let p = err_from_is_err_and c.from_residual.result c.from_residual.ensures.1 in
     same_answer (p.1 ∙ ap Err p.2)
     (same_outcome (by_steps form c.args.mode top outcome (steps_view c.args.steps.now) c.in_default.ensures
     (sym c.begins_with_current.ensures ∙ c.if-begins_with_current.false) h

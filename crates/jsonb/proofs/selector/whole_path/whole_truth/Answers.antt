@@ -1,9 +1,11 @@
 use Rattle.std.proofs.Common.{[], ◌∷◌, Ok, sym, ap}
 use Rattle.jsonb.specs.Meaning.{truth_item}
-use Rattle.jsonb.proofs.GivesLemmas.{followed, same_outcome}
+use Rattle.jsonb.specs.Private.Selection.{AreSelected}
+use Rattle.jsonb.proofs.GivesLemmas.{followed, same_outcome, one_given}
 use Rattle.jsonb.proofs.selector.whole_path.whole_truth.Goals as goal
 
 pub returns-clause-meant : goal.returns-clause-meant
 returns-clause-meant c = λ form top r.
     followed (λ b. Ok (truth_item b ∷ [])) (c.in_ok-truth.ensures.meant top top r r) (λ b p.
-    same_outcome (ap (λ z. Ok (truth_item z ∷ [])) (sym p)) (c.one_item.ensures.meant form (truth_item c.in_ok-truth.truth) (c.truth_item.ensures form)))
+    same_outcome (ap (λ z. Ok (truth_item z ∷ [])) (sym p)) (one_given (AreSelected form c.args.document) _
+    (c.one_item.ensures form c.args.document (truth_item c.in_ok-truth.truth) (c.truth_item.ensures form))))

@@ -1,6 +1,12 @@
-use Rattle.jsonb.specs.PathViews.{path_view}
+use Rattle.std.proofs.Common.{ap, ◌∙◌}
+use Rattle.std.proofs.Output.{has_written_of_eq}
+use Rattle.jsonb.specs.PathText.{steps_text}
+use Rattle.jsonb.specs.PathTree.{steps_of}
+use Rattle.jsonb.specs.PathViews.{steps_view, path_view}
 use Rattle.jsonb.proofs.TextLemmas.{steps_text-path}
 use Rattle.jsonb.proofs.path.display.JsonPathDisplay.fmt.Goals as goal
 
 pub returns-clause-writes : goal.returns-clause-writes
-returns-clause-writes g c plain ok = rw (← steps_text-path (path_view c.args.self.now)) (c.write_steps.ensures plain ok)
+returns-clause-writes g c plain ok =
+    has_written_of_eq _ _ _ _ _ (ap (λ ss. steps_text (steps_of (steps_view ss))) c.deref.ensures.value ∙ steps_text-path (path_view c.args.self.now))
+    (c.write_steps.ensures plain ok)

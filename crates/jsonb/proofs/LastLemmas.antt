@@ -1,0 +1,304 @@
+-- An expression up to what stands last in it: its text, its parts, and whether two are the same.
+use Rattle.std.proofs.Common.{◌≡◌, ℕ, ◌+◌, ◌<◌, ◌≤◌, List, [], ◌∷◌, ◌++◌, Bool, true, false, Option, None, Some, refl, sym, ap, ap₂, ◌∙◌, append_assoc, arith}
+use Rattle.std.specs.Borrow.{Bor}
+use Rattle.std.specs.Prelude.{codes, ◌&&◌, if◌then◌else◌, option_map}
+use Rattle.std.specs.Option.{option_zip}
+use Rattle.std.proofs.lemmas.List.{append-nil}
+use Rattle.jsonb.specs.PathText.{operator_text, sign_text, literal_text, is_joined, side_text, step_text, steps_text, expression_text}
+use Rattle.jsonb.specs.PathTree.{Step, filter, whole_expression, Steps, no_steps, step, Expression, paths, value, binary, unary, exists, steps_of}
+use Rattle.jsonb.specs.PathViews.{step_view, steps_view, expression_view}
+use Rattle.jsonb.specs.Private.Last.{but_last, last_step, is_filter, held_by, held_by_last, last_of, down, steps_down, step_down, step_before, last_before, steps_before, text_before, ends_in_filter, closing, is_same_opening, is_same_last, are_same_before, is_same_before}
+use Rattle.jsonb.specs.Private.Parts.{step_parts, steps_parts, expression_parts, parts}
+use Rattle.jsonb.specs.SamePath.{is_same_operator, is_same_literal, is_same_step, are_same_steps, is_same_expression}
+use Rattle.jsonb.specs.declared.path.Expr.{Expr}
+use Rattle.jsonb.specs.declared.path.Path.{Path}
+
+-- ---- lists of steps that the code has
+
+pub last_step-end : (ss : List Path) (s : Path) → last_step (steps_of (steps_view (ss ++ s ∷ []))) ≡ Some (step_view s)
+last_step-end [] s = refl
+last_step-end (t ∷ []) s = refl
+last_step-end (t ∷ u ∷ ss) s = last_step-end (u ∷ ss) s
+
+pub but_last-end : (ss : List Path) (s : Path) → but_last (steps_of (steps_view (ss ++ s ∷ []))) ≡ steps_of (steps_view ss)
+but_last-end [] s = refl
+but_last-end (t ∷ []) s = refl
+but_last-end (t ∷ u ∷ ss) s = ap (step (step_view t)) (but_last-end (u ∷ ss) s)
+
+pub steps_before-end : (ss : List Path) (s : Path) →
+    steps_before (steps_of (steps_view (ss ++ s ∷ []))) ≡ steps_text (steps_of (steps_view ss)) ++ step_before (step_view s)
+steps_before-end ss s = ap₂ (λ front last. steps_text front ++ last_before last) (but_last-end ss s) (last_step-end ss s)
+
+-- ---- one level
+
+abbrev pub down_of : (Expression → List ℕ) → Option Expression → List ℕ
+down_of text None = []
+down_of text (Some e) = down text e
+
+held_down : (text : Expression → List ℕ) (s : Step) → step_down text s ≡ down_of text (held_by s)
+held_down text (filter e) = refl
+held_down text (whole_expression e) = refl
+held_down text s = refl
+
+last_down : (text : Expression → List ℕ) (ss : Steps) → steps_down text ss ≡ down_of text (held_by_last (last_step ss))
+last_down text no_steps = refl
+last_down text (step s no_steps) = held_down text s
+last_down text (step s (step t ts)) = last_down text (step t ts)
+
+down-is : (text : Expression → List ℕ) (e : Expression) → down text e ≡ text e ++ down_of text (last_of e)
+down-is text (paths ss) = ap (λ rest. text (paths ss) ++ rest) (last_down text ss)
+down-is text (value l) = sym (append-nil (text (value l)))
+down-is text (binary op left right) = refl
+down-is text (unary op e) = refl
+down-is text (exists ss) = ap (λ rest. text (exists ss) ++ rest) (last_down text ss)
+
+-- one more is given, and the next is found
+pub one_down : (text : Expression → List ℕ) (had whole : List ℕ) (e : Expression) (next : Option Expression) → next ≡ last_of e →
+    had ++ down text e ≡ whole → had ++ text e ++ down_of text next ≡ whole
+one_down text had whole e next is all = append_assoc had (text e) (down_of text next)
+    ∙ ap (λ o. had ++ (text e ++ down_of text o)) is ∙ ap (λ x. had ++ x) (sym (down-is text e)) ∙ all
+
+-- what references stand for
+abbrev pub seen : Option (Bor Expr) → Option Expression
+seen next = option_map (λ e. expression_view e.now) next
+
+-- ---- parts
+
+abbrev pub parts_of : Option Expression → ℕ
+parts_of None = 0
+parts_of (Some e) = expression_parts e
+
+held_parts : (s : Step) → parts_of (held_by s) ≤ step_parts s
+held_parts (filter e) = omega arith
+held_parts (whole_expression e) = omega arith
+held_parts s = omega arith
+
+last_parts : (ss : Steps) → parts_of (held_by_last (last_step ss)) ≤ steps_parts ss
+last_parts no_steps = omega arith
+last_parts (step s no_steps) = let held = held_parts s in omega arith
+last_parts (step s (step t ts)) = let rest = last_parts (step t ts) in omega arith
+
+pub fewer_parts : (e : Expression) → parts_of (last_of e) < expression_parts e
+fewer_parts (paths ss) = let held = last_parts ss in omega arith
+fewer_parts (value l) = omega arith
+fewer_parts (binary op left right) = omega arith
+fewer_parts (unary op e) = omega arith
+fewer_parts (exists ss) = let held = last_parts ss in omega arith
+
+-- ---- closing parentheses, in any order
+
+abbrev Closes : List ℕ → Type 0
+Closes text = text ++ codes ")" ≡ codes ")" ++ text
+
+closes_both : (a b : List ℕ) → Closes a → Closes b → Closes (a ++ b)
+closes_both a b h k = append_assoc a b (codes ")") ∙ ap (λ x. a ++ x) k ∙ sym (append_assoc a (codes ")") b)
+    ∙ ap (λ x. x ++ b) h ∙ append_assoc (codes ")") a b
+
+closes_once : (b : Bool) → Closes (if b then codes ")" else [])
+closes_once true = refl
+closes_once false = refl
+
+closes_twice : (b : Bool) → Closes (if b then codes "))" else codes ")")
+closes_twice true = refl
+closes_twice false = refl
+
+mutual
+  down_closes : (e : Expression) → Closes (down closing e)
+  down_closes (paths ss) = closes_both _ _ (closes_once (ends_in_filter (last_step ss))) (steps_close ss)
+  down_closes (value l) = refl
+  down_closes (binary op left right) = closes_both _ _ (closes_once (is_joined right)) (down_closes right)
+  down_closes (unary op e) = down_closes e
+  down_closes (exists ss) = closes_both _ _ (closes_twice (ends_in_filter (last_step ss))) (steps_close ss)
+
+  steps_close : (ss : Steps) → Closes (steps_down closing ss)
+  steps_close no_steps = refl
+  steps_close (step s no_steps) = step_closes s
+  steps_close (step s (step t ts)) = steps_close (step t ts)
+
+  step_closes : (s : Step) → Closes (step_down closing s)
+  step_closes (filter e) = down_closes e
+  step_closes (whole_expression e) = down_closes e
+  step_closes _ = refl
+
+-- ---- the text of an expression: what stands before each that is last, and then the closing parentheses
+
+enclosed : (front text b c : List ℕ) → text ≡ b ++ c → Closes c → front ++ text ++ codes ")" ≡ front ++ b ++ (codes ")" ++ c)
+enclosed front text b c h k = ap (λ x. front ++ x ++ codes ")") h
+    ∙ append_assoc front (b ++ c) (codes ")") ∙ ap (λ x. front ++ x) (append_assoc b c (codes ")") ∙ ap (λ x. b ++ x) k)
+    ∙ sym (append_assoc front b (codes ")" ++ c))
+
+right_side : (is_around : Bool) (text b c : List ℕ) → text ≡ b ++ c → Closes c →
+    (if is_around then codes "(" ++ text ++ codes ")" else text)
+    ≡ (if is_around then codes "(" else []) ++ b ++ ((if is_around then codes ")" else []) ++ c)
+right_side true text b c h k = enclosed (codes "(") text b c h k
+right_side false text b c h k = h
+
+-- the text between the sides, and what is open behind it, each by itself
+between : (left close space operator last_space a b c : List ℕ) →
+    left ++ close ++ space ++ operator ++ last_space ++ (a ++ b ++ c)
+    ≡ left ++ (close ++ space ++ operator ++ last_space) ++ a ++ b ++ c
+between left close space operator last_space a b c = simp append_assoc refl
+
+between_only : (left space operator last_space a b c : List ℕ) →
+    left ++ space ++ operator ++ last_space ++ (a ++ b ++ c) ≡ left ++ (space ++ operator ++ last_space) ++ a ++ b ++ c
+between_only left space operator last_space a b c = simp append_assoc refl
+
+left_side : (is_around : Bool) (left operator a b c : List ℕ) →
+    (if is_around then codes "(" ++ left ++ codes ")" else left) ++ codes " " ++ operator ++ codes " " ++ (a ++ b ++ c)
+    ≡ (if is_around then codes "(" else []) ++ left
+    ++ ((if is_around then codes ")" else []) ++ codes " " ++ operator ++ codes " ") ++ a ++ b ++ c
+left_side true left operator a b c = between (codes "(" ++ left) (codes ")") (codes " ") operator (codes " ") a b c
+left_side false left operator a b c = between_only left (codes " ") operator (codes " ") a b c
+
+sides : (left right : Expression) (operator b c : List ℕ) → expression_text right ≡ b ++ c → Closes c →
+    side_text left (expression_text left) ++ codes " " ++ operator ++ codes " " ++ side_text right (expression_text right)
+    ≡ (if is_joined left then codes "(" else []) ++ expression_text left
+    ++ ((if is_joined left then codes ")" else []) ++ codes " " ++ operator ++ codes " ")
+    ++ (if is_joined right then codes "(" else []) ++ b ++ ((if is_joined right then codes ")" else []) ++ c)
+sides left right operator b c h k =
+    ap (λ x. side_text left (expression_text left) ++ codes " " ++ operator ++ codes " " ++ x)
+    (right_side (is_joined right) (expression_text right) b c h k)
+    ∙ left_side (is_joined left) (expression_text left) operator (if is_joined right then codes "(" else []) b
+    ((if is_joined right then codes ")" else []) ++ c)
+
+fronts : (front a b c : List ℕ) → front ++ (a ++ b) ++ c ≡ front ++ a ++ b ++ c
+fronts front a b c = ap (λ x. x ++ c) (sym (append_assoc front a b))
+
+closed_twice : (is_filter : Bool) (front a b c : List ℕ) →
+    front ++ (a ++ b) ++ (codes ")" ++ ((if is_filter then codes ")" else []) ++ c))
+    ≡ front ++ a ++ b ++ ((if is_filter then codes "))" else codes ")") ++ c)
+closed_twice true front a b c = fronts front a b (codes "))" ++ c)
+closed_twice false front a b c = fronts front a b (codes ")" ++ c)
+
+one_more : (text a b c d : List ℕ) → text ++ (a ++ b ++ c ++ d) ≡ text ++ a ++ b ++ c ++ d
+one_more text a b c d = simp append_assoc refl
+
+mutual
+  pub whole_text : (e : Expression) → expression_text e ≡ down text_before e ++ down closing e
+  whole_text (paths ss) = steps_whole ss
+  whole_text (value l) = sym (append-nil (literal_text l))
+  whole_text (binary op left right) =
+      sides left right (operator_text op) (down text_before right) (down closing right) (whole_text right) (down_closes right)
+  whole_text (unary op e) = ap (λ text. sign_text op ++ text) (whole_text e)
+      ∙ sym (append_assoc (sign_text op) (down text_before e) (down closing e))
+  whole_text (exists ss) =
+      enclosed (codes "exists(") (steps_text ss) (steps_before ss ++ steps_down text_before ss)
+      ((if ends_in_filter (last_step ss) then codes ")" else []) ++ steps_down closing ss) (steps_whole ss)
+      (closes_both _ _ (closes_once (ends_in_filter (last_step ss))) (steps_close ss))
+      ∙ closed_twice (ends_in_filter (last_step ss)) (codes "exists(") (steps_before ss) (steps_down text_before ss) (steps_down closing ss)
+
+  steps_whole : (ss : Steps) → steps_text ss ≡ steps_before ss ++ steps_down text_before ss
+      ++ ((if ends_in_filter (last_step ss) then codes ")" else []) ++ steps_down closing ss)
+  steps_whole no_steps = refl
+  steps_whole (step s no_steps) = append-nil (step_text s) ∙ step_whole s
+  steps_whole (step s (step t ts)) = ap (λ text. step_text s ++ text) (steps_whole (step t ts))
+      ∙ one_more (step_text s) (steps_text (but_last (step t ts))) (last_before (last_step (step t ts))) (steps_down text_before (step t ts)) _
+
+  step_whole : (s : Step) → step_text s ≡ step_before s ++ step_down text_before s
+      ++ ((if is_filter s then codes ")" else []) ++ step_down closing s)
+  step_whole (filter e) = enclosed (codes "?(") (expression_text e) (down text_before e) (down closing e) (whole_text e) (down_closes e)
+  step_whole (whole_expression e) = whole_text e
+  step_whole s = sym (append-nil (step_text s)) ∙ sym (append-nil (step_text s ++ []))
+
+-- ---- whether two are the same
+
+abbrev pub same_lasts : Option Expression → Option Expression → Bool
+same_lasts None f = true
+same_lasts (Some e) None = true
+same_lasts (Some e) (Some f) = is_same_expression e f
+
+and_true : (b : Bool) → b ≡ b && true
+and_true true = refl
+and_true false = refl
+
+and_false : (b : Bool) → b && false ≡ false
+and_false true = refl
+and_false false = refl
+
+regroup : (a b c d : Bool) → a && (b && c && d) ≡ a && b && c && d
+regroup true b c d = refl
+regroup false b c d = refl
+
+turned : (a b c : Bool) → a && b && c ≡ a && c && b
+turned true true c = and_true c
+turned true false c = sym (and_false c)
+turned false b c = refl
+
+step_split : (s t : Step) → is_same_step s t ≡ is_same_opening s t && same_lasts (held_by s) (held_by t)
+step_split (filter e) (filter f) = refl
+step_split (filter e) t = refl
+step_split (whole_expression e) (whole_expression f) = refl
+step_split (whole_expression e) t = refl
+step_split s t = and_true (is_same_step s t)
+
+steps_split : (ss ts : Steps) →
+    are_same_steps ss ts ≡ are_same_before ss ts && same_lasts (held_by_last (last_step ss)) (held_by_last (last_step ts))
+steps_split no_steps no_steps = refl
+steps_split no_steps (step t no_steps) = refl
+steps_split no_steps (step t (step u ts)) = refl
+steps_split (step s no_steps) no_steps = refl
+steps_split (step s (step r ss)) no_steps = refl
+steps_split (step s no_steps) (step t no_steps) = sym (and_true (is_same_step s t)) ∙ step_split s t
+steps_split (step s no_steps) (step t (step u ts)) = and_false (is_same_step s t)
+steps_split (step s (step r ss)) (step t no_steps) = and_false (is_same_step s t)
+steps_split (step s (step r ss)) (step t (step u ts)) = ap (λ b. is_same_step s t && b) (steps_split (step r ss) (step u ts))
+    ∙ regroup (is_same_step s t) (are_same_steps (but_last (step r ss)) (but_last (step u ts))) _ _
+
+same_split : (e f : Expression) → is_same_expression e f ≡ is_same_before e f && same_lasts (last_of e) (last_of f)
+same_split (paths ss) (paths ts) = steps_split ss ts
+same_split (value l) (value m) = and_true (is_same_literal l m)
+same_split (binary op left right) (binary op' left' right') =
+    turned (is_same_operator op op') (is_same_expression right right') (is_same_expression left left')
+same_split (unary op e) (unary op' f) = refl
+same_split (exists ss) (exists ts) = steps_split ss ts
+same_split e f = refl
+
+-- ---- the same, level by level
+
+pub same-differs : (e f : Expression) → false ≡ is_same_before e f → is_same_expression e f ≡ false
+same-differs e f is = same_split e f ∙ ap (λ b. b && same_lasts (last_of e) (last_of f)) (sym is)
+
+pub same-further : (e f : Expression) (next other : Option Expression) → next ≡ last_of e → other ≡ last_of f → true ≡ is_same_before e f →
+    is_same_expression e f ≡ same_lasts next other
+same-further e f next other h k is = same_split e f ∙ ap (λ b. b && same_lasts (last_of e) (last_of f)) (sym is)
+    ∙ ap₂ same_lasts (sym h) (sym k)
+
+-- two that are next
+abbrev pub same_next : Option (Bor Expr × Bor Expr) → Bool
+same_next None = true
+same_next (Some p) = is_same_expression (expression_view p.0.now) (expression_view p.1.now)
+
+abbrev pub next_parts : Option (Bor Expr × Bor Expr) → ℕ
+next_parts None = 0
+next_parts (Some p) = parts p.0.now
+
+pub same_zip : (next other : Option (Bor Expr)) → same_next (option_zip next other) ≡ same_lasts (seen next) (seen other)
+same_zip None other = refl
+same_zip (Some e) None = refl
+same_zip (Some e) (Some f) = refl
+
+pub zip_parts : (next other : Option (Bor Expr)) → next_parts (option_zip next other) ≤ parts_of (seen next)
+zip_parts None other = omega arith
+zip_parts (Some e) None = omega arith
+zip_parts (Some e) (Some f) = omega arith
+
+-- ---- lists of steps that the code has are the same before what the last ones hold
+
+same_before_all : (ss : List Path) (s : Path) (o : Steps) (other : Option Step) →
+    are_same_steps (but_last (steps_of (steps_view (ss ++ s ∷ [])))) o && is_same_last (last_step (steps_of (steps_view (ss ++ s ∷ [])))) other
+    ≡ are_same_steps (steps_of (steps_view ss)) o && is_same_last (Some (step_view s)) other
+same_before_all ss s o other = ap₂ (λ front last. are_same_steps front o && is_same_last last other) (but_last-end ss s) (last_step-end ss s)
+
+pub same_before-end : (ss ts : List Path) (s t : Path) →
+    are_same_before (steps_of (steps_view (ss ++ s ∷ []))) (steps_of (steps_view (ts ++ t ∷ [])))
+    ≡ are_same_steps (steps_of (steps_view ss)) (steps_of (steps_view ts)) && is_same_opening (step_view s) (step_view t)
+same_before-end ss ts s t = same_before_all ss s _ _
+    ∙ ap₂ (λ front last. are_same_steps (steps_of (steps_view ss)) front && is_same_last (Some (step_view s)) last)
+    (but_last-end ts t) (last_step-end ts t)
+
+pub same_before-shorter : (ss : List Path) (s : Path) → are_same_before (steps_of (steps_view (ss ++ s ∷ []))) no_steps ≡ false
+same_before-shorter ss s = same_before_all ss s _ _ ∙ and_false (are_same_steps (steps_of (steps_view ss)) no_steps)
+
+pub same_before-longer : (ts : List Path) (t : Path) → are_same_before no_steps (steps_of (steps_view (ts ++ t ∷ []))) ≡ false
+same_before-longer ts t = ap (λ last. are_same_steps no_steps (but_last (steps_of (steps_view (ts ++ t ∷ [])))) && is_same_last None last)
+    (last_step-end ts t) ∙ and_false (are_same_steps no_steps (but_last (steps_of (steps_view (ts ++ t ∷ [])))))

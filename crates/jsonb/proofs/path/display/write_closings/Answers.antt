@@ -1,0 +1,32 @@
+use Rattle.std.proofs.Common.{[], ◌++◌, refl, sym, ap, ◌∙◌, arith}
+use Rattle.std.proofs.Output.{has_written_append, has_written_of_eq, writes_in_calls_nil}
+use Rattle.std.proofs.lemmas.List.{append-nil}
+use Rattle.jsonb.specs.PathViews.{expression_view}
+use Rattle.jsonb.specs.Private.Last.{closing}
+use Rattle.jsonb.proofs.LastLemmas.{down_of, one_down, seen, parts_of, fewer_parts}
+use Rattle.jsonb.proofs.path.display.write_closings.Goals as goal
+
+pub loop-next-init : goal.loop-next-init
+loop-next-init g c plain = ([], record { wrote = writes_in_calls_nil _ _; plain = plain }, refl)
+
+pub loop-next-preserved : goal.loop-next-preserved
+loop-next-preserved g c plain =
+    let e = expression_view c.in-Some.inner.now in
+    let had = c.loop-next.invariant plain in
+    let more = has_written_of_eq _ _ _ _ _ c.closing_of.ensures (c.in_ok-write_str.ensures.writes had.1.plain refl) in (
+      had.0 ++ closing e,
+      has_written_append _ _ _ _ _ _ had.1 more,
+      one_down closing had.0 _ e _ c.last_of-next.ensures (ap (λ o. had.0 ++ down_of closing (seen o)) (sym c.in-Some.is) ∙ had.2),
+    )
+
+pub loop-next-smaller : goal.loop-next-smaller
+loop-next-smaller g c =
+    let was = ap (λ o. parts_of (seen o)) c.in-Some.is in
+    let is = ap parts_of c.last_of-next.ensures in
+    let less = fewer_parts (expression_view c.in-Some.inner.now) in
+    omega arith
+
+pub returns : goal.returns
+returns g c plain ok =
+    let had = c.loop-next.invariant plain in
+    has_written_of_eq _ _ _ _ _ (sym (append-nil had.0) ∙ ap (λ o. had.0 ++ down_of closing (seen o)) (sym c.in_default.is) ∙ had.2) had.1
