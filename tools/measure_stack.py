@@ -249,6 +249,15 @@ def more_ends(program, call, shape, levels, stack):
     return printed([program, "once", call, argument, "-", text], stack)
 
 
+def printed_len(shape, times):
+    """How long the text is that a path prints: joined conditions that are sides stand in parentheses, and no others."""
+    if shape == "parentheses":
+        return len("$?(@ == 1)")
+    if shape in ("and_chain", "or_chain", "right_sides"):
+        return len("$?(1 == 1)") + len(" && 1 == 1") * times + len("()") * (times - 1)
+    return len(path_text(PATHS[shape], times))
+
+
 def more_answer(call, shape, levels):
     """What a run prints, or None where only the end is asked for. The innermost text lies in an array of its own."""
     numbers = {"only": 0, "pair": 0, "first": 1, "last": 1, "middle": 2}
@@ -263,6 +272,8 @@ def more_answer(call, shape, levels):
     }
     if call == "leaves":
         return str(1 + sum(numbers[s] * n for s, n in turns(shape, levels).items()))
+    if call == "path_print":
+        return str(printed_len(shape, levels))
     return str(answers[call]) if call in answers else None
 
 
