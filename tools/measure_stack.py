@@ -260,18 +260,16 @@ def printed_len(shape, times):
 
 def more_answer(call, shape, levels):
     """What a run prints, or None where only the end is asked for. The innermost text lies in an array of its own."""
-    numbers = {"only": 0, "pair": 0, "first": 1, "last": 1, "middle": 2}
     answers = {
         "depth": levels + 1,
         "check_depth": 1,
+        "leaves": 1,
         "traverse_check_string": 0,
         "to_value": 0,
         "value_clone": 0,
         "value_equal": 1,
         "path_equal": 1,
     }
-    if call == "leaves":
-        return str(1 + sum(numbers[s] * n for s, n in turns(shape, levels).items()))
     if call == "path_print":
         return str(printed_len(shape, levels))
     return str(answers[call]) if call in answers else None
@@ -279,7 +277,9 @@ def more_answer(call, shape, levels):
 
 def more_asked():
     """Each call with its name in the table and its shapes: together those of documents, and each of a path alone."""
-    yield from ((call, name, SHAPES) for call, name in MORE_ON_DOCUMENTS.items())
+    # A leaf has a step for each level above it: where each level has a leaf, they take the square of the levels together.
+    shapes_of = lambda call: ["only", "pair"] if call == "leaves" else SHAPES
+    yield from ((call, name, shapes_of(call)) for call, name in MORE_ON_DOCUMENTS.items())
     yield from ((call, name, [shape]) for shape in PATHS for call, name in MORE_ON_PATHS.items())
     yield from ((call, name, ["key_path"]) for call, name in MORE_ON_KEY_PATHS.items())
 
