@@ -10,8 +10,8 @@ from dataclasses import dataclass
 
 # What these programs call of rt, and of the module rtlib that it loads.
 CALLED = {
-    "rt": "must_fail checked edits_of read_edit edited processors free rtlib",
-    "rtlib": "RATTLE crates_below guarded",
+    "rt": "ci edits_alone must_fail checked seeded linked in_lanes ending edits_of read_edit processors free Crate Kept SEEDS REFUSED MISSED rtlib",
+    "rtlib": "VERDICT crates_below",
 }
 
 FUNCTION = re.compile(r"( *)(?:pub(?:\([^)]*\))? |const |unsafe |extern \"C\" )*fn (\w+)")

@@ -1,33 +1,42 @@
 #!/usr/bin/env python3
 """Proves, tests and builds all crates and tries their must-fail edits: rt ci, with each crate proved once.
 
-rt ci by itself proves a crate twice from nothing, once with its tests, and would prove it a third time for its edits.
-This runs rt's own program on a copy of the repository, with three things changed:
+  gate.py            what CI runs. What passes is kept on this machine, by the sums of all that it read, as rt ci keeps it: a
+                     later run proves and tries only what changed and the crates above it, and runs every test and program
+  gate.py NAME..     the same for these crates and those below them alone: not the gate, but what passes is kept for it
+  gate.py --anew     proves and tries all
 
-  - what the proof of a crate keeps, which begins from nothing, stays until the run ends;
-  - the crate's tests and its program are checked over that work, and so are the crates above it;
+rt ci by itself proves a crate three times from nothing: once, once with its tests, and once for its edits. This runs rt's
+own program on a copy of the repository, with three things changed:
+
+  - what the proof of a crate made, which begins from nothing, stays until the run ends;
+  - the crate's tests, its program and its static library are checked over that work, and so are the crates above it;
   - its edits are tried over it too, as check_edits.py says, beside all that is still to be proved.
 
 So the prover says `incremental=trusted` of each crate: it trusts the files that this run wrote in its own folder. rt ci
-by itself, which trusts none, passes on the repository as well, and takes twice the time. The work tree gets the programs
+by itself, which trusts none, takes the repository as well, and nothing that is kept here. The work tree gets the programs
 and the static library that were built, for the commands that run them. The last line is 'N passed, M failed'.
 """
+import hashlib
+import inspect
 import os
 import re
 import shutil
 import sys
+import tempfile
 
 sys.dont_write_bytecode = True
 import check_edits
 import edits
+import lanes
 from edits import rt
 
 
 class ProvedOnce(rt.Crate):
     """A crate under rt ci whose proof is kept, for its tests, its program, its edits and the crates above it."""
 
-    # What the prover said of each crate, by its name.
-    proofs = {}
+    # The names of those that are not proved.
+    refused = set()
 
     def ci(self, flags, tests):
         kept = f"{self.folder}/out/{'tests' if tests else 'incremental'}"
@@ -35,18 +44,20 @@ class ProvedOnce(rt.Crate):
         if tests:
             return self.check_tests(flags, kept)
         status = self.build_program(flags) if self.is_program else super().ci(flags, tests)
-        if not status:
-            self.out.seek(0)
-            self.proofs[self.name] = self.out.read()
-            status = self.build_static(["--jobs", "1"]) if self.is_static else 0
-        return status
+        if status:
+            self.refused.add(self.name)
+            return status
+        self.out.seek(0)
+        check_edits.proofs[self.name] = self.out.read()
+        return self.build_library(["--jobs", "1"]) if self.is_static else 0
 
     def check_tests(self, flags, kept):
-        if self.name not in self.proofs:
+        if self.name in self.refused:
             rt.say("the crate itself is not proved", self.out)
             return 1
         shutil.rmtree(kept, ignore_errors=True)
-        check_edits.link_folder(f"{self.folder}/out/incremental", kept)
+        if self.name in check_edits.proofs:
+            rt.linked(f"{self.folder}/out/incremental", kept)
         return super().ci(flags, True)
 
     def build_program(self, flags):
@@ -55,6 +66,14 @@ class ProvedOnce(rt.Crate):
         to = f"out/{self.name}"
         status = self.prove(["build", *words, "--backend", "llvm", "-o", f"{to}.o"])
         return status or self.link(f"{to}.o", to) or self.compile_by("rattle", words, to)
+
+    def build_library(self, flags):
+        """Builds the static library over the crate's proof, and puts it where rt keeps what a crate's proof made."""
+        status, folder = self.build_static(flags), f"{self.folder}/out/rlib/{self.name}.rlib"
+        if not status:
+            os.makedirs(folder, exist_ok=True)
+            os.replace(f"{self.folder}/out/lib{self.name}.a", f"{folder}/lib{self.name}.a")
+        return status
 
     def build_rlib(self, flags, anew):
         # (A library of statements alone can't be built over kept work.)
@@ -76,67 +95,78 @@ class Output:
         self.to.flush()
 
 
-def tasks_with_edits(tasks, crates):
-    """Returns rt ci's tasks, the proofs first and the largest of each kind, and those of the edits behind them.
-
-    A crate's tests wait for its proof.
-    """
-    mended = {}
-    for key in sorted(tasks, key=lambda it: (it[1] != "proof", -tasks[it][1])):
-        waits, _, _, call = tasks[key]
-        mended[key] = waits if key[1] == "proof" else [*waits, (key[0], "proof")], call
-    return mended | check_edits.tasks_of_edits(crates, lambda crate, _: ProvedOnce.proofs.get(crate.name, ""))
+def in_lanes(tasks):
+    """Does rt ci's tasks side by side. A crate's tests and edits wait for its proof, whose work they begin with."""
+    behind = {key: [(key[0], "proof")] if key[1] in ("tests", "seed") else [] for key in tasks}
+    return lanes.in_lanes({key: ([*waits, *behind[key]], *rest) for key, (waits, *rest) in tasks.items()})
 
 
-def run_rt_ci(crates):
-    """Runs rt ci in the current folder with the crates' edits beside it, and returns how much has passed and failed."""
-    rt.Crate = ProvedOnce
+def prove_once():
+    """Has rt ci do as this program's description says."""
+    check_edits.judge_by_function()
+    rt.Crate, rt.in_lanes = ProvedOnce, in_lanes
     rt.rtlib.VERDICT = re.compile(rt.rtlib.VERDICT.pattern.replace(r"\n\Z", r" incremental=trusted\n\Z"), re.M)
-    rt.edits_of = lambda crate: ([], [])
-    given = {}
+    how = hashlib.sha256(inspect.getsource(ProvedOnce).encode()).hexdigest()
+    key_by_rt = rt.Kept.key
+    rt.Kept.key = lambda kept, crate: hashlib.sha256(f"{key_by_rt(kept, crate)} {how}".encode()).hexdigest()
 
-    def in_lanes(tasks):
-        given.update(check_edits.in_lanes(tasks_with_edits(tasks, crates), check_edits.lanes_here()))
-        return given
 
-    rt.in_lanes = in_lanes
-    sys.stdout.reconfigure(line_buffering=True)
-    sys.stdout = Output(sys.stdout)
-    status, last = rt.ci(), re.fullmatch(r"(\d+) passed, (\d+) failed", sys.stdout.last)
-    passed, failed = map(int, last.groups()) if last else (0, 1)
-    of_edits = check_edits.count(given)
-    return passed + of_edits[0], failed + of_edits[1] + (status != 0 and not failed)
+def copy_repository(to):
+    """Copies the repository without what was built in it."""
+    unwanted = lambda at, names: [it for it in names if it == "out" or it == ".git" and at == os.getcwd()]
+    shutil.copytree(os.getcwd(), to, symlinks=True, ignore=unwanted)
 
 
 def hand_over(top, work_tree):
     """Puts what rt ci built into the work tree, in the place of what earlier runs built."""
     for name in os.listdir(f"{top}/crates"):
-        for built in (f"crates/{name}/out/{name}", f"crates/{name}/out/lib{name}.a"):
-            if os.path.isfile(f"{top}/{built}"):
-                os.makedirs(os.path.dirname(f"{work_tree}/{built}"), exist_ok=True)
-                shutil.copy2(f"{top}/{built}", f"{work_tree}/{built}.new")
-                os.replace(f"{work_tree}/{built}.new", f"{work_tree}/{built}")
-            elif os.path.isfile(f"{work_tree}/{built}"):
-                os.remove(f"{work_tree}/{built}")
+        for built, file in (f"{name}", name), (f"rlib/{name}.rlib/lib{name}.a", f"lib{name}.a"):
+            made, to = f"{top}/crates/{name}/out/{built}", f"{work_tree}/crates/{name}/out/{file}"
+            if os.path.isfile(made):
+                os.makedirs(os.path.dirname(to), exist_ok=True)
+                shutil.copy2(made, f"{to}.new")
+                os.replace(f"{to}.new", to)
+            elif os.path.isfile(to):
+                os.remove(to)
+
+
+def run(anew):
+    """Runs rt ci on a copy of the repository, and returns its status and how many edits can't be tried."""
+    work_tree = os.getcwd()
+    with tempfile.TemporaryDirectory(prefix=f"rt-copy-{os.getpid()}-") as room:
+        os.chmod(room, 0o711)  # (rt ci runs programs as nobody, in a folder below this one)
+        tempfile.tempdir = room
+        copy_repository(f"{room}/repository")
+        os.chdir(f"{room}/repository")
+        _, faults = edits.edits_below(f"{room}/repository", [])
+        for it in faults:
+            edits.say(it)
+        prove_once()
+        status = rt.ci(anew)
+        os.chdir(work_tree)
+        hand_over(f"{room}/repository", work_tree)
+        tempfile.tempdir = None
+    return status, len(faults)
+
+
+def run_some(anew, names):
+    """Runs rt ci for some crates, which copies them by itself."""
+    prove_once()
+    return rt.ci(anew, names), 0
 
 
 def main():
-    work_tree = os.getcwd()
-    room = check_edits.make_room()
-    top = f"{room}/repository"
-    check_edits.copy_repository(top, ("out",))
-    crates, faults = edits.edits_below(top, [])
-    for it in faults:
-        edits.say(it)
-    os.chdir(top)
-    passed, failed = run_rt_ci(crates)
-    os.chdir(work_tree)
-    hand_over(top, work_tree)
-    shutil.rmtree(room, ignore_errors=True)
+    sys.stdout.reconfigure(line_buffering=True)
+    sys.stdout = Output(sys.stdout)
+    anew, names = "--anew" in sys.argv[1:], [it for it in sys.argv[1:] if it != "--anew"]
+    status, faults = run_some(anew, names) if names else run(anew)
+    last = re.match(r"(\d+) passed, (\d+) failed", sys.stdout.last)
+    passed, failed = map(int, last.groups()) if last else (0, 1)
+    failed = (failed or int(status != 0)) + faults
     processor = sum(os.times()[:4]) / 60
-    print(f"gate: {check_edits.minutes(check_edits.BEGUN)}, {processor:.0f} min of processor, on {rt.processors()} processors")
-    print(f"{passed} passed, {failed + len(faults)} failed")
-    return 1 if failed or faults else 0
+    print(f"gate: {lanes.minutes(lanes.BEGUN)}, {processor:.0f} min of processor, on {rt.processors()} processors")
+    print(f"{passed} passed, {failed} failed")
+    return 1 if failed else 0
 
 
 if __name__ == "__main__":

@@ -1,0 +1,56 @@
+"""The tasks of rt ci side by side: as many as there are processors, and no more than free memory has room for.
+
+rt's own estimate of memory is several times what a check of these crates takes, so that it runs nearly one at a time.
+"""
+import os
+import time
+from concurrent.futures import FIRST_COMPLETED, ThreadPoolExecutor, wait
+
+from edits import rt, say
+
+# The most memory that a check was seen to take, in bytes: 4.5 GB for a proof from nothing, 2.8 GB for an edit.
+MEMORY_OF_A_CHECK = 4_500_000_000
+# The kinds of tasks, those that others wait for first.
+KINDS = ("proof", "seed", "tests", "edits", "sound", "again")
+BEGUN = time.time()
+
+
+def lanes_here():
+    """Returns how many checks this machine can do at a time: one a processor, as memory allows."""
+    return max(1, min(rt.processors(), rt.free() // MEMORY_OF_A_CHECK))
+
+
+def minutes(since):
+    return f"{(time.time() - since) / 60:.1f} min"
+
+
+def do_task(key, call, *given):
+    """Does a task, says how long it took, and returns what it gave."""
+    started = time.time()
+    result = call(*given)
+    if time.time() - started > 1:
+        what = " ".join(map(str, key))
+        say(f"[{minutes(started)}, {minutes(BEGUN)} since the start] {what}")
+    return result
+
+
+def in_lanes(tasks):
+    """Does tasks side by side, so many at once, and returns what each gave, by its key.
+
+    A key begins with a crate's name and the kind of the task. A task is what it waits for, its work in lines, its memory,
+    and a call that takes what was given so far and how many jobs it may use. Of those that are ready, the first goes
+    first. Proofs that can be made at one time share all lanes as jobs; any other task has one.
+    """
+    lanes, running, given = lanes_here(), {}, {}
+    left = sorted(tasks, key=lambda it: (KINDS.index(it[1]), -tasks[it][1]))
+    with rt.ending(), ThreadPoolExecutor(lanes) as pool:
+        while left or running:
+            ready = [it for it in left if all(below in given for below in tasks[it][0])]
+            proofs = sum(it[1] == "proof" for it in [*ready, *running.values()])
+            for key in ready[: lanes - len(running)]:
+                left.remove(key)
+                jobs = max(1, lanes // proofs) if key[1] == "proof" else 1
+                running[pool.submit(do_task, key, tasks[key][-1], given, jobs)] = key
+            for it in wait(running, return_when=FIRST_COMPLETED).done:
+                given[running.pop(it)] = it.result()
+    return given
