@@ -68,7 +68,11 @@ path\t1 == nan\t\trefused
 path\t$?(@ == 10.5)\t\trefused
 path\t$[1,]\t\trefused
 path\t$.**{300}\t\trefused
+path\t$.**{last}\t\trefused
+path\t$[$.a]\t\trefused
 path\t$.a&&$.b == 1\t\trefused
+path\t1 == $.a&&2 == $.b\t\trefused
+path\tEXISTS($.a)\t\trefused
 path\t@ > 10\t\trefused
 path\t$.prop..\t\trefused
 path\t!($.a == 1)\t\trefused
