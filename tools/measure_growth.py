@@ -18,7 +18,7 @@ import resource
 import shutil
 import subprocess
 import sys
-from collections.abc import Callable, Iterator
+from collections.abc import Callable, Iterable, Iterator
 from dataclasses import dataclass
 
 sys.dont_write_bytecode = True
@@ -30,7 +30,8 @@ from measure_speed import HERE, OUT, write_between
 from nested import nested
 
 SIZES = [100, 1_000, 10_000, 100_000]
-DEPTHS = [10, 100, 1_000, 10_000, 100_000]
+# The last two are documents of 0.8 to 1.3 MB and of twice as much.
+DEPTHS = [10, 100, 1_000, 10_000, 100_000, 200_000]
 NESTINGS = [1, 2, 4, 8]
 # How long a call may take, in nanoseconds.
 LIMIT = 100_000_000
@@ -63,10 +64,13 @@ def numbers(count: int, first: int = 0) -> bytes:
     return document([first + i for i in range(count)])
 
 
+def order(count: int) -> list[int]:
+    """The numbers below a count in no order."""
+    return random.Random(count).sample(range(count), count)
+
+
 def shuffled(count: int) -> bytes:
-    order = list(range(count))
-    random.Random(count).shuffle(order)
-    return document(order)
+    return document(order(count))
 
 
 def wide(count: int, first: int = 0) -> bytes:
@@ -75,6 +79,10 @@ def wide(count: int, first: int = 0) -> bytes:
 
 def people(count: int) -> bytes:
     return document([{"age": i % 100, "id": i, "name": f"n{i % 100}", "opt": None} for i in range(count)])
+
+
+def boxes(places: Iterable[int]) -> bytes:
+    return document([{"a": i, "b": [i, i + 1]} for i in places])
 
 
 def names(places: range) -> bytes:
@@ -98,6 +106,8 @@ def of_arrays() -> Iterator[Series]:
     yield of("`array_except`", "array_except", lambda n: Made(numbers(n), other=shuffled(n)))
     yield of("`contains`, in the same order", "contains", lambda n: Made(numbers(n), other=numbers(n)))
     yield of("`contains`, in no order", "contains", lambda n: Made(numbers(n), other=shuffled(n)))
+    yield of("`contains`, objects in the same order", "contains", lambda n: Made(boxes(range(n)), other=boxes(range(n))))
+    yield of("`contains`, objects in no order", "contains", lambda n: Made(boxes(range(n)), other=boxes(order(n))))
     yield of("`array_overlap`, nothing shared", "array_overlap", lambda n: Made(numbers(n), other=numbers(n, n)))
 
 

@@ -4,7 +4,7 @@
   measure_stack.py            each call under a stack of 256 KiB: it must end with the answer of a model, or be known to need
                               more (NEEDS_MORE). The last line is 'N passed, M failed'
   measure_stack.py --table    the least stack that each call ends in, as the table of docs/STACK.md
-  measure_stack.py --more     both for the calls that C lacks. The gate does not run it
+  measure_stack.py --more     the same test of the calls that C lacks, which the gate does not run; with --table their table
 
 With --write a table goes into docs/STACK.md. bindings/c/deep.c makes the documents and the calls; this script builds it with the
 library of bindings/c (`make -C bindings/c`). For --more, tools/speed/calls.c makes the calls and tools/nested.py the documents; the
@@ -67,6 +67,16 @@ def wide_key_len(shape, levels):
     return 3 + 3 + TEXT + 1 + sum(level[s] * n for s, n in turns(shape, levels).items())
 
 
+def distinct_len(shape, length):
+    """An object becomes an array of it. Of the two numbers beside a child in the middle one is left."""
+    return length + {"pair": 8, "middle": -6}.get(shape, 0)
+
+
+def joined_len(shape, length):
+    """With the other document, whose text is a byte longer: of arrays without its header, of objects it alone."""
+    return length + 1 if shape == "pair" else 2 * length + 1 - 4
+
+
 def document_runs(shape):
     length = document_len(shape, MILLION)
     numbers_at_root = shape in ("last", "first", "middle", "alternating")
@@ -79,8 +89,8 @@ def document_runs(shape):
     yield Run("sort_key_wide", shape, WIDE - 1, f"JSONB_OK {wide_key_len(shape, WIDE - 1)} 0")
     yield Run("sort_key_wide", shape, WIDE, "JSONB_TOO_DEEP 0 0")
     yield Run("strip_nulls", shape, MILLION, f"JSONB_OK {length} 0")
-    yield Run("array_distinct", shape, MILLION, None)
-    yield Run("concat", shape, MILLION, None)
+    yield Run("array_distinct", shape, MILLION, f"JSONB_OK {distinct_len(shape, length)} 0")
+    yield Run("concat", shape, MILLION, f"JSONB_OK {joined_len(shape, length)} 0")
     yield Run("select_below", shape, MILLION, "JSONB_OK 0 1")
     by_zeros = shape in ("only", "first")
     yield Run("get_by_keypath", shape, MILLION, f"JSONB_OK {8 + TEXT} 0" if by_zeros else "JSONB_NONE 0 0")
@@ -188,6 +198,7 @@ def table():
 
 # Each with what it does to the document of a shape, or to the text of a path.
 MORE_ON_DOCUMENTS = {
+    "contains": "`contains`, of the document itself",
     "depth": "`depth`",
     "check_depth": "`check_depth`",
     "traverse_check_string": "`traverse_check_string`",
@@ -246,7 +257,7 @@ def content_of(shape, levels):
 def more_ends(program, call, shape, levels, stack):
     argument = written("limit", LIMIT.encode()) if call == "check_depth" else "-"
     text = written(f"{shape}_{levels}", content_of(shape, levels))
-    return printed([program, "once", call, argument, "-", text], stack)
+    return printed([program, "once", call, argument, text if call == "contains" else "-", text], stack)
 
 
 def printed_len(shape, times):
@@ -261,6 +272,7 @@ def printed_len(shape, times):
 def more_answer(call, shape, levels):
     """What a run prints, or None where only the end is asked for. The innermost text lies in an array of its own."""
     answers = {
+        "contains": 1,
         "depth": levels + 1,
         "check_depth": 1,
         "leaves": 1,
@@ -284,18 +296,25 @@ def more_asked():
     yield from ((call, name, ["key_path"]) for call, name in MORE_ON_KEY_PATHS.items())
 
 
+def more_fault(program, call, shape):
+    """What is wrong with a call at a million levels under the small stack, or None."""
+    said, answer = more_ends(program, call, shape, MILLION, SMALL_STACK), more_answer(call, shape, MILLION)
+    if said is None:
+        return "was killed"
+    if said == "refused" or answer not in (None, said):
+        return f"answered {said}, and not {answer}"
+    return None
+
+
 def more_test(program):
-    """The calls at a million levels under the small stack. Those that end in no more than a few KiB are compared with a model."""
-    passed, more = 0, []
-    for call, _, shapes in more_asked():
-        for shape in shapes:
-            said, answer = more_ends(program, call, shape, MILLION, SMALL_STACK), more_answer(call, shape, MILLION)
-            if said is not None and said != "refused" and answer in (None, said):
-                passed += 1
-            else:
-                more.append(f"{call} on {shape}: " + ("needs more" if said is None else f"answered {said}, and not {answer}"))
-    print("\n".join([*more, f"{passed} end under 256 KiB, {len(more)} do not"]))
-    return 0
+    asked = [(call, shape) for call, _, shapes in more_asked() for shape in shapes]
+    failed = 0
+    for call, shape in asked:
+        if fault := more_fault(program, call, shape):
+            failed += 1
+            print(f"{call} on {shape}: {fault}")
+    print(f"{len(asked) - failed} passed, {failed} failed")
+    return failed
 
 
 def more_table(program):
@@ -336,7 +355,7 @@ def main(words):
     if wanted == ["--more", "--table"]:
         return show("more", more(True), is_written)
     if wanted == ["--more"] and not is_written:
-        return more(False)
+        return 1 if more(False) else 0
     build()
     if wanted == ["--table"]:
         return show("measured", table(), is_written)

@@ -19,7 +19,7 @@ pub use jsonb_doc::{
     ArithmeticFault, ArrayBuilder, Date, Decimal64, Decimal128, ElementIter, Error, ExtensionValue,
     Interval, Item, KeyIter, Number, ObjectBuilder, PairIter, Spot, SpotIter, Timestamp,
     TimestampTz, Value, ValueIter, check, check_depth, child_spots, depth, elements, encode_item,
-    field_spot, keys, pairs, root_item, root_spot, spot_item, to_value, values,
+    field_spot, keys, pairs, root_item, root_spot, spot_document, spot_item, to_value, values,
 };
 pub use jsonb_keypath as keypath;
 pub use jsonb_keypath::{

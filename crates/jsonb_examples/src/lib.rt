@@ -1,6 +1,8 @@
 //! Small programs over documents, as a user writes them, and the tables of docs/ as tests.
 #![tactic(auto)]
 
+#[cfg(test)]
+mod calls;
 pub mod configuration;
 #[cfg(test)]
 mod documents;
