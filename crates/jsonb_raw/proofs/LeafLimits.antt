@@ -1,9 +1,14 @@
 -- No leaf is too large for a document of its own.
-use Rattle.std.proofs.Common.{◌≡◌, ◌≤◌, ℕ, zero, suc, pos, negsuc, ℤ, Bool, true, false, List, [], ◌∷◌, arith, lit<, if◌then◌else◌, refl}
+use Rattle.std.proofs.Common.{◌≡◌, ◌≤◌, ◌<◌, ℕ, zero, suc, pos, negsuc, ℤ, Bool, true, false, List, [], ◌∷◌, length, arith, inl, inr, lit<, if◌then◌else◌, refl}
+use Rattle.std.specs.Prelude.{slice_index_or}
+use Rattle.std.specs.List.{Any}
 use Rattle.jsonb_doc.specs.Number.{Variant, int64, uint64, decimal64, decimal128}
 use Rattle.jsonb_doc.specs.Tree.{Tree, null, boolean, number, text, extension, array, object, Trees, no_trees, tree, Pairs, no_pairs, pair}
 use Rattle.jsonb_doc.specs.Payload.{Form, any, canonical}
-use Rattle.jsonb_doc.specs.Limits.{IsShort, HasShortParts, HasShortElements, HasShortValues, IsWithinLimits, Fits, widest_number}
+use Rattle.jsonb_doc.specs.Answer.{IsOutOfMemory, ◌or◌when◌}
+use Rattle.jsonb_doc.specs.Limits.{IsShort, HasShortParts, HasShortElements, HasShortValues, IsWithinLimits, IsTooLarge, Fits, widest_number}
+use Rattle.jsonb_doc.specs.declared.error.Error.{Error}
+use Rattle.jsonb_doc.specs.declared.error.Error.TheVariants.{TooLarge}
 use Rattle.jsonb_keypath.specs.Each.{Each}
 use Rattle.jsonb_keypath.specs.KeyPathGrammar.{Key, index, unquoted_name}
 use Rattle.jsonb_raw.specs.Leaves.{Leaf, behind, is_leaf, leaves_at, leaves, leaves_of_trees, leaves_of_pairs}
@@ -73,3 +78,17 @@ module _ (form : Form) where
   each_within_limits (array ts) fits = each_small (array ts) fits.1
   each_within_limits (object ps) fits = each_small (object ps) fits.1
   each_within_limits _ fits = tt
+
+none_of : {X : Type 0} (P Q : X → Type 0) → ((x : X) → P x → Q x → ⊥) → (xs : List X) → Each P xs → (k : ℕ) (x : X) → k < length xs
+    → slice_index_or xs k x ≡ x → Q x → ⊥
+none_of P Q both [] each k x inside is q = absurd (omega arith)
+none_of P Q both (y ∷ xs) each zero x inside is q = both x (rw is at each.0) q
+none_of P Q both (y ∷ xs) each (suc k) x inside is q = none_of P Q both xs each.1 k x (omega arith) is q
+
+-- so what is refused of the leaves of a tree that fits is memory
+pub leaves_refused : (form : Form) (t : Tree) (e : Error) → Fits t
+    → (IsOutOfMemory or TooLarge when Any (λ leaf. IsTooLarge form leaf.1) (leaves false t)) e → IsOutOfMemory e
+leaves_refused form t e fits (inl memory) = memory
+leaves_refused form t e fits (inr (same, (k, leaf, inside, is, large))) =
+    absurd (none_of (λ (l : Leaf). IsWithinLimits form l.1) (λ (l : Leaf). IsTooLarge form l.1) (λ l within large. large within) (leaves false t)
+    (each_within_limits form t fits) k leaf inside is large)

@@ -4,27 +4,25 @@ use Rattle.std.proofs.Common.{◌≡◌, ◌==◌, ◌+◌, ◌%◌, ◌<◌, �
 use Rattle.std.specs.Prelude.{reverse, map}
 use Rattle.std.specs.Borrow.{Bor}
 use Rattle.std.specs.Int.{w32, cast_signed}
+use Rattle.std.specs.List.{Any, AllZip}
 use Rattle.std.proofs.lemmas.List.{map-append, reverse-reverse}
 use Rattle.std.proofs.lemmas.Int.{ints}
 use Rattle.jsonb_doc.specs.Tree as spec
-use Rattle.jsonb_doc.specs.Tree.{Tree, Trees, no_trees, tree, Pairs, no_pairs, pair, count, keys}
+use Rattle.jsonb_doc.specs.Tree.{Tree, Trees, no_trees, tree, Pairs, no_pairs, pair, count}
 use Rattle.jsonb_doc.specs.Payload.{Form, number_reader}
 use Rattle.jsonb_doc.specs.Item.{StandsFor}
 use Rattle.jsonb_doc.specs.Private.Stored.{Stores}
 use Rattle.jsonb_doc.specs.declared.entry_iter.StoredEntry.{StoredEntry}
 use Rattle.jsonb_doc.specs.declared.item.Item.{Item}
 use Rattle.jsonb_doc.specs.declared.item.Item.TheVariants as item
-use Rattle.jsonb_doc.specs.declared.value.Value.{Value}
 use Rattle.jsonb_doc.proofs.Containers.{array_document, object_document}
-use Rattle.jsonb_keypath.specs.declared.key_path.KeyPaths.{KeyPaths}
 use Rattle.jsonb_keypath.specs.KeyPathGrammar.{Key, index, unquoted_name}
-use Rattle.jsonb_keypath.specs.KeyPathViews.{key_paths_view}
 use Rattle.jsonb_raw.specs.declared.functions.path.leaves.Entered.{Entered}
 use Rattle.jsonb_raw.specs.declared.level.Level.{Level}
 use Rattle.jsonb_raw.specs.Private.Levels.{Part, parts, parts_of_trees, parts_of_pairs, IsKeyOf}
 use Rattle.jsonb_raw.specs.Leaves.{Leaf, behind, is_leaf, leaves_at, leaves, leaves_of_trees, leaves_of_pairs}
-use Rattle.jsonb_raw.specs.LeafViews.{leaves_seen}
 use Rattle.jsonb_raw.specs.Private.LeafSteps.{step_at, steps_into}
+use Rattle.jsonb_raw.proofs.CollectLoops.{Made, none_made, one_made, all_made, one_of_whole}
 use Rattle.jsonb_raw.proofs.LevelLemmas.{count_of_trees, count_of_pairs, innermost}
 
 -- ---- which parts are entered
@@ -164,102 +162,119 @@ leaves_around ignore_array (e ∷ es) (ps ∷ ls) = behind (steps_into (reverse 
     ++ leaves_around ignore_array es ls
 leaves_around ignore_array _ _ = []
 
--- what is found, and then the leaves of what each level has left, are all
-pub record LeavesToward (seen : Value → Tree) (ignore_array : Bool) (found : List (KeyPaths × Value)) (around : List Entered) (n : ℕ) (here : List Part)
-    (others : List (List Part)) (whole : List Leaf) : Type 0 where
-  pub joined : leaves_seen seen found
-      ++ (behind (steps_into around) (leaves_of_parts ignore_array n here) ++ leaves_around ignore_array (reverse around) others) ≡ whole
+-- the leaves that a walk has left: those of what each level has left, the innermost first
+abbrev pub leaves_left : Bool → List Entered → ℕ → List Part → List (List Part) → List Leaf
+leaves_left ignore_array around n here others = behind (steps_into around) (leaves_of_parts ignore_array n here)
+    ++ leaves_around ignore_array (reverse around) others
 
-pub walk_begun : (seen : Value → Tree) (ignore_array : Bool) (found : List (KeyPaths × Value)) (around : List Entered) (t : Tree) → found ≡ [] → around ≡ []
-    → leaves ignore_array t ≡ leaves_of_parts ignore_array 0 (parts t)
-    → LeavesToward seen ignore_array found around 0 (parts t) [] (leaves ignore_array t)
-walk_begun seen ignore_array found around t none root is = record {
-  joined = rw (none, root) (append-nil (behind [] (leaves_of_parts ignore_array 0 (parts t))) ∙ behind-none (leaves_of_parts ignore_array 0 (parts t))
-      ∙ sym is);
-}
+-- at first all are left
+all_left : (ignore_array : Bool) (around : List Entered) (t : Tree) → around ≡ [] → leaves ignore_array t ≡ leaves_of_parts ignore_array 0 (parts t)
+    → leaves_left ignore_array around 0 (parts t) [] ≡ leaves ignore_array t
+all_left ignore_array around t root is =
+    rw root (append-nil (behind [] (leaves_of_parts ignore_array 0 (parts t))) ∙ behind-none (leaves_of_parts ignore_array 0 (parts t)) ∙ sym is)
 
--- a part that is a leaf is found
-pub leaf_found : (seen : Value → Tree) (ignore_array : Bool) (found found' : List (KeyPaths × Value)) (around : List Entered) (n : ℕ)
-    (key : Option (Bor (List ℕ))) (p : Part) (ps : List Part) (others : List (List Part)) (whole : List Leaf) (path : KeyPaths) (value : Value)
-    → LeavesToward seen ignore_array found around n (p ∷ ps) others whole → is_leaf ignore_array p.1 ≡ true → IsKeyOf key p.0
-    → key_paths_view path ≡ steps_into around ++ step_at key n ∷ [] → seen value ≡ p.1 → found' ≡ found ++ (path, value) ∷ []
-    → LeavesToward seen ignore_array found' around (next n) ps others whole
-leaf_found seen ignore_array found found' around n key p ps others whole path value h leaf keyed led same pushed =
+-- a part that is a leaf is the first that is left
+leaf_left : (ignore_array : Bool) (around : List Entered) (n : ℕ) (key : Option (Bor (List ℕ))) (p : Part) (ps : List Part) (others : List (List Part))
+    → is_leaf ignore_array p.1 ≡ true → IsKeyOf key p.0
+    → leaves_left ignore_array around n (p ∷ ps) others
+    ≡ (steps_into around ++ step_at key n ∷ [], p.1) ∷ leaves_left ignore_array around (next n) ps others
+leaf_left ignore_array around n key p ps others leaf keyed =
     let steps = steps_into around in
-    let step = part_step p.0 n in
     let left = leaves_of_parts ignore_array (next n) ps in
     let outside = leaves_around ignore_array (reverse around) others in
-    let front = leaves_seen seen found in
-    record {
-      joined =
-          ap (λ (ls : List Leaf). ls ++ (behind steps left ++ outside))
-          (ap (leaves_seen seen) pushed ∙ map-append (λ (leaf : KeyPaths × Value). (key_paths_view leaf.0, seen leaf.1)) found ((path, value) ∷ [])
-          ∙ ap (λ (ss : List Key). front ++ (ss, seen value) ∷ []) (led ∙ ap (λ s. steps ++ s ∷ []) (keyed_step key p.0 n keyed))
-          ∙ ap (λ u. front ++ (steps ++ step ∷ [], u) ∷ []) same)
-          ∙ append_assoc front ((steps ++ step ∷ [], p.1) ∷ []) (behind steps left ++ outside)
-          ∙ ap (λ (ls : List Leaf). front ++ (behind steps (ls ++ left) ++ outside)) (sym (at_leaf step p.1 (leaves ignore_array p.1) leaf))
-          ∙ h.joined;
-    }
+    ap (λ (ls : List Leaf). behind steps (ls ++ left) ++ outside) (at_leaf (part_step p.0 n) p.1 (leaves ignore_array p.1) leaf)
+    ∙ ap (λ s. (steps ++ s ∷ [], p.1) ∷ (behind steps left ++ outside)) (sym (keyed_step key p.0 n keyed))
   where
     at_leaf : (step : Key) (t : Tree) (within : List Leaf) → is_leaf ignore_array t ≡ true → leaves_at ignore_array step t within ≡ (step ∷ [], t) ∷ []
     at_leaf step t within leaf = rw leaf refl
 
--- a part that is no leaf is entered
-pub part_entered : (seen : Value → Tree) (ignore_array : Bool) (found : List (KeyPaths × Value)) (around around' : List Entered) (e : Entered) (p : Part)
-    (ps : List Part) (others : List (List Part)) (whole : List Leaf)
-    → LeavesToward seen ignore_array found around e.index (p ∷ ps) others whole → is_leaf ignore_array p.1 ≡ false → IsKeyOf e.key p.0
-    → leaves ignore_array p.1 ≡ leaves_of_parts ignore_array 0 (parts p.1) → around' ≡ around ++ e ∷ []
-    → LeavesToward seen ignore_array found around' 0 (parts p.1) (ps ∷ others) whole
-part_entered seen ignore_array found around around' e p ps others whole h entered keyed within pushed =
+-- in the place of a part that is no leaf stand those within it
+part_left : (ignore_array : Bool) (around around' : List Entered) (e : Entered) (p : Part) (ps : List Part) (others : List (List Part))
+    → is_leaf ignore_array p.1 ≡ false → IsKeyOf e.key p.0 → leaves ignore_array p.1 ≡ leaves_of_parts ignore_array 0 (parts p.1)
+    → around' ≡ around ++ e ∷ []
+    → leaves_left ignore_array around' 0 (parts p.1) (ps ∷ others) ≡ leaves_left ignore_array around e.index (p ∷ ps) others
+part_left ignore_array around around' e p ps others entered keyed within pushed =
     let steps = steps_into around in
     let step = part_step p.0 e.index in
     let left = leaves_of_parts ignore_array (next e.index) ps in
     let outside = leaves_around ignore_array (reverse around) others in
-    let front = leaves_seen seen found in
     let inner = leaves_of_parts ignore_array 0 (parts p.1) in
-    record {
-      joined =
-          ap (λ (es : List Entered). front ++ (behind (steps_into es) inner ++ leaves_around ignore_array (reverse es) (ps ∷ others))) pushed
-          ∙ ap (λ (es : List Entered). front ++ (behind (steps_into (around ++ e ∷ [])) inner ++ leaves_around ignore_array es (ps ∷ others)))
-          (innermost around e)
-          ∙ ap (λ (es : List Entered). front ++ (behind (steps_into (around ++ e ∷ [])) inner ++ (behind (steps_into es) left ++ outside)))
-          (reverse-reverse around)
-          ∙ ap (λ (ss : List Key). front ++ (behind ss inner ++ (behind steps left ++ outside)))
-          (map-append (λ (x : Entered). step_at x.key x.index) around (e ∷ []) ∙ ap (λ s. steps ++ s ∷ []) (keyed_step e.key p.0 e.index keyed))
-          ∙ ap (λ (ls : List Leaf). front ++ (ls ++ (behind steps left ++ outside))) (behind-step steps step inner)
-          ∙ ap (λ (ls : List Leaf). front ++ ls) (sym (append_assoc (behind steps (behind (step ∷ []) inner)) (behind steps left) outside))
-          ∙ ap (λ (ls : List Leaf). front ++ (ls ++ outside)) (sym (behind-append steps (behind (step ∷ []) inner) left))
-          ∙ ap (λ (ls : List Leaf). front ++ (behind steps (ls ++ left) ++ outside))
-          (ap (λ (ls : List Leaf). behind (step ∷ []) ls) (sym within) ∙ sym (at_part step p.1 (leaves ignore_array p.1) entered))
-          ∙ h.joined;
-    }
+    ap (λ (es : List Entered). behind (steps_into es) inner ++ leaves_around ignore_array (reverse es) (ps ∷ others)) pushed
+    ∙ ap (λ (es : List Entered). behind (steps_into (around ++ e ∷ [])) inner ++ leaves_around ignore_array es (ps ∷ others)) (innermost around e)
+    ∙ ap (λ (es : List Entered). behind (steps_into (around ++ e ∷ [])) inner ++ (behind (steps_into es) left ++ outside)) (reverse-reverse around)
+    ∙ ap (λ (ss : List Key). behind ss inner ++ (behind steps left ++ outside))
+    (map-append (λ (x : Entered). step_at x.key x.index) around (e ∷ []) ∙ ap (λ s. steps ++ s ∷ []) (keyed_step e.key p.0 e.index keyed))
+    ∙ ap (λ (ls : List Leaf). ls ++ (behind steps left ++ outside)) (behind-step steps step inner)
+    ∙ sym (append_assoc (behind steps (behind (step ∷ []) inner)) (behind steps left) outside)
+    ∙ ap (λ (ls : List Leaf). ls ++ outside) (sym (behind-append steps (behind (step ∷ []) inner) left))
+    ∙ ap (λ (ls : List Leaf). behind steps (ls ++ left) ++ outside)
+    (ap (λ (ls : List Leaf). behind (step ∷ []) ls) (sym within) ∙ sym (at_part step p.1 (leaves ignore_array p.1) entered))
   where
     at_part : (step : Key) (t : Tree) (inside : List Leaf) → is_leaf ignore_array t ≡ false → leaves_at ignore_array step t inside ≡ behind (step ∷ []) inside
     at_part step t inside entered = rw entered refl
 
--- nothing is left at the innermost level
-pub level_done : (seen : Value → Tree) (ignore_array : Bool) (found : List (KeyPaths × Value)) (around around' : List Entered) (outer : Entered) (n : ℕ)
-    (here : List Part) (others more : List (List Part)) (whole : List Leaf)
-    → others ≡ here ∷ more → around ≡ around' ++ outer ∷ [] → LeavesToward seen ignore_array found around n [] others whole
-    → LeavesToward seen ignore_array found around' (next outer.index) here more whole
-level_done seen ignore_array found around around' outer n here others more whole same popped h =
-    let front = leaves_seen seen found in
+-- in the place of a level without parts stands the one around it
+outside_left : (ignore_array : Bool) (around around' : List Entered) (outer : Entered) (n : ℕ) (here : List Part) (others more : List (List Part))
+    → others ≡ here ∷ more → around ≡ around' ++ outer ∷ []
+    → leaves_left ignore_array around' (next outer.index) here more ≡ leaves_left ignore_array around n [] others
+outside_left ignore_array around around' outer n here others more same popped =
     let left = leaves_of_parts ignore_array (next outer.index) here in
     let outside = leaves_around ignore_array (reverse around') more in
-    record {
-      joined =
-          ap (λ (es : List Entered). front ++ (behind (steps_into es) left ++ outside)) (sym (reverse-reverse around'))
-          ∙ ap (λ (es : List Entered). front ++ leaves_around ignore_array es (here ∷ more)) (sym (innermost around' outer))
-          ∙ ap (λ (es : List Entered). front ++ leaves_around ignore_array (reverse es) (here ∷ more)) (sym popped)
-          ∙ ap (λ (ls : List (List Part)). front ++ leaves_around ignore_array (reverse around) ls) (sym same)
-          ∙ h.joined;
-    }
+    ap (λ (es : List Entered). behind (steps_into es) left ++ outside) (sym (reverse-reverse around'))
+    ∙ ap (λ (es : List Entered). leaves_around ignore_array es (here ∷ more)) (sym (innermost around' outer))
+    ∙ ap (λ (es : List Entered). leaves_around ignore_array (reverse es) (here ∷ more)) (sym popped)
+    ∙ ap (λ (ls : List (List Part)). leaves_around ignore_array (reverse around) ls) (sym same)
 
--- nothing is left at any level
-pub walk_done : (seen : Value → Tree) (ignore_array : Bool) (found : List (KeyPaths × Value)) (around : List Entered) (n : ℕ) (others : List (List Part))
-    (whole : List Leaf)
-    → around ≡ [] → LeavesToward seen ignore_array found around n [] others whole → leaves_seen seen found ≡ whole
-walk_done seen ignore_array found around n others whole root h = sym (append-nil (leaves_seen seen found)) ∙ rw root at h.joined
+-- ---- what is found
+
+-- R holds of what is found and the leaves so far, behind which stand those that are left
+abbrev pub LeavesToward : {A : Type 0} → (A → Leaf → Type 0) → Bool → List A → List Entered → ℕ → List Part → List (List Part) → List Leaf → Type 0
+LeavesToward R ignore_array found around n here others whole = Made R found (leaves_left ignore_array around n here others) whole
+
+module _ {A : Type 0} (R : A → Leaf → Type 0) (ignore_array : Bool) where
+  pub walk_begun : (found : List A) (around : List Entered) (t : Tree) → found ≡ [] → around ≡ []
+      → leaves ignore_array t ≡ leaves_of_parts ignore_array 0 (parts t)
+      → LeavesToward R ignore_array found around 0 (parts t) [] (leaves ignore_array t)
+  walk_begun found around t none root is = rw (all_left ignore_array around t root is) (none_made R found (leaves ignore_array t) none)
+
+  -- the leaf that stands first is found
+  pub leaf_found : (found found' : List A) (around : List Entered) (n : ℕ) (key : Option (Bor (List ℕ))) (p : Part) (ps : List Part)
+      (others : List (List Part)) (whole : List Leaf) (x : A)
+      → LeavesToward R ignore_array found around n (p ∷ ps) others whole → is_leaf ignore_array p.1 ≡ true → IsKeyOf key p.0
+      → R x (steps_into around ++ step_at key n ∷ [], p.1) → found' ≡ found ++ x ∷ []
+      → LeavesToward R ignore_array found' around (next n) ps others whole
+  leaf_found found found' around n key p ps others whole x h leaf keyed kept pushed =
+      one_made R found found' x _ _ whole pushed kept (rw (leaf_left ignore_array around n key p ps others leaf keyed) at h)
+
+  -- what holds of it holds of one of all
+  pub leaf_of_whole : (P : Leaf → Type 0) (found : List A) (around : List Entered) (n : ℕ) (key : Option (Bor (List ℕ))) (p : Part) (ps : List Part)
+      (others : List (List Part)) (whole : List Leaf)
+      → LeavesToward R ignore_array found around n (p ∷ ps) others whole → is_leaf ignore_array p.1 ≡ true → IsKeyOf key p.0
+      → P (steps_into around ++ step_at key n ∷ [], p.1) → Any P whole
+  leaf_of_whole P found around n key p ps others whole h leaf keyed holds =
+      one_of_whole R P found _ _ whole holds (rw (leaf_left ignore_array around n key p ps others leaf keyed) at h)
+
+  -- a part that is no leaf is entered
+  pub part_entered : (found : List A) (around around' : List Entered) (e : Entered) (p : Part) (ps : List Part) (others : List (List Part))
+      (whole : List Leaf)
+      → LeavesToward R ignore_array found around e.index (p ∷ ps) others whole → is_leaf ignore_array p.1 ≡ false → IsKeyOf e.key p.0
+      → leaves ignore_array p.1 ≡ leaves_of_parts ignore_array 0 (parts p.1) → around' ≡ around ++ e ∷ []
+      → LeavesToward R ignore_array found around' 0 (parts p.1) (ps ∷ others) whole
+  part_entered found around around' e p ps others whole h entered keyed within pushed =
+      rw (part_left ignore_array around around' e p ps others entered keyed within pushed) h
+
+  -- nothing is left at the innermost level
+  pub level_done : (found : List A) (around around' : List Entered) (outer : Entered) (n : ℕ) (here : List Part) (others more : List (List Part))
+      (whole : List Leaf)
+      → others ≡ here ∷ more → around ≡ around' ++ outer ∷ [] → LeavesToward R ignore_array found around n [] others whole
+      → LeavesToward R ignore_array found around' (next outer.index) here more whole
+  level_done found around around' outer n here others more whole same popped h =
+      rw (outside_left ignore_array around around' outer n here others more same popped) h
+
+  -- nothing is left at any level
+  pub walk_done : (found : List A) (around : List Entered) (n : ℕ) (others : List (List Part)) (whole : List Leaf) → around ≡ []
+      → LeavesToward R ignore_array found around n [] others whole → AllZip R found whole
+  walk_done found around n others whole root h = all_made R found whole (rw root at h)
 
 -- ---- the levels around
 

@@ -34,6 +34,7 @@ pub mod KeysCounted
 pub mod SetKept
 pub mod SetLawProofs
 pub mod LeafWalk
+pub mod LeafAnswers
 pub mod LeafPlaces
 mod LeafRows
 pub mod GoneLemmas

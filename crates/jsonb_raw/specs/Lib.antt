@@ -18,6 +18,7 @@ pub mod Contains
 pub mod Concat
 pub mod Leaves
 pub mod LeafViews
+pub mod LeafDocuments
 pub mod LeavesLaws
 pub mod Exists
 pub mod ExistsLaws

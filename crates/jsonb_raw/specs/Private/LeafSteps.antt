@@ -4,17 +4,17 @@ use Rattle.std.specs.Borrow.{Bor}
 use Rattle.std.specs.Int.{w32, cast_signed}
 use Rattle.jsonb_doc.specs.Tree.{Tree}
 use Rattle.jsonb_doc.specs.Payload.{Form}
-use Rattle.jsonb_doc.specs.Value.{value_tree, value_parts}
-use Rattle.jsonb_doc.specs.declared.value.Value.{Value}
+use Rattle.jsonb_keypath.specs.declared.key_path.KeyPaths.{KeyPaths}
 use Rattle.jsonb_keypath.specs.KeyPathGrammar.{Key, index, unquoted_name}
+use Rattle.jsonb_keypath.specs.KeyPathViews.{key_paths_view}
 use Rattle.jsonb_raw.specs.declared.functions.path.leaves.Entered.{Entered}
 use Rattle.jsonb_raw.specs.declared.level.Level.{Level}
 use Rattle.jsonb_raw.specs.Private.Levels.{parts, HasPartsLeft}
-use Rattle.jsonb_raw.specs.Leaves.{is_leaf}
+use Rattle.jsonb_raw.specs.Leaves.{Leaf, is_leaf}
 
--- the tree of a value that was decoded is seen as it is, where its numbers have the tree's parts
-abbrev pub SeesDecoded : (Value → Tree) → Type 0
-SeesDecoded seen = (value : Value) (t : Tree) → value_tree value ≡ t → value_parts value ≡ t → seen value ≡ t
+-- the steps to a leaf, and what is kept of it
+abbrev pub IsKept : {A : Type 0} → (Tree → A → Type 0) → KeyPaths × A → Leaf → Type 0
+IsKept IsOf kept leaf = (key_paths_view kept.0 ≡ leaf.0) × IsOf leaf.1 kept.1
 
 -- the step to a part with this key, if any, and at this position
 abbrev pub step_at : Option (Bor (List ℕ)) → ℕ → Key

@@ -36,12 +36,16 @@ const HOME_TEXT: &[u8] = b"\x20\0\0\0\x10\0\0\x04home";
 
 const WORK_TEXT: &[u8] = b"\x20\0\0\0\x10\0\0\x04work";
 
-/// Whether the document has these leaves: the printed form of each path, and a document of the value there.
+/// A printed key path, and a document.
+type Leaf = (&'static str, &'static [u8]);
+
+/// Whether the document has these leaves: the printed form of each path, and the document there, as a value and as it
+/// is stored.
 fn has_leaves(
     alloc: Global,
     document: &'static [u8],
     ignore_array: bool,
-    wanted: &[(&'static str, &'static [u8])],
+    wanted: &[Leaf],
 ) -> Result<bool, Error> {
     let found = RawJsonb::new(document).extract_scalar_key_values(alloc, ignore_array)?;
     if found.len() != wanted.len() {
@@ -50,6 +54,25 @@ fn has_leaves(
     for ((path, value), (text, bytes)) in found.iter().zip(wanted) {
         let printed = format!(in alloc; "{path}")?;
         if printed.as_str() != *text || *value != to_value(alloc, &root_item(bytes)?)? {
+            return Ok(false);
+        }
+    }
+    has_leaf_documents(alloc, document, ignore_array, wanted)
+}
+
+fn has_leaf_documents(
+    alloc: Global,
+    document: &'static [u8],
+    ignore_array: bool,
+    wanted: &[Leaf],
+) -> Result<bool, Error> {
+    let found = RawJsonb::new(document).leaf_documents(alloc, ignore_array)?;
+    if found.len() != wanted.len() {
+        return Ok(false);
+    }
+    for ((path, part), (text, bytes)) in found.iter().zip(wanted) {
+        let printed = format!(in alloc; "{path}")?;
+        if printed.as_str() != *text || part.as_raw().as_bytes() != *bytes {
             return Ok(false);
         }
     }
@@ -109,6 +132,25 @@ fn the_root_is_no_leaf(rt: HostRuntime) -> Result<(), Fail> {
 }
 
 #[test]
+fn a_leaf_is_copied_as_it_is_stored(rt: HostRuntime) -> Result<(), Fail> {
+    // [10,{"k":10}] with each 10 in two bytes where one would do
+    let document =
+        b"\x80\0\0\x02\x20\0\0\x03\x50\0\0\x10\x50\0\x0a\x40\0\0\x01\x10\0\0\x01\x20\0\0\x03k\x50\0\x0a";
+    let long_ten = b"\x20\0\0\0\x20\0\0\x03\x50\0\x0a".as_slice();
+    let raw = RawJsonb::new(document);
+    assert_eq!(rt; raw.check(), Ok(()));
+    assert!(rt;
+        has_leaf_documents(
+            rt.alloc(),
+            document,
+            false,
+            &[("{0}", long_ten), ("{1,k}", long_ten)]
+        )?
+    );
+    Ok(())
+}
+
+#[test]
 fn names_are_borrowed(rt: HostRuntime) -> Result<(), Fail> {
     let found = RawJsonb::new(MIXED_ARRAY).extract_scalar_key_values(rt.alloc(), false)?;
     let Some((path, value)) = found.last() else {
@@ -151,6 +193,14 @@ fn damage_has_no_leaves(rt: HostRuntime) {
     );
     assert_eq!(rt;
         has_leaves(rt.alloc(), FLOAT, false, &[]),
+        Err(Error::UnsupportedNumber)
+    );
+    assert_eq!(rt;
+        has_leaf_documents(rt.alloc(), b"\x80\0\0", false, &[]),
+        Err(Error::InvalidJsonb)
+    );
+    assert_eq!(rt;
+        has_leaf_documents(rt.alloc(), FLOAT, false, &[]),
         Err(Error::UnsupportedNumber)
     );
 }

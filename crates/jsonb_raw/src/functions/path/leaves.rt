@@ -1,6 +1,7 @@
 //! The leaves of a document, with their key paths.
 
-ghost use Rattle.std.specs.Prelude.{◌≡◌, ◌+◌, ◌<◌, ◌^◌, ◌++◌, [], ◌∷◌, ℕ, List, Option, length, vec_len, vec_capacity, IsOkAnd, IfOk, IfSome, IfErr, MatchResult};
+ghost use Rattle.std.specs.Prelude.{◌≡◌, ◌⊎◌, ◌+◌, ◌<◌, ◌^◌, ◌++◌, [], ◌∷◌, ℕ, List, Option, length, vec_len, vec_capacity, IsOkAnd, IfOk, IfSome, IfErr, MatchResult};
+ghost use Rattle.std.specs.List.{Any, AllZip};
 ghost use Rattle.jsonb_doc.specs.Tree.{Tree};
 ghost use Rattle.jsonb_doc.specs.Payload.{Form};
 ghost use Rattle.jsonb_doc.specs.Format.{Decodes};
@@ -9,13 +10,14 @@ ghost use Rattle.jsonb_doc.specs.Private.Stored.{Stores};
 ghost use Rattle.jsonb_doc.specs.Answer.{IsOutOfMemory, ◌or◌, IsDecodingError};
 ghost use Rattle.jsonb_doc.specs.declared.error.Error.TheVariants.{OutOfMemory};
 ghost use Rattle.jsonb_doc.specs.Value.{value_tree, value_parts};
-ghost use Rattle.jsonb_doc.specs.declared.value.Value.{Value};
 ghost use Rattle.jsonb_keypath.specs.KeyPathViews.{keys_view, key_paths_view};
 ghost use Rattle.jsonb_raw.specs.Documents.{raw_bytes};
 ghost use Rattle.jsonb_raw.specs.Leaves.{leaves};
 ghost use Rattle.jsonb_raw.specs.LeafViews.{leaves_seen};
-ghost use Rattle.jsonb_raw.specs.Private.LeafSteps.{SeesDecoded, IsEntered, step_at, steps_into};
+ghost use Rattle.jsonb_raw.specs.Private.LeafSteps.{IsEntered, IsKept, step_at, steps_into};
 ghost use Rattle.jsonb_raw.specs.Private.Levels.{IsKeyOf, level_room, level_bound};
+
+mod documents;
 
 use crate::level::Level;
 use crate::raw::RawJsonb;
@@ -121,17 +123,54 @@ fn name_of(key: Option<&[u8]>) -> Result<Option<&str>, Error>
     }
 }
 
+/// What a walk over leaves keeps of each.
+trait LeafPart<'a>: Drop {
+    ghost use Rattle.jsonb_doc.specs.Tree.{Tree};
+    ghost use Rattle.jsonb_doc.specs.Payload.{Form};
+    ghost use Rattle.jsonb_doc.specs.declared.error.Error.{Error};
+
+    ghost IsOf: { Form → Tree → Self → Type 0 };
+
+    ghost IsRefusalOf: { Form → Tree → Error → Type 0 };
+
+    ghost Refusals: { Error → Type 0 };
+
+    /// What is kept of the leaf that an entry stores.
+    fn of_entry(alloc: Global, entry: &StoredEntry<'a>) -> Result<Self, Error>
+        ensures part { (form : Form) (t : Tree) → Stores form entry.now t
+            → MatchResult result (λ part. IsOf form t part) (IsRefusalOf form t) }
+        ensures errors { IfErr result Refusals };
+}
+
+impl<'a> LeafPart<'a> for Value<'a> {
+    ghost use Rattle.std.specs.Prelude.{◌≡◌};
+    ghost use Rattle.jsonb_doc.specs.Answer.{IsOutOfMemory, ◌or◌, IsDecodingError};
+    ghost use Rattle.jsonb_doc.specs.Value.{value_tree, value_parts};
+    ghost use Rattle.jsonb_doc.specs.declared.error.Error.TheVariants.{OutOfMemory};
+
+    ghost IsOf = { λ form t value. (value_tree value ≡ t) × (value_parts value ≡ t) };
+
+    ghost IsRefusalOf = { λ form t e. IsOutOfMemory e };
+
+    ghost Refusals = { IsDecodingError or OutOfMemory };
+
+    fn of_entry(alloc: Global, entry: &StoredEntry<'a>) -> Result<Value<'a>, Error> {
+        let item = entry.item()?;
+        to_value(alloc, &item)
+    }
+}
+
 /// The leaves within an item. What is left of the containers that the walk is within lies in a `Vec`; the steps to a
 /// part are written once, where it is a leaf.
-fn leaves_within<'a>(
+fn leaves_within<'a, P: LeafPart<'a>>(
     alloc: Global,
     item: &Item<'a>,
     ignore_array: bool,
-) -> Result<Vec<(KeyPaths<'a>, Value<'a>)>, Error>
-    ensures leaves { (seen : Value → Tree) → SeesDecoded seen
-        → (form : Form) (t : Tree) → StandsFor form item.now t
-        → MatchResult result (λ found. leaves_seen seen found.items ≡ leaves ignore_array t) IsOutOfMemory }
-    ensures errors { IfErr result (IsDecodingError or OutOfMemory) }
+) -> Result<Vec<(KeyPaths<'a>, P)>, Error>
+    ensures leaves { (form : Form) (t : Tree) → StandsFor form item.now t
+        → MatchResult result (λ found. AllZip (IsKept (P.IsOf form)) found.items (leaves ignore_array t))
+        (λ e. IsOutOfMemory e ⊎ Any (λ leaf. P.IsRefusalOf form leaf.1 e) (leaves ignore_array t)) }
+    ensures errors { IfErr result (λ e. (IsDecodingError or OutOfMemory) e ⊎ P.Refusals e) }
 {
     let mut found = Vec::new(alloc);
     let Some(first) = parts_entered(item, ignore_array)? else {
@@ -152,9 +191,8 @@ fn leaves_within<'a>(
                         index = 0;
                     }
                     None => {
-                        let item = part.item()?;
                         let path = path_to(alloc, &around, key, index)?;
-                        found.push((path, to_value(alloc, &item)?))?;
+                        found.push((path, P::of_entry(alloc, &part)?))?;
                         index = index.wrapping_add(1);
                     }
                 }

@@ -1,53 +1,49 @@
-use Rattle.std.proofs.Common.{arith, [], ◌∷◌}
+use Rattle.std.proofs.Common.{arith, inr, [], ◌∷◌}
 use Rattle.std.proofs.lemmas.Result.{err_from_is_err_and}
 use Rattle.jsonb_raw.specs.Private.Levels.{parts}
+use Rattle.jsonb_raw.specs.Private.LeafSteps.{IsKept}
 use Rattle.jsonb_raw.proofs.LevelLemmas.{pushed_around, popped_around, SomeParts-first, SomeParts-none, SomeParts-error, falls_within, falls_beside, falls_done}
-use Rattle.jsonb_raw.proofs.LeafWalk.{levels, levels_behind, no_items, item_leaves, walk_begun, entry_leaves, leaf_found, part_entered, level_done, walk_done}
+use Rattle.jsonb_raw.proofs.LeafWalk.{levels, levels_behind, no_items, item_leaves, walk_begun, entry_leaves, leaf_found, leaf_of_whole, part_entered, level_done, walk_done}
 use Rattle.jsonb_raw.proofs.functions.path.leaves.leaves_within.Goals as goal
 
 pub walk-init : goal.walk-init
-walk-init c = record {
-  left = λ seen sees form t stands.
+walk-init g c = record {
+  left = λ form t stands.
       let entered = rw c.in-Some.is at (c.in_ok-first.ensures.leaf form t stands) in
       record {
         here = parts t;
         others = [];
         left = entered.1;
         left_around = rw c.new-around.ensures.items tt;
-        fact = walk_begun seen c.args.ignore_array _ _ t c.new-found.ensures.items c.new-around.ensures.items
+        fact = walk_begun (IsKept (g.P.LeafPart.IsOf form)) c.args.ignore_array _ _ t c.new-found.ensures.items c.new-around.ensures.items
             (item_leaves form c.args.item.now c.args.ignore_array t stands entered.0);
       };
 }
 
 pub returns-in_err-name-clause-leaves : goal.returns-in_err-name-clause-leaves
-returns-in_err-name-clause-leaves c = λ seen sees form t stands.
-    SomeParts-error form _ _ _ _ _ (λ ps h. c.in_err-name.ensures.takes form ps h) (c.walk.invariant.left seen sees form t stands)
+returns-in_err-name-clause-leaves g c = λ form t stands.
+    SomeParts-error form _ _ _ _ _ (λ ps h. c.in_err-name.ensures.takes form ps h) (c.walk.invariant.left form t stands)
 
 pub returns-in_err-inner-in-Some-2-clause-leaves : goal.returns-in_err-inner-in-Some-2-clause-leaves
-returns-in_err-inner-in-Some-2-clause-leaves c = λ seen sees form t stands.
-    SomeParts-first form _ _ _ _ _ _ (λ ps h. rw c.in-Some-2.is at (c.in_ok-name.ensures.takes form ps h)) (c.walk.invariant.left seen sees form t stands)
+returns-in_err-inner-in-Some-2-clause-leaves g c = λ form t stands.
+    SomeParts-first form _ _ _ _ _ _ (λ ps h. rw c.in-Some-2.is at (c.in_ok-name.ensures.takes form ps h)) (c.walk.invariant.left form t stands)
     (λ part rest others keyed is left around fact. absurd (c.in_err-inner-in-Some-2.ensures.leaf form part.1 is))
 
 pub returns-in_err-key-in-Some-2-clause-leaves : goal.returns-in_err-key-in-Some-2-clause-leaves
-returns-in_err-key-in-Some-2-clause-leaves c = λ seen sees form t stands.
-    SomeParts-first form _ _ _ _ _ _ (λ ps h. rw c.in-Some-2.is at (c.in_ok-name.ensures.takes form ps h)) (c.walk.invariant.left seen sees form t stands)
+returns-in_err-key-in-Some-2-clause-leaves g c = λ form t stands.
+    SomeParts-first form _ _ _ _ _ _ (λ ps h. rw c.in-Some-2.is at (c.in_ok-name.ensures.takes form ps h)) (c.walk.invariant.left form t stands)
     (λ part rest others keyed is left around fact. absurd (c.in_err-key-in-Some-2.ensures.name part.0 keyed))
 
-pub returns-in_err-item-in-None-2-clause-leaves : goal.returns-in_err-item-in-None-2-clause-leaves
-returns-in_err-item-in-None-2-clause-leaves c = λ seen sees form t stands.
-    SomeParts-first form _ _ _ _ _ _ (λ ps h. rw c.in-Some-2.is at (c.in_ok-name.ensures.takes form ps h)) (c.walk.invariant.left seen sees form t stands)
-    (λ part rest others keyed is left around fact. absurd (c.in_err-item-in-None-2.ensures.decodes form part.1 is.content))
-
 pub walk-smaller-in-Some-3 : goal.walk-smaller-in-Some-3
-walk-smaller-in-Some-3 c =
+walk-smaller-in-Some-3 g c =
     falls_within _ _ _ _ _ _ (rw c.in-Some-2.is at c.in_ok-name.ensures.smaller) (rw c.in-Some-3.is at c.in_ok-inner-in-Some-2.ensures.room)
     (rw c.in-Some-3.is at c.in_ok-inner-in-Some-2.ensures.bound)
     (levels_behind _ _ _ c.in_ok-push-in-Some-3.ensures.items)
 
 pub walk-preserved-in-Some-3 : goal.walk-preserved-in-Some-3
-walk-preserved-in-Some-3 c = record {
-  left = λ seen sees form t stands.
-      SomeParts-first form _ _ _ _ _ _ (λ ps h. rw c.in-Some-2.is at (c.in_ok-name.ensures.takes form ps h)) (c.walk.invariant.left seen sees form t stands)
+walk-preserved-in-Some-3 g c = record {
+  left = λ form t stands.
+      SomeParts-first form _ _ _ _ _ _ (λ ps h. rw c.in-Some-2.is at (c.in_ok-name.ensures.takes form ps h)) (c.walk.invariant.left form t stands)
       (λ part rest others keyed is left around fact.
       let entered = rw c.in-Some-3.is at (c.in_ok-inner-in-Some-2.ensures.leaf form part.1 is) in
       record {
@@ -55,50 +51,48 @@ walk-preserved-in-Some-3 c = record {
         others = rest ∷ others;
         left = entered.1;
         left_around = pushed_around form _ _ _ rest others (levels_behind _ _ _ c.in_ok-push-in-Some-3.ensures.items) left around;
-        fact = part_entered seen c.args.ignore_array _ _ _ _ part rest others _ fact entered.0 (c.in_ok-key-in-Some-2.ensures.name part.0 keyed)
+        fact = part_entered (IsKept (g.P.LeafPart.IsOf form)) c.args.ignore_array _ _ _ _ part rest others _ fact entered.0 (c.in_ok-key-in-Some-2.ensures.name part.0 keyed)
             (entry_leaves form _ c.args.ignore_array part.1 is entered.0) c.in_ok-push-in-Some-3.ensures.items;
       });
 }
 
-pub returns-in_err-to_value-in-None-2-clause-leaves :
-    goal.returns-in_err-to_value-in-None-2-clause-leaves
-returns-in_err-to_value-in-None-2-clause-leaves c = λ seen sees form t stands.
-    let p = err_from_is_err_and c.from_residual-in_err-to_value-in-None-2.result c.from_residual-in_err-to_value-in-None-2.ensures.1 in
-    SomeParts-first form _ _ _ _ _ _ (λ ps h. rw c.in-Some-2.is at (c.in_ok-name.ensures.takes form ps h)) (c.walk.invariant.left seen sees form t stands)
+pub returns-in_err-of_entry-in-None-2-clause-leaves : goal.returns-in_err-of_entry-in-None-2-clause-leaves
+returns-in_err-of_entry-in-None-2-clause-leaves g c = λ form t stands.
+    let p = err_from_is_err_and c.from_residual-in_err-of_entry-in-None-2.result c.from_residual-in_err-of_entry-in-None-2.ensures.1 in
+    SomeParts-first form _ _ _ _ _ _ (λ ps h. rw c.in-Some-2.is at (c.in_ok-name.ensures.takes form ps h)) (c.walk.invariant.left form t stands)
     (λ part rest others keyed is left around fact.
-    rw (p.1, p.2) (c.in_err-to_value-in-None-2.ensures.decodes form part.1 (c.in_ok-item-in-None-2.ensures.decodes form part.1 is.content)))
+    rw (p.1, p.2) (inr (leaf_of_whole (IsKept (g.P.LeafPart.IsOf form)) c.args.ignore_array
+    (λ leaf. g.P.LeafPart.IsRefusalOf form leaf.1 c.in_err-of_entry-in-None-2.field-0.0) _ _ _ _ part rest others _ fact
+    (rw c.in-None-2.is at (c.in_ok-inner-in-Some-2.ensures.leaf form part.1 is)) (c.in_ok-key-in-Some-2.ensures.name part.0 keyed)
+    (c.in_err-of_entry-in-None-2.ensures.part form part.1 is))))
 
 pub walk-smaller-in-None-2 : goal.walk-smaller-in-None-2
-walk-smaller-in-None-2 c = falls_beside _ _ (levels c.walk.around.items) _ (rw c.in-Some-2.is at c.in_ok-name.ensures.smaller)
+walk-smaller-in-None-2 g c = falls_beside _ _ (levels c.walk.around.items) _ (rw c.in-Some-2.is at c.in_ok-name.ensures.smaller)
 
 pub walk-preserved-in-None-2 : goal.walk-preserved-in-None-2
-walk-preserved-in-None-2 c = record {
-  left = λ seen sees form t stands.
-      SomeParts-first form _ _ _ _ _ _ (λ ps h. rw c.in-Some-2.is at (c.in_ok-name.ensures.takes form ps h)) (c.walk.invariant.left seen sees form t stands)
-      (λ part rest others keyed is left around fact.
-      let stands = c.in_ok-item-in-None-2.ensures.decodes form part.1 is.content in
-      let value = c.in_ok-to_value-in-None-2.field-0 in
-      let same = sees value part.1 (c.in_ok-to_value-in-None-2.ensures.decodes form part.1 stands)
-      (c.in_ok-to_value-in-None-2.ensures.parts form part.1 stands c.in_ok-item-in-None-2.ensures.normal) in
-      record {
+walk-preserved-in-None-2 g c = record {
+  left = λ form t stands.
+      SomeParts-first form _ _ _ _ _ _ (λ ps h. rw c.in-Some-2.is at (c.in_ok-name.ensures.takes form ps h)) (c.walk.invariant.left form t stands)
+      (λ part rest others keyed is left around fact. record {
         here = rest;
         others = others;
         left = left;
         left_around = around;
-        fact = leaf_found seen c.args.ignore_array _ _ _ _ _ part rest others _ c.in_ok-path-in-None-2.path value fact
+        fact = leaf_found (IsKept (g.P.LeafPart.IsOf form)) c.args.ignore_array _ _ _ _ _ part rest others _
+            (c.in_ok-path-in-None-2.path, c.in_ok-of_entry-in-None-2.field-0) fact
             (rw c.in-None-2.is at
             (c.in_ok-inner-in-Some-2.ensures.leaf form part.1 is)) (c.in_ok-key-in-Some-2.ensures.name part.0 keyed)
-            c.in_ok-path-in-None-2.ensures same c.in_ok-push-in-None-2.ensures.items;
+            (c.in_ok-path-in-None-2.ensures, c.in_ok-of_entry-in-None-2.ensures.part form part.1 is) c.in_ok-push-in-None-2.ensures.items;
       });
 }
 
 pub walk-smaller : goal.walk-smaller
-walk-smaller c = falls_done _ _ _ _ (levels_behind _ _ _ c.in-Some-pop.ensures.items)
+walk-smaller g c = falls_done _ _ _ _ (levels_behind _ _ _ c.in-Some-pop.ensures.items)
 
 pub walk-preserved : goal.walk-preserved
-walk-preserved c = record {
-  left = λ seen sees form t stands.
-      SomeParts-none form _ _ _ _ (λ ps h. rw c.in-None.is at (c.in_ok-name.ensures.takes form ps h)) (c.walk.invariant.left seen sees form t stands)
+walk-preserved g c = record {
+  left = λ form t stands.
+      SomeParts-none form _ _ _ _ (λ ps h. rw c.in-None.is at (c.in_ok-name.ensures.takes form ps h)) (c.walk.invariant.left form t stands)
       (λ others around fact.
       popped_around form _ _ _ others (levels_behind _ _ _ c.in-Some-pop.ensures.items) around
       (λ here more same left outside. record {
@@ -106,12 +100,12 @@ walk-preserved c = record {
         others = more;
         left = left;
         left_around = outside;
-        fact = level_done seen c.args.ignore_array _ _ _ _ _ here others more _ same c.in-Some-pop.ensures.items fact;
+        fact = level_done (IsKept (g.P.LeafPart.IsOf form)) c.args.ignore_array _ _ _ _ c.walk.index here others more _ same c.in-Some-pop.ensures.items fact;
       }));
 }
 
 pub returns-in-None-pop-clause-leaves : goal.returns-in-None-pop-clause-leaves
-returns-in-None-pop-clause-leaves c = λ seen sees form t stands.
-    SomeParts-none form _ _ _ _ (λ ps h. rw c.in-None.is at (c.in_ok-name.ensures.takes form ps h)) (c.walk.invariant.left seen sees form t stands)
-    (λ others around fact. walk_done seen c.args.ignore_array _ _ _ others _
+returns-in-None-pop-clause-leaves g c = λ form t stands.
+    SomeParts-none form _ _ _ _ (λ ps h. rw c.in-None.is at (c.in_ok-name.ensures.takes form ps h)) (c.walk.invariant.left form t stands)
+    (λ others around fact. walk_done (IsKept (g.P.LeafPart.IsOf form)) c.args.ignore_array _ _ c.walk.index others _
     (no_items c.walk.around.items (omega (arith, c.in-None-pop.ensures.cases.0, c.walk.around.ok.0))) fact)

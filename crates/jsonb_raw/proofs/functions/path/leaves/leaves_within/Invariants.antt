@@ -3,20 +3,20 @@ use Rattle.std.specs.Prelude.{reverse}
 use Rattle.jsonb_doc.specs.Tree.{Tree}
 use Rattle.jsonb_doc.specs.Payload.{Form}
 use Rattle.jsonb_doc.specs.Item.{StandsFor}
-use Rattle.jsonb_doc.specs.declared.value.Value.{Value}
 use Rattle.jsonb_raw.specs.Leaves.{leaves}
-use Rattle.jsonb_raw.specs.Private.LeafSteps.{SeesDecoded}
+use Rattle.jsonb_raw.specs.Private.LeafSteps.{IsKept}
 use Rattle.jsonb_raw.proofs.LevelLemmas.{SomeParts, weight, weights}
 use Rattle.jsonb_raw.proofs.LeafWalk.{LeavesToward, levels}
 use Rattle.jsonb_raw.proofs.functions.path.leaves.leaves_within.Given as goal
 
 -- what is found, and then the leaves of what each level has left, the innermost first, are the leaves of the whole
 abbrev pub invariant-walk : goal.invariant-walk
-invariant-walk l = record {
-  left : (seen : Value → Tree) → SeesDecoded seen → (form : Form) (t : Tree) → StandsFor form l.fn.item t
+invariant-walk g l = record {
+  left : (form : Form) (t : Tree) → StandsFor form l.fn.item t
       → SomeParts form l.level (levels l.around.items)
-      (λ here others. LeavesToward seen l.fn.ignore_array l.found.items l.around.items l.index here others (leaves l.fn.ignore_array t));
+      (λ here others. LeavesToward (IsKept (g.P.LeafPart.IsOf form)) l.fn.ignore_array l.found.items l.around.items l.index here others
+      (leaves l.fn.ignore_array t));
 }
 
 abbrev pub decreases-walk : goal.decreases-walk
-decreases-walk l = weight l.level + weights (reverse (levels l.around.items))
+decreases-walk g l = weight l.level + weights (reverse (levels l.around.items))

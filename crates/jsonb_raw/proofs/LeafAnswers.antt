@@ -1,0 +1,51 @@
+-- From what a walk keeps of leaves to the answers of the calls.
+use Rattle.std.proofs.Common.{◌≡◌, ◌⊎◌, List, [], ◌∷◌, Result, Ok, Err, Vec, MatchResult, refl, ap, ◌∙◌, inl, inr}
+use Rattle.std.specs.List.{Any, AllZip}
+use Rattle.std.specs.declared.alloc.Global.{Global}
+use Rattle.jsonb_doc.specs.declared.error.Error.{Error}
+use Rattle.jsonb_doc.specs.declared.value.Value.{Value}
+use Rattle.jsonb_doc.specs.Tree.{Tree}
+use Rattle.jsonb_doc.specs.Payload.{Form}
+use Rattle.jsonb_doc.specs.Format.{Decodes}
+use Rattle.jsonb_doc.specs.Answer.{IsOutOfMemory, IsOutOfMemoryOrTooLarge}
+use Rattle.jsonb_doc.specs.Value.{value_tree, value_parts}
+use Rattle.jsonb_keypath.specs.declared.key_path.KeyPaths.{KeyPaths}
+use Rattle.jsonb_keypath.specs.KeyPathGrammar.{Key}
+use Rattle.jsonb_raw.specs.declared.owned.OwnedJsonb.{OwnedJsonb}
+use Rattle.jsonb_raw.specs.Leaves.{Leaf}
+use Rattle.jsonb_raw.specs.LeafViews.{leaves_seen}
+use Rattle.jsonb_raw.specs.LeafDocuments.{MakesLeaves}
+use Rattle.jsonb_raw.specs.Private.LeafSteps.{IsKept}
+
+-- the value was decoded from the tree, and its numbers have the tree's parts
+abbrev IsValueOf : Tree → Value → Type 0
+IsValueOf t value = (value_tree value ≡ t) × (value_parts value ≡ t)
+
+values_are_seen : (seen : Value → Tree) → ((value : Value) (t : Tree) → IsValueOf t value → seen value ≡ t) → (found : List (KeyPaths × Value))
+    (whole : List Leaf) → AllZip (IsKept IsValueOf) found whole → leaves_seen seen found ≡ whole
+values_are_seen seen sees [] [] h = refl
+values_are_seen seen sees [] (leaf ∷ whole) h = absurd h
+values_are_seen seen sees (x ∷ found) [] h = absurd h
+values_are_seen seen sees (x ∷ found) ((steps, t) ∷ whole) h =
+    ap (λ (ss : List Key). (ss, seen x.1) ∷ leaves_seen seen found) h.0.0
+    ∙ ap (λ (u : Tree). (steps, u) ∷ leaves_seen seen found) (sees x.1 t h.0.1)
+    ∙ ap (λ (ls : List Leaf). (steps, t) ∷ ls) (values_are_seen seen sees found whole h.1)
+
+-- the values of the leaves, seen in such a way
+pub values_found : (seen : Value → Tree) → ((value : Value) (t : Tree) → IsValueOf t value → seen value ≡ t)
+    → (r : Result (Vec (KeyPaths × Value) Global) Error) (whole : List Leaf)
+    → MatchResult r (λ found. AllZip (IsKept IsValueOf) found.items whole) (λ e. IsOutOfMemory e ⊎ Any (λ leaf. IsOutOfMemory e) whole)
+    → MatchResult r (λ found. leaves_seen seen found.items ≡ whole) IsOutOfMemory
+values_found seen sees (Ok found) whole h = values_are_seen seen sees found.items whole h
+values_found seen sees (Err e) whole (inl memory) = memory
+values_found seen sees (Err e) whole (inr some) = some.4
+
+-- the documents of the leaves
+pub documents_found : (form : Form) (r : Result (Vec (KeyPaths × OwnedJsonb) Global) Error) (whole : List Leaf)
+    → MatchResult r (λ found. AllZip (IsKept (λ t document. Decodes form document t)) found.items whole)
+    (λ e. IsOutOfMemory e ⊎ Any (λ leaf. IsOutOfMemoryOrTooLarge form leaf.1 e) whole)
+    → MakesLeaves form whole r
+documents_found form (Ok found) whole h = h
+documents_found form (Err e) whole (inl memory) = inl memory
+documents_found form (Err e) whole (inr (i, leaf, inside, is, inl memory)) = inl memory
+documents_found form (Err e) whole (inr (i, leaf, inside, is, inr large)) = inr (large.0, (i, leaf, inside, is, large.1))

@@ -1,0 +1,59 @@
+//! The leaves of a document as documents of their own, with their key paths.
+
+ghost use Rattle.std.specs.Prelude.{IfErr};
+ghost use Rattle.jsonb_doc.specs.Tree.{Tree};
+ghost use Rattle.jsonb_doc.specs.Payload.{Form};
+ghost use Rattle.jsonb_doc.specs.Format.{Decodes};
+ghost use Rattle.jsonb_doc.specs.Answer.{◌or◌, IsDecodingError};
+ghost use Rattle.jsonb_doc.specs.declared.error.Error.TheVariants.{OutOfMemory, TooLarge};
+ghost use Rattle.jsonb_raw.specs.Documents.{raw_bytes};
+ghost use Rattle.jsonb_raw.specs.Leaves.{leaves};
+ghost use Rattle.jsonb_raw.specs.LeafDocuments.{MakesLeaves};
+
+use super::{LeafPart, leaves_within};
+use crate::functions::entries::entry_document;
+use crate::owned::OwnedJsonb;
+use crate::raw::RawJsonb;
+use jsonb_doc::{Error, StoredEntry, root_item};
+use jsonb_keypath::KeyPaths;
+use std::alloc::Global;
+
+impl<'a> LeafPart<'a> for OwnedJsonb {
+    ghost use Rattle.jsonb_doc.specs.Answer.{IsOutOfMemoryOrTooLarge, ◌or◌, IsDecodingError};
+    ghost use Rattle.jsonb_doc.specs.Format.{Decodes};
+    ghost use Rattle.jsonb_doc.specs.declared.error.Error.TheVariants.{OutOfMemory, TooLarge};
+
+    ghost IsOf = { λ form t document. Decodes form document t };
+
+    ghost IsRefusalOf = { λ form t e. IsOutOfMemoryOrTooLarge form t e };
+
+    ghost Refusals = { IsDecodingError or OutOfMemory or TooLarge };
+
+    fn of_entry(alloc: Global, entry: &StoredEntry<'a>) -> Result<OwnedJsonb, Error> {
+        entry_document(alloc, entry.kind, entry.content)
+    }
+}
+
+impl<'a> RawJsonb<'a> {
+    /// The leaves that `extract_scalar_key_values` finds, each with its key path and as a document of its own: the one
+    /// that `get_by_keypath` gives for that path, without looking for it again. Names are borrowed from the document.
+    ///
+    /// # Errors
+    ///
+    /// Those of making documents. Where arrays are entered no leaf is too large.
+    ///
+    /// # Cost
+    ///
+    /// Linear in n, and for each leaf in the length of its key path; each leaf is copied. Takes memory.
+    pub fn leaf_documents(
+        &self,
+        alloc: Global,
+        ignore_array: bool,
+    ) -> Result<Vec<(KeyPaths<'a>, OwnedJsonb)>, Error>
+        ensures leaves { (form : Form) (t : Tree) → Decodes form (raw_bytes self.now) t
+            → MakesLeaves form (leaves ignore_array t) result }
+        ensures errors { IfErr result (IsDecodingError or OutOfMemory or TooLarge) }
+    {
+        leaves_within(alloc, &root_item(self.as_bytes())?, ignore_array)
+    }
+}
