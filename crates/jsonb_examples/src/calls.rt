@@ -57,6 +57,12 @@ fn leaves(rt: HostRuntime) -> Result<(), Fail> {
         let read = parse_key_paths(alloc, printed.as_bytes())?;
         assert!(rt; read == *path);
     }
+    let documents = RawJsonb::new(OLD_TAGS).leaf_documents(alloc, false)?;
+    for ((path, _), (same, document)) in found.iter().zip(documents.iter()) {
+        assert!(rt; path == same);
+        assert!(rt; document.as_raw().is_string()?);
+    }
+    assert_eq!(rt; documents.len(), 2);
     Ok(())
 }
 
