@@ -1,17 +1,14 @@
 //! What each command prints.
-ghost use Rattle.std.specs.Prelude.{◌≡◌, ◌⊎◌, ◌++◌, Some, Ok, Err, IfOk, MatchResult, codes, string_bytes};
+ghost use Rattle.std.specs.Prelude.{◌≡◌, ◌⊎◌, ◌++◌, Ok, Err, IfOk, MatchResult, codes, string_bytes};
 ghost use Rattle.jsonb.specs.Error.TheVariants.{OutOfMemory};
 ghost use Rattle.jsonb.specs.Tree.{Tree};
-ghost use Rattle.jsonb.specs.Payload.{Form, any};
-ghost use Rattle.jsonb.specs.Answer.{IsOutOfMemoryOrTooLarge};
+ghost use Rattle.jsonb.specs.Payload.{any};
 ghost use Rattle.jsonb.specs.Format.{Decodes};
 ghost use Rattle.jsonb.specs.KeyPathGrammar.{key_path};
-ghost use Rattle.jsonb.specs.KeyPathViews.{key_paths_view};
 ghost use Rattle.jsonb.specs.Documents.{raw_bytes};
 ghost use Rattle.jsonb.specs.PathGrammar.{json_path};
-ghost use Rattle.jsonb.specs.Places.{tree_at_steps};
-ghost use Rattle.jsonb_tool.specs.Output.{ShowsTreeAt, ShowsKeyOf, ShowsLeavesOf, IsLeafLine, ShowsSelection, ShowsPredicate, IsDamage, IsOutputOf, truth_line};
-ghost use Rattle.jsonb_tool.specs.Views.{found_text, found_lines, request};
+ghost use Rattle.jsonb_tool.specs.Output.{ShowsTreeAt, ShowsKeyOf, ShowsLeavesOf, ShowsSelection, ShowsPredicate, IsDamage, IsOutputOf, truth_line};
+ghost use Rattle.jsonb_tool.specs.Views.{found_text, found_lines, leaf_line, leaf_lines, request};
 ghost use Rattle.hex.specs.Hex.{encode_lower};
 
 use crate::command::Command;
@@ -27,8 +24,7 @@ use std::alloc::{AllocError, Global};
 ///
 /// # Cost
 ///
-/// That of `check` and of the call that the command makes. `leaves` looks each leaf up from the root again. Takes
-/// memory for all lines.
+/// That of `check` and of the call that the command makes. Takes memory for all lines.
 pub fn output(alloc: Global, command: &Command<'_>) -> Result<String, Error>
     ensures { MatchResult result
         (λ lines. IsOutputOf (request command.now) (Ok (string_bytes lines)))
@@ -73,32 +69,8 @@ fn leaves(alloc: Global, document: &[u8]) -> Result<String, Error>
         (λ e. (e ≡ OutOfMemory) ⊎ ShowsLeavesOf document.now (Err e)) }
 {
     let document = checked(document)?;
-    let leaves = document.extract_scalar_key_values(alloc, false)?;
-    if leaves.is_empty() {
-        return Ok(String::from_str(alloc, "none\n")?);
-    }
-    let mut lines = String::new(alloc);
-    for (path, _) in &leaves {
-        let line = leaf_line(alloc, &document, path)?;
-        lines.push_str(line.as_str())?;
-    }
-    Ok(lines)
-}
-
-/// The line of a leaf: the document at the place of its key path, and the path. `InvalidJsonb` is for a path that
-/// leads nowhere, which no leaf has.
-fn leaf_line(alloc: Global, document: &RawJsonb<'_>, path: &KeyPaths<'_>) -> Result<String, Error>
-    ensures { (form : Form) (t u : Tree) → Decodes form (raw_bytes document.now) t
-        → tree_at_steps (key_paths_view path.now) t ≡ Some u
-        → MatchResult result
-        (λ line. IsLeafLine form t (key_paths_view path.now) (string_bytes line))
-        (IsOutOfMemoryOrTooLarge form u) }
-{
-    let Some(part) = document.get_by_keypath(alloc, path.paths.iter())? else {
-        return Err(Error::InvalidJsonb);
-    };
-    let digits = hex::encode(alloc, part.as_raw().as_bytes())?;
-    Ok(format!(in alloc; "{digits} {path}\n")?)
+    let leaves = document.leaf_documents(alloc, false)?;
+    Ok(leaf_lines(alloc, &leaves)?)
 }
 
 /// The documents that a JSON path selects, each on a line, or `none`.
@@ -159,6 +131,33 @@ fn found_lines(alloc: Global, documents: &[OwnedJsonb]) -> Result<String, AllocE
         lines.push_str(line.as_str())?;
     }
     Ok(lines)
+}
+
+/// A line for each leaf, or `none`.
+fn leaf_lines(alloc: Global, leaves: &[(KeyPaths<'_>, OwnedJsonb)]) -> Result<String, AllocError>
+    ensures { IfOk result (λ lines. string_bytes lines ≡ leaf_lines leaves.now) }
+{
+    if leaves.is_empty() {
+        return String::from_str(alloc, "none\n");
+    }
+    let mut lines = String::new(alloc);
+    for (path, document) in leaves {
+        let line = leaf_line(alloc, path, document)?;
+        lines.push_str(line.as_str())?;
+    }
+    Ok(lines)
+}
+
+/// The line of a leaf: its document, and its key path.
+fn leaf_line(
+    alloc: Global,
+    path: &KeyPaths<'_>,
+    document: &OwnedJsonb,
+) -> Result<String, AllocError>
+    ensures { IfOk result (λ line. string_bytes line ≡ leaf_line (path.now, document.now)) }
+{
+    let digits = hex::encode(alloc, document.as_raw().as_bytes())?;
+    Ok(format!(in alloc; "{digits} {path}\n")?)
 }
 
 /// The line of a truth.

@@ -177,10 +177,37 @@ fn leaves_prints_a_line_for_each_leaf(rt: HostRuntime) -> Result<(), Fail> {
         ),
         // {"":null}
         ("400000011000000000000000", "2000000000000000 {\"\"}"),
+        // [10] with its number in two bytes where one would do
+        ("800000012000000350000a", "200000002000000350000a {0}"),
     ] {
         let is_right = answers(rt.alloc(), &["leaves", document], lines, 0)?;
         assert!(rt; is_right, "leaves {document}");
     }
+    Ok(())
+}
+
+/// So many leaves that no test has the time to look each of them up from the root.
+const MANY: usize = 200_000;
+
+#[test]
+fn leaves_of_a_long_array_are_printed_in_one_walk(rt: HostRuntime) -> Result<(), Fail> {
+    // [null,null,..]
+    let mut document = String::from_str(rt.alloc(), "80030d40")?;
+    let mut lines = String::new(rt.alloc());
+    for index in 0..MANY {
+        document.push_str("00000000")?;
+        let end = if index + 1 == MANY { "" } else { "\n" };
+        let line = format!(in rt.alloc(); "2000000000000000 {{{index}}}{end}")?;
+        lines.push_str(line.as_str())?;
+    }
+    assert!(rt;
+        answers(
+            rt.alloc(),
+            &["leaves", document.as_str()],
+            lines.as_str(),
+            0
+        )?
+    );
     Ok(())
 }
 

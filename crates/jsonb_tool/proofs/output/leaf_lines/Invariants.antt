@@ -1,0 +1,6 @@
+use Rattle.std.proofs.Common.{◌≡◌, flat_map, take, string_bytes}
+use Rattle.jsonb_tool.specs.Views.{leaf_line}
+use Rattle.jsonb_tool.proofs.output.leaf_lines.Given as goal
+
+abbrev pub invariant-loop-path : goal.invariant-loop-path
+invariant-loop-path l = string_bytes l.lines ≡ flat_map leaf_line (take l.path-index l.leaves)
