@@ -3,7 +3,7 @@ use Rattle.std.proofs.Common.{◌≡◌, ◌≢◌, ℕ, ◌+◌, ◌-◌, ◌*�
 use Rattle.std.proofs.lemmas.List.{length-append, length-take-le, length-drop, drop_at, drop-take, drop-drop, take-append-drop, append-nil}
 use Rattle.std.proofs.Math.Seq.{take-add}
 use Rattle.std.proofs.lemmas.Slice.{between_to_end}
-use Rattle.std.specs.Prelude.{slice_range}
+use Rattle.std.specs.Prelude.{◌==◌, is_some, slice_range, true, false}
 use Rattle.jsonb_doc.specs.Tree.{Tree, null, boolean, number, text, extension, array, object, Trees, no_trees, tree, trees_of, elements, values, keys, children_of, field_of}
 use Rattle.jsonb_doc.specs.Payload.{NumberReader, Form, any, number_reader, number_of}
 use Rattle.jsonb_doc.specs.Format.{Decodes, header, entry_word, BeginWith, IsContent, IsDocument, AreEntries, key_bytes}
@@ -233,6 +233,20 @@ module _ (bytes : List ℕ) (parent : Spot) (t : Tree) (m : Locates bytes parent
       go (array ts) h = absurd (scalar h.0)
       go (object ps) h = absurd (scalar h.0)
       go _ h = (refl, λ name. refl)
+
+-- an item is a container where it has children
+pub Locates-has_children : (bytes : List ℕ) (spot : Spot) (t : Tree) → Locates bytes spot t → (spot.kind == 5) ≡ is_some (children_of t)
+Locates-has_children bytes spot t m = go t (m.content any m.whole m.decodes)
+  where
+    go : (u : Tree) → IsContent number_of u spot.kind (spot_content bytes spot) → (spot.kind == 5) ≡ is_some (children_of u)
+    go null h = ap (λ k. k == 5) h.0
+    go (boolean false) h = ap (λ k. k == 5) h.0
+    go (boolean true) h = ap (λ k. k == 5) h.0
+    go (number n) h = ap (λ k. k == 5) h.0
+    go (text s) h = ap (λ k. k == 5) h.0
+    go (extension x) h = ap (λ k. k == 5) h.0
+    go (array ts) h = ap (λ k. k == 5) h.0
+    go (object ps) h = ap (λ k. k == 5) h.0
 
 pub no_children : (bytes : List ℕ) (t : Tree) → children_of t ≡ None → SameOption (HasSpotsLeft bytes) None (children_of t)
 no_children bytes t none = rw none tt

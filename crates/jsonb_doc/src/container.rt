@@ -80,6 +80,7 @@ pub enum Container<'a> {
 /// # Cost
 ///
 /// Constant, without memory.
+#[inline(always)]
 pub fn read_container(bytes: &[u8]) -> Result<Container<'_>, Error>
     ensures cut { MatchResult result (IsCut bytes.now)
         (λ e. (e ≡ Error.InvalidJsonb)

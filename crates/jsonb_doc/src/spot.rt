@@ -1,6 +1,6 @@
 //! Items by their places in the bytes of a document.
 
-ghost use Rattle.std.specs.Prelude.{◌≡◌, ℕ, ◌+◌, ◌*◌, ◌^◌, ◌<◌, ◌≤◌, List, length, slice_range, IsOkAnd, IfOk, IfErr, IfSome, MatchResult, OnOk};
+ghost use Rattle.std.specs.Prelude.{◌≡◌, ℕ, ◌+◌, ◌*◌, ◌^◌, ◌<◌, ◌≤◌, List, length, slice_range, is_some, IsOkAnd, IfOk, IfErr, IfSome, MatchResult, OnOk};
 ghost use Rattle.jsonb_doc.specs.Tree.{Tree, children_of, field_of};
 ghost use Rattle.jsonb_doc.specs.Payload.{Form, any, number_reader};
 ghost use Rattle.jsonb_doc.specs.Format.{Decodes, IsContent, HeadedBy};
@@ -40,6 +40,18 @@ impl Spot {
         ensures end { result.end ≡ end }
     {
         Spot { kind, start, end }
+    }
+
+    /// Whether it is an array or an object.
+    ///
+    /// # Cost
+    ///
+    /// Constant, without memory.
+    #[inline(always)]
+    pub fn is_container(self) -> bool
+        ensures { (bytes : List ℕ) (t : Tree) → Locates bytes self t → result ≡ is_some (children_of t) }
+    {
+        self.kind == CONTAINER
     }
 
     /// Its content within these bytes. Bytes in which it has no place are `InvalidJsonb`.
@@ -129,6 +141,7 @@ pub fn spot_entry<'a>(bytes: &'a [u8], spot: Spot) -> Result<StoredEntry<'a>, Er
 /// # Cost
 ///
 /// Constant for an array, linear in the count of pairs for an object. No memory.
+#[inline(always)]
 pub fn child_spots<'a>(bytes: &'a [u8], spot: Spot) -> Result<Option<SpotIter<'a>>, Error>
     ensures spots { (t : Tree) → Locates bytes.now spot t
         → IsOkAnd result (λ found. SameOption (HasSpotsLeft bytes.now) found (children_of t)) }

@@ -1,6 +1,7 @@
 //! The iterator over the places of a container's children.
 
 use crate::error::Error;
+use crate::layout::WORD;
 use crate::lengths::split_entry_word;
 use crate::spot::Spot;
 
@@ -18,7 +19,9 @@ pub struct SpotIter<'a> {
 }
 
 impl<'a> SpotIter<'a> {
-    ghost use Rattle.std.specs.Prelude.{◌≡◌};
+    ghost use Rattle.std.specs.Prelude.{◌≡◌, ℕ, List, length};
+    ghost use Rattle.jsonb_doc.specs.Spots.{HasSpotsLeft};
+    ghost use Rattle.jsonb_doc.specs.Tree.{Tree};
 
     pub(crate) fn new(words: &'a [u8], start: usize, end: usize) -> SpotIter<'a>
         ensures words { result.words.now ≡ words.now }
@@ -26,6 +29,18 @@ impl<'a> SpotIter<'a> {
         ensures end { result.end ≡ end }
     {
         SpotIter { words, start, end }
+    }
+
+    /// How many spots are left.
+    ///
+    /// # Cost
+    ///
+    /// Constant, without memory.
+    #[inline(always)]
+    pub fn len(&self) -> usize
+        ensures { (bytes : List ℕ) (ts : List Tree) → HasSpotsLeft bytes self.now ts → result ≡ length ts }
+    {
+        self.words.len() / WORD
     }
 }
 

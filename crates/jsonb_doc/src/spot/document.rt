@@ -9,9 +9,10 @@ ghost use Rattle.jsonb_doc.specs.Spots.{Locates};
 ghost use Rattle.jsonb_doc.specs.declared.error.Error.TheVariants.{OutOfMemory, TooLarge};
 
 use super::{Spot, spot_item};
-use crate::encoding::{encode_item, push_word};
+use crate::encoding::encode_item;
 use crate::error::Error;
 use crate::layout::{CONTAINER, COUNTS, KINDS, LENGTHS, MAX_CONTENT, SCALAR_HEADER, WORD};
+use byteorder::{BigEndian, ByteOrder};
 use std::alloc::{AllocError, Global};
 
 /// The item at a spot of these bytes as a document of its own, copied as it is stored, in memory of its exact size.
@@ -55,9 +56,11 @@ pub fn scalar_document(alloc: Global, kind: u32, content: &[u8]) -> Result<Vec<u
     ensures { IfOk result
         (λ v. v.items ≡ header scalar_header 0 ++ (entry_word kind (length content.now) ++ content.now)) }
 {
+    let mut words = [0; 2 * WORD];
+    BigEndian::write_u32(&mut words[..WORD], SCALAR_HEADER * COUNTS);
+    BigEndian::write_u32(&mut words[WORD..], kind * LENGTHS + content.len() as u32);
     let mut document = Vec::with_capacity(alloc, 2 * WORD + content.len())?;
-    push_word(&mut document, SCALAR_HEADER * COUNTS)?;
-    push_word(&mut document, kind * LENGTHS + content.len() as u32)?;
+    document.extend_from_slice(&words)?;
     document.extend_from_slice(content)?;
     Ok(document)
 }

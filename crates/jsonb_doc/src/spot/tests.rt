@@ -85,6 +85,30 @@ fn finds_children(rt: HostRuntime) -> Result<(), Fail> {
     Ok(())
 }
 
+// How many children there are, and whether the last of them is a container.
+fn counted(bytes: &[u8]) -> Result<(usize, bool), Error> {
+    let Some(children) = child_spots(bytes, root_spot(bytes)?)? else {
+        return Ok((0, false));
+    };
+    let mut is_container = false;
+    for child in children {
+        is_container = child?.is_container();
+    }
+    Ok((children.len(), is_container))
+}
+
+#[test]
+fn counts_children(rt: HostRuntime) -> Result<(), Fail> {
+    assert_eq!(rt; counted(MIXED)?, (3, true));
+    assert_eq!(rt; counted(PHONES)?, (2, true));
+    assert_eq!(rt; counted(ONE)?, (1, false));
+    assert_eq!(rt; counted(b"\x80\0\0\0")?, (0, false));
+    assert_eq!(rt; counted(DATE)?, (0, false));
+    assert_eq!(rt; root_spot(DATE)?.is_container(), false);
+    assert_eq!(rt; root_spot(ONE)?.is_container(), true);
+    Ok(())
+}
+
 #[test]
 fn copies_items_as_documents(rt: HostRuntime) -> Result<(), Fail> {
     let alloc = rt.alloc();

@@ -1,0 +1,10 @@
+use Rattle.std.proofs.Common.{arith}
+use Rattle.jsonb_doc.specs.Payload.{any, number_reader}
+use Rattle.jsonb_doc.specs.Tree.{trees_of}
+use Rattle.jsonb_doc.proofs.Containers.{length-words}
+use Rattle.jsonb_doc.proofs.TreeLists.{count-trees_of}
+use Rattle.jsonb_doc.proofs.spot_iter.SpotIter.len.Goals as goal
+
+pub returns : goal.returns
+returns c = λ bytes ts h.
+    omega (arith, length-words (number_reader any) (trees_of ts) _ _ (h.entries any h.whole h.decodes), count-trees_of ts)
