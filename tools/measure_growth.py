@@ -269,9 +269,9 @@ def under_large_stack() -> None:
     resource.setrlimit(resource.RLIMIT_STACK, (STACK if hard < 0 else min(STACK, hard), hard))
 
 
-def times(program: str, lines: list[str]) -> Costs:
-    """Nanoseconds of a call."""
-    words = [program, "times", write_cases(lines), str(LIMIT)]
+def times(program: str, lines: list[str], mode: str = "times") -> Costs:
+    """Nanoseconds of a call: the best of many, or of three by the mode `few`."""
+    words = [program, mode, write_cases(lines), str(LIMIT)]
     said = subprocess.run(words, stdout=subprocess.PIPE, text=True, check=True, preexec_fn=under_large_stack).stdout
     rows = (line.split("\t") for line in said.splitlines())
     return {(name, int(size)): float(cost) for name, size, cost in rows}
@@ -296,9 +296,9 @@ def counts(program: str, lines: list[str]) -> Costs:
 
 def costs(program: str, chosen: list[Series], by_time: bool) -> Costs:
     lines = [line_of(series, size) for series in chosen for size in series.sizes]
-    timed = times(program, lines)
-    if by_time or not lines:
-        return timed
+    if by_time:
+        return times(program, lines)
+    timed = times(program, lines, "few")
     return counts(program, [line for line in lines if (line.split("\t")[0], int(line.split("\t")[1])) in timed])
 
 

@@ -1,8 +1,9 @@
 /* The calls of jsonb_speed.rt.txt, for tools/measure_growth.py and tools/measure_stack.py --more.
 
    calls once CALL ARGUMENT OTHER DOCUMENT   makes one call and prints what it answers. The last three are files
-   calls times CASES [LIMIT]                 prints a line a case: series, size, nanoseconds of the processor. A series ends where its next
+   calls times CASES LIMIT                   prints a line a case: series, size, nanoseconds of the processor. A series ends where its next
                                              call would take more nanoseconds than LIMIT, by how the time has grown
+   calls few CASES LIMIT                     the same, the best of three calls each and not of many
    calls counts CASES                        the same calls once each, for callgrind: a dump a case, by its line's number
 
    A line of CASES has a series, a size, a call and three files, with tabs between; `-` is no file. The cases of a series stand one
@@ -118,7 +119,17 @@ static bool next_case(FILE *cases, Case *c)
 
 static void let_case_go(Case *c) { let_go(c->argument), let_go(c->other), let_go(c->document); }
 
-static void time_all(FILE *cases, double limit)
+static double best_of_three(const Case *c)
+{
+    double least = nanoseconds(c, 1);
+    for (int i = 0; i < 2; i++) {
+        double again = nanoseconds(c, 1);
+        if (again < least) least = again;
+    }
+    return least;
+}
+
+static void time_all(FILE *cases, double limit, bool is_few)
 {
     char series[128] = "";
     double before = 0, last = 0;
@@ -129,7 +140,7 @@ static void time_all(FILE *cases, double limit)
         double guessed = before > 0 ? last * (last / before) : last * 100;
         ended = ended || guessed > limit;
         if (ended) continue;
-        before = last, last = best(&c);
+        before = last, last = is_few ? best_of_three(&c) : best(&c);
         printf("%s\t%s\t%.1f\n", c.series, c.size, last);
         fflush(stdout);
     }
@@ -164,7 +175,8 @@ int main(int argc, char **argv)
     if (argc == 6 && !strcmp(argv[1], "once")) return once(argv + 2);
     FILE *cases = argc >= 3 ? fopen(argv[2], "r") : NULL;
     if (!cases) fail("no cases", argc >= 3 ? argv[2] : "");
-    if (!strcmp(argv[1], "times")) time_all(cases, argc > 3 ? atof(argv[3]) : 1e8);
+    bool is_few = !strcmp(argv[1], "few");
+    if (argc == 4 && (is_few || !strcmp(argv[1], "times"))) time_all(cases, atof(argv[3]), is_few);
     if (!strcmp(argv[1], "counts")) count_all(cases);
     return 0;
 }
