@@ -160,9 +160,11 @@ def test():
 
 def least_stack(ends_in):
     """The least stack that a run ends in, to 4 KiB, or None where 1 GiB does not do."""
-    low, high = 8 << 10, 1 << 30
-    if ends_in(high) is None:
-        return None
+    low, high = 8 << 10, 16 << 10
+    while ends_in(high) is None:
+        if high == 1 << 30:
+            return None
+        low, high = high, 2 * high
     while high - low > 4 << 10:
         middle = (low + high) // 2 // 4096 * 4096
         if ends_in(middle) is None:
