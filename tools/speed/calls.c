@@ -132,15 +132,16 @@ static double best_of_three(const Case *c)
 static void time_all(FILE *cases, double limit, bool is_few)
 {
     char series[128] = "";
-    double before = 0, last = 0;
+    double before = 0, last = 0, last_size = 1;
     bool ended = false;
     for (Case c; next_case(cases, &c); let_case_go(&c)) {
         if (strcmp(series, c.series)) strcpy(series, c.series), before = last = 0, ended = false;
-        /* The third size is guessed from the first two, the second as if the time grew by the square. */
-        double guessed = before > 0 ? last * (last / before) : last * 100;
+        /* The third size is guessed from the first two, the second as if the time grew by the square, which is the most. */
+        double size = atof(c.size), most = size / last_size * (size / last_size);
+        double guessed = last * (before > 0 && last / before < most ? last / before : most);
         ended = ended || guessed > limit;
         if (ended) continue;
-        before = last, last = is_few ? best_of_three(&c) : best(&c);
+        before = last, last_size = size, last = is_few ? best_of_three(&c) : best(&c);
         printf("%s\t%s\t%.1f\n", c.series, c.size, last);
         fflush(stdout);
     }
