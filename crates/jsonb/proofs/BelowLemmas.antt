@@ -2,6 +2,7 @@
 use Rattle.std.proofs.Common.{◌≡◌, ℕ, ◌+◌, ◌^◌, ◌<◌, ◌≤◌, min, List, [], ◌∷◌, ◌++◌, flat_map, length, Option, Some, None, Result, Ok, Err, inl, inr, refl, sym, ap, subst, ◌∙◌, arith, append_assoc, append-nil}
 use Rattle.std.specs.Prelude.{reverse}
 use Rattle.std.proofs.lemmas.List.{reverse-append}
+use Rattle.std.proofs.lemmas.Grind.{flat_map-append}
 use Rattle.jsonb_doc.specs.Spots.{HasSpotsLeft, Locates, GivesSpot, spots_room, spots_bound, spot_size}
 use Rattle.jsonb_doc.specs.Tree.{Tree}
 use Rattle.jsonb_doc.proofs.Weights.{weight_of, weight-pos, inner_weighs, taken_weighs, weight_of_all, falls_inward, falls_outward}
@@ -11,7 +12,7 @@ use Rattle.jsonb_doc.specs.declared.spot_iter.SpotIter.{SpotIter}
 use Rattle.jsonb.specs.PathTree.{Levels}
 use Rattle.jsonb.specs.Preorder.{own, preorder}
 use Rattle.jsonb.specs.Related.{AllRelated}
-use Rattle.jsonb.specs.Private.Below.{HasLeft, KeepsLevel}
+use Rattle.jsonb.specs.Private.Below.{HasLeft, KeepsLevel, PassesLeaves}
 use Rattle.jsonb.specs.declared.selector.levels.OpenLevel.{OpenLevel}
 use Rattle.jsonb.proofs.Progress.{First, spot_first, spot_end}
 
@@ -30,17 +31,22 @@ HaveLeft bytes [] [] = Unit {0}
 HaveLeft bytes (within ∷ os) (r ∷ rs) = HasLeft bytes within r.0 r.1 × HaveLeft bytes os rs
 HaveLeft bytes _ _ = ⊥
 
--- what is given, and what is left at the level and at those around it, which a `Vec` holds with the innermost last, is the whole
-pub record Walked (bytes : List ℕ) (levels : Option Levels) (within : OpenLevel) (around : List OpenLevel) (nodes : List Spot)
+-- what is given, and what is left at the innermost level, which has this depth, and at those around it, which a `Vec` holds with the innermost last, is
+-- the whole
+pub record Walking (bytes : List ℕ) (levels : Option Levels) (Left : List Tree → Type 0) (depth : ℕ) (around : List OpenLevel) (nodes : List Spot)
     (whole : List Tree) : Type 0 where
   pub here : List Tree
   pub level : ℕ
   pub others : List Rest
   pub given : List Tree
-  pub left : HasLeft bytes within here level
+  pub left : Left here
+  pub deep : depth ≡ min level 256
   pub left_around : HaveLeft bytes (reverse around) others
   pub done : AllRelated (Locates bytes) nodes given
   pub is : given ++ (flat_map (preorder levels level) here ++ items_of levels others) ≡ whole
+
+abbrev pub Walked : List ℕ → Option Levels → OpenLevel → List OpenLevel → List Spot → List Tree → Type 0
+Walked bytes levels within around nodes whole = Walking bytes levels (HasSpotsLeft bytes within.children) within.level around nodes whole
 
 innermost : {A : Type 0} (around : List A) (x : A) → reverse (around ++ x ∷ []) ≡ x ∷ reverse around
 innermost around x = reverse-append around (x ∷ [])
@@ -68,25 +74,64 @@ module _ (bytes : List ℕ) (levels : Option Levels) where
     level = n + 1;
     others = [];
     given = before ++ own levels n t;
-    left = left;
+    left = left.0;
+    deep = left.1;
     left_around = subst (λ l. HaveLeft bytes (reverse l) []) (sym none) tt;
     done = done;
     is = regrouped before (own levels n t) (flat_map (preorder levels (n + 1)) ts) [] ∙ ap (λ l. before ++ l) (append-nil _ ∙ sym is);
   }
 
+  -- items that have no children are passed
+  pub leaves_passed : (within : OpenLevel) (around : List OpenLevel) (nodes nodes' : List Spot) (whole : List Tree) (spot : Spot) (others : SpotIter)
+      (w : Walked bytes levels within around nodes whole) → PassesLeaves bytes levels w.level w.here w.given nodes' (Some (spot, others))
+      → Walking bytes levels (First (HasSpotsLeft bytes others) (Locates bytes spot)) within.level around nodes' whole
+  leaves_passed within around nodes nodes' whole spot others w (passed, t, rest, split, holds, left, done) = record {
+    here = t ∷ rest;
+    level = w.level;
+    others = w.others;
+    given = w.given ++ flat_map (preorder levels w.level) passed;
+    left = record { first = t; others = rest; whole = refl; holds = holds; left = left };
+    deep = w.deep;
+    left_around = w.left_around;
+    done = done;
+    is = append_assoc w.given (flat_map (preorder levels w.level) passed) (flat_map (preorder levels w.level) (t ∷ rest) ++ items_of levels w.others)
+        ∙ ap (λ l. w.given ++ l)
+        (sym (append_assoc (flat_map (preorder levels w.level) passed) (flat_map (preorder levels w.level) (t ∷ rest)) (items_of levels w.others)))
+        ∙ ap (λ l. w.given ++ (l ++ items_of levels w.others)) (sym (flat_map-append (preorder levels w.level) passed (t ∷ rest)))
+        ∙ ap (λ l. w.given ++ (flat_map (preorder levels w.level) l ++ items_of levels w.others)) (sym split)
+        ∙ w.is;
+  }
+
+  -- and all are
+  pub all_passed : (within : OpenLevel) (around : List OpenLevel) (nodes nodes' : List Spot) (whole : List Tree)
+      (w : Walked bytes levels within around nodes whole) → PassesLeaves bytes levels w.level w.here w.given nodes' None
+      → Walking bytes levels (λ ts. ts ≡ []) within.level around nodes' whole
+  all_passed within around nodes nodes' whole w done = record {
+    here = [];
+    level = w.level;
+    others = w.others;
+    given = w.given ++ flat_map (preorder levels w.level) w.here;
+    left = refl;
+    deep = w.deep;
+    left_around = w.left_around;
+    done = done;
+    is = append_assoc w.given (flat_map (preorder levels w.level) w.here) (items_of levels w.others) ∙ w.is;
+  }
+
   -- an item whose children are not looked at, or that has none
-  pub item_passed : (within within' : OpenLevel) (around : List OpenLevel) (nodes nodes' : List Spot) (whole : List Tree)
-      (w : Walked bytes levels within around nodes whole)
+  pub item_passed : {Left : List Tree → Type 0} {depth : ℕ} (within' : OpenLevel) (around : List OpenLevel) (nodes nodes' : List Spot) (whole : List Tree)
+      (w : Walking bytes levels Left depth around nodes whole)
       (f : First (HasSpotsLeft bytes within'.children) (λ t. (before : List Tree) → AllRelated (Locates bytes) nodes before
       → AllRelated (Locates bytes) nodes' (before ++ own levels w.level t) × (preorder levels w.level t ≡ own levels w.level t)) w.here)
-      → within'.level ≡ within.level → Walked bytes levels within' around nodes' whole
-  item_passed within within' around nodes nodes' whole w f same =
+      → within'.level ≡ depth → Walked bytes levels within' around nodes' whole
+  item_passed within' around nodes nodes' whole w f same =
       let told = f.holds w.given w.done in record {
         here = f.others;
         level = w.level;
         others = w.others;
         given = w.given ++ own levels w.level f.first;
-        left = (f.left, same ∙ w.left.1);
+        left = f.left;
+        deep = same ∙ w.deep;
         left_around = w.left_around;
         done = told.0;
         is = regrouped w.given (own levels w.level f.first) (flat_map (preorder levels w.level) f.others) (items_of levels w.others)
@@ -96,13 +141,13 @@ module _ (bytes : List ℕ) (levels : Option Levels) where
       }
 
   -- an item whose children come next
-  pub item_entered : (within within' inner : OpenLevel) (around around' : List OpenLevel) (nodes nodes' : List Spot) (whole : List Tree)
-      (w : Walked bytes levels within around nodes whole)
+  pub item_entered : {Left : List Tree → Type 0} {depth : ℕ} (within' inner : OpenLevel) (around around' : List OpenLevel) (nodes nodes' : List Spot)
+      (whole : List Tree) (w : Walking bytes levels Left depth around nodes whole)
       (f : First (HasSpotsLeft bytes within'.children) (λ t. (before : List Tree) → AllRelated (Locates bytes) nodes before
       → AllRelated (Locates bytes) nodes' (before ++ own levels w.level t) × ((ts : List Tree) × HasLeft bytes inner ts (w.level + 1)
       × (preorder levels w.level t ≡ own levels w.level t ++ flat_map (preorder levels (w.level + 1)) ts))) w.here)
-      → within'.level ≡ within.level → KeepsLevel around within' around' → Walked bytes levels inner around' nodes' whole
-  item_entered within within' inner around around' nodes nodes' whole w f same kept =
+      → within'.level ≡ depth → KeepsLevel around within' around' → Walked bytes levels inner around' nodes' whole
+  item_entered within' inner around around' nodes nodes' whole w f same kept =
       let told = f.holds w.given w.done in
       let ts = told.1.0 in
       let below = flat_map (preorder levels (w.level + 1)) ts in
@@ -115,9 +160,10 @@ module _ (bytes : List ℕ) (levels : Option Levels) where
           level = w.level + 1;
           others = (f.others, w.level) ∷ w.others;
           given = w.given ++ mine;
-          left = told.1.1;
+          left = told.1.1.0;
+          deep = told.1.1.1;
           left_around = subst (λ l. HaveLeft bytes l ((f.others, w.level) ∷ w.others)) (sym (ap reverse pushed ∙ innermost around within'))
-              ((f.left, same ∙ w.left.1), w.left_around);
+              ((f.left, same ∙ w.deep), w.left_around);
           done = told.0;
           is = regrouped w.given mine below (beside ++ outside)
               ∙ ap (λ l. w.given ++ (l ++ (beside ++ outside))) (sym told.1.2)
@@ -130,7 +176,8 @@ module _ (bytes : List ℕ) (levels : Option Levels) where
           level = w.level + 1;
           others = w.others;
           given = w.given ++ mine;
-          left = told.1.1;
+          left = told.1.1.0;
+          deep = told.1.1.1;
           left_around = subst (λ l. HaveLeft bytes (reverse l) w.others) (sym done.0) w.left_around;
           done = told.0;
           is = regrouped w.given mine below outside
@@ -142,27 +189,77 @@ module _ (bytes : List ℕ) (levels : Option Levels) where
         }
       ]
 
-  pub level_done : (within outer : OpenLevel) (around around' : List OpenLevel) (nodes : List Spot) (whole : List Tree)
-      (w : Walked bytes levels within around nodes whole)
-      → w.here ≡ [] → around ≡ around' ++ outer ∷ [] → Walked bytes levels outer around' nodes whole
-  level_done within outer around around' nodes whole w none e = go w.others
+  pub level_done : {depth : ℕ} (outer : OpenLevel) (around around' : List OpenLevel) (nodes : List Spot) (whole : List Tree)
+      (w : Walking bytes levels (λ ts. ts ≡ []) depth around nodes whole)
+      → around ≡ around' ++ outer ∷ [] → Walked bytes levels outer around' nodes whole
+  level_done outer around around' nodes whole w e = go w.others
       (subst (λ l. HaveLeft bytes l w.others) (ap reverse e ∙ innermost around' outer) w.left_around)
-      (ap (λ l. w.given ++ (flat_map (preorder levels w.level) l ++ items_of levels w.others)) (sym none) ∙ w.is)
+      (ap (λ l. w.given ++ (flat_map (preorder levels w.level) l ++ items_of levels w.others)) (sym w.left) ∙ w.is)
     where
       go : (rs : List Rest) → HaveLeft bytes (outer ∷ reverse around') rs → w.given ++ items_of levels rs ≡ whole
           → Walked bytes levels outer around' nodes whole
       go [] h is = absurd h
-      go (r ∷ rs) h is = record { here = r.0; level = r.1; others = rs; given = w.given; left = h.0; left_around = h.1; done = w.done; is = is }
+      go (r ∷ rs) h is = record { here = r.0; level = r.1; others = rs; given = w.given; left = h.0.0; deep = h.0.1; left_around = h.1; done = w.done; is = is }
 
   -- all are done
-  pub walk_done : (within : OpenLevel) (around : List OpenLevel) (nodes : List Spot) (whole : List Tree) (w : Walked bytes levels within around nodes whole)
-      → w.here ≡ [] → around ≡ [] → AllRelated (Locates bytes) nodes whole
-  walk_done within around nodes whole w none e = go w.others (subst (λ l. HaveLeft bytes (reverse l) w.others) e w.left_around)
-      (ap (λ l. w.given ++ (flat_map (preorder levels w.level) l ++ items_of levels w.others)) (sym none) ∙ w.is)
+  pub walk_done : {depth : ℕ} (around : List OpenLevel) (nodes : List Spot) (whole : List Tree)
+      (w : Walking bytes levels (λ ts. ts ≡ []) depth around nodes whole) → around ≡ [] → AllRelated (Locates bytes) nodes whole
+  walk_done around nodes whole w e = go w.others (subst (λ l. HaveLeft bytes (reverse l) w.others) e w.left_around)
+      (ap (λ l. w.given ++ (flat_map (preorder levels w.level) l ++ items_of levels w.others)) (sym w.left) ∙ w.is)
     where
       go : (rs : List Rest) → HaveLeft bytes [] rs → w.given ++ items_of levels rs ≡ whole → AllRelated (Locates bytes) nodes whole
       go [] h is = subst (AllRelated (Locates bytes) nodes) (sym (append-nil w.given) ∙ is) w.done
       go (r ∷ rs) h is = absurd h
+
+-- ---- items without children, one after the other
+
+-- these are passed, and others are left
+pub record PassedSo (bytes : List ℕ) (levels : Option Levels) (n : ℕ) (Left : List Tree → Type 0) (ts before : List Tree) (nodes : List Spot) : Type 0 where
+  pub passed : List Tree
+  pub rest : List Tree
+  pub split : ts ≡ passed ++ rest
+  pub left : Left rest
+  pub done : AllRelated (Locates bytes) nodes (before ++ flat_map (preorder levels n) passed)
+
+module _ (bytes : List ℕ) (levels : Option Levels) (n : ℕ) (ts before : List Tree) where
+  pub none_passed : (Left : List Tree → Type 0) (nodes : List Spot) → Left ts → AllRelated (Locates bytes) nodes before
+      → PassedSo bytes levels n Left ts before nodes
+  none_passed Left nodes left done = record {
+    passed = [];
+    rest = ts;
+    split = refl;
+    left = left;
+    done = subst (AllRelated (Locates bytes) nodes) (sym (append-nil before)) done;
+  }
+
+  -- one more
+  pub leaf_passed : (Left Left' : List Tree → Type 0) (spot : Spot) (nodes nodes' : List Spot) (w : PassedSo bytes levels n Left ts before nodes)
+      (f : First Left' (Locates bytes spot) w.rest)
+      → ((given : List Tree) → AllRelated (Locates bytes) nodes given → AllRelated (Locates bytes) nodes' (given ++ preorder levels n f.first))
+      → PassedSo bytes levels n Left' ts before nodes'
+  leaf_passed Left Left' spot nodes nodes' w f push = record {
+    passed = w.passed ++ f.first ∷ [];
+    rest = f.others;
+    split = w.split ∙ ap (λ l. w.passed ++ l) f.whole ∙ sym (append_assoc w.passed (f.first ∷ []) f.others);
+    left = f.left;
+    done = subst (AllRelated (Locates bytes) nodes')
+        (append_assoc before (flat_map (preorder levels n) w.passed) (preorder levels n f.first)
+        ∙ ap (λ l. before ++ (flat_map (preorder levels n) w.passed ++ l)) (sym (append-nil (preorder levels n f.first)))
+        ∙ ap (λ l. before ++ l) (sym (flat_map-append (preorder levels n) w.passed (f.first ∷ []))))
+        (push (before ++ flat_map (preorder levels n) w.passed) w.done);
+  }
+
+  -- the next may have children
+  pub next_left : (Left : List Tree → Type 0) (spot : Spot) (others : SpotIter) (nodes : List Spot) (w : PassedSo bytes levels n Left ts before nodes)
+      → First (HasSpotsLeft bytes others) (Locates bytes spot) w.rest → PassesLeaves bytes levels n ts before nodes (Some (spot, others))
+  next_left Left spot others nodes w f =
+      (w.passed, f.first, f.others, w.split ∙ ap (λ l. w.passed ++ l) f.whole, f.holds, f.left, w.done)
+
+  -- none is left
+  pub none_left : (Left : List Tree → Type 0) (nodes : List Spot) (w : PassedSo bytes levels n Left ts before nodes) → w.rest ≡ []
+      → PassesLeaves bytes levels n ts before nodes None
+  none_left Left nodes w none = subst (λ l. AllRelated (Locates bytes) nodes (before ++ flat_map (preorder levels n) l))
+      (sym (w.split ∙ ap (λ l. w.passed ++ l) none ∙ append-nil w.passed)) w.done
 
 -- ---- how the levels shrink
 

@@ -138,14 +138,14 @@ pair_is Or mode l r top t = refl
 
 -- ---- in lax mode no comparison is refused
 
-abbrev Any : {A : Type 0} → A → Type 0
+abbrev pub Any : {A : Type 0} → A → Type 0
 Any x = Unit {0}
 
 listed_total : (o : Option (List Tree)) → IsOkAnd (list_or Lax [] o) Any
 listed_total (Some ts) = tt
 listed_total None = tt
 
-member_total : (s : math.Step) (top t : Tree) → is_member s ≡ true → IsOkAnd (step_meaning Lax s top t) Any
+pub member_total : (s : math.Step) (top t : Tree) → is_member s ≡ true → IsOkAnd (step_meaning Lax s top t) Any
 member_total math.root top t h = tt
 member_total math.current top t h = tt
 member_total (math.dot_field name) top t h = listed_total _
@@ -158,7 +158,7 @@ member_total (math.array_indices entries) top t h = cc
 member_total (math.filter e) top t h = cc
 member_total (math.whole_expression e) top t h = cc
 
-all_total : (f : Tree → Outcome (List Tree)) → ((t : Tree) → IsOkAnd (f t) Any) → (ts : List Tree) → IsOkAnd (try_flat_map f ts) Any
+pub all_total : (f : Tree → Outcome (List Tree)) → ((t : Tree) → IsOkAnd (f t) Any) → (ts : List Tree) → IsOkAnd (try_flat_map f ts) Any
 all_total f h [] = tt
 all_total f h (t ∷ ts) = go (f t) (try_flat_map f ts) (h t) (all_total f h ts)
   where
@@ -167,14 +167,14 @@ all_total f h (t ∷ ts) = go (f t) (try_flat_map f ts) (h t) (all_total f h ts)
     go (Ok xs) (Err e) a b = absurd b
     go (Err e) p a b = absurd a
 
-members_total : (ss : List math.Step) (top : Tree) (ts : List Tree) → are_members ss ≡ true → IsOkAnd (steps_meaning Lax (steps_of ss) top ts) Any
+pub members_total : (ss : List math.Step) (top : Tree) (ts : List Tree) → are_members ss ≡ true → IsOkAnd (steps_meaning Lax (steps_of ss) top ts) Any
 members_total [] top ts h = tt
 members_total (s ∷ ss) top ts h =
     let k = both_true (is_member s) (are_members ss) h in
     with_ok Any (λ o. IsOkAnd o Any) (try_flat_map (step_meaning Lax s top) ts) (steps_meaning Lax (steps_of ss) top)
     (all_total (step_meaning Lax s top) (λ t. member_total s top t k.0) ts) (λ us _. members_total ss top us k.1)
 
-comparison_total : (c : MemberCompared) (e : Expression) (top t : Tree) → IsMemberCompared c e → IsOkAnd (truth Lax e top t) Any
+pub comparison_total : (c : MemberCompared) (e : Expression) (top t : Tree) → IsMemberCompared c e → IsOkAnd (truth Lax e top t) Any
 comparison_total c e top t k =
     subst (λ o. IsOkAnd o Any) (sym (k.compares Lax top t))
     (with_ok Any (λ o. IsOkAnd o Any) (steps_meaning Lax (steps_of (steps_view c.names.now)) top (t ∷ [])) (told_by c)

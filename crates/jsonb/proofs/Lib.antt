@@ -29,6 +29,7 @@ pub mod MemberLemmas
 pub mod ExistsLemmas
 pub mod KeptLemmas
 pub mod ComparedLemmas
+pub mod ListLemmas
 pub mod TermLemmas
 pub mod CalculateLemmas
 pub mod ReadMeans

@@ -18,6 +18,7 @@ mod by_path;
 mod calculate;
 mod children;
 mod compared_items;
+mod compared_lists;
 mod compared_member;
 mod comparisons;
 mod document;

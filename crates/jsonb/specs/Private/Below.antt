@@ -1,9 +1,12 @@
 -- What a recursive step has left of the containers that it is sized.
 use Rattle.std.specs.Prelude.{◌≡◌, ◌⊎◌, ℕ, ◌+◌, min, Bool, not, ◌&&◌, List, [], ◌∷◌, ◌++◌, flat_map, Option, Some, None}
-use Rattle.jsonb_doc.specs.Spots.{HasSpotsLeft}
+use Rattle.jsonb_doc.specs.Spots.{HasSpotsLeft, Locates}
+use Rattle.jsonb_doc.specs.declared.spot.Spot.{Spot}
+use Rattle.jsonb_doc.specs.declared.spot_iter.SpotIter.{SpotIter}
 use Rattle.jsonb_doc.specs.Tree.{Tree}
 use Rattle.jsonb.specs.PathTree.{Levels}
 use Rattle.jsonb.specs.Preorder.{answer_at, own, preorder}
+use Rattle.jsonb.specs.Related.{AllRelated}
 use Rattle.jsonb.specs.declared.selector.levels.OpenLevel.{OpenLevel}
 
 -- these items are left at this level, of which more than 256 count as 256
@@ -16,6 +19,15 @@ AreBelow bytes levels n t None = preorder levels n t ≡ own levels n t
 AreBelow bytes levels n t (Some within) =
     (ts : List Tree) × HasLeft bytes within ts (n + 1)
     × (preorder levels n t ≡ own levels n t ++ flat_map (preorder levels (n + 1)) ts)
+
+-- items up to the first that may have children are put behind those before: all, or that item and others come next
+abbrev pub PassesLeaves : List ℕ → Option Levels → ℕ → List Tree → List Tree → List Spot
+    → Option (Spot × SpotIter) → Type 0
+PassesLeaves bytes levels n ts before nodes None =
+    AllRelated (Locates bytes) nodes (before ++ flat_map (preorder levels n) ts)
+PassesLeaves bytes levels n ts before nodes (Some (spot, others)) =
+    (passed : List Tree) × (t : Tree) × (rest : List Tree) × (ts ≡ passed ++ t ∷ rest) × Locates bytes spot t
+    × HasSpotsLeft bytes others rest × AllRelated (Locates bytes) nodes (before ++ flat_map (preorder levels n) passed)
 
 -- nothing of this level and of those below it is taken
 abbrev pub is_shut : Option Levels → ℕ → Bool

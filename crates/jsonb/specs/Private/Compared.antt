@@ -12,6 +12,7 @@ use Rattle.jsonb.specs.Private.Members.{are_members}
 use Rattle.jsonb.specs.Private.Selection.{atom_value}
 use Rattle.jsonb.specs.Private.Terms.{joining, joining_op}
 use Rattle.jsonb.specs.declared.selector.compared_items.MemberCompared.{MemberCompared}
+use Rattle.jsonb.specs.declared.selector.compared_lists.ListCompared.{ListCompared}
 use Rattle.jsonb.specs.declared.selector.comparisons.Front.{Front}
 use Rattle.jsonb.specs.declared.selector.comparisons.LastCompared.{LastCompared}
 use Rattle.jsonb.specs.declared.selector.document.Mode.{Mode}
@@ -25,6 +26,20 @@ pub record IsMemberCompared (c : MemberCompared) (e : Expression) : Type 0 where
   pub compares : (mode : Mode) (top t : Tree) → truth mode e top t
       ≡ and_then (steps_meaning mode (steps_of (steps_view c.names.now)) top (t ∷ []))
       (λ ts. Ok (compare (operator_view c.op) (flat_map values_of_item ts) (atom_value c.literal ∷ [])))
+
+-- the truth of the comparison of a member of each item
+abbrev pub list_truth : MemberCompared → Tree → List Tree → Outcome Truth
+list_truth c top items =
+    and_then (steps_meaning Lax (steps_of (steps_view c.names.now)) top items)
+    (λ ts. Ok (compare (operator_view c.op) (flat_map values_of_item ts) (atom_value c.literal ∷ [])))
+
+-- the expression compares members of the items that these steps lead to
+pub record IsListCompared (list : ListCompared) (e : Expression) : Type 0 where
+  pub each : Expression
+  pub member : IsMemberCompared list.comparison each
+  pub compares : (top : Tree) → truth Lax e top top
+      ≡ and_then (steps_meaning Lax (steps_of (steps_view list.front.now)) top (top ∷ []))
+      (list_truth list.comparison top)
 
 -- the truth of no expressions
 abbrev pub no_truth : Join → Truth

@@ -89,6 +89,7 @@ pub(crate) fn push_spots(spots: SpotIter<'_>, nodes: &mut Vec<Spot>) -> Result<(
         → Gives (λ _ us. AllRelated (Locates bytes) nodes.new.items (before ++ us)) IsOutOfMemory result (Ok ts) }
     ensures errors { IfErr result (IsDecodingError or OutOfMemory) }
 {
+    nodes.reserve(spots.len())?;
     for spot in spots {
         push_spot(nodes, spot?)?;
     }

@@ -31,10 +31,10 @@ use std::slice;
 /// A comparison of a member of the item with a literal.
 #[derive(Clone, Copy)]
 pub(crate) struct MemberCompared<'s, 'a> {
-    op: BinaryOperator,
+    pub(crate) op: BinaryOperator,
     /// The steps behind `@`.
-    names: &'s [Path<'a>],
-    literal: Atom<'s>,
+    pub(crate) names: &'s [Path<'a>],
+    pub(crate) literal: Atom<'s>,
 }
 
 /// The comparison that a filter is, if it is one.
@@ -68,7 +68,7 @@ fn names_of<'s, 'a>(operand: &'s Expr<'a>) -> Option<&'s [Path<'a>]>
 }
 
 /// The value of an operand that is a literal.
-fn literal_of<'s>(operand: &'s Expr<'_>) -> Option<Atom<'s>>
+pub(crate) fn literal_of<'s>(operand: &'s Expr<'_>) -> Option<Atom<'s>>
     ensures { MatchOption result ⊤ (λ literal. (mode : Mode) (top t : Tree)
         → operand_values mode (expression_view operand.now) top t ≡ Ok (atom_value literal ∷ [])) }
 {

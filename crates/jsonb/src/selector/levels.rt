@@ -1,14 +1,14 @@
 //! The items below an item, level by level.
 
-ghost use Rattle.std.specs.Prelude.{◌≡◌, ℕ, ◌<◌, ◌^◌, ◌++◌, ◌+◌, min, List, Ok, Option, option_map, IfOk, IfErr, OnOk, IfSome, MatchResult};
+ghost use Rattle.std.specs.Prelude.{◌≡◌, ℕ, ◌<◌, ◌≤◌, ◌^◌, ◌++◌, ◌+◌, min, List, Ok, Option, option_map, IfOk, IfErr, OnOk, IfSome, MatchResult};
 ghost use Rattle.jsonb_doc.specs.Answer.{Gives, IsOutOfMemory, IsDecodingError, ◌or◌};
 ghost use Rattle.jsonb_doc.specs.declared.error.Error.TheVariants.{OutOfMemory};
-ghost use Rattle.jsonb_doc.specs.Spots.{Locates, spot_size, spots_room, spots_bound};
+ghost use Rattle.jsonb_doc.specs.Spots.{Locates, HasSpotsLeft, spot_size, spots_room, spots_bound};
 ghost use Rattle.jsonb_doc.specs.Tree.{Tree};
 ghost use Rattle.jsonb.specs.PathViews.{levels_view};
 ghost use Rattle.jsonb.specs.Related.{AllRelated};
 ghost use Rattle.jsonb.specs.Preorder.{answer_at, own, preorder};
-ghost use Rattle.jsonb.specs.Private.Below.{AreBelow, KeepsLevel, is_shut};
+ghost use Rattle.jsonb.specs.Private.Below.{AreBelow, KeepsLevel, PassesLeaves, is_shut};
 
 use super::children::push_if;
 use crate::path::RecursiveLevel;
@@ -44,9 +44,11 @@ pub(crate) fn push_levels(
     let mut within = below;
     let mut around = Vec::new(alloc);
     'walk: loop {
-        match within.children.next() {
-            Some(child) => {
-                if let Some(inner) = push_item(bytes, levels, within.level, child?, nodes)? {
+        match pass_leaves(levels, within.level, within.children, nodes)? {
+            Some((container, others)) => {
+                within.children = others;
+                let below = push_item(bytes, levels, within.level, container, nodes)?;
+                if let Some(inner) = below {
                     keep_level(&mut around, within)?;
                     within = inner;
                 }
@@ -59,20 +61,47 @@ pub(crate) fn push_levels(
     }
 }
 
+/// The children of this level up to the first that is a container, where their level is taken, behind what the nodes
+/// has. The answer is that container, with those behind it; none where all are passed.
+#[inline(always)]
+fn pass_leaves<'a>(
+    levels: Option<RecursiveLevel>,
+    level: u16,
+    children: SpotIter<'a>,
+    nodes: &mut Vec<Spot>,
+) -> Result<Option<(Spot, SpotIter<'a>)>, Error>
+    ensures meant { (bytes : List ℕ) (n : ℕ) (ts before : List Tree) → level ≡ min n 256
+        → HasSpotsLeft bytes children.entry ts → AllRelated (Locates bytes) nodes.old.items before
+        → MatchResult result
+        (PassesLeaves bytes (option_map levels_view levels) n ts before nodes.new.items) IsOutOfMemory }
+    ensures size { IfOk result (λ found. IfSome found (λ r. spot_size r.0 ≤ spots_room children.entry)) }
+    ensures room { IfOk result (λ found. IfSome found (λ r. spots_room r.1 ≤ spots_room children.entry)) }
+    ensures bound { IfOk result (λ found. IfSome found (λ r. spots_bound r.1 < spots_bound children.entry)) }
+    ensures errors { IfErr result (IsDecodingError or OutOfMemory) }
+{
+    let (is_taken, _) = answer_at(levels, level);
+    let mut left = children;
+    while let Some(child) = left.next() {
+        let child = child?;
+        if child.is_container() {
+            return Ok(Some((child, left)));
+        }
+        push_if(is_taken, child, nodes)?;
+    }
+    Ok(None)
+}
+
 /// Keeps what is left of a level until the walk comes back to it. Nothing is kept of one that has nothing left.
 #[inline(always)]
 fn keep_level<'a>(around: &mut Vec<OpenLevel<'a>>, within: OpenLevel<'a>) -> Result<(), Error>
     ensures kept { OnOk result (KeepsLevel around.old.items within.entry around.new.items) }
     ensures err { IfErr result IsOutOfMemory }
 {
-    let mut children = within.children;
-    match children.next() {
-        Some(_) => {
-            around.push(within)?;
-            Ok(())
-        }
-        None => Ok(()),
+    if within.children.len() == 0 {
+        return Ok(());
     }
+    around.push(within)?;
+    Ok(())
 }
 
 /// An item where its level is taken, behind what the nodes has, and its children where they are looked at.

@@ -18,10 +18,11 @@ ghost use Rattle.jsonb.specs.declared.selector.selected.MadeItem.TheVariants as 
 ghost use Rattle.jsonb.specs.SelectionErrors.{IsSelectionError};
 
 use super::calculate::{binary_number, is_arithmetic, unary_numbers};
+use super::compared_lists::root_truth;
 use super::document::{Document, Expressions, Mode};
 use super::kept::begins_with_current;
 use super::selected::{MadeItem, Selected};
-use super::steps::{operand_values, select_steps, truth};
+use super::steps::{operand_values, select_steps};
 use crate::path::{BinaryOperator, Expr, Path, PathValue, UnaryOperator};
 use jsonb_doc::{Error, Item, Number, root_item};
 use std::alloc::Global;
@@ -177,7 +178,7 @@ fn whole_truth<'a>(
         (truth_list (truth mode (expression_view e.now) top top)) }
     ensures errors { IfErr result (IsSelectionError mode) }
 {
-    let truth = truth(alloc, mode, e, document, document.root)?;
+    let truth = root_truth(alloc, mode, e, document)?;
     Ok(one_item(MadeItem::Item(truth_item(truth))))
 }
 
@@ -221,9 +222,9 @@ pub(crate) fn expression_truth<'a>(
                 let _number = whole_binary(alloc, mode, *op, left, right, document)?;
                 Ok(None)
             } else {
-                truth(alloc, mode, e, document, document.root)
+                root_truth(alloc, mode, e, document)
             }
         }
-        Expr::ExistsFunc(_) => truth(alloc, mode, e, document, document.root),
+        Expr::ExistsFunc(_) => root_truth(alloc, mode, e, document),
     }
 }

@@ -22,6 +22,13 @@ fn a_step_that_does_not_fit_is_refused(rt: HostRuntime) -> Result<(), Fail> {
             "2000000000000000",
         ),
         ("exists($.c)", NULLS, "StrictPath", "2000000030000000"),
+        (
+            "$[*].k == \"v\"",
+            PAIR_FIRST,
+            "StrictPath",
+            "2000000040000000",
+        ),
+        ("$[*] >= 10", TENS, "2000000040000000", "2000000040000000"),
         ("-$.c", NULLS, "StrictPath", ""),
         ("$.**", NESTED, levels, levels),
         ("$[*]?(@ == $[1 to last])", TENS, last_two, last_two),

@@ -7,7 +7,7 @@ use Rattle.jsonb.proofs.selector.children.push_spots.Goals as goal
 
 pub loop-spot-init : goal.loop-spot-init
 loop-spot-init c = λ bytes ts before l a.
-    rw c.into_iter-spot-iterator.ensures.into_iter_gives
+    rw (c.into_iter-spot-iterator.ensures.into_iter_gives, c.reserve.ensures.items)
     (singles_start (HasSpotsLeft bytes c.args.spots) (AllRelated (Locates bytes) c.args.nodes.now.items) ts before l a)
 
 pub returns-in_err-spot-clause-meant : goal.returns-in_err-spot-clause-meant

@@ -1,6 +1,9 @@
-use Rattle.std.proofs.Common.{inr, refl}
-use Rattle.jsonb.proofs.Progress.{spot_end}
+use Rattle.std.proofs.Common.{inr, refl, length, sym, ◌∙◌}
+use Rattle.std.proofs.lemmas.List.{nil_from_length}
 use Rattle.jsonb.proofs.selector.levels.keep_level.Goals as goal
 
-pub returns-in-None-clause-kept : goal.returns-in-None-clause-kept
-returns-in-None-clause-kept c = inr (refl, λ bytes ts left. spot_end bytes _ _ c.in-None.ensures.steps ts left)
+pub returns-then-len-eq0-clause-kept : goal.returns-then-len-eq0-clause-kept
+returns-then-len-eq0-clause-kept c = inr (
+  refl,
+  λ bytes ts left. nil_from_length ts (sym (c.len.ensures bytes ts left) ∙ c.if-len-eq0.true),
+)

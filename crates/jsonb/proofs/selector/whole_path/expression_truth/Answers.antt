@@ -67,11 +67,11 @@ returns-else-is_arithmetic-clause-meant c = λ top r.
     ∙ ap (λ x. binary_predicate c.args.mode x (operator_view c.in-BinaryOp.op) (expression_view c.in-BinaryOp.left.value)
     (expression_view c.in-BinaryOp.right.value) top)
     (none_of (operation (operator_view c.in-BinaryOp.op)) (sym c.is_arithmetic.ensures ∙ c.if-is_arithmetic.false))
-    ∙ ap (λ x. truth c.args.mode x top top) (sym view)) (c.truth.ensures.meant top top r r)
+    ∙ ap (λ x. truth c.args.mode x top top) (sym view)) (c.root_truth.ensures.meant top r)
 
 pub returns-in-ExistsFunc-clause-meant : goal.returns-in-ExistsFunc-clause-meant
 returns-in-ExistsFunc-clause-meant c = λ top r.
     let view = exists_is c.args.e.now c.in-ExistsFunc.field-0 c.in-ExistsFunc.is in
     same_outcome (ap (λ x. expression_predicate c.args.mode x top) view
     ∙ predicate_by_cases c.args.mode (math.exists (steps_of (steps_view c.in-ExistsFunc.field-0.items))) top
-    ∙ ap (λ x. truth c.args.mode x top top) (sym view)) (c.truth-in-ExistsFunc.ensures.meant top top r r)
+    ∙ ap (λ x. truth c.args.mode x top top) (sym view)) (c.root_truth-in-ExistsFunc.ensures.meant top r)

@@ -1,0 +1,203 @@
+-- Comparisons of members of the items of a list, in lax mode, where none is refused.
+use Rattle.std.proofs.Common.{◌≡◌, List, [], ◌∷◌, ◌++◌, flat_map, map, true, false, Some, None, Ok, Err, IsOkAnd, refl, sym, ap, ◌∙◌, inl, inr, append_assoc}
+use Rattle.std.proofs.Math.Bool.{beq}
+use Rattle.std.proofs.lemmas.Grind.{flat_map-append}
+use Rattle.std.specs.Option.{option_eq}
+use Rattle.std.specs.Prelude.{not}
+use Rattle.jsonb_doc.specs.Answer.{Outcome, and_then, try_flat_map, Gives, IsOutOfMemory}
+use Rattle.jsonb_doc.specs.Tree.{Tree}
+use Rattle.jsonb_doc.specs.declared.error.Error.{Error}
+use Rattle.jsonb.specs.PathTree as math
+use Rattle.jsonb.specs.PathTree.{Expression, steps_of}
+use Rattle.jsonb.specs.PathViews.{steps_view, operator_view}
+use Rattle.jsonb.specs.Compare.{Truth, compare, pair_truth, first_decisive}
+use Rattle.jsonb.specs.Values.{Value, values_of_item}
+use Rattle.jsonb.specs.Meaning.{step_meaning, steps_meaning, truth, operand_values, start}
+use Rattle.jsonb.specs.Private.Compared.{IsMemberCompared, IsListCompared, list_truth}
+use Rattle.jsonb.specs.Private.Kept.{is_comparison}
+use Rattle.jsonb.specs.Private.Members.{is_member, are_members}
+use Rattle.jsonb.specs.Private.Selection.{atom_value, taken_step}
+use Rattle.jsonb.specs.declared.selector.compared_items.MemberCompared.{MemberCompared}
+use Rattle.jsonb.specs.declared.selector.compared_lists.ListCompared.{ListCompared}
+use Rattle.jsonb.specs.declared.selector.document.Expressions.TheVariants.{AreRefused}
+use Rattle.jsonb.specs.declared.selector.document.Mode.{Mode}
+use Rattle.jsonb.specs.declared.selector.document.Mode.TheVariants.{Lax}
+use Rattle.jsonb.proofs.ComparedLemmas.{Any, member_total, all_total, members_total, comparison_total, told_by}
+use Rattle.jsonb.proofs.KeptLemmas.{comparison_is}
+use Rattle.jsonb.proofs.MemberLemmas.{both_true, none_left}
+use Rattle.jsonb.proofs.StepLemmas.{refused_steps}
+
+-- ---- a list in two parts
+
+-- the lists of two parts, joined
+abbrev both_lists : {A : Type 0} → Outcome (List A) → Outcome (List A) → Outcome (List A)
+both_lists o p = and_then o (λ fs. and_then p (λ bs. Ok (fs ++ bs)))
+
+none_in_front : {A : Type 0} (o : Outcome (List A)) → o ≡ both_lists (Ok []) o
+none_in_front (Ok xs) = refl
+none_in_front (Err e) = refl
+
+both_lists-assoc : {A : Type 0} (o p q : Outcome (List A)) → both_lists o (both_lists p q) ≡ both_lists (both_lists o p) q
+both_lists-assoc (Ok xs) (Ok ys) (Ok zs) = ap Ok (sym (append_assoc xs ys zs))
+both_lists-assoc (Ok xs) (Ok ys) (Err e) = refl
+both_lists-assoc (Ok xs) (Err e) q = refl
+both_lists-assoc (Err e) p q = refl
+
+joined-append : {A B : Type 0} (f : A → Outcome (List B)) (xs ys : List A) → try_flat_map f (xs ++ ys) ≡ both_lists (try_flat_map f xs) (try_flat_map f ys)
+joined-append f [] ys = none_in_front (try_flat_map f ys)
+joined-append f (x ∷ xs) ys =
+    ap (both_lists (f x)) (joined-append f xs ys) ∙ both_lists-assoc (f x) (try_flat_map f xs) (try_flat_map f ys)
+
+-- names of members of two lists
+members-append : (ss : List math.Step) (top : Tree) (xs ys : List Tree) → are_members ss ≡ true
+    → steps_meaning Lax (steps_of ss) top (xs ++ ys) ≡ both_lists (steps_meaning Lax (steps_of ss) top xs) (steps_meaning Lax (steps_of ss) top ys)
+members-append [] top xs ys h = refl
+members-append (s ∷ ss) top xs ys h =
+    let k = both_true (is_member s) (are_members ss) h in
+    let f = step_meaning Lax s top in
+    ap (λ o. and_then o (steps_meaning Lax (steps_of ss) top)) (joined-append f xs ys)
+    ∙ go (λ fs bs. members-append ss top fs bs k.1) (try_flat_map f xs) (try_flat_map f ys) (all_total f (λ t. member_total s top t k.0) xs)
+    (all_total f (λ t. member_total s top t k.0) ys)
+  where
+    go : ((fs bs : List Tree) → steps_meaning Lax (steps_of ss) top (fs ++ bs)
+        ≡ both_lists (steps_meaning Lax (steps_of ss) top fs) (steps_meaning Lax (steps_of ss) top bs))
+        → (o p : Outcome (List Tree)) → IsOkAnd o Any → IsOkAnd p Any
+        → and_then (both_lists o p) (steps_meaning Lax (steps_of ss) top)
+        ≡ both_lists (and_then o (steps_meaning Lax (steps_of ss) top)) (and_then p (steps_meaning Lax (steps_of ss) top))
+    go rest (Ok fs) (Ok bs) a b = rest fs bs
+    go rest (Ok fs) (Err e) a b = absurd b
+    go rest (Err e) p a b = absurd a
+
+-- ---- the first truth that decides
+
+first_passes : (xs ys : List Truth) → first_decisive xs ≡ Some false → first_decisive (xs ++ ys) ≡ first_decisive ys
+first_passes [] ys h = refl
+first_passes (Some false ∷ xs) ys h = first_passes xs ys h
+first_passes (Some true ∷ xs) ys h = cc
+first_passes (None ∷ xs) ys h = cc
+
+first_stops : (xs ys : List Truth) → (first_decisive xs ≡ Some false → ⊥) → first_decisive (xs ++ ys) ≡ first_decisive xs
+first_stops [] ys h = absurd (h refl)
+first_stops (Some false ∷ xs) ys h = first_stops xs ys h
+first_stops (Some true ∷ xs) ys h = refl
+first_stops (None ∷ xs) ys h = refl
+
+-- what a test tells whether a truth is known to be false
+pub is_false : (b : Truth) → not (option_eq beq b (Some false)) ≡ false → b ≡ Some false
+is_false (Some true) h = cc
+is_false (Some false) h = refl
+is_false None h = cc
+
+pub is_not_false : (b : Truth) → not (option_eq beq b (Some false)) ≡ true → b ≡ Some false → ⊥
+is_not_false (Some true) h is = cc
+is_not_false (Some false) h is = cc
+is_not_false None h is = cc
+
+module _ (c : MemberCompared) where
+  -- the truths of the values of items
+  abbrev truths : List Tree → List Truth
+  truths ts = flat_map (λ l. map (λ r. pair_truth (operator_view c.op) l r) (atom_value c.literal ∷ [])) (flat_map values_of_item ts)
+
+  truths-append : (fs bs : List Tree) → truths (fs ++ bs) ≡ truths fs ++ truths bs
+  truths-append fs bs =
+      ap (flat_map (λ l. map (λ r. pair_truth (operator_view c.op) l r) (atom_value c.literal ∷ []))) (flat_map-append values_of_item fs bs)
+      ∙ flat_map-append (λ l. map (λ r. pair_truth (operator_view c.op) l r) (atom_value c.literal ∷ [])) (flat_map values_of_item fs)
+      (flat_map values_of_item bs)
+
+  ok_is : (x y : Truth) (o : Outcome Truth) → o ≡ Ok x → o ≡ Ok y → x ≡ y
+  ok_is x y o p q = cc
+
+  passes_one : (o p : Outcome (List Tree)) → IsOkAnd p Any → and_then o (told_by c) ≡ Ok (Some false)
+      → and_then (both_lists o p) (told_by c) ≡ and_then p (told_by c)
+  passes_one (Ok fs) (Ok bs) t h = ap Ok (ap first_decisive (truths-append fs bs) ∙ first_passes (truths fs) (truths bs) (ok_is _ _ (told_by c fs) refl h))
+  passes_one (Ok fs) (Err e) t h = absurd t
+  passes_one (Err e) p t h = cc
+
+  stops_at : (o p : Outcome (List Tree)) (b : Truth) → IsOkAnd p Any → and_then o (told_by c) ≡ Ok b → (b ≡ Some false → ⊥)
+      → and_then (both_lists o p) (told_by c) ≡ Ok b
+  stops_at (Ok fs) (Ok bs) b t h decides =
+      let is = ok_is _ _ (told_by c fs) refl h in
+      ap Ok (ap first_decisive (truths-append fs bs) ∙ first_stops (truths fs) (truths bs) (λ none. decides (sym is ∙ none)) ∙ is)
+  stops_at (Ok fs) (Err e) b t h decides = absurd t
+  stops_at (Err e) p b t h decides = cc
+
+  module _ (e : Expression) (top : Tree) (k : IsMemberCompared c e) where
+    -- an item of which the comparison is false is passed
+    pub list_passes : (u : Tree) (rest : List Tree) → truth Lax e top u ≡ Ok (Some false) → list_truth c top (u ∷ rest) ≡ list_truth c top rest
+    list_passes u rest is =
+        ap (λ o. and_then o (told_by c)) (members-append (steps_view c.names.now) top (u ∷ []) rest k.members)
+        ∙ passes_one _ _ (members_total (steps_view c.names.now) top rest k.members) (sym (k.compares Lax top u) ∙ is)
+
+    -- and another decides
+    pub list_stops : (u : Tree) (rest : List Tree) (b : Truth) → truth Lax e top u ≡ Ok b → (b ≡ Some false → ⊥) → list_truth c top (u ∷ rest) ≡ Ok b
+    list_stops u rest b is decides =
+        ap (λ o. and_then o (told_by c)) (members-append (steps_view c.names.now) top (u ∷ []) rest k.members)
+        ∙ stops_at _ _ b (members_total (steps_view c.names.now) top rest k.members) (sym (k.compares Lax top u) ∙ is) decides
+
+    -- one item is refused for want of memory alone
+    pub list_refused : {r : Error} {o : Outcome Truth} (u : Tree) → Gives {A = Truth} (λ b d. b ≡ d) IsOutOfMemory (Err r) (truth Lax e top u)
+        → Gives {A = Truth} (λ b d. b ≡ d) IsOutOfMemory (Err r) o
+    list_refused {r = r} {o = o} u h = go (truth Lax e top u) (comparison_total c e top u k) h
+      where
+        go : (p : Outcome Truth) → IsOkAnd p Any → Gives {A = Truth} (λ b d. b ≡ d) IsOutOfMemory (Err r) p
+            → Gives {A = Truth} (λ b d. b ≡ d) IsOutOfMemory (Err r) o
+        go (Ok b) t h = record { ok = tt; err = elim h.err [ inl memory ↦ inl memory | inr is ↦ cc ] }
+        go (Err e) t h = absurd t
+
+  -- no items
+  pub list_none : (top : Tree) (ts : List Tree) → ts ≡ [] → list_truth c top ts ≡ Ok (Some false)
+  list_none top ts none = ap (list_truth c top) none ∙ ap (λ o. and_then o (told_by c)) (none_left Lax (steps_of (steps_view c.names.now)) top)
+
+-- ---- steps to items, and then names of their members
+
+steps-append : (mode : Mode) (front names : List math.Step) (top : Tree) (us : List Tree) → steps_meaning mode (steps_of (front ++ names)) top us
+    ≡ and_then (steps_meaning mode (steps_of front) top us) (steps_meaning mode (steps_of names) top)
+steps-append mode [] names top us = refl
+steps-append mode (s ∷ front) names top us = go (steps-append mode front names top) (try_flat_map (step_meaning mode s top) us)
+  where
+    go : ((vs : List Tree) → steps_meaning mode (steps_of (front ++ names)) top vs
+        ≡ and_then (steps_meaning mode (steps_of front) top vs) (steps_meaning mode (steps_of names) top))
+        → (o : Outcome (List Tree)) → and_then o (steps_meaning mode (steps_of (front ++ names)) top)
+        ≡ and_then (and_then o (steps_meaning mode (steps_of front) top)) (steps_meaning mode (steps_of names) top)
+    go rest (Ok vs) = rest vs
+    go rest (Err e) = refl
+
+start_at_root : (ss : math.Steps) (top : Tree) → start ss top top ≡ top
+start_at_root math.no_steps top = refl
+start_at_root (math.step math.current rest) top = refl
+start_at_root (math.step _ rest) top = refl
+
+-- a comparison of such an operand with a literal
+pub compares_list : (op : math.BinaryOp) (steps front names : List math.Step) (r : Expression) (literal : Value) (top : Tree) → steps ≡ front ++ names
+    → is_comparison op ≡ true → operand_values Lax r top top ≡ Ok (literal ∷ []) →
+    truth Lax (math.binary op (math.paths (steps_of steps)) r) top top
+    ≡ and_then (steps_meaning Lax (steps_of front) top (top ∷ []))
+    (λ us. and_then (steps_meaning Lax (steps_of names) top us) (λ ts. Ok (compare op (flat_map values_of_item ts) (literal ∷ []))))
+compares_list op steps front names r literal top split compares is =
+    comparison_is Lax op (math.paths (steps_of steps)) r top top compares
+    ∙ (λ i. and_then (operand_values Lax (math.paths (steps_of steps)) top top) (λ ls. and_then (is i) (λ rs. Ok (compare op ls rs))))
+    ∙ ap (λ t. and_then (and_then (steps_meaning Lax (steps_of steps) top (t ∷ [])) (λ ts. Ok (flat_map values_of_item ts)))
+    (λ ls. Ok (compare op ls (literal ∷ [])))) (start_at_root (steps_of steps) top)
+    ∙ ap (λ o. and_then (and_then o (λ ts. Ok (flat_map values_of_item ts))) (λ ls. Ok (compare op ls (literal ∷ []))))
+    (ap (λ l. steps_meaning Lax (steps_of l) top (top ∷ [])) split ∙ steps-append Lax front names top (top ∷ []))
+    ∙ joined (steps_meaning Lax (steps_of front) top (top ∷ []))
+  where
+    last : (o : Outcome (List Tree)) →
+        and_then (and_then o (λ ts. Ok (flat_map values_of_item ts))) (λ ls. Ok (compare op ls (literal ∷ [])))
+        ≡ and_then o (λ ts. Ok (compare op (flat_map values_of_item ts) (literal ∷ [])))
+    last (Ok ts) = refl
+    last (Err e) = refl
+
+    joined : (o : Outcome (List Tree)) →
+        and_then (and_then (and_then o (steps_meaning Lax (steps_of names) top)) (λ ts. Ok (flat_map values_of_item ts)))
+        (λ ls. Ok (compare op ls (literal ∷ [])))
+        ≡ and_then o (λ us. and_then (steps_meaning Lax (steps_of names) top us) (λ ts. Ok (compare op (flat_map values_of_item ts) (literal ∷ []))))
+    joined (Ok us) = last (steps_meaning Lax (steps_of names) top us)
+    joined (Err e) = refl
+
+-- the front as its steps are taken within an operand
+pub by_front : (list : ListCompared) (e : Expression) (top : Tree) → IsListCompared list e → truth Lax e top top
+    ≡ and_then (steps_meaning Lax (steps_of (map (taken_step AreRefused) (steps_view list.front.now))) top (top ∷ [])) (list_truth list.comparison top)
+by_front list e top k =
+    k.compares top
+    ∙ ap (λ l. and_then (steps_meaning Lax (steps_of l) top (top ∷ [])) (list_truth list.comparison top)) (sym (refused_steps (steps_view list.front.now)))
