@@ -1,62 +1,66 @@
 -- Contents passed over by the lengths in their words, and keys by their words.
-use Rattle.std.proofs.Common.{◌≡◌, ℕ, ◌+◌, ◌*◌, ◌%◌, ◌^◌, ◌<◌, ◌≤◌, List, [], ◌∷◌, ◌++◌, length, drop, refl, sym, ap, ◌∙◌, arith, Option, Some, None, append_assoc}
+use Rattle.std.proofs.Common.{◌≡◌, ℕ, zero, suc, ◌+◌, ◌*◌, ◌/◌, ◌%◌, ◌^◌, ◌≤◌, List, [], ◌∷◌, ◌++◌, length, take, drop, map, sum, refl, sym, ap, ◌∙◌, arith, Option, Some, None, append_assoc}
 use Rattle.std.specs.Borrow.{Bor}
 use Rattle.std.specs.Slice.{IsGetRangeResult}
 use Rattle.std.proofs.lemmas.List.{length-append, drop_at}
+use Rattle.std.proofs.lemmas.List.Sums.{sum_by-cons}
 use Rattle.std.proofs.lemmas.Slice.{between_to_end}
 use Rattle.std.specs.Prelude.{slice_range, IsSomeAnd, IfSome}
-use Rattle.byteorder.specs.Endian.{big_number}
+use Rattle.std.specs.Int.{w32, from_be_bytes}
+use Rattle.std.proofs.lemmas.Nat.{from_be_bytes-to_be_bytes_4}
+use Rattle.std.specs.Simd.{first_chunks}
 use Rattle.jsonb_doc.specs.Format.{BeginWith, AreKeys, key_words, key_bytes}
 use Rattle.jsonb_doc.specs.Private.Lengths.{StandBefore, HoldKeys}
-use Rattle.jsonb_doc.proofs.WordLemmas.{word_read}
 use Rattle.jsonb_doc.proofs.Entries.{BeginWith-long}
 use Rattle.jsonb_doc.proofs.KeysRead.{begin_key}
 
--- contents that are left to be passed over, and how long those before them are
-pub record Left (passed : ℕ) (words contents rest : List ℕ) : Type 0 where
-  pub parts : List (List ℕ)
-  pub left : List ℕ
-  pub sum : passed + length left ≡ length contents
-  pub before : StandBefore parts words left rest
+-- how many bytes a word tells of
+abbrev pub told : List ℕ → ℕ
+told word = from_be_bytes w32 word % 2 ^ 28
 
-word_length : (words contents : List ℕ) (kind : ℕ) (content ws cs : List ℕ) → BeginWith words contents kind content ws cs
-    → big_number 4 words % 2 ^ 28 ≡ length content
-word_length words contents kind content ws cs b =
+-- the word of an entry tells how long its content is
+told_length : (words contents : List ℕ) (kind : ℕ) (content ws cs : List ℕ) → BeginWith words contents kind content ws cs → told (take 4 words) ≡ length content
+told_length words contents kind content ws cs b =
     let known = b.known in
     let fits = b.fits in
-    let read : big_number 4 words ≡ kind * 2 ^ 28 + length content = ap (big_number 4) b.words_joined
-    ∙ word_read (kind * 2 ^ 28 + length content) ws (omega arith) in
+    let read : from_be_bytes w32 (take 4 words) ≡ kind * 2 ^ 28 + length content = ap (λ (w : List ℕ). from_be_bytes w32 (take 4 w)) b.words_joined
+    ∙ from_be_bytes-to_be_bytes_4 (kind * 2 ^ 28 + length content) (omega arith) in
     omega (arith, read)
 
-pub Left-start : (parts : List (List ℕ)) (words contents rest : List ℕ) → StandBefore parts words contents rest → Left 0 words contents rest
-Left-start parts words contents rest h = record { parts = parts; left = contents; sum = omega arith; before = h }
+both_lengths : (all first behind rest content others contents : ℕ) → all ≡ first + behind → first ≡ content → behind + rest ≡ others
+    → contents ≡ content + others → all + rest ≡ contents
+both_lengths all first behind rest content others contents e f g h = omega (arith, e, f, g, h)
 
-pub Left-step : (passed : ℕ) (words contents rest : List ℕ) → 4 ≤ length words → Left passed words contents rest
-    → Left (passed + big_number 4 words % 2 ^ 28) (drop 4 words) contents rest
-Left-step passed words contents rest long l = go l.parts l.left l.sum l.before
-  where
-    go : (parts : List (List ℕ)) (left : List ℕ) → passed + length left ≡ length contents → StandBefore parts words left rest
-        → Left (passed + big_number 4 words % 2 ^ 28) (drop 4 words) contents rest
-    go [] left sum h = absurd (omega (arith, ap length h.0))
-    go (part ∷ parts) left sum e =
-        let b = e.begin in
-        let len = word_length words left e.kind e.content e.other_words e.other_contents b in
-        let dropped : drop 4 words ≡ e.other_words = ap (drop 4) b.words_joined in
-        record {
-          parts = parts;
-          left = e.other_contents;
-          sum = omega (arith, len, sum, ap length b.contents_joined, length-append e.content e.other_contents);
-          before = rw dropped e.others;
-        }
+-- words tell how long the contents are that stand before the rest
+pub told_lengths : (parts : List (List ℕ)) (words contents rest : List ℕ) (k : ℕ) → k ≡ length words / 4 → StandBefore parts words contents rest
+    → sum (map told (first_chunks 4 k words)) + length rest ≡ length contents
+told_lengths [] words contents rest zero count h = omega (arith, ap length h.1)
+told_lengths [] words contents rest (suc k) count h = absurd (omega (arith, count, ap length h.0))
+told_lengths (part ∷ parts) words contents rest zero count e =
+    absurd (omega (arith, count, BeginWith-long words contents e.kind e.content e.other_words e.other_contents e.begin))
+told_lengths (part ∷ parts) words contents rest (suc k) count e =
+    let b = e.begin in
+    let len = told_length words contents e.kind e.content e.other_words e.other_contents b in
+    let dropped : drop 4 words ≡ e.other_words = ap (drop 4) b.words_joined in
+    let fewer : k ≡ length e.other_words / 4 = omega (arith, count, ap length b.words_joined) in
+    let behind = sum (map told (first_chunks 4 k (drop 4 words))) in
+    let others : behind + length rest ≡ length e.other_contents = rw dropped (told_lengths parts e.other_words e.other_contents rest k fewer e.others) in
+    let both : sum (map told (first_chunks 4 (suc k) words)) ≡ told (take 4 words) + behind = sum_by-cons (λ (n : ℕ). n) (told (take 4 words))
+    (map told (first_chunks 4 k (drop 4 words))) in
+    both_lengths _ _ _ _ _ _ _ both len others (ap length b.contents_joined ∙ length-append e.content e.other_contents)
 
-pub Left-end : (passed : ℕ) (words contents rest : List ℕ) → length words < 4 → Left passed words contents rest → passed + length rest ≡ length contents
-Left-end passed words contents rest short l = go l.parts l.left l.sum l.before
+-- the lengths of all words are added up
+pub lengths_added : (len : ℕ) (chunks left : List (List ℕ)) (words contents rest : List ℕ) → left ≡ [] → len + sum (map told left) ≡ sum (map told chunks)
+    → chunks ≡ first_chunks 4 (length words / 4) words → length chunks ≡ length words / 4
+    → sum (map told (first_chunks 4 (length chunks) words)) + length rest ≡ length contents → len + length rest ≡ length contents
+lengths_added len chunks left words contents rest none sum_is are count all =
+    let done : len + 0 ≡ sum (map told chunks) = rw none at sum_is in
+    let same : sum (map told (first_chunks 4 (length chunks) words)) ≡ sum (map told chunks) = ap (λ (n : ℕ). sum (map told (first_chunks 4 n words))) count
+    ∙ ap (λ (ws : List (List ℕ)). sum (map told ws)) (sym are) in
+    all_added len _ _ _ _ done same all
   where
-    go : (parts : List (List ℕ)) (left : List ℕ) → passed + length left ≡ length contents → StandBefore parts words left rest
-        → passed + length rest ≡ length contents
-    go [] left sum h = omega (arith, sum, ap length h.1)
-    go (part ∷ parts) left sum e =
-        absurd (omega (arith, BeginWith-long words left e.kind e.content e.other_words e.other_contents e.begin))
+    all_added : (n a b r s : ℕ) → n + 0 ≡ a → b ≡ a → b + r ≡ s → n + r ≡ s
+    all_added n a b r s e f g = omega (arith, e, f, g)
 
 -- the rest is the end of the contents
 pub StandBefore-joined : (parts : List (List ℕ)) (words contents rest : List ℕ) → StandBefore parts words contents rest

@@ -1,5 +1,5 @@
 -- Spots of children within the content of a spot.
-use Rattle.std.proofs.Common.{◌≡◌, ◌≢◌, ℕ, ◌+◌, ◌-◌, ◌*◌, ◌^◌, ◌<◌, ◌≤◌, List, [], ◌∷◌, ◌++◌, length, take, drop, refl, sym, ap, ◌∙◌, arith, inl, Some, None, Ok, append_assoc}
+use Rattle.std.proofs.Common.{◌≡◌, ◌≢◌, ℕ, zero, suc, ◌+◌, ◌-◌, ◌*◌, ◌/◌, ◌^◌, ◌<◌, ◌≤◌, List, [], ◌∷◌, ◌++◌, length, take, drop, refl, sym, ap, ◌∙◌, arith, inl, Some, None, Ok, append_assoc}
 use Rattle.std.proofs.lemmas.List.{length-append, length-take-le, length-drop, drop_at, drop-take, drop-drop, take-append-drop, append-nil}
 use Rattle.std.proofs.Math.Seq.{take-add}
 use Rattle.std.proofs.lemmas.Slice.{between_to_end}
@@ -15,6 +15,7 @@ use Rattle.jsonb_doc.specs.declared.spot.Spot.{Spot}
 use Rattle.jsonb_doc.specs.declared.spot_iter.SpotIter.{SpotIter}
 use Rattle.jsonb_doc.proofs.WordLemmas.{append_cancel, word_cancel}
 use Rattle.jsonb_doc.proofs.Entries.{BeginWith-long, BeginWith-room, BeginWith-unique}
+use Rattle.jsonb_doc.proofs.LengthsLemmas.{StandBefore-joined}
 use Rattle.jsonb_doc.proofs.Containers.{IsCut-same, IsCut-scalar, entries_of}
 use Rattle.jsonb_doc.proofs.PairsLemmas.{SkipsKeys, HoldsPairs-values, Holds-skipped}
 use Rattle.jsonb_doc.specs.Private.Containers.{Holds}
@@ -166,6 +167,93 @@ module _ (bytes : List ℕ) (it : SpotIter) where
             entries = λ form top d. rw (words, start, end, range_rest bytes it.start it.end len fits within) (first form top d).1;
           },
         )
+
+-- ---- an iterator behind so many of its spots
+
+-- entries behind so many others, whose contents are passed over
+record EntriesBehind (number_at : NumberReader) (count : ℕ) (ts : List Tree) (words contents : List ℕ) : Type 0 where
+  pub parts : List (List ℕ)
+  pub rest : List ℕ
+  pub before : StandBefore parts (take (4 * count) words) contents rest
+  pub behind : AreEntries number_at (trees_of (drop count ts)) (drop (4 * count) words) rest
+
+entries_behind : (number_at : NumberReader) (count : ℕ) (ts : List Tree) (words contents : List ℕ) → count ≤ length ts
+    → AreEntries number_at (trees_of ts) words contents → EntriesBehind number_at count ts words contents
+entries_behind number_at zero ts words contents few e = record { parts = []; rest = contents; before = (refl, refl); behind = e }
+entries_behind number_at (suc n) [] words contents few e = absurd (omega arith)
+entries_behind number_at (suc n) (t ∷ ts) words contents few e =
+    let b = e.begin in
+    let more = entries_behind number_at n ts e.other_words e.other_contents (omega arith) e.others in
+    let four : 4 * suc n ≡ suc (suc (suc (suc (4 * n)))) = omega arith in
+    let taken : take (4 * suc n) words ≡ entry_word e.kind (length e.content) ++ take (4 * n) e.other_words = ap (λ (m : ℕ). take m words) four
+    ∙ ap (take (suc (suc (suc (suc (4 * n)))))) b.words_joined in
+    let dropped : drop (4 * suc n) words ≡ drop (4 * n) e.other_words = ap (λ (m : ℕ). drop m words) four
+    ∙ ap (drop (suc (suc (suc (suc (4 * n)))))) b.words_joined in
+    record {
+      parts = e.content ∷ more.parts;
+      rest = more.rest;
+      before = record {
+        kind = e.kind;
+        content = e.content;
+        other_words = take (4 * n) e.other_words;
+        other_contents = e.other_contents;
+        begin = record { known = b.known; fits = b.fits; words_joined = taken; contents_joined = b.contents_joined };
+        part = refl;
+        others = more.before;
+      };
+      behind = rw dropped more.behind;
+    }
+
+words_counted : (number_at : NumberReader) (ts : List Tree) (words contents : List ℕ) → AreEntries number_at (trees_of ts) words contents
+    → length words ≡ 4 * length ts
+words_counted number_at [] words contents e = omega (arith, ap length e.0)
+words_counted number_at (t ∷ ts) words contents e =
+    omega (arith, ap length e.begin.words_joined, words_counted number_at ts e.other_words e.other_contents e.others)
+
+-- what stands behind contents that are passed over
+rest_behind : (parts : List (List ℕ)) (words contents rest : List ℕ) (len : ℕ) → StandBefore parts words contents rest → len + length rest ≡ length contents
+    → drop len contents ≡ rest
+rest_behind parts words contents rest len before sum =
+    let (front, joined) = StandBefore-joined parts words contents rest before in
+    ap (drop len) joined ∙ drop_at front rest len (omega (arith, ap length joined, length-append front rest, sum))
+
+module _ (bytes : List ℕ) (it : SpotIter) (ts : List Tree) (h : HasSpotsLeft bytes it ts) where
+  pub spots_counted : length it.words.now ≡ 4 * length ts
+  spots_counted = words_counted (number_reader any) ts _ _ (h.entries any h.whole h.decodes)
+
+  module _ (count len : ℕ) (few : count ≤ length it.words.now / 4)
+      (sum : (parts : List (List ℕ)) (contents rest : List ℕ) → StandBefore parts (take (4 * count) it.words.now) contents rest
+      → len + length rest ≡ length contents) where
+    inside : count ≤ length ts
+    inside = omega (arith, few, spots_counted)
+
+    found : (form : Form) (top : Tree) → Decodes form bytes top
+        → EntriesBehind (number_reader form) count ts it.words.now (slice_range bytes it.start it.end)
+    found form top d = entries_behind (number_reader form) count ts _ _ inside (h.entries form top d)
+
+    -- the contents that are passed over are within the container
+    pub HasSpotsLeft-passed : it.start + len ≤ it.end
+    HasSpotsLeft-passed =
+        let e = found any h.whole h.decodes in
+        let total = sum e.parts _ e.rest e.before in
+        let ordered = h.ordered in
+        omega (arith, total, length_range bytes it.start it.end h.ordered h.within)
+
+    pub HasSpotsLeft-behind : (after : SpotIter) → after.words.now ≡ drop (4 * count) it.words.now → after.start ≡ it.start + len → after.end ≡ it.end
+        → HasSpotsLeft bytes after (drop count ts)
+    HasSpotsLeft-behind after words start end =
+        let within = h.within in
+        let fits = HasSpotsLeft-passed in
+        record {
+          whole = h.whole;
+          decodes = h.decodes;
+          ordered = omega (arith, fits, start, end);
+          within = omega (arith, within, end);
+          entries = λ form top d.
+              let e = found form top d in
+              let rest = rest_behind e.parts _ _ e.rest len e.before (sum e.parts _ e.rest e.before) in
+              rw (words, start, end, range_rest bytes it.start it.end len fits h.within, rest) e.behind;
+        }
 
 -- the content that the first word tells of is that of the first spot, where there is one
 pub PassesSpot-fits : (it : SpotIter) (kind len : ℕ) (others : List ℕ) → StartWith it.words.now kind len others → (spot : Spot) (rest : SpotIter)

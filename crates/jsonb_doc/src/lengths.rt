@@ -5,19 +5,19 @@ ghost use Rattle.jsonb_doc.specs.Format.{BeginWith};
 ghost use Rattle.jsonb_doc.specs.Private.Lengths.{StandBefore};
 ghost use Rattle.jsonb_doc.specs.Readable.{StartWith};
 
-use crate::layout::{Entry, KINDS, LENGTHS, split_entry, split_word};
+use crate::layout::{Entry, KINDS, LENGTHS, WORD, split_entry, split_word};
 
-/// How long the contents of these entry words are, all together.
+/// How long the contents of these entry words are, all together. The words are a list of their own, so that many are
+/// added at once.
 pub fn contents_len(words: &[u8]) -> usize
     requires { length words.now < 2 ^ 32 }
     ensures { (parts : List (List ℕ)) (contents rest : List ℕ) → StandBefore parts words.now contents rest
         → result + length rest ≡ length contents }
 {
+    let (chunks, _) = words.as_chunks::<WORD>();
     let mut len = 0;
-    let mut left = words;
-    while let Some((word, others)) = split_word(left) {
-        len += (word % LENGTHS) as usize;
-        left = others;
+    for word in chunks {
+        len += (u32::from_be_bytes(*word) % LENGTHS) as usize;
     }
     len
 }

@@ -148,6 +148,7 @@ pub fn child_spots<'a>(bytes: &'a [u8], spot: Spot) -> Result<Option<SpotIter<'a
     ensures room { IfOk result (λ found. IfSome found (λ it. spots_room it < spot_size spot)) }
     ensures bound { (kind entries : ℕ) (rest : List ℕ) → HeadedBy (spot_content bytes.now spot) kind entries rest
         → IfOk result (λ found. IfSome found (λ it. spots_bound it ≤ entries)) }
+    ensures short { IfOk result (λ found. IfSome found (λ it. spots_bound it < 2 ^ 30)) }
     ensures errors { IfErr result IsDecodingError }
 {
     let content = spot.content(bytes)?;

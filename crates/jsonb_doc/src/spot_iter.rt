@@ -2,7 +2,7 @@
 
 use crate::error::Error;
 use crate::layout::WORD;
-use crate::lengths::split_entry_word;
+use crate::lengths::{contents_len, split_entry_word};
 use crate::spot::Spot;
 
 /// The spots of a container's children that are left, in stored order. It ends behind one that has no place, which is
@@ -19,9 +19,9 @@ pub struct SpotIter<'a> {
 }
 
 impl<'a> SpotIter<'a> {
-    ghost use Rattle.std.specs.Prelude.{◌≡◌, ℕ, List, length};
-    ghost use Rattle.jsonb_doc.specs.Spots.{HasSpotsLeft};
+    ghost use Rattle.std.specs.Prelude.{◌≡◌, ◌<◌, ◌^◌, ℕ, List, length, drop, MatchOption};
     ghost use Rattle.jsonb_doc.specs.Tree.{Tree};
+    ghost use Rattle.jsonb_doc.specs.Spots.{HasSpotsLeft, spots_bound};
 
     pub(crate) fn new(words: &'a [u8], start: usize, end: usize) -> SpotIter<'a>
         ensures words { result.words.now ≡ words.now }
@@ -41,6 +41,28 @@ impl<'a> SpotIter<'a> {
         ensures { (bytes : List ℕ) (ts : List Tree) → HasSpotsLeft bytes self.now ts → result ≡ length ts }
     {
         self.words.len() / WORD
+    }
+
+    /// The spots behind so many of those that are left, and `None` where fewer are left.
+    ///
+    /// # Cost
+    ///
+    /// Linear in the count, without memory.
+    pub fn behind(&self, count: usize) -> Option<SpotIter<'a>>
+        requires { spots_bound self.now < 2 ^ 30 }
+        ensures left { (bytes : List ℕ) (ts : List Tree) → HasSpotsLeft bytes self.now ts
+            → MatchOption result (length ts < count) (λ rest. HasSpotsLeft bytes rest (drop count ts)) }
+    {
+        if count > self.words.len() / WORD {
+            return None;
+        }
+        let (passed, words) = self.words.split_at(WORD * count);
+        let start = self.start.wrapping_add(contents_len(passed));
+        Some(SpotIter {
+            words,
+            start,
+            end: self.end,
+        })
     }
 }
 

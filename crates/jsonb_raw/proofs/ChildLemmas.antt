@@ -44,13 +44,14 @@ pub here : (ts : List Tree) (n : ℕ) (first : Tree) (rest : List Tree) (wanted 
     → slice_get ts n ≡ wanted → wanted ≡ Some first
 here ts n first rest wanted split now same = sym (rw (split, now) at same)
 
-pub further : (ts : List Tree) (n : ℕ) (first : Tree) (rest : List Tree) (wanted : Option Tree) → ts ≡ first ∷ rest → n ≢ 0
-    → slice_get ts n ≡ wanted → slice_get rest (n - 1) ≡ wanted
-further ts zero first rest wanted split later same = absurd (later refl)
-further ts (suc n) first rest wanted split later same = let e : suc n - 1 ≡ n = omega arith in rw e (rw split at same)
-
 pub nowhere : (ts : List Tree) (n : ℕ) (wanted : Option Tree) → ts ≡ [] → slice_get ts n ≡ wanted → wanted ≡ None
 nowhere ts n wanted none same = sym (rw none at same)
+
+-- the first behind so many is the one at that position
+pub first_behind : (ts : List Tree) (n : ℕ) → slice_get (drop n ts) 0 ≡ slice_get ts n
+first_behind ts zero = refl
+first_behind [] (suc n) = refl
+first_behind (t ∷ ts) (suc n) = first_behind ts n
 
 -- the element in front of what is left of a list
 pub record SplitAt (all : List Tree) (k : ℕ) (first : Tree) (rest : List Tree) : Type 0 where
@@ -92,7 +93,7 @@ takes_ok bytes ts r spot after e h = rw e at h
 
 -- ---- an index, from the front or from the end
 
-beyond : (ts : List Tree) (n : ℕ) → length ts ≤ n → slice_get ts n ≡ None
+pub beyond : (ts : List Tree) (n : ℕ) → length ts ≤ n → slice_get ts n ≡ None
 beyond [] n h = refl
 beyond (t ∷ ts) zero h = absurd (omega arith)
 beyond (t ∷ ts) (suc n) h = beyond ts n (omega arith)

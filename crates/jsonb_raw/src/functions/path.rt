@@ -38,15 +38,9 @@ fn nth_child(bytes: &[u8], spot: Spot, position: usize) -> Result<Option<Spot>, 
     let Some(found) = child_spots(bytes, spot)? else {
         return Ok(None);
     };
-    let mut left = found;
-    let mut before = position;
-    while before > 0 {
-        let Some(passed) = left.next() else {
-            return Ok(None);
-        };
-        passed?;
-        before -= 1;
-    }
+    let Some(mut left) = found.behind(position) else {
+        return Ok(None);
+    };
     let Some(child) = left.next() else {
         return Ok(None);
     };
