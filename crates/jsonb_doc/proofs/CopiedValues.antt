@@ -26,11 +26,6 @@ around_parts (o ∷ around) = 1 + 2 * left_parts o + around_parts around
 innermost : (around around' : List Open) (o : Open) → around' ≡ around ++ o ∷ [] → reverse around' ≡ o ∷ reverse around
 innermost around around' o e = ap reverse e ∙ reverse-append around (o ∷ [])
 
--- one container more, as the innermost
-pub around_parts-with : (around around' : List Open) (o : Open) → around' ≡ around ++ o ∷ []
-    → around_parts (reverse around') ≡ 1 + 2 * left_parts o + around_parts (reverse around)
-around_parts-with around around' o e = ap around_parts (innermost around around' o e)
-
 module _ (seen : Number → spec.Number) where
   -- the tree with these containers around it, the innermost first
   abbrev pub tree_within : List Open → Tree → Tree

@@ -85,10 +85,6 @@ pub record EntriesLeft (form : Form) (ts : Trees) (known : ℕ) (large : Option 
   pub entries : AreEntries (number_reader form) others words contents
   pub all : deepest_of_trees ts ≡ max (max known below) (deepest_of_trees others)
 
-pub EntriesLeft-all : (form : Form) (ts : Trees) (words contents : List ℕ) → AreEntries (number_reader form) ts words contents
-    → EntriesLeft form ts 0 None words contents
-EntriesLeft-all form ts words contents h = record { others = ts; below = 0; lies = refl; entries = h; all = omega arith }
-
 -- entries that begin with none are none
 pub EntriesLeft-none : (form : Form) (ts : Trees) (known : ℕ) (large : Option (List ℕ)) (words contents : List ℕ)
     → ((kind : ℕ) (content ws cs : List ℕ) → BeginWith words contents kind content ws cs → ⊥)

@@ -15,9 +15,6 @@ pub quotient_small : (n p q : ℕ) → n ≢ 0 → n < p → n ≡ q * p → ⊥
 quotient_small n p zero some small e = some (let z : 0 * p ≡ 0 = omega arith in e ∙ z)
 quotient_small n p (suc q) some small e = omega arith
 
-pub quotient_back : (n p : ℕ) → n % p ≡ 0 → n ≡ n / p * p
-quotient_back n p none = omega (arith, div-add-mod' n p)
-
 -- ---- rounding
 
 by_rest : (n p : ℕ) → 0 < p → nearest n p ≡ (2 * (n % p) + p) / (2 * p) + n / p

@@ -1,34 +1,14 @@
 -- Words in front of bytes, and bytes cut in two.
-use Rattle.std.proofs.Common.{◌≡◌, ℕ, zero, suc, ◌^◌, ◌<◌, ◌≤◌, List, [], ◌∷◌, ◌++◌, length, get_or, take, drop, refl, sym, ap, ◌∙◌, arith, true}
+use Rattle.std.proofs.Common.{◌≡◌, ℕ, ◌^◌, ◌<◌, List, ◌++◌, length, take, drop, refl, sym, ap, ◌∙◌, true}
 use Rattle.std.specs.Str.{bytes_eq}
 use Rattle.std.proofs.lemmas.Slice.Eq.{bytes_eq-Decides}
 use Rattle.std.proofs.lemmas.List.{take_at, drop_at}
-use Rattle.std.proofs.lemmas.Nat.{be_bytes_4}
 use Rattle.byteorder.specs.Endian.{big_number, big_bytes}
 use Rattle.byteorder.specs.Numbers.{big_number-reads_back}
-use Rattle.jsonb_doc.specs.Bytes.{AreBytes}
 
 -- a word reads back
 pub word_read : (n : ℕ) (rest : List ℕ) → n < 2 ^ 32 → big_number 4 (big_bytes 4 n ++ rest) ≡ n
 word_read n rest h = big_number-reads_back 4 n rest h
-
--- what is read is written so
-pub word_again : (xs : List ℕ) → 4 ≤ length xs → AreBytes xs → xs ≡ big_bytes 4 (big_number 4 xs) ++ drop 4 xs
-word_again [] h fits = absurd (omega arith)
-word_again (a ∷ []) h fits = absurd (omega arith)
-word_again (a ∷ b ∷ []) h fits = absurd (omega arith)
-word_again (a ∷ b ∷ c ∷ []) h fits = absurd (omega arith)
-word_again (a ∷ b ∷ c ∷ d ∷ rest) h fits =
-    let four : (i : ℕ) → get_or (a ∷ b ∷ c ∷ d ∷ []) i 0 < 256 = cells in
-    let same : big_number 4 (a ∷ b ∷ c ∷ d ∷ rest) ≡ big_number 4 (a ∷ b ∷ c ∷ d ∷ []) = refl in
-    ap (λ (w : List ℕ). w ++ rest) (sym (be_bytes_4 (a ∷ b ∷ c ∷ d ∷ []) (big_number 4 (a ∷ b ∷ c ∷ d ∷ [])) refl four (omega arith)))
-  where
-    cells : (i : ℕ) → get_or (a ∷ b ∷ c ∷ d ∷ []) i 0 < 256
-    cells zero = fits 0
-    cells (suc zero) = fits 1
-    cells (suc (suc zero)) = fits 2
-    cells (suc (suc (suc zero))) = fits 3
-    cells (suc (suc (suc (suc i)))) = omega arith
 
 -- two cuts of one list after as many places are one cut
 pub append_cancel : (a b c d : List ℕ) → length a ≡ length c → a ++ b ≡ c ++ d → (a ≡ c) × (b ≡ d)

@@ -1,5 +1,5 @@
 -- Which trees are arrays, and what is made of them.
-use Rattle.std.proofs.Common.{◌≡◌, ◌⊎◌, inl, inr, suc, List, [], ◌∷◌, length, Option, Some, None, refl, ap}
+use Rattle.std.proofs.Common.{◌≡◌, ◌⊎◌, inl, inr, suc, List, ◌∷◌, length, Option, Some, refl, ap}
 use Rattle.std.specs.List.{Any}
 use Rattle.jsonb_doc.specs.Tree.{Tree, array, Trees, no_trees, tree, elements, count}
 use Rattle.jsonb_doc.specs.Payload.{Form}
@@ -11,7 +11,6 @@ use Rattle.jsonb_doc.specs.declared.error.Error.{Error}
 use Rattle.jsonb_doc.specs.declared.error.Error.TheVariants.{OutOfMemory, TooLarge}
 use Rattle.jsonb_doc.specs.declared.element_iter.ElementIter.{ElementIter}
 use Rattle.jsonb_raw.specs.declared.owned.OwnedJsonb.{OwnedJsonb}
-use Rattle.jsonb_raw.specs.Arrays.{array_values, as_elements}
 use Rattle.jsonb_raw.proofs.CollectLoops.{Made, one_of_whole}
 
 -- a tree with an iterator over elements is an array
@@ -19,12 +18,6 @@ pub array_of : (form : Form) (t : Tree) (found : Option ElementIter) (it : Eleme
     → (ts : Trees) × (t ≡ array ts) × HasElementsLeft form it ts
 array_of form (array ts) found it is h = (ts, refl, rw is at h)
 array_of form _ found it is h = absurd (rw is at h)
-
--- a tree without one is no array, and counts as one element
-pub no_array : (form : Form) (t : Tree) (found : Option ElementIter) → found ≡ None → IsElementsOf form t found
-    → (array_values t ≡ None) × (as_elements t ≡ t ∷ [])
-no_array form (array ts) found is h = absurd (rw is at h)
-no_array form _ found is h = (refl, refl)
 
 pub length-elements : (ts : Trees) → count ts ≡ length (elements ts)
 length-elements no_trees = refl

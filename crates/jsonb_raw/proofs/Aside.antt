@@ -105,18 +105,11 @@ pub record OneAside (Large : Bool → Type 0) (rest whole : Bool) : Type 0 where
   pub is : Large answer
   pub fact : (rest || answer) ≡ whole
 
-or_false : (b : Bool) → (b || false) ≡ b
-or_false true = refl
-or_false false = refl
-
 or_turned : (a b : Bool) → (b || a) ≡ ((a || b) || false)
 or_turned true true = refl
 or_turned true false = refl
 or_turned false true = refl
 or_turned false false = refl
-
-pub no_one_aside : (Large : Bool → Type 0) (rest : Bool) → Large false → OneAside Large rest rest
-no_one_aside Large rest is = record { answer = false; is = is; fact = or_false rest }
 
 pub put_one_aside : (Large Larger : Bool → Type 0) (part rest whole : Bool) → ((b : Bool) → Large b → b ≡ false) → Larger part
     → OneAside Large (part || rest) whole → OneAside Larger rest whole

@@ -1,5 +1,5 @@
 -- What the calls on children answer, by the item or the spot that was found.
-use Rattle.std.proofs.Common.{◌≡◌, ◌↔◌, ℕ, suc, zero, ℤ, Bool, true, false, not, IsTrue, List, [], ◌∷◌, map, length, drop, slice_get, Option, Some, None, Bor, refl, sym, ap, ◌∙◌}
+use Rattle.std.proofs.Common.{◌≡◌, ◌↔◌, ℕ, suc, zero, ℤ, Bool, true, false, IsTrue, List, [], ◌∷◌, map, length, drop, slice_get, Option, Some, None, Bor, refl, sym, ap, ◌∙◌}
 use Rattle.std.specs.List.{remove}
 use Rattle.std.specs.Char.{to_ascii_lowercase}
 use Rattle.std.proofs.lemmas.Slice.Eq.{bytes_eq-Decides}
@@ -69,14 +69,6 @@ decided a b false test = go (same_ignoring_case a b) refl
     go true e = sym (test.1 ((bytes_eq-Decides (map to_ascii_lowercase a) (map to_ascii_lowercase b)).0 e))
 
 -- ---- what `!=` answers
-
-pub differs : (same answer : Bool) → answer ≡ not same → answer ≡ true → same ≡ false
-differs true answer is holds = let bad : true ≡ false = sym holds ∙ is in cc
-differs false answer is holds = refl
-
-pub agrees : (same answer : Bool) → answer ≡ not same → answer ≡ false → same ≡ true
-agrees true answer is fails = refl
-agrees false answer is fails = let bad : false ≡ true = sym fails ∙ is in cc
 
 -- ---- positions
 

@@ -17,10 +17,6 @@ pub all_left : (bytes : List ℕ) (it : SpotIter) (o : Option (List Tree)) → S
 all_left bytes it (Some ts) h = h
 all_left bytes it None h = absurd h
 
-pub none_there : (bytes : List ℕ) (o : Option (List Tree)) → SameOption (HasSpotsLeft bytes) None o → unwrap_or o [] ≡ []
-none_there bytes (Some ts) h = absurd h
-none_there bytes None h = refl
-
 -- the trees are a first one, whose spot was given, and the rest, which is left
 pub record FirstLeft (bytes : List ℕ) (ts : List Tree) (r : Result Spot Error) (after : SpotIter) : Type 0 where
   pub first : Tree

@@ -10,7 +10,7 @@ use Rattle.jsonb_doc.specs.declared.error.Error.{Error}
 use Rattle.jsonb_doc.specs.declared.entry_iter.EntryIter.{EntryIter}
 use Rattle.jsonb_doc.specs.declared.entry_iter.StoredEntry.{StoredEntry}
 use Rattle.jsonb_doc.specs.Payload.{Form}
-use Rattle.jsonb_doc.specs.Format.{AreKeys, IsBelowFirst}
+use Rattle.jsonb_doc.specs.Format.{IsBelowFirst}
 use Rattle.jsonb_doc.specs.Private.Stored.{HasEntriesLeft, GivesEntry, TakesEntry, key_trees}
 use Rattle.jsonb_doc.proofs.BuilderSteps.{AreRising, keys_rise}
 use Rattle.jsonb_raw.specs.Private.Cursors.{IsCursorOf, IsSearchOf, IsPassed, IsBefore, HoldsTexts}
@@ -20,19 +20,6 @@ use Rattle.jsonb_raw.specs.declared.functions.path.exists.Texts.TheVariants.{Key
 use Rattle.jsonb_doc.specs.Tree.{Tree, object, Pairs, keys}
 use Rattle.std.specs.Prelude.{IfOk}
 use Rattle.jsonb_raw.proofs.PairStepLemmas.{test_of_order, below_further, below_key, above_key}
-
--- a cursor in front of all keys
-pub cursor_in_front : (form : Form) (it : EntryIter) (ks : List (List ℕ)) → AreKeys ks → HasEntriesLeft form it (key_trees ks)
-    → IsCursorOf form (record { all = it; left = it; passed = None }) ks
-cursor_in_front form it ks are h = record {
-  all_keys = are;
-  all = h;
-  behind = ks;
-  are_keys = are;
-  left = h;
-  before = tt;
-  decides = λ name passed. refl;
-}
 
 -- a key below all of them is none of them
 none_below : (key : List ℕ) (ks : List (List ℕ)) → IsBelowFirst key ks → AreRising ks → list_any (λ k. bytes_eq k key) ks ≡ false

@@ -41,12 +41,6 @@ pub record WalkedInto (number_at : NumberReader) (bytes : List ℕ) (t : Tree) (
   pub more : (ps : List EntryPlace) (inner' : List ℕ) (v : Tree) → LeadTo number_at inner u left ps inner' v
       → LeadTo number_at bytes t positions (places ++ ps) inner' v
 
-pub walked_none : (number_at : NumberReader) (bytes : List ℕ) (t end : Tree) (positions : List ℕ) (places : List EntryPlace) (last : ℕ) → places ≡ []
-    → IsContent number_at t container_entry bytes → tree_at (positions ++ last ∷ []) t ≡ Some end
-    → WalkedInto number_at bytes t positions places bytes positions end last
-walked_none number_at bytes t end positions places last none is there =
-    record { u = t; content = is; there = there; more = λ ps inner v walk. rw none walk }
-
 -- a tree with something at some positions is a container
 container_there : (number_at : NumberReader) (t end : Tree) (ns : List ℕ) (last kind : ℕ) (bytes : List ℕ) → tree_at (ns ++ last ∷ []) t ≡ Some end
     → IsContent number_at t kind bytes → IsContent number_at t container_entry bytes

@@ -1,16 +1,11 @@
 -- Entries as documents of their own, as they are stored.
-use Rattle.std.proofs.Common.{◌≡◌, ◌≢◌, ℕ, ◌^◌, ◌<◌, ◌≤◌, true, false, List, ◌++◌, length, inl, arith}
+use Rattle.std.proofs.Common.{◌≢◌, ℕ, ◌^◌, ◌<◌, ◌≤◌, List, ◌++◌, length}
 use Rattle.jsonb_doc.specs.Tree.{Tree, null, boolean, number, text, extension, array, object}
-use Rattle.jsonb_doc.specs.Payload.{NumberReader, Form, number_reader}
+use Rattle.jsonb_doc.specs.Payload.{Form, number_reader}
 use Rattle.jsonb_doc.specs.Format.{Decodes, IsContent, header, scalar_header, entry_word}
 use Rattle.jsonb_doc.specs.Limits.{IsTooLarge}
 use Rattle.jsonb_doc.proofs.EntryDocuments.{entry_decodes}
 use Rattle.jsonb_raw.proofs.RowLemmas.{too_long}
-
--- a container's content is a document
-pub container_is_document : (form : Form) (t : Tree) (kind : ℕ) (content : List ℕ) → IsContent (number_reader form) t kind content → kind ≡ 5
-    → Decodes form content t
-container_is_document form t kind content is container = record { document = inl (rw container at is) }
 
 -- another entry behind a header is a document
 pub entry_is_document : (form : Form) (t : Tree) (kind : ℕ) (content : List ℕ) → IsContent (number_reader form) t kind content → kind ≢ 5 → kind < 8
@@ -18,17 +13,6 @@ pub entry_is_document : (form : Form) (t : Tree) (kind : ℕ) (content : List �
 entry_is_document form t kind content is scalar known short = record {
   document = entry_decodes (number_reader form) t kind content known scalar short is;
 }
-
--- a tree's entry has a kind that is known
-pub kind_of_content : (number_at : NumberReader) (t : Tree) (kind : ℕ) (content : List ℕ) → IsContent number_at t kind content → kind < 8
-kind_of_content number_at null kind content is = omega (arith, is.0)
-kind_of_content number_at (boolean true) kind content is = omega (arith, is.0)
-kind_of_content number_at (boolean false) kind content is = omega (arith, is.0)
-kind_of_content number_at (number n) kind content is = omega (arith, is.0)
-kind_of_content number_at (text s) kind content is = omega (arith, is.0)
-kind_of_content number_at (extension x) kind content is = omega (arith, is.0)
-kind_of_content number_at (array ts) kind content is = omega (arith, is.0)
-kind_of_content number_at (object ps) kind content is = omega (arith, is.0)
 
 -- one that is too long has no document
 pub long_entry : (form : Form) (t : Tree) (kind : ℕ) (content : List ℕ) → IsContent (number_reader form) t kind content → kind ≢ 5

@@ -1,37 +1,16 @@
 -- What the texts that are left of a walk say of all of them.
-use Rattle.std.proofs.Common.{◌≡◌, ℕ, Bool, true, false, List, ◌∷◌, Option, Some, None, is_some, refl, ◌∙◌}
+use Rattle.std.proofs.Common.{◌≡◌, ℕ, Bool, true, false, List, ◌∷◌, refl}
 use Rattle.std.specs.List.{list_any, list_all}
 use Rattle.std.specs.Borrow.{Bor}
 use Rattle.std.specs.Str.{bytes_eq}
-use Rattle.jsonb_doc.specs.Tree.{Tree, text, Pairs, no_pairs, pair, keys, value_under}
+use Rattle.jsonb_doc.specs.Tree.{Tree, text}
 use Rattle.jsonb_doc.specs.Payload.{Form}
 use Rattle.jsonb_doc.specs.Item.{StandsFor}
-use Rattle.jsonb_doc.specs.Answer.{SameOption}
 use Rattle.jsonb_doc.specs.declared.item.Item.{Item}
 use Rattle.jsonb_doc.specs.declared.item.Item.TheVariants as item
 use Rattle.jsonb_raw.specs.Exists.{is_text}
 
 -- ---- keys
-
-value_there : (name : List ℕ) (ps : Pairs) → is_some (value_under name ps) ≡ list_any (λ key. bytes_eq key name) (keys ps)
-value_there name no_pairs = refl
-value_there name (pair key t ps) = by (value_there name ps) (bytes_eq key name) refl
-  where
-    by : is_some (value_under name ps) ≡ list_any (λ key. bytes_eq key name) (keys ps) → (b : Bool) → bytes_eq key name ≡ b
-        → is_some (value_under name (pair key t ps)) ≡ list_any (λ k. bytes_eq k name) (key ∷ keys ps)
-    by rest true same = rw same refl
-    by rest false other = rw other rest
-
--- an object has a key exactly where a value is found under it
-pub key_there : {A : Type 0} (R : A → Tree → Type 0) (found : Option A) (name : List ℕ) (ps : Pairs) → SameOption R found (value_under name ps)
-    → is_some found ≡ list_any (λ key. bytes_eq key name) (keys ps)
-key_there {A} R found name ps h = by found (value_under name ps) h ∙ value_there name ps
-  where
-    by : (o : Option A) (wanted : Option Tree) → SameOption R o wanted → is_some o ≡ is_some wanted
-    by (Some a) (Some t) h = refl
-    by (Some a) None h = absurd h
-    by None (Some t) h = absurd h
-    by None None h = refl
 
 -- ---- elements
 

@@ -75,14 +75,12 @@ pub mod EqualAny
 pub mod CursorSteps
 pub mod AnswerLemmas
 pub mod PushLoops
-pub mod TakeLoops
 pub mod CollectLoops
 pub mod TextLemmas
 pub mod IteratorItems
 pub mod KeyWalks
 pub mod PartitionLemmas
 pub mod StripLemmas
-pub mod InsertLemmas
 pub mod IteratorLemmas
 pub mod PlaceRows
 pub mod NamedPairs

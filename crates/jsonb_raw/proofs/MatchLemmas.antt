@@ -78,16 +78,6 @@ module _ (key : List ℕ) (y : Tree) (qs ps : Pairs) (rising : AreRising (keys p
   pub unmatched_key : value_under key ps ≡ None → each_pair_is_matched (pair key y qs) (members ps) ≡ false
   unmatched_key none = rw (any_by_value key (is_part_of y) ps rising, none) refl
 
-  -- a value that doesn't match
-  pub unmatched_value : (v : Tree) → value_under key ps ≡ Some v → is_part_of y v ≡ false → each_pair_is_matched (pair key y qs) (members ps) ≡ false
-  unmatched_value v some differs = rw (any_by_value key (is_part_of y) ps rising, some, differs) refl
-
-  -- a value that matches leaves the pairs above to the others
-  pub matched_value : (v : Tree) → value_under key ps ≡ Some v → is_part_of y v ≡ true → AreRising (key ∷ keys qs)
-      → each_pair_is_matched (pair key y qs) (members ps) ≡ each_pair_is_matched qs (members (pairs_above key ps))
-  matched_value v some matches wanted =
-      rw (any_by_value key (is_part_of y) ps rising, some, matches) (each_above key qs ps wanted.0 wanted.1)
-
   -- the value under the key decides with the pairs above
   pub matched_pair : (v : Tree) → value_under key ps ≡ Some v → AreRising (key ∷ keys qs)
       → each_pair_is_matched (pair key y qs) (members ps) ≡ (is_part_of y v && each_pair_is_matched qs (members (pairs_above key ps)))
@@ -120,15 +110,6 @@ scalar_matches form e y h k [] = refl
 scalar_matches form e y h k (x ∷ xs) = ap₂ (λ a b. a || b) (scalar_match form e y h k x) (scalar_matches form e y h k xs)
 
 -- ---- items
-
--- what the search for a key answers
-pub no_value_found : (form : Form) (o : Option Tree) → SameOption (StandsFor form) None o → o ≡ None
-no_value_found form None h = refl
-no_value_found form (Some t) h = absurd h
-
-pub value_found : (form : Form) (x : Item) (o : Option Tree) → SameOption (StandsFor form) (Some x) o → (t : Tree) × (o ≡ Some t) × StandsFor form x t
-value_found form x None h = absurd h
-value_found form x (Some t) h = (t, refl, h)
 
 pub no_object : (x : Item) (b d : Bor (List ℕ)) → x ≡ item.Array b → x ≡ item.Object d → ⊥
 no_object x b d h k = cc

@@ -8,7 +8,7 @@ use Rattle.std.specs.Option.{option_or}
 use Rattle.std.specs.Str.{bytes_eq}
 use Rattle.jsonb_doc.specs.Tree.{Tree, object, Pairs, no_pairs, pair, members, value_under}
 use Rattle.jsonb_doc.proofs.WordLemmas.{bytes_eq-true, bytes_eq-same}
-use Rattle.jsonb_raw.specs.Children.{same_ignoring_case, named_child, field_ignoring_case}
+use Rattle.jsonb_raw.specs.Children.{same_ignoring_case, named_child}
 use Rattle.jsonb_raw.specs.Private.NamePositions.{position_in_some_case}
 use Rattle.jsonb_raw.proofs.PlaceLemmas.{position-cons}
 
@@ -26,16 +26,9 @@ abbrev pub found_behind_both : ℕ → Option ℕ → List ℕ → List (List �
 found_behind_both passed first name ks =
     option_or (behind passed (position (λ key. bytes_eq key name) ks)) (option_or first (behind passed (position (λ key. same_ignoring_case key name) ks)))
 
-none_behind : (o : Option ℕ) → behind 0 o ≡ o
-none_behind None = refl
-none_behind (Some n) = let e : 0 + n ≡ n = omega arith in ap Some e
-
 one_behind : (passed : ℕ) (o : Option ℕ) → behind (passed + 1) o ≡ behind passed (option_map suc o)
 one_behind passed None = refl
 one_behind passed (Some n) = let e : (passed + 1) + n ≡ passed + suc n = omega arith in ap Some e
-
-pub both_begun : (name : List ℕ) (ks : List (List ℕ)) → found_behind_both 0 None name ks ≡ position_in_some_case name ks
-both_begun name ks = ap₂ option_or (none_behind (position (λ key. bytes_eq key name) ks)) (none_behind (position (λ key. same_ignoring_case key name) ks))
 
 pub both_here : (passed : ℕ) (first : Option ℕ) (name key : List ℕ) (ks rest : List (List ℕ)) (wanted : Option ℕ) → ks ≡ key ∷ rest
     → bytes_eq key name ≡ true → found_behind_both passed first name ks ≡ wanted → Some passed ≡ wanted

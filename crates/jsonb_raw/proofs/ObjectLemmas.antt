@@ -1,11 +1,10 @@
 -- Which trees have pairs, and what is made of them.
 use Rattle.std.proofs.Common.{◌≡◌, ◌⊎◌, inl, inr, ℕ, List, [], ◌∷◌, ◌++◌, String, Global, subst, Option, Some, None, Result, Ok, Err, refl, sym, ap, ◌∙◌}
 use Rattle.std.specs.Borrow.{Bor}
-use Rattle.std.specs.Map.{keys_of, values_of}
+use Rattle.std.specs.Map.{values_of}
 use Rattle.std.specs.List.{Any}
-use Rattle.jsonb_doc.specs.Tree.{Tree, object, Pairs, keys, members}
+use Rattle.jsonb_doc.specs.Tree.{Tree, object, Pairs, keys}
 use Rattle.jsonb_doc.specs.Payload.{Form}
-use Rattle.jsonb_doc.specs.Format.{Decodes}
 use Rattle.jsonb_doc.specs.Answer.{IsOutOfMemoryOrTooLarge}
 use Rattle.jsonb_doc.specs.Limits.{IsTooLarge}
 use Rattle.jsonb_doc.specs.declared.error.Error.TheVariants.{OutOfMemory, TooLarge}
@@ -14,8 +13,6 @@ use Rattle.jsonb_doc.specs.declared.key_iter.KeyIter.{KeyIter}
 use Rattle.jsonb_doc.specs.ObjectPairs.{IsPairsOf}
 use Rattle.jsonb_doc.specs.declared.error.Error.{Error}
 use Rattle.jsonb_doc.specs.declared.pair_iter.PairIter.{PairIter}
-use Rattle.jsonb_doc.proofs.LimitLemmas.{decoded_members}
-use Rattle.jsonb_doc.proofs.BuilderSteps.{AreRising, keys_rise}
 use Rattle.jsonb_raw.specs.declared.owned.OwnedJsonb.{OwnedJsonb}
 use Rattle.jsonb_raw.specs.Making.{IsPairOf}
 use Rattle.jsonb_raw.proofs.CollectLoops.{Made, any_here}
@@ -24,10 +21,6 @@ use Rattle.jsonb_raw.proofs.CollectLoops.{Made, any_here}
 pub object_of : (form : Form) (t : Tree) (found : Option PairIter) (it : PairIter) → found ≡ Some it → IsPairsOf form t found → (ps : Pairs) × (t ≡ object ps)
 object_of form (object ps) found it is h = (ps, refl)
 object_of form _ found it is h = absurd (rw is at h)
-
--- the keys of an object that bytes decode to rise
-pub members_rise : (form : Form) (bytes : List ℕ) (ps : Pairs) → Decodes form bytes (object ps) → AreRising (keys_of (members ps))
-members_rise form bytes ps d = keys_rise (keys_of (members ps)) (decoded_members form bytes ps d)
 
 -- ---- keys
 

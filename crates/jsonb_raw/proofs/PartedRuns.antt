@@ -1,7 +1,6 @@
 -- The pairs of an object that a set parts, as runs.
 use Rattle.std.proofs.Common.{◌≡◌, ℕ, Bool, true, false, not, List, [], ◌∷◌, ◌++◌, Option, Some, None, refl, sym, ap, ◌∙◌, append_assoc, append-nil}
 use Rattle.std.specs.Map.{keys_of}
-use Rattle.std.specs.Prelude.{IsUtf8}
 use Rattle.std.specs.Bool.{beq}
 use Rattle.jsonb_doc.specs.Tree.{Tree, object, Pairs, members}
 use Rattle.jsonb_doc.specs.Payload.{Form}
@@ -70,10 +69,6 @@ module _ (form : Form) (rows : PairRows) (run left : PairEntries) (wanted : Bool
           → First
       go [] o j h = absurd h
       go (p ∷ ps) o j h = record { p = p; ps = ps; first = h; opened = o; whole_is = j }
-
-  -- its key is a text
-  pub first_utf8 : IsUtf8 pair.key.now
-  first_utf8 = rw first.first.key first.first.name.part.2
 
   pub parting_kept : is_in set pair.key.now ≡ wanted → Parting form rows run pair.others wanted set whole
   parting_kept is =

@@ -1,10 +1,8 @@
 -- The position of the child that a step meets, found by its index or by its key.
-use Rattle.std.proofs.Common.{◌≡◌, ℕ, suc, ◌+◌, ◌-◌, ◌<◌, ◌≤◌, ℤ, pos, negsuc, Bool, true, false, List, [], ◌∷◌, length, Option, Some, None, Result, Ok, Err, IsOkAnd, refl, ap, ◌∙◌, arith, nat_lt, Global, MatchResult}
-use Rattle.std.specs.Prelude.{position, option_map, unsigned_abs, SomeIff}
+use Rattle.std.proofs.Common.{◌≡◌, ℕ, suc, ◌+◌, ◌-◌, ℤ, true, false, List, [], ◌∷◌, length, Option, Some, None, Result, Ok, Err, IsOkAnd, refl, ap, ◌∙◌, arith, Global, MatchResult}
+use Rattle.std.specs.Prelude.{position, option_map}
 use Rattle.std.specs.Borrow.{Bor}
 use Rattle.std.specs.Str.{bytes_eq}
-use lib.Signed.{lt_z}
-use Rattle.std.proofs.lemmas.Bool.Decides.{nat_tests}
 use Rattle.std.specs.Fmt.{signed_decimal}
 use Rattle.std.specs.Cow.{cow_str_bytes}
 use Rattle.std.specs.declared.borrow.CowStr.{CowStr}
@@ -31,28 +29,6 @@ use Rattle.jsonb_raw.proofs.PlaceLemmas.{position-cons}
 pub count_elements : (ts : Trees) → count ts ≡ length (elements ts)
 count_elements no_trees = refl
 count_elements (tree t ts) = ap suc (count_elements ts)
-
-pub index_from_end : (i j : ℤ) (distance len : ℕ) (r : Option ℕ) → j ≡ i → distance ≡ unsigned_abs j → lt_z j (pos 0) ≡ true
-    → SomeIff r (distance ≤ len) (len - distance) → r ≡ index_position len i
-index_from_end i (pos m) distance len r same is test h = absurd (grind (arith, nat_tests, test))
-index_from_end i (negsuc m) distance len r same is test h = rw (← same) (by (nat_lt m len) refl r (rw is at h))
-  where
-    by : (b : Bool) → nat_lt m len ≡ b → (o : Option ℕ) → SomeIff o (suc m ≤ len) (len - suc m) → o ≡ index_position len (negsuc m)
-    by true test None h = let inside : m < len = grind (arith, nat_tests, test) in absurd (h (omega arith))
-    by true test (Some x) h = rw (test, h.1) refl
-    by false test None h = rw test refl
-    by false test (Some x) h = let inside : suc m ≤ len = h.0 in absurd (grind (arith, nat_tests, test))
-
-pub index_inside : (i j : ℤ) (distance len : ℕ) → j ≡ i → distance ≡ unsigned_abs j → lt_z j (pos 0) ≡ false → distance < len
-    → Some distance ≡ index_position len i
-index_inside i (pos m) distance len same is test inside =
-    let b : nat_lt m len ≡ true = grind (arith, nat_tests, is) in rw (← same, b, is) refl
-index_inside i (negsuc m) distance len same is test inside = cc
-
-pub index_outside : (i j : ℤ) (distance len : ℕ) → j ≡ i → distance ≡ unsigned_abs j → lt_z j (pos 0) ≡ false → len ≤ distance → None ≡ index_position len i
-index_outside i (pos m) distance len same is test outside =
-    let b : nat_lt m len ≡ false = grind (arith, nat_tests, is) in rw (← same, b) refl
-index_outside i (negsuc m) distance len same is test outside = cc
 
 pub met_in_array : (j i : ℤ) (x : Item) (b : Bor (List ℕ)) (t : Tree) (step : KeyPath) (r : Result (Option ℕ) Error) → j ≡ i → x ≡ item.Array b
     → step ≡ Index i → StandsFor any x t

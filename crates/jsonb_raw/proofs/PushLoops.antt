@@ -10,7 +10,7 @@ use Rattle.jsonb_doc.specs.Item.{StandsFor}
 use Rattle.jsonb_doc.specs.Answer.{IsOutOfMemoryOrTooLarge}
 use Rattle.jsonb_doc.specs.Elements.{GivesElement, IsElementsOf}
 use Rattle.jsonb_doc.specs.ArrayBuilder.{Parts, no_parts, HoldsElements}
-use Rattle.jsonb_doc.proofs.BuilderSteps.{front_empty, front_pushed, front_refused, front_part_refused}
+use Rattle.jsonb_doc.proofs.BuilderSteps.{front_empty, front_pushed, front_refused}
 use Rattle.jsonb_doc.specs.Private.Builders.{HoldsFront}
 use Rattle.jsonb_raw.proofs.IteratorItems.{SomeElements, SomeElements-all, SomeElements-first}
 
@@ -59,14 +59,3 @@ module _ (form : Form) (gives : Trees → List Tree) (whole : List Tree) (before
       SomeElements-first form it it' r x (λ ts. HoldsFront form before (gives ts) whole) is step h
       (λ t ts left stands front.
       record { trees = ts; left = left; fact = subst (λ (us : List Tree). HoldsFront form before us whole) (next t ts stands) front })
-
-  -- where a document of what the next element gives is refused, the whole is
-  pub elements_part_refused : (part : Tree → Tree) (e : Error)
-      → ((t : Tree) (ts : Trees) → StandsFor form x t → gives (tree t ts) ≡ part t ∷ gives ts)
-      → ((t : Tree) → StandsFor form x t → IsOutOfMemoryOrTooLarge form (part t) e)
-      → IsOutOfMemoryOrTooLarge form (array (trees_of whole)) e
-  elements_part_refused part e next refused =
-      SomeElements-first form it it' r x (λ ts. HoldsFront form before (gives ts) whole) is step h
-      (λ t ts left stands front.
-      let f = next_front t (part t) ts (next t ts stands) front in
-      front_part_refused form before (part t) (gives ts) whole f e (refused t stands))

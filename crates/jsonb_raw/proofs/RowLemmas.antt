@@ -18,12 +18,11 @@ use Rattle.jsonb_doc.specs.declared.container.ArrayParts.{ArrayParts}
 use Rattle.jsonb_doc.specs.declared.container.Container.TheVariants.{Array}
 use Rattle.jsonb_doc.proofs.Sizes.{size_within}
 use Rattle.jsonb_raw.specs.declared.functions.parts.Entries.{Entries}
-use Rattle.jsonb_raw.specs.declared.functions.parts.LoneEntry.{LoneEntry}
 use Rattle.jsonb_raw.specs.declared.owned.OwnedJsonb.{OwnedJsonb}
 use Rattle.jsonb_raw.specs.Documents.{Makes}
 use Rattle.jsonb_raw.specs.Arrays.{as_elements}
 use Rattle.jsonb_raw.specs.Private.Inserts.{AreBytesOf}
-use Rattle.jsonb_raw.specs.Private.Rows.{HoldTrees, RowsHold, row_words, row_contents, IsLoneEntry, AreElementsOf, IsTooLongRoot, IsTooLongElement}
+use Rattle.jsonb_raw.specs.Private.Rows.{HoldTrees, RowsHold, row_words, row_contents, AreElementsOf, IsTooLongRoot, IsTooLongElement}
 use Rattle.jsonb_raw.proofs.EntryLists.{AreOf, listed, joined}
 
 -- ---- rows one behind the other
@@ -119,26 +118,6 @@ row_split form row ts n m r h count split =
     of (Some parts) front back h s = (held form parts.0 (take n ts) front h.0 s.0, held form parts.1 (drop n ts) back h.1 s.1)
 
 -- ---- one entry
-
--- the root of a document as an entry
-pub root_is_lone : (form : Form) (t : Tree) (entry : LoneEntry) (kind : ℕ) → IsContent (number_reader form) t kind entry.content.now → kind < 8
-    → length entry.content.now < 2 ^ 28 → entry.word ≡ entry_word kind (length entry.content.now) → IsLoneEntry form entry t
-root_is_lone form t entry kind is known short word = record {
-  entries = record {
-    kind = kind;
-    content = entry.content.now;
-    other_words = [];
-    other_contents = [];
-    begin = record {
-      known = known;
-      fits = short;
-      words_joined = word ∙ sym (append-nil (entry_word kind (length entry.content.now)));
-      contents_joined = sym (append-nil entry.content.now);
-    };
-    part = is;
-    others = (refl, refl);
-  };
-}
 
 -- a content that is too long for an entry is one of a tree that is
 pub too_long : (form : Form) (t : Tree) (kind : ℕ) (content : List ℕ) → IsContent (number_reader form) t kind content → 2 ^ 28 ≤ length content

@@ -1,5 +1,5 @@
 -- Entries that are gone through one by one, and runs of them that are kept.
-use Rattle.std.proofs.Common.{◌≡◌, ◌≢◌, ℕ, ◌*◌, ◌/◌, ◌^◌, ◌<◌, ◌≤◌, suc, inl, Bor, List, [], ◌∷◌, ◌++◌, length, take, ◌-◌, map, Some, None, refl, sym, ap, ◌∙◌, arith, append_assoc, append-nil}
+use Rattle.std.proofs.Common.{◌≡◌, ◌≢◌, ℕ, ◌*◌, ◌/◌, ◌^◌, ◌<◌, ◌≤◌, suc, inl, List, [], ◌∷◌, ◌++◌, length, take, ◌-◌, map, Some, None, refl, sym, ap, ◌∙◌, arith, append_assoc, append-nil}
 use Rattle.std.specs.Map.{keys_of, values_of}
 use Rattle.jsonb_doc.specs.Tree.{Tree, text, object, no_trees, tree, trees_of, Pairs, no_pairs, pair, keys, values, members, pairs_of}
 use Rattle.jsonb_doc.specs.Payload.{NumberReader, Form, number_reader}
@@ -21,7 +21,7 @@ use Rattle.jsonb_raw.specs.declared.functions.parts.FirstEntry.{FirstEntry}
 use Rattle.jsonb_raw.specs.declared.functions.parts.PairEntries.{PairEntries}
 use Rattle.jsonb_raw.specs.declared.functions.parts.FirstPair.{FirstPair}
 use Rattle.jsonb_raw.specs.declared.functions.parts.PairRows.{PairRows}
-use Rattle.jsonb_raw.specs.Private.Rows.{HoldTrees, RowsHold, row_words, row_contents, IsFirst, TakesFirst, HoldPairs, ArePairsOf, Holding, PairsHeld, PairsOpen, IsFirstPair, TakesFirstPair, HasRowMore}
+use Rattle.jsonb_raw.specs.Private.Rows.{HoldTrees, RowsHold, row_words, row_contents, IsFirst, TakesFirst, HoldPairs, ArePairsOf, Holding, PairsHeld, PairsOpen, IsFirstPair, HasRowMore}
 use Rattle.jsonb_raw.proofs.RowLemmas.{entries_append}
 
 abbrev Member : Type 0
@@ -44,11 +44,6 @@ first_read form row (t ∷ ts) first h begin =
       others_hold = record { entries = rw (same.2, same.3) e.others };
     }
 
--- a row without words holds no trees
-pub first_none : (form : Form) (row : Entries) (ts : List Tree) → HoldTrees form row ts → length row.words.now ≡ 0 → TakesFirst form row ts None
-first_none form row [] h none = tt
-first_none form row (t ∷ ts) h none = omega (arith, none, ap length h.entries.begin.words_joined)
-
 -- words that begin with no entry hold none
 pub first_there : (form : Form) (row : Entries) (ts : List Tree) → HoldTrees form row ts → length row.words.now ≢ 0
     → ((kind : ℕ) (content ws cs : List ℕ) → BeginWith row.words.now row.contents.now kind content ws cs → ⊥) → ⊥
@@ -56,28 +51,6 @@ first_there form row [] h some none = some (ap length h.entries.0)
 first_there form row (t ∷ ts) h some none = none h.entries.kind h.entries.content h.entries.other_words h.entries.other_contents h.entries.begin
 
 -- ---- the first pair
-
-renamed : (form : Form) (row : Entries) (t : Tree) (ts : List Tree) (others : Entries) (kind kind' : ℕ) (content content' : List ℕ) → kind ≡ kind' → content
-    ≡ content'
-    → IsFirst form row t ts kind content others → IsFirst form row t ts kind' content' others
-renamed form row t ts others kind kind' content content' e f h = rw (← e, ← f) h
-
-pub pair_read : (form : Form) (row : PairEntries) (ps : List Member) (key value : FirstEntry) (first : FirstPair) → HoldPairs form row ps
-    → TakesFirst form row.keys (map text (keys_of ps)) (Some key) → TakesFirst form row.values (values_of ps) (Some value)
-    → first.key ≡ key.content → first.kind ≡ value.kind → first.content ≡ value.content → first.others ≡ record { keys = key.others; values = value.others }
-    → TakesFirstPair form row ps (Some first)
-pair_read form row [] key value first h k v same kind content others = k
-pair_read form row (p ∷ ps) key value first h k v same kind content others =
-    record {
-      key = ap (λ (b : Bor (List ℕ)). b.now) same ∙ k.part.1;
-      name = rw others (renamed form row.keys _ _ key.others key.kind text_entry key.content.now p.0 k.part.0 k.part.1 k);
-      value = rw (kind, content, others) v;
-    }
-
-pub pair_none : (form : Form) (row : PairEntries) (ps : List Member) → TakesFirst form row.keys (map text (keys_of ps)) None
-    → TakesFirstPair form row ps None
-pair_none form row [] k = tt
-pair_none form row (p ∷ ps) k = k
 
 pub value_there : (form : Form) (row : PairEntries) (ps : List Member) (key : FirstEntry) → TakesFirst form row.keys (map text (keys_of ps)) (Some key)
     → TakesFirst form row.values (values_of ps) None → ⊥

@@ -5,7 +5,7 @@ use Rattle.std.specs.Int.{w32, to_be_bytes, from_be_bytes}
 use Rattle.std.proofs.lemmas.List.{length-append, take_at, drop_at, take-append-drop}
 use Rattle.jsonb_doc.specs.declared.error.Error.{Error}
 use Rattle.jsonb_doc.specs.Tree as spec
-use Rattle.jsonb_doc.specs.Tree.{Tree, Trees, Pairs, elements, values, count, trees_of}
+use Rattle.jsonb_doc.specs.Tree.{Tree, Trees, Pairs, elements, values, count}
 use Rattle.jsonb_doc.specs.Payload.{Form, number_reader}
 use Rattle.jsonb_doc.specs.Format.{Decodes, IsContent, AreKeys, header, array_header, object_header, container_entry, null_entry, entry_word, key_bytes}
 use Rattle.jsonb_doc.specs.Format.{key_words as key_words_of}
@@ -143,17 +143,6 @@ module _ {G : Type 0} where
       by [] ts r w = absurd r
       by (e ∷ es) [] r w = absurd w.left_are
       by (e ∷ es) (t ∷ ts) r w = go e es t ts r w
-
-  pub no_entry_error : (form : Form) (is_object : Bool) (before out : List ℕ) (start word : ℕ) (words contents : List ℕ) (target : Tree) (most : ℕ)
-      (error : Error)
-      → ((es : List EntryParts) → FitEntries es → words ≡ words_of_entries es → contents ≡ contents_of_entries es → ReadsEntry es (Err error))
-      → IsOpen form is_object before out start word words contents target most → G
-  no_entry_error form is_object before out start word words contents target most error reads o = by o.entries
-      (reads o.entries o.written.left_within o.words_are o.contents_are)
-    where
-      by : (es : List EntryParts) → ReadsEntry es (Err error) → G
-      by [] r = absurd r
-      by (e ∷ es) r = absurd r
 
 no_entry : (form : Form) (is_object : Bool) (before out : List ℕ) (start word : ℕ) (words contents : List ℕ) (target : Tree) (most : ℕ)
     → ((es : List EntryParts) → FitEntries es → words ≡ words_of_entries es → contents ≡ contents_of_entries es → ReadsEntry es (Ok None))

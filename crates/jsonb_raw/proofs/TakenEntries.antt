@@ -18,17 +18,9 @@ module _ {X : Type 0} where
   take_no zero = refl
   take_no (suc n) = refl
 
-  pub drop_no : (n : ℕ) → ◌≡◌ {A = List X} (drop n []) []
-  drop_no zero = refl
-  drop_no (suc n) = refl
-
   pub take_zero : (n : ℕ) (xs : List X) → n ≤ 0 → take n xs ≡ []
   take_zero zero xs h = refl
   take_zero (suc n) xs h = absurd (omega arith)
-
-  pub drop_zero : (n : ℕ) (xs : List X) → n ≤ 0 → drop n xs ≡ xs
-  drop_zero zero xs h = refl
-  drop_zero (suc n) xs h = absurd (omega arith)
 
   -- one of a list is one of its first so many, or one of the others
   pub any_split : (test : X → Bool) (n : ℕ) (xs : List X) → list_any test xs ≡ (list_any test (take n xs) || list_any test (drop n xs))

@@ -1,6 +1,6 @@
 use Rattle.std.proofs.Common.{◌≡◌, ◌+◌, ◌∙◌, refl, sym, ap, rules}
 use Rattle.jsonb_raw.proofs.ChildAnswers.{decided}
-use Rattle.jsonb_raw.proofs.NamePlaces.{found_behind_both, both_begun, both_here, both_other, both_further, both_nowhere}
+use Rattle.jsonb_raw.proofs.NamePlaces.{found_behind_both, both_here, both_other, both_further, both_nowhere}
 use Rattle.jsonb_raw.proofs.NamedPairs.{text_first, no_text_left}
 use Rattle.jsonb_raw.proofs.functions.path.child.position_ignoring_case.Goals as goal
 use Rattle.jsonb_raw.proofs.functions.path.child.position_ignoring_case.Goals.{then-eq_ignore_ascii_case+else-eq, else-eq_ignore_ascii_case}
