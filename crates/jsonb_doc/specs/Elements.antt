@@ -1,5 +1,5 @@
 -- The iterator over the elements of an array.
-use Rattle.std.specs.Prelude.{◌≡◌, ◌⊎◌, ℕ, ◌+◌, ◌*◌, ◌/◌, ◌≤◌, List, [], ◌++◌, length, Option, Some, None, Result, Ok, Err, IfSome, IfNone, IfOk, IfErr, ⊤}
+use Rattle.std.specs.Prelude.{◌≡◌, ◌⊎◌, ℕ, ◌+◌, ◌*◌, ◌/◌, ◌≤◌, List, [], ◌++◌, length, Option, Some, None, Result, Ok, Err, IsSomeAnd, IfSome, IfNone, IfOk, IfErr}
 use Rattle.jsonb_doc.specs.Tree.{Tree, array, Trees, no_trees, tree}
 use Rattle.jsonb_doc.specs.Payload.{Form, number_reader}
 use Rattle.jsonb_doc.specs.Format.{HeadedBy, array_header, BeginWith, BeginWithNone, AreEntries}
@@ -30,10 +30,8 @@ elements_room it = length it.entries.contents.now
 -- the answer is the first of the trees, and the others are left
 abbrev pub TakesElement : Form → Trees → Option (Result Item Error) → ElementIter → Type 0
 TakesElement form no_trees None after = HasElementsLeft form after no_trees
-TakesElement form no_trees (Some r) after = ⊥
-TakesElement form (tree t ts) None after = ⊥
-TakesElement form (tree t ts) (Some (Err e)) after = ⊥
 TakesElement form (tree t ts) (Some (Ok item)) after = StandsFor form item t × HasElementsLeft form after ts
+TakesElement form _ _ after = ⊥
 
 -- the first entry that is left is of this kind and content, and the others are left
 abbrev pub PassesElement : ElementIter → ℕ → List ℕ → ElementIter → Type 0
@@ -63,7 +61,5 @@ pub record GivesElement (before : ElementIter) (r : Option (Result Item Error)) 
 
 -- the iterator of a tree's elements
 abbrev pub IsElementsOf : Form → Tree → Option ElementIter → Type 0
-IsElementsOf form (array ts) (Some it) = HasElementsLeft form it ts
-IsElementsOf form (array ts) None = ⊥
-IsElementsOf form _ (Some it) = ⊥
-IsElementsOf form _ None = ⊤
+IsElementsOf form (array ts) found = IsSomeAnd found (λ it. HasElementsLeft form it ts)
+IsElementsOf form _ found = IfSome found (λ it. ⊥)

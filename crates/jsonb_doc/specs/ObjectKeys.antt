@@ -1,5 +1,5 @@
 -- The iterators over the keys and over the values of an object.
-use Rattle.std.specs.Prelude.{◌≡◌, ◌⊎◌, ℕ, ◌+◌, ◌*◌, ◌/◌, List, [], ◌∷◌, ◌++◌, length, IsUtf8, Option, Some, None, Result, Ok, Err, IfSome, IfNone, IfErr, ⊤}
+use Rattle.std.specs.Prelude.{◌≡◌, ◌⊎◌, ℕ, ◌+◌, ◌*◌, ◌/◌, List, [], ◌∷◌, ◌++◌, length, IsUtf8, Option, Some, None, Result, Ok, Err, IsSomeAnd, IfSome, IfNone, IfErr}
 use Rattle.std.specs.Borrow.{Bor}
 use Rattle.jsonb_doc.specs.Tree.{Tree, object, Trees, keys, values}
 use Rattle.jsonb_doc.specs.Payload.{Form}
@@ -33,10 +33,8 @@ keys_bound it = (length it.key_words.now + 3) / 4
 -- the answer is the first of the keys, and the others are left
 abbrev pub TakesKey : List (List ℕ) → Option (Result (Bor (List ℕ)) Error) → KeyIter → Type 0
 TakesKey [] None after = HasKeysLeft after []
-TakesKey [] (Some r) after = ⊥
-TakesKey (key ∷ ks) None after = ⊥
-TakesKey (key ∷ ks) (Some (Err e)) after = ⊥
 TakesKey (key ∷ ks) (Some (Ok given)) after = (given.now ≡ key) × HasKeysLeft after ks
+TakesKey _ _ after = ⊥
 
 -- the first key that is left has these bytes, and the others are left
 abbrev pub PassesKey : KeyIter → List ℕ → KeyIter → Type 0
@@ -61,10 +59,8 @@ pub record GivesKey (before : KeyIter) (r : Option (Result (Bor (List ℕ)) Erro
 
 -- the iterator of a tree's keys
 abbrev pub IsKeysOf : Tree → Option KeyIter → Type 0
-IsKeysOf (object ps) (Some it) = HasKeysLeft it (keys ps)
-IsKeysOf (object ps) None = ⊥
-IsKeysOf _ (Some it) = ⊥
-IsKeysOf _ None = ⊤
+IsKeysOf (object ps) found = IsSomeAnd found (λ it. HasKeysLeft it (keys ps))
+IsKeysOf _ found = IfSome found (λ it. ⊥)
 
 -- these values are left in the iterator
 abbrev pub HasValuesLeft : Form → ValueIter → Trees → Type 0
@@ -84,7 +80,5 @@ GivesValue before r after = GivesElement before.elements r after.elements
 
 -- the iterator of a tree's values
 abbrev pub IsValuesOf : Form → Tree → Option ValueIter → Type 0
-IsValuesOf form (object ps) (Some it) = HasValuesLeft form it (values ps)
-IsValuesOf form (object ps) None = ⊥
-IsValuesOf form _ (Some it) = ⊥
-IsValuesOf form _ None = ⊤
+IsValuesOf form (object ps) found = IsSomeAnd found (λ it. HasValuesLeft form it (values ps))
+IsValuesOf form _ found = IfSome found (λ it. ⊥)

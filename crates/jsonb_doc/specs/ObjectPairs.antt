@@ -1,5 +1,5 @@
 -- The iterator over the pairs of an object.
-use Rattle.std.specs.Prelude.{◌≡◌, ◌⊎◌, ℕ, ◌+◌, ◌*◌, ◌/◌, ◌≤◌, List, [], ◌++◌, length, IsUtf8, Option, Some, None, Result, Ok, Err, IfSome, IfNone, IfOk, IfErr, ⊤}
+use Rattle.std.specs.Prelude.{◌≡◌, ◌⊎◌, ℕ, ◌+◌, ◌*◌, ◌/◌, ◌≤◌, List, [], ◌++◌, length, IsUtf8, Option, Some, None, Result, Ok, Err, IsSomeAnd, IfSome, IfNone, IfOk, IfErr}
 use Rattle.std.specs.Borrow.{Bor}
 use Rattle.jsonb_doc.specs.Tree.{Tree, object, Pairs, no_pairs, pair, keys}
 use Rattle.jsonb_doc.specs.Payload.{Form, number_reader}
@@ -35,11 +35,9 @@ pairs_room it = length it.value_contents.now
 -- the answer is the first of the pairs, and the others are left
 abbrev pub TakesPair : Form → Pairs → Option (Result (Bor (List ℕ) × Item) Error) → PairIter → Type 0
 TakesPair form no_pairs None after = HasPairsLeft form after no_pairs
-TakesPair form no_pairs (Some r) after = ⊥
-TakesPair form (pair key t ps) None after = ⊥
-TakesPair form (pair key t ps) (Some (Err e)) after = ⊥
 TakesPair form (pair key t ps) (Some (Ok given)) after =
     (given.0.now ≡ key) × StandsFor form given.1 t × HasPairsLeft form after ps
+TakesPair form _ _ after = ⊥
 
 -- The first key that is left has these bytes, the first value is of this kind and content, and the others are left.
 pub record PassesPair (before : PairIter) (key : List ℕ) (kind : ℕ) (content : List ℕ) (after : PairIter) : Type 0 where
@@ -75,7 +73,5 @@ pub record GivesPair (before : PairIter) (r : Option (Result (Bor (List ℕ) × 
 
 -- the iterator of a tree's pairs
 abbrev pub IsPairsOf : Form → Tree → Option PairIter → Type 0
-IsPairsOf form (object ps) (Some it) = HasPairsLeft form it ps
-IsPairsOf form (object ps) None = ⊥
-IsPairsOf form _ (Some it) = ⊥
-IsPairsOf form _ None = ⊤
+IsPairsOf form (object ps) found = IsSomeAnd found (λ it. HasPairsLeft form it ps)
+IsPairsOf form _ found = IfSome found (λ it. ⊥)

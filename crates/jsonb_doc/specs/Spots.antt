@@ -45,10 +45,8 @@ spots_room it = it.end - it.start
 -- the answer is the spot of the first of the trees, and the others are left
 abbrev pub TakesSpot : List ℕ → List Tree → Option (Result Spot Error) → SpotIter → Type 0
 TakesSpot bytes [] None after = HasSpotsLeft bytes after []
-TakesSpot bytes [] (Some r) after = ⊥
-TakesSpot bytes (t ∷ ts) None after = ⊥
-TakesSpot bytes (t ∷ ts) (Some (Err e)) after = ⊥
 TakesSpot bytes (t ∷ ts) (Some (Ok spot)) after = Locates bytes spot t × HasSpotsLeft bytes after ts
+TakesSpot bytes _ _ after = ⊥
 
 -- The first word that is left tells of the content at this spot, which lies within the contents, and the others are
 -- left.

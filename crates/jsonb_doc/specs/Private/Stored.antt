@@ -29,10 +29,8 @@ entries_room it = length it.contents.now
 -- the answer is the entry of the first of the trees, and the others are left
 abbrev pub TakesEntry : Form → Trees → Option (Result StoredEntry Error) → EntryIter → Type 0
 TakesEntry form no_trees None after = HasEntriesLeft form after no_trees
-TakesEntry form no_trees (Some r) after = ⊥
-TakesEntry form (tree t ts) None after = ⊥
-TakesEntry form (tree t ts) (Some (Err e)) after = ⊥
 TakesEntry form (tree t ts) (Some (Ok entry)) after = Stores form entry t × HasEntriesLeft form after ts
+TakesEntry form _ _ after = ⊥
 
 -- What is read, on any bytes: the first of the entries that are left, or an error where they begin with none.
 abbrev pub ReadsEntry : EntryIter → Option (Result StoredEntry Error) → EntryIter → Type 0
@@ -66,11 +64,9 @@ pub record HasPairEntriesLeft (form : Form) (it : PairEntryIter) (ps : Pairs) : 
 -- the answer is the key and the entry of the first of the pairs, and the others are left
 abbrev pub TakesPairEntry : Form → Pairs → Option (Result (Bor (List ℕ) × StoredEntry) Error) → PairEntryIter → Type 0
 TakesPairEntry form no_pairs None after = HasPairEntriesLeft form after no_pairs
-TakesPairEntry form no_pairs (Some r) after = ⊥
-TakesPairEntry form (pair key t ps) None after = ⊥
-TakesPairEntry form (pair key t ps) (Some (Err e)) after = ⊥
 TakesPairEntry form (pair key t ps) (Some (Ok given)) after =
     (given.0.now ≡ key) × Stores form given.1 t × HasPairEntriesLeft form after ps
+TakesPairEntry form _ _ after = ⊥
 
 -- What a call of `next` does. On any bytes it gives a pair, an error or `None`, and after `None` nothing more.
 pub record GivesPairEntry (before : PairEntryIter) (r : Option (Result (Bor (List ℕ) × StoredEntry) Error))
