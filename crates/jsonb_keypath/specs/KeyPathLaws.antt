@@ -1,6 +1,6 @@
 -- What is promised of a key path that is printed and read again.
-use Rattle.std.specs.Prelude.{◌≡◌, ⊤, ◌<◌, ◌^◌, true, List, [], ◌∷◌, length, Some}
-use Rattle.std.specs.List.{list_all}
+use Rattle.std.specs.Prelude.{◌≡◌, ◌<◌, ◌^◌, true, List, length, Some}
+use Rattle.std.specs.List.{list_all, AllZip}
 use Rattle.std.specs.Str.{is_utf8}
 use Rattle.jsonb_keypath.specs.Each.{Each}
 use Rattle.jsonb_keypath.specs.Tokens.{is_within}
@@ -14,21 +14,12 @@ SamePlace (quoted_name s) (quoted_name t) = s ≡ t
 SamePlace (quoted_name s) (unquoted_name t) = s ≡ t
 SamePlace (unquoted_name s) (quoted_name t) = s ≡ t
 SamePlace (unquoted_name s) (unquoted_name t) = s ≡ t
-SamePlace (index i) (quoted_name t) = ⊥
-SamePlace (index i) (unquoted_name t) = ⊥
-SamePlace (quoted_name s) (index j) = ⊥
-SamePlace (unquoted_name s) (index j) = ⊥
-
-abbrev pub SamePlaces : List Key → List Key → Type 0
-SamePlaces [] [] = ⊤
-SamePlaces [] (k ∷ others) = ⊥
-SamePlaces (k ∷ keys) [] = ⊥
-SamePlaces (k ∷ keys) (l ∷ others) = SamePlace k l × SamePlaces keys others
+SamePlace _ _ = ⊥
 
 -- the printed text reads, as a key path with the same places
 abbrev pub ReadsBack : List Key → Type 0
 ReadsBack keys =
-    (found : List Key) × (key_path (key_path_text keys) ≡ Some found) × SamePlaces keys found
+    (found : List Key) × (key_path (key_path_text keys) ≡ Some found) × AllZip SamePlace keys found
 
 -- a step that prints as it would be written by hand: an index of 32 bits, a plain name,
 -- or a text between quotes without quotes and backslashes

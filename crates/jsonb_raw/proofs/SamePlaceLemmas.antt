@@ -1,9 +1,10 @@
 -- Key paths that differ in their quotes alone have the same places.
 use Rattle.std.proofs.Common.{◌≡◌, ℕ, List, [], ◌∷◌, Option, Some, None, IfSome, refl, sym, ap, slice_get}
 use Rattle.std.specs.Prelude.{option_and_then, option_map}
+use Rattle.std.specs.List.{AllZip}
 use Rattle.jsonb_doc.specs.Tree.{Tree, null}
 use Rattle.jsonb_keypath.specs.KeyPathGrammar.{Key, index, quoted_name, unquoted_name}
-use Rattle.jsonb_keypath.specs.KeyPathLaws.{SamePlace, SamePlaces, ReadsBack}
+use Rattle.jsonb_keypath.specs.KeyPathLaws.{SamePlace, ReadsBack}
 use Rattle.jsonb_raw.specs.Places.{children, child_position, location}
 use Rattle.jsonb_raw.specs.PlacesLaws.{PrintsToItsPlace}
 
@@ -22,7 +23,7 @@ same_child (unquoted_name s) (index j) e t = absurd e
 same_child (unquoted_name s) (quoted_name u) e t = rw e (without_quotes u t)
 same_child (unquoted_name s) (unquoted_name u) e t = rw e refl
 
-same_place : (steps others : List Key) → SamePlaces steps others → (t : Tree) → location others t ≡ location steps t
+same_place : (steps others : List Key) → AllZip SamePlace steps others → (t : Tree) → location others t ≡ location steps t
 same_place [] [] h t = refl
 same_place [] (k ∷ others) h t = absurd h
 same_place (k ∷ steps) [] h t = absurd h

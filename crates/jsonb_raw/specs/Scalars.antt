@@ -54,20 +54,11 @@ abbrev pub interval_in : Tree → Option (ℤ × ℤ × ℤ)
 interval_in (extension (interval months days micros)) = Some (months, days, micros)
 interval_in _ = None
 
--- ---- kinds
+-- ---- kinds. A tree is of the other kinds exactly where it has a part of that kind.
 
 abbrev pub is_null : Tree → Bool
 is_null null = true
 is_null _ = false
-
-abbrev pub is_boolean : Tree → Bool
-is_boolean t = is_some (boolean_in t)
-
-abbrev pub is_number : Tree → Bool
-is_number t = is_some (number_in t)
-
-abbrev pub is_string : Tree → Bool
-is_string t = is_some (text_in t)
 
 abbrev pub is_array : Tree → Bool
 is_array (array ts) = true
@@ -79,21 +70,6 @@ is_object _ = false
 
 abbrev pub is_extension_value : Tree → Bool
 is_extension_value t = is_some (extension_in t)
-
-abbrev pub is_binary : Tree → Bool
-is_binary t = is_some (binary_in t)
-
-abbrev pub is_date : Tree → Bool
-is_date t = is_some (date_in t)
-
-abbrev pub is_timestamp : Tree → Bool
-is_timestamp t = is_some (timestamp_in t)
-
-abbrev pub is_timestamp_tz : Tree → Bool
-is_timestamp_tz t = is_some (timestamp_tz_in t)
-
-abbrev pub is_interval : Tree → Bool
-is_interval t = is_some (interval_in t)
 
 -- the name of a stored form of numbers
 abbrev pub number_type : Variant → List ℕ

@@ -13,8 +13,7 @@ ghost use Rattle.jsonb_raw.specs.Documents.{raw_bytes};
 ghost use Rattle.jsonb_doc.specs.declared.error.Error.TheVariants.{OutOfMemory};
 ghost use Rattle.jsonb_raw.specs.Scalars.{boolean_in, number_in, text_in, extension_in};
 ghost use Rattle.jsonb_raw.specs.Scalars.{binary_in, date_in, timestamp_in, timestamp_tz_in, interval_in};
-ghost use Rattle.jsonb_raw.specs.Scalars.{is_null, is_boolean, is_number, is_string, is_array, is_object};
-ghost use Rattle.jsonb_raw.specs.Scalars.{is_extension_value, is_binary, is_date, is_timestamp, is_timestamp_tz, is_interval};
+ghost use Rattle.jsonb_raw.specs.Scalars.{is_null, is_array, is_object, is_extension_value};
 ghost use Rattle.jsonb_raw.specs.Scalars.{type_name, number_type, extension_type, IsWholeNumber, BorrowsText, CopiesBytes, IsDate, IsTimestamp, IsTimestampTz, IsInterval};
 
 #[cfg(test)]
@@ -83,7 +82,7 @@ impl<'a> RawJsonb<'a> {
     /// Constant, but a text is read whole. No memory.
     pub fn is_boolean(&self) -> Result<bool, Error>
         ensures kind { (form : Form) (tree : Tree) → Decodes form (raw_bytes self.now) tree
-            → IsOkAnd result (λ b. b ≡ is_boolean tree) }
+            → IsOkAnd result (λ b. b ≡ is_some (boolean_in tree)) }
         ensures errors { IfErr result IsDecodingError }
     {
         Ok(matches!(root_item(self.as_bytes())?, Item::Boolean(_)))
@@ -100,7 +99,7 @@ impl<'a> RawJsonb<'a> {
     /// Constant, but a text is read whole. No memory.
     pub fn is_number(&self) -> Result<bool, Error>
         ensures kind { (form : Form) (tree : Tree) → Decodes form (raw_bytes self.now) tree
-            → IsOkAnd result (λ b. b ≡ is_number tree) }
+            → IsOkAnd result (λ b. b ≡ is_some (number_in tree)) }
         ensures errors { IfErr result IsDecodingError }
     {
         Ok(matches!(root_item(self.as_bytes())?, Item::Number(_)))
@@ -117,7 +116,7 @@ impl<'a> RawJsonb<'a> {
     /// Constant, but a text is read whole. No memory.
     pub fn is_string(&self) -> Result<bool, Error>
         ensures kind { (form : Form) (tree : Tree) → Decodes form (raw_bytes self.now) tree
-            → IsOkAnd result (λ b. b ≡ is_string tree) }
+            → IsOkAnd result (λ b. b ≡ is_some (text_in tree)) }
         ensures errors { IfErr result IsDecodingError }
     {
         Ok(matches!(root_item(self.as_bytes())?, Item::String(_)))
@@ -185,7 +184,7 @@ impl<'a> RawJsonb<'a> {
     /// Constant, but a text is read whole. No memory.
     pub fn is_binary(&self) -> Result<bool, Error>
         ensures kind { (form : Form) (tree : Tree) → Decodes form (raw_bytes self.now) tree
-            → IsOkAnd result (λ b. b ≡ is_binary tree) }
+            → IsOkAnd result (λ b. b ≡ is_some (binary_in tree)) }
         ensures errors { IfErr result IsDecodingError }
     {
         Ok(matches!(
@@ -205,7 +204,7 @@ impl<'a> RawJsonb<'a> {
     /// Constant, but a text is read whole. No memory.
     pub fn is_date(&self) -> Result<bool, Error>
         ensures kind { (form : Form) (tree : Tree) → Decodes form (raw_bytes self.now) tree
-            → IsOkAnd result (λ b. b ≡ is_date tree) }
+            → IsOkAnd result (λ b. b ≡ is_some (date_in tree)) }
         ensures errors { IfErr result IsDecodingError }
     {
         Ok(matches!(
@@ -225,7 +224,7 @@ impl<'a> RawJsonb<'a> {
     /// Constant, but a text is read whole. No memory.
     pub fn is_timestamp(&self) -> Result<bool, Error>
         ensures kind { (form : Form) (tree : Tree) → Decodes form (raw_bytes self.now) tree
-            → IsOkAnd result (λ b. b ≡ is_timestamp tree) }
+            → IsOkAnd result (λ b. b ≡ is_some (timestamp_in tree)) }
         ensures errors { IfErr result IsDecodingError }
     {
         Ok(matches!(
@@ -245,7 +244,7 @@ impl<'a> RawJsonb<'a> {
     /// Constant, but a text is read whole. No memory.
     pub fn is_timestamp_tz(&self) -> Result<bool, Error>
         ensures kind { (form : Form) (tree : Tree) → Decodes form (raw_bytes self.now) tree
-            → IsOkAnd result (λ b. b ≡ is_timestamp_tz tree) }
+            → IsOkAnd result (λ b. b ≡ is_some (timestamp_tz_in tree)) }
         ensures errors { IfErr result IsDecodingError }
     {
         Ok(matches!(
@@ -265,7 +264,7 @@ impl<'a> RawJsonb<'a> {
     /// Constant, but a text is read whole. No memory.
     pub fn is_interval(&self) -> Result<bool, Error>
         ensures kind { (form : Form) (tree : Tree) → Decodes form (raw_bytes self.now) tree
-            → IsOkAnd result (λ b. b ≡ is_interval tree) }
+            → IsOkAnd result (λ b. b ≡ is_some (interval_in tree)) }
         ensures errors { IfErr result IsDecodingError }
     {
         Ok(matches!(
