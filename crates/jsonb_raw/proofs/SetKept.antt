@@ -1,6 +1,6 @@
 -- What the loops of the set functions keep true.
-use Rattle.std.proofs.Common.{◌≡◌, ℕ, ◌+◌, ◌<◌, ◌^◌, suc, Bool, true, false, ◌||◌, cond, List, [], ◌∷◌, ◌++◌, length, map, filter, Option, Some, None, inl, inr, refl, sym, ap, subst, ◌∙◌, append_assoc, append-nil, arith}
-use Rattle.std.specs.List.{AllByRecursion}
+use Rattle.std.proofs.Common.{ap₂, ◌≡◌, ℕ, ◌+◌, ◌<◌, ◌^◌, suc, Bool, true, false, ◌||◌, cond, List, [], ◌∷◌, ◌++◌, length, map, filter, Option, Some, None, inl, inr, refl, sym, ap, subst, ◌∙◌, append_assoc, append-nil, arith}
+use Rattle.std.specs.List.{AllByRecursion, list_any}
 use Rattle.jsonb_doc.specs.Tree.{Tree, array, object, Trees, no_trees, tree, elements, count, trees_of}
 use Rattle.jsonb_doc.specs.Payload.{Form, canonical, number_reader}
 use Rattle.jsonb_doc.specs.Format.{IsContent}
@@ -14,7 +14,9 @@ use Rattle.jsonb_doc.specs.declared.element_iter.ElementIter.{ElementIter}
 use Rattle.jsonb_doc.specs.declared.error.Error.{Error}
 use Rattle.jsonb_doc.proofs.LimitLemmas.{array_too_large-more}
 use Rattle.jsonb_raw.specs.Arrays.{as_elements}
-use Rattle.jsonb_raw.specs.Sets.{Occurrence, occurrences}
+use Rattle.jsonb_doc.specs.Equal.{is_equal}
+use Rattle.jsonb_doc.specs.Proofs.Equality.{is_equal_equiv}
+use Rattle.jsonb_raw.specs.Sets.{Occurrence, occurrences, overlap}
 use Rattle.jsonb_raw.specs.Private.SetCounts.{keeps, kept_one, CountsBehind}
 use Rattle.jsonb_raw.specs.Private.Rows.{HoldTrees, AreElementsOf, RowsHold, IsFirst, TakesFirst, Holding, HasRowMore}
 use Rattle.jsonb_raw.specs.declared.functions.parts.Entries.{Entries}
@@ -72,6 +74,11 @@ no_row form _ found is h = refl
 pub or_false : (b : Bool) → (b || false) ≡ b
 or_false true = refl
 or_false false = refl
+
+-- one tree overlaps those that it is among
+pub overlap_one : (ts : List Tree) (u : Tree) → overlap ts (u ∷ []) ≡ list_any (is_equal u) ts
+overlap_one [] u = refl
+overlap_one (t ∷ ts) u = ap₂ (λ a b. a || b) (or_false (is_equal t u) ∙ is_equal_equiv.symm t u) (overlap_one ts u)
 
 -- ---- what is kept
 

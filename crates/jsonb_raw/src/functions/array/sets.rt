@@ -218,44 +218,17 @@ fn has_element(found: ElementIter<'_>, item: &Item<'_>) -> Result<bool, Error>
     Ok(false)
 }
 
-/// Whether an element of the document equals the item by value, where a root that is no array counts as one.
-fn document_has(bytes: &[u8], item: &Item<'_>) -> Result<bool, Error>
-    ensures has { (form other_form : Form) (t u : Tree) → Decodes form bytes.now u
-        → StandsFor other_form item.now t → IsOkAnd result (λ b. b ≡ list_any (is_equal t) (as_elements u)) }
-    ensures errors { IfErr result IsDecodingError }
-{
-    match elements(bytes)? {
-        Some(found) => has_element(found, item),
-        None => items_equal(item, &root_item(bytes)?),
-    }
-}
-
-/// Whether an element equals one of the other document.
-fn elements_overlap(found: ElementIter<'_>, other: &[u8]) -> Result<bool, Error>
-    ensures overlap { (form other_form : Form) (ts : Trees) (u : Tree) → HasElementsLeft form found.entry ts
-        → Decodes other_form other.now u → IsOkAnd result (λ b. b ≡ overlap (elements_of ts) (as_elements u)) }
-    ensures errors { IfErr result IsDecodingError }
-{
-    for element in found {
-        if document_has(other, &element?)? {
-            return Ok(true);
-        }
-    }
-    Ok(false)
-}
-
-/// The same of a document, where a root that is no array counts as one element.
+/// Whether an element of one document equals one of the other, where a root that is no array counts as one element.
 fn documents_overlap(bytes: &[u8], other: &[u8]) -> Result<bool, Error>
     ensures overlap { (form other_form : Form) (t u : Tree) → Decodes form bytes.now t
         → Decodes other_form other.now u → IsOkAnd result (λ b. b ≡ overlap (as_elements t) (as_elements u)) }
     ensures errors { IfErr result IsDecodingError }
 {
-    if let (Item::Array(_), Item::Array(_)) = (root_item(bytes)?, root_item(other)?) {
-        return entries_overlap(array_entries(bytes)?, array_entries(other)?);
-    }
-    match elements(bytes)? {
-        Some(found) => elements_overlap(found, other),
-        None => document_has(other, &root_item(bytes)?),
+    match (elements(bytes)?, elements(other)?) {
+        (Some(_), Some(_)) => entries_overlap(array_entries(bytes)?, array_entries(other)?),
+        (Some(found), None) => has_element(found, &root_item(other)?),
+        (None, Some(found)) => has_element(found, &root_item(bytes)?),
+        (None, None) => items_equal(&root_item(bytes)?, &root_item(other)?),
     }
 }
 
