@@ -1,5 +1,5 @@
 -- Where names are looked up among the texts of a document.
-use Rattle.std.specs.Prelude.{◌≡◌, ℕ, false, List, Option, Some, None, ⊤}
+use Rattle.std.specs.Prelude.{◌≡◌, ℕ, Bool, true, false, List, Option, Some, None, ⊤}
 use Rattle.std.specs.Borrow.{Bor}
 use Rattle.std.specs.List.{list_any}
 use Rattle.std.specs.Ordering.{nat_cmp}
@@ -10,7 +10,7 @@ use Rattle.jsonb_doc.specs.Tree.{Tree, text, array, object, Trees, Pairs, keys}
 use Rattle.jsonb_doc.specs.Payload.{Form}
 use Rattle.jsonb_doc.specs.Format.{Decodes, AreKeys, IsBelowFirst}
 use Rattle.jsonb_doc.specs.Private.Stored.{HasEntriesLeft, key_trees}
-use Rattle.jsonb_raw.specs.Exists.{has_text}
+use Rattle.jsonb_raw.specs.Exists.{has_text, has_all, has_any}
 use Rattle.jsonb_raw.specs.declared.functions.path.exists.KeyCursor.{KeyCursor}
 use Rattle.jsonb_raw.specs.declared.functions.path.exists.KeySearch.{KeySearch}
 use Rattle.jsonb_raw.specs.declared.functions.path.exists.Texts.{Texts}
@@ -49,3 +49,8 @@ HoldsTexts form (Keys s) t = (ps : Pairs) × (t ≡ object ps) × IsSearchOf for
 HoldsTexts form (Elements bytes) t = (ts : Trees) × (t ≡ array ts) × Decodes form bytes.now (array ts)
 HoldsTexts form (Root s) t = t ≡ text s.now
 HoldsTexts form Without t = (name : List ℕ) → has_text name t ≡ false
+
+-- the tree has one of the texts, where that decides, or else each of them
+abbrev pub has_by : Bool → List (List ℕ) → Tree → Bool
+has_by true names t = has_any names t
+has_by false names t = has_all names t

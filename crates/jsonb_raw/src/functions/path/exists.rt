@@ -11,7 +11,7 @@ ghost use Rattle.jsonb_doc.specs.Private.Stored.{HasEntriesLeft, key_trees};
 ghost use Rattle.jsonb_doc.specs.Answer.{IsDecodingError};
 ghost use Rattle.jsonb_raw.specs.Documents.{raw_bytes};
 ghost use Rattle.jsonb_raw.specs.Exists.{is_text, has_text, has_all, has_any};
-ghost use Rattle.jsonb_raw.specs.Private.Cursors.{IsCursorOf, IsSearchOf, IsPassed, HoldsTexts};
+ghost use Rattle.jsonb_raw.specs.Private.Cursors.{IsCursorOf, IsSearchOf, IsPassed, HoldsTexts, has_by};
 ghost use Rattle.jsonb_raw.specs.Iterators.{YieldsItemsLeft};
 
 use crate::raw::RawJsonb;
@@ -218,6 +218,30 @@ fn texts_have(texts: &mut Texts<'_>, name: &str) -> Result<bool, Error>
     }
 }
 
+/// Whether one of the texts is there, where finding one decides, or else each of them is: the first that decides ends
+/// the walk.
+fn first_decides<'k, I: Iterator<Item = &'k str> + Drop>(
+    bytes: &[u8],
+    names: I,
+    found: bool,
+) -> Result<bool, Error>
+    requires can { I.can_next names }
+    requires ends { IsFinite (I.remaining names) }
+    ensures has { (left : I → List (List ℕ)) → YieldsItemsLeft I.next_gives left
+        → (form : Form) (t : Tree) → Decodes form bytes.now t
+        → IsOkAnd result (λ b. b ≡ has_by found (left names) t) }
+    ensures errors { IfErr result IsDecodingError }
+{
+    let mut texts = document_texts(bytes)?;
+    for name in names {
+        let has = texts_have(&mut texts, name)?;
+        if has == found {
+            return Ok(found);
+        }
+    }
+    Ok(!found)
+}
+
 impl RawJsonb<'_> {
     /// Whether the document has all of these texts: as keys of an object, as strings in an array, or as a string that
     /// is the root. Without texts it is true. The iterator must end. PostgreSQL has `?&`.
@@ -240,13 +264,7 @@ impl RawJsonb<'_> {
             → IsOkAnd result (λ b. b ≡ has_all (left names) t) }
         ensures errors { IfErr result IsDecodingError }
     {
-        let mut texts = document_texts(self.as_bytes())?;
-        for name in names {
-            if !texts_have(&mut texts, name)? {
-                return Ok(false);
-            }
-        }
-        Ok(true)
+        first_decides(self.as_bytes(), names, false)
     }
 
     /// Whether the document has one of these texts: as a key of an object, as a string in an array, or as a string
@@ -270,12 +288,6 @@ impl RawJsonb<'_> {
             → IsOkAnd result (λ b. b ≡ has_any (left names) t) }
         ensures errors { IfErr result IsDecodingError }
     {
-        let mut texts = document_texts(self.as_bytes())?;
-        for name in names {
-            if texts_have(&mut texts, name)? {
-                return Ok(true);
-            }
-        }
-        Ok(false)
+        first_decides(self.as_bytes(), names, true)
     }
 }
