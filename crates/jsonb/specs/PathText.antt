@@ -76,25 +76,11 @@ literal_text (raw document) = codes "raw(" ++ encode_lower document ++ codes ")"
 abbrev pub joins : BinaryOp → Bool
 joins and_op = true
 joins or_op = true
-joins eq = false
-joins not_eq = false
-joins lt = false
-joins lte = false
-joins gt = false
-joins gte = false
-joins starts_with_op = false
-joins add = false
-joins subtract = false
-joins multiply = false
-joins divide = false
-joins modulo = false
+joins _ = false
 
 abbrev pub is_joined : Expression → Bool
-is_joined (paths steps) = false
-is_joined (value l) = false
 is_joined (binary op left right) = joins op
-is_joined (unary op operand) = false
-is_joined (exists steps) = false
+is_joined _ = false
 
 -- the text of a side of a binary expression: joined conditions stand in parentheses
 abbrev pub side_text : Expression → List ℕ → List ℕ
