@@ -2,156 +2,127 @@
 
 use super::check;
 use crate::error::Error;
+use crate::nesting::tests::nested;
+use std::test::Fail;
+
+const DOCUMENTS: [&[u8]; 10] = [
+    // [false, 10, {"k":"v"}]
+    b"\x80\0\0\x03\x30\0\0\0\x20\0\0\x02\x50\0\0\x0e\x50\x0a\x40\0\0\x01\x10\0\0\x01\x10\0\0\x01kv",
+    // {"asd":"adf"}
+    b"\x40\0\0\x01\x10\0\0\x03\x10\0\0\x03asdadf",
+    // []
+    b"\x80\0\0\0",
+    // {}
+    b"\x40\0\0\0",
+    // {"":null}
+    b"\x40\0\0\x01\x10\0\0\0\0\0\0\0",
+    // null
+    b"\x20\0\0\0\0\0\0\0",
+    // the empty text
+    b"\x20\0\0\0\x10\0\0\0",
+    // 5 in eight bytes
+    b"\x20\0\0\0\x20\0\0\x09\x50\0\0\0\0\0\0\0\x05",
+    // 0 as a decimal of 128 bits
+    b"\x20\0\0\0\x20\0\0\x12\x70\0\0\0\0\0\0\0\0\0\0\0\0\0\0\0\0\xff",
+    // the date 1
+    b"\x20\0\0\0\x60\0\0\x05\x10\0\0\0\x01",
+];
+
+const INVALID: [&[u8]; 31] = [
+    b"",
+    b"\x80\0\0",
+    // headers of other kinds
+    b"\0\0\0\0",
+    b"\x60\0\0\0",
+    // a scalar header that counts
+    b"\x20\0\0\x01\0\0\0\0",
+    // a scalar header without an entry
+    b"\x20\0\0\0",
+    // a container behind a scalar header
+    b"\x20\0\0\0\x50\0\0\x04\x80\0\0\0",
+    // a count without entries
+    b"\x80\0\0\x01",
+    // more bytes behind the document
+    b"\x80\0\0\0\0",
+    b"\x20\0\0\0\0\0\0\0\0",
+    // a content that is cut off
+    b"\x80\0\0\x01\x10\0\0\x02a",
+    // a container within, with more bytes behind it
+    b"\x80\0\0\x01\x50\0\0\x05\x80\0\0\0\0",
+    // the top bit is set
+    b"\x80\0\0\x01\x80\0\0\0",
+    // the kind 7
+    b"\x80\0\0\x01\x70\0\0\0",
+    // null, false and true with a content
+    b"\x80\0\0\x01\0\0\0\x01a",
+    b"\x80\0\0\x01\x30\0\0\x01a",
+    b"\x80\0\0\x01\x40\0\0\x01a",
+    // a text that isn't UTF-8
+    b"\x80\0\0\x01\x10\0\0\x01\xff",
+    // a number without a payload
+    b"\x80\0\0\x01\x20\0\0\0",
+    // an integer of three bytes
+    b"\x80\0\0\x01\x20\0\0\x04\x50\0\0\0",
+    // an extension of no kind, and a date of three bytes
+    b"\x80\0\0\x01\x60\0\0\x01\x50",
+    b"\x80\0\0\x01\x60\0\0\x04\x10\0\0\x01",
+    // a scalar document within
+    b"\x80\0\0\x01\x50\0\0\x08\x20\0\0\0\0\0\0\0",
+    // {"a":null,"a":null}
+    b"\x40\0\0\x02\x10\0\0\x01\x10\0\0\x01\0\0\0\0\0\0\0\0aa",
+    // {"b":null,"a":null}
+    b"\x40\0\0\x02\x10\0\0\x01\x10\0\0\x01\0\0\0\0\0\0\0\0ba",
+    // {"ab":null,"a":null}
+    b"\x40\0\0\x02\x10\0\0\x02\x10\0\0\x01\0\0\0\0\0\0\0\0aba",
+    // a key that isn't a text
+    b"\x40\0\0\x01\0\0\0\0\0\0\0\0",
+    // a key that isn't UTF-8
+    b"\x40\0\0\x01\x10\0\0\x01\0\0\0\0\xff",
+    // [float, a content of the kind 7]
+    b"\x80\0\0\x02\x20\0\0\x01\x70\0\0\0\x60",
+    // [float] and one more byte
+    b"\x80\0\0\x01\x20\0\0\x01\x60\0",
+    // {"a":float,"a":float}
+    b"\x40\0\0\x02\x10\0\0\x01\x10\0\0\x01\x20\0\0\x01\x20\0\0\x01aa\x60\x60",
+];
+
+const UNSUPPORTED: [&[u8]; 5] = [
+    // 1.5 as a float
+    b"\x20\0\0\0\x20\0\0\x09\x60\x3f\xf8\0\0\0\0\0\0",
+    // a payload that begins as another float, whatever follows
+    b"\x20\0\0\0\x20\0\0\x01\x10",
+    // a decimal of 256 bits
+    b"\x20\0\0\0\x20\0\0\x22\x70\0\0\0\0\0\0\0\0\0\0\0\0\0\0\0\0\0\0\0\0\0\0\0\0\0\0\0\0\0\0\0\0\0",
+    // [float, 1]
+    b"\x80\0\0\x02\x20\0\0\x01\x20\0\0\x02\x20\x50\x01",
+    // {"a":[float]}
+    b"\x40\0\0\x01\x10\0\0\x01\x50\0\0\x09a\x80\0\0\x01\x20\0\0\x01\x30",
+];
+
+/// The first of the rows of which a check answers something else.
+fn first_other<'a>(rows: &[&'a [u8]], wanted: Result<(), Error>) -> Option<&'a [u8]> {
+    for bytes in rows {
+        if check(bytes) != wanted {
+            return Some(bytes);
+        }
+    }
+    None
+}
 
 #[test]
-fn accepts_documents(rt: HostRuntime) {
-    let documents: [&[u8]; 10] = [
-        // [false, 10, {"k":"v"}]
-        b"\x80\0\0\x03\x30\0\0\0\x20\0\0\x02\x50\0\0\x0e\x50\x0a\x40\0\0\x01\x10\0\0\x01\x10\0\0\x01kv",
-        // {"asd":"adf"}
-        b"\x40\0\0\x01\x10\0\0\x03\x10\0\0\x03asdadf",
-        // []
-        b"\x80\0\0\0",
-        // {}
-        b"\x40\0\0\0",
-        // {"":null}
-        b"\x40\0\0\x01\x10\0\0\0\0\0\0\0",
-        // null
-        b"\x20\0\0\0\0\0\0\0",
-        // the empty text
-        b"\x20\0\0\0\x10\0\0\0",
-        // 5 in eight bytes
-        b"\x20\0\0\0\x20\0\0\x09\x50\0\0\0\0\0\0\0\x05",
-        // 0 as a decimal of 128 bits
-        b"\x20\0\0\0\x20\0\0\x12\x70\0\0\0\0\0\0\0\0\0\0\0\0\0\0\0\0\xff",
-        // the date 1
-        b"\x20\0\0\0\x60\0\0\x05\x10\0\0\0\x01",
-    ];
-    for document in documents {
-        assert_eq!(rt; check(document), Ok(()), "{document:?}");
+fn documents_and_other_bytes(rt: HostRuntime) {
+    for (rows, wanted) in [
+        (DOCUMENTS.as_slice(), Ok(())),
+        (INVALID.as_slice(), Err(Error::InvalidJsonb)),
+        (UNSUPPORTED.as_slice(), Err(Error::UnsupportedNumber)),
+    ] {
+        assert_eq!(rt; first_other(rows, wanted), None);
     }
 }
 
 #[test]
-fn refuses_other_bytes(rt: HostRuntime) {
-    let others: [&[u8]; 12] = [
-        b"",
-        b"\x80\0\0",
-        // headers of other kinds
-        b"\0\0\0\0",
-        b"\x60\0\0\0",
-        // a scalar header that counts
-        b"\x20\0\0\x01\0\0\0\0",
-        // a scalar header without an entry
-        b"\x20\0\0\0",
-        // a container behind a scalar header
-        b"\x20\0\0\0\x50\0\0\x04\x80\0\0\0",
-        // a count without entries
-        b"\x80\0\0\x01",
-        // more bytes behind the document
-        b"\x80\0\0\0\0",
-        b"\x20\0\0\0\0\0\0\0\0",
-        // a content that is cut off
-        b"\x80\0\0\x01\x10\0\0\x02a",
-        // a container within, with more bytes behind it
-        b"\x80\0\0\x01\x50\0\0\x05\x80\0\0\0\0",
-    ];
-    for bytes in others {
-        assert_eq!(rt; check(bytes), Err(Error::InvalidJsonb), "{bytes:?}");
-    }
-}
-
-#[test]
-fn refuses_other_entries(rt: HostRuntime) {
-    let others: [&[u8]; 11] = [
-        // the top bit is set
-        b"\x80\0\0\x01\x80\0\0\0",
-        // the kind 7
-        b"\x80\0\0\x01\x70\0\0\0",
-        // null, false and true with a content
-        b"\x80\0\0\x01\0\0\0\x01a",
-        b"\x80\0\0\x01\x30\0\0\x01a",
-        b"\x80\0\0\x01\x40\0\0\x01a",
-        // a text that isn't UTF-8
-        b"\x80\0\0\x01\x10\0\0\x01\xff",
-        // a number without a payload
-        b"\x80\0\0\x01\x20\0\0\0",
-        // an integer of three bytes
-        b"\x80\0\0\x01\x20\0\0\x04\x50\0\0\0",
-        // an extension of no kind, and a date of three bytes
-        b"\x80\0\0\x01\x60\0\0\x01\x50",
-        b"\x80\0\0\x01\x60\0\0\x04\x10\0\0\x01",
-        // a scalar document within
-        b"\x80\0\0\x01\x50\0\0\x08\x20\0\0\0\0\0\0\0",
-    ];
-    for bytes in others {
-        assert_eq!(rt; check(bytes), Err(Error::InvalidJsonb), "{bytes:?}");
-    }
-}
-
-#[test]
-fn refuses_other_keys(rt: HostRuntime) {
-    let others: [&[u8]; 5] = [
-        // {"a":null,"a":null}
-        b"\x40\0\0\x02\x10\0\0\x01\x10\0\0\x01\0\0\0\0\0\0\0\0aa",
-        // {"b":null,"a":null}
-        b"\x40\0\0\x02\x10\0\0\x01\x10\0\0\x01\0\0\0\0\0\0\0\0ba",
-        // {"ab":null,"a":null}
-        b"\x40\0\0\x02\x10\0\0\x02\x10\0\0\x01\0\0\0\0\0\0\0\0aba",
-        // a key that isn't a text
-        b"\x40\0\0\x01\0\0\0\0\0\0\0\0",
-        // a key that isn't UTF-8
-        b"\x40\0\0\x01\x10\0\0\x01\0\0\0\0\xff",
-    ];
-    for bytes in others {
-        assert_eq!(rt; check(bytes), Err(Error::InvalidJsonb), "{bytes:?}");
-    }
-}
-
-#[test]
-fn names_unsupported_numbers(rt: HostRuntime) {
-    let unsupported: [&[u8]; 5] = [
-        // 1.5 as a float
-        b"\x20\0\0\0\x20\0\0\x09\x60\x3f\xf8\0\0\0\0\0\0",
-        // a payload that begins as another float, whatever follows
-        b"\x20\0\0\0\x20\0\0\x01\x10",
-        // a decimal of 256 bits
-        b"\x20\0\0\0\x20\0\0\x22\x70\0\0\0\0\0\0\0\0\0\0\0\0\0\0\0\0\0\0\0\0\0\0\0\0\0\0\0\0\0\0\0\0\0",
-        // [float, 1]
-        b"\x80\0\0\x02\x20\0\0\x01\x20\0\0\x02\x20\x50\x01",
-        // {"a":[float]}
-        b"\x40\0\0\x01\x10\0\0\x01\x50\0\0\x09a\x80\0\0\x01\x20\0\0\x01\x30",
-    ];
-    for bytes in unsupported {
-        assert_eq!(rt; check(bytes), Err(Error::UnsupportedNumber), "{bytes:?}");
-    }
-    let invalid: [&[u8]; 3] = [
-        // [float, a content of the kind 7]
-        b"\x80\0\0\x02\x20\0\0\x01\x70\0\0\0\x60",
-        // [float] and one more byte
-        b"\x80\0\0\x01\x20\0\0\x01\x60\0",
-        // {"a":float,"a":float}
-        b"\x40\0\0\x02\x10\0\0\x01\x10\0\0\x01\x20\0\0\x01\x20\0\0\x01aa\x60\x60",
-    ];
-    for bytes in invalid {
-        assert_eq!(rt; check(bytes), Err(Error::InvalidJsonb), "{bytes:?}");
-    }
-}
-
-#[test]
-fn accepts_deep_documents(rt: HostRuntime) {
-    let mut bytes: Vec<u8> = Vec::new(rt.alloc());
-    for left in (0..200_000_u32).rev() {
-        // an array of one container, and how long that is
-        bytes
-            .extend_from_slice(&0x8000_0001_u32.to_be_bytes())
-            .expect(&rt, "memory");
-        bytes
-            .extend_from_slice(&(0x5000_0004 + 8 * left).to_be_bytes())
-            .expect(&rt, "memory");
-    }
-    bytes
-        .extend_from_slice(&0x8000_0000_u32.to_be_bytes())
-        .expect(&rt, "memory");
-    assert_eq!(rt; check(bytes.as_slice()), Ok(()));
+fn accepts_deep_documents(rt: HostRuntime) -> Result<(), Fail> {
+    let bytes = nested(rt.alloc(), 200_000, false, false)?;
+    assert_eq!(rt; check(&bytes), Ok(()));
+    Ok(())
 }

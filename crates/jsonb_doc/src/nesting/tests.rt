@@ -77,7 +77,12 @@ fn refused_before_depth(rt: HostRuntime) {
 
 /// So many arrays within arrays, the innermost empty: 8 bytes a level and 4. A null before or behind each inner array
 /// takes 4 more.
-fn nested(alloc: Global, levels: u32, before: bool, behind: bool) -> Result<Vec<u8>, AllocError> {
+pub(crate) fn nested(
+    alloc: Global,
+    levels: u32,
+    before: bool,
+    behind: bool,
+) -> Result<Vec<u8>, AllocError> {
     let beside = u32::from(before) + u32::from(behind);
     let mut out = Vec::new(alloc);
     for within in (0..levels).rev() {

@@ -17,8 +17,20 @@ fn is_same(read: Result<Number, Error>, wanted: Number) -> bool {
 }
 
 #[test]
-fn reads_integers(rt: HostRuntime) {
-    let payloads: [(&[u8], Number); 13] = [
+fn reads_payloads(rt: HostRuntime) {
+    let price = Decimal64 {
+        scale: 2,
+        value: 1234,
+    };
+    let small = Decimal64 {
+        scale: 255,
+        value: -5,
+    };
+    let least = Decimal128 {
+        scale: 0,
+        value: i128::MIN,
+    };
+    let payloads: [(&[u8], Number); 17] = [
         (b"\0", Number::UInt64(0)),
         (b"\x40\x9c", Number::Int64(-100)),
         (b"\x40\xff\x9c", Number::Int64(-100)),
@@ -35,6 +47,16 @@ fn reads_integers(rt: HostRuntime) {
             Number::UInt64(u64::MAX),
         ),
         (b"\x50\0", Number::UInt64(0)),
+        (b"\x70\0\0\0\0\0\0\x04\xd2\x02", Number::Decimal64(price)),
+        (
+            b"\x70\xff\xff\xff\xff\xff\xff\xff\xfb\xff",
+            Number::Decimal64(small),
+        ),
+        (
+            b"\x70\x80\0\0\0\0\0\0\0\0\0\0\0\0\0\0\0\0",
+            Number::Decimal128(least),
+        ),
+        (b"\x70\0\0\0\0\0\0\0\0\x02", Number::ZERO),
     ];
     for (payload, number) in payloads {
         assert!(rt;
@@ -45,72 +67,34 @@ fn reads_integers(rt: HostRuntime) {
 }
 
 #[test]
-fn reads_decimals(rt: HostRuntime) {
-    let price = Number::Decimal64(Decimal64 {
-        scale: 2,
-        value: 1234,
-    });
-    assert!(rt; is_same(Number::from_payload(b"\x70\0\0\0\0\0\0\x04\xd2\x02"), price));
-    let small = Number::Decimal64(Decimal64 {
-        scale: 255,
-        value: -5,
-    });
-    assert!(rt;
-        is_same(
-            Number::from_payload(b"\x70\xff\xff\xff\xff\xff\xff\xff\xfb\xff"),
-            small
-        )
-    );
-    let least = Number::Decimal128(Decimal128 {
-        scale: 0,
-        value: i128::MIN,
-    });
-    assert!(rt;
-        is_same(
-            Number::from_payload(b"\x70\x80\0\0\0\0\0\0\0\0\0\0\0\0\0\0\0\0"),
-            least
-        )
-    );
-    assert!(rt;
-        is_same(
-            Number::from_payload(b"\x70\0\0\0\0\0\0\0\0\x02"),
-            Number::ZERO
-        )
-    );
-}
-
-#[test]
 fn refuses_other_payloads(rt: HostRuntime) {
-    let others: [&[u8]; 10] = [
-        b"",
-        b"\0\0",
-        b"\x40",
-        b"\x40\0\0\0",
-        b"\x50\0\0\0\0\0",
-        b"\x50\0\0\0\0\0\0\0\0\0",
-        b"\x70\0\0\0\0\0\0\0\0",
-        b"\x70\0\0\0\0\0\0\0\0\0\0",
-        b"\x70\0\0\0\0\0\0\0\0\0\0\0\0\0\0\0\0\0\0\0\0\0\0\0\0\0\0\0\0\0\0\0\0",
-        b"\x80\0",
+    let others: [(&[u8], Error); 15] = [
+        (b"", Error::InvalidJsonb),
+        (b"\0\0", Error::InvalidJsonb),
+        (b"\x40", Error::InvalidJsonb),
+        (b"\x40\0\0\0", Error::InvalidJsonb),
+        (b"\x50\0\0\0\0\0", Error::InvalidJsonb),
+        (b"\x50\0\0\0\0\0\0\0\0\0", Error::InvalidJsonb),
+        (b"\x70\0\0\0\0\0\0\0\0", Error::InvalidJsonb),
+        (b"\x70\0\0\0\0\0\0\0\0\0\0", Error::InvalidJsonb),
+        (
+            b"\x70\0\0\0\0\0\0\0\0\0\0\0\0\0\0\0\0\0\0\0\0\0\0\0\0\0\0\0\0\0\0\0\0",
+            Error::InvalidJsonb,
+        ),
+        (b"\x80\0", Error::InvalidJsonb),
+        (b"\x10", Error::UnsupportedNumber),
+        (b"\x20\0\0\0\0", Error::UnsupportedNumber),
+        (b"\x30\0", Error::UnsupportedNumber),
+        (b"\x60\x3f\xf8\0\0\0\0\0\0", Error::UnsupportedNumber),
+        (
+            b"\x70\0\0\0\0\0\0\0\0\0\0\0\0\0\0\0\0\0\0\0\0\0\0\0\0\0\0\0\0\0\0\0\0\0",
+            Error::UnsupportedNumber,
+        ),
     ];
-    for payload in others {
+    for (payload, error) in others {
         assert_eq!(rt;
             Number::from_payload(payload).err(),
-            Some(Error::InvalidJsonb),
-            "{payload:?}"
-        );
-    }
-    let unsupported: [&[u8]; 5] = [
-        b"\x10",
-        b"\x20\0\0\0\0",
-        b"\x30\0",
-        b"\x60\x3f\xf8\0\0\0\0\0\0",
-        b"\x70\0\0\0\0\0\0\0\0\0\0\0\0\0\0\0\0\0\0\0\0\0\0\0\0\0\0\0\0\0\0\0\0\0",
-    ];
-    for payload in unsupported {
-        assert_eq!(rt;
-            Number::from_payload(payload).err(),
-            Some(Error::UnsupportedNumber),
+            Some(error),
             "{payload:?}"
         );
     }
