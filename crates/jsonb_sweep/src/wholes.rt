@@ -158,6 +158,7 @@ pub fn cases(rt: &HostRuntime) -> io::Result<()> {
     tell(rt, "get_by_keypath", get_by_keypath(rt))?;
     tell(rt, "delete_by_keypath", delete_by_keypath(rt))?;
     tell(rt, "extract_scalar_key_values", leaves(rt))?;
+    tell(rt, "leaf_documents", leaf_documents(rt))?;
     tell(rt, "OwnedJsonb::clone", clone(rt, MIXED))
 }
 
@@ -217,6 +218,18 @@ fn leaves(rt: &HostRuntime) -> Result<bool, Error> {
         [_, _, (path, value)] => {
             path.to_string(rt.alloc())?.as_str() == "{2,k}"
                 && *value == Value::String(CowStr::Borrowed("v"))
+        }
+        _ => false,
+    })
+}
+
+fn leaf_documents(rt: &HostRuntime) -> Result<bool, Error> {
+    begin(rt);
+    let answer = RawJsonb::new(MIXED).leaf_documents(rt.alloc(), false);
+    end(rt);
+    Ok(match answer?.as_slice() {
+        [_, _, (path, document)] => {
+            path.to_string(rt.alloc())?.as_str() == "{2,k}" && document.as_raw().as_bytes() == V
         }
         _ => false,
     })

@@ -113,6 +113,11 @@ pub(super) fn ask_places(
     let _any = raw.exists_any_keys(names.iter().copied());
     for ignore_array in [false, true] {
         let _leaves = raw.extract_scalar_key_values(alloc, ignore_array);
+        if let Ok(leaves) = raw.leaf_documents(alloc, ignore_array) {
+            for (_, document) in leaves {
+                documents.push(document)?;
+            }
+        }
     }
     let one = RawJsonb::new(ONE);
     let same = RawJsonb::new(raw.as_bytes());
