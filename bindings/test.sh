@@ -1,6 +1,7 @@
 #!/usr/bin/env bash
 # The tests of the library for C and of what stands on it. Needs crates/jsonb_c/out/libjsonb_c.a (rt lib in crates/jsonb_c), the
-# toolchain's heap file (see bindings/c/Makefile), cc, c++, make and python3. The last line is `N passed, M failed`.
+# toolchain's heap file (see bindings/c/Makefile), cc, make and python3; c++ and cargo are used where they are there. The last line
+# is `N passed, M failed`.
 cd "$(dirname "${BASH_SOURCE[0]}")" || exit 1
 passed=0 failed=0
 room=$(mktemp -d) || exit 1
@@ -27,7 +28,7 @@ count() {
 }
 
 out=$room/out
-count "libraries, examples and tests, by C11 and C++17 without a warning" make -s -j2 -C c OUT="$out" all example bench tests
+count "libraries, examples and tests, without a warning" make -s -j2 -C c OUT="$out" all example bench tests
 export JSONB_LIBRARY=$out/libjsonb.so PYTHONDONTWRITEBYTECODE=1
 python3 tests/rows.py >"$room/rows" || failed=$((failed + 1))
 for kind in "" _refusing _sanitized; do
@@ -35,7 +36,11 @@ for kind in "" _refusing _sanitized; do
     count "columns$kind" "$out/columns$kind"
 done
 count "header, as C" "$out/header_c"
-count "header, as C++" "$out/header_cpp"
+if [ -x "$out/header_cpp" ]; then
+    count "header, as C++" "$out/header_cpp"
+else
+    echo "skipped: the header as C++: there is no c++"
+fi
 count "example" diff <("$out/example") c/example.txt
 count "bench" "$out/bench" 1000
 count "install" make -s -C c OUT="$out" PREFIX="$room/installed" install
