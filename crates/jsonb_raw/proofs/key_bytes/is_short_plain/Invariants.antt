@@ -1,7 +1,7 @@
 use Rattle.std.proofs.Common.{◌≡◌, drop}
 use Rattle.std.specs.Prelude.{nat_lt}
 use Rattle.std.specs.List.{list_all}
-use Rattle.jsonb_raw.proofs.key_bytes.is_plain_in_turn.Given as goal
+use Rattle.jsonb_raw.proofs.key_bytes.is_short_plain.Given as goal
 
 -- what is left tells of the whole
 abbrev pub invariant-loop-byte : goal.invariant-loop-byte
