@@ -25,9 +25,11 @@ def minutes(since):
 
 
 def do_task(key, call, *given):
-    """Does a task, says how long it took, and returns what it gave."""
+    """Does a task, says how long it took and at once where an edit is not refused, and returns what it gave."""
     started = time.time()
     result = call(*given)
+    if key[1] == "edits" and result and result[0] != rt.REFUSED:
+        say(result[1])
     if time.time() - started > 1:
         what = " ".join(map(str, key))
         say(f"[{minutes(started)}, {minutes(BEGUN)} since the start] {what}")
