@@ -163,6 +163,7 @@ def main():
     if asked.list:
         return list_edits(asked.names)
     judge_by_function()
+    rt.share_work(False)
     return rt.edits_alone([*asked.names, *["--anew"] * asked.anew])
 
 
