@@ -1,8 +1,6 @@
 //! Small programs over documents, as a user writes them, and the tables of docs/ as tests.
 #![tactic(auto)]
 
-#[cfg(test)]
-mod calls;
 pub mod configuration;
 #[cfg(test)]
 mod documents;
