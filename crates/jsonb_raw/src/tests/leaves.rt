@@ -70,7 +70,7 @@ fn has_leaf_documents(
     if found.len() != wanted.len() {
         return Ok(false);
     }
-    for ((path, part), (text, bytes)) in found.iter().zip(wanted) {
+    for ((path, part), (text, bytes)) in found.into_iter().zip(wanted) {
         let printed = format!(in alloc; "{path}")?;
         if printed.as_str() != *text || part.as_raw().as_bytes() != *bytes {
             return Ok(false);
