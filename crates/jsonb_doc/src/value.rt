@@ -70,7 +70,7 @@ impl<'a> Value<'a> {
     }
 }
 
-// A document may be as deep as it is long: its value is let go in a loop.
+/// A document may be as deep as it is long: its value is let go in a loop.
 impl Drop for Value<'_> {
     fn drop(self) {
         self.release();

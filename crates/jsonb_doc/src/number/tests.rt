@@ -3,7 +3,7 @@
 use super::{Decimal64, Decimal128, Number};
 use crate::error::Error;
 
-// The same variant with the same parts, where `==` compares values.
+/// The same variant with the same parts, where `==` compares values.
 fn is_same(read: Result<Number, Error>, wanted: Number) -> bool {
     match (read, wanted) {
         (Ok(Number::Int64(m)), Number::Int64(n)) => m == n,

@@ -6,15 +6,15 @@ use crate::extension::{Date, ExtensionValue, Interval};
 use crate::item::Item;
 use crate::number::{Decimal64, Number};
 
-// [false, 10, {"k":"v"}]
+/// `[false, 10, {"k":"v"}]`
 const MIXED: &[u8] =
     b"\x80\0\0\x03\x30\0\0\0\x20\0\0\x02\x50\0\0\x0e\x50\x0a\x40\0\0\x01\x10\0\0\x01\x10\0\0\x01kv";
 
-// {"a":null,"b":[null]}
+/// `{"a":null,"b":[null]}`
 const NULLS: &[u8] =
     b"\x40\0\0\x02\x10\0\0\x01\x10\0\0\x01\0\0\0\0\x50\0\0\x08ab\x80\0\0\x01\0\0\0\0";
 
-// 10
+/// `10`
 const TEN: &[u8] = b"\x20\0\0\0\x20\0\0\x02\x50\x0a";
 
 #[test]

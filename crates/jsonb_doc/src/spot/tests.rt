@@ -7,17 +7,17 @@ use crate::number::Number;
 use crate::spot::{Spot, child_spots, field_spot, root_spot, spot_document, spot_item};
 use std::test::Fail;
 
-// [false, 10, {"k":"v"}]
+/// `[false, 10, {"k":"v"}]`
 const MIXED: &[u8] =
     b"\x80\0\0\x03\x30\0\0\0\x20\0\0\x02\x50\0\0\x0e\x50\x0a\x40\0\0\x01\x10\0\0\x01\x10\0\0\x01kv";
 
-// [1]
+/// `[1]`
 const ONE: &[u8] = b"\x80\0\0\x01\x20\0\0\x02\x50\x01";
 
-// date 1
+/// Date 1.
 const DATE: &[u8] = b"\x20\0\0\0\x60\0\0\x05\x10\0\0\0\x01";
 
-// {"name":"Fred","phones":[{"number":3720453,"type":"home"},{"number":5062051,"type":"work"}]}
+/// `{"name":"Fred","phones":[{"number":3720453,"type":"home"},{"number":5062051,"type":"work"}]}`
 const PHONES: &[u8] =
     b"\x40\0\0\x02\x10\0\0\x04\x10\0\0\x06\x10\0\0\x04\x50\0\0\x5anamephonesFred\x80\0\0\x02\x50\0\0\x27\x50\0\0\x27\x40\0\0\x02\x10\0\0\x06\x10\0\0\x04\x20\0\0\x05\x10\0\0\x04numbertype\x50\x00\x38\xc5\x05home\x40\0\0\x02\x10\0\0\x06\x10\0\0\x04\x20\0\0\x05\x10\0\0\x04numbertype\x50\x00\x4d\x3d\xa3work";
 
@@ -85,7 +85,7 @@ fn finds_children(rt: HostRuntime) -> Result<(), Fail> {
     Ok(())
 }
 
-// How many children there are, and whether the last of them is a container.
+/// How many children there are, and whether the last of them is a container.
 fn counted(bytes: &[u8]) -> Result<(usize, bool), Error> {
     let Some(children) = child_spots(bytes, root_spot(bytes)?)? else {
         return Ok((0, false));

@@ -9,7 +9,7 @@ use crate::value::Value;
 use std::collections::BTreeMap;
 use std::mem::replace;
 
-// A value that is next to be let go, and one that waits behind it.
+/// A value that is next to be let go, and one that waits behind it.
 struct Remaining<'a> {
     next: Value<'a>,
     waiting: Option<Value<'a>>,
@@ -27,7 +27,7 @@ impl<'a> Value<'a> {
         }
     }
 
-    // What is left behind one part at least.
+    /// What is left behind one part at least.
     fn without_a_part(self, waiting: Option<Value<'a>>) -> Option<Remaining<'a>>
         ensures { IfSome result (λ left. remaining left < to_release (parts self.entry) (waiting_parts waiting.entry)) }
     {
@@ -46,7 +46,7 @@ impl<'a> Value<'a> {
         }
     }
 
-    // The value, if it is a container.
+    /// The value, if it is a container.
     #[inline(always)]
     fn container(self) -> Option<Value<'a>>
         ensures { IfSome result (λ inner. inner ≡ self.entry) }
@@ -67,7 +67,7 @@ impl<'a> Value<'a> {
     }
 }
 
-// Nothing is left in front of what waits.
+/// Nothing is left in front of what waits.
 fn without_next(waiting: Option<Value<'_>>) -> Option<Remaining<'_>>
     ensures { IfSome result (λ left. (n : ℕ) → 0 < n → remaining left < to_release n (waiting_parts waiting.entry)) }
 {
@@ -80,7 +80,7 @@ fn without_next(waiting: Option<Value<'_>>) -> Option<Remaining<'_>>
     }
 }
 
-// The values without the last container among them, and without those behind it.
+/// The values without the last container among them, and without those behind it.
 fn without_value<'a>(
     mut values: Vec<Value<'a>>,
     waiting: Option<Value<'a>>,
@@ -97,8 +97,8 @@ fn without_value<'a>(
     without_next(waiting)
 }
 
-// The values and the container that stood behind them. Where something waits already, it takes the room of that
-// container.
+/// The values and the container that stood behind them. Where something waits already, it takes the room of that
+/// container.
 fn without_inner<'a>(
     mut values: Vec<Value<'a>>,
     inner: Value<'a>,
@@ -123,7 +123,7 @@ fn without_inner<'a>(
     }
 }
 
-// The members without the last one. Where something waits already, it takes the place of its value.
+/// The members without the last one. Where something waits already, it takes the place of its value.
 fn without_member<'a>(
     mut members: BTreeMap<String, Value<'a>>,
     waiting: Option<Value<'a>>,
@@ -146,7 +146,7 @@ fn without_member<'a>(
     }
 }
 
-// The value of the last member, with the others and what waits in its place. Without members, what waits.
+/// The value of the last member, with the others and what waits in its place. Without members, what waits.
 fn with_behind<'a>(mut members: BTreeMap<String, Value<'a>>, behind: Value<'a>) -> Remaining<'a>
     ensures { remaining result < to_release (1 + entries_parts members.entry.entries) (parts behind.entry) }
 {

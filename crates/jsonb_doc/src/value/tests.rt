@@ -54,7 +54,7 @@ fn decoded(alloc: Global, bytes: &[u8]) -> Result<Value<'_>, Error> {
     to_value(alloc, &root_item(bytes)?)
 }
 
-// [false, 10, {"k":"v"}]
+/// `[false, 10, {"k":"v"}]`
 #[test]
 fn decodes_an_array(rt: HostRuntime) -> Result<(), Fail> {
     let value = decoded(
@@ -72,7 +72,7 @@ fn decodes_an_array(rt: HostRuntime) -> Result<(), Fail> {
     Ok(())
 }
 
-// {"a":null,"b":[null]}
+/// `{"a":null,"b":[null]}`
 #[test]
 fn decodes_nulls(rt: HostRuntime) -> Result<(), Fail> {
     let value = decoded(
@@ -87,7 +87,7 @@ fn decodes_nulls(rt: HostRuntime) -> Result<(), Fail> {
     Ok(())
 }
 
-// {"name":"Fred","phones":[{"number":3720453,"type":"home"},{"number":5062051,"type":"work"}]}
+/// `{"name":"Fred","phones":[{"number":3720453,"type":"home"},{"number":5062051,"type":"work"}]}`
 #[test]
 fn decodes_containers_in_containers(rt: HostRuntime) -> Result<(), Fail> {
     let value = decoded(
@@ -131,7 +131,7 @@ fn decodes_extensions(rt: HostRuntime) -> Result<(), Fail> {
     Ok(())
 }
 
-// {"asd":"adf"}
+/// `{"asd":"adf"}`
 #[test]
 fn borrows_texts(rt: HostRuntime) -> Result<(), Fail> {
     let value = decoded(rt.alloc(), b"\x40\0\0\x01\x10\0\0\x03\x10\0\0\x03asdadf")?;
@@ -273,7 +273,7 @@ fn nested<'a>(
     Ok(value)
 }
 
-// Each is cloned, compared and let go.
+/// Each is cloned, compared and let go.
 #[test]
 fn deep_values(rt: HostRuntime) -> Result<(), Fail> {
     let places = [
@@ -298,7 +298,7 @@ fn deep_values(rt: HostRuntime) -> Result<(), Fail> {
     Ok(())
 }
 
-// So are much deeper ones.
+/// So are much deeper ones.
 #[test]
 fn much_deeper_values(rt: HostRuntime) -> Result<(), Fail> {
     for place in [Place::Only, Place::First, Place::Middle, Place::Last] {
