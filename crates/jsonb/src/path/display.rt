@@ -176,15 +176,7 @@ fn write_step_before<W: fmt::Write>(step: &Path<'_>, f: &mut fmt::Formatter<W>) 
     match step {
         Path::FilterExpr(_) => f.write_str("?("),
         Path::Expr(_) => Ok(()),
-        Path::DotField(_)
-        | Path::ColonField(_)
-        | Path::ObjectField(_)
-        | Path::ArrayIndices(_)
-        | Path::RecursiveDotWildcard(_)
-        | Path::Root
-        | Path::Current
-        | Path::DotWildcard
-        | Path::BracketWildcard => write_step(step, f),
+        _ => write_step(step, f),
     }
 }
 

@@ -37,15 +37,7 @@ fn held_by<'e, 'a>(step: &'e Path<'a>) -> Option<&'e Expr<'a>>
     match step {
         Path::FilterExpr(inner) => Some(inner),
         Path::Expr(inner) => Some(inner),
-        Path::DotField(_)
-        | Path::ColonField(_)
-        | Path::ObjectField(_)
-        | Path::ArrayIndices(_)
-        | Path::RecursiveDotWildcard(_)
-        | Path::Root
-        | Path::Current
-        | Path::DotWildcard
-        | Path::BracketWildcard => None,
+        _ => None,
     }
 }
 

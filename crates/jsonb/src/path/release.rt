@@ -115,15 +115,7 @@ fn held(step: Path<'_>) -> Option<Box<Expr<'_>>>
     match step {
         Path::FilterExpr(inner) => Some(inner),
         Path::Expr(inner) => Some(inner),
-        Path::DotField(_)
-        | Path::ColonField(_)
-        | Path::ObjectField(_)
-        | Path::ArrayIndices(_)
-        | Path::RecursiveDotWildcard(_)
-        | Path::Root
-        | Path::Current
-        | Path::DotWildcard
-        | Path::BracketWildcard => None,
+        _ => None,
     }
 }
 
