@@ -14,6 +14,7 @@ mod chain;
 mod compare;
 mod copy;
 mod copying;
+mod debug;
 mod display;
 mod last;
 mod level;

@@ -9,6 +9,7 @@ use std::borrow::CowStr;
 use std::collections::BTreeMap;
 
 mod copy;
+mod debug;
 mod decode;
 mod equal;
 mod release;

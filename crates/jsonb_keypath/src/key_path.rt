@@ -14,7 +14,7 @@ use std::borrow::CowStr;
 /// It prints so that it reads back: an index in decimal, a quoted name between quotes, and a name as it is where it
 /// is plain, and else between quotes. Two key paths are equal, and hash alike, where they have the same steps. No
 /// steps lead to the document itself.
-#[derive(PartialEq, Eq, Hash, Drop)]
+#[derive(Debug, PartialEq, Eq, Hash, Drop)]
 pub struct KeyPaths<'a> {
     /// The steps, from the root on.
     pub paths: Vec<KeyPath<'a>>,
@@ -24,7 +24,7 @@ pub struct KeyPaths<'a> {
 ///
 /// Two steps are equal, and hash alike, where they are of one kind and have the same index or the
 /// same text, borrowed or not.
-#[derive(PartialEq, Eq, Hash, Drop)]
+#[derive(Debug, PartialEq, Eq, Hash, Drop)]
 pub enum KeyPath<'a> {
     /// An element of an array, counted from 0, or from the end where it is negative; at an object
     /// the key that is its decimal text.

@@ -12,7 +12,7 @@ use std::borrow::CowStr;
 /// A key path with texts of its own, which outlives the text that it was read from.
 ///
 /// Two of them are equal, and hash alike, where they have the same steps.
-#[derive(PartialEq, Eq, Hash, Drop)]
+#[derive(Debug, PartialEq, Eq, Hash, Drop)]
 pub struct OwnedKeyPaths {
     /// The steps, from the root on.
     pub paths: Vec<OwnedKeyPath>,
@@ -22,7 +22,7 @@ pub struct OwnedKeyPaths {
 ///
 /// Two of them are equal, and hash alike, where they are of one kind and have the same index or the
 /// same text.
-#[derive(PartialEq, Eq, Hash, Drop)]
+#[derive(Debug, PartialEq, Eq, Hash, Drop)]
 pub enum OwnedKeyPath {
     /// An element of an array, counted from 0, or from the end where it is negative; at an object
     /// the key that is its decimal text.

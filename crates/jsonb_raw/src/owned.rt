@@ -16,7 +16,7 @@ use std::alloc::Global;
 use std::marker::Model;
 
 /// The bytes of a document, owned. `as_raw` gives the calls on it.
-#[derive(Drop)]
+#[derive(Debug, Drop)]
 pub struct OwnedJsonb {
     bytes: Vec<u8>,
 }

@@ -28,7 +28,7 @@ use jsonb_doc::Error;
 ///
 /// A call without `alloc` takes no memory. Of the machine's stack each call takes little at any depth; docs/STACK.md
 /// names what takes more. In what follows, n is the count of bytes and k that of the root's elements or pairs.
-#[derive(Clone, Copy)]
+#[derive(Clone, Copy, Debug)]
 pub struct RawJsonb<'a> {
     bytes: &'a [u8],
 }

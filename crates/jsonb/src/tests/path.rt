@@ -59,10 +59,10 @@ fn literals_compare(rt: HostRuntime) {
         scale: 1,
         value: 10,
     }));
-    assert!(rt; one == decimal);
+    assert_eq!(rt; one, decimal);
     assert!(rt; one.partial_cmp(&decimal) == Some(Ordering::Equal));
     assert!(rt; PathValue::Boolean(false) < PathValue::Boolean(true));
-    assert!(rt; PathValue::Null == PathValue::Null);
+    assert_eq!(rt; PathValue::Null, PathValue::Null);
     assert!(rt;
         PathValue::String(CowStr::Borrowed("a")) < PathValue::String(CowStr::Borrowed("b"))
     );
@@ -94,10 +94,10 @@ fn parts_are_copied(rt: HostRuntime) -> Result<(), Fail> {
     )?;
     for step in &found.paths {
         let copy = step.clone(rt.alloc())?;
-        assert!(rt; copy == *step);
+        assert_eq!(rt; copy, *step);
         if let Path::FilterExpr(expression) = step {
             let copy = (**expression).clone(rt.alloc())?;
-            assert!(rt; copy == **expression);
+            assert_eq!(rt; copy, **expression);
         }
     }
     Ok(())

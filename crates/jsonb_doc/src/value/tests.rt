@@ -68,7 +68,7 @@ fn decodes_an_array(rt: HostRuntime) -> Result<(), Fail> {
     assert_eq!(rt; values.len(), 3);
     assert!(rt; matches!(values[0], Value::Bool(false)));
     assert!(rt; matches!(values[1], Value::Number(Number::UInt64(10))));
-    assert!(rt; values[2] == object);
+    assert_eq!(rt; values[2], object);
     Ok(())
 }
 
@@ -83,7 +83,7 @@ fn decodes_nulls(rt: HostRuntime) -> Result<(), Fail> {
     nulls.push(Value::Null)?;
     let first = with(rt.alloc(), Value::Null, "a", Value::Null)?;
     let both = with(rt.alloc(), first, "b", Value::Array(nulls))?;
-    assert!(rt; value == both);
+    assert_eq!(rt; value, both);
     Ok(())
 }
 
@@ -102,7 +102,7 @@ fn decodes_containers_in_containers(rt: HostRuntime) -> Result<(), Fail> {
     let phones = two(rt.alloc(), home, work)?;
     let named = with(rt.alloc(), Value::Null, "name", text("Fred"))?;
     let fred = with(rt.alloc(), named, "phones", phones)?;
-    assert!(rt; value == fred);
+    assert_eq!(rt; value, fred);
     Ok(())
 }
 
@@ -128,6 +128,25 @@ fn decodes_extensions(rt: HostRuntime) -> Result<(), Fail> {
         &Item::Extension(ExtensionValue::Binary(b"\xff\0")),
     )?;
     assert!(rt; matches!(&bytes, Value::Binary(b"\xff\0")));
+    Ok(())
+}
+
+#[test]
+fn prints_kinds(rt: HostRuntime) -> Result<(), Fail> {
+    let member = with(rt.alloc(), Value::Null, "k", Value::Null)?;
+    let kinds = [
+        (Value::Null, "Null"),
+        (Value::Bool(true), "Bool(true)"),
+        (text("a\n"), "String(\"a\\n\")"),
+        (tenths(-15), "Number(-1.5)"),
+        (Value::Date(Date { value: 1 }), "Date { value: 1 }"),
+        (two(rt.alloc(), whole(1), whole(2))?, "Array of 2"),
+        (member, "Object of 1"),
+    ];
+    for (value, printed) in &kinds {
+        let text = format!(in rt.alloc(); "{value:?}")?;
+        assert_eq!(rt; text.as_str(), *printed);
+    }
     Ok(())
 }
 
