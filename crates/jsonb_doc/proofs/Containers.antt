@@ -1,7 +1,7 @@
 -- Containers, by their headers.
 use Rattle.std.proofs.Common.{◌≡◌, ◌≢◌, ℕ, suc, ◌+◌, ◌*◌, ◌^◌, ◌≤◌, List, [], ◌∷◌, ◌++◌, length, take, drop, refl, sym, ap, ◌∙◌, arith, true, false, ◌↔◌, ◌⊎◌, inl, inr}
 use Rattle.std.proofs.lemmas.List.{length-append, take_at, drop_at, append-nil}
-use Rattle.jsonb_doc.specs.Tree.{Tree, null, boolean, number, text, extension, array, object, Trees, no_trees, tree, Pairs, no_pairs, pair, count, keys, values}
+use Rattle.jsonb_doc.specs.Tree.{Tree, boolean, array, object, Trees, no_trees, tree, Pairs, no_pairs, pair, count, keys, values}
 use Rattle.jsonb_doc.specs.Payload.{NumberReader, Form, number_reader}
 use Rattle.jsonb_doc.specs.Private.Containers.{Holds, HasPairParts}
 use Rattle.jsonb_doc.specs.Readable.{IsLoneEntry, IsCut}

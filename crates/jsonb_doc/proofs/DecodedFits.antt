@@ -1,8 +1,8 @@
 -- The tree that bytes decode to fits.
-use Rattle.std.proofs.Common.{◌≡◌, ℕ, ◌^◌, ◌<◌, ◌≤◌, List, [], ◌∷◌, ◌++◌, length, ap, arith, true, false, inl, inr}
+use Rattle.std.proofs.Common.{◌≡◌, ℕ, ◌^◌, ◌<◌, ◌≤◌, List, [], ◌∷◌, ◌++◌, length, ap, arith, true, inl, inr}
 use Rattle.std.proofs.lemmas.List.{length-append}
 use Rattle.jsonb_doc.specs.Bytes.{AreBytes}
-use Rattle.jsonb_doc.specs.Tree.{Tree, null, boolean, number, text, extension, array, object, Trees, no_trees, tree, Pairs, no_pairs, pair, count, keys, values}
+use Rattle.jsonb_doc.specs.Tree.{Tree, null, boolean, number, text, extension, array, object, Trees, no_trees, tree, Pairs, no_pairs, pair, count, keys}
 use Rattle.jsonb_doc.specs.Payload.{Form, canonical, number_of}
 use Rattle.jsonb_doc.specs.Format.{header, BeginWith, HeadedBy, AreKeys, key_bytes, IsContent, AreEntries, AreValues, IsDocument, Decodes}
 use Rattle.jsonb_doc.specs.Canonical.{content, contents, value_contents}

@@ -1,5 +1,5 @@
 -- Entries as documents of their own.
-use Rattle.std.proofs.Common.{◌≡◌, ◌≢◌, ℕ, ◌<◌, ◌^◌, List, [], ◌++◌, length, refl, sym, arith, append-nil, inr}
+use Rattle.std.proofs.Common.{◌≢◌, ℕ, ◌<◌, ◌^◌, List, [], ◌++◌, length, refl, sym, arith, append-nil, inr}
 use Rattle.jsonb_doc.specs.Tree.{Tree}
 use Rattle.jsonb_doc.specs.Payload.{NumberReader}
 use Rattle.jsonb_doc.specs.Format.{IsContent, IsDocument, header, scalar_header, entry_word}

@@ -1,10 +1,10 @@
 -- Items that are read of any bytes.
-use Rattle.std.proofs.Common.{◌≡◌, ℕ, List, ◌++◌, length, arith, Result, Ok, Err}
+use Rattle.std.proofs.Common.{ℕ, List, ◌++◌, arith, Result, Ok, Err}
 use Rattle.std.specs.Prelude.{MatchResult, IfOk}
 use Rattle.std.proofs.lemmas.List.{length-append}
 use Rattle.jsonb_doc.specs.Payload.{any, number_reader}
 use Rattle.jsonb_doc.specs.Format.{HeadedBy, HasItsWords}
-use Rattle.jsonb_doc.specs.Item.{StandsFor, IsItemOf, IsRootOf}
+use Rattle.jsonb_doc.specs.Item.{IsItemOf, IsRootOf}
 use Rattle.jsonb_doc.specs.Tree.{Tree}
 use Rattle.jsonb_doc.specs.Format.{IsContent, Decodes}
 use Rattle.jsonb_doc.specs.Readable.{IsCut}
@@ -14,7 +14,7 @@ use Rattle.jsonb_doc.specs.declared.container.Container.TheVariants.{Scalar, Arr
 use Rattle.jsonb_doc.specs.declared.entry_iter.StoredEntry.{StoredEntry}
 use Rattle.jsonb_doc.specs.declared.error.Error.{Error}
 use Rattle.jsonb_doc.specs.declared.item.Item.{Item}
-use Rattle.jsonb_doc.specs.declared.item.Item.TheVariants.{Null, Boolean, Number, String, Extension, Array, Object}
+use Rattle.jsonb_doc.specs.declared.item.Item.TheVariants.{Array, Object}
 use Rattle.jsonb_doc.proofs.Containers.{HasContent-headed, IsCut-same}
 
 -- a container that is read has a header

@@ -1,4 +1,4 @@
-use Rattle.std.proofs.Common.{◌≡◌, ◌∙◌, ◌-◌, length, take}
+use Rattle.std.proofs.Common.{◌≡◌, ◌-◌, length, take}
 use Rattle.jsonb_doc.specs.Tree.{keys}
 use Rattle.jsonb_doc.specs.Format.{key_bytes}
 use Rattle.jsonb_doc.specs.Payload.{number_reader}
