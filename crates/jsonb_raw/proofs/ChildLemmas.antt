@@ -61,11 +61,6 @@ split_at [] (suc k) first rest e = cc
 split_at (t ∷ ts) zero first rest e = record { inside = omega arith; at = cc; behind = cc }
 split_at (t ∷ ts) (suc k) first rest e = let s = split_at ts k first rest e in record { inside = omega arith; at = s.at; behind = s.behind }
 
-pub at_end : (all : List Tree) (k : ℕ) → k ≤ length all → drop k all ≡ [] → k ≡ length all
-at_end [] k inside e = omega arith
-at_end (t ∷ ts) zero inside e = cc
-at_end (t ∷ ts) (suc k) inside e = let h : k ≤ length ts = omega arith in ap suc (at_end ts k h e)
-
 marks_of : (bytes : List ℕ) (t : Tree) (r : Result Spot Error) (spot : Spot) → r ≡ Ok spot
     → IsOkAnd r (λ spot. Locates bytes spot t) → Locates bytes spot t
 marks_of bytes t r spot e h = rw e at h
@@ -83,10 +78,6 @@ pub first_given : {bytes : List ℕ} {ts : List Tree} {r : Result Spot Error} {a
     → r ≡ Err error → ⊥
 first_given {bytes} {ts} {r} {after} f error e = no_marks bytes f.first r error e f.marks
 
-pub takes_ok : (bytes : List ℕ) (ts : List Tree) (r : Result Spot Error) (spot : Spot) (after : SpotIter) → r ≡ Ok spot
-    → TakesSpot bytes ts (Some r) after → TakesSpot bytes ts (Some (Ok spot)) after
-takes_ok bytes ts r spot after e h = rw e at h
-
 -- ---- an index, from the front or from the end
 
 pub beyond : (ts : List Tree) (n : ℕ) → length ts ≤ n → slice_get ts n ≡ None
@@ -102,6 +93,19 @@ from_front ts n = by (nat_lt n (length ts)) refl
         → option_and_then (λ n. slice_get ts n) (if nat_lt n (length ts) then Some n else None) ≡ slice_get ts n
     by true e = rw e refl
     by false e = let h : length ts ≤ n = grind (arith, nat_tests, e) in rw (e, beyond ts n h) refl
+
+-- the child that so many others follow, of so many in all
+abbrev pub from_end : List Tree → ℕ → ℕ → Option Tree
+from_end ts len after = option_and_then (λ n. slice_get ts n) (index_position len (negsuc after))
+
+pub none_from_end : (ts : List Tree) (len after : ℕ) → len ≤ after → from_end ts len after ≡ None
+none_from_end ts len after h = let e : nat_lt after len ≡ false = grind (arith, nat_tests) in rw e refl
+
+pub some_from_end : (ts : List Tree) (len after : ℕ) → after < len → from_end ts len after ≡ slice_get ts (len - after - 1)
+some_from_end ts len after h =
+    let e : nat_lt after len ≡ true = grind (arith, nat_tests) in
+    let same : len - suc after ≡ len - after - 1 = omega arith in
+    rw e (ap (slice_get ts) same)
 
 pub plain_index : (i j : ℤ) (n : ℕ) → j ≡ i → n ≡ unsigned_abs j → lt_z j (pos 0) ≡ false → pos n ≡ i
 plain_index i (pos m) n same is test = rw (← same, is) refl

@@ -1,5 +1,4 @@
 pub mod ChildLemmas
-pub mod WalkLemmas
 pub mod PlaceLemmas
 pub mod IndexLemmas
 pub mod StepLemmas

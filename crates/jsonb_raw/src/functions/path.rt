@@ -47,7 +47,7 @@ fn nth_child(bytes: &[u8], spot: Spot, position: usize) -> Result<Option<Spot>, 
     Ok(Some(child?))
 }
 
-/// The child that so many others follow. A second walk over the children stays so many behind the first.
+/// The child that so many others follow.
 fn child_from_end(bytes: &[u8], spot: Spot, after: usize) -> Result<Option<Spot>, Error>
     ensures child { (t : Tree) → Locates bytes.now spot t
         → IsOkAnd result (λ found. SameOption (Locates bytes.now) found
@@ -57,20 +57,11 @@ fn child_from_end(bytes: &[u8], spot: Spot, after: usize) -> Result<Option<Spot>
     let Some(children) = child_spots(bytes, spot)? else {
         return Ok(None);
     };
-    let Some(mut behind) = child_spots(bytes, spot)? else {
+    let count = children.len();
+    if after >= count {
         return Ok(None);
-    };
-    let mut wait = after;
-    let mut found = None;
-    for child in children {
-        child?;
-        if wait > 0 {
-            wait -= 1;
-        } else if let Some(next) = behind.next() {
-            found = Some(next?);
-        }
     }
-    Ok(found)
+    nth_child(bytes, spot, count - after - 1)
 }
 
 /// The element that an index means, from the end where it is negative.
