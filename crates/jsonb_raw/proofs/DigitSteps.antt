@@ -82,16 +82,3 @@ significant-nothing (suc n) e = absurd (omega arith)
 pub no_digits : (n : ℕ) → n ≡ 0 → digits_of 10 n ≡ []
 no_digits zero e = refl
 no_digits (suc n) e = absurd (omega arith)
-
-pub power_step : (b k : ℕ) → 0 < k → b * 10 * 10 ^ (k - 1) ≡ b * 10 ^ k
-power_step b zero h = absurd (omega arith)
-power_step b (suc k) h = mul_assoc b 10 (10 ^ (suc k - 1))
-    ∙ ap (λ x. b * x) (ap (λ j. 10 * 10 ^ j) (let e : suc k - 1 ≡ k = omega arith in e) ∙ mul_comm 10 (10 ^ k) ∙ sym (pow-suc 10 k))
-
--- a number of 128 bits is below one whose tenfold passes them
-pub below_scaled : (a b k : ℕ) → 0 < k → a < 2 ^ 128 → 2 ^ 128 ≤ b * 10 → Less ≡ nat_cmp a (b * 10 ^ k)
-below_scaled a b k h ha hb =
-    let p : 1 ≤ 10 ^ (k - 1) = one-le-pow (k - 1) 10 (omega arith) in
-    let q : b * 10 * 1 ≤ b * 10 * 10 ^ (k - 1) = mul-le-mul_left (b * 10) p in
-    let e : b * 10 * 10 ^ (k - 1) ≡ b * 10 ^ k = power_step b k h in
-    sym (nat_cmp-lt a (b * 10 ^ k) (omega arith))

@@ -10,7 +10,7 @@ use Rattle.jsonb_raw.specs.EqualityKey.{equality_key, equality_keys_of_trees, eq
 use Rattle.jsonb_raw.specs.Private.EqualityParts.{equality_start, equality_part_start}
 use Rattle.jsonb_raw.specs.Private.Levels.{Part, parts, parts_of_trees, parts_of_pairs}
 use Rattle.jsonb_raw.specs.declared.level.Level.{Level}
-use Rattle.jsonb_raw.proofs.LevelLemmas.{count_of_trees, count_of_pairs, HavePartsLeft, as_many_around}
+use Rattle.jsonb_raw.proofs.LevelLemmas.{HavePartsLeft, as_many_around}
 
 -- ---- the key of a tree by its parts
 
@@ -89,12 +89,3 @@ all_written form around others out whole none h fact = by others (omega (arith, 
 -- a document without parts is its start
 pub only_start : (t : Tree) (old out : List ℕ) → parts t ≡ [] → out ≡ old ++ equality_start t → out ≡ old ++ equality_key t
 only_start t old out none e = walk_done out (old ++ equality_key t) (rw none at (walk_begun t old out e))
-
--- the start of a container, whose count is that of its parts
-pub array_started : (old out : List ℕ) (n : ℕ) (ts : Trees) → out ≡ old ++ 7 ∷ to_be_bytes w32 n → n ≡ length (parts_of_trees ts)
-    → out ≡ old ++ equality_start (Tree.array ts)
-array_started old out n ts e is = e ∙ ap (λ m. old ++ 7 ∷ to_be_bytes w32 m) (is ∙ sym (count_of_trees ts))
-
-pub object_started : (old out : List ℕ) (n : ℕ) (ps : Pairs) → out ≡ old ++ 6 ∷ to_be_bytes w32 n → n ≡ length (parts_of_pairs ps)
-    → out ≡ old ++ equality_start (Tree.object ps)
-object_started old out n ps e is = e ∙ ap (λ m. old ++ 6 ∷ to_be_bytes w32 m) (is ∙ sym (count_of_pairs ps))

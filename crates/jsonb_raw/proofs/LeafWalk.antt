@@ -1,11 +1,11 @@
 -- A walk over levels that finds leaves: what is found, and then the leaves of what each level has left, the innermost first, are
 -- all.
-use Rattle.std.proofs.Common.{◌≡◌, ◌==◌, ◌+◌, ◌%◌, ◌<◌, ◌^◌, ◌++◌, ℕ, suc, pos, Bool, true, false, List, [], ◌∷◌, Option, Some, None, length, refl, sym, ap, ◌∙◌, arith, append_assoc, append-nil, true≢false}
+use Rattle.std.proofs.Common.{◌≡◌, ◌==◌, ◌+◌, ◌%◌, ◌<◌, ◌^◌, ◌++◌, ℕ, suc, pos, Bool, true, false, ◌&&◌, List, [], ◌∷◌, Option, Some, None, length, refl, sym, ap, ◌∙◌, arith, append_assoc, append-nil, true≢false}
 use Rattle.std.specs.Prelude.{reverse, map}
 use Rattle.std.specs.Borrow.{Bor}
 use Rattle.std.specs.Int.{w32, cast_signed}
 use Rattle.std.specs.List.{Any, AllZip}
-use Rattle.std.proofs.lemmas.List.{map-append, reverse-reverse}
+use Rattle.std.proofs.lemmas.List.{length-append, map-append, reverse-reverse}
 use Rattle.std.proofs.lemmas.Int.{ints}
 use Rattle.jsonb_doc.specs.Tree as spec
 use Rattle.jsonb_doc.specs.Tree.{Tree, Trees, no_trees, tree, Pairs, no_pairs, pair, count}
@@ -17,11 +17,12 @@ use Rattle.jsonb_doc.specs.declared.item.Item.{Item}
 use Rattle.jsonb_doc.specs.declared.item.Item.TheVariants as item
 use Rattle.jsonb_doc.proofs.Containers.{array_document, object_document}
 use Rattle.jsonb_keypath.specs.KeyPathGrammar.{Key, index, unquoted_name}
-use Rattle.jsonb_raw.specs.declared.functions.path.leaves.Entered.{Entered}
+use Rattle.jsonb_raw.specs.declared.functions.path.leaves.Step.{Step}
 use Rattle.jsonb_raw.specs.declared.level.Level.{Level}
-use Rattle.jsonb_raw.specs.Private.Levels.{Part, parts, parts_of_trees, parts_of_pairs, IsKeyOf}
+use Rattle.jsonb_raw.specs.Scalars.{is_array}
+use Rattle.jsonb_raw.specs.Private.Levels.{Part, parts, parts_of_trees, parts_of_pairs, IsKeyOf, HasAllLeft}
 use Rattle.jsonb_raw.specs.Leaves.{Leaf, behind, is_leaf, leaves_at, leaves, leaves_of_trees, leaves_of_pairs}
-use Rattle.jsonb_raw.specs.Private.LeafSteps.{step_at, steps_into}
+use Rattle.jsonb_raw.specs.Private.LeafSteps.{step_at, step_key, step_keys}
 use Rattle.jsonb_raw.proofs.CollectLoops.{Made, none_made, one_made, all_made, one_of_whole}
 use Rattle.jsonb_raw.proofs.LevelLemmas.{count_of_trees, count_of_pairs, innermost}
 
@@ -33,27 +34,21 @@ empty_leaf ignore_array (spec.array (tree t ts)) n is none = absurd (omega (arit
 empty_leaf ignore_array (spec.object (pair k t ps)) n is none = absurd (omega (arith, is, none))
 empty_leaf ignore_array _ n is none = refl
 
-pub full_array : (ignore_array : Bool) (ts : Trees) (n : ℕ) → ignore_array ≡ false → n ≡ length (parts_of_trees ts) → (n ≡ 0 → ⊥)
-    → is_leaf ignore_array (spec.array ts) ≡ false
-full_array ignore_array no_trees n entered is some = absurd (some is)
-full_array ignore_array (tree t ts) n entered is some = entered
+pub full_container : (form : Form) (ignore_array : Bool) (t : Tree) (level : Level) (n : ℕ) → HasAllLeft form t level → n ≡ length (parts t) → (n ≡ 0 → ⊥)
+    → (ignore_array && is_array t) ≡ false → is_leaf ignore_array t ≡ false
+full_container form ignore_array (spec.array no_trees) level n h is some whole = absurd (some is)
+full_container form true (spec.array (tree t ts)) level n h is some whole = whole
+full_container form false (spec.array (tree t ts)) level n h is some whole = refl
+full_container form ignore_array (spec.object no_pairs) level n h is some whole = absurd (some is)
+full_container form ignore_array (spec.object (pair k t ps)) level n h is some whole = refl
+full_container form ignore_array _ level n h is some whole = absurd h
 
-pub full_object : (ignore_array : Bool) (ps : Pairs) (n : ℕ) → n ≡ length (parts_of_pairs ps) → (n ≡ 0 → ⊥) → is_leaf ignore_array (spec.object ps) ≡ false
-full_object ignore_array no_pairs n is some = absurd (some is)
-full_object ignore_array (pair k t ps) n is some = refl
-
--- nothing lies within a leaf
-pub none_within : (ignore_array : Bool) (t : Tree) → is_leaf ignore_array t ≡ true → leaves ignore_array t ≡ []
-none_within ignore_array spec.null leaf = refl
-none_within ignore_array (spec.boolean b) leaf = refl
-none_within ignore_array (spec.number m) leaf = refl
-none_within ignore_array (spec.text s) leaf = refl
-none_within ignore_array (spec.extension x) leaf = refl
-none_within true (spec.array no_trees) leaf = refl
-none_within false (spec.array no_trees) leaf = refl
-none_within ignore_array (spec.array (tree t ts)) leaf = rw leaf refl
-none_within ignore_array (spec.object no_pairs) leaf = refl
-none_within ignore_array (spec.object (pair k t ps)) leaf = cc
+pub whole_array : (ignore_array : Bool) (t : Tree) → (ignore_array && is_array t) ≡ true → is_leaf ignore_array t ≡ true
+whole_array true (spec.array no_trees) h = refl
+whole_array true (spec.array (tree t ts)) h = refl
+whole_array false (spec.array ts) h = cc
+whole_array true _ h = cc
+whole_array false _ h = cc
 
 -- ---- the leaves within a tree by its parts
 
@@ -157,29 +152,29 @@ behind-none [] = refl
 behind-none (leaf ∷ found) = ap (λ (ls : List Leaf). leaf ∷ ls) (behind-none found)
 
 -- the leaves of what the containers around have left, the innermost first
-abbrev pub leaves_around : Bool → List Entered → List (List Part) → List Leaf
-leaves_around ignore_array (e ∷ es) (ps ∷ ls) = behind (steps_into (reverse es)) (leaves_of_parts ignore_array (next e.index) ps)
+abbrev pub leaves_around : Bool → List Step → List (List Part) → List Leaf
+leaves_around ignore_array (e ∷ es) (ps ∷ ls) = behind (step_keys (reverse es)) (leaves_of_parts ignore_array (next e.index) ps)
     ++ leaves_around ignore_array es ls
 leaves_around ignore_array _ _ = []
 
 -- the leaves that a walk has left: those of what each level has left, the innermost first
-abbrev pub leaves_left : Bool → List Entered → ℕ → List Part → List (List Part) → List Leaf
-leaves_left ignore_array around n here others = behind (steps_into around) (leaves_of_parts ignore_array n here)
+abbrev pub leaves_left : Bool → List Step → ℕ → List Part → List (List Part) → List Leaf
+leaves_left ignore_array around n here others = behind (step_keys around) (leaves_of_parts ignore_array n here)
     ++ leaves_around ignore_array (reverse around) others
 
 -- at first all are left
-all_left : (ignore_array : Bool) (around : List Entered) (t : Tree) → around ≡ [] → leaves ignore_array t ≡ leaves_of_parts ignore_array 0 (parts t)
+all_left : (ignore_array : Bool) (around : List Step) (t : Tree) → around ≡ [] → leaves ignore_array t ≡ leaves_of_parts ignore_array 0 (parts t)
     → leaves_left ignore_array around 0 (parts t) [] ≡ leaves ignore_array t
 all_left ignore_array around t root is =
     rw root (append-nil (behind [] (leaves_of_parts ignore_array 0 (parts t))) ∙ behind-none (leaves_of_parts ignore_array 0 (parts t)) ∙ sym is)
 
 -- a part that is a leaf is the first that is left
-leaf_left : (ignore_array : Bool) (around : List Entered) (n : ℕ) (key : Option (Bor (List ℕ))) (p : Part) (ps : List Part) (others : List (List Part))
+leaf_left : (ignore_array : Bool) (around : List Step) (n : ℕ) (key : Option (Bor (List ℕ))) (p : Part) (ps : List Part) (others : List (List Part))
     → is_leaf ignore_array p.1 ≡ true → IsKeyOf key p.0
     → leaves_left ignore_array around n (p ∷ ps) others
-    ≡ (steps_into around ++ step_at key n ∷ [], p.1) ∷ leaves_left ignore_array around (next n) ps others
+    ≡ (step_keys around ++ step_at key n ∷ [], p.1) ∷ leaves_left ignore_array around (next n) ps others
 leaf_left ignore_array around n key p ps others leaf keyed =
-    let steps = steps_into around in
+    let steps = step_keys around in
     let left = leaves_of_parts ignore_array (next n) ps in
     let outside = leaves_around ignore_array (reverse around) others in
     ap (λ (ls : List Leaf). behind steps (ls ++ left) ++ outside) (at_leaf (part_step p.0 n) p.1 (leaves ignore_array p.1) leaf)
@@ -189,21 +184,21 @@ leaf_left ignore_array around n key p ps others leaf keyed =
     at_leaf step t within leaf = rw leaf refl
 
 -- in the place of a part that is no leaf stand those within it
-part_left : (ignore_array : Bool) (around around' : List Entered) (e : Entered) (p : Part) (ps : List Part) (others : List (List Part))
+part_left : (ignore_array : Bool) (around around' : List Step) (e : Step) (p : Part) (ps : List Part) (others : List (List Part))
     → is_leaf ignore_array p.1 ≡ false → IsKeyOf e.key p.0 → leaves ignore_array p.1 ≡ leaves_of_parts ignore_array 0 (parts p.1)
     → around' ≡ around ++ e ∷ []
     → leaves_left ignore_array around' 0 (parts p.1) (ps ∷ others) ≡ leaves_left ignore_array around e.index (p ∷ ps) others
 part_left ignore_array around around' e p ps others entered keyed within pushed =
-    let steps = steps_into around in
+    let steps = step_keys around in
     let step = part_step p.0 e.index in
     let left = leaves_of_parts ignore_array (next e.index) ps in
     let outside = leaves_around ignore_array (reverse around) others in
     let inner = leaves_of_parts ignore_array 0 (parts p.1) in
-    ap (λ (es : List Entered). behind (steps_into es) inner ++ leaves_around ignore_array (reverse es) (ps ∷ others)) pushed
-    ∙ ap (λ (es : List Entered). behind (steps_into (around ++ e ∷ [])) inner ++ leaves_around ignore_array es (ps ∷ others)) (innermost around e)
-    ∙ ap (λ (es : List Entered). behind (steps_into (around ++ e ∷ [])) inner ++ (behind (steps_into es) left ++ outside)) (reverse-reverse around)
+    ap (λ (es : List Step). behind (step_keys es) inner ++ leaves_around ignore_array (reverse es) (ps ∷ others)) pushed
+    ∙ ap (λ (es : List Step). behind (step_keys (around ++ e ∷ [])) inner ++ leaves_around ignore_array es (ps ∷ others)) (innermost around e)
+    ∙ ap (λ (es : List Step). behind (step_keys (around ++ e ∷ [])) inner ++ (behind (step_keys es) left ++ outside)) (reverse-reverse around)
     ∙ ap (λ (ss : List Key). behind ss inner ++ (behind steps left ++ outside))
-    (map-append (λ (x : Entered). step_at x.key x.index) around (e ∷ []) ∙ ap (λ s. steps ++ s ∷ []) (keyed_step e.key p.0 e.index keyed))
+    (map-append step_key around (e ∷ []) ∙ ap (λ s. steps ++ s ∷ []) (keyed_step e.key p.0 e.index keyed))
     ∙ ap (λ (ls : List Leaf). ls ++ (behind steps left ++ outside)) (behind-step steps step inner)
     ∙ sym (append_assoc (behind steps (behind (step ∷ []) inner)) (behind steps left) outside)
     ∙ ap (λ (ls : List Leaf). ls ++ outside) (sym (behind-append steps (behind (step ∷ []) inner) left))
@@ -214,48 +209,48 @@ part_left ignore_array around around' e p ps others entered keyed within pushed 
     at_part step t inside entered = rw entered refl
 
 -- in the place of a level without parts stands the one around it
-outside_left : (ignore_array : Bool) (around around' : List Entered) (outer : Entered) (n : ℕ) (here : List Part) (others more : List (List Part))
+outside_left : (ignore_array : Bool) (around around' : List Step) (outer : Step) (n : ℕ) (here : List Part) (others more : List (List Part))
     → others ≡ here ∷ more → around ≡ around' ++ outer ∷ []
     → leaves_left ignore_array around' (next outer.index) here more ≡ leaves_left ignore_array around n [] others
 outside_left ignore_array around around' outer n here others more same popped =
     let left = leaves_of_parts ignore_array (next outer.index) here in
     let outside = leaves_around ignore_array (reverse around') more in
-    ap (λ (es : List Entered). behind (steps_into es) left ++ outside) (sym (reverse-reverse around'))
-    ∙ ap (λ (es : List Entered). leaves_around ignore_array es (here ∷ more)) (sym (innermost around' outer))
-    ∙ ap (λ (es : List Entered). leaves_around ignore_array (reverse es) (here ∷ more)) (sym popped)
+    ap (λ (es : List Step). behind (step_keys es) left ++ outside) (sym (reverse-reverse around'))
+    ∙ ap (λ (es : List Step). leaves_around ignore_array es (here ∷ more)) (sym (innermost around' outer))
+    ∙ ap (λ (es : List Step). leaves_around ignore_array (reverse es) (here ∷ more)) (sym popped)
     ∙ ap (λ (ls : List (List Part)). leaves_around ignore_array (reverse around) ls) (sym same)
 
 -- ---- what is found
 
 -- R holds of what is found and the leaves so far, behind which stand those that are left
-abbrev pub LeavesToward : {A : Type 0} → (A → Leaf → Type 0) → Bool → List A → List Entered → ℕ → List Part → List (List Part) → List Leaf → Type 0
+abbrev pub LeavesToward : {A : Type 0} → (A → Leaf → Type 0) → Bool → List A → List Step → ℕ → List Part → List (List Part) → List Leaf → Type 0
 LeavesToward R ignore_array found around n here others whole = Made R found (leaves_left ignore_array around n here others) whole
 
 module _ {A : Type 0} (R : A → Leaf → Type 0) (ignore_array : Bool) where
-  pub walk_begun : (found : List A) (around : List Entered) (t : Tree) → found ≡ [] → around ≡ []
+  pub walk_begun : (found : List A) (around : List Step) (t : Tree) → found ≡ [] → around ≡ []
       → leaves ignore_array t ≡ leaves_of_parts ignore_array 0 (parts t)
       → LeavesToward R ignore_array found around 0 (parts t) [] (leaves ignore_array t)
   walk_begun found around t none root is = rw (all_left ignore_array around t root is) (none_made R found (leaves ignore_array t) none)
 
   -- the leaf that stands first is found
-  pub leaf_found : (found found' : List A) (around : List Entered) (n : ℕ) (key : Option (Bor (List ℕ))) (p : Part) (ps : List Part)
+  pub leaf_found : (found found' : List A) (around : List Step) (n : ℕ) (key : Option (Bor (List ℕ))) (p : Part) (ps : List Part)
       (others : List (List Part)) (whole : List Leaf) (x : A)
       → LeavesToward R ignore_array found around n (p ∷ ps) others whole → is_leaf ignore_array p.1 ≡ true → IsKeyOf key p.0
-      → R x (steps_into around ++ step_at key n ∷ [], p.1) → found' ≡ found ++ x ∷ []
+      → R x (step_keys around ++ step_at key n ∷ [], p.1) → found' ≡ found ++ x ∷ []
       → LeavesToward R ignore_array found' around (next n) ps others whole
   leaf_found found found' around n key p ps others whole x h leaf keyed kept pushed =
       one_made R found found' x _ _ whole pushed kept (rw (leaf_left ignore_array around n key p ps others leaf keyed) at h)
 
   -- what holds of it holds of one of all
-  pub leaf_of_whole : (P : Leaf → Type 0) (found : List A) (around : List Entered) (n : ℕ) (key : Option (Bor (List ℕ))) (p : Part) (ps : List Part)
+  pub leaf_of_whole : (P : Leaf → Type 0) (found : List A) (around : List Step) (n : ℕ) (key : Option (Bor (List ℕ))) (p : Part) (ps : List Part)
       (others : List (List Part)) (whole : List Leaf)
       → LeavesToward R ignore_array found around n (p ∷ ps) others whole → is_leaf ignore_array p.1 ≡ true → IsKeyOf key p.0
-      → P (steps_into around ++ step_at key n ∷ [], p.1) → Any P whole
+      → P (step_keys around ++ step_at key n ∷ [], p.1) → Any P whole
   leaf_of_whole P found around n key p ps others whole h leaf keyed holds =
       one_of_whole R P found _ _ whole holds (rw (leaf_left ignore_array around n key p ps others leaf keyed) at h)
 
   -- a part that is no leaf is entered
-  pub part_entered : (found : List A) (around around' : List Entered) (e : Entered) (p : Part) (ps : List Part) (others : List (List Part))
+  pub part_entered : (found : List A) (around around' : List Step) (e : Step) (p : Part) (ps : List Part) (others : List (List Part))
       (whole : List Leaf)
       → LeavesToward R ignore_array found around e.index (p ∷ ps) others whole → is_leaf ignore_array p.1 ≡ false → IsKeyOf e.key p.0
       → leaves ignore_array p.1 ≡ leaves_of_parts ignore_array 0 (parts p.1) → around' ≡ around ++ e ∷ []
@@ -264,7 +259,7 @@ module _ {A : Type 0} (R : A → Leaf → Type 0) (ignore_array : Bool) where
       rw (part_left ignore_array around around' e p ps others entered keyed within pushed) h
 
   -- nothing is left at the innermost level
-  pub level_done : (found : List A) (around around' : List Entered) (outer : Entered) (n : ℕ) (here : List Part) (others more : List (List Part))
+  pub level_done : (found : List A) (around around' : List Step) (outer : Step) (n : ℕ) (here : List Part) (others more : List (List Part))
       (whole : List Leaf)
       → others ≡ here ∷ more → around ≡ around' ++ outer ∷ [] → LeavesToward R ignore_array found around n [] others whole
       → LeavesToward R ignore_array found around' (next outer.index) here more whole
@@ -272,18 +267,36 @@ module _ {A : Type 0} (R : A → Leaf → Type 0) (ignore_array : Bool) where
       rw (outside_left ignore_array around around' outer n here others more same popped) h
 
   -- nothing is left at any level
-  pub walk_done : (found : List A) (around : List Entered) (n : ℕ) (others : List (List Part)) (whole : List Leaf) → around ≡ []
+  pub walk_done : (found : List A) (around : List Step) (n : ℕ) (others : List (List Part)) (whole : List Leaf) → around ≡ []
       → LeavesToward R ignore_array found around n [] others whole → AllZip R found whole
   walk_done found around n others whole root h = all_made R found whole (rw root at h)
-
--- ---- the levels around
-
-abbrev pub levels : List Entered → List Level
-levels around = map (λ (e : Entered). e.level) around
-
-pub levels_behind : (around around' : List Entered) (e : Entered) → around' ≡ around ++ e ∷ [] → levels around' ≡ levels around ++ e.level ∷ []
-levels_behind around around' e pushed = ap levels pushed ∙ map-append (λ (e : Entered). e.level) around (e ∷ [])
 
 pub no_items : {A : Type 0} (xs : List A) → length xs ≡ 0 → xs ≡ []
 no_items [] none = refl
 no_items (x ∷ xs) none = absurd (omega (arith, none))
+
+-- the last of a list, and what stands in front of it
+pub record HasLast {A : Type 0} (xs : List A) : Type 0 where
+  pub front : List A
+  pub last : A
+  pub joined : xs ≡ front ++ last ∷ []
+
+pub split_last : {A : Type 0} (x : A) (xs : List A) → HasLast (x ∷ xs)
+split_last x [] = record { front = []; last = x; joined = refl }
+split_last {A} x (y ∷ ys) =
+    let h = split_last y ys in record { front = x ∷ h.front; last = h.last; joined = ap (λ (zs : List A). x ∷ zs) h.joined }
+
+-- as many as a list that has a last
+pub last_of : {A B : Type 0} (xs : List A) (ys front : List B) (last : B) → length xs ≡ length ys → ys ≡ front ++ last ∷ [] → HasLast xs
+last_of [] ys front last same joined = absurd (omega (arith, same, ap length joined, length-append front (last ∷ [])))
+last_of (x ∷ xs) ys front last same joined = split_last x xs
+
+pub fronts_as_many : {A B : Type 0} (xs front : List A) (last : A) (ys front' : List B) (last' : B) → length xs ≡ length ys → xs ≡ front ++ last ∷ []
+    → ys ≡ front' ++ last' ∷ [] → length front ≡ length front'
+fronts_as_many xs front last ys front' last' same joined joined' =
+    omega (arith, same, ap length joined, length-append front (last ∷ []), ap length joined', length-append front' (last' ∷ []))
+
+pub one_more : {A B : Type 0} (xs xs' : List A) (x : A) (ys ys' : List B) (y : B) → length xs ≡ length ys → xs' ≡ xs ++ x ∷ [] → ys' ≡ ys ++ y ∷ []
+    → length xs' ≡ length ys'
+one_more xs xs' x ys ys' y same pushed pushed' =
+    omega (arith, same, ap length pushed, length-append xs (x ∷ []), ap length pushed', length-append ys (y ∷ []))

@@ -9,7 +9,26 @@ use Rattle.jsonb_raw.specs.SortableKey.{key, keys_of_trees, keys_of_pairs, item_
 use Rattle.jsonb_raw.specs.KeyAnswer.{IsOutOfMemoryOrTooDeep}
 use Rattle.jsonb_raw.specs.Private.Levels.{Part, parts, parts_of_trees, parts_of_pairs}
 use Rattle.jsonb_raw.specs.Private.KeyParts.{start, part_start}
-use Rattle.jsonb_raw.proofs.KeyWalks.{IsToward, IsToward-refused, IsToward-done}
+
+-- ---- bytes that are written in a row, and the depths of what they are for
+
+-- What is written and the bytes of what is left are the whole; what is left lies as deep as `left_deep`, the whole as `deep`.
+pub record IsToward (limit : ℕ) (out left : List ℕ) (left_deep : ℕ) (old whole : List ℕ) (deep : ℕ) : Type 0 where
+  pub written : out ++ left ≡ old ++ whole
+  pub shallow : left_deep < limit → deep < limit
+  pub deeper : left_deep ≤ deep
+
+-- a part that is refused refuses the whole
+pub IsToward-refused : (limit : ℕ) (out left : List ℕ) (part_deep both_deep : ℕ) (old whole : List ℕ) (deep : ℕ) (e : Error)
+    → IsToward limit out left both_deep old whole deep → part_deep ≤ both_deep → IsOutOfMemoryOrTooDeep part_deep limit e → IsOutOfMemoryOrTooDeep deep limit e
+IsToward-refused limit out left part_deep both_deep old whole deep e h l (inl m) = inl m
+IsToward-refused limit out left part_deep both_deep old whole deep e h l (inr d) = inr
+    (d.0, (let k = h.deeper in let m : limit ≤ part_deep = d.1 in omega arith))
+
+-- where nothing is left, all is written
+pub IsToward-done : (limit : ℕ) (out : List ℕ) (left_deep : ℕ) (old whole : List ℕ) (deep : ℕ) → IsToward limit out [] left_deep old whole deep
+    → left_deep < limit → (out ≡ old ++ whole) × (deep < limit)
+IsToward-done limit out left_deep old whole deep h l = (sym (append-nil out) ∙ h.written, h.shallow l)
 
 -- ---- the key of a tree by its parts
 
@@ -174,10 +193,6 @@ walk_done w out old whole deep h =
 pub only_start : (w : Width) (t : Tree) (old out : List ℕ) → parts t ≡ [] → (out ≡ old ++ start w t 0) × (0 < depths w)
     → (out ≡ old ++ key w t 0) × (deepest t < depths w)
 only_start w t old out none p = walk_done w out old (key w t 0) (deepest t) (rw none at (walk_begun w t old out p))
-
-pub root_refused : (t : Tree) (limit : ℕ) (e : Error) → IsOutOfMemoryOrTooDeep 0 limit e → IsOutOfMemoryOrTooDeep (deepest t) limit e
-root_refused t limit e (inl m) = inl m
-root_refused t limit e (inr d) = inr (d.0, (let k : limit ≤ 0 = d.1 in omega arith))
 
 -- the same, with the depth as a walk has it
 pub part_begun_at : (w : Width) (p : Part) (ps : List Part) (ls : List (List Part)) (d : ℕ) (out out' old whole : List ℕ) (deep : ℕ) → d ≡ length ls

@@ -15,7 +15,7 @@ use Rattle.jsonb_doc.specs.Private.Stored.{Stores, TakesEntry, TakesPairEntry, k
 use Rattle.jsonb_doc.proofs.Weights.{weight_of, weight-pos, inner_weighs, taken_weighs, weight_of_all, falls_inward, falls_outward}
 use Rattle.jsonb_raw.specs.declared.level.Level.{Level}
 use Rattle.jsonb_raw.specs.declared.level.Level.TheVariants.{Elements, Pairs}
-use Rattle.jsonb_raw.specs.Private.Levels.{Part, parts_of_trees, parts_of_pairs, HasPartsLeft, TakesPart, IsKeyOf, IsSmaller, level_room, level_bound}
+use Rattle.jsonb_raw.specs.Private.Levels.{Part, parts_of_trees, parts_of_pairs, HasPartsLeft, TakesPart, IsKeyOf, IsSmaller, IsLevelWithin, level_room, level_bound}
 
 -- ---- the first part
 
@@ -23,21 +23,6 @@ part_is : (form : Form) (level : Level) (r : Result (Option (Option (Bor (List �
     (ps qs : List Part) → ps ≡ qs → TakesPart form qs r level
     → TakesPart form ps r level
 part_is form level r ps qs e h = subst (λ (xs : List Part). TakesPart form xs r level) (sym e) h
-
-pub element_none : (form : Form) (it : EntryIter) (ps : List Part) (ts : Trees) → ps ≡ parts_of_trees ts → TakesEntry form ts None it
-    → TakesPart form ps (Ok None) (Elements it)
-element_none form it ps spec.no_trees e h = part_is form (Elements it) (Ok None) ps [] e tt
-element_none form it ps (spec.tree t ts) e h = absurd h
-
-pub element_some : (form : Form) (it : EntryIter) (x : StoredEntry) (ps : List Part) (ts : Trees) → ps ≡ parts_of_trees ts → TakesEntry form ts (Some (Ok x)) it
-    → TakesPart form ps (Ok (Some (None, x))) (Elements it)
-element_some form it x ps spec.no_trees e h = absurd h
-element_some form it x ps (spec.tree t ts) e h = part_is form (Elements it) (Ok (Some (None, x))) ps ((None, t) ∷ parts_of_trees ts) e
-    (tt, h.0, (ts, h.1, refl))
-
-pub no_element_error : (form : Form) (it : EntryIter) (e : Error) (ts : Trees) → TakesEntry form ts (Some (Err e)) it → ⊥
-no_element_error form it e spec.no_trees h = h
-no_element_error form it e (spec.tree t ts) h = h
 
 pub pair_none : (form : Form) (it : PairEntryIter) (ps : List Part) (qs : spec.Pairs) → ps ≡ parts_of_pairs qs → TakesPairEntry form qs None it
     → TakesPart form ps (Ok None) (Pairs it)
@@ -155,13 +140,12 @@ weights ls = weight_of_all weight ls
 
 -- the measure of a walk falls where a level is left for a part of it, where a part has no level, and where a level is done
 pub falls_within : (level level' inner : Level) (around around' : List Level) (entry : StoredEntry) → IsSmaller level
-    entry level' → level_room inner < length entry.content.now
-    → level_bound inner < 2 ^ 64 → around' ≡ around ++ level' ∷ []
+    entry level' → IsLevelWithin (length entry.content.now) (Some inner) → around' ≡ around ++ level' ∷ []
     → weight inner + weights (reverse around') < weight level + weights (reverse around)
 unfolding weight
-falls_within level level' inner around around' entry s room bound e =
+falls_within level level' inner around around' entry s within e =
     let size = s.size in
-    falls_inward weight level level' inner around around' (inner_weighs _ _ _ _ _ _ s.bound s.room (omega (arith, size, room)) bound) e
+    falls_inward weight level level' inner around around' (inner_weighs _ _ _ _ _ _ s.bound s.room (omega (arith, size, within.0)) within.1) e
 
 pub falls_beside : (level level' : Level) (around : List Level) (entry : StoredEntry) → IsSmaller level entry level'
     → weight level' + weights (reverse around) < weight level + weights (reverse around)

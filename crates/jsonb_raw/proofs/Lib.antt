@@ -16,6 +16,7 @@ pub mod DigitSteps
 pub mod PushedNumbers
 pub mod WrittenDigits
 pub mod LevelLemmas
+pub mod LevelStarts
 pub mod LevelKeys
 pub mod EqualityWalk
 pub mod ScalarLemmas
@@ -77,7 +78,6 @@ pub mod PushLoops
 pub mod CollectLoops
 pub mod TextLemmas
 pub mod IteratorItems
-pub mod KeyWalks
 pub mod PartitionLemmas
 pub mod StripLemmas
 pub mod IteratorLemmas

@@ -9,6 +9,7 @@ pub mod LargeTexts
 pub mod Cuts
 pub mod Inserts
 pub mod Levels
+pub mod KeyKinds
 pub mod KeyParts
 pub mod KeyWidth
 pub mod PairSteps

@@ -1,15 +1,15 @@
 //! The equality key of a document: a walk over its items that writes kinds, counts and contents.
 
-ghost use Rattle.std.specs.Prelude.{◌≡◌, ◌≤◌, ◌<◌, ◌+◌, ◌^◌, ◌++◌, ◌∷◌, ℕ, List, Some, length, take, drop, IfOk, IfSome, IfErr, MatchResult};
+ghost use Rattle.std.specs.Prelude.{◌≡◌, ◌≤◌, ◌+◌, ◌++◌, ◌∷◌, ℕ, List, Some, length, take, drop, IfOk, IfErr, MatchResult};
 ghost use Rattle.std.specs.Int.{w32, w64, to_be_bytes};
 ghost use Rattle.jsonb_doc.specs.Tree.{Tree};
 ghost use Rattle.jsonb_doc.specs.View.{number_view, extension_view};
 ghost use Rattle.jsonb_raw.specs.EqualityKey.{equality_key};
-ghost use Rattle.jsonb_raw.specs.Private.EqualityParts.{equality_start, equality_part_start};
-ghost use Rattle.jsonb_raw.specs.Private.Levels.{Part, IsKeyOf, IsLevelOf, level_room, level_bound};
+ghost use Rattle.jsonb_raw.specs.Private.EqualityParts.{equality_start, equality_part_start, AppendsEqualityStart};
+ghost use Rattle.jsonb_raw.specs.Private.Levels.{Part, IsKeyOf, IsLevelOf, IsLevelWithin};
 ghost use Rattle.jsonb_raw.specs.SortableKey.{text_bytes};
-ghost use Rattle.jsonb_doc.specs.Payload.{Form};
-ghost use Rattle.jsonb_doc.specs.Format.{Decodes};
+ghost use Rattle.jsonb_doc.specs.Payload.{Form, number_reader};
+ghost use Rattle.jsonb_doc.specs.Format.{Decodes, IsContent, container_entry};
 ghost use Rattle.jsonb_doc.specs.Item.{StandsFor, item_size};
 ghost use Rattle.jsonb_doc.specs.Private.Stored.{Stores};
 ghost use Rattle.jsonb_doc.specs.Answer.{IsOutOfMemory, IsDecodingError, ◌or◌};
@@ -76,14 +76,25 @@ fn push_number_key(out: &mut Vec<u8>, number: &Number) -> Result<(), Error>
     Ok(())
 }
 
+/// Appends what stands before the parts of a container, which it hands out.
+#[inline(always)]
+fn push_container<'a>(out: &mut Vec<u8>, bytes: &'a [u8]) -> Result<Option<Level<'a>>, Error>
+    ensures key { (form : Form) (tree : Tree) → IsContent (number_reader form) tree container_entry bytes.now
+        → AppendsEqualityStart form (equality_start tree) tree out.old.items result out.new.items }
+    ensures within { IfOk result (IsLevelWithin (length bytes.now)) }
+    ensures errors { IfErr result (IsDecodingError or OutOfMemory) }
+{
+    let level = Level::of_container(bytes)?;
+    push_count(out, key_kind::of_level(&level), level.len())?;
+    Ok(Some(level))
+}
+
 /// Appends the key of an item that has no parts, and of any other what stands before its parts, which it hands out.
 #[inline(always)]
 fn push_start<'a>(out: &mut Vec<u8>, item: &Item<'a>) -> Result<Option<Level<'a>>, Error>
     ensures key { (form : Form) (tree : Tree) → StandsFor form item.now tree
-        → MatchResult result (λ found. (out.new.items ≡ out.old.items ++ equality_start tree)
-        × IsLevelOf form tree found) IsOutOfMemory }
-    ensures room { IfOk result (λ found. IfSome found (λ level. level_room level < item_size item.now)) }
-    ensures bound { IfOk result (λ found. IfSome found (λ level. level_bound level < 2 ^ 64)) }
+        → AppendsEqualityStart form (equality_start tree) tree out.old.items result out.new.items }
+    ensures within { IfOk result (IsLevelWithin (item_size item.now)) }
     ensures errors { IfErr result (IsDecodingError or OutOfMemory) }
 {
     match item {
@@ -93,29 +104,17 @@ fn push_start<'a>(out: &mut Vec<u8>, item: &Item<'a>) -> Result<Option<Level<'a>
         Item::Number(number) => push_number_key(out, number)?,
         Item::String(text) => push_string(out, text.as_bytes())?,
         Item::Extension(value) => push_extension(out, value)?,
-        Item::Array(bytes) => {
-            let level = Level::of_array(bytes)?;
-            push_count(out, key_kind::ARRAY, level.len())?;
-            return Ok(Some(level));
-        }
-        Item::Object(bytes) => {
-            let level = Level::of_object(bytes)?;
-            push_count(out, key_kind::OBJECT, level.len())?;
-            return Ok(Some(level));
-        }
+        Item::Array(bytes) | Item::Object(bytes) => return push_container(out, bytes),
     }
     Ok(None)
 }
 
-/// The same of an entry. No item is made of a text or of a short number.
+/// The same of an entry. An item is made of an extension value and of a long decimal alone.
 #[inline(always)]
 fn push_entry<'a>(out: &mut Vec<u8>, entry: &StoredEntry<'a>) -> Result<Option<Level<'a>>, Error>
     ensures key { (form : Form) (tree : Tree) → Stores form entry.now tree
-        → MatchResult result (λ found. (out.new.items ≡ out.old.items ++ equality_start tree)
-        × IsLevelOf form tree found) IsOutOfMemory }
-    ensures room { IfOk result
-        (λ found. IfSome found (λ level. level_room level < length entry.now.content.now)) }
-    ensures bound { IfOk result (λ found. IfSome found (λ level. level_bound level < 2 ^ 64)) }
+        → AppendsEqualityStart form (equality_start tree) tree out.old.items result out.new.items }
+    ensures within { IfOk result (IsLevelWithin (length entry.now.content.now)) }
     ensures errors { IfErr result (IsDecodingError or OutOfMemory) }
 {
     if entry.is_text() {
@@ -125,6 +124,13 @@ fn push_entry<'a>(out: &mut Vec<u8>, entry: &StoredEntry<'a>) -> Result<Option<L
     if let Some(number) = entry.short_number() {
         out.push(key_kind::NUMBER)?;
         push_short_number(out, number)?;
+        return Ok(None);
+    }
+    if entry.is_container() {
+        return push_container(out, entry.content);
+    }
+    if let Some(kind) = key_kind::of_literal(entry) {
+        out.push(kind)?;
         return Ok(None);
     }
     push_start(out, &entry.item()?)
@@ -138,11 +144,8 @@ fn push_part<'a>(
     entry: &StoredEntry<'a>,
 ) -> Result<Option<Level<'a>>, Error>
     ensures key { (form : Form) (part : Part) → IsKeyOf key.entry part.0 → Stores form entry.now part.1
-        → MatchResult result (λ found. (out.new.items ≡ out.old.items ++ equality_part_start part)
-        × IsLevelOf form part.1 found) IsOutOfMemory }
-    ensures room { IfOk result
-        (λ found. IfSome found (λ level. level_room level < length entry.now.content.now)) }
-    ensures bound { IfOk result (λ found. IfSome found (λ level. level_bound level < 2 ^ 64)) }
+        → AppendsEqualityStart form (equality_part_start part) part.1 out.old.items result out.new.items }
+    ensures within { IfOk result (IsLevelWithin (length entry.now.content.now)) }
     ensures errors { IfErr result (IsDecodingError or OutOfMemory) }
 {
     if let Some(key) = key {

@@ -1,5 +1,16 @@
 //! The kind bytes of keys. Kinds stand in the order of their bytes, the lowest first.
 
+ghost use Rattle.std.specs.Prelude.{◌≡◌, IfSome};
+ghost use Rattle.jsonb_doc.specs.Tree.{Tree};
+ghost use Rattle.jsonb_doc.specs.Order.{rank};
+ghost use Rattle.jsonb_doc.specs.Payload.{Form};
+ghost use Rattle.jsonb_doc.specs.Private.Stored.{Stores};
+ghost use Rattle.jsonb_raw.specs.Private.Levels.{HasAllLeft};
+ghost use Rattle.jsonb_raw.specs.Private.KeyKinds.{IsLiteralKind};
+
+use crate::level::Level;
+use jsonb_doc::{StoredEntry, layout};
+
 pub const EXTENSION: u8 = 1;
 
 pub const FALSE: u8 = 2;
@@ -15,3 +26,30 @@ pub const OBJECT: u8 = 6;
 pub const ARRAY: u8 = 7;
 
 pub const NULL: u8 = 8;
+
+/// The kind of the container with these parts.
+#[inline(always)]
+pub fn of_level(level: &Level<'_>) -> u8
+    ensures { (form : Form) (t : Tree) → HasAllLeft form t level.now → result ≡ rank t }
+{
+    match level {
+        Level::Elements(_) => ARRAY,
+        Level::Pairs(_) => OBJECT,
+    }
+}
+
+/// The kind of a null or a truth value.
+#[inline(always)]
+pub fn of_literal(entry: &StoredEntry<'_>) -> Option<u8>
+    ensures { (form : Form) (t : Tree) → Stores form entry.now t → IfSome result (IsLiteralKind t) }
+{
+    if !entry.content.is_empty() {
+        return None;
+    }
+    match entry.kind {
+        layout::NULL => Some(NULL),
+        layout::FALSE => Some(FALSE),
+        layout::TRUE => Some(TRUE),
+        _ => None,
+    }
+}

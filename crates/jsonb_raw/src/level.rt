@@ -1,13 +1,15 @@
 //! What a walk has left of a container. A walk keeps the levels that it is within in a `Vec`, so that depth takes none
 //! of the machine's stack.
 
-ghost use Rattle.std.specs.Prelude.{◌≤◌, ◌<◌, ◌^◌, ◌≡◌, IsOkAnd, IfOk, IfSome, IfErr, List, length};
-ghost use Rattle.jsonb_doc.specs.Tree.{Trees, Pairs, array, object};
-ghost use Rattle.jsonb_doc.specs.Payload.{Form};
-ghost use Rattle.jsonb_doc.specs.Format.{Decodes};
+ghost use Rattle.std.specs.Prelude.{◌≡◌, IsOkAnd, IfOk, IfSome, IfErr, List, length};
+ghost use Rattle.jsonb_doc.specs.Tree.{Tree};
+ghost use Rattle.jsonb_doc.specs.Payload.{Form, number_reader};
+ghost use Rattle.jsonb_doc.specs.Format.{IsContent, container_entry};
 ghost use Rattle.jsonb_doc.specs.Answer.{IsDecodingError};
-ghost use Rattle.jsonb_raw.specs.Private.Levels.{Part, parts_of_trees, parts_of_pairs, HasPartsLeft, TakesPart, IsSmaller, level_room, level_bound};
+ghost use Rattle.jsonb_raw.specs.Scalars.{is_array};
+ghost use Rattle.jsonb_raw.specs.Private.Levels.{Part, HasPartsLeft, HasAllLeft, IsLevelWithin, TakesPart, IsSmaller};
 
+use jsonb_doc::layout::{ARRAY_HEADER, OBJECT_HEADER, split_header};
 use jsonb_doc::{EntryIter, Error, PairEntryIter, StoredEntry, array_entries, object_entries};
 
 /// The elements or the pairs of a container that are left, as they are stored.
@@ -17,29 +19,35 @@ pub enum Level<'a> {
     Pairs(PairEntryIter<'a>),
 }
 
-impl<'a> Level<'a> {
-    /// All elements of an array. Bytes that are no array are `InvalidJsonb`.
-    #[inline(always)]
-    pub fn of_array(bytes: &'a [u8]) -> Result<Level<'a>, Error>
-        ensures level { (form : Form) (ts : Trees) → Decodes form bytes.now (array ts)
-            → IsOkAnd result (λ level. HasPartsLeft form level (parts_of_trees ts)) }
-        ensures room { IfOk result (λ level. level_room level < length bytes.now) }
-        ensures bound { IfOk result (λ level. level_bound level < 2 ^ 64) }
-        ensures errors { IfErr result IsDecodingError }
-    {
-        Ok(Level::Elements(array_entries(bytes)?))
+/// Whether a container is an array, by its header.
+#[inline(always)]
+pub fn is_array(bytes: &[u8]) -> bool
+    ensures { (form : Form) (t : Tree) → IsContent (number_reader form) t container_entry bytes.now
+        → result ≡ is_array t }
+{
+    match split_header(bytes) {
+        Some((kind, _, _)) => kind == ARRAY_HEADER,
+        None => false,
     }
+}
 
-    /// All pairs of an object. Bytes that are no object are `InvalidJsonb`.
+impl<'a> Level<'a> {
+    /// All parts of an array or an object, by its header. Other bytes are `InvalidJsonb`.
     #[inline(always)]
-    pub fn of_object(bytes: &'a [u8]) -> Result<Level<'a>, Error>
-        ensures level { (form : Form) (ps : Pairs) → Decodes form bytes.now (object ps)
-            → IsOkAnd result (λ level. HasPartsLeft form level (parts_of_pairs ps)) }
-        ensures room { IfOk result (λ level. level_room level < length bytes.now) }
-        ensures bound { IfOk result (λ level. level_bound level < 2 ^ 64) }
+    pub fn of_container(bytes: &'a [u8]) -> Result<Level<'a>, Error>
+        ensures level { (form : Form) (t : Tree) → IsContent (number_reader form) t container_entry bytes.now
+            → IsOkAnd result (HasAllLeft form t) }
+        ensures within { IfOk result (λ level. IsLevelWithin (length bytes.now) (Some level)) }
         ensures errors { IfErr result IsDecodingError }
     {
-        Ok(Level::Pairs(object_entries(bytes)?))
+        let Some((kind, _, _)) = split_header(bytes) else {
+            return Err(Error::InvalidJsonb);
+        };
+        match kind {
+            ARRAY_HEADER => Ok(Level::Elements(array_entries(bytes)?)),
+            OBJECT_HEADER => Ok(Level::Pairs(object_entries(bytes)?)),
+            _ => Err(Error::InvalidJsonb),
+        }
     }
 
     /// How many parts are left.

@@ -1,17 +1,16 @@
 //! The sortable key of a document: a walk over its items that writes each behind its depth and its kind.
 
-ghost use Rattle.std.specs.Prelude.{◌≡◌, ◌++◌, ◌^◌, [], length, IfOk, IfSome, IfErr, MatchResult, ◌<◌};
+ghost use Rattle.std.specs.Prelude.{[], length, IfOk, IfErr};
 ghost use Rattle.jsonb_doc.specs.Tree.{Tree};
-ghost use Rattle.jsonb_doc.specs.Payload.{Form};
-ghost use Rattle.jsonb_doc.specs.Format.{Decodes};
+ghost use Rattle.jsonb_doc.specs.Payload.{Form, number_reader};
+ghost use Rattle.jsonb_doc.specs.Format.{Decodes, IsContent, container_entry};
 ghost use Rattle.jsonb_doc.specs.Item.{StandsFor, item_size};
 ghost use Rattle.jsonb_doc.specs.Private.Stored.{Stores};
-ghost use Rattle.jsonb_doc.specs.Depth.{deepest};
-ghost use Rattle.jsonb_raw.specs.SortableKey.{key, item_bytes, text_bytes, depths};
-ghost use Rattle.jsonb_raw.specs.Private.Levels.{Part, IsKeyOf, IsLevelOf, level_room, level_bound};
-ghost use Rattle.jsonb_raw.specs.Private.KeyParts.{start, part_start, AppendsKey};
+ghost use Rattle.jsonb_raw.specs.SortableKey.{item_bytes, text_bytes};
+ghost use Rattle.jsonb_raw.specs.Private.Levels.{Part, IsKeyOf, IsLevelWithin};
+ghost use Rattle.jsonb_raw.specs.Private.KeyParts.{start, part_start, AppendsItem, AppendsStart, AppendsKey};
 ghost use Rattle.jsonb_raw.specs.Private.KeyWidth.{width_of};
-ghost use Rattle.jsonb_raw.specs.KeyAnswer.{MakesKey, RanksAsTree, IsOutOfMemoryOrTooDeep};
+ghost use Rattle.jsonb_raw.specs.KeyAnswer.{MakesKey, RanksAsTree};
 ghost use Rattle.jsonb_doc.specs.Answer.{IsDecodingError, ◌or◌};
 ghost use Rattle.jsonb_doc.specs.declared.error.Error.TheVariants.{OutOfMemory, TooDeep};
 
@@ -33,10 +32,8 @@ pub enum DepthWidth {
 /// Appends the depth and the kind of an item. `TooDeep` where the width has no bytes for the depth.
 #[inline(always)]
 fn push_front(out: &mut Vec<u8>, depth: usize, kind: u8, width: DepthWidth) -> Result<(), Error>
-    ensures { MatchResult result
-        (λ _. (out.new.items ≡ out.old.items ++ item_bytes (width_of width) depth kind [])
-        × (depth < (depths (width_of width))))
-        (IsOutOfMemoryOrTooDeep depth (depths (width_of width))) }
+    ensures { AppendsItem (width_of width) depth (item_bytes (width_of width) depth kind [])
+        out.old.items result out.new.items }
 {
     match width {
         DepthWidth::OneByte => {
@@ -49,7 +46,8 @@ fn push_front(out: &mut Vec<u8>, depth: usize, kind: u8, width: DepthWidth) -> R
             if depth > 65535 {
                 return Err(Error::TooDeep);
             }
-            out.extend_from_slice(&[(depth / 256) as u8, (depth % 256) as u8, kind])?;
+            let [high, low] = (depth as u16).to_be_bytes();
+            out.extend_from_slice(&[high, low, kind])?;
         }
     }
     Ok(())
@@ -58,14 +56,31 @@ fn push_front(out: &mut Vec<u8>, depth: usize, kind: u8, width: DepthWidth) -> R
 /// Appends the key of a text, also of an object's key.
 #[inline(always)]
 fn push_string(out: &mut Vec<u8>, text: &[u8], depth: usize, width: DepthWidth) -> Result<(), Error>
-    ensures { MatchResult result
-        (λ _. (out.new.items ≡ out.old.items ++ item_bytes (width_of width) depth 5 (text_bytes text.now))
-        × (depth < (depths (width_of width))))
-        (IsOutOfMemoryOrTooDeep depth (depths (width_of width))) }
+    ensures { AppendsItem (width_of width) depth (item_bytes (width_of width) depth 5 (text_bytes text.now))
+        out.old.items result out.new.items }
 {
     push_front(out, depth, key_kind::STRING, width)?;
     push_text(out, text)?;
     Ok(())
+}
+
+/// Appends what stands before the parts of a container, which it hands out.
+#[inline(always)]
+fn push_container<'a>(
+    out: &mut Vec<u8>,
+    bytes: &'a [u8],
+    depth: usize,
+    width: DepthWidth,
+) -> Result<Option<Level<'a>>, Error>
+    ensures key { (form : Form) (tree : Tree) → IsContent (number_reader form) tree container_entry bytes.now
+        → AppendsStart form (width_of width) depth (start (width_of width) tree depth) tree
+        out.old.items result out.new.items }
+    ensures within { IfOk result (IsLevelWithin (length bytes.now)) }
+    ensures errors { IfErr result (IsDecodingError or OutOfMemory or TooDeep) }
+{
+    let level = Level::of_container(bytes)?;
+    push_front(out, depth, key_kind::of_level(&level), width)?;
+    Ok(Some(level))
 }
 
 /// Appends the key of an item that has no parts, and of any other what stands before its parts, which it hands out.
@@ -77,12 +92,9 @@ fn push_start<'a>(
     width: DepthWidth,
 ) -> Result<Option<Level<'a>>, Error>
     ensures key { (form : Form) (tree : Tree) → StandsFor form item.now tree
-        → MatchResult result
-        (λ found. (out.new.items ≡ out.old.items ++ start (width_of width) tree depth)
-        × (depth < (depths (width_of width))) × IsLevelOf form tree found)
-        (IsOutOfMemoryOrTooDeep depth (depths (width_of width))) }
-    ensures room { IfOk result (λ found. IfSome found (λ level. level_room level < item_size item.now)) }
-    ensures bound { IfOk result (λ found. IfSome found (λ level. level_bound level < 2 ^ 64)) }
+        → AppendsStart form (width_of width) depth (start (width_of width) tree depth) tree
+        out.old.items result out.new.items }
+    ensures within { IfOk result (IsLevelWithin (item_size item.now)) }
     ensures errors { IfErr result (IsDecodingError or OutOfMemory or TooDeep) }
 {
     match item {
@@ -99,19 +111,14 @@ fn push_start<'a>(
             push_extension_payload(out, value)?;
             out.push(0)?;
         }
-        Item::Array(bytes) => {
-            push_front(out, depth, key_kind::ARRAY, width)?;
-            return Ok(Some(Level::of_array(bytes)?));
-        }
-        Item::Object(bytes) => {
-            push_front(out, depth, key_kind::OBJECT, width)?;
-            return Ok(Some(Level::of_object(bytes)?));
+        Item::Array(bytes) | Item::Object(bytes) => {
+            return push_container(out, bytes, depth, width);
         }
     }
     Ok(None)
 }
 
-/// The same of an entry. It stands apart, so that a walk over texts and numbers has no room for items.
+/// The same of an entry. It stands apart, so that a walk over the commonest entries has no room for items.
 #[inline(never)]
 fn push_stored_start<'a>(
     out: &mut Vec<u8>,
@@ -120,19 +127,15 @@ fn push_stored_start<'a>(
     width: DepthWidth,
 ) -> Result<Option<Level<'a>>, Error>
     ensures key { (form : Form) (tree : Tree) → Stores form entry.now tree
-        → MatchResult result
-        (λ found. (out.new.items ≡ out.old.items ++ start (width_of width) tree depth)
-        × (depth < (depths (width_of width))) × IsLevelOf form tree found)
-        (IsOutOfMemoryOrTooDeep depth (depths (width_of width))) }
-    ensures room { IfOk result
-        (λ found. IfSome found (λ level. level_room level < length entry.now.content.now)) }
-    ensures bound { IfOk result (λ found. IfSome found (λ level. level_bound level < 2 ^ 64)) }
+        → AppendsStart form (width_of width) depth (start (width_of width) tree depth) tree
+        out.old.items result out.new.items }
+    ensures within { IfOk result (IsLevelWithin (length entry.now.content.now)) }
     ensures errors { IfErr result (IsDecodingError or OutOfMemory or TooDeep) }
 {
     push_start(out, &entry.item()?, depth, width)
 }
 
-/// The same. No item is made of a text or of a short number.
+/// The same. An item is made of an extension value and of a long decimal alone.
 #[inline(always)]
 fn push_entry<'a>(
     out: &mut Vec<u8>,
@@ -141,13 +144,9 @@ fn push_entry<'a>(
     width: DepthWidth,
 ) -> Result<Option<Level<'a>>, Error>
     ensures key { (form : Form) (tree : Tree) → Stores form entry.now tree
-        → MatchResult result
-        (λ found. (out.new.items ≡ out.old.items ++ start (width_of width) tree depth)
-        × (depth < (depths (width_of width))) × IsLevelOf form tree found)
-        (IsOutOfMemoryOrTooDeep depth (depths (width_of width))) }
-    ensures room { IfOk result
-        (λ found. IfSome found (λ level. level_room level < length entry.now.content.now)) }
-    ensures bound { IfOk result (λ found. IfSome found (λ level. level_bound level < 2 ^ 64)) }
+        → AppendsStart form (width_of width) depth (start (width_of width) tree depth) tree
+        out.old.items result out.new.items }
+    ensures within { IfOk result (IsLevelWithin (length entry.now.content.now)) }
     ensures errors { IfErr result (IsDecodingError or OutOfMemory or TooDeep) }
 {
     if entry.is_text() {
@@ -157,6 +156,13 @@ fn push_entry<'a>(
     if let Some(number) = entry.short_number() {
         push_front(out, depth, key_kind::NUMBER, width)?;
         push_short_number(out, number)?;
+        return Ok(None);
+    }
+    if entry.is_container() {
+        return push_container(out, entry.content, depth, width);
+    }
+    if let Some(kind) = key_kind::of_literal(entry) {
+        push_front(out, depth, kind, width)?;
         return Ok(None);
     }
     push_stored_start(out, entry, depth, width)
@@ -172,13 +178,9 @@ fn push_part<'a>(
     width: DepthWidth,
 ) -> Result<Option<Level<'a>>, Error>
     ensures key { (form : Form) (part : Part) → IsKeyOf key.entry part.0 → Stores form entry.now part.1
-        → MatchResult result
-        (λ found. (out.new.items ≡ out.old.items ++ part_start (width_of width) part depth)
-        × (depth < (depths (width_of width))) × IsLevelOf form part.1 found)
-        (IsOutOfMemoryOrTooDeep depth (depths (width_of width))) }
-    ensures room { IfOk result
-        (λ found. IfSome found (λ level. level_room level < length entry.now.content.now)) }
-    ensures bound { IfOk result (λ found. IfSome found (λ level. level_bound level < 2 ^ 64)) }
+        → AppendsStart form (width_of width) depth (part_start (width_of width) part depth) part.1
+        out.old.items result out.new.items }
+    ensures within { IfOk result (IsLevelWithin (length entry.now.content.now)) }
     ensures errors { IfErr result (IsDecodingError or OutOfMemory or TooDeep) }
 {
     if let Some(key) = key {
@@ -195,10 +197,7 @@ fn push_item(
     width: DepthWidth,
 ) -> Result<(), Error>
     ensures key { (form : Form) (tree : Tree) → StandsFor form item.now tree
-        → MatchResult result
-        (λ _. (out.new.items ≡ out.old.items ++ key (width_of width) tree 0)
-        × ((deepest tree) < (depths (width_of width))))
-        (IsOutOfMemoryOrTooDeep (deepest tree) (depths (width_of width))) }
+        → AppendsKey (width_of width) tree out.old.items result out.new.items }
     ensures errors { IfErr result (IsDecodingError or OutOfMemory or TooDeep) }
 {
     let Some(found) = push_start(out, item, 0, width)? else {

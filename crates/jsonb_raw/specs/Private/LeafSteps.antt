@@ -7,7 +7,7 @@ use Rattle.jsonb_doc.specs.Payload.{Form}
 use Rattle.jsonb_keypath.specs.declared.key_path.KeyPaths.{KeyPaths}
 use Rattle.jsonb_keypath.specs.KeyPathGrammar.{Key, index, unquoted_name}
 use Rattle.jsonb_keypath.specs.KeyPathViews.{key_paths_view}
-use Rattle.jsonb_raw.specs.declared.functions.path.leaves.Entered.{Entered}
+use Rattle.jsonb_raw.specs.declared.functions.path.leaves.Step.{Step}
 use Rattle.jsonb_raw.specs.declared.level.Level.{Level}
 use Rattle.jsonb_raw.specs.Private.Levels.{parts, HasPartsLeft}
 use Rattle.jsonb_raw.specs.Leaves.{Leaf, is_leaf}
@@ -21,9 +21,11 @@ abbrev pub step_at : Option (Bor (List ℕ)) → ℕ → Key
 step_at None n = index (cast_signed w32 n)
 step_at (Some key) n = unquoted_name key.now
 
--- the steps to the part that was entered of each container, the outermost first
-abbrev pub steps_into : List Entered → List Key
-steps_into around = map (λ entered. step_at entered.key entered.index) around
+abbrev pub step_key : Step → Key
+step_key step = step_at step.key step.index
+
+abbrev pub step_keys : List Step → List Key
+step_keys steps = map step_key steps
 
 -- a part that is no leaf has its own parts left
 abbrev pub IsEntered : Form → Bool → Tree → Option Level → Type 0

@@ -1,5 +1,5 @@
 -- What walks have left of containers.
-use Rattle.std.specs.Prelude.{◌≡◌, ◌≤◌, ◌<◌, ℕ, List, [], ◌∷◌, length, IsUtf8, Option, Some, None, Result, Ok, ⊤}
+use Rattle.std.specs.Prelude.{◌≡◌, ◌≤◌, ◌<◌, ◌^◌, ℕ, List, [], ◌∷◌, length, IsUtf8, Option, Some, None, Result, Ok, ⊤}
 use Rattle.std.specs.Borrow.{Bor}
 use Rattle.jsonb_doc.specs.declared.error.Error.{Error}
 use Rattle.jsonb_doc.specs.declared.entry_iter.StoredEntry.{StoredEntry}
@@ -37,6 +37,12 @@ abbrev pub IsLevelOf : Form → Tree → Option Level → Type 0
 IsLevelOf form t (Some level) = HasPartsLeft form level (parts t)
 IsLevelOf form t None = parts t ≡ []
 
+-- all parts of the container are left
+abbrev pub HasAllLeft : Form → Tree → Level → Type 0
+HasAllLeft form (spec.array ts) (Elements it) = HasEntriesLeft form it ts
+HasAllLeft form (spec.object ps) (Pairs it) = HasPairEntriesLeft form it ps
+HasAllLeft form _ _ = ⊥
+
 -- the bytes are the key, where there is one
 abbrev pub IsKeyOf : Option (Bor (List ℕ)) → Option (List ℕ) → Type 0
 IsKeyOf (Some text) (Some k) = (text.now ≡ k) × IsUtf8 k
@@ -60,6 +66,11 @@ level_room (Pairs it) = entries_room it.values
 abbrev pub level_bound : Level → ℕ
 level_bound (Elements it) = entries_bound it
 level_bound (Pairs it) = entries_bound it.keys
+
+-- the level, if any, is one of less than this many bytes, on any bytes
+abbrev pub IsLevelWithin : ℕ → Option Level → Type 0
+IsLevelWithin bytes (Some level) = (level_room level < bytes) × (level_bound level < 2 ^ 64)
+IsLevelWithin bytes None = ⊤
 
 -- with this entry taken the level is smaller, on any bytes
 pub record IsSmaller (before : Level) (entry : StoredEntry) (after : Level) : Type 0 where

@@ -19,8 +19,8 @@ walk-init c = record {
 
 pub walk-smaller-in-Some-2 : goal.walk-smaller-in-Some-2
 walk-smaller-in-Some-2 c =
-    falls_within _ _ _ _ _ _ (rw c.in-Some.is at c.in_ok-key.ensures.smaller) (rw c.in-Some-2.is at c.in_ok-inner-in-Some.ensures.room)
-    (rw c.in-Some-2.is at c.in_ok-inner-in-Some.ensures.bound) c.in_ok-push-in-Some.ensures.items
+    falls_within _ _ _ _ _ _ (rw c.in-Some.is at c.in_ok-key.ensures.smaller) (rw c.in-Some-2.is at c.in_ok-inner-in-Some.ensures.within)
+    c.in_ok-push-in-Some.ensures.items
 
 pub walk-preserved-in-Some-2 : goal.walk-preserved-in-Some-2
 walk-preserved-in-Some-2 c = record {

@@ -35,8 +35,8 @@ returns-in_err-inner-in-Some-2-clause-key c = λ form tree stands.
 
 pub walk-smaller-in-Some-3 : goal.walk-smaller-in-Some-3
 walk-smaller-in-Some-3 c =
-    falls_within _ _ _ _ _ _ (rw c.in-Some-2.is at c.in_ok-key.ensures.smaller) (rw c.in-Some-3.is at c.in_ok-inner-in-Some-2.ensures.room)
-    (rw c.in-Some-3.is at c.in_ok-inner-in-Some-2.ensures.bound) c.in_ok-push-in-Some-2.ensures.items
+    falls_within _ _ _ _ _ _ (rw c.in-Some-2.is at c.in_ok-key.ensures.smaller) (rw c.in-Some-3.is at c.in_ok-inner-in-Some-2.ensures.within)
+    c.in_ok-push-in-Some-2.ensures.items
 
 pub walk-preserved-in-Some-3 : goal.walk-preserved-in-Some-3
 walk-preserved-in-Some-3 c = record {

@@ -1,92 +1,117 @@
 //! The leaves of a document, with their key paths.
 
-ghost use Rattle.std.specs.Prelude.{◌≡◌, ◌⊎◌, ◌+◌, ◌<◌, ◌^◌, ◌++◌, [], ◌∷◌, ℕ, List, Option, length, vec_len, vec_capacity, IsOkAnd, IfOk, IfSome, IfErr, MatchResult};
+ghost use Rattle.std.specs.Prelude.{◌≡◌, ◌⊎◌, ◌+◌, ◌%◌, ◌^◌, ◌<◌, ◌&&◌, ◌++◌, [], ◌∷◌, ℕ, List, Option, length, vec_len, vec_capacity, IsOkAnd, IfOk, IfErr, MatchResult};
 ghost use Rattle.std.specs.List.{Any, AllZip};
 ghost use Rattle.jsonb_doc.specs.Tree.{Tree};
-ghost use Rattle.jsonb_doc.specs.Payload.{Form};
-ghost use Rattle.jsonb_doc.specs.Format.{Decodes};
-ghost use Rattle.jsonb_doc.specs.Item.{StandsFor, item_size};
+ghost use Rattle.jsonb_doc.specs.Payload.{Form, number_reader};
+ghost use Rattle.jsonb_doc.specs.Format.{Decodes, IsContent, container_entry};
+ghost use Rattle.jsonb_doc.specs.Item.{StandsFor};
 ghost use Rattle.jsonb_doc.specs.Private.Stored.{Stores};
 ghost use Rattle.jsonb_doc.specs.Answer.{IsOutOfMemory, ◌or◌, IsDecodingError};
 ghost use Rattle.jsonb_doc.specs.declared.error.Error.TheVariants.{OutOfMemory};
 ghost use Rattle.jsonb_doc.specs.Value.{value_tree, value_parts};
 ghost use Rattle.jsonb_keypath.specs.KeyPathViews.{keys_view, key_paths_view};
 ghost use Rattle.jsonb_raw.specs.Documents.{raw_bytes};
+ghost use Rattle.jsonb_raw.specs.Scalars.{is_array};
 ghost use Rattle.jsonb_raw.specs.Leaves.{leaves};
 ghost use Rattle.jsonb_raw.specs.LeafViews.{leaves_seen};
-ghost use Rattle.jsonb_raw.specs.Private.LeafSteps.{IsEntered, IsKept, step_at, steps_into};
-ghost use Rattle.jsonb_raw.specs.Private.Levels.{IsKeyOf, level_room, level_bound};
+ghost use Rattle.jsonb_raw.specs.declared.functions.path.leaves.Step.{Step};
+ghost use Rattle.jsonb_raw.specs.Private.LeafSteps.{IsEntered, IsKept, step_key, step_keys};
+ghost use Rattle.jsonb_raw.specs.Private.Levels.{IsKeyOf, IsLevelWithin};
 
 mod documents;
 
-use crate::level::Level;
+use crate::level::{Level, is_array};
 use crate::raw::RawJsonb;
 use jsonb_doc::{Error, Item, StoredEntry, Value, root_item, to_value};
 use jsonb_keypath::{KeyPath, KeyPaths};
 use std::alloc::Global;
 use std::borrow::CowStr;
 
-/// A container that the walk has entered a part of.
+/// The step to a part of a container.
 #[derive(Clone, Copy, Drop)]
-struct Entered<'a> {
-    /// What it has left behind that part.
-    level: Level<'a>,
-    /// The key of that part, where it is a value of an object.
+struct Step<'a> {
+    /// The key of the part, where it is a value of an object.
     key: Option<&'a str>,
-    /// How many parts stand before that part, as an index counts them.
+    /// How many parts stand before it, as an index counts them.
     index: u32,
 }
 
-/// Puts the step to a part behind the others: its key, where it has one, and else its index.
+/// Puts a step behind the others: its key, where it has one, and else its index.
 #[inline(always)]
-fn push_step<'a>(steps: &mut Vec<KeyPath<'a>>, key: Option<&'a str>, index: u32)
+fn push_step<'a>(steps: &mut Vec<KeyPath<'a>>, step: Step<'a>)
     requires room { vec_len steps.old < vec_capacity steps.old }
-    ensures steps { keys_view steps.new.items ≡ keys_view steps.old.items ++ step_at key.entry index ∷ [] }
+    ensures steps { keys_view steps.new.items ≡ keys_view steps.old.items ++ step_key step.entry ∷ [] }
     ensures len { vec_len steps.new ≡ vec_len steps.old + 1 }
     ensures capacity { vec_capacity steps.new ≡ vec_capacity steps.old }
 {
-    match key {
+    match step.key {
         Some(key) => steps.push_reserved(KeyPath::Name(CowStr::Borrowed(key))),
-        None => steps.push_reserved(KeyPath::Index(index.cast_signed())),
+        None => steps.push_reserved(KeyPath::Index(step.index.cast_signed())),
     }
 }
 
-/// The path to a part of the innermost of these containers.
-fn path_to<'a>(
-    alloc: Global,
-    around: &Vec<Entered<'a>>,
-    key: Option<&'a str>,
-    index: u32,
-) -> Result<KeyPaths<'a>, Error>
-    ensures { MatchResult result
-        (λ path. key_paths_view path ≡ steps_into around.now.items ++ step_at key.entry index ∷ []) IsOutOfMemory }
+/// Takes the last step away, and answers the index behind it.
+fn pop_step(steps: &mut Vec<Step<'_>>) -> u32
+    ensures { (front : List Step) (last : Step) → steps.old.items ≡ front ++ last ∷ []
+        → (steps.new.items ≡ front) × (result ≡ (last.index + 1) % 2 ^ 32) }
 {
-    let mut paths = Vec::with_capacity(alloc, around.len() + 1)?;
-    for entered in around {
-        push_step(&mut paths, entered.key, entered.index);
+    match steps.pop() {
+        Some(last) => last.index.wrapping_add(1),
+        None => 0,
     }
-    push_step(&mut paths, key, index);
+}
+
+/// The path of these steps and one more.
+fn path_to<'a>(alloc: Global, steps: &[Step<'a>], last: Step<'a>) -> Result<KeyPaths<'a>, Error>
+    ensures { MatchResult result
+        (λ path. key_paths_view path ≡ step_keys steps.now ++ step_key last.entry ∷ []) IsOutOfMemory }
+{
+    let mut paths = Vec::with_capacity(alloc, steps.len() + 1)?;
+    for step in steps {
+        push_step(&mut paths, *step);
+    }
+    push_step(&mut paths, last);
     Ok(KeyPaths { paths })
 }
 
-/// The parts of an item that is entered. `None` is for a leaf.
+/// Whether a container is an array that is ignored.
 #[inline(always)]
-fn parts_entered<'a>(item: &Item<'a>, ignore_array: bool) -> Result<Option<Level<'a>>, Error>
-    ensures leaf { (form : Form) (t : Tree) → StandsFor form item.now t
+fn is_ignored(bytes: &[u8], ignore_array: bool) -> bool
+    ensures { (form : Form) (t : Tree) → IsContent (number_reader form) t container_entry bytes.now
+        → result ≡ (ignore_array && is_array t) }
+{
+    ignore_array && is_array(bytes)
+}
+
+/// The parts of a container that is entered. `None` is for a leaf.
+#[inline(always)]
+fn container_entered(bytes: &[u8], ignore_array: bool) -> Result<Option<Level<'_>>, Error>
+    ensures leaf { (form : Form) (t : Tree) → IsContent (number_reader form) t container_entry bytes.now
         → IsOkAnd result (IsEntered form ignore_array t) }
-    ensures room { IfOk result (λ found. IfSome found (λ level. level_room level < item_size item.now)) }
-    ensures bound { IfOk result (λ found. IfSome found (λ level. level_bound level < 2 ^ 64)) }
+    ensures within { IfOk result (IsLevelWithin (length bytes.now)) }
     ensures errors { IfErr result IsDecodingError }
 {
-    let level = match item {
-        Item::Array(bytes) if !ignore_array => Level::of_array(bytes)?,
-        Item::Object(bytes) => Level::of_object(bytes)?,
-        _ => return Ok(None),
-    };
+    if is_ignored(bytes, ignore_array) {
+        return Ok(None);
+    }
+    let level = Level::of_container(bytes)?;
     if level.len() == 0 {
         return Ok(None);
     }
     Ok(Some(level))
+}
+
+/// The parts of an item that is entered. `None` is for a leaf.
+fn parts_entered<'a>(item: &Item<'a>, ignore_array: bool) -> Result<Option<Level<'a>>, Error>
+    ensures leaf { (form : Form) (t : Tree) → StandsFor form item.now t
+        → IsOkAnd result (IsEntered form ignore_array t) }
+    ensures errors { IfErr result IsDecodingError }
+{
+    match item {
+        Item::Array(bytes) | Item::Object(bytes) => container_entered(bytes, ignore_array),
+        _ => Ok(None),
+    }
 }
 
 /// The same of an entry.
@@ -97,15 +122,13 @@ fn entry_entered<'a>(
 ) -> Result<Option<Level<'a>>, Error>
     ensures leaf { (form : Form) (t : Tree) → Stores form entry.now t
         → IsOkAnd result (IsEntered form ignore_array t) }
-    ensures room { IfOk result
-        (λ found. IfSome found (λ level. level_room level < length entry.now.content.now)) }
-    ensures bound { IfOk result (λ found. IfSome found (λ level. level_bound level < 2 ^ 64)) }
+    ensures within { IfOk result (IsLevelWithin (length entry.now.content.now)) }
     ensures errors { IfErr result IsDecodingError }
 {
     if !entry.is_container() {
         return Ok(None);
     }
-    parts_entered(&entry.item()?, ignore_array)
+    container_entered(entry.content, ignore_array)
 }
 
 /// The key of a part as a name.
@@ -160,8 +183,8 @@ impl<'a> LeafPart<'a> for Value<'a> {
     }
 }
 
-/// The leaves within an item. What is left of the containers that the walk is within lies in a `Vec`; the steps to a
-/// part are written once, where it is a leaf.
+/// The leaves within an item. What is left of the containers that the walk is within lies in a `Vec`, and so do the
+/// steps into them, which are copied for each leaf.
 fn leaves_within<'a, P: LeafPart<'a>>(
     alloc: Global,
     item: &Item<'a>,
@@ -180,18 +203,21 @@ fn leaves_within<'a, P: LeafPart<'a>>(
     // An array that decodes has fewer elements than an index can count.
     let mut index = 0u32;
     let mut around = Vec::new(alloc);
+    let mut steps = Vec::new(alloc);
     'walk: loop {
         match level.take()? {
             Some((name, part)) => {
                 let key = name_of(name)?;
+                let step = Step { key, index };
                 match entry_entered(&part, ignore_array)? {
                     Some(inner) => {
-                        around.push(Entered { level, key, index })?;
+                        around.push(level)?;
+                        steps.push(step)?;
                         level = inner;
                         index = 0;
                     }
                     None => {
-                        let path = path_to(alloc, &around, key, index)?;
+                        let path = path_to(alloc, &steps, step)?;
                         found.push((path, P::of_entry(alloc, &part)?))?;
                         index = index.wrapping_add(1);
                     }
@@ -199,8 +225,8 @@ fn leaves_within<'a, P: LeafPart<'a>>(
             }
             None => match around.pop() {
                 Some(outer) => {
-                    level = outer.level;
-                    index = outer.index.wrapping_add(1);
+                    level = outer;
+                    index = pop_step(&mut steps);
                 }
                 None => return Ok(found),
             },

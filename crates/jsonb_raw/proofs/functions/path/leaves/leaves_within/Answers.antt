@@ -1,13 +1,14 @@
-use Rattle.std.proofs.Common.{arith, inr, [], ◌∷◌}
+use Rattle.std.proofs.Common.{arith, inr, [], ◌∷◌, ap, length}
 use Rattle.std.proofs.lemmas.Result.{err_from_is_err_and}
 use Rattle.jsonb_raw.specs.Private.Levels.{parts}
 use Rattle.jsonb_raw.specs.Private.LeafSteps.{IsKept}
 use Rattle.jsonb_raw.proofs.LevelLemmas.{pushed_around, popped_around, SomeParts-first, SomeParts-none, SomeParts-error, falls_within, falls_beside, falls_done}
-use Rattle.jsonb_raw.proofs.LeafWalk.{levels, levels_behind, no_items, item_leaves, walk_begun, entry_leaves, leaf_found, leaf_of_whole, part_entered, level_done, walk_done}
+use Rattle.jsonb_raw.proofs.LeafWalk.{no_items, last_of, fronts_as_many, one_more, item_leaves, walk_begun, entry_leaves, leaf_found, leaf_of_whole, part_entered, level_done, walk_done}
 use Rattle.jsonb_raw.proofs.functions.path.leaves.leaves_within.Goals as goal
 
 pub walk-init : goal.walk-init
 walk-init g c = record {
+  as_many = omega (arith, ap length c.new-steps.ensures.items, ap length c.new-around.ensures.items);
   left = λ form t stands.
       let entered = rw c.in-Some.is at (c.in_ok-first.ensures.leaf form t stands) in
       record {
@@ -15,7 +16,7 @@ walk-init g c = record {
         others = [];
         left = entered.1;
         left_around = rw c.new-around.ensures.items tt;
-        fact = walk_begun (IsKept (g.P.LeafPart.IsOf form)) c.args.ignore_array _ _ t c.new-found.ensures.items c.new-around.ensures.items
+        fact = walk_begun (IsKept (g.P.LeafPart.IsOf form)) c.args.ignore_array _ _ t c.new-found.ensures.items c.new-steps.ensures.items
             (item_leaves form c.args.item.now c.args.ignore_array t stands entered.0);
       };
 }
@@ -36,12 +37,12 @@ returns-in_err-key-in-Some-2-clause-leaves g c = λ form t stands.
 
 pub walk-smaller-in-Some-3 : goal.walk-smaller-in-Some-3
 walk-smaller-in-Some-3 g c =
-    falls_within _ _ _ _ _ _ (rw c.in-Some-2.is at c.in_ok-name.ensures.smaller) (rw c.in-Some-3.is at c.in_ok-inner-in-Some-2.ensures.room)
-    (rw c.in-Some-3.is at c.in_ok-inner-in-Some-2.ensures.bound)
-    (levels_behind _ _ _ c.in_ok-push-in-Some-3.ensures.items)
+    falls_within _ _ _ _ _ _ (rw c.in-Some-2.is at c.in_ok-name.ensures.smaller) (rw c.in-Some-3.is at c.in_ok-inner-in-Some-2.ensures.within)
+    c.in_ok-push-in-Some-3.ensures.items
 
 pub walk-preserved-in-Some-3 : goal.walk-preserved-in-Some-3
 walk-preserved-in-Some-3 g c = record {
+  as_many = one_more _ _ _ _ _ _ c.walk.invariant.as_many c.in_ok-push-in-Some-3-2.ensures.items c.in_ok-push-in-Some-3.ensures.items;
   left = λ form t stands.
       SomeParts-first form _ _ _ _ _ _ (λ ps h. rw c.in-Some-2.is at (c.in_ok-name.ensures.takes form ps h)) (c.walk.invariant.left form t stands)
       (λ part rest others keyed is left around fact.
@@ -50,9 +51,9 @@ walk-preserved-in-Some-3 g c = record {
         here = parts part.1;
         others = rest ∷ others;
         left = entered.1;
-        left_around = pushed_around form _ _ _ rest others (levels_behind _ _ _ c.in_ok-push-in-Some-3.ensures.items) left around;
+        left_around = pushed_around form _ _ _ rest others c.in_ok-push-in-Some-3.ensures.items left around;
         fact = part_entered (IsKept (g.P.LeafPart.IsOf form)) c.args.ignore_array _ _ _ _ part rest others _ fact entered.0 (c.in_ok-key-in-Some-2.ensures.name part.0 keyed)
-            (entry_leaves form _ c.args.ignore_array part.1 is entered.0) c.in_ok-push-in-Some-3.ensures.items;
+            (entry_leaves form _ c.args.ignore_array part.1 is entered.0) c.in_ok-push-in-Some-3-2.ensures.items;
       });
 }
 
@@ -67,10 +68,11 @@ returns-in_err-of_entry-in-None-2-clause-leaves g c = λ form t stands.
     (c.in_err-of_entry-in-None-2.ensures.part form part.1 is))))
 
 pub walk-smaller-in-None-2 : goal.walk-smaller-in-None-2
-walk-smaller-in-None-2 g c = falls_beside _ _ (levels c.walk.around.items) _ (rw c.in-Some-2.is at c.in_ok-name.ensures.smaller)
+walk-smaller-in-None-2 g c = falls_beside _ _ c.walk.around.items _ (rw c.in-Some-2.is at c.in_ok-name.ensures.smaller)
 
 pub walk-preserved-in-None-2 : goal.walk-preserved-in-None-2
 walk-preserved-in-None-2 g c = record {
+  as_many = c.walk.invariant.as_many;
   left = λ form t stands.
       SomeParts-first form _ _ _ _ _ _ (λ ps h. rw c.in-Some-2.is at (c.in_ok-name.ensures.takes form ps h)) (c.walk.invariant.left form t stands)
       (λ part rest others keyed is left around fact. record {
@@ -82,30 +84,34 @@ walk-preserved-in-None-2 g c = record {
             (c.in_ok-path-in-None-2.path, c.in_ok-of_entry-in-None-2.field-0) fact
             (rw c.in-None-2.is at
             (c.in_ok-inner-in-Some-2.ensures.leaf form part.1 is)) (c.in_ok-key-in-Some-2.ensures.name part.0 keyed)
-            (c.in_ok-path-in-None-2.ensures, c.in_ok-of_entry-in-None-2.ensures.part form part.1 is) c.in_ok-push-in-None-2.ensures.items;
+            (rw c.deref.ensures.value at c.in_ok-path-in-None-2.ensures, c.in_ok-of_entry-in-None-2.ensures.part form part.1 is) c.in_ok-push-in-None-2.ensures.items;
       });
 }
 
 pub walk-smaller : goal.walk-smaller
-walk-smaller g c = falls_done _ _ _ _ (levels_behind _ _ _ c.in-Some-pop.ensures.items)
+walk-smaller g c = falls_done _ _ _ _ c.in-Some-pop.ensures.items
 
 pub walk-preserved : goal.walk-preserved
-walk-preserved g c = record {
-  left = λ form t stands.
-      SomeParts-none form _ _ _ _ (λ ps h. rw c.in-None.is at (c.in_ok-name.ensures.takes form ps h)) (c.walk.invariant.left form t stands)
-      (λ others around fact.
-      popped_around form _ _ _ others (levels_behind _ _ _ c.in-Some-pop.ensures.items) around
-      (λ here more same left outside. record {
-        here = here;
-        others = more;
-        left = left;
-        left_around = outside;
-        fact = level_done (IsKept (g.P.LeafPart.IsOf form)) c.args.ignore_array _ _ _ _ c.walk.index here others more _ same c.in-Some-pop.ensures.items fact;
-      }));
-}
+walk-preserved g c =
+    let h = last_of _ _ _ _ c.walk.invariant.as_many c.in-Some-pop.ensures.items in
+    let popped = c.pop_step-index.ensures h.front h.last h.joined in
+    record {
+      as_many = rw popped.0 (fronts_as_many _ _ _ _ _ _ c.walk.invariant.as_many h.joined c.in-Some-pop.ensures.items);
+      left = λ form t stands.
+          SomeParts-none form _ _ _ _ (λ ps h. rw c.in-None.is at (c.in_ok-name.ensures.takes form ps h)) (c.walk.invariant.left form t stands)
+          (λ others around fact.
+          popped_around form _ _ _ others c.in-Some-pop.ensures.items around
+          (λ here more same left outside. record {
+            here = here;
+            others = more;
+            left = left;
+            left_around = outside;
+            fact = rw (popped.0, popped.1) (level_done (IsKept (g.P.LeafPart.IsOf form)) c.args.ignore_array _ _ h.front h.last c.walk.index here others more _ same h.joined fact);
+          }));
+    }
 
 pub returns-in-None-pop-clause-leaves : goal.returns-in-None-pop-clause-leaves
 returns-in-None-pop-clause-leaves g c = λ form t stands.
     SomeParts-none form _ _ _ _ (λ ps h. rw c.in-None.is at (c.in_ok-name.ensures.takes form ps h)) (c.walk.invariant.left form t stands)
     (λ others around fact. walk_done (IsKept (g.P.LeafPart.IsOf form)) c.args.ignore_array _ _ c.walk.index others _
-    (no_items c.walk.around.items (omega (arith, c.in-None-pop.ensures.cases.0, c.walk.around.ok.0))) fact)
+    (no_items c.walk.steps.items (omega (arith, c.walk.invariant.as_many, c.in-None-pop.ensures.cases.0, c.walk.around.ok.0))) fact)

@@ -1,4 +1,4 @@
-use Rattle.std.proofs.Common.{◌+◌}
+use Rattle.std.proofs.Common.{◌≡◌, ◌+◌, length}
 use Rattle.std.specs.Prelude.{reverse}
 use Rattle.jsonb_doc.specs.Tree.{Tree}
 use Rattle.jsonb_doc.specs.Payload.{Form}
@@ -6,17 +6,18 @@ use Rattle.jsonb_doc.specs.Item.{StandsFor}
 use Rattle.jsonb_raw.specs.Leaves.{leaves}
 use Rattle.jsonb_raw.specs.Private.LeafSteps.{IsKept}
 use Rattle.jsonb_raw.proofs.LevelLemmas.{SomeParts, weight, weights}
-use Rattle.jsonb_raw.proofs.LeafWalk.{LeavesToward, levels}
+use Rattle.jsonb_raw.proofs.LeafWalk.{LeavesToward}
 use Rattle.jsonb_raw.proofs.functions.path.leaves.leaves_within.Given as goal
 
 -- what is found, and then the leaves of what each level has left, the innermost first, are the leaves of the whole
 abbrev pub invariant-walk : goal.invariant-walk
 invariant-walk g l = record {
+  as_many : length l.steps.items ≡ length l.around.items;
   left : (form : Form) (t : Tree) → StandsFor form l.fn.item t
-      → SomeParts form l.level (levels l.around.items)
-      (λ here others. LeavesToward (IsKept (g.P.LeafPart.IsOf form)) l.fn.ignore_array l.found.items l.around.items l.index here others
+      → SomeParts form l.level l.around.items
+      (λ here others. LeavesToward (IsKept (g.P.LeafPart.IsOf form)) l.fn.ignore_array l.found.items l.steps.items l.index here others
       (leaves l.fn.ignore_array t));
 }
 
 abbrev pub decreases-walk : goal.decreases-walk
-decreases-walk g l = weight l.level + weights (reverse (levels l.around.items))
+decreases-walk g l = weight l.level + weights (reverse l.around.items)
