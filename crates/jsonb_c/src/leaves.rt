@@ -1,26 +1,21 @@
 //! The leaves of a document as two columns: their key paths, and their documents.
 
-ghost use Rattle.std.specs.Prelude.{◌≡◌, ◌++◌, ◌∷◌, [], IfErr, IfOk, List, MatchResult, ℕ, ◌≤◌, false, length, nat_le, nat_lt, ◌&&◌, true};
+ghost use Rattle.std.specs.Prelude.{◌≡◌, ◌++◌, ◌∷◌, [], IfErr, IfOk, List, MatchResult, ℕ, ◌≤◌, false, length, nat_le, nat_lt, ◌&&◌};
 ghost use Rattle.std.specs.List.{concat};
-ghost use Rattle.jsonb_doc.specs.Answer.{IsDecodingError, IsOutOfMemory, IsOutOfMemoryOrTooLarge, ◌or◌};
+ghost use Rattle.jsonb_doc.specs.Answer.{IsDecodingError, IsOutOfMemory, ◌or◌};
 ghost use Rattle.jsonb_doc.specs.declared.error.Error.TheVariants.{OutOfMemory, TooLarge};
 ghost use Rattle.jsonb_doc.specs.Format.{Decodes};
 ghost use Rattle.jsonb_doc.specs.Payload.{Form};
 ghost use Rattle.jsonb_doc.specs.Tree.{Tree};
-ghost use Rattle.jsonb_doc.specs.Value.{value_tree};
-ghost use Rattle.jsonb.specs.KeyPathViews.{key_paths_view};
 ghost use Rattle.jsonb.specs.Related.{AllRelated};
-ghost use Rattle.jsonb_raw.specs.Leaves.{is_leaf, leaves};
+ghost use Rattle.jsonb_raw.specs.Leaves.{leaves};
 ghost use Rattle.jsonb_c.specs.Answers.{HandsOver, IsWritten, OfDocument};
-ghost use Rattle.jsonb_c.specs.Private.LeafColumns.{HasLeaves, HasRows, IsLeafRefusal, IsRowOf};
+ghost use Rattle.jsonb_c.specs.Private.LeafColumns.{HasLeaves, HasRows, leaf_row};
 ghost use Rattle.jsonb_c.specs.Leaves.{AreLeavesOf, DeliversLeaves, IsRowOfLeaf, IsWrittenColumn, LeafRow, positions_from};
 ghost use Rattle.jsonb_c.specs.Status.{status_of};
 
 use crate::status::Status;
-use jsonb::{
-    ArrayBuilder, Error, ExtensionValue, Item, KeyPaths, ObjectBuilder, RawJsonb, Value,
-    encode_item,
-};
+use jsonb::{Error, KeyPaths, OwnedJsonb, RawJsonb};
 use std::alloc::Global;
 
 /// How many leaves there are, and how many bytes their key paths and their documents have.
@@ -145,17 +140,19 @@ impl LeafColumns {
     }
 
     /// One leaf more.
-    fn push(&mut self, alloc: Global, path: &KeyPaths<'_>, value: &Value<'_>) -> Result<(), Error>
+    fn push(
+        &mut self,
+        alloc: Global,
+        path: &KeyPaths<'_>,
+        document: &OwnedJsonb,
+    ) -> Result<(), Error>
         ensures row { (found : List LeafRow) → HasLeaves self.old found
-            → IfOk result (λ _. (row : LeafRow) × IsRowOf (key_paths_view path.now, value_tree value.now) row
-            × HasLeaves self.new (found ++ row ∷ [])) }
-        ensures refused { IfErr result (IsLeafRefusal (key_paths_view path.now, value_tree value.now)) }
-        ensures errors { IfErr result (IsOutOfMemory or TooLarge) }
+            → IfOk result (λ _. HasLeaves self.new (found ++ leaf_row (path.now, document.now) ∷ [])) }
+        ensures errors { IfErr result IsOutOfMemory }
     {
         let text = format!(in alloc; "{path}")?;
-        let document = leaf_document(alloc, value)?;
         self.paths.push(text.as_bytes())?;
-        self.documents.push(&document)?;
+        self.documents.push(document.as_raw().as_bytes())?;
         Ok(())
     }
 }
@@ -169,36 +166,13 @@ fn leaf_columns(alloc: Global, document: &[u8]) -> Result<LeafColumns, Error>
         (λ e. (form : Form) (t : Tree) → Decodes form document.now t → IsOutOfMemory e) }
     ensures errors { IfErr result (IsDecodingError or OutOfMemory or TooLarge) }
 {
-    let leaves = RawJsonb::new(document).extract_scalar_key_values(alloc, false)?;
+    let leaves = RawJsonb::new(document).leaf_documents(alloc, false)?;
     let mut columns = LeafColumns {
         paths: MadeColumn::new(alloc)?,
         documents: MadeColumn::new(alloc)?,
     };
-    for (path, value) in &leaves {
-        columns.push(alloc, path, value)?;
+    for (path, leaf) in &leaves {
+        columns.push(alloc, path, leaf)?;
     }
     Ok(columns)
-}
-
-/// The document of a leaf: a container is an empty one.
-fn leaf_document(alloc: Global, leaf: &Value<'_>) -> Result<Vec<u8>, Error>
-    ensures document { is_leaf false (value_tree leaf.now) ≡ true → (form : Form)
-        → MatchResult result (λ made. Decodes form made.items (value_tree leaf.now))
-        (IsOutOfMemoryOrTooLarge form (value_tree leaf.now)) }
-    ensures errors { IfErr result (IsOutOfMemory or TooLarge) }
-{
-    let item = match leaf {
-        Value::Null => Item::Null,
-        Value::Bool(value) => Item::Boolean(*value),
-        Value::String(text) => Item::String(text.as_str()),
-        Value::Number(number) => Item::Number(*number),
-        Value::Binary(bytes) => Item::Extension(ExtensionValue::Binary(bytes)),
-        Value::Date(date) => Item::Extension(ExtensionValue::Date(*date)),
-        Value::Timestamp(time) => Item::Extension(ExtensionValue::Timestamp(*time)),
-        Value::TimestampTz(time) => Item::Extension(ExtensionValue::TimestampTz(*time)),
-        Value::Interval(interval) => Item::Extension(ExtensionValue::Interval(*interval)),
-        Value::Array(_) => return ArrayBuilder::new(alloc).build(),
-        Value::Object(_) => return ObjectBuilder::new(alloc).build(),
-    };
-    encode_item(alloc, &item)
 }
