@@ -1,10 +1,13 @@
 -- Columns of names.
-use Rattle.std.specs.Prelude.{◌≡◌, ◌⊎◌, not, filter, ℕ, List, [], ◌∷◌, Option, Some, None, Result, Ok, Err, if◌then◌else◌}
+use Rattle.std.specs.Prelude.{◌≡◌, ◌⊎◌, not, filter, ℕ, Bool, List, [], ◌∷◌, Option, Some, None, Result, Ok, Err, IsOkAnd, if◌then◌else◌}
 use Rattle.std.specs.List.{list_any}
 use Rattle.std.specs.Str.{bytes_eq, is_utf8}
-use Rattle.jsonb_doc.specs.declared.error.Error.TheVariants.{OutOfMemory}
+use Rattle.jsonb_doc.specs.Answer.{IsDecodingError, ◌or◌}
+use Rattle.jsonb_doc.specs.declared.error.Error.TheVariants.{InvalidObject, OutOfMemory, TooLarge}
 use Rattle.jsonb_doc.specs.Tree.{Tree}
 use Rattle.jsonb_raw.specs.Objects.{with_pairs}
+use Rattle.jsonb_c.specs.Answers.{DeliversNothing, HandsOverBool, HandsOverBytes, OfDocument}
+use Rattle.jsonb_c.specs.Calls.{MakesOr}
 use Rattle.jsonb_c.specs.Status.{code}
 use Rattle.jsonb_c.specs.declared.status.Status.{Status}
 use Rattle.jsonb_c.specs.declared.status.Status.TheVariants.{BadOffsets, NotUtf8, Refused}
@@ -37,6 +40,12 @@ WithNames names Answered IsRefused = ByNames names Answered IsRefused ⊎ IsRefu
 abbrev pub IsAsItWas : {A : Type 0} → A → A → ℕ → Status → Type 0
 IsAsItWas old new status cause = (new ≡ old) × (status ≡ code cause)
 
+-- whether the document has the names is handed over, as `has` says
+abbrev pub ShowsKeys : (List (List ℕ) → Tree → Bool) → List ℕ → Result (List (List ℕ)) Status → ℕ → ℕ → ℕ → Type 0
+ShowsKeys has document names old new status = WithNames names (λ wanted. HandsOverBool
+    (OfDocument document (λ form t said. IsOkAnd said (λ b. b ≡ has wanted t))) IsDecodingError old new status)
+    (IsAsItWas old new status)
+
 -- ---- sets of names
 
 -- an object's pairs whose keys are among the names
@@ -46,3 +55,11 @@ picked_names names t = with_pairs (λ ps. filter (λ p. list_any (λ name. bytes
 -- an object's pairs whose keys are not among the names
 abbrev pub dropped_names : List (List ℕ) → Tree → Option Tree
 dropped_names names t = with_pairs (λ ps. filter (λ p. not (list_any (λ name. bytes_eq name p.0) names)) ps) t
+
+-- the object of the pairs that are kept is handed over
+abbrev pub DeliversPairs : (List (List ℕ) → Tree → Option Tree) → List ℕ → Result (List (List ℕ)) Status
+    → List ℕ → List ℕ → ℕ → ℕ → Type 0
+DeliversPairs kept document names old new len status = WithNames names (λ wanted. HandsOverBytes
+    (OfDocument document (λ form t. MakesOr InvalidObject form (kept wanted t)))
+    (IsDecodingError or OutOfMemory or TooLarge or InvalidObject) old new len status)
+    (λ cause. DeliversNothing (code cause) old new len status)

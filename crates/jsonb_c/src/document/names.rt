@@ -4,11 +4,10 @@ ghost use Rattle.std.specs.Prelude.{◌≡◌, ◌⊎◌, ℕ, List, Err, IfErr,
 ghost use Rattle.jsonb_doc.specs.Answer.{IsDecodingError, IsOutOfMemory, ◌or◌};
 ghost use Rattle.jsonb_doc.specs.declared.error.Error.TheVariants.{InvalidObject, OutOfMemory, TooLarge};
 ghost use Rattle.jsonb_raw.specs.Exists.{has_all, has_any};
-ghost use Rattle.jsonb_c.specs.Answers.{DeliversNothing, HandsOverBool, HandsOverBytes, OfDocument};
+ghost use Rattle.jsonb_c.specs.Answers.{OfDocument};
 ghost use Rattle.jsonb_c.specs.Calls.{MakesOr};
-ghost use Rattle.jsonb_c.specs.Status.{code};
 ghost use Rattle.jsonb_c.specs.Columns.{rows};
-ghost use Rattle.jsonb_c.specs.Names.{IsAsItWas, WithNames, dropped_names, names_of, picked_names};
+ghost use Rattle.jsonb_c.specs.Names.{DeliversPairs, ShowsKeys, dropped_names, names_of, picked_names};
 ghost use Rattle.jsonb_c.specs.Private.NameColumns.{HasNames, IsNameOf, has_keys, kept_pairs};
 ghost use Rattle.jsonb_c.specs.declared.status.Status.TheVariants.{Refused};
 
@@ -28,9 +27,7 @@ pub extern "C" fn jsonb_exists_all_keys(
     offsets: &[u64],
     truth: &mut u8,
 ) -> u32
-    ensures { WithNames (names_of (rows names.now offsets.now)) (λ wanted. HandsOverBool
-        (OfDocument document.now (λ form t said. IsOkAnd said (λ b. b ≡ has_all wanted t)))
-        IsDecodingError truth.old truth.new result) (IsAsItWas truth.old truth.new result) }
+    ensures { ShowsKeys has_all document.now (names_of (rows names.now offsets.now)) truth.old truth.new result }
 {
     let names = Column::new(names, offsets);
     show_keys(alloc, document, &names, Quantity::All, truth)
@@ -45,9 +42,7 @@ pub extern "C" fn jsonb_exists_any_keys(
     offsets: &[u64],
     truth: &mut u8,
 ) -> u32
-    ensures { WithNames (names_of (rows names.now offsets.now)) (λ wanted. HandsOverBool
-        (OfDocument document.now (λ form t said. IsOkAnd said (λ b. b ≡ has_any wanted t)))
-        IsDecodingError truth.old truth.new result) (IsAsItWas truth.old truth.new result) }
+    ensures { ShowsKeys has_any document.now (names_of (rows names.now offsets.now)) truth.old truth.new result }
 {
     let names = Column::new(names, offsets);
     show_keys(alloc, document, &names, Quantity::Any, truth)
@@ -70,9 +65,7 @@ fn show_keys(
     quantity: Quantity,
     truth: &mut u8,
 ) -> u32
-    ensures { WithNames (names_of names.now) (λ wanted. HandsOverBool
-        (OfDocument document.now (λ form t said. IsOkAnd said (λ b. b ≡ has_keys quantity wanted t)))
-        IsDecodingError truth.old truth.new result) (IsAsItWas truth.old truth.new result) }
+    ensures { ShowsKeys (has_keys quantity) document.now (names_of names.now) truth.old truth.new result }
 {
     match read_names(alloc, names) {
         Ok(names) => show_bool(exists_keys(document, &names, quantity), truth),
@@ -102,10 +95,8 @@ pub extern "C" fn jsonb_object_pick(
     out: &mut [u8],
     out_len: &mut usize,
 ) -> u32
-    ensures { WithNames (names_of (rows names.now offsets.now)) (λ wanted. HandsOverBytes
-        (OfDocument document.now (λ form t. MakesOr InvalidObject form (picked_names wanted t)))
-        (IsDecodingError or OutOfMemory or TooLarge or InvalidObject) out.old out.new out_len.new result)
-        (λ cause. DeliversNothing (code cause) out.old out.new out_len.new result) }
+    ensures { DeliversPairs picked_names document.now (names_of (rows names.now offsets.now))
+        out.old out.new out_len.new result }
 {
     let names = Column::new(names, offsets);
     deliver_pairs(alloc, document, &names, Kept::Named, out, out_len)
@@ -121,10 +112,8 @@ pub extern "C" fn jsonb_object_delete(
     out: &mut [u8],
     out_len: &mut usize,
 ) -> u32
-    ensures { WithNames (names_of (rows names.now offsets.now)) (λ wanted. HandsOverBytes
-        (OfDocument document.now (λ form t. MakesOr InvalidObject form (dropped_names wanted t)))
-        (IsDecodingError or OutOfMemory or TooLarge or InvalidObject) out.old out.new out_len.new result)
-        (λ cause. DeliversNothing (code cause) out.old out.new out_len.new result) }
+    ensures { DeliversPairs dropped_names document.now (names_of (rows names.now offsets.now))
+        out.old out.new out_len.new result }
 {
     let names = Column::new(names, offsets);
     deliver_pairs(alloc, document, &names, Kept::Others, out, out_len)
@@ -148,10 +137,8 @@ fn deliver_pairs(
     out: &mut [u8],
     out_len: &mut usize,
 ) -> u32
-    ensures { WithNames (names_of names.now) (λ wanted. HandsOverBytes
-        (OfDocument document.now (λ form t. MakesOr InvalidObject form (kept_pairs kept wanted t)))
-        (IsDecodingError or OutOfMemory or TooLarge or InvalidObject) out.old out.new out_len.new result)
-        (λ cause. DeliversNothing (code cause) out.old out.new out_len.new result) }
+    ensures { DeliversPairs (kept_pairs kept) document.now (names_of names.now)
+        out.old out.new out_len.new result }
 {
     match read_set(alloc, names) {
         Ok(keys) => deliver_made(object_of_kept(alloc, document, &keys, kept), out, out_len),
