@@ -6,4 +6,3 @@ pub mod ColumnPaths
 pub mod MakingLemmas
 pub mod ObjectRows
 pub mod LeafRows
-pub mod Halves

@@ -1,5 +1,5 @@
 -- Columns of names: one name more of what is read.
-use Rattle.std.proofs.Common.{◌≡◌, ◌⊎◌, inl, inr, ℕ, suc, zero, ◌+◌, List, [], ◌∷◌, ◌++◌, map, drop, length, Option, Some, Result, Ok, Err, refl, ap, sym, ◌∙◌, arith, append_assoc, append-nil}
+use Rattle.std.proofs.Common.{◌≡◌, ◌⊎◌, inl, inr, ℕ, suc, zero, ◌+◌, List, [], ◌∷◌, ◌++◌, map, drop, length, Option, Some, Result, Ok, Err, refl, ap, sym, ◌∙◌, arith, append_assoc}
 use Rattle.std.specs.Prelude.{slice_get}
 use Rattle.std.proofs.Common.{Bool, true, false, cond}
 use Rattle.std.proofs.lemmas.List.{map-append}
@@ -15,10 +15,6 @@ use Rattle.jsonb_c.specs.declared.status.Status.TheVariants.{NotUtf8, Refused}
 abbrev pub behind : List (List ℕ) → Result (List (List ℕ)) Status → Result (List (List ℕ)) Status
 behind names (Ok others) = Ok (names ++ others)
 behind names (Err cause) = Err cause
-
-pub none_behind : (r : Result (List (List ℕ)) Status) → r ≡ behind [] r
-none_behind (Ok others) = refl
-none_behind (Err cause) = refl
 
 at : {A : Type 0} (xs : List A) (i : ℕ) (x : A) → slice_get xs i ≡ Some x → drop i xs ≡ x ∷ drop (suc i) xs
 at (y ∷ xs) zero x is = let e : y ≡ x = cc in rw e refl
@@ -44,16 +40,6 @@ pub names_wrong : (rows : List (Option (List ℕ))) (i : ℕ) (row : Option (Lis
 names_wrong rows i row names cause here is so_far =
     let e : names_of (drop i rows) ≡ Err cause = rw (at rows i row here, is) refl in
     so_far ∙ ap (behind names) e
-
-drop_all : {A : Type 0} (xs : List A) → drop (length xs) xs ≡ []
-drop_all [] = refl
-drop_all (x ∷ xs) = drop_all xs
-
-pub names_all : (rows : List (Option (List ℕ))) (i : ℕ) (names : List (List ℕ)) → i ≡ length rows
-    → names_of rows ≡ behind names (names_of (drop i rows)) → names_of rows ≡ Ok names
-names_all rows i names is so_far =
-    let e : names_of (drop i rows) ≡ Ok [] = rw (is, drop_all rows) refl in
-    so_far ∙ ap (behind names) e ∙ ap Ok (append-nil names)
 
 -- as many names are read as there are rows
 pub names_count : (rows : List (Option (List ℕ))) (names : List (List ℕ)) → names_of rows ≡ Ok names → length names ≡ length rows
