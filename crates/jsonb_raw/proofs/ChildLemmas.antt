@@ -1,5 +1,5 @@
 -- What the iterator over the spots of children gives, and the children of a list.
-use Rattle.std.proofs.Common.{◌≡◌, ◌≢◌, ℕ, zero, suc, ◌<◌, ◌-◌, ◌≤◌, ℤ, pos, negsuc, Bool, true, false, nat_lt, if◌then◌else◌, List, [], ◌∷◌, length, drop, Option, Some, None, Result, Ok, Err, IsOkAnd, unwrap_or, refl, arith, slice_get, sym, ap}
+use Rattle.std.proofs.Common.{◌≡◌, ℕ, zero, suc, ◌<◌, ◌-◌, ◌≤◌, ℤ, pos, negsuc, Bool, true, false, nat_lt, if◌then◌else◌, List, [], ◌∷◌, length, drop, Option, Some, None, Result, Ok, Err, IsOkAnd, unwrap_or, refl, arith, slice_get, sym, ap}
 use Rattle.std.specs.Prelude.{option_and_then, unsigned_abs}
 use lib.Signed.{lt_z}
 use Rattle.std.proofs.lemmas.Bool.Decides.{nat_tests}

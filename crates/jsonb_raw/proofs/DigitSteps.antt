@@ -1,12 +1,10 @@
 -- Steps from a number's digits to those of the number without its last digit.
-use Rattle.std.proofs.Common.{◌≡◌, ◌≢◌, ℕ, zero, suc, ◌+◌, ◌-◌, ◌*◌, ◌/◌, ◌%◌, ◌^◌, ◌<◌, ◌≤◌, ◌==◌, ◌&&◌, Bool, true, false, cond, List, [], ◌∷◌, ◌++◌, map, length, drop, set, refl, sym, ap, ap₂, ◌∙◌, arith, nat_cmp, Less, pow-suc, mul_comm, mul_assoc, mul-le-mul_left, append_assoc}
-use native.Mathlib.Nat.{one-le-pow}
+use Rattle.std.proofs.Common.{◌≡◌, ◌≢◌, ℕ, zero, suc, ◌+◌, ◌-◌, ◌/◌, ◌%◌, ◌^◌, ◌<◌, ◌≤◌, ◌==◌, ◌&&◌, Bool, true, false, cond, List, [], ◌∷◌, ◌++◌, map, length, drop, set, refl, sym, ap, ap₂, ◌∙◌, arith, append_assoc}
 use Rattle.std.specs.List.{list_all}
 use Rattle.std.specs.Int.Digits.{digits_of}
 use Rattle.std.proofs.lemmas.List.{map-append, drop-set}
 use Rattle.std.proofs.lemmas.Bool.{ne_eqb}
 use Rattle.std.proofs.lemmas.Int.Digits.{digits_of_step, length-digits_of_step, length-digits_of-le}
-use Rattle.jsonb_doc.specs.Proofs.Orderings.{nat_cmp-lt}
 use Rattle.jsonb_raw.specs.SortableKey.{significant}
 use Rattle.jsonb_raw.specs.Private.Complements.{complement_byte, complement_bytes}
 

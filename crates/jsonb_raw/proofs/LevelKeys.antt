@@ -1,6 +1,6 @@
 -- A walk over levels that spells sortable keys: what is written, and then the keys of what each level has left, the innermost
 -- first, is the whole.
-use Rattle.std.proofs.Common.{◌≡◌, ◌+◌, ◌<◌, ◌≤◌, ◌++◌, ℕ, List, [], ◌∷◌, Some, None, refl, sym, ap, ◌∙◌, arith, append_assoc, inl, inr, suc, max, append-nil, length}
+use Rattle.std.proofs.Common.{◌≡◌, ◌+◌, ◌<◌, ◌≤◌, ◌++◌, ℕ, List, [], ◌∷◌, Some, None, refl, sym, ap, ◌∙◌, arith, append_assoc, inl, inr, suc, max, append-nil, length, false}
 use Rattle.std.specs.Int.{Width, to_be_bytes}
 use Rattle.jsonb_doc.specs.declared.error.Error.{Error}
 use Rattle.jsonb_doc.specs.Tree.{Tree, Trees, Pairs}
@@ -8,7 +8,8 @@ use Rattle.jsonb_doc.specs.Depth.{deepest, deepest_of_trees, deepest_of_pairs}
 use Rattle.jsonb_raw.specs.SortableKey.{key, keys_of_trees, keys_of_pairs, item_bytes, text_bytes, depths}
 use Rattle.jsonb_raw.specs.KeyAnswer.{IsOutOfMemoryOrTooDeep}
 use Rattle.jsonb_raw.specs.Private.Levels.{Part, parts, parts_of_trees, parts_of_pairs}
-use Rattle.jsonb_raw.specs.Private.KeyParts.{start, part_start}
+use Rattle.jsonb_raw.specs.Private.KeyParts.{start, name_start, part_start}
+use Rattle.jsonb_raw.specs.Private.Starts.{is_container}
 
 -- ---- bytes that are written in a row, and the depths of what they are for
 
@@ -24,11 +25,6 @@ pub IsToward-refused : (limit : ℕ) (out left : List ℕ) (part_deep both_deep 
 IsToward-refused limit out left part_deep both_deep old whole deep e h l (inl m) = inl m
 IsToward-refused limit out left part_deep both_deep old whole deep e h l (inr d) = inr
     (d.0, (let k = h.deeper in let m : limit ≤ part_deep = d.1 in omega arith))
-
--- where nothing is left, all is written
-pub IsToward-done : (limit : ℕ) (out : List ℕ) (left_deep : ℕ) (old whole : List ℕ) (deep : ℕ) → IsToward limit out [] left_deep old whole deep
-    → left_deep < limit → (out ≡ old ++ whole) × (deep < limit)
-IsToward-done limit out left_deep old whole deep h l = (sym (append-nil out) ∙ h.written, h.shallow l)
 
 -- ---- the key of a tree by its parts
 
@@ -83,6 +79,23 @@ part_split w (None, t) d = key_split w t d
 part_split w (Some k, t) d =
     ap (λ x. item_bytes w d 5 (text_bytes k) ++ x) (key_split w t d)
     ∙ sym (append_assoc (item_bytes w d 5 (text_bytes k)) (start w t d) (keys_of_parts w (parts t) (suc d)))
+
+-- a part's key is written, where it has one, and then its start
+pub part_written : (w : Width) (p : Part) (d : ℕ) (out named out' : List ℕ) → named ≡ out ++ name_start w p.0 d → out' ≡ named ++ start w p.1 d
+    → out' ≡ out ++ part_start w p d
+part_written w p d out named out' is written =
+    written ∙ ap (λ x. x ++ start w p.1 d) is ∙ append_assoc out (name_start w p.0 d) (start w p.1 d)
+
+-- the start of a tree without parts is its key
+pub scalar_start : (w : Width) (t : Tree) (d : ℕ) → is_container t ≡ false → start w t d ≡ key w t d
+scalar_start w (Tree.array ts) d h = cc
+scalar_start w (Tree.object ps) d h = cc
+scalar_start w _ d h = refl
+
+pub scalar_parts : (t : Tree) → is_container t ≡ false → parts t ≡ []
+scalar_parts (Tree.array ts) h = cc
+scalar_parts (Tree.object ps) h = cc
+scalar_parts _ h = refl
 
 -- ---- what is left at levels, the innermost first: each lies one deeper than the next
 
@@ -182,17 +195,6 @@ level_done w ls out old whole deep h =
 pub part_done : (w : Width) (p : Part) (ps : List Part) (ls : List (List Part)) (out old whole : List ℕ) (deep : ℕ) → parts p.1 ≡ []
     → IsWithin w out (parts p.1 ∷ ps ∷ ls) old whole deep → IsWithin w out (ps ∷ ls) old whole deep
 part_done w p ps ls out old whole deep none h = level_done w (ps ∷ ls) out old whole deep (rw none at h)
-
--- nothing is left at any level
-pub walk_done : (w : Width) (out old whole : List ℕ) (deep : ℕ) → IsWithin w out ([] ∷ []) old whole deep → (out ≡ old ++ whole) × (deep < depths w)
-walk_done w out old whole deep h =
-    let low = h.low in
-    IsToward-done (depths w) out 0 old whole deep (level_done w [] out old whole deep h).toward (omega (arith, low))
-
--- a document without parts is its start
-pub only_start : (w : Width) (t : Tree) (old out : List ℕ) → parts t ≡ [] → (out ≡ old ++ start w t 0) × (0 < depths w)
-    → (out ≡ old ++ key w t 0) × (deepest t < depths w)
-only_start w t old out none p = walk_done w out old (key w t 0) (deepest t) (rw none at (walk_begun w t old out p))
 
 -- the same, with the depth as a walk has it
 pub part_begun_at : (w : Width) (p : Part) (ps : List Part) (ls : List (List Part)) (d : ℕ) (out out' old whole : List ℕ) (deep : ℕ) → d ≡ length ls

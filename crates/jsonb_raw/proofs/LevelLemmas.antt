@@ -1,20 +1,19 @@
 -- What walks have left of containers: the first part of a level, the levels that a walk is within, and how they shrink.
-use Rattle.std.proofs.Common.{◌≡◌, ℕ, suc, ◌+◌, ◌^◌, ◌<◌, List, [], ◌∷◌, ◌++◌, length, Option, Some, None, Result, Ok, Err, refl, sym, ap, subst, ◌∙◌, arith}
+use Rattle.std.proofs.Common.{◌≡◌, ℕ, suc, ◌+◌, ◌<◌, List, [], ◌∷◌, ◌++◌, length, Option, Some, None, Result, Ok, Err, refl, sym, ap, subst, ◌∙◌, arith}
 use Rattle.std.specs.Prelude.{reverse}
 use Rattle.std.specs.Borrow.{Bor}
 use Rattle.std.proofs.lemmas.List.{reverse-append, length-reverse}
 use Rattle.jsonb_doc.specs.declared.error.Error.{Error}
 use Rattle.jsonb_doc.specs.declared.entry_iter.StoredEntry.{StoredEntry}
-use Rattle.jsonb_doc.specs.declared.entry_iter.EntryIter.{EntryIter}
 use Rattle.jsonb_doc.specs.declared.entry_iter.PairEntryIter.{PairEntryIter}
 use Rattle.jsonb_doc.specs.Tree as spec
 use Rattle.jsonb_doc.specs.Tree.{Tree, Trees, count, keys}
 use Rattle.jsonb_doc.specs.Payload.{Form}
 use Rattle.jsonb_doc.specs.Format.{AreKeys}
-use Rattle.jsonb_doc.specs.Private.Stored.{Stores, TakesEntry, TakesPairEntry, key_trees}
+use Rattle.jsonb_doc.specs.Private.Stored.{Stores, TakesPairEntry, key_trees}
 use Rattle.jsonb_doc.proofs.Weights.{weight_of, weight-pos, inner_weighs, taken_weighs, weight_of_all, falls_inward, falls_outward}
 use Rattle.jsonb_raw.specs.declared.level.Level.{Level}
-use Rattle.jsonb_raw.specs.declared.level.Level.TheVariants.{Elements, Pairs}
+use Rattle.jsonb_raw.specs.declared.level.Level.TheVariants.{Pairs}
 use Rattle.jsonb_raw.specs.Private.Levels.{Part, parts_of_trees, parts_of_pairs, HasPartsLeft, TakesPart, IsKeyOf, IsSmaller, IsLevelWithin, level_room, level_bound}
 
 -- ---- the first part

@@ -1,6 +1,6 @@
 -- Levels of all parts of a container, and the starts of their keys.
-use Rattle.std.proofs.Common.{◌≡◌, ◌==◌, ℕ, true, List, [], ◌∷◌, length, refl, ap, sym, ◌∙◌, inl, inr, arith}
-use Rattle.std.specs.Int.{Width, w32, to_be_bytes}
+use Rattle.std.proofs.Common.{◌≡◌, ◌==◌, ℕ, true, List, ◌∷◌, length, refl, ap, sym, ◌∙◌, ◌⊎◌, inl, inr, Bor, arith}
+use Rattle.std.specs.Int.{w32, to_be_bytes}
 use Rattle.std.proofs.lemmas.Bool.Decides.{nat_tests}
 use Rattle.jsonb_doc.specs.Tree as spec
 use Rattle.jsonb_doc.specs.Tree.{Tree, Trees}
@@ -8,18 +8,15 @@ use Rattle.jsonb_doc.specs.Order.{rank}
 use Rattle.jsonb_doc.specs.Payload.{Form, number_reader}
 use Rattle.jsonb_doc.specs.Format.{Decodes, IsContent, HeadedBy}
 use Rattle.jsonb_doc.specs.Item.{StandsFor}
-use Rattle.jsonb_doc.specs.Private.Stored.{Stores, HasEntriesLeft, HasPairEntriesLeft}
-use Rattle.jsonb_doc.specs.declared.entry_iter.EntryIter.{EntryIter}
-use Rattle.jsonb_doc.specs.declared.entry_iter.PairEntryIter.{PairEntryIter}
+use Rattle.jsonb_doc.specs.Private.Stored.{Stores}
 use Rattle.jsonb_doc.specs.declared.entry_iter.StoredEntry.{StoredEntry}
+use Rattle.jsonb_doc.specs.declared.item.Item.{Item}
+use Rattle.jsonb_doc.specs.declared.item.Item.TheVariants.{Array, Object}
 use Rattle.jsonb_doc.proofs.Containers.{HasContent-headed, HasContent-kind, array_content, object_content, array_document, object_document}
-use Rattle.jsonb_raw.specs.SortableKey.{item_bytes}
 use Rattle.jsonb_raw.specs.Scalars.{is_array}
 use Rattle.jsonb_raw.specs.declared.level.Level.{Level}
 use Rattle.jsonb_raw.specs.declared.level.Level.TheVariants.{Elements, Pairs}
 use Rattle.jsonb_raw.specs.Private.Levels.{parts, HasPartsLeft, HasAllLeft}
-use Rattle.jsonb_raw.specs.Private.KeyKinds.{IsLiteralKind}
-use Rattle.jsonb_raw.specs.Private.KeyParts.{start}
 use Rattle.jsonb_raw.specs.Private.EqualityParts.{equality_start}
 use Rattle.jsonb_raw.proofs.LevelLemmas.{count_of_trees, count_of_pairs}
 
@@ -34,16 +31,8 @@ all_left form _ level h = absurd h
 
 module _ (form : Form) (t : Tree) (bytes : List ℕ) (content : IsContent (number_reader form) t 5 bytes) where
   module _ (kind n : ℕ) (rest : List ℕ) (h : HeadedBy bytes kind n rest) where
-    pub array_left : kind ≡ 4 → (it : EntryIter) → ((ts : Trees) → Decodes form bytes (spec.array ts) → HasEntriesLeft form it ts)
-        → HasAllLeft form t (Elements it)
-    array_left k it left = let (ts, is, d) = array_content form bytes kind n rest h t k content in rw is (left ts d)
-
     pub no_array : kind ≡ 4 → ((ts : Trees) → Decodes form bytes (spec.array ts) → ⊥) → ⊥
     no_array k none = let (ts, is, d) = array_content form bytes kind n rest h t k content in none ts d
-
-    pub object_left : kind ≡ 2 → (it : PairEntryIter)
-        → ((ps : spec.Pairs) → Decodes form bytes (spec.object ps) → HasPairEntriesLeft form it ps) → HasAllLeft form t (Pairs it)
-    object_left k it left = let (ps, is, d) = object_content form bytes kind n rest h t k content in rw is (left ps d)
 
     pub no_object : kind ≡ 2 → ((ps : spec.Pairs) → Decodes form bytes (spec.object ps) → ⊥) → ⊥
     no_object k none = let (ps, is, d) = object_content form bytes kind n rest h t k content in none ps d
@@ -59,32 +48,16 @@ module _ (form : Form) (t : Tree) (bytes : List ℕ) (content : IsContent (numbe
   headed none = let (kind, n, rest, h) = HasContent-headed (number_reader form) bytes (t, content) in none kind n rest h
 
 -- the container that an item stands for, or an entry stores
-pub array_item : (form : Form) (ts : Trees) (bytes : List ℕ) → Decodes form bytes (spec.array ts) → IsContent (number_reader form) (spec.array ts) 5 bytes
-array_item form ts bytes d = array_document (number_reader form) ts bytes d.document
-
-pub object_item : (form : Form) (ps : spec.Pairs) (bytes : List ℕ) → Decodes form bytes (spec.object ps)
-    → IsContent (number_reader form) (spec.object ps) 5 bytes
-object_item form ps bytes d = object_document (number_reader form) ps bytes d.document
+pub container_item : (form : Form) (item : Item) (bytes : Bor (List ℕ)) (t : Tree) → (item ≡ Array bytes) ⊎ (item ≡ Object bytes) → StandsFor form item t
+    → IsContent (number_reader form) t 5 bytes.now
+container_item form item bytes t (inl e) h = let (ts, is, d) = rw e at h in rw is (array_document (number_reader form) ts bytes.now d.document)
+container_item form item bytes t (inr e) h = let (ps, is, d) = rw e at h in rw is (object_document (number_reader form) ps bytes.now d.document)
 
 pub stored_container : (form : Form) (e : StoredEntry) (t : Tree) → Stores form e t → (e.kind == 5) ≡ true
     → IsContent (number_reader form) t 5 e.content.now
 stored_container form e t h k = let is : e.kind ≡ 5 = grind (arith, nat_tests) in rw is at h.content
 
 -- ---- starts of keys
-
-pub elements_rank : (form : Form) (t : Tree) (it : EntryIter) → HasAllLeft form t (Elements it) → 7 ≡ rank t
-elements_rank form (spec.array ts) it h = refl
-elements_rank form _ it h = absurd h
-
-pub pairs_rank : (form : Form) (t : Tree) (it : PairEntryIter) → HasAllLeft form t (Pairs it) → 6 ≡ rank t
-pairs_rank form (spec.object ps) it h = refl
-pairs_rank form _ it h = absurd h
-
-pub container_start : (form : Form) (w : Width) (t : Tree) (level : Level) (d kind : ℕ) → HasAllLeft form t level → kind ≡ rank t
-    → item_bytes w d kind [] ≡ start w t d
-container_start form w (spec.array ts) level d kind h is = ap (λ k. item_bytes w d k []) is
-container_start form w (spec.object ps) level d kind h is = ap (λ k. item_bytes w d k []) is
-container_start form w _ level d kind h is = absurd h
 
 pub container_equality_start : (form : Form) (t : Tree) (level : Level) (kind n : ℕ) → HasAllLeft form t level → kind ≡ rank t → n ≡ length (parts t)
     → kind ∷ to_be_bytes w32 n ≡ equality_start t
@@ -93,18 +66,3 @@ container_equality_start form (spec.array ts) level kind n h is counted =
 container_equality_start form (spec.object ps) level kind n h is counted =
     ap (λ k. k ∷ to_be_bytes w32 n) is ∙ ap (λ m. 6 ∷ to_be_bytes w32 m) (counted ∙ sym (count_of_pairs ps))
 container_equality_start form _ level kind n h is counted = absurd h
-
-pub literal_parts : (t : Tree) (kind : ℕ) → IsLiteralKind t kind → parts t ≡ []
-literal_parts spec.null kind h = refl
-literal_parts (spec.boolean b) kind h = refl
-literal_parts _ kind h = absurd h
-
-pub literal_start : (w : Width) (t : Tree) (d kind : ℕ) → IsLiteralKind t kind → item_bytes w d kind [] ≡ start w t d
-literal_start w spec.null d kind h = ap (λ k. item_bytes w d k []) h
-literal_start w (spec.boolean b) d kind h = ap (λ k. item_bytes w d k []) h
-literal_start w _ d kind h = absurd h
-
-pub literal_equality_start : (t : Tree) (kind : ℕ) → IsLiteralKind t kind → kind ∷ [] ≡ equality_start t
-literal_equality_start spec.null kind h = ap (λ k. k ∷ []) h
-literal_equality_start (spec.boolean b) kind h = ap (λ k. k ∷ []) h
-literal_equality_start _ kind h = absurd h

@@ -1,16 +1,17 @@
 //! The sortable key of a document: a walk over its items that writes each behind its depth and its kind.
 
-ghost use Rattle.std.specs.Prelude.{[], length, IfOk, IfErr};
+ghost use Rattle.std.specs.Prelude.{◌≡◌, ◌++◌, ℕ, [], false, length, List, Option, IfOk, IfErr, MatchResult};
 ghost use Rattle.jsonb_doc.specs.Tree.{Tree};
 ghost use Rattle.jsonb_doc.specs.Payload.{Form, number_reader};
 ghost use Rattle.jsonb_doc.specs.Format.{Decodes, IsContent, container_entry};
-ghost use Rattle.jsonb_doc.specs.Item.{StandsFor, item_size};
+ghost use Rattle.jsonb_doc.specs.Item.{StandsFor};
 ghost use Rattle.jsonb_doc.specs.Private.Stored.{Stores};
-ghost use Rattle.jsonb_raw.specs.SortableKey.{item_bytes, text_bytes};
-ghost use Rattle.jsonb_raw.specs.Private.Levels.{Part, IsKeyOf, IsLevelWithin};
-ghost use Rattle.jsonb_raw.specs.Private.KeyParts.{start, part_start, AppendsItem, AppendsStart, AppendsKey};
+ghost use Rattle.jsonb_raw.specs.SortableKey.{key, item_bytes, text_bytes, depths};
+ghost use Rattle.jsonb_raw.specs.Private.Levels.{IsKeyOf, IsLevelWithin};
+ghost use Rattle.jsonb_raw.specs.Private.Starts.{is_container};
+ghost use Rattle.jsonb_raw.specs.Private.KeyParts.{name_start, AppendsItem, AppendsStart, AppendsKey};
 ghost use Rattle.jsonb_raw.specs.Private.KeyWidth.{width_of};
-ghost use Rattle.jsonb_raw.specs.KeyAnswer.{MakesKey, RanksAsTree};
+ghost use Rattle.jsonb_raw.specs.KeyAnswer.{MakesKey, RanksAsTree, IsOutOfMemoryOrTooDeep};
 ghost use Rattle.jsonb_doc.specs.Answer.{IsDecodingError, ◌or◌};
 ghost use Rattle.jsonb_doc.specs.declared.error.Error.TheVariants.{OutOfMemory, TooDeep};
 
@@ -71,30 +72,27 @@ fn push_container<'a>(
     bytes: &'a [u8],
     depth: usize,
     width: DepthWidth,
-) -> Result<Option<Level<'a>>, Error>
+) -> Result<Level<'a>, Error>
     ensures key { (form : Form) (tree : Tree) → IsContent (number_reader form) tree container_entry bytes.now
-        → AppendsStart form (width_of width) depth (start (width_of width) tree depth) tree
-        out.old.items result out.new.items }
-    ensures within { IfOk result (IsLevelWithin (length bytes.now)) }
+        → AppendsStart form (width_of width) depth tree out.old.items result out.new.items }
+    ensures within { IfOk result (λ level. IsLevelWithin (length bytes.now) (Some level)) }
     ensures errors { IfErr result (IsDecodingError or OutOfMemory or TooDeep) }
 {
     let level = Level::of_container(bytes)?;
     push_front(out, depth, key_kind::of_level(&level), width)?;
-    Ok(Some(level))
+    Ok(level)
 }
 
-/// Appends the key of an item that has no parts, and of any other what stands before its parts, which it hands out.
+/// Appends the key of an item that is no container.
 #[inline(always)]
-fn push_start<'a>(
+fn push_scalar_item(
     out: &mut Vec<u8>,
-    item: &Item<'a>,
+    item: &Item<'_>,
     depth: usize,
     width: DepthWidth,
-) -> Result<Option<Level<'a>>, Error>
-    ensures key { (form : Form) (tree : Tree) → StandsFor form item.now tree
-        → AppendsStart form (width_of width) depth (start (width_of width) tree depth) tree
-        out.old.items result out.new.items }
-    ensures within { IfOk result (IsLevelWithin (item_size item.now)) }
+) -> Result<(), Error>
+    ensures key { (form : Form) (tree : Tree) → StandsFor form item.now tree → is_container tree ≡ false
+        → AppendsItem (width_of width) depth (key (width_of width) tree depth) out.old.items result out.new.items }
     ensures errors { IfErr result (IsDecodingError or OutOfMemory or TooDeep) }
 {
     match item {
@@ -111,85 +109,106 @@ fn push_start<'a>(
             push_extension_payload(out, value)?;
             out.push(0)?;
         }
-        Item::Array(bytes) | Item::Object(bytes) => {
-            return push_container(out, bytes, depth, width);
-        }
+        Item::Array(_) | Item::Object(_) => return Err(Error::InvalidJsonb),
     }
-    Ok(None)
+    Ok(())
 }
 
 /// The same of an entry. It stands apart, so that a walk over the commonest entries has no room for items.
 #[inline(never)]
-fn push_stored_start<'a>(
+fn push_stored_item(
     out: &mut Vec<u8>,
-    entry: &StoredEntry<'a>,
+    entry: &StoredEntry<'_>,
     depth: usize,
     width: DepthWidth,
-) -> Result<Option<Level<'a>>, Error>
-    ensures key { (form : Form) (tree : Tree) → Stores form entry.now tree
-        → AppendsStart form (width_of width) depth (start (width_of width) tree depth) tree
-        out.old.items result out.new.items }
-    ensures within { IfOk result (IsLevelWithin (length entry.now.content.now)) }
+) -> Result<(), Error>
+    ensures key { (form : Form) (tree : Tree) → Stores form entry.now tree → is_container tree ≡ false
+        → AppendsItem (width_of width) depth (key (width_of width) tree depth) out.old.items result out.new.items }
     ensures errors { IfErr result (IsDecodingError or OutOfMemory or TooDeep) }
 {
-    push_start(out, &entry.item()?, depth, width)
+    push_scalar_item(out, &entry.item()?, depth, width)
 }
 
 /// The same. An item is made of an extension value and of a long decimal alone.
 #[inline(always)]
-fn push_entry<'a>(
+fn push_scalar(
     out: &mut Vec<u8>,
-    entry: &StoredEntry<'a>,
+    entry: &StoredEntry<'_>,
     depth: usize,
     width: DepthWidth,
-) -> Result<Option<Level<'a>>, Error>
-    ensures key { (form : Form) (tree : Tree) → Stores form entry.now tree
-        → AppendsStart form (width_of width) depth (start (width_of width) tree depth) tree
-        out.old.items result out.new.items }
-    ensures within { IfOk result (IsLevelWithin (length entry.now.content.now)) }
+) -> Result<(), Error>
+    ensures key { (form : Form) (tree : Tree) → Stores form entry.now tree → is_container tree ≡ false
+        → AppendsItem (width_of width) depth (key (width_of width) tree depth) out.old.items result out.new.items }
     ensures errors { IfErr result (IsDecodingError or OutOfMemory or TooDeep) }
 {
     if entry.is_text() {
-        push_string(out, entry.content, depth, width)?;
-        return Ok(None);
+        return push_string(out, entry.content, depth, width);
     }
     if let Some(number) = entry.short_number() {
         push_front(out, depth, key_kind::NUMBER, width)?;
         push_short_number(out, number)?;
-        return Ok(None);
+        return Ok(());
     }
-    if entry.is_container() {
-        return push_container(out, entry.content, depth, width);
+    match key_kind::of_literal(entry) {
+        Some(kind) => push_front(out, depth, kind, width),
+        None => push_stored_item(out, entry, depth, width),
     }
-    if let Some(kind) = key_kind::of_literal(entry) {
-        push_front(out, depth, kind, width)?;
-        return Ok(None);
-    }
-    push_stored_start(out, entry, depth, width)
 }
 
-/// Appends the start of a part, behind its key where it has one, and hands out its own parts.
+/// Appends the key of a part, where it has one, as it stands before the part.
 #[inline(always)]
-fn push_part<'a>(
+fn push_name(
     out: &mut Vec<u8>,
-    key: Option<&[u8]>,
-    entry: &StoredEntry<'a>,
+    name: Option<&[u8]>,
     depth: usize,
     width: DepthWidth,
-) -> Result<Option<Level<'a>>, Error>
-    ensures key { (form : Form) (part : Part) → IsKeyOf key.entry part.0 → Stores form entry.now part.1
-        → AppendsStart form (width_of width) depth (part_start (width_of width) part depth) part.1
-        out.old.items result out.new.items }
-    ensures within { IfOk result (IsLevelWithin (length entry.now.content.now)) }
+) -> Result<(), Error>
+    ensures key { (k : Option (List ℕ)) → IsKeyOf name.entry k
+        → MatchResult result (λ _. out.new.items ≡ out.old.items ++ name_start (width_of width) k depth)
+        (IsOutOfMemoryOrTooDeep depth (depths (width_of width))) }
     ensures errors { IfErr result (IsDecodingError or OutOfMemory or TooDeep) }
 {
-    if let Some(key) = key {
-        push_string(out, key, depth, width)?;
+    match name {
+        Some(name) => push_string(out, name, depth, width),
+        None => Ok(()),
     }
-    push_entry(out, entry, depth, width)
 }
 
-/// Appends the key of an item. What is left of the containers that the walk is within lies in a `Vec`.
+/// Appends the key of a container. What is left of the containers that the walk is within lies in a `Vec`.
+fn push_parts(
+    alloc: Global,
+    out: &mut Vec<u8>,
+    bytes: &[u8],
+    width: DepthWidth,
+) -> Result<(), Error>
+    ensures key { (form : Form) (tree : Tree) → IsContent (number_reader form) tree container_entry bytes.now
+        → AppendsKey (width_of width) tree out.old.items result out.new.items }
+    ensures errors { IfErr result (IsDecodingError or OutOfMemory or TooDeep) }
+{
+    let mut level = push_container(out, bytes, 0, width)?;
+    let mut around = Vec::new(alloc);
+    'walk: loop {
+        match level.take()? {
+            Some((name, part)) => {
+                let depth = around.len() + 1;
+                push_name(out, name, depth, width)?;
+                if part.is_container() {
+                    let inner = push_container(out, part.content, depth, width)?;
+                    around.push(level)?;
+                    level = inner;
+                } else {
+                    push_scalar(out, &part, depth, width)?;
+                }
+            }
+            None => match around.pop() {
+                Some(outer) => level = outer,
+                None => return Ok(()),
+            },
+        }
+    }
+}
+
+/// Appends the key of an item.
 fn push_item(
     alloc: Global,
     out: &mut Vec<u8>,
@@ -200,24 +219,9 @@ fn push_item(
         → AppendsKey (width_of width) tree out.old.items result out.new.items }
     ensures errors { IfErr result (IsDecodingError or OutOfMemory or TooDeep) }
 {
-    let Some(found) = push_start(out, item, 0, width)? else {
-        return Ok(());
-    };
-    let mut level = found;
-    let mut around = Vec::new(alloc);
-    'walk: loop {
-        match level.take()? {
-            Some((key, part)) => {
-                if let Some(inner) = push_part(out, key, &part, around.len() + 1, width)? {
-                    around.push(level)?;
-                    level = inner;
-                }
-            }
-            None => match around.pop() {
-                Some(outer) => level = outer,
-                None => return Ok(()),
-            },
-        }
+    match item {
+        Item::Array(bytes) | Item::Object(bytes) => push_parts(alloc, out, bytes, width),
+        scalar => push_scalar_item(out, scalar, 0, width),
     }
 }
 

@@ -7,7 +7,7 @@ use Rattle.jsonb_doc.specs.declared.error.Error.{Error}
 use Rattle.jsonb_doc.specs.Payload.{Form}
 use Rattle.jsonb_raw.specs.declared.level.Level.{Level}
 use Rattle.jsonb_raw.specs.KeyAnswer.{GivesKey, IsOutOfMemoryOrTooDeep}
-use Rattle.jsonb_raw.specs.Private.Levels.{Part, IsLevelOf}
+use Rattle.jsonb_raw.specs.Private.Levels.{Part, parts, HasPartsLeft}
 use Rattle.jsonb_raw.specs.SortableKey.{key, item_bytes, text_bytes, depths}
 
 -- what stands before the keys of a tree's parts: of a tree without parts the whole key
@@ -16,9 +16,13 @@ start w (spec.array ts) d = item_bytes w d 7 []
 start w (spec.object ps) d = item_bytes w d 6 []
 start w t d = key w t d
 
+-- what stands before the start of a part: its key, where it is a value of an object
+abbrev pub name_start : Width → Option (List ℕ) → ℕ → List ℕ
+name_start w None d = []
+name_start w (Some k) d = item_bytes w d 5 (text_bytes k)
+
 abbrev pub part_start : Width → Part → ℕ → List ℕ
-part_start w (None, t) d = start w t d
-part_start w (Some k, t) d = item_bytes w d 5 (text_bytes k) ++ start w t d
+part_start w part d = name_start w part.0 d ++ start w part.1 d
 
 -- the sortable key of a document, written behind the bytes `old`
 abbrev pub AppendsKey : Width → Tree → List ℕ → Result (Unit {0}) Error → List ℕ → Type 0
@@ -29,8 +33,8 @@ abbrev pub AppendsItem : Width → ℕ → List ℕ → List ℕ → Result (Uni
 AppendsItem w d bytes old r new =
     MatchResult r (λ _. (new ≡ old ++ bytes) × (d < depths w)) (IsOutOfMemoryOrTooDeep d (depths w))
 
--- the same of the start of an item, which hands out the level of the tree's parts
-abbrev pub AppendsStart : Form → Width → ℕ → List ℕ → Tree → List ℕ → Result (Option Level) Error → List ℕ → Type 0
-AppendsStart form w d bytes t old r new =
-    MatchResult r (λ found. (new ≡ old ++ bytes) × (d < depths w) × IsLevelOf form t found)
+-- the same of what stands before the parts of a container, which are handed out
+abbrev pub AppendsStart : Form → Width → ℕ → Tree → List ℕ → Result Level Error → List ℕ → Type 0
+AppendsStart form w d t old r new =
+    MatchResult r (λ level. (new ≡ old ++ start w t d) × (d < depths w) × HasPartsLeft form level (parts t))
     (IsOutOfMemoryOrTooDeep d (depths w))

@@ -1,4 +1,4 @@
-use Rattle.std.proofs.Common.{arith, ap, ap₂, ◌∙◌, ◌≡◌, ℕ, ◌%◌, ◌/◌, ◌++◌, ◌∷◌, [], append_assoc}
+use Rattle.std.proofs.Common.{arith, ap₂, ◌∙◌, ◌≡◌, ℕ, ◌%◌, ◌/◌, ◌++◌, ◌∷◌, [], append_assoc}
 use Rattle.std.specs.Int.{w32, to_be_bytes}
 use Rattle.jsonb_raw.proofs.equality_key.push_count.Goals as goal
 

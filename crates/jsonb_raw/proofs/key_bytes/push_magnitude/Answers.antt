@@ -1,9 +1,9 @@
-use Rattle.std.proofs.Common.{arith, ap, ap₂, sym, ◌∙◌, ◌≡◌, ◌≤◌, ◌+◌, ◌-◌, ◌++◌, ◌∷◌, [], length, map, suc, append_assoc, refl}
+use Rattle.std.proofs.Common.{arith, ap, sym, ◌∙◌, ◌≡◌, ◌≤◌, ◌+◌, ◌-◌, ◌++◌, ◌∷◌, [], length, map, suc, append_assoc, refl}
 use Rattle.std.specs.Int.Digits.{digits_of}
 use Rattle.jsonb_raw.proofs.DigitSteps.{count_few}
 use Rattle.jsonb_raw.proofs.PushedNumbers.{magnitude_steps, row_from}
 use Rattle.jsonb_raw.specs.SortableKey.{significant}
-use Rattle.jsonb_raw.specs.Private.Complements.{complement_byte, complement_bytes}
+use Rattle.jsonb_raw.specs.Private.Complements.{complement_bytes}
 use Rattle.jsonb_raw.proofs.key_bytes.push_magnitude.Goals as goal
 
 pub write_digits-first-requires-clause-room : goal.write_digits-first-requires-clause-room

@@ -1,5 +1,4 @@
-use Rattle.std.proofs.Common.{arith, refl, sym, ap, ◌∙◌, length}
-use Rattle.std.specs.Int.Digits.{digits_of}
+use Rattle.std.proofs.Common.{arith, refl, sym, ◌∙◌}
 use Rattle.jsonb_raw.proofs.DigitSteps.{count_step, count_short, significant_step, significant_whole, significant-nothing}
 use Rattle.jsonb_raw.proofs.key_bytes.short_without_zeros.Goals as goal
 

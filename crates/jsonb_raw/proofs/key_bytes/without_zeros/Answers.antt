@@ -1,4 +1,4 @@
-use Rattle.std.proofs.Common.{arith, refl, sym, ap, ◌∙◌, ◌≡◌, ◌+◌, ◌/◌, length}
+use Rattle.std.proofs.Common.{arith, refl, sym, ap, ◌∙◌, ◌≡◌, ◌+◌, length}
 use Rattle.std.specs.Int.Digits.{digits_of}
 use Rattle.jsonb_raw.specs.SortableKey.{significant}
 use Rattle.jsonb_raw.proofs.DigitSteps.{count_step, count_few, significant_step, significant_whole, significant-nothing}

@@ -1,4 +1,4 @@
-use Rattle.std.proofs.Common.{ℕ, length-set, arith, refl, sym, ap, ◌∙◌, ◌≡◌, ◌+◌, ◌++◌, [], length, suc, map, drop}
+use Rattle.std.proofs.Common.{ℕ, length-set, arith, refl, sym, ap, ◌∙◌, ◌≡◌, ◌+◌, ◌++◌, length, suc, map, drop}
 use Rattle.std.specs.Int.Digits.{digits_of}
 use Rattle.jsonb_raw.specs.Private.Complements.{complement_byte, complement_bytes}
 use Rattle.jsonb_raw.proofs.DigitSteps.{count_step, digit_written, no_digits}

@@ -1,7 +1,7 @@
-use Rattle.std.proofs.Common.{◌≡◌, ◌∙◌, None, map, refl, ap}
+use Rattle.std.proofs.Common.{map}
 use Rattle.std.proofs.lemmas.Result.{err_from_is_err_and}
 use Rattle.std.specs.Map.{keys_of}
-use Rattle.jsonb_doc.specs.Tree.{object, array, members, keys, text, trees_of}
+use Rattle.jsonb_doc.specs.Tree.{members, text}
 use Rattle.jsonb_doc.specs.Format.{Decodes}
 use Rattle.jsonb_doc.proofs.TreeLists.{keys_of-members}
 use Rattle.jsonb_raw.proofs.RowLemmas.{one_row}

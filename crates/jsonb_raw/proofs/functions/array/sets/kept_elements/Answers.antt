@@ -1,4 +1,4 @@
-use Rattle.std.proofs.Common.{◌∙◌, [], ◌≡◌, true, false, inl, sym, subst}
+use Rattle.std.proofs.Common.{◌∙◌, inl, sym, subst}
 use Rattle.std.proofs.lemmas.Result.{err_from_is_err_and}
 use Rattle.jsonb_raw.specs.Sets.{select_occurrences}
 use Rattle.jsonb_raw.specs.Private.Rows.{RowsHold}

@@ -1,19 +1,19 @@
 use Rattle.std.proofs.Common.{◌+◌, ◌∷◌}
 use Rattle.std.specs.Prelude.{reverse}
 use Rattle.jsonb_doc.specs.Tree.{Tree}
-use Rattle.jsonb_doc.specs.Payload.{Form}
-use Rattle.jsonb_doc.specs.Item.{StandsFor}
+use Rattle.jsonb_doc.specs.Payload.{Form, number_reader}
+use Rattle.jsonb_doc.specs.Format.{IsContent}
 use Rattle.jsonb_doc.specs.Depth.{deepest}
 use Rattle.jsonb_raw.specs.SortableKey.{key}
 use Rattle.jsonb_raw.specs.Private.KeyWidth.{width_of}
 use Rattle.jsonb_raw.proofs.LevelLemmas.{SomeParts, weight, weights}
 use Rattle.jsonb_raw.proofs.LevelKeys.{IsWithin}
-use Rattle.jsonb_raw.proofs.sortable_key.push_item.Given as goal
+use Rattle.jsonb_raw.proofs.sortable_key.push_parts.Given as goal
 
 -- what is written, and then the keys of what each level has left, the innermost first, is the key of the whole
 abbrev pub invariant-walk : goal.invariant-walk
 invariant-walk l = record {
-  left : (form : Form) (tree : Tree) → StandsFor form l.fn.item tree
+  left : (form : Form) (tree : Tree) → IsContent (number_reader form) tree 5 l.fn.bytes
       → SomeParts form l.level l.around.items
       (λ here others. IsWithin (width_of l.fn.width) l.out.items (here ∷ others) l.fn.out.items (key (width_of l.fn.width) tree 0) (deepest tree));
 }
