@@ -1,5 +1,7 @@
 /* Rows a second of each call on a column, beside the same call on one document after the other; and what crossing the
- * boundary costs. bench [ROWS]: documents of about 200 bytes; processor time, the best of several rounds. */
+ * boundary costs. bench [ROWS]: documents of about 200 bytes; processor time, the best of several rounds.
+ * bench ROWS CALL column|one runs a call once on all rows, bench ROWS type jsonb_type, and bench ROWS nothing none: for
+ * instructions.py. */
 #define _POSIX_C_SOURCE 199309L
 #include "jsonb.h"
 
@@ -93,6 +95,10 @@ static void make_column(size_t count) {
 PAIR(check, jsonb_column_check(COLUMN, FIXED), jsonb_check(ROW))
 PAIR(exists, jsonb_column_exists(COLUMN, TEXT("$.age"), false, truths, rows, FIXED),
      jsonb_exists(ROW, TEXT("$.age"), false, truths + row))
+PAIR(exists_last, jsonb_column_exists(COLUMN, TEXT("$.score"), false, truths, rows, FIXED),
+     jsonb_exists(ROW, TEXT("$.score"), false, truths + row))
+PAIR(no_condition, jsonb_column_match(COLUMN, TEXT("$.age"), false, truths, rows, FIXED),
+     jsonb_match(ROW, TEXT("$.age"), false, truths + row))
 PAIR(match, jsonb_column_match(COLUMN, TEXT("$.age < 50"), false, truths, rows, FIXED),
      jsonb_match(ROW, TEXT("$.age < 50"), false, truths + row))
 PAIR(contains, jsonb_column_contains(COLUMN, bytes, offsets[1], truths, rows, FIXED),
@@ -130,10 +136,25 @@ struct pair {
 };
 #define NAMED(name)                                                                                                    \
     { #name, name##_column, name##_rows }
-static const struct pair pairs[] = {NAMED(check),        NAMED(exists), NAMED(match),        NAMED(contains),
-                                    NAMED(to_i64),       NAMED(get),    NAMED(select_first), NAMED(select_value),
-                                    NAMED(select_array), NAMED(to_str), NAMED(key),          NAMED(key_wide),
-                                    NAMED(equality_key), NAMED(delete)};
+static const struct pair pairs[] = {
+    NAMED(check),
+    NAMED(no_condition),
+    NAMED(exists),
+    NAMED(exists_last),
+    NAMED(match),
+    NAMED(contains),
+    NAMED(to_i64),
+    NAMED(get),
+    NAMED(select_first),
+    NAMED(select_value),
+    NAMED(select_array),
+    NAMED(to_str),
+    NAMED(key),
+    NAMED(key_wide),
+    NAMED(equality_key),
+    NAMED(delete),
+};
+enum { PAIRS = sizeof pairs / sizeof *pairs };
 
 /* Nanoseconds a row, the best of all rounds. */
 static double measure(uint32_t (*call)(void)) {
@@ -147,6 +168,24 @@ static double measure(uint32_t (*call)(void)) {
     return best / (double)rows * 1e9;
 }
 
+/* Runs one call once on all rows. */
+static int run_once(const char *call, const char *form) {
+    if (!strcmp(call, "type")) return type_rows() > JSONB_NONE;
+    for (size_t i = 0; i < PAIRS; i++)
+        if (!strcmp(pairs[i].name, call)) return (strcmp(form, "one") ? pairs[i].column : pairs[i].one)() > JSONB_NONE;
+    return strcmp(call, "nothing") != 0;
+}
+
+static void print_table(void) {
+    printf("%zu documents of %zu bytes\n\n", rows, bytes_len / rows);
+    printf("| Call | column, ns a row | rows a second | one by one, ns a row | gain |\n|---|---|---|---|---|\n");
+    for (size_t i = 0; i < PAIRS; i++) {
+        double column = measure(pairs[i].column), one = measure(pairs[i].one);
+        printf("| %s | %.0f | %.0f | %.0f | %.2f |\n", pairs[i].name, column, 1e9 / column, one, one / column);
+    }
+    printf("\njsonb_type of 4 bytes: %.1f ns a call (%llu)\n", measure(type_rows), (unsigned long long)(sum & 1));
+}
+
 int main(int argc, char **argv) {
     make_column(argc > 1 ? strtoul(argv[1], NULL, 10) : 100000);
     jsonb_progress progress;
@@ -154,12 +193,7 @@ int main(int argc, char **argv) {
     if (!ages || !age_offsets ||
         jsonb_column_get(COLUMN, TEXT("{age}"), ages, rows * 32, age_offsets, rows + 1, statuses, rows, &progress))
         return 1;
-    printf("%zu documents of %zu bytes\n\n", rows, bytes_len / rows);
-    printf("| Call | column, ns a row | rows a second | one by one, ns a row | gain |\n|---|---|---|---|---|\n");
-    for (size_t i = 0; i < sizeof pairs / sizeof *pairs; i++) {
-        double column = measure(pairs[i].column), one = measure(pairs[i].one);
-        printf("| %s | %.0f | %.0f | %.0f | %.2f |\n", pairs[i].name, column, 1e9 / column, one, one / column);
-    }
-    printf("\njsonb_type of 4 bytes: %.1f ns a call (%llu)\n", measure(type_rows), (unsigned long long)(sum & 1));
+    if (argc > 2) return run_once(argv[2], argc > 3 ? argv[3] : "");
+    print_table();
     return 0;
 }
