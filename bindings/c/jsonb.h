@@ -312,7 +312,16 @@ uint32_t jsonb_leaves(const uint8_t *document, size_t document_len, uint8_t *pat
  * Bytes a row: the answers go into `out`, one behind the other, and progress->rows + 1 positions into `positions`, the
  * first of them 0: a column again. A row without an answer is empty. JSONB_BUFFER_TOO_SMALL: there are more rows, and
  * the next did not fit; the rows that are done stand. Go on with offsets + progress->rows and new or emptied buffers.
- * If progress->rows is 0 and progress->next is not, `out` needs progress->next bytes at least. */
+ * If progress->rows is 0 and progress->next is not, `out` needs progress->next bytes at least.
+ *
+ * With each call stands what the status of the call or of a row is beyond these and beyond those of any call.
+ *
+ *   for (size_t first = 0; first < rows; first += progress.rows) {
+ *       status = jsonb_column_get(bytes, bytes_len, offsets + first, rows + 1 - first, path, path_len, out, out_size,
+ *                                 positions, rows + 1, statuses, rows, &progress);
+ *       if (status != JSONB_OK && (status != JSONB_BUFFER_TOO_SMALL || progress.rows == 0)) return status;
+ *       ... row i of progress.rows: statuses[i], and out[positions[i] .. positions[i + 1]] ...
+ *   } */
 
 typedef struct jsonb_progress {
     size_t rows;  /* that are done */
@@ -320,60 +329,76 @@ typedef struct jsonb_progress {
     size_t next;  /* what the next row's answer needs, where `out` had no room for it; else 0 */
 } jsonb_progress;
 
-/* Each row's status is that of jsonb_check. */
+/* Each row's status is that of jsonb_check. Takes no memory. */
 uint32_t jsonb_column_check(const uint8_t *bytes, size_t bytes_len, const uint64_t *offsets, size_t offsets_len,
                             uint8_t *statuses, size_t statuses_len, size_t *done);
 
+/* A truth a row: whether a JSON path selects an item. JSONB_INVALID_JSON_PATH: the path; of a row, that it has no value
+ * there, or one of the faults of arithmetic, or with `strict` JSONB_STRICT_PATH. */
 uint32_t jsonb_column_exists(const uint8_t *bytes, size_t bytes_len, const uint64_t *offsets, size_t offsets_len,
                              const uint8_t *path, size_t path_len, bool strict, uint8_t *truths, size_t truths_len,
                              uint8_t *statuses, size_t statuses_len, size_t *done);
 
+/* A truth a row: what a JSON path that is one condition says of it, as jsonb_match does. With JSONB_OK a truth of 2 is
+ * unknown. Statuses as of jsonb_column_exists. */
 uint32_t jsonb_column_match(const uint8_t *bytes, size_t bytes_len, const uint64_t *offsets, size_t offsets_len,
                             const uint8_t *path, size_t path_len, bool strict, uint8_t *truths, size_t truths_len,
                             uint8_t *statuses, size_t statuses_len, size_t *done);
 
-/* Whether each row contains the other document. */
+/* A truth a row: whether it contains the other document. Takes no memory. */
 uint32_t jsonb_column_contains(const uint8_t *bytes, size_t bytes_len, const uint64_t *offsets, size_t offsets_len,
                                const uint8_t *other, size_t other_len, uint8_t *truths, size_t truths_len,
                                uint8_t *statuses, size_t statuses_len, size_t *done);
 
+/* A number a row, cast as jsonb_to_i64 does. JSONB_INVALID_CAST: a row that can't be. Takes no memory. */
 uint32_t jsonb_column_to_i64(const uint8_t *bytes, size_t bytes_len, const uint64_t *offsets, size_t offsets_len,
                              int64_t *numbers, size_t numbers_len, uint8_t *statuses, size_t statuses_len,
                              size_t *done);
 
-/* Each row's part at a key path. */
+/* Each row's part at the place that a key path meets. JSONB_INVALID_KEY_PATH: the path. JSONB_NONE: a row without the
+ * place. */
 uint32_t jsonb_column_get(const uint8_t *bytes, size_t bytes_len, const uint64_t *offsets, size_t offsets_len,
                           const uint8_t *path, size_t path_len, uint8_t *out, size_t out_size, uint64_t *positions,
                           size_t positions_len, uint8_t *statuses, size_t statuses_len, jsonb_progress *progress);
 
+/* The first item that a JSON path selects of each row. JSONB_NONE: of a row where it selects nothing. Others as of
+ * jsonb_column_exists. */
 uint32_t jsonb_column_select_first(const uint8_t *bytes, size_t bytes_len, const uint64_t *offsets, size_t offsets_len,
                                    const uint8_t *path, size_t path_len, bool strict, uint8_t *out, size_t out_size,
                                    uint64_t *positions, size_t positions_len, uint8_t *statuses, size_t statuses_len,
                                    jsonb_progress *progress);
 
+/* The one item that a JSON path selects of each row, or an array of several. Statuses as of
+ * jsonb_column_select_first. */
 uint32_t jsonb_column_select_value(const uint8_t *bytes, size_t bytes_len, const uint64_t *offsets, size_t offsets_len,
                                    const uint8_t *path, size_t path_len, bool strict, uint8_t *out, size_t out_size,
                                    uint64_t *positions, size_t positions_len, uint8_t *statuses, size_t statuses_len,
                                    jsonb_progress *progress);
 
+/* An array of all items that a JSON path selects of each row, in order with repeats. Statuses as of
+ * jsonb_column_exists. */
 uint32_t jsonb_column_select_array(const uint8_t *bytes, size_t bytes_len, const uint64_t *offsets, size_t offsets_len,
                                    const uint8_t *path, size_t path_len, bool strict, uint8_t *out, size_t out_size,
                                    uint64_t *positions, size_t positions_len, uint8_t *statuses, size_t statuses_len,
                                    jsonb_progress *progress);
 
-/* Each row's sortable key. */
+/* Each row's sortable key, as jsonb_sort_key makes it. JSONB_TOO_DEEP: a row with an item that lies too deep. */
 uint32_t jsonb_column_key(const uint8_t *bytes, size_t bytes_len, const uint64_t *offsets, size_t offsets_len,
                           bool wide, uint8_t *out, size_t out_size, uint64_t *positions, size_t positions_len,
                           uint8_t *statuses, size_t statuses_len, jsonb_progress *progress);
 
+/* Each row's equality key, as jsonb_equality_key makes it. */
 uint32_t jsonb_column_equality_key(const uint8_t *bytes, size_t bytes_len, const uint64_t *offsets, size_t offsets_len,
                                    uint8_t *out, size_t out_size, uint64_t *positions, size_t positions_len,
                                    uint8_t *statuses, size_t statuses_len, jsonb_progress *progress);
 
+/* Each row as a text, cast as jsonb_to_str does. JSONB_INVALID_CAST: a row that can't be. */
 uint32_t jsonb_column_to_str(const uint8_t *bytes, size_t bytes_len, const uint64_t *offsets, size_t offsets_len,
                              uint8_t *out, size_t out_size, uint64_t *positions, size_t positions_len,
                              uint8_t *statuses, size_t statuses_len, jsonb_progress *progress);
 
+/* Each row without the place that a key path meets. JSONB_INVALID_KEY_PATH: the path. JSONB_INVALID_JSON_TYPE: a row
+ * that is a null, a truth value, a number or a text. */
 uint32_t jsonb_column_delete_by_keypath(const uint8_t *bytes, size_t bytes_len, const uint64_t *offsets,
                                         size_t offsets_len, const uint8_t *path, size_t path_len, uint8_t *out,
                                         size_t out_size, uint64_t *positions, size_t positions_len, uint8_t *statuses,
