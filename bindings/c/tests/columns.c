@@ -288,6 +288,10 @@ static void test_refused_paths(const struct column *column) {
           "path", 0);
     judge(jsonb_column_select_value(COLUMN, TEXT("$["), false, RUNS) == JSONB_INVALID_JSON_PATH, "select_value", "path",
           0);
+    judge(jsonb_column_select_first(COLUMN, TEXT("@ > 10"), false, RUNS) == JSONB_INVALID_JSON_PATH, "select_first",
+          "path", 0);
+    judge(jsonb_column_select_array(COLUMN, TEXT("$.**{300}"), true, RUNS) == JSONB_INVALID_JSON_PATH, "select_array",
+          "path", 0);
     judge(jsonb_column_delete_by_keypath(COLUMN, TEXT("{\xff}"), RUNS) == JSONB_INVALID_KEY_PATH, "delete", "path", 0);
     judge(is_filled(bytes, sizeof bytes) && is_filled(places, sizeof places), "all", "path: nothing written", 0);
 }

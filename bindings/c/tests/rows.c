@@ -1,7 +1,7 @@
 /* rows FILE: runs each row of a file that bindings/tests/rows.py made, with buffers of every length from 0 to two bytes
- * more than the answer needs and guard bytes behind. With -DREFUSING and malloc, realloc and free wrapped (see the
- * Makefile), each growth of each row is refused in turn as well. Each status has to come at least once. The last line is
- * `N passed, M failed`. */
+ * more than the answer needs and guard bytes behind, and with NULL for what is empty. With -DREFUSING and malloc,
+ * realloc and free wrapped (see the Makefile), each growth of each row is refused in turn as well. Each status has to
+ * come at least once. The last line is `N passed, M failed`. */
 #define _POSIX_C_SOURCE 200809L
 #include "jsonb.h"
 #include "growths.h"
@@ -349,6 +349,19 @@ static bool every_length_is_right(const struct row *row) {
     return is_right(row, row->status, row->wanted.len, &growths) && is_right(row, row->status, most, &growths);
 }
 
+/* NULL for each input without bytes, and for a buffer of no size. */
+static bool nulls_are_right(const struct row *row) {
+    struct row asked = *row;
+    for (int i = 0; i < 3; i++)
+        if (!asked.bytes[i].len) asked.bytes[i].at = NULL;
+    for (int i = 0; i < 2; i++)
+        if (!asked.columns[i].bytes.len) asked.columns[i].bytes.at = NULL;
+    struct result r = run(&asked, NULL, 0);
+    size_t len = row->status == JSONB_OK ? row->wanted.len : 0;
+    uint32_t status = gives_bytes(row) && len ? (uint32_t)JSONB_BUFFER_TOO_SMALL : row->status;
+    return r.status == status && has_scalar(row, &r) && (!gives_bytes(row) || r.len == len);
+}
+
 /* Each growth refused in turn, until a run meets no refusal. */
 static bool every_refusal_is_right(const struct row *row) {
     for (long refused = 0, growths = 1; can_refuse() && growths > refused; refused++) {
@@ -404,7 +417,7 @@ int main(int argc, char **argv) {
         char *shown = strdup(line);
         struct row row;
         bool is_read = read_row(&row, line);
-        bool right = is_read && every_length_is_right(&row) && every_refusal_is_right(&row);
+        bool right = is_read && every_length_is_right(&row) && nulls_are_right(&row) && every_refusal_is_right(&row);
         if (!right) printf("%s: %.200s\n", is_read ? "WRONG" : "NOT READ", shown);
         right ? passed++ : failed++;
         free_row(&row);
