@@ -37,7 +37,7 @@ impl fmt::Display for KeyPaths<'_> {
     }
 }
 
-// Writes each step behind a comma.
+/// Writes each step behind a comma.
 fn write_others<W: fmt::Write>(steps: &[KeyPath<'_>], f: &mut fmt::Formatter<W>) -> fmt::Result
     ensures { WritesOnOk W.write_str_gives f.old result
         (flat_map other_key_text (keys_view steps.now)) f.new }
@@ -70,7 +70,7 @@ impl fmt::Display for OwnedKeyPaths {
     }
 }
 
-// Writes each step behind a comma.
+/// Writes each step behind a comma.
 fn write_other_owned<W: fmt::Write>(
     steps: &[OwnedKeyPath],
     f: &mut fmt::Formatter<W>,

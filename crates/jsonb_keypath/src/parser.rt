@@ -49,7 +49,7 @@ pub fn parse_key_paths(alloc: Global, input: &[u8]) -> Result<KeyPaths<'_>, Erro
     }
 }
 
-// One step at the front, and what follows it.
+/// One step at the front, and what follows it.
 #[tactic(auto, unfolding(crate::specs::KeyPathGrammar::key))]
 fn key_at(alloc: Global, input: &[u8]) -> Result<Option<(KeyPath<'_>, &[u8])>, AllocError>
     ensures value { IfOk result (λ found. read_as key_view found ≡ key input.now) }
@@ -67,7 +67,7 @@ fn key_at(alloc: Global, input: &[u8]) -> Result<Option<(KeyPath<'_>, &[u8])>, A
     }
 }
 
-// The same with white space around it.
+/// The same with white space around it.
 #[tactic(auto, unfolding(crate::specs::KeyPathGrammar::spaced_key))]
 fn spaced_key_at(alloc: Global, input: &[u8]) -> Result<Option<(KeyPath<'_>, &[u8])>, AllocError>
     ensures value { IfOk result (λ found. read_as key_view found ≡ spaced_key input.now) }
@@ -79,7 +79,7 @@ fn spaced_key_at(alloc: Global, input: &[u8]) -> Result<Option<(KeyPath<'_>, &[u
     }
 }
 
-// A comma and the step behind it.
+/// A comma and the step behind it.
 fn another_key_at(alloc: Global, input: &[u8]) -> Result<Option<(KeyPath<'_>, &[u8])>, AllocError>
     ensures value { IfOk result (λ found. read_as key_view found ≡ another_key input.now) }
     ensures shrinks { IfOk result (LeavesLess input.now) }
@@ -90,7 +90,7 @@ fn another_key_at(alloc: Global, input: &[u8]) -> Result<Option<(KeyPath<'_>, &[
     }
 }
 
-// One step or more, with commas in between. Where no step follows a comma, they end before it.
+/// One step or more, with commas in between. Where no step follows a comma, they end before it.
 fn keys_at(alloc: Global, input: &[u8]) -> Result<Option<(Vec<KeyPath<'_>>, &[u8])>, AllocError>
     ensures { IfOk result (λ found.
         read_as (λ keys. keys_view keys.items) found ≡ key_list input.now) }
@@ -107,7 +107,7 @@ fn keys_at(alloc: Global, input: &[u8]) -> Result<Option<(Vec<KeyPath<'_>>, &[u8
     Ok(Some((keys, rest)))
 }
 
-// The braces around one step or more, with white space around them.
+/// The braces around one step or more, with white space around them.
 #[tactic(auto, unfolding(crate::specs::KeyPathGrammar::some_keys))]
 fn some_keys_at(
     alloc: Global,
@@ -128,7 +128,7 @@ fn some_keys_at(
     }
 }
 
-// What follows a pair of braces with nothing in it.
+/// What follows a pair of braces with nothing in it.
 #[tactic(auto, unfolding(crate::specs::KeyPathGrammar::no_keys))]
 fn no_keys_at(input: &[u8]) -> Option<&[u8]>
     ensures { option_map (λ rest. ([], rest.now)) result ≡ no_keys input.now }

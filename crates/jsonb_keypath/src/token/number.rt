@@ -15,7 +15,7 @@ fn digit_count(input: &[u8]) -> usize
     input.iter().take_while(|b| b.is_ascii_digit()).count()
 }
 
-// The digits at the front, which may be none, and what follows them.
+/// The digits at the front, which may be none, and what follows them.
 fn digits_at(input: &[u8]) -> (&str, &[u8])
     ensures digits { result.0.now ≡ take_while is_ascii_digit input.now }
     ensures rest { result.1.now ≡ past is_ascii_digit input.now }
@@ -62,7 +62,7 @@ pub fn nat8(input: &[u8]) -> Option<(u8, &[u8])>
     }
 }
 
-// Whether a minus stands there, and what follows the sign, if there is one.
+/// Whether a minus stands there, and what follows the sign, if there is one.
 #[tactic(auto, unfolding(crate::specs::Tokens::sign))]
 fn read_sign(input: &[u8]) -> (bool, &[u8])
     ensures value { sign input.now ≡ Some (result.0, result.1.now) }

@@ -67,7 +67,7 @@ pub fn write_quoted<W: fmt::Write>(text: &str, f: &mut fmt::Formatter<W>) -> fmt
     f.write_str("\"")
 }
 
-// Writes what stands between the quotes.
+/// Writes what stands between the quotes.
 fn write_inside<W: fmt::Write>(text: &str, f: &mut fmt::Formatter<W>) -> fmt::Result
     ensures { WritesOnOk W.write_str_gives f.old result (flat_map quoted_byte text.now) f.new }
 {

@@ -65,7 +65,7 @@ pub fn read_quoted(
     Ok(quoted_at(alloc, input)?)
 }
 
-// A name, where memory alone can fail.
+/// A name, where memory alone can fail.
 #[tactic(auto, unfolding(crate::specs::Tokens::name))]
 pub(crate) fn name_at(
     alloc: Global,
@@ -85,7 +85,7 @@ pub(crate) fn name_at(
     Ok(Some((found, rest)))
 }
 
-// A text between quotes, where memory alone can fail.
+/// A text between quotes, where memory alone can fail.
 #[tactic(auto, unfolding(crate::specs::Tokens::quoted))]
 pub(crate) fn quoted_at(
     alloc: Global,
@@ -158,7 +158,7 @@ fn is_stop(b: u8) -> bool
     )
 }
 
-// A text up to where its run of units ends. A text without escapes is not copied.
+/// A text up to where its run of units ends. A text without escapes is not copied.
 fn text_at(
     alloc: Global,
     ending: Ending,
@@ -194,7 +194,7 @@ fn plain_count(ending: Ending, input: &[u8]) -> usize
         .count()
 }
 
-// The same text, in memory of its own.
+/// The same text, in memory of its own.
 fn owned_text_at(
     alloc: Global,
     ending: Ending,
@@ -213,7 +213,7 @@ fn owned_text_at(
     }
 }
 
-// The longest run of units, one at least, as the bytes that it stands for.
+/// The longest run of units, one at least, as the bytes that it stands for.
 #[tactic(auto, unfolding(crate::specs::Tokens::units))]
 fn units_at(
     alloc: Global,
