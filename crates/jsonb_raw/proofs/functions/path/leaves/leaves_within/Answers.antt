@@ -52,7 +52,8 @@ walk-preserved-in-Some-3 g c = record {
         others = rest ∷ others;
         left = entered.1;
         left_around = pushed_around form _ _ _ rest others c.in_ok-push-in-Some-3.ensures.items left around;
-        fact = part_entered (IsKept (g.P.LeafPart.IsOf form)) c.args.ignore_array _ _ _ _ part rest others _ fact entered.0 (c.in_ok-key-in-Some-2.ensures.name part.0 keyed)
+        fact = part_entered (IsKept (g.P.LeafPart.IsOf form)) c.args.ignore_array _ _ _ _ part rest others _ fact entered.0
+            (c.in_ok-key-in-Some-2.ensures.name part.0 keyed)
             (entry_leaves form _ c.args.ignore_array part.1 is entered.0) c.in_ok-push-in-Some-3-2.ensures.items;
       });
 }
@@ -84,7 +85,8 @@ walk-preserved-in-None-2 g c = record {
             (c.in_ok-path-in-None-2.path, c.in_ok-of_entry-in-None-2.field-0) fact
             (rw c.in-None-2.is at
             (c.in_ok-inner-in-Some-2.ensures.leaf form part.1 is)) (c.in_ok-key-in-Some-2.ensures.name part.0 keyed)
-            (rw c.deref.ensures.value at c.in_ok-path-in-None-2.ensures, c.in_ok-of_entry-in-None-2.ensures.part form part.1 is) c.in_ok-push-in-None-2.ensures.items;
+            (rw c.deref.ensures.value at c.in_ok-path-in-None-2.ensures, c.in_ok-of_entry-in-None-2.ensures.part form part.1 is)
+            c.in_ok-push-in-None-2.ensures.items;
       });
 }
 
@@ -106,7 +108,8 @@ walk-preserved g c =
             others = more;
             left = left;
             left_around = outside;
-            fact = rw (popped.0, popped.1) (level_done (IsKept (g.P.LeafPart.IsOf form)) c.args.ignore_array _ _ h.front h.last c.walk.index here others more _ same h.joined fact);
+            fact = rw (popped.0, popped.1)
+                (level_done (IsKept (g.P.LeafPart.IsOf form)) c.args.ignore_array _ _ h.front h.last c.walk.index here others more _ same h.joined fact);
           }));
     }
 
