@@ -58,6 +58,7 @@ fn push_extension(out: &mut Vec<u8>, value: &ExtensionValue<'_>) -> Result<(), E
 }
 
 /// Appends the key of a text, also of an object's key.
+#[inline(always)]
 fn push_string(out: &mut Vec<u8>, text: &[u8]) -> Result<(), Error>
     ensures { MatchResult result (λ _. out.new.items ≡ out.old.items ++ 5 ∷ text_bytes text.now) IsOutOfMemory }
 {
