@@ -154,7 +154,7 @@ pub(crate) fn short_number_truth(op: BinaryOperator, l: ShortNumber, r: &Atom<'_
     }
 }
 
-// Of a pair of numbers.
+/// Of a pair of numbers.
 #[inline(always)]
 fn number_truth(op: BinaryOperator, l: &Number, r: &Number) -> Option<bool>
     ensures { result ≡ pair_truth (operator_view op) (number (number_view l.now)) (number (number_view r.now)) }
@@ -165,7 +165,7 @@ fn number_truth(op: BinaryOperator, l: &Number, r: &Number) -> Option<bool>
     }
 }
 
-// Of one pair: with a container it is unknown.
+/// Of one pair: with a container it is unknown.
 #[inline(always)]
 fn pair_truth(op: BinaryOperator, l: &Atom<'_>, r: &Atom<'_>) -> Option<bool>
     ensures { result ≡ pair_truth (operator_view op) (atom_value l.now) (atom_value r.now) }
@@ -179,7 +179,7 @@ fn pair_truth(op: BinaryOperator, l: &Atom<'_>, r: &Atom<'_>) -> Option<bool>
     truth_of_order(op, value_order(l, r))
 }
 
-// Whether the right text begins the left one.
+/// Whether the right text begins the left one.
 fn starts_with_truth(l: &Atom<'_>, r: &Atom<'_>) -> Option<bool>
     ensures { result ≡ starts_with_truth (atom_value l.now) (atom_value r.now) }
 {
@@ -199,7 +199,7 @@ fn is_raw(value: &Atom<'_>) -> bool
     }
 }
 
-// The order of two values of one kind.
+/// The order of two values of one kind.
 #[inline(always)]
 fn value_order(l: &Atom<'_>, r: &Atom<'_>) -> Option<Ordering>
     ensures { result ≡ value_order (atom_value l.now) (atom_value r.now) }
@@ -213,7 +213,7 @@ fn value_order(l: &Atom<'_>, r: &Atom<'_>) -> Option<Ordering>
     }
 }
 
-// Atoms of two kinds differ, and else nothing is known of them.
+/// Atoms of two kinds differ, and else nothing is known of them.
 #[inline(always)]
 fn truth_of_order(op: BinaryOperator, order: Option<Ordering>) -> Option<bool>
     ensures { result ≡ truth_of_order (operator_view op) order }
@@ -225,7 +225,7 @@ fn truth_of_order(op: BinaryOperator, order: Option<Ordering>) -> Option<bool>
     }
 }
 
-// Whether the operator holds of two values in this order.
+/// Whether the operator holds of two values in this order.
 #[inline(always)]
 fn is_met_by(op: BinaryOperator, order: Ordering) -> bool
     ensures { result ≡ is_met_by (operator_view op) order }

@@ -146,7 +146,7 @@ pub(crate) fn exists_part<'a>(steps: &[Path<'_>], answer: Option<bool>) -> KeptP
     }
 }
 
-// Whether an operand has the same values for each item.
+/// Whether an operand has the same values for each item.
 fn is_fixed(operand: &Expr<'_>) -> bool
     ensures { result ≡ is_fixed (expression_view operand.now) }
 {

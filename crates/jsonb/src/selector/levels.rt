@@ -140,7 +140,7 @@ fn push_item<'a>(
     }
 }
 
-// Whether an item of this level is taken, and whether its children are looked at. Without levels all are.
+/// Whether an item of this level is taken, and whether its children are looked at. Without levels all are.
 #[inline(always)]
 fn answer_at(levels: Option<RecursiveLevel>, level: u16) -> (bool, bool)
     ensures { (n : ℕ) → level ≡ min n 256 → result ≡ answer_at (option_map levels_view levels) n }
@@ -151,7 +151,7 @@ fn answer_at(levels: Option<RecursiveLevel>, level: u16) -> (bool, bool)
     }
 }
 
-// Whether nothing of this level and of those below it is taken.
+/// Whether nothing of this level and of those below it is taken.
 #[inline(always)]
 fn is_shut(levels: Option<RecursiveLevel>, level: u16) -> bool
     ensures { (n : ℕ) → level ≡ min n 256 → result ≡ is_shut (option_map levels_view levels) n }
@@ -160,7 +160,7 @@ fn is_shut(levels: Option<RecursiveLevel>, level: u16) -> bool
     !is_taken && !goes_on
 }
 
-// The level below.
+/// The level below.
 #[inline(always)]
 fn next_level(level: u16) -> u16
     ensures { (n : ℕ) → level ≡ min n 256 → result ≡ min (n + 1) 256 }

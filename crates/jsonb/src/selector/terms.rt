@@ -38,7 +38,7 @@ pub(crate) struct Pair<'s, 'p> {
     pub(crate) right: &'s Expr<'p>,
 }
 
-// The operator as one that joins truths.
+/// The operator as one that joins truths.
 fn join_of(op: BinaryOperator) -> Option<Join>
     ensures { result ≡ join_of (operator_view op) }
 {
@@ -85,7 +85,7 @@ pub(crate) fn terms_of<'s, 'p>(alloc: Global, e: &'s Expr<'p>) -> Result<Vec<Ter
     }
 }
 
-// The same of one that joins others. They are found from the last to the first; what waits lies in a `Vec`.
+/// The same of one that joins others. They are found from the last to the first; what waits lies in a `Vec`.
 #[inline(never)]
 fn joined_terms<'s, 'p>(alloc: Global, e: &'s Expr<'p>) -> Result<Vec<Term<'s, 'p>>, Error>
     requires { is_joined (expression_view e.now) ≡ true }
@@ -102,7 +102,8 @@ fn joined_terms<'s, 'p>(alloc: Global, e: &'s Expr<'p>) -> Result<Vec<Term<'s, '
     Ok(terms)
 }
 
-// The last term of an expression, behind those that come after it. The two that it joins wait, the right one in front.
+/// The last term of an expression, behind those that come after it. The two that it joins wait, the right one in
+/// front.
 fn push_term<'s, 'p>(
     e: &'s Expr<'p>,
     terms: &mut Vec<Term<'s, 'p>>,
