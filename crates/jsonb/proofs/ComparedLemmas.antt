@@ -141,16 +141,16 @@ pair_is Or mode l r top t = refl
 abbrev pub Any : {A : Type 0} → A → Type 0
 Any x = Unit {0}
 
-listed_total : (o : Option (List Tree)) → IsOkAnd (list_or Lax [] o) Any
-listed_total (Some ts) = tt
-listed_total None = tt
+pub listed_total : (otherwise : List Tree) (o : Option (List Tree)) → IsOkAnd (list_or Lax otherwise o) Any
+listed_total otherwise (Some ts) = tt
+listed_total otherwise None = tt
 
 pub member_total : (s : math.Step) (top t : Tree) → is_member s ≡ true → IsOkAnd (step_meaning Lax s top t) Any
 member_total math.root top t h = tt
 member_total math.current top t h = tt
-member_total (math.dot_field name) top t h = listed_total _
-member_total (math.colon_field name) top t h = listed_total _
-member_total (math.object_field name) top t h = listed_total _
+member_total (math.dot_field name) top t h = listed_total [] _
+member_total (math.colon_field name) top t h = listed_total [] _
+member_total (math.object_field name) top t h = listed_total [] _
 member_total math.dot_wildcard top t h = cc
 member_total (math.recursive_dot_wildcard levels) top t h = cc
 member_total math.bracket_wildcard top t h = cc
@@ -167,12 +167,24 @@ all_total f h (t ∷ ts) = go (f t) (try_flat_map f ts) (h t) (all_total f h ts)
     go (Ok xs) (Err e) a b = absurd b
     go (Err e) p a b = absurd a
 
-pub members_total : (ss : List math.Step) (top : Tree) (ts : List Tree) → are_members ss ≡ true → IsOkAnd (steps_meaning Lax (steps_of ss) top ts) Any
-members_total [] top ts h = tt
-members_total (s ∷ ss) top ts h =
-    let k = both_true (is_member s) (are_members ss) h in
+-- steps that are refused of no item
+abbrev pub AreTotal : List math.Step → Type 0
+AreTotal [] = Unit {0}
+AreTotal (s ∷ ss) = ((top t : Tree) → IsOkAnd (step_meaning Lax s top t) Any) × AreTotal ss
+
+pub steps_total : (ss : List math.Step) (top : Tree) (ts : List Tree) → AreTotal ss → IsOkAnd (steps_meaning Lax (steps_of ss) top ts) Any
+steps_total [] top ts h = tt
+steps_total (s ∷ ss) top ts h =
     with_ok Any (λ o. IsOkAnd o Any) (try_flat_map (step_meaning Lax s top) ts) (steps_meaning Lax (steps_of ss) top)
-    (all_total (step_meaning Lax s top) (λ t. member_total s top t k.0) ts) (λ us _. members_total ss top us k.1)
+    (all_total (step_meaning Lax s top) (λ t. h.0 top t) ts) (λ us _. steps_total ss top us h.1)
+
+pub members_are_total : (ss : List math.Step) → are_members ss ≡ true → AreTotal ss
+members_are_total [] h = tt
+members_are_total (s ∷ ss) h =
+    let k = both_true (is_member s) (are_members ss) h in (λ top t. member_total s top t k.0, members_are_total ss k.1)
+
+pub members_total : (ss : List math.Step) (top : Tree) (ts : List Tree) → are_members ss ≡ true → IsOkAnd (steps_meaning Lax (steps_of ss) top ts) Any
+members_total ss top ts h = steps_total ss top ts (members_are_total ss h)
 
 pub comparison_total : (c : MemberCompared) (e : Expression) (top t : Tree) → IsMemberCompared c e → IsOkAnd (truth Lax e top t) Any
 comparison_total c e top t k =
@@ -180,7 +192,7 @@ comparison_total c e top t k =
     (with_ok Any (λ o. IsOkAnd o Any) (steps_meaning Lax (steps_of (steps_view c.names.now)) top (t ∷ [])) (told_by c)
     (members_total (steps_view c.names.now) top (t ∷ []) k.members) (λ ts _. tt))
 
-joint_total : (j : Join) (cs : List MemberCompared) (es : List Expression) (top t : Tree) → AllRelated IsMemberCompared cs es
+pub joint_total : (j : Join) (cs : List MemberCompared) (es : List Expression) (top t : Tree) → AllRelated IsMemberCompared cs es
     → IsOkAnd (joint_truth j Lax es top t) Any
 joint_total j [] [] top t a = tt
 joint_total j [] (e ∷ es) top t a = absurd a

@@ -30,6 +30,7 @@ pub mod ExistsLemmas
 pub mod KeptLemmas
 pub mod ComparedLemmas
 pub mod ListLemmas
+pub mod SearchLemmas
 pub mod TermLemmas
 pub mod CalculateLemmas
 pub mod ReadMeans

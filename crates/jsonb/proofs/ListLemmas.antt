@@ -15,29 +15,29 @@ use Rattle.jsonb.specs.Values.{Value, values_of_item}
 use Rattle.jsonb.specs.Meaning.{step_meaning, steps_meaning, truth, operand_values, start}
 use Rattle.jsonb.specs.Private.Compared.{IsMemberCompared, IsListCompared, list_truth}
 use Rattle.jsonb.specs.Private.Kept.{is_comparison}
-use Rattle.jsonb.specs.Private.Members.{is_member, are_members}
+use Rattle.jsonb.specs.Private.Members.{are_members}
 use Rattle.jsonb.specs.Private.Selection.{atom_value, taken_step}
 use Rattle.jsonb.specs.declared.selector.compared_items.MemberCompared.{MemberCompared}
 use Rattle.jsonb.specs.declared.selector.compared_lists.ListCompared.{ListCompared}
 use Rattle.jsonb.specs.declared.selector.document.Expressions.TheVariants.{AreRefused}
 use Rattle.jsonb.specs.declared.selector.document.Mode.{Mode}
 use Rattle.jsonb.specs.declared.selector.document.Mode.TheVariants.{Lax}
-use Rattle.jsonb.proofs.ComparedLemmas.{Any, member_total, all_total, members_total, comparison_total, told_by}
+use Rattle.jsonb.proofs.ComparedLemmas.{Any, AreTotal, all_total, members_are_total, members_total, comparison_total, told_by}
 use Rattle.jsonb.proofs.KeptLemmas.{comparison_is}
-use Rattle.jsonb.proofs.MemberLemmas.{both_true, none_left}
+use Rattle.jsonb.proofs.MemberLemmas.{none_left}
 use Rattle.jsonb.proofs.StepLemmas.{refused_steps}
 
 -- ---- a list in two parts
 
 -- the lists of two parts, joined
-abbrev both_lists : {A : Type 0} → Outcome (List A) → Outcome (List A) → Outcome (List A)
+abbrev pub both_lists : {A : Type 0} → Outcome (List A) → Outcome (List A) → Outcome (List A)
 both_lists o p = and_then o (λ fs. and_then p (λ bs. Ok (fs ++ bs)))
 
-none_in_front : {A : Type 0} (o : Outcome (List A)) → o ≡ both_lists (Ok []) o
+pub none_in_front : {A : Type 0} (o : Outcome (List A)) → o ≡ both_lists (Ok []) o
 none_in_front (Ok xs) = refl
 none_in_front (Err e) = refl
 
-both_lists-assoc : {A : Type 0} (o p q : Outcome (List A)) → both_lists o (both_lists p q) ≡ both_lists (both_lists o p) q
+pub both_lists-assoc : {A : Type 0} (o p q : Outcome (List A)) → both_lists o (both_lists p q) ≡ both_lists (both_lists o p) q
 both_lists-assoc (Ok xs) (Ok ys) (Ok zs) = ap Ok (sym (append_assoc xs ys zs))
 both_lists-assoc (Ok xs) (Ok ys) (Err e) = refl
 both_lists-assoc (Ok xs) (Err e) q = refl
@@ -48,16 +48,14 @@ joined-append f [] ys = none_in_front (try_flat_map f ys)
 joined-append f (x ∷ xs) ys =
     ap (both_lists (f x)) (joined-append f xs ys) ∙ both_lists-assoc (f x) (try_flat_map f xs) (try_flat_map f ys)
 
--- names of members of two lists
-members-append : (ss : List math.Step) (top : Tree) (xs ys : List Tree) → are_members ss ≡ true
+-- steps of two lists, where none is refused
+pub steps_in_parts : (ss : List math.Step) (top : Tree) (xs ys : List Tree) → AreTotal ss
     → steps_meaning Lax (steps_of ss) top (xs ++ ys) ≡ both_lists (steps_meaning Lax (steps_of ss) top xs) (steps_meaning Lax (steps_of ss) top ys)
-members-append [] top xs ys h = refl
-members-append (s ∷ ss) top xs ys h =
-    let k = both_true (is_member s) (are_members ss) h in
+steps_in_parts [] top xs ys h = refl
+steps_in_parts (s ∷ ss) top xs ys h =
     let f = step_meaning Lax s top in
     ap (λ o. and_then o (steps_meaning Lax (steps_of ss) top)) (joined-append f xs ys)
-    ∙ go (λ fs bs. members-append ss top fs bs k.1) (try_flat_map f xs) (try_flat_map f ys) (all_total f (λ t. member_total s top t k.0) xs)
-    (all_total f (λ t. member_total s top t k.0) ys)
+    ∙ go (λ fs bs. steps_in_parts ss top fs bs h.1) (try_flat_map f xs) (try_flat_map f ys) (all_total f (h.0 top) xs) (all_total f (h.0 top) ys)
   where
     go : ((fs bs : List Tree) → steps_meaning Lax (steps_of ss) top (fs ++ bs)
         ≡ both_lists (steps_meaning Lax (steps_of ss) top fs) (steps_meaning Lax (steps_of ss) top bs))
@@ -67,6 +65,11 @@ members-append (s ∷ ss) top xs ys h =
     go rest (Ok fs) (Ok bs) a b = rest fs bs
     go rest (Ok fs) (Err e) a b = absurd b
     go rest (Err e) p a b = absurd a
+
+-- names of members of two lists
+members-append : (ss : List math.Step) (top : Tree) (xs ys : List Tree) → are_members ss ≡ true
+    → steps_meaning Lax (steps_of ss) top (xs ++ ys) ≡ both_lists (steps_meaning Lax (steps_of ss) top xs) (steps_meaning Lax (steps_of ss) top ys)
+members-append ss top xs ys h = steps_in_parts ss top xs ys (members_are_total ss h)
 
 -- ---- the first truth that decides
 
@@ -201,3 +204,11 @@ pub by_front : (list : ListCompared) (e : Expression) (top : Tree) → IsListCom
 by_front list e top k =
     k.compares top
     ∙ ap (λ l. and_then (steps_meaning Lax (steps_of l) top (top ∷ [])) (list_truth list.comparison top)) (sym (refused_steps (steps_view list.front.now)))
+
+-- no steps in front of the names: the member is the root's
+pub by_names : (list : ListCompared) (e : Expression) (top : Tree) (k : IsListCompared list e) → list.front.now ≡ []
+    → truth Lax e top top ≡ truth Lax k.each top top
+by_names list e top k none =
+    k.compares top
+    ∙ ap (λ l. and_then (steps_meaning Lax (steps_of (steps_view l)) top (top ∷ [])) (list_truth list.comparison top)) none
+    ∙ sym (k.member.compares Lax top top)

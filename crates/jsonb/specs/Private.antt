@@ -13,3 +13,4 @@ pub mod Last
 pub mod Members
 pub mod Compared
 pub mod Exists
+pub mod Search

@@ -28,6 +28,7 @@ mod kept;
 mod levels;
 mod members;
 mod node_list;
+mod search;
 mod selected;
 mod steps;
 mod terms;
@@ -38,7 +39,7 @@ pub use self::by_path::SelectByPath;
 use self::document::{Document, Mode};
 use self::documents::{array_document, documents, first_document, value_document};
 use self::selected::Selected;
-use self::whole_path::{expression_truth, only_expression, selection};
+use self::whole_path::{expression_truth, first_selection, only_expression, selection};
 use crate::path::JsonPath;
 use jsonb_doc::{Error, root_spot};
 use jsonb_raw::{OwnedJsonb, RawJsonb};
@@ -47,8 +48,9 @@ use std::alloc::Global;
 /// Runs paths on a document. docs/PATHS.md says what a path selects, in lax and in strict mode, and how that differs
 /// from SQL/JSON.
 ///
-/// Each call executes the whole path, but `predicate_match` a path that is no single expression. What it answers
-/// depends on the root, the mode and the path alone, so that a selector may be used again after any refusal.
+/// Each call answers by the whole path, but `predicate_match` by a path that is a single expression alone: where an
+/// item is refused, the call is, also where it hands out another item. What it answers depends on the root, the mode
+/// and the path alone, so that a selector may be used again after any refusal.
 ///
 /// Every call returns, whatever the root's bytes are. On bytes that don't decode it may answer all the same, also
 /// with documents that don't decode: ask `check` first of bytes from strangers.
@@ -163,8 +165,8 @@ impl<'a> Selector<'a> {
         array_document(self.alloc, document, &selected)
     }
 
-    /// The first of the path's list, or none. The whole path is executed, so that a refusal behind the first item is
-    /// the answer. PostgreSQL has `jsonb_path_query_first`.
+    /// The first of the path's list, or none. A refusal behind the first item is the answer. PostgreSQL has
+    /// `jsonb_path_query_first`.
     ///
     /// # Errors
     ///
@@ -172,7 +174,8 @@ impl<'a> Selector<'a> {
     ///
     /// # Cost
     ///
-    /// That of selecting, and the first item is copied.
+    /// That of selecting, and the first item is copied. In lax mode only what leads to that item is walked over, where
+    /// each filter is such as `?(@.a == 1 && @.b > 2)`; index entries and `.**` list all their items.
     pub fn select_first(&mut self, path: &JsonPath<'_>) -> Result<Option<OwnedJsonb>, Error>
         ensures kept { self.new ≡ self.old }
         ensures first { ByMeanings (mode_of self.old) (root_bytes self.old) (path_view path.now)
@@ -182,7 +185,7 @@ impl<'a> Selector<'a> {
     {
         let bytes = self.root.as_bytes();
         let document = at_root(bytes)?;
-        let selected = selection(self.alloc, self.mode, &path.paths, document)?;
+        let selected = first_selection(self.alloc, self.mode, &path.paths, document)?;
         first_document(self.alloc, document, &selected)
     }
 
@@ -217,7 +220,7 @@ impl<'a> Selector<'a> {
     ///
     /// # Cost
     ///
-    /// That of selecting. Nothing is copied.
+    /// That of `select_first`. Nothing is copied.
     pub fn exists(&mut self, path: &JsonPath<'_>) -> Result<bool, Error>
         ensures kept { self.new ≡ self.old }
         ensures exists { ByMeanings (mode_of self.old) (root_bytes self.old) (path_view path.now) IsFound result }
@@ -225,7 +228,7 @@ impl<'a> Selector<'a> {
         ensures readable { OnOk result (HasReadableRoot (root_bytes self.old)) }
     {
         let document = at_root(self.root.as_bytes())?;
-        let selected = selection(self.alloc, self.mode, &path.paths, document)?;
+        let selected = first_selection(self.alloc, self.mode, &path.paths, document)?;
         Ok(is_some(&selected))
     }
 
@@ -259,7 +262,7 @@ impl<'a> Selector<'a> {
     }
 }
 
-// The bytes of a document, with the place of its root in them. Bytes whose root can't be read are refused.
+/// The bytes of a document, with the place of its root in them. Bytes whose root can't be read are refused.
 fn at_root(bytes: &[u8]) -> Result<Document<'_>, Error>
     ensures meant { (form : Form) (top : Tree) → Decodes form bytes.now top
         → IsOkAnd result (λ document. (document.bytes.now ≡ bytes.now) × HasTree document top) }
@@ -270,7 +273,7 @@ fn at_root(bytes: &[u8]) -> Result<Document<'_>, Error>
     Ok(Document { bytes, root })
 }
 
-// Whether anything is selected.
+/// Whether anything is selected.
 fn is_some(selected: &Selected<'_>) -> bool
     ensures { (form : Form) (document : Document) (ts : List Tree) → AreSelected form document selected.now ts
         → result ≡ is_some_item ts }

@@ -1,9 +1,9 @@
 //! The places of an item's children.
 
-ghost use Rattle.std.specs.Prelude.{◌≡◌, ℕ, ◌++◌, ◌∷◌, [], map, List, Ok, IfErr, OnOk, IsOkAnd, if◌then◌else◌, pos, ⊤, MatchOption, filter_map, slice_get};
+ghost use Rattle.std.specs.Prelude.{◌≡◌, ℕ, ◌<◌, ◌^◌, ◌++◌, ◌∷◌, [], map, List, Ok, IfOk, IfSome, IfErr, OnOk, IsOkAnd, if◌then◌else◌, pos, ⊤, MatchOption, filter_map, slice_get};
 ghost use Rattle.jsonb_doc.specs.Answer.{Gives, SameOption, IsOutOfMemory, ◌or◌, IsDecodingError};
 ghost use Rattle.jsonb_doc.specs.declared.error.Error.TheVariants.{OutOfMemory};
-ghost use Rattle.jsonb_doc.specs.Spots.{Locates, HasSpotsLeft};
+ghost use Rattle.jsonb_doc.specs.Spots.{Locates, HasSpotsLeft, spots_bound};
 ghost use Rattle.jsonb_doc.specs.Payload.{any};
 ghost use Rattle.jsonb_doc.specs.Item.{StandsFor};
 ghost use Rattle.jsonb_doc.specs.Tree.{Tree};
@@ -22,6 +22,7 @@ use std::alloc::Global;
 pub(crate) fn elements<'a>(bytes: &'a [u8], item: Spot) -> Result<Option<SpotIter<'a>>, Error>
     ensures meant { (t : Tree) → Locates bytes.now item t
         → IsOkAnd result (λ found. SameOption (HasSpotsLeft bytes.now) found (elements_of t)) }
+    ensures short { IfOk result (λ found. IfSome found (λ it. spots_bound it < 2 ^ 30)) }
     ensures errors { IfErr result IsDecodingError }
 {
     array_elements(bytes, item, &spot_item(bytes, item)?)
@@ -36,6 +37,7 @@ pub(crate) fn array_elements<'a>(
 ) -> Result<Option<SpotIter<'a>>, Error>
     ensures meant { (t : Tree) → Locates bytes.now spot t → StandsFor any item.now t
         → IsOkAnd result (λ found. SameOption (HasSpotsLeft bytes.now) found (elements_of t)) }
+    ensures short { IfOk result (λ found. IfSome found (λ it. spots_bound it < 2 ^ 30)) }
     ensures errors { IfErr result IsDecodingError }
 {
     match item {
@@ -48,6 +50,7 @@ pub(crate) fn array_elements<'a>(
 pub(crate) fn values<'a>(bytes: &'a [u8], item: Spot) -> Result<Option<SpotIter<'a>>, Error>
     ensures meant { (t : Tree) → Locates bytes.now item t
         → IsOkAnd result (λ found. SameOption (HasSpotsLeft bytes.now) found (values_of t)) }
+    ensures short { IfOk result (λ found. IfSome found (λ it. spots_bound it < 2 ^ 30)) }
     ensures errors { IfErr result IsDecodingError }
 {
     match spot_item(bytes, item)? {
@@ -188,8 +191,8 @@ pub(crate) fn push_positions(
     }
 }
 
-// The elements at the positions of the entries. For one plain index the walk ends there; else all elements
-// are walked once.
+/// The elements at the positions of the entries. For one plain index the walk ends there; else all elements
+/// are walked once.
 fn push_picked(
     alloc: Global,
     elements: SpotIter<'_>,
@@ -210,7 +213,7 @@ fn push_picked(
     push_entries(entries, &spots, nodes)
 }
 
-// The position of one index that counts from the front.
+/// The position of one index that counts from the front.
 fn plain_index(entries: &[ArrayIndex]) -> Option<usize>
     ensures { MatchOption result ⊤ (λ k. map entry_view entries.now ≡ single (from_front (pos k)) ∷ []) }
 {
@@ -220,7 +223,7 @@ fn plain_index(entries: &[ArrayIndex]) -> Option<usize>
     }
 }
 
-// The element at a position.
+/// The element at a position.
 fn push_nth(elements: SpotIter<'_>, position: usize, nodes: &mut Vec<Spot>) -> Result<(), Error>
     ensures meant { (bytes : List ℕ) (ts before : List Tree) → HasSpotsLeft bytes elements.entry ts
         → AllRelated (Locates bytes) nodes.old.items before
@@ -239,7 +242,7 @@ fn push_nth(elements: SpotIter<'_>, position: usize, nodes: &mut Vec<Spot>) -> R
     Ok(())
 }
 
-// The elements at the positions of one entry after the other.
+/// The elements at the positions of one entry after the other.
 fn push_entries(
     entries: &[ArrayIndex],
     elements: &[Spot],
@@ -257,7 +260,7 @@ fn push_entries(
     Ok(())
 }
 
-// The elements at the positions of one entry, ascending.
+/// The elements at the positions of one entry, ascending.
 fn push_entry(entry: &ArrayIndex, elements: &[Spot], nodes: &mut Vec<Spot>) -> Result<(), Error>
     ensures meant { (bytes : List ℕ) (ts before : List Tree) → AllRelated (Locates bytes) elements.now ts
         → AllRelated (Locates bytes) nodes.old.items before

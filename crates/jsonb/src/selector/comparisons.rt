@@ -26,8 +26,8 @@ use std::alloc::Global;
 /// Comparisons, from left to right, and the operator that joins them.
 #[derive(Drop)]
 pub(crate) struct JoinedComparisons<'s, 'a> {
-    join: Join,
-    comparisons: Vec<MemberCompared<'s, 'a>>,
+    pub(crate) join: Join,
+    pub(crate) comparisons: Vec<MemberCompared<'s, 'a>>,
 }
 
 /// An expression, and the operator that joins it to what was found on its right.
@@ -67,7 +67,7 @@ pub(crate) fn joined_filter(
 }
 
 /// The comparisons that one operator joins to an expression, if it is of such alone.
-fn joined_comparisons<'s, 'a>(
+pub(crate) fn joined_comparisons<'s, 'a>(
     alloc: Global,
     e: &'s Expr<'a>,
 ) -> Result<Option<JoinedComparisons<'s, 'a>>, Error>
@@ -168,7 +168,7 @@ fn push_joined(
 /// The truth of all comparisons of an item, as far as it tells whether a filter keeps the item: none is looked at
 /// behind the one that decides.
 #[inline(always)]
-fn joint_truth(
+pub(crate) fn joint_truth(
     alloc: Global,
     mode: Mode,
     join: Join,

@@ -7,12 +7,13 @@ ghost use Rattle.jsonb_doc.specs.Tree.{Tree};
 ghost use Rattle.jsonb.specs.PathTree.{Expression, steps_of, filter};
 ghost use Rattle.jsonb.specs.PathViews.{step_view, steps_view, expression_view};
 ghost use Rattle.jsonb.specs.Related.{AllRelated};
-ghost use Rattle.jsonb.specs.Meaning.{step_meaning, steps_meaning, truth, operand_values};
+ghost use Rattle.jsonb.specs.Meaning.{step_meaning, steps_meaning, truth, operand_values, is_some_item};
 ghost use Rattle.jsonb.specs.Private.Selection.{IsAt, HasTree, node_spots, atoms_view, taken_step, is_filter, IsPlain};
 ghost use Rattle.jsonb.specs.Private.Exists.{is_exists};
 ghost use Rattle.jsonb.specs.Private.Terms.{is_joined, AreTermsOf};
 ghost use Rattle.jsonb.specs.Private.Kept.{conditions, is_condition, IsSame, AreKept, IsKeptFor, kept_part};
 ghost use Rattle.jsonb.specs.declared.path.Expr.{size-Expr};
+ghost use Rattle.jsonb.specs.declared.selector.document.Expressions.TheVariants.{AreRefused};
 ghost use Rattle.jsonb.specs.declared.path.Path.{size-Path};
 ghost use Rattle.jsonb.specs.SelectionErrors.{IsSelectionError};
 
@@ -27,6 +28,7 @@ use super::kept::{Kept, KeptPart, comparison_part, exists_part, is_comparison, i
 use super::levels::push_levels;
 use super::members::{are_members, first_item, is_member, member, member_of, member_steps};
 use super::node_list::NodeList;
+use super::search::search;
 use super::terms::{Run, Term, is_joined, terms_of};
 use super::values::found_values;
 use crate::path::{Expr, Path};
@@ -108,7 +110,10 @@ fn plain_steps(
 
 /// The expression of a step that is a filter.
 #[inline(always)]
-fn filter_of<'s, 'a>(expressions: Expressions, step: &'s Path<'a>) -> Option<&'s Expr<'a>>
+pub(crate) fn filter_of<'s, 'a>(
+    expressions: Expressions,
+    step: &'s Path<'a>,
+) -> Option<&'s Expr<'a>>
     ensures expression { MatchOption result (IsPlain expressions (step_view step.now))
         (λ e. taken_step expressions (step_view step.now) ≡ filter (expression_view e.now)) }
     ensures deeper { MatchOption result ⊤ (λ e. size-Expr e.now < size-Path step.now) }
@@ -590,10 +595,35 @@ fn exists_truth<'a>(
     match asked.exists {
         Expr::ExistsFunc(steps) => {
             let first = first_item(steps, document, asked.item);
-            let found = select_steps(alloc, mode, Expressions::AreRefused, steps, document, first)?;
-            Ok(Some(!found.as_slice().is_empty()))
+            let is_found = leads_to_any(alloc, mode, steps, document, first)?;
+            Ok(Some(is_found))
         }
         _ => Err(Error::InvalidJsonPath),
+    }
+}
+
+/// Whether the steps of an `exists` lead to any item.
+#[cycle(steps)]
+#[inline(always)]
+fn leads_to_any<'a>(
+    alloc: Global,
+    mode: Mode,
+    steps: &'a [Path<'_>],
+    document: Document<'a>,
+    first: Spot,
+) -> Result<bool, Error>
+    ensures meant { (top t : Tree) → HasTree document.entry top → IsAt document.entry first t
+        → Gives (λ b us. b ≡ is_some_item us) IsOutOfMemory result
+        (steps_meaning mode (steps_of (map (taken_step AreRefused) (steps_view steps.now))) top (t ∷ [])) }
+    ensures errors { IfErr result (IsSelectionError mode) }
+{
+    let all = Expressions::AreRefused;
+    match search(alloc, mode, all, steps, document, first)? {
+        Some(found) => Ok(found.is_some()),
+        None => {
+            let found = select_steps(alloc, mode, all, steps, document, first)?;
+            Ok(!found.as_slice().is_empty())
+        }
     }
 }
 

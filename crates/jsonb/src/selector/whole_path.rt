@@ -11,6 +11,7 @@ ghost use Rattle.jsonb.specs.PathViews.{step_view, steps_view, expression_view, 
 ghost use Rattle.jsonb.specs.Related.{AllRelated};
 ghost use Rattle.jsonb.specs.PathArithmetic.{operation, each_signed};
 ghost use Rattle.jsonb.specs.Meaning.{step_meaning, steps_meaning, operand_values, truth, as_filter, Means, truth_item, truth_list, calculation, expression_predicate};
+ghost use Rattle.jsonb.specs.Private.Search.{BeginsAs};
 ghost use Rattle.jsonb.specs.Private.Selection.{IsAt, HasTree, node_spots, IsMadeItem, IsNumberItem, IsNumberTree, AreSelected, step_expression, only_expression};
 ghost use Rattle.jsonb.specs.declared.selector.document.Document.{Document};
 ghost use Rattle.jsonb.specs.declared.selector.document.Mode.{Mode};
@@ -21,6 +22,8 @@ use super::calculate::{binary_number, is_arithmetic, unary_numbers};
 use super::compared_lists::root_truth;
 use super::document::{Document, Expressions, Mode};
 use super::kept::begins_with_current;
+use super::node_list::NodeList;
+use super::search::search;
 use super::selected::{MadeItem, Selected};
 use super::steps::{operand_values, select_steps};
 use crate::path::{BinaryOperator, Expr, Path, PathValue, UnaryOperator};
@@ -56,6 +59,28 @@ pub(crate) fn selection<'a>(
     Ok(Selected::Nodes(spots))
 }
 
+/// What a path selects, for a caller who asks for the first item alone: in lax mode others may be left out.
+pub(crate) fn first_selection<'a>(
+    alloc: Global,
+    mode: Mode,
+    steps: &'a [Path<'_>],
+    document: Document<'a>,
+) -> Result<Selected<'a>, Error>
+    ensures meant { (form : Form) (top : Tree) (outcome : Outcome (List Tree)) → HasTree document.entry top
+        → Means form mode (steps_view steps.now) top outcome
+        → Gives (BeginsAs form document.entry) IsOutOfMemory result outcome }
+    ensures errors { IfErr result (IsSelectionError mode) }
+{
+    if only_expression(steps).is_some() || begins_with_current(steps) {
+        return selection(alloc, mode, steps, document);
+    }
+    let all = Expressions::AreFilters;
+    match search(alloc, mode, all, steps, document, document.root)? {
+        Some(first) => Ok(Selected::Nodes(NodeList::at_most_one(alloc, first))),
+        None => selection(alloc, mode, steps, document),
+    }
+}
+
 /// The expression that is the whole path.
 pub(crate) fn only_expression<'s, 'a>(steps: &'s [Path<'a>]) -> Option<&'s Expr<'a>>
     ensures { MatchOption result (only_expression (steps_view steps.now) ≡ None)
@@ -68,7 +93,7 @@ pub(crate) fn only_expression<'s, 'a>(steps: &'s [Path<'a>]) -> Option<&'s Expr<
     }
 }
 
-// The expression of a step.
+/// The expression of a step.
 fn step_expression<'s, 'a>(step: &'s Path<'a>) -> Option<&'s Expr<'a>>
     ensures { MatchOption result (step_expression (step_view step.now) ≡ None)
         (λ e. step_expression (step_view step.now) ≡ Some (expression_view e.now)) }
@@ -79,7 +104,7 @@ fn step_expression<'s, 'a>(step: &'s Path<'a>) -> Option<&'s Expr<'a>>
     }
 }
 
-// What an expression makes that is the whole path.
+/// What an expression makes that is the whole path.
 fn expression_parts<'a>(
     alloc: Global,
     mode: Mode,
@@ -110,7 +135,7 @@ fn expression_parts<'a>(
     }
 }
 
-// A literal as the whole path: an array of it, and of a document the document.
+/// A literal as the whole path: an array of it, and of a document the document.
 fn literal_parts<'a>(literal: &'a PathValue<'_>) -> Result<Selected<'a>, Error>
     ensures meant { (form : Form) (document : Document) (mode : Mode) (top : Tree) (outcome : Outcome (List Tree))
         → Means form mode (whole_expression (value (literal_view literal.now)) ∷ []) top outcome
@@ -129,7 +154,7 @@ fn literal_parts<'a>(literal: &'a PathValue<'_>) -> Result<Selected<'a>, Error>
     }
 }
 
-// The signed numbers of an operand.
+/// The signed numbers of an operand.
 fn whole_unary<'a>(
     alloc: Global,
     mode: Mode,
@@ -146,7 +171,7 @@ fn whole_unary<'a>(
     unary_numbers(alloc, op, values.as_slice())
 }
 
-// The number of two operands, the values of both taken first.
+/// The number of two operands, the values of both taken first.
 fn whole_binary<'a>(
     alloc: Global,
     mode: Mode,
@@ -166,7 +191,7 @@ fn whole_binary<'a>(
     binary_number(op, lefts.as_slice(), rights.as_slice())
 }
 
-// A comparison, `&&`, `||` or `exists`: its truth.
+/// A comparison, `&&`, `||` or `exists`: its truth.
 fn whole_truth<'a>(
     alloc: Global,
     mode: Mode,
@@ -182,7 +207,7 @@ fn whole_truth<'a>(
     Ok(one_item(MadeItem::Item(truth_item(truth))))
 }
 
-// A truth as an item: unknown is null.
+/// A truth as an item: unknown is null.
 fn truth_item<'a>(truth: Option<bool>) -> Item<'a>
     ensures { (form : Form) → IsMadeItem form (made_item.Item result) (truth_item truth) }
 {

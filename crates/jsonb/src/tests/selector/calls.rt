@@ -111,6 +111,79 @@ fn the_first_comes_only_of_a_whole_list(rt: HostRuntime) -> Result<(), Fail> {
     Ok(())
 }
 
+/// What `select_first` and `exists` answer.
+fn first_in<'a>(
+    rt: &HostRuntime,
+    selector: &mut Selector<'a>,
+    path: &'a JsonPath<'_>,
+) -> Result<String, Fail> {
+    let first = shown_option(rt, selector.select_first(path))?;
+    let exists = selector.exists(path);
+    Ok(format!(in rt.alloc(); "{first};{exists:?}")?)
+}
+
+/// `[5,{"b":2},{"a":1},{"a":[1]}]`
+const LATE: &str = "80000004 20000002 5000000f 5000000f 50000017 5005 \
+    40000001 10000001 20000002 62 5002 40000001 10000001 20000002 61 5001 \
+    40000001 10000001 5000000a 61 80000001 20000002 5001";
+
+/// `[{"a":1},5]`
+const OBJECT_FIRST: &str = "80000002 5000000f 20000002 40000001 10000001 20000002 61 5001 5005";
+
+/// `[{"a":1},{"b":2}]`
+const OBJECTS: &str = "80000002 5000000f 5000000f 40000001 10000001 20000002 61 5001 \
+    40000001 10000001 20000002 62 5002";
+
+/// `[{"a":[]},{"a":[[],1]}]`
+const LISTS: &str = "80000002 50000011 5000001f 40000001 10000001 50000004 61 80000000 \
+    40000001 10000001 50000012 61 80000002 50000004 20000002 80000000 5001";
+
+/// `{"a":{"b":[{"c":1}]}}`
+const DEEP: &str = "40000001 10000001 50000024 61 40000001 10000001 50000017 62 \
+    80000001 5000000f 40000001 10000001 20000002 63 5001";
+
+#[test]
+fn the_first_is_found_wherever_it_stands(rt: HostRuntime) -> Result<(), Fail> {
+    let one = "20000000200000025001;Ok(true)";
+    for (path, document, expected) in [
+        ("$[*].a", LATE, one),
+        ("$[*].a", OBJECT_FIRST, one),
+        ("$[*]?(@.a == 1).a", LATE, one),
+        ("$[*].a[*][*]", LISTS, one),
+        ("$.**.c", DEEP, one),
+        ("$.*.*[0].c", DEEP, one),
+        ("$[last, 0].a", OBJECTS, one),
+        ("$[*]?(exists(@.a[*][*]))[*].a", LATE, one),
+        ("$[*][*]", EMPTY, "none;Ok(false)"),
+        ("$[*].a.b", LATE, "none;Ok(false)"),
+        ("$[*]?(@.a == 3)", LATE, "none;Ok(false)"),
+        ("$[2, 5 to 7].*", LISTS, "none;Ok(false)"),
+    ] {
+        let bytes = bytes_of(&rt, document)?;
+        let steps = parse_json_path(rt.alloc(), path.as_bytes())?;
+        let mut selector = Selector::new(rt.alloc(), RawJsonb::new(&bytes));
+        let answers = first_in(&rt, &mut selector, &steps)?;
+        assert_eq!(rt; answers.as_str(), expected, "{path} on {document}");
+    }
+    Ok(())
+}
+
+#[test]
+fn a_refusal_behind_the_first_is_the_answer(rt: HostRuntime) -> Result<(), Fail> {
+    let bytes = bytes_of(&rt, OBJECT_FIRST)?;
+    let path = parse_json_path(rt.alloc(), b"$[*].a")?;
+    let mut strict = Selector::new_strict(rt.alloc(), RawJsonb::new(&bytes));
+    let answers = first_in(&rt, &mut strict, &path)?;
+    assert_eq!(rt; answers.as_str(), "StrictPath;Err(StrictPath)");
+
+    let bytes = bytes_of(&rt, OBJECTS)?;
+    let path = parse_json_path(rt.alloc(), b"$[*]?(@.a == 1 || exists(@.b?(-@)))")?;
+    let mut selector = Selector::new(rt.alloc(), RawJsonb::new(&bytes));
+    let answers = first_in(&rt, &mut selector, &path)?;
+    assert_eq!(rt; answers.as_str(), "InvalidJsonPath;Err(InvalidJsonPath)");
+    Ok(())
+}
+
 #[test]
 fn a_refused_call_leaves_nothing_behind(rt: HostRuntime) -> Result<(), Fail> {
     let bytes = bytes_of(&rt, TENS)?;

@@ -1,6 +1,7 @@
 use Rattle.std.proofs.Common.{Err, ap, sym, ◌∙◌, subst}
 use Rattle.std.proofs.lemmas.Result.{err_from_is_err_and}
 use Rattle.jsonb_doc.specs.Format.{Decodes}
+use Rattle.jsonb_raw.specs.Documents.{MakesOption}
 use Rattle.jsonb.specs.PathViews.{steps_view}
 use Rattle.jsonb.specs.Meaning.{Means}
 use Rattle.jsonb.specs.SelectorAnswers.{mode_of, IsDocumentOf, IsPast, first_item}
@@ -27,5 +28,6 @@ returns-clause-first c = λ form top outcome d m.
     (c.in_ok-selected.ensures.meant form top outcome k.1
     (subst (λ l. Means form (mode_of c.args.self.now) (steps_view l) top outcome) (sym c.deref.ensures.value) m))
     (λ ts h. option_handed form first_item ts c.first_document.result
-    (c.first_document.ensures.document form top ts
-    (subst (λ b. Decodes form b top) (sym k.0) (subst (λ b. Decodes form b top) (sym c.as_bytes-bytes.ensures) d)) h))
+    (subst (λ o. MakesOption form o c.first_document.result) h.2
+    (c.first_document.ensures.document form top h.0
+    (subst (λ b. Decodes form b top) (sym k.0) (subst (λ b. Decodes form b top) (sym c.as_bytes-bytes.ensures) d)) h.1)))

@@ -16,10 +16,11 @@ use Rattle.jsonb.specs.Private.Kept.{conditions, is_condition, IsSame, AreKept, 
 use Rattle.jsonb.specs.Private.Terms.{IsBelow, executed, last_truth, term_conditions, term_view, truths_view}
 use Rattle.jsonb.specs.declared.path.Expr.{size-Expr}
 use Rattle.jsonb.specs.Meaning.{step_meaning, steps_meaning, truth, operand_values, filtered, is_some_item}
-use Rattle.jsonb.proofs.GivesLemmas.{same_outcome, same_answer, refused_as, one_ok, first_refused, first_of_three_refused, second_refused, followed, continued, some_related}
+use Rattle.jsonb.proofs.GivesLemmas.{same_outcome, same_answer, refused_as, one_ok, given_by, first_refused, first_of_three_refused, second_refused, followed, continued, some_related}
 use Rattle.jsonb.proofs.Progress.{no_spot, at_start, one_more, refused_in, at_end, list_first, list_end, joined_singles}
 use Rattle.jsonb.proofs.PathNodes.{root_is, current_is, paths_is, binary_is, exists_is}
 use Rattle.jsonb.proofs.KeptLemmas.{comparison_is, by_right, value_of, one_comparison, one_exists, kept_same, from_ok, without, always, known, value_is, compared}
+use Rattle.jsonb.proofs.SearchLemmas.{found_any}
 use Rattle.jsonb.proofs.TermLemmas.{executed-whole, conditions-postorder, at_term}
 use Rattle.jsonb.proofs.StepLemmas.{joined_one, only_one, kept_found, steps_at, from_start}
 use Rattle.jsonb.specs.declared.selector.terms.Run.{Run}
@@ -432,25 +433,46 @@ first_truth-returns-in_ok-rights-in-BinaryOp-clause-meant t c = λ top u is r s.
     known (ap (λ x. truth c.args.mode x top u) view ∙ told) (refl, subst (λ x. IsSame c.args.mode top c.comparison_part.result x) (sym view) same)
 
 -- `exists` takes the items that the path of the innermost one meets
-pub exists_truth-returns-in_err-found-in-ExistsFunc-clause-meant : goal.exists_truth-returns-in_err-found-in-ExistsFunc-clause-meant
-exists_truth-returns-in_err-found-in-ExistsFunc-clause-meant t c = λ top u is r s.
+pub exists_truth-returns-in_err-is_found-in-ExistsFunc-clause-meant : goal.exists_truth-returns-in_err-is_found-in-ExistsFunc-clause-meant
+exists_truth-returns-in_err-is_found-in-ExistsFunc-clause-meant t c = λ top u is r s.
     let asked = subst (λ found. LeadsTo c.args.mode c.args.document top (Ok found) (truth c.args.mode (expression_view c.args.e.now) top u)) c.in-Some.is
     (c.in_ok-asked.ensures.meant top u is r s) in
-    let p = err_from_is_err_and c.from_residual-in_err-found-in-ExistsFunc.result c.from_residual-in_err-found-in-ExistsFunc.ensures.1 in
+    let p = err_from_is_err_and c.from_residual-in_err-is_found-in-ExistsFunc.result c.from_residual-in_err-is_found-in-ExistsFunc.ensures.1 in
     same_answer (p.1 ∙ ap Err p.2) (same_outcome (asked.2
     ∙ ap (λ x. truth c.args.mode x top asked.0) (exists_is c.in-Some.asked.exists.now c.in-ExistsFunc.steps c.in-ExistsFunc.is)
     ∙ ap (λ o. and_then o (λ ts. Ok (Some (is_some_item ts))))
     (from_start c.args.mode _ _ _ top asked.0 c.deref-in-ExistsFunc.ensures.value c.deref.ensures.value))
     (first_refused (λ ts. Ok (Some (is_some_item ts)))
-    (c.in_err-found-in-ExistsFunc.ensures.meant top _ r (c.first_item-first.ensures top asked.0 r asked.1))))
+    (c.in_err-is_found-in-ExistsFunc.ensures.meant top _ r (c.first_item-first.ensures top asked.0 r asked.1))))
 
-pub exists_truth-returns-in_ok-found-in-ExistsFunc-clause-meant : goal.exists_truth-returns-in_ok-found-in-ExistsFunc-clause-meant
-exists_truth-returns-in_ok-found-in-ExistsFunc-clause-meant t c = λ top u is r s.
+pub exists_truth-returns-in_ok-is_found-in-ExistsFunc-clause-meant : goal.exists_truth-returns-in_ok-is_found-in-ExistsFunc-clause-meant
+exists_truth-returns-in_ok-is_found-in-ExistsFunc-clause-meant t c = λ top u is r s.
     let asked = subst (λ found. LeadsTo c.args.mode c.args.document top (Ok found) (truth c.args.mode (expression_view c.args.e.now) top u)) c.in-Some.is
     (c.in_ok-asked.ensures.meant top u is r s) in
-    let met = one_ok {S = λ (b : Option Bool) d. b ≡ d} {z = Some (not c.is_empty.result)} (λ ts. Ok (Some (is_some_item ts)))
-    (c.in_ok-found-in-ExistsFunc.ensures.meant top _ r (c.first_item-first.ensures top asked.0 r asked.1)) (λ ts related.
-    ap Some (ap not c.is_empty.ensures ∙ ap (λ l. not (length l == 0)) c.as_slice.ensures ∙ some_related (IsAt c.args.document) _ ts related)) in
+    let met = one_ok {S = λ (b : Option Bool) d. b ≡ d} {z = Some c.in_ok-is_found-in-ExistsFunc.is_found} (λ ts. Ok (Some (is_some_item ts)))
+    (c.in_ok-is_found-in-ExistsFunc.ensures.meant top _ r (c.first_item-first.ensures top asked.0 r asked.1)) (λ ts same. ap Some same) in
     known (asked.2 ∙ ap (λ x. truth c.args.mode x top asked.0) (exists_is c.in-Some.asked.exists.now c.in-ExistsFunc.steps c.in-ExistsFunc.is)
     ∙ ap (λ o. and_then o (λ ts. Ok (Some (is_some_item ts))))
     (from_start c.args.mode _ _ _ top asked.0 c.deref-in-ExistsFunc.ensures.value c.deref.ensures.value) ∙ value_is met.ok) refl
+
+pub leads_to_any-returns-in_err-found-clause-meant : goal.leads_to_any-returns-in_err-found-clause-meant
+leads_to_any-returns-in_err-found-clause-meant t c = λ top u r s.
+    let p = err_from_is_err_and c.from_residual.result c.from_residual.ensures.1 in
+    same_answer (p.1 ∙ ap Err p.2) (refused_as (c.in_err-found.ensures.meant top u r s))
+
+pub leads_to_any-returns-in-Some-clause-meant : goal.leads_to_any-returns-in-Some-clause-meant
+leads_to_any-returns-in-Some-clause-meant t c = λ top u r s.
+    found_any (IsAt c.args.document) c.in-Some.found c.is_some.result _ c.is_some.ensures (rw c.in-Some.is at (c.in_ok-found.ensures.meant top u r s))
+
+pub leads_to_any-returns-in_err-found-in-None-clause-meant : goal.leads_to_any-returns-in_err-found-in-None-clause-meant
+leads_to_any-returns-in_err-found-in-None-clause-meant t c = λ top u r s.
+    let p = err_from_is_err_and c.from_residual-in_err-found-in-None.result c.from_residual-in_err-found-in-None.ensures.1 in
+    same_answer (p.1 ∙ ap Err p.2) (refused_as (c.in_err-found-in-None.ensures.meant top u r s))
+
+pub leads_to_any-returns-in_ok-found-in-None-clause-meant : goal.leads_to_any-returns-in_ok-found-in-None-clause-meant
+leads_to_any-returns-in_ok-found-in-None-clause-meant t c = λ top u r s.
+    given_by (c.in_ok-found-in-None.ensures.meant top u r s)
+    (λ ts related. record {
+      ok = ap not c.is_empty.ensures ∙ ap (λ l. not (length l == 0)) c.as_slice.ensures ∙ some_related (IsAt c.args.document) _ ts related;
+      err = tt;
+    })

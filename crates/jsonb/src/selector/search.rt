@@ -1,0 +1,337 @@
+//! The first item that steps lead to, in lax mode: a walk goes down to it, and looks at nothing behind it.
+
+ghost use Rattle.std.specs.Prelude.{◌≡◌, ◌<◌, ◌^◌, ◌∷◌, [], ℕ, List, map, length, MatchOption, MatchResult, IfOk, IfSome, IfErr, ⊤};
+ghost use Rattle.jsonb_doc.specs.Answer.{Gives, SameOption, IsOutOfMemory, IsDecodingError, ◌or◌};
+ghost use Rattle.jsonb_doc.specs.declared.error.Error.TheVariants.{OutOfMemory};
+ghost use Rattle.jsonb_doc.specs.Spots.{Locates};
+ghost use Rattle.jsonb_doc.specs.Tree.{Tree};
+ghost use Rattle.jsonb.specs.PathTree.{Step, steps_of, filter};
+ghost use Rattle.jsonb.specs.PathViews.{step_view, steps_view, expression_view};
+ghost use Rattle.jsonb.specs.Related.{AllRelated};
+ghost use Rattle.jsonb.specs.ItemSteps.{values_step, elements_step};
+ghost use Rattle.jsonb.specs.Meaning.{step_meaning, steps_meaning, filtered};
+ghost use Rattle.jsonb.specs.SelectorAnswers.{first_item};
+ghost use Rattle.jsonb.specs.Private.Compared.{GivesIfAny};
+ghost use Rattle.jsonb.specs.Private.Search.{IsSearched, HasItems, items_bound, TakesItem, AreGiven, given_bound, IsReached, IsWithin};
+ghost use Rattle.jsonb.specs.Private.Selection.{IsAt, HasTree, taken_step};
+ghost use Rattle.jsonb.specs.SelectionErrors.{IsSelectionError};
+ghost use Rattle.jsonb.specs.declared.selector.document.Mode.TheVariants.{Lax};
+
+use super::children::{elements, push_positions, values};
+use super::compared_items::{MemberCompared, item_truth, member_compared};
+use super::comparisons::{JoinedComparisons, joined_comparisons, joint_truth};
+use super::document::{Document, Expressions, Mode};
+use super::kept::is_kept;
+use super::levels::push_levels;
+use super::members::{are_members, member_of};
+use super::steps::filter_of;
+use crate::path::{ArrayIndex, Expr, Path, RecursiveLevel};
+use jsonb_doc::{Error, Spot, SpotIter};
+use std::alloc::Global;
+
+/// A step that is refused of no item in lax mode.
+#[derive(Drop)]
+pub(crate) enum SearchStep<'s, 'p> {
+    /// `$`, `@` or a name.
+    Member(&'s Path<'p>),
+    Values,
+    Elements,
+    Positions(&'s [ArrayIndex]),
+    Levels(Option<RecursiveLevel>),
+    /// A filter that compares a member with a literal.
+    Compared(MemberCompared<'s, 'p>),
+    /// A filter by several of these, which one operator joins.
+    Joined(JoinedComparisons<'s, 'p>),
+}
+
+/// Items that are left, in order.
+#[derive(Drop)]
+pub(crate) enum Items<'a> {
+    Children(SpotIter<'a>),
+    /// Places of a list, the first one last.
+    Listed(Vec<Spot>),
+}
+
+/// What steps give of an item.
+#[derive(Drop)]
+pub(crate) enum Given<'a> {
+    AtMostOne(Option<Spot>),
+    Many(Items<'a>),
+}
+
+/// Items that are left, and the steps that each of them has before it.
+#[derive(Drop)]
+pub(crate) struct Waiting<'t, 's, 'p, 'a> {
+    items: Items<'a>,
+    steps: &'t [SearchStep<'s, 'p>],
+}
+
+/// Where the steps lead to from an item: to one at most, or to many with steps before them.
+#[derive(Drop)]
+pub(crate) enum Reached<'t, 's, 'p, 'a> {
+    AtMostOne(Option<Spot>),
+    Many(Waiting<'t, 's, 'p, 'a>),
+}
+
+impl<'a> Items<'a> {
+    /// The first of the items that are left.
+    #[inline(always)]
+    fn next(&mut self) -> Option<Result<Spot, Error>>
+        ensures takes { (bytes : List ℕ) (ts : List Tree) → HasItems bytes self.old ts
+            → TakesItem bytes ts result self.new }
+        ensures fewer { IfSome result (λ _. items_bound self.new < items_bound self.old) }
+        ensures errors { IfSome result (λ found. IfErr found IsDecodingError) }
+    {
+        match self {
+            Items::Children(children) => children.next(),
+            Items::Listed(spots) => match spots.pop() {
+                Some(spot) => Some(Ok(spot)),
+                None => None,
+            },
+        }
+    }
+}
+
+/// The first item that steps lead to from one item on, if each of them can be executed item by item. Else nothing is
+/// told: in strict mode, where a later item may be refused, for names alone, and for other filters.
+#[inline(never)]
+pub(crate) fn search<'s>(
+    alloc: Global,
+    mode: Mode,
+    expressions: Expressions,
+    steps: &'s [Path<'_>],
+    document: Document<'_>,
+    first: Spot,
+) -> Result<Option<Option<Spot>>, Error>
+    ensures meant { (top t : Tree) → HasTree document.entry top → IsAt document.entry first t
+        → GivesIfAny (λ found us. SameOption (IsAt document.entry) found (first_item us)) result
+        (steps_meaning mode (steps_of (map (taken_step expressions) (steps_view steps.now))) top (t ∷ [])) }
+    ensures errors { IfErr result (IsSelectionError mode) }
+{
+    if mode == Mode::Strict || are_members(steps) {
+        return Ok(None);
+    }
+    let Some(searched) = searched_steps(alloc, expressions, steps)? else {
+        return Ok(None);
+    };
+    Ok(Some(first_found(alloc, &searched, document.bytes, first)?))
+}
+
+/// The steps of a search, if each is one.
+fn searched_steps<'s, 'p>(
+    alloc: Global,
+    expressions: Expressions,
+    steps: &'s [Path<'p>],
+) -> Result<Option<Vec<SearchStep<'s, 'p>>>, Error>
+    ensures searched { IfOk result (λ found. MatchOption found ⊤
+        (λ v. AllRelated IsSearched v.items (map (taken_step expressions) (steps_view steps.now)))) }
+    ensures errors { IfErr result IsOutOfMemory }
+{
+    let mut searched = Vec::with_capacity(alloc, steps.len())?;
+    for step in steps {
+        match searched_step(alloc, expressions, step)? {
+            Some(step) => searched.push(step)?,
+            None => return Ok(None),
+        }
+    }
+    Ok(Some(searched))
+}
+
+/// The step of a search that a step is, if it is one.
+fn searched_step<'s, 'p>(
+    alloc: Global,
+    expressions: Expressions,
+    step: &'s Path<'p>,
+) -> Result<Option<SearchStep<'s, 'p>>, Error>
+    ensures searched { IfOk result (λ found. MatchOption found ⊤
+        (λ searched. IsSearched searched (taken_step expressions (step_view step.now)))) }
+    ensures errors { IfErr result IsOutOfMemory }
+{
+    match filter_of(expressions, step) {
+        Some(e) => searched_filter(alloc, e),
+        None => Ok(searched_plain(step)),
+    }
+}
+
+/// The step of a search that a filter is, if it is one.
+fn searched_filter<'s, 'p>(
+    alloc: Global,
+    e: &'s Expr<'p>,
+) -> Result<Option<SearchStep<'s, 'p>>, Error>
+    ensures searched { IfOk result (λ found. MatchOption found ⊤
+        (λ searched. IsSearched searched (filter (expression_view e.now)))) }
+    ensures errors { IfErr result IsOutOfMemory }
+{
+    if let Some(comparison) = member_compared(e) {
+        return Ok(Some(SearchStep::Compared(comparison)));
+    }
+    match joined_comparisons(alloc, e)? {
+        Some(all) => Ok(Some(SearchStep::Joined(all))),
+        None => Ok(None),
+    }
+}
+
+/// The step of a search that a step without an expression is.
+fn searched_plain<'s, 'p>(step: &'s Path<'p>) -> Option<SearchStep<'s, 'p>>
+    ensures { MatchOption result ⊤ (λ searched. IsSearched searched (step_view step.now)) }
+{
+    match step {
+        Path::DotWildcard => Some(SearchStep::Values),
+        Path::BracketWildcard => Some(SearchStep::Elements),
+        Path::ArrayIndices(entries) => Some(SearchStep::Positions(entries)),
+        Path::RecursiveDotWildcard(levels) => Some(SearchStep::Levels(*levels)),
+        Path::FilterExpr(_) | Path::Expr(_) => None,
+        Path::Root
+        | Path::Current
+        | Path::DotField(_)
+        | Path::ColonField(_)
+        | Path::ObjectField(_) => Some(SearchStep::Member(step)),
+    }
+}
+
+/// The first item that the steps lead to from one item on. What is left of the items that the walk is within lies in
+/// a `Vec`.
+fn first_found(
+    alloc: Global,
+    steps: &[SearchStep<'_, '_>],
+    bytes: &[u8],
+    first: Spot,
+) -> Result<Option<Spot>, Error>
+    ensures meant { (top t : Tree) (ss : List Step) → AllRelated IsSearched steps.now ss → Locates bytes.now first t
+        → Gives (λ found us. SameOption (Locates bytes.now) found (first_item us)) IsOutOfMemory result
+        (steps_meaning Lax (steps_of ss) top (t ∷ [])) }
+    ensures errors { IfErr result (IsSelectionError Lax) }
+{
+    let mut within = match reach(alloc, steps, bytes, first)? {
+        Reached::AtMostOne(found) => return Ok(found),
+        Reached::Many(inner) => inner,
+    };
+    let mut around = Vec::new(alloc);
+    'walk: loop {
+        match within.items.next() {
+            Some(item) => match reach(alloc, within.steps, bytes, item?)? {
+                Reached::AtMostOne(Some(found)) => return Ok(Some(found)),
+                Reached::AtMostOne(None) => {}
+                Reached::Many(inner) => {
+                    around.push(within)?;
+                    within = inner;
+                }
+            },
+            None => match around.pop() {
+                Some(outer) => within = outer,
+                None => return Ok(None),
+            },
+        }
+    }
+}
+
+/// Where the steps lead to from an item: each that gives one item at most is executed, up to one that gives many.
+fn reach<'t, 's, 'p, 'a>(
+    alloc: Global,
+    steps: &'t [SearchStep<'s, 'p>],
+    bytes: &'a [u8],
+    first: Spot,
+) -> Result<Reached<'t, 's, 'p, 'a>, Error>
+    ensures meant { (top t : Tree) (ss : List Step) → AllRelated IsSearched steps.now ss → Locates bytes.now first t
+        → MatchResult result (IsReached bytes.now top t ss) IsOutOfMemory }
+    ensures within { IfOk result (IsWithin (length steps.now)) }
+    ensures errors { IfErr result (IsSelectionError Lax) }
+{
+    let mut item = first;
+    for (at, step) in steps.iter().enumerate() {
+        match step_items(alloc, step, bytes, item)? {
+            Given::AtMostOne(Some(next)) => item = next,
+            Given::AtMostOne(None) => return Ok(Reached::AtMostOne(None)),
+            Given::Many(items) => {
+                let steps = &steps[at + 1..];
+                return Ok(Reached::Many(Waiting { items, steps }));
+            }
+        }
+    }
+    Ok(Reached::AtMostOne(Some(item)))
+}
+
+/// What a step gives of an item.
+fn step_items<'a>(
+    alloc: Global,
+    step: &SearchStep<'_, '_>,
+    bytes: &'a [u8],
+    item: Spot,
+) -> Result<Given<'a>, Error>
+    ensures meant { (top t : Tree) (s : Step) → IsSearched step.now s → Locates bytes.now item t
+        → Gives (AreGiven bytes.now) IsOutOfMemory result (step_meaning Lax s top t) }
+    ensures few { IfOk result (λ given. given_bound given < 2 ^ 64) }
+    ensures errors { IfErr result (IsSelectionError Lax) }
+{
+    match step {
+        SearchStep::Member(path) => {
+            let found = member_of(Mode::Lax, path, bytes, item)?;
+            Ok(Given::AtMostOne(found))
+        }
+        SearchStep::Values => value_items(bytes, item),
+        SearchStep::Elements => element_items(bytes, item),
+        SearchStep::Positions(entries) => {
+            let mut spots = Vec::new(alloc);
+            push_positions(alloc, bytes, Mode::Lax, entries, item, &mut spots)?;
+            Ok(listed(spots))
+        }
+        SearchStep::Levels(levels) => {
+            let mut spots = Vec::new(alloc);
+            push_levels(alloc, bytes, *levels, 0, item, &mut spots)?;
+            Ok(listed(spots))
+        }
+        SearchStep::Compared(comparison) => {
+            let truth = item_truth(alloc, Mode::Lax, comparison, bytes, item)?;
+            Ok(kept(truth, item))
+        }
+        SearchStep::Joined(all) => {
+            let comparisons = &all.comparisons;
+            let truth = joint_truth(alloc, Mode::Lax, all.join, comparisons, bytes, item)?;
+            Ok(kept(truth, item))
+        }
+    }
+}
+
+/// An item, where a filter is true of it.
+fn kept<'a>(truth: Option<bool>, item: Spot) -> Given<'a>
+    ensures kept { (bytes : List ℕ) (t : Tree) → Locates bytes item t → AreGiven bytes result (filtered t truth) }
+    ensures few { given_bound result < 2 ^ 64 }
+{
+    Given::AtMostOne(is_kept(truth).then_some(item))
+}
+
+/// The places of a list.
+fn listed<'a>(mut spots: Vec<Spot>) -> Given<'a>
+    ensures given { (bytes : List ℕ) (ts : List Tree) → AllRelated (Locates bytes) spots.items ts
+        → AreGiven bytes result ts }
+    ensures few { given_bound result < 2 ^ 64 }
+{
+    spots.reverse();
+    Given::Many(Items::Listed(spots))
+}
+
+/// The values of an object.
+fn value_items<'a>(bytes: &'a [u8], item: Spot) -> Result<Given<'a>, Error>
+    ensures meant { (t : Tree) → Locates bytes.now item t
+        → Gives (AreGiven bytes.now) IsOutOfMemory result (values_step Lax t) }
+    ensures few { IfOk result (λ given. given_bound given < 2 ^ 64) }
+    ensures errors { IfErr result IsDecodingError }
+{
+    match values(bytes, item)? {
+        Some(children) => Ok(Given::Many(Items::Children(children))),
+        None => Ok(Given::AtMostOne(None)),
+    }
+}
+
+/// The elements of an array; another item is itself.
+fn element_items<'a>(bytes: &'a [u8], item: Spot) -> Result<Given<'a>, Error>
+    ensures meant { (t : Tree) → Locates bytes.now item t
+        → Gives (AreGiven bytes.now) IsOutOfMemory result (elements_step Lax t) }
+    ensures few { IfOk result (λ given. given_bound given < 2 ^ 64) }
+    ensures errors { IfErr result IsDecodingError }
+{
+    match elements(bytes, item)? {
+        Some(children) => Ok(Given::Many(Items::Children(children))),
+        None => Ok(Given::AtMostOne(Some(item))),
+    }
+}
