@@ -93,7 +93,7 @@ fn members_behind(steps: &[Path<'_>]) -> usize
     start
 }
 
-/// The truth of a comparison of members of items.
+/// The truth of a comparison of members of items. Where no steps stand in front of the names, the root is the item.
 fn list_compared_truth<'a>(
     alloc: Global,
     list: &ListCompared<'a, '_>,
@@ -103,6 +103,15 @@ fn list_compared_truth<'a>(
         → Gives (λ b c. b ≡ c) IsOutOfMemory result (truth Lax e top top) }
     ensures errors { IfErr result (IsSelectionError Lax) }
 {
+    if list.front.is_empty() {
+        return item_truth(
+            alloc,
+            Mode::Lax,
+            &list.comparison,
+            document.bytes,
+            document.root,
+        );
+    }
     let found = select_steps(
         alloc,
         Mode::Lax,

@@ -1,9 +1,17 @@
-use Rattle.std.proofs.Common.{Err, ap, ◌∙◌}
+use Rattle.std.proofs.Common.{Err, ap, sym, ◌∙◌, arith}
+use Rattle.std.proofs.lemmas.Bool.Decides.{nat_tests}
+use Rattle.std.proofs.lemmas.List.{nil_from_length}
 use Rattle.std.proofs.lemmas.Result.{err_from_is_err_and}
 use Rattle.jsonb.specs.Private.Compared.{list_truth}
 use Rattle.jsonb.proofs.GivesLemmas.{same_answer, same_outcome, first_refused, followed}
-use Rattle.jsonb.proofs.ListLemmas.{by_front}
+use Rattle.jsonb.proofs.ListLemmas.{by_front, by_names}
 use Rattle.jsonb.proofs.selector.compared_lists.list_compared_truth.Goals as goal
+
+pub returns-then-is_empty-clause-meant : goal.returns-then-is_empty-clause-meant
+returns-then-is_empty-clause-meant c = λ e top k r.
+    let tested = sym c.is_empty.ensures ∙ c.if-is_empty.true in
+    same_outcome (by_names c.args.list.now e top k (nil_from_length c.args.list.now.front.now (grind (arith, nat_tests))))
+    (c.item_truth.ensures.meant k.each top top k.member r)
 
 pub returns-in_err-found-clause-meant : goal.returns-in_err-found-clause-meant
 returns-in_err-found-clause-meant c = λ e top k r.
