@@ -1,5 +1,5 @@
 -- The position of the child that a step meets, found by its index or by its key.
-use Rattle.std.proofs.Common.{◌≡◌, ℕ, suc, ◌+◌, ◌-◌, ℤ, true, false, List, [], ◌∷◌, length, Option, Some, None, Result, Ok, Err, IsOkAnd, refl, ap, ◌∙◌, arith, Global, MatchResult}
+use Rattle.std.proofs.Common.{◌≡◌, ℕ, suc, ◌+◌, ℤ, true, false, List, [], ◌∷◌, length, Option, Some, None, Result, Ok, Err, IsOkAnd, refl, ap, ◌∙◌, arith, Global, MatchResult}
 use Rattle.std.specs.Prelude.{position, option_map}
 use Rattle.std.specs.Borrow.{Bor}
 use Rattle.std.specs.Str.{bytes_eq}

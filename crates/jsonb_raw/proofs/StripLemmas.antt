@@ -1,7 +1,6 @@
 -- What is stripped of rising keys rises.
 use Rattle.std.proofs.Common.{ℕ, Bool, true, false, List, cond}
 use Rattle.std.proofs.lemmas.Cmp.{nat_list_cmp_total}
-use Rattle.jsonb_doc.specs.declared.item.Item.TheVariants as item
 use Rattle.jsonb_doc.specs.Tree.{Pairs, no_pairs, pair, keys}
 use Rattle.jsonb_doc.specs.Format.{IsBelowFirst}
 use Rattle.jsonb_doc.proofs.BuilderSteps.{AreRising}

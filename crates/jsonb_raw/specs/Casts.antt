@@ -7,7 +7,7 @@ use Rattle.std.specs.declared.alloc.Global.{Global}
 use Rattle.jsonb_doc.specs.Tree.{Tree, boolean, number, text}
 use Rattle.jsonb_doc.specs.NumberText.{number_text}
 use Rattle.jsonb_doc.specs.Rounding.{rounded}
-use Rattle.jsonb_doc.specs.Answer.{IsOutOfMemory, IsDecodingError}
+use Rattle.jsonb_doc.specs.Answer.{IsOutOfMemory}
 use Rattle.jsonb_doc.specs.declared.error.Error.{Error}
 use Rattle.jsonb_doc.specs.declared.error.Error.TheVariants.{InvalidCast}
 

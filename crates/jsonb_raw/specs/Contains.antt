@@ -1,8 +1,8 @@
 -- When a tree contains another.
-use Rattle.std.specs.Prelude.{ℕ, Bool, true, false, ◌&&◌, List}
+use Rattle.std.specs.Prelude.{ℕ, Bool, true, ◌&&◌, List}
 use Rattle.std.specs.List.{list_any}
 use Rattle.std.specs.Str.{bytes_eq}
-use Rattle.jsonb_doc.specs.Tree.{Tree, null, boolean, number, text, array, object, Trees, no_trees, tree, Pairs, no_pairs, pair, elements, members}
+use Rattle.jsonb_doc.specs.Tree.{Tree, array, object, Trees, no_trees, tree, Pairs, no_pairs, pair, elements, members}
 use Rattle.jsonb_doc.specs.Equal.{is_equal}
 use Rattle.jsonb_raw.specs.Scalars.{is_json_scalar}
 

@@ -1,6 +1,6 @@
 -- The tree without the place that the steps of a key path meet.
-use Rattle.std.specs.Prelude.{◌≡◌, ◌⊎◌, ℕ, zero, suc, Bool, true, false, List, [], ◌∷◌, Option, Some, None, unwrap_or, option_and_then}
-use Rattle.jsonb_doc.specs.Tree.{Tree, extension, array, object, Trees, no_trees, tree, Pairs, no_pairs, pair}
+use Rattle.std.specs.Prelude.{◌≡◌, ◌⊎◌, ℕ, zero, suc, List, [], ◌∷◌, Option, Some, None, unwrap_or, option_and_then}
+use Rattle.jsonb_doc.specs.Tree.{Tree, array, object, Trees, no_trees, tree, Pairs, no_pairs, pair}
 use Rattle.jsonb_keypath.specs.KeyPathGrammar.{Key}
 use Rattle.jsonb_raw.specs.Places.{location}
 

@@ -1,5 +1,5 @@
 -- What the calls answer that make a document or refuse the tree, or that make several documents.
-use Rattle.std.specs.Prelude.{◌≡◌, ◌⊎◌, ℕ, List, Option, Some, None, Result, Ok, Err, MatchResult, IsSomeAnd, Vec, String, string_bytes}
+use Rattle.std.specs.Prelude.{◌≡◌, ℕ, List, Option, Some, None, Result, Ok, MatchResult, IsSomeAnd, Vec, String, string_bytes}
 use Rattle.std.specs.List.{Any, AllZip}
 use Rattle.std.specs.Map.{values_of}
 use Rattle.std.specs.declared.alloc.Global.{Global}
@@ -8,9 +8,8 @@ use Rattle.jsonb_doc.specs.Payload.{Form}
 use Rattle.jsonb_doc.specs.Format.{Decodes}
 use Rattle.jsonb_doc.specs.Limits.{IsTooLarge}
 use Rattle.jsonb_doc.specs.declared.error.Error.{Error}
-use Rattle.jsonb_doc.specs.declared.error.Error.TheVariants.{OutOfMemory, TooLarge}
+use Rattle.jsonb_doc.specs.declared.error.Error.TheVariants.{TooLarge}
 use Rattle.jsonb_raw.specs.declared.owned.OwnedJsonb.{OwnedJsonb}
-use Rattle.jsonb_raw.specs.Documents.{Makes}
 use Rattle.jsonb_doc.specs.Answer.{IsOutOfMemory, ◌or◌when◌}
 
 -- documents of the trees that there are, in order, or none where there are none

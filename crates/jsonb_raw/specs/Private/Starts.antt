@@ -1,7 +1,7 @@
 -- Where searches in a list of entries begin.
 use Rattle.std.specs.Prelude.{◌≡◌, ℕ, length, Bool, true, false, ◌&&◌, ◌||◌, List, slice_index_or}
 use Rattle.std.specs.List.{list_any}
-use Rattle.jsonb_doc.specs.Tree.{Tree, null, boolean, number, text, extension, array, object, Trees, no_trees, tree}
+use Rattle.jsonb_doc.specs.Tree.{Tree, array, object, Trees, no_trees, tree}
 use Rattle.jsonb_doc.specs.declared.entry_iter.EntryIter.{EntryIter}
 use Rattle.jsonb_raw.specs.Contains.{is_part_of}
 use Rattle.jsonb_raw.specs.Private.Compared.{PassesOver}
