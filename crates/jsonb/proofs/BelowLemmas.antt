@@ -1,12 +1,11 @@
 -- A walk over the items below an item: what is given, and then what each level has left, the innermost first, is the whole.
-use Rattle.std.proofs.Common.{◌≡◌, ℕ, ◌+◌, ◌^◌, ◌<◌, ◌≤◌, min, List, [], ◌∷◌, ◌++◌, flat_map, length, Option, Some, None, Result, Ok, Err, inl, inr, refl, sym, ap, subst, ◌∙◌, arith, append_assoc, append-nil}
+use Rattle.std.proofs.Common.{◌≡◌, ℕ, ◌+◌, ◌^◌, ◌<◌, ◌≤◌, min, List, [], ◌∷◌, ◌++◌, flat_map, length, Option, Some, None, inl, inr, refl, sym, ap, subst, ◌∙◌, arith, append_assoc, append-nil}
 use Rattle.std.specs.Prelude.{reverse}
 use Rattle.std.proofs.lemmas.List.{reverse-append}
 use Rattle.std.proofs.lemmas.Grind.{flat_map-append}
-use Rattle.jsonb_doc.specs.Spots.{HasSpotsLeft, Locates, GivesSpot, spots_room, spots_bound, spot_size}
+use Rattle.jsonb_doc.specs.Spots.{HasSpotsLeft, Locates, spots_room, spots_bound}
 use Rattle.jsonb_doc.specs.Tree.{Tree}
 use Rattle.jsonb_doc.proofs.Weights.{weight_of, weight-pos, inner_weighs, taken_weighs, weight_of_all, falls_inward, falls_outward}
-use Rattle.jsonb_doc.specs.declared.error.Error.{Error}
 use Rattle.jsonb_doc.specs.declared.spot.Spot.{Spot}
 use Rattle.jsonb_doc.specs.declared.spot_iter.SpotIter.{SpotIter}
 use Rattle.jsonb.specs.PathTree.{Levels}
@@ -14,7 +13,7 @@ use Rattle.jsonb.specs.Preorder.{own, preorder}
 use Rattle.jsonb.specs.Related.{AllRelated}
 use Rattle.jsonb.specs.Private.Below.{HasLeft, KeepsLevel, PassesLeaves}
 use Rattle.jsonb.specs.declared.selector.levels.OpenLevel.{OpenLevel}
-use Rattle.jsonb.proofs.Progress.{First, spot_first, spot_end}
+use Rattle.jsonb.proofs.Progress.{First}
 
 -- ---- what is left at levels, the innermost first
 

@@ -6,7 +6,7 @@ use Rattle.jsonb_keypath.specs.Rules.{Rule, give, ◌>>=◌, ◌>>◌, parsed_ma
 use Rattle.jsonb_keypath.specs.Tokens.{ws, past, is_space}
 use Rattle.jsonb_keypath.proofs.ReadBackLemmas.{front, stops, front-stops, front-implies, begins, begins-implies, begins-excludes, stops-from_begins, in_sequence}
 use Rattle.jsonb_keypath.proofs.RepeatLemmas.{repeat-goes, repeat-ends}
-use Rattle.jsonb.specs.PathTree.{BinaryOp, and_op, or_op, eq, not_eq, lt, lte, gt, gte, starts_with_op, add, subtract, multiply, divide, modulo, UnaryOp, plus, minus, Step, root, current, dot_wildcard, recursive_dot_wildcard, bracket_wildcard, dot_field, colon_field, object_field, array_indices, filter, whole_expression, Steps, no_steps, step, Expression, paths, value, binary, unary, exists, steps_of}
+use Rattle.jsonb.specs.PathTree.{BinaryOp, and_op, or_op, UnaryOp, plus, minus, Step, root, current, dot_wildcard, recursive_dot_wildcard, bracket_wildcard, dot_field, colon_field, object_field, array_indices, filter, whole_expression, Steps, no_steps, step, Expression, paths, value, binary, unary, exists, steps_of}
 use Rattle.jsonb.specs.PathGrammar.{spaced, binary_atom, joined_by, filter_with, path_with, group_with, exists_with, atom_with, and_with, or_with, nested_or}
 use Rattle.jsonb.specs.PathText.{step_text, steps_text, expression_text, side_text, is_joined, operator_text, sign_text, joins}
 use Rattle.jsonb.specs.PathLaws.{settled_step, settled_steps, settled}

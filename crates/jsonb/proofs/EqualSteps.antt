@@ -1,5 +1,5 @@
 -- Steps of two kinds have not the same parts.
-use Rattle.std.proofs.Common.{◌≡◌, ℕ, List, map, false, Option, Box, Vec, Global, refl}
+use Rattle.std.proofs.Common.{◌≡◌, ℕ, List, false, Option, Box, Vec, Global, refl}
 use Rattle.std.specs.declared.borrow.CowStr.{CowStr}
 use Rattle.jsonb.specs.PathTree as tree
 use Rattle.jsonb.specs.PathTree.{Step, Expression, Entry, Levels}

@@ -6,7 +6,7 @@ use Rattle.jsonb_doc.specs.Tree.{Tree, children_of}
 use Rattle.jsonb_doc.specs.Payload.{any}
 use Rattle.jsonb_doc.specs.Item.{StandsFor}
 use Rattle.jsonb_doc.specs.declared.item.Item.{Item}
-use Rattle.jsonb_doc.specs.declared.item.Item.TheVariants.{Null, Boolean, Number, String, Extension, Array, Object}
+use Rattle.jsonb_doc.specs.declared.item.Item.TheVariants.{Array, Object}
 use Rattle.jsonb.specs.ItemSteps.{elements_of, values_of}
 use Rattle.jsonb.specs.Values.{values_of_item, value_of_item}
 

@@ -11,7 +11,7 @@ use Rattle.jsonb_keypath.specs.KeyPathText.{quoted_text}
 use Rattle.jsonb_keypath.proofs.ReadBackLemmas.{neither, front, stops, front-stops, front-implies, begins, begins-implies, begins-excludes, stops-from_begins, begins-decimal, is_number_start, is_sign, natural_below-decimal, natural_below-none, integer_within-signed_decimal, integer_within-none}
 use Rattle.jsonb_keypath.proofs.NameLemmas.{quoted-quoted_text, quoted-none}
 use Rattle.jsonb_keypath.proofs.RepeatLemmas.{repeat-goes, repeat-ends}
-use Rattle.jsonb.specs.PathTree.{Literal, null, boolean, unsigned, signed, decimal64, decimal128, string, raw, BinaryOp, and_op, or_op, eq, not_eq, lt, lte, gt, gte, starts_with_op, add, subtract, multiply, divide, modulo, UnaryOp, plus, minus, Step, root, current, dot_wildcard, recursive_dot_wildcard, bracket_wildcard, dot_field, colon_field, object_field, array_indices, filter, whole_expression, Steps, no_steps, step, Expression, paths, value, binary, unary, exists, steps_of}
+use Rattle.jsonb.specs.PathTree.{Literal, null, boolean, unsigned, signed, decimal64, decimal128, string, raw, BinaryOp, and_op, or_op, UnaryOp, plus, minus, Step, root, current, filter, whole_expression, Steps, no_steps, step, Expression, paths, value, binary, unary, exists, steps_of}
 use Rattle.jsonb.specs.PathGrammar.{spaced, inner, wildcard, named_field, bracket_field, entries, spaced_inner, path_root, literal_value, operand, spaced_operand, operator, arithmetic_operator, unary_operator, unary_atom, binary_atom}
 use Rattle.jsonb.specs.PathText.{step_text, steps_text, expression_text, literal_text, operator_text, joins}
 use Rattle.jsonb.specs.PathLaws.{settled_literal, settled_step, settled_steps, settled}

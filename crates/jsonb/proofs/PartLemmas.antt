@@ -1,5 +1,5 @@
 -- The parts of a path, as it is let go of them one by one.
-use Rattle.std.proofs.Common.{◌≡◌, ℕ, zero, suc, true, ◌+◌, ◌*◌, ◌<◌, ◌≤◌, List, [], ◌∷◌, ◌++◌, Option, None, Some, IfSome, length, get_or, take, drop, Vec, Box, Global, refl, ap, arith}
+use Rattle.std.proofs.Common.{◌≡◌, ℕ, zero, suc, true, ◌+◌, ◌<◌, ◌≤◌, List, [], ◌∷◌, ◌++◌, Option, None, Some, IfSome, length, get_or, take, drop, Vec, Box, Global, refl, ap, arith}
 use Rattle.std.proofs.Math.Seq.{drop-cons}
 use Rattle.std.proofs.lemmas.List.{take-append-drop}
 use Rattle.jsonb.specs.PathTree.{Step, filter, whole_expression, Expression, paths, value, binary, unary, exists, steps_of}

@@ -8,7 +8,7 @@ use Rattle.jsonb_keypath.specs.Tokens.{ws, past, is_space, is_stop, name}
 use Rattle.jsonb_keypath.proofs.ReadBackLemmas.{front, front-stops, front-implies, begins, begins-excludes, stops-from_begins, is_sign}
 use Rattle.jsonb_keypath.proofs.NameLemmas.{name-none}
 use Rattle.jsonb_keypath.proofs.RepeatLemmas.{repeat-goes, repeat-ends}
-use Rattle.jsonb.specs.PathTree.{Step, root, current, dot_wildcard, recursive_dot_wildcard, bracket_wildcard, dot_field, colon_field, object_field, array_indices, filter, whole_expression, Expression}
+use Rattle.jsonb.specs.PathTree.{Step, root, current, filter, whole_expression, Expression}
 use Rattle.jsonb.specs.PathGrammar.{spaced_inner, path_root, operand, spaced_operand, operator, arithmetic_operator, binary_atom, group_with, exists_with, atom_with, and_with, or_with, nested_or, expression, root_expression, first_step, front_steps, path_step, plain_path, json_path}
 use Rattle.jsonb.specs.PathText.{step_text, expression_text, path_text}
 use Rattle.jsonb.specs.PathLaws.{settled_step, settled}

@@ -4,7 +4,7 @@ use Rattle.std.specs.Prelude.{⊤, ℤ, nat_lt, MatchBool}
 use Rattle.jsonb_keypath.specs.Each.{Each}
 use Rattle.jsonb_keypath.specs.Tokens.{is_within}
 use Rattle.jsonb_keypath.proofs.YieldsLemmas.{IsName}
-use Rattle.jsonb.specs.PathTree.{Place, from_front, from_last, Entry, single, slice, LevelEnd, level, last_level, Levels, Literal, null, boolean, unsigned, signed, decimal64, decimal128, string, raw, Step, root, current, dot_wildcard, recursive_dot_wildcard, bracket_wildcard, dot_field, colon_field, object_field, array_indices, filter, whole_expression, Steps, no_steps, step, Expression, paths, value, binary, unary, exists}
+use Rattle.jsonb.specs.PathTree.{Place, from_front, from_last, Entry, single, slice, LevelEnd, level, last_level, Levels, Literal, unsigned, signed, decimal64, decimal128, string, raw, Step, root, current, dot_wildcard, recursive_dot_wildcard, bracket_wildcard, dot_field, colon_field, object_field, array_indices, filter, whole_expression, Steps, no_steps, step, Expression, paths, value, binary, unary, exists}
 use Rattle.jsonb.specs.PathText.{joins}
 
 -- an index of 32 bits

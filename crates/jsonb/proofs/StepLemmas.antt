@@ -19,7 +19,7 @@ use Rattle.jsonb.specs.declared.path.Path.{Path}
 use Rattle.jsonb.specs.declared.path.Expr.{Expr}
 use Rattle.jsonb.specs.declared.path.Expr.TheVariants as expr
 use Rattle.jsonb.specs.declared.path.BinaryOperator.{BinaryOperator}
-use Rattle.jsonb.specs.declared.path.BinaryOperator.TheVariants.{And, Or, Eq, NotEq, Lt, Lte, Gt, Gte, StartsWith, Add, Subtract, Multiply, Divide, Modulo}
+use Rattle.jsonb.specs.declared.path.BinaryOperator.TheVariants.{And, Or, Add, Subtract, Multiply, Divide, Modulo}
 use Rattle.jsonb.proofs.PathNodes.{binary_is}
 
 -- one item alone

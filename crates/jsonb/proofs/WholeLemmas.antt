@@ -1,7 +1,6 @@
 -- Paths that are one expression, and all others.
-use Rattle.std.proofs.Common.{◌≡◌, ◌+◌, ◌<◌, List, [], ◌∷◌, map, Some, None, is_some, subst, Option, true, false, Ok, Err, IsOkAnd, ℕ, suc, length, drop, get_or, add-one, arith, refl, ap, sym, ◌∙◌, inl, inr, Box, Global}
-use Rattle.std.proofs.Math.Seq.{drop-cons}
-use Rattle.jsonb_doc.specs.Answer.{Outcome, and_then, try_flat_map, Gives, IsOutOfMemory}
+use Rattle.std.proofs.Common.{◌≡◌, List, [], ◌∷◌, map, Some, None, is_some, subst, Option, true, false, Ok, Err, IsOkAnd, length, get_or, arith, refl, ap, sym, ◌∙◌, inl, inr, Box, Global}
+use Rattle.jsonb_doc.specs.Answer.{Outcome, Gives, IsOutOfMemory}
 use Rattle.jsonb_doc.specs.Payload.{Form}
 use Rattle.jsonb_doc.specs.View.{number_view}
 use Rattle.jsonb_doc.specs.Tree as tree
@@ -13,7 +12,7 @@ use Rattle.jsonb_doc.specs.declared.number.Number.TheVariants.{Int64, UInt64, De
 use Rattle.jsonb.specs.PathTree as math
 use Rattle.jsonb.specs.PathTree.{Step, Expression, steps_of}
 use Rattle.jsonb.specs.PathViews.{step_view, steps_view, number_literal, literal_view}
-use Rattle.jsonb.specs.Meaning.{step_meaning, steps_meaning, as_filter, Means, predicate}
+use Rattle.jsonb.specs.Meaning.{steps_meaning, as_filter, Means, predicate}
 use Rattle.jsonb.specs.Private.Selection.{step_expression, only_expression, begins_with_current}
 use Rattle.jsonb.specs.declared.selector.document.Mode.{Mode}
 use Rattle.jsonb.specs.declared.path.PathValue.{PathValue}

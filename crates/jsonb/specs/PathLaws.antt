@@ -1,6 +1,6 @@
 -- What is promised of a JSON path that is printed and read again.
-use Rattle.std.specs.Prelude.{◌≡◌, ℕ, Bool, pos, negsuc, List, map, Some}
-use Rattle.jsonb.specs.PathTree.{Literal, null, boolean, unsigned, signed, decimal64, decimal128, string, raw, Step, root, current, dot_wildcard, recursive_dot_wildcard, bracket_wildcard, dot_field, colon_field, object_field, array_indices, filter, whole_expression, Steps, no_steps, step, Expression, paths, value, binary, unary, exists}
+use Rattle.std.specs.Prelude.{◌≡◌, ℕ, Bool, pos, List, map, Some}
+use Rattle.jsonb.specs.PathTree.{Literal, unsigned, signed, Step, filter, whole_expression, Steps, no_steps, step, Expression, paths, value, binary, unary, exists}
 use Rattle.jsonb.specs.PathGrammar.{or_with, path_with, expression, path_step, json_path}
 use Rattle.jsonb.specs.PathText.{path_text}
 

@@ -1,5 +1,5 @@
 -- `exists` of names and a filter by another `exists`.
-use Rattle.std.specs.Prelude.{◌≡◌, ◌⊎◌, ◌++◌, Bool, true, false, List, [], ◌∷◌, Option, Some, None, Result, Ok, Err}
+use Rattle.std.specs.Prelude.{◌≡◌, ◌⊎◌, ◌++◌, Bool, true, false, [], ◌∷◌, Option, Some, None, Ok, Err}
 use Rattle.jsonb_doc.specs.Answer.{Outcome, IsOutOfMemory}
 use Rattle.jsonb_doc.specs.Tree.{Tree}
 use Rattle.jsonb.specs.PathTree.{Expression, exists, filter, steps_of}

@@ -6,7 +6,7 @@ use Rattle.jsonb_doc.specs.Tree.{Tree}
 use Rattle.jsonb.specs.Compare.{compare}
 use Rattle.jsonb.specs.PathViews.{operator_view}
 use Rattle.jsonb.specs.Private.Selection.{atom_value}
-use Rattle.jsonb.specs.Values.{Value, values_of_item, value_of_item}
+use Rattle.jsonb.specs.Values.{Value, values_of_item}
 use Rattle.jsonb.proofs.ItemKinds.{no_elements, other_values}
 use Rattle.jsonb.proofs.MemberLemmas.{one_member}
 use Rattle.jsonb.proofs.selector.compared_member.compared.Goals as goal

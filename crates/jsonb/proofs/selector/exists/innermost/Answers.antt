@@ -1,14 +1,11 @@
-use Rattle.std.proofs.Common.{◌≡◌, ◌<◌, ◌≤◌, ◌∷◌, [], List, Ok, Err, Option, Bool, map, ap, sym, ◌∙◌, subst, arith}
+use Rattle.std.proofs.Common.{◌≡◌, ◌<◌, ◌≤◌, Err, Option, Bool, ap, sym, ◌∙◌, subst, arith}
 use Rattle.std.proofs.lemmas.Result.{err_from_is_err_and}
-use Rattle.jsonb_doc.specs.Answer.{Outcome, and_then}
 use Rattle.jsonb_doc.specs.Spots.{Locates}
-use Rattle.jsonb_doc.specs.Tree.{Tree}
-use Rattle.jsonb.specs.PathTree.{Step, Expression, steps_of}
 use Rattle.jsonb.specs.PathViews.{expression_view, steps_view}
 use Rattle.jsonb.specs.Related.{AllRelated}
-use Rattle.jsonb.specs.Meaning.{steps_meaning, truth, start}
+use Rattle.jsonb.specs.Meaning.{truth}
 use Rattle.jsonb.specs.Private.Exists.{LeadsTo}
-use Rattle.jsonb.specs.Private.Selection.{option_spots, taken_step}
+use Rattle.jsonb.specs.Private.Selection.{option_spots}
 use Rattle.jsonb.specs.declared.path.Expr.{size-Expr}
 use Rattle.jsonb.specs.declared.selector.document.Expressions.TheVariants.{AreRefused}
 use Rattle.jsonb.proofs.GivesLemmas.{same_outcome, first_refused, continued}

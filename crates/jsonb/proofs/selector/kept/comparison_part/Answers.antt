@@ -1,4 +1,4 @@
-use Rattle.std.proofs.Common.{◌≡◌, true, rules, sym, ◌∙◌}
+use Rattle.std.proofs.Common.{◌≡◌, true, rules, ◌∙◌}
 use Rattle.jsonb.specs.PathViews.{expression_view}
 use Rattle.jsonb.specs.Private.Kept.{is_fixed}
 use Rattle.jsonb.proofs.KeptLemmas.{fixed_truth}

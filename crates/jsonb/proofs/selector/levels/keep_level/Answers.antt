@@ -1,4 +1,4 @@
-use Rattle.std.proofs.Common.{inr, refl, length, sym, ◌∙◌}
+use Rattle.std.proofs.Common.{inr, refl, sym, ◌∙◌}
 use Rattle.std.proofs.lemmas.List.{nil_from_length}
 use Rattle.jsonb.proofs.selector.levels.keep_level.Goals as goal
 

@@ -3,7 +3,7 @@ use Rattle.jsonb_doc.proofs.SpotsTaken.{no_refusal}
 use Rattle.jsonb_doc.specs.Spots.{Locates, spots_bound}
 use Rattle.jsonb_doc.specs.Tree.{children_of}
 use Rattle.jsonb.specs.PathViews.{levels_view}
-use Rattle.jsonb.specs.Preorder.{own, preorder}
+use Rattle.jsonb.specs.Preorder.{preorder}
 use Rattle.jsonb.specs.Related.{AllRelated}
 use Rattle.jsonb.proofs.BelowLemmas.{none_passed, leaf_passed, next_left, none_left}
 use Rattle.jsonb.proofs.LevelLemmas.{preorder-leaf}

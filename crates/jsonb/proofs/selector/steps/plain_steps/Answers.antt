@@ -5,7 +5,7 @@ use Rattle.jsonb.specs.PathViews.{step_view}
 use Rattle.jsonb.specs.Related.{AllRelated}
 use Rattle.jsonb.specs.Meaning.{step_meaning}
 use Rattle.jsonb.proofs.GivesLemmas.{same_answer}
-use Rattle.jsonb.proofs.Progress.{no_spot, at_start, one_more, refused_in, at_end, list_first, list_end}
+use Rattle.jsonb.proofs.Progress.{no_spot, one_more, refused_in, at_end, list_first, list_end}
 use Rattle.jsonb.proofs.selector.steps.plain_steps.Goals as goal
 
 pub returns-in_err-push_step-clause-meant : goal.returns-in_err-push_step-clause-meant

@@ -1,4 +1,4 @@
-use Rattle.std.proofs.Common.{◌∷◌, map, ap, sym, ◌∙◌, refl, inl, inr}
+use Rattle.std.proofs.Common.{map, ap, sym, ◌∙◌, refl, inl, inr}
 use Rattle.jsonb.specs.PathViews.{entry_view}
 use Rattle.jsonb.specs.ItemSteps.{field_step, indices_step}
 use Rattle.jsonb_doc.specs.Spots.{Locates}

@@ -1,4 +1,4 @@
-use Rattle.std.proofs.Common.{◌≡◌, ◌≤◌, ◌+◌, ◌∷◌, [], length, drop, None, subst, sym, ap, ◌∙◌, arith, length-append}
+use Rattle.std.proofs.Common.{◌≡◌, ◌+◌, ◌∷◌, [], length, drop, None, subst, sym, ap, ◌∙◌, arith, length-append}
 use Rattle.jsonb.specs.Private.Kept.{AreKept, AreSame, kept_part}
 use Rattle.jsonb.proofs.KeptLemmas.{passed, one_part, at_last}
 use Rattle.jsonb.proofs.selector.kept.Kept.add.Goals as goal
