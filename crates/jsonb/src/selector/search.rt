@@ -94,7 +94,7 @@ impl<'a> Items<'a> {
 
 /// The first item that steps lead to from one item on, if each of them can be executed item by item. Else nothing is
 /// told: in strict mode, where a later item may be refused, for names alone, and for other filters.
-#[inline(never)]
+#[inline(always)]
 pub(crate) fn search<'s>(
     alloc: Global,
     mode: Mode,
@@ -108,9 +108,29 @@ pub(crate) fn search<'s>(
         (steps_meaning mode (steps_of (map (taken_step expressions) (steps_view steps.now))) top (t ∷ [])) }
     ensures errors { IfErr result (IsSelectionError mode) }
 {
-    if mode == Mode::Strict || are_members(steps) {
+    if are_members(steps) {
         return Ok(None);
     }
+    match mode {
+        Mode::Strict => Ok(None),
+        Mode::Lax => lax_search(alloc, expressions, steps, document, first),
+    }
+}
+
+/// The same in lax mode. It stands apart, so that names alone pay nothing for it.
+#[inline(never)]
+fn lax_search<'s>(
+    alloc: Global,
+    expressions: Expressions,
+    steps: &'s [Path<'_>],
+    document: Document<'_>,
+    first: Spot,
+) -> Result<Option<Option<Spot>>, Error>
+    ensures meant { (top t : Tree) → HasTree document.entry top → IsAt document.entry first t
+        → GivesIfAny (λ found us. SameOption (IsAt document.entry) found (first_item us)) result
+        (steps_meaning Lax (steps_of (map (taken_step expressions) (steps_view steps.now))) top (t ∷ [])) }
+    ensures errors { IfErr result (IsSelectionError Lax) }
+{
     let Some(searched) = searched_steps(alloc, expressions, steps)? else {
         return Ok(None);
     };
