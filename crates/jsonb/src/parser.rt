@@ -73,13 +73,13 @@ pub fn parse_json_path(alloc: Global, input: &[u8]) -> Result<JsonPath<'_>, Erro
     Ok(JsonPath { paths })
 }
 
-// How a path begins: with the first atom of an expression, or with steps behind which no operator stands.
+/// How a path begins: with the first atom of an expression, or with steps behind which no operator stands.
 enum Front<'a> {
     Atom(Opening<'a>),
     Steps(Vec<Path<'a>>, &'a [u8]),
 }
 
-// An expression, or else a list of steps. Steps at the front are read once, whichever of the two they begin.
+/// An expression, or else a list of steps. Steps at the front are read once, whichever of the two they begin.
 fn steps_at(alloc: Global, input: &[u8]) -> Result<(Vec<Path<'_>>, &[u8]), AllocError>
     ensures { IfOk result (λ p. Some (steps_view p.0.items, p.1.now) ≡ (root_expression </> plain_path) input.now) }
 {
@@ -120,7 +120,7 @@ fn operation_of<'a>(
     Ok(Expr::BinaryOp { op, left, right })
 }
 
-// A path that is one expression.
+/// A path that is one expression.
 fn one_step(alloc: Global, found: Expr<'_>) -> Result<Vec<Path<'_>>, AllocError>
     ensures { IfOk result (λ steps. steps_view steps.items ≡ whole_expression (expression_view found.entry) ∷ []) }
 {
@@ -137,7 +137,7 @@ fn plain_path_at(alloc: Global, input: &[u8]) -> Result<(Vec<Path<'_>>, &[u8]), 
     more_steps_at(alloc, steps, rest)
 }
 
-// The steps from here on, behind these.
+/// The steps from here on, behind these.
 fn more_steps_at<'a>(
     alloc: Global,
     mut steps: Vec<Path<'a>>,
@@ -181,7 +181,7 @@ fn first_step_at(alloc: Global, input: &[u8]) -> Reading<'_, Path<'_>>
     }
 }
 
-// One step: a plain one, or a filter.
+/// One step: a plain one, or a filter.
 fn path_step_at(alloc: Global, input: &[u8]) -> Reading<'_, Path<'_>>
     ensures value { IfOk result (λ found. read_as step_view found ≡ path_step input.now) }
     ensures shrinks { IfOk result (LeavesLess input.now) }
@@ -195,7 +195,7 @@ fn path_step_at(alloc: Global, input: &[u8]) -> Reading<'_, Path<'_>>
     }
 }
 
-// A filter as a step, from behind its front on.
+/// A filter as a step, from behind its front on.
 fn filter_at(alloc: Global, inside: &[u8]) -> Reading<'_, Path<'_>>
     ensures value { IfOk result (λ found. read_as step_view found ≡ filter_step (expression true inside.now)) }
     ensures shrinks { IfOk result (LeavesLess inside.now) }

@@ -226,7 +226,7 @@ pub enum Expr<'a> {
     ExistsFunc(Vec<Path<'a>>),
 }
 
-// A text of conditions may be as deep as it is long: it is let go in a loop.
+/// A text of conditions may be as deep as it is long: it is let go in a loop.
 impl Drop for Expr<'_> {
     fn drop(self) {
         self.release();

@@ -9,8 +9,8 @@ use super::token::separator_at;
 use crate::path::{BinaryOperator, Expr};
 use std::alloc::{AllocError, Global};
 
-// Conditions that are joined so far, and the place before the separator that was read behind them: where the
-// next one fails, the list ends there.
+/// Conditions that are joined so far, and the place before the separator that was read behind them: where the
+/// next one fails, the list ends there.
 #[derive(Drop)]
 pub(super) struct Joined<'a> {
     left: Box<Expr<'a>>,

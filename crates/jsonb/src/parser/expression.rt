@@ -14,7 +14,7 @@ use super::opening::{Opened, Opening, closed_at, opening_at};
 use crate::path::Expr;
 use std::alloc::{AllocError, Global};
 
-// A level that waits for what stands inside an open parenthesis.
+/// A level that waits for what stands inside an open parenthesis.
 #[derive(Drop)]
 struct Frame<'a> {
     level: Level<'a>,
@@ -78,7 +78,7 @@ pub(super) fn expression_from<'a>(
     }
 }
 
-// What the outermost level has so far: behind a separator or an open parenthesis nothing is read that ends well.
+/// What the outermost level has so far: behind a separator or an open parenthesis nothing is read that ends well.
 fn failed<'a>(mut frames: Vec<Frame<'a>>, level: Level<'a>) -> Option<(Expr<'a>, &'a [u8])>
     requires { AreFrames frames.items × IsLevel level }
     ensures { read_as expression_view result ≡ resumed frames.entry.items (level_outcome level.entry None) }

@@ -11,7 +11,7 @@ use crate::path::{ArrayIndex, Index};
 use jsonb_keypath::token::{int32, literal, skip_space};
 use std::alloc::Global;
 
-// The negated number; the least one has no negation here, and gives the greatest.
+/// The negated number; the least one has no negation here, and gives the greatest.
 fn negation(i: i32) -> i32
     ensures { result ≡ negated i }
 {
@@ -64,7 +64,7 @@ fn spaced_entry_at(input: &[u8]) -> Option<(ArrayIndex, &[u8])>
     Some((found, skip_space(rest)))
 }
 
-// A comma and the entry behind it.
+/// A comma and the entry behind it.
 fn another_entry_at(input: &[u8]) -> Option<(ArrayIndex, &[u8])>
     ensures value { read_as entry_view result ≡ another_entry input.now }
     ensures shrinks { LeavesLess input.now result }

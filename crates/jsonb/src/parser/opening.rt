@@ -86,7 +86,7 @@ fn exists_at(alloc: Global, input: &[u8]) -> Result<Opening<'_>, AllocError>
     exists_from(alloc, steps, rest)
 }
 
-// `exists` from here on, behind these steps.
+/// `exists` from here on, behind these steps.
 fn exists_from<'a>(
     alloc: Global,
     steps: Vec<Path<'a>>,
@@ -104,7 +104,7 @@ fn exists_from<'a>(
     Ok(exists_end(steps, rest))
 }
 
-// The end of `exists`, behind its steps.
+/// The end of `exists`, behind its steps.
 #[tactic(auto, unfolding(crate::specs::Private::Frames::opening_outcome))]
 fn exists_end<'a>(steps: Vec<Path<'a>>, input: &'a [u8]) -> Opening<'a>
     ensures value { (f : Bool) →

@@ -110,7 +110,7 @@ fn literal_value_at(alloc: Global, input: &[u8]) -> Reading<'_, PathValue<'_>>
     }
 }
 
-// Where a path begins: `$`, and in a filter also `@`.
+/// Where a path begins: `$`, and in a filter also `@`.
 #[tactic(auto, unfolding(crate::specs::PathGrammar::path_root))]
 pub(super) fn path_root_at(is_in_filter: bool, input: &[u8]) -> Option<(Path<'_>, &[u8])>
     ensures value { read_as step_view result ≡ path_root is_in_filter input.now }
@@ -127,7 +127,7 @@ pub(super) fn path_root_at(is_in_filter: bool, input: &[u8]) -> Option<(Path<'_>
     None
 }
 
-// The first step and the steps behind it.
+/// The first step and the steps behind it.
 pub(super) fn operand_steps_at(
     alloc: Global,
     is_in_filter: bool,

@@ -12,7 +12,7 @@ use jsonb_keypath::token::{literal, read_name, read_quoted, skip_space};
 use std::alloc::{AllocError, Global};
 use std::borrow::CowStr;
 
-// A name at the front. Nothing but want of memory refuses it.
+/// A name at the front. Nothing but want of memory refuses it.
 pub(super) fn name_at(alloc: Global, input: &[u8]) -> Reading<'_, CowStr<'_, Global>>
     ensures value { IfOk result (λ found. read_as cow_str_bytes found ≡ name input.now) }
     ensures shrinks { IfOk result (LeavesLess input.now) }
@@ -23,7 +23,7 @@ pub(super) fn name_at(alloc: Global, input: &[u8]) -> Reading<'_, CowStr<'_, Glo
     }
 }
 
-// A text between quotes at the front. Nothing but want of memory refuses it.
+/// A text between quotes at the front. Nothing but want of memory refuses it.
 pub(super) fn quoted_at(alloc: Global, input: &[u8]) -> Reading<'_, CowStr<'_, Global>>
     ensures value { IfOk result (λ found. read_as cow_str_bytes found ≡ quoted input.now) }
     ensures shrinks { IfOk result (LeavesLess input.now) }
@@ -34,7 +34,7 @@ pub(super) fn quoted_at(alloc: Global, input: &[u8]) -> Reading<'_, CowStr<'_, G
     }
 }
 
-// A name, or a text between quotes.
+/// A name, or a text between quotes.
 #[tactic(auto, unfolding(crate::specs::PathGrammar::field))]
 pub(super) fn field_at(alloc: Global, input: &[u8]) -> Reading<'_, CowStr<'_, Global>>
     ensures value { IfOk result (λ found. read_as cow_str_bytes found ≡ field input.now) }
@@ -46,7 +46,7 @@ pub(super) fn field_at(alloc: Global, input: &[u8]) -> Reading<'_, CowStr<'_, Gl
     }
 }
 
-// The input behind a word in any case of its letters.
+/// The input behind a word in any case of its letters.
 pub(super) fn word_at<'a>(text: &[u8], input: &'a [u8]) -> Option<&'a [u8]>
     ensures value { option_map (λ rest. (tt, rest.now)) result ≡ in_any_case text.now input.now }
     ensures shrinks { IfSome result (λ rest. length rest.now + length text.now ≡ length input.now) }
@@ -61,7 +61,7 @@ pub(super) fn word_at<'a>(text: &[u8], input: &'a [u8]) -> Option<&'a [u8]>
     None
 }
 
-// These bytes with white space around them.
+/// These bytes with white space around them.
 pub(super) fn separator_at<'a>(text: &[u8], input: &'a [u8]) -> Option<&'a [u8]>
     ensures value { option_map (λ rest. (tt, rest.now)) result ≡ spaced (bytes text.now) input.now }
     ensures shrinks { IfSome result (λ rest. length rest.now + length text.now ≤ length input.now) }

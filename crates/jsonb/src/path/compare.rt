@@ -72,7 +72,7 @@ fn same_steps(steps: &[Path<'_>], others: &[Path<'_>]) -> bool
     rest.next().is_none()
 }
 
-// Goes on with what stands last in both, so that no call has to come back from there.
+/// Goes on with what stands last in both, so that no call has to come back from there.
 #[cycle(same)]
 fn same_expression(expression: &Expr<'_>, other: &Expr<'_>) -> bool
     ensures { result ≡ is_same_expression (expression_view expression.now) (expression_view other.now) }
@@ -134,7 +134,7 @@ fn same_opening(step: &Path<'_>, other: &Path<'_>) -> bool
         || same_step(step, other)
 }
 
-// Goes down the left sides of both, and looks at the right ones on the way.
+/// Goes down the left sides of both, and looks at the right ones on the way.
 #[cycle(same)]
 fn same_chain(expression: &Expr<'_>, other: &Expr<'_>) -> bool
     ensures { result ≡ is_same_expression (expression_view expression.now) (expression_view other.now) }

@@ -115,7 +115,7 @@ fn copied_leaf<'e, 'a>(leaf: Leaf<'e, 'a, 'a>, alloc: Global) -> Result<Copied<'
     }
 }
 
-// Copies the rest of the steps, up to one that holds an expression.
+/// Copies the rest of the steps, up to one that holds an expression.
 fn copied_steps<'e, 'a>(
     steps: StepsSoFar<'e, 'a, 'a>,
     alloc: Global,
@@ -141,7 +141,7 @@ fn copied_steps<'e, 'a>(
     Ok(Copied::Whole(listed(kind, copies)))
 }
 
-// The same step, but for an expression that it holds.
+/// The same step, but for an expression that it holds.
 fn copied_step<'e, 'a>(step: &'e Path<'a>, alloc: Global) -> Result<StepCopy<'e, 'a, 'a>, Error>
     ensures { MatchResult result (λ copy. step_copy_view copy ≡ step_view step.now) IsOutOfMemory }
 {
@@ -167,7 +167,7 @@ fn copied_step<'e, 'a>(step: &'e Path<'a>, alloc: Global) -> Result<StepCopy<'e,
     Ok(StepCopy::Whole(copy))
 }
 
-// The same steps, one after the other.
+/// The same steps, one after the other.
 fn copy_steps<'a>(steps: &Vec<Path<'a>>, alloc: Global) -> Result<Vec<Path<'a>>, Error>
     ensures { MatchResult result (λ copies. steps_view copies.items ≡ steps_view steps.now.items) IsOutOfMemory }
 {

@@ -342,8 +342,8 @@ impl fmt::Display for Index {
     }
 }
 
-// Writes a place that is counted from the last element. The least offset has no positive
-// counterpart, so it does not stand behind a minus.
+/// Writes a place that is counted from the last element. The least offset has no positive
+/// counterpart, so it does not stand behind a minus.
 fn write_last<W: fmt::Write>(offset: i32, f: &mut fmt::Formatter<W>) -> fmt::Result
     ensures { WritesOnOk W.write_str_gives f.old result (codes "last" ++ offset_text offset) f.new }
 {

@@ -133,7 +133,7 @@ fn owned_leaf<'e, 'a>(
     }
 }
 
-// Copies the rest of the steps, up to one that holds an expression.
+/// Copies the rest of the steps, up to one that holds an expression.
 fn owned_rest<'e, 'a>(
     steps: StepsSoFar<'e, 'a, 'static>,
     alloc: Global,
@@ -162,7 +162,7 @@ fn owned_rest<'e, 'a>(
     Ok(Copied::Whole(listed(kind, copies)))
 }
 
-// The same step with texts of its own, but for an expression that it holds.
+/// The same step with texts of its own, but for an expression that it holds.
 fn owned_step<'e, 'a>(step: &'e Path<'a>, alloc: Global) -> Result<StepCopy<'e, 'a, 'static>, Error>
     ensures copy { IfOk result (λ copy. step_copy_view copy ≡ step_view step.now) }
     ensures whole { IfOk result (λ copy. step_copy_has_document copy ≡ false) }
@@ -190,7 +190,7 @@ fn owned_step<'e, 'a>(step: &'e Path<'a>, alloc: Global) -> Result<StepCopy<'e, 
     Ok(StepCopy::Whole(copy))
 }
 
-// The same steps, one after the other.
+/// The same steps, one after the other.
 fn owned_steps(steps: &Vec<Path<'_>>, alloc: Global) -> Result<Vec<Path<'static>>, Error>
     ensures copy { IfOk result (λ copies. steps_view copies.items ≡ steps_view steps.now.items) }
     ensures whole { OnOk result (has_document (steps_view steps.now.items) ≡ false) }

@@ -56,7 +56,7 @@ impl ArrayIndex {
 }
 
 impl Index {
-    // The number of the place in an array of this length.
+    /// The number of the place in an array of this length.
     fn position(&self, length: usize) -> i128
         ensures { result ≡ position length (place_view self.now) }
     {
@@ -67,8 +67,8 @@ impl Index {
     }
 }
 
-// The positions from the first number to the last, both included: from where they begin up to below where they
-// end.
+/// The positions from the first number to the last, both included: from where they begin up to below where they
+/// end.
 fn bounds_between(first: i128, last: i128, length: usize) -> (usize, usize)
     ensures within { (result.0 ≤ result.1) × (result.1 ≤ length) }
     ensures meant { (k : ℕ) → k < length → ((result.0 ≤ k) × (k < result.1)) ↔ IsBetween first last length k }
@@ -77,7 +77,7 @@ fn bounds_between(first: i128, last: i128, length: usize) -> (usize, usize)
     (start, first_above(last, length).max(start))
 }
 
-// The first position that is not below the number, or the length.
+/// The first position that is not below the number, or the length.
 fn first_not_below(at: i128, length: usize) -> usize
     ensures within { result ≤ length }
     ensures splits { (k : ℕ) → k < length → (result ≤ k) ↔ (at ≤ℤ pos k) }
@@ -91,7 +91,7 @@ fn first_not_below(at: i128, length: usize) -> usize
     at as usize
 }
 
-// The first position above the number, or the length.
+/// The first position above the number, or the length.
 fn first_above(at: i128, length: usize) -> usize
     ensures within { result ≤ length }
     ensures splits { (k : ℕ) → k < length → (result ≤ k) ↔ (at <ℤ pos k) }

@@ -10,7 +10,7 @@ ghost use Rattle.jsonb.specs.Private.Parts.{step_parts, steps_parts, parts, wait
 
 use super::{BinaryOperator, Expr, Path};
 
-// An expression that is next to be let go, and one that waits behind it.
+/// An expression that is next to be let go, and one that waits behind it.
 struct Remaining<'a> {
     next: Expr<'a>,
     waiting: Option<Box<Expr<'a>>>,
@@ -28,7 +28,7 @@ impl<'a> Expr<'a> {
         }
     }
 
-    // What is left behind one part at most.
+    /// What is left behind one part at most.
     fn without_a_part(self, waiting: Option<Box<Expr<'a>>>) -> Option<Remaining<'a>>
         ensures { IfSome result (λ left. remaining left < to_release (parts self.entry) (waiting_parts waiting.entry)) }
     {
@@ -44,7 +44,7 @@ impl<'a> Expr<'a> {
     }
 }
 
-// Nothing is left in front of what waits.
+/// Nothing is left in front of what waits.
 fn without_next(waiting: Option<Box<Expr<'_>>>) -> Option<Remaining<'_>>
     ensures { IfSome result (λ left. (n : ℕ) → 0 < n → remaining left < to_release n (waiting_parts waiting.entry)) }
 {
@@ -57,7 +57,7 @@ fn without_next(waiting: Option<Box<Expr<'_>>>) -> Option<Remaining<'_>>
     }
 }
 
-// The left side is next. The right one waits, in front of what waits already, which takes the box of the left one.
+/// The left side is next. The right one waits, in front of what waits already, which takes the box of the left one.
 fn without_pair<'a>(
     op: BinaryOperator,
     mut left: Box<Expr<'a>>,
@@ -87,7 +87,7 @@ fn without_pair<'a>(
     }
 }
 
-// The steps without their last one, or what that holds.
+/// The steps without their last one, or what that holds.
 fn without_last<'a>(
     mut steps: Vec<Path<'a>>,
     waiting: Option<Box<Expr<'a>>>,
@@ -108,7 +108,7 @@ fn without_last<'a>(
     }
 }
 
-// The expression that a step holds, if it is one that holds any.
+/// The expression that a step holds, if it is one that holds any.
 fn held(step: Path<'_>) -> Option<Box<Expr<'_>>>
     ensures { IfSome result (λ inner. step_parts (step_view step.entry) ≡ 1 + parts inner.value) }
 {
@@ -119,8 +119,8 @@ fn held(step: Path<'_>) -> Option<Box<Expr<'_>>>
     }
 }
 
-// The steps and the expression that stood behind them. Where something waits already, it takes the room of that
-// expression's step, and the steps take its box.
+/// The steps and the expression that stood behind them. Where something waits already, it takes the room of that
+/// expression's step, and the steps take its box.
 fn without_inner<'a>(
     mut steps: Vec<Path<'a>>,
     mut inner: Box<Expr<'a>>,
