@@ -1,13 +1,11 @@
 //! Worked rows of key paths: what is read, refused and printed.
 
 use super::*;
-use jsonb_doc::Error;
+use std::alloc::{AllocError, Global};
 use std::borrow::CowStr;
 use std::fmt;
 use std::hash::{DefaultHasher, Hash, Hasher};
 use std::test::Fail;
-
-// ---- reading
 
 #[test]
 fn reads_steps_with_white_space(rt: HostRuntime) -> Result<(), Fail> {
@@ -24,89 +22,68 @@ fn reads_steps_with_white_space(rt: HostRuntime) -> Result<(), Fail> {
     Ok(())
 }
 
-#[test]
-fn no_steps(rt: HostRuntime) -> Result<(), Fail> {
-    assert!(rt; parse_key_paths(rt.alloc(), b"{}")?.paths.is_empty());
-    assert!(rt; parse_key_paths(rt.alloc(), b" { } ")?.paths.is_empty());
-    Ok(())
+/// A step: its kind and what it has. A text that had to be copied is its own.
+fn described(alloc: Global, step: &KeyPath<'_>) -> Result<String, AllocError> {
+    match step {
+        KeyPath::Index(index) => format!(in alloc; "index {index}"),
+        KeyPath::Name(CowStr::Borrowed(text)) => format!(in alloc; "name {text}"),
+        KeyPath::Name(CowStr::Owned(text)) => format!(in alloc; "own name {text}"),
+        KeyPath::QuotedName(CowStr::Borrowed(text)) => format!(in alloc; "quoted {text}"),
+        KeyPath::QuotedName(CowStr::Owned(text)) => format!(in alloc; "own quoted {text}"),
+    }
 }
 
-#[test]
-fn a_plus_stands_before_an_index(rt: HostRuntime) -> Result<(), Fail> {
-    let found = parse_key_paths(rt.alloc(), b"{+1}")?;
-    assert_eq!(rt; found.paths.len(), 1);
-    assert!(rt; matches!(&found.paths[0], KeyPath::Index(1)));
-    Ok(())
+/// The steps of a key path's text with semicolons behind them, or the refusal.
+fn steps_of(alloc: Global, text: &[u8]) -> Result<String, AllocError> {
+    let path = match parse_key_paths(alloc, text) {
+        Ok(path) => path,
+        Err(error) => return format!(in alloc; "{error}"),
+    };
+    let mut steps = String::new(alloc);
+    for step in &path.paths {
+        steps.push_str(described(alloc, step)?.as_str())?;
+        steps.push(';')?;
+    }
+    Ok(steps)
 }
 
-#[test]
-fn an_index_past_32_bits_is_a_name(rt: HostRuntime) -> Result<(), Fail> {
-    let found = parse_key_paths(rt.alloc(), b"{99999999999,2147483647,-2147483648}")?;
-    assert_eq!(rt; found.paths.len(), 3);
-    assert!(rt;
-        matches!(
-            &found.paths[0],
-            KeyPath::Name(CowStr::Borrowed("99999999999"))
-        )
-    );
-    assert!(rt; matches!(&found.paths[1], KeyPath::Index(i32::MAX)));
-    assert!(rt; matches!(&found.paths[2], KeyPath::Index(i32::MIN)));
-    Ok(())
-}
+/// A line for each text: the text, a space and an equals sign, and its steps or the refusal.
+const READ: &str = "
+{} =
+ { }  =
+{+1} =index 1;
+{99999999999,2147483647,-2147483648} =name 99999999999;index 2147483647;index -2147483648;
+{a\t&b} =name a\t&b;
+{a,\"b\"} =name a;quoted b;
+{\\u{0061},\"\\u0062\"} =own name a;own quoted b;
+{1a} =InvalidKeyPath
+{ =InvalidKeyPath
+ab =InvalidKeyPath
+{1,} =InvalidKeyPath
+{,1} =InvalidKeyPath
+{1.5} =InvalidKeyPath
+{a}b =InvalidKeyPath
+ =InvalidKeyPath
+{-99999999999} =InvalidKeyPath
+{\"a =InvalidKeyPath
+{\"\"} =InvalidKeyPath
+{a\\u{12}} =InvalidKeyPath
+{a\\x} =InvalidKeyPath
+{\\ud83d} =InvalidKeyPath
+{\\ude00} =InvalidKeyPath
+{\"\\ud83d\\u0061\"} =InvalidKeyPath";
 
 #[test]
-fn a_tab_goes_into_a_name(rt: HostRuntime) -> Result<(), Fail> {
-    let found = parse_key_paths(rt.alloc(), b"{a\t&b}")?;
-    assert_eq!(rt; found.paths.len(), 1);
-    assert!(rt; matches!(&found.paths[0], KeyPath::Name(CowStr::Borrowed("a\t&b"))));
-    Ok(())
-}
-
-fn is_refused(rt: &HostRuntime, text: &[u8]) -> bool {
-    matches!(
-        parse_key_paths(rt.alloc(), text),
-        Err(Error::InvalidKeyPath)
-    )
-}
-
-#[test]
-fn refuses_what_the_grammar_does_not_read(rt: HostRuntime) {
-    assert!(rt; is_refused(&rt, b"{1a}"));
-    assert!(rt; is_refused(&rt, b"{"));
-    assert!(rt; is_refused(&rt, b"ab"));
-    assert!(rt; is_refused(&rt, b"{1,}"));
-    assert!(rt; is_refused(&rt, b"{,1}"));
-    assert!(rt; is_refused(&rt, b"{1.5}"));
-    assert!(rt; is_refused(&rt, b"{a}b"));
-    assert!(rt; is_refused(&rt, b""));
-    assert!(rt; is_refused(&rt, b"{-99999999999}"));
-}
-
-#[test]
-fn refuses_damaged_texts(rt: HostRuntime) {
-    assert!(rt; is_refused(&rt, b"{\"a"));
-    assert!(rt; is_refused(&rt, b"{\"\"}"));
-    assert!(rt; is_refused(&rt, b"{a\\u{12}}"));
-    assert!(rt; is_refused(&rt, b"{a\\x}"));
-    assert!(rt; is_refused(&rt, b"{\\ud83d}"));
-    assert!(rt; is_refused(&rt, b"{\\ude00}"));
-    assert!(rt; is_refused(&rt, b"{\"\\ud83d\\u0061\"}"));
-    assert!(rt; is_refused(&rt, b"{a\xff}"));
-    assert!(rt; is_refused(&rt, b"{\"\xff\"}"));
-}
-
-// ---- borrowed and owned texts
-
-#[test]
-fn a_text_without_escapes_is_borrowed(rt: HostRuntime) -> Result<(), Fail> {
-    let name = read_name(rt.alloc(), b"ab.c")?;
-    assert!(rt; matches!(name, Some((CowStr::Borrowed("ab"), b".c"))));
-    let quoted = read_quoted(rt.alloc(), b"\"a b\".c")?;
-    assert!(rt; matches!(quoted, Some((CowStr::Borrowed("a b"), b".c"))));
-    let found = parse_key_paths(rt.alloc(), b"{a,\"b\"}")?;
-    assert_eq!(rt; found.paths.len(), 2);
-    assert!(rt; matches!(&found.paths[0], KeyPath::Name(CowStr::Borrowed("a"))));
-    assert!(rt; matches!(&found.paths[1], KeyPath::QuotedName(CowStr::Borrowed("b"))));
+fn texts_are_read_or_refused(rt: HostRuntime) -> Result<(), Fail> {
+    for line in READ.lines().skip(1) {
+        let (text, wanted) = line.split_once(" =").ok_or("a line without its answer")?;
+        let found = steps_of(rt.alloc(), text.as_bytes())?;
+        assert_eq!(rt; found.as_str(), wanted, "{text}");
+    }
+    for text in [b"{a\xff}".as_slice(), b"{\"\xff\"}".as_slice()] {
+        let found = steps_of(rt.alloc(), text)?;
+        assert_eq!(rt; found.as_str(), "InvalidKeyPath");
+    }
     Ok(())
 }
 
@@ -118,7 +95,11 @@ fn is_owned(text: &CowStr<'_>, expected: &str) -> bool {
 }
 
 #[test]
-fn a_text_with_escapes_is_owned(rt: HostRuntime) -> Result<(), Fail> {
+fn names_and_quoted_texts_are_read(rt: HostRuntime) -> Result<(), Fail> {
+    let name = read_name(rt.alloc(), b"ab.c")?;
+    assert!(rt; matches!(name, Some((CowStr::Borrowed("ab"), b".c"))));
+    let quoted = read_quoted(rt.alloc(), b"\"a b\".c")?;
+    assert!(rt; matches!(quoted, Some((CowStr::Borrowed("a b"), b".c"))));
     let (name, rest) = read_name(rt.alloc(), b"\\u{0061}b.c")?.ok_or("no name")?;
     assert!(rt; is_owned(&name, "ab"));
     assert!(rt; matches!(rest, b".c"));
@@ -127,52 +108,20 @@ fn a_text_with_escapes_is_owned(rt: HostRuntime) -> Result<(), Fail> {
     )?;
     assert!(rt; is_owned(&quoted, "\"\\/\u{8}\u{c}\n\r\t"));
     assert!(rt; matches!(rest, b"!"));
-    Ok(())
-}
-
-#[test]
-fn a_step_with_escapes_is_owned(rt: HostRuntime) -> Result<(), Fail> {
-    let found = parse_key_paths(rt.alloc(), b"{\\u{0061},\"\\u0062\"}")?;
-    assert_eq!(rt; found.paths.len(), 2);
-    assert!(rt;
-        match &found.paths[0] {
-            KeyPath::Name(text) => is_owned(text, "a"),
-            _ => false,
-        }
-    );
-    assert!(rt;
-        match &found.paths[1] {
-            KeyPath::QuotedName(text) => is_owned(text, "b"),
-            _ => false,
-        }
-    );
-    Ok(())
-}
-
-#[test]
-fn two_surrogates_are_one_character(rt: HostRuntime) -> Result<(), Fail> {
     let (both, rest) = read_name(rt.alloc(), b"\\ud83d\\u{de00}")?.ok_or("no name")?;
     assert!(rt; is_owned(&both, "\u{1f600}"));
     assert!(rt; rest.is_empty());
+    for text in [b"".as_slice(), b".a", b"a\\q", b"\xc3."] {
+        assert!(rt; read_name(rt.alloc(), text)?.is_none(), "{text:?}");
+    }
+    for text in [b"\"\"".as_slice(), b"\"a", b"a"] {
+        assert!(rt; read_quoted(rt.alloc(), text)?.is_none(), "{text:?}");
+    }
     Ok(())
 }
 
 #[test]
-fn tokens_that_are_not_there(rt: HostRuntime) -> Result<(), Fail> {
-    assert!(rt; read_name(rt.alloc(), b"")?.is_none());
-    assert!(rt; read_name(rt.alloc(), b".a")?.is_none());
-    assert!(rt; read_name(rt.alloc(), b"a\\q")?.is_none());
-    assert!(rt; read_name(rt.alloc(), b"\xc3.")?.is_none());
-    assert!(rt; read_quoted(rt.alloc(), b"\"\"")?.is_none());
-    assert!(rt; read_quoted(rt.alloc(), b"\"a")?.is_none());
-    assert!(rt; read_quoted(rt.alloc(), b"a")?.is_none());
-    Ok(())
-}
-
-// ---- numbers and literals
-
-#[test]
-fn numbers_and_their_rests(rt: HostRuntime) {
+fn tokens_and_their_rests(rt: HostRuntime) {
     assert!(rt; matches!(token::int32(b"+007]"), Some((7, b"]"))));
     assert!(rt; matches!(token::int32(b"-2147483648"), Some((i32::MIN, b""))));
     assert!(rt; token::int32(b"2147483648").is_none());
@@ -188,57 +137,41 @@ fn numbers_and_their_rests(rt: HostRuntime) {
     assert!(rt; matches!(token::nat8(b"255}"), Some((255, b"}"))));
     assert!(rt; token::nat8(b"256").is_none());
     assert!(rt; token::nat8(b"-1").is_none());
-}
-
-#[test]
-fn spaces_and_literals(rt: HostRuntime) {
     assert!(rt; matches!(token::skip_space(b" \t\r\n a"), b"a"));
     assert!(rt; matches!(token::literal(b"to", b"to 3"), Some(b" 3")));
     assert!(rt; token::literal(b"to", b"t").is_none());
 }
 
-// ---- printing
-
-fn prints_as(rt: &HostRuntime, text: &[u8], expected: &str) -> Result<bool, Fail> {
-    let found = parse_key_paths(rt.alloc(), text)?;
-    let printed = format!(in rt.alloc(); "{found}")?;
-    let owned = found.to_owned(rt.alloc())?;
-    let printed_owned = format!(in rt.alloc(); "{owned}")?;
-    Ok(printed.as_str() == expected && printed_owned.as_str() == expected)
+/// What a key path prints, borrowed and owned.
+fn printed(alloc: Global, text: &str) -> Result<(String, String), Fail> {
+    let found = parse_key_paths(alloc, text.as_bytes())?;
+    let owned = found.to_owned(alloc)?;
+    Ok((format!(in alloc; "{found}")?, format!(in alloc; "{owned}")?))
 }
 
+/// A line for each text: the text, a space and an equals sign, and what is printed.
+const PRINTED: &str = "
+ { 1, a }  ={1,a}
+{\"a b\",-2} ={\"a b\",-2}
+{\\u{0061}} ={a}
+{007} ={7}
+{-0} ={0}
+{} ={}
+{99999999999,+1,\"a b\"} ={\"99999999999\",1,\"a b\"}
+{\"x\\\"\\\\y\",\\u00e9_} ={\"x\\\"\\\\y\",\"\u{e9}_\"}";
+
 #[test]
-fn prints_steps(rt: HostRuntime) -> Result<(), Fail> {
-    assert!(rt; prints_as(&rt, b" { 1, a } ", "{1,a}")?);
-    assert!(rt; prints_as(&rt, b"{\"a b\",-2}", "{\"a b\",-2}")?);
-    assert!(rt; prints_as(&rt, b"{\\u{0061}}", "{a}")?);
-    assert!(rt; prints_as(&rt, b"{007}", "{7}")?);
-    assert!(rt; prints_as(&rt, b"{-0}", "{0}")?);
-    assert!(rt; prints_as(&rt, b"{}", "{}")?);
+fn prints_key_paths(rt: HostRuntime) -> Result<(), Fail> {
+    for line in PRINTED.lines().skip(1) {
+        let (text, wanted) = line.split_once(" =").ok_or("a line without its answer")?;
+        let (borrowed, owned) = printed(rt.alloc(), text)?;
+        assert_eq!(rt; borrowed.as_str(), wanted, "{text}");
+        assert_eq!(rt; owned.as_str(), wanted, "{text}");
+    }
     Ok(())
 }
 
-#[test]
-fn quotes_names_that_are_not_plain(rt: HostRuntime) -> Result<(), Fail> {
-    let text = b"{99999999999,+1,\"a b\"}";
-    assert!(rt; prints_as(&rt, text, "{\"99999999999\",1,\"a b\"}")?);
-    let text = b"{\"x\\\"\\\\y\",\\u00e9_}";
-    assert!(rt; prints_as(&rt, text, "{\"x\\\"\\\\y\",\"\u{e9}_\"}")?);
-    Ok(())
-}
-
-#[test]
-fn prints_single_steps(rt: HostRuntime) -> Result<(), Fail> {
-    let step = KeyPath::Name(CowStr::Borrowed("a b"));
-    assert_eq!(rt; format!(in rt.alloc(); "{step}")?.as_str(), "\"a b\"");
-    let owned = step.to_owned(rt.alloc())?;
-    assert_eq!(rt; format!(in rt.alloc(); "{owned}")?.as_str(), "\"a b\"");
-    let index = OwnedKeyPath::Index(-3);
-    assert_eq!(rt; format!(in rt.alloc(); "{index}")?.as_str(), "-3");
-    Ok(())
-}
-
-// a name and a quoted text, as the writers of tokens write them
+/// A name and a quoted text, as the writers of tokens write them.
 #[derive(Drop)]
 struct Written<'a>(&'a str);
 
@@ -251,7 +184,13 @@ impl fmt::Display for Written<'_> {
 }
 
 #[test]
-fn writes_names_and_quoted_texts(rt: HostRuntime) -> Result<(), Fail> {
+fn prints_steps_and_names(rt: HostRuntime) -> Result<(), Fail> {
+    let step = KeyPath::Name(CowStr::Borrowed("a b"));
+    assert_eq!(rt; format!(in rt.alloc(); "{step}")?.as_str(), "\"a b\"");
+    let owned = step.to_owned(rt.alloc())?;
+    assert_eq!(rt; format!(in rt.alloc(); "{owned}")?.as_str(), "\"a b\"");
+    let index = OwnedKeyPath::Index(-3);
+    assert_eq!(rt; format!(in rt.alloc(); "{index}")?.as_str(), "-3");
     let plain = Written("a_1");
     assert_eq!(rt; format!(in rt.alloc(); "{plain}")?.as_str(), "a_1 \"a_1\"");
     let other = Written("1\"");
@@ -265,8 +204,6 @@ fn writes_names_and_quoted_texts(rt: HostRuntime) -> Result<(), Fail> {
     Ok(())
 }
 
-// ---- copies, equality and hashes
-
 #[test]
 fn copies_are_equal(rt: HostRuntime) -> Result<(), Fail> {
     let found = parse_key_paths(rt.alloc(), b"{1,a,\"b\",\\u0061}")?;
@@ -275,11 +212,6 @@ fn copies_are_equal(rt: HostRuntime) -> Result<(), Fail> {
     assert!(rt; owned.clone(rt.alloc())? == owned);
     let borrowed = owned.as_key_paths(rt.alloc())?;
     assert!(rt; borrowed.to_owned(rt.alloc())? == owned);
-    Ok(())
-}
-
-#[test]
-fn copies_of_steps_are_equal(rt: HostRuntime) -> Result<(), Fail> {
     let step = KeyPath::Name(CowStr::Borrowed("a"));
     let copy = step.clone(rt.alloc())?;
     assert!(rt; matches!(&copy, KeyPath::Name(CowStr::Borrowed("a"))));
@@ -296,7 +228,7 @@ fn hash_of<T: Hash>(value: &T) -> u64 {
 }
 
 #[test]
-fn equal_steps_hash_alike(rt: HostRuntime) -> Result<(), Fail> {
+fn steps_are_equal_by_texts(rt: HostRuntime) -> Result<(), Fail> {
     let borrowed = parse_key_paths(rt.alloc(), b"{1,a,\"b\"}")?;
     let owned = parse_key_paths(rt.alloc(), b"{+1,\\u0061,\"\\u0062\"}")?;
     assert!(rt; borrowed == owned);
@@ -305,11 +237,6 @@ fn equal_steps_hash_alike(rt: HostRuntime) -> Result<(), Fail> {
     let second = owned.to_owned(rt.alloc())?;
     assert!(rt; first == second);
     assert_eq!(rt; hash_of(&first), hash_of(&second));
-    Ok(())
-}
-
-#[test]
-fn other_steps_are_not_equal(rt: HostRuntime) -> Result<(), Fail> {
     let name = KeyPath::Name(CowStr::Borrowed("1"));
     let quoted = KeyPath::QuotedName(CowStr::Borrowed("1"));
     assert!(rt; name != quoted);
