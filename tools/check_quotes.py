@@ -2,7 +2,9 @@
 """Compares README.md and docs/ with the files that they quote, and the tables of answers with the rows that tests run.
 
     tools/check_quotes.py            compares; its last line is 'N passed, M failed', and its exit status says whether M is 0
-    tools/check_quotes.py --write    writes the rows of the tables to crates/jsonb_examples/src/tables/rows.rt
+    tools/check_quotes.py --write    writes the rows of the tables for the tests that run them: those of calls on documents to
+                                     crates/jsonb_raw/src/tests/calls/rows.rt, the others to
+                                     crates/jsonb_examples/src/tables/rows.rt
 
 A block that quotes names its file behind the language of its fence, as in ```rust crates/jsonb_examples/src/filter.rt, and
 its lines stand there one after the other, perhaps further to the right.
@@ -19,6 +21,7 @@ import documents
 
 ROOT = Path(__file__).resolve().parent.parent
 ROWS = ROOT / "crates/jsonb_examples/src/tables/rows.rt"
+CALL_ROWS = ROOT / "crates/jsonb_raw/src/tests/calls/rows.rt"
 EXAMPLE_DOCUMENTS = ROOT / "crates/jsonb_examples/src/documents.rt"
 PAGES = [ROOT / "README.md", *sorted((ROOT / "docs").glob("*.md"))]
 
@@ -30,6 +33,24 @@ KINDS = {
     "printed key paths": "key path",
     "sortable keys": "sortable key",
     "equality keys": "equality key",
+}
+
+# What a call is given besides the document that it is made on, where it is something.
+GIVEN_TEXT = """get_by_keypath get_by_index get_by_name get_by_name_ignore_case traverse_check_string delete_by_index
+    delete_by_name delete_by_keypath""".split()
+GIVEN_NAMES = "exists_all_keys exists_any_keys object_pick object_delete".split()
+GIVEN_DOCUMENT = "contains concat array_overlap array_intersection array_except".split()
+GIVEN_BOTH = "object_insert object_update array_insert".split()
+
+# What a call gives, where it is no document.
+GIVES_BYTES = "convert_to_comparable convert_to_comparable_wide equality_key".split()
+GIVES_LIST = "array_values object_each leaves leaves_ignoring_arrays".split()
+GIVES_TEXT = "array_length type_of as_null as_bool as_number as_i64 as_u64 as_str to_i64 to_u64 to_str".split()
+
+# The parts of a row of each file, by whether it has the calls on documents.
+PARTS = {
+    False: "what is asked, the text of a path, a document, and the answer",
+    True: "the call, its document, another one, a text, and the answer",
 }
 
 
@@ -140,34 +161,94 @@ def named_documents(page):
     return named
 
 
-def rows_of(pages):
-    """The rows of all tables of answers."""
+def named_bytes(page):
+    """The documents of a page that no JSON text gives, by their names."""
+    return {row[0]: "" if row[1] == "none" else code(row[1]).replace(" ", "")
+            for _, kind, rows in tables(page, "rows") if kind == "named" for row in rows}
+
+
+def document(cell, named):
+    """The bytes of a document in hexadecimal: of a name, or of a JSON text."""
+    return named[cell] if cell in named else documents.hexadecimal(code(cell))
+
+
+def text(cell):
+    """A text between backticks, or the empty one."""
+    return "" if cell == "the empty text" else code(cell)
+
+
+def given(call, cell, named):
+    """What a call is given: a document and a text, either perhaps empty."""
+    if call in GIVEN_DOCUMENT:
+        return document(cell, named), ""
+    if call in GIVEN_TEXT:
+        return "", text(cell)
+    if call in GIVEN_NAMES:
+        return "", "" if cell == "no names" else ",".join(text(name) for name in cell.split(", "))
+    if call in GIVEN_BOTH:
+        name, other = re.fullmatch(r"(`[^`]*`|the empty text), (.*)", cell).groups()
+        return document(other, named), text(name)
+    if cell:
+        raise Problem(f"{call} is given nothing")
+    return "", ""
+
+
+def gives(call, cell, named):
+    """What a call gives, as the tests write it."""
+    if cell.startswith("refused: "):
+        return f"refused: {code(cell[len('refused: '):])}"
+    if cell in ("none", "true", "false"):
+        return cell
+    if call in GIVES_BYTES:
+        return code(cell).replace(" ", "")
+    if call in GIVES_TEXT:
+        return code(cell)
+    if call in GIVES_LIST:
+        parts = [] if cell == "nothing" else re.findall(r"(?:`([^`]*)`: )?(`[^`]*`|[^`,]+)(?:, |$)", cell)
+        return " ".join((f"{key} " if key else "") + document(part, named) for key, part in parts)
+    return document(cell, named)
+
+
+def call_row(row, named):
+    """The row of a test of a call: the call, its document, what it is given, and the answer."""
+    call = code(row[0])
+    return (call, document(row[1], named), *given(call, row[2], named), gives(call, row[3], named))
+
+
+def rows_of(pages, of_calls):
+    """The rows of all tables of answers: those of calls on documents, or the others."""
     found = []
     for page in pages:
-        named = named_documents(page)
+        named, named_codes = named_documents(page), named_bytes(page)
         for number, kind, rows in tables(page, "rows"):
-            if kind == "documents":
+            if kind in ("documents", "named") or (kind == "calls") != of_calls:
                 continue
             for place, row in enumerate(rows, number + 3):
                 try:
-                    found += test_rows(kind, row, named)
-                except Problem as problem:
+                    found += [call_row(row, named_codes)] if of_calls else test_rows(kind, row, named)
+                except (Problem, AttributeError, ValueError) as problem:
                     raise Problem(f"{page.relative_to(ROOT)}:{place}: {problem}") from None
     return found
 
 
-def rows_file(found):
+def rows_file(found, parts):
     """The file of rows: one text, a line for each row, and tabs between its parts."""
     lines = ["\t".join(row).replace("\\", "\\\\").replace('"', '\\"').replace("\t", "\\t") for row in found]
     return "\n".join([
         "//! The rows of the tables of answers in docs/, as tools/check_quotes.py --write writes them.", "",
-        "/// A line for each row, with tabs between: what is asked, the text of a path, a document, and the answer.",
+        f"/// A line for each row, with tabs between: {parts}.",
         'pub const ROWS: &str = "', *lines, '";', ""])
 
 
-def check_rows():
-    if ROWS.read_text() != rows_file(rows_of(PAGES)):
-        raise Problem(f"{ROWS.relative_to(ROOT)} is not what --write would write")
+def wanted_rows(path):
+    """What a file of rows has to hold."""
+    of_calls = path == CALL_ROWS
+    return rows_file(rows_of(PAGES, of_calls), PARTS[of_calls])
+
+
+def check_rows(path):
+    if path.read_text() != wanted_rows(path):
+        raise Problem(f"{path.relative_to(ROOT)} is not what --write would write")
 
 
 def check_bytes(text, rows):
@@ -205,7 +286,8 @@ def checks():
             yield f"{name}:{number}", lambda text=text, rows=rows: check_bytes(text, rows)
     for name, text, bytes_ in constants():
         yield f"{EXAMPLE_DOCUMENTS.name}: {name}", lambda text=text, bytes_=bytes_: check_constant(text, bytes_)
-    yield "tables of answers", check_rows
+    for path in (ROWS, CALL_ROWS):
+        yield path.relative_to(ROOT), lambda path=path: check_rows(path)
 
 
 def compare():
@@ -223,7 +305,8 @@ def compare():
 
 def main(arguments):
     if arguments == ["--write"]:
-        ROWS.write_text(rows_file(rows_of(PAGES)))
+        for path in (ROWS, CALL_ROWS):
+            path.write_text(wanted_rows(path))
         return 0
     if arguments:
         print(__doc__, end="")

@@ -14,9 +14,6 @@ ghost use Rattle.jsonb_raw.specs.Casts.{CastsToBool, CastsToI64, CastsToU64, Cas
 ghost use Rattle.jsonb_doc.specs.Answer.{IsDecodingError, ◌or◌};
 ghost use Rattle.jsonb_doc.specs.declared.error.Error.TheVariants.{OutOfMemory, InvalidCast};
 
-#[cfg(test)]
-mod tests;
-
 use crate::raw::RawJsonb;
 use jsonb_doc::{Error, Item, Number, root_item};
 use std::alloc::Global;

@@ -157,7 +157,7 @@ impl RawJsonb<'_> {
     }
 }
 
-// The vector as it is where it was written, and an empty one where that was refused.
+/// The vector as it is where it was written, and an empty one where that was refused.
 fn kept_where_written(key: &mut Vec<u8>, written: Result<(), Error>) -> Result<(), Error>
     ensures same { result ≡ written }
     ensures kept { IfOk result (λ _. key.new.items ≡ key.old.items) }

@@ -1,7 +1,7 @@
 //! Documents nested so deeply that a walk with a call a level would overflow the machine's stack.
 
 use crate::raw::RawJsonb;
-use jsonb_doc::{Error, Value};
+use jsonb_doc::{ArrayBuilder, Error, Value};
 use jsonb_keypath::KeyPath;
 use std::alloc::Global;
 use std::borrow::CowStr;
@@ -113,26 +113,59 @@ fn parts_taken_out_of_deep_objects(rt: HostRuntime) -> Result<(), Fail> {
 }
 
 #[test]
-fn depths_of_deep_documents(rt: HostRuntime) -> Result<(), Fail> {
-    // The text in the innermost container lies as deep as there are containers.
-    for document in [arrays(rt.alloc(), 200_000)?, objects(rt.alloc(), 200_000)?] {
-        let raw = RawJsonb::new(&document);
+fn deep_documents_are_walked(rt: HostRuntime) -> Result<(), Fail> {
+    let array = arrays(rt.alloc(), 200_000)?;
+    let object = objects(rt.alloc(), 200_000)?;
+    // An equality key has a kind and a count a level, in an object the key `a` too; the text's kind, bytes and end.
+    for (document, key_len) in [
+        (array.as_slice(), 1_000_003),
+        (object.as_slice(), 1_600_003),
+    ] {
+        let raw = RawJsonb::new(document);
         assert_eq!(rt; raw.depth(), Ok(200_000));
         assert_eq!(rt; raw.check_depth(199_999), Err(Error::TooDeep));
+        assert_eq!(rt;
+            raw.traverse_check_string(|text| text == b"y".as_slice()),
+            Ok(false)
+        );
+        let key = raw.equality_key(rt.alloc())?;
+        assert_eq!(rt; key.len(), key_len);
+        assert!(rt; key.ends_with(b"\x05x\0"));
+        assert_eq!(rt; raw.strip_nulls(rt.alloc())?.as_raw().as_bytes(), document);
     }
+    assert_eq!(rt; leaf_depth(rt.alloc(), &array, true)?, Some(200_000));
+    assert_eq!(rt; leaf_depth(rt.alloc(), &object, false)?, Some(200_000));
     Ok(())
 }
 
+/// So many arrays, one in the other, around an empty array or object.
+fn nested(alloc: Global, innermost: &[u8], arrays: usize) -> Result<Vec<u8>, Error> {
+    let mut found = Vec::from_slice(alloc, innermost)?;
+    for _ in 0..arrays {
+        let mut builder = ArrayBuilder::new(alloc);
+        builder.push_document(found.as_slice())?;
+        found = builder.build()?;
+    }
+    Ok(found)
+}
+
 #[test]
-fn equality_keys_of_deep_documents(rt: HostRuntime) -> Result<(), Fail> {
-    // A kind and a count a level, in an object the key `a` too; for a text its kind and its end beside its bytes.
-    let array = arrays(rt.alloc(), 200_000)?;
-    let key = RawJsonb::new(&array).equality_key(rt.alloc())?;
-    assert_eq!(rt; key.len(), 1_000_003);
-    assert_eq!(rt; &key[key.len() - 3..], b"\x05x\0".as_slice());
-    let object = objects(rt.alloc(), 200_000)?;
-    let key = RawJsonb::new(&object).equality_key(rt.alloc())?;
-    assert_eq!(rt; key.len(), 1_600_003);
+fn the_innermost_of_300_arrays(rt: HostRuntime) -> Result<(), Fail> {
+    let whole = nested(rt.alloc(), b"\x80\0\0\0", 299)?;
+    let left = nested(rt.alloc(), b"\x80\0\0\0", 298)?;
+    let mut steps = Vec::new(rt.alloc());
+    for _ in 0..299 {
+        steps.push(KeyPath::Index(0))?;
+    }
+    let document = RawJsonb::new(whole.as_slice());
+    let found = document.delete_by_keypath(rt.alloc(), steps.iter())?;
+    assert_eq!(rt; found.as_raw().as_bytes(), left.as_slice());
+    steps.push(KeyPath::Index(0))?;
+    let found = document.delete_by_keypath(rt.alloc(), steps.iter())?;
+    assert_eq!(rt; found.as_raw().as_bytes(), whole.as_slice());
+    let empty_object = nested(rt.alloc(), b"\x40\0\0\0", 300)?;
+    let stripped = RawJsonb::new(empty_object.as_slice()).strip_nulls(rt.alloc())?;
+    assert_eq!(rt; stripped.as_raw().as_bytes(), empty_object.as_slice());
     Ok(())
 }
 
@@ -149,26 +182,6 @@ fn sets_of_deep_documents(rt: HostRuntime) -> Result<(), Fail> {
         let unshared = raw.array_except(rt.alloc(), &raw)?;
         assert_eq!(rt; unshared.as_raw().as_bytes(), b"\x80\0\0\0".as_slice());
     }
-    Ok(())
-}
-
-#[test]
-fn leaves_of_deep_documents(rt: HostRuntime) -> Result<(), Fail> {
-    let array = arrays(rt.alloc(), 200_000)?;
-    assert_eq!(rt; leaf_depth(rt.alloc(), &array, true)?, Some(200_000));
-    let object = objects(rt.alloc(), 200_000)?;
-    assert_eq!(rt; leaf_depth(rt.alloc(), &object, false)?, Some(200_000));
-    Ok(())
-}
-
-#[test]
-fn stripped_deep_documents(rt: HostRuntime) -> Result<(), Fail> {
-    let array = arrays(rt.alloc(), 200_000)?;
-    let made = RawJsonb::new(&array).strip_nulls(rt.alloc())?;
-    assert_eq!(rt; made.as_raw().as_bytes(), array.as_slice());
-    let object = objects(rt.alloc(), 200_000)?;
-    let made = RawJsonb::new(&object).strip_nulls(rt.alloc())?;
-    assert_eq!(rt; made.as_raw().as_bytes(), object.as_slice());
     Ok(())
 }
 
