@@ -1,6 +1,6 @@
 //! The leaves of a document, with their key paths.
 
-ghost use Rattle.std.specs.Prelude.{◌≡◌, ◌⊎◌, ◌+◌, ◌%◌, ◌^◌, ◌<◌, ◌&&◌, ◌++◌, [], ◌∷◌, ℕ, List, Option, length, vec_len, vec_capacity, IsUtf8, IsOkAnd, IfOk, IfErr, MatchResult};
+ghost use Rattle.std.specs.Prelude.{◌≡◌, ◌⊎◌, ◌+◌, ◌%◌, ◌^◌, ◌<◌, ◌&&◌, ◌++◌, [], ◌∷◌, ℕ, List, Option, length, vec_len, vec_capacity, IsOkAnd, IfOk, IfErr, MatchResult};
 ghost use Rattle.std.specs.List.{Any, AllZip};
 ghost use Rattle.jsonb_doc.specs.Tree.{Tree};
 ghost use Rattle.jsonb_doc.specs.Payload.{Form, number_reader};
@@ -131,30 +131,18 @@ fn entry_entered<'a>(
     container_entered(entry.content, ignore_array)
 }
 
-/// Bytes as a text. Most keys are ASCII, which is seen sooner than that they are UTF-8.
-#[inline(always)]
-fn text_of(bytes: &[u8]) -> Result<&str, Error>
-    ensures text { IsUtf8 bytes.now → IsOkAnd result (λ text. text.now ≡ bytes.now) }
-    ensures errors { IfErr result IsDecodingError }
-{
-    if bytes.is_ascii() {
-        return Ok(unsafe { str::from_utf8_unchecked(bytes) });
-    }
-    match str::from_utf8(bytes) {
-        Ok(text) => Ok(text),
-        Err(_) => Err(Error::InvalidJsonb),
-    }
-}
-
 /// The key of a part as a name.
 #[inline(always)]
 fn name_of(key: Option<&[u8]>) -> Result<Option<&str>, Error>
     ensures name { (k : Option (List ℕ)) → IsKeyOf key.entry k → IsOkAnd result (λ name. IsKeyOf name k) }
     ensures errors { IfErr result IsDecodingError }
 {
-    match key {
-        Some(bytes) => Ok(Some(text_of(bytes)?)),
-        None => Ok(None),
+    let Some(bytes) = key else {
+        return Ok(None);
+    };
+    match str::from_utf8(bytes) {
+        Ok(name) => Ok(Some(name)),
+        Err(_) => Err(Error::InvalidJsonb),
     }
 }
 
