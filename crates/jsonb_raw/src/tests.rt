@@ -15,7 +15,7 @@ mod nested;
 
 use super::*;
 use crate::tests::documents::MIXED_ARRAY;
-use jsonb_doc::{Error, Value};
+use jsonb_doc::Error;
 use jsonb_keypath::{KeyPath, KeyPaths};
 use std::alloc::Global;
 use std::borrow::CowStr;
@@ -66,21 +66,5 @@ fn documents_keep_their_bytes(rt: HostRuntime) -> Result<(), Fail> {
     let raw = RawJsonb::new(MIXED_ARRAY);
     let again = raw;
     assert_eq!(rt; raw.as_bytes(), again.as_bytes());
-    Ok(())
-}
-
-#[test]
-fn names_are_borrowed(rt: HostRuntime) -> Result<(), Fail> {
-    let found = RawJsonb::new(MIXED_ARRAY).extract_scalar_key_values(rt.alloc(), false)?;
-    let Some((path, value)) = found.last() else {
-        panic!(rt; "no leaf");
-    };
-    assert!(rt;
-        matches!(
-            path.paths.as_slice(),
-            [KeyPath::Index(2), KeyPath::Name(CowStr::Borrowed("k"))]
-        )
-    );
-    assert!(rt; matches!(value, Value::String(CowStr::Borrowed("v"))));
     Ok(())
 }
