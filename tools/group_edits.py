@@ -1,5 +1,5 @@
 #!/usr/bin/env python3
-"""Puts the must-fail edits together, up to four in a file, so that one check tries them all.
+"""Puts the must-fail edits together, many in a file, so that one check tries them all.
 
   group_edits.py [--most N] [NAME..]   in these crates, or in all
 
@@ -18,7 +18,7 @@ from dataclasses import dataclass, field
 sys.dont_write_bytecode = True
 import edits
 
-MOST = 8
+MOST = 16
 
 
 @dataclass
