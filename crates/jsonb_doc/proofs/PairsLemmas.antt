@@ -9,7 +9,7 @@ use Rattle.jsonb_doc.specs.ObjectKeys.{HasKeysLeft, IsKeysOf, IsValuesOf}
 use Rattle.jsonb_doc.specs.declared.key_iter.KeyIter.{KeyIter}
 use Rattle.jsonb_doc.specs.declared.value_iter.ValueIter.{ValueIter}
 use Rattle.jsonb_doc.specs.declared.pair_iter.PairIter.{PairIter}
-use Rattle.jsonb_doc.specs.Private.Lengths.{StandBefore}
+use Rattle.jsonb_doc.specs.Lengths.{StandBefore}
 use Rattle.jsonb_doc.specs.Private.Containers.{Holds, HasPairParts}
 use Rattle.jsonb_doc.specs.declared.container.ObjectParts.{ObjectParts}
 use Rattle.jsonb_doc.specs.declared.container.Container.TheVariants.{Object}

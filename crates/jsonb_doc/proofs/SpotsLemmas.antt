@@ -8,7 +8,7 @@ use Rattle.jsonb_doc.specs.Tree.{Tree, null, boolean, number, text, extension, a
 use Rattle.jsonb_doc.specs.Payload.{NumberReader, Form, any, number_reader, number_of}
 use Rattle.jsonb_doc.specs.Format.{Decodes, header, entry_word, BeginWith, IsContent, IsDocument, AreEntries, key_bytes}
 use Rattle.jsonb_doc.specs.Answer.{SameOption}
-use Rattle.jsonb_doc.specs.Private.Lengths.{StandBefore}
+use Rattle.jsonb_doc.specs.Lengths.{StandBefore}
 use Rattle.jsonb_doc.specs.Readable.{StartWith, IsCut}
 use Rattle.jsonb_doc.specs.Spots.{Locates, HasSpotsLeft, TakesSpot, PassesSpot, spot_content}
 use Rattle.jsonb_doc.specs.declared.spot.Spot.{Spot}

@@ -34,7 +34,7 @@ pub struct ObjectParts<'a> {
 
 impl<'a> ObjectParts<'a> {
     ghost use Rattle.std.specs.Prelude.{◌≡◌, ◌^◌, ◌<◌, ◌≤◌, List, ℕ, length, IfErr, IfOk, IsOkAnd};
-    ghost use Rattle.jsonb_doc.specs.Private.Lengths.{StandBefore};
+    ghost use Rattle.jsonb_doc.specs.Lengths.{StandBefore};
     ghost use Rattle.jsonb_doc.specs.Answer.{IsDecodingError};
 
     /// The contents of the values, which are behind those of the keys.

@@ -3,9 +3,10 @@
 //! A container is a header word, entry words, and the contents that they tell of. A header word is a kind and a count
 //! of entries, an entry word a kind and the length of its content. All words have 32 bits, the highest byte first.
 
-ghost use Rattle.std.specs.Prelude.{◌≡◌, ℕ, ◌<◌, ◌≤◌, List, MatchOption, length, drop};
+ghost use Rattle.std.specs.Prelude.{◌≡◌, ℕ, ◌^◌, ◌<◌, ◌≤◌, List, MatchOption, length, drop};
 ghost use Rattle.byteorder.specs.Endian.{big_number};
-ghost use Rattle.jsonb_doc.specs.Format.{BeginWith, HeadedBy};
+ghost use Rattle.jsonb_doc.specs.Format.{BeginWith, HeadedBy, header, entry_word};
+ghost use Rattle.jsonb_doc.specs.Lengths.{Tells};
 
 use byteorder::{BigEndian, ByteOrder};
 
@@ -137,6 +138,46 @@ pub struct Entry<'w, 'c> {
     pub other_words: &'w [u8],
     /// The contents of the other entries.
     pub other_contents: &'c [u8],
+}
+
+/// The word of an entry of this kind, with a content of this length.
+///
+/// # Cost
+///
+/// Constant, without memory.
+pub fn word_of_entry(kind: u32, len: usize) -> [u8; WORD]
+    requires kind { kind < 8 }
+    requires len { len < 2 ^ 28 }
+    ensures { result ≡ entry_word kind len }
+{
+    (kind * LENGTHS + len as u32).to_be_bytes()
+}
+
+/// The word of a header of this kind and count.
+///
+/// # Cost
+///
+/// Constant, without memory.
+pub fn word_of_header(kind: u32, count: usize) -> [u8; WORD]
+    requires kind { kind < 8 }
+    requires count { count < 2 ^ 29 }
+    ensures { result ≡ header kind count }
+{
+    (kind * COUNTS + count as u32).to_be_bytes()
+}
+
+/// The kind and the length that an entry word tells.
+///
+/// # Cost
+///
+/// Constant, without memory.
+#[inline(always)]
+pub fn read_entry_word(word: &[u8; WORD]) -> (u32, usize)
+    ensures told { Tells word.now result.0 result.1 }
+    ensures bound { result.1 < 2 ^ 28 }
+{
+    let word = u32::from_be_bytes(*word);
+    (word / LENGTHS, (word % LENGTHS) as usize)
 }
 
 /// The word at the front, and the bytes after it; `None` where there are fewer than four bytes.

@@ -1,18 +1,23 @@
 //! Contents that are passed over by the lengths in their entry words.
 
-ghost use Rattle.std.specs.Prelude.{◌≡◌, ℕ, ◌+◌, ◌^◌, ◌<◌, ◌≤◌, List, MatchOption, IsSomeAnd, IfSome, length, take, drop};
+ghost use Rattle.std.specs.Prelude.{◌≡◌, ℕ, ◌+◌, ◌*◌, ◌^◌, ◌<◌, ◌≤◌, List, MatchOption, IsSomeAnd, IfSome, length, take, drop};
 ghost use Rattle.jsonb_doc.specs.Format.{BeginWith};
-ghost use Rattle.jsonb_doc.specs.Private.Lengths.{StandBefore};
+ghost use Rattle.jsonb_doc.specs.Lengths.{StandBefore};
 ghost use Rattle.jsonb_doc.specs.Readable.{StartWith};
 
 use crate::layout::{Entry, KINDS, LENGTHS, WORD, split_entry, split_word};
 
 /// How long the contents of these entry words are, all together. The words are a list of their own, so that many are
 /// added at once.
+///
+/// # Cost
+///
+/// Linear in the words, without memory.
 pub fn contents_len(words: &[u8]) -> usize
     requires { length words.now < 2 ^ 32 }
-    ensures { (parts : List (List ℕ)) (contents rest : List ℕ) → StandBefore parts words.now contents rest
+    ensures contents { (parts : List (List ℕ)) (contents rest : List ℕ) → StandBefore parts words.now contents rest
         → result + length rest ≡ length contents }
+    ensures bound { result ≤ 2 ^ 26 * length words.now }
 {
     let (chunks, _) = words.as_chunks::<WORD>();
     let mut len = 0;

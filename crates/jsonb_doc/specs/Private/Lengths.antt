@@ -1,14 +1,7 @@
--- Contents that are passed over by the lengths in their words, and keys that are searched for a name.
+-- Keys that are searched for a name.
 use Rattle.std.specs.Prelude.{◌≡◌, ◌≢◌, ℕ, List, [], ◌∷◌, ◌++◌, Option, Some, None, ⊤}
 use Rattle.std.specs.Borrow.{Bor}
-use Rattle.jsonb_doc.specs.Format.{HasFirstEntry, AreKeys, key_words, key_bytes}
-
--- the words are those of these contents, which stand before the rest
-abbrev pub StandBefore : List (List ℕ) → List ℕ → List ℕ → List ℕ → Type 0
-StandBefore [] words contents rest = (words ≡ []) × (contents ≡ rest)
-StandBefore (part ∷ parts) words contents rest =
-    HasFirstEntry (λ kind content. content ≡ part)
-    (λ other_words other_contents. StandBefore parts other_words other_contents rest) words contents
+use Rattle.jsonb_doc.specs.Format.{AreKeys, key_words, key_bytes}
 
 -- the words and the bytes are those of these keys, and the rest follows them
 pub record HoldKeys (ks : List (List ℕ)) (words bytes rest : List ℕ) : Type 0 where

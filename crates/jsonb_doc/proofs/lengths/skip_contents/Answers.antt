@@ -4,7 +4,7 @@ use Rattle.jsonb_doc.proofs.lengths.skip_contents.Goals as goal
 pub returns-clause-rest : goal.returns-clause-rest
 returns-clause-rest c = λ parts rest h.
     let joined = StandBefore-joined parts _ _ rest h in
-    let sum = c.contents_len.ensures parts _ rest h in
+    let sum = c.contents_len.ensures.contents parts _ rest h in
     IsPart-some _ joined.0 rest _ c.get.result joined.1 sum c.get.ensures.lookup
 
 pub returns-clause-size : goal.returns-clause-size

@@ -8,7 +8,7 @@ returns-then-count-self c = record { left = λ bytes ts h. omega (arith, spots_c
 pub returns : goal.returns
 returns c = record {
   left = λ bytes ts h.
-      let sum = rw c.split_at.ensures.front at c.contents_len.ensures in
+      let sum = rw c.split_at.ensures.front at c.contents_len.ensures.contents in
       let few = c.if-count-self.false in
       let passed = HasSpotsLeft-passed bytes c.args.self.now ts h c.args.count c.contents_len.result few sum in
       let start : (c.args.self.now.start + c.contents_len.result) % 2 ^ 64 ≡ c.args.self.now.start + c.contents_len.result = omega (arith, passed) in
