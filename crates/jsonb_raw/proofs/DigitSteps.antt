@@ -1,5 +1,5 @@
 -- Steps from a number's digits to those of the number without its last digit.
-use Rattle.std.proofs.Common.{◌≡◌, ◌≢◌, ℕ, zero, suc, ◌+◌, ◌-◌, ◌/◌, ◌%◌, ◌^◌, ◌<◌, ◌≤◌, ◌==◌, ◌&&◌, Bool, true, false, cond, List, [], ◌∷◌, ◌++◌, map, length, drop, set, refl, sym, ap, ap₂, ◌∙◌, arith, append_assoc}
+use Rattle.std.proofs.Common.{◌≡◌, ◌≢◌, ℕ, zero, suc, ◌+◌, ◌-◌, ◌/◌, ◌%◌, ◌^◌, ◌<◌, ◌≤◌, ◌==◌, ◌&&◌, Bool, true, false, cond, List, [], ◌∷◌, ◌++◌, map, length, drop, set, length-set, refl, sym, ap, ap₂, ◌∙◌, arith, append_assoc}
 use Rattle.std.specs.List.{list_all}
 use Rattle.std.specs.Int.Digits.{digits_of}
 use Rattle.std.proofs.lemmas.List.{map-append, drop-set}
@@ -80,3 +80,49 @@ significant-nothing (suc n) e = absurd (omega arith)
 pub no_digits : (n : ℕ) → n ≡ 0 → digits_of 10 n ≡ []
 no_digits zero e = refl
 no_digits (suc n) e = absurd (omega arith)
+
+-- ---- a number taken apart from its last digit on
+
+-- zeros were passed over: behind the digits that are left they are all digits, of which there are so many at most
+pub record ZerosPassed (n left zeros most : ℕ) : Type 0 where
+  pub same : significant (digits_of 10 left) ≡ significant (digits_of 10 n)
+  pub count : length (digits_of 10 n) ≡ length (digits_of 10 left) + zeros
+  pub few : length (digits_of 10 n) ≤ most
+
+pub zero_passed : (n left others zeros most : ℕ) → ZerosPassed n left zeros most → 0 < left → others ≡ left / 10 → left % 10 ≡ 0
+    → ZerosPassed n others (zeros + 1) most
+zero_passed n left others zeros most h some is zero_last =
+    let count = h.count in
+    let step : length (digits_of 10 others) + 1 ≡ length (digits_of 10 left) = ap (λ k. length (digits_of 10 k) + 1) is ∙ count_step left some in
+    record {
+      same = ap (λ k. significant (digits_of 10 k)) is ∙ significant_step left some zero_last ∙ h.same;
+      count = omega arith;
+      few = h.few;
+    }
+
+-- digits are written up to a place of the row: behind those that are left they are all digits
+pub record DigitsWritten (negative : Bool) (n end : ℕ) (row : List ℕ) (left at : ℕ) (now : List ℕ) : Type 0 where
+  pub count : at + length (digits_of 10 n) ≡ end + length (digits_of 10 left)
+  pub within : at ≤ length now
+  pub written : complement_bytes negative (map suc (digits_of 10 left)) ++ drop at now
+      ≡ complement_bytes negative (map suc (digits_of 10 n)) ++ drop end row
+
+module _ (negative : Bool) (n end : ℕ) (row : List ℕ) (left at : ℕ) (now : List ℕ) (h : DigitsWritten negative n end row left at now) where
+  -- there is room for one digit more
+  pub room_left : length (digits_of 10 n) ≤ end → 0 < left → 0 < at
+  room_left room some = let count = h.count in let step = count_step left some in omega arith
+
+  pub digit_passed : (others byte : ℕ) → length (digits_of 10 n) ≤ end → 0 < left → others ≡ left / 10
+      → byte ≡ complement_byte negative (suc (left % 10)) → DigitsWritten negative n end row others (at - 1) (set now (at - 1) byte)
+  digit_passed others byte room some is byte_is =
+      let count = h.count in
+      let more = room_left room some in
+      let step : length (digits_of 10 others) + 1 ≡ length (digits_of 10 left) = ap (λ k. length (digits_of 10 k) + 1) is ∙ count_step left some in
+      record {
+        count = omega arith;
+        within = omega (arith, h.within, length-set {A = ℕ});
+        written = digit_written negative left others at now _ _ byte some is more h.within byte_is refl h.written;
+      }
+
+  pub all_digits : left ≡ 0 → drop at now ≡ complement_bytes negative (map suc (digits_of 10 n)) ++ drop end row
+  all_digits none = ap (λ ds. complement_bytes negative (map suc ds) ++ drop at now) (sym (no_digits left none)) ∙ h.written

@@ -74,9 +74,6 @@ none_in_scalar form i _ t h no_array no_object = rw h refl
 
 -- ---- several steps
 
-pub no_steps : (t : Tree) → tree_at_steps [] t ≡ Some t
-no_steps t = refl
-
 -- the steps meet what the others meet in the child that the first meets
 pub step_by_step : (step : Key) (steps : List Key) (t : Tree)
     → tree_at_steps (step ∷ steps) t ≡ option_and_then (tree_at_steps steps) (child_met step t)

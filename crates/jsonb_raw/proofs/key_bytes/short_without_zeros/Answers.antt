@@ -1,25 +1,15 @@
 use Rattle.std.proofs.Common.{arith, refl, sym, ◌∙◌}
-use Rattle.jsonb_raw.proofs.DigitSteps.{count_step, count_short, significant_step, significant_whole, significant-nothing}
+use Rattle.jsonb_raw.proofs.DigitSteps.{count_short, zero_passed, significant_whole, significant-nothing}
 use Rattle.jsonb_raw.proofs.key_bytes.short_without_zeros.Goals as goal
 
 pub loop-left-init : goal.loop-left-init
-loop-left-init c = record {
-  same = refl;
-  count = omega arith;
-  few = count_short c.args.n (omega arith);
-}
+loop-left-init c = record { same = refl; count = omega arith; few = count_short c.args.n (omega arith) }
 
 pub overflow_add-count : goal.overflow_add-count
 overflow_add-count c = let few = c.loop-left.invariant.few in let count = c.loop-left.invariant.count in omega (arith, few, count)
 
 pub loop-left-preserved : goal.loop-left-preserved
-loop-left-preserved c =
-    let step = count_step c.loop-left.left (omega arith) in
-    record {
-      same = significant_step c.loop-left.left (omega arith) (omega arith) ∙ c.loop-left.invariant.same;
-      count = omega (arith, c.loop-left.invariant.count, step);
-      few = c.loop-left.invariant.few;
-    }
+loop-left-preserved c = zero_passed _ c.loop-left.left _ c.loop-left.count _ c.loop-left.invariant (omega arith) refl (omega arith)
 
 pub returns-then-left-ne0-clause-digits : goal.returns-then-left-ne0-clause-digits
 returns-then-left-ne0-clause-digits c = sym (significant_whole c.loop-left.left c.if-left-ne0.true) ∙ c.loop-left.invariant.same

@@ -1,31 +1,15 @@
-use Rattle.std.proofs.Common.{arith, refl, sym, ap, ◌∙◌, ◌≡◌, ◌+◌, length}
-use Rattle.std.specs.Int.Digits.{digits_of}
-use Rattle.jsonb_raw.specs.SortableKey.{significant}
-use Rattle.jsonb_raw.proofs.DigitSteps.{count_step, count_few, significant_step, significant_whole, significant-nothing}
+use Rattle.std.proofs.Common.{arith, refl, sym, ◌∙◌}
+use Rattle.jsonb_raw.proofs.DigitSteps.{count_few, zero_passed, significant_whole, significant-nothing}
 use Rattle.jsonb_raw.proofs.key_bytes.without_zeros.Goals as goal
 
 pub loop-left-init : goal.loop-left-init
-loop-left-init c = record {
-  same = refl;
-  count = omega arith;
-  few = count_few c.args.n (omega arith);
-}
+loop-left-init c = record { same = refl; count = omega arith; few = count_few c.args.n (omega arith) }
 
 pub overflow_add-zeros : goal.overflow_add-zeros
 overflow_add-zeros c = let few = c.loop-left.invariant.few in let count = c.loop-left.invariant.count in omega (arith, few, count)
 
 pub loop-left-preserved : goal.loop-left-preserved
-loop-left-preserved c =
-    let is = c.split_last-others.ensures.others in
-    let step = count_step c.loop-left.left (omega arith) in
-    record {
-      same = ap (λ n. significant (digits_of 10 n)) is
-          ∙ significant_step c.loop-left.left (omega arith) (omega (arith, c.split_last-others.ensures.last)) ∙ c.loop-left.invariant.same;
-      count = let same : length (digits_of 10 c.split_last-others.result.0) + 1 ≡ length
-          (digits_of 10 c.loop-left.left) = ap (λ n. length (digits_of 10 n) + 1) is ∙ step in
-          omega (arith, c.loop-left.invariant.count, same);
-      few = c.loop-left.invariant.few;
-    }
+loop-left-preserved c = zero_passed _ c.loop-left.left c.split_last-others.result.0 c.loop-left.zeros _ c.loop-left.invariant (omega arith) c.split_last-others.ensures.others (omega (arith, c.split_last-others.ensures.last))
 
 pub returns-then-last-ne0-clause-digits : goal.returns-then-last-ne0-clause-digits
 returns-then-last-ne0-clause-digits c =

@@ -1,15 +1,8 @@
-use Rattle.std.proofs.Common.{◌≡◌, ◌+◌, ◌≤◌, length}
-use Rattle.std.specs.Int.Digits.{digits_of}
-use Rattle.jsonb_raw.specs.SortableKey.{significant}
+use Rattle.jsonb_raw.proofs.DigitSteps.{ZerosPassed}
 use Rattle.jsonb_raw.proofs.key_bytes.without_zeros.Given as goal
 
--- the zeros that were passed over, and the digits that are left, are all
 abbrev pub invariant-loop-left : goal.invariant-loop-left
-invariant-loop-left l = record {
-  same : significant (digits_of 10 l.left) ≡ significant (digits_of 10 l.fn.n);
-  count : length (digits_of 10 l.fn.n) ≡ length (digits_of 10 l.left) + l.zeros;
-  few : length (digits_of 10 l.fn.n) ≤ 39;
-}
+invariant-loop-left l = ZerosPassed l.fn.n l.left l.zeros 39
 
 abbrev pub decreases-loop-left : goal.decreases-loop-left
 decreases-loop-left l = l.left

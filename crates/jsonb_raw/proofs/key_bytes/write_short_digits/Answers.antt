@@ -1,33 +1,23 @@
-use Rattle.std.proofs.Common.{ℕ, length-set, arith, refl, sym, ap, ◌∙◌, ◌++◌, length, suc, map, drop}
-use Rattle.jsonb_raw.specs.Private.Complements.{complement_byte, complement_bytes}
-use Rattle.jsonb_raw.proofs.DigitSteps.{count_step, digit_written, no_digits}
+use Rattle.std.proofs.Common.{arith, refl, ap, ◌∙◌, length}
+use Rattle.jsonb_raw.specs.Private.Complements.{complement_byte}
+use Rattle.jsonb_raw.proofs.DigitSteps.{room_left, digit_passed, all_digits, no_digits}
 use Rattle.jsonb_raw.proofs.key_bytes.write_short_digits.Goals as goal
 
+pub loop-left-init : goal.loop-left-init
+loop-left-init c = record { count = refl; within = c.requires.within; written = refl }
+
 pub overflow_sub-first : goal.overflow_sub-first
-overflow_sub-first c =
-    let step = count_step c.loop-left.left (omega arith) in
-    omega (arith, step, c.loop-left.invariant.count, c.requires.room)
+overflow_sub-first c = omega (arith, room_left _ _ _ _ _ _ _ c.loop-left.invariant c.requires.room (omega arith))
 
 pub bounds-row-first : goal.bounds-row-first
-bounds-row-first c =
-    let step = count_step c.loop-left.left (omega arith) in
-    omega (arith, step, c.loop-left.invariant.count, c.loop-left.invariant.within, c.requires.room)
+bounds-row-first c = omega (arith, room_left _ _ _ _ _ _ _ c.loop-left.invariant c.requires.room (omega arith), c.loop-left.invariant.within)
 
 pub loop-left-preserved : goal.loop-left-preserved
 loop-left-preserved c =
-    let step = count_step c.loop-left.left (omega arith) in
-    record {
-      count = omega (arith, step, c.loop-left.invariant.count, c.requires.room);
-      within = omega (arith, c.loop-left.invariant.within, length-set {A = ℕ});
-      written = digit_written c.args.negative c.loop-left.left _ c.loop-left.first c.loop-left.row _ _ c.spell.result (omega arith) refl
-          (omega (arith, step, c.loop-left.invariant.count, c.requires.room)) c.loop-left.invariant.within
-          (c.spell.ensures ∙ ap (complement_byte c.args.negative) (omega arith)) refl c.loop-left.invariant.written;
-    }
+    digit_passed _ _ _ _ _ _ _ c.loop-left.invariant _ _ c.requires.room (omega arith) refl (c.spell.ensures ∙ ap (complement_byte c.args.negative) (omega arith))
 
 pub returns-clause-first : goal.returns-clause-first
 returns-clause-first c = let none = no_digits c.loop-left.left (omega arith) in omega (arith, ap length none, c.loop-left.invariant.count)
 
 pub returns-clause-written : goal.returns-clause-written
-returns-clause-written c =
-    ap (λ ds. complement_bytes c.args.negative (map suc ds) ++ drop c.loop-left.first c.loop-left.row) (sym (no_digits c.loop-left.left (omega arith)))
-    ∙ c.loop-left.invariant.written
+returns-clause-written c = all_digits _ _ _ _ _ _ _ c.loop-left.invariant (omega arith)

@@ -10,8 +10,7 @@ use Rattle.jsonb_raw.proofs.raw.RawJsonb.get_by_index.Goals as goal
 
 pub returns-in_err-root-clause-element : goal.returns-in_err-root-clause-element
 returns-in_err-root-clause-element c = λ form t d.
-    let d' : Decodes form c.as_bytes-bytes.result.now t = rw c.as_bytes-bytes.ensures d in
-    absurd (c.in_err-root.ensures.marks t (decodes_any form _ t d'))
+    absurd (c.in_err-root.ensures.marks t (decodes_any form c.as_bytes-bytes.result.now t (rw c.as_bytes-bytes.ensures d)))
 
 pub returns-in_err-spot-clause-element : goal.returns-in_err-spot-clause-element
 returns-in_err-spot-clause-element c = λ form t d.
@@ -43,8 +42,7 @@ returns-clause-element c = λ form t d.
 
 pub returns-in_err-root-clause-none : goal.returns-in_err-root-clause-none
 returns-in_err-root-clause-none c = λ form t d none.
-    let d' : Decodes form c.as_bytes-bytes.result.now t = rw c.as_bytes-bytes.ensures d in
-    absurd (c.in_err-root.ensures.marks t (decodes_any form _ t d'))
+    absurd (c.in_err-root.ensures.marks t (decodes_any form c.as_bytes-bytes.result.now t (rw c.as_bytes-bytes.ensures d)))
 
 pub returns-in_err-spot-clause-none : goal.returns-in_err-spot-clause-none
 returns-in_err-spot-clause-none c = λ form t d none.

@@ -11,8 +11,7 @@ use Rattle.jsonb_raw.proofs.raw.RawJsonb.get_by_name.Goals as goal
 
 pub returns-in_err-root-clause-value : goal.returns-in_err-root-clause-value
 returns-in_err-root-clause-value c = λ form t d.
-    let d' : Decodes form c.as_bytes-bytes.result.now t = rw c.as_bytes-bytes.ensures d in
-    absurd (c.in_err-root.ensures.marks t (decodes_any form _ t d'))
+    absurd (c.in_err-root.ensures.marks t (decodes_any form c.as_bytes-bytes.result.now t (rw c.as_bytes-bytes.ensures d)))
 
 pub returns-in_err-spot-clause-value : goal.returns-in_err-spot-clause-value
 returns-in_err-spot-clause-value c = λ form t d.
@@ -53,8 +52,7 @@ returns-in-None-clause-value c = λ form t d.
 
 pub returns-in_err-root-clause-none : goal.returns-in_err-root-clause-none
 returns-in_err-root-clause-none c = λ form t d none.
-    let d' : Decodes form c.as_bytes-bytes.result.now t = rw c.as_bytes-bytes.ensures d in
-    absurd (c.in_err-root.ensures.marks t (decodes_any form _ t d'))
+    absurd (c.in_err-root.ensures.marks t (decodes_any form c.as_bytes-bytes.result.now t (rw c.as_bytes-bytes.ensures d)))
 
 pub returns-in_err-spot-clause-none : goal.returns-in_err-spot-clause-none
 returns-in_err-spot-clause-none c = λ form t d none.
