@@ -1,10 +1,11 @@
 -- Trees and their entries, as lists.
-use Rattle.std.proofs.Common.{◌≡◌, ℕ, zero, suc, ◌*◌, List, [], ◌∷◌, ◌++◌, length, Option, Some, None, refl, sym, ap, subst, ◌∙◌, arith, append_assoc, slice_get}
+use Rattle.std.proofs.Common.{◌≡◌, ℕ, zero, suc, ◌+◌, ◌*◌, List, [], ◌∷◌, ◌++◌, length, map, Option, Some, None, refl, sym, ap, subst, ◌∙◌, arith, append_assoc, slice_get}
 use Rattle.std.specs.Prelude.{⊤}
 use Rattle.jsonb_doc.specs.Tree.{Tree, Trees, no_trees, tree, Pairs, no_pairs, pair, elements, count, keys, values}
 use Rattle.jsonb_doc.specs.Payload.{NumberReader}
 use Rattle.jsonb_doc.specs.Format.{entry_word, text_entry, key_words, key_bytes, AreKeys, IsContent, AreEntries, AreValues}
 use Rattle.jsonb_doc.specs.Encoding.{EntryParts}
+use Rattle.jsonb_doc.specs.Lengths.{StandBefore}
 use Rattle.jsonb_doc.specs.Private.ObjectBytes.{words_of_entries, contents_of_entries}
 use Rattle.jsonb_raw.specs.Deletes.{put_tree, put_pair, change_tree, change_value}
 use Rattle.jsonb_raw.specs.Private.Cuts.{FitEntries}
@@ -36,6 +37,28 @@ within-back (e ∷ xs) ys h = within-back xs ys h.1
 pub within-both : (xs ys : List EntryParts) → FitEntries xs → FitEntries ys → FitEntries (xs ++ ys)
 within-both [] ys h g = g
 within-both (e ∷ xs) ys h g = (h.0, within-both xs ys h.1 g)
+
+-- entries stand before what follows their contents
+entries_before : (es : List EntryParts) (words : List ℕ) → FitEntries es → words ≡ words_of_entries es
+    → StandBefore (map (λ e. e.1) es) words (contents_of_entries es) []
+entries_before [] words within is = (is, refl)
+entries_before (e ∷ es) words within is = record {
+  kind = e.0;
+  content = e.1;
+  other_words = words_of_entries es;
+  other_contents = contents_of_entries es;
+  begin = record { known = within.0.0; fits = within.0.1; words_joined = is; contents_joined = refl };
+  part = refl;
+  others = entries_before es (words_of_entries es) within.1 refl;
+}
+
+-- what is told of contents that stand before others holds of the contents of entries
+pub contents_counted : (len : ℕ) (words : List ℕ)
+    → ((parts : List (List ℕ)) (contents rest : List ℕ) → StandBefore parts words contents rest → len + length rest ≡ length contents)
+    → (es : List EntryParts) → FitEntries es → words ≡ words_of_entries es → len ≡ length (contents_of_entries es)
+contents_counted len words told es within is =
+    let sum : len + 0 ≡ length (contents_of_entries es) = told (map (λ e. e.1) es) (contents_of_entries es) [] (entries_before es words within is) in
+    omega (arith, sum)
 
 -- ---- keys as entries
 

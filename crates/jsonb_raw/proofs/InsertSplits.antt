@@ -1,15 +1,14 @@
 -- The entries of an object split in several, and the entry of a document's root.
 use Rattle.std.proofs.Common.{◌≡◌, ℕ, ◌+◌, ◌*◌, ◌%◌, ◌^◌, ◌≤◌, List, ◌++◌, length, take, drop, sym, ap, ◌∙◌, arith}
-use Rattle.std.specs.Int.{w32, from_be_bytes}
 use Rattle.std.proofs.lemmas.List.{length-append, take_at, drop_at}
 use Rattle.jsonb_doc.specs.Format.{HeadedBy, object_header}
 use Rattle.jsonb_doc.specs.Encoding.{EntryParts}
 use Rattle.jsonb_doc.specs.Private.ObjectBytes.{words_of_entries, contents_of_entries}
+use Rattle.jsonb_doc.proofs.Containers.{HeadedBy-unique}
 use Rattle.jsonb_raw.specs.declared.functions.object.pair_parts.PairPlace.{PairPlace}
 use Rattle.jsonb_raw.specs.declared.functions.parts.Entries.{Entries}
 use Rattle.jsonb_raw.specs.Private.Inserts.{AreBytesOf, IsCutAt}
 use Rattle.jsonb_raw.proofs.EntryLists.{words-append, contents-append, length-kept_words, within-front, within-back}
-use Rattle.jsonb_raw.proofs.CutChild.{header_read}
 
 -- ---- entries split in two
 
@@ -61,23 +60,24 @@ pub record IsRow (place : PairPlace) (count : ℕ) (rest : List ℕ) (before key
   pub are : (row : Entries) → row.words.now ≡ take (8 * count) rest → row.contents.now ≡ drop (8 * count) rest
       → AreBytesOf row (before ++ (key ++ (between ++ (value ++ behind))))
 
+pub has_header : (bytes : List ℕ) (place : PairPlace) (before key between value behind : List EntryParts) → IsCutAt bytes place before key between value behind
+    → HeadedBy bytes object_header (length key + length between)
+    (words_of_entries (before ++ (key ++ (between ++ (value ++ behind)))) ++ contents_of_entries (before ++ (key ++ (between ++ (value ++ behind)))))
+has_header bytes place before key between value behind h = record { known = omega arith; fits = h.fits; joined = h.joined }
+
 module _ (bytes : List ℕ) (place : PairPlace) (before key between value behind : List EntryParts) (h : IsCutAt bytes place before key between value behind)
-    (word rest : List ℕ) (m count : ℕ)
-    (first : word ≡ take 4 bytes) (behind_word : rest ≡ drop 4 bytes) (read : m ≡ from_be_bytes w32 word) (count_is : count ≡ m % 2 ^ 29) where
+    (kind count : ℕ) (rest : List ℕ) (read : HeadedBy bytes kind count rest) where
   abbrev all : List EntryParts
   all = before ++ (key ++ (between ++ (value ++ behind)))
 
   headed : HeadedBy bytes object_header (length key + length between) (words_of_entries all ++ contents_of_entries all)
-  headed = record { known = omega arith; fits = h.fits; joined = h.joined }
+  headed = has_header bytes place before key between value behind h
 
   pair_count : count ≡ length key + length between
-  pair_count =
-      let fits = h.fits in
-      let is = header_read bytes word (words_of_entries all ++ contents_of_entries all) object_header (length key + length between) m headed first read in
-      omega (arith, count_is, is, fits)
+  pair_count = (HeadedBy-unique bytes kind object_header count _ rest _ read headed).1
 
   rest_is : rest ≡ words_of_entries all ++ contents_of_entries all
-  rest_is = behind_word ∙ ap (drop 4) h.joined
+  rest_is = (HeadedBy-unique bytes kind object_header count _ rest _ read headed).2
 
   all_count : length all ≡ 2 * count
   all_count =

@@ -2,14 +2,13 @@
 use Rattle.std.proofs.Common.{◌≡◌, ◌+◌, ◌*◌, ◌/◌, ◌^◌, ◌<◌, ◌≤◌, ◌++◌, ℕ, zero, suc, Bool, true, false, List, [], ◌∷◌, Option, Some, Result, Ok, length, take, drop, cond, refl, sym, ap, ◌∙◌, arith, append_assoc, append-nil}
 use Rattle.std.specs.Prelude.{if◌then◌else◌, ◌==◌}
 use Rattle.std.specs.Borrow.{Bor}
-use Rattle.std.specs.Int.{w32, from_be_bytes}
-use Rattle.std.proofs.lemmas.Nat.{from_be_bytes-to_be_bytes_4}
 use Rattle.std.proofs.lemmas.Bool.Decides.{nat_tests}
 use Rattle.std.proofs.lemmas.List.{length-append}
 use Rattle.jsonb_doc.specs.Tree.{Tree, boolean, array, object, Trees, no_trees, tree, Pairs, no_pairs, pair, elements, values, keys, trees_of}
 use Rattle.jsonb_doc.specs.Payload.{Form, number_reader}
 use Rattle.jsonb_doc.specs.Format.{IsContent, container_entry, null_entry, text_entry, entry_word, key_bytes, AreKeys}
 use Rattle.jsonb_doc.specs.Encoding.{EntryParts}
+use Rattle.jsonb_doc.specs.Lengths.{Tells}
 use Rattle.jsonb_doc.specs.Private.ObjectBytes.{words_of_entries, contents_of_entries}
 use Rattle.jsonb_doc.proofs.BuilderSteps.{keys_rise}
 use Rattle.jsonb_doc.specs.declared.error.Error.{Error}
@@ -73,12 +72,6 @@ is_none k e = rw e refl
 pub is_some : (k : ℕ) → (k ≡ 0 → ⊥) → (k == null_entry) ≡ false
 is_some zero other = absurd (other refl)
 is_some (suc n) other = grind (arith, nat_tests)
-
--- a word tells of what kind its entry is
-pub word_kind : (kind len n : ℕ) (word : List ℕ) → kind < 8 → len < 2 ^ 28 → word ≡ entry_word kind len → n ≡ from_be_bytes w32 word → n / 2 ^ 28 ≡ kind
-word_kind kind len n word known short is read =
-    let same : n ≡ kind * 2 ^ 28 + len = read ∙ ap (from_be_bytes w32) is ∙ from_be_bytes-to_be_bytes_4 (kind * 2 ^ 28 + len) (omega arith) in
-    omega (arith, same)
 
 -- ---- trees and entries
 
@@ -149,24 +142,24 @@ pub record CountLeft (count : ℕ) (left : List ℕ) (total : ℕ) : Type 0 wher
   pub words : left ≡ words_of_entries entries
   pub sum : count + length (beside entries entries) ≡ total
 
-module _ (n : ℕ) (left word others : List ℕ) (first : word ≡ take 4 left) (rest : others ≡ drop 4 left) (long : length others + 4 ≡ length left)
-    (read : n ≡ from_be_bytes w32 word) where
-  pub count_null : (count total : ℕ) → n / 2 ^ 28 ≡ 0 → CountLeft count left total → CountLeft count others total
+module _ (n len : ℕ) (left word others : List ℕ) (first : word ≡ take 4 left) (rest : others ≡ drop 4 left) (long : length others + 4 ≡ length left)
+    (read : Tells word n len) where
+  pub count_null : (count total : ℕ) → n ≡ 0 → CountLeft count left total → CountLeft count others total
   count_null count total none c = go c.entries c.within c.words c.sum
     where
       go : (es : List EntryParts) → FitEntries es → left ≡ words_of_entries es → count + length (beside es es) ≡ total → CountLeft count others total
       go [] within words sum = absurd (omega (arith, long, ap length words))
       go (e ∷ es) within words sum =
-          let kind = word_kind e.0 (length e.1) n word within.0.0 within.0.1 (first ∙ ap (take 4) words) read in
+          let kind = (read e.0 (length e.1) within.0.0 within.0.1 (first ∙ ap (take 4) words)).0 in
           record { entries = es; within = within.1; words = rest ∙ ap (drop 4) words; sum = rw (is_none e.0 (sym kind ∙ none)) at sum }
 
-  pub count_other : (count total : ℕ) → (n / 2 ^ 28 ≡ 0 → ⊥) → CountLeft count left total → CountLeft (count + 1) others total
+  pub count_other : (count total : ℕ) → (n ≡ 0 → ⊥) → CountLeft count left total → CountLeft (count + 1) others total
   count_other count total some c = go c.entries c.within c.words c.sum
     where
       go : (es : List EntryParts) → FitEntries es → left ≡ words_of_entries es → count + length (beside es es) ≡ total → CountLeft (count + 1) others total
       go [] within words sum = absurd (omega (arith, long, ap length words))
       go (e ∷ es) within words sum =
-          let kind = word_kind e.0 (length e.1) n word within.0.0 within.0.1 (first ∙ ap (take 4) words) read in
+          let kind = (read e.0 (length e.1) within.0.0 within.0.1 (first ∙ ap (take 4) words)).0 in
           let more = rw (is_some e.0 (λ none. some (kind ∙ none))) at sum in
           record { entries = es; within = within.1; words = rest ∙ ap (drop 4) words; sum = omega (arith, more) }
 
@@ -188,11 +181,11 @@ pub record WordsToPush (out values words whole : List ℕ) : Type 0 where
   pub words_are : words ≡ words_of_entries others
   pub fact : out ++ words_of_entries (beside entries others) ≡ whole
 
-module _ (n : ℕ) (values value values' : List ℕ) (first : value ≡ take 4 values) (rest : values' ≡ drop 4 values) (long : length values' + 4 ≡ length values)
-    (read : n ≡ from_be_bytes w32 value)
+module _ (n len : ℕ) (values value values' : List ℕ) (first : value ≡ take 4 values) (rest : values' ≡ drop 4 values) (long : length values' + 4 ≡ length values)
+    (read : Tells value n len)
     (words word words' : List ℕ) (word_first : word ≡ take 4 words) (words_rest : words' ≡ drop 4 words) (out out' whole : List ℕ) where
   -- the first of the values goes, and the word beside it
-  first_word_gone : ((e x : EntryParts) (es xs : List EntryParts) → n / 2 ^ 28 ≡ e.0 → word ≡ entry_word x.0 (length x.1)
+  first_word_gone : ((e x : EntryParts) (es xs : List EntryParts) → n ≡ e.0 → word ≡ entry_word x.0 (length x.1)
       → out ++ words_of_entries (beside (e ∷ es) (x ∷ xs)) ≡ whole → out' ++ words_of_entries (beside es xs) ≡ whole)
       → WordsToPush out values words whole → WordsToPush out' values' words' whole
   first_word_gone fact_of w = go w.entries w.others w.within w.as_many w.values_are w.words_are w.fact
@@ -202,7 +195,7 @@ module _ (n : ℕ) (values value values' : List ℕ) (first : value ≡ take 4 v
       go [] xs within many values_are words_are fact = absurd (omega (arith, long, ap length values_are))
       go (e ∷ es) [] within many values_are words_are fact = absurd (omega (arith, many))
       go (e ∷ es) (x ∷ xs) within many values_are words_are fact =
-          let kind = word_kind e.0 (length e.1) n value within.0.0 within.0.1 (first ∙ ap (take 4) values_are) read in
+          let kind = (read e.0 (length e.1) within.0.0 within.0.1 (first ∙ ap (take 4) values_are)).0 in
           record {
             entries = es;
             others = xs;
@@ -213,10 +206,10 @@ module _ (n : ℕ) (values value values' : List ℕ) (first : value ≡ take 4 v
             fact = fact_of e x es xs kind (word_first ∙ ap (take 4) words_are) fact;
           }
 
-  pub word_left_out : n / 2 ^ 28 ≡ 0 → out' ≡ out → WordsToPush out values words whole → WordsToPush out' values' words' whole
+  pub word_left_out : n ≡ 0 → out' ≡ out → WordsToPush out values words whole → WordsToPush out' values' words' whole
   word_left_out none same w = first_word_gone (λ e x es xs kind is fact. rw same (rw (is_none e.0 (sym kind ∙ none)) at fact)) w
 
-  pub word_pushed : (n / 2 ^ 28 ≡ 0 → ⊥) → out' ≡ out ++ word → WordsToPush out values words whole → WordsToPush out' values' words' whole
+  pub word_pushed : (n ≡ 0 → ⊥) → out' ≡ out ++ word → WordsToPush out values words whole → WordsToPush out' values' words' whole
   word_pushed some pushed w = first_word_gone (λ e x es xs kind is fact.
       ap (λ ws. ws ++ words_of_entries (beside es xs)) (pushed ∙ ap (λ w. out ++ w) is)
       ∙ append_assoc out (entry_word x.0 (length x.1)) (words_of_entries (beside es xs))
@@ -266,13 +259,13 @@ module _ {G : Type 0} where
       by (e ∷ es) (k ∷ ks) are above many values_are words_are keys_are = go k ks above
           (reads (key_entries (k ∷ ks)) (key-within (k ∷ ks) are) words_are keys_are)
 
-module _ (n : ℕ) (values value values' : List ℕ) (first : value ≡ take 4 values) (rest : values' ≡ drop 4 values) (long : length values' + 4 ≡ length values)
-    (read : n ≡ from_be_bytes w32 value)
+module _ (n len : ℕ) (values value values' : List ℕ) (first : value ≡ take 4 values) (rest : values' ≡ drop 4 values) (long : length values' + 4 ≡ length values)
+    (read : Tells value n len)
     (words keys : List ℕ) (given : StoredEntry)
     (reads : (xs : List EntryParts) → FitEntries xs → words ≡ words_of_entries xs → keys ≡ contents_of_entries xs → ReadsEntry xs (Ok (Some given)))
     (last : Option (Bor (List ℕ))) (out out' whole : List ℕ) where
   -- the first of the values goes, and the key beside it
-  first_gone : ((e : EntryParts) (es : List EntryParts) (k : List ℕ) (ks : List (List ℕ)) → n / 2 ^ 28 ≡ e.0 → given.content.now ≡ k
+  first_gone : ((e : EntryParts) (es : List EntryParts) (k : List ℕ) (ks : List (List ℕ)) → n ≡ e.0 → given.content.now ≡ k
       → out ++ key_bytes (beside (e ∷ es) (k ∷ ks)) ≡ whole → out' ++ key_bytes (beside es ks) ≡ whole)
       → KeysToPush out values words keys last whole → KeysToPush out' values' given.words.now given.contents.now (Some given.content) whole
   first_gone fact_of w = go w.entries w.names w.within w.are w.as_many w.values_are w.words_are w.keys_are w.fact
@@ -283,7 +276,7 @@ module _ (n : ℕ) (values value values' : List ℕ) (first : value ≡ take 4 v
       go [] ks within are many values_are words_are keys_are fact = absurd (omega (arith, long, ap length values_are))
       go (e ∷ es) [] within are many values_are words_are keys_are fact = absurd (omega (arith, many))
       go (e ∷ es) (k ∷ ks) within are many values_are words_are keys_are fact =
-          let kind = word_kind e.0 (length e.1) n value within.0.0 within.0.1 (first ∙ ap (take 4) values_are) read in
+          let kind = (read e.0 (length e.1) within.0.0 within.0.1 (first ∙ ap (take 4) values_are)).0 in
           let r = reads (key_entries (k ∷ ks)) (key-within (k ∷ ks) are) words_are keys_are in
           record {
             entries = es;
@@ -298,11 +291,11 @@ module _ (n : ℕ) (values value values' : List ℕ) (first : value ≡ take 4 v
             fact = fact_of e es k ks kind r.content fact;
           }
 
-  pub key_left_out : n / 2 ^ 28 ≡ 0 → out' ≡ out → KeysToPush out values words keys last whole
+  pub key_left_out : n ≡ 0 → out' ≡ out → KeysToPush out values words keys last whole
       → KeysToPush out' values' given.words.now given.contents.now (Some given.content) whole
   key_left_out none same w = first_gone (λ e es k ks kind is fact. rw same (rw (is_none e.0 (sym kind ∙ none)) at fact)) w
 
-  pub key_pushed : (n / 2 ^ 28 ≡ 0 → ⊥) → out' ≡ out ++ given.content.now → KeysToPush out values words keys last whole
+  pub key_pushed : (n ≡ 0 → ⊥) → out' ≡ out ++ given.content.now → KeysToPush out values words keys last whole
       → KeysToPush out' values' given.words.now given.contents.now (Some given.content) whole
   key_pushed some pushed w = first_gone (λ e es k ks kind is fact.
       ap (λ ws. ws ++ key_bytes (beside es ks)) (pushed ∙ ap (λ x. out ++ x) is) ∙ append_assoc out k (key_bytes (beside es ks))

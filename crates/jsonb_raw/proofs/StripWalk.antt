@@ -1,15 +1,14 @@
 -- A walk that writes containers again without the nulls of their objects: how a container is begun, goes on and is done.
 use Rattle.std.proofs.Common.{◌≡◌, ◌⊎◌, inl, inr, ◌+◌, ◌*◌, ◌/◌, ◌%◌, ◌^◌, ◌<◌, ◌≤◌, ◌++◌, ℕ, suc, Bool, true, false, List, [], ◌∷◌, Some, None, Result, Ok, Err, length, take, drop, refl, sym, ap, subst, ◌∙◌, arith, append_assoc, append-nil, MatchResult}
 use Rattle.std.specs.Prelude.{reverse, slice_range, ◌==◌}
-use Rattle.std.specs.Int.{w32, to_be_bytes, from_be_bytes}
 use Rattle.std.proofs.lemmas.List.{length-append, take_at, drop_at, take-append-drop}
 use Rattle.jsonb_doc.specs.declared.error.Error.{Error}
 use Rattle.jsonb_doc.specs.Tree as spec
 use Rattle.jsonb_doc.specs.Tree.{Tree, Trees, Pairs, elements, values, count}
 use Rattle.jsonb_doc.specs.Payload.{Form, number_reader}
-use Rattle.jsonb_doc.specs.Format.{Decodes, IsContent, AreKeys, header, array_header, object_header, container_entry, null_entry, entry_word, key_bytes}
+use Rattle.jsonb_doc.specs.Format.{Decodes, IsContent, AreKeys, HeadedBy, header, array_header, object_header, container_entry, null_entry, entry_word, key_bytes}
 use Rattle.jsonb_doc.specs.Format.{key_words as key_words_of}
-use Rattle.jsonb_doc.proofs.Containers.{entries_of, count-values}
+use Rattle.jsonb_doc.proofs.Containers.{HeadedBy-unique, entries_of, count-values}
 use Rattle.jsonb_doc.specs.Answer.{IsOutOfMemory, IsOutOfMemoryOrTooLarge}
 use Rattle.jsonb_doc.specs.Encoding.{EntryParts}
 use Rattle.jsonb_doc.specs.ObjectBuilder.{FitsEntry}
@@ -22,7 +21,6 @@ use Rattle.jsonb_raw.specs.Strip.{strip, strip_trees, strip_pairs}
 use Rattle.jsonb_raw.specs.Private.Stripping.{leaves_out, staying, stripped, beside, key_entries, AreOfEach, IsEntry, ReadsEntry, IsWrittenTo, IsOpen}
 use Rattle.jsonb_raw.proofs.EntryLists.{AreOf, listed, joined, joined_values, count_are, words-append, contents-append, length-kept_words, within-both, key-words, key-contents, key-within, key-count}
 use Rattle.jsonb_raw.proofs.CutLemmas.{slice_of, slice_end}
-use Rattle.jsonb_raw.proofs.CutChild.{header_read}
 use Rattle.jsonb_raw.proofs.LevelLemmas.{innermost}
 use Rattle.jsonb_raw.proofs.StripLists.{staying-array, beside-self, length-beside, trees-stripped, values-stripped, null_kind, scalar_strips, each_of, of_each, each_more, keys_beside, key_entries_beside, keys_stripped, fewer_keys, fewer_bytes, is_some}
 
@@ -190,24 +188,24 @@ pub record IsWithinAll (form : Form) (is_object : Bool) (start word : ℕ) (word
 module _ (form : Form) (is_object : Bool) (start word : ℕ) (words contents : List ℕ) (around : List Writing) (out : List ℕ) (whole : Tree) (given : StoredEntry)
     (reads : (es : List EntryParts) → FitEntries es → words ≡ words_of_entries es → contents ≡ contents_of_entries es → ReadsEntry es (Ok (Some given)))
     (h : IsWithinAll form is_object start word words contents around out whole) where
+  -- the first entry is passed, and what is written is as said
+  still_within : (es : List EntryParts) (ts : List Tree) (out' : List ℕ) (word' : ℕ) → given.words.now ≡ words_of_entries es
+      → given.contents.now ≡ contents_of_entries es → IsWrittenTo form is_object h.before out' start word' es ts h.target h.most
+      → IsWithinAll form is_object start word' given.words.now given.contents.now around out' whole
+  still_within es ts out' word' words_are contents_are written = record {
+    before = h.before;
+    target = h.target;
+    most = h.most;
+    opened = record { entries = es; trees = ts; words_are = words_are; contents_are = contents_are; written = written };
+    outside = h.outside;
+  }
+
   pub entry_skipped : leaves_out is_object (given.kind == null_entry) ≡ true
       → IsWithinAll form is_object start word given.words.now given.contents.now around out whole
   entry_skipped out_of =
       first_entry form is_object h.before out start word words contents h.target h.most given reads h.opened
-      (λ e es t ts r w. record {
-        before = h.before;
-        target = h.target;
-        most = h.most;
-        opened = record {
-          entries = es;
-          trees = ts;
-          words_are = r.words;
-          contents_are = r.contents;
-          written = skipped form is_object h.before out start word
-              e es t ts h.target h.most w (rw r.kind at out_of);
-        };
-        outside = h.outside;
-      })
+      (λ e es t ts r w.
+      still_within es ts out word r.words r.contents (skipped form is_object h.before out start word e es t ts h.target h.most w (rw r.kind at out_of)))
 
   pub entry_copied : (out' : List ℕ) (word' : ℕ) → leaves_out is_object (given.kind == null_entry) ≡ false → (given.kind ≡ container_entry → ⊥)
       → length out < 2 ^ 63 → word' ≡ (word + 4) % 2 ^ 64 → out' ≡ out ++ given.content.now
@@ -218,28 +216,17 @@ module _ (form : Form) (is_object : Bool) (start word : ℕ) (words contents : L
       let stays' : leaves_out is_object (e.0 == null_entry) ≡ false = rw r.kind at stays in
       let same : staying is_object (e ∷ es) ≡ e ∷ staying is_object es = rw stays' refl in
       let inside = word_inside form is_object h.before out start word e es t ts h.target h.most w stays' in
-      record {
-        before = h.before;
-        target = h.target;
-        most = h.most;
-        opened = record {
-          entries = es;
-          trees = ts;
-          words_are = r.words;
-          contents_are = r.contents;
-          written = filled form is_object h.before out start word e es t ts h.target h.most w e out' word' stays'
-              (subst (λ (u : Tree). IsContent (number_reader form) u e.0 e.1)
-              (sym (scalar_strips form t e.0 e.1 w.left_are.0 (λ k. scalar (r.kind ∙ k)))) w.left_are.0) w.left_within.0 (omega arith)
-              (omega (arith, more, inside, long))
-              (pushed ∙ ap (λ x. x ++ given.content.now)
-              (w.joined ∙ ap (λ xs. h.before
-              ++ (w.front ++ ((words_of_entries w.done ++ words_of_entries xs) ++ (w.keys ++ contents_of_entries w.done)))) same)
-              ∙ ap (λ (x : List ℕ). (h.before
-              ++ (w.front ++ ((words_of_entries w.done ++ words_of_entries (e ∷ staying is_object es)) ++ (w.keys ++ contents_of_entries w.done))))
-              ++ x) r.content ∙ simp append_assoc);
-        };
-        outside = h.outside;
-      })
+      still_within es ts out' word' r.words r.contents
+      (filled form is_object h.before out start word e es t ts h.target h.most w e out' word' stays'
+      (subst (λ (u : Tree). IsContent (number_reader form) u e.0 e.1)
+      (sym (scalar_strips form t e.0 e.1 w.left_are.0 (λ k. scalar (r.kind ∙ k)))) w.left_are.0) w.left_within.0 (omega arith)
+      (omega (arith, more, inside, long))
+      (pushed ∙ ap (λ x. x ++ given.content.now)
+      (w.joined ∙ ap (λ xs. h.before
+      ++ (w.front ++ ((words_of_entries w.done ++ words_of_entries xs) ++ (w.keys ++ contents_of_entries w.done)))) same)
+      ∙ ap (λ (x : List ℕ). (h.before
+      ++ (w.front ++ ((words_of_entries w.done ++ words_of_entries (e ∷ staying is_object es)) ++ (w.keys ++ contents_of_entries w.done))))
+      ++ x) r.content ∙ simp append_assoc)))
 
   -- a container is begun within
   pub entry_entered : (w' : Writing) (around' : List Writing) (b : Bool) (bs bw : ℕ) (bwords bcontents out' : List ℕ) → w'.is_object ≡ is_object
@@ -567,13 +554,13 @@ object_read form ps container all_words behind key_words words keys contents n l
       );
     }
 
-pub object_begun : (form : Form) (ps : Pairs) (container key_words words keys contents old o1 o2 o3 o4 : List ℕ) (start word k m : ℕ)
+pub object_begun : (form : Form) (ps : Pairs) (container key_words words keys contents old o1 o2 o3 o4 : List ℕ) (start word k : ℕ)
     (r : ObjectRead form ps container key_words words keys contents)
-    → start ≡ length old → k ≡ length (beside r.entries r.entries) → m ≡ object_header * 2 ^ 29 + k → o1 ≡ old ++ to_be_bytes w32 m
+    → start ≡ length old → k ≡ length (beside r.entries r.entries) → o1 ≡ old ++ header object_header k
     → o2 ≡ o1 ++ words_of_entries (beside r.entries (key_entries (spec.keys ps))) → word ≡ length o2
     → o3 ≡ o2 ++ words_of_entries (beside r.entries r.entries) → o4 ≡ o3 ++ key_bytes (beside r.entries (spec.keys ps))
     → IsOpen form true old o4 start word words contents (spec.object (strip_pairs ps)) (length container)
-object_begun form ps container key_words words keys contents old o1 o2 o3 o4 start word k m r start_is k_is m_is p1 p2 word_is p3 p4 =
+object_begun form ps container key_words words keys contents old o1 o2 o3 o4 start word k r start_is k_is p1 p2 word_is p3 p4 =
     let ks = spec.keys ps in
     let es = r.entries in
     let ks' = spec.keys (strip_pairs ps) in
@@ -584,7 +571,7 @@ object_begun form ps container key_words words keys contents old o1 o2 o3 o4 sta
     let kw = key_words_of ks' in
     let vw = words_of_entries (staying true es) in
     let kb = key_bytes ks' in
-    let e1 : o1 ≡ old ++ h = p1 ∙ ap (λ x. old ++ x) (ap (to_be_bytes w32) (m_is ∙ ap (λ c. object_header * 2 ^ 29 + c) same_count)) in
+    let e1 : o1 ≡ old ++ h = p1 ∙ ap (λ c. old ++ header object_header c) same_count in
     let e2 : o2 ≡ (old ++ h) ++ kw = p2
     ∙ both_are o1 (words_of_entries (beside es (key_entries ks))) (old ++ h) kw e1 (ap words_of_entries staying_entries ∙ key-words ks') in
     let e3 : o3 ≡ ((old ++ h) ++ kw) ++ vw = p3
@@ -675,27 +662,24 @@ pub record ObjectBegins (form : Form) (t : Tree) (container : List ℕ) (n : ℕ
   pub content : IsContent (number_reader form) (spec.object pairs) container_entry container
   pub counted : n ≡ length (spec.keys pairs)
 
-module _ (form : Form) (container word : List ℕ) (m : ℕ) (first : word ≡ take 4 container) (read : m ≡ from_be_bytes w32 word) where
+module _ (form : Form) (container : List ℕ) (kind n : ℕ) (rest : List ℕ) (headed : HeadedBy container kind n rest) where
   pub container_case : (t : Tree) → IsContent (number_reader form) t container_entry container
-      → ((m / 2 ^ 29 ≡ 4) × ArrayBegins form t container (m % 2 ^ 29)) ⊎ ((m / 2 ^ 29 ≡ 2) × ObjectBegins form t container (m % 2 ^ 29))
+      → ((kind ≡ array_header) × ArrayBegins form t container n) ⊎ ((kind ≡ object_header) × ObjectBegins form t container n)
   container_case (spec.boolean true) h = absurd (omega (arith, h.0))
   container_case (spec.array ts) h =
-      let is = header_read container word (h.1.words ++ h.1.contents) array_header (count ts) m h.1.headed first read in
-      let fits = h.1.headed.fits in
-      inl (omega (arith, is, fits), record { trees = ts; is = refl; content = h; counted = omega (arith, is, fits) })
+      let same = HeadedBy-unique container kind array_header n (count ts) rest (h.1.words ++ h.1.contents) headed h.1.headed in
+      inl (same.0, record { trees = ts; is = refl; content = h; counted = same.1 })
   container_case (spec.object ps) h =
-      let is = header_read container word (h.1.words ++ h.1.contents) object_header (length (spec.keys ps)) m h.1.headed first read in
-      let fits = h.1.headed.fits in
-      inr (omega (arith, is, fits), record { pairs = ps; is = refl; content = h; counted = omega (arith, is, fits) })
+      let same = HeadedBy-unique container kind object_header n (length (spec.keys ps)) rest (h.1.words ++ h.1.contents) headed h.1.headed in
+      inr (same.0, record { pairs = ps; is = refl; content = h; counted = same.1 })
   container_case _ h = absurd (omega (arith, h.0))
 
-pub container_is_long : (form : Form) (t : Tree) (container : List ℕ) → IsContent (number_reader form) t container_entry container → length container < 4 → ⊥
-container_is_long form (spec.boolean true) container h short = omega (arith, h.0)
-container_is_long form (spec.array ts) container h short = omega
-    (arith, short, ap length h.1.headed.joined, length-append (header array_header (count ts)) (h.1.words ++ h.1.contents))
-container_is_long form (spec.object ps) container h short = omega
-    (arith, short, ap length h.1.headed.joined, length-append (header object_header (length (spec.keys ps))) (h.1.words ++ h.1.contents))
-container_is_long form _ container h short = omega (arith, h.0)
+pub no_header : (form : Form) (t : Tree) (container : List ℕ) → IsContent (number_reader form) t container_entry container
+    → ((kind n : ℕ) (rest : List ℕ) → HeadedBy container kind n rest → ⊥) → ⊥
+no_header form (spec.boolean true) container h none = omega (arith, h.0)
+no_header form (spec.array ts) container h none = none _ _ _ h.1.headed
+no_header form (spec.object ps) container h none = none _ _ _ h.1.headed
+no_header form _ container h none = omega (arith, h.0)
 
 -- ---- how the walk begins
 

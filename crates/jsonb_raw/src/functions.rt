@@ -3,7 +3,6 @@
 mod array;
 mod cast;
 pub(crate) mod entries;
-mod entry_words;
 mod joined;
 mod object;
 mod operator;

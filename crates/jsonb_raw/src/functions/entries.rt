@@ -1,9 +1,9 @@
 //! Entries of containers in rows, as they are stored.
 
-ghost use Rattle.std.specs.Prelude.{◌≡◌, ◌+◌, ◌^◌, ◌<◌, List, ◌++◌, length, take, drop, IsSomeAnd, IsOkAnd, IfErr};
+ghost use Rattle.std.specs.Prelude.{◌≡◌, ◌+◌, List, ◌++◌, length, take, drop, IsSomeAnd, IsOkAnd, IfErr};
 ghost use Rattle.jsonb_doc.specs.Tree.{Tree};
 ghost use Rattle.jsonb_doc.specs.Payload.{Form, number_reader};
-ghost use Rattle.jsonb_doc.specs.Format.{Decodes, IsContent, entry_word};
+ghost use Rattle.jsonb_doc.specs.Format.{Decodes, IsContent};
 ghost use Rattle.jsonb_doc.specs.Encoding.{EntryParts};
 ghost use Rattle.jsonb_doc.specs.Answer.{IsDecodingError, ◌or◌};
 ghost use Rattle.jsonb_doc.specs.declared.error.Error.TheVariants.{OutOfMemory, TooLarge};
@@ -11,11 +11,10 @@ ghost use Rattle.jsonb_raw.specs.Documents.{Makes};
 ghost use Rattle.jsonb_raw.specs.Private.Inserts.{AreBytesOf};
 ghost use Rattle.jsonb_raw.specs.Private.Rows.{HoldTrees, AreElementsOf};
 
-use crate::functions::entry_words::contents_len;
 use crate::functions::parts::{Elements, Entries, LoneEntry, RootEntry};
 use crate::owned::OwnedJsonb;
-use jsonb_doc::layout::{CONTAINER, KINDS, LENGTHS, MAX_CONTENT, TEXT, WORD};
-use jsonb_doc::{Container, Error, StoredEntry, read_container, scalar_document};
+use jsonb_doc::layout::{CONTAINER, KINDS, MAX_CONTENT, TEXT, WORD, word_of_entry};
+use jsonb_doc::{Container, Error, StoredEntry, contents_len, read_container, scalar_document};
 use std::alloc::Global;
 
 /// The entries of an array, and `None` where the root is none.
@@ -102,15 +101,6 @@ pub fn root_entry(document: &[u8]) -> Result<RootEntry<'_>, Error>
     }
 }
 
-/// The word of an entry.
-pub fn word_of(kind: u32, len: usize) -> [u8; WORD]
-    requires kind { kind < 8 }
-    requires len { len < 2 ^ 28 }
-    ensures { result ≡ entry_word kind len }
-{
-    (kind * LENGTHS + len as u32).to_be_bytes()
-}
-
 /// The entry as a document of its own, as it is stored. A number or an extension value that can't be read is refused,
 /// and so is an entry of no kind; a text and a container are copied unread.
 pub fn entry_document(alloc: Global, kind: u32, content: &[u8]) -> Result<OwnedJsonb, Error>
@@ -154,7 +144,7 @@ impl<'a> LoneEntry<'a> {
             return Err(Error::TooLarge);
         }
         Ok(LoneEntry {
-            word: word_of(kind, content.len()),
+            word: word_of_entry(kind, content.len()),
             content,
         })
     }

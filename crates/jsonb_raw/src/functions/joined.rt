@@ -13,7 +13,7 @@ ghost use Rattle.jsonb_raw.specs.Private.Rows.{HoldTrees, RowsHold, row_words, r
 use crate::functions::parts::Entries;
 use crate::owned::OwnedJsonb;
 use jsonb_doc::Error;
-use jsonb_doc::layout::{ARRAY_HEADER, COUNTS, MAX_ENTRIES, OBJECT_HEADER, WORD};
+use jsonb_doc::layout::{ARRAY_HEADER, MAX_ENTRIES, OBJECT_HEADER, WORD, word_of_header};
 use std::alloc::{AllocError, Global};
 
 /// How long the words of all rows are, and `None` where they are more than a container may have.
@@ -78,7 +78,7 @@ fn container_of(
         .saturating_add(rows_room(back))
         .saturating_add(WORD);
     let mut document = Vec::with_capacity(alloc, room)?;
-    document.extend_from_slice(&(kind * COUNTS + count as u32).to_be_bytes())?;
+    document.extend_from_slice(&word_of_header(kind, count))?;
     push_words(&mut document, front)?;
     push_words(&mut document, back)?;
     push_contents(&mut document, front)?;

@@ -12,10 +12,13 @@ ghost use Rattle.jsonb_doc.specs.declared.error.Error.TheVariants.{OutOfMemory, 
 ghost use Rattle.jsonb_raw.specs.Private.Inserts.{IsPairPlace, IsPlaceAmong, IsCutAt, AreKept, word_row, content_row};
 
 use super::pair_parts::{KeptEntries, PairPlace};
-use crate::functions::entries::{root_entry, split_entries, word_of};
+use crate::functions::entries::{root_entry, split_entries};
 use crate::functions::parts::{Entries, RootEntry};
 use crate::owned::OwnedJsonb;
-use jsonb_doc::layout::{COUNTS, MAX_CONTENT, MAX_ENTRIES, OBJECT_HEADER, TEXT, WORD};
+use jsonb_doc::layout::{
+    MAX_CONTENT, MAX_ENTRIES, OBJECT_HEADER, TEXT, WORD, split_header, word_of_entry,
+    word_of_header,
+};
 use jsonb_doc::{Error, keys};
 use std::alloc::{AllocError, Global};
 use std::cmp::Ordering;
@@ -46,8 +49,7 @@ fn kept_entries(object: &[u8], place: PairPlace) -> Option<KeptEntries<'_>>
         → IsCutAt object.now place before key between value behind
         → IsSomeAnd result (λ kept. AreKept kept before between behind) }
 {
-    let (header, rest) = object.split_first_chunk::<WORD>()?;
-    let count = (u32::from_be_bytes(*header) % COUNTS) as usize;
+    let (_, count, rest) = split_header(object)?;
     let pairs = count.checked_sub(place.taken)?;
     let (words, contents) = rest.split_at_checked(2 * WORD * count)?;
     let (before, others) = split_entries(Entries { words, contents }, place.passed)?;
@@ -74,12 +76,11 @@ fn push_words(
     requires value { length value.now.content.now < 2 ^ 28 }
     ensures { OnOk result (document.new.items ≡ document.old.items ++ word_row kept.now key.now value.now) }
 {
-    let header = OBJECT_HEADER * COUNTS + (kept.pairs + 1) as u32;
-    document.extend_from_slice(&header.to_be_bytes())?;
+    document.extend_from_slice(&word_of_header(OBJECT_HEADER, kept.pairs + 1))?;
     document.extend_from_slice(kept.before.words)?;
-    document.extend_from_slice(&word_of(TEXT, key.len()))?;
+    document.extend_from_slice(&word_of_entry(TEXT, key.len()))?;
     document.extend_from_slice(kept.between.words)?;
-    document.extend_from_slice(&word_of(value.kind, value.content.len()))?;
+    document.extend_from_slice(&word_of_entry(value.kind, value.content.len()))?;
     document.extend_from_slice(kept.behind.words)
 }
 

@@ -12,10 +12,12 @@ ghost use Rattle.jsonb_raw.specs.Private.Cuts.{FitEntries};
 ghost use Rattle.jsonb_raw.specs.Strip.{strip};
 ghost use Rattle.jsonb_raw.specs.Private.Stripping.{beside, key_entries, IsAboveLast, ReadsEntry, Begins};
 
-use crate::functions::entry_words::contents_len;
 use crate::functions::path::cut::set_container_word;
-use jsonb_doc::Error;
-use jsonb_doc::layout::{ARRAY_HEADER, CONTAINER, COUNTS, LENGTHS, NULL, OBJECT_HEADER, WORD};
+use jsonb_doc::layout::{
+    ARRAY_HEADER, CONTAINER, NULL, OBJECT_HEADER, WORD, read_entry_word, split_header,
+    word_of_header,
+};
+use jsonb_doc::{Error, contents_len};
 use std::alloc::Global;
 use std::cmp::Ordering;
 
@@ -56,12 +58,12 @@ fn next_entry<'a>(words: &'a [u8], contents: &'a [u8]) -> Result<Option<StoredEn
     let Some((word, words)) = words.split_first_chunk::<WORD>() else {
         return Ok(None);
     };
-    let word = u32::from_be_bytes(*word);
-    let Some((content, contents)) = contents.split_at_checked((word % LENGTHS) as usize) else {
+    let (kind, len) = read_entry_word(word);
+    let Some((content, contents)) = contents.split_at_checked(len) else {
         return Err(Error::InvalidJsonb);
     };
     Ok(Some(StoredEntry {
-        kind: word / LENGTHS,
+        kind,
         content,
         words,
         contents,
@@ -77,7 +79,7 @@ fn count_kept(words: &[u8]) -> usize
     let mut count = 0;
     let mut left = words;
     while let Some((word, others)) = left.split_first_chunk::<WORD>() {
-        if u32::from_be_bytes(*word) / LENGTHS != NULL {
+        if read_entry_word(word).0 != NULL {
             count += 1;
         }
         left = others;
@@ -98,7 +100,7 @@ fn push_words_kept(out: &mut Vec<u8>, words: &[u8], value_words: &[u8]) -> Resul
         let Some((word, others)) = words_left.split_first_chunk::<WORD>() else {
             return Err(Error::InvalidJsonb);
         };
-        if u32::from_be_bytes(*value) / LENGTHS != NULL {
+        if read_entry_word(value).0 != NULL {
             out.extend_from_slice(word)?;
         }
         words_left = others;
@@ -149,7 +151,7 @@ fn push_keys_kept(
         words_left = key.words;
         keys_left = key.contents;
         values_left = values;
-        if u32::from_be_bytes(*value) / LENGTHS != NULL {
+        if read_entry_word(value).0 != NULL {
             out.extend_from_slice(key.content)?;
         }
     }
@@ -207,8 +209,7 @@ fn begin_object<'a>(
         return Err(Error::InvalidJsonb);
     };
     let start = out.len();
-    let header = OBJECT_HEADER * COUNTS + count_kept(words) as u32;
-    out.extend_from_slice(&header.to_be_bytes())?;
+    out.extend_from_slice(&word_of_header(OBJECT_HEADER, count_kept(words)))?;
     push_words_kept(out, key_words, words)?;
     let word = out.len();
     push_words_kept(out, words, words)?;
@@ -229,12 +230,10 @@ fn begin<'a>(out: &mut Vec<u8>, container: &'a [u8]) -> Result<Writing<'a>, Erro
     ensures room { IfOk result (λ w. length w.words.now + length w.contents.now + 4 ≤ length container.now) }
     ensures errors { IfErr result (IsDecodingError or OutOfMemory) }
 {
-    let Some((word, _)) = container.split_first_chunk::<WORD>() else {
+    let Some((kind, entries, _)) = split_header(container) else {
         return Err(Error::InvalidJsonb);
     };
-    let header = u32::from_be_bytes(*word);
-    let entries = (header % COUNTS) as usize;
-    match header / COUNTS {
+    match kind {
         ARRAY_HEADER => begin_array(out, container, entries),
         OBJECT_HEADER => begin_object(out, container, entries),
         _ => Err(Error::InvalidJsonb),

@@ -1,7 +1,6 @@
 //! Containers as bytes, with the entries of a child left out.
 
 ghost use Rattle.std.specs.Prelude.{◌≡◌, ℕ, ◌+◌, ◌*◌, ◌^◌, ◌<◌, ◌≤◌, ◌-◌, List, [], ◌∷◌, ◌++◌, length, take, drop, IsSomeAnd, IsOkAnd, IfErr, Some, None, slice_get, slice_range, MatchResult};
-ghost use Rattle.std.specs.Int.{w32, to_be_bytes};
 ghost use Rattle.jsonb_doc.specs.Tree.{Tree};
 ghost use Rattle.jsonb_doc.specs.Payload.{NumberReader, Form, number_reader};
 ghost use Rattle.jsonb_doc.specs.Format.{IsContent, container_entry, entry_word};
@@ -14,12 +13,11 @@ ghost use Rattle.jsonb_raw.specs.Deletes.{remove_at};
 ghost use Rattle.jsonb_raw.specs.Private.Cuts.{FitEntries, HoldEntries, IsPlaceOf, LiesWithin, AreInOrder, AreOfChild, LeadTo, LeadInto, around, without_child, entries_size, front_of, fronts, starts, IsPushed};
 
 use super::entry_place::{ChildEntries, EntryPlace};
-use crate::functions::entries::word_of;
-use crate::functions::entry_words::contents_len;
-use jsonb_doc::Error;
 use jsonb_doc::layout::{
-    ARRAY_HEADER, CONTAINER, COUNTS, LENGTHS, MAX_CONTENT, OBJECT_HEADER, WORD,
+    ARRAY_HEADER, CONTAINER, COUNTS, MAX_CONTENT, OBJECT_HEADER, WORD, read_entry_word,
+    word_of_entry,
 };
+use jsonb_doc::{Error, contents_len};
 use std::alloc::Global;
 
 /// The place of the entry that so many others stand before, of so many in all.
@@ -37,7 +35,7 @@ fn entry_place(container: &[u8], total: usize, passed: usize) -> Option<EntryPla
     Some(EntryPlace {
         word: WORD + WORD * passed,
         start,
-        end: start + (u32::from_be_bytes(*word) % LENGTHS) as usize,
+        end: start + read_entry_word(word).1,
     })
 }
 
@@ -129,11 +127,11 @@ fn push_without_child(
 }
 
 /// Writes a word over the four bytes at a place.
-fn set_word(out: &mut Vec<u8>, at: usize, word: u32)
+fn set_word(out: &mut Vec<u8>, at: usize, word: [u8; WORD])
     requires { at + 4 ≤ length out.old.items }
-    ensures { out.new.items ≡ take at out.old.items ++ (to_be_bytes w32 word ++ drop (at + 4) out.old.items) }
+    ensures { out.new.items ≡ take at out.old.items ++ (word ++ drop (at + 4) out.old.items) }
 {
-    out[at..at + WORD].copy_from_slice(&word.to_be_bytes());
+    out[at..at + WORD].copy_from_slice(&word);
 }
 
 /// Writes the entry word of a container that goes from here to the end over the word at a place.
@@ -145,10 +143,10 @@ pub fn set_container_word(out: &mut Vec<u8>, word: usize, start: usize) -> Resul
     ensures errors { IfErr result (IsDecodingError or OutOfMemory) }
 {
     let end = out.len();
-    if start > end || end - start >= LENGTHS as usize || end < WORD || word > end - WORD {
+    if start > end || end - start > MAX_CONTENT || end < WORD || word > end - WORD {
         return Err(Error::InvalidJsonb);
     }
-    set_word(out, word, CONTAINER * LENGTHS + (end - start) as u32);
+    set_word(out, word, word_of_entry(CONTAINER, end - start));
     Ok(())
 }
 
@@ -218,7 +216,7 @@ fn push_front(
         return Err(Error::InvalidJsonb);
     }
     push_part(out, container, 0, child.word)?;
-    out.extend_from_slice(&word_of(CONTAINER, len))?;
+    out.extend_from_slice(&word_of_entry(CONTAINER, len))?;
     push_part(out, container, child.word + WORD, child.start)
 }
 

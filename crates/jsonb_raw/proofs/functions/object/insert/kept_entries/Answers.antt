@@ -1,32 +1,32 @@
 use Rattle.std.proofs.Common.{◌≡◌, ◌++◌, arith, length, refl}
-use Rattle.jsonb_raw.proofs.InsertSplits.{row_of}
+use Rattle.jsonb_raw.proofs.InsertSplits.{has_header, row_of}
 use Rattle.jsonb_raw.proofs.functions.object.insert.kept_entries.Goals as goal
+
+pub returns-in_err-count : goal.returns-in_err-count
+returns-in_err-count c = λ before key between value behind h.
+    absurd (c.in_err-count.ensures _ _ _ (has_header _ c.args.place before key between value behind h))
 
 pub returns-in_err-words : goal.returns-in_err-words
 returns-in_err-words c = λ before key between value behind h.
-    let row = row_of _ c.args.place before key between value behind h _ _ _ _ c.in_ok-header.ensures.cases.0
-    c.in_ok-header.ensures.cases.1 c.from_be_bytes.ensures refl in
+    let row = row_of _ c.args.place before key between value behind h _ _ _ c.in_ok-count.ensures in
     absurd (omega (arith, row.enough, c.in_err-words.ensures.cases))
 
 pub returns-in_err-before : goal.returns-in_err-before
 returns-in_err-before c = λ before key between value behind h.
-    let row = row_of _ c.args.place before key between value behind h _ _ _ _ c.in_ok-header.ensures.cases.0
-    c.in_ok-header.ensures.cases.1 c.from_be_bytes.ensures refl in
+    let row = row_of _ c.args.place before key between value behind h _ _ _ c.in_ok-count.ensures in
     let all = row.are _ c.in_ok-words.ensures.cases.1 c.in_ok-words.ensures.cases.2 in
     absurd (c.in_err-before.ensures.split before (key ++ (between ++ (value ++ behind))) all h.passed)
 
 pub returns-in_err-others : goal.returns-in_err-others
 returns-in_err-others c = λ before key between value behind h.
-    let row = row_of _ c.args.place before key between value behind h _ _ _ _ c.in_ok-header.ensures.cases.0
-    c.in_ok-header.ensures.cases.1 c.from_be_bytes.ensures refl in
+    let row = row_of _ c.args.place before key between value behind h _ _ _ c.in_ok-count.ensures in
     let all = row.are _ c.in_ok-words.ensures.cases.1 c.in_ok-words.ensures.cases.2 in
     let first = c.in_ok-before.ensures.split before (key ++ (between ++ (value ++ behind))) all h.passed in
     absurd (c.in_err-others.ensures.split key (between ++ (value ++ behind)) first.1 h.keys)
 
 pub returns-in_err-between : goal.returns-in_err-between
 returns-in_err-between c = λ before key between value behind h.
-    let row = row_of _ c.args.place before key between value behind h _ _ _ _ c.in_ok-header.ensures.cases.0
-    c.in_ok-header.ensures.cases.1 c.from_be_bytes.ensures refl in
+    let row = row_of _ c.args.place before key between value behind h _ _ _ c.in_ok-count.ensures in
     let pairs : c.in_ok-pairs.pairs ≡ length between = omega (arith, row.kept, c.in_ok-pairs.ensures) in
     let all = row.are _ c.in_ok-words.ensures.cases.1 c.in_ok-words.ensures.cases.2 in
     let first = c.in_ok-before.ensures.split before (key ++ (between ++ (value ++ behind))) all h.passed in
@@ -35,8 +35,7 @@ returns-in_err-between c = λ before key between value behind h.
 
 pub returns-in_err-behind : goal.returns-in_err-behind
 returns-in_err-behind c = λ before key between value behind h.
-    let row = row_of _ c.args.place before key between value behind h _ _ _ _ c.in_ok-header.ensures.cases.0
-    c.in_ok-header.ensures.cases.1 c.from_be_bytes.ensures refl in
+    let row = row_of _ c.args.place before key between value behind h _ _ _ c.in_ok-count.ensures in
     let pairs : c.in_ok-pairs.pairs ≡ length between = omega (arith, row.kept, c.in_ok-pairs.ensures) in
     let all = row.are _ c.in_ok-words.ensures.cases.1 c.in_ok-words.ensures.cases.2 in
     let first = c.in_ok-before.ensures.split before (key ++ (between ++ (value ++ behind))) all h.passed in
@@ -46,8 +45,7 @@ returns-in_err-behind c = λ before key between value behind h.
 
 pub returns : goal.returns
 returns c = λ before key between value behind h.
-    let row = row_of _ c.args.place before key between value behind h _ _ _ _ c.in_ok-header.ensures.cases.0
-    c.in_ok-header.ensures.cases.1 c.from_be_bytes.ensures refl in
+    let row = row_of _ c.args.place before key between value behind h _ _ _ c.in_ok-count.ensures in
     let pairs : c.in_ok-pairs.pairs ≡ length between = omega (arith, row.kept, c.in_ok-pairs.ensures) in
     let all = row.are _ c.in_ok-words.ensures.cases.1 c.in_ok-words.ensures.cases.2 in
     let first = c.in_ok-before.ensures.split before (key ++ (between ++ (value ++ behind))) all h.passed in

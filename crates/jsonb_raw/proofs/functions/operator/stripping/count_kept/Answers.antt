@@ -6,12 +6,12 @@ use Rattle.jsonb_raw.proofs.functions.operator.stripping.count_kept.Goals as goa
 pub loop-word-init : goal.loop-word-init
 loop-word-init c = record { few = omega arith; left = λ es within words. record { entries = es; within = within; words = words; sum = omega arith } }
 
-pub loop-word-preserved-then-from_be_bytes-ne-NULL : goal.loop-word-preserved-then-from_be_bytes-ne-NULL
-loop-word-preserved-then-from_be_bytes-ne-NULL c =
+pub loop-word-preserved-then-read_entry_word-ne-NULL : goal.loop-word-preserved-then-read_entry_word-ne-NULL
+loop-word-preserved-then-read_entry_word-ne-NULL c =
     let h = c.in-Some.ensures.cases in
     record {
       few = omega (arith, h.2, c.loop-word.invariant.few);
-      left = λ es within words. count_other _ _ _ _ h.0 h.1 h.2 c.from_be_bytes.ensures _ (length (beside es es)) c.if-from_be_bytes-ne-NULL.true
+      left = λ es within words. count_other _ _ _ _ _ h.0 h.1 h.2 c.read_entry_word.ensures.told _ (length (beside es es)) c.if-read_entry_word-ne-NULL.true
           (c.loop-word.invariant.left es within words);
     }
 
@@ -20,7 +20,7 @@ loop-word-preserved c =
     let h = c.in-Some.ensures.cases in
     record {
       few = omega (arith, h.2, c.loop-word.invariant.few);
-      left = λ es within words. count_null _ _ _ _ h.0 h.1 h.2 c.from_be_bytes.ensures _ (length (beside es es)) c.if-from_be_bytes-ne-NULL.false
+      left = λ es within words. count_null _ _ _ _ _ h.0 h.1 h.2 c.read_entry_word.ensures.told _ (length (beside es es)) c.if-read_entry_word-ne-NULL.false
           (c.loop-word.invariant.left es within words);
     }
 

@@ -43,9 +43,9 @@ loop-value-preserved-in-Continue-branch-3 c =
     let h = c.in-Some.ensures.cases in
     record {
       left = λ es ks within are many values words keys.
-          key_pushed _ _ _ _ h.0 h.1 h.2 c.from_be_bytes.ensures _ _ _
+          key_pushed _ _ _ _ _ h.0 h.1 h.2 c.read_entry_word.ensures.told _ _ _
           (λ xs w a b. rw c.in-Some-2.is at
-          (c.in_ok-key.ensures.reads xs w a b)) _ _ _ _ c.if-from_be_bytes-ne-NULL.true c.in_ok-extend_from_slice.ensures.items
+          (c.in_ok-key.ensures.reads xs w a b)) _ _ _ _ c.if-read_entry_word-ne-NULL.true c.in_ok-extend_from_slice.ensures.items
           (c.loop-value.invariant.left es ks within are many values words keys);
     }
 
@@ -54,8 +54,8 @@ loop-value-preserved c =
     let h = c.in-Some.ensures.cases in
     record {
       left = λ es ks within are many values words keys.
-          key_left_out _ _ _ _ h.0 h.1 h.2 c.from_be_bytes.ensures _ _ _
-          (λ xs w a b. rw c.in-Some-2.is at (c.in_ok-key.ensures.reads xs w a b)) _ _ _ _ c.if-from_be_bytes-ne-NULL.false refl
+          key_left_out _ _ _ _ _ h.0 h.1 h.2 c.read_entry_word.ensures.told _ _ _
+          (λ xs w a b. rw c.in-Some-2.is at (c.in_ok-key.ensures.reads xs w a b)) _ _ _ _ c.if-read_entry_word-ne-NULL.false refl
           (c.loop-value.invariant.left es ks within are many values words keys);
     }
 

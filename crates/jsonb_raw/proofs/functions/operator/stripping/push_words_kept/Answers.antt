@@ -19,7 +19,7 @@ loop-value-preserved-in_ok-extend_from_slice c =
     let g = c.in-Some-split_first_chunk.ensures.cases in
     record {
       left = λ es xs within many values words.
-          word_pushed _ _ _ _ h.0 h.1 h.2 c.from_be_bytes.ensures _ _ _ g.0 g.1 _ _ _ c.if-from_be_bytes-ne-NULL.true c.in_ok-extend_from_slice.ensures.items
+          word_pushed _ _ _ _ _ h.0 h.1 h.2 c.read_entry_word.ensures.told _ _ _ g.0 g.1 _ _ _ c.if-read_entry_word-ne-NULL.true c.in_ok-extend_from_slice.ensures.items
           (c.loop-value.invariant.left es xs within many values words);
     }
 
@@ -29,7 +29,7 @@ loop-value-preserved c =
     let g = c.in-Some-split_first_chunk.ensures.cases in
     record {
       left = λ es xs within many values words.
-          word_left_out _ _ _ _ h.0 h.1 h.2 c.from_be_bytes.ensures _ _ _ g.0 g.1 _ _ _ c.if-from_be_bytes-ne-NULL.false refl
+          word_left_out _ _ _ _ _ h.0 h.1 h.2 c.read_entry_word.ensures.told _ _ _ g.0 g.1 _ _ _ c.if-read_entry_word-ne-NULL.false refl
           (c.loop-value.invariant.left es xs within many values words);
     }
 
