@@ -1,6 +1,6 @@
 //! Whole numbers, with a sign and without.
 
-ghost use Rattle.std.specs.Prelude.{◌≡◌, ◌+◌, ◌^◌, ◌<◌, ◌≤◌, length, Some, option_map, IfSome, SomeIff, take_while, FitsSigned};
+ghost use Rattle.std.specs.Prelude.{◌≡◌, ◌+◌, ◌^◌, ◌<◌, ◌≤◌, length, Some, option_map, nat_lt, IfSome, SomeIff, take_while, FitsSigned};
 ghost use Rattle.std.specs.Int.{w64};
 ghost use Rattle.std.specs.Char.{is_ascii_digit};
 ghost use Rattle.std.specs.List.{prefix_len};
@@ -13,6 +13,17 @@ fn digit_count(input: &[u8]) -> usize
     ensures { result ≡ prefix_len is_ascii_digit input.now }
 {
     input.iter().take_while(|b| b.is_ascii_digit()).count()
+}
+
+/// Whether a digit stands at the front.
+#[inline(always)]
+fn begins_with_digit(input: &[u8]) -> bool
+    ensures { result ≡ nat_lt 0 (prefix_len is_ascii_digit input.now) }
+{
+    match input.first() {
+        Some(first) => first.is_ascii_digit(),
+        None => false,
+    }
 }
 
 /// The digits at the front, which may be none, and what follows them.
@@ -38,6 +49,9 @@ pub fn nat64(input: &[u8]) -> Option<(u64, &[u8])>
     ensures value { read_as (λ value. value) result ≡ natural_below (2 ^ 64) input.now }
     ensures shrinks { LeavesLess input.now result }
 {
+    if !begins_with_digit(input) {
+        return None;
+    }
     let (digits, rest) = digits_at(input);
     match digits.parse::<u64>() {
         Ok(n) => Some((n, rest)),

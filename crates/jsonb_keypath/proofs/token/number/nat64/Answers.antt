@@ -1,9 +1,13 @@
-use Rattle.std.proofs.Common.{sym}
+use Rattle.std.proofs.Common.{sym, ◌∙◌}
 use Rattle.std.specs.Prelude.{take_while}
 use Rattle.std.specs.Char.{is_ascii_digit}
 use Rattle.std.specs.Str.Parse.{ParsesUnsigned}
-use Rattle.jsonb_keypath.proofs.NumberLemmas.{nat64_read}
+use Rattle.jsonb_keypath.proofs.NumberLemmas.{nat64_read, no_digit}
 use Rattle.jsonb_keypath.proofs.token.number.nat64.Goals as goal
+
+pub returns-then-not-begins_with_digit-clause-value : goal.returns-then-not-begins_with_digit-clause-value
+returns-then-not-begins_with_digit-clause-value c =
+    sym (no_digit 18446744073709551616 c.args.input.now (sym c.begins_with_digit.ensures ∙ c.if-not-begins_with_digit.true))
 
 pub returns-in-Ok-clause-value : goal.returns-in-Ok-clause-value
 returns-in-Ok-clause-value c =
