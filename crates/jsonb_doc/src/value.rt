@@ -71,9 +71,11 @@ impl<'a> Value<'a> {
     }
 }
 
-/// A document may be as deep as it is long: its value is let go in a loop.
+/// A document may be as deep as it is long: a container is let go in a loop.
 impl Drop for Value<'_> {
     fn drop(self) {
-        self.release();
+        if let Some(container) = self.container() {
+            container.release();
+        }
     }
 }

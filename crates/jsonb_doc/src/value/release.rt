@@ -48,7 +48,7 @@ impl<'a> Value<'a> {
 
     /// The value, if it is a container.
     #[inline(always)]
-    fn container(self) -> Option<Value<'a>>
+    pub(super) fn container(self) -> Option<Value<'a>>
         ensures { IfSome result (λ inner. inner ≡ self.entry) }
     {
         match self {
