@@ -246,6 +246,7 @@ fn first_found(
 }
 
 /// Where the steps lead to from an item: each that gives one item at most is executed, up to one that gives many.
+#[inline(always)]
 fn reach<'t, 's, 'p, 'a>(
     alloc: Global,
     steps: &'t [SearchStep<'s, 'p>],
@@ -272,6 +273,7 @@ fn reach<'t, 's, 'p, 'a>(
 }
 
 /// What a step gives of an item.
+#[inline(always)]
 fn step_items<'a>(
     alloc: Global,
     step: &SearchStep<'_, '_>,
@@ -313,6 +315,7 @@ fn step_items<'a>(
 }
 
 /// An item, where a filter is true of it.
+#[inline(always)]
 fn kept<'a>(truth: Option<bool>, item: Spot) -> Given<'a>
     ensures kept { (bytes : List ℕ) (t : Tree) → Locates bytes item t → AreGiven bytes result (filtered t truth) }
     ensures few { given_bound result < 2 ^ 64 }
@@ -321,6 +324,7 @@ fn kept<'a>(truth: Option<bool>, item: Spot) -> Given<'a>
 }
 
 /// The places of a list.
+#[inline(always)]
 fn listed<'a>(mut spots: Vec<Spot>) -> Given<'a>
     ensures given { (bytes : List ℕ) (ts : List Tree) → AllRelated (Locates bytes) spots.items ts
         → AreGiven bytes result ts }
@@ -331,6 +335,7 @@ fn listed<'a>(mut spots: Vec<Spot>) -> Given<'a>
 }
 
 /// The values of an object.
+#[inline(always)]
 fn value_items<'a>(bytes: &'a [u8], item: Spot) -> Result<Given<'a>, Error>
     ensures meant { (t : Tree) → Locates bytes.now item t
         → Gives (AreGiven bytes.now) IsOutOfMemory result (values_step Lax t) }
@@ -344,6 +349,7 @@ fn value_items<'a>(bytes: &'a [u8], item: Spot) -> Result<Given<'a>, Error>
 }
 
 /// The elements of an array; another item is itself.
+#[inline(always)]
 fn element_items<'a>(bytes: &'a [u8], item: Spot) -> Result<Given<'a>, Error>
     ensures meant { (t : Tree) → Locates bytes.now item t
         → Gives (AreGiven bytes.now) IsOutOfMemory result (elements_step Lax t) }
