@@ -74,6 +74,7 @@ pub(crate) fn binary_number(
 }
 
 /// Whether each value is a number.
+#[inline(always)]
 fn are_numbers(values: &[Atom<'_>]) -> bool
     ensures { result ≡ are_numbers (map atom_value values.now) }
 {
@@ -96,6 +97,7 @@ fn is_number(value: &Atom<'_>) -> bool
 }
 
 /// A number behind a sign.
+#[inline(always)]
 fn signed(op: UnaryOperator, number: Number) -> Result<Number, Error>
     ensures meant { Gives IsNumberTree (λ _. ⊥) result (signed_number (sign_view op) (number_view number)) }
     ensures errors { (mode : Mode) → IfErr result (IsPathError mode) }
@@ -119,6 +121,7 @@ fn signed_value(op: UnaryOperator, value: &Atom<'_>) -> Result<Number, Error>
 }
 
 /// Each value behind a sign, from left to right.
+#[inline(always)]
 fn each_signed(alloc: Global, op: UnaryOperator, values: &[Atom<'_>]) -> Result<Vec<Number>, Error>
     ensures meant { Gives (λ v ts. AllRelated IsNumberItem v.items ts) IsOutOfMemory result
         (try_flat_map (signed_value (sign_view op)) (map atom_value values.now)) }

@@ -66,7 +66,7 @@ fn array_of_one(alloc: Global, item: &Item<'_>) -> Result<Vec<u8>, Error>
 }
 
 /// A number as a document.
-#[inline(never)]
+#[inline(always)]
 fn number_document(alloc: Global, number: Number) -> Result<OwnedJsonb, Error>
     ensures document { (form : Form) (t : Tree) → IsNumberItem number t → Makes form t result }
     ensures errors { IfErr result (IsOutOfMemory or TooLarge) }

@@ -69,6 +69,7 @@ fn item_values<'a>(alloc: Global, bytes: &'a [u8], item: Spot) -> Result<Atoms<'
 }
 
 /// The values of an item, behind those that there are: an array gives those of its elements.
+#[inline(always)]
 fn push_values<'a>(bytes: &'a [u8], item: Spot, values: &mut Vec<Atom<'a>>) -> Result<(), Error>
     ensures meant { (t : Tree) → Locates bytes.now item t
         → Gives (λ _ vs. map atom_value values.new.items ≡ map atom_value values.old.items ++ vs)
@@ -100,6 +101,7 @@ fn push_each<'a>(
 }
 
 /// The value of an item that is no array, and of an element.
+#[inline(always)]
 fn push_value<'a>(bytes: &'a [u8], item: Spot, values: &mut Vec<Atom<'a>>) -> Result<(), Error>
     ensures meant { (t : Tree) → Locates bytes.now item t
         → Gives (λ _ vs. map atom_value values.new.items ≡ map atom_value values.old.items ++ vs)
@@ -110,6 +112,7 @@ fn push_value<'a>(bytes: &'a [u8], item: Spot, values: &mut Vec<Atom<'a>>) -> Re
 }
 
 /// The same for an item that was read.
+#[inline(always)]
 fn push_item<'a>(item: Item<'a>, values: &mut Vec<Atom<'a>>) -> Result<(), Error>
     ensures meant { (t : Tree) → StandsFor any item.entry t
         → Gives (λ _ vs. map atom_value values.new.items ≡ map atom_value values.old.items ++ vs)
@@ -123,6 +126,7 @@ fn push_item<'a>(item: Item<'a>, values: &mut Vec<Atom<'a>>) -> Result<(), Error
 }
 
 /// One more value.
+#[inline(always)]
 fn push_atom<'a>(values: &mut Vec<Atom<'a>>, value: Atom<'a>) -> Result<(), Error>
     ensures ok { OnOk result (values.new.items ≡ values.old.items ++ value.entry ∷ []) }
     ensures err { IfErr result IsOutOfMemory }
