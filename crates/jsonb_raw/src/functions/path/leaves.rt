@@ -195,11 +195,10 @@ fn leaves_within<'a, P: LeafPart<'a>>(
         (λ e. IsOutOfMemory e ⊎ Any (λ leaf. P.IsRefusalOf form leaf.1 e) (leaves ignore_array t)) }
     ensures errors { IfErr result (λ e. (IsDecodingError or OutOfMemory) e ⊎ P.Refusals e) }
 {
+    let mut found = Vec::new(alloc);
     let Some(first) = parts_entered(item, ignore_array)? else {
-        return Ok(Vec::new(alloc));
+        return Ok(found);
     };
-    // Each part has a leaf or more.
-    let mut found = Vec::with_capacity(alloc, first.len())?;
     let mut level = first;
     // An array that decodes has fewer elements than an index can count.
     let mut index = 0u32;

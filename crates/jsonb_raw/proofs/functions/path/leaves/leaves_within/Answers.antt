@@ -16,7 +16,7 @@ walk-init g c = record {
         others = [];
         left = entered.1;
         left_around = rw c.new-around.ensures.items tt;
-        fact = walk_begun (IsKept (g.P.LeafPart.IsOf form)) c.args.ignore_array _ _ t c.in_ok-found.ensures.items c.new-steps.ensures.items
+        fact = walk_begun (IsKept (g.P.LeafPart.IsOf form)) c.args.ignore_array _ _ t c.new-found.ensures.items c.new-steps.ensures.items
             (item_leaves form c.args.item.now c.args.ignore_array t stands entered.0);
       };
 }
