@@ -5,7 +5,7 @@ ghost use Rattle.std.specs.List.{Any, AllZip};
 ghost use Rattle.jsonb_doc.specs.Tree.{Tree};
 ghost use Rattle.jsonb_doc.specs.Payload.{Form, number_reader};
 ghost use Rattle.jsonb_doc.specs.Format.{Decodes, IsContent, container_entry};
-ghost use Rattle.jsonb_doc.specs.Item.{StandsFor};
+ghost use Rattle.jsonb_doc.specs.Item.{StandsFor, IsNormal};
 ghost use Rattle.jsonb_doc.specs.Private.Stored.{Stores};
 ghost use Rattle.jsonb_doc.specs.Answer.{IsOutOfMemory, ◌or◌, IsDecodingError};
 ghost use Rattle.jsonb_doc.specs.declared.error.Error.TheVariants.{OutOfMemory};
@@ -165,6 +165,23 @@ trait LeafPart<'a>: Drop {
         ensures errors { IfErr result Refusals };
 }
 
+/// The item that an entry stores. A text is read here, so that the other kinds are passed by.
+#[inline(always)]
+fn stored_item<'a>(entry: &StoredEntry<'a>) -> Result<Item<'a>, Error>
+    ensures decodes { (form : Form) (t : Tree) → Stores form entry.now t
+        → IsOkAnd result (λ item. StandsFor form item t) }
+    ensures normal { IfOk result IsNormal }
+    ensures errors { IfErr result IsDecodingError }
+{
+    if !entry.is_text() {
+        return entry.item();
+    }
+    match str::from_utf8(entry.content) {
+        Ok(valid) => Ok(Item::String(valid)),
+        Err(_) => Err(Error::InvalidJsonb),
+    }
+}
+
 impl<'a> LeafPart<'a> for Value<'a> {
     ghost use Rattle.std.specs.Prelude.{◌≡◌};
     ghost use Rattle.jsonb_doc.specs.Answer.{IsOutOfMemory, ◌or◌, IsDecodingError};
@@ -178,7 +195,7 @@ impl<'a> LeafPart<'a> for Value<'a> {
     ghost Refusals = { IsDecodingError or OutOfMemory };
 
     fn of_entry(alloc: Global, entry: &StoredEntry<'a>) -> Result<Value<'a>, Error> {
-        let item = entry.item()?;
+        let item = stored_item(entry)?;
         to_value(alloc, &item)
     }
 }
