@@ -391,9 +391,6 @@ inner_step-reads s as_inner same n rest is h short = rw (spaced_inner-text s res
 abbrev pub is_step_start : ℕ → Bool
 is_step_start b = is_inner_start b || b == 63
 
-inner_start_is_step_start : (b : ℕ) → is_inner_start b ≡ true → is_step_start b ≡ true
-inner_start_is_step_start b h = rw h refl
-
 pub begins-step : (s : Step) (rest : List ℕ) → IsPathStep s → begins is_step_start (step_text s ++ rest) ≡ true
 begins-step root rest is = absurd is
 begins-step current rest is = absurd is

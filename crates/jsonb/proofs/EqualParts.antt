@@ -81,9 +81,6 @@ level-is a b = ap (λ x. nat_eq a.start b.start && x) (maybe-is level_end_equal.
 pub level-equal : (a b : RecursiveLevel) → Decides (level_equal.it a b) (levels_view a ≡ levels_view b)
 level-equal a b = rw (level-is a b) (level-same (levels_view a) (levels_view b))
 
-pub levels-is : (k l : Option RecursiveLevel) → option_eq level_equal.it k l ≡ option_eq is_same_level (option_map levels_view k) (option_map levels_view l)
-levels-is k l = maybe-is level_equal.it is_same_level levels_view level-is k l
-
 -- ---- operators
 
 -- the operator that stands for it
@@ -113,9 +110,6 @@ operator-equal a b = (
   λ h. ap operator_view (same_true the_operator tt a b h),
   λ e. true_same the_operator a b (sym (operator_of-operator_view a) ∙ ap operator_of e ∙ operator_of-operator_view b),
 )
-
-pub operator-is : (a b : BinaryOperator) → operator_equal.it a b ≡ is_same_operator (operator_view a) (operator_view b)
-operator-is a b = same_from_decides _ _ (operator-equal a b) (operator-same (operator_view a) (operator_view b))
 
 pub sign-is : (a b : UnaryOperator) → sign_equal.it a b ≡ is_same_sign (sign_view a) (sign_view b)
 sign-is sign.Add sign.Add = refl

@@ -29,12 +29,6 @@ some_related R (x ∷ xs) (t ∷ ts) h = search rules
 abbrev pub Is : {A B : Type 0} → (A → B) → A → B → Type 0
 Is f x y = f x ≡ y
 
-pub map_of_related : {A B : Type 0} (f : A → B) (xs : List A) (ys : List B) → AllRelated (Is f) xs ys → map f xs ≡ ys
-map_of_related f [] [] h = refl
-map_of_related f [] (y ∷ ys) h = absurd h
-map_of_related f (x ∷ xs) [] h = absurd h
-map_of_related f (x ∷ xs) (y ∷ ys) h = λ i. h.0 i ∷ map_of_related f xs ys h.1 i
-
 pub related_of_map : {A B : Type 0} (f : A → B) (xs : List A) (ys : List B) → map f xs ≡ ys → AllRelated (Is f) xs ys
 related_of_map {A} f xs ys is = subst (λ l. AllRelated (Is f) xs l) is (each xs)
   where
@@ -122,16 +116,6 @@ pub one_ok : {A B C D : Type 0} {R : A → B → Type 0} {S : C → D → Type 0
     Gives R IsOutOfMemory (Ok x) o → ((a : B) → R x a → IsOkAnd (next a) (S z)) → Gives S IsOutOfMemory (Ok z) (and_then o next)
 one_ok {R = R} {S = S} {x = x} {z = z} {o = o} next h go =
     record { ok = with_ok (R x) (λ w. IsOkAnd w (S z)) o next h.ok go; err = tt }
-
--- two parts that have values
-pub both_ok : {A B C D E F : Type 0} {R : A → B → Type 0} {Q : C → D → Type 0} {S : E → F → Type 0} {x : A} {y : C} {z : E} {o : Outcome B} {p : Outcome D}
-    (next : B → D → Outcome F) →
-    Gives R IsOutOfMemory (Ok x) o → Gives Q IsOutOfMemory (Ok y) p → ((a : B) (b : D) → R x a → Q y b → IsOkAnd (next a b) (S z))
-    → Gives S IsOutOfMemory (Ok z) (and_then o (λ a. and_then p (next a)))
-both_ok {R = R} {Q = Q} {S = S} {x = x} {y = y} {z = z} {o = o} {p = p} next g h go = record {
-  ok = with_ok (R x) (λ w. IsOkAnd w (S z)) o (λ a. and_then p (next a)) g.ok (λ a r. with_ok (Q y) (λ w. IsOkAnd w (S z)) p (next a) h.ok (λ b q. go a b r q));
-  err = tt;
-}
 
 pub second_refused : {A B C D E F : Type 0} {R : A → B → Type 0} {Q : C → D → Type 0} {S : E → F → Type 0} {x : A} {e : Error} {o : Outcome B} {p : Outcome D}
     (next : B → D → Outcome F) →

@@ -32,21 +32,6 @@ fixed_values mode (math.paths (math.step math.current rest)) top t u h = cc
 fixed_values mode (math.paths (math.step _ rest)) top t u h = refl
 fixed_values mode _ top t u h = refl
 
-pub from_root : (ss : List Step) (top t : Tree) → begins_with_current ss ≡ false → start (steps_of ss) top t ≡ top
-from_root [] top t h = refl
-from_root (math.current ∷ rest) top t h = cc
-from_root (_ ∷ rest) top t h = refl
-
-pub fixed_exists : (mode : Mode) (ss : List Step) (top t u : Tree) → begins_with_current ss ≡ false
-    → truth mode (math.exists (steps_of ss)) top t ≡ truth mode (math.exists (steps_of ss)) top u
-fixed_exists mode ss top t u h =
-    ap (λ x. and_then (steps_meaning mode (steps_of ss) top (x ∷ [])) (λ ts. Ok (Some (is_some_item ts)))) (from_root ss top t h ∙ sym (from_root ss top u h))
-
-pub fixed_paths : (ss : List Step) → is_fixed (math.paths (steps_of ss)) ≡ not (begins_with_current ss)
-fixed_paths [] = refl
-fixed_paths (math.current ∷ rest) = refl
-fixed_paths (_ ∷ rest) = refl
-
 -- ---- parts of the conditions
 
 module _ (mode : Mode) (top : Tree) where

@@ -80,8 +80,3 @@ left_parts (exists ss) = omega arith
 pub below_parts : (n : ℕ) (e : Expression) → expression_parts (below n e) ≤ expression_parts e
 below_parts zero e = omega arith
 below_parts (suc n) e = let rest = below_parts n (left_of e) in let left = left_parts e in omega arith
-
-pub below_fewer : (n : ℕ) (e : Expression) → is_pair e ≡ true → 0 < n → expression_parts (below n e) < expression_parts e
-below_fewer zero e pair some = omega arith
-below_fewer (suc n) (binary op left right) pair some = let rest = below_parts n left in omega arith
-below_fewer (suc n) e pair some = absurd (cc)

@@ -48,10 +48,6 @@ path-of_expression e is = whole_path (expression_text e ++ []) (whole_expression
 
 -- ---- no expression
 
-list-none : {A : Type 0} (rule : Rule A) (separator : Rule (Unit {0})) (input : List ℕ) → rule input ≡ None →
-    list_of rule separator input ≡ None
-list-none rule separator input h = rw h refl
-
 no_or : (nested : Bool → Rule Expression) (f : Bool) (input : List ℕ) → atom_with nested f input ≡ None → or_with nested f input ≡ None
 unfolding or_with and_with
 no_or nested f input h = rw h refl

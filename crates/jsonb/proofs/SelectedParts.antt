@@ -105,10 +105,6 @@ value_many [] h = absurd (omega (arith, h))
 value_many (t ∷ []) h = absurd (omega (arith, h))
 value_many (t ∷ u ∷ ts) h = refl
 
-pub first_none : (ts : List Tree) → length ts ≡ 0 → first_item ts ≡ None
-first_none [] h = refl
-first_none (t ∷ ts) h = cc
-
 pub first_some : (ts : List Tree) (e : Tree) → 0 < length ts → first_item ts ≡ Some (get_or ts 0 e)
 first_some [] e h = absurd (omega (arith, h))
 first_some (t ∷ ts) e h = refl

@@ -35,17 +35,6 @@ only_one R item [] a = absurd a
 only_one R item (t ∷ []) a = (t, refl, a.0)
 only_one R item (t ∷ u ∷ ts) a = absurd a.1
 
--- whether a filter keeps an item
-kept_if : (t : Tree) (keeps : Bool) → filtered t (Some keeps) ≡ (if keeps then t ∷ [] else [])
-kept_if t true = refl
-kept_if t false = refl
-
-pub kept_known : (t : Tree) (b : Option Bool) (keeps : Bool) → b ≡ Some keeps → IsKept t keeps (filtered t b)
-kept_known t b keeps is = ap (filtered t) is ∙ kept_if t keeps
-
-pub kept_unknown : (t : Tree) (b : Option Bool) → b ≡ None → IsKept t false (filtered t b)
-kept_unknown t b is = ap (filtered t) is
-
 pub kept_found : (R : Spot → Tree → Type 0) (keeps : Bool) (o : Option Spot) (item : Spot) (t : Tree) (ts : List Tree) →
     o ≡ then_some keeps item → IsKept t keeps ts → R item t → AllRelated R (option_spots o) ts
 kept_found R true o item t ts is k r = rw (is, k) (r, tt)
@@ -85,27 +74,3 @@ pub from_start : (mode : Mode) (vs d1 d2 : List Path) (top u : Tree) → d1 ≡ 
 from_start mode vs d1 d2 top u p q =
     (λ i. steps_meaning mode (steps_of (steps_view (sym p i))) top (start (steps_of (steps_view (sym q i))) top u ∷ []))
     ∙ ap (λ l. steps_meaning mode (steps_of l) top (start (steps_of (steps_view d2)) top u ∷ [])) (sym (refused_steps (steps_view d1)))
-
--- every other operator compares
-comparison : (mode : Mode) (op : BinaryOperator) (l r : math.Expression) (top u : Tree) → op ≢ And → op ≢ Or → op ≢ Add → op ≢ Subtract → op ≢ Multiply
-    → op ≢ Divide → op ≢ Modulo →
-    truth mode (math.binary (operator_view op) l r) top u
-    ≡ and_then (operand_values mode l top u) (λ ls. and_then (operand_values mode r top u) (λ rs. Ok (compare (operator_view op) ls rs)))
-comparison mode And l r top u a b c d e f g = absurd (a refl)
-comparison mode Or l r top u a b c d e f g = absurd (b refl)
-comparison mode Add l r top u a b c d e f g = absurd (c refl)
-comparison mode Subtract l r top u a b c d e f g = absurd (d refl)
-comparison mode Multiply l r top u a b c d e f g = absurd (e refl)
-comparison mode Divide l r top u a b c d e f g = absurd (f refl)
-comparison mode Modulo l r top u a b c d e f g = absurd (g refl)
-comparison mode _ l r top u a b c d e f g = refl
-
-pub compared_is : (mode : Mode) (e : Expr) (op : BinaryOperator) (l r : Box Expr Global) (top u : Tree) (x y : Expr) → e ≡ expr.BinaryOp op l r → x ≡ l.value
-    → y ≡ r.value →
-    op ≢ And → op ≢ Or → op ≢ Add → op ≢ Subtract → op ≢ Multiply → op ≢ Divide → op ≢ Modulo →
-    truth mode (expression_view e) top u
-    ≡ and_then (operand_values mode (expression_view x) top u)
-    (λ ls. and_then (operand_values mode (expression_view y) top u) (λ rs. Ok (compare (operator_view op) ls rs)))
-compared_is mode e op l r top u x y is p q na nor n1 n2 n3 n4 n5 =
-    ap (λ z. truth mode z top u) (binary_is e op l r is ∙ (λ i. math.binary (operator_view op) (expression_view (sym p i)) (expression_view (sym q i))))
-    ∙ comparison mode op (expression_view x) (expression_view y) top u na nor n1 n2 n3 n4 n5

@@ -32,17 +32,6 @@ others s _ h n = (ap as_filter (step_is s _ h) ∙ sym (step_is s _ h), ap step_
 pub no_step_expression : (s : Path) → ((e : Box Expr Global) → s ≡ step.Expr e → ⊥) → step_expression (step_view s) ≡ None
 no_step_expression s n = (others s (out-Path s) refl n).1
 
--- one step alone, and all other lists
-pub one_step : (steps : List Path) (s : Path) → length steps ≡ 1 → s ≡ get_or steps 0 s → only_expression (steps_view steps) ≡ step_expression (step_view s)
-one_step [] s l is = cc
-one_step (t ∷ []) s l is = ap (λ x. step_expression (step_view x)) (sym is)
-one_step (t ∷ u ∷ rest) s l is = absurd (omega (arith, l))
-
-pub not_one_step : (steps : List Path) → (length steps ≡ 1 → ⊥) → only_expression (steps_view steps) ≡ None
-not_one_step [] n = refl
-not_one_step (t ∷ []) n = absurd (n refl)
-not_one_step (t ∷ u ∷ rest) n = refl
-
 -- the meaning of a path that is one expression, of one that begins with `@`, and of all others
 step_expression_is : (s : Step) (e : Expression) → step_expression s ≡ Some e → s ≡ math.whole_expression e
 step_expression_is (math.whole_expression x) e h = let k : x ≡ e = cc in ap math.whole_expression k
@@ -54,10 +43,6 @@ lone_is (s ∷ []) e h = ap (λ x. x ∷ []) (step_expression_is s e h)
 lone_is (s ∷ t ∷ rest) e h = cc
 
 module _ (form : Form) (mode : Mode) (top : Tree) (outcome : Outcome (List Tree)) where
-  pub refused_current : (path : List Step) → begins_with_current path ≡ true → Means form mode path top outcome → outcome ≡ Err InvalidJsonPath
-  refused_current (math.current ∷ rest) b h = h
-  refused_current _ b h = cc
-
   pub by_steps : (path : List Step) → only_expression path ≡ None → begins_with_current path ≡ false → Means form mode path top outcome
       → outcome ≡ steps_meaning mode (steps_of (map as_filter path)) top (top ∷ [])
   by_steps (math.current ∷ rest) n b h = cc
@@ -98,16 +83,3 @@ is_outcome (Err e) x h = absurd h
 pub without_memory : {A B : Type 0} {R : A → B → Type 0} {r : Outcome A} {o : Outcome B} → Gives R (λ (_ : Error). ⊥) r o → Gives R IsOutOfMemory r o
 without_memory {A} {B} {R} {r = Ok x} {o} h = record { ok = h.ok; err = tt }
 without_memory {A} {B} {R} {r = Err e} {o} h = record { ok = tt; err = elim h.err [ inl none ↦ absurd none | inr is ↦ inr is ] }
-
--- a path that is no single expression says nothing
-pub no_lone : (path : List Step) → math.is_predicate path ≡ false → (e : Expression) → only_expression path ≡ Some e → ⊥
-no_lone [] p e h = cc
-no_lone (math.whole_expression x ∷ []) p e h = cc
-no_lone (s ∷ []) p e h = cc
-no_lone (s ∷ t ∷ rest) p e h = cc
-
-pub no_predicate : (mode : Mode) (path : List Step) (top : Tree) → only_expression path ≡ None → predicate mode path top ≡ Ok None
-no_predicate mode [] top h = refl
-no_predicate mode (math.whole_expression x ∷ []) top h = cc
-no_predicate mode (math.whole_expression x ∷ t ∷ rest) top h = refl
-no_predicate mode _ top h = refl
