@@ -151,25 +151,6 @@ one_front b c front other (x ∷ input) u rest differs e = go (nat_eq b x) (nat_
   go true true at at' e' = grind (arith, nat_tests)
   go true false at at' e' = rw at' refl
 
-spaced-none : (b c : ℕ) (front other input : List ℕ) (p : Unit {0} × List ℕ) → nat_eq b c ≡ false →
-    spaced (bytes (b ∷ front)) input ≡ Some p → spaced (bytes (c ∷ other)) input ≡ None
-unfolding ws
-spaced-none b c front other input p differs e = go (bytes (b ∷ front) (past is_space input)) refl e where
-  go : (o : Parsed (Unit {0})) → bytes (b ∷ front) (past is_space input) ≡ o → spaced (bytes (b ∷ front)) input ≡ Some p
-      → spaced (bytes (c ∷ other)) input ≡ None
-  go None at e' = absurd (nothing p.0 p.1 (rw at at e'))
-  go (Some q) at e' = rw (one_front b c front other (past is_space input) q.0 q.1 differs at) refl
-
-pub and-unclosed : (input after : List ℕ) → spaced (literal "&&") input ≡ Some (tt, after) → IsUnclosed input × (spaced (literal "||") input ≡ None)
-unfolding ws
-and-unclosed input after e = (
-  spaced-none 38 41 (38 ∷ []) [] input (tt, after) refl e,
-  spaced-none 38 124 (38 ∷ []) (124 ∷ []) input (tt, after) refl e,
-)
-
-pub or-unclosed : (input after : List ℕ) → spaced (literal "||") input ≡ Some (tt, after) → IsUnclosed input
-or-unclosed input after e = spaced-none 124 41 (124 ∷ []) [] input (tt, after) refl e
-
 pub filter-unclosed : (input after : List ℕ) → filter_front input ≡ Some (tt, after) → IsUnclosed input
 unfolding filter_front ws
 filter-unclosed input after e = go (bytes (63 ∷ []) (past is_space input)) refl e where
@@ -238,6 +219,13 @@ pub failure-goes : (frames : List Frame) (frame : Frame) (l : Level) → IsLevel
 failure-goes frames frame l is is' =
     resumed-push frames frame (level_outcome l None)
     ∙ ap (λ (o : Parsed Expression). resumed frames (level_outcome frame.level o)) (opened-fails frame.opened (level_outcome l None) is' (level-unclosed l is))
+
+-- a frame is taken off, and the failure goes on through the others
+pub failure-passed : (frames others : List Frame) (frame : Frame) (l : Level) → frames ≡ others ++ frame ∷ [] → IsLevel l → AreFrames frames
+    → (resumed others (level_outcome frame.level None) ≡ resumed frames (level_outcome l None)) × AreFrames others × IsLevel frame.level
+failure-passed frames others frame l whole is are =
+    let popped = frames-pop others frame (rw whole at are) in
+    (sym (failure-goes others frame l is popped.2) ∙ ap (λ (fs : List Frame). resumed fs (level_outcome l None)) (sym whole), popped.0, popped.1)
 
 -- ---- the end of parentheses
 

@@ -126,6 +126,38 @@ module _ {A B : Type 0} (R : A → B → Type 0) (xs : List A) where
       go [] a = refl
       go (t ∷ ts) a = absurd a
 
+-- ---- over places of the bytes, each of whose lists goes behind those that were found before
+
+module _ (f : Tree → Outcome (List Tree)) (bytes : List ℕ) (spots : List Spot) (ts : List Tree) where
+  -- so many places are passed, and this was found
+  abbrev pub SpotsPassed : ℕ → List Spot → Type 0
+  SpotsPassed i found = Progress (AllRelated (Locates bytes) (drop i spots)) (AllRelated (Locates bytes) found) f (try_flat_map f ts)
+
+  pub none_passed : (found : List Spot) → found ≡ [] → AllRelated (Locates bytes) spots ts → SpotsPassed 0 found
+  none_passed found none a =
+      at_start f (AllRelated (Locates bytes) spots) (AllRelated (Locates bytes) found) ts a (subst (λ l. AllRelated (Locates bytes) l []) (sym none) tt)
+
+  module _ (i : ℕ) (found found' : List Spot) (passed : SpotsPassed i found) where
+    pub spot_passed : i < length spots
+        → ((t : Tree) (before : List Tree) → Locates bytes (get_or spots i no_spot) t → AllRelated (Locates bytes) found before
+        → IsOkAnd (f t) (λ us. AllRelated (Locates bytes) found' (before ++ us)))
+        → SpotsPassed (i + 1) found'
+    spot_passed less one =
+        one_more f (AllRelated (Locates bytes) (drop i spots)) (AllRelated (Locates bytes) (drop (i + 1) spots)) (AllRelated (Locates bytes) found)
+        (AllRelated (Locates bytes) found') _ _ passed (list_first (Locates bytes) spots i no_spot less) one
+
+    pub spot_not_passed : {G : Type 0} (Q : G → List Tree → Type 0) (e : Error) → i < length spots
+        → ((t : Tree) (before : List Tree) → Locates bytes (get_or spots i no_spot) t → AllRelated (Locates bytes) found before
+        → Gives (λ (_ : Unit {0}) us. AllRelated (Locates bytes) found' (before ++ us)) IsOutOfMemory (Err e) (f t))
+        → Gives Q IsOutOfMemory (Err e) (try_flat_map f ts)
+    spot_not_passed Q e less one =
+        refused_in f Q (AllRelated (Locates bytes) (drop i spots)) (AllRelated (Locates bytes) (drop (i + 1) spots)) (AllRelated (Locates bytes) found)
+        (AllRelated (Locates bytes) found') _ e _ passed (list_first (Locates bytes) spots i no_spot less) one
+
+  pub all_passed : (i : ℕ) (found : List Spot) → SpotsPassed i found → length spots ≤ i → IsOkAnd (try_flat_map f ts) (AllRelated (Locates bytes) found)
+  all_passed i found passed end =
+      at_end f (AllRelated (Locates bytes) (drop i spots)) (AllRelated (Locates bytes) found) _ passed (list_end (Locates bytes) spots i end)
+
 -- ---- over the children of an item
 
 pub spot_first : (bytes : List ℕ) (it it' : SpotIter) (r : Result Spot Error) (spot : Spot) → r ≡ Ok spot → GivesSpot it (Some r) it' → (rest : List Tree)

@@ -10,7 +10,11 @@ ghost use Rattle.jsonb.specs.Meaning.{is_some_item};
 ghost use Rattle.jsonb_doc.specs.Format.{Decodes};
 ghost use Rattle.jsonb_doc.specs.Answer.{IsDecodingError};
 ghost use Rattle.jsonb_doc.specs.Readable.{HasReadableRoot};
-ghost use Rattle.jsonb.specs.Private.Selection.{AreSelected, HasTree};
+ghost use Rattle.jsonb.specs.PathViews.{path_view};
+ghost use Rattle.jsonb.specs.SelectionErrors.{IsSelectionError};
+ghost use Rattle.jsonb.specs.SelectorAnswers.{ByMeanings};
+ghost use Rattle.jsonb.specs.Private.Selection.{AreSelected, IsSelectionOf, HasTree};
+ghost use Rattle.jsonb_raw.specs.Documents.{raw_bytes};
 ghost use Rattle.jsonb.specs.declared.selector.document.Document.{Document};
 
 mod atom;
@@ -138,9 +142,7 @@ impl<'a> Selector<'a> {
         ensures errors { IfErr result (IsDocumentError (mode_of self.old)) }
         ensures readable { OnOk result (HasReadableRoot (root_bytes self.old)) }
     {
-        let bytes = self.root.as_bytes();
-        let document = at_root(bytes)?;
-        let selected = selection(self.alloc, self.mode, &path.paths, document)?;
+        let (document, selected) = selected_at(self.alloc, self.mode, self.root, path)?;
         documents(self.alloc, document, &selected)
     }
 
@@ -159,9 +161,7 @@ impl<'a> Selector<'a> {
         ensures errors { IfErr result (IsDocumentError (mode_of self.old)) }
         ensures readable { OnOk result (HasReadableRoot (root_bytes self.old)) }
     {
-        let bytes = self.root.as_bytes();
-        let document = at_root(bytes)?;
-        let selected = selection(self.alloc, self.mode, &path.paths, document)?;
+        let (document, selected) = selected_at(self.alloc, self.mode, self.root, path)?;
         array_document(self.alloc, document, &selected)
     }
 
@@ -205,9 +205,7 @@ impl<'a> Selector<'a> {
         ensures errors { IfErr result (IsDocumentError (mode_of self.old)) }
         ensures readable { OnOk result (HasReadableRoot (root_bytes self.old)) }
     {
-        let bytes = self.root.as_bytes();
-        let document = at_root(bytes)?;
-        let selected = selection(self.alloc, self.mode, &path.paths, document)?;
+        let (document, selected) = selected_at(self.alloc, self.mode, self.root, path)?;
         value_document(self.alloc, document, &selected)
     }
 
@@ -271,6 +269,24 @@ fn at_root(bytes: &[u8]) -> Result<Document<'_>, Error>
 {
     let root = root_spot(bytes)?;
     Ok(Document { bytes, root })
+}
+
+/// The document with its root, and what the path selects of it.
+#[inline(always)]
+fn selected_at<'s>(
+    alloc: Global,
+    mode: Mode,
+    root: RawJsonb<'s>,
+    path: &'s JsonPath<'_>,
+) -> Result<(Document<'s>, Selected<'s>), Error>
+    ensures meant { ByMeanings mode (raw_bytes root.entry) (path_view path.now)
+        (IsSelectionOf (raw_bytes root.entry)) result }
+    ensures errors { IfErr result (IsSelectionError mode) }
+    ensures readable { OnOk result (HasReadableRoot (raw_bytes root.entry)) }
+{
+    let document = at_root(root.as_bytes())?;
+    let selected = selection(alloc, mode, &path.paths, document)?;
+    Ok((document, selected))
 }
 
 /// Whether anything is selected.

@@ -1,20 +1,24 @@
 -- What a path selects: places of the document, or what an expression makes.
-use Rattle.std.specs.Prelude.{◌≡◌, ◌&&◌, Bool, true, false, List, [], ◌∷◌, map, Option, Some, None, Err, if◌then◌else◌}
-use Rattle.jsonb_doc.specs.Answer.{Outcome}
+use Rattle.std.specs.Prelude.{◌≡◌, ◌&&◌, ℕ, Bool, true, false, List, [], ◌∷◌, map, Option, Some, None, Result, Err, if◌then◌else◌}
+use Rattle.jsonb_doc.specs.Answer.{Outcome, Gives, IsOutOfMemory}
+use Rattle.jsonb_doc.specs.declared.error.Error.{Error}
 use Rattle.jsonb_doc.specs.declared.error.Error.TheVariants.{InvalidJsonPath}
 use Rattle.jsonb_doc.specs.declared.spot.Spot.{Spot}
 use Rattle.jsonb_doc.specs.declared.number.Number.{Number as CodeNumber}
 use Rattle.jsonb_doc.specs.Number.{Number}
 use Rattle.jsonb_doc.specs.View.{number_view}
 use Rattle.jsonb_doc.specs.Payload.{Form}
+use Rattle.jsonb_doc.specs.Format.{Decodes}
 use Rattle.jsonb_doc.specs.Item.{StandsFor}
 use Rattle.jsonb_doc.specs.Spots.{Locates}
 use Rattle.jsonb_doc.specs.Tree.{Tree, number, array, trees_of}
 use Rattle.jsonb.specs.PathTree.{Expression, Step, UnaryOp, current, filter, whole_expression}
 use Rattle.jsonb.specs.PathArithmetic.{signed_number}
+use Rattle.jsonb.specs.Meaning.{Means}
 use Rattle.jsonb.specs.Related.{AllRelated}
 use Rattle.jsonb.specs.Values as val
 use Rattle.jsonb.specs.declared.selector.document.Document.{Document}
+use Rattle.jsonb.specs.declared.selector.document.Mode.{Mode}
 use Rattle.jsonb.specs.declared.selector.document.Expressions.{Expressions}
 use Rattle.jsonb.specs.declared.selector.document.Expressions.TheVariants as expressions
 use Rattle.jsonb.specs.declared.selector.atom.Atom.{Atom}
@@ -78,6 +82,21 @@ abbrev pub AreSelected : Form → Document → Selected → List Tree → Type 0
 AreSelected form document (selected.Nodes places) ts = AllRelated (IsAt document) (node_spots places) ts
 AreSelected form document (selected.Numbers v) ts = AllRelated IsNumberItem v.items ts
 AreSelected form document (selected.Made part) ts = AllRelated (IsMadeItem form) (part ∷ []) ts
+
+-- the answer is that of the path's meaning on the document's tree
+abbrev pub GivesMeant : (Form → Document → Selected → List Tree → Type 0) → Document → Mode → List Step → Outcome Selected → Type 0
+GivesMeant AreOf document mode path answer = (form : Form) (top : Tree) (outcome : Outcome (List Tree))
+    → HasTree document top → Means form mode path top outcome → Gives (AreOf form document) IsOutOfMemory answer outcome
+
+-- this holds of the trees that are selected, whatever they are
+abbrev pub OfSelected : Document → Selected → (Form → List Tree → Type 0) → Type 0
+OfSelected document selected Holds = (form : Form) (top : Tree) (ts : List Tree)
+    → Decodes form document.bytes.now top → AreSelected form document selected ts → Holds form ts
+
+-- a document of these bytes, and what is selected of it: the trees of a list, or its refusal
+abbrev pub IsSelectionOf : List ℕ → Form → Outcome (List Tree) → Result (Document × Selected) Error → Type 0
+IsSelectionOf bytes form outcome answer =
+    Gives (λ found ts. (found.0.bytes.now ≡ bytes) × AreSelected form found.0 found.1 ts) IsOutOfMemory answer outcome
 
 -- what a step is where an expression is a filter, or refused
 abbrev pub taken_as : Expressions → Expression → Step

@@ -10,7 +10,7 @@ ghost use Rattle.jsonb_doc.specs.Answer.{IsOutOfMemory, IsOutOfMemoryOrTooLarge,
 ghost use Rattle.jsonb_doc.specs.declared.error.Error.TheVariants.{OutOfMemory, TooLarge};
 ghost use Rattle.jsonb_doc.specs.ArrayBuilder.{HoldsElements};
 ghost use Rattle.jsonb_raw.specs.Documents.{Makes, MakesOption};
-ghost use Rattle.jsonb.specs.Private.Selection.{IsMadeItem, IsNumberItem, AreSelected};
+ghost use Rattle.jsonb.specs.Private.Selection.{IsMadeItem, IsNumberItem, OfSelected};
 ghost use Rattle.jsonb.specs.SelectorAnswers.{AreDocuments, HasTooLarge, array_of, first_item, single_or_array};
 ghost use Rattle.jsonb.specs.Private.Selected.{selected_len};
 
@@ -38,9 +38,8 @@ fn part_at<'a>(
     position: usize,
 ) -> Result<MadeItem<'a>, Error>
     requires { position < selected_len selected.now }
-    ensures part { (form : Form) (top : Tree) (ts : List Tree) → Decodes form document.entry.bytes.now top
-        → AreSelected form document.entry selected.now ts
-        → IsOkAnd result (λ part. HoldsAt (IsMadeItem form part) ts position) }
+    ensures part { OfSelected document.entry selected.now
+        (λ form ts. IsOkAnd result (λ part. HoldsAt (IsMadeItem form part) ts position)) }
     ensures errors { IfErr result IsDecodingError }
 {
     match selected {
@@ -93,8 +92,8 @@ fn document_at(
     position: usize,
 ) -> Result<OwnedJsonb, Error>
     requires { position < selected_len selected.now }
-    ensures document { (form : Form) (top : Tree) (ts : List Tree) → Decodes form document.entry.bytes.now top
-        → AreSelected form document.entry selected.now ts → HoldsAt (λ t. Makes form t result) ts position }
+    ensures document { OfSelected document.entry selected.now
+        (λ form ts. HoldsAt (λ t. Makes form t result) ts position) }
     ensures errors { IfErr result (IsDecodingError or OutOfMemory or TooLarge) }
 {
     match selected {
@@ -130,10 +129,9 @@ pub(crate) fn documents(
     document: Document<'_>,
     selected: &Selected<'_>,
 ) -> Result<Vec<OwnedJsonb>, Error>
-    ensures documents { (form : Form) (top : Tree) (ts : List Tree) → Decodes form document.entry.bytes.now top
-        → AreSelected form document.entry selected.now ts
-        → Gives (λ v us. AreDocuments form v.items us) (IsOutOfMemory or TooLarge when HasTooLarge form ts) result
-        (Ok ts) }
+    ensures documents { OfSelected document.entry selected.now (λ form ts.
+        Gives (λ v us. AreDocuments form v.items us) (IsOutOfMemory or TooLarge when HasTooLarge form ts) result
+        (Ok ts)) }
     ensures errors { IfErr result (IsDecodingError or OutOfMemory or TooLarge) }
 {
     let count = selected_len(selected);
@@ -150,8 +148,7 @@ pub(crate) fn array_document(
     document: Document<'_>,
     selected: &Selected<'_>,
 ) -> Result<OwnedJsonb, Error>
-    ensures document { (form : Form) (top : Tree) (ts : List Tree) → Decodes form document.entry.bytes.now top
-        → AreSelected form document.entry selected.now ts → Makes form (array_of ts) result }
+    ensures document { OfSelected document.entry selected.now (λ form ts. Makes form (array_of ts) result) }
     ensures errors { IfErr result (IsDecodingError or OutOfMemory or TooLarge) }
 {
     let mut builder = ArrayBuilder::new(alloc);
@@ -168,8 +165,7 @@ pub(crate) fn first_document(
     document: Document<'_>,
     selected: &Selected<'_>,
 ) -> Result<Option<OwnedJsonb>, Error>
-    ensures document { (form : Form) (top : Tree) (ts : List Tree) → Decodes form document.entry.bytes.now top
-        → AreSelected form document.entry selected.now ts → MakesOption form (first_item ts) result }
+    ensures document { OfSelected document.entry selected.now (λ form ts. MakesOption form (first_item ts) result) }
     ensures errors { IfErr result (IsDecodingError or OutOfMemory or TooLarge) }
 {
     if selected_len(selected) == 0 {
@@ -185,8 +181,7 @@ pub(crate) fn value_document(
     document: Document<'_>,
     selected: &Selected<'_>,
 ) -> Result<Option<OwnedJsonb>, Error>
-    ensures document { (form : Form) (top : Tree) (ts : List Tree) → Decodes form document.entry.bytes.now top
-        → AreSelected form document.entry selected.now ts → MakesOption form (single_or_array ts) result }
+    ensures document { OfSelected document.entry selected.now (λ form ts. MakesOption form (single_or_array ts) result) }
     ensures errors { IfErr result (IsDecodingError or OutOfMemory or TooLarge) }
 {
     if selected_len(selected) > 1 {

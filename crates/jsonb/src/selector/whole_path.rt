@@ -1,18 +1,17 @@
 //! A path as a whole: its top steps, or one expression.
 
-ghost use Rattle.std.specs.Prelude.{◌≡◌, ◌++◌, ◌∷◌, [], List, Ok, Err, None, Some, MatchOption, map, IfErr};
-ghost use Rattle.jsonb_doc.specs.Answer.{Gives, Outcome, try_flat_map, and_then, IsOutOfMemory, IsDecodingError, ◌or◌};
-ghost use Rattle.jsonb_doc.specs.declared.error.Error.TheVariants.{OutOfMemory};
+ghost use Rattle.std.specs.Prelude.{◌≡◌, ◌++◌, ◌∷◌, [], List, Ok, Err, None, Some, MatchOption, IfErr};
+ghost use Rattle.jsonb_doc.specs.Answer.{Gives, Outcome, and_then, IsOutOfMemory, ◌or◌};
 ghost use Rattle.jsonb_doc.specs.Arithmetic.{Operation};
 ghost use Rattle.jsonb_doc.specs.Payload.{Form};
 ghost use Rattle.jsonb_doc.specs.Tree.{Tree};
-ghost use Rattle.jsonb.specs.PathTree.{steps_of, filter, whole_expression, value};
+ghost use Rattle.jsonb.specs.PathTree.{whole_expression, value};
 ghost use Rattle.jsonb.specs.PathViews.{step_view, steps_view, expression_view, literal_view, operator_view, sign_view};
 ghost use Rattle.jsonb.specs.Related.{AllRelated};
 ghost use Rattle.jsonb.specs.PathArithmetic.{operation, each_signed};
-ghost use Rattle.jsonb.specs.Meaning.{step_meaning, steps_meaning, operand_values, truth, as_filter, Means, truth_item, truth_list, calculation, expression_predicate};
+ghost use Rattle.jsonb.specs.Meaning.{operand_values, truth, Means, truth_item, truth_list, calculation, expression_predicate};
 ghost use Rattle.jsonb.specs.Private.Search.{BeginsAs};
-ghost use Rattle.jsonb.specs.Private.Selection.{IsAt, HasTree, node_spots, IsMadeItem, IsNumberItem, IsNumberTree, AreSelected, step_expression, only_expression};
+ghost use Rattle.jsonb.specs.Private.Selection.{HasTree, GivesMeant, IsMadeItem, IsNumberItem, IsNumberTree, AreSelected, step_expression, only_expression};
 ghost use Rattle.jsonb.specs.declared.selector.document.Document.{Document};
 ghost use Rattle.jsonb.specs.declared.selector.document.Mode.{Mode};
 ghost use Rattle.jsonb.specs.declared.selector.selected.MadeItem.TheVariants as made_item;
@@ -37,9 +36,7 @@ pub(crate) fn selection<'a>(
     steps: &'a [Path<'_>],
     document: Document<'a>,
 ) -> Result<Selected<'a>, Error>
-    ensures meant { (form : Form) (top : Tree) (outcome : Outcome (List Tree)) → HasTree document.entry top
-        → Means form mode (steps_view steps.now) top outcome
-        → Gives (AreSelected form document.entry) IsOutOfMemory result outcome }
+    ensures meant { GivesMeant AreSelected document.entry mode (steps_view steps.now) result }
     ensures errors { IfErr result (IsSelectionError mode) }
 {
     if let Some(e) = only_expression(steps) {
@@ -66,9 +63,7 @@ pub(crate) fn first_selection<'a>(
     steps: &'a [Path<'_>],
     document: Document<'a>,
 ) -> Result<Selected<'a>, Error>
-    ensures meant { (form : Form) (top : Tree) (outcome : Outcome (List Tree)) → HasTree document.entry top
-        → Means form mode (steps_view steps.now) top outcome
-        → Gives (BeginsAs form document.entry) IsOutOfMemory result outcome }
+    ensures meant { GivesMeant BeginsAs document.entry mode (steps_view steps.now) result }
     ensures errors { IfErr result (IsSelectionError mode) }
 {
     if only_expression(steps).is_some() || begins_with_current(steps) {
@@ -111,9 +106,7 @@ fn expression_parts<'a>(
     e: &'a Expr<'_>,
     document: Document<'a>,
 ) -> Result<Selected<'a>, Error>
-    ensures meant { (form : Form) (top : Tree) (outcome : Outcome (List Tree)) → HasTree document.entry top
-        → Means form mode (whole_expression (expression_view e.now) ∷ []) top outcome
-        → Gives (AreSelected form document.entry) IsOutOfMemory result outcome }
+    ensures meant { GivesMeant AreSelected document.entry mode (whole_expression (expression_view e.now) ∷ []) result }
     ensures errors { IfErr result (IsSelectionError mode) }
 {
     match e {

@@ -2,31 +2,16 @@ use Rattle.std.proofs.Common.{Err, ap, sym, ◌∙◌, subst}
 use Rattle.std.proofs.lemmas.Result.{err_from_is_err_and}
 use Rattle.jsonb_doc.specs.Format.{Decodes}
 use Rattle.jsonb_doc.specs.Limits.{IsTooLarge}
-use Rattle.jsonb.specs.PathViews.{steps_view}
-use Rattle.jsonb.specs.Meaning.{Means}
-use Rattle.jsonb.specs.SelectorAnswers.{mode_of, array_of}
-use Rattle.jsonb.proofs.DocumentAnswers.{handed_by, handed_refused, handed_same, array_handed}
+use Rattle.jsonb.specs.SelectorAnswers.{array_of}
+use Rattle.jsonb.proofs.DocumentAnswers.{handed_by, handed_error, array_handed}
 use Rattle.jsonb.proofs.selector.Selector.select_array.Goals as goal
 
 pub returns-in_err-document-clause-array : goal.returns-in_err-document-clause-array
-returns-in_err-document-clause-array c = λ form top outcome d m. absurd
-    (c.in_err-document.ensures.meant form top (subst (λ b. Decodes form b top) (sym c.as_bytes-bytes.ensures) d))
-
-pub returns-in_err-selected-clause-array : goal.returns-in_err-selected-clause-array
-returns-in_err-selected-clause-array c = λ form top outcome d m.
-    let k = c.in_ok-document.ensures.meant form top (subst (λ b. Decodes form b top) (sym c.as_bytes-bytes.ensures) d) in
-    let p = err_from_is_err_and c.from_residual-in_err-selected.result c.from_residual-in_err-selected.ensures.1 in
-    handed_same (λ made ts. Decodes form made (array_of ts)) (λ ts. IsTooLarge form (array_of ts)) (p.1 ∙ ap Err p.2)
-    (handed_refused (λ made ts. Decodes form made (array_of ts)) (λ ts. IsTooLarge form (array_of ts))
-    (c.in_err-selected.ensures.meant form top outcome k.1
-    (subst (λ l. Means form (mode_of c.args.self.now) (steps_view l) top outcome) (sym c.deref.ensures.value) m)))
+returns-in_err-document-clause-array c = λ form top outcome d m.
+    let p = err_from_is_err_and c.from_residual.result c.from_residual.ensures.1 in
+    handed_error (λ made ts. Decodes form made (array_of ts)) (λ ts. IsTooLarge form (array_of ts)) (p.1 ∙ ap Err p.2) (c.in_err-document.ensures.meant form top outcome d m)
 
 pub returns-clause-array : goal.returns-clause-array
 returns-clause-array c = λ form top outcome d m.
-    let k = c.in_ok-document.ensures.meant form top (subst (λ b. Decodes form b top) (sym c.as_bytes-bytes.ensures) d) in
-    handed_by (λ ts. IsTooLarge form (array_of ts))
-    (c.in_ok-selected.ensures.meant form top outcome k.1
-    (subst (λ l. Means form (mode_of c.args.self.now) (steps_view l) top outcome) (sym c.deref.ensures.value) m))
-    (λ ts h. array_handed form ts c.array_document.result
-    (c.array_document.ensures.document form top ts
-    (subst (λ b. Decodes form b top) (sym k.0) (subst (λ b. Decodes form b top) (sym c.as_bytes-bytes.ensures) d)) h))
+    handed_by (λ ts. IsTooLarge form (array_of ts)) (c.in_ok-document.ensures.meant form top outcome d m)
+    (λ ts h. array_handed form ts c.array_document.result (c.array_document.ensures.document form top ts (subst (λ b. Decodes form b top) (sym h.0) d) h.1))

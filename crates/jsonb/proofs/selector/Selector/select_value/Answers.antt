@@ -1,31 +1,17 @@
 use Rattle.std.proofs.Common.{Err, ap, sym, ◌∙◌, subst}
 use Rattle.std.proofs.lemmas.Result.{err_from_is_err_and}
 use Rattle.jsonb_doc.specs.Format.{Decodes}
-use Rattle.jsonb.specs.PathViews.{steps_view}
-use Rattle.jsonb.specs.Meaning.{Means}
-use Rattle.jsonb.specs.SelectorAnswers.{mode_of, IsDocumentOf, IsPast, single_or_array}
-use Rattle.jsonb.proofs.DocumentAnswers.{handed_by, handed_refused, handed_same, option_handed}
+use Rattle.jsonb.specs.SelectorAnswers.{IsDocumentOf, IsPast, single_or_array}
+use Rattle.jsonb.proofs.DocumentAnswers.{handed_by, handed_error, option_handed}
 use Rattle.jsonb.proofs.selector.Selector.select_value.Goals as goal
 
 pub returns-in_err-document-clause-value : goal.returns-in_err-document-clause-value
-returns-in_err-document-clause-value c = λ form top outcome d m. absurd
-    (c.in_err-document.ensures.meant form top (subst (λ b. Decodes form b top) (sym c.as_bytes-bytes.ensures) d))
-
-pub returns-in_err-selected-clause-value : goal.returns-in_err-selected-clause-value
-returns-in_err-selected-clause-value c = λ form top outcome d m.
-    let k = c.in_ok-document.ensures.meant form top (subst (λ b. Decodes form b top) (sym c.as_bytes-bytes.ensures) d) in
-    let p = err_from_is_err_and c.from_residual-in_err-selected.result c.from_residual-in_err-selected.ensures.1 in
-    handed_same (λ found ts. IsDocumentOf form found (single_or_array ts)) (λ ts. IsPast form (single_or_array ts)) (p.1 ∙ ap Err p.2)
-    (handed_refused (λ found ts. IsDocumentOf form found (single_or_array ts)) (λ ts. IsPast form (single_or_array ts))
-    (c.in_err-selected.ensures.meant form top outcome k.1
-    (subst (λ l. Means form (mode_of c.args.self.now) (steps_view l) top outcome) (sym c.deref.ensures.value) m)))
+returns-in_err-document-clause-value c = λ form top outcome d m.
+    let p = err_from_is_err_and c.from_residual.result c.from_residual.ensures.1 in
+    handed_error (λ found ts. IsDocumentOf form found (single_or_array ts)) (λ ts. IsPast form (single_or_array ts)) (p.1 ∙ ap Err p.2) (c.in_err-document.ensures.meant form top outcome d m)
 
 pub returns-clause-value : goal.returns-clause-value
 returns-clause-value c = λ form top outcome d m.
-    let k = c.in_ok-document.ensures.meant form top (subst (λ b. Decodes form b top) (sym c.as_bytes-bytes.ensures) d) in
-    handed_by (λ ts. IsPast form (single_or_array ts))
-    (c.in_ok-selected.ensures.meant form top outcome k.1
-    (subst (λ l. Means form (mode_of c.args.self.now) (steps_view l) top outcome) (sym c.deref.ensures.value) m))
+    handed_by (λ ts. IsPast form (single_or_array ts)) (c.in_ok-document.ensures.meant form top outcome d m)
     (λ ts h. option_handed form single_or_array ts c.value_document.result
-    (c.value_document.ensures.document form top ts
-    (subst (λ b. Decodes form b top) (sym k.0) (subst (λ b. Decodes form b top) (sym c.as_bytes-bytes.ensures) d)) h))
+    (c.value_document.ensures.document form top ts (subst (λ b. Decodes form b top) (sym h.0) d) h.1))

@@ -6,12 +6,10 @@ use Rattle.jsonb.specs.PathTree.{Expression, filter}
 use Rattle.jsonb.specs.Related.{AllRelated}
 use Rattle.jsonb.specs.Private.Compared.{AreCompared}
 use Rattle.jsonb.specs.Meaning.{step_meaning}
-use Rattle.jsonb.proofs.Progress.{Progress}
+use Rattle.jsonb.proofs.Progress.{SpotsPassed}
 use Rattle.jsonb.proofs.selector.comparisons.joined_items.Given as goal
 
 abbrev pub invariant-loop-item : goal.invariant-loop-item
 invariant-loop-item l =
     (e : Expression) (top : Tree) (ts : List Tree) → AreCompared l.join l.comparisons e → AllRelated (Locates l.bytes) l.items ts →
-    Progress (AllRelated (Locates l.bytes) (drop l.item-index l.items)) (AllRelated (Locates l.bytes) l.nodes.items)
-    (step_meaning l.mode (filter e) top)
-    (try_flat_map (step_meaning l.mode (filter e) top) ts)
+    SpotsPassed (step_meaning l.mode (filter e) top) l.bytes l.items ts l.item-index l.nodes.items
