@@ -84,7 +84,8 @@ AreSelected form document (selected.Numbers v) ts = AllRelated IsNumberItem v.it
 AreSelected form document (selected.Made part) ts = AllRelated (IsMadeItem form) (part ∷ []) ts
 
 -- the answer is that of the path's meaning on the document's tree
-abbrev pub GivesMeant : (Form → Document → Selected → List Tree → Type 0) → Document → Mode → List Step → Outcome Selected → Type 0
+abbrev pub GivesMeant :
+    (Form → Document → Selected → List Tree → Type 0) → Document → Mode → List Step → Outcome Selected → Type 0
 GivesMeant AreOf document mode path answer = (form : Form) (top : Tree) (outcome : Outcome (List Tree))
     → HasTree document top → Means form mode path top outcome → Gives (AreOf form document) IsOutOfMemory answer outcome
 

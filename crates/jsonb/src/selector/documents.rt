@@ -181,7 +181,8 @@ pub(crate) fn value_document(
     document: Document<'_>,
     selected: &Selected<'_>,
 ) -> Result<Option<OwnedJsonb>, Error>
-    ensures document { OfSelected document.entry selected.now (λ form ts. MakesOption form (single_or_array ts) result) }
+    ensures document { OfSelected document.entry selected.now
+        (λ form ts. MakesOption form (single_or_array ts) result) }
     ensures errors { IfErr result (IsDecodingError or OutOfMemory or TooLarge) }
 {
     if selected_len(selected) > 1 {
