@@ -87,32 +87,53 @@ fn texts_are_read_or_refused(rt: HostRuntime) -> Result<(), Fail> {
     Ok(())
 }
 
-fn is_owned(text: &CowStr<'_>, expected: &str) -> bool {
-    match text {
-        CowStr::Owned(own) => own.as_str() == expected,
-        CowStr::Borrowed(_) => false,
+/// Whether a reader found this text and this rest. A text that had to be copied is its own.
+fn is_read(found: &Option<(CowStr<'_>, &[u8])>, text: &str, rest: &str, is_own: bool) -> bool {
+    let Some((name, behind)) = found else {
+        return false;
+    };
+    let is_same = match name {
+        CowStr::Borrowed(borrowed) => !is_own && *borrowed == text,
+        CowStr::Owned(own) => is_own && own.as_str() == text,
+    };
+    is_same && *behind == rest.as_bytes()
+}
+
+/// What is read, the name in it, the rest, and whether the name had to be copied.
+const NAMES: [(&str, &str, &str, bool); 3] = [
+    ("ab.c", "ab", ".c", false),
+    ("\\u{0061}b.c", "ab", ".c", true),
+    ("\\ud83d\\u{de00}", "\u{1f600}", "", true),
+];
+
+/// The same of quoted texts.
+const QUOTED: [(&str, &str, &str, bool); 2] = [
+    ("\"a b\".c", "a b", ".c", false),
+    (
+        "\"\\\"\\\\\\/\\b\\f\\n\\r\\t\"!",
+        "\"\\/\u{8}\u{c}\n\r\t",
+        "!",
+        true,
+    ),
+];
+
+#[test]
+fn names_are_read(rt: HostRuntime) -> Result<(), Fail> {
+    for (text, name, rest, is_own) in &NAMES {
+        let found = read_name(rt.alloc(), text.as_bytes())?;
+        assert!(rt; is_read(&found, name, rest, *is_own), "{text}");
     }
+    for text in [b"".as_slice(), b".a", b"a\\q", b"\xc3."] {
+        assert!(rt; read_name(rt.alloc(), text)?.is_none(), "{text:?}");
+    }
+    Ok(())
 }
 
 #[test]
-fn names_and_quoted_texts_are_read(rt: HostRuntime) -> Result<(), Fail> {
-    let name = read_name(rt.alloc(), b"ab.c")?;
-    assert!(rt; matches!(name, Some((CowStr::Borrowed("ab"), b".c"))));
-    let quoted = read_quoted(rt.alloc(), b"\"a b\".c")?;
-    assert!(rt; matches!(quoted, Some((CowStr::Borrowed("a b"), b".c"))));
-    let (name, rest) = read_name(rt.alloc(), b"\\u{0061}b.c")?.ok_or("no name")?;
-    assert!(rt; is_owned(&name, "ab"));
-    assert!(rt; matches!(rest, b".c"));
-    let (quoted, rest) = read_quoted(rt.alloc(), b"\"\\\"\\\\\\/\\b\\f\\n\\r\\t\"!")?.ok_or(
-        "no text",
-    )?;
-    assert!(rt; is_owned(&quoted, "\"\\/\u{8}\u{c}\n\r\t"));
-    assert!(rt; matches!(rest, b"!"));
-    let (both, rest) = read_name(rt.alloc(), b"\\ud83d\\u{de00}")?.ok_or("no name")?;
-    assert!(rt; is_owned(&both, "\u{1f600}"));
-    assert!(rt; rest.is_empty());
-    for text in [b"".as_slice(), b".a", b"a\\q", b"\xc3."] {
-        assert!(rt; read_name(rt.alloc(), text)?.is_none(), "{text:?}");
+fn quoted_texts_are_read(rt: HostRuntime) -> Result<(), Fail> {
+    for (text, quoted, rest, is_own) in &QUOTED {
+        let found = read_quoted(rt.alloc(), text.as_bytes())?;
+        assert!(rt; is_read(&found, quoted, rest, *is_own), "{text}");
     }
     for text in [b"\"\"".as_slice(), b"\"a", b"a"] {
         assert!(rt; read_quoted(rt.alloc(), text)?.is_none(), "{text:?}");
@@ -184,40 +205,53 @@ impl fmt::Display for Written<'_> {
 }
 
 #[test]
-fn prints_steps_and_names(rt: HostRuntime) -> Result<(), Fail> {
-    let step = KeyPath::Name(CowStr::Borrowed("a b"));
-    assert_eq!(rt; format!(in rt.alloc(); "{step}")?.as_str(), "\"a b\"");
-    let owned = step.to_owned(rt.alloc())?;
-    assert_eq!(rt; format!(in rt.alloc(); "{owned}")?.as_str(), "\"a b\"");
-    let index = OwnedKeyPath::Index(-3);
-    assert_eq!(rt; format!(in rt.alloc(); "{index}")?.as_str(), "-3");
-    let plain = Written("a_1");
-    assert_eq!(rt; format!(in rt.alloc(); "{plain}")?.as_str(), "a_1 \"a_1\"");
-    let other = Written("1\"");
-    assert_eq!(rt;
-        format!(in rt.alloc(); "{other}")?.as_str(),
-        "\"1\\\"\" \"1\\\"\""
-    );
-    assert!(rt; token::is_plain_name("_a"));
-    assert!(rt; !token::is_plain_name("1a"));
-    assert!(rt; !token::is_plain_name(""));
+fn prints_names_and_quoted_texts(rt: HostRuntime) -> Result<(), Fail> {
+    for (text, wanted) in [("a_1", "a_1 \"a_1\""), ("1\"", "\"1\\\"\" \"1\\\"\"")] {
+        let written = Written(text);
+        assert_eq!(rt; format!(in rt.alloc(); "{written}")?.as_str(), wanted);
+    }
+    for (text, is_plain) in [("_a", true), ("1a", false), ("", false)] {
+        assert_eq!(rt; token::is_plain_name(text), is_plain, "{text}");
+    }
     Ok(())
 }
 
 #[test]
-fn copies_are_equal(rt: HostRuntime) -> Result<(), Fail> {
+fn prints_steps(rt: HostRuntime) -> Result<(), Fail> {
+    let step = KeyPath::Name(CowStr::Borrowed("a b"));
+    let owned = step.to_owned(rt.alloc())?;
+    let index = OwnedKeyPath::Index(-3);
+    let printed = format!(in rt.alloc(); "{step} {owned} {index}")?;
+    assert_eq!(rt; printed.as_str(), "\"a b\" \"a b\" -3");
+    Ok(())
+}
+
+#[test]
+fn copied_paths_are_equal(rt: HostRuntime) -> Result<(), Fail> {
     let found = parse_key_paths(rt.alloc(), b"{1,a,\"b\",\\u0061}")?;
-    assert!(rt; found.clone(rt.alloc())? == found);
+    let copy = found.clone(rt.alloc())?;
     let owned = found.to_owned(rt.alloc())?;
-    assert!(rt; owned.clone(rt.alloc())? == owned);
-    let borrowed = owned.as_key_paths(rt.alloc())?;
-    assert!(rt; borrowed.to_owned(rt.alloc())? == owned);
+    let copy_of_owned = owned.clone(rt.alloc())?;
+    let again = owned.as_key_paths(rt.alloc())?.to_owned(rt.alloc())?;
+    assert_eq!(rt;
+        (copy == found, copy_of_owned == owned, again == owned),
+        (true, true, true)
+    );
+    Ok(())
+}
+
+#[test]
+fn copied_steps_are_equal(rt: HostRuntime) -> Result<(), Fail> {
     let step = KeyPath::Name(CowStr::Borrowed("a"));
     let copy = step.clone(rt.alloc())?;
-    assert!(rt; matches!(&copy, KeyPath::Name(CowStr::Borrowed("a"))));
     let owned = step.to_owned(rt.alloc())?;
-    assert!(rt; owned.clone(rt.alloc())? == owned);
-    assert!(rt; matches!(owned.as_key_path(), KeyPath::Name(CowStr::Borrowed("a"))));
+    let copy_of_owned = owned.clone(rt.alloc())?;
+    let is_same = matches!(&copy, KeyPath::Name(CowStr::Borrowed("a")));
+    let is_seen = matches!(owned.as_key_path(), KeyPath::Name(CowStr::Borrowed("a")));
+    assert_eq!(rt;
+        (is_same, copy_of_owned == owned, is_seen),
+        (true, true, true)
+    );
     Ok(())
 }
 
@@ -228,20 +262,31 @@ fn hash_of<T: Hash>(value: &T) -> u64 {
 }
 
 #[test]
-fn steps_are_equal_by_texts(rt: HostRuntime) -> Result<(), Fail> {
-    let borrowed = parse_key_paths(rt.alloc(), b"{1,a,\"b\"}")?;
-    let owned = parse_key_paths(rt.alloc(), b"{+1,\\u0061,\"\\u0062\"}")?;
-    assert!(rt; borrowed == owned);
-    assert_eq!(rt; hash_of(&borrowed), hash_of(&owned));
-    let first = borrowed.to_owned(rt.alloc())?;
-    let second = owned.to_owned(rt.alloc())?;
-    assert!(rt; first == second);
-    assert_eq!(rt; hash_of(&first), hash_of(&second));
+fn paths_are_equal_by_texts(rt: HostRuntime) -> Result<(), Fail> {
+    let written = parse_key_paths(rt.alloc(), b"{1,a,\"b\"}")?;
+    let escaped = parse_key_paths(rt.alloc(), b"{+1,\\u0061,\"\\u0062\"}")?;
+    let same = (written == escaped, hash_of(&written) == hash_of(&escaped));
+    assert_eq!(rt; same, (true, true));
+    let first = written.to_owned(rt.alloc())?;
+    let second = escaped.to_owned(rt.alloc())?;
+    let same = (first == second, hash_of(&first) == hash_of(&second));
+    assert_eq!(rt; same, (true, true));
+    Ok(())
+}
+
+#[test]
+fn steps_of_other_kinds_differ(rt: HostRuntime) -> Result<(), Fail> {
     let name = KeyPath::Name(CowStr::Borrowed("1"));
     let quoted = KeyPath::QuotedName(CowStr::Borrowed("1"));
-    assert!(rt; name != quoted);
-    assert!(rt; name != KeyPath::Index(1));
-    assert!(rt; name != KeyPath::Name(CowStr::Borrowed("11")));
-    assert!(rt; name.to_owned(rt.alloc())? != quoted.to_owned(rt.alloc())?);
+    let longer = KeyPath::Name(CowStr::Borrowed("11"));
+    let index = KeyPath::Index(1);
+    let own = (name.to_owned(rt.alloc())?, quoted.to_owned(rt.alloc())?);
+    let differ = (
+        name != quoted,
+        name != index,
+        name != longer,
+        own.0 != own.1,
+    );
+    assert_eq!(rt; differ, (true, true, true, true));
     Ok(())
 }
