@@ -33,15 +33,15 @@ struct Asked<'d, 'o, 't> {
 
 /// A document in hexadecimal, or `none`.
 fn found(alloc: Global, part: Option<OwnedJsonb>) -> Result<String, Error> {
-    Ok(match part {
-        Some(part) => digits(alloc, part.as_raw().as_bytes())?,
-        None => String::from_str(alloc, "none")?,
-    })
+    match part {
+        Some(part) => digits(alloc, part.as_raw().as_bytes()),
+        None => Ok(String::from_str(alloc, "none")?),
+    }
 }
 
 /// `true` or `false`.
-fn truth(alloc: Global, is_so: bool) -> Result<String, Error> {
-    Ok(String::from_str(alloc, if is_so { "true" } else { "false" })?)
+fn truth(alloc: Global, is_so: Result<bool, Error>) -> Result<String, Error> {
+    Ok(String::from_str(alloc, if is_so? { "true" } else { "false" })?)
 }
 
 /// The names of a text with commas in between.
@@ -78,7 +78,7 @@ fn elements(alloc: Global, document: &RawJsonb<'_>) -> Result<String, Error> {
         return Ok(String::from_str(alloc, "none")?);
     };
     let mut text = String::new(alloc);
-    for element in elements {
+    for element in &elements {
         text.push_str(digits(alloc, element.as_raw().as_bytes())?.as_str())?;
         text.push(' ')?;
     }
@@ -92,7 +92,7 @@ fn pairs(alloc: Global, document: &RawJsonb<'_>) -> Result<String, Error> {
         return Ok(String::from_str(alloc, "none")?);
     };
     let mut text = String::new(alloc);
-    for (key, value) in pairs {
+    for (key, value) in &pairs {
         let value = digits(alloc, value.as_raw().as_bytes())?;
         text.push_str(format!(in alloc; "{key} {value} ")?.as_str())?;
     }
@@ -103,12 +103,18 @@ fn pairs(alloc: Global, document: &RawJsonb<'_>) -> Result<String, Error> {
 /// The key path of each leaf and its document in hexadecimal, with spaces in between.
 fn leaves(alloc: Global, document: RawJsonb<'_>, ignore_array: bool) -> Result<String, Error> {
     let mut text = String::new(alloc);
-    for (path, part) in document.leaf_documents(alloc, ignore_array)? {
+    let leaves = document.leaf_documents(alloc, ignore_array)?;
+    for (path, part) in &leaves {
         let part = digits(alloc, part.as_raw().as_bytes())?;
         text.push_str(format!(in alloc; "{path} {part} ")?.as_str())?;
     }
     text.pop();
     Ok(text)
+}
+
+/// A number of a text, 0 of any other text.
+fn index(text: &str) -> i32 {
+    text.parse::<i32>().unwrap_or(0)
 }
 
 /// Of calls that read a place.
@@ -138,58 +144,58 @@ fn place_answer(call: &str, asked: &Asked<'_, '_, '_>) -> Result<String, Error> 
 fn edit_answer(call: &str, asked: &Asked<'_, '_, '_>) -> Result<String, Error> {
     let (alloc, document, other, text) = (asked.alloc, &asked.document, &asked.other, asked.text);
     let made = match call {
-        "object_insert" => document.object_insert(alloc, text, other, false)?,
-        "object_update" => document.object_insert(alloc, text, other, true)?,
-        "object_pick" => document.object_pick(alloc, &name_set(alloc, text)?)?,
-        "object_delete" => document.object_delete(alloc, &name_set(alloc, text)?)?,
-        "array_insert" => document.array_insert(alloc, text.parse::<i32>().unwrap_or(0), other)?,
-        "delete_by_index" => document.delete_by_index(alloc, text.parse::<i32>().unwrap_or(0))?,
-        "delete_by_name" => document.delete_by_name(alloc, text)?,
-        "concat" => document.concat(alloc, other)?,
-        "strip_nulls" => document.strip_nulls(alloc)?,
+        "object_insert" => document.object_insert(alloc, text, other, false),
+        "object_update" => document.object_insert(alloc, text, other, true),
+        "object_pick" => document.object_pick(alloc, &name_set(alloc, text)?),
+        "object_delete" => document.object_delete(alloc, &name_set(alloc, text)?),
+        "array_insert" => document.array_insert(alloc, index(text), other),
+        "delete_by_index" => document.delete_by_index(alloc, index(text)),
+        "delete_by_name" => document.delete_by_name(alloc, text),
+        "concat" => document.concat(alloc, other),
+        "strip_nulls" => document.strip_nulls(alloc),
         _ => return set_answer(call, asked),
     };
-    found(alloc, Some(made))
+    found(alloc, Some(made?))
 }
 
 /// Of sets, and of what is taken out by key path.
 fn set_answer(call: &str, asked: &Asked<'_, '_, '_>) -> Result<String, Error> {
     let (alloc, document, other) = (asked.alloc, &asked.document, &asked.other);
     let made = match call {
-        "array_distinct" => document.array_distinct(alloc)?,
-        "array_intersection" => document.array_intersection(alloc, other)?,
-        "array_except" => document.array_except(alloc, other)?,
+        "array_distinct" => document.array_distinct(alloc),
+        "array_intersection" => document.array_intersection(alloc, other),
+        "array_except" => document.array_except(alloc, other),
         "delete_by_keypath" => {
             let path = parse_key_paths(alloc, asked.text.as_bytes())?;
-            document.delete_by_keypath(alloc, path.paths.iter())?
+            document.delete_by_keypath(alloc, path.paths.iter())
         }
         _ => return key_answer(call, asked),
     };
-    found(alloc, Some(made))
+    found(alloc, Some(made?))
 }
 
 /// Of keys of documents.
 fn key_answer(call: &str, asked: &Asked<'_, '_, '_>) -> Result<String, Error> {
     let (alloc, document) = (asked.alloc, &asked.document);
     let key = match call {
-        "convert_to_comparable" => document.convert_to_comparable(alloc)?,
-        "convert_to_comparable_wide" => document.convert_to_comparable_wide(alloc)?,
-        "equality_key" => document.equality_key(alloc)?,
+        "convert_to_comparable" => document.convert_to_comparable(alloc),
+        "convert_to_comparable_wide" => document.convert_to_comparable_wide(alloc),
+        "equality_key" => document.equality_key(alloc),
         _ => return truth_answer(call, asked),
     };
-    digits(alloc, key.as_slice())
+    digits(alloc, key?.as_slice())
 }
 
 /// Of calls that say whether something is so.
 fn truth_answer(call: &str, asked: &Asked<'_, '_, '_>) -> Result<String, Error> {
     let (alloc, document, other, text) = (asked.alloc, &asked.document, &asked.other, asked.text);
     let is_so = match call {
-        "exists_all_keys" => has_each(document, names(alloc, text)?.as_slice())?,
-        "exists_any_keys" => document.exists_any_keys(names(alloc, text)?.iter().copied())?,
-        "traverse_check_string" => document.traverse_check_string(|s| s == text.as_bytes())?,
-        "contains" => document.contains(other)?,
-        "array_overlap" => document.array_overlap(other)?,
-        "check" => document.check().map(|()| true)?,
+        "exists_all_keys" => has_each(document, names(alloc, text)?.as_slice()),
+        "exists_any_keys" => document.exists_any_keys(names(alloc, text)?.iter().copied()),
+        "traverse_check_string" => document.traverse_check_string(|s| s == text.as_bytes()),
+        "contains" => document.contains(other),
+        "array_overlap" => document.array_overlap(other),
+        "check" => document.check().map(|()| true),
         _ => return scalar_answer(alloc, call, document),
     };
     truth(alloc, is_so)

@@ -1,7 +1,8 @@
 //! Documents nested so deeply that a walk with a call a level would overflow the machine's stack.
 
 use crate::raw::RawJsonb;
-use jsonb_doc::{ArrayBuilder, Error, Value};
+use crate::tests::documents::nested;
+use jsonb_doc::{Error, Value};
 use jsonb_keypath::KeyPath;
 use std::alloc::Global;
 use std::borrow::CowStr;
@@ -136,17 +137,6 @@ fn deep_documents_are_walked(rt: HostRuntime) -> Result<(), Fail> {
     assert_eq!(rt; leaf_depth(rt.alloc(), &array, true)?, Some(200_000));
     assert_eq!(rt; leaf_depth(rt.alloc(), &object, false)?, Some(200_000));
     Ok(())
-}
-
-/// So many arrays, one in the other, around an empty array or object.
-fn nested(alloc: Global, innermost: &[u8], arrays: usize) -> Result<Vec<u8>, Error> {
-    let mut found = Vec::from_slice(alloc, innermost)?;
-    for _ in 0..arrays {
-        let mut builder = ArrayBuilder::new(alloc);
-        builder.push_document(found.as_slice())?;
-        found = builder.build()?;
-    }
-    Ok(found)
 }
 
 #[test]

@@ -1,5 +1,8 @@
 //! Documents that the tests of several calls ask.
 
+use jsonb_doc::{ArrayBuilder, Error};
+use std::alloc::Global;
+
 /// `[false, 10, {"k":"v"}]`
 pub(crate) const MIXED_ARRAY: &[u8] =
     b"\x80\0\0\x03\x30\0\0\0\x20\0\0\x02\x50\0\0\x0e\x50\x0a\x40\0\0\x01\x10\0\0\x01\x10\0\0\x01kv";
@@ -44,3 +47,14 @@ pub(crate) const PHONES: &[u8] =
 
 /// `true`
 pub(crate) const TRUE: &[u8] = b"\x20\0\0\0\x40\0\0\0";
+
+/// A document in so many arrays, one in the other.
+pub(crate) fn nested(alloc: Global, document: &[u8], arrays: usize) -> Result<Vec<u8>, Error> {
+    let mut found = Vec::from_slice(alloc, document)?;
+    for _ in 0..arrays {
+        let mut builder = ArrayBuilder::new(alloc);
+        builder.push_document(found.as_slice())?;
+        found = builder.build()?;
+    }
+    Ok(found)
+}

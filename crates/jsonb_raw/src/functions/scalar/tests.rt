@@ -2,11 +2,22 @@
 
 use crate::raw::RawJsonb;
 use crate::tests::documents::DATE;
-use jsonb_doc::{Date, ExtensionValue, Interval, Item, Timestamp, TimestampTz, encode_item};
+use jsonb_doc::{Date, Error, ExtensionValue, Interval, Item, Timestamp, TimestampTz, encode_item};
+use std::alloc::Global;
 use std::test::Fail;
 
 /// 1 month, 2 days and 3 microseconds.
 const INTERVAL: &[u8] = b"\x20\0\0\0\x60\0\0\x11\x40\0\0\0\x01\0\0\0\x02\0\0\0\0\0\0\0\x03";
+
+const SPAN: Interval = Interval {
+    months: 1,
+    days: 2,
+    micros: 3,
+};
+
+const DAY: Date = Date { value: 1 };
+
+const BINARY: &[u8] = b"\0\xff";
 
 const TIMESTAMP: Timestamp = Timestamp { value: -7 };
 
@@ -15,40 +26,88 @@ const TIMESTAMP_TZ: TimestampTz = TimestampTz {
     value: 9,
 };
 
+/// A document of an extension.
+fn document(alloc: Global, value: ExtensionValue<'_>) -> Result<Vec<u8>, Error> {
+    encode_item(alloc, &Item::Extension(value))
+}
+
+/// Whether a document is said to be binary, a date, a timestamp, one with an offset, an interval, and any of these.
+fn kinds(document: &RawJsonb<'_>) -> Result<[bool; 6], Error> {
+    Ok([
+        document.is_binary()?,
+        document.is_date()?,
+        document.is_timestamp()?,
+        document.is_timestamp_tz()?,
+        document.is_interval()?,
+        document.is_extension_value()?,
+    ])
+}
+
 #[test]
-fn reads_extensions(rt: HostRuntime) -> Result<(), Fail> {
+fn an_extension_is_of_one_kind(rt: HostRuntime) -> Result<(), Fail> {
+    for (value, wanted) in [
+        (
+            ExtensionValue::Binary(BINARY),
+            [true, false, false, false, false, true],
+        ),
+        (
+            ExtensionValue::Date(DAY),
+            [false, true, false, false, false, true],
+        ),
+        (
+            ExtensionValue::Timestamp(TIMESTAMP),
+            [false, false, true, false, false, true],
+        ),
+        (
+            ExtensionValue::TimestampTz(TIMESTAMP_TZ),
+            [false, false, false, true, false, true],
+        ),
+        (
+            ExtensionValue::Interval(SPAN),
+            [false, false, false, false, true, true],
+        ),
+    ] {
+        let bytes = document(rt.alloc(), value)?;
+        assert_eq!(rt; kinds(&RawJsonb::new(bytes.as_slice()))?, wanted);
+    }
+    Ok(())
+}
+
+#[test]
+fn reads_dates_and_intervals(rt: HostRuntime) -> Result<(), Fail> {
     let date = RawJsonb::new(DATE);
-    assert_eq!(rt; date.as_date()?, Some(Date { value: 1 }));
-    assert!(rt; date.is_extension_value()? && date.is_date()?);
-    assert!(rt; !date.is_binary()? && !date.is_timestamp()?);
-    assert!(rt; date.as_binary(rt.alloc())?.is_none() && date.as_timestamp()?.is_none());
+    assert_eq!(rt; date.as_date(), Ok(Some(DAY)));
+    assert_eq!(rt; date.as_timestamp(), Ok(None));
     assert_eq!(rt;
-        date.as_extension_value()?,
-        Some(ExtensionValue::Date(Date { value: 1 }))
+        date.as_extension_value(),
+        Ok(Some(ExtensionValue::Date(DAY)))
     );
-    let interval = RawJsonb::new(INTERVAL);
-    assert!(rt; interval.is_interval()? && !interval.is_date()?);
-    let wanted = Interval {
-        months: 1,
-        days: 2,
-        micros: 3,
-    };
-    assert_eq!(rt; interval.as_interval()?, Some(wanted));
-    let time = Item::Extension(ExtensionValue::Timestamp(TIMESTAMP));
-    let time = encode_item(rt.alloc(), &time)?;
-    let time = RawJsonb::new(time.as_slice());
-    assert!(rt; time.is_timestamp()? && !time.is_timestamp_tz()?);
-    assert_eq!(rt; time.as_timestamp()?, Some(TIMESTAMP));
-    let zoned = Item::Extension(ExtensionValue::TimestampTz(TIMESTAMP_TZ));
-    let zoned = encode_item(rt.alloc(), &zoned)?;
-    let zoned = RawJsonb::new(zoned.as_slice());
-    assert!(rt; zoned.is_timestamp_tz()? && !zoned.is_timestamp()?);
-    assert_eq!(rt; zoned.as_timestamp_tz()?, Some(TIMESTAMP_TZ));
-    let bytes = Item::Extension(ExtensionValue::Binary(b"\0\xff"));
-    let bytes = encode_item(rt.alloc(), &bytes)?;
-    let bytes = RawJsonb::new(bytes.as_slice());
-    assert!(rt; bytes.is_binary()? && !bytes.is_interval()?);
-    let found = bytes.as_binary(rt.alloc())?.expect(&rt, "bytes");
-    assert_eq!(rt; found.as_slice(), b"\0\xff".as_slice());
+    assert!(rt; date.as_binary(rt.alloc())?.is_none());
+    assert_eq!(rt; RawJsonb::new(INTERVAL).as_interval(), Ok(Some(SPAN)));
+    Ok(())
+}
+
+#[test]
+fn reads_timestamps(rt: HostRuntime) -> Result<(), Fail> {
+    let bytes = document(rt.alloc(), ExtensionValue::Timestamp(TIMESTAMP))?;
+    assert_eq!(rt;
+        RawJsonb::new(bytes.as_slice()).as_timestamp(),
+        Ok(Some(TIMESTAMP))
+    );
+    let bytes = document(rt.alloc(), ExtensionValue::TimestampTz(TIMESTAMP_TZ))?;
+    assert_eq!(rt;
+        RawJsonb::new(bytes.as_slice()).as_timestamp_tz(),
+        Ok(Some(TIMESTAMP_TZ))
+    );
+    Ok(())
+}
+
+#[test]
+fn reads_binary(rt: HostRuntime) -> Result<(), Fail> {
+    let bytes = document(rt.alloc(), ExtensionValue::Binary(BINARY))?;
+    let found = RawJsonb::new(bytes.as_slice())
+        .as_binary(rt.alloc())?
+        .expect(&rt, "bytes");
+    assert_eq!(rt; found.as_slice(), BINARY);
     Ok(())
 }
