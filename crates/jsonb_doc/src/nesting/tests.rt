@@ -5,73 +5,66 @@ use crate::error::Error;
 use std::alloc::{AllocError, Global};
 use std::test::Fail;
 
-#[test]
-fn depths_of_documents(rt: HostRuntime) {
-    let rows: [(&[u8], usize); 9] = [
-        // null
-        (b"\x20\0\0\0\0\0\0\0", 0),
-        // []
-        (b"\x80\0\0\0", 0),
-        // {}
-        (b"\x40\0\0\0", 0),
-        // [null]
-        (b"\x80\0\0\x01\0\0\0\0", 1),
-        // [[]]
-        (b"\x80\0\0\x01\x50\0\0\x04\x80\0\0\0", 1),
-        // {"a":[]}
-        (b"\x40\0\0\x01\x10\0\0\x01\x50\0\0\x04a\x80\0\0\0", 1),
-        // [[],[[]],[]]: the deepest is neither the first nor the last
-        (
-            b"\x80\0\0\x03\x50\0\0\x04\x50\0\0\x0c\x50\0\0\x04\x80\0\0\0\x80\0\0\x01\x50\0\0\x04\x80\0\0\0\x80\0\0\0",
-            2,
-        ),
-        // [["abcdefghijklmnop"],[{"k":[]}]]: the deepest is not in the longest
-        (
-            b"\x80\0\0\x02\x50\0\0\x18\x50\0\0\x19\x80\0\0\x01\x10\0\0\x10abcdefghijklmnop\x80\0\0\x01\x50\0\0\x11\x40\0\0\x01\x10\0\0\x01\x50\0\0\x04k\x80\0\0\0",
-            3,
-        ),
-        // [false, 10, {"k":"v"}]
-        (
-            b"\x80\0\0\x03\x30\0\0\0\x20\0\0\x02\x50\0\0\x0e\x50\x0a\x40\0\0\x01\x10\0\0\x01\x10\0\0\x01kv",
-            2,
-        ),
-    ];
-    for (document, wanted) in rows {
-        assert_eq!(rt; depth(document), Ok(wanted), "{document:?}");
-        assert_eq!(rt; check_depth(document, wanted), Ok(()), "{document:?}");
-        if wanted > 0 {
-            assert_eq!(rt;
-                check_depth(document, wanted - 1),
-                Err(Error::TooDeep),
-                "{document:?}"
-            );
-        }
-    }
-}
+/// Documents and other bytes, and their depth or refusal.
+const DEPTHS: [(&[u8], Result<usize, Error>); 13] = [
+    // null
+    (b"\x20\0\0\0\0\0\0\0", Ok(0)),
+    // []
+    (b"\x80\0\0\0", Ok(0)),
+    // {}
+    (b"\x40\0\0\0", Ok(0)),
+    // [null]
+    (b"\x80\0\0\x01\0\0\0\0", Ok(1)),
+    // [[]]
+    (b"\x80\0\0\x01\x50\0\0\x04\x80\0\0\0", Ok(1)),
+    // {"a":[]}
+    (b"\x40\0\0\x01\x10\0\0\x01\x50\0\0\x04a\x80\0\0\0", Ok(1)),
+    // [[],[[]],[]]: the deepest is neither the first nor the last
+    (
+        b"\x80\0\0\x03\x50\0\0\x04\x50\0\0\x0c\x50\0\0\x04\x80\0\0\0\x80\0\0\x01\x50\0\0\x04\x80\0\0\0\x80\0\0\0",
+        Ok(2),
+    ),
+    // [["abcdefghijklmnop"],[{"k":[]}]]: the deepest is not in the longest
+    (
+        b"\x80\0\0\x02\x50\0\0\x18\x50\0\0\x19\x80\0\0\x01\x10\0\0\x10abcdefghijklmnop\x80\0\0\x01\x50\0\0\x11\x40\0\0\x01\x10\0\0\x01\x50\0\0\x04k\x80\0\0\0",
+        Ok(3),
+    ),
+    // [false, 10, {"k":"v"}]
+    (
+        b"\x80\0\0\x03\x30\0\0\0\x20\0\0\x02\x50\0\0\x0e\x50\x0a\x40\0\0\x01\x10\0\0\x01\x10\0\0\x01kv",
+        Ok(2),
+    ),
+    (b"", Err(Error::InvalidJsonb)),
+    // [[null and one more byte]]
+    (
+        b"\x80\0\0\x01\x50\0\0\x09\x80\0\0\x01\0\0\0\0\0",
+        Err(Error::InvalidJsonb),
+    ),
+    // 1.5 as a float
+    (
+        b"\x20\0\0\0\x20\0\0\x09\x60\x3f\xf8\0\0\0\0\0\0",
+        Err(Error::UnsupportedNumber),
+    ),
+    // [[float]]
+    (
+        b"\x80\0\0\x01\x50\0\0\x09\x80\0\0\x01\x20\0\0\x01\x10",
+        Err(Error::UnsupportedNumber),
+    ),
+];
 
 #[test]
-fn refused_before_depth(rt: HostRuntime) {
-    let rows: [(&[u8], Error); 4] = [
-        (b"", Error::InvalidJsonb),
-        // [[null and one more byte]]
-        (
-            b"\x80\0\0\x01\x50\0\0\x09\x80\0\0\x01\0\0\0\0\0",
-            Error::InvalidJsonb,
-        ),
-        // 1.5 as a float
-        (
-            b"\x20\0\0\0\x20\0\0\x09\x60\x3f\xf8\0\0\0\0\0\0",
-            Error::UnsupportedNumber,
-        ),
-        // [[float]]
-        (
-            b"\x80\0\0\x01\x50\0\0\x09\x80\0\0\x01\x20\0\0\x01\x10",
-            Error::UnsupportedNumber,
-        ),
-    ];
-    for (bytes, wanted) in rows {
-        assert_eq!(rt; depth(bytes), Err(wanted), "{bytes:?}");
-        assert_eq!(rt; check_depth(bytes, 0), Err(wanted), "{bytes:?}");
+fn depths_of_documents_and_refusals(rt: HostRuntime) {
+    for (bytes, wanted) in DEPTHS {
+        assert_eq!(rt; depth(bytes), wanted, "{bytes:?}");
+        let levels = wanted.unwrap_or(0);
+        assert_eq!(rt; check_depth(bytes, levels), wanted.and(Ok(())), "{bytes:?}");
+        if levels > 0 {
+            assert_eq!(rt;
+                check_depth(bytes, levels - 1),
+                Err(Error::TooDeep),
+                "{bytes:?}"
+            );
+        }
     }
 }
 

@@ -4,22 +4,12 @@ use crate::error::Error;
 use crate::extension::{Date, ExtensionValue};
 use crate::item::Item;
 use crate::number::Number;
+use crate::reading::tests::{DATE, FRED, MIXED, PAIR};
 use crate::spot::{Spot, child_spots, field_spot, root_spot, spot_document, spot_item};
 use std::test::Fail;
 
-/// `[false, 10, {"k":"v"}]`
-const MIXED: &[u8] =
-    b"\x80\0\0\x03\x30\0\0\0\x20\0\0\x02\x50\0\0\x0e\x50\x0a\x40\0\0\x01\x10\0\0\x01\x10\0\0\x01kv";
-
 /// `[1]`
 const ONE: &[u8] = b"\x80\0\0\x01\x20\0\0\x02\x50\x01";
-
-/// Date 1.
-const DATE: &[u8] = b"\x20\0\0\0\x60\0\0\x05\x10\0\0\0\x01";
-
-/// `{"name":"Fred","phones":[{"number":3720453,"type":"home"},{"number":5062051,"type":"work"}]}`
-const PHONES: &[u8] =
-    b"\x40\0\0\x02\x10\0\0\x04\x10\0\0\x06\x10\0\0\x04\x50\0\0\x5anamephonesFred\x80\0\0\x02\x50\0\0\x27\x50\0\0\x27\x40\0\0\x02\x10\0\0\x06\x10\0\0\x04\x20\0\0\x05\x10\0\0\x04numbertype\x50\x00\x38\xc5\x05home\x40\0\0\x02\x10\0\0\x06\x10\0\0\x04\x20\0\0\x05\x10\0\0\x04numbertype\x50\x00\x4d\x3d\xa3work";
 
 fn child_at(bytes: &[u8], spot: Spot, place: usize) -> Result<Option<Spot>, Error> {
     let Some(children) = child_spots(bytes, spot)? else {
@@ -37,51 +27,60 @@ fn child_at(bytes: &[u8], spot: Spot, place: usize) -> Result<Option<Spot>, Erro
 }
 
 fn phone_number(place: usize) -> Result<Option<Number>, Error> {
-    let Some(phones) = field_spot(PHONES, root_spot(PHONES)?, "phones")? else {
+    let Some(phones) = field_spot(FRED, root_spot(FRED)?, "phones")? else {
         return Ok(None);
     };
-    let Some(phone) = child_at(PHONES, phones, place)? else {
+    let Some(phone) = child_at(FRED, phones, place)? else {
         return Ok(None);
     };
-    let Some(number) = field_spot(PHONES, phone, "number")? else {
+    let Some(number) = field_spot(FRED, phone, "number")? else {
         return Ok(None);
     };
-    match spot_item(PHONES, number)? {
+    match spot_item(FRED, number)? {
         Item::Number(number) => Ok(Some(number)),
         _ => Ok(None),
     }
 }
 
 #[test]
-fn finds_phone_numbers(rt: HostRuntime) -> Result<(), Fail> {
+fn finds_members_of_children(rt: HostRuntime) -> Result<(), Fail> {
     assert_eq!(rt; phone_number(0)?, Some(Number::UInt64(3720453)));
     assert_eq!(rt; phone_number(1)?, Some(Number::UInt64(5062051)));
     assert_eq!(rt; phone_number(2)?, None);
+    let pair = child_at(MIXED, root_spot(MIXED)?, 2)?.ok_or("no child")?;
+    let value = field_spot(MIXED, pair, "k")?.ok_or("no member")?;
+    let is_text = matches!(spot_item(MIXED, value), Ok(Item::String("v")));
+    assert!(rt; is_text);
     Ok(())
 }
 
 #[test]
-fn finds_children(rt: HostRuntime) -> Result<(), Fail> {
-    let root = root_spot(MIXED)?;
-    let mut kinds = (false, false, false);
-    if let Some(spot) = child_at(MIXED, root, 0)? {
-        kinds.0 = matches!(spot_item(MIXED, spot), Ok(Item::Boolean(false)));
+fn reads_and_copies_children(rt: HostRuntime) -> Result<(), Fail> {
+    let ten = Item::Number(Number::UInt64(10));
+    for (bytes, place, wanted, document) in [
+        (
+            MIXED,
+            0,
+            Item::Boolean(false),
+            b"\x20\0\0\0\x30\0\0\0".as_slice(),
+        ),
+        (MIXED, 1, ten, b"\x20\0\0\0\x20\0\0\x02\x50\x0a".as_slice()),
+        (MIXED, 2, Item::Object(PAIR), PAIR),
+        (
+            FRED,
+            0,
+            Item::String("Fred"),
+            b"\x20\0\0\0\x10\0\0\x04Fred".as_slice(),
+        ),
+    ] {
+        let spot = child_at(bytes, root_spot(bytes)?, place)?.ok_or("no child")?;
+        let item = spot_item(bytes, spot)?;
+        let found = format!(in rt.alloc(); "{item:?}")?;
+        let wanted = format!(in rt.alloc(); "{wanted:?}")?;
+        assert_eq!(rt; found.as_str(), wanted.as_str());
+        let copy = spot_document(rt.alloc(), bytes, spot)?;
+        assert_eq!(rt; copy.as_slice(), document);
     }
-    if let Some(spot) = child_at(MIXED, root, 1)? {
-        kinds.1 = matches!(spot_item(MIXED, spot), Ok(Item::Number(Number::UInt64(10))));
-    }
-    if let Some(spot) = child_at(MIXED, root, 2)? {
-        if let Some(value) = field_spot(MIXED, spot, "k")? {
-            kinds.2 = matches!(spot_item(MIXED, value), Ok(Item::String("v")));
-        }
-    }
-    assert_eq!(rt; kinds, (true, true, true));
-    let name = child_at(PHONES, root_spot(PHONES)?, 0)?;
-    let is_fred = match name {
-        Some(spot) => matches!(spot_item(PHONES, spot), Ok(Item::String("Fred"))),
-        None => false,
-    };
-    assert!(rt; is_fred);
     Ok(())
 }
 
@@ -99,119 +98,82 @@ fn counted(bytes: &[u8]) -> Result<(usize, bool), Error> {
 
 #[test]
 fn counts_children(rt: HostRuntime) -> Result<(), Fail> {
-    assert_eq!(rt; counted(MIXED)?, (3, true));
-    assert_eq!(rt; counted(PHONES)?, (2, true));
-    assert_eq!(rt; counted(ONE)?, (1, false));
-    assert_eq!(rt; counted(b"\x80\0\0\0")?, (0, false));
-    assert_eq!(rt; counted(DATE)?, (0, false));
-    assert_eq!(rt; root_spot(DATE)?.is_container(), false);
-    assert_eq!(rt; root_spot(ONE)?.is_container(), true);
-    Ok(())
-}
-
-#[test]
-fn copies_items_as_documents(rt: HostRuntime) -> Result<(), Fail> {
-    let alloc = rt.alloc();
-    for (bytes, place, wanted) in [
-        (MIXED, 0, b"\x20\0\0\0\x30\0\0\0".as_slice()),
-        (MIXED, 1, b"\x20\0\0\0\x20\0\0\x02\x50\x0a".as_slice()),
-        (
-            MIXED,
-            2,
-            b"\x40\0\0\x01\x10\0\0\x01\x10\0\0\x01kv".as_slice(),
-        ),
-        (PHONES, 0, b"\x20\0\0\0\x10\0\0\x04Fred".as_slice()),
+    for (bytes, wanted) in [
+        (MIXED, (3, true)),
+        (FRED, (2, true)),
+        (ONE, (1, false)),
+        (b"\x80\0\0\0".as_slice(), (0, false)),
+        (DATE, (0, false)),
     ] {
-        let found = match child_at(bytes, root_spot(bytes)?, place)? {
-            Some(spot) => Some(spot_document(alloc, bytes, spot)?),
-            None => None,
-        };
-        assert_eq!(rt;
-            found.as_ref().map(|document| document.as_slice()),
-            Some(wanted)
-        );
+        assert_eq!(rt; counted(bytes)?, wanted, "{bytes:?}");
     }
-    let date = spot_document(alloc, DATE, root_spot(DATE)?)?;
-    assert_eq!(rt; date.as_slice(), DATE);
-    let past = spot_document(alloc, ONE, root_spot(PHONES)?);
-    let is_refused = matches!(past, Err(Error::InvalidJsonb));
-    assert!(rt; is_refused);
-    Ok(())
-}
-
-#[test]
-fn scalars_have_no_children(rt: HostRuntime) -> Result<(), Fail> {
-    let root = root_spot(DATE)?;
+    assert!(rt; root_spot(ONE)?.is_container());
+    let date = root_spot(DATE)?;
+    assert!(rt; !date.is_container());
+    assert!(rt; child_spots(DATE, date)?.is_none());
     let is_date = matches!(
-        spot_item(DATE, root),
+        spot_item(DATE, date),
         Ok(Item::Extension(ExtensionValue::Date(Date { value: 1 })))
     );
     assert!(rt; is_date);
-    let is_leaf = matches!(child_spots(DATE, root), Ok(None));
-    assert!(rt; is_leaf);
-    let has_no_field = matches!(field_spot(DATE, root, ""), Ok(None));
-    assert!(rt; has_no_field);
+    let copy = spot_document(rt.alloc(), DATE, date)?;
+    assert_eq!(rt; copy.as_slice(), DATE);
     Ok(())
 }
 
 #[test]
 fn finds_only_whole_keys(rt: HostRuntime) -> Result<(), Fail> {
-    let root = root_spot(PHONES)?;
-    let found = matches!(field_spot(PHONES, root, "phones"), Ok(Some(_)));
-    assert!(rt; found);
-    let prefix = matches!(field_spot(PHONES, root, "phone"), Ok(None));
-    assert!(rt; prefix);
-    let longer = matches!(field_spot(PHONES, root, "phoness"), Ok(None));
-    assert!(rt; longer);
-    // as long as a key
-    let other = matches!(field_spot(PHONES, root, "nave"), Ok(None));
-    assert!(rt; other);
-    let absent = matches!(field_spot(PHONES, root, ""), Ok(None));
-    assert!(rt; absent);
-    let of_array = matches!(field_spot(MIXED, root_spot(MIXED)?, "k"), Ok(None));
-    assert!(rt; of_array);
+    for (bytes, key, is_there) in [
+        (FRED, "phones", true),
+        (FRED, "phone", false),
+        (FRED, "phoness", false),
+        // as long as a key
+        (FRED, "nave", false),
+        (FRED, "", false),
+        // of an array and of a scalar
+        (MIXED, "k", false),
+        (DATE, "", false),
+    ] {
+        let found = field_spot(bytes, root_spot(bytes)?, key)?;
+        assert_eq!(rt; found.is_some(), is_there, "{key} in {bytes:?}");
+    }
     Ok(())
 }
 
 #[test]
-fn spots_of_other_bytes_return(rt: HostRuntime) -> Result<(), Fail> {
-    let past = root_spot(PHONES)?;
-    let item = matches!(spot_item(ONE, past), Err(Error::InvalidJsonb));
-    assert!(rt; item);
-    let children = matches!(child_spots(ONE, past), Err(Error::InvalidJsonb));
-    assert!(rt; children);
-    let field = matches!(field_spot(ONE, past, "name"), Err(Error::InvalidJsonb));
-    assert!(rt; field);
+fn refuses_spots_of_other_bytes_and_damage(rt: HostRuntime) -> Result<(), Fail> {
+    let past = root_spot(FRED)?;
     // ten bytes, too few for the words that the object counts
     let short = root_spot(ONE)?;
-    let item = matches!(spot_item(PHONES, short), Ok(Item::Object(_)));
-    assert!(rt; item);
-    let children = matches!(child_spots(PHONES, short), Err(Error::InvalidJsonb));
-    assert!(rt; children);
-    let field = matches!(field_spot(PHONES, short, "name"), Err(Error::InvalidJsonb));
-    assert!(rt; field);
-    Ok(())
-}
-
-#[test]
-fn refuses_damaged_bytes(rt: HostRuntime) -> Result<(), Fail> {
-    let empty = matches!(root_spot(b""), Err(Error::InvalidJsonb));
-    assert!(rt; empty);
-    let no_entry = matches!(root_spot(b"\x20\0\0\0"), Err(Error::InvalidJsonb));
-    assert!(rt; no_entry);
-    // an element that is longer than the bytes
+    let is_object = matches!(spot_item(FRED, short), Ok(Item::Object(_)));
+    assert!(rt; is_object);
     let long = b"\x80\0\0\x01\x20\0\0\x09\x50\x01".as_slice();
-    let child = matches!(
-        child_at(long, root_spot(long)?, 0),
-        Err(Error::InvalidJsonb)
-    );
-    assert!(rt; child);
-    // a word of no kind
     let unknown = b"\x80\0\0\x01\x80\0\0\x02\x50\x01".as_slice();
-    let child = matches!(
-        child_at(unknown, root_spot(unknown)?, 0),
-        Err(Error::InvalidJsonb)
-    );
-    assert!(rt; child);
+    for (asked, refused) in [
+        ("an item past the end", spot_item(ONE, past).err()),
+        ("children past the end", child_spots(ONE, past).err()),
+        ("a member past the end", field_spot(ONE, past, "name").err()),
+        (
+            "a copy past the end",
+            spot_document(rt.alloc(), ONE, past).err(),
+        ),
+        ("children that are cut off", child_spots(FRED, short).err()),
+        (
+            "a member that is cut off",
+            field_spot(FRED, short, "name").err(),
+        ),
+        ("no bytes", root_spot(b"").err()),
+        ("no entry", root_spot(b"\x20\0\0\0").err()),
+        (
+            "an element that is longer than the bytes",
+            child_at(long, root_spot(long)?, 0).err(),
+        ),
+        (
+            "a word of no kind",
+            child_at(unknown, root_spot(unknown)?, 0).err(),
+        ),
+    ] {
+        assert_eq!(rt; refused, Some(Error::InvalidJsonb), "{asked}");
+    }
     Ok(())
 }

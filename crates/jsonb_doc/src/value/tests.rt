@@ -5,6 +5,7 @@ use crate::extension::ExtensionValue;
 use crate::item::Item;
 use crate::number::Decimal64;
 use crate::reading::root_item;
+use crate::reading::tests::{DATE, FRED, MIXED, NULLS};
 use std::test::Fail;
 
 /// An array of two values.
@@ -54,64 +55,34 @@ fn decoded(alloc: Global, bytes: &[u8]) -> Result<Value<'_>, Error> {
     to_value(alloc, &root_item(bytes)?)
 }
 
-/// `[false, 10, {"k":"v"}]`
 #[test]
-fn decodes_an_array(rt: HostRuntime) -> Result<(), Fail> {
-    let value = decoded(
-        rt.alloc(),
-        b"\x80\0\0\x03\x30\0\0\0\x20\0\0\x02\x50\0\0\x0e\x50\x0a\x40\0\0\x01\x10\0\0\x01\x10\0\0\x01kv",
-    )?;
-    let Value::Array(values) = &value else {
-        return Err(Fail::from("no array"));
-    };
-    let object = with(rt.alloc(), Value::Null, "k", text("v"))?;
-    assert_eq!(rt; values.len(), 3);
-    assert!(rt; matches!(values[0], Value::Bool(false)));
-    assert!(rt; matches!(values[1], Value::Number(Number::UInt64(10))));
-    assert_eq!(rt; values[2], object);
-    Ok(())
-}
-
-/// `{"a":null,"b":[null]}`
-#[test]
-fn decodes_nulls(rt: HostRuntime) -> Result<(), Fail> {
-    let value = decoded(
-        rt.alloc(),
-        b"\x40\0\0\x02\x10\0\0\x01\x10\0\0\x01\0\0\0\0\x50\0\0\x08ab\x80\0\0\x01\0\0\0\0",
-    )?;
-    let mut nulls = Vec::new(rt.alloc());
-    nulls.push(Value::Null)?;
-    let first = with(rt.alloc(), Value::Null, "a", Value::Null)?;
-    let both = with(rt.alloc(), first, "b", Value::Array(nulls))?;
+fn decodes_containers(rt: HostRuntime) -> Result<(), Fail> {
+    let alloc = rt.alloc();
+    let member = with(alloc, Value::Null, "k", text("v"))?;
+    let mixed = vec![in alloc; Value::Bool(false), whole(10), member]?;
+    let value = decoded(alloc, MIXED)?;
+    assert_eq!(rt; value, Value::Array(mixed));
+    let first = with(alloc, Value::Null, "a", Value::Null)?;
+    let nulls = vec![in alloc; Value::Null]?;
+    let both = with(alloc, first, "b", Value::Array(nulls))?;
+    let value = decoded(alloc, NULLS)?;
     assert_eq!(rt; value, both);
-    Ok(())
-}
-
-/// `{"name":"Fred","phones":[{"number":3720453,"type":"home"},{"number":5062051,"type":"work"}]}`
-#[test]
-fn decodes_containers_in_containers(rt: HostRuntime) -> Result<(), Fail> {
-    let value = decoded(
-        rt.alloc(),
-        b"\x40\0\0\x02\x10\0\0\x04\x10\0\0\x06\x10\0\0\x04\x50\0\0\x5anamephonesFred\
-          \x80\0\0\x02\x50\0\0\x27\x50\0\0\x27\
-          \x40\0\0\x02\x10\0\0\x06\x10\0\0\x04\x20\0\0\x05\x10\0\0\x04numbertype\x50\0\x38\xc5\x05home\
-          \x40\0\0\x02\x10\0\0\x06\x10\0\0\x04\x20\0\0\x05\x10\0\0\x04numbertype\x50\0\x4d\x3d\xa3work",
-    )?;
-    let home = phone(rt.alloc(), 3_720_453, "home")?;
-    let work = phone(rt.alloc(), 5_062_051, "work")?;
-    let phones = two(rt.alloc(), home, work)?;
-    let named = with(rt.alloc(), Value::Null, "name", text("Fred"))?;
-    let fred = with(rt.alloc(), named, "phones", phones)?;
+    let home = phone(alloc, 3_720_453, "home")?;
+    let work = phone(alloc, 5_062_051, "work")?;
+    let named = with(alloc, Value::Null, "name", text("Fred"))?;
+    let fred = with(alloc, named, "phones", two(alloc, home, work)?)?;
+    let value = decoded(alloc, FRED)?;
     assert_eq!(rt; value, fred);
     Ok(())
 }
 
 #[test]
-fn decodes_extensions(rt: HostRuntime) -> Result<(), Fail> {
-    let date = decoded(rt.alloc(), b"\x20\0\0\0\x60\0\0\x05\x10\0\0\0\x01")?;
+fn decodes_extensions_and_refuses_damaged_bytes(rt: HostRuntime) -> Result<(), Fail> {
+    let alloc = rt.alloc();
+    let date = decoded(alloc, DATE)?;
     assert!(rt; matches!(&date, Value::Date(Date { value: 1 })));
     let span = decoded(
-        rt.alloc(),
+        alloc,
         b"\x20\0\0\0\x60\0\0\x11\x40\0\0\0\x01\0\0\0\x02\0\0\0\0\0\0\0\x03",
     )?;
     let is_span = matches!(
@@ -123,11 +94,14 @@ fn decodes_extensions(rt: HostRuntime) -> Result<(), Fail> {
         })
     );
     assert!(rt; is_span);
-    let bytes = to_value(
-        rt.alloc(),
-        &Item::Extension(ExtensionValue::Binary(b"\xff\0")),
-    )?;
-    assert!(rt; matches!(&bytes, Value::Binary(b"\xff\0")));
+    let binary = to_value(alloc, &Item::Extension(ExtensionValue::Binary(b"\xff\0")))?;
+    assert!(rt; matches!(&binary, Value::Binary(b"\xff\0")));
+    // an entry word without its content
+    let short = decoded(alloc, b"\x80\0\0\x01\x20\0\0\x02");
+    assert!(rt; matches!(short, Err(Error::InvalidJsonb)));
+    // a float in an array
+    let float = decoded(alloc, b"\x80\0\0\x01\x20\0\0\x09\x60\x3f\xf8\0\0\0\0\0\0");
+    assert!(rt; matches!(float, Err(Error::UnsupportedNumber)));
     Ok(())
 }
 
@@ -150,62 +124,79 @@ fn prints_kinds(rt: HostRuntime) -> Result<(), Fail> {
     Ok(())
 }
 
-/// `{"asd":"adf"}`
-#[test]
-fn borrows_texts(rt: HostRuntime) -> Result<(), Fail> {
-    let value = decoded(rt.alloc(), b"\x40\0\0\x01\x10\0\0\x03\x10\0\0\x03asdadf")?;
-    let Value::Object(members) = &value else {
-        return Err(Fail::from("no object"));
-    };
-    let is_borrowed = matches!(
-        members.get("asd"),
-        Some(Value::String(CowStr::Borrowed("adf")))
-    );
-    assert!(rt; is_borrowed);
-    Ok(())
-}
-
-#[test]
-fn refuses_damaged_bytes(rt: HostRuntime) {
-    // An entry word without its content.
-    let short = decoded(rt.alloc(), b"\x80\0\0\x01\x20\0\0\x02");
-    assert!(rt; matches!(short, Err(Error::InvalidJsonb)));
-    // A float in an array.
-    let float = decoded(
-        rt.alloc(),
-        b"\x80\0\0\x01\x20\0\0\x09\x60\x3f\xf8\0\0\0\0\0\0",
-    );
-    assert!(rt; matches!(float, Err(Error::UnsupportedNumber)));
-}
-
 #[test]
 fn compares_by_value(rt: HostRuntime) -> Result<(), Fail> {
-    assert!(rt; whole(1) == tenths(10));
-    assert!(rt; whole(1) != tenths(11));
-    assert!(rt; Value::Number(Number::Int64(-1)) == tenths(-10));
-    let wholes = two(rt.alloc(), whole(1), text("a"))?;
-    let decimals = two(rt.alloc(), tenths(10), text("a"))?;
-    assert!(rt; wholes == decimals);
-    let others = two(rt.alloc(), tenths(10), text("b"))?;
-    assert!(rt; wholes != others);
-    let mut beginning = Vec::new(rt.alloc());
-    beginning.push(whole(1))?;
-    assert!(rt; Value::Array(beginning) != wholes);
-    let date = Value::Date(Date { value: 1 });
-    assert!(rt; date == Value::Date(Date { value: 1 }));
-    assert!(rt; date != Value::Timestamp(Timestamp { value: 1 }));
-    assert!(rt; date != whole(1));
+    let alloc = rt.alloc();
+    let date = Date { value: 1 };
+    let pairs = [
+        ([whole(1), tenths(10)], true),
+        ([whole(1), tenths(11)], false),
+        ([Value::Number(Number::Int64(-1)), tenths(-10)], true),
+        (
+            [
+                two(alloc, whole(1), text("a"))?,
+                two(alloc, tenths(10), text("a"))?,
+            ],
+            true,
+        ),
+        (
+            [
+                two(alloc, whole(1), text("a"))?,
+                two(alloc, tenths(10), text("b"))?,
+            ],
+            false,
+        ),
+        (
+            [
+                Value::Array(vec![in alloc; whole(1)]?),
+                two(alloc, whole(1), text("a"))?,
+            ],
+            false,
+        ),
+        ([Value::Date(date), Value::Date(date)], true),
+        (
+            [Value::Date(date), Value::Timestamp(Timestamp { value: 1 })],
+            false,
+        ),
+        ([Value::Date(date), whole(1)], false),
+    ];
+    for (pair, is_equal) in &pairs {
+        assert_eq!(rt; pair[0] == pair[1], *is_equal, "{pair:?}");
+    }
     Ok(())
 }
 
+/// Whether the element at 1 of `[false, 10, {"k":"v"}]` is no signed number and no decimal.
+fn has_unsigned(value: &Value<'_>) -> bool {
+    match value {
+        Value::Array(values) => matches!(values.get(1), Some(Value::Number(Number::UInt64(10)))),
+        _ => false,
+    }
+}
+
+/// Whether the text of `{"asd":"adf"}` is borrowed.
+fn borrows(value: &Value<'_>) -> bool {
+    match value {
+        Value::Object(members) => matches!(
+            members.get("asd"),
+            Some(Value::String(CowStr::Borrowed("adf")))
+        ),
+        _ => false,
+    }
+}
+
 #[test]
-fn clones(rt: HostRuntime) -> Result<(), Fail> {
-    let owned = CowStr::Owned(String::from_str(rt.alloc(), "Fred")?);
-    let values = two(rt.alloc(), tenths(10), Value::String(owned))?;
-    let object = with(rt.alloc(), Value::Null, "values", values)?;
-    let copy = object.clone(rt.alloc())?;
+fn keeps_numbers_and_borrowed_texts(rt: HostRuntime) -> Result<(), Fail> {
+    let alloc = rt.alloc();
+    assert!(rt; has_unsigned(&decoded(alloc, MIXED)?));
+    let texts = b"\x40\0\0\x01\x10\0\0\x03\x10\0\0\x03asdadf";
+    assert!(rt; borrows(&decoded(alloc, texts)?));
+    let owned = CowStr::Owned(String::from_str(alloc, "Fred")?);
+    let values = two(alloc, tenths(10), Value::String(owned))?;
+    let object = with(alloc, Value::Null, "values", values)?;
+    let copy = object.clone(alloc)?;
     assert!(rt; copy == object);
-    let one = tenths(10).clone(rt.alloc())?;
+    let one = tenths(10).clone(alloc)?;
     let has_scale = matches!(
         &one,
         Value::Number(Number::Decimal64(Decimal64 {
@@ -216,7 +207,7 @@ fn clones(rt: HostRuntime) -> Result<(), Fail> {
     assert!(rt; has_scale);
     assert!(rt;
         matches!(
-            &text("a").clone(rt.alloc())?,
+            &text("a").clone(alloc)?,
             Value::String(CowStr::Borrowed("a"))
         )
     );
