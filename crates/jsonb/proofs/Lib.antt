@@ -33,6 +33,7 @@ pub mod ListLemmas
 pub mod SearchLemmas
 pub mod TermLemmas
 pub mod CalculateLemmas
+pub mod SignLemmas
 pub mod ReadMeans
 -- lemmas of the crates below, for the crates above
 pub use Rattle.jsonb_doc.proofs.DecodedFits

@@ -34,6 +34,7 @@ mod members;
 mod node_list;
 mod search;
 mod selected;
+mod signed_items;
 mod steps;
 mod terms;
 mod values;

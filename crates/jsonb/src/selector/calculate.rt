@@ -108,6 +108,18 @@ fn signed(op: UnaryOperator, number: Number) -> Result<Number, Error>
     }
 }
 
+/// Each number behind a sign, in place of it, from left to right.
+pub(crate) fn sign_each(op: UnaryOperator, numbers: &mut [Number]) -> Result<(), Error>
+    ensures meant { Gives (λ _ ts. AllRelated IsNumberItem numbers.new ts) IsOutOfMemory result
+        (try_flat_map (signed_number (sign_view op)) (map number_view numbers.old)) }
+    ensures errors { (mode : Mode) → IfErr result (IsSelectionError mode) }
+{
+    for number in numbers.iter_mut() {
+        *number = signed(op, *number)?;
+    }
+    Ok(())
+}
+
 /// A value behind a sign. A value that is no number is refused with `InvalidJsonPath`.
 #[inline(always)]
 fn signed_value(op: UnaryOperator, value: &Atom<'_>) -> Result<Number, Error>

@@ -21,9 +21,11 @@ use super::calculate::{binary_number, is_arithmetic, unary_numbers};
 use super::compared_lists::root_truth;
 use super::document::{Document, Expressions, Mode};
 use super::kept::begins_with_current;
+use super::members::first_item;
 use super::node_list::NodeList;
 use super::search::search;
 use super::selected::{MadeItem, Selected};
+use super::signed_items::signed_items;
 use super::steps::{operand_values, select_steps};
 use crate::path::{BinaryOperator, Expr, Path, PathValue, UnaryOperator};
 use jsonb_doc::{Error, Item, Number, root_item};
@@ -160,8 +162,17 @@ fn whole_unary<'a>(
         (and_then (operand_values mode (expression_view operand.now) top top) (each_signed (sign_view op))) }
     ensures errors { IfErr result (IsSelectionError mode) }
 {
-    let values = operand_values(alloc, mode, operand, document, document.root)?;
-    unary_numbers(alloc, op, values.as_slice())
+    match operand {
+        Expr::Paths(steps) => {
+            let first = first_item(steps, document, document.root);
+            let found = select_steps(alloc, mode, Expressions::AreRefused, steps, document, first)?;
+            signed_items(alloc, op, document.bytes, found.as_slice())
+        }
+        Expr::Value(_) | Expr::BinaryOp { .. } | Expr::UnaryOp { .. } | Expr::ExistsFunc(_) => {
+            let values = operand_values(alloc, mode, operand, document, document.root)?;
+            unary_numbers(alloc, op, values.as_slice())
+        }
+    }
 }
 
 /// The number of two operands, the values of both taken first.

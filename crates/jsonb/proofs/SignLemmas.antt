@@ -1,0 +1,130 @@
+-- Numbers of the items that were found, each behind a sign.
+use Rattle.std.proofs.Common.{◌≡◌, ℕ, ◌+◌, ◌<◌, ◌≤◌, List, [], ◌∷◌, ◌++◌, Ok, Err, OnOk, IfErr, IsOkAnd, refl, ap, ◌∙◌, inl, subst, map, flat_map, append_assoc, length, get_or, set, take, drop, arith}
+use Rattle.std.proofs.lemmas.List.{map-append, take_all, take_more_set, drop-set-lt}
+use Rattle.jsonb_doc.specs.Answer.{Outcome, and_then, try_flat_map, Gives, IsOutOfMemory}
+use Rattle.jsonb_doc.specs.Item.{StandsFor}
+use Rattle.jsonb_doc.specs.Number.{Number}
+use Rattle.jsonb_doc.specs.Payload.{any}
+use Rattle.jsonb_doc.specs.Tree.{Tree}
+use Rattle.jsonb_doc.specs.View.{number_view}
+use Rattle.jsonb_doc.specs.declared.error.Error.{Error}
+use Rattle.jsonb_doc.specs.declared.error.Error.TheVariants.{InvalidJsonPath}
+use Rattle.jsonb_doc.specs.declared.extension.ExtensionValue.{ExtensionValue}
+use Rattle.jsonb_doc.specs.declared.item.Item.{Item}
+use Rattle.jsonb_doc.specs.declared.item.Item.TheVariants as kind
+use Rattle.jsonb_doc.specs.declared.number.Number.{Number as CodeNumber}
+use Rattle.jsonb.specs.PathArithmetic.{all_numbers, signed_number}
+use Rattle.jsonb.specs.PathTree.{UnaryOp, paths, steps_of}
+use Rattle.jsonb.specs.PathViews.{steps_view}
+use Rattle.jsonb.specs.Meaning.{operand_values, start, steps_meaning}
+use Rattle.jsonb.specs.Related.{AllRelated}
+use Rattle.jsonb.specs.Private.Selection.{IsNumberTree, IsNumberItem, taken_step}
+use Rattle.jsonb.specs.Values.{Value, number, value_of_item, values_of_item}
+use Rattle.jsonb.specs.declared.path.Path.{Path}
+use Rattle.jsonb.specs.declared.selector.document.Expressions.TheVariants.{AreRefused}
+use Rattle.jsonb.specs.declared.selector.document.Mode.{Mode}
+use Rattle.jsonb.proofs.CalculateLemmas.{as_memory, number_added}
+use Rattle.jsonb.proofs.GivesLemmas.{Is, related_of_map}
+use Rattle.jsonb.proofs.Progress.{Progress, at_start, one_more, refused_in, at_end, list_first, list_end}
+use Rattle.jsonb.proofs.StepLemmas.{from_start}
+
+-- ---- the numbers of a list are those of its parts
+
+in_front : (n : Number) (o p : Outcome (List Number)) →
+    and_then (and_then o (λ front. and_then p (λ back. Ok (front ++ back)))) (λ ns. Ok (n ∷ ns))
+    ≡ and_then (and_then o (λ ns. Ok (n ∷ ns))) (λ front. and_then p (λ back. Ok (front ++ back)))
+in_front n (Ok ms) (Ok ns) = refl
+in_front n (Ok ms) (Err e) = refl
+in_front n (Err e) p = refl
+
+same_number : (o : Outcome (List Number)) → o ≡ and_then o (λ back. Ok ([] ++ back))
+same_number (Ok ns) = refl
+same_number (Err e) = refl
+
+numbers-append : (xs ys : List Value) → all_numbers (xs ++ ys) ≡ and_then (all_numbers xs) (λ front. and_then (all_numbers ys) (λ back. Ok (front ++ back)))
+numbers-append [] ys = same_number (all_numbers ys)
+numbers-append (number n ∷ xs) ys = ap (λ o. and_then o (λ ns. Ok (n ∷ ns))) (numbers-append xs ys) ∙ in_front n (all_numbers xs) (all_numbers ys)
+numbers-append (v ∷ xs) ys = refl
+
+pub numbers_of_parts : (g : Tree → List Value) (ts : List Tree) → all_numbers (flat_map g ts) ≡ try_flat_map (λ t. all_numbers (g t)) ts
+numbers_of_parts g [] = refl
+numbers_of_parts g (t ∷ ts) =
+    numbers-append (g t) (flat_map g ts)
+    ∙ ap (λ o. and_then (all_numbers (g t)) (λ front. and_then o (λ back. Ok (front ++ back)))) (numbers_of_parts g ts)
+
+-- an item that is neither a number nor an extension value
+pub no_number : (item : Item) (t : Tree) → ((n : CodeNumber) → item ≡ kind.Number n → ⊥) → ((x : ExtensionValue) → item ≡ kind.Extension x → ⊥)
+    → StandsFor any item t → all_numbers (value_of_item t) ≡ Err InvalidJsonPath
+no_number (kind.Number n) t a b h = absurd (a n refl)
+no_number (kind.Extension x) t a b h = absurd (b x refl)
+no_number (kind.Array bytes) t a b h = rw h.1 refl
+no_number (kind.Object bytes) t a b h = rw h.1 refl
+no_number _ t a b h = rw h refl
+
+-- ---- numbers behind those that there were
+
+abbrev pub Behind : List CodeNumber → List CodeNumber → List Number → Type 0
+Behind old new ns = map number_view new ≡ map number_view old ++ ns
+
+pub number_pushed : (r : Outcome (Unit {0})) (old new : List CodeNumber) (n : CodeNumber) → OnOk r (new ≡ old ++ n ∷ []) → IfErr r IsOutOfMemory
+    → Gives {A = Unit {0}} (λ _ ns. Behind old new ns) IsOutOfMemory r (Ok (number_view n ∷ []))
+number_pushed (Ok v) old new n is none = record { ok = ap (map number_view) is ∙ map-append number_view old (n ∷ []); err = tt }
+number_pushed (Err e) old new n is none = record { ok = tt; err = inl none }
+
+pub more_behind : (old mid new : List CodeNumber) (o : Outcome (List Number)) (before : List Number) → Behind old mid before → IsOkAnd o (Behind mid new)
+    → IsOkAnd o (λ us. Behind old new (before ++ us))
+more_behind old mid new (Ok us) before first then = then ∙ ap (λ l. l ++ us) first ∙ append_assoc (map number_view old) before us
+more_behind old mid new (Err e) before first then = absurd then
+
+-- ---- numbers that are signed in their places
+
+-- so many are signed, and the others are as they were
+abbrev pub SignedUntil : UnaryOp → List CodeNumber → ℕ → Outcome (List Tree) → Type 0
+SignedUntil op xs i outcome = Progress (AllRelated (Is number_view) (drop i xs)) (AllRelated IsNumberItem (take i xs)) (signed_number op) outcome
+
+pub none_signed : (op : UnaryOp) (xs : List CodeNumber) → SignedUntil op xs 0 (try_flat_map (signed_number op) (map number_view xs))
+none_signed op xs =
+    at_start (signed_number op) (AllRelated (Is number_view) xs) (AllRelated IsNumberItem []) (map number_view xs)
+    (related_of_map number_view xs (map number_view xs) refl) tt
+
+module _ (op : UnaryOp) (xs : List CodeNumber) (i : ℕ) (d : CodeNumber) (outcome : Outcome (List Tree)) (done : SignedUntil op xs i outcome) where
+  pub one_signed : (v : CodeNumber) → i < length xs → IsOkAnd (signed_number op (number_view (get_or xs i d))) (IsNumberTree v)
+      → SignedUntil op (set xs i v) (i + 1) outcome
+  one_signed v short is =
+      let next : i < i + 1 = omega arith in
+      rw (drop-set-lt (i + 1) xs i v next, take_more_set xs i v short)
+      (one_more (signed_number op) (AllRelated (Is number_view) (drop i xs)) (AllRelated (Is number_view) (drop (i + 1) xs))
+      (AllRelated IsNumberItem (take i xs)) (AllRelated IsNumberItem (take i xs ++ v ∷ [])) (Is number_view (get_or xs i d)) outcome done
+      (list_first (Is number_view) xs i d short)
+      (λ n before same held. rw (← same)
+      (number_added (take i xs) (take i xs ++ v ∷ []) v (signed_number op (number_view (get_or xs i d))) before refl is held)))
+
+  pub one_refused : {Q : Unit {0} → List Tree → Type 0} {e : Error} → i < length xs
+      → Gives {A = CodeNumber} IsNumberTree (λ _. ⊥) (Err e) (signed_number op (number_view (get_or xs i d))) → Gives {A = Unit {0}} Q IsOutOfMemory (Err e) outcome
+  one_refused {Q} {e} short is =
+      refused_in (signed_number op) Q (AllRelated (Is number_view) (drop i xs)) (AllRelated (Is number_view) (drop (i + 1) xs))
+      (AllRelated IsNumberItem (take i xs)) (AllRelated IsNumberItem (take i xs)) (Is number_view (get_or xs i d)) e outcome done
+      (list_first (Is number_view) xs i d short) (λ n before same held. record { ok = tt; err = rw (← same) ((as_memory is).err) })
+
+pub all_signed : (op : UnaryOp) (xs : List CodeNumber) (i : ℕ) (outcome : Outcome (List Tree)) → SignedUntil op xs i outcome → length xs ≤ i
+    → IsOkAnd outcome (AllRelated IsNumberItem xs)
+all_signed op xs i outcome done end =
+    subst (λ l. IsOkAnd outcome (AllRelated IsNumberItem l)) (take_all i xs end)
+    (at_end (signed_number op) (AllRelated (Is number_view) (drop i xs)) (AllRelated IsNumberItem (take i xs)) outcome done
+    (list_end (Is number_view) xs i end))
+
+-- ---- what follows the values of an operand
+
+by_items : {C : Type 0} (next : List Value → Outcome C) (o : Outcome (List Tree))
+    → and_then (and_then o (λ ts. Ok (flat_map values_of_item ts))) next ≡ and_then o (λ ts. next (flat_map values_of_item ts))
+by_items next (Ok ts) = refl
+by_items next (Err e) = refl
+
+-- the path of an operand, by the slices that are passed on
+pub by_path : {C : Type 0} (next : List Value → Outcome C) (mode : Mode) (vs d1 d2 : List Path) (top u : Tree) → d1 ≡ vs → d2 ≡ vs →
+    and_then (operand_values mode (paths (steps_of (steps_view vs))) top u) next
+    ≡ and_then (steps_meaning mode (steps_of (map (taken_step AreRefused) (steps_view d1))) top (start (steps_of (steps_view d2)) top u ∷ []))
+    (λ ts. next (flat_map values_of_item ts))
+by_path next mode vs d1 d2 top u p q =
+    by_items next (steps_meaning mode (steps_of (steps_view vs)) top (start (steps_of (steps_view vs)) top u ∷ []))
+    ∙ ap (λ o. and_then o (λ ts. next (flat_map values_of_item ts))) (from_start mode vs d1 d2 top u p q)
