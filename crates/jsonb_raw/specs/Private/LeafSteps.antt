@@ -1,9 +1,11 @@
 -- The steps to leaves, as a walk makes them.
-use Rattle.std.specs.Prelude.{◌≡◌, ℕ, Bool, true, false, List, Option, Some, None, map}
+use Rattle.std.specs.Prelude.{◌≡◌, ◌++◌, [], ◌∷◌, ℕ, Bool, true, false, List, Option, Some, None, map}
 use Rattle.std.specs.Borrow.{Bor}
 use Rattle.std.specs.Int.{w32, cast_signed}
 use Rattle.jsonb_doc.specs.Tree.{Tree}
 use Rattle.jsonb_doc.specs.Payload.{Form}
+use Rattle.jsonb_doc.specs.Value.{value_tree, value_parts}
+use Rattle.jsonb_doc.specs.declared.value.Value.{Value}
 use Rattle.jsonb_keypath.specs.declared.key_path.KeyPaths.{KeyPaths}
 use Rattle.jsonb_keypath.specs.KeyPathGrammar.{Key, index, unquoted_name}
 use Rattle.jsonb_keypath.specs.KeyPathViews.{key_paths_view}
@@ -15,6 +17,16 @@ use Rattle.jsonb_raw.specs.Leaves.{Leaf, is_leaf}
 -- the steps to a leaf, and what is kept of it
 abbrev pub IsKept : {A : Type 0} → (Tree → A → Type 0) → KeyPaths × A → Leaf → Type 0
 IsKept IsOf kept leaf = (key_paths_view kept.0 ≡ leaf.0) × IsOf leaf.1 kept.1
+
+-- one more stands behind those that there are: what is kept of a leaf, with this path
+pub record IsOneMore {A : Type 0} (Is : A → Type 0) (path : KeyPaths) (before after : List (KeyPaths × A)) : Type 0 where
+  pub part : A
+  pub pushed : after ≡ before ++ (path, part) ∷ []
+  pub is : Is part
+
+-- a value is this tree, and the numbers in it have the parts that they are stored with
+abbrev pub IsValueOf : Tree → Value → Type 0
+IsValueOf t value = (value_tree value ≡ t) × (value_parts value ≡ t)
 
 -- the step to a part with this key, if any, and at this position
 abbrev pub step_at : Option (Bor (List ℕ)) → ℕ → Key

@@ -16,7 +16,7 @@ ghost use Rattle.jsonb_raw.specs.Scalars.{is_array};
 ghost use Rattle.jsonb_raw.specs.Leaves.{leaves};
 ghost use Rattle.jsonb_raw.specs.LeafViews.{leaves_seen};
 ghost use Rattle.jsonb_raw.specs.declared.functions.path.leaves.Step.{Step};
-ghost use Rattle.jsonb_raw.specs.Private.LeafSteps.{IsEntered, IsKept, step_key, step_keys};
+ghost use Rattle.jsonb_raw.specs.Private.LeafSteps.{IsEntered, IsKept, IsOneMore, IsValueOf, step_key, step_keys};
 ghost use Rattle.jsonb_raw.specs.Private.Levels.{IsKeyOf, IsLevelWithin};
 
 mod documents;
@@ -39,9 +39,9 @@ struct Step<'a> {
 
 /// Puts a step behind the others: its key, where it has one, and else its index.
 #[inline(always)]
-fn push_step<'a>(steps: &mut Vec<KeyPath<'a>>, step: Step<'a>)
+fn push_step<'a>(steps: &mut Vec<KeyPath<'a>>, step: &Step<'a>)
     requires room { vec_len steps.old < vec_capacity steps.old }
-    ensures steps { keys_view steps.new.items ≡ keys_view steps.old.items ++ step_key step.entry ∷ [] }
+    ensures steps { keys_view steps.new.items ≡ keys_view steps.old.items ++ step_key step.now ∷ [] }
     ensures len { vec_len steps.new ≡ vec_len steps.old + 1 }
     ensures capacity { vec_capacity steps.new ≡ vec_capacity steps.old }
 {
@@ -69,9 +69,9 @@ fn path_to<'a>(alloc: Global, steps: &[Step<'a>], last: Step<'a>) -> Result<KeyP
 {
     let mut paths = Vec::with_capacity(alloc, steps.len() + 1)?;
     for step in steps {
-        push_step(&mut paths, *step);
+        push_step(&mut paths, step);
     }
-    push_step(&mut paths, last);
+    push_step(&mut paths, &last);
     Ok(KeyPaths { paths })
 }
 
@@ -158,45 +158,75 @@ trait LeafPart<'a>: Drop {
 
     ghost Refusals: { Error → Type 0 };
 
-    /// What is kept of the leaf that an entry stores.
-    fn of_entry(alloc: Global, entry: &StoredEntry<'a>) -> Result<Self, Error>
-        ensures part { (form : Form) (t : Tree) → Stores form entry.now t
-            → MatchResult result (λ part. IsOf form t part) (IsRefusalOf form t) }
+    /// Puts the leaf that an entry stores behind those that were found.
+    fn push_leaf(
+        alloc: Global,
+        entry: &StoredEntry<'a>,
+        path: KeyPaths<'a>,
+        found: &mut Vec<(KeyPaths<'a>, Self)>,
+    ) -> Result<(), Error>
+        ensures leaf { (form : Form) (t : Tree) → Stores form entry.now t
+            → MatchResult result (λ _. IsOneMore (IsOf form t) path.entry found.old.items found.new.items)
+            (IsRefusalOf form t) }
         ensures errors { IfErr result Refusals };
 }
 
-/// The item that an entry stores. A text is read here, so that the other kinds are passed by.
+/// Puts a leaf behind those that were found.
 #[inline(always)]
-fn stored_item<'a>(entry: &StoredEntry<'a>) -> Result<Item<'a>, Error>
-    ensures decodes { (form : Form) (t : Tree) → Stores form entry.now t
-        → IsOkAnd result (λ item. StandsFor form item t) }
-    ensures normal { IfOk result IsNormal }
-    ensures errors { IfErr result IsDecodingError }
+fn push_part<'a, P: Drop>(
+    path: KeyPaths<'a>,
+    part: P,
+    found: &mut Vec<(KeyPaths<'a>, P)>,
+) -> Result<(), Error>
+    ensures { MatchResult result (λ _. found.new.items ≡ found.old.items ++ (path.entry, part) ∷ []) IsOutOfMemory }
 {
-    if !entry.is_text() {
-        return entry.item();
-    }
-    match str::from_utf8(entry.content) {
-        Ok(valid) => Ok(Item::String(valid)),
-        Err(_) => Err(Error::InvalidJsonb),
+    found.push((path, part))?;
+    Ok(())
+}
+
+/// The value of a leaf that is no text, behind those that were found.
+fn push_value<'a>(
+    alloc: Global,
+    entry: &StoredEntry<'a>,
+    path: KeyPaths<'a>,
+    found: &mut Vec<(KeyPaths<'a>, Value<'a>)>,
+) -> Result<(), Error>
+    ensures leaf { (form : Form) (t : Tree) → Stores form entry.now t
+        → MatchResult result (λ _. IsOneMore (IsValueOf t) path.entry found.old.items found.new.items) IsOutOfMemory }
+    ensures errors { IfErr result (IsDecodingError or OutOfMemory) }
+{
+    match entry.item()? {
+        Item::Number(number) => push_part(path, Value::Number(number), found),
+        item => push_part(path, to_value(alloc, &item)?, found),
     }
 }
 
 impl<'a> LeafPart<'a> for Value<'a> {
-    ghost use Rattle.std.specs.Prelude.{◌≡◌};
     ghost use Rattle.jsonb_doc.specs.Answer.{IsOutOfMemory, ◌or◌, IsDecodingError};
-    ghost use Rattle.jsonb_doc.specs.Value.{value_tree, value_parts};
     ghost use Rattle.jsonb_doc.specs.declared.error.Error.TheVariants.{OutOfMemory};
+    ghost use Rattle.jsonb_raw.specs.Private.LeafSteps.{IsValueOf};
 
-    ghost IsOf = { λ form t value. (value_tree value ≡ t) × (value_parts value ≡ t) };
+    ghost IsOf = { λ form t value. IsValueOf t value };
 
     ghost IsRefusalOf = { λ form t e. IsOutOfMemory e };
 
     ghost Refusals = { IsDecodingError or OutOfMemory };
 
-    fn of_entry(alloc: Global, entry: &StoredEntry<'a>) -> Result<Value<'a>, Error> {
-        let item = stored_item(entry)?;
-        to_value(alloc, &item)
+    // A text is read here, so that it is written where it stays.
+    #[inline(always)]
+    fn push_leaf(
+        alloc: Global,
+        entry: &StoredEntry<'a>,
+        path: KeyPaths<'a>,
+        found: &mut Vec<(KeyPaths<'a>, Value<'a>)>,
+    ) -> Result<(), Error> {
+        if !entry.is_text() {
+            return push_value(alloc, entry, path, found);
+        }
+        match str::from_utf8(entry.content) {
+            Ok(text) => push_part(path, Value::String(CowStr::Borrowed(text)), found),
+            Err(_) => Err(Error::InvalidJsonb),
+        }
     }
 }
 
@@ -235,7 +265,7 @@ fn leaves_within<'a, P: LeafPart<'a>>(
                     }
                     None => {
                         let path = path_to(alloc, &steps, step)?;
-                        found.push((path, P::of_entry(alloc, &part)?))?;
+                        P::push_leaf(alloc, &part, path, &mut found)?;
                         index = index.wrapping_add(1);
                     }
                 }

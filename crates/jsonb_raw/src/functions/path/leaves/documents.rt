@@ -10,7 +10,7 @@ ghost use Rattle.jsonb_raw.specs.Documents.{raw_bytes};
 ghost use Rattle.jsonb_raw.specs.Leaves.{leaves};
 ghost use Rattle.jsonb_raw.specs.LeafDocuments.{MakesLeaves};
 
-use super::{LeafPart, leaves_within};
+use super::{LeafPart, leaves_within, push_part};
 use crate::functions::entries::entry_document;
 use crate::owned::OwnedJsonb;
 use crate::raw::RawJsonb;
@@ -29,8 +29,14 @@ impl<'a> LeafPart<'a> for OwnedJsonb {
 
     ghost Refusals = { IsDecodingError or OutOfMemory or TooLarge };
 
-    fn of_entry(alloc: Global, entry: &StoredEntry<'a>) -> Result<OwnedJsonb, Error> {
-        entry_document(alloc, entry.kind, entry.content)
+    fn push_leaf(
+        alloc: Global,
+        entry: &StoredEntry<'a>,
+        path: KeyPaths<'a>,
+        found: &mut Vec<(KeyPaths<'a>, OwnedJsonb)>,
+    ) -> Result<(), Error> {
+        let document = entry_document(alloc, entry.kind, entry.content)?;
+        push_part(path, document, found)
     }
 }
 

@@ -58,15 +58,15 @@ walk-preserved-in-Some-3 g c = record {
       });
 }
 
-pub returns-in_err-of_entry-in-None-2-clause-leaves : goal.returns-in_err-of_entry-in-None-2-clause-leaves
-returns-in_err-of_entry-in-None-2-clause-leaves g c = λ form t stands.
-    let p = err_from_is_err_and c.from_residual-in_err-of_entry-in-None-2.result c.from_residual-in_err-of_entry-in-None-2.ensures.1 in
+pub returns-in_err-push_leaf-in-None-2-clause-leaves : goal.returns-in_err-push_leaf-in-None-2-clause-leaves
+returns-in_err-push_leaf-in-None-2-clause-leaves g c = λ form t stands.
+    let p = err_from_is_err_and c.from_residual-in_err-push_leaf-in-None-2.result c.from_residual-in_err-push_leaf-in-None-2.ensures.1 in
     SomeParts-first form _ _ _ _ _ _ (λ ps h. rw c.in-Some-2.is at (c.in_ok-name.ensures.takes form ps h)) (c.walk.invariant.left form t stands)
     (λ part rest others keyed is left around fact.
     rw (p.1, p.2) (inr (leaf_of_whole (IsKept (g.P.LeafPart.IsOf form)) c.args.ignore_array
-    (λ leaf. g.P.LeafPart.IsRefusalOf form leaf.1 c.in_err-of_entry-in-None-2.field-0.0) _ _ _ _ part rest others _ fact
+    (λ leaf. g.P.LeafPart.IsRefusalOf form leaf.1 c.in_err-push_leaf-in-None-2.field-0.0) _ _ _ _ part rest others _ fact
     (rw c.in-None-2.is at (c.in_ok-inner-in-Some-2.ensures.leaf form part.1 is)) (c.in_ok-key-in-Some-2.ensures.name part.0 keyed)
-    (c.in_err-of_entry-in-None-2.ensures.part form part.1 is))))
+    (c.in_err-push_leaf-in-None-2.ensures.leaf form part.1 is))))
 
 pub walk-smaller-in-None-2 : goal.walk-smaller-in-None-2
 walk-smaller-in-None-2 g c = falls_beside _ _ c.walk.around.items _ (rw c.in-Some-2.is at c.in_ok-name.ensures.smaller)
@@ -76,17 +76,19 @@ walk-preserved-in-None-2 g c = record {
   as_many = c.walk.invariant.as_many;
   left = λ form t stands.
       SomeParts-first form _ _ _ _ _ _ (λ ps h. rw c.in-Some-2.is at (c.in_ok-name.ensures.takes form ps h)) (c.walk.invariant.left form t stands)
-      (λ part rest others keyed is left around fact. record {
+      (λ part rest others keyed is left around fact.
+      let more = c.in_ok-push_leaf-in-None-2.ensures.leaf form part.1 is in
+      record {
         here = rest;
         others = others;
         left = left;
         left_around = around;
         fact = leaf_found (IsKept (g.P.LeafPart.IsOf form)) c.args.ignore_array _ _ _ _ _ part rest others _
-            (c.in_ok-path-in-None-2.path, c.in_ok-of_entry-in-None-2.field-0) fact
+            (c.in_ok-path-in-None-2.path, more.part) fact
             (rw c.in-None-2.is at
             (c.in_ok-inner-in-Some-2.ensures.leaf form part.1 is)) (c.in_ok-key-in-Some-2.ensures.name part.0 keyed)
-            (rw c.deref.ensures.value at c.in_ok-path-in-None-2.ensures, c.in_ok-of_entry-in-None-2.ensures.part form part.1 is)
-            c.in_ok-push-in-None-2.ensures.items;
+            (rw c.deref.ensures.value at c.in_ok-path-in-None-2.ensures, more.is)
+            more.pushed;
       });
 }
 
