@@ -6,8 +6,8 @@
   measure_speed.py --crate FOLDER ..                      the same with the Rust crate of a folder, where none can be fetched
 
 Needs `rt`, `cargo` and `cc`. The crates are proved first where they are not (the library is built as `rt lib` does). The work lies in
-tools/speed/out, and the repository is left as it is. Best of N rounds (40), in turn, in one process with one allocator; both sides
-are built for x86-64-v2 at the highest level of optimisation.
+tools/speed/out, and the repository is left as it is. Best of N rounds (40) in four processes; in each the two sides take turns, with
+one allocator. Both are built for x86-64-v2 at the highest level of optimisation.
 """
 import argparse
 import os
@@ -28,6 +28,7 @@ sys.path.insert(0, os.path.join(TOP, "tools"))
 from documents import encode as document
 
 CRATES = ["jsonb_doc", "jsonb_keypath", "jsonb_raw", "jsonb"]
+PROCESSES = 4
 RANDOM = random.Random(1)
 
 
@@ -252,9 +253,15 @@ class Row:
         return self.ours / self.rust
 
 
-def times(program, path, rounds):
+def times_of_one(program, path, rounds):
     said = subprocess.check_output([program, path, str(rounds)], text=True)
     return {name: (float(rust), float(ours)) for name, rust, ours in (line.split("\t") for line in said.splitlines())}
+
+
+def times(program, path, rounds):
+    """The best of all processes: where the stack and the heap of one lie costs a case up to a third."""
+    found = [times_of_one(program, path, -(-rounds // PROCESSES)) for _ in range(PROCESSES)]
+    return {name: tuple(min(side) for side in zip(*(one[name] for one in found))) for name in found[0]}
 
 
 def counted(program, path, name, side, calls):
