@@ -15,8 +15,26 @@ const ARRAY_IN_UPPER_CASE: &str =
 /// `[10,20,30]`
 const TENS: &str = "80000003200000022000000220000002500a5014501e";
 
+/// `[1,"a"]`
+const NUMBER_THEN_TEXT: &str = "800000022000000210000001500161";
+
+/// `[1]`
+const ONE_ELEMENT: &str = "80000001200000025001";
+
+const FIVE: &str = "20000000200000025005";
+
 /// A float, which is no number here.
 const FLOAT: &str = "2000000020000009603ff8000000000000";
+
+/// Bytes that end within a header.
+const CUT: &str = "800000";
+
+const CUT_REFUSED: &str = "refused: InvalidJsonb";
+
+const FLOAT_REFUSED: &str = "refused: UnsupportedNumber";
+
+/// The words of a command line, the line that is written or the lines, and the status.
+type Row = (&'static [&'static str], &'static str, u8);
 
 /// The words of a command line.
 fn words_of(alloc: Global, texts: &[&str]) -> Result<Vec<String>, AllocError> {
@@ -35,154 +53,169 @@ fn answers(alloc: Global, texts: &[&str], line: &str, status: u8) -> Result<bool
     Ok(answer == Ok(status) && out.as_slice().strip_suffix(b"\n") == Some(line.as_bytes()))
 }
 
+/// The words of the first row that is answered in another way.
+fn first_wrong(alloc: Global, rows: &[Row]) -> Result<Option<&'static [&'static str]>, AllocError> {
+    for (words, line, status) in rows {
+        if !answers(alloc, words, line, *status)? {
+            return Ok(Some(*words));
+        }
+    }
+    Ok(None)
+}
+
+const GET: [Row; 14] = [
+    (&["get", "{2,k}", ARRAY], "200000001000000176", 0),
+    (&["get", "{-1,k}", ARRAY], "200000001000000176", 0),
+    (&["get", " { 2 , \"k\" } ", ARRAY], "200000001000000176", 0),
+    (&["get", "{2,\\u006b}", ARRAY], "200000001000000176", 0),
+    (&["get", "{}", ARRAY], ARRAY, 0),
+    (&["get", "{}", ARRAY_IN_UPPER_CASE], ARRAY, 0),
+    (&["get", "{3}", ARRAY], "none", 0),
+    (&["get", "{-4}", ARRAY], "none", 0),
+    (&["get", "{-2147483648}", TENS], "none", 0),
+    (&["get", "{1a}", ARRAY], "refused: InvalidKeyPath", 1),
+    (&["get", "{1a}", CUT], "refused: InvalidKeyPath", 1),
+    (&["get", "{}", CUT], CUT_REFUSED, 1),
+    (&["get", "{}", ""], CUT_REFUSED, 1),
+    (&["get", "{}", FLOAT], FLOAT_REFUSED, 1),
+];
+
 #[test]
 fn get_prints_the_document_at_a_place(rt: HostRuntime) -> Result<(), Fail> {
-    for (path, document, line) in [
-        ("{2,k}", ARRAY, "200000001000000176"),
-        ("{-1,k}", ARRAY, "200000001000000176"),
-        (" { 2 , \"k\" } ", ARRAY, "200000001000000176"),
-        ("{2,\\u006b}", ARRAY, "200000001000000176"),
-        ("{}", ARRAY, ARRAY),
-        ("{}", ARRAY_IN_UPPER_CASE, ARRAY),
-        ("{3}", ARRAY, "none"),
-        ("{-4}", ARRAY, "none"),
-        ("{-2147483648}", TENS, "none"),
-    ] {
-        let is_right = answers(rt.alloc(), &["get", path, document], line, 0)?;
-        assert!(rt; is_right, "get {path} {document}");
-    }
+    assert_eq!(rt; first_wrong(rt.alloc(), &GET)?, None);
     Ok(())
 }
 
-#[test]
-fn get_refuses_with_the_name_of_the_error(rt: HostRuntime) -> Result<(), Fail> {
-    for (path, document, line) in [
-        ("{1a}", ARRAY, "refused: InvalidKeyPath"),
-        ("{1a}", "800000", "refused: InvalidKeyPath"),
-        ("{}", "800000", "refused: InvalidJsonb"),
-        ("{}", "", "refused: InvalidJsonb"),
-        ("{}", FLOAT, "refused: UnsupportedNumber"),
-    ] {
-        let is_right = answers(rt.alloc(), &["get", path, document], line, 1)?;
-        assert!(rt; is_right, "get {path} {document}");
-    }
-    Ok(())
-}
-
-/// `[1,"a"]`
-const NUMBER_THEN_TEXT: &str = "800000022000000210000001500161";
-
-/// `[1]`
-const ONE_ELEMENT: &str = "80000001200000025001";
-
-const FIVE: &str = "20000000200000025005";
+const SELECT: [Row; 10] = [
+    (&["select", "1 == -1", ONE_ELEMENT], "2000000030000000", 0),
+    (
+        &["select", "$[0] == 1 || $[1] == 1", NUMBER_THEN_TEXT],
+        "2000000000000000",
+        0,
+    ),
+    (&["select", "$ != null", FIVE], "2000000040000000", 0),
+    (
+        &["select", "$[last, 0]", TENS],
+        "2000000020000002501e\n2000000020000002500a",
+        0,
+    ),
+    (&["select", "$[-1]", TENS], "none", 0),
+    (
+        &["select", "7 - 10", ONE_ELEMENT],
+        "200000002000000240fd",
+        0,
+    ),
+    (&["select", "", ARRAY_IN_UPPER_CASE], ARRAY, 0),
+    (
+        &["select", "$ / 0", FIVE],
+        "refused: Arithmetic(ZeroDivisor)",
+        1,
+    ),
+    (
+        &["select", "-1 == 1", ONE_ELEMENT],
+        "refused: InvalidJsonPath",
+        1,
+    ),
+    (&["select", "$.a", CUT], CUT_REFUSED, 1),
+];
 
 #[test]
 fn select_prints_each_document(rt: HostRuntime) -> Result<(), Fail> {
-    for (path, document, line) in [
-        ("1 == -1", ONE_ELEMENT, "2000000030000000"),
-        (
-            "$[0] == 1 || $[1] == 1",
-            NUMBER_THEN_TEXT,
-            "2000000000000000",
-        ),
-        ("$ != null", FIVE, "2000000040000000"),
-        (
-            "$[last, 0]",
-            TENS,
-            "2000000020000002501e\n2000000020000002500a",
-        ),
-        ("$[-1]", TENS, "none"),
-        ("7 - 10", ONE_ELEMENT, "200000002000000240fd"),
-        ("", ARRAY_IN_UPPER_CASE, ARRAY),
-    ] {
-        let is_right = answers(rt.alloc(), &["select", path, document], line, 0)?;
-        assert!(rt; is_right, "select {path} {document}");
-    }
+    assert_eq!(rt; first_wrong(rt.alloc(), &SELECT)?, None);
     Ok(())
 }
+
+const MATCH: [Row; 8] = [
+    (&["match", "1 == -1", ONE_ELEMENT], "false", 0),
+    (
+        &["match", "$[0] == 1 || $[1] == 1", NUMBER_THEN_TEXT],
+        "unknown",
+        0,
+    ),
+    (&["match", "$[*] > 25", TENS], "true", 0),
+    (&["match", "7 - 10", ONE_ELEMENT], "unknown", 0),
+    (&["match", "$.a", ONE_ELEMENT], "unknown", 0),
+    (&["match", "$ / 2", FIVE], "refused: Arithmetic(Inexact)", 1),
+    (&["match", "$[1,]", CUT], "refused: InvalidJsonPath", 1),
+    (&["match", "$.a", FLOAT], FLOAT_REFUSED, 1),
+];
 
 #[test]
 fn match_prints_a_truth(rt: HostRuntime) -> Result<(), Fail> {
-    for (path, document, line) in [
-        ("1 == -1", ONE_ELEMENT, "false"),
-        ("$[0] == 1 || $[1] == 1", NUMBER_THEN_TEXT, "unknown"),
-        ("$[*] > 25", TENS, "true"),
-        ("7 - 10", ONE_ELEMENT, "unknown"),
-        ("$.a", ONE_ELEMENT, "unknown"),
-    ] {
-        let is_right = answers(rt.alloc(), &["match", path, document], line, 0)?;
-        assert!(rt; is_right, "match {path} {document}");
-    }
+    assert_eq!(rt; first_wrong(rt.alloc(), &MATCH)?, None);
     Ok(())
 }
 
-#[test]
-fn paths_are_refused(rt: HostRuntime) -> Result<(), Fail> {
-    for (command, path, document, line) in [
-        ("select", "$ / 0", FIVE, "refused: Arithmetic(ZeroDivisor)"),
-        ("match", "$ / 2", FIVE, "refused: Arithmetic(Inexact)"),
-        ("select", "-1 == 1", ONE_ELEMENT, "refused: InvalidJsonPath"),
-        ("match", "$[1,]", "800000", "refused: InvalidJsonPath"),
-        ("select", "$.a", "800000", "refused: InvalidJsonb"),
-        ("match", "$.a", FLOAT, "refused: UnsupportedNumber"),
-    ] {
-        let is_right = answers(rt.alloc(), &[command, path, document], line, 1)?;
-        assert!(rt; is_right, "{command} {path} {document}");
-    }
-    Ok(())
-}
+const KEY: [Row; 6] = [
+    (&["key", "20000000200000025001"], "00048103e90200", 0),
+    (&["key", "200000002000000100"], "000480", 0),
+    (&["key", "2000000000000000"], "0008", 0),
+    (&["key", ONE_ELEMENT], "000701048103e90200", 0),
+    (&["key", CUT], CUT_REFUSED, 1),
+    (&["key", FLOAT], FLOAT_REFUSED, 1),
+];
 
 #[test]
 fn key_prints_the_sortable_key(rt: HostRuntime) -> Result<(), Fail> {
-    for (document, line, status) in [
-        ("20000000200000025001", "00048103e90200", 0),
-        ("200000002000000100", "000480", 0),
-        ("2000000000000000", "0008", 0),
-        ("80000001200000025001", "000701048103e90200", 0),
-        ("800000", "refused: InvalidJsonb", 1),
-        (FLOAT, "refused: UnsupportedNumber", 1),
-    ] {
-        let is_right = answers(rt.alloc(), &["key", document], line, status)?;
-        assert!(rt; is_right, "key {document}");
-    }
+    assert_eq!(rt; first_wrong(rt.alloc(), &KEY)?, None);
     Ok(())
 }
 
+const LEAVES: [Row; 13] = [
+    (
+        &["leaves", ARRAY],
+        "2000000030000000 {0}\n2000000020000002500a {1}\n200000001000000176 {2,k}",
+        0,
+    ),
+    (
+        &["leaves", ARRAY_IN_UPPER_CASE],
+        "2000000030000000 {0}\n2000000020000002500a {1}\n200000001000000176 {2,k}",
+        0,
+    ),
+    // {"a":null,"b":[null]}
+    (
+        &[
+            "leaves",
+            "400000021000000110000001000000005000000861628000000100000000",
+        ],
+        "2000000000000000 {a}\n2000000000000000 {b,0}",
+        0,
+    ),
+    // [[],{}]
+    (
+        &["leaves", "8000000250000004500000048000000040000000"],
+        "80000000 {0}\n40000000 {1}",
+        0,
+    ),
+    // {"a b":1}
+    (
+        &["leaves", "4000000110000003200000026120625001"],
+        "20000000200000025001 {\"a b\"}",
+        0,
+    ),
+    // {"":null}
+    (
+        &["leaves", "400000011000000000000000"],
+        "2000000000000000 {\"\"}",
+        0,
+    ),
+    // [10] with its number in two bytes where one would do
+    (
+        &["leaves", "800000012000000350000a"],
+        "200000002000000350000a {0}",
+        0,
+    ),
+    (&["leaves", FIVE], "none", 0),
+    (&["leaves", "80000000"], "none", 0),
+    (&["leaves", "40000000"], "none", 0),
+    (&["leaves", CUT], CUT_REFUSED, 1),
+    (&["leaves", ""], CUT_REFUSED, 1),
+    (&["leaves", FLOAT], FLOAT_REFUSED, 1),
+];
+
 #[test]
 fn leaves_prints_a_line_for_each_leaf(rt: HostRuntime) -> Result<(), Fail> {
-    for (document, lines) in [
-        (
-            ARRAY,
-            "2000000030000000 {0}\n2000000020000002500a {1}\n200000001000000176 {2,k}",
-        ),
-        (
-            ARRAY_IN_UPPER_CASE,
-            "2000000030000000 {0}\n2000000020000002500a {1}\n200000001000000176 {2,k}",
-        ),
-        // {"a":null,"b":[null]}
-        (
-            "400000021000000110000001000000005000000861628000000100000000",
-            "2000000000000000 {a}\n2000000000000000 {b,0}",
-        ),
-        // [[],{}]
-        (
-            "8000000250000004500000048000000040000000",
-            "80000000 {0}\n40000000 {1}",
-        ),
-        // {"a b":1}
-        (
-            "4000000110000003200000026120625001",
-            "20000000200000025001 {\"a b\"}",
-        ),
-        // {"":null}
-        ("400000011000000000000000", "2000000000000000 {\"\"}"),
-        // [10] with its number in two bytes where one would do
-        ("800000012000000350000a", "200000002000000350000a {0}"),
-    ] {
-        let is_right = answers(rt.alloc(), &["leaves", document], lines, 0)?;
-        assert!(rt; is_right, "leaves {document}");
-    }
+    assert_eq!(rt; first_wrong(rt.alloc(), &LEAVES)?, None);
     Ok(())
 }
 
@@ -211,77 +244,45 @@ fn leaves_of_a_long_array_are_printed_in_one_walk(rt: HostRuntime) -> Result<(),
     Ok(())
 }
 
-#[test]
-fn leaves_prints_none_where_there_are_none(rt: HostRuntime) -> Result<(), Fail> {
-    for document in ["20000000200000025005", "80000000", "40000000"] {
-        assert!(rt;
-            answers(rt.alloc(), &["leaves", document], "none", 0)?,
-            "{document}"
-        );
-    }
-    Ok(())
-}
-
-#[test]
-fn leaves_refuses_with_the_name_of_the_error(rt: HostRuntime) -> Result<(), Fail> {
-    for (document, line) in [
-        ("800000", "refused: InvalidJsonb"),
-        ("", "refused: InvalidJsonb"),
-        (FLOAT, "refused: UnsupportedNumber"),
-    ] {
-        let is_right = answers(rt.alloc(), &["leaves", document], line, 1)?;
-        assert!(rt; is_right, "leaves {document}");
-    }
-    Ok(())
-}
+const OTHERS: [Row; 30] = [
+    (&[], "usage", 2),
+    (&["get"], "usage", 2),
+    (&["get", "{}"], "usage", 2),
+    (&["get", "{}", ARRAY, ARRAY], "usage", 2),
+    // half a byte
+    (&["get", "{}", "80000"], "usage", 2),
+    // no digit
+    (&["get", "{}", "8000000g"], "usage", 2),
+    // before the path is looked at
+    (&["get", "{1a}", "80000"], "usage", 2),
+    (&["key", "8000000g"], "usage", 2),
+    (&["key", "{}", ARRAY], "usage", 2),
+    (&["leaves"], "usage", 2),
+    (&["leaves", "8000000g"], "usage", 2),
+    (&["leaves", "{}", ARRAY], "usage", 2),
+    (&["select", ARRAY], "usage", 2),
+    (&["select", "$", "8000000g"], "usage", 2),
+    (&["select", "$", ARRAY, ARRAY], "usage", 2),
+    (&["match", ARRAY], "usage", 2),
+    (&["match", "$", "8000000g"], "usage", 2),
+    (&["match", "$", ARRAY, ARRAY], "usage", 2),
+    (&["GET", ARRAY], "usage", 2),
+    (&["GET", "{}", ARRAY], "usage", 2),
+    (&["KEY", ARRAY], "usage", 2),
+    (&["KEY", "{}", ARRAY], "usage", 2),
+    (&["LEAVES", ARRAY], "usage", 2),
+    (&["LEAVES", "{}", ARRAY], "usage", 2),
+    (&["SELECT", ARRAY], "usage", 2),
+    (&["SELECT", "{}", ARRAY], "usage", 2),
+    (&["MATCH", ARRAY], "usage", 2),
+    (&["MATCH", "{}", ARRAY], "usage", 2),
+    (&["", ARRAY], "usage", 2),
+    (&["", "{}", ARRAY], "usage", 2),
+];
 
 #[test]
 fn other_words_get_usage(rt: HostRuntime) -> Result<(), Fail> {
-    assert!(rt; answers(rt.alloc(), &[], "usage", 2)?, "no words");
-    assert!(rt; answers(rt.alloc(), &["get"], "usage", 2)?);
-    assert!(rt; answers(rt.alloc(), &["get", "{}"], "usage", 2)?);
-    assert!(rt; answers(rt.alloc(), &["get", "{}", ARRAY, ARRAY], "usage", 2)?);
-    assert!(rt;
-        answers(rt.alloc(), &["get", "{}", "80000"], "usage", 2)?,
-        "half a byte"
-    );
-    assert!(rt;
-        answers(rt.alloc(), &["get", "{}", "8000000g"], "usage", 2)?,
-        "no digit"
-    );
-    assert!(rt;
-        answers(rt.alloc(), &["get", "{1a}", "80000"], "usage", 2)?,
-        "before the path"
-    );
-    assert!(rt; answers(rt.alloc(), &["key", "8000000g"], "usage", 2)?);
-    assert!(rt; answers(rt.alloc(), &["key", "{}", ARRAY], "usage", 2)?);
-    assert!(rt; answers(rt.alloc(), &["leaves"], "usage", 2)?);
-    assert!(rt; answers(rt.alloc(), &["leaves", "8000000g"], "usage", 2)?);
-    assert!(rt; answers(rt.alloc(), &["leaves", "{}", ARRAY], "usage", 2)?);
-    for command in ["select", "match"] {
-        assert!(rt;
-            answers(rt.alloc(), &[command, ARRAY], "usage", 2)?,
-            "{command}"
-        );
-        assert!(rt;
-            answers(rt.alloc(), &[command, "$", "8000000g"], "usage", 2)?,
-            "{command}"
-        );
-        assert!(rt;
-            answers(rt.alloc(), &[command, "$", ARRAY, ARRAY], "usage", 2)?,
-            "{command}"
-        );
-    }
-    for command in ["GET", "KEY", "LEAVES", "SELECT", "MATCH", ""] {
-        assert!(rt;
-            answers(rt.alloc(), &[command, ARRAY], "usage", 2)?,
-            "{command}"
-        );
-        assert!(rt;
-            answers(rt.alloc(), &[command, "{}", ARRAY], "usage", 2)?,
-            "{command}"
-        );
-    }
+    assert_eq!(rt; first_wrong(rt.alloc(), &OTHERS)?, None);
     Ok(())
 }
 
@@ -326,13 +327,15 @@ impl Write for Breaking {
     }
 }
 
-/// What a run over a breaking writer answers, and what was written.
+const LINE: &[u8] = b"200000001000000176\n";
+
+/// What a run over a breaking writer answers, and whether it wrote the line.
 fn run_over(
     alloc: Global,
     at_a_time: usize,
     writes: u32,
     how: Break,
-) -> Result<(Result<u8, ToolFault>, Vec<u8>), AllocError> {
+) -> Result<(Result<u8, ToolFault>, bool), AllocError> {
     let words = words_of(alloc, &["get", "{2,k}", ARRAY])?;
     let mut out = Breaking {
         at_a_time,
@@ -341,25 +344,34 @@ fn run_over(
         bytes: Vec::new(alloc),
     };
     let answer = run(alloc, words.as_slice(), &mut out);
-    let Breaking { bytes, .. } = out;
-    Ok((answer, bytes))
+    Ok((answer, out.bytes.as_slice() == LINE))
 }
 
-const LINE: &[u8] = b"200000001000000176\n";
+/// Lets the first write fail, then the second, and so on, until a run meets no failure and has written the line.
+/// Gives the writes that it made, or none where a failure was no fault.
+fn writes_made(alloc: Global, at_a_time: usize, how: Break) -> Result<Option<u32>, AllocError> {
+    for writes in 0..20 {
+        match run_over(alloc, at_a_time, writes, how)? {
+            (Err(ToolFault::Write), _) => {}
+            (Ok(0), true) => return Ok(Some(writes)),
+            _ => return Ok(None),
+        }
+    }
+    Ok(None)
+}
 
-/// The first write fails, then the second, and so on, until a run meets no failure and has written the line.
 #[test]
 fn a_failing_write_is_a_fault(rt: HostRuntime) -> Result<(), Fail> {
-    for (at_a_time, wanted) in [(1, 19u32), (4, 5), (100, 1)] {
-        for how in [Break::Full, Break::Zero] {
-            for writes in 0..wanted {
-                let (answer, _) = run_over(rt.alloc(), at_a_time, writes, how)?;
-                assert_eq!(rt; answer, Err(ToolFault::Write), "{how:?} behind {writes}");
-            }
-            let (answer, bytes) = run_over(rt.alloc(), at_a_time, wanted, how)?;
-            assert_eq!(rt; answer, Ok(0), "{at_a_time} at a time");
-            assert_eq!(rt; bytes.as_slice(), LINE);
-        }
+    for (at_a_time, how, wanted) in [
+        (1, Break::Full, 19),
+        (1, Break::Zero, 19),
+        (4, Break::Full, 5),
+        (4, Break::Zero, 5),
+        (100, Break::Full, 1),
+        (100, Break::Zero, 1),
+    ] {
+        let made = writes_made(rt.alloc(), at_a_time, how)?;
+        assert_eq!(rt; made, Some(wanted), "{how:?}, {at_a_time} at a time");
     }
     Ok(())
 }
@@ -369,9 +381,8 @@ fn a_failing_write_is_a_fault(rt: HostRuntime) -> Result<(), Fail> {
 fn an_interrupted_write_is_no_fault(rt: HostRuntime) -> Result<(), Fail> {
     for at_a_time in [1, 4, 100] {
         for writes in 0..20 {
-            let (answer, bytes) = run_over(rt.alloc(), at_a_time, writes, Break::Interrupted)?;
-            assert_eq!(rt; answer, Ok(0), "behind {writes}");
-            assert_eq!(rt; bytes.as_slice(), LINE);
+            let found = run_over(rt.alloc(), at_a_time, writes, Break::Interrupted)?;
+            assert_eq!(rt; found, (Ok(0), true), "{at_a_time} behind {writes}");
         }
     }
     Ok(())
