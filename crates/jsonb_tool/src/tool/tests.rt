@@ -80,12 +80,6 @@ const GET: [Row; 14] = [
     (&["get", "{}", FLOAT], FLOAT_REFUSED, 1),
 ];
 
-#[test]
-fn get_prints_the_document_at_a_place(rt: HostRuntime) -> Result<(), Fail> {
-    assert_eq!(rt; first_wrong(rt.alloc(), &GET)?, None);
-    Ok(())
-}
-
 const SELECT: [Row; 10] = [
     (&["select", "1 == -1", ONE_ELEMENT], "2000000030000000", 0),
     (
@@ -119,12 +113,6 @@ const SELECT: [Row; 10] = [
     (&["select", "$.a", CUT], CUT_REFUSED, 1),
 ];
 
-#[test]
-fn select_prints_each_document(rt: HostRuntime) -> Result<(), Fail> {
-    assert_eq!(rt; first_wrong(rt.alloc(), &SELECT)?, None);
-    Ok(())
-}
-
 const MATCH: [Row; 8] = [
     (&["match", "1 == -1", ONE_ELEMENT], "false", 0),
     (
@@ -140,12 +128,6 @@ const MATCH: [Row; 8] = [
     (&["match", "$.a", FLOAT], FLOAT_REFUSED, 1),
 ];
 
-#[test]
-fn match_prints_a_truth(rt: HostRuntime) -> Result<(), Fail> {
-    assert_eq!(rt; first_wrong(rt.alloc(), &MATCH)?, None);
-    Ok(())
-}
-
 const KEY: [Row; 6] = [
     (&["key", "20000000200000025001"], "00048103e90200", 0),
     (&["key", "200000002000000100"], "000480", 0),
@@ -154,12 +136,6 @@ const KEY: [Row; 6] = [
     (&["key", CUT], CUT_REFUSED, 1),
     (&["key", FLOAT], FLOAT_REFUSED, 1),
 ];
-
-#[test]
-fn key_prints_the_sortable_key(rt: HostRuntime) -> Result<(), Fail> {
-    assert_eq!(rt; first_wrong(rt.alloc(), &KEY)?, None);
-    Ok(())
-}
 
 const LEAVES: [Row; 13] = [
     (
@@ -213,37 +189,7 @@ const LEAVES: [Row; 13] = [
     (&["leaves", FLOAT], FLOAT_REFUSED, 1),
 ];
 
-#[test]
-fn leaves_prints_a_line_for_each_leaf(rt: HostRuntime) -> Result<(), Fail> {
-    assert_eq!(rt; first_wrong(rt.alloc(), &LEAVES)?, None);
-    Ok(())
-}
-
-/// So many leaves that no test has the time to look each of them up from the root.
-const MANY: usize = 200_000;
-
-#[test]
-fn leaves_of_a_long_array_are_printed_in_one_walk(rt: HostRuntime) -> Result<(), Fail> {
-    // [null,null,..]
-    let mut document = String::from_str(rt.alloc(), "80030d40")?;
-    let mut lines = String::new(rt.alloc());
-    for index in 0..MANY {
-        document.push_str("00000000")?;
-        let end = if index + 1 == MANY { "" } else { "\n" };
-        let line = format!(in rt.alloc(); "2000000000000000 {{{index}}}{end}")?;
-        lines.push_str(line.as_str())?;
-    }
-    assert!(rt;
-        answers(
-            rt.alloc(),
-            &["leaves", document.as_str()],
-            lines.as_str(),
-            0
-        )?
-    );
-    Ok(())
-}
-
+/// Words that are no command.
 const OTHERS: [Row; 30] = [
     (&[], "usage", 2),
     (&["get"], "usage", 2),
@@ -281,8 +227,49 @@ const OTHERS: [Row; 30] = [
 ];
 
 #[test]
-fn other_words_get_usage(rt: HostRuntime) -> Result<(), Fail> {
-    assert_eq!(rt; first_wrong(rt.alloc(), &OTHERS)?, None);
+fn commands_are_answered(rt: HostRuntime) -> Result<(), Fail> {
+    for rows in [
+        GET.as_slice(),
+        SELECT.as_slice(),
+        MATCH.as_slice(),
+        KEY.as_slice(),
+        LEAVES.as_slice(),
+        OTHERS.as_slice(),
+    ] {
+        assert_eq!(rt; first_wrong(rt.alloc(), rows)?, None);
+    }
+    Ok(())
+}
+
+/// So many leaves that no test has the time to look each of them up from the root.
+const MANY: usize = 200_000;
+
+/// `[null,null,..]`
+fn many_nulls(alloc: Global) -> Result<String, AllocError> {
+    let mut document = String::from_str(alloc, "80030d40")?;
+    for _ in 0..MANY {
+        document.push_str("00000000")?;
+    }
+    Ok(document)
+}
+
+/// The lines of its leaves.
+fn lines_of_many(alloc: Global) -> Result<String, AllocError> {
+    let mut lines = String::new(alloc);
+    for index in 0..MANY {
+        let line = format!(in alloc; "2000000000000000 {{{index}}}\n")?;
+        lines.push_str(line.as_str())?;
+    }
+    lines.pop();
+    Ok(lines)
+}
+
+#[test]
+fn leaves_of_a_long_array_are_printed_in_one_walk(rt: HostRuntime) -> Result<(), Fail> {
+    let document = many_nulls(rt.alloc())?;
+    let lines = lines_of_many(rt.alloc())?;
+    let words = ["leaves", document.as_str()];
+    assert!(rt; answers(rt.alloc(), &words, lines.as_str(), 0)?);
     Ok(())
 }
 
