@@ -1,11 +1,34 @@
 //! Expressions nested so deeply that a call for each level would overflow the machine's stack.
 
 use crate::{BinaryOperator, Expr, Path, PathValue, UnaryOperator};
-use jsonb_doc::Number;
+use jsonb_doc::{Error, Number};
 use std::alloc::{AllocError, Global};
 use std::test::Fail;
 
 const LEVELS: u32 = 100_000;
+
+/// How an expression is nested.
+#[derive(Clone, Copy, Debug)]
+enum Nesting {
+    /// `((true && 0) && 1) && ..`
+    Chain,
+    /// `true && (true && (true && ..))`
+    RightSides,
+    /// `---..true`
+    Signs,
+    /// `exists(@?(exists(@?(..))))`
+    Filters,
+    /// `exists(@?(exists(@?(.. && true)?(true)) && true)?(true))`
+    FiltersAndMore,
+}
+
+/// What stands innermost.
+#[derive(Clone, Copy, Debug)]
+enum Innermost {
+    True,
+    Zero,
+    TrueAndTrue,
+}
 
 fn truth(alloc: Global) -> Result<Expr<'static>, AllocError> {
     Ok(Expr::Value(Box::new(alloc, PathValue::Boolean(true))?))
@@ -28,50 +51,119 @@ fn number(alloc: Global, n: u32) -> Result<Expr<'static>, AllocError> {
     Ok(Expr::Value(Box::new(alloc, literal)?))
 }
 
-// `((true && 0) && 1) && ..`
-fn chain(alloc: Global) -> Result<Expr<'static>, AllocError> {
-    chain_behind(alloc, truth(alloc)?)
+fn sign(alloc: Global, operand: Expr<'static>) -> Result<Expr<'static>, AllocError> {
+    Ok(Expr::UnaryOp {
+        op: UnaryOperator::Subtract,
+        operand: Box::new(alloc, operand)?,
+    })
 }
 
-fn chain_behind(alloc: Global, first: Expr<'static>) -> Result<Expr<'static>, AllocError> {
-    let mut found = first;
+// A number behind an expression.
+fn before_number(alloc: Global, left: Expr<'static>, n: u32) -> Result<Expr<'static>, AllocError> {
+    let right = number(alloc, n)?;
+    pair(alloc, left, right)
+}
+
+// `true` in front of an expression.
+fn behind_truth(alloc: Global, right: Expr<'static>) -> Result<Expr<'static>, AllocError> {
+    let left = truth(alloc)?;
+    pair(alloc, left, right)
+}
+
+// `true` behind an expression.
+fn before_truth(alloc: Global, left: Expr<'static>) -> Result<Expr<'static>, AllocError> {
+    let right = truth(alloc)?;
+    pair(alloc, left, right)
+}
+
+// `@?(..)`
+fn filtered(alloc: Global, inner: Expr<'static>) -> Result<Vec<Path<'static>>, AllocError> {
+    let filter = Path::FilterExpr(Box::new(alloc, inner)?);
+    let mut steps = Vec::with_capacity(alloc, 3)?;
+    steps.push(Path::Current)?;
+    steps.push(filter)?;
+    Ok(steps)
+}
+
+// `exists(@?(..))`
+fn filter(alloc: Global, inner: Expr<'static>) -> Result<Expr<'static>, AllocError> {
+    let steps = filtered(alloc, inner)?;
+    Ok(Expr::ExistsFunc(steps))
+}
+
+// `exists(@?(.. && true)?(true))`
+fn filter_and_more(alloc: Global, inner: Expr<'static>) -> Result<Expr<'static>, AllocError> {
+    let mut steps = filtered(alloc, before_truth(alloc, inner)?)?;
+    let last = truth(alloc)?;
+    steps.push(Path::Expr(Box::new(alloc, last)?))?;
+    Ok(Expr::ExistsFunc(steps))
+}
+
+// One more level, the one with this number, around an expression.
+fn around(
+    alloc: Global,
+    nesting: Nesting,
+    n: u32,
+    inner: Expr<'static>,
+) -> Result<Expr<'static>, AllocError> {
+    match nesting {
+        Nesting::Chain => before_number(alloc, inner, n),
+        Nesting::RightSides => behind_truth(alloc, inner),
+        Nesting::Signs => sign(alloc, inner),
+        Nesting::Filters => filter(alloc, inner),
+        Nesting::FiltersAndMore => filter_and_more(alloc, inner),
+    }
+}
+
+fn inner_expression(alloc: Global, inner: Innermost) -> Result<Expr<'static>, AllocError> {
+    match inner {
+        Innermost::True => truth(alloc),
+        Innermost::Zero => number(alloc, 0),
+        Innermost::TrueAndTrue => before_truth(alloc, truth(alloc)?),
+    }
+}
+
+// An expression of all levels.
+fn nested(alloc: Global, nesting: Nesting, inner: Innermost) -> Result<Expr<'static>, AllocError> {
+    let mut found = inner_expression(alloc, inner)?;
     for n in 0..LEVELS {
-        found = pair(alloc, found, number(alloc, n)?)?;
+        found = around(alloc, nesting, n, found)?;
     }
     Ok(found)
 }
 
-// What that chain prints.
-fn chain_text(alloc: Global) -> Result<String, AllocError> {
-    let mut text = String::new(alloc);
-    for _ in 1..LEVELS {
-        text.push_str("(")?;
+// What is inside the outermost level, if that is nested so and has this number.
+fn inside<'e, 'a>(nesting: Nesting, n: u32, expression: &'e Expr<'a>) -> Option<&'e Expr<'a>> {
+    match (nesting, expression) {
+        (
+            Nesting::Chain,
+            Expr::BinaryOp {
+                op: BinaryOperator::And,
+                left,
+                right,
+            },
+        ) if is_number(right, n) => Some(left),
+        (
+            Nesting::RightSides,
+            Expr::BinaryOp {
+                op: BinaryOperator::And,
+                left,
+                right,
+            },
+        ) if is_true(left) => Some(right),
+        (
+            Nesting::Signs,
+            Expr::UnaryOp {
+                op: UnaryOperator::Subtract,
+                operand,
+            },
+        ) => Some(operand),
+        _ => None,
     }
-    text.push_str("true && 0")?;
-    for n in 1..LEVELS {
-        text.push_str(") && ")?;
-        text.push_str(n.to_string(alloc)?.as_str())?;
-    }
-    Ok(text)
 }
 
-// Whether an expression is that chain.
-fn is_chain(expression: &Expr<'_>) -> bool {
-    let mut inner = expression;
-    let mut left = LEVELS;
-    while let Expr::BinaryOp {
-        op: BinaryOperator::And,
-        left: next,
-        right,
-    } = inner
-    {
-        if left == 0 || !is_number(right, left - 1) {
-            return false;
-        }
-        left -= 1;
-        inner = next;
-    }
-    left == 0 && matches!(inner, Expr::Value(literal) if **literal == PathValue::Boolean(true))
+fn is_true(expression: &Expr<'_>) -> bool {
+    matches!(expression, Expr::Value(literal) if **literal == PathValue::Boolean(true))
 }
 
 fn is_number(expression: &Expr<'_>, n: u32) -> bool {
@@ -79,62 +171,112 @@ fn is_number(expression: &Expr<'_>, n: u32) -> bool {
     matches!(expression, Expr::Value(literal) if **literal == wanted)
 }
 
-// `true && (true && (true && ..))`
-fn right_sides(alloc: Global) -> Result<Expr<'static>, AllocError> {
-    right_sides_before(alloc, truth(alloc)?)
-}
-
-fn right_sides_before(alloc: Global, last: Expr<'static>) -> Result<Expr<'static>, AllocError> {
-    let mut found = last;
-    for _ in 0..LEVELS {
-        found = pair(alloc, truth(alloc)?, found)?;
-    }
-    Ok(found)
-}
-
-// Whether an expression is that one.
-fn are_right_sides(expression: &Expr<'_>) -> bool {
+// Whether an expression has all levels around `true`. Filters are not looked into.
+fn is_nested(nesting: Nesting, expression: &Expr<'_>) -> bool {
     let mut inner = expression;
-    let mut left = LEVELS;
-    while let Expr::BinaryOp {
-        op: BinaryOperator::And,
-        left: _,
-        right,
-    } = inner
-    {
-        if left == 0 {
+    for n in (0..LEVELS).rev() {
+        let Some(next) = inside(nesting, n, inner) else {
             return false;
-        }
-        left -= 1;
-        inner = right;
+        };
+        inner = next;
     }
-    left == 0 && matches!(inner, Expr::Value(literal) if **literal == PathValue::Boolean(true))
+    is_true(inner)
 }
 
-// `exists(@?(exists(@?(.. && true)?(true)) && true)?(true))`
-fn filters(alloc: Global) -> Result<Expr<'static>, AllocError> {
-    let mut found = truth(alloc)?;
-    for _ in 0..LEVELS {
-        let inner = pair(alloc, found, truth(alloc)?)?;
-        let mut steps = Vec::with_capacity(alloc, 3)?;
-        steps.push(Path::Current)?;
-        steps.push(Path::FilterExpr(Box::new(alloc, inner)?))?;
-        steps.push(Path::Expr(Box::new(alloc, truth(alloc)?)?))?;
-        found = Expr::ExistsFunc(steps);
+#[test]
+fn deep_expressions_are_let_go(rt: HostRuntime) -> Result<(), Fail> {
+    let alloc = rt.alloc();
+    for nesting in [Nesting::Chain, Nesting::RightSides, Nesting::Signs] {
+        drop(nested(alloc, nesting, Innermost::True)?);
     }
-    Ok(found)
+    let filters = nested(alloc, Nesting::FiltersAndMore, Innermost::True)?;
+    drop(Path::FilterExpr(Box::new(alloc, filters)?));
+    Ok(())
 }
 
-// `exists(@?(exists(@?(..))))`
-fn last_filters(alloc: Global, last: Expr<'static>) -> Result<Expr<'static>, AllocError> {
-    let mut found = last;
-    for _ in 0..LEVELS {
-        let mut steps = Vec::with_capacity(alloc, 2)?;
-        steps.push(Path::Current)?;
-        steps.push(Path::FilterExpr(Box::new(alloc, found)?))?;
-        found = Expr::ExistsFunc(steps);
+// Whether an expression, a copy of it and one of its own are nested so, the last two when the first is let go.
+fn are_nested(alloc: Global, nesting: Nesting) -> Result<(bool, bool, bool), Error> {
+    let whole = nested(alloc, nesting, Innermost::True)?;
+    let is_whole = is_nested(nesting, &whole);
+    let copy = whole.clone(alloc)?;
+    let owned = whole.to_owned(alloc)?;
+    drop(whole);
+    Ok((
+        is_whole,
+        is_nested(nesting, &copy),
+        is_nested(nesting, &owned),
+    ))
+}
+
+#[test]
+fn deep_expressions_are_copied(rt: HostRuntime) -> Result<(), Fail> {
+    for nesting in [Nesting::Chain, Nesting::RightSides, Nesting::Signs] {
+        let found = are_nested(rt.alloc(), nesting)?;
+        assert_eq!(rt; found, (true, true, true), "{nesting:?}");
     }
-    Ok(found)
+    Ok(())
+}
+
+// Whether two expressions are equal.
+fn are_equal(
+    alloc: Global,
+    one: (Nesting, Innermost),
+    other: (Nesting, Innermost),
+) -> Result<bool, AllocError> {
+    let one = nested(alloc, one.0, one.1)?;
+    let other = nested(alloc, other.0, other.1)?;
+    Ok(one == other)
+}
+
+#[test]
+fn deep_chains_and_signs_are_compared(rt: HostRuntime) -> Result<(), Fail> {
+    let chain = (Nesting::Chain, Innermost::True);
+    let signs = (Nesting::Signs, Innermost::True);
+    for (one, other, wanted) in [
+        (chain, chain, true),
+        (chain, (Nesting::Chain, Innermost::Zero), false),
+        (chain, (Nesting::Chain, Innermost::TrueAndTrue), false),
+        (signs, chain, false),
+        (signs, signs, true),
+    ] {
+        let found = are_equal(rt.alloc(), one, other)?;
+        assert_eq!(rt; found, wanted, "{one:?} and {other:?}");
+    }
+    Ok(())
+}
+
+#[test]
+fn deep_right_sides_and_filters_are_compared(rt: HostRuntime) -> Result<(), Fail> {
+    let rights = (Nesting::RightSides, Innermost::True);
+    let filters = (Nesting::Filters, Innermost::True);
+    for (one, other, wanted) in [
+        (rights, rights, true),
+        (rights, (Nesting::RightSides, Innermost::Zero), false),
+        (filters, filters, true),
+        (filters, (Nesting::Filters, Innermost::Zero), false),
+        (filters, rights, false),
+    ] {
+        let found = are_equal(rt.alloc(), one, other)?;
+        assert_eq!(rt; found, wanted, "{one:?} and {other:?}");
+    }
+    Ok(())
+}
+
+// What an expression prints.
+fn printed(alloc: Global, nesting: Nesting, inner: Innermost) -> Result<String, AllocError> {
+    let expression = nested(alloc, nesting, inner)?;
+    format!(in alloc; "{expression}")
+}
+
+// What a chain prints.
+fn chain_text(alloc: Global) -> Result<String, AllocError> {
+    let mut text = "(".repeat(alloc, LEVELS as usize - 1)?;
+    text.push_str("true && 0")?;
+    for n in 1..LEVELS {
+        text.push_str(") && ")?;
+        text.push_str(n.to_string(alloc)?.as_str())?;
+    }
+    Ok(text)
 }
 
 // The middle with the others around it, once for each level.
@@ -144,104 +286,40 @@ fn nested_text(
     middle: &str,
     behind: &str,
 ) -> Result<String, AllocError> {
-    let mut text = String::new(alloc);
-    for _ in 0..LEVELS {
-        text.push_str(before)?;
-    }
+    let mut text = before.repeat(alloc, LEVELS as usize)?;
     text.push_str(middle)?;
-    for _ in 0..LEVELS {
-        text.push_str(behind)?;
-    }
+    text.push_str(behind.repeat(alloc, LEVELS as usize)?.as_str())?;
     Ok(text)
 }
 
-// `+-+-..true`
-fn signs(alloc: Global) -> Result<Expr<'static>, AllocError> {
-    let mut found = truth(alloc)?;
-    for _ in 0..LEVELS {
-        found = Expr::UnaryOp {
-            op: UnaryOperator::Subtract,
-            operand: Box::new(alloc, found)?,
-        };
+#[test]
+fn chains_are_printed(rt: HostRuntime) -> Result<(), Fail> {
+    let found = printed(rt.alloc(), Nesting::Chain, Innermost::True)?;
+    assert!(rt; found == chain_text(rt.alloc())?);
+    Ok(())
+}
+
+#[test]
+fn right_sides_and_filters_are_printed(rt: HostRuntime) -> Result<(), Fail> {
+    for (nesting, inner, before, middle, behind) in [
+        (
+            Nesting::RightSides,
+            Innermost::TrueAndTrue,
+            "true && (",
+            "true && true",
+            ")",
+        ),
+        (
+            Nesting::Filters,
+            Innermost::True,
+            "exists(@?(",
+            "true",
+            "))",
+        ),
+    ] {
+        let found = printed(rt.alloc(), nesting, inner)?;
+        let wanted = nested_text(rt.alloc(), before, middle, behind)?;
+        assert!(rt; found == wanted, "{nesting:?}");
     }
-    Ok(found)
-}
-
-#[test]
-fn deep_expressions_are_let_go(rt: HostRuntime) -> Result<(), Fail> {
-    let alloc = rt.alloc();
-    drop(chain(alloc)?);
-    drop(right_sides(alloc)?);
-    drop(signs(alloc)?);
-    let nested = filters(alloc)?;
-    let step = Path::FilterExpr(Box::new(alloc, nested)?);
-    drop(step);
-    Ok(())
-}
-
-#[test]
-fn long_chains_are_copied(rt: HostRuntime) -> Result<(), Fail> {
-    let alloc = rt.alloc();
-    let whole = chain(alloc)?;
-    assert!(rt; is_chain(&whole));
-    let copy = whole.clone(alloc)?;
-    let owned = whole.to_owned(alloc)?;
-    drop(whole);
-    assert!(rt; is_chain(&copy));
-    assert!(rt; is_chain(&owned));
-    Ok(())
-}
-
-#[test]
-fn right_sides_and_signs_are_copied(rt: HostRuntime) -> Result<(), Fail> {
-    let alloc = rt.alloc();
-    let whole = right_sides(alloc)?;
-    let copy = whole.clone(alloc)?;
-    let owned = whole.to_owned(alloc)?;
-    drop(whole);
-    assert!(rt; are_right_sides(&copy));
-    assert!(rt; are_right_sides(&owned));
-    let signs = signs(alloc)?;
-    let same = signs.clone(alloc)?;
-    assert!(rt; signs == same);
-    Ok(())
-}
-
-#[test]
-fn deep_expressions_are_compared(rt: HostRuntime) -> Result<(), Fail> {
-    let alloc = rt.alloc();
-    let whole = chain(alloc)?;
-    let same = chain(alloc)?;
-    assert!(rt; whole == same);
-    let other_first = chain_behind(alloc, number(alloc, 0)?)?;
-    assert!(rt; whole != other_first);
-    let longer = chain_behind(alloc, pair(alloc, truth(alloc)?, truth(alloc)?)?)?;
-    assert!(rt; whole != longer);
-    let signs = signs(alloc)?;
-    assert!(rt; signs != whole);
-    assert!(rt; signs == signs);
-    let rights = right_sides(alloc)?;
-    assert!(rt; rights == right_sides(alloc)?);
-    assert!(rt; rights != right_sides_before(alloc, number(alloc, 0)?)?);
-    let filters = last_filters(alloc, truth(alloc)?)?;
-    assert!(rt; filters == last_filters(alloc, truth(alloc)?)?);
-    assert!(rt; filters != last_filters(alloc, number(alloc, 0)?)?);
-    assert!(rt; filters != rights);
-    Ok(())
-}
-
-#[test]
-fn deep_expressions_are_printed(rt: HostRuntime) -> Result<(), Fail> {
-    let alloc = rt.alloc();
-    let whole = chain(alloc)?;
-    let printed = format!(in alloc; "{whole}")?;
-    let wanted = chain_text(alloc)?;
-    assert!(rt; printed == wanted);
-    let rights = pair(alloc, truth(alloc)?, right_sides(alloc)?)?;
-    let printed_rights = format!(in alloc; "{rights}")?;
-    assert!(rt; printed_rights == nested_text(alloc, "true && (", "true && true", ")")?);
-    let filters = last_filters(alloc, truth(alloc)?)?;
-    let printed_filters = format!(in alloc; "{filters}")?;
-    assert!(rt; printed_filters == nested_text(alloc, "exists(@?(", "true", "))")?);
     Ok(())
 }

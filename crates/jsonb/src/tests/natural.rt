@@ -5,12 +5,10 @@ use std::alloc::Global;
 use std::test::Fail;
 
 /// `[10,20,30]`
-const TENS: [u8; 22] = [
-    0x80, 0, 0, 3, 0x20, 0, 0, 2, 0x20, 0, 0, 2, 0x20, 0, 0, 2, 0x50, 10, 0x50, 20, 0x50, 30,
-];
+const TENS: &[u8] = b"\x80\0\0\x03\x20\0\0\x02\x20\0\0\x02\x20\0\0\x02\x50\x0a\x50\x14\x50\x1e";
 
 /// `[1]`
-const ONE: [u8; 10] = [0x80, 0, 0, 1, 0x20, 0, 0, 2, 0x50, 1];
+const ONE: &[u8] = b"\x80\0\0\x01\x20\0\0\x02\x50\x01";
 
 /// The first item of a path that is parsed here.
 fn first(alloc: Global, document: &[u8], text: &[u8]) -> Result<Option<OwnedJsonb>, Error> {
@@ -90,33 +88,48 @@ impl<'a> Asked<'a> {
 
 #[test]
 fn paths_are_parsed_where_they_are_used(rt: HostRuntime) -> Result<(), Fail> {
-    let alloc = rt.alloc();
-    let found = first(alloc, &TENS, b"$[1]")?.ok_or("nothing selected")?;
+    let found = first(rt.alloc(), TENS, b"$[1]")?.ok_or("nothing selected")?;
     assert_eq!(rt;
         found.as_raw().as_bytes(),
-        [0x20, 0, 0, 0, 0x20, 0, 0, 2, 0x50, 20].as_slice()
+        b"\x20\0\0\0\x20\0\0\x02\x50\x14".as_slice()
     );
-    assert!(rt; have_both(alloc, &TENS, b"$[0]", b"$[2]")?);
-    assert!(rt; !have_both(alloc, &ONE, b"$[0]", b"$[2]")?);
-    let documents = [TENS.as_slice(), ONE.as_slice()];
-    assert_eq!(rt; count(alloc, &documents, b"$[2]")?, 1);
-    assert_eq!(rt; count(alloc, &documents, b"$[0]")?, 2);
+    for (document, wanted) in [(TENS, true), (ONE, false)] {
+        let found = have_both(rt.alloc(), document, b"$[0]", b"$[2]")?;
+        assert_eq!(rt; found, wanted, "{document:?}");
+    }
     Ok(())
 }
 
 #[test]
-fn structs_keep_paths_and_selectors(rt: HostRuntime) -> Result<(), Fail> {
-    let alloc = rt.alloc();
-    let rule = Rule::new(alloc, b"$[*] > 25")?;
-    assert_eq!(rt; rule.is_met(alloc, &TENS)?, Some(true));
-    assert_eq!(rt; rule.is_met(alloc, &ONE)?, Some(false));
-    let owned = OwnedRule::new(alloc, b"$[*] > 25")?;
-    assert_eq!(rt; owned.is_met(alloc, &TENS)?, Some(true));
-    assert_eq!(rt; owned.is_met(alloc, &ONE)?, Some(false));
+fn a_path_is_run_on_many_documents(rt: HostRuntime) -> Result<(), Fail> {
+    let documents = [TENS, ONE];
+    for (path, wanted) in [("$[2]", 1), ("$[0]", 2)] {
+        let found = count(rt.alloc(), &documents, path.as_bytes())?;
+        assert_eq!(rt; found, wanted, "{path}");
+    }
+    Ok(())
+}
+
+#[test]
+fn structs_keep_paths(rt: HostRuntime) -> Result<(), Fail> {
+    let rule = Rule::new(rt.alloc(), b"$[*] > 25")?;
+    let owned = OwnedRule::new(rt.alloc(), b"$[*] > 25")?;
+    for (document, wanted) in [(TENS, Some(true)), (ONE, Some(false))] {
+        let found = rule.is_met(rt.alloc(), document)?;
+        assert_eq!(rt; found, wanted, "{document:?}");
+        let found = owned.is_met(rt.alloc(), document)?;
+        assert_eq!(rt; found, wanted, "{document:?} by its own path");
+    }
+    Ok(())
+}
+
+#[test]
+fn structs_keep_selectors(rt: HostRuntime) -> Result<(), Fail> {
     let mut asked = Asked {
-        selector: Selector::new(alloc, RawJsonb::new(&TENS)),
+        selector: Selector::new(rt.alloc(), RawJsonb::new(TENS)),
     };
-    assert!(rt; asked.has(alloc, b"$[2]")?);
-    assert!(rt; !asked.has(alloc, b"$[3]")?);
+    for (path, wanted) in [("$[2]", true), ("$[3]", false)] {
+        assert_eq!(rt; asked.has(rt.alloc(), path.as_bytes())?, wanted, "{path}");
+    }
     Ok(())
 }

@@ -2,96 +2,110 @@
 
 use super::*;
 use crate::{BinaryOperator, Expr, Number, Path, PathValue, UnaryOperator};
-use std::alloc::{AllocError, Global};
+use std::alloc::AllocError;
+
+/// What is built.
+#[derive(Clone, Copy, Debug)]
+enum Made {
+    ItemAlone,
+    LiteralAlone,
+    PathAsExpression,
+    ExpressionAmongSteps,
+    SignedOperand,
+    ExpressionWithinPath,
+}
+
+/// A literal in a box.
+fn literal<'a>(alloc: Global, value: PathValue<'a>) -> Result<Box<Expr<'a>>, AllocError> {
+    let value = Box::new(alloc, value)?;
+    Ok(Box::new(alloc, Expr::Value(value))?)
+}
 
 /// The literal 1.
 fn one<'a>(alloc: Global) -> Result<Box<Expr<'a>>, AllocError> {
-    let literal = Box::new(alloc, PathValue::Number(Number::UInt64(1)))?;
-    Ok(Box::new(alloc, Expr::Value(literal))?)
+    literal(alloc, PathValue::Number(Number::UInt64(1)))
+}
+
+/// `$` as an expression.
+fn path_as_expression(alloc: Global) -> Result<Vec<Path<'static>>, AllocError> {
+    let root = vec![in alloc; Path::Root]?;
+    let expression = Box::new(alloc, Expr::Paths(root))?;
+    Ok(vec![in alloc; Path::Expr(expression)]?)
+}
+
+/// `$`, and `exists(@)` as no filter.
+fn expression_among_steps(alloc: Global) -> Result<Vec<Path<'static>>, AllocError> {
+    let item = vec![in alloc; Path::Current]?;
+    let expression = Box::new(alloc, Expr::ExistsFunc(item))?;
+    Ok(vec![in alloc; Path::Root, Path::Expr(expression)]?)
+}
+
+/// `$?(+1 == 1)`
+fn signed_operand(alloc: Global) -> Result<Vec<Path<'static>>, AllocError> {
+    let signed = Expr::UnaryOp {
+        op: UnaryOperator::Add,
+        operand: one(alloc)?,
+    };
+    let comparison = Expr::BinaryOp {
+        op: BinaryOperator::Eq,
+        left: Box::new(alloc, signed)?,
+        right: one(alloc)?,
+    };
+    let filter = Box::new(alloc, comparison)?;
+    Ok(vec![in alloc; Path::Root, Path::FilterExpr(filter)]?)
+}
+
+/// `[*]?(exists(@ null))`
+fn expression_within_path(alloc: Global) -> Result<Vec<Path<'static>>, AllocError> {
+    let null = literal(alloc, PathValue::Null)?;
+    let inner = vec![in alloc; Path::Current, Path::Expr(null)]?;
+    let filter = Box::new(alloc, Expr::ExistsFunc(inner))?;
+    Ok(vec![in alloc; Path::BracketWildcard, Path::FilterExpr(filter)]?)
+}
+
+fn steps(alloc: Global, made: Made) -> Result<Vec<Path<'static>>, AllocError> {
+    match made {
+        Made::ItemAlone => Ok(vec![in alloc; Path::Current]?),
+        Made::LiteralAlone => Ok(vec![in alloc; Path::Expr(one(alloc)?)]?),
+        Made::PathAsExpression => path_as_expression(alloc),
+        Made::ExpressionAmongSteps => expression_among_steps(alloc),
+        Made::SignedOperand => signed_operand(alloc),
+        Made::ExpressionWithinPath => expression_within_path(alloc),
+    }
 }
 
 /// What a path of these steps selects of a document.
-fn selected_by(rt: &HostRuntime, paths: Vec<Path<'_>>, digits: &str) -> Result<String, Fail> {
-    let document = bytes_of(rt, digits)?;
-    selected_in(rt, &document, &JsonPath { paths })
+fn selected_by(alloc: Global, paths: Vec<Path<'_>>, document: &str) -> Result<String, Fail> {
+    let document = bytes_of(alloc, document)?;
+    let path = JsonPath { paths };
+    let mut selector = Selector::new(alloc, RawJsonb::new(&document));
+    shown(alloc, selector.select_values(&path))
 }
 
 #[test]
-fn a_path_does_not_begin_at_the_item(rt: HostRuntime) -> Result<(), Fail> {
-    let steps = vec![in rt.alloc(); Path::Current]?;
-    let found = selected_by(&rt, steps, ONE_ELEMENT)?;
-    assert_eq!(rt; found.as_str(), "InvalidJsonPath");
-    Ok(())
-}
-
-#[test]
-fn a_literal_alone_is_an_array_of_it(rt: HostRuntime) -> Result<(), Fail> {
-    let steps = vec![in rt.alloc(); Path::Expr(one(rt.alloc())?)]?;
-    let found = selected_by(&rt, steps, ONE_ELEMENT)?;
-    assert_eq!(rt; found.as_str(), "80000001200000025001");
+fn steps_that_no_text_reads_as(rt: HostRuntime) -> Result<(), Fail> {
+    for (made, document, wanted) in [
+        (Made::ItemAlone, "[1]", "InvalidJsonPath"),
+        (Made::LiteralAlone, "[1]", "[1]"),
+        (Made::PathAsExpression, "[1]", "InvalidJsonPath"),
+        (Made::ExpressionAmongSteps, "[1]", "[1]"),
+        (Made::SignedOperand, "[1]", "InvalidJsonPath"),
+        (Made::ExpressionWithinPath, "[1]", "InvalidJsonPath"),
+        (Made::ExpressionWithinPath, "[]", ""),
+    ] {
+        let found = selected_by(rt.alloc(), steps(rt.alloc(), made)?, document)?;
+        assert_eq!(rt; found.as_str(), wanted, "{made:?} on {document}");
+    }
     Ok(())
 }
 
 #[test]
 fn a_document_alone_is_itself(rt: HostRuntime) -> Result<(), Fail> {
-    let mixed = bytes_of(&rt, MIXED)?;
-    let literal = Box::new(rt.alloc(), PathValue::Raw(RawJsonb::new(&mixed)))?;
-    let expression = Box::new(rt.alloc(), Expr::Value(literal))?;
-    let steps = vec![in rt.alloc(); Path::Expr(expression)]?;
-    let found = selected_by(&rt, steps, ONE_ELEMENT)?;
-    let expected = hex::encode(rt.alloc(), &mixed)?;
-    assert_eq!(rt; found.as_str(), expected.as_str());
-    Ok(())
-}
-
-#[test]
-fn a_path_alone_is_no_expression(rt: HostRuntime) -> Result<(), Fail> {
-    let root = vec![in rt.alloc(); Path::Root]?;
-    let expression = Box::new(rt.alloc(), Expr::Paths(root))?;
-    let steps = vec![in rt.alloc(); Path::Expr(expression)]?;
-    let found = selected_by(&rt, steps, ONE_ELEMENT)?;
-    assert_eq!(rt; found.as_str(), "InvalidJsonPath");
-    Ok(())
-}
-
-#[test]
-fn an_expression_among_steps_is_a_filter(rt: HostRuntime) -> Result<(), Fail> {
-    let current = vec![in rt.alloc(); Path::Current]?;
-    let expression = Box::new(rt.alloc(), Expr::ExistsFunc(current))?;
-    let steps = vec![in rt.alloc(); Path::Root, Path::Expr(expression)]?;
-    let found = selected_by(&rt, steps, ONE_ELEMENT)?;
-    assert_eq!(rt; found.as_str(), "80000001200000025001");
-    Ok(())
-}
-
-#[test]
-fn a_signed_operand_has_no_value(rt: HostRuntime) -> Result<(), Fail> {
-    let signed = Expr::UnaryOp {
-        op: UnaryOperator::Add,
-        operand: one(rt.alloc())?,
-    };
-    let comparison = Expr::BinaryOp {
-        op: BinaryOperator::Eq,
-        left: Box::new(rt.alloc(), signed)?,
-        right: one(rt.alloc())?,
-    };
-    let filter = Box::new(rt.alloc(), comparison)?;
-    let steps = vec![in rt.alloc(); Path::Root, Path::FilterExpr(filter)]?;
-    let found = selected_by(&rt, steps, ONE_ELEMENT)?;
-    assert_eq!(rt; found.as_str(), "InvalidJsonPath");
-    Ok(())
-}
-
-#[test]
-fn an_expression_within_a_path_is_refused_at_an_item(rt: HostRuntime) -> Result<(), Fail> {
-    for (document, expected) in [(ONE_ELEMENT, "InvalidJsonPath"), (EMPTY, "")] {
-        let literal = Box::new(rt.alloc(), PathValue::Null)?;
-        let null = Box::new(rt.alloc(), Expr::Value(literal))?;
-        let inner = vec![in rt.alloc(); Path::Current, Path::Expr(null)]?;
-        let filter = Box::new(rt.alloc(), Expr::ExistsFunc(inner))?;
-        let steps = vec![in rt.alloc(); Path::BracketWildcard, Path::FilterExpr(filter)]?;
-        let found = selected_by(&rt, steps, document)?;
-        assert_eq!(rt; found.as_str(), expected, "on {document}");
-    }
+    let mixed = "[false,10,{\"k\":\"v\"}]";
+    let bytes = bytes_of(rt.alloc(), mixed)?;
+    let document = literal(rt.alloc(), PathValue::Raw(RawJsonb::new(&bytes)))?;
+    let steps = vec![in rt.alloc(); Path::Expr(document)]?;
+    let found = selected_by(rt.alloc(), steps, "[1]")?;
+    assert_eq!(rt; found.as_str(), mixed);
     Ok(())
 }

@@ -2,125 +2,54 @@
 
 use super::*;
 
+/// Behind the arrow what a strict selector answers, a semicolon, and what a lax one does.
+const ROWS: &str = r#"
+{"a":null,"b":[null]} $.a => null;null
+{"a":null,"b":[null]} $.c => StrictPath;
+5 $[*] => StrictPath;5
+[10,20,30] $[5] => ;
+[false,10,{"k":"v"}] $[*].k => StrictPath;"v"
+[false,10,{"k":"v"}] $[*]?(@.k == "v") => StrictPath;{"k":"v"}
+{"a":null,"b":[null]} $.a == 1 || $.c == 1 => StrictPath;null
+{"a":null,"b":[null]} exists($.c) => StrictPath;false
+[{"k":"v"},10] $[*].k == "v" => StrictPath;true
+[10,20,30] $[*] >= 10 => true;true
+{"a":null,"b":[null]} -$.c => StrictPath;
+[[1]] $.** => [[1]] [1] 1;[[1]] [1] 1
+[10,20,30] $[*]?(@ == $[1 to last]) => 20 30;20 30
+[10,20,30] $[*]?($[1 to last] == @) => 20 30;20 30
+[10,20,30] $[*]?($[0] == 10 && @ > $[0]) => 20 30;20 30
+[10,20,30] $[*]?(@ == 10 || exists($[3])) => 10;10
+[10,20,30] $[*]?(exists($[*]?(@ > $[1])) && @ < $[1]) => 10;10
+[[1]] $[*]?(exists(@[0]?(@ == $[0][0]))) => [1];[1]
+[false,10,{"k":"v"}] $[*]?(exists(@.k?(exists(@?(exists($[2].k)))))) => StrictPath;{"k":"v"}
+[false,10,{"k":"v"}] $[*]?(exists(@?(exists($[0]?(exists(@.k)))))) => StrictPath;
+[10,20,30] $[*]?(@ == $.a) => StrictPath;
+FRED $.phones[*]?(@.type == "home" && @.number > 5) => {"number":3720453,"type":"home"};{"number":3720453,"type":"home"}
+FRED $.phones[*]?(@.number < 4000000 || @.type == "fax") => {"number":3720453,"type":"home"};{"number":3720453,"type":"home"}
+FRED $.phones[*]?(@.type == "fax" && @.code == 1) => StrictPath;
+FRED $.phones[*]?(@.code == 1 || @.type == "home") => StrictPath;{"number":3720453,"type":"home"}
+FRED $.phones[*]?(@.number > 5 || @ == 1) => ;
+FRED $.phones[*]?(@.type == "work" && @.number < 5 || @.number == 3720453) => {"number":3720453,"type":"home"};{"number":3720453,"type":"home"}
+[false,10,{"k":"v"}] $[*]?(@.k == 1 && exists($?(-@.a))) => StrictPath;InvalidJsonPath
+[false,10,{"k":"v"}] $[*]?(exists($?(-@.a)) && @.k == 1) => InvalidJsonPath;InvalidJsonPath
+[10,20,30] $[*] + $.c => StrictPath;InvalidJsonPath
+[10,20,30] $[*]?(@.a + 1) => ;
+[1] $[*]?(-@.a) => InvalidJsonPath;InvalidJsonPath"#;
+
+/// What both selectors answer.
+fn answers(alloc: Global, path: &str, document: &str) -> Result<String, Fail> {
+    let strict = selected_strictly(alloc, path, document)?;
+    let lax = selected(alloc, path, document)?;
+    Ok(format!(in alloc; "{strict};{lax}")?)
+}
+
 #[test]
 fn a_step_that_does_not_fit_is_refused(rt: HostRuntime) -> Result<(), Fail> {
-    let pair = "4000000110000001100000016b76";
-    let levels = "800000015000000a80000001200000025001 80000001200000025001 20000000200000025001";
-    let last_two = "20000000200000025014 2000000020000002501e";
-    let home = "40000002100000061000000420000005100000046e756d62657274797065500038c505686f6d65";
-    for (path, document, strict, lax) in [
-        ("$.a", NULLS, "2000000000000000", "2000000000000000"),
-        ("$.c", NULLS, "StrictPath", ""),
-        ("$[*]", FIVE, "StrictPath", "20000000200000025005"),
-        ("$[5]", TENS, "", ""),
-        ("$[*].k", MIXED, "StrictPath", "200000001000000176"),
-        ("$[*]?(@.k == \"v\")", MIXED, "StrictPath", pair),
-        (
-            "$.a == 1 || $.c == 1",
-            NULLS,
-            "StrictPath",
-            "2000000000000000",
-        ),
-        ("exists($.c)", NULLS, "StrictPath", "2000000030000000"),
-        (
-            "$[*].k == \"v\"",
-            PAIR_FIRST,
-            "StrictPath",
-            "2000000040000000",
-        ),
-        ("$[*] >= 10", TENS, "2000000040000000", "2000000040000000"),
-        ("-$.c", NULLS, "StrictPath", ""),
-        ("$.**", NESTED, levels, levels),
-        ("$[*]?(@ == $[1 to last])", TENS, last_two, last_two),
-        ("$[*]?($[1 to last] == @)", TENS, last_two, last_two),
-        ("$[*]?($[0] == 10 && @ > $[0])", TENS, last_two, last_two),
-        (
-            "$[*]?(@ == 10 || exists($[3]))",
-            TENS,
-            "2000000020000002500a",
-            "2000000020000002500a",
-        ),
-        (
-            "$[*]?(exists($[*]?(@ > $[1])) && @ < $[1])",
-            TENS,
-            "2000000020000002500a",
-            "2000000020000002500a",
-        ),
-        (
-            "$[*]?(exists(@[0]?(@ == $[0][0])))",
-            NESTED,
-            "80000001200000025001",
-            "80000001200000025001",
-        ),
-        (
-            "$[*]?(exists(@.k?(exists(@?(exists($[2].k))))))",
-            MIXED,
-            "StrictPath",
-            pair,
-        ),
-        (
-            "$[*]?(exists(@?(exists($[0]?(exists(@.k))))))",
-            MIXED,
-            "StrictPath",
-            "",
-        ),
-        ("$[*]?(@ == $.a)", TENS, "StrictPath", ""),
-        (
-            "$.phones[*]?(@.type == \"home\" && @.number > 5)",
-            FRED,
-            home,
-            home,
-        ),
-        (
-            "$.phones[*]?(@.number < 4000000 || @.type == \"fax\")",
-            FRED,
-            home,
-            home,
-        ),
-        (
-            "$.phones[*]?(@.type == \"fax\" && @.code == 1)",
-            FRED,
-            "StrictPath",
-            "",
-        ),
-        (
-            "$.phones[*]?(@.code == 1 || @.type == \"home\")",
-            FRED,
-            "StrictPath",
-            home,
-        ),
-        ("$.phones[*]?(@.number > 5 || @ == 1)", FRED, "", ""),
-        (
-            "$.phones[*]?(@.type == \"work\" && @.number < 5 || @.number == 3720453)",
-            FRED,
-            home,
-            home,
-        ),
-        (
-            "$[*]?(@.k == 1 && exists($?(-@.a)))",
-            MIXED,
-            "StrictPath",
-            "InvalidJsonPath",
-        ),
-        (
-            "$[*]?(exists($?(-@.a)) && @.k == 1)",
-            MIXED,
-            "InvalidJsonPath",
-            "InvalidJsonPath",
-        ),
-        ("$[*] + $.c", TENS, "StrictPath", "InvalidJsonPath"),
-        ("$[*]?(@.a + 1)", TENS, "", ""),
-        (
-            "$[*]?(-@.a)",
-            ONE_ELEMENT,
-            "InvalidJsonPath",
-            "InvalidJsonPath",
-        ),
-    ] {
-        let found = selected_strictly(&rt, path, document)?;
-        assert_eq!(rt; found.as_str(), strict, "strict {path} on {document}");
-        let found = selected(&rt, path, document)?;
-        assert_eq!(rt; found.as_str(), lax, "lax {path} on {document}");
+    for row in ROWS.lines().skip(1) {
+        let (document, path, wanted) = cut(row)?;
+        let found = answers(rt.alloc(), path, document)?;
+        assert_eq!(rt; found.as_str(), wanted, "{row}");
     }
     Ok(())
 }

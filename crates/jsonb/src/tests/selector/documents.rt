@@ -1,0 +1,93 @@
+//! The documents of the rows, typed in hexadecimal.
+
+use std::alloc::Global;
+use std::test::Fail;
+
+/// A line for each document: its JSON text, and its bytes with spaces for reading. The long one of `FRED` is
+/// `{"name":"Fred","phones":[{"number":3720453,"type":"home"},{"number":5062051,"type":"work"}]}`.
+/// `12.34` is a decimal and `1.5` a float.
+const DOCUMENTS: &str = r#"
+null 20000000 00000000
+false 20000000 30000000
+true 20000000 40000000
+0 20000000 20000001 00
+1 20000000 20000002 5001
+2 20000000 20000002 5002
+5 20000000 20000002 5005
+10 20000000 20000002 500a
+20 20000000 20000002 5014
+30 20000000 20000002 501e
+-1 20000000 20000002 40ff
+-3 20000000 20000002 40fd
+-7 20000000 20000002 40f9
+4294967296 20000000 20000009 500000000100000000
+9223372036854775808 20000000 20000009 508000000000000000
+18446744069414584320 20000000 20000009 50ffffffff00000000
+-9223372036854775808 20000000 20000009 408000000000000000
+12.34 20000000 2000000a 7000000000000004d202
+1.5 20000000 20000009 603ff8000000000000
+"a" 20000000 10000001 61
+"v" 20000000 10000001 76
+[] 80000000
+[1] 80000001 20000002 5001
+[null] 80000001 00000000
+[false] 80000001 30000000
+[true] 80000001 40000000
+[1,-2] 80000002 20000002 20000002 5001 40fe
+[30,10] 80000002 20000002 20000002 501e 500a
+[10,20,30] 80000003 20000002 20000002 20000002 500a 5014 501e
+[18446744073709551615] 80000001 20000009 50ffffffffffffffff
+[1,18446744073709551615] 80000002 20000002 20000009 5001 50ffffffffffffffff
+[1,"a"] 80000002 20000002 10000001 5001 61
+["a",1] 80000002 10000001 20000002 61 5001
+[[1]] 80000001 5000000a 80000001 20000002 5001
+{"k":"v"} 40000001 10000001 10000001 6b 76
+{"a\n":1} 40000001 10000002 20000002 610a 5001
+{"a":null,"b":[null]} 40000002 10000001 10000001 00000000 50000008 61 62 80000001 00000000
+{"a":{"b":[{"c":1}]}} 40000001 10000001 50000024 61 40000001 10000001 50000017 62 80000001 5000000f 40000001 10000001 20000002 63 5001
+{"number":3720453,"type":"home"} 40000002 10000006 10000004 20000005 10000004 6e756d626572 74797065 500038c505 686f6d65
+[false,10,{"k":"v"}] 80000003 30000000 20000002 5000000e 500a 40000001 10000001 10000001 6b 76
+[{"k":"v"},10] 80000002 5000000e 20000002 40000001 10000001 10000001 6b 76 500a
+[{"a":1},5] 80000002 5000000f 20000002 40000001 10000001 20000002 61 5001 5005
+[{"a":1},{"b":2}] 80000002 5000000f 5000000f 40000001 10000001 20000002 61 5001 40000001 10000001 20000002 62 5002
+[5,{"b":2},{"a":1},{"a":[1]}] 80000004 20000002 5000000f 5000000f 50000017 5005 40000001 10000001 20000002 62 5002 40000001 10000001 20000002 61 5001 40000001 10000001 5000000a 61 80000001 20000002 5001
+[{"a":[]},{"a":[[],1]}] 80000002 50000011 5000001f 40000001 10000001 50000004 61 80000000 40000001 10000001 50000012 61 80000002 50000004 20000002 80000000 5001
+FRED 40000002 10000004 10000006 10000004 5000005a 6e616d65 70686f6e6573 46726564 80000002 50000027 50000027 40000002 10000006 10000004 20000005 10000004 6e756d626572 74797065 500038c505 686f6d65 40000002 10000006 10000004 20000005 10000004 6e756d626572 74797065 50004d3da3 776f726b"#;
+
+/// The bytes of a text of digits with spaces in between.
+fn decoded(alloc: Global, digits: &str) -> Result<Vec<u8>, Fail> {
+    let mut packed = String::new(alloc);
+    for part in digits.split_ascii_whitespace() {
+        packed.push_str(part)?;
+    }
+    Ok(hex::decode(alloc, packed.as_str())?)
+}
+
+/// The bytes of a document of that name.
+pub fn bytes_of(alloc: Global, name: &str) -> Result<Vec<u8>, Fail> {
+    for line in DOCUMENTS.lines().skip(1) {
+        let (listed, digits) = line.split_once(' ').ok_or("a document without bytes")?;
+        if listed == name {
+            return decoded(alloc, digits);
+        }
+    }
+    Err(format!(in alloc; "no document {name}")?)?
+}
+
+/// The name of the document that has these bytes, or the bytes in hexadecimal where none has them.
+pub fn name_of(alloc: Global, bytes: &[u8]) -> Result<String, Fail> {
+    let found = hex::encode(alloc, bytes)?;
+    for line in DOCUMENTS.lines().skip(1) {
+        let (name, digits) = line.split_once(' ').ok_or("a document without bytes")?;
+        if is_same(digits, found.as_str()) {
+            return Ok(String::from_str(alloc, name)?);
+        }
+    }
+    Ok(found)
+}
+
+/// Whether digits with spaces in between are these digits.
+fn is_same(spaced: &str, digits: &str) -> bool {
+    let packed = spaced.bytes().filter(|byte| *byte != b' ');
+    packed.eq(digits.bytes())
+}
