@@ -132,36 +132,6 @@ fn nested(alloc: Global, nesting: Nesting, inner: Innermost) -> Result<Expr<'sta
     Ok(found)
 }
 
-// What is inside the outermost level, if that is nested so and has this number.
-fn inside<'e, 'a>(nesting: Nesting, n: u32, expression: &'e Expr<'a>) -> Option<&'e Expr<'a>> {
-    match (nesting, expression) {
-        (
-            Nesting::Chain,
-            Expr::BinaryOp {
-                op: BinaryOperator::And,
-                left,
-                right,
-            },
-        ) if is_number(right, n) => Some(left),
-        (
-            Nesting::RightSides,
-            Expr::BinaryOp {
-                op: BinaryOperator::And,
-                left,
-                right,
-            },
-        ) if is_true(left) => Some(right),
-        (
-            Nesting::Signs,
-            Expr::UnaryOp {
-                op: UnaryOperator::Subtract,
-                operand,
-            },
-        ) => Some(operand),
-        _ => None,
-    }
-}
-
 fn is_true(expression: &Expr<'_>) -> bool {
     matches!(expression, Expr::Value(literal) if **literal == PathValue::Boolean(true))
 }
@@ -171,16 +141,70 @@ fn is_number(expression: &Expr<'_>, n: u32) -> bool {
     matches!(expression, Expr::Value(literal) if **literal == wanted)
 }
 
-// Whether an expression has all levels around `true`. Filters are not looked into.
-fn is_nested(nesting: Nesting, expression: &Expr<'_>) -> bool {
+// Whether an expression is a chain of all levels.
+fn is_chain(expression: &Expr<'_>) -> bool {
     let mut inner = expression;
-    for n in (0..LEVELS).rev() {
-        let Some(next) = inside(nesting, n, inner) else {
+    let mut left = LEVELS;
+    while let Expr::BinaryOp {
+        op: BinaryOperator::And,
+        left: next,
+        right,
+    } = inner
+    {
+        if left == 0 || !is_number(right, left - 1) {
             return false;
-        };
+        }
+        left -= 1;
         inner = next;
     }
-    is_true(inner)
+    left == 0 && is_true(inner)
+}
+
+// Whether an expression is all right sides.
+fn are_right_sides(expression: &Expr<'_>) -> bool {
+    let mut inner = expression;
+    let mut left = LEVELS;
+    while let Expr::BinaryOp {
+        op: BinaryOperator::And,
+        left: _,
+        right,
+    } = inner
+    {
+        if left == 0 {
+            return false;
+        }
+        left -= 1;
+        inner = right;
+    }
+    left == 0 && is_true(inner)
+}
+
+// Whether an expression is all signs.
+fn are_signs(expression: &Expr<'_>) -> bool {
+    let mut inner = expression;
+    let mut left = LEVELS;
+    while let Expr::UnaryOp {
+        op: UnaryOperator::Subtract,
+        operand,
+    } = inner
+    {
+        if left == 0 {
+            return false;
+        }
+        left -= 1;
+        inner = operand;
+    }
+    left == 0 && is_true(inner)
+}
+
+// Whether an expression has all levels around `true`. Filters are not looked into.
+fn is_nested(nesting: Nesting, expression: &Expr<'_>) -> bool {
+    match nesting {
+        Nesting::Chain => is_chain(expression),
+        Nesting::RightSides => are_right_sides(expression),
+        Nesting::Signs => are_signs(expression),
+        Nesting::Filters | Nesting::FiltersAndMore => false,
+    }
 }
 
 #[test]
