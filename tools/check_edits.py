@@ -79,7 +79,8 @@ def fault_of_refusal(crate, function, said, texts):
     refused = [name.split("::") for name, verdict in lines if not verdict.startswith("proved")]
     folders = ["/".join(map(re.escape, it[:-1])) + rf"{'/' if it[1:] else ''}\+?{re.escape(it[-1])}" for it in refused]
     folders += [rf"(?:[\w/]+/)?\+{function.cycle}"] if function.cycle else []
-    errors = re.findall(rf"^\./proofs/(?:{'|'.join(folders)})/.*: error: .*$", said, re.M)
+    # (What an error says goes on in the rows below it, which stand further right.)
+    errors = re.findall(rf"^\./proofs/(?:{'|'.join(folders)})/.*: error: .*(?:\n  .*)*", said, re.M)
     if any(not NAMES_WHAT_IS_GONE.search(it) for it in errors):
         return None
     if errors:
