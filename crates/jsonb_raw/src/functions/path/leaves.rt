@@ -10,7 +10,8 @@ ghost use Rattle.jsonb_doc.specs.Private.Stored.{Stores};
 ghost use Rattle.jsonb_doc.specs.Answer.{IsOutOfMemory, ◌or◌, IsDecodingError};
 ghost use Rattle.jsonb_doc.specs.declared.error.Error.TheVariants.{OutOfMemory};
 ghost use Rattle.jsonb_doc.specs.Value.{value_tree, value_parts};
-ghost use Rattle.jsonb_keypath.specs.KeyPathViews.{keys_view, key_paths_view};
+ghost use Rattle.jsonb_keypath.specs.KeyPathGrammar.{unquoted_name};
+ghost use Rattle.jsonb_keypath.specs.KeyPathViews.{key_view, keys_view, key_paths_view};
 ghost use Rattle.jsonb_raw.specs.Documents.{raw_bytes};
 ghost use Rattle.jsonb_raw.specs.Scalars.{is_array};
 ghost use Rattle.jsonb_raw.specs.Leaves.{leaves};
@@ -37,6 +38,14 @@ struct Step<'a> {
     index: u32,
 }
 
+/// The step to a key. It takes the key as an argument, so that a step is written at once where it stays.
+#[inline(always)]
+fn name_step(key: &str) -> KeyPath<'_>
+    ensures { key_view result ≡ unquoted_name key.now }
+{
+    KeyPath::Name(CowStr::Borrowed(key))
+}
+
 /// Puts a step behind the others: its key, where it has one, and else its index.
 #[inline(always)]
 fn push_step<'a>(steps: &mut Vec<KeyPath<'a>>, step: &Step<'a>)
@@ -46,7 +55,7 @@ fn push_step<'a>(steps: &mut Vec<KeyPath<'a>>, step: &Step<'a>)
     ensures capacity { vec_capacity steps.new ≡ vec_capacity steps.old }
 {
     match step.key {
-        Some(key) => steps.push_reserved(KeyPath::Name(CowStr::Borrowed(key))),
+        Some(key) => steps.push_reserved(name_step(key)),
         None => steps.push_reserved(KeyPath::Index(step.index.cast_signed())),
     }
 }
