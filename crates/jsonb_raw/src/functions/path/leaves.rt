@@ -2,15 +2,16 @@
 
 ghost use Rattle.std.specs.Prelude.{◌≡◌, ◌⊎◌, ◌+◌, ◌%◌, ◌^◌, ◌<◌, ◌&&◌, ◌++◌, [], ◌∷◌, ℕ, List, Option, length, vec_len, vec_capacity, IsOkAnd, IfOk, IfErr, MatchResult};
 ghost use Rattle.std.specs.List.{Any, AllZip};
-ghost use Rattle.jsonb_doc.specs.Tree.{Tree};
+ghost use Rattle.jsonb_doc.specs.Tree.{Tree, text};
 ghost use Rattle.jsonb_doc.specs.Payload.{Form, number_reader};
-ghost use Rattle.jsonb_doc.specs.Format.{Decodes, IsContent, container_entry};
+ghost use Rattle.jsonb_doc.specs.Format.{Decodes, IsContent, container_entry, text_entry};
 ghost use Rattle.jsonb_doc.specs.Item.{StandsFor, IsNormal};
 ghost use Rattle.jsonb_doc.specs.Private.Stored.{Stores};
 ghost use Rattle.jsonb_doc.specs.Answer.{IsOutOfMemory, ◌or◌, IsDecodingError};
 ghost use Rattle.jsonb_doc.specs.declared.error.Error.TheVariants.{OutOfMemory};
 ghost use Rattle.jsonb_doc.specs.Value.{value_tree, value_parts};
-ghost use Rattle.jsonb_keypath.specs.KeyPathViews.{keys_view, key_paths_view};
+ghost use Rattle.jsonb_keypath.specs.KeyPathGrammar.{unquoted_name};
+ghost use Rattle.jsonb_keypath.specs.KeyPathViews.{key_view, keys_view, key_paths_view};
 ghost use Rattle.jsonb_raw.specs.Documents.{raw_bytes};
 ghost use Rattle.jsonb_raw.specs.Scalars.{is_array};
 ghost use Rattle.jsonb_raw.specs.Leaves.{leaves};
@@ -23,6 +24,7 @@ mod documents;
 
 use crate::level::{Level, is_array};
 use crate::raw::RawJsonb;
+use jsonb_doc::layout::{NULL, TEXT};
 use jsonb_doc::{Error, Item, StoredEntry, Value, root_item, to_value};
 use jsonb_keypath::{KeyPath, KeyPaths};
 use std::alloc::Global;
@@ -37,6 +39,14 @@ struct Step<'a> {
     index: u32,
 }
 
+/// The step to a key. It takes the key as an argument, so that a step is written at once where it stays.
+#[inline(always)]
+fn name_step(key: &str) -> KeyPath<'_>
+    ensures { key_view result ≡ unquoted_name key.now }
+{
+    KeyPath::Name(CowStr::Borrowed(key))
+}
+
 /// Puts a step behind the others: its key, where it has one, and else its index.
 #[inline(always)]
 fn push_step<'a>(steps: &mut Vec<KeyPath<'a>>, step: &Step<'a>)
@@ -46,7 +56,7 @@ fn push_step<'a>(steps: &mut Vec<KeyPath<'a>>, step: &Step<'a>)
     ensures capacity { vec_capacity steps.new ≡ vec_capacity steps.old }
 {
     match step.key {
-        Some(key) => steps.push_reserved(KeyPath::Name(CowStr::Borrowed(key))),
+        Some(key) => steps.push_reserved(name_step(key)),
         None => steps.push_reserved(KeyPath::Index(step.index.cast_signed())),
     }
 }
@@ -184,7 +194,33 @@ fn push_part<'a, P: Drop>(
     Ok(())
 }
 
-/// The value of a leaf that is no text, behind those that were found.
+/// A text as a value. It takes the text as an argument, so that the value is written at once where it stays.
+#[inline(always)]
+fn text_value(characters: &str) -> Value<'_>
+    ensures tree { value_tree result ≡ text characters.now }
+    ensures parts { value_parts result ≡ text characters.now }
+{
+    Value::String(CowStr::Borrowed(characters))
+}
+
+/// A text with these bytes, behind the leaves that were found.
+#[inline(always)]
+fn push_text<'a>(
+    bytes: &'a [u8],
+    path: KeyPaths<'a>,
+    found: &mut Vec<(KeyPaths<'a>, Value<'a>)>,
+) -> Result<(), Error>
+    ensures leaf { (form : Form) (t : Tree) → IsContent (number_reader form) t text_entry bytes.now
+        → MatchResult result (λ _. IsOneMore (IsValueOf t) path.entry found.old.items found.new.items) IsOutOfMemory }
+    ensures errors { IfErr result (IsDecodingError or OutOfMemory) }
+{
+    match str::from_utf8(bytes) {
+        Ok(text) => push_part(path, text_value(text), found),
+        Err(_) => Err(Error::InvalidJsonb),
+    }
+}
+
+/// The value of a leaf of another kind, behind those that were found.
 fn push_value<'a>(
     alloc: Global,
     entry: &StoredEntry<'a>,
@@ -195,9 +231,10 @@ fn push_value<'a>(
         → MatchResult result (λ _. IsOneMore (IsValueOf t) path.entry found.old.items found.new.items) IsOutOfMemory }
     ensures errors { IfErr result (IsDecodingError or OutOfMemory) }
 {
-    match entry.item()? {
-        Item::Number(number) => push_part(path, Value::Number(number), found),
-        item => push_part(path, to_value(alloc, &item)?, found),
+    match entry.item() {
+        Ok(Item::Number(number)) => push_part(path, Value::Number(number), found),
+        Ok(item) => push_part(path, to_value(alloc, &item)?, found),
+        Err(error) => Err(error),
     }
 }
 
@@ -212,7 +249,7 @@ impl<'a> LeafPart<'a> for Value<'a> {
 
     ghost Refusals = { IsDecodingError or OutOfMemory };
 
-    // A text is read here, so that it is written where it stays.
+    // Texts and null are known by their kinds, so that no item is made of them.
     #[inline(always)]
     fn push_leaf(
         alloc: Global,
@@ -220,12 +257,10 @@ impl<'a> LeafPart<'a> for Value<'a> {
         path: KeyPaths<'a>,
         found: &mut Vec<(KeyPaths<'a>, Value<'a>)>,
     ) -> Result<(), Error> {
-        if !entry.is_text() {
-            return push_value(alloc, entry, path, found);
-        }
-        match str::from_utf8(entry.content) {
-            Ok(text) => push_part(path, Value::String(CowStr::Borrowed(text)), found),
-            Err(_) => Err(Error::InvalidJsonb),
+        match entry.kind {
+            TEXT => push_text(entry.content, path, found),
+            NULL if entry.content.is_empty() => push_part(path, Value::Null, found),
+            _ => push_value(alloc, entry, path, found),
         }
     }
 }

@@ -1,0 +1,20 @@
+use Rattle.std.proofs.Common.{◌≡◌, sym, ◌∙◌, refl}
+use Rattle.std.proofs.lemmas.Result.{MatchResult-weaker}
+use Rattle.jsonb_doc.specs.Tree.{text}
+use Rattle.jsonb_doc.specs.Payload.{number_reader}
+use Rattle.jsonb_doc.proofs.ScalarLemmas.{text_content}
+use Rattle.jsonb_raw.proofs.functions.path.leaves.push_text.Goals as goal
+
+pub returns-in-Ok-clause-leaf : goal.returns-in-Ok-clause-leaf
+returns-in-Ok-clause-leaf c = λ form t content.
+    let same : text c.in-Ok.text.now ≡ t = rw c.in-Ok.ensures.cases.0 (sym (text_content (number_reader form) 1 c.args.bytes.now t refl content).0) in
+    MatchResult-weaker c.push_part.result c.push_part.ensures
+    (λ _ pushed. record {
+      part = c.text_value.result;
+      pushed = pushed;
+      is = (c.text_value.ensures.tree ∙ same, c.text_value.ensures.parts ∙ same);
+    }) (λ e refused. refused)
+
+pub returns-in-Err-clause-leaf : goal.returns-in-Err-clause-leaf
+returns-in-Err-clause-leaf c = λ form t content.
+    absurd (c.in-Err.ensures.cases.0 (text_content (number_reader form) 1 c.args.bytes.now t refl content).1)
