@@ -1,12 +1,11 @@
 -- What pushes of the parts of a number's bytes leave.
 use Rattle.std.proofs.Common.{◌≡◌, ◌≢◌, ◌⊎◌, inl, inr, subst, ℕ, zero, suc, ◌+◌, ◌-◌, ◌<◌, Bool, true, false, List, [], ◌∷◌, ◌++◌, map, length, take, drop, replicate, length-drop, ℤ, pos, negsuc, nat_abs, int_lt, refl, sym, ap, ap₂, ◌∙◌, arith, append_assoc, true≢false, w16}
-use Rattle.std.proofs.Math.Seq.{take-append-add}
 use Rattle.std.specs.Int.{to_be_bytes}
 use Rattle.std.specs.Int.Digits.{digits_of}
 use Rattle.std.proofs.lemmas.List.{map-append, take_all}
 use Rattle.std.proofs.lemmas.Bool.{ltb-true}
 use Rattle.jsonb_raw.specs.SortableKey.{significant, magnitude_bytes, number_bytes}
-use Rattle.jsonb_raw.specs.Private.Complements.{complement_byte, complement_bytes, scaled_bytes}
+use Rattle.jsonb_raw.specs.Private.Complements.{complement_byte, complement_bytes}
 
 signed_bytes-append : (negative : Bool) (xs ys : List ℕ) → complement_bytes negative (xs ++ ys) ≡ complement_bytes negative xs ++ complement_bytes negative ys
 signed_bytes-append negative xs ys = map-append (complement_byte negative) xs ys
@@ -74,46 +73,26 @@ number_steps old first sign m z v scale e ne a f (inr h) =
     ∙ ap (λ b. (old ++ 0x81 ∷ []) ++ complement_bytes b (magnitude_bytes (nat_abs z) scale)) h.0
     ∙ positive_pushed old z scale (subst (λ x. int_lt x (pos 0) ≡ false) e h.0) ne
 
-scaled-parts : (negative : Bool) (n point : ℕ)
-    → complement_bytes negative (scaled_bytes n point)
-    ≡ complement_bytes negative (to_be_bytes w16 (length (digits_of 10 n) + point)) ++ complement_bytes negative (map suc (digits_of 10 n) ++ 0 ∷ [])
-scaled-parts negative n point = signed_bytes-append negative (to_be_bytes w16 (length (digits_of 10 n) + point)) (map suc (digits_of 10 n) ++ 0 ∷ [])
-
--- a row that holds the sign byte, the exponent, the digits and the end byte
-pub row_steps : (negative : Bool) (old last whole front tail : List ℕ) (sign n point e byte : ℕ) → e ≡ length (digits_of 10 n) + point
+-- the same of a row that holds the sign byte, the exponent, the digits and the end byte
+pub row_steps : (negative : Bool) (old last whole front tail : List ℕ) (sign n scale e byte : ℕ) → e ≡ length (digits_of 10 n) + 1000 - scale
     → whole ≡ sign ∷ front → front ≡ complement_bytes negative (to_be_bytes w16 e) ++ tail
-    → tail ≡ complement_bytes negative (map suc (digits_of 10 n)) ++ byte ∷ [] → byte ≡ complement_byte negative 0 → last ≡ old ++ whole
-    → last ≡ old ++ sign ∷ complement_bytes negative (scaled_bytes n point)
-row_steps negative old last whole front tail sign n point e byte h w f t b l =
-    l ∙ ap (λ x. old ++ x) (w ∙ ap (λ x. sign ∷ x) (f ∙ ap₂ (λ k x. complement_bytes negative (to_be_bytes w16 k) ++ x) h digits ∙ sym (scaled-parts negative n point)))
+    → tail ≡ complement_bytes negative (map suc (significant (digits_of 10 n))) ++ byte ∷ [] → byte ≡ complement_byte negative 0 → last ≡ old ++ whole
+    → last ≡ (old ++ sign ∷ []) ++ complement_bytes negative (magnitude_bytes n scale)
+row_steps negative old last whole front tail sign n scale e byte h w f t b l =
+    l ∙ ap (λ x. old ++ x) w ∙ sym (append_assoc old (sign ∷ []) front)
+    ∙ ap (λ x. (old ++ sign ∷ []) ++ x) (f ∙ ap (λ x. exponent ++ x) (t ∙ ap (λ c. digits ++ c ∷ []) b))
+    ∙ sym (append_assoc (old ++ sign ∷ []) exponent (digits ++ end))
+    ∙ sym (append_assoc ((old ++ sign ∷ []) ++ exponent) digits end)
+    ∙ magnitude_pushed negative (old ++ sign ∷ []) n scale e h
   where
-    digits : tail ≡ complement_bytes negative (map suc (digits_of 10 n) ++ 0 ∷ [])
-    digits = t ∙ ap (λ c. complement_bytes negative (map suc (digits_of 10 n)) ++ c ∷ []) b
-        ∙ sym (signed_bytes-append negative (map suc (digits_of 10 n)) (0 ∷ []))
+    exponent : List ℕ
+    exponent = complement_bytes negative (to_be_bytes w16 e)
 
--- the sign byte and the exponent, and then the bytes of a word that begins with the digits and the end byte, up to that byte
-pub packed_steps : (negative : Bool) (old first second last exponent bytes : List ℕ) (sign n point e count at : ℕ) → e ≡ length (digits_of 10 n) + point
-    → exponent ≡ complement_bytes negative (to_be_bytes w16 e) → first ≡ old ++ sign ∷ exponent → second ≡ first ++ bytes
-    → at ≡ length first + (count + 1) → last ≡ take at second → take (count + 1) bytes ≡ complement_bytes negative (map suc (digits_of 10 n) ++ 0 ∷ [])
-    → last ≡ old ++ sign ∷ complement_bytes negative (scaled_bytes n point)
-packed_steps negative old first second last exponent bytes sign n point e count at h x f s place l packed =
-    l ∙ ap₂ take place s ∙ take-append-add first bytes (count + 1)
-    ∙ ap₂ (λ xs ys. xs ++ ys) f packed
-    ∙ append_assoc old (sign ∷ exponent) digits
-    ∙ ap (λ ys. old ++ sign ∷ ys) (ap (λ ys. ys ++ digits) (x ∙ ap (λ k. complement_bytes negative (to_be_bytes w16 k)) h) ∙ sym (scaled-parts negative n point))
-  where
     digits : List ℕ
-    digits = complement_bytes negative (map suc (digits_of 10 n) ++ 0 ∷ [])
+    digits = complement_bytes negative (map suc (significant (digits_of 10 n)))
 
--- a number without the zeros at the end of its digits, which move its point
-pub scaled_magnitude : (negative : Bool) (old : List ℕ) (sign n shorter point scale : ℕ) → digits_of 10 shorter ≡ significant (digits_of 10 n)
-    → length (digits_of 10 shorter) + point ≡ length (digits_of 10 n) + 1000 - scale
-    → old ++ sign ∷ complement_bytes negative (scaled_bytes shorter point) ≡ (old ++ sign ∷ []) ++ complement_bytes negative (magnitude_bytes n scale)
-unfolding magnitude_bytes
-scaled_magnitude negative old sign n shorter point scale same moved =
-    ap₂ (λ k ds. old ++ sign ∷ complement_bytes negative (to_be_bytes w16 k ++ (map suc ds ++ 0 ∷ []))) moved same
-    ∙ sym (append_assoc old (sign ∷ [])
-    (complement_bytes negative (to_be_bytes w16 (length (digits_of 10 n) + 1000 - scale) ++ (map suc (significant (digits_of 10 n)) ++ 0 ∷ []))))
+    end : List ℕ
+    end = complement_byte negative 0 ∷ []
 
 -- a whole number without a sign
 pub unsigned_pushed : (old : List ℕ) (n scale : ℕ) → n ≢ 0

@@ -1,0 +1,8 @@
+-- The bytes of a key that are made in a word.
+use Rattle.std.specs.Prelude.{ℕ, List, take}
+use Rattle.std.specs.Int.{to_be_bytes, w128}
+use Rattle.jsonb_raw.specs.declared.packed.Packed.{Packed}
+
+-- so many of the word's bytes, the highest first
+abbrev pub packed_bytes : Packed → List ℕ
+packed_bytes p = take p.len (to_be_bytes w128 p.word)

@@ -1,0 +1,65 @@
+//! Up to 16 bytes of a key, made in a word from the last byte on and appended at once. No byte of them is stored alone:
+//! a load of many would have to wait for such stores.
+
+ghost use Rattle.std.specs.Prelude.{◌≡◌, ◌≤◌, ◌<◌, ◌+◌, ◌++◌, [], ◌∷◌, OnOk, take};
+ghost use Rattle.std.specs.Int.{to_be_bytes, w128};
+ghost use Rattle.jsonb_raw.specs.Private.PackedBytes.{packed_bytes};
+
+use std::alloc::AllocError;
+
+/// How many bytes there can be.
+pub const ROOM: usize = 16;
+
+/// Some bytes: so many of those of a word, the highest first.
+#[derive(Clone, Copy)]
+pub struct Packed {
+    word: u128,
+    pub len: usize,
+}
+
+/// A word with a byte in front of its bytes, the last of which is lost.
+#[inline(always)]
+fn word_behind(byte: u8, word: u128) -> u128
+    ensures { to_be_bytes w128 result ≡ byte ∷ take 15 (to_be_bytes w128 word) }
+{
+    (word >> 8) + (u128::from(byte) << 120)
+}
+
+impl Packed {
+    /// One byte.
+    #[inline(always)]
+    pub fn one(byte: u8) -> Packed
+        ensures bytes { packed_bytes result ≡ byte ∷ [] }
+        ensures len { result.len ≡ 1 }
+    {
+        Packed {
+            word: word_behind(byte, 0),
+            len: 1,
+        }
+    }
+
+    /// The same bytes behind another.
+    #[inline(always)]
+    pub fn behind(self, byte: u8) -> Packed
+        requires { self.len < 16 }
+        ensures bytes { packed_bytes result ≡ byte ∷ packed_bytes self }
+        ensures len { result.len ≡ self.len + 1 }
+    {
+        Packed {
+            word: word_behind(byte, self.word),
+            len: self.len + 1,
+        }
+    }
+
+    /// Appends them. There has to be room for a whole word.
+    #[inline(always)]
+    pub fn push(self, out: &mut Vec<u8>) -> Result<(), AllocError>
+        requires { self.len ≤ 16 }
+        ensures { OnOk result (out.new.items ≡ out.old.items ++ packed_bytes self) }
+    {
+        let start = out.len();
+        out.extend_from_slice(&self.word.to_be_bytes())?;
+        out.truncate(start + self.len);
+        Ok(())
+    }
+}
