@@ -5,6 +5,7 @@ use Rattle.std.specs.Int.Digits.{digits_of}
 use Rattle.std.specs.List.{flat_map}
 use Rattle.std.proofs.lemmas.List.{map-append, take-take, length-append}
 use Rattle.std.proofs.lemmas.Grind.{flat_map-append}
+use Rattle.std.proofs.Math.Seq.{take-append-add}
 use Rattle.std.proofs.lemmas.Int.Digits.{length-digits_of-le}
 use Rattle.jsonb_raw.specs.SortableKey.{significant, magnitude_bytes, escaped_byte, text_bytes}
 use Rattle.jsonb_raw.specs.Private.Complements.{complement_byte, complement_bytes}
@@ -16,6 +17,12 @@ pub packed_behind : (len byte : ℕ) (now before : List ℕ) → len < 16 → no
 packed_behind len byte now before room is =
     let next : len + 1 ≡ suc len = omega arith in
     ap₂ take next is ∙ ap (λ xs. byte ∷ xs) (take-take len 15 before (omega arith))
+
+-- two words are appended, and as many of their bytes stay
+pub packed_pushed : (old one two three first second : List ℕ) (len at : ℕ) → at ≡ length old + len → one ≡ old ++ first → two ≡ one ++ second
+    → three ≡ take at two → three ≡ old ++ take len (first ++ second)
+packed_pushed old one two three first second len at place begun more cut =
+    cut ∙ ap₂ take place (more ∙ ap (λ xs. xs ++ second) begun ∙ append_assoc old first second) ∙ take-append-add old (first ++ second) len
 
 -- the digits that are left, and the bytes that are packed: together the number's digits and the end byte
 pub record DigitsPacked (negative : Bool) (n left len : ℕ) (bytes : List ℕ) : Type 0 where

@@ -1,8 +1,8 @@
--- The bytes of a key that are made in a word.
-use Rattle.std.specs.Prelude.{ℕ, List, take}
-use Rattle.std.specs.Int.{to_be_bytes, w128}
+-- The bytes of a key that are made in two words.
+use Rattle.std.specs.Prelude.{ℕ, List, ◌++◌, take}
+use Rattle.std.specs.Int.{to_be_bytes, w64}
 use Rattle.jsonb_raw.specs.declared.packed.Packed.{Packed}
 
--- so many of the word's bytes, the highest first
+-- so many of the words' bytes, the highest first
 abbrev pub packed_bytes : Packed → List ℕ
-packed_bytes p = take p.len (to_be_bytes w128 p.word)
+packed_bytes p = take p.len (to_be_bytes w64 p.first ++ to_be_bytes w64 p.second)
