@@ -2,7 +2,7 @@
 //! alone: a load of many would have to wait for such stores.
 
 ghost use Rattle.std.specs.Prelude.{◌≡◌, ◌≤◌, ◌<◌, ◌+◌, ◌++◌, [], ◌∷◌, OnOk, take};
-ghost use Rattle.std.specs.Int.{to_be_bytes, w64};
+ghost use Rattle.std.specs.Int.{to_le_bytes, w64};
 ghost use Rattle.jsonb_raw.specs.Private.PackedBytes.{packed_bytes};
 
 use std::alloc::AllocError;
@@ -10,7 +10,7 @@ use std::alloc::AllocError;
 /// How many bytes there can be.
 pub const ROOM: usize = 16;
 
-/// Some bytes: so many of those of two words, the highest of each first.
+/// Some bytes: so many of those of two words, the lowest of each first.
 #[derive(Clone, Copy)]
 pub struct Packed {
     first: u64,
@@ -21,9 +21,9 @@ pub struct Packed {
 /// A word with a byte in front of its bytes, the last of which is lost.
 #[inline(always)]
 fn word_behind(byte: u8, word: u64) -> u64
-    ensures { to_be_bytes w64 result ≡ byte ∷ take 7 (to_be_bytes w64 word) }
+    ensures { to_le_bytes w64 result ≡ byte ∷ take 7 (to_le_bytes w64 word) }
 {
-    (word >> 8) + (u64::from(byte) << 56)
+    (word << 8) + u64::from(byte)
 }
 
 impl Packed {
@@ -33,7 +33,11 @@ impl Packed {
         ensures bytes { packed_bytes result ≡ byte ∷ [] }
         ensures len { result.len ≡ 1 }
     {
-        Packed { first: word_behind(byte, 0), second: 0, len: 1 }
+        Packed {
+            first: word_behind(byte, 0),
+            second: 0,
+            len: 1,
+        }
     }
 
     /// The same bytes behind another.
@@ -43,7 +47,7 @@ impl Packed {
         ensures bytes { packed_bytes result ≡ byte ∷ packed_bytes self }
         ensures len { result.len ≡ self.len + 1 }
     {
-        let last = (self.first % 256) as u8;
+        let last = ((self.first >> 56) % 256) as u8;
         Packed {
             first: word_behind(byte, self.first),
             second: word_behind(last, self.second),
@@ -58,8 +62,8 @@ impl Packed {
         ensures { OnOk result (out.new.items ≡ out.old.items ++ packed_bytes self) }
     {
         let start = out.len();
-        out.extend_from_slice(&self.first.to_be_bytes())?;
-        out.extend_from_slice(&self.second.to_be_bytes())?;
+        out.extend_from_slice(&self.first.to_le_bytes())?;
+        out.extend_from_slice(&self.second.to_le_bytes())?;
         out.truncate(start + self.len);
         Ok(())
     }
