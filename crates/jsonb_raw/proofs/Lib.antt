@@ -13,6 +13,7 @@ pub mod KeyLawProofs
 pub mod CompositeKeyProofs
 pub mod WorkedKeys
 pub mod DigitSteps
+pub mod PackedDigits
 pub mod PushedNumbers
 pub mod WrittenDigits
 pub mod LevelLemmas

@@ -17,5 +17,6 @@ pub mod SetCounts
 pub mod Marks
 pub mod Starts
 pub mod Complements
+pub mod PackedBytes
 pub mod Rows
 pub mod NamePositions

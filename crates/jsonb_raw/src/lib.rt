@@ -10,6 +10,7 @@ mod key_kind;
 pub mod laws;
 mod level;
 mod owned;
+mod packed;
 mod raw;
 mod sortable_key;
 #[cfg(test)]

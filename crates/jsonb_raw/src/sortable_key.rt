@@ -1,12 +1,15 @@
 //! The sortable key of a document: a walk over its items that writes each behind its depth and its kind.
 
-ghost use Rattle.std.specs.Prelude.{◌≡◌, ◌++◌, ℕ, [], false, length, List, Option, IfOk, IfErr, MatchResult};
+ghost use Rattle.std.specs.Prelude.{◌≡◌, ◌≤◌, ◌<◌, ◌++◌, ℕ, [], false, length, List, Option, IfOk, IfErr, MatchResult};
+ghost use Rattle.std.specs.Int.{to_be_bytes};
 ghost use Rattle.jsonb_doc.specs.Tree.{Tree};
 ghost use Rattle.jsonb_doc.specs.Payload.{Form, number_reader};
 ghost use Rattle.jsonb_doc.specs.Format.{Decodes, IsContent, container_entry};
 ghost use Rattle.jsonb_doc.specs.Item.{StandsFor};
 ghost use Rattle.jsonb_doc.specs.Private.Stored.{Stores};
-ghost use Rattle.jsonb_raw.specs.SortableKey.{key, item_bytes, text_bytes, depths};
+ghost use Rattle.jsonb_raw.specs.SortableKey.{key, item_bytes, text_bytes, number_bytes, depths};
+ghost use Rattle.jsonb_raw.specs.Private.PackedBytes.{packed_bytes};
+ghost use Rattle.jsonb_doc.specs.Private.Short.{short_value};
 ghost use Rattle.jsonb_raw.specs.Private.Levels.{IsKeyOf, IsLevelWithin};
 ghost use Rattle.jsonb_raw.specs.Private.Starts.{is_container};
 ghost use Rattle.jsonb_raw.specs.Private.KeyParts.{name_start, AppendsItem, AppendsStart, AppendsKey};
@@ -15,10 +18,13 @@ ghost use Rattle.jsonb_raw.specs.KeyAnswer.{MakesKey, RanksAsTree, IsOutOfMemory
 ghost use Rattle.jsonb_doc.specs.Answer.{IsDecodingError, ◌or◌};
 ghost use Rattle.jsonb_doc.specs.declared.error.Error.TheVariants.{OutOfMemory, TooDeep};
 
-use crate::key_bytes::{push_number, push_short_number, push_text};
+use crate::key_bytes::{
+    pack_number, pack_text, push_number, push_unpacked_number, push_unpacked_text,
+};
 use crate::key_kind;
 use crate::level::Level;
-use jsonb_doc::{Error, Item, StoredEntry, push_extension_payload, root_item};
+use crate::packed::{Packed, ROOM};
+use jsonb_doc::{Error, Item, ShortNumber, StoredEntry, push_extension_payload, root_item};
 use std::alloc::Global;
 
 /// How many bytes a key has for each depth.
@@ -30,27 +36,58 @@ pub enum DepthWidth {
     TwoBytes,
 }
 
-/// Appends the depth and the kind of an item. `TooDeep` where the width has no bytes for the depth.
+/// The bytes of an item behind its depth. `TooDeep` where the width has no bytes for the depth.
 #[inline(always)]
-fn push_front(out: &mut Vec<u8>, depth: usize, kind: u8, width: DepthWidth) -> Result<(), Error>
-    ensures { AppendsItem (width_of width) depth (item_bytes (width_of width) depth kind [])
-        out.old.items result out.new.items }
+fn behind_depth(item: Packed, depth: usize, width: DepthWidth) -> Result<Packed, Error>
+    requires { item.len ≤ 14 }
+    ensures placed { MatchResult result
+        (λ p. (packed_bytes p ≡ to_be_bytes (width_of width) depth ++ packed_bytes item) × (depth < depths (width_of width)))
+        (IsOutOfMemoryOrTooDeep depth (depths (width_of width))) }
+    ensures few { IfOk result (λ p. p.len ≤ 16) }
 {
     match width {
         DepthWidth::OneByte => {
             if depth > 255 {
                 return Err(Error::TooDeep);
             }
-            out.extend_from_slice(&[depth as u8, kind])?;
+            Ok(item.behind(depth as u8))
         }
         DepthWidth::TwoBytes => {
             if depth > 65535 {
                 return Err(Error::TooDeep);
             }
             let [high, low] = (depth as u16).to_be_bytes();
-            out.extend_from_slice(&[high, low, kind])?;
+            Ok(item.behind(low).behind(high))
         }
     }
+}
+
+/// Appends an item behind its depth and its kind.
+#[inline(always)]
+fn push_packed(
+    out: &mut Vec<u8>,
+    depth: usize,
+    kind: u8,
+    content: Packed,
+    width: DepthWidth,
+) -> Result<(), Error>
+    requires { content.len ≤ 13 }
+    ensures { AppendsItem (width_of width) depth (item_bytes (width_of width) depth kind (packed_bytes content))
+        out.old.items result out.new.items }
+{
+    let item = behind_depth(content.behind(kind), depth, width)?;
+    item.push(out)?;
+    Ok(())
+}
+
+/// Appends the depth and the kind of an item.
+#[inline(always)]
+fn push_front(out: &mut Vec<u8>, depth: usize, kind: u8, width: DepthWidth) -> Result<(), Error>
+    ensures { AppendsItem (width_of width) depth (item_bytes (width_of width) depth kind [])
+        out.old.items result out.new.items }
+{
+    let item = behind_depth(Packed::one(kind), depth, width)?;
+    item.push(out)?;
     Ok(())
 }
 
@@ -60,8 +97,31 @@ fn push_string(out: &mut Vec<u8>, text: &[u8], depth: usize, width: DepthWidth) 
     ensures { AppendsItem (width_of width) depth (item_bytes (width_of width) depth 5 (text_bytes text.now))
         out.old.items result out.new.items }
 {
+    if let Some(packed) = pack_text(text) {
+        return push_packed(out, depth, key_kind::STRING, packed, width);
+    }
     push_front(out, depth, key_kind::STRING, width)?;
-    push_text(out, text)?;
+    push_unpacked_text(out, text)?;
+    Ok(())
+}
+
+/// Appends the key of a number whose digits are stored in at most 64 bits.
+#[inline(always)]
+fn push_short(
+    out: &mut Vec<u8>,
+    number: ShortNumber,
+    depth: usize,
+    width: DepthWidth,
+) -> Result<(), Error>
+    ensures { AppendsItem (width_of width) depth
+        (item_bytes (width_of width) depth 4 (number_bytes (short_value number).whole (short_value number).scale))
+        out.old.items result out.new.items }
+{
+    if let Some(packed) = pack_number(number) {
+        return push_packed(out, depth, key_kind::NUMBER, packed, width);
+    }
+    push_front(out, depth, key_kind::NUMBER, width)?;
+    push_unpacked_number(out, number)?;
     Ok(())
 }
 
@@ -145,9 +205,7 @@ fn push_scalar(
         return push_string(out, entry.content, depth, width);
     }
     if let Some(number) = entry.short_number() {
-        push_front(out, depth, key_kind::NUMBER, width)?;
-        push_short_number(out, number)?;
-        return Ok(());
+        return push_short(out, number, depth, width);
     }
     match key_kind::of_literal(entry) {
         Some(kind) => push_front(out, depth, kind, width),
@@ -237,7 +295,7 @@ pub fn push_document_key(
     ensures errors { IfErr result (IsDecodingError or OutOfMemory or TooDeep) }
 {
     let root = root_item(bytes)?;
-    out.reserve(bytes.len())?;
+    out.reserve(bytes.len().saturating_add(ROOM))?;
     push_item(alloc, out, &root, width)
 }
 

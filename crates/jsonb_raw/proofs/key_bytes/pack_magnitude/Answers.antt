@@ -1,0 +1,29 @@
+use Rattle.std.proofs.Common.{◌≡◌, ◌≤◌, ◌+◌, ◌-◌, ◌∷◌, [], length, ap, ap₂, ◌∙◌, arith}
+use Rattle.std.specs.Int.Digits.{digits_of}
+use Rattle.jsonb_raw.specs.Private.PackedBytes.{packed_bytes}
+use Rattle.jsonb_raw.proofs.DigitSteps.{count_short}
+use Rattle.jsonb_raw.proofs.PackedDigits.{magnitude_packed}
+use Rattle.jsonb_raw.proofs.key_bytes.pack_magnitude.Goals as goal
+
+pub overflow_add-count : goal.overflow_add-count
+overflow_add-count c =
+    let few : length (digits_of 10 c.args.n) ≤ 20 = count_short c.args.n (omega arith) in
+    omega (arith, few, c.short_without_zeros-shorter.ensures.zeros, c.pack_digits-digits.ensures.len)
+
+pub overflow_add-count-2 : goal.overflow_add-count-2
+overflow_add-count-2 c =
+    let few : length (digits_of 10 c.args.n) ≤ 20 = count_short c.args.n (omega arith) in
+    omega (arith, few, c.short_without_zeros-shorter.ensures.zeros, c.pack_digits-digits.ensures.len)
+
+pub returns-clause-bytes : goal.returns-clause-bytes
+returns-clause-bytes c =
+    let exponent = c.pack_digits-digits.result.len - 1 + c.short_without_zeros-shorter.result.1 + 1000 - c.from.result in
+    c.behind-3.ensures.bytes
+    ∙ ap (λ xs. c.args.sign ∷ xs)
+    (c.behind-2.ensures.bytes ∙ ap (λ xs. c.spell-2.result ∷ xs) c.behind.ensures.bytes
+    ∙ magnitude_packed c.args.negative (c.spell-2.result ∷ c.spell.result ∷ []) (packed_bytes c.pack_digits-digits.result) c.args.n
+    c.short_without_zeros-shorter.result.0 c.args.scale exponent
+    (omega (arith, c.short_without_zeros-shorter.ensures.zeros, c.pack_digits-digits.ensures.len, c.from.ensures))
+    c.short_without_zeros-shorter.ensures.digits
+    (ap₂ (λ high low. high ∷ low ∷ []) (rw c.to_be_bytes.ensures at c.spell-2.ensures) (rw c.to_be_bytes.ensures at c.spell.ensures))
+    c.pack_digits-digits.ensures.bytes)
