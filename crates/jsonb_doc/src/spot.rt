@@ -209,6 +209,7 @@ pub fn field_spot(bytes: &[u8], spot: Spot, name: &str) -> Result<Option<Spot>, 
 }
 
 /// What follows the key that is this name, of the keys with these words and bytes.
+#[inline(never)]
 fn find_key<'w, 'k>(
     words: &'w [u8],
     bytes: &'k [u8],
