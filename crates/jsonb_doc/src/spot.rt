@@ -209,7 +209,6 @@ pub fn field_spot(bytes: &[u8], spot: Spot, name: &str) -> Result<Option<Spot>, 
 }
 
 /// What follows the key that is this name, of the keys with these words and bytes.
-#[inline(never)]
 fn find_key<'w, 'k>(
     words: &'w [u8],
     bytes: &'k [u8],
@@ -223,15 +222,15 @@ fn find_key<'w, 'k>(
 {
     let mut words_left = words;
     let mut bytes_left = bytes;
-    while !words_left.is_empty() {
-        let Some(key) = split_entry(words_left, bytes_left) else {
-            return Err(Error::InvalidJsonb);
-        };
+    while let Some(key) = split_entry(words_left, bytes_left) {
         words_left = key.other_words;
         bytes_left = key.other_contents;
         if key.content == name {
             return Ok(Some((words_left, bytes_left)));
         }
+    }
+    if !words_left.is_empty() {
+        return Err(Error::InvalidJsonb);
     }
     Ok(None)
 }
