@@ -145,6 +145,7 @@ pub struct Entry<'w, 'c> {
 /// # Cost
 ///
 /// Constant, without memory.
+#[inline(always)]
 pub fn word_of_entry(kind: u32, len: usize) -> [u8; WORD]
     requires kind { kind < 8 }
     requires len { len < 2 ^ 28 }
@@ -158,6 +159,7 @@ pub fn word_of_entry(kind: u32, len: usize) -> [u8; WORD]
 /// # Cost
 ///
 /// Constant, without memory.
+#[inline(always)]
 pub fn word_of_header(kind: u32, count: usize) -> [u8; WORD]
     requires kind { kind < 8 }
     requires count { count < 2 ^ 29 }

@@ -13,6 +13,7 @@ use crate::layout::{Entry, KINDS, LENGTHS, WORD, split_entry, split_word};
 /// # Cost
 ///
 /// Linear in the words, without memory.
+#[inline(never)]
 pub fn contents_len(words: &[u8]) -> usize
     requires { length words.now < 2 ^ 32 }
     ensures contents { (parts : List (List ℕ)) (contents rest : List ℕ) → StandBefore parts words.now contents rest

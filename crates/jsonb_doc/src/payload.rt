@@ -17,7 +17,8 @@ use crate::number::Number;
 use std::alloc::AllocError;
 
 /// In how many bytes an unsigned number is stored.
-fn unsigned_width_of(n: u64) -> usize
+#[inline(always)]
+pub fn unsigned_width_of(n: u64) -> usize
     ensures { result ≡ unsigned_width n }
 {
     if n < 0x100 {
@@ -32,6 +33,7 @@ fn unsigned_width_of(n: u64) -> usize
 }
 
 /// An unsigned number that needs as many bytes as this signed one does.
+#[inline(always)]
 fn signed_size_of(value: i64) -> u64
     ensures { result ≡ signed_size value }
 {
@@ -42,7 +44,16 @@ fn signed_size_of(value: i64) -> u64
     }
 }
 
+/// In how many bytes a signed number is stored.
+#[inline(always)]
+pub fn signed_width_of(value: i64) -> usize
+    ensures { result ≡ unsigned_width (signed_size value) }
+{
+    unsigned_width_of(signed_size_of(value))
+}
+
 /// How many bytes the payload of a number has.
+#[inline(always)]
 pub fn number_len(number: Number) -> usize
     ensures { result ≡ length (number_payload (number_view number)) }
 {
@@ -50,7 +61,7 @@ pub fn number_len(number: Number) -> usize
         return 1;
     }
     match number {
-        Number::Int64(value) => 1 + unsigned_width_of(signed_size_of(value)),
+        Number::Int64(value) => 1 + signed_width_of(value),
         Number::UInt64(value) => 1 + unsigned_width_of(value),
         Number::Decimal64(_) => 1 + DECIMAL64_LEN,
         Number::Decimal128(_) => 1 + DECIMAL128_LEN,
@@ -86,8 +97,7 @@ fn push_int64(out: &mut Vec<u8>, value: i64) -> Result<(), AllocError>
     ensures kept { OnErr result (StaysInFront out.old.items out.new.items) }
 {
     out.push(INT64)?;
-    let width = unsigned_width_of(signed_size_of(value));
-    push_low_bytes(out, value.cast_unsigned(), width)
+    push_low_bytes(out, value.cast_unsigned(), signed_width_of(value))
 }
 
 fn push_uint64(out: &mut Vec<u8>, value: u64) -> Result<(), AllocError>

@@ -222,15 +222,15 @@ fn find_key<'w, 'k>(
 {
     let mut words_left = words;
     let mut bytes_left = bytes;
-    while !words_left.is_empty() {
-        let Some(key) = split_entry(words_left, bytes_left) else {
-            return Err(Error::InvalidJsonb);
-        };
+    while let Some(key) = split_entry(words_left, bytes_left) {
         words_left = key.other_words;
         bytes_left = key.other_contents;
         if key.content == name {
             return Ok(Some((words_left, bytes_left)));
         }
+    }
+    if !words_left.is_empty() {
+        return Err(Error::InvalidJsonb);
     }
     Ok(None)
 }

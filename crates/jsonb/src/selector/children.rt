@@ -100,7 +100,7 @@ pub(crate) fn push_spots(spots: SpotIter<'_>, nodes: &mut Vec<Spot>) -> Result<(
 }
 
 /// The value under a key of an object, behind what the nodes has.
-#[inline(never)]
+#[inline(always)]
 pub(crate) fn push_field(
     bytes: &[u8],
     mode: Mode,

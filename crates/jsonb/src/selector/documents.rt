@@ -9,14 +9,16 @@ ghost use Rattle.jsonb_doc.specs.Item.{StandsFor};
 ghost use Rattle.jsonb_doc.specs.Answer.{IsOutOfMemory, IsOutOfMemoryOrTooLarge, ◌or◌, ◌or◌when◌, Gives, IsDecodingError};
 ghost use Rattle.jsonb_doc.specs.declared.error.Error.TheVariants.{OutOfMemory, TooLarge};
 ghost use Rattle.jsonb_doc.specs.ArrayBuilder.{HoldsElements};
+ghost use Rattle.jsonb_doc.specs.Spots.{Locates};
 ghost use Rattle.jsonb_raw.specs.Documents.{Makes, MakesOption};
+ghost use Rattle.jsonb.specs.Related.{AllRelated};
 ghost use Rattle.jsonb.specs.Private.Selection.{IsMadeItem, IsNumberItem, OfSelected};
 ghost use Rattle.jsonb.specs.SelectorAnswers.{AreDocuments, HasTooLarge, array_of, first_item, single_or_array};
 ghost use Rattle.jsonb.specs.Private.Selected.{selected_len};
 
 use super::document::Document;
 use super::selected::{MadeItem, Selected};
-use jsonb_doc::{ArrayBuilder, Error, Item, Number, encode_item, spot_document, spot_item};
+use jsonb_doc::{ArrayBuilder, Error, Item, Number, Spot, encode_item, spot_document, spot_item};
 use jsonb_raw::OwnedJsonb;
 use std::alloc::Global;
 
@@ -134,11 +136,52 @@ pub(crate) fn documents(
         (Ok ts)) }
     ensures errors { IfErr result (IsDecodingError or OutOfMemory or TooLarge) }
 {
-    let count = selected_len(selected);
-    let mut documents = Vec::with_capacity(alloc, count)?;
-    for position in 0..count {
-        documents.push(document_at(alloc, document, selected, position)?)?;
+    match selected {
+        Selected::Nodes(spots) => node_documents(alloc, document.bytes, spots.as_slice()),
+        Selected::Numbers(numbers) => number_documents(alloc, numbers),
+        Selected::Made(part) => made_documents(alloc, part),
     }
+}
+
+/// The items at these places, each as a document, copied as it is stored.
+fn node_documents(alloc: Global, bytes: &[u8], spots: &[Spot]) -> Result<Vec<OwnedJsonb>, Error>
+    ensures documents { (form : Form) (top : Tree) (ts : List Tree) → Decodes form bytes.now top
+        → AllRelated (Locates bytes.now) spots.now ts
+        → Gives (λ v us. AreDocuments form v.items us) (IsOutOfMemory or TooLarge when HasTooLarge form ts) result
+        (Ok ts) }
+    ensures errors { IfErr result (IsDecodingError or OutOfMemory or TooLarge) }
+{
+    let mut documents = Vec::with_capacity(alloc, spots.len())?;
+    for spot in spots {
+        let document = spot_document(alloc, bytes, *spot)?;
+        documents.push(OwnedJsonb::new(document))?;
+    }
+    Ok(documents)
+}
+
+/// These numbers, each as a document.
+fn number_documents(alloc: Global, numbers: &[Number]) -> Result<Vec<OwnedJsonb>, Error>
+    ensures documents { (form : Form) (ts : List Tree) → AllRelated IsNumberItem numbers.now ts
+        → Gives (λ v us. AreDocuments form v.items us) (IsOutOfMemory or TooLarge when HasTooLarge form ts) result
+        (Ok ts) }
+    ensures errors { IfErr result (IsOutOfMemory or TooLarge) }
+{
+    let mut documents = Vec::with_capacity(alloc, numbers.len())?;
+    for number in numbers {
+        documents.push(number_document(alloc, *number)?)?;
+    }
+    Ok(documents)
+}
+
+/// A part that an expression makes, as the only document.
+fn made_documents(alloc: Global, part: &MadeItem<'_>) -> Result<Vec<OwnedJsonb>, Error>
+    ensures documents { (form : Form) (t : Tree) → IsMadeItem form part.now t
+        → Gives (λ v us. AreDocuments form v.items us) (IsOutOfMemory or TooLarge when HasTooLarge form (t ∷ [])) result
+        (Ok (t ∷ [])) }
+    ensures errors { IfErr result (IsOutOfMemory or TooLarge) }
+{
+    let document = made_document(alloc, part)?;
+    let documents = vec![in alloc; document]?;
     Ok(documents)
 }
 

@@ -1,6 +1,6 @@
 //! Paths that name one member at most: `$` or `@`, and the names of fields.
 
-ghost use Rattle.std.specs.Prelude.{◌≡◌, ◌∷◌, [], Ok, map, true, MatchOption, ⊤, IfErr};
+ghost use Rattle.std.specs.Prelude.{◌≡◌, ◌∷◌, [], Ok, map, true, MatchOption, ⊤, IfErr, IfSome};
 ghost use Rattle.jsonb_doc.specs.Answer.{Gives, IsOutOfMemory};
 ghost use Rattle.jsonb_doc.specs.Spots.{Locates};
 ghost use Rattle.jsonb_doc.specs.Tree.{Tree};
@@ -82,10 +82,12 @@ fn field(bytes: &[u8], mode: Mode, name: &str, item: Spot) -> Result<Option<Spot
 
 /// The name of a step that is one.
 #[inline(always)]
-fn member_name<'s>(step: &'s Path<'_>) -> Option<&'s str>
-    ensures { (mode : Mode) (top t : Tree) → is_member (step_view step.now) ≡ true
+pub(crate) fn member_name<'s>(step: &'s Path<'_>) -> Option<&'s str>
+    ensures member { (mode : Mode) (top t : Tree) → is_member (step_view step.now) ≡ true
         → MatchOption result (step_meaning mode (step_view step.now) top t ≡ Ok (t ∷ []))
         (λ name. step_meaning mode (step_view step.now) top t ≡ field_step mode name.now t) }
+    ensures named { IfSome result (λ name. (mode : Mode) (top : Tree)
+        → step_meaning mode (step_view step.now) top ≡ field_step mode name.now) }
 {
     match step {
         Path::DotField(name) => Some(name.as_str()),

@@ -51,22 +51,22 @@ fn item_numbers(alloc: Global, bytes: &[u8], items: &[Spot]) -> Result<Vec<Numbe
 {
     let mut numbers = Vec::with_capacity(alloc, items.len())?;
     for item in items {
-        push_item(bytes, *item, &mut numbers)?;
+        push_item(bytes, item, &mut numbers)?;
     }
     Ok(numbers)
 }
 
 /// The numbers of an item, behind those that there are: an array gives those of its elements.
 #[inline(always)]
-fn push_item(bytes: &[u8], item: Spot, numbers: &mut Vec<Number>) -> Result<(), Error>
-    ensures meant { (t : Tree) → Locates bytes.now item t
+fn push_item(bytes: &[u8], item: &Spot, numbers: &mut Vec<Number>) -> Result<(), Error>
+    ensures meant { (t : Tree) → Locates bytes.now item.now t
         → Gives (λ _ ns. map number_view numbers.new.items ≡ map number_view numbers.old.items ++ ns)
         IsOutOfMemory result (all_numbers (values_of_item t)) }
     ensures errors { (mode : Mode) → IfErr result (IsSelectionError mode) }
 {
-    match number_at(bytes, item)? {
+    match number_at(bytes, *item)? {
         Some(number) => push_number(numbers, number),
-        None => push_other(bytes, item, numbers),
+        None => push_other(bytes, *item, numbers),
     }
 }
 

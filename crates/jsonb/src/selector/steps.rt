@@ -5,6 +5,7 @@ ghost use Rattle.jsonb_doc.specs.Answer.{Gives, try_flat_map, and_then, IsOutOfM
 ghost use Rattle.jsonb_doc.specs.Spots.{Locates};
 ghost use Rattle.jsonb_doc.specs.Tree.{Tree};
 ghost use Rattle.jsonb.specs.PathTree.{Expression, steps_of, filter};
+ghost use Rattle.jsonb.specs.ItemSteps.{field_step};
 ghost use Rattle.jsonb.specs.PathViews.{step_view, steps_view, expression_view};
 ghost use Rattle.jsonb.specs.Related.{AllRelated};
 ghost use Rattle.jsonb.specs.Meaning.{step_meaning, steps_meaning, truth, operand_values, is_some_item};
@@ -26,7 +27,9 @@ use super::document::{Document, Expressions, Mode};
 use super::exists::innermost;
 use super::kept::{Kept, KeptPart, comparison_part, exists_part, is_comparison, is_kept};
 use super::levels::push_levels;
-use super::members::{are_members, first_item, is_member, member, member_of, member_steps};
+use super::members::{
+    are_members, first_item, is_member, member, member_name, member_of, member_steps,
+};
 use super::node_list::NodeList;
 use super::search::search;
 use super::terms::{Run, Term, is_joined, terms_of};
@@ -101,9 +104,33 @@ fn plain_steps(
         IsOutOfMemory result (try_flat_map (step_meaning mode (step_view step.now) top) ts) }
     ensures errors { IfErr result (IsSelectionError mode) }
 {
+    if let Some(name) = member_name(step) {
+        return named_values(alloc, mode, name, bytes, items);
+    }
     let mut nodes = Vec::with_capacity(alloc, items.len())?;
     for item in items {
         push_step(alloc, mode, step, bytes, *item, &mut nodes)?;
+    }
+    Ok(NodeList::Many(nodes))
+}
+
+/// The values under a name of each of many items, in order.
+#[inline(never)]
+fn named_values(
+    alloc: Global,
+    mode: Mode,
+    name: &str,
+    bytes: &[u8],
+    items: &[Spot],
+) -> Result<NodeList, Error>
+    ensures meant { (ts : List Tree) → AllRelated (Locates bytes.now) items.now ts
+        → Gives (λ found us. AllRelated (Locates bytes.now) (node_spots found) us)
+        IsOutOfMemory result (try_flat_map (field_step mode name.now) ts) }
+    ensures errors { IfErr result (IsSelectionError mode) }
+{
+    let mut nodes = Vec::with_capacity(alloc, items.len())?;
+    for item in items {
+        push_field(bytes, mode, name, *item, &mut nodes)?;
     }
     Ok(NodeList::Many(nodes))
 }

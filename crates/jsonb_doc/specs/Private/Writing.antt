@@ -2,7 +2,7 @@
 use Rattle.std.specs.Prelude.{◌≡◌, ℕ, List, ◌++◌, take, length, ⊤, IsUtf8}
 use Rattle.jsonb_doc.specs.Number.{FitsNumber}
 use Rattle.jsonb_doc.specs.Extension.{FitsExtension}
-use Rattle.jsonb_doc.specs.Format.{header, scalar_header}
+use Rattle.jsonb_doc.specs.Format.{header, entry_word, scalar_header, number_entry}
 use Rattle.jsonb_doc.specs.View.{number_view, extension_view}
 use Rattle.jsonb_doc.specs.declared.item.Item.{Item}
 use Rattle.jsonb_doc.specs.declared.item.Item.TheVariants.{Number, String, Extension}
@@ -11,6 +11,10 @@ use Rattle.jsonb_doc.specs.Encoding.{item_content, item_word}
 -- the document of the item's entry alone
 abbrev pub scalar_bytes : Item → List ℕ
 scalar_bytes item = header scalar_header 0 ++ (item_word item ++ item_content item)
+
+-- the document of a number with this payload
+abbrev pub number_bytes : List ℕ → List ℕ
+number_bytes payload = header scalar_header 0 ++ (entry_word number_entry (length payload) ++ payload)
 
 -- the numbers and fields of the item lie in the ranges of their types, and its text is UTF-8
 abbrev pub FitsItem : Item → Type 0

@@ -25,6 +25,7 @@ use std::alloc::{AllocError, Global};
 /// # Cost
 ///
 /// Linear in the item's bytes, which are copied. Takes memory once.
+#[inline(always)]
 pub fn spot_document(alloc: Global, bytes: &[u8], spot: Spot) -> Result<Vec<u8>, Error>
     ensures decodes { (form : Form) (top t : Tree) → Decodes form bytes.now top → Locates bytes.now spot t
         → MatchResult result (λ v. Decodes form v.items t) (IsOutOfMemoryOrTooLarge form t) }
@@ -37,6 +38,17 @@ pub fn spot_document(alloc: Global, bytes: &[u8], spot: Spot) -> Result<Vec<u8>,
     if spot.kind < KINDS && content.len() <= MAX_CONTENT {
         return Ok(scalar_document(alloc, spot.kind, content)?);
     }
+    item_document(alloc, bytes, spot)
+}
+
+/// The same where the item is too long for an entry, or is none.
+#[cold]
+#[inline(never)]
+fn item_document(alloc: Global, bytes: &[u8], spot: Spot) -> Result<Vec<u8>, Error>
+    ensures decodes { (form : Form) (top t : Tree) → Decodes form bytes.now top → Locates bytes.now spot t
+        → MatchResult result (λ v. Decodes form v.items t) (IsOutOfMemoryOrTooLarge form t) }
+    ensures errors { IfErr result (IsDecodingError or OutOfMemory or TooLarge) }
+{
     let item = spot_item(bytes, spot)?;
     encode_item(alloc, &item)
 }
@@ -50,6 +62,7 @@ pub fn spot_document(alloc: Global, bytes: &[u8], spot: Spot) -> Result<Vec<u8>,
 /// # Cost
 ///
 /// Linear in the content, which is copied. Takes memory once, of the document's exact size.
+#[inline(always)]
 pub fn scalar_document(alloc: Global, kind: u32, content: &[u8]) -> Result<Vec<u8>, AllocError>
     requires kind { kind < 8 }
     requires len { length content.now < 2 ^ 28 }

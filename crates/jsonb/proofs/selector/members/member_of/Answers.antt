@@ -2,4 +2,4 @@ use Rattle.jsonb.proofs.GivesLemmas.{same_outcome}
 use Rattle.jsonb.proofs.selector.members.member_of.Goals as goal
 
 pub returns-in-Some-clause-meant : goal.returns-in-Some-clause-meant
-returns-in-Some-clause-meant c = λ top u n s. same_outcome (c.in-Some.ensures c.args.mode top u n) (c.field.ensures.meant u s)
+returns-in-Some-clause-meant c = λ top u n s. same_outcome (c.in-Some.ensures.member c.args.mode top u n) (c.field.ensures.meant u s)

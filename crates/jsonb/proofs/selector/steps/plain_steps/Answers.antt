@@ -1,12 +1,17 @@
 use Rattle.std.proofs.Common.{◌+◌, Err, drop, ap, ◌∙◌}
 use Rattle.std.proofs.lemmas.Result.{err_from_is_err_and}
+use Rattle.jsonb_doc.specs.Answer.{try_flat_map}
 use Rattle.jsonb_doc.specs.Spots.{Locates}
 use Rattle.jsonb.specs.PathViews.{step_view}
 use Rattle.jsonb.specs.Related.{AllRelated}
 use Rattle.jsonb.specs.Meaning.{step_meaning}
-use Rattle.jsonb.proofs.GivesLemmas.{same_answer}
+use Rattle.jsonb.proofs.GivesLemmas.{same_answer, same_outcome}
 use Rattle.jsonb.proofs.Progress.{no_spot, one_more, refused_in, at_end, list_first, list_end}
 use Rattle.jsonb.proofs.selector.steps.plain_steps.Goals as goal
+
+pub returns-in-Some-clause-meant : goal.returns-in-Some-clause-meant
+returns-in-Some-clause-meant c = λ top ts n a.
+    same_outcome (ap (λ f. try_flat_map f ts) (c.in-Some.ensures.named c.args.mode top)) (c.named_values.ensures.meant ts a)
 
 pub returns-in_err-push_step-clause-meant : goal.returns-in_err-push_step-clause-meant
 returns-in_err-push_step-clause-meant c = λ top ts n a.

@@ -9,9 +9,3 @@ returns-then-content-le-MAX_CONTENT-clause-decodes c = λ form top t decodes loc
       document = entry_decodes (number_reader form) t c.args.spot.kind c.in_ok-content.content.now c.if-spot-lt-KINDS.true c.if-spot-eq-CONTAINER.false
           (omega arith) (rw c.in_ok-content.ensures.2 (located.content form top decodes));
     })
-
-pub returns-in_err-item-clause-decodes : goal.returns-in_err-item-clause-decodes
-returns-in_err-item-clause-decodes c = λ form top t decodes located. absurd (c.in_err-item.ensures.in_form form top t decodes located)
-
-pub returns-clause-decodes : goal.returns-clause-decodes
-returns-clause-decodes c = λ form top t decodes located. c.encode_item.ensures.decodes form t (c.in_ok-item.ensures.in_form form top t decodes located)

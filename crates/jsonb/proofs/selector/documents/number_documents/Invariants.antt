@@ -1,0 +1,11 @@
+use Rattle.std.proofs.Common.{List, take}
+use Rattle.jsonb_doc.specs.Payload.{Form}
+use Rattle.jsonb_doc.specs.Tree.{Tree}
+use Rattle.jsonb.specs.Related.{AllRelated}
+use Rattle.jsonb.specs.Private.Selection.{IsNumberItem}
+use Rattle.jsonb.specs.SelectorAnswers.{AreDocuments}
+use Rattle.jsonb.proofs.selector.documents.number_documents.Given as goal
+
+abbrev pub invariant-loop-number : goal.invariant-loop-number
+invariant-loop-number l = (form : Form) (ts : List Tree) → AllRelated IsNumberItem l.numbers ts
+    → AreDocuments form l.documents.items (take l.number-index ts)
