@@ -4,16 +4,12 @@ use Rattle.std.specs.Ordering.{int_eq}
 use Rattle.jsonb_doc.specs.Answer.{Outcome}
 use Rattle.jsonb_doc.specs.declared.error.Error.TheVariants.{StrictPath}
 use Rattle.jsonb_doc.specs.Tree as tree
-use Rattle.jsonb_doc.specs.Tree.{Tree, array, object, field_of}
+use Rattle.jsonb_doc.specs.Tree.{Tree, object, field_of}
+use Rattle.jsonb_raw.specs.Arrays.{array_values}
 use Rattle.jsonb.specs.PathTree.{Entry, single, slice}
 use Rattle.jsonb.specs.Positions.{position}
 use Rattle.jsonb.specs.declared.selector.document.Mode.{Mode}
 use Rattle.jsonb.specs.declared.selector.document.Mode.TheVariants.{Lax, Strict}
-
--- the elements of an array
-abbrev pub elements_of : Tree → Option (List Tree)
-elements_of (array ts) = Some (tree.elements ts)
-elements_of _ = None
 
 -- the values of an object, in the order of its keys
 abbrev pub values_of : Tree → Option (List Tree)
@@ -40,7 +36,7 @@ values_step mode t = list_or mode [] (values_of t)
 
 -- an array's elements; in lax mode another item is itself
 abbrev pub elements_step : Mode → Tree → Outcome (List Tree)
-elements_step mode t = list_or mode (t ∷ []) (elements_of t)
+elements_step mode t = list_or mode (t ∷ []) (array_values t)
 
 -- whether an entry means a position of an array of this length
 abbrev pub is_meant : ℕ → Entry → ℕ → Bool
@@ -64,4 +60,4 @@ abbrev pub picked : List Entry → List Tree → List Tree
 picked entries ts = flat_map (λ entry. picked_by entry ts) entries
 
 abbrev pub indices_step : Mode → List Entry → Tree → Outcome (List Tree)
-indices_step mode entries t = list_or mode [] (option_map (picked entries) (elements_of t))
+indices_step mode entries t = list_or mode [] (option_map (picked entries) (array_values t))

@@ -7,10 +7,11 @@ ghost use Rattle.jsonb_doc.specs.Spots.{Locates, HasSpotsLeft, spots_bound};
 ghost use Rattle.jsonb_doc.specs.Payload.{any};
 ghost use Rattle.jsonb_doc.specs.Item.{StandsFor};
 ghost use Rattle.jsonb_doc.specs.Tree.{Tree};
+ghost use Rattle.jsonb_raw.specs.Arrays.{array_values};
 ghost use Rattle.jsonb.specs.PathTree.{single, from_front};
 ghost use Rattle.jsonb.specs.PathViews.{entry_view};
 ghost use Rattle.jsonb.specs.Related.{AllRelated};
-ghost use Rattle.jsonb.specs.ItemSteps.{elements_of, values_of, field_step, values_step, elements_step, indices_step, picked_by, picked};
+ghost use Rattle.jsonb.specs.ItemSteps.{values_of, field_step, values_step, elements_step, indices_step, picked_by, picked};
 ghost use Rattle.jsonb.specs.SelectionErrors.{IsSelectionError};
 
 use super::document::Mode;
@@ -21,7 +22,7 @@ use std::alloc::Global;
 /// The elements of an array. `None` is for another item.
 pub(crate) fn elements<'a>(bytes: &'a [u8], item: Spot) -> Result<Option<SpotIter<'a>>, Error>
     ensures meant { (t : Tree) → Locates bytes.now item t
-        → IsOkAnd result (λ found. SameOption (HasSpotsLeft bytes.now) found (elements_of t)) }
+        → IsOkAnd result (λ found. SameOption (HasSpotsLeft bytes.now) found (array_values t)) }
     ensures short { IfOk result (λ found. IfSome found (λ it. spots_bound it < 2 ^ 30)) }
     ensures errors { IfErr result IsDecodingError }
 {
@@ -36,7 +37,7 @@ pub(crate) fn array_elements<'a>(
     item: &Item<'_>,
 ) -> Result<Option<SpotIter<'a>>, Error>
     ensures meant { (t : Tree) → Locates bytes.now spot t → StandsFor any item.now t
-        → IsOkAnd result (λ found. SameOption (HasSpotsLeft bytes.now) found (elements_of t)) }
+        → IsOkAnd result (λ found. SameOption (HasSpotsLeft bytes.now) found (array_values t)) }
     ensures short { IfOk result (λ found. IfSome found (λ it. spots_bound it < 2 ^ 30)) }
     ensures errors { IfErr result IsDecodingError }
 {
