@@ -12,6 +12,7 @@ ghost use Rattle.jsonb.specs.PathTree.{single, from_front};
 ghost use Rattle.jsonb.specs.PathViews.{entry_view};
 ghost use Rattle.jsonb.specs.Related.{AllRelated};
 ghost use Rattle.jsonb.specs.ItemSteps.{values_of, field_step, values_step, elements_step, indices_step, picked_by, picked};
+ghost use Rattle.jsonb.specs.Private.Selection.{PushesStep};
 ghost use Rattle.jsonb.specs.SelectionErrors.{IsSelectionError};
 
 use super::document::Mode;
@@ -109,10 +110,7 @@ pub(crate) fn push_field(
     item: Spot,
     nodes: &mut Vec<Spot>,
 ) -> Result<(), Error>
-    ensures meant { (t : Tree) (before : List Tree) → Locates bytes.now item t
-        → AllRelated (Locates bytes.now) nodes.old.items before
-        → Gives (λ _ ts. AllRelated (Locates bytes.now) nodes.new.items (before ++ ts))
-        IsOutOfMemory result (field_step mode name.now t) }
+    ensures meant { PushesStep bytes.now item nodes.old.items nodes.new.items result (field_step mode name.now) }
     ensures errors { IfErr result (IsSelectionError mode) }
 {
     match field_spot(bytes, item, name)? {
@@ -131,10 +129,7 @@ pub(crate) fn push_values(
     item: Spot,
     nodes: &mut Vec<Spot>,
 ) -> Result<(), Error>
-    ensures meant { (t : Tree) (before : List Tree) → Locates bytes.now item t
-        → AllRelated (Locates bytes.now) nodes.old.items before
-        → Gives (λ _ ts. AllRelated (Locates bytes.now) nodes.new.items (before ++ ts))
-        IsOutOfMemory result (values_step mode t) }
+    ensures meant { PushesStep bytes.now item nodes.old.items nodes.new.items result (values_step mode) }
     ensures errors { IfErr result (IsSelectionError mode) }
 {
     match values(bytes, item)? {
@@ -153,10 +148,7 @@ pub(crate) fn push_elements(
     item: Spot,
     nodes: &mut Vec<Spot>,
 ) -> Result<(), Error>
-    ensures meant { (t : Tree) (before : List Tree) → Locates bytes.now item t
-        → AllRelated (Locates bytes.now) nodes.old.items before
-        → Gives (λ _ ts. AllRelated (Locates bytes.now) nodes.new.items (before ++ ts))
-        IsOutOfMemory result (elements_step mode t) }
+    ensures meant { PushesStep bytes.now item nodes.old.items nodes.new.items result (elements_step mode) }
     ensures errors { IfErr result (IsSelectionError mode) }
 {
     match elements(bytes, item)? {
@@ -177,10 +169,8 @@ pub(crate) fn push_positions(
     item: Spot,
     nodes: &mut Vec<Spot>,
 ) -> Result<(), Error>
-    ensures meant { (t : Tree) (before : List Tree) → Locates bytes.now item t
-        → AllRelated (Locates bytes.now) nodes.old.items before
-        → Gives (λ _ ts. AllRelated (Locates bytes.now) nodes.new.items (before ++ ts))
-        IsOutOfMemory result (indices_step mode (map entry_view entries.now) t) }
+    ensures meant { PushesStep bytes.now item nodes.old.items nodes.new.items result
+        (indices_step mode (map entry_view entries.now)) }
     ensures errors { IfErr result (IsSelectionError mode) }
 {
     match elements(bytes, item)? {
