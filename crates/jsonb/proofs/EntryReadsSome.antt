@@ -10,7 +10,8 @@ use Rattle.jsonb_keypath.proofs.ReadsLemmas.{given, some-no_more, grows-give, gr
 use Rattle.jsonb_keypath.proofs.CutLemmas.{nothing, some-literal}
 use Rattle.jsonb_keypath.proofs.GrowsLemmas.{grows-ws, some-integer_within}
 use Rattle.jsonb.specs.PathTree.{from_front, single, slice}
-use Rattle.jsonb.specs.PathGrammar.{in_any_case, word, spaced, place, entry, spaced_entry, another_entry}
+use Rattle.jsonb.specs.PathGrammar.{in_any_case, word, spaced, place, entry, spaced_entry}
+use Rattle.jsonb.specs.Private.Repeated.{another_entry}
 
 shorter : (n : ℕ) (b : ℕ) (input : List ℕ) → length (drop (suc n) (b ∷ input)) < length (b ∷ input)
 shorter n b input = rw (length-drop (suc n) (b ∷ input)) (omega arith)

@@ -1,4 +1,5 @@
--- What the contracts of private functions say beyond the words of the others. No public clause cites these.
+-- What the contracts of private functions say beyond the words of the others. No public clause cites these: `==` of steps
+-- and of expressions answers the test of `SamePath`, and a law says in public words when it is true.
 pub mod Selection
 pub mod Selected
 pub mod Kept
@@ -14,3 +15,5 @@ pub mod Members
 pub mod Compared
 pub mod Exists
 pub mod Search
+pub mod SamePath
+pub mod Repeated
