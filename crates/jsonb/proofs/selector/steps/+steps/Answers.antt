@@ -10,7 +10,6 @@ use Rattle.jsonb.specs.Related.{AllRelated}
 use Rattle.jsonb.specs.Values.{values_of_item}
 use Rattle.jsonb.specs.Compare.{compare}
 use Rattle.jsonb.specs.Private.Selection.{IsAt, node_spots, taken_step, atoms_view}
-use Rattle.jsonb.specs.Private.Compared.{GivesIfAny}
 use Rattle.jsonb.specs.Private.Exists.{LeadsTo}
 use Rattle.jsonb.specs.Private.Kept.{conditions, is_condition, IsSame, AreKept, IsKeptFor}
 use Rattle.jsonb.specs.Private.Terms.{IsBelow, executed, last_truth, term_conditions, term_view, truths_view}
