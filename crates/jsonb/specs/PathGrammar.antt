@@ -29,23 +29,20 @@ spaced rule = do
 abbrev pub negated : ℤ → ℤ
 negated z = if is_within (2 ^ 31) (neg_ℤ z) then neg_ℤ z else pos (2147483647)
 
+-- `last`, this sign, and a number
+abbrev pub last_and : String → Rule ℤ
+last_and sign = do
+  word "last"
+  ws
+  literal sign
+  ws
+  int32
+
 unfoldable pub place : Rule Place
 place =
     (int32 >>= λ i. give (from_front i))
-    </> (do
-      word "last"
-      ws
-      literal "-"
-      ws
-      i ← int32
-      give (from_last (negated i)))
-    </> (do
-      word "last"
-      ws
-      literal "+"
-      ws
-      i ← int32
-      give (from_last i))
+    </> (last_and "-" >>= λ i. give (from_last (negated i)))
+    </> (last_and "+" >>= λ i. give (from_last i))
     </> (word "last" >> give (from_last (pos 0)))
 
 unfoldable pub entry : Rule Entry
