@@ -1,6 +1,7 @@
 -- The steps that look at one item alone.
-use Rattle.std.specs.Prelude.{ℕ, zero, suc, ◌+◌, pos, int_le, Bool, ◌&&◌, List, [], ◌∷◌, filter, filter_map, flat_map, slice_get, length, option_map, Option, Some, None, Ok, Err}
+use Rattle.std.specs.Prelude.{ℕ, pos, int_le, Bool, ◌&&◌, List, [], ◌∷◌, filter, filter_map, flat_map, slice_get, length, option_map, Option, Some, None, Ok, Err}
 use Rattle.std.specs.Ordering.{int_eq}
+use Rattle.std.specs.List.{range_with_len}
 use Rattle.jsonb_doc.specs.Answer.{Outcome}
 use Rattle.jsonb_doc.specs.declared.error.Error.TheVariants.{StrictPath}
 use Rattle.jsonb_doc.specs.Tree as tree
@@ -43,14 +44,9 @@ abbrev pub is_meant : ℕ → Entry → ℕ → Bool
 is_meant length (single place) k = int_eq (pos k) (position length place)
 is_meant length (slice first last) k = int_le (position length first) (pos k) && int_le (pos k) (position length last)
 
--- so many numbers, from n up
-abbrev pub count_from : ℕ → ℕ → List ℕ
-count_from n zero = []
-count_from n (suc k) = n ∷ count_from (n + 1) k
-
 -- the positions of an entry, ascending
 abbrev pub positions : ℕ → Entry → List ℕ
-positions length entry = filter (is_meant length entry) (count_from 0 length)
+positions length entry = filter (is_meant length entry) (range_with_len 0 length)
 
 -- the elements at the positions of an entry, and of one entry after the other
 abbrev pub picked_by : Entry → List Tree → List Tree
