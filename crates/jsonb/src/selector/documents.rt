@@ -1,7 +1,7 @@
 //! From what a path selects to documents.
 
 ghost use Rattle.std.specs.Prelude.{◌≡◌, ◌∷◌, ◌++◌, ◌<◌, [], List, Ok, IsOkAnd, IfErr, MatchResult};
-ghost use Rattle.std.specs.List.{HoldsAt};
+ghost use Rattle.std.specs.List.{HoldsAt, AllZip, Any};
 ghost use Rattle.jsonb_doc.specs.Tree.{Tree};
 ghost use Rattle.jsonb_doc.specs.Payload.{Form};
 ghost use Rattle.jsonb_doc.specs.Format.{Decodes};
@@ -9,9 +9,10 @@ ghost use Rattle.jsonb_doc.specs.Item.{StandsFor};
 ghost use Rattle.jsonb_doc.specs.Answer.{IsOutOfMemory, IsOutOfMemoryOrTooLarge, ◌or◌, ◌or◌when◌, Gives, IsDecodingError};
 ghost use Rattle.jsonb_doc.specs.declared.error.Error.TheVariants.{OutOfMemory, TooLarge};
 ghost use Rattle.jsonb_doc.specs.ArrayBuilder.{HoldsElements};
+ghost use Rattle.jsonb_doc.specs.Limits.{IsTooLarge};
 ghost use Rattle.jsonb_raw.specs.Documents.{Makes, MakesOption};
 ghost use Rattle.jsonb.specs.Private.Selection.{IsMadeItem, IsNumberItem, OfSelected};
-ghost use Rattle.jsonb.specs.SelectorAnswers.{AreDocuments, HasTooLarge, array_of, first_item, single_or_array};
+ghost use Rattle.jsonb.specs.SelectorAnswers.{array_of, first_item, single_or_array};
 ghost use Rattle.jsonb.specs.Private.Selected.{selected_len};
 
 use super::document::Document;
@@ -130,8 +131,8 @@ pub(crate) fn documents(
     selected: &Selected<'_>,
 ) -> Result<Vec<OwnedJsonb>, Error>
     ensures documents { OfSelected document.entry selected.now (λ form ts.
-        Gives (λ v us. AreDocuments form v.items us) (IsOutOfMemory or TooLarge when HasTooLarge form ts) result
-        (Ok ts)) }
+        Gives (λ v us. AllZip (Decodes form) v.items us) (IsOutOfMemory or TooLarge when Any (IsTooLarge form) ts)
+        result (Ok ts)) }
     ensures errors { IfErr result (IsDecodingError or OutOfMemory or TooLarge) }
 {
     let count = selected_len(selected);
