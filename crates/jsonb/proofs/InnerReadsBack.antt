@@ -17,7 +17,7 @@ use Rattle.jsonb_keypath.proofs.KeyPathReadsBack.{begins-signed_decimal}
 use Rattle.jsonb_keypath.proofs.RepeatLemmas.{repeat-goes, repeat-ends}
 use Rattle.jsonb_keypath.proofs.YieldsLemmas.{IsName}
 use Rattle.jsonb.specs.PathTree.{Place, from_front, from_last, Entry, single, slice, LevelEnd, level, last_level, Levels, Step, root, current, dot_wildcard, recursive_dot_wildcard, bracket_wildcard, dot_field, colon_field, object_field, array_indices, filter, whole_expression}
-use Rattle.jsonb.specs.PathGrammar.{word, spaced, place, entry, level_end, levels, field, spaced_entry, entries, wildcard, named_field, bracket_field, inner}
+use Rattle.jsonb.specs.PathGrammar.{word, spaced, place, entry, levels, field, spaced_entry, entries, wildcard, named_field, bracket_field, inner}
 use Rattle.jsonb.specs.PathText.{place_text, entry_text, other_entry_text, entries_text, levels_text, step_text}
 use Rattle.jsonb.proofs.PathShape.{IsIndex, IsPlace, IsEntry, IsLevelEnd, AreLevels, IsInner}
 
@@ -245,12 +245,12 @@ nat8-text n rest fits h = natural_below-decimal 256 n rest (omega arith) fits h
 
 levels-alone : (start : ℕ) (rest : List ℕ) → nat_lt start 256 ≡ true →
     levels (123 ∷ decimal start ++ 125 ∷ rest) ≡ Some (record { start = start; end = None }, rest)
-unfolding levels level_end ws
+unfolding levels ws
 levels-alone start rest fits = rw (no_space-decimal start (125 ∷ rest) fits, nat8-text start (125 ∷ rest) fits refl) refl
 
 levels-to_last : (start : ℕ) (rest : List ℕ) → nat_lt start 256 ≡ true →
     levels (123 ∷ decimal start ++ (codes " to last}" ++ rest)) ≡ Some (record { start = start; end = Some last_level }, rest)
-unfolding levels level_end ws
+unfolding levels ws
 levels-to_last start rest fits =
     rw (
       no_space-decimal start (codes " to last}" ++ rest) fits,
@@ -268,7 +268,7 @@ levels-to : (start end : ℕ) (rest : List ℕ) → nat_lt start 256 ≡ true �
       },
       rest,
     )
-unfolding levels level_end ws
+unfolding levels ws
 levels-to start end rest fits fits' =
     let stop : stops is_space (decimal end ++ 125 ∷ rest) ≡ true =
     stops-from_begins is_space (decimal end ++ 125 ∷ rest) (begins-excludes is_ascii_digit is_space digit_is_no_space

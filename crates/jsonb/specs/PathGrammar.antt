@@ -4,7 +4,7 @@ use Rattle.std.specs.Str.{str_eq_ignore_ascii_case}
 use Prim.Native.String.{String}
 use Rattle.jsonb_keypath.specs.Rules.{Rule, give, fail, ◌>>=◌, ◌>>◌, ◌</>◌, optional, only_if, literal, repeat, list_of, all_consuming}
 use Rattle.jsonb_keypath.specs.Tokens.{ws, nat8, nat64, int32, int64, is_within, name, quoted}
-use Rattle.jsonb.specs.PathTree.{Place, from_front, from_last, Entry, single, slice, LevelEnd, level, last_level, Levels, Literal, null, boolean, unsigned, signed, string, BinaryOp, and_op, or_op, eq, not_eq, lt, lte, gt, gte, starts_with_op, add, subtract, multiply, divide, modulo, UnaryOp, plus, minus, Step, root, current, dot_wildcard, recursive_dot_wildcard, bracket_wildcard, dot_field, colon_field, object_field, array_indices, filter, whole_expression, Expression, paths, value, binary, unary, exists, steps_of}
+use Rattle.jsonb.specs.PathTree.{Place, from_front, from_last, Entry, single, slice, level, last_level, Levels, Literal, null, boolean, unsigned, signed, string, BinaryOp, and_op, or_op, eq, not_eq, lt, lte, gt, gte, starts_with_op, add, subtract, multiply, divide, modulo, UnaryOp, plus, minus, Step, root, current, dot_wildcard, recursive_dot_wildcard, bracket_wildcard, dot_field, colon_field, object_field, array_indices, filter, whole_expression, Expression, paths, value, binary, unary, exists, steps_of}
 
 -- these letters, each in any case
 abbrev pub in_any_case : List ℕ → Rule (Unit {0})
@@ -56,23 +56,37 @@ entry =
       give (slice first last))
     </> (place >>= λ p. give (single p))
 
--- the level that levels go to
-unfoldable pub level_end : Rule LevelEnd
-level_end = do
-  word "to"
-  ws
-  (nat8 >>= λ n. give (level n)) </> (word "last" >> give last_level)
-
 unfoldable pub levels : Rule Levels
-levels = do
-  literal "{"
-  ws
-  start ← nat8
-  ws
-  end ← optional level_end
-  ws
-  literal "}"
-  give (record { start = start; end = end })
+levels =
+    (do
+      literal "{"
+      ws
+      start ← nat8
+      ws
+      word "to"
+      ws
+      end ← nat8
+      ws
+      literal "}"
+      give (record { start = start; end = Some (level end) }))
+    </> (do
+      literal "{"
+      ws
+      start ← nat8
+      ws
+      word "to"
+      ws
+      word "last"
+      ws
+      literal "}"
+      give (record { start = start; end = Some last_level }))
+    </> (do
+      literal "{"
+      ws
+      start ← nat8
+      ws
+      literal "}"
+      give (record { start = start; end = None }))
 
 unfoldable pub field : Rule (List ℕ)
 field = quoted </> name
