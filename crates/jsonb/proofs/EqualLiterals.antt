@@ -17,7 +17,7 @@ use Rattle.jsonb.specs.PathEquality.{SameLiteral}
 use Rattle.jsonb.specs.PathOrder.{number_order, path_value_equal}
 use Rattle.jsonb.specs.PathViews.{number_literal, literal_view}
 use Rattle.jsonb.specs.Proofs.SamePath.{literal-same}
-use Rattle.jsonb.specs.Private.SamePath.{is_same_literal}
+use Rattle.jsonb.specs.SamePath.{is_same_literal}
 use Rattle.jsonb.specs.Values.{literal_item}
 use Rattle.jsonb.specs.declared.path.PathValue.{PathValue}
 use Rattle.jsonb.specs.declared.path.PathValue.TheVariants.{Null, Boolean, String, Raw}

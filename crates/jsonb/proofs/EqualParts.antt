@@ -10,7 +10,7 @@ use Rattle.jsonb.specs.PathTree as tree
 use Rattle.jsonb.specs.PathTree.{BinaryOp}
 use Rattle.jsonb.specs.PathViews.{place_view, entry_view, end_view, levels_view, operator_view, sign_view}
 use Rattle.jsonb.specs.Proofs.SamePath.{place-same, entry-same, end-same, level-same, operator-same, sign-same}
-use Rattle.jsonb.specs.Private.SamePath.{is_same_place, is_same_entry, is_same_end, is_same_level, is_same_operator, is_same_sign}
+use Rattle.jsonb.specs.SamePath.{is_same_place, is_same_entry, is_same_end, is_same_level, is_same_operator, is_same_sign}
 use Rattle.jsonb.specs.declared.path.Index.{Index}
 use Rattle.jsonb.specs.declared.path.Index.TheVariants as index
 use Rattle.jsonb.specs.declared.path.ArrayIndex.{ArrayIndex}

@@ -17,6 +17,7 @@ pub mod SelectionErrors
 pub mod SelectorAnswers
 pub mod SelectorLaws
 pub mod PathEquality
+pub mod SamePath
 pub mod PathDocuments
 -- what clauses cite of the crates below, for the crates above
 pub use Rattle.jsonb_doc.specs.declared.error.Error

@@ -1,5 +1,4 @@
--- What the contracts of private functions say beyond the words of the others. No public clause cites these: `==` of
--- steps and of expressions answers the test of `SamePath`, and a law says in public words when it is true.
+-- What the contracts of private functions say beyond the words of the others. No public clause cites these.
 pub mod Selection
 pub mod Selected
 pub mod Kept
@@ -15,5 +14,4 @@ pub mod Members
 pub mod Compared
 pub mod Exists
 pub mod Search
-pub mod SamePath
 pub mod Repeated

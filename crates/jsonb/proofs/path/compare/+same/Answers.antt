@@ -5,7 +5,7 @@ use Rattle.jsonb.specs.PathOrder.{path_value_equal}
 use Rattle.jsonb.specs.PathTree.{steps_of}
 use Rattle.jsonb.specs.PathViews.{step_view, steps_view, expression_view}
 use Rattle.jsonb.specs.Private.Parts.{step_parts}
-use Rattle.jsonb.specs.Private.SamePath.{is_same_step}
+use Rattle.jsonb.specs.SamePath.{is_same_step}
 use Rattle.jsonb.specs.Private.Last.{is_same_opening, are_same_before, is_same_before}
 use Rattle.jsonb.proofs.EqualLiterals.{literal-is}
 use Rattle.jsonb.proofs.EqualParts.{entries-is}
