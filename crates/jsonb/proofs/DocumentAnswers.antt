@@ -1,6 +1,7 @@
 -- From the documents that are made of a selection to what a call hands out.
 use Rattle.std.proofs.Common.{◌≡◌, List, Option, Some, None, Result, Ok, Err, ◌⊎◌, inl, inr, subst, sym, IsOkAnd}
-use Rattle.jsonb_doc.specs.Answer.{Outcome, Gives, IsOutOfMemory, ◌or◌when◌}
+use Rattle.std.specs.Prelude.{IsSomeAnd}
+use Rattle.jsonb_doc.specs.Answer.{Outcome, Gives, IsOutOfMemory, ◌or◌when◌, SameOption}
 use Rattle.jsonb_doc.specs.Format.{Decodes}
 use Rattle.jsonb_doc.specs.Limits.{IsTooLarge}
 use Rattle.jsonb_doc.specs.Payload.{Form}
@@ -9,7 +10,7 @@ use Rattle.jsonb_doc.specs.declared.error.Error.{Error}
 use Rattle.jsonb_doc.specs.declared.error.Error.TheVariants.{OutOfMemory, TooLarge}
 use Rattle.jsonb_raw.specs.Documents.{Makes, MakesOption}
 use Rattle.jsonb_raw.specs.declared.owned.OwnedJsonb.{OwnedJsonb}
-use Rattle.jsonb.specs.SelectorAnswers.{IsDocumentOf, IsPast, array_of}
+use Rattle.jsonb.specs.SelectorAnswers.{array_of}
 
 -- one array of the list
 pub array_handed : (form : Form) (ts : List Tree) (r : Result OwnedJsonb Error) → Makes form (array_of ts) r
@@ -18,19 +19,20 @@ array_handed form ts (Ok made) h = record { ok = h; err = tt }
 array_handed form ts (Err e) (inl memory) = record { ok = tt; err = inl (inl memory) }
 array_handed form ts (Err e) (inr large) = record { ok = tt; err = inl (inr large) }
 
-document_of : (form : Form) (wanted : Option Tree) (found : Option OwnedJsonb) → MakesOption form wanted (Ok found) → IsDocumentOf form found wanted
+document_of : (form : Form) (wanted : Option Tree) (found : Option OwnedJsonb) → MakesOption form wanted (Ok found) → SameOption (Decodes form) found wanted
 document_of form None None h = tt
 document_of form None (Some made) h = cc
 document_of form (Some t) None h = absurd h
 document_of form (Some t) (Some made) h = h
 
-past_of : (form : Form) (wanted : Option Tree) (e : Error) → MakesOption form wanted (Err e) → (e ≡ OutOfMemory) ⊎ ((e ≡ TooLarge) × IsPast form wanted)
+past_of : (form : Form) (wanted : Option Tree) (e : Error) → MakesOption form wanted (Err e)
+    → (e ≡ OutOfMemory) ⊎ ((e ≡ TooLarge) × IsSomeAnd wanted (IsTooLarge form))
 past_of form None e h = inl h
 past_of form (Some t) e h = h
 
 -- the tree that is picked of the list, if there is one
 pub option_handed : (form : Form) (pick : List Tree → Option Tree) (ts : List Tree) (r : Result (Option OwnedJsonb) Error) → MakesOption form (pick ts) r
-    → Gives (λ found us. IsDocumentOf form found (pick us)) (IsOutOfMemory or TooLarge when IsPast form (pick ts)) r (Ok ts)
+    → Gives (λ found us. SameOption (Decodes form) found (pick us)) (IsOutOfMemory or TooLarge when IsSomeAnd (pick ts) (IsTooLarge form)) r (Ok ts)
 option_handed form pick ts (Ok found) h = record { ok = document_of form (pick ts) found h; err = tt }
 option_handed form pick ts (Err e) h = record { ok = tt; err = inl (past_of form (pick ts) e h) }
 

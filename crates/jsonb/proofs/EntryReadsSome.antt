@@ -9,8 +9,10 @@ use Rattle.jsonb_keypath.specs.TokenLaws.{ReadsSome}
 use Rattle.jsonb_keypath.proofs.ReadsLemmas.{given, some-no_more, grows-give, grows-then, some-then, then-some, some-choice}
 use Rattle.jsonb_keypath.proofs.CutLemmas.{nothing, some-literal}
 use Rattle.jsonb_keypath.proofs.GrowsLemmas.{grows-ws, some-integer_within}
+use Prim.Native.String.{String}
 use Rattle.jsonb.specs.PathTree.{from_front, single, slice}
-use Rattle.jsonb.specs.PathGrammar.{in_any_case, word, spaced, place, entry, spaced_entry, another_entry}
+use Rattle.jsonb.specs.PathGrammar.{in_any_case, word, spaced, last_and, place, entry, spaced_entry}
+use Rattle.jsonb.specs.Private.Repeated.{another_entry}
 
 shorter : (n : ℕ) (b : ℕ) (input : List ℕ) → length (drop (suc n) (b ∷ input)) < length (b ∷ input)
 shorter n b input = rw (length-drop (suc n) (b ∷ input)) (omega arith)
@@ -28,16 +30,18 @@ some-spaced rule h = then-some ws _ grows-ws (λ _. some-then rule _ h (λ a. gr
 some-int32 : ReadsSome int32
 some-int32 = some-integer_within (2 ^ 31)
 
+some-last_and : (sign : String) → ReadsSome (literal sign) → ReadsSome (last_and sign)
+some-last_and sign reads =
+    some-then (word "last") _ (some-word 108 (codes "ast")) (λ _. grows-then ws _ grows-ws
+    (λ _. grows-then (literal sign) _ (some-no_more (literal sign) reads) (λ _. grows-then ws _ grows-ws
+    (λ _. some-no_more int32 some-int32))))
+
 pub some-place : ReadsSome place
 unfolding place
 some-place =
     some-choice _ _ (some-then int32 _ some-int32 (λ i. grows-give (from_front i)))
-    (some-choice _ _ (some-then (word "last") _ (some-word 108 (codes "ast")) (λ _. grows-then ws _ grows-ws
-    (λ _. grows-then (literal "-") _ (some-no_more (literal "-") (some-literal 45 [])) (λ _. grows-then ws _ grows-ws
-    (λ _. grows-then int32 _ (some-no_more int32 some-int32) (λ i. grows-give _))))))
-    (some-choice _ _ (some-then (word "last") _ (some-word 108 (codes "ast")) (λ _. grows-then ws _ grows-ws
-    (λ _. grows-then (literal "+") _ (some-no_more (literal "+") (some-literal 43 [])) (λ _. grows-then ws _ grows-ws
-    (λ _. grows-then int32 _ (some-no_more int32 some-int32) (λ i. grows-give _))))))
+    (some-choice _ _ (some-then (last_and "-") _ (some-last_and "-" (some-literal 45 [])) (λ i. grows-give _))
+    (some-choice _ _ (some-then (last_and "+") _ (some-last_and "+" (some-literal 43 [])) (λ i. grows-give _))
     (some-then (word "last") _ (some-word 108 (codes "ast")) (λ _. grows-give _))))
 
 pub some-entry : ReadsSome entry

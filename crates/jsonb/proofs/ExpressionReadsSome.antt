@@ -8,7 +8,8 @@ use Rattle.jsonb_keypath.proofs.ReadsLemmas.{NeverGrows, some-no_more, grows-giv
 use Rattle.jsonb_keypath.proofs.CutLemmas.{some-literal}
 use Rattle.jsonb_keypath.proofs.GrowsLemmas.{grows-ws, some-quoted, some-integer_within, some-natural_below}
 use Rattle.jsonb.specs.PathTree.{null, boolean, unsigned, signed, string, eq, not_eq, lt, lte, gt, gte, starts_with_op, add, subtract, multiply, divide, modulo, plus, minus, root, current, filter, Expression}
-use Rattle.jsonb.specs.PathGrammar.{spaced, spaced_inner, path_root, literal_value, operand_steps, operand, spaced_operand, arithmetic_operator, operator, unary_operator, unary_atom, binary_atom, filter_with, path_with, group_with, exists_steps, exists_with, atom_with, another_atom, and_with, another_and, or_with, nested_or, path_step}
+use Rattle.jsonb.specs.PathGrammar.{spaced, spaced_inner, path_root, literal_value, operand_steps, operand, spaced_operand, arithmetic_operator, operator, unary_operator, unary_atom, binary_atom, filter_with, path_with, group_with, exists_steps, exists_with, atom_with, and_with, or_with, nested_or, path_step}
+use Rattle.jsonb.specs.Private.Repeated.{another_atom, another_and}
 use Rattle.jsonb.proofs.EntryReadsSome.{some-spaced}
 use Rattle.jsonb.proofs.InnerReadsSome.{grows-repeat, some-spaced_inner}
 

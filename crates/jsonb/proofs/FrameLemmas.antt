@@ -12,7 +12,8 @@ use Rattle.jsonb_keypath.proofs.ReadsLemmas.{NeverGrows, some-then, some-no_more
 use Rattle.jsonb_keypath.proofs.RepeatLemmas.{repeat-goes, repeat-ends, behind, loop-goes, loop-ends}
 use Rattle.jsonb_keypath.proofs.CutLemmas.{nothing}
 use Rattle.jsonb.specs.PathTree.{BinaryOp, binary, and_op, or_op, Expression, Step, root, exists, filter, paths, steps_of, whole_expression}
-use Rattle.jsonb.specs.PathGrammar.{spaced, atom_with, another_atom, and_with, another_and, or_with, expression, joined_by, spaced_inner, spaced_operand, operator, path_with, filter_with, path_step, path_root, operand_steps, operand, unary_operator, unary_atom, binary_atom, group_with, exists_with, front_steps, first_step, plain_path, root_expression}
+use Rattle.jsonb.specs.PathGrammar.{spaced, atom_with, and_with, or_with, expression, joined_by, spaced_inner, spaced_operand, operator, path_with, filter_with, path_step, path_root, operand_steps, operand, unary_operator, unary_atom, binary_atom, group_with, exists_with, front_steps, first_step, plain_path, root_expression}
+use Rattle.jsonb.specs.Private.Repeated.{another_atom, another_and}
 use Rattle.jsonb.specs.PathViews.{expression_view, steps_view}
 use Rattle.jsonb.specs.Private.Frames.{joined_from, joined_view, joined_behind, level_outcome, IsUnclosed, IsLevel, closed, filter_front, filter_step, steps_behind, opened_outcome, IsOpened, resumed, AreFrames, operation, goes_in_filter, opening_outcome, as_path}
 use Rattle.jsonb.specs.declared.parser.condition.Joined.{Joined}

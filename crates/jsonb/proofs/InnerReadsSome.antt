@@ -8,7 +8,8 @@ use Rattle.jsonb_keypath.proofs.ReadsLemmas.{NeverGrows, some-no_more, grows-giv
 use Rattle.jsonb_keypath.proofs.CutLemmas.{some-literal}
 use Rattle.jsonb_keypath.proofs.GrowsLemmas.{grows-ws, some-name, some-quoted, some-natural_below}
 use Rattle.jsonb.specs.PathTree.{colon_field, dot_field, object_field, array_indices}
-use Rattle.jsonb.specs.PathGrammar.{word, spaced, levels, wildcard, field, named_field, entry, spaced_entry, another_entry, entry_list, entries, bracket_field, inner, spaced_inner}
+use Rattle.jsonb.specs.PathGrammar.{word, spaced, levels, wildcard, field, named_field, entry, spaced_entry, entries, bracket_field, inner, spaced_inner}
+use Rattle.jsonb.specs.Private.Repeated.{another_entry, entry_list}
 use Rattle.jsonb.proofs.EntryReadsSome.{some-word, some-spaced, some-entry, some-another_entry}
 
 repeated-no_more : {A : Type 0} (rule : Rule A) → ReadsSome rule → (input : List ℕ) (values : List A) (rest : List ℕ) →

@@ -4,10 +4,11 @@ use Rattle.jsonb_doc.specs.Answer.{Outcome, and_then, try_flat_map}
 use Rattle.jsonb_doc.specs.Arithmetic.{Operation}
 use Rattle.jsonb_doc.specs.Payload.{Form}
 use Rattle.jsonb_doc.specs.Tree.{Tree, field_of}
+use Rattle.jsonb_raw.specs.Arrays.{array_values}
 use Rattle.jsonb.specs.PathTree.{BinaryOp, and_op, or_op, add, subtract, multiply, divide, modulo, Step, root, current, dot_wildcard, recursive_dot_wildcard, bracket_wildcard, dot_field, colon_field, object_field, array_indices, filter, whole_expression, Steps, no_steps, step, Expression, paths, value, raw, binary, unary, exists, steps_of}
 use Rattle.jsonb.specs.Compare.{Truth}
 use Rattle.jsonb.specs.PathArithmetic.{operation, two_numbers, each_signed}
-use Rattle.jsonb.specs.ItemSteps.{list_or, picked, elements_of, values_of}
+use Rattle.jsonb.specs.ItemSteps.{list_or, picked, values_of}
 use Rattle.jsonb.specs.Meaning.{step_meaning, steps_meaning, operand_values, truth, start, as_filter, expression_meaning, binary_meaning, truth_list, meaning, Means}
 use Rattle.jsonb.specs.declared.selector.document.Mode.TheVariants.{Lax, Strict}
 
@@ -42,11 +43,11 @@ mutual
   step_kept current top item = refl
   step_kept dot_wildcard top item = list_kept [] (values_of item)
   step_kept (recursive_dot_wildcard levels) top item = refl
-  step_kept bracket_wildcard top item = list_kept (item ∷ []) (elements_of item)
+  step_kept bracket_wildcard top item = list_kept (item ∷ []) (array_values item)
   step_kept (dot_field name) top item = list_kept [] (option_map (λ u. u ∷ []) (field_of name item))
   step_kept (colon_field name) top item = list_kept [] (option_map (λ u. u ∷ []) (field_of name item))
   step_kept (object_field name) top item = list_kept [] (option_map (λ u. u ∷ []) (field_of name item))
-  step_kept (array_indices entries) top item = list_kept [] (option_map (picked entries) (elements_of item))
+  step_kept (array_indices entries) top item = list_kept [] (option_map (picked entries) (array_values item))
   step_kept (filter e) top item = keeps_with (truth Strict e top item) (truth Lax e top item) _ _ (truth_kept e top item) (λ b. refl)
   step_kept (whole_expression e) top item = tt
 

@@ -2,14 +2,14 @@
 use Rattle.std.proofs.Common.{◌≡◌, ℕ, zero, suc, ◌+◌, ◌-◌, ◌<◌, ◌≤◌, ◌↔◌, ℤ, pos, ◌≤ℤ◌, Bool, true, false, cond, ◌&&◌, List, [], ◌∷◌, ◌++◌, length, take, drop, filter, filter_map, slice_get, Some, None, nat_lt, refl, sym, ap, ◌∙◌, arith, append-nil}
 use Rattle.std.specs.Prelude.{int_le, slice_range}
 use Rattle.std.specs.Bool.{Decides}
-use Rattle.std.specs.List.{cons_option}
+use Rattle.std.specs.List.{cons_option, range_with_len}
 use Rattle.std.proofs.lemmas.Bool.Decides.{Decides-int_eq, nat_tests}
 use Rattle.std.proofs.lemmas.Int.{ints}
 use Rattle.jsonb_doc.specs.Tree.{Tree}
 use Rattle.jsonb.specs.PathTree.{Entry, single, slice, from_front}
 use Rattle.jsonb.specs.Positions.{position, IsPosition}
 use Rattle.jsonb.specs.Related.{AllRelated}
-use Rattle.jsonb.specs.ItemSteps.{is_meant, count_from, picked_by, picked}
+use Rattle.jsonb.specs.ItemSteps.{is_meant, picked_by, picked}
 
 -- ---- the test and the relation agree
 
@@ -34,11 +34,11 @@ not_meant entry n k false e wrong = e
 
 -- ---- from a position on
 
-count_from-next : (n k : ℕ) → k < n → count_from k (n - k) ≡ k ∷ count_from (k + 1) (n - (k + 1))
-count_from-next n k h = let e : n - k ≡ suc (n - (k + 1)) = omega arith in ap (count_from k) e
+range_with_len-next : (n k : ℕ) → k < n → range_with_len k (n - k) ≡ k ∷ range_with_len (k + 1) (n - (k + 1))
+range_with_len-next n k h = let e : n - k ≡ suc (n - (k + 1)) = omega arith in ap (range_with_len k) e
 
-count_from-end : (n k : ℕ) → n ≤ k → count_from k (n - k) ≡ []
-count_from-end n k h = let e : n - k ≡ 0 = omega arith in ap (count_from k) e
+range_with_len-end : (n k : ℕ) → n ≤ k → range_with_len k (n - k) ≡ []
+range_with_len-end n k h = let e : n - k ≡ 0 = omega arith in ap (range_with_len k) e
 
 get-drop : {B : Type 0} (ts : List B) (k : ℕ) → k < length ts → (u : B) × (slice_get ts k ≡ Some u) × (drop k ts ≡ u ∷ drop (suc k) ts)
 get-drop [] k h = absurd (omega (arith, h))
@@ -47,21 +47,21 @@ get-drop (t ∷ ts) (suc k) h = get-drop ts k (omega (arith, h))
 
 module _ {B : Type 0} (ts : List B) (p : ℕ → Bool) (n : ℕ) where
   abbrev rest_from : ℕ → List B
-  rest_from k = filter_map (slice_get ts) (filter p (count_from k (n - k)))
+  rest_from k = filter_map (slice_get ts) (filter p (range_with_len k (n - k)))
 
   rest_taken : (k : ℕ) (u : B) → k < n → p k ≡ true → slice_get ts k ≡ Some u → rest_from k ≡ u ∷ rest_from (k + 1)
   rest_taken k u h is here =
-      ap (λ l. filter_map (slice_get ts) (filter p l)) (count_from-next n k h)
-      ∙ ap (λ b. filter_map (slice_get ts) (cond b (k ∷ filter p (count_from (k + 1) (n - (k + 1)))) (filter p (count_from (k + 1) (n - (k + 1)))))) is
+      ap (λ l. filter_map (slice_get ts) (filter p l)) (range_with_len-next n k h)
+      ∙ ap (λ b. filter_map (slice_get ts) (cond b (k ∷ filter p (range_with_len (k + 1) (n - (k + 1)))) (filter p (range_with_len (k + 1) (n - (k + 1)))))) is
       ∙ ap (λ o. cons_option o (rest_from (k + 1))) here
 
   rest_passed : (k : ℕ) → k < n → p k ≡ false → rest_from k ≡ rest_from (k + 1)
   rest_passed k h is =
-      ap (λ l. filter_map (slice_get ts) (filter p l)) (count_from-next n k h)
-      ∙ ap (λ b. filter_map (slice_get ts) (cond b (k ∷ filter p (count_from (k + 1) (n - (k + 1)))) (filter p (count_from (k + 1) (n - (k + 1)))))) is
+      ap (λ l. filter_map (slice_get ts) (filter p l)) (range_with_len-next n k h)
+      ∙ ap (λ b. filter_map (slice_get ts) (cond b (k ∷ filter p (range_with_len (k + 1) (n - (k + 1)))) (filter p (range_with_len (k + 1) (n - (k + 1)))))) is
 
   rest_none : (k : ℕ) → n ≤ k → rest_from k ≡ []
-  rest_none k h = ap (λ l. filter_map (slice_get ts) (filter p l)) (count_from-end n k h)
+  rest_none k h = ap (λ l. filter_map (slice_get ts) (filter p l)) (range_with_len-end n k h)
 
   -- so many that are passed over, and so many that are taken
   passed_until : (d k j : ℕ) → k + d ≡ j → j ≤ n → ((i : ℕ) → k ≤ i → i < j → p i ≡ false) → rest_from k ≡ rest_from j
@@ -92,7 +92,7 @@ pub picked_between : (entry : Entry) (ts : List Tree) (start end : ℕ) → star
     ((k : ℕ) → k < length ts → ((start ≤ k) × (k < end)) ↔ IsPosition entry (length ts) k) → picked_by entry ts ≡ slice_range ts start end
 picked_between entry ts start end h k meant =
     let whole : length ts ≡ length ts - 0 = omega arith in
-    ap (λ m. filter_map (slice_get ts) (filter (is_meant (length ts) entry) (count_from 0 m))) whole
+    ap (λ m. filter_map (slice_get ts) (filter (is_meant (length ts) entry) (range_with_len 0 m))) whole
     ∙ between_bounds ts (is_meant (length ts) entry) (length ts) start end h k refl
     (λ i low high. let short : i < length ts = omega arith in (meant_decides entry (length ts) i short).1 ((meant i short).0 (low, high)))
     (λ i high. let short : i < length ts = omega arith in

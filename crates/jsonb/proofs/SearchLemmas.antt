@@ -9,9 +9,10 @@ use Rattle.jsonb_doc.specs.Tree.{Tree}
 use Rattle.jsonb_doc.specs.declared.error.Error.{Error}
 use Rattle.jsonb_doc.specs.declared.spot.Spot.{Spot}
 use Rattle.jsonb_doc.proofs.Weights.{weight_of, weight-pos, inner_weighs, taken_weighs, weight_of_all, falls_inward, falls_outward}
+use Rattle.jsonb_raw.specs.Arrays.{array_values}
 use Rattle.jsonb.specs.PathTree.{Step, steps_of}
 use Rattle.jsonb.specs.PathViews.{step_view, steps_view}
-use Rattle.jsonb.specs.ItemSteps.{elements_of, values_of}
+use Rattle.jsonb.specs.ItemSteps.{values_of}
 use Rattle.jsonb.specs.Related.{AllRelated}
 use Rattle.jsonb.specs.Meaning.{step_meaning, steps_meaning, truth, filtered, is_some_item}
 use Rattle.jsonb.specs.SelectorAnswers.{first_item}
@@ -44,7 +45,7 @@ use Rattle.jsonb.proofs.StepLemmas.{joined_one}
 pub searched_total : (x : SearchStep) (s : Step) (top t : Tree) → IsSearched x s → IsOkAnd (step_meaning Lax s top t) Any
 searched_total (search.Member path) s top t h = subst (λ z. IsOkAnd (step_meaning Lax z top t) Any) (sym h.0) (member_total (step_view path.now) top t h.1)
 searched_total search.Values s top t h = subst (λ z. IsOkAnd (step_meaning Lax z top t) Any) (sym h) (listed_total [] (values_of t))
-searched_total search.Elements s top t h = subst (λ z. IsOkAnd (step_meaning Lax z top t) Any) (sym h) (listed_total (t ∷ []) (elements_of t))
+searched_total search.Elements s top t h = subst (λ z. IsOkAnd (step_meaning Lax z top t) Any) (sym h) (listed_total (t ∷ []) (array_values t))
 searched_total (search.Positions entries) s top t h = subst (λ z. IsOkAnd (step_meaning Lax z top t) Any) (sym h) (listed_total [] _)
 searched_total (search.Levels levels) s top t h = subst (λ z. IsOkAnd (step_meaning Lax z top t) Any) (sym h) tt
 searched_total (search.Compared c) s top t h = subst (λ z. IsOkAnd (step_meaning Lax z top t) Any) (sym h.1)

@@ -15,10 +15,11 @@ use Rattle.jsonb_doc.proofs.LimitLemmas.{array_too_large-element}
 use Rattle.jsonb.specs.declared.selector.selected.MadeItem.{MadeItem}
 use Rattle.std.specs.Prelude.{Vec}
 use Rattle.std.specs.declared.alloc.Global.{Global}
+use Rattle.std.specs.List.{Any}
 use Rattle.jsonb.specs.Related.{AllRelated}
 use Rattle.jsonb.specs.Private.Selected.{selected_len}
 use Rattle.jsonb.specs.Private.Selection.{IsAt, IsMadeItem, IsNumberItem, AreSelected, node_spots}
-use Rattle.jsonb.specs.SelectorAnswers.{HasTooLarge, first_item, single_or_array, array_of}
+use Rattle.jsonb.specs.SelectorAnswers.{first_item, single_or_array, array_of}
 use Rattle.jsonb_doc.specs.declared.error.Error.TheVariants.{TooLarge}
 use Rattle.jsonb.specs.declared.selector.document.Document.{Document}
 use Rattle.jsonb.specs.declared.selector.node_list.NodeList.{NodeList}
@@ -89,10 +90,12 @@ pub none_held : (form : Form) (parts : Parts) → parts ≡ no_parts → HoldsEl
 none_held form parts is = rw is (refl, refl)
 
 -- one tree that is too large is among those that are
-pub too_large_at : (form : Form) (ts : List Tree) (k : ℕ) (e : Tree) → k < length ts → IsTooLarge form (get_or ts k e) → HasTooLarge form ts
+pub too_large_at : (form : Form) (ts : List Tree) (k : ℕ) (e : Tree) → k < length ts → IsTooLarge form (get_or ts k e) → Any (IsTooLarge form) ts
 too_large_at form [] k e short h = absurd (omega (arith, short))
-too_large_at form (t ∷ ts) zero e short h = inl h
-too_large_at form (t ∷ ts) (suc k) e short h = inr (too_large_at form ts k e (omega (arith, short)) h)
+too_large_at form (t ∷ ts) zero e short h = (0, t, omega arith, refl, h)
+too_large_at form (t ∷ ts) (suc k) e short h =
+    let one = too_large_at form ts k e (omega (arith, short)) h in
+    (suc one.0, one.1, omega (arith, one.2), one.3, one.4)
 
 -- at most one tree is its own first
 pub value_few : (ts : List Tree) → length ts ≤ 1 → single_or_array ts ≡ first_item ts
@@ -117,6 +120,6 @@ part_refused form ts t u e is (inr (large, past)) = inr (large, array_too_large-
 
 -- the refusal of a part is one of the list
 pub list_refused : (form : Form) (ts : List Tree) (k : ℕ) (d : Tree) (e : Error) → k < length ts → IsOutOfMemoryOrTooLarge form (get_or ts k d) e
-    → (IsOutOfMemory or TooLarge when HasTooLarge form ts) e
+    → (IsOutOfMemory or TooLarge when Any (IsTooLarge form) ts) e
 list_refused form ts k d e short (inl memory) = inl memory
 list_refused form ts k d e short (inr (large, past)) = inr (large, too_large_at form ts k d short past)

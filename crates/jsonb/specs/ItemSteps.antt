@@ -1,19 +1,16 @@
 -- The steps that look at one item alone.
-use Rattle.std.specs.Prelude.{ℕ, zero, suc, ◌+◌, pos, int_le, Bool, ◌&&◌, List, [], ◌∷◌, filter, filter_map, flat_map, slice_get, length, option_map, Option, Some, None, Ok, Err}
+use Rattle.std.specs.Prelude.{ℕ, pos, int_le, Bool, ◌&&◌, List, [], ◌∷◌, filter, filter_map, flat_map, slice_get, length, option_map, Option, Some, None, Ok, Err}
 use Rattle.std.specs.Ordering.{int_eq}
+use Rattle.std.specs.List.{range_with_len}
 use Rattle.jsonb_doc.specs.Answer.{Outcome}
 use Rattle.jsonb_doc.specs.declared.error.Error.TheVariants.{StrictPath}
 use Rattle.jsonb_doc.specs.Tree as tree
-use Rattle.jsonb_doc.specs.Tree.{Tree, array, object, field_of}
+use Rattle.jsonb_doc.specs.Tree.{Tree, object, field_of}
+use Rattle.jsonb_raw.specs.Arrays.{array_values}
 use Rattle.jsonb.specs.PathTree.{Entry, single, slice}
 use Rattle.jsonb.specs.Positions.{position}
 use Rattle.jsonb.specs.declared.selector.document.Mode.{Mode}
 use Rattle.jsonb.specs.declared.selector.document.Mode.TheVariants.{Lax, Strict}
-
--- the elements of an array
-abbrev pub elements_of : Tree → Option (List Tree)
-elements_of (array ts) = Some (tree.elements ts)
-elements_of _ = None
 
 -- the values of an object, in the order of its keys
 abbrev pub values_of : Tree → Option (List Tree)
@@ -40,21 +37,16 @@ values_step mode t = list_or mode [] (values_of t)
 
 -- an array's elements; in lax mode another item is itself
 abbrev pub elements_step : Mode → Tree → Outcome (List Tree)
-elements_step mode t = list_or mode (t ∷ []) (elements_of t)
+elements_step mode t = list_or mode (t ∷ []) (array_values t)
 
 -- whether an entry means a position of an array of this length
 abbrev pub is_meant : ℕ → Entry → ℕ → Bool
 is_meant length (single place) k = int_eq (pos k) (position length place)
 is_meant length (slice first last) k = int_le (position length first) (pos k) && int_le (pos k) (position length last)
 
--- so many numbers, from n up
-abbrev pub count_from : ℕ → ℕ → List ℕ
-count_from n zero = []
-count_from n (suc k) = n ∷ count_from (n + 1) k
-
 -- the positions of an entry, ascending
 abbrev pub positions : ℕ → Entry → List ℕ
-positions length entry = filter (is_meant length entry) (count_from 0 length)
+positions length entry = filter (is_meant length entry) (range_with_len 0 length)
 
 -- the elements at the positions of an entry, and of one entry after the other
 abbrev pub picked_by : Entry → List Tree → List Tree
@@ -64,4 +56,4 @@ abbrev pub picked : List Entry → List Tree → List Tree
 picked entries ts = flat_map (λ entry. picked_by entry ts) entries
 
 abbrev pub indices_step : Mode → List Entry → Tree → Outcome (List Tree)
-indices_step mode entries t = list_or mode [] (option_map (picked entries) (elements_of t))
+indices_step mode entries t = list_or mode [] (option_map (picked entries) (array_values t))

@@ -29,23 +29,20 @@ spaced rule = do
 abbrev pub negated : ℤ → ℤ
 negated z = if is_within (2 ^ 31) (neg_ℤ z) then neg_ℤ z else pos (2147483647)
 
+-- `last`, this sign, and a number
+abbrev pub last_and : String → Rule ℤ
+last_and sign = do
+  word "last"
+  ws
+  literal sign
+  ws
+  int32
+
 unfoldable pub place : Rule Place
 place =
     (int32 >>= λ i. give (from_front i))
-    </> (do
-      word "last"
-      ws
-      literal "-"
-      ws
-      i ← int32
-      give (from_last (negated i)))
-    </> (do
-      word "last"
-      ws
-      literal "+"
-      ws
-      i ← int32
-      give (from_last i))
+    </> (last_and "-" >>= λ i. give (from_last (negated i)))
+    </> (last_and "+" >>= λ i. give (from_last i))
     </> (word "last" >> give (from_last (pos 0)))
 
 unfoldable pub entry : Rule Entry
@@ -97,17 +94,10 @@ field = quoted </> name
 unfoldable pub spaced_entry : Rule Entry
 spaced_entry = spaced entry
 
--- a comma, and the entry behind it
-abbrev pub another_entry : Rule Entry
-another_entry = literal "," >> spaced_entry
-
-abbrev pub entry_list : Rule (List Entry)
-entry_list = list_of spaced_entry (literal ",")
-
 unfoldable pub entries : Rule (List Entry)
 entries = do
   literal "["
-  found ← entry_list
+  found ← list_of spaced_entry (literal ",")
   literal "]"
   give found
 
@@ -266,17 +256,9 @@ module _ (nested : Bool → Rule Expression) where
   atom_with is_in_filter =
       unary_atom is_in_filter </> binary_atom is_in_filter </> group_with is_in_filter </> exists_with
 
-  -- `&&`, and the part behind it
-  abbrev pub another_atom : Bool → Rule Expression
-  another_atom is_in_filter = spaced (literal "&&") >> atom_with is_in_filter
-
   unfoldable pub and_with : Bool → Rule Expression
   and_with is_in_filter =
       list_of (atom_with is_in_filter) (spaced (literal "&&")) >>= λ members. give (joined_by and_op members)
-
-  -- `||`, and the part behind it
-  abbrev pub another_and : Bool → Rule Expression
-  another_and is_in_filter = spaced (literal "||") >> and_with is_in_filter
 
   unfoldable pub or_with : Bool → Rule Expression
   or_with is_in_filter =

@@ -1,5 +1,6 @@
 -- What is promised of a JSON path that is printed and read again.
 use Rattle.std.specs.Prelude.{◌≡◌, ℕ, Bool, pos, List, map, Some}
+use Rattle.jsonb_keypath.specs.Rules.{Rule, ◌>>◌}
 use Rattle.jsonb.specs.PathTree.{Literal, unsigned, signed, Step, filter, whole_expression, Steps, no_steps, step, Expression, paths, value, binary, unary, exists}
 use Rattle.jsonb.specs.PathGrammar.{or_with, path_with, expression, path_step, json_path}
 use Rattle.jsonb.specs.PathText.{path_text}
@@ -34,6 +35,10 @@ SameButVariants p q = map settled_step p ≡ map settled_step q
 -- the printed text reads, as a path that is the same but for variants
 abbrev pub ReadsBack : List Step → Type 0
 ReadsBack p = (q : List Step) × (json_path (path_text p) ≡ Some q) × SameButVariants p q
+
+-- a separator, and the part behind it
+abbrev pub behind : {S A : Type 0} → Rule S → Rule A → Rule A
+behind separator part = separator >> part
 
 -- The rules for expressions and for steps hold with no bound on parentheses: what stands inside them is read by the
 -- same rules.

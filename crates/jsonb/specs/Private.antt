@@ -14,3 +14,4 @@ pub mod Members
 pub mod Compared
 pub mod Exists
 pub mod Search
+pub mod Repeated

@@ -1,6 +1,7 @@
 -- What the calls of a selector answer, by the list of their path.
-use Rattle.std.specs.Prelude.{◌≡◌, ◌⊎◌, ℕ, Bool, List, [], ◌∷◌, Option, Some, None, Result, Vec, IsOkAnd, IsSomeAnd}
+use Rattle.std.specs.Prelude.{◌≡◌, ℕ, Bool, List, [], ◌∷◌, Option, Some, None, Result, Vec, IsOkAnd, IsSomeAnd}
 use Rattle.std.specs.declared.alloc.Global.{Global}
+use Rattle.std.specs.List.{AllZip, Any}
 use Rattle.jsonb_doc.specs.declared.error.Error.{Error}
 use Rattle.jsonb_doc.specs.declared.error.Error.TheVariants.{TooLarge}
 use Rattle.jsonb_doc.specs.Answer.{Outcome, Gives, SameOption, IsOutOfMemory, ◌or◌when◌}
@@ -13,7 +14,6 @@ use Rattle.jsonb_raw.specs.Documents.{raw_bytes}
 use Rattle.jsonb.specs.Compare.{Truth}
 use Rattle.jsonb.specs.Meaning.{Means, is_some_item, predicate}
 use Rattle.jsonb.specs.PathTree.{Step}
-use Rattle.jsonb.specs.Related.{AllRelated}
 use Rattle.jsonb.specs.declared.selector.Selector.{Selector}
 use Rattle.jsonb.specs.declared.selector.document.Mode.{Mode}
 
@@ -23,15 +23,6 @@ root_bytes s = raw_bytes s.root
 
 abbrev pub mode_of : Selector → Mode
 mode_of s = s.mode
-
--- each document decodes to its tree
-abbrev pub AreDocuments : Form → List OwnedJsonb → List Tree → Type 0
-AreDocuments form documents ts = AllRelated (Decodes form) documents ts
-
--- one of the trees passes the limits
-abbrev pub HasTooLarge : Form → List Tree → Type 0
-HasTooLarge form [] = ⊥
-HasTooLarge form (t ∷ ts) = IsTooLarge form t ⊎ HasTooLarge form ts
 
 -- one array of all
 abbrev pub array_of : List Tree → Tree
@@ -48,14 +39,6 @@ single_or_array [] = None
 single_or_array (t ∷ []) = Some t
 single_or_array (t ∷ u ∷ ts) = Some (array_of (t ∷ u ∷ ts))
 
--- a document of the tree, or none where there is none
-abbrev pub IsDocumentOf : Form → Option OwnedJsonb → Option Tree → Type 0
-IsDocumentOf form found wanted = SameOption (Decodes form) found wanted
-
--- the tree, if there is one, passes the limits
-abbrev pub IsPast : Form → Option Tree → Type 0
-IsPast form wanted = IsSomeAnd wanted (IsTooLarge form)
-
 -- ---- what is answered
 
 -- Whatever tree the document decodes to and whatever the path means there, the answer is as promised of that.
@@ -67,8 +50,8 @@ ByMeanings mode document path Promise answer = (form : Form) (top : Tree) (outco
 -- documents of all that the path selects
 abbrev pub AreAll : Form → Outcome (List Tree) → Result (Vec OwnedJsonb Global) Error → Type 0
 AreAll form outcome answer =
-    Gives (λ v ts. AreDocuments form v.items ts) (IsOutOfMemory or TooLarge when IsOkAnd outcome (HasTooLarge form))
-    answer outcome
+    Gives (λ v ts. AllZip (Decodes form) v.items ts)
+    (IsOutOfMemory or TooLarge when IsOkAnd outcome (Any (IsTooLarge form))) answer outcome
 
 -- one array of it
 abbrev pub IsArrayOf : Form → Outcome (List Tree) → Result OwnedJsonb Error → Type 0
@@ -79,8 +62,8 @@ IsArrayOf form outcome answer =
 -- one document of it, where there is one to pick
 abbrev pub IsPicked : (List Tree → Option Tree) → Form → Outcome (List Tree) → Result (Option OwnedJsonb) Error → Type 0
 IsPicked pick form outcome answer =
-    Gives (λ found ts. IsDocumentOf form found (pick ts))
-    (IsOutOfMemory or TooLarge when IsOkAnd outcome (λ ts. IsPast form (pick ts))) answer outcome
+    Gives (λ found ts. SameOption (Decodes form) found (pick ts))
+    (IsOutOfMemory or TooLarge when IsOkAnd outcome (λ ts. IsSomeAnd (pick ts) (IsTooLarge form))) answer outcome
 
 -- whether it selects anything
 abbrev pub IsFound : Form → Outcome (List Tree) → Result Bool Error → Type 0

@@ -1,5 +1,6 @@
 -- Laws of the meaning of paths.
 use Rattle.std.specs.Prelude.{◌≡◌, ◌↔◌, ℕ, ◌<◌, true, List, Some, Ok, Err}
+use Rattle.std.specs.List.{AllZip}
 use Rattle.jsonb_doc.specs.Answer.{Outcome}
 use Rattle.jsonb_doc.specs.Order.{IsEqual}
 use Rattle.jsonb_doc.specs.Payload.{Form}
@@ -10,7 +11,6 @@ use Rattle.jsonb.specs.PathText.{path_text}
 use Rattle.jsonb.specs.PathTree.{Entry, Step}
 use Rattle.jsonb.specs.Positions.{IsPosition}
 use Rattle.jsonb.specs.ItemSteps.{is_meant}
-use Rattle.jsonb.specs.Related.{AllRelated}
 use Rattle.jsonb.specs.Meaning.{meaning, Means, predicate}
 use Rattle.jsonb.specs.declared.selector.document.Mode.{Mode}
 use Rattle.jsonb.specs.declared.selector.document.Mode.TheVariants.{Lax, Strict}
@@ -23,7 +23,7 @@ StrictImpliesLax =
 
 -- the same refusal, or lists that are equal by value member by member
 abbrev pub SameByValue : Outcome (List Tree) → Outcome (List Tree) → Type 0
-SameByValue (Ok ts) (Ok us) = AllRelated IsEqual ts us
+SameByValue (Ok ts) (Ok us) = AllZip IsEqual ts us
 SameByValue (Err e) (Err f) = e ≡ f
 SameByValue _ _ = ⊥
 

@@ -6,8 +6,8 @@
 ghost use Rattle.std.specs.Prelude.{◌≡◌, ◌↔◌, ℕ, Bool, true, false, List, IfSome};
 ghost use Rattle.jsonb.specs.PathDocuments.{has_document};
 ghost use Rattle.jsonb.specs.PathEquality.{SameLiteral, SameStep, SameExpression, SamePath, PrintsAsEqual};
-ghost use Rattle.jsonb.specs.PathGrammar.{json_path, another_entry, spaced_inner, path_with, path_step, another_atom, another_and, nested_or};
-ghost use Rattle.jsonb.specs.PathLaws.{ReadsBack, RulesHold};
+ghost use Rattle.jsonb.specs.PathGrammar.{json_path, spaced, spaced_entry, spaced_inner, path_with, path_step, atom_with, and_with, nested_or};
+ghost use Rattle.jsonb.specs.PathLaws.{behind, ReadsBack, RulesHold};
 ghost use Rattle.jsonb.specs.PathTree.{Literal, Step, raw};
 ghost use Rattle.jsonb.specs.PathViews.{place_view, entry_view, end_view, levels_view, literal_view, operator_view, sign_view, step_view, expression_view, path_view};
 ghost use Rattle.jsonb.specs.SelectorLaws.{StrictImpliesLax, VariantsChangeNoMeaning, PrintsWithMeaning, PositionsAreMeant};
@@ -21,6 +21,7 @@ ghost use Rattle.jsonb.specs.contracts.path.RecursiveLevelEndPartialEq.TheImpl.{
 ghost use Rattle.jsonb.specs.contracts.path.RecursiveLevelPartialEq.TheImpl.{eq-value as levels_equal};
 ghost use Rattle.jsonb.specs.contracts.path.UnaryOperatorPartialEq.TheImpl.{eq-value as signs_equal};
 ghost use Rattle.jsonb.specs.contracts.path.compare.PathValuePartialEq.TheImpl.{eq-value as literals_equal};
+ghost use Rattle.jsonb_keypath.specs.Rules.{literal};
 ghost use Rattle.jsonb_keypath.specs.TokenLaws.{ReadsSome};
 
 use crate::path::{
@@ -47,12 +48,14 @@ pub fn rules_hold_without_bounds(text: &[u8])
 /// Each rule that the grammar repeats reads a byte at least, inside parentheses too. So a repetition goes on
 /// until its rule fails.
 pub fn repeated_rules_read_some()
-    ensures entries { ReadsSome another_entry }
+    ensures entries { ReadsSome (behind (literal ",") spaced_entry) }
     ensures operand_steps { ReadsSome spaced_inner }
     ensures path_steps { ReadsSome path_step }
     ensures nested_steps { (n : ℕ) → ReadsSome (path_with (nested_or n)) }
-    ensures conditions { (n : ℕ) (is_in_filter : Bool) → ReadsSome (another_atom (nested_or n) is_in_filter) }
-    ensures alternatives { (n : ℕ) (is_in_filter : Bool) → ReadsSome (another_and (nested_or n) is_in_filter) }
+    ensures conditions { (n : ℕ) (is_in_filter : Bool)
+        → ReadsSome (behind (spaced (literal "&&")) (atom_with (nested_or n) is_in_filter)) }
+    ensures alternatives { (n : ℕ) (is_in_filter : Bool)
+        → ReadsSome (behind (spaced (literal "||")) (and_with (nested_or n) is_in_filter)) }
 {}
 
 /// Where the strict meaning of a path is a list, its lax meaning is the same list.

@@ -85,8 +85,8 @@ pub enum Path<'a> {
 
 impl Path<'_> {
     ghost use Rattle.std.specs.Prelude.{◌≡◌};
-    ghost use Rattle.jsonb.specs.PathTree.{is_expression};
     ghost use Rattle.jsonb.specs.PathViews.{step_view};
+    ghost use Rattle.jsonb.specs.Private.Last.{is_expression};
 
     fn is_expression(&self) -> bool
         ensures { result ≡ is_expression (step_view self.now) }

@@ -1,8 +1,8 @@
 -- Columns: rows of documents in one buffer, and what the calls write for them.
 use Rattle.std.specs.Prelude.{◌≡◌, ◌⊎◌, ◌<◌, ◌+◌, ◌-◌, nat_le, ℕ, List, [], ◌∷◌, map, flat_map, take, length, slice_range, slice_get, Option, Some, None, Result, Ok, Err, if◌then◌else◌, ⊤}
+use Rattle.std.specs.List.{AllZip}
 use Rattle.jsonb_doc.specs.declared.error.Error.{Error}
 use Rattle.jsonb_doc.specs.declared.error.Error.TheVariants.{OutOfMemory}
-use Rattle.jsonb.specs.Related.{AllRelated}
 use Rattle.jsonb_c.specs.Status.{ok, none, buffer_too_small, bad_offsets, status_of}
 use Rattle.jsonb_c.specs.Answers.{IsWritten}
 use Rattle.jsonb_c.specs.declared.column.join.Progress.{Progress}
@@ -51,7 +51,7 @@ IsCell IsAnswerTo _ _ = ⊥
 
 -- the cells are those of the first rows
 abbrev pub AreCells : {A : Type 0} → (List ℕ → Found A → Type 0) → List (Option (List ℕ)) → List (Cell A) → Type 0
-AreCells IsAnswerTo column cells = AllRelated (IsCell IsAnswerTo) (take (length cells) column) cells
+AreCells IsAnswerTo column cells = AllZip (IsCell IsAnswerTo) (take (length cells) column) cells
 
 -- ---- a status a row
 

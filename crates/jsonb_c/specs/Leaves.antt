@@ -1,13 +1,12 @@
 -- The leaves of a document, as two columns.
 use Rattle.std.specs.Prelude.{◌≡◌, ◌⊎◌, ◌≤◌, ◌<◌, ◌+◌, ℕ, false, List, [], ◌∷◌, map, length, Result, Ok, Err, MatchResult}
-use Rattle.std.specs.List.{concat}
+use Rattle.std.specs.List.{concat, AllZip}
 use Rattle.jsonb_doc.specs.declared.error.Error.{Error}
 use Rattle.jsonb_doc.specs.Answer.{IsOutOfMemory}
 use Rattle.jsonb_doc.specs.Tree.{Tree}
 use Rattle.jsonb_doc.specs.Payload.{Form}
 use Rattle.jsonb_doc.specs.Format.{Decodes}
 use Rattle.jsonb.specs.KeyPathText.{key_path_text}
-use Rattle.jsonb.specs.Related.{AllRelated}
 use Rattle.jsonb_raw.specs.Leaves.{Leaf, leaves}
 use Rattle.jsonb_c.specs.Status.{ok, buffer_too_small, status_of}
 use Rattle.jsonb_c.specs.Answers.{IsWritten}
@@ -24,7 +23,7 @@ IsRowOfLeaf form leaf row = (row.0 ≡ key_path_text leaf.0) × Decodes form row
 -- a row for each leaf, in stored order
 abbrev pub AreLeavesOf : Form → Tree → Result (List LeafRow) Error → Type 0
 AreLeavesOf form t answer =
-    MatchResult answer (λ found. AllRelated (IsRowOfLeaf form) (leaves false t) found) IsOutOfMemory
+    MatchResult answer (λ found. AllZip (IsRowOfLeaf form) (leaves false t) found) IsOutOfMemory
 
 abbrev pub paths_of : List LeafRow → List (List ℕ)
 paths_of found = map (λ row. row.0) found

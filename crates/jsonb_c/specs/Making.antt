@@ -2,7 +2,7 @@
 use Rattle.std.specs.Prelude.{◌≡◌, ◌⊎◌, ◌+ℤ◌, ◌*ℤ◌, ◌^◌, ℕ, ℤ, pos, Bool, true, ◌&&◌, List, [], ◌∷◌, length, Option, Some, None, option_map, is_some, slice_get, Result, Ok, Err, FitsSigned, MatchOption, MatchResult, IsSomeAnd, ◌<◌, if◌then◌else◌}
 use Rattle.std.specs.Int.{w64}
 use Rattle.jsonb_doc.specs.declared.error.Error.{Error}
-use Rattle.std.specs.List.{zip}
+use Rattle.std.specs.List.{zip, AllZip}
 use Rattle.jsonb_doc.specs.declared.error.Error.TheVariants.{ObjectDuplicateKey, TooLarge}
 use Rattle.jsonb_doc.specs.Answer.{Gives, Outcome, IsOutOfMemory, IsOutOfMemoryOrTooLarge, ◌or◌when◌}
 use Rattle.jsonb_doc.specs.Limits.{IsTooLarge}
@@ -11,7 +11,6 @@ use Rattle.jsonb_doc.specs.Number.{Number, number_from, decimal64, decimal128}
 use Rattle.jsonb_doc.specs.Tree.{Tree, array, number, object, members, pairs_of, trees_of, children_of}
 use Rattle.jsonb_doc.specs.Payload.{Form}
 use Rattle.jsonb_doc.specs.Format.{Decodes}
-use Rattle.jsonb.specs.Related.{AllRelated}
 use Rattle.jsonb_c.specs.Status.{ok, none, buffer_too_small, status_of}
 use Rattle.jsonb_c.specs.Answers.{DeliversNothing, IsWritten}
 
@@ -48,7 +47,7 @@ IsRowOf form None t = ⊥
 
 -- an array of the rows
 abbrev pub MakesArray : List (Option (List ℕ)) → Result (List ℕ) Error → Type 0
-MakesArray column answer = (form : Form) (ts : List Tree) → AllRelated (IsRowOf form) column ts
+MakesArray column answer = (form : Form) (ts : List Tree) → AllZip (IsRowOf form) column ts
     → MatchResult answer (λ made. Decodes form made (array (trees_of ts)))
     (IsOutOfMemoryOrTooLarge form (array (trees_of ts)))
 
@@ -69,7 +68,7 @@ IsObjectOf form rows answer = Gives (λ made ps. Decodes form made (object (pair
 -- the same of names beside a column of documents
 abbrev pub MakesObject : List (List ℕ) → List (Option (List ℕ)) → Result (List ℕ) Error → Type 0
 MakesObject names column answer =
-    (form : Form) (ts : List Tree) → AllRelated (IsRowOf form) column ts → IsObjectOf form (zip names ts) answer
+    (form : Form) (ts : List Tree) → AllZip (IsRowOf form) column ts → IsObjectOf form (zip names ts) answer
 
 -- ---- counts
 

@@ -1,13 +1,12 @@
 //! The leaves of a document as two columns: their key paths, and their documents.
 
 ghost use Rattle.std.specs.Prelude.{◌≡◌, ◌++◌, ◌∷◌, [], IfErr, IfOk, List, MatchResult, ℕ, ◌≤◌, false, length, nat_le, nat_lt, ◌&&◌};
-ghost use Rattle.std.specs.List.{concat};
+ghost use Rattle.std.specs.List.{concat, AllZip};
 ghost use Rattle.jsonb_doc.specs.Answer.{IsDecodingError, IsOutOfMemory, ◌or◌};
 ghost use Rattle.jsonb_doc.specs.declared.error.Error.TheVariants.{OutOfMemory, TooLarge};
 ghost use Rattle.jsonb_doc.specs.Format.{Decodes};
 ghost use Rattle.jsonb_doc.specs.Payload.{Form};
 ghost use Rattle.jsonb_doc.specs.Tree.{Tree};
-ghost use Rattle.jsonb.specs.Related.{AllRelated};
 ghost use Rattle.jsonb_raw.specs.Leaves.{leaves};
 ghost use Rattle.jsonb_c.specs.Answers.{HandsOver, IsWritten, OfDocument};
 ghost use Rattle.jsonb_c.specs.Private.LeafColumns.{HasLeaves, HasRows, leaf_row};
@@ -162,7 +161,7 @@ fn leaf_columns(alloc: Global, document: &[u8]) -> Result<LeafColumns, Error>
     ensures leaves { MatchResult result
         (λ columns. (found : List LeafRow) × HasLeaves columns found
         × ((form : Form) (t : Tree) → Decodes form document.now t
-        → AllRelated (IsRowOfLeaf form) (leaves false t) found))
+        → AllZip (IsRowOfLeaf form) (leaves false t) found))
         (λ e. (form : Form) (t : Tree) → Decodes form document.now t → IsOutOfMemory e) }
     ensures errors { IfErr result (IsDecodingError or OutOfMemory or TooLarge) }
 {

@@ -3,6 +3,7 @@ use Rattle.std.proofs.Common.{◌≡◌, ◌↔◌, ℕ, suc, zero, ℤ, Bool, t
 use Rattle.std.specs.List.{remove}
 use Rattle.std.specs.Char.{to_ascii_lowercase}
 use Rattle.std.proofs.lemmas.Slice.Eq.{bytes_eq-Decides}
+use Rattle.std.specs.Str.{str_eq_ignore_ascii_case}
 use Rattle.jsonb_doc.specs.Tree.{Tree, array, object, Trees, Pairs, elements, trees_of, field_of}
 use Rattle.jsonb_doc.specs.Payload.{Form}
 use Rattle.jsonb_doc.specs.Format.{Decodes}
@@ -11,7 +12,7 @@ use Rattle.jsonb_doc.specs.declared.item.Item.{Item}
 use Rattle.jsonb_doc.specs.declared.item.Item.TheVariants as item
 use Rattle.jsonb_doc.proofs.TreeLists.{trees_of-elements}
 use Rattle.jsonb_raw.specs.Places.{children, index_position}
-use Rattle.jsonb_raw.specs.Children.{element_at, same_ignoring_case, named_child, without_index, without_name}
+use Rattle.jsonb_raw.specs.Children.{element_at, named_child, without_index, without_name}
 
 -- ---- arrays and objects by their items
 
@@ -60,11 +61,11 @@ pub named_nowhere : (name : List ℕ) (t : Tree) → field_of name t ≡ None �
 named_nowhere name t is = rw is refl
 
 -- a test of the code decides whether texts are the same
-pub decided : (a b : List ℕ) (r : Bool) → (IsTrue r ↔ (map to_ascii_lowercase a ≡ map to_ascii_lowercase b)) → same_ignoring_case a b ≡ r
+pub decided : (a b : List ℕ) (r : Bool) → (IsTrue r ↔ (map to_ascii_lowercase a ≡ map to_ascii_lowercase b)) → str_eq_ignore_ascii_case a b ≡ r
 decided a b true test = (bytes_eq-Decides (map to_ascii_lowercase a) (map to_ascii_lowercase b)).1 (test.0 refl)
-decided a b false test = go (same_ignoring_case a b) refl
+decided a b false test = go (str_eq_ignore_ascii_case a b) refl
   where
-    go : (s : Bool) → same_ignoring_case a b ≡ s → s ≡ false
+    go : (s : Bool) → str_eq_ignore_ascii_case a b ≡ s → s ≡ false
     go false e = refl
     go true e = sym (test.1 ((bytes_eq-Decides (map to_ascii_lowercase a) (map to_ascii_lowercase b)).0 e))
 

@@ -5,10 +5,10 @@ use Rattle.std.specs.List.{find}
 use Rattle.std.specs.Char.{to_ascii_lowercase}
 use Rattle.std.specs.Map.{keys_of, values_of}
 use Rattle.std.specs.Option.{option_or}
-use Rattle.std.specs.Str.{bytes_eq}
+use Rattle.std.specs.Str.{bytes_eq, str_eq_ignore_ascii_case}
 use Rattle.jsonb_doc.specs.Tree.{Tree, object, Pairs, no_pairs, pair, members, value_under}
 use Rattle.jsonb_doc.proofs.WordLemmas.{bytes_eq-true, bytes_eq-same}
-use Rattle.jsonb_raw.specs.Children.{same_ignoring_case, named_child}
+use Rattle.jsonb_raw.specs.Children.{named_child}
 use Rattle.jsonb_raw.specs.Private.NamePositions.{position_in_some_case}
 use Rattle.jsonb_raw.proofs.PlaceLemmas.{position-cons}
 
@@ -24,7 +24,8 @@ behind passed o = option_map (λ n. passed + n) o
 -- where the first of those that were passed in another case stands, is known
 abbrev pub found_behind_both : ℕ → Option ℕ → List ℕ → List (List ℕ) → Option ℕ
 found_behind_both passed first name ks =
-    option_or (behind passed (position (λ key. bytes_eq key name) ks)) (option_or first (behind passed (position (λ key. same_ignoring_case key name) ks)))
+    option_or (behind passed (position (λ key. bytes_eq key name) ks))
+    (option_or first (behind passed (position (λ key. str_eq_ignore_ascii_case key name) ks)))
 
 one_behind : (passed : ℕ) (o : Option ℕ) → behind (passed + 1) o ≡ behind passed (option_map suc o)
 one_behind passed None = refl
@@ -38,11 +39,11 @@ both_here passed first name key ks rest wanted split same e =
     rw (split, at, zero_more) at e
 
 pub both_other : (passed : ℕ) (first : Option ℕ) (name key : List ℕ) (ks rest : List (List ℕ)) (wanted : Option ℕ) → ks ≡ key ∷ rest
-    → bytes_eq key name ≡ false → same_ignoring_case key name ≡ true → found_behind_both passed first name ks ≡ wanted
+    → bytes_eq key name ≡ false → str_eq_ignore_ascii_case key name ≡ true → found_behind_both passed first name ks ≡ wanted
     → found_behind_both (passed + 1) (option_or first (Some passed)) name rest ≡ wanted
 both_other passed first name key ks rest wanted split other same e =
     let exact = position-cons (λ k. bytes_eq k name) key rest false other in
-    let in_case = position-cons (λ k. same_ignoring_case k name) key rest true same in
+    let in_case = position-cons (λ k. str_eq_ignore_ascii_case k name) key rest true same in
     let zero_more : passed + 0 ≡ passed = omega arith in
     ap₂ option_or (one_behind passed (position (λ k. bytes_eq k name) rest)) (by first _) ∙ rw (split, exact, in_case, zero_more) at e
   where
@@ -51,19 +52,19 @@ both_other passed first name key ks rest wanted split other same e =
     by (Some n) r = refl
 
 pub both_further : (passed : ℕ) (first : Option ℕ) (name key : List ℕ) (ks rest : List (List ℕ)) (wanted : Option ℕ) → ks ≡ key ∷ rest
-    → same_ignoring_case key name ≡ false → found_behind_both passed first name ks ≡ wanted
+    → str_eq_ignore_ascii_case key name ≡ false → found_behind_both passed first name ks ≡ wanted
     → found_behind_both (passed + 1) first name rest ≡ wanted
 both_further passed first name key ks rest wanted split differs e =
     let exact = position-cons (λ k. bytes_eq k name) key rest false (not_exact (bytes_eq key name) refl) in
-    let in_case = position-cons (λ k. same_ignoring_case k name) key rest false differs in
+    let in_case = position-cons (λ k. str_eq_ignore_ascii_case k name) key rest false differs in
     ap₂ (λ a b. option_or a (option_or first b)) (one_behind passed (position (λ k. bytes_eq k name) rest))
-    (one_behind passed (position (λ k. same_ignoring_case k name) rest))
+    (one_behind passed (position (λ k. str_eq_ignore_ascii_case k name) rest))
     ∙ rw (split, exact, in_case) at e
   where
     not_exact : (b : Bool) → bytes_eq key name ≡ b → b ≡ false
     not_exact false is = refl
     not_exact true is =
-        sym (bytes_eq-same (map to_ascii_lowercase name)) ∙ ap (λ k. same_ignoring_case k name) (sym (bytes_eq-true key name is)) ∙ differs
+        sym (bytes_eq-same (map to_ascii_lowercase name)) ∙ ap (λ k. str_eq_ignore_ascii_case k name) (sym (bytes_eq-true key name is)) ∙ differs
 
 pub both_nowhere : (passed : ℕ) (first : Option ℕ) (name : List ℕ) (ks : List (List ℕ)) (wanted : Option ℕ) → ks ≡ []
     → found_behind_both passed first name ks ≡ wanted → first ≡ wanted
@@ -150,7 +151,7 @@ named_at name ps n at = by (position (λ key. bytes_eq key name) (keys_of (membe
         let s = stands_at (λ key. bytes_eq key name) (members ps) n (rw same at is) in
         record { value = s.value; rest = s.rest; there = s.there; named = rw (value_found name ps ∙ s.found) refl }
     by None is =
-        let s = stands_at (λ key. same_ignoring_case key name) (members ps) n (rw is at at) in
+        let s = stands_at (λ key. str_eq_ignore_ascii_case key name) (members ps) n (rw is at at) in
         let none = stands_nowhere (λ key. bytes_eq key name) (members ps) is in
         record { value = s.value; rest = s.rest; there = s.there; named = rw (value_found name ps, none) s.found }
 
@@ -161,5 +162,5 @@ named_at_none name ps none = by (position (λ key. bytes_eq key name) (keys_of (
     by (Some m) is = absurd (some_none m (rw is at none))
     by None is =
         let exact = stands_nowhere (λ key. bytes_eq key name) (members ps) is in
-        let in_case = stands_nowhere (λ key. same_ignoring_case key name) (members ps) (rw is at none) in
+        let in_case = stands_nowhere (λ key. str_eq_ignore_ascii_case key name) (members ps) (rw is at none) in
         rw (value_found name ps, exact, in_case) refl

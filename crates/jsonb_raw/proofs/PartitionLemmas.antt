@@ -2,7 +2,7 @@
 use Rattle.std.proofs.Common.{Bool, true, false, not, List, [], ◌∷◌, filter, cond, inl, inr, refl}
 use Rattle.jsonb_doc.specs.Tree.{Pairs, members, pairs_of}
 use Rattle.jsonb_doc.proofs.TreeLists.{members-pairs_of}
-use Rattle.jsonb_raw.specs.Objects.{TextSet, is_in, picked, dropped}
+use Rattle.jsonb_raw.specs.Objects.{TextSet, is_in}
 use Rattle.jsonb_raw.specs.Partition.{IsPartitionedInto}
 use Rattle.jsonb_raw.specs.ObjectsLaws.{IsParted}
 
@@ -17,10 +17,13 @@ filters_deal {A} test (z ∷ zs) = go (test z) (filters_deal test zs)
     go false dealt = inr (filter (λ z. not (test z)) zs, refl, dealt)
 
 pub parted : (set : TextSet) (ps : Pairs) → IsParted set ps
-parted set ps = record {
-  picked = pairs_of (picked set (members ps));
-  others = pairs_of (dropped set (members ps));
-  pick = refl;
-  delete = refl;
-  dealt = rw (members-pairs_of (picked set (members ps)), members-pairs_of (dropped set (members ps))) (filters_deal (λ p. is_in set p.0) (members ps));
-}
+parted set ps =
+    let inside = filter (λ p. is_in set p.0) (members ps) in
+    let outside = filter (λ p. not (is_in set p.0)) (members ps) in
+    record {
+      picked = pairs_of inside;
+      others = pairs_of outside;
+      pick = refl;
+      delete = refl;
+      dealt = rw (members-pairs_of inside, members-pairs_of outside) (filters_deal (λ p. is_in set p.0) (members ps));
+    }

@@ -1,9 +1,8 @@
 -- What the calls on the children of a document answer.
-use Rattle.std.specs.Prelude.{ℕ, ℤ, Bool, not, List, map, filter, length, slice_get, Option, Some, None, option_map, option_and_then, unwrap_or, if◌then◌else◌}
+use Rattle.std.specs.Prelude.{ℕ, ℤ, Bool, not, List, filter, length, slice_get, Option, Some, None, option_map, option_and_then, unwrap_or, if◌then◌else◌}
 use Rattle.std.specs.List.{find, remove}
 use Rattle.std.specs.Option.{option_or}
-use Rattle.std.specs.Char.{to_ascii_lowercase}
-use Rattle.std.specs.Str.{bytes_eq}
+use Rattle.std.specs.Str.{bytes_eq, str_eq_ignore_ascii_case}
 use Rattle.jsonb_doc.specs.Tree.{Tree, array, object, elements, members, field_of, trees_of, pairs_of}
 use Rattle.jsonb_raw.specs.Places.{index_position}
 use Rattle.jsonb_raw.specs.Arrays.{array_values}
@@ -13,13 +12,10 @@ use Rattle.jsonb_raw.specs.Exists.{is_text}
 abbrev pub element_at : ℕ → Tree → Option Tree
 element_at i t = option_and_then (λ ts. slice_get ts i) (array_values t)
 
--- the texts are equal where the case of ASCII letters doesn't count
-abbrev pub same_ignoring_case : List ℕ → List ℕ → Bool
-same_ignoring_case a b = bytes_eq (map to_ascii_lowercase a) (map to_ascii_lowercase b)
-
 -- the value of an object's first pair whose key is the name in some case of ASCII letters
 abbrev pub field_ignoring_case : List ℕ → Tree → Option Tree
-field_ignoring_case name (object ps) = option_map (λ p. p.1) (find (λ p. same_ignoring_case p.0 name) (members ps))
+field_ignoring_case name (object ps) =
+    option_map (λ p. p.1) (find (λ p. str_eq_ignore_ascii_case p.0 name) (members ps))
 field_ignoring_case name _ = None
 
 -- the value under a name, or else, where the case is ignored, under the first key that is the name in some case

@@ -15,14 +15,6 @@ TextSet = BTreeSet (Bor (List ℕ))
 abbrev pub is_in : TextSet → List ℕ → Bool
 is_in set name = contains_by (λ k. slice_cmp nat_cmp name k.now) set
 
--- the pairs whose keys are in the set
-abbrev pub picked : TextSet → List (List ℕ × Tree) → List (List ℕ × Tree)
-picked set ps = filter (λ p. is_in set p.0) ps
-
--- the pairs whose keys are not in the set
-abbrev pub dropped : TextSet → List (List ℕ × Tree) → List (List ℕ × Tree)
-dropped set ps = filter (λ p. not (is_in set p.0)) ps
-
 -- an object with other pairs, none of another tree
 abbrev pub with_pairs : (List (List ℕ × Tree) → List (List ℕ × Tree)) → Tree → Option Tree
 with_pairs change (object ps) = Some (object (pairs_of (change (members ps))))
@@ -30,11 +22,11 @@ with_pairs change _ = None
 
 -- an object's pairs whose keys are in the set
 abbrev pub object_pick : TextSet → Tree → Option Tree
-object_pick set t = with_pairs (picked set) t
+object_pick set t = with_pairs (filter (λ p. is_in set p.0)) t
 
 -- an object's pairs whose keys are not in the set
 abbrev pub object_delete : TextSet → Tree → Option Tree
-object_delete set t = with_pairs (dropped set) t
+object_delete set t = with_pairs (filter (λ p. not (is_in set p.0))) t
 
 -- an array of an object's keys
 abbrev pub object_keys : Tree → Option Tree

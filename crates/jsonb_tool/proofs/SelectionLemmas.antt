@@ -1,7 +1,8 @@
 -- From what a path selects, or says, to the lines that show it.
-use Rattle.std.proofs.Common.{◌≡◌, ℕ, List, [], ◌∷◌, Some, Result, Ok, Err, ◌⊎◌, inl, inr, refl, IsOkAnd}
+use Rattle.std.proofs.Common.{◌≡◌, ℕ, List, [], ◌∷◌, Some, Result, Ok, Err, ◌⊎◌, inl, inr, refl, arith, IsOkAnd}
 use Rattle.std.specs.Prelude.{Vec}
 use Rattle.std.specs.declared.alloc.Global.{Global}
+use Rattle.std.specs.List.{AllZip, Any}
 use Rattle.jsonb.specs.Error.{Error}
 use Rattle.jsonb.specs.Error.TheVariants.{OutOfMemory, TooLarge}
 use Rattle.jsonb.specs.Tree.{Tree}
@@ -13,9 +14,9 @@ use Rattle.jsonb.specs.Compare.{Truth}
 use Rattle.jsonb.specs.Meaning.{Means, meaning, predicate}
 use Rattle.jsonb.specs.PathGrammar.{json_path}
 use Rattle.jsonb.specs.PathTree.{Step}
-use Rattle.jsonb.specs.SelectorAnswers.{AreDocuments, HasTooLarge}
 use Rattle.jsonb.specs.declared.selector.document.Mode.TheVariants.{Lax}
 use Rattle.jsonb.proofs.ReadMeans.{read_means}
+use Rattle.jsonb.specs.Limits.{IsTooLarge}
 use Rattle.jsonb_tool.specs.Output.{ShowsSelection, ShowsTrees, ShowsList, ShowsPredicate, ShowsTruth, truth_line}
 use Rattle.jsonb_tool.specs.Views.{found_lines}
 
@@ -24,27 +25,28 @@ use Rattle.jsonb_tool.specs.Views.{found_lines}
 -- what a selection by the path answers
 abbrev pub SelectsBy : List Step → List ℕ → Result (Vec OwnedJsonb Global) Error → Type 0
 SelectsBy path bytes r = (form : Form) (top : Tree) (outcome : Result (List Tree) Error) → Decodes form bytes top → Means form Lax path top outcome
-    → Gives (λ v ts. AreDocuments form v.items ts) (IsOutOfMemory or TooLarge when IsOkAnd outcome (HasTooLarge form)) r outcome
+    → Gives (λ v ts. AllZip (Decodes form) v.items ts) (IsOutOfMemory or TooLarge when IsOkAnd outcome (Any (IsTooLarge form))) r outcome
 
-shows_trees : (form : Form) (ts : List Tree) (documents : List OwnedJsonb) → AreDocuments form documents ts → ShowsTrees form ts (Ok (found_lines documents))
+shows_trees : (form : Form) (ts : List Tree) (documents : List OwnedJsonb) → AllZip (Decodes form) documents ts
+    → ShowsTrees form ts (Ok (found_lines documents))
 shows_trees form [] [] h = refl
 shows_trees form [] (d ∷ documents) h = absurd h
 shows_trees form (t ∷ ts) [] h = absurd h
 shows_trees form (t ∷ ts) (d ∷ documents) h = (d ∷ documents, h, refl)
 
 shows_list : (form : Form) (o : Result (List Tree) Error) (v : Vec OwnedJsonb Global)
-    → Gives (λ w ts. AreDocuments form w.items ts) (IsOutOfMemory or TooLarge when IsOkAnd o (HasTooLarge form)) (Ok v) o
+    → Gives (λ w ts. AllZip (Decodes form) w.items ts) (IsOutOfMemory or TooLarge when IsOkAnd o (Any (IsTooLarge form))) (Ok v) o
     → ShowsList form o (Ok (found_lines v.items))
 shows_list form (Ok ts) v h = shows_trees form ts v.items h.ok
 shows_list form (Err e) v h = absurd h.ok
 
-too_large_list : (form : Form) (ts : List Tree) (e : Error) → e ≡ TooLarge → HasTooLarge form ts → ShowsTrees form ts (Err e)
-too_large_list form [] e is h = absurd h
+too_large_list : (form : Form) (ts : List Tree) (e : Error) → e ≡ TooLarge → Any (IsTooLarge form) ts → ShowsTrees form ts (Err e)
+too_large_list form [] e is h = absurd (omega (arith, h.2))
 too_large_list form (t ∷ ts) e is h = (is, h)
 
 -- another refusal than want of memory is that of the path, or says that a tree is too large
 shows_refusal : (form : Form) (o : Result (List Tree) Error) (e : Error) → (e ≡ OutOfMemory → ⊥)
-    → Gives (λ (w : Vec OwnedJsonb Global) ts. AreDocuments form w.items ts) (IsOutOfMemory or TooLarge when IsOkAnd o (HasTooLarge form)) (Err e) o
+    → Gives (λ (w : Vec OwnedJsonb Global) ts. AllZip (Decodes form) w.items ts) (IsOutOfMemory or TooLarge when IsOkAnd o (Any (IsTooLarge form))) (Err e) o
     → ShowsList form o (Err e)
 shows_refusal form (Ok ts) e other h = elim h.err [
   | inl room ↦ elim room [ inl memory ↦ absurd (other memory) | inr large ↦ too_large_list form ts e large.0 large.1 ]

@@ -1,6 +1,7 @@
 -- What comes of a command: the lines that it prints, or its refusal.
 use Rattle.std.specs.Prelude.{◌≡◌, ◌⊎◌, ◌<◌, ◌≤◌, ℕ, true, false, List, [], ◌∷◌, ◌++◌, flat_map, Option, Some, None, Result, Ok, Err, IsSomeAnd, IsOkAnd, IsErrAnd, codes}
 use Rattle.std.specs.Int.{w8}
+use Rattle.std.specs.List.{Any, AllZip}
 use Rattle.jsonb.specs.Error.{Error}
 use Rattle.jsonb.specs.Error.TheVariants.{InvalidJsonb, UnsupportedNumber, InvalidJsonPath, InvalidKeyPath, TooLarge, TooDeep}
 use Rattle.jsonb.specs.Tree.{Tree}
@@ -19,8 +20,6 @@ use Rattle.jsonb.specs.Compare.{Truth}
 use Rattle.jsonb.specs.Meaning.{meaning, predicate}
 use Rattle.jsonb.specs.PathGrammar.{json_path}
 use Rattle.jsonb.specs.PathTree.{Step}
-use Rattle.jsonb.specs.Related.{AllRelated}
-use Rattle.jsonb.specs.SelectorAnswers.{HasTooLarge}
 use Rattle.jsonb.specs.declared.selector.document.Mode.TheVariants.{Lax}
 use Rattle.hex.specs.Hex.{encode_lower}
 use Rattle.jsonb_tool.specs.Requests.{Request, get, key, leaves, select, path_match}
@@ -100,9 +99,9 @@ document_line bytes = encode_lower bytes ++ codes "\n"
 abbrev pub ShowsTrees : Form → List Tree → Output → Type 0
 ShowsTrees form [] outcome = outcome ≡ Ok (codes "none\n")
 ShowsTrees form (t ∷ ts) (Ok lines) =
-    (documents : List (List ℕ)) × AllRelated (Decodes form) documents (t ∷ ts)
+    (documents : List (List ℕ)) × AllZip (Decodes form) documents (t ∷ ts)
     × (lines ≡ flat_map document_line documents)
-ShowsTrees form (t ∷ ts) (Err e) = (e ≡ TooLarge) × HasTooLarge form (t ∷ ts)
+ShowsTrees form (t ∷ ts) (Err e) = (e ≡ TooLarge) × Any (IsTooLarge form) (t ∷ ts)
 
 -- what a path has on a tree: its list, or its refusal
 abbrev pub ShowsList : Form → Result (List Tree) Error → Output → Type 0

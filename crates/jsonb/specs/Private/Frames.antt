@@ -3,7 +3,8 @@ use Rattle.std.specs.Prelude.{◌≡◌, ℕ, ◌+◌, ◌++◌, Bool, true, fal
 use Rattle.jsonb_keypath.specs.Rules.{Parsed, Rule, give, ◌>>=◌, ◌>>◌, parsed_map, literal, repeat}
 use Rattle.jsonb_keypath.specs.Tokens.{ws}
 use Rattle.jsonb.specs.PathTree.{BinaryOp, and_op, or_op, Step, filter, Expression, binary, exists, steps_of, whole_expression}
-use Rattle.jsonb.specs.PathGrammar.{spaced, spaced_operand, operator, path_with, atom_with, another_atom, another_and, expression, path_step, plain_path, root_expression}
+use Rattle.jsonb.specs.PathGrammar.{spaced, spaced_operand, operator, path_with, atom_with, expression, path_step, plain_path, root_expression}
+use Rattle.jsonb.specs.Private.Repeated.{another_atom, another_and}
 use Rattle.jsonb.specs.PathViews.{steps_view, expression_view}
 use Rattle.jsonb.specs.declared.parser.condition.Joined.{Joined}
 use Rattle.jsonb.specs.declared.parser.condition.Level.{Level}

@@ -2,7 +2,7 @@
 -- what stands before it, and closes behind it.
 use Rattle.std.specs.Prelude.{ℕ, List, [], ◌++◌, Bool, true, false, ◌&&◌, ◌||◌, Option, Some, None, codes, if◌then◌else◌}
 use Rattle.jsonb.specs.PathText.{operator_text, sign_text, literal_text, step_text, steps_text, expression_text}
-use Rattle.jsonb.specs.PathTree.{Step, filter, whole_expression, is_expression, Steps, no_steps, step, Expression, paths, value, binary, unary, exists}
+use Rattle.jsonb.specs.PathTree.{Step, filter, whole_expression, Steps, no_steps, step, Expression, paths, value, binary, unary, exists}
 use Rattle.jsonb.specs.SamePath.{is_same_operator, is_same_sign, is_same_literal, is_same_step, are_same_steps, is_same_expression}
 use Rattle.jsonb.specs.Private.ChainText.{parenthesis}
 
@@ -100,6 +100,11 @@ closing (unary op e) = []
 closing (exists ss) = if ends_in_filter (last_step ss) then codes "))" else codes ")"
 
 -- ---- whether two are the same before what stands last in them
+
+-- whether the step is an expression
+abbrev pub is_expression : Step → Bool
+is_expression (whole_expression e) = true
+is_expression _ = false
 
 abbrev pub is_same_opening : Step → Step → Bool
 is_same_opening s t = (is_filter s && is_filter t) || (is_expression s && is_expression t) || is_same_step s t

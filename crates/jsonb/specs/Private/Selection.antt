@@ -1,5 +1,5 @@
 -- What a path selects: places of the document, or what an expression makes.
-use Rattle.std.specs.Prelude.{◌≡◌, ◌&&◌, ℕ, Bool, true, false, List, [], ◌∷◌, map, Option, Some, None, Result, Err, if◌then◌else◌}
+use Rattle.std.specs.Prelude.{◌≡◌, ◌&&◌, ℕ, Bool, true, false, List, [], ◌∷◌, ◌++◌, map, Option, Some, None, Result, Err, if◌then◌else◌}
 use Rattle.jsonb_doc.specs.Answer.{Outcome, Gives, IsOutOfMemory}
 use Rattle.jsonb_doc.specs.declared.error.Error.{Error}
 use Rattle.jsonb_doc.specs.declared.error.Error.TheVariants.{InvalidJsonPath}
@@ -38,6 +38,13 @@ IsAt document spot t = Locates document.bytes.now spot t
 
 abbrev pub HasTree : Document → Tree → Type 0
 HasTree document t = IsAt document document.root t
+
+-- what a step gives of the tree at a place stands behind the places that the list had
+abbrev pub PushesStep : List ℕ → Spot → List Spot → List Spot → Result (Unit {0}) Error
+    → (Tree → Outcome (List Tree)) → Type 0
+PushesStep bytes item old new answer step =
+    (t : Tree) (before : List Tree) → Locates bytes item t → AllRelated (Locates bytes) old before
+    → Gives (λ _ ts. AllRelated (Locates bytes) new (before ++ ts)) IsOutOfMemory answer (step t)
 
 -- the value that an operand's value is
 abbrev pub atom_value : Atom → val.Value

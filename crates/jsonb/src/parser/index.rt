@@ -1,7 +1,8 @@
 //! Index entries: places in an array, and slices.
 
 ghost use Rattle.std.specs.Prelude.{◌≡◌, map, IfOk};
-ghost use Rattle.jsonb.specs.PathGrammar.{negated, place, entry, entries, spaced_entry, another_entry, entry_list};
+ghost use Rattle.jsonb.specs.PathGrammar.{negated, place, entry, entries, spaced_entry};
+ghost use Rattle.jsonb.specs.Private.Repeated.{another_entry, entry_list};
 ghost use Rattle.jsonb_keypath.specs.Views.{read_as, LeavesLess};
 ghost use Rattle.jsonb.specs.PathViews.{place_view, entry_view};
 

@@ -46,7 +46,7 @@ impl<'a> Path<'a> {
     {
         match copied_step(self, alloc)? {
             StepCopy::Whole(copy) => Ok(copy),
-            StepCopy::Holding { holder, inner } => {
+            StepCopy::Holding(holder, inner) => {
                 let copy = inner.clone(alloc)?;
                 Ok(holding(holder, Box::new(alloc, copy)?))
             }
@@ -131,7 +131,7 @@ fn copied_steps<'e, 'a>(
     while let Some(step) = rest.next() {
         match copied_step(step, alloc)? {
             StepCopy::Whole(copy) => copies.push(copy)?,
-            StepCopy::Holding { holder, inner } => {
+            StepCopy::Holding(holder, inner) => {
                 let steps = StepsSoFar { kind, copies, rest };
                 let frame = Frame::Held { holder, steps };
                 return Ok(Copied::Within { inner, frame });
@@ -155,14 +155,8 @@ fn copied_step<'e, 'a>(step: &'e Path<'a>, alloc: Global) -> Result<StepCopy<'e,
         Path::ColonField(name) => Path::ColonField(name.clone()?),
         Path::ObjectField(name) => Path::ObjectField(name.clone()?),
         Path::ArrayIndices(indices) => Path::ArrayIndices(indices.to_vec(alloc)?),
-        Path::FilterExpr(inner) => {
-            let holder = Holder::Filter;
-            return Ok(StepCopy::Holding { holder, inner });
-        }
-        Path::Expr(inner) => {
-            let holder = Holder::Whole;
-            return Ok(StepCopy::Holding { holder, inner });
-        }
+        Path::FilterExpr(inner) => return Ok(StepCopy::Holding(Holder::Filter, inner)),
+        Path::Expr(inner) => return Ok(StepCopy::Holding(Holder::Whole, inner)),
     };
     Ok(StepCopy::Whole(copy))
 }

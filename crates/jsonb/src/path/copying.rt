@@ -95,7 +95,7 @@ pub(super) enum StepCopy<'e, 'a, 'b> {
     /// To its end.
     Whole(Path<'b>),
     /// Not at all, since it holds this expression.
-    Holding { holder: Holder, inner: &'e Expr<'a> },
+    Holding(Holder, &'e Expr<'a>),
 }
 
 /// A leaf, and what stands around it.

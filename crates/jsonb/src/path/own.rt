@@ -54,7 +54,7 @@ impl Path<'_> {
     {
         match owned_step(self, alloc)? {
             StepCopy::Whole(copy) => Ok(copy),
-            StepCopy::Holding { holder, inner } => {
+            StepCopy::Holding(holder, inner) => {
                 let copy = inner.to_owned(alloc)?;
                 Ok(holding(holder, Box::new(alloc, copy)?))
             }
@@ -152,7 +152,7 @@ fn owned_rest<'e, 'a>(
     while let Some(step) = rest.next() {
         match owned_step(step, alloc)? {
             StepCopy::Whole(copy) => copies.push(copy)?,
-            StepCopy::Holding { holder, inner } => {
+            StepCopy::Holding(holder, inner) => {
                 let steps = StepsSoFar { kind, copies, rest };
                 let frame = Frame::Held { holder, steps };
                 return Ok(Copied::Within { inner, frame });
@@ -178,14 +178,8 @@ fn owned_step<'e, 'a>(step: &'e Path<'a>, alloc: Global) -> Result<StepCopy<'e, 
         Path::ColonField(name) => Path::ColonField(owned_text(name, alloc)?),
         Path::ObjectField(name) => Path::ObjectField(owned_text(name, alloc)?),
         Path::ArrayIndices(indices) => Path::ArrayIndices(indices.to_vec(alloc)?),
-        Path::FilterExpr(inner) => {
-            let holder = Holder::Filter;
-            return Ok(StepCopy::Holding { holder, inner });
-        }
-        Path::Expr(inner) => {
-            let holder = Holder::Whole;
-            return Ok(StepCopy::Holding { holder, inner });
-        }
+        Path::FilterExpr(inner) => return Ok(StepCopy::Holding(Holder::Filter, inner)),
+        Path::Expr(inner) => return Ok(StepCopy::Holding(Holder::Whole, inner)),
     };
     Ok(StepCopy::Whole(copy))
 }

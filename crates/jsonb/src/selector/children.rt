@@ -7,10 +7,12 @@ ghost use Rattle.jsonb_doc.specs.Spots.{Locates, HasSpotsLeft, spots_bound};
 ghost use Rattle.jsonb_doc.specs.Payload.{any};
 ghost use Rattle.jsonb_doc.specs.Item.{StandsFor};
 ghost use Rattle.jsonb_doc.specs.Tree.{Tree};
+ghost use Rattle.jsonb_raw.specs.Arrays.{array_values};
 ghost use Rattle.jsonb.specs.PathTree.{single, from_front};
 ghost use Rattle.jsonb.specs.PathViews.{entry_view};
 ghost use Rattle.jsonb.specs.Related.{AllRelated};
-ghost use Rattle.jsonb.specs.ItemSteps.{elements_of, values_of, field_step, values_step, elements_step, indices_step, picked_by, picked};
+ghost use Rattle.jsonb.specs.ItemSteps.{values_of, field_step, values_step, elements_step, indices_step, picked_by, picked};
+ghost use Rattle.jsonb.specs.Private.Selection.{PushesStep};
 ghost use Rattle.jsonb.specs.SelectionErrors.{IsSelectionError};
 
 use super::document::Mode;
@@ -21,7 +23,7 @@ use std::alloc::Global;
 /// The elements of an array. `None` is for another item.
 pub(crate) fn elements<'a>(bytes: &'a [u8], item: Spot) -> Result<Option<SpotIter<'a>>, Error>
     ensures meant { (t : Tree) → Locates bytes.now item t
-        → IsOkAnd result (λ found. SameOption (HasSpotsLeft bytes.now) found (elements_of t)) }
+        → IsOkAnd result (λ found. SameOption (HasSpotsLeft bytes.now) found (array_values t)) }
     ensures short { IfOk result (λ found. IfSome found (λ it. spots_bound it < 2 ^ 30)) }
     ensures errors { IfErr result IsDecodingError }
 {
@@ -36,7 +38,7 @@ pub(crate) fn array_elements<'a>(
     item: &Item<'_>,
 ) -> Result<Option<SpotIter<'a>>, Error>
     ensures meant { (t : Tree) → Locates bytes.now spot t → StandsFor any item.now t
-        → IsOkAnd result (λ found. SameOption (HasSpotsLeft bytes.now) found (elements_of t)) }
+        → IsOkAnd result (λ found. SameOption (HasSpotsLeft bytes.now) found (array_values t)) }
     ensures short { IfOk result (λ found. IfSome found (λ it. spots_bound it < 2 ^ 30)) }
     ensures errors { IfErr result IsDecodingError }
 {
@@ -108,10 +110,7 @@ pub(crate) fn push_field(
     item: Spot,
     nodes: &mut Vec<Spot>,
 ) -> Result<(), Error>
-    ensures meant { (t : Tree) (before : List Tree) → Locates bytes.now item t
-        → AllRelated (Locates bytes.now) nodes.old.items before
-        → Gives (λ _ ts. AllRelated (Locates bytes.now) nodes.new.items (before ++ ts))
-        IsOutOfMemory result (field_step mode name.now t) }
+    ensures meant { PushesStep bytes.now item nodes.old.items nodes.new.items result (field_step mode name.now) }
     ensures errors { IfErr result (IsSelectionError mode) }
 {
     match field_spot(bytes, item, name)? {
@@ -130,10 +129,7 @@ pub(crate) fn push_values(
     item: Spot,
     nodes: &mut Vec<Spot>,
 ) -> Result<(), Error>
-    ensures meant { (t : Tree) (before : List Tree) → Locates bytes.now item t
-        → AllRelated (Locates bytes.now) nodes.old.items before
-        → Gives (λ _ ts. AllRelated (Locates bytes.now) nodes.new.items (before ++ ts))
-        IsOutOfMemory result (values_step mode t) }
+    ensures meant { PushesStep bytes.now item nodes.old.items nodes.new.items result (values_step mode) }
     ensures errors { IfErr result (IsSelectionError mode) }
 {
     match values(bytes, item)? {
@@ -152,10 +148,7 @@ pub(crate) fn push_elements(
     item: Spot,
     nodes: &mut Vec<Spot>,
 ) -> Result<(), Error>
-    ensures meant { (t : Tree) (before : List Tree) → Locates bytes.now item t
-        → AllRelated (Locates bytes.now) nodes.old.items before
-        → Gives (λ _ ts. AllRelated (Locates bytes.now) nodes.new.items (before ++ ts))
-        IsOutOfMemory result (elements_step mode t) }
+    ensures meant { PushesStep bytes.now item nodes.old.items nodes.new.items result (elements_step mode) }
     ensures errors { IfErr result (IsSelectionError mode) }
 {
     match elements(bytes, item)? {
@@ -176,10 +169,8 @@ pub(crate) fn push_positions(
     item: Spot,
     nodes: &mut Vec<Spot>,
 ) -> Result<(), Error>
-    ensures meant { (t : Tree) (before : List Tree) → Locates bytes.now item t
-        → AllRelated (Locates bytes.now) nodes.old.items before
-        → Gives (λ _ ts. AllRelated (Locates bytes.now) nodes.new.items (before ++ ts))
-        IsOutOfMemory result (indices_step mode (map entry_view entries.now) t) }
+    ensures meant { PushesStep bytes.now item nodes.old.items nodes.new.items result
+        (indices_step mode (map entry_view entries.now)) }
     ensures errors { IfErr result (IsSelectionError mode) }
 {
     match elements(bytes, item)? {

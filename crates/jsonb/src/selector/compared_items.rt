@@ -135,32 +135,32 @@ pub(crate) fn item_truth(
     ensures errors { IfErr result (IsSelectionError mode) }
 {
     match member(mode, comparison.names, bytes, item)? {
-        Some(found) => value_truth(alloc, comparison.op, bytes, found, &comparison.literal),
+        Some(found) => value_truth(alloc, comparison, bytes, found),
         None => Ok(Some(false)),
     }
 }
 
-/// How the values of an item compare with a literal. Of a short number its digits tell it.
+/// Whether the comparison is true of the member's value. Of a short number its digits tell it.
 #[inline(always)]
 fn value_truth(
     alloc: Global,
-    op: BinaryOperator,
+    comparison: &MemberCompared<'_, '_>,
     bytes: &[u8],
-    item: Spot,
-    literal: &Atom<'_>,
+    value: Spot,
 ) -> Result<Option<bool>, Error>
-    ensures meant { (t : Tree) → Locates bytes.now item t
-        → Gives (λ b c. b ≡ c) IsOutOfMemory result
-        (Ok (compare (operator_view op) (values_of_item t) (atom_value literal.now ∷ []))) }
+    ensures meant { (t : Tree) → Locates bytes.now value t
+        → Gives (λ b c. b ≡ c) IsOutOfMemory result (Ok (compare (operator_view comparison.now.op)
+        (values_of_item t) (atom_value comparison.now.literal ∷ []))) }
     ensures errors { IfErr result (IsDecodingError or OutOfMemory) }
 {
-    if let Some(number) = spot_entry(bytes, item)?.short_number() {
-        return Ok(short_number_truth(op, number, literal));
+    let MemberCompared { op, literal, .. } = comparison;
+    match spot_entry(bytes, value)?.short_number() {
+        Some(number) => Ok(short_number_truth(*op, number, literal)),
+        None => other_truth(alloc, *op, bytes, value, literal),
     }
-    other_truth(alloc, op, bytes, item, literal)
 }
 
-/// The same of an item that is no short number.
+/// How the values of an item that is no short number compare with a literal.
 #[inline(never)]
 fn other_truth(
     alloc: Global,

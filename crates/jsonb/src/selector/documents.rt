@@ -1,7 +1,7 @@
 //! From what a path selects to documents.
 
 ghost use Rattle.std.specs.Prelude.{◌≡◌, ◌∷◌, ◌++◌, ◌<◌, [], List, Ok, IsOkAnd, IfErr, MatchResult};
-ghost use Rattle.std.specs.List.{HoldsAt};
+ghost use Rattle.std.specs.List.{HoldsAt, AllZip, Any};
 ghost use Rattle.jsonb_doc.specs.Tree.{Tree};
 ghost use Rattle.jsonb_doc.specs.Payload.{Form};
 ghost use Rattle.jsonb_doc.specs.Format.{Decodes};
@@ -9,11 +9,12 @@ ghost use Rattle.jsonb_doc.specs.Item.{StandsFor};
 ghost use Rattle.jsonb_doc.specs.Answer.{IsOutOfMemory, IsOutOfMemoryOrTooLarge, ◌or◌, ◌or◌when◌, Gives, IsDecodingError};
 ghost use Rattle.jsonb_doc.specs.declared.error.Error.TheVariants.{OutOfMemory, TooLarge};
 ghost use Rattle.jsonb_doc.specs.ArrayBuilder.{HoldsElements};
+ghost use Rattle.jsonb_doc.specs.Limits.{IsTooLarge};
 ghost use Rattle.jsonb_doc.specs.Spots.{Locates};
 ghost use Rattle.jsonb_raw.specs.Documents.{Makes, MakesOption};
 ghost use Rattle.jsonb.specs.Related.{AllRelated};
 ghost use Rattle.jsonb.specs.Private.Selection.{IsMadeItem, IsNumberItem, OfSelected};
-ghost use Rattle.jsonb.specs.SelectorAnswers.{AreDocuments, HasTooLarge, array_of, first_item, single_or_array};
+ghost use Rattle.jsonb.specs.SelectorAnswers.{array_of, first_item, single_or_array};
 ghost use Rattle.jsonb.specs.Private.Selected.{selected_len};
 
 use super::document::Document;
@@ -132,8 +133,8 @@ pub(crate) fn documents(
     selected: &Selected<'_>,
 ) -> Result<Vec<OwnedJsonb>, Error>
     ensures documents { OfSelected document.entry selected.now (λ form ts.
-        Gives (λ v us. AreDocuments form v.items us) (IsOutOfMemory or TooLarge when HasTooLarge form ts) result
-        (Ok ts)) }
+        Gives (λ v us. AllZip (Decodes form) v.items us) (IsOutOfMemory or TooLarge when Any (IsTooLarge form) ts)
+        result (Ok ts)) }
     ensures errors { IfErr result (IsDecodingError or OutOfMemory or TooLarge) }
 {
     match selected {
@@ -147,8 +148,8 @@ pub(crate) fn documents(
 fn node_documents(alloc: Global, bytes: &[u8], spots: &[Spot]) -> Result<Vec<OwnedJsonb>, Error>
     ensures documents { (form : Form) (top : Tree) (ts : List Tree) → Decodes form bytes.now top
         → AllRelated (Locates bytes.now) spots.now ts
-        → Gives (λ v us. AreDocuments form v.items us) (IsOutOfMemory or TooLarge when HasTooLarge form ts) result
-        (Ok ts) }
+        → Gives (λ v us. AllZip (Decodes form) v.items us) (IsOutOfMemory or TooLarge when Any (IsTooLarge form) ts)
+        result (Ok ts) }
     ensures errors { IfErr result (IsDecodingError or OutOfMemory or TooLarge) }
 {
     let mut documents = Vec::with_capacity(alloc, spots.len())?;
@@ -162,8 +163,8 @@ fn node_documents(alloc: Global, bytes: &[u8], spots: &[Spot]) -> Result<Vec<Own
 /// These numbers, each as a document.
 fn number_documents(alloc: Global, numbers: &[Number]) -> Result<Vec<OwnedJsonb>, Error>
     ensures documents { (form : Form) (ts : List Tree) → AllRelated IsNumberItem numbers.now ts
-        → Gives (λ v us. AreDocuments form v.items us) (IsOutOfMemory or TooLarge when HasTooLarge form ts) result
-        (Ok ts) }
+        → Gives (λ v us. AllZip (Decodes form) v.items us) (IsOutOfMemory or TooLarge when Any (IsTooLarge form) ts)
+        result (Ok ts) }
     ensures errors { IfErr result (IsOutOfMemory or TooLarge) }
 {
     let mut documents = Vec::with_capacity(alloc, numbers.len())?;
@@ -176,8 +177,8 @@ fn number_documents(alloc: Global, numbers: &[Number]) -> Result<Vec<OwnedJsonb>
 /// A part that an expression makes, as the only document.
 fn made_documents(alloc: Global, part: &MadeItem<'_>) -> Result<Vec<OwnedJsonb>, Error>
     ensures documents { (form : Form) (t : Tree) → IsMadeItem form part.now t
-        → Gives (λ v us. AreDocuments form v.items us) (IsOutOfMemory or TooLarge when HasTooLarge form (t ∷ [])) result
-        (Ok (t ∷ [])) }
+        → Gives (λ v us. AllZip (Decodes form) v.items us)
+        (IsOutOfMemory or TooLarge when Any (IsTooLarge form) (t ∷ [])) result (Ok (t ∷ [])) }
     ensures errors { IfErr result (IsOutOfMemory or TooLarge) }
 {
     let document = made_document(alloc, part)?;

@@ -220,38 +220,19 @@ fn step_many<'a>(
         IsOutOfMemory result (try_flat_map (step_meaning mode (taken_step expressions (step_view step.now)) top) ts) }
     ensures errors { IfErr result (IsSelectionError mode) }
 {
-    match filter_of(expressions, step) {
-        Some(e) => match member_compared(e) {
-            Some(comparison) => compared_items(alloc, mode, comparison, document.bytes, items),
-            None => filter_list(alloc, mode, e, document, items),
-        },
-        None => plain_steps(alloc, mode, step, document.bytes, items),
+    let Some(e) = filter_of(expressions, step) else {
+        return plain_steps(alloc, mode, step, document.bytes, items);
+    };
+    if let Some(comparison) = member_compared(e) {
+        return compared_items(alloc, mode, comparison, document.bytes, items);
     }
-}
-
-/// The items of a list that a filter by several conditions keeps, in order.
-#[cycle(steps)]
-#[inline(always)]
-fn filter_list<'a>(
-    alloc: Global,
-    mode: Mode,
-    e: &'a Expr<'_>,
-    document: Document<'a>,
-    items: &[Spot],
-) -> Result<NodeList, Error>
-    ensures meant { (top : Tree) (ts : List Tree) → HasTree document.entry top
-        → AllRelated (IsAt document.entry) items.now ts
-        → Gives (λ found us. AllRelated (IsAt document.entry) (node_spots found) us)
-        IsOutOfMemory result (try_flat_map (step_meaning mode (filter (expression_view e.now)) top) ts) }
-    ensures errors { IfErr result (IsSelectionError mode) }
-{
     match joined_filter(alloc, mode, e, document.bytes, items)? {
         Some(nodes) => Ok(nodes),
         None => filter_many(alloc, mode, e, document, items),
     }
 }
 
-/// The same of any filter.
+/// The items of a list that any filter keeps, in order.
 #[cycle(steps)]
 #[inline(never)]
 fn filter_many<'a>(

@@ -1,7 +1,7 @@
 use Rattle.std.proofs.Common.{◌≡◌, ◌++◌, ◌∷◌, [], sym, arith}
 use Rattle.std.specs.Prelude.{map}
 use Rattle.std.proofs.lemmas.List.{map_push}
-use Rattle.jsonb.specs.PathGrammar.{another_entry}
+use Rattle.jsonb.specs.Private.Repeated.{another_entry}
 use Rattle.jsonb.specs.PathViews.{entry_view}
 use Rattle.jsonb_keypath.proofs.RepeatLemmas.{loop-goes, loop-ends}
 use Rattle.jsonb.proofs.parser.index.entry_list_at.Goals as goal

@@ -1,7 +1,7 @@
 use Rattle.std.proofs.Common.{◌≡◌, ◌<◌, length}
 use Rattle.std.specs.Prelude.{map}
 use Rattle.jsonb_keypath.specs.Rules.{repeat}
-use Rattle.jsonb.specs.PathGrammar.{another_entry, entry_list}
+use Rattle.jsonb.specs.Private.Repeated.{another_entry, entry_list}
 use Rattle.jsonb.specs.PathViews.{entry_view}
 use Rattle.jsonb_keypath.proofs.RepeatLemmas.{behind}
 use Rattle.jsonb.proofs.parser.index.entry_list_at.Given as goal

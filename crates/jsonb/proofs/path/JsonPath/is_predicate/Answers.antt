@@ -1,6 +1,6 @@
 use Rattle.std.proofs.Common.{◌≡◌, ◌≤◌, List, [], ◌∷◌, length, false, refl, ap, ◌∙◌, arith}
-use Rattle.jsonb.specs.PathTree.{is_predicate}
-use Rattle.jsonb.specs.PathViews.{steps_view}
+use Rattle.jsonb.specs.PathTree.{Step, whole_expression, is_predicate}
+use Rattle.jsonb.specs.PathViews.{step_view, steps_view}
 use Rattle.jsonb.specs.declared.path.Path.{Path}
 use Rattle.jsonb.proofs.path.JsonPath.is_predicate.Goals as goal
 
@@ -8,7 +8,11 @@ use Rattle.jsonb.proofs.path.JsonPath.is_predicate.Goals as goal
 longer : (steps : List Path) → 2 ≤ length steps → false ≡ is_predicate (steps_view steps)
 longer [] h = refl
 longer (s ∷ []) h = absurd (omega arith)
-longer (s ∷ t ∷ rest) h = refl
+longer (s ∷ t ∷ rest) h = go (step_view s)
+  where
+    go : (first : Step) → false ≡ is_predicate (first ∷ steps_view (t ∷ rest))
+    go (whole_expression e) = refl
+    go _ = refl
 
 pub returns-in_default-2 : goal.returns-in_default-2
 returns-in_default-2 c = longer _ c.in_default.len_at_least ∙ ap (λ steps. is_predicate (steps_view steps)) c.as_slice.ensures.value

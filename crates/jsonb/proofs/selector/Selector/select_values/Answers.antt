@@ -1,16 +1,17 @@
 use Rattle.std.proofs.Common.{Err, ap, sym, ◌∙◌, subst}
 use Rattle.std.proofs.lemmas.Result.{err_from_is_err_and}
+use Rattle.std.specs.List.{AllZip, Any}
 use Rattle.jsonb_doc.specs.Format.{Decodes}
-use Rattle.jsonb.specs.SelectorAnswers.{AreDocuments, HasTooLarge}
+use Rattle.jsonb_doc.specs.Limits.{IsTooLarge}
 use Rattle.jsonb.proofs.DocumentAnswers.{handed_by, handed_error}
 use Rattle.jsonb.proofs.selector.Selector.select_values.Goals as goal
 
 pub returns-in_err-document-clause-values : goal.returns-in_err-document-clause-values
 returns-in_err-document-clause-values c = λ form top outcome d m.
     let p = err_from_is_err_and c.from_residual.result c.from_residual.ensures.1 in
-    handed_error (λ v ts. AreDocuments form v.items ts) (HasTooLarge form) (p.1 ∙ ap Err p.2) (c.in_err-document.ensures.meant form top outcome d m)
+    handed_error (λ v ts. AllZip (Decodes form) v.items ts) (Any (IsTooLarge form)) (p.1 ∙ ap Err p.2) (c.in_err-document.ensures.meant form top outcome d m)
 
 pub returns-clause-values : goal.returns-clause-values
 returns-clause-values c = λ form top outcome d m.
-    handed_by (HasTooLarge form) (c.in_ok-document.ensures.meant form top outcome d m)
+    handed_by (Any (IsTooLarge form)) (c.in_ok-document.ensures.meant form top outcome d m)
     (λ ts h. c.documents.ensures.documents form top ts (subst (λ b. Decodes form b top) (sym h.0) d) h.1)

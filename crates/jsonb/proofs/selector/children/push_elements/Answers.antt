@@ -1,6 +1,6 @@
 use Rattle.std.proofs.Common.{[], ◌∷◌}
 use Rattle.jsonb_doc.specs.Spots.{Locates, HasSpotsLeft}
-use Rattle.jsonb.specs.ItemSteps.{elements_of}
+use Rattle.jsonb_raw.specs.Arrays.{array_values}
 use Rattle.jsonb.proofs.GivesLemmas.{listed_itself, unlisted, pushed}
 use Rattle.jsonb.proofs.selector.children.push_elements.Goals as goal
 
@@ -9,13 +9,13 @@ returns-in_err-elements-clause-meant c = λ t before m a. absurd (c.in_err-eleme
 
 pub returns-in-Some-clause-meant : goal.returns-in-Some-clause-meant
 returns-in-Some-clause-meant c = λ t before m a.
-    listed_itself c.args.mode (t ∷ []) (HasSpotsLeft c.args.bytes.now) c.in-Some.elements (elements_of t)
+    listed_itself c.args.mode (t ∷ []) (HasSpotsLeft c.args.bytes.now) c.in-Some.elements (array_values t)
     (rw c.in-Some.is at (c.in_ok-elements.ensures.meant t m))
     (λ us h. c.push_spots.ensures.meant c.args.bytes.now us before h a)
 
 pub returns-in-Lax-clause-meant : goal.returns-in-Lax-clause-meant
 returns-in-Lax-clause-meant c = λ t before m a.
-    unlisted c.args.mode (t ∷ []) (HasSpotsLeft c.args.bytes.now) (elements_of t) (rw c.in-None.is at (c.in_ok-elements.ensures.meant t m))
+    unlisted c.args.mode (t ∷ []) (HasSpotsLeft c.args.bytes.now) (array_values t) (rw c.in-None.is at (c.in_ok-elements.ensures.meant t m))
     (rw c.in-Lax.is
     (pushed
     (Locates c.args.bytes.now) c.push_spot.result c.args.nodes.now.items c.push_spot.new.nodes.items c.args.item

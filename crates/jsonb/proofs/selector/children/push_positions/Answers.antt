@@ -1,7 +1,8 @@
 use Rattle.std.proofs.Common.{[], map}
 use Rattle.jsonb_doc.specs.Spots.{HasSpotsLeft}
+use Rattle.jsonb_raw.specs.Arrays.{array_values}
 use Rattle.jsonb.specs.PathViews.{entry_view}
-use Rattle.jsonb.specs.ItemSteps.{elements_of, picked}
+use Rattle.jsonb.specs.ItemSteps.{picked}
 use Rattle.jsonb.proofs.GivesLemmas.{listed}
 use Rattle.jsonb.proofs.selector.children.push_positions.Goals as goal
 
@@ -10,6 +11,6 @@ returns-in_err-elements-clause-meant c = λ t before m a. absurd (c.in_err-eleme
 
 pub returns-in-Some-clause-meant : goal.returns-in-Some-clause-meant
 returns-in-Some-clause-meant c = λ t before m a.
-    listed c.args.mode [] (HasSpotsLeft c.args.bytes.now) (picked (map entry_view c.args.entries.now)) c.in-Some.elements (elements_of t)
+    listed c.args.mode [] (HasSpotsLeft c.args.bytes.now) (picked (map entry_view c.args.entries.now)) c.in-Some.elements (array_values t)
     (rw c.in-Some.is at (c.in_ok-elements.ensures.meant t m))
     (λ us h. c.push_picked.ensures.meant c.args.bytes.now us before h a)

@@ -14,11 +14,11 @@ returns-in_err-spot_entry-clause-meant c = λ t l. absurd (c.in_err-spot_entry.e
 pub returns-in-Some-clause-meant : goal.returns-in-Some-clause-meant
 returns-in-Some-clause-meant c = λ t l.
     let content = c.in_ok-spot_entry.ensures.entry any l.whole t l.decodes l in
-    let literal = atom_value c.args.literal.now in
+    let literal = atom_value c.args.comparison.now.literal in
     record {
       ok = c.short_number_truth.ensures
-          ∙ sym (one_pair (operator_view c.args.op) (number (short_value c.in-Some.number)) literal)
-          ∙ ap (λ vs. compare (operator_view c.args.op) vs (literal ∷ []))
+          ∙ sym (one_pair (operator_view c.args.comparison.now.op) (number (short_value c.in-Some.number)) literal)
+          ∙ ap (λ vs. compare (operator_view c.args.comparison.now.op) vs (literal ∷ []))
           (sym (short_values _ _ t c.in-Some.number c.in-Some.ensures.kind c.in-Some.ensures.number content));
       err = tt;
     }

@@ -1,12 +1,12 @@
 use Rattle.std.proofs.Common.{List, take}
+use Rattle.std.specs.List.{AllZip}
 use Rattle.jsonb_doc.specs.Format.{Decodes}
 use Rattle.jsonb_doc.specs.Payload.{Form}
 use Rattle.jsonb_doc.specs.Spots.{Locates}
 use Rattle.jsonb_doc.specs.Tree.{Tree}
 use Rattle.jsonb.specs.Related.{AllRelated}
-use Rattle.jsonb.specs.SelectorAnswers.{AreDocuments}
 use Rattle.jsonb.proofs.selector.documents.node_documents.Given as goal
 
 abbrev pub invariant-loop-spot : goal.invariant-loop-spot
 invariant-loop-spot l = (form : Form) (top : Tree) (ts : List Tree) → Decodes form l.bytes top → AllRelated (Locates l.bytes) l.spots ts
-    → AreDocuments form l.documents.items (take l.spot-index ts)
+    → AllZip (Decodes form) l.documents.items (take l.spot-index ts)

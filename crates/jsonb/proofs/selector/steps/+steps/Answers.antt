@@ -10,7 +10,6 @@ use Rattle.jsonb.specs.Related.{AllRelated}
 use Rattle.jsonb.specs.Values.{values_of_item}
 use Rattle.jsonb.specs.Compare.{compare}
 use Rattle.jsonb.specs.Private.Selection.{IsAt, node_spots, taken_step, atoms_view}
-use Rattle.jsonb.specs.Private.Compared.{GivesIfAny}
 use Rattle.jsonb.specs.Private.Exists.{LeadsTo}
 use Rattle.jsonb.specs.Private.Kept.{conditions, is_condition, IsSame, AreKept, IsKeptFor}
 use Rattle.jsonb.specs.Private.Terms.{IsBelow, executed, last_truth, term_conditions, term_view, truths_view}
@@ -146,24 +145,20 @@ step_many-returns-in-Some-member_compared-clause-meant t c = λ top ts r a.
     same_outcome (ap (λ x. try_flat_map (step_meaning c.args.mode x top) ts) c.in-Some.ensures.expression)
     (c.compared_items.ensures.meant (expression_view c.in-Some.e.now) top ts c.in-Some-member_compared.ensures a)
 
-pub step_many-returns-in-None-member_compared-clause-meant : goal.step_many-returns-in-None-member_compared-clause-meant
-step_many-returns-in-None-member_compared-clause-meant t c = λ top ts r a.
-    same_outcome (ap (λ x. try_flat_map (step_meaning c.args.mode x top) ts) c.in-Some.ensures.expression) (c.filter_list.ensures.meant top ts r a)
-
-pub filter_list-returns-in_err-nodes-clause-meant : goal.filter_list-returns-in_err-nodes-clause-meant
-filter_list-returns-in_err-nodes-clause-meant t c = λ top ts r a.
+pub step_many-returns-in_err-nodes-clause-meant : goal.step_many-returns-in_err-nodes-clause-meant
+step_many-returns-in_err-nodes-clause-meant t c = λ top ts r a.
     let p = err_from_is_err_and c.from_residual.result c.from_residual.ensures.1 in
-    same_answer (p.1 ∙ ap Err p.2) (c.in_err-nodes.ensures.kept top ts a)
-
-pub filter_list-returns-in-Some-clause-meant : goal.filter_list-returns-in-Some-clause-meant
-filter_list-returns-in-Some-clause-meant t c = λ top ts r a.
-    subst (λ found. GivesIfAny (λ nodes us. AllRelated (IsAt c.args.document) (node_spots nodes) us) (Ok found)
-    (try_flat_map (step_meaning c.args.mode (math.filter (expression_view c.args.e.now)) top) ts)) c.in-Some.is (c.in_ok-nodes.ensures.kept top ts a)
+    same_outcome (ap (λ x. try_flat_map (step_meaning c.args.mode x top) ts) c.in-Some.ensures.expression)
+    (same_answer (p.1 ∙ ap Err p.2) (c.in_err-nodes.ensures.kept top ts a))
 
 pub step_many-returns-in-None-clause-meant : goal.step_many-returns-in-None-clause-meant
 step_many-returns-in-None-clause-meant t c = λ top ts r a.
-    same_outcome (ap (λ x. try_flat_map (step_meaning c.args.mode x top) ts) c.in-None.ensures.expression.1)
-    (c.plain_steps.ensures.meant top ts c.in-None.ensures.expression.0 a)
+    same_outcome (ap (λ x. try_flat_map (step_meaning c.args.mode x top) ts) c.in-Some.ensures.expression) (c.filter_many.ensures.meant top ts r a)
+
+pub step_many-returns-in_default-clause-meant : goal.step_many-returns-in_default-clause-meant
+step_many-returns-in_default-clause-meant t c = λ top ts r a.
+    same_outcome (ap (λ x. try_flat_map (step_meaning c.args.mode x top) ts) c.in_default.ensures.expression.1)
+    (c.plain_steps.ensures.meant top ts c.in_default.ensures.expression.0 a)
 
 -- ---- several steps
 

@@ -1,10 +1,10 @@
 use Rattle.std.proofs.Common.{Ok, Err, ap, sym, ◌∙◌, ◌++◌, map, flat_map}
 use Rattle.std.proofs.lemmas.Result.{err_from_is_err_and}
 use Rattle.jsonb_doc.proofs.SpotsTaken.{some_spots, no_spots}
-use Rattle.jsonb.specs.ItemSteps.{elements_of}
+use Rattle.jsonb_raw.specs.Arrays.{array_values}
 use Rattle.jsonb.specs.Values.{value_of_item}
 use Rattle.jsonb.specs.Private.Selection.{atom_value}
-use Rattle.jsonb.proofs.ItemKinds.{array_values, other_values}
+use Rattle.jsonb.proofs.ItemKinds.{values_of_array, other_values}
 use Rattle.jsonb.proofs.GivesLemmas.{same_outcome, same_answer, only_memory}
 use Rattle.jsonb.proofs.selector.values.item_values.Goals as goal
 
@@ -16,16 +16,16 @@ returns-in_err-elements-clause-meant c = λ t m. absurd (c.in_err-elements.ensur
 
 pub returns-in_err-push_each-in-Some-clause-meant : goal.returns-in_err-push_each-in-Some-clause-meant
 returns-in_err-push_each-in-Some-clause-meant c = λ t m.
-    let found = some_spots c.args.bytes.now c.in-Some.elements (elements_of t)
+    let found = some_spots c.args.bytes.now c.in-Some.elements (array_values t)
     (rw c.in-Some.is at (c.in_ok-elements.ensures.meant t m (c.in_ok-found.ensures.item t m))) in
     let p = err_from_is_err_and c.from_residual-in_err-push_each-in-Some.result c.from_residual-in_err-push_each-in-Some.ensures.1 in
     same_answer (p.1 ∙ ap Err p.2) (only_memory (c.in_err-push_each-in-Some.ensures.meant found.0 found.2))
 
 pub returns-in_ok-push_each-in-Some-clause-meant : goal.returns-in_ok-push_each-in-Some-clause-meant
 returns-in_ok-push_each-in-Some-clause-meant c = λ t m.
-    let found = some_spots c.args.bytes.now c.in-Some.elements (elements_of t)
+    let found = some_spots c.args.bytes.now c.in-Some.elements (array_values t)
     (rw c.in-Some.is at (c.in_ok-elements.ensures.meant t m (c.in_ok-found.ensures.item t m))) in
-    same_outcome (ap Ok (array_values t found.0 found.1))
+    same_outcome (ap Ok (values_of_array t found.0 found.1))
     (record {
       ok = (c.in_ok-push_each-in-Some.ensures.meant found.0 found.2).ok
           ∙ ap (λ l. map atom_value l ++ flat_map value_of_item found.0) c.new-values.ensures.items;
@@ -34,5 +34,5 @@ returns-in_ok-push_each-in-Some-clause-meant c = λ t m.
 
 pub returns-in-None-clause-meant : goal.returns-in-None-clause-meant
 returns-in-None-clause-meant c = λ t m.
-    let none = no_spots c.args.bytes.now (elements_of t) (rw c.in-None.is at (c.in_ok-elements.ensures.meant t m (c.in_ok-found.ensures.item t m))) in
+    let none = no_spots c.args.bytes.now (array_values t) (rw c.in-None.is at (c.in_ok-elements.ensures.meant t m (c.in_ok-found.ensures.item t m))) in
     record { ok = c.at_most_one.ensures ∙ c.item_atom-value.ensures t (c.in_ok-found.ensures.item t m) ∙ sym (other_values t none); err = tt }

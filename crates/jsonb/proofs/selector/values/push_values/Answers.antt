@@ -1,7 +1,7 @@
 use Rattle.std.proofs.Common.{Ok, ap}
 use Rattle.jsonb_doc.proofs.SpotsTaken.{some_spots, no_spots}
-use Rattle.jsonb.specs.ItemSteps.{elements_of}
-use Rattle.jsonb.proofs.ItemKinds.{array_values, other_values}
+use Rattle.jsonb_raw.specs.Arrays.{array_values}
+use Rattle.jsonb.proofs.ItemKinds.{values_of_array, other_values}
 use Rattle.jsonb.proofs.GivesLemmas.{same_outcome}
 use Rattle.jsonb.proofs.selector.values.push_values.Goals as goal
 
@@ -13,11 +13,11 @@ returns-in_err-elements-clause-meant c = λ t m. absurd (c.in_err-elements.ensur
 
 pub returns-in-Some-clause-meant : goal.returns-in-Some-clause-meant
 returns-in-Some-clause-meant c = λ t m.
-    let found = some_spots c.args.bytes.now c.in-Some.elements (elements_of t)
+    let found = some_spots c.args.bytes.now c.in-Some.elements (array_values t)
     (rw c.in-Some.is at (c.in_ok-elements.ensures.meant t m (c.in_ok-found.ensures.item t m))) in
-    same_outcome (ap Ok (array_values t found.0 found.1)) (c.push_each.ensures.meant found.0 found.2)
+    same_outcome (ap Ok (values_of_array t found.0 found.1)) (c.push_each.ensures.meant found.0 found.2)
 
 pub returns-in-None-clause-meant : goal.returns-in-None-clause-meant
 returns-in-None-clause-meant c = λ t m.
-    let none = no_spots c.args.bytes.now (elements_of t) (rw c.in-None.is at (c.in_ok-elements.ensures.meant t m (c.in_ok-found.ensures.item t m))) in
+    let none = no_spots c.args.bytes.now (array_values t) (rw c.in-None.is at (c.in_ok-elements.ensures.meant t m (c.in_ok-found.ensures.item t m))) in
     same_outcome (ap Ok (other_values t none)) (c.push_item.ensures.meant t (c.in_ok-found.ensures.item t m))

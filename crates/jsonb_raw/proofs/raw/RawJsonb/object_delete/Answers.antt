@@ -1,15 +1,16 @@
-use Rattle.std.proofs.Common.{◌≡◌, None, refl}
+use Rattle.std.proofs.Common.{◌≡◌, false, None, refl}
 use Rattle.jsonb_doc.specs.Tree.{members}
 use Rattle.jsonb_doc.specs.Format.{Decodes}
 use Rattle.jsonb_doc.proofs.LimitLemmas.{decoded_members}
-use Rattle.jsonb_raw.specs.Objects.{dropped, object_delete}
+use Rattle.jsonb_raw.specs.Objects.{object_delete}
 use Rattle.jsonb_raw.proofs.PartedRuns.{pairs_there, no_pairs_there}
 use Rattle.jsonb_raw.proofs.raw.RawJsonb.object_delete.Goals as goal
+use Rattle.jsonb_raw.specs.Private.PairSteps.{parted}
 
 pub returns-in_default-clause-pairs : goal.returns-in_default-clause-pairs
 returns-in_default-clause-pairs c = λ form t d.
     let d' : Decodes form c.as_bytes.result.now t = rw c.as_bytes.ensures d in
-    let none : object_delete c.args.keys.now t ≡ None = no_pairs_there form t _ (dropped c.args.keys.now)
+    let none : object_delete c.args.keys.now t ≡ None = no_pairs_there form t _ (parted false c.args.keys.now)
     c.in_default.is (c.in_ok-row.ensures.entries form t d') in
     rw none refl
 
