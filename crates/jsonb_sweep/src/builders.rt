@@ -141,17 +141,22 @@ fn object_build(rt: &HostRuntime) -> Result<bool, Error> {
     Ok(built?.as_slice() == LETTERS && is_kept)
 }
 
+/// Whether a push was right, by whether the builder has what was pushed; or it was refused, and the builder has not.
+fn is_taken(pushed: Result<(), Error>, is_there: bool) -> Result<bool, Error> {
+    if is_there {
+        return Ok(pushed.is_ok());
+    }
+    pushed?;
+    Ok(false)
+}
+
 /// Whether a builder takes an item, and holds it alone.
 pub fn array_takes(rt: &HostRuntime, item: &Item<'_>) -> Result<bool, Error> {
     let mut builder = ArrayBuilder::new(rt.alloc());
     begin(rt);
     let pushed = builder.push_item(item);
     end(rt);
-    let count = if pushed.is_ok() { 1 } else { 0 };
-    if builder.len() == count {
-        pushed?;
-    }
-    Ok(builder.len() == 1)
+    is_taken(pushed, builder.len() == 1)
 }
 
 /// Whether a builder takes a pair, and holds it alone.
@@ -160,10 +165,8 @@ pub fn object_takes(rt: &HostRuntime, key: &str, item: &Item<'_>) -> Result<bool
     begin(rt);
     let pushed = builder.push_item(key, item);
     end(rt);
-    if builder.contains_key(key) == pushed.is_ok() {
-        pushed?;
-    }
-    Ok(builder.len() == 1)
+    let has_one = builder.len() == 1;
+    Ok(builder.contains_key(key) == has_one && is_taken(pushed, has_one)?)
 }
 
 /// Whether a builder of the array's elements builds the array again.
