@@ -20,7 +20,7 @@ use Rattle.jsonb_raw.specs.SortableKey.{key, depths}
 use Rattle.jsonb.specs.Compare.{Truth}
 use Rattle.jsonb.specs.Meaning.{meaning}
 use Rattle.jsonb.specs.PathTree.{Step}
-use Rattle.jsonb.specs.SelectorAnswers.{IsTruthOf}
+use Rattle.jsonb.specs.SelectorAnswers.{IsPicked, IsTruthOf}
 use Rattle.jsonb.specs.declared.selector.document.Mode.{Mode}
 use Rattle.jsonb.specs.declared.selector.document.Mode.TheVariants.{Lax, Strict}
 use Rattle.jsonb_c.specs.Status.{ok, status_of}
@@ -52,6 +52,10 @@ abbrev pub ByMeaning : {A : Type 0} → Mode → List ℕ → Option (List Step)
     → (Form → Outcome (List Tree) → Result A Error → Type 0) → Result A Error → Type 0
 ByMeaning mode document read Promise answer =
     ByPath InvalidJsonPath read (λ path. OfDocument document (λ form t. Promise form (meaning mode path t))) answer
+
+-- one document of what the path selects, where there is one to pick
+abbrev pub PicksItem : (List Tree → Option Tree) → Mode → List ℕ → Option (List Step) → Answer → Type 0
+PicksItem pick mode document read answer = ByMeaning mode document read (IsPicked pick) answer
 
 -- what the path says of the document as a predicate, unless memory is refused
 abbrev pub Says : Mode → Option (List Step) → List ℕ → Result Truth Error → Type 0

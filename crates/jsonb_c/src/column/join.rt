@@ -1,7 +1,7 @@
 //! Answers of bytes, one behind the other.
 
-ghost use Rattle.std.specs.Prelude.{◌≡◌, ◌<◌, length};
-ghost use Rattle.jsonb_c.specs.Columns.{JoinsRows, JoinsSome};
+ghost use Rattle.std.specs.Prelude.{◌≡◌};
+ghost use Rattle.jsonb_c.specs.Columns.{JoinsRows};
 ghost use Rattle.jsonb_c.specs.Status.{code};
 
 use super::Column;
@@ -36,22 +36,6 @@ pub(crate) fn join_rows<C: RowWriter>(
     if positions.is_empty() {
         return do_nothing(Status::BufferTooSmall, progress);
     }
-    join_some(alloc, call, column, out, positions, statuses, progress)
-}
-
-fn join_some<C: RowWriter>(
-    alloc: Global,
-    call: &C,
-    column: &Column<'_>,
-    out: &mut [u8],
-    positions: &mut [u64],
-    statuses: &mut [u8],
-    progress: &mut Progress,
-) -> u32
-    requires { 0 < length positions.old }
-    ensures { JoinsSome (C.IsAnswerTo call.now) column.now
-        (out.old, positions.old, statuses.old) (out.new, positions.new, statuses.new) progress.new result }
-{
     let rows = column.len();
     let room = rows.min(positions.len() - 1).min(statuses.len());
     positions[0] = 0;

@@ -8,7 +8,7 @@ ghost use Rattle.jsonb.specs.SelectorAnswers.{first_item, root_bytes, single_or_
 ghost use Rattle.jsonb.specs.SelectorAnswers.{mode_of as selector_mode};
 ghost use Rattle.jsonb_c.specs.Answers.{HandsOverBool, HandsOverBytes, HandsOverFound, HandsOverTruth};
 ghost use Rattle.jsonb_c.specs.Private.Views.{pick_of};
-ghost use Rattle.jsonb_c.specs.Calls.{ByMeaning, Says, mode_of};
+ghost use Rattle.jsonb_c.specs.Calls.{ByMeaning, PicksItem, Says, mode_of};
 
 use crate::deliver::{deliver, deliver_made, show_bool, show_truth};
 use jsonb::{Error, JsonPath, OwnedJsonb, RawJsonb, Selector, parse_json_path};
@@ -24,8 +24,7 @@ pub extern "C" fn jsonb_select_value(
     out: &mut [u8],
     out_len: &mut usize,
 ) -> u32
-    ensures { HandsOverFound
-        (ByMeaning (mode_of strict) document.now (json_path path.now) (IsPicked single_or_array))
+    ensures { HandsOverFound (PicksItem single_or_array (mode_of strict) document.now (json_path path.now))
         (IsDocumentError (mode_of strict)) out.old out.new out_len.new result }
 {
     let item = select_item(alloc, document, path, strict, Pick::Value);
@@ -42,8 +41,7 @@ pub extern "C" fn jsonb_select_first(
     out: &mut [u8],
     out_len: &mut usize,
 ) -> u32
-    ensures { HandsOverFound
-        (ByMeaning (mode_of strict) document.now (json_path path.now) (IsPicked first_item))
+    ensures { HandsOverFound (PicksItem first_item (mode_of strict) document.now (json_path path.now))
         (IsDocumentError (mode_of strict)) out.old out.new out_len.new result }
 {
     let item = select_item(alloc, document, path, strict, Pick::First);
@@ -68,8 +66,7 @@ fn select_item(
     strict: bool,
     pick: Pick,
 ) -> Result<Option<OwnedJsonb>, Error>
-    ensures item { ByMeaning (mode_of strict) document.now (json_path path.now)
-        (IsPicked (pick_of pick)) result }
+    ensures item { PicksItem (pick_of pick) (mode_of strict) document.now (json_path path.now) result }
     ensures errors { IfErr result (IsDocumentError (mode_of strict)) }
 {
     let steps = parse_json_path(alloc, path)?;

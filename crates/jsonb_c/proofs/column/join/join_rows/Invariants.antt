@@ -1,5 +1,5 @@
 use Rattle.jsonb_c.specs.Columns.{Joined}
-use Rattle.jsonb_c.proofs.column.join.join_some.Given as goal
+use Rattle.jsonb_c.proofs.column.join.join_rows.Given as goal
 
 abbrev pub invariant-loop-index : goal.invariant-loop-index
 invariant-loop-index g l =

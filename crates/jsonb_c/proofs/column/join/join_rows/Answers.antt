@@ -1,12 +1,12 @@
 use Rattle.std.proofs.Common.{◌≡◌, ◌+◌, ◌<◌, length, true, false, ap, inr, arith, rules}
 use Rattle.jsonb_c.specs.Private.Buffers.{written_cell}
 use Rattle.jsonb_c.proofs.Rows.{joined_more, placed, not_placed, lacks_room}
-use Rattle.jsonb_c.proofs.column.join.join_some.Goals as goal
+use Rattle.jsonb_c.proofs.column.join.join_rows.Goals as goal
 
 pub returns-then-not-place : goal.returns-then-not-place
 returns-then-not-place g c =
     let refused : c.place.result ≡ false = search (rules, c.if-not-place.true) in
-    let said = not_placed _ _ _ _ c.place.result refused c.place.ensures in (
+    let said = not_placed _ _ _ _ c.place.result refused c.place.ensures in inr (
       rw said.1 c.loop-index.invariant,
       inr (lacks_room _ _ _ _ _ _ _ (written_cell c.ask_for_bytes-cell.result c.ask_for_bytes-cell.new.out.items) c.row.ensures c.loop-index.invariant c.ask_for_bytes-cell.ensures
           (ap length (rw c.deref.ensures.value at c.written_bytes-made.ensures)) said.0 c.to_u32.ensures),
@@ -25,7 +25,7 @@ loop-index-preserved g c =
 pub returns : goal.returns
 returns g c =
     let all : c.loop-index.index ≡ c.min-room.result = omega arith in
-    (rw all at c.loop-index.invariant, search rules)
+    inr (rw all at c.loop-index.invariant, search rules)
 
 pub overflow_add-at : goal.overflow_add-at
 overflow_add-at g c =
