@@ -209,7 +209,9 @@ def our_library():
     with open(os.path.join(copy, "crates.txt"), "w") as crates:
         crates.writelines([*lines, f"jsonb_speed staticlib: {' '.join(CRATES)}\n"])
     for name in CRATES:
-        shutil.copytree(os.path.join(TOP, "crates", name), os.path.join(copy, "crates", name), dirs_exist_ok=True)
+        crate = os.path.join(copy, "crates", name)
+        shutil.rmtree(crate, ignore_errors=True)  # (it may have files that are gone since)
+        shutil.copytree(os.path.join(TOP, "crates", name), crate)
     crate = os.path.join(copy, "crates", "jsonb_speed")
     # No crate of the repository, so that its file has no ending of one: the gate refuses such files outside of crates/.
     os.makedirs(os.path.join(crate, "src"), exist_ok=True)
