@@ -170,7 +170,8 @@ def edits_below(top, names):
     Where names are given, the edits of other crates are left out.
     """
     crates, faults = [], []
-    for crate in rt.rtlib.crates_below(top):
+    # (What a measurement copied lies in a folder out, and is no crate of the repository.)
+    for crate in [it for it in rt.rtlib.crates_below(top) if "/out/" not in os.path.relpath(it.folder, top)]:
         good, bad = rt.edits_of(crate) if not names or crate.name in names else ([], [])
         why = {it: read(it, crate.folder)[1] for it in good}
         why |= dict.fromkeys(bad, "this is no name or place for an edit")
