@@ -7,7 +7,7 @@
 
 Needs `rt`, `cargo` and `cc`. The crates are proved first where they are not (the library is built as `rt lib` does). The work lies in
 tools/speed/out, and the repository is left as it is. Best of N rounds (40) in four processes; in each the two sides take turns, with
-one allocator. Both are built for x86-64-v2 at the highest level of optimisation.
+one allocator that gives nothing back to the system. Both are built for x86-64-v2 at the highest level of optimisation.
 """
 import argparse
 import os
@@ -29,6 +29,9 @@ from documents import encode as document
 
 CRATES = ["jsonb_doc", "jsonb_keypath", "jsonb_raw", "jsonb"]
 PROCESSES = 4
+# The heap keeps what it got from the system: else it hands pages back and gets them anew in each call that takes much, and what
+# that costs hangs on where the heap happens to end.
+KEEPING_HEAP = {**os.environ, "GLIBC_TUNABLES": "glibc.malloc.trim_threshold=268435456:glibc.malloc.mmap_threshold=33554432"}
 RANDOM = random.Random(1)
 
 
@@ -256,7 +259,7 @@ class Row:
 
 
 def times_of_one(program, path, rounds):
-    said = subprocess.check_output([program, path, str(rounds)], text=True)
+    said = subprocess.check_output([program, path, str(rounds)], text=True, env=KEEPING_HEAP)
     return {name: (float(rust), float(ours)) for name, rust, ours in (line.split("\t") for line in said.splitlines())}
 
 
@@ -268,7 +271,7 @@ def times(program, path, rounds):
 
 def counted(program, path, name, side, calls):
     words = ["valgrind", "--tool=cachegrind", "--cache-sim=no", "--cachegrind-out-file=/dev/null"]
-    made = subprocess.run([*words, program, path, name, side, str(calls)], capture_output=True, text=True)
+    made = subprocess.run([*words, program, path, name, side, str(calls)], capture_output=True, text=True, env=KEEPING_HEAP)
     return int(re.search(r"I\s+refs:\s+([\d,]+)", made.stderr)[1].replace(",", ""))
 
 
