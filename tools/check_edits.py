@@ -31,7 +31,7 @@ import lanes
 from edits import rt, say
 
 # What the prover says of a proof that names something which the edit took away: that says nothing of the contract.
-NAMES_WHAT_IS_GONE = re.compile(r"has no field|is not in scope|has no `|was not admitted")
+NAMES_WHAT_IS_GONE = re.compile(r"has no field|is not in scope(?! here, so what is shown)|has no `|was not admitted")
 # Where it says that a goal without a written proof is open.
 OPEN_GOAL = re.compile(r"^note: (src/\S+?):(\d+):\d+: it is not proved that", re.M)
 
