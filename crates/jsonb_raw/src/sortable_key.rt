@@ -41,7 +41,8 @@ pub enum DepthWidth {
 fn behind_depth(item: Packed, depth: usize, width: DepthWidth) -> Result<Packed, Error>
     requires { item.len ≤ 14 }
     ensures placed { MatchResult result
-        (λ p. (packed_bytes p ≡ to_be_bytes (width_of width) depth ++ packed_bytes item) × (depth < depths (width_of width)))
+        (λ p. (packed_bytes p ≡ to_be_bytes (width_of width) depth ++ packed_bytes item)
+        × (depth < depths (width_of width)))
         (IsOutOfMemoryOrTooDeep depth (depths (width_of width))) }
     ensures few { IfOk result (λ p. p.len ≤ 16) }
 {
