@@ -6,6 +6,9 @@ use Rattle.jsonb_doc.specs.Payload.{NumberReader, Form, number_reader}
 use Rattle.jsonb_doc.specs.Private.Containers.{Holds, HasPairParts}
 use Rattle.jsonb_doc.specs.Readable.{IsLoneEntry, IsCut}
 use Rattle.jsonb_doc.specs.Private.Lengths.{HoldKeys}
+use Rattle.jsonb_doc.specs.Kinds.{kind_number, header_number}
+use Rattle.jsonb_doc.specs.declared.layout.HeaderKind.{HeaderKind}
+use Rattle.jsonb_doc.specs.declared.layout.HeaderKind.TheVariants as header
 use Rattle.jsonb_doc.specs.declared.entry_iter.StoredEntry.{StoredEntry}
 use Rattle.jsonb_doc.specs.declared.container.ArrayParts.{ArrayParts}
 use Rattle.jsonb_doc.specs.declared.container.ObjectParts.{ObjectParts}
@@ -106,10 +109,10 @@ container_cases number_at bytes (boolean true, h) = absurd (omega arith)
 container_cases number_at bytes (_, h) = absurd (omega arith)
 
 pub HasContent-headed : (number_at : NumberReader) (bytes : List ℕ) → HasContent 5 bytes number_at
-    → (kind entries : ℕ) × (rest : List ℕ) × HeadedBy bytes kind entries rest
+    → (kind : HeaderKind) × (entries : ℕ) × (rest : List ℕ) × HeadedBy bytes (header_number kind) entries rest
 HasContent-headed number_at bytes h = elim (container_cases number_at bytes h) [
-  | inl a ↦ (4, count a.0, a.1.words ++ a.1.contents, a.1.headed)
-  | inr o ↦ (2, length (keys o.0), o.1.words ++ o.1.contents, o.1.headed)
+  | inl a ↦ (header.Array, count a.0, a.1.words ++ a.1.contents, a.1.headed)
+  | inr o ↦ (header.Object, length (keys o.0), o.1.words ++ o.1.contents, o.1.headed)
 ]
 
 module _ (number_at : NumberReader) (bytes : List ℕ) (kind n : ℕ) (rest : List ℕ) (h : HeadedBy bytes kind n rest) where
@@ -123,9 +126,9 @@ module _ (number_at : NumberReader) (bytes : List ℕ) (kind n : ℕ) (rest : Li
 -- ---- documents
 
 pub HasDocument-headed : (number_at : NumberReader) (bytes : List ℕ) → HasDocument bytes number_at
-    → (kind entries : ℕ) × (rest : List ℕ) × HeadedBy bytes kind entries rest
+    → (kind : HeaderKind) × (entries : ℕ) × (rest : List ℕ) × HeadedBy bytes (header_number kind) entries rest
 HasDocument-headed number_at bytes (t, inl h) = HasContent-headed number_at bytes (t, h)
-HasDocument-headed number_at bytes (t, inr s) = (1, 0, s.words ++ s.contents, s.headed)
+HasDocument-headed number_at bytes (t, inr s) = (header.Scalar, 0, s.words ++ s.contents, s.headed)
 
 module _ (number_at : NumberReader) (bytes : List ℕ) (kind n : ℕ) (rest : List ℕ) (h : HeadedBy bytes kind n rest) where
   -- a document with another header than a scalar's is a container
@@ -368,14 +371,14 @@ pub IsCut-same : (bytes : List ℕ) (found : Container) → IsCut bytes found �
 IsCut-same bytes (Scalar e) (rest, h, lone) number_at t = (
   λ d.
       let s = document_scalar number_at bytes 0 rest h t d in
-      let same = lone_unique rest e.kind s.kind e.content.now s.content lone s.lone in
+      let same = lone_unique rest (kind_number e.kind) s.kind e.content.now s.content lone s.lone in
       (lone.scalar, rw (same.0, same.1) s.part),
   λ k. inr (record {
-    words = entry_word e.kind (length e.content.now);
+    words = entry_word (kind_number e.kind) (length e.content.now);
     contents = e.content.now;
     headed = rw (← lone.start.joined) h;
     parts = record {
-      kind = e.kind;
+      kind = kind_number e.kind;
       content = e.content.now;
       other_words = [];
       other_contents = [];
@@ -393,12 +396,6 @@ IsCut-same bytes (Object p) (n, h, len, value_len) number_at t = (
   λ d. object_to number_at p n len value_len t (document_object number_at bytes n _ h t (container_document number_at bytes 2 n _ h (omega arith) t d)),
   λ k. inl (object_from number_at bytes p n h len t k),
 )
-
--- a document has one of three headers
-pub document_kind : (number_at : NumberReader) (bytes : List ℕ) (kind n : ℕ) (rest : List ℕ) → HeadedBy bytes kind n rest → (t : Tree)
-    → IsDocument number_at t bytes → (kind ≡ 1) ⊎ ((kind ≡ 2) ⊎ (kind ≡ 4))
-document_kind number_at bytes kind n rest h t (inl c) = inr (HasContent-kind number_at bytes kind n rest h (t, c))
-document_kind number_at bytes kind n rest h t (inr s) = inl (HeadedBy-unique bytes kind 1 n 0 rest (s.words ++ s.contents) h s.headed).0
 
 -- a document with the header of an array or an object has as many bytes as its words
 module _ (number_at : NumberReader) (bytes : List ℕ) (n : ℕ) (rest : List ℕ) (t : Tree) (d : IsDocument number_at t bytes) where
@@ -435,7 +432,7 @@ module _ (number_at : NumberReader) (bytes : List ℕ) where
   pub IsCut-scalar : (e : StoredEntry) → IsCut bytes (Scalar e) → (t : Tree) → IsContent number_at t 5 bytes → ⊥
   IsCut-scalar e cut t c =
       let held = (IsCut-same bytes (Scalar e) cut number_at t).0 (inl c) in
-      held.0 (container_kind number_at bytes t e.kind e.content.now c held.1)
+      held.0 (container_kind number_at bytes t (kind_number e.kind) e.content.now c held.1)
 
 module _ (form : Form) (bytes : List ℕ) where
   -- a document that is cut into the parts of an array, or of an object, is one
@@ -450,7 +447,8 @@ module _ (form : Form) (bytes : List ℕ) where
   Holds-pairs _ p held h = absurd held
 
   -- the parts of a document are those of its tree
-  pub Decodes-scalar : (e : StoredEntry) → IsCut bytes (Scalar e) → (t : Tree) → Decodes form bytes t → IsContent (number_reader form) t e.kind e.content.now
+  pub Decodes-scalar : (e : StoredEntry) → IsCut bytes (Scalar e) → (t : Tree) → Decodes form bytes t
+      → IsContent (number_reader form) t (kind_number e.kind) e.content.now
   Decodes-scalar e cut t h = ((IsCut-same bytes (Scalar e) cut (number_reader form) t).0 h.document).1
 
   pub Decodes-array : (p : ArrayParts) → IsCut bytes (Array p) → (t : Tree) → Decodes form bytes t → Holds (number_reader form) t (Array p)
@@ -469,7 +467,7 @@ HoldsPairs-keys number_at ps p h = record { are_keys = h.are_keys; words_joined 
 module _ (bytes : List ℕ) where
   -- a document decodes where its one entry does, or where it is the content of a container
   pub HasDocument-scalar : (e : StoredEntry) → IsCut bytes (Scalar e) → (number_at : NumberReader)
-      → HasContent e.kind e.content.now number_at ↔ HasDocument bytes number_at
+      → HasContent (kind_number e.kind) e.content.now number_at ↔ HasDocument bytes number_at
   HasDocument-scalar e cut number_at = (
     λ h. (h.0, (IsCut-same bytes (Scalar e) cut number_at h.0).1 (cut.2.scalar, h.1)),
     λ d. (d.0, ((IsCut-same bytes (Scalar e) cut number_at d.0).0 d.1).1),

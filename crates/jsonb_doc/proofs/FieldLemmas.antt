@@ -10,6 +10,7 @@ use Rattle.jsonb_doc.specs.Lengths.{StandBefore}
 use Rattle.jsonb_doc.specs.Private.Lengths.{HoldKeys, IsNoneOf, FoundKey}
 use Rattle.jsonb_doc.specs.Answer.{SameOption}
 use Rattle.jsonb_doc.specs.Spots.{Locates, spot_content}
+use Rattle.jsonb_doc.specs.Kinds.{kind_number}
 use Rattle.jsonb_doc.specs.declared.spot.Spot.{Spot}
 use Rattle.jsonb_doc.proofs.WordLemmas.{bytes_eq-true, bytes_eq-same}
 use Rattle.jsonb_doc.proofs.Entries.{BeginWith-long, BeginWith-unique}
@@ -187,7 +188,7 @@ pub record FieldAt (number_at : NumberReader) (name : List ℕ) (t : Tree) (word
 -- ---- the spot of the value
 
 module _ (bytes : List ℕ) (parent : Spot) (t : Tree) (m : Locates bytes parent t) (content : List ℕ) (is : content ≡ spot_content bytes parent)
-    (container : parent.kind ≡ 5)
+    (container : kind_number parent.kind ≡ 5)
     (p : ObjectParts) (cut : IsCut content (Object p)) (name : List ℕ) where
   -- no key of the object is the name
   pub field_absent : ((ks : List (List ℕ)) (found : List ℕ) → HoldKeys ks p.key_words.now p.contents.now found → IsNoneOf name ks)
@@ -248,7 +249,7 @@ module _ (bytes : List ℕ) (parent : Spot) (t : Tree) (m : Locates bytes parent
           (entry : (parts : List (List ℕ)) (left : List ℕ) → StandBefore parts (take passed p.value_words.now) contents left
           → BeginWith (drop passed p.value_words.now) left value_kind value_content ws cs) where
         -- the spot of the field's value
-        pub field_marks : (spot : Spot) → spot.kind ≡ value_kind → spot.end ≡ parent.end - length cs → spot.start ≡ spot.end - length value_content
+        pub field_marks : (spot : Spot) → kind_number spot.kind ≡ value_kind → spot.end ≡ parent.end - length cs → spot.start ≡ spot.end - length value_content
             → SameOption (Locates bytes) (Some spot) (field_of name t)
         field_marks spot k e s =
             let one = field_value any m.whole m.decodes in

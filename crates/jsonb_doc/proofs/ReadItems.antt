@@ -8,6 +8,9 @@ use Rattle.jsonb_doc.specs.Item.{IsItemOf, IsRootOf}
 use Rattle.jsonb_doc.specs.Tree.{Tree}
 use Rattle.jsonb_doc.specs.Format.{IsContent, Decodes}
 use Rattle.jsonb_doc.specs.Readable.{IsCut}
+use Rattle.jsonb_doc.specs.Kinds.{kind_number, header_number}
+use Rattle.jsonb_doc.specs.declared.layout.HeaderKind.{HeaderKind}
+use Rattle.jsonb_doc.specs.declared.layout.HeaderKind.TheVariants as header
 use Rattle.jsonb_doc.specs.declared.container.ArrayParts.{ArrayParts}
 use Rattle.jsonb_doc.specs.declared.container.ObjectParts.{ObjectParts}
 use Rattle.jsonb_doc.specs.declared.container.Container.TheVariants.{Scalar, Array as ArrayOf, Object as ObjectOf}
@@ -18,23 +21,24 @@ use Rattle.jsonb_doc.specs.declared.item.Item.TheVariants.{Array, Object}
 use Rattle.jsonb_doc.proofs.Containers.{HasContent-headed, IsCut-same}
 
 -- a container that is read has a header
-pub item_headed : (content : List ℕ) (item : Item) → IsItemOf 5 content item → (kind entries : ℕ) × (rest : List ℕ) × HeadedBy content kind entries rest
-item_headed content (Array bytes) h = (4, h.2.0, h.2.1, h.2.2)
-item_headed content (Object bytes) h = (2, h.2.0, h.2.1, h.2.2)
+pub item_headed : (content : List ℕ) (item : Item) → IsItemOf 5 content item
+    → (kind : HeaderKind) × (entries : ℕ) × (rest : List ℕ) × HeadedBy content (header_number kind) entries rest
+item_headed content (Array bytes) h = (header.Array, h.2.0, h.2.1, h.2.2)
+item_headed content (Object bytes) h = (header.Object, h.2.0, h.2.1, h.2.2)
 item_headed content _ h = HasContent-headed (number_reader any) content (h.0, h.1)
 
 module _ (bytes : List ℕ) where
   -- the entry of a scalar root is no container, so that its item is all of the document
-  scalar_decodes : (e : StoredEntry) → IsCut bytes (Scalar e) → (t : Tree) → IsContent (number_reader any) t e.kind e.content.now → Decodes any bytes t
+  scalar_decodes : (e : StoredEntry) → IsCut bytes (Scalar e) → (t : Tree) → IsContent (number_reader any) t (kind_number e.kind) e.content.now → Decodes any bytes t
   scalar_decodes e cut t h = record { document = (IsCut-same bytes (Scalar e) cut (number_reader any) t).1 (cut.2.scalar, h) }
 
-  scalar_root : (e : StoredEntry) → IsCut bytes (Scalar e) → (item : Item) → IsItemOf e.kind e.content.now item → IsRootOf bytes item
+  scalar_root : (e : StoredEntry) → IsCut bytes (Scalar e) → (item : Item) → IsItemOf (kind_number e.kind) e.content.now item → IsRootOf bytes item
   scalar_root e cut (Array own) h = absurd (cut.2.scalar h.0)
   scalar_root e cut (Object own) h = absurd (cut.2.scalar h.0)
   scalar_root e cut _ h = (h.0, scalar_decodes e cut h.0 h.1, h.2)
 
   pub scalar_read : (e : StoredEntry) → IsCut bytes (Scalar e) → (Q : Error → Type 0) → (r : Result Item Error)
-      → MatchResult r (IsItemOf e.kind e.content.now) Q → IfOk r (IsRootOf bytes)
+      → MatchResult r (IsItemOf (kind_number e.kind) e.content.now) Q → IfOk r (IsRootOf bytes)
   scalar_read e cut Q (Ok item) h = scalar_root e cut item h
   scalar_read e cut Q (Err x) h = tt
 

@@ -11,6 +11,7 @@ use Rattle.jsonb_doc.specs.Answer.{SameOption}
 use Rattle.jsonb_doc.specs.Lengths.{StandBefore}
 use Rattle.jsonb_doc.specs.Readable.{StartWith, IsCut}
 use Rattle.jsonb_doc.specs.Spots.{Locates, HasSpotsLeft, TakesSpot, PassesSpot, spot_content}
+use Rattle.jsonb_doc.specs.Kinds.{kind_number}
 use Rattle.jsonb_doc.specs.declared.spot.Spot.{Spot}
 use Rattle.jsonb_doc.specs.declared.spot_iter.SpotIter.{SpotIter}
 use Rattle.jsonb_doc.proofs.WordLemmas.{append_cancel, word_cancel}
@@ -87,7 +88,7 @@ trees_of-elements (tree t ts) = ap (tree t) (trees_of-elements ts)
 -- ---- an iterator and its first spot
 
 -- the first entry, by its word, where the contents are long enough
-StartWith-begin : (words contents others : List ℕ) (kind len : ℕ) → StartWith words kind len others → len ≤ length contents
+pub StartWith-begin : (words contents others : List ℕ) (kind len : ℕ) → StartWith words kind len others → len ≤ length contents
     → BeginWith words contents kind (take len contents) others (drop len contents)
 StartWith-begin words contents others kind len w fits =
     let same = length-take-le len contents fits in
@@ -99,7 +100,7 @@ StartWith-begin words contents others kind len w fits =
     }
 
 -- the word of the first entry tells how long it is
-StartWith-length : (words contents others : List ℕ) (kind len : ℕ) (k : ℕ) (content ws cs : List ℕ) → StartWith words kind len others
+pub StartWith-length : (words contents others : List ℕ) (kind len : ℕ) (k : ℕ) (content ws cs : List ℕ) → StartWith words kind len others
     → BeginWith words contents k content ws cs → len ≤ length contents
 StartWith-length words contents others kind len k content ws cs w b =
     let known = w.known in
@@ -143,7 +144,7 @@ module _ (bytes : List ℕ) (it : SpotIter) where
         omega (arith, fits, length_range bytes it.start it.end h.ordered h.within)
 
     -- the first spot is that of the first tree, and the others are left
-    pub HasSpotsLeft-first : (ts : List Tree) (spot : Spot) (after : SpotIter) → spot.kind ≡ kind → spot.start ≡ it.start → spot.end ≡ it.start + len
+    pub HasSpotsLeft-first : (ts : List Tree) (spot : Spot) (after : SpotIter) → kind_number spot.kind ≡ kind → spot.start ≡ it.start → spot.end ≡ it.start + len
         → after.words.now ≡ others → after.start ≡ it.start + len → after.end ≡ it.end → HasSpotsLeft bytes it ts → TakesSpot bytes ts (Some (Ok spot)) after
     HasSpotsLeft-first [] spot after k s e words start end h = absurd (omega (arith, ap length (h.entries any h.whole h.decodes).0, ap length w.joined))
     HasSpotsLeft-first (t ∷ ts) spot after k s e words start end h =
@@ -259,15 +260,15 @@ module _ (bytes : List ℕ) (it : SpotIter) (ts : List Tree) (h : HasSpotsLeft b
 pub PassesSpot-fits : (it : SpotIter) (kind len : ℕ) (others : List ℕ) → StartWith it.words.now kind len others → (spot : Spot) (rest : SpotIter)
     → PassesSpot it spot rest → it.start + len ≤ it.end
 PassesSpot-fits it kind len others w spot rest p =
-    let same = word_cancel (kind * 2 ^ 28 + len) (spot.kind * 2 ^ 28 + (spot.end - spot.start)) others rest.words.now (omega (arith, w.known, w.fits))
+    let same = word_cancel (kind * 2 ^ 28 + len) (kind_number spot.kind * 2 ^ 28 + (spot.end - spot.start)) others rest.words.now (omega (arith, w.known, w.fits))
     (omega (arith, p.known, p.fits)) (sym w.joined ∙ p.word) in
     omega (arith, same.0, w.known, w.fits, p.known, p.fits, p.front, p.ordered, p.within)
 
 -- ---- spots
 
 -- the spot of a part of all the bytes
-pub Locates-root : (bytes : List ℕ) (spot : Spot) (t : Tree) (kind : ℕ) (front content back : List ℕ) → bytes ≡ front ++ (content ++ back) → spot.kind ≡ kind
-    → spot.end ≡ length bytes - length back → spot.start ≡ spot.end - length content
+pub Locates-root : (bytes : List ℕ) (spot : Spot) (t : Tree) (kind : ℕ) (front content back : List ℕ) → bytes ≡ front ++ (content ++ back)
+    → kind_number spot.kind ≡ kind → spot.end ≡ length bytes - length back → spot.start ≡ spot.end - length content
     → Decodes any bytes t → ((form : Form) (top : Tree) → Decodes form bytes top → IsContent (number_reader form) top kind content) → Locates bytes spot t
 Locates-root bytes spot t kind front content back joined k e s h part =
     let all : slice_range bytes 0 (length bytes) ≡ bytes = between_to_end bytes 0 (length bytes) (omega arith) in
@@ -285,7 +286,7 @@ Locates-root bytes spot t kind front content back joined k e s h part =
 module _ (bytes : List ℕ) (parent : Spot) (t : Tree) (m : Locates bytes parent t) where
   -- the spot of a part of a content
   pub Locates-part : (spot : Spot) (u : Tree) (kind : ℕ) (front content back : List ℕ) → spot_content bytes parent ≡ front ++ (content ++ back)
-      → spot.kind ≡ kind → spot.end ≡ parent.end - length back → spot.start ≡ spot.end - length content
+      → kind_number spot.kind ≡ kind → spot.end ≡ parent.end - length back → spot.start ≡ spot.end - length content
       → ((form : Form) (top : Tree) → Decodes form bytes top → IsContent (number_reader form) u kind content) → Locates bytes spot u
   Locates-part spot u kind front content back joined k e s part =
       let within = m.within in
@@ -314,19 +315,20 @@ module _ (bytes : List ℕ) (parent : Spot) (t : Tree) (m : Locates bytes parent
       }
 
   -- a scalar has no children and no fields
-  pub Locates-scalar : parent.kind ≢ 5 → (children_of t ≡ None) × ((name : List ℕ) → field_of name t ≡ None)
+  pub Locates-scalar : kind_number parent.kind ≢ 5 → (children_of t ≡ None) × ((name : List ℕ) → field_of name t ≡ None)
   Locates-scalar scalar = go t (m.content any m.whole m.decodes)
     where
-      go : (u : Tree) → IsContent number_of u parent.kind (spot_content bytes parent) → (children_of u ≡ None) × ((name : List ℕ) → field_of name u ≡ None)
+      go : (u : Tree) → IsContent number_of u (kind_number parent.kind) (spot_content bytes parent)
+          → (children_of u ≡ None) × ((name : List ℕ) → field_of name u ≡ None)
       go (array ts) h = absurd (scalar h.0)
       go (object ps) h = absurd (scalar h.0)
       go _ h = (refl, λ name. refl)
 
 -- an item is a container where it has children
-pub Locates-has_children : (bytes : List ℕ) (spot : Spot) (t : Tree) → Locates bytes spot t → (spot.kind == 5) ≡ is_some (children_of t)
+pub Locates-has_children : (bytes : List ℕ) (spot : Spot) (t : Tree) → Locates bytes spot t → (kind_number spot.kind == 5) ≡ is_some (children_of t)
 Locates-has_children bytes spot t m = go t (m.content any m.whole m.decodes)
   where
-    go : (u : Tree) → IsContent number_of u spot.kind (spot_content bytes spot) → (spot.kind == 5) ≡ is_some (children_of u)
+    go : (u : Tree) → IsContent number_of u (kind_number spot.kind) (spot_content bytes spot) → (kind_number spot.kind == 5) ≡ is_some (children_of u)
     go null h = ap (λ k. k == 5) h.0
     go (boolean false) h = ap (λ k. k == 5) h.0
     go (boolean true) h = ap (λ k. k == 5) h.0
@@ -351,11 +353,11 @@ some_field bytes name t u spot is h = rw is h
 -- a scalar's content is the end of its document
 pub scalar_end : (bytes : List ℕ) (e : StoredEntry) → IsCut bytes (Scalar e) → (front : List ℕ) × (bytes ≡ front ++ (e.content.now ++ []))
 scalar_end bytes e (rest, h, lone) =
-    let word = entry_word e.kind (length e.content.now) in
+    let word = entry_word (kind_number e.kind) (length e.content.now) in
     (header 1 0 ++ word, h.joined ∙ ap (λ (w : List ℕ). header 1 0 ++ w) (lone.start.joined ∙ ap (λ (w : List ℕ). word ++ w) (sym (append-nil e.content.now))))
 
 module _ (bytes : List ℕ) (parent : Spot) (t : Tree) (m : Locates bytes parent t) (content : List ℕ) (is : content ≡ spot_content bytes parent)
-    (container : parent.kind ≡ 5) where
+    (container : kind_number parent.kind ≡ 5) where
   pub Locates-container : (form : Form) (top : Tree) → Decodes form bytes top → IsContent (number_reader form) t 5 content
   Locates-container form top d = rw (is, ← container) (m.content form top d)
 

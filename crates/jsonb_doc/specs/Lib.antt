@@ -8,6 +8,7 @@ pub mod Tree
 pub mod Depth
 pub mod Payload
 pub mod Format
+pub mod Kinds
 pub mod Lengths
 pub mod View
 pub mod Item

@@ -11,6 +11,7 @@ use Rattle.jsonb_doc.specs.Tree.{Tree, object, pairs_of}
 use Rattle.jsonb_doc.specs.Answer.{IsOutOfMemoryOrTooLarge}
 use Rattle.jsonb_doc.specs.Payload.{Form, number_reader}
 use Rattle.jsonb_doc.specs.Format.{IsContent}
+use Rattle.jsonb_doc.specs.Kinds.{kind_number}
 use Rattle.jsonb_doc.specs.Encoding.{EntryParts, IsTooLong, item_content}
 use Rattle.jsonb_doc.specs.declared.item.Item.{Item}
 use Rattle.jsonb_doc.specs.declared.kept_entry.KeptEntry.{KeptEntry}
@@ -30,7 +31,7 @@ insert_pair key x (p ∷ ps) =
 -- ---- entries
 
 abbrev pub entry_parts : KeptEntry → EntryParts
-entry_parts e = (e.kind, e.content.items)
+entry_parts e = (kind_number e.kind, e.content.items)
 
 -- the entry has its place in the format
 abbrev pub FitsEntry : EntryParts → Type 0

@@ -1,6 +1,7 @@
 -- Which roots can be read, whether the bytes decode or not.
 use Rattle.std.specs.Prelude.{◌≡◌, ℕ, ◌^◌, ◌<◌, List, ◌++◌, ◌≢◌, ◌*◌, length}
 use Rattle.jsonb_doc.specs.Format.{entry_word, HeadedBy, scalar_header, object_header, array_header, container_entry}
+use Rattle.jsonb_doc.specs.Kinds.{kind_number}
 use Rattle.jsonb_doc.specs.declared.container.Container.{Container}
 use Rattle.jsonb_doc.specs.declared.container.Container.TheVariants.{Scalar, Array, Object}
 
@@ -17,7 +18,8 @@ pub record IsLoneEntry (bytes : List ℕ) (kind : ℕ) (content : List ℕ) : Ty
 
 -- the bytes are a header and these parts, as many as it counts
 abbrev pub IsCut : List ℕ → Container → Type 0
-IsCut bytes (Scalar e) = (rest : List ℕ) × HeadedBy bytes scalar_header 0 rest × IsLoneEntry rest e.kind e.content.now
+IsCut bytes (Scalar e) =
+    (rest : List ℕ) × HeadedBy bytes scalar_header 0 rest × IsLoneEntry rest (kind_number e.kind) e.content.now
 IsCut bytes (Array p) =
     (n : ℕ) × HeadedBy bytes array_header n (p.words.now ++ p.contents.now) × (length p.words.now ≡ 4 * n)
 IsCut bytes (Object p) =

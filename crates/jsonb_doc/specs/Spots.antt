@@ -3,6 +3,7 @@ use Rattle.std.specs.Prelude.{◌≡◌, ℕ, ◌+◌, ◌-◌, ◌/◌, ◌^◌
 use Rattle.jsonb_doc.specs.Tree.{Tree, trees_of}
 use Rattle.jsonb_doc.specs.Payload.{Form, any, number_reader}
 use Rattle.jsonb_doc.specs.Format.{Decodes, IsContent, AreEntries, entry_word}
+use Rattle.jsonb_doc.specs.Kinds.{kind_number}
 use Rattle.jsonb_doc.specs.Answer.{IsDecodingError}
 use Rattle.jsonb_doc.specs.declared.error.Error.{Error}
 use Rattle.jsonb_doc.specs.declared.spot.Spot.{Spot}
@@ -23,7 +24,7 @@ pub record Locates (bytes : List ℕ) (spot : Spot) (t : Tree) : Type 0 where
   pub ordered : spot.start ≤ spot.end
   pub within : spot.end ≤ length bytes
   pub content : (form : Form) (top : Tree) → Decodes form bytes top
-      → IsContent (number_reader form) t spot.kind (spot_content bytes spot)
+      → IsContent (number_reader form) t (kind_number spot.kind) (spot_content bytes spot)
 
 -- These trees are left in the iterator, for spots of these bytes.
 pub record HasSpotsLeft (bytes : List ℕ) (it : SpotIter) (ts : List Tree) : Type 0 where
@@ -51,8 +52,8 @@ TakesSpot bytes _ _ after = ⊥
 -- The first word that is left tells of the content at this spot, which lies within the contents, and the others are
 -- left.
 pub record PassesSpot (before : SpotIter) (spot : Spot) (after : SpotIter) : Type 0 where
-  pub word : before.words.now ≡ entry_word spot.kind (spot.end - spot.start) ++ after.words.now
-  pub known : spot.kind < 8
+  pub word : before.words.now ≡ entry_word (kind_number spot.kind) (spot.end - spot.start) ++ after.words.now
+  pub known : kind_number spot.kind < 8
   pub fits : spot.end - spot.start < 2 ^ 28
   pub front : spot.start ≡ before.start
   pub ordered : spot.start ≤ spot.end

@@ -4,12 +4,13 @@ ghost use Rattle.std.specs.Prelude.{◌≡◌, ◌≢◌, ◌↔◌, IsOk, IsErr
 ghost use Rattle.jsonb_doc.specs.Tree.{Tree};
 ghost use Rattle.jsonb_doc.specs.Payload.{any, number_or_unsupported};
 ghost use Rattle.jsonb_doc.specs.Format.{Decodes, IsUnsupportedDocument, IsNoDocument};
+ghost use Rattle.jsonb_doc.specs.Kinds.{kind_number};
 ghost use Rattle.jsonb_doc.specs.Private.Checking.{Validates, HasContent, HasEntries, HasDocument, HasKeys, IsNextKey, HasParts, HasLarge, IsNoLonger, ReducesTo};
 
 use crate::container::{Container, read_container};
 use crate::error::Error;
 use crate::extension::ExtensionValue;
-use crate::layout::{CONTAINER, EXTENSION, FALSE, NULL, NUMBER, TEXT, TRUE, split_entry};
+use crate::layout::{EntryKind, split_entry};
 use crate::number::Number;
 use std::cmp::Ordering;
 
@@ -45,37 +46,34 @@ fn check_document(bytes: &[u8]) -> Result<(), Error>
 }
 
 #[cycle(check)]
-fn check_content(kind: u32, content: &[u8]) -> Result<(), Error>
-    ensures { Validates (HasContent kind content.now) result }
+fn check_content(kind: EntryKind, content: &[u8]) -> Result<(), Error>
+    ensures { Validates (HasContent (kind_number kind) content.now) result }
 {
-    if kind == CONTAINER {
-        check_container(content)
-    } else {
-        check_scalar(kind, content)
+    match kind {
+        EntryKind::Container => check_container(content),
+        _ => check_scalar(kind, content),
     }
 }
 
-fn check_scalar(kind: u32, content: &[u8]) -> Result<(), Error>
-    requires { kind ≢ 5 }
-    ensures { Validates (HasContent kind content.now) result }
+fn check_scalar(kind: EntryKind, content: &[u8]) -> Result<(), Error>
+    requires { kind_number kind ≢ 5 }
+    ensures { Validates (HasContent (kind_number kind) content.now) result }
 {
     match kind {
-        NULL => check_empty(content),
-        FALSE => check_empty(content),
-        TRUE => check_empty(content),
-        TEXT => match str::from_utf8(content) {
+        EntryKind::Null | EntryKind::False | EntryKind::True => check_empty(content),
+        EntryKind::Text => match str::from_utf8(content) {
             Ok(_) => Ok(()),
             Err(_) => Err(Error::InvalidJsonb),
         },
-        NUMBER => match Number::from_payload(content) {
+        EntryKind::Number => match Number::from_payload(content) {
             Ok(_) => Ok(()),
             Err(error) => Err(error),
         },
-        EXTENSION => match ExtensionValue::from_payload(content) {
+        EntryKind::Extension => match ExtensionValue::from_payload(content) {
             Ok(_) => Ok(()),
             Err(error) => Err(error),
         },
-        _ => Err(Error::InvalidJsonb),
+        EntryKind::Container | EntryKind::Unknown => Err(Error::InvalidJsonb),
     }
 }
 
@@ -162,7 +160,7 @@ fn check_entries<'a>(words: &[u8], contents: &'a [u8]) -> Option<Entries<'a>>
         let Some(entry) = split_entry(words_left, contents_left) else {
             return None;
         };
-        if entry.kind == CONTAINER && entry.content.len() > half {
+        if entry.kind == EntryKind::Container && entry.content.len() > half {
             large = Some(entry.content);
         } else {
             match check_content(entry.kind, entry.content) {
@@ -197,7 +195,7 @@ pub fn skip_keys<'a>(words: &[u8], bytes: &'a [u8]) -> Option<&'a [u8]>
         let Some(entry) = split_entry(words_left, bytes_left) else {
             return None;
         };
-        if entry.kind != TEXT {
+        if entry.kind != EntryKind::Text {
             return None;
         }
         let Some(key) = next_key(last, entry.content) else {

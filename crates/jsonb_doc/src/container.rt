@@ -4,13 +4,14 @@ ghost use Rattle.std.specs.Prelude.{◌≡◌, ◌≤◌, ℕ, ◌*◌, ◌+◌,
 ghost use Rattle.jsonb_doc.specs.Tree.{Tree};
 ghost use Rattle.jsonb_doc.specs.Payload.{NumberReader};
 ghost use Rattle.jsonb_doc.specs.Format.{HeadedBy, IsDocument};
+ghost use Rattle.jsonb_doc.specs.Kinds.{kind_number};
 ghost use Rattle.jsonb_doc.specs.Private.Containers.{container_words, container_room};
 ghost use Rattle.jsonb_doc.specs.Readable.{IsLoneEntry, IsCut};
 
 use crate::entry_iter::StoredEntry;
 use crate::error::Error;
-use crate::layout::{ARRAY_HEADER, CONTAINER, OBJECT_HEADER, SCALAR_HEADER, WORD, split_header};
-use crate::lengths::{skip_contents, split_entry_word};
+use crate::layout::{EntryKind, HeaderKind, WORD, split_entry_word, split_header};
+use crate::lengths::skip_contents;
 
 /// The entry words of an array, and their contents.
 #[derive(Clone, Copy)]
@@ -94,15 +95,15 @@ pub fn read_container(bytes: &[u8]) -> Result<Container<'_>, Error>
     };
     let len = WORD * entries;
     match kind {
-        SCALAR_HEADER if entries == 0 => match lone_entry(rest) {
+        HeaderKind::Scalar if entries == 0 => match lone_entry(rest) {
             Some(entry) => Ok(Container::Scalar(entry)),
             None => Err(Error::InvalidJsonb),
         },
-        ARRAY_HEADER if len <= rest.len() => {
+        HeaderKind::Array if len <= rest.len() => {
             let (words, contents) = rest.split_at(len);
             Ok(Container::Array(ArrayParts { words, contents }))
         }
-        OBJECT_HEADER if 2 * len <= rest.len() => {
+        HeaderKind::Object if 2 * len <= rest.len() => {
             let (words, contents) = rest.split_at(2 * len);
             let (key_words, value_words) = words.split_at(len);
             Ok(Container::Object(ObjectParts {
@@ -119,10 +120,10 @@ pub fn read_container(bytes: &[u8]) -> Result<Container<'_>, Error>
 fn lone_entry(bytes: &[u8]) -> Option<StoredEntry<'_>>
     ensures { MatchOption result
         ((kind : ℕ) (content : List ℕ) → IsLoneEntry bytes.now kind content → ⊥)
-        (λ e. IsLoneEntry bytes.now e.kind e.content.now) }
+        (λ e. IsLoneEntry bytes.now (kind_number e.kind) e.content.now) }
 {
     let (kind, len, content) = split_entry_word(bytes)?;
-    if kind == CONTAINER || len != content.len() {
+    if kind == EntryKind::Container || len != content.len() {
         return None;
     }
     Some(StoredEntry { kind, content })

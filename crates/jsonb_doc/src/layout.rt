@@ -1,26 +1,26 @@
-//! The numbers of the binary format, and its words.
+//! The words of the binary format, and its numbers.
 //!
 //! A container is a header word, entry words, and the contents that they tell of. A header word is a kind and a count
 //! of entries, an entry word a kind and the length of its content. All words have 32 bits, the highest byte first.
 
-ghost use Rattle.std.specs.Prelude.{◌≡◌, ℕ, ◌^◌, ◌<◌, ◌≤◌, List, MatchOption, length, drop};
+ghost use Rattle.std.specs.Prelude.{◌≡◌, ◌≢◌, ℕ, ◌+◌, ◌%◌, ◌^◌, ◌<◌, ◌≤◌, List, IfSome, MatchOption, length, drop};
+ghost use Rattle.std.specs.Int.{w32, from_be_bytes};
 ghost use Rattle.byteorder.specs.Endian.{big_number};
 ghost use Rattle.jsonb_doc.specs.Format.{BeginWith, HeadedBy, header, entry_word};
+ghost use Rattle.jsonb_doc.specs.Kinds.{header_number, kind_number};
 ghost use Rattle.jsonb_doc.specs.Lengths.{Tells};
+ghost use Rattle.jsonb_doc.specs.Readable.{StartWith};
 
 use byteorder::{BigEndian, ByteOrder};
 
 /// How many bytes a word has.
 pub const WORD: usize = 4;
 
-/// A header word is its kind times this, and a count below this.
-pub const COUNTS: u32 = 0x2000_0000;
+/// A header word is the number of its kind times this, and a count below this.
+const COUNTS: u32 = 0x2000_0000;
 
-/// An entry word is its kind times this, and a length below this.
-pub const LENGTHS: u32 = 0x1000_0000;
-
-/// The kinds of entry words are below this, since their top bit is not set.
-pub const KINDS: u32 = 8;
+/// An entry word is the number of its kind times this, and a length below this.
+const LENGTHS: u32 = 0x1000_0000;
 
 /// How many entries a container may have.
 pub const MAX_ENTRIES: usize = 0x1fff_ffff;
@@ -28,39 +28,104 @@ pub const MAX_ENTRIES: usize = 0x1fff_ffff;
 /// How many bytes the content of an entry may have.
 pub const MAX_CONTENT: usize = 0x0fff_ffff;
 
-// The kinds of a header.
+/// The kinds of a header.
+#[derive(Clone, Copy, Debug, PartialEq, Eq)]
+pub enum HeaderKind {
+    /// A header whose one entry is a scalar. Its count is 0.
+    Scalar,
+    /// The header of an object. Its count is that of the pairs.
+    Object,
+    /// The header of an array. Its count is that of the elements.
+    Array,
+}
 
-/// A header whose one entry is a scalar. Its count is 0.
-pub const SCALAR_HEADER: u32 = 1;
+impl HeaderKind {
+    /// Its number in a header word.
+    #[inline(always)]
+    fn to_u32(self) -> u32
+        ensures number { result ≡ header_number self }
+        ensures bound { result < 8 }
+    {
+        match self {
+            HeaderKind::Scalar => 1,
+            HeaderKind::Object => 2,
+            HeaderKind::Array => 4,
+        }
+    }
 
-/// The header of an object. Its count is that of the pairs.
-pub const OBJECT_HEADER: u32 = 2;
+    /// The kind with this number, and `None` where there is none.
+    #[inline(always)]
+    fn from_u32(number: u32) -> Option<HeaderKind>
+        ensures { MatchOption result ((number ≢ 1) × (number ≢ 2) × (number ≢ 4))
+            (λ kind. header_number kind ≡ number) }
+    {
+        match number {
+            1 => Some(HeaderKind::Scalar),
+            2 => Some(HeaderKind::Object),
+            4 => Some(HeaderKind::Array),
+            _ => None,
+        }
+    }
+}
 
-/// The header of an array. Its count is that of the elements.
-pub const ARRAY_HEADER: u32 = 4;
+/// The kinds of an entry.
+#[derive(Clone, Copy, Debug, PartialEq, Eq)]
+pub enum EntryKind {
+    /// Null. No content.
+    Null,
+    /// A text or a key, in UTF-8.
+    Text,
+    /// A number: a tag, and what follows it.
+    Number,
+    /// False. No content.
+    False,
+    /// True. No content.
+    True,
+    /// An array or an object, with a header of its own.
+    Container,
+    /// A value that JSON itself lacks: a tag, and what follows it.
+    Extension,
+    /// The kind that no item has. Its content has an end, so that it can be passed over.
+    Unknown,
+}
 
-// The kinds of an entry.
+impl EntryKind {
+    /// Its number in an entry word.
+    #[inline(always)]
+    fn to_u32(self) -> u32
+        ensures number { result ≡ kind_number self }
+        ensures bound { result < 8 }
+    {
+        match self {
+            EntryKind::Null => 0,
+            EntryKind::Text => 1,
+            EntryKind::Number => 2,
+            EntryKind::False => 3,
+            EntryKind::True => 4,
+            EntryKind::Container => 5,
+            EntryKind::Extension => 6,
+            EntryKind::Unknown => 7,
+        }
+    }
 
-/// Null. No content.
-pub const NULL: u32 = 0;
-
-/// A text or a key, in UTF-8.
-pub const TEXT: u32 = 1;
-
-/// A number: a tag, and what follows it.
-pub const NUMBER: u32 = 2;
-
-/// False. No content.
-pub const FALSE: u32 = 3;
-
-/// True. No content.
-pub const TRUE: u32 = 4;
-
-/// An array or an object, with a header of its own.
-pub const CONTAINER: u32 = 5;
-
-/// A value that JSON itself lacks: a tag, and what follows it.
-pub const EXTENSION: u32 = 6;
+    /// The kind with this number, and `None` where there is none.
+    #[inline(always)]
+    fn from_u32(number: u32) -> Option<EntryKind>
+        ensures { MatchOption result (8 ≤ number) (λ kind. kind_number kind ≡ number) }
+    {
+        match number {
+            0 => Some(EntryKind::Null),
+            1 => Some(EntryKind::Text),
+            2 => Some(EntryKind::Number),
+            3 => Some(EntryKind::False),
+            4 => Some(EntryKind::True),
+            5 => Some(EntryKind::Container),
+            6 => Some(EntryKind::Extension),
+            7 => Some(EntryKind::Unknown),
+            _ => None,
+        }
+    }
+}
 
 // The first bytes of a number's payload, and how many bytes of a decimal follow. Floats are not supported, nor are the
 // longest decimals.
@@ -131,7 +196,7 @@ pub const INTERVAL_LEN: usize = 16;
 #[derive(Clone, Copy)]
 pub struct Entry<'w, 'c> {
     /// The kind of its entry word.
-    pub kind: u32,
+    pub kind: EntryKind,
     /// Its bytes.
     pub content: &'c [u8],
     /// The words of the other entries.
@@ -146,12 +211,11 @@ pub struct Entry<'w, 'c> {
 ///
 /// Constant, without memory.
 #[inline(always)]
-pub fn word_of_entry(kind: u32, len: usize) -> [u8; WORD]
-    requires kind { kind < 8 }
-    requires len { len < 2 ^ 28 }
-    ensures { result ≡ entry_word kind len }
+pub fn word_of_entry(kind: EntryKind, len: usize) -> [u8; WORD]
+    requires { len < 2 ^ 28 }
+    ensures { result ≡ entry_word (kind_number kind) len }
 {
-    (kind * LENGTHS + len as u32).to_be_bytes()
+    (kind.to_u32() * LENGTHS + len as u32).to_be_bytes()
 }
 
 /// The word of a header of this kind and count.
@@ -160,35 +224,42 @@ pub fn word_of_entry(kind: u32, len: usize) -> [u8; WORD]
 ///
 /// Constant, without memory.
 #[inline(always)]
-pub fn word_of_header(kind: u32, count: usize) -> [u8; WORD]
-    requires kind { kind < 8 }
-    requires count { count < 2 ^ 29 }
-    ensures { result ≡ header kind count }
+pub fn word_of_header(kind: HeaderKind, count: usize) -> [u8; WORD]
+    requires { count < 2 ^ 29 }
+    ensures { result ≡ header (header_number kind) count }
 {
-    (kind * COUNTS + count as u32).to_be_bytes()
+    (kind.to_u32() * COUNTS + count as u32).to_be_bytes()
 }
 
-/// The kind and the length that an entry word tells.
+/// The length that an entry word tells.
 ///
 /// # Cost
 ///
 /// Constant, without memory.
 #[inline(always)]
-pub fn read_entry_word(word: &[u8; WORD]) -> (u32, usize)
-    ensures told { Tells word.now result.0 result.1 }
+pub fn told_len(word: &[u8; WORD]) -> usize
+    ensures { result ≡ from_be_bytes w32 word.now % 2 ^ 28 }
+{
+    (u32::from_be_bytes(*word) % LENGTHS) as usize
+}
+
+/// The kind and the length that an entry word tells. A word whose top bit is set is of the kind that no item has.
+///
+/// # Cost
+///
+/// Constant, without memory.
+#[inline(always)]
+pub fn read_entry_word(word: &[u8; WORD]) -> (EntryKind, usize)
+    ensures told { Tells word.now (kind_number result.0) result.1 }
     ensures bound { result.1 < 2 ^ 28 }
 {
-    let word = u32::from_be_bytes(*word);
-    (word / LENGTHS, (word % LENGTHS) as usize)
+    let kind = EntryKind::from_u32(u32::from_be_bytes(*word) / LENGTHS);
+    (kind.unwrap_or(EntryKind::Unknown), told_len(word))
 }
 
 /// The word at the front, and the bytes after it; `None` where there are fewer than four bytes.
-///
-/// # Cost
-///
-/// Constant, without memory.
 #[inline(always)]
-pub fn split_word(bytes: &[u8]) -> Option<(u32, &[u8])>
+fn split_word(bytes: &[u8]) -> Option<(u32, &[u8])>
     ensures { MatchOption result (length bytes.now < 4) (λ r.
         (4 ≤ length bytes.now) × (r.0 ≡ big_number 4 bytes.now) × (r.1.now ≡ drop 4 bytes.now)) }
 {
@@ -198,18 +269,38 @@ pub fn split_word(bytes: &[u8]) -> Option<(u32, &[u8])>
     Some((BigEndian::read_u32(bytes), &bytes[WORD..]))
 }
 
-/// The header's kind and count, and the bytes after it; `None` where there are fewer than four bytes.
+/// The header's kind and count, and the bytes after it; `None` where they begin with no header.
 ///
 /// # Cost
 ///
 /// Constant, without memory.
-pub fn split_header(bytes: &[u8]) -> Option<(u32, usize, &[u8])>
+#[inline(always)]
+pub fn split_header(bytes: &[u8]) -> Option<(HeaderKind, usize, &[u8])>
     ensures { MatchOption result
-        ((kind entries : ℕ) (rest : List ℕ) → HeadedBy bytes.now kind entries rest → ⊥)
-        (λ r. HeadedBy bytes.now r.0 r.1 r.2.now) }
+        ((kind : HeaderKind) (entries : ℕ) (rest : List ℕ) → HeadedBy bytes.now (header_number kind) entries rest → ⊥)
+        (λ r. HeadedBy bytes.now (header_number r.0) r.1 r.2.now) }
 {
     let (header, rest) = split_word(bytes)?;
-    Some((header / COUNTS, (header % COUNTS) as usize, rest))
+    let kind = HeaderKind::from_u32(header / COUNTS)?;
+    Some((kind, (header % COUNTS) as usize, rest))
+}
+
+/// The kind and the length that the first entry word tells, and the words after it; `None` where they don't begin with
+/// one.
+///
+/// # Cost
+///
+/// Constant, without memory.
+#[inline(always)]
+pub fn split_entry_word(words: &[u8]) -> Option<(EntryKind, usize, &[u8])>
+    ensures word { MatchOption result
+        ((kind len : ℕ) (others : List ℕ) → StartWith words.now kind len others → ⊥)
+        (λ r. StartWith words.now (kind_number r.0) r.1 r.2.now) }
+    ensures size { IfSome result (λ r. length r.2.now + 4 ≡ length words.now) }
+{
+    let (word, others) = split_word(words)?;
+    let kind = EntryKind::from_u32(word / LENGTHS)?;
+    Some((kind, (word % LENGTHS) as usize, others))
 }
 
 /// The first of the entries with these words and contents; `None` where they don't begin with one.
@@ -222,12 +313,11 @@ pub fn split_entry<'w, 'c>(words: &'w [u8], contents: &'c [u8]) -> Option<Entry<
     ensures { MatchOption result
         ((kind : ℕ) (content other_words other_contents : List ℕ)
         → BeginWith words.now contents.now kind content other_words other_contents → ⊥)
-        (λ e. BeginWith words.now contents.now e.kind e.content.now e.other_words.now e.other_contents.now) }
+        (λ e. BeginWith words.now contents.now (kind_number e.kind) e.content.now e.other_words.now
+        e.other_contents.now) }
 {
-    let (entry, other_words) = split_word(words)?;
-    let kind = entry / LENGTHS;
-    let len = (entry % LENGTHS) as usize;
-    if kind >= KINDS || contents.len() < len {
+    let (kind, len, other_words) = split_entry_word(words)?;
+    if contents.len() < len {
         return None;
     }
     let (content, other_contents) = contents.split_at(len);

@@ -2,10 +2,10 @@
 
 ghost use Rattle.std.specs.Prelude.{◌≡◌, ℕ, ◌+◌, ◌*◌, ◌^◌, ◌<◌, ◌≤◌, List, MatchOption, IsSomeAnd, IfSome, length, take, drop};
 ghost use Rattle.jsonb_doc.specs.Format.{BeginWith};
+ghost use Rattle.jsonb_doc.specs.Kinds.{kind_number};
 ghost use Rattle.jsonb_doc.specs.Lengths.{StandBefore};
-ghost use Rattle.jsonb_doc.specs.Readable.{StartWith};
 
-use crate::layout::{Entry, KINDS, LENGTHS, WORD, split_entry, split_word};
+use crate::layout::{Entry, WORD, split_entry, told_len};
 
 /// How long the contents of these entry words are, all together. The words are a list of their own, so that many are
 /// added at once.
@@ -23,7 +23,7 @@ pub fn contents_len(words: &[u8]) -> usize
     let (chunks, _) = words.as_chunks::<WORD>();
     let mut len = 0;
     for word in chunks {
-        len += (u32::from_be_bytes(*word) % LENGTHS) as usize;
+        len += told_len(word);
     }
     len
 }
@@ -51,26 +51,11 @@ pub fn entry_behind<'w, 'c>(
         → StandBefore parts (take passed words.now) contents.now left
         → MatchOption result
         ((kind : ℕ) (content ws cs : List ℕ) → BeginWith (drop passed words.now) left kind content ws cs → ⊥)
-        (λ e. BeginWith (drop passed words.now) left e.kind e.content.now e.other_words.now e.other_contents.now) }
+        (λ e. BeginWith (drop passed words.now) left (kind_number e.kind) e.content.now e.other_words.now
+        e.other_contents.now) }
     ensures size { IfSome result (λ e. length e.content.now + length e.other_contents.now ≤ length contents.now) }
 {
     let (before, others) = words.split_at(passed);
     let left = skip_contents(before, contents)?;
     split_entry(others, left)
-}
-
-/// The kind and the length that the first entry word tells, and the words after it.
-#[inline(always)]
-pub fn split_entry_word(words: &[u8]) -> Option<(u32, usize, &[u8])>
-    ensures word { MatchOption result
-        ((kind len : ℕ) (others : List ℕ) → StartWith words.now kind len others → ⊥)
-        (λ r. StartWith words.now r.0 r.1 r.2.now) }
-    ensures size { IfSome result (λ r. length r.2.now + 4 ≡ length words.now) }
-{
-    let (word, others) = split_word(words)?;
-    let kind = word / LENGTHS;
-    if kind >= KINDS {
-        return None;
-    }
-    Some((kind, (word % LENGTHS) as usize, others))
 }

@@ -11,7 +11,7 @@ ghost use Rattle.jsonb_doc.specs.Private.Depths.{parts_of, AreDeep};
 use crate::checking::check;
 use crate::container::{Container, read_container};
 use crate::error::Error;
-use crate::layout::{CONTAINER, split_entry};
+use crate::layout::{EntryKind, split_entry};
 
 /// How deep the deepest item of a document lies, where the root lies at 0 and the elements and values of a container
 /// one deeper than it. So a scalar and an empty container have depth 0, `[1]` and `{"a":[]}` have 1.
@@ -125,7 +125,7 @@ fn entries_depth<'a>(words: &[u8], contents: &'a [u8]) -> Depths<'a>
     let mut large: Option<&[u8]> = None;
     while let Some(entry) = split_entry(words_left, contents_left) {
         let mut within = 0;
-        if entry.kind == CONTAINER {
+        if entry.kind == EntryKind::Container {
             if entry.content.len() > half {
                 large = Some(entry.content);
             } else {

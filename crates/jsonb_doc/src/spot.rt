@@ -4,6 +4,7 @@ ghost use Rattle.std.specs.Prelude.{◌≡◌, ℕ, ◌+◌, ◌*◌, ◌^◌, �
 ghost use Rattle.jsonb_doc.specs.Tree.{Tree, children_of, field_of};
 ghost use Rattle.jsonb_doc.specs.Payload.{Form, any, number_reader};
 ghost use Rattle.jsonb_doc.specs.Format.{Decodes, IsContent, HeadedBy};
+ghost use Rattle.jsonb_doc.specs.Kinds.{kind_number};
 ghost use Rattle.jsonb_doc.specs.Item.{StandsFor, IsNormal, item_size};
 ghost use Rattle.jsonb_doc.specs.Answer.{SameOption, IsDecodingError};
 ghost use Rattle.jsonb_doc.specs.Readable.{HasReadableRoot};
@@ -14,7 +15,7 @@ use crate::container::{Container, read_container};
 use crate::entry_iter::StoredEntry;
 use crate::error::Error;
 use crate::item::Item;
-use crate::layout::{CONTAINER, WORD, split_entry};
+use crate::layout::{EntryKind, WORD, split_entry};
 use crate::lengths::{entry_behind, skip_contents};
 use crate::spot_iter::SpotIter;
 
@@ -28,13 +29,13 @@ pub use self::document::{scalar_document, spot_document};
 /// don't decode.
 #[derive(Clone, Copy, Debug)]
 pub struct Spot {
-    kind: u32,
+    kind: EntryKind,
     start: usize,
     end: usize,
 }
 
 impl Spot {
-    pub(crate) fn new(kind: u32, start: usize, end: usize) -> Spot
+    pub(crate) fn new(kind: EntryKind, start: usize, end: usize) -> Spot
         ensures kind { result.kind ≡ kind }
         ensures start { result.start ≡ start }
         ensures end { result.end ≡ end }
@@ -51,7 +52,7 @@ impl Spot {
     pub fn is_container(self) -> bool
         ensures { (bytes : List ℕ) (t : Tree) → Locates bytes self t → result ≡ is_some (children_of t) }
     {
-        self.kind == CONTAINER
+        self.kind == EntryKind::Container
     }
 
     /// Its content within these bytes. Bytes in which it has no place are `InvalidJsonb`.
@@ -88,7 +89,7 @@ pub fn root_spot(bytes: &[u8]) -> Result<Spot, Error>
             let start = bytes.len() - entry.content.len();
             Ok(Spot::new(entry.kind, start, bytes.len()))
         }
-        _ => Ok(Spot::new(CONTAINER, 0, bytes.len())),
+        _ => Ok(Spot::new(EntryKind::Container, 0, bytes.len())),
     }
 }
 
@@ -123,7 +124,7 @@ pub fn spot_item<'a>(bytes: &'a [u8], spot: Spot) -> Result<Item<'a>, Error>
 /// Constant, without memory.
 pub fn spot_entry<'a>(bytes: &'a [u8], spot: Spot) -> Result<StoredEntry<'a>, Error>
     ensures entry { (form : Form) (top t : Tree) → Decodes form bytes.now top → Locates bytes.now spot t
-        → IsOkAnd result (λ entry. IsContent (number_reader form) t entry.kind entry.content.now) }
+        → IsOkAnd result (λ entry. IsContent (number_reader form) t (kind_number entry.kind) entry.content.now) }
     ensures errors { IfErr result IsDecodingError }
 {
     Ok(StoredEntry {
@@ -152,7 +153,7 @@ pub fn child_spots<'a>(bytes: &'a [u8], spot: Spot) -> Result<Option<SpotIter<'a
     ensures errors { IfErr result IsDecodingError }
 {
     let content = spot.content(bytes)?;
-    if spot.kind != CONTAINER {
+    if spot.kind != EntryKind::Container {
         return Ok(None);
     }
     match read_container(content)? {
@@ -185,7 +186,7 @@ pub fn field_spot(bytes: &[u8], spot: Spot, name: &str) -> Result<Option<Spot>, 
     ensures errors { IfErr result IsDecodingError }
 {
     let object = spot.content(bytes)?;
-    if spot.kind != CONTAINER {
+    if spot.kind != EntryKind::Container {
         return Ok(None);
     }
     let parts = match read_container(object)? {

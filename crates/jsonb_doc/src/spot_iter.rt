@@ -1,8 +1,8 @@
 //! The iterator over the places of a container's children.
 
 use crate::error::Error;
-use crate::layout::WORD;
-use crate::lengths::{contents_len, split_entry_word};
+use crate::layout::{WORD, split_entry_word};
+use crate::lengths::contents_len;
 use crate::spot::Spot;
 
 /// The spots of a container's children that are left, in stored order. It ends behind one that has no place, which is

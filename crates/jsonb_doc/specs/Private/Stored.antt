@@ -4,6 +4,7 @@ use Rattle.std.specs.Borrow.{Bor}
 use Rattle.jsonb_doc.specs.Tree.{Tree, text, Trees, no_trees, tree, Pairs, no_pairs, pair, keys, values}
 use Rattle.jsonb_doc.specs.Payload.{Form, number_reader}
 use Rattle.jsonb_doc.specs.Format.{BeginWith, BeginWithNone, IsContent, AreEntries, AreKeys}
+use Rattle.jsonb_doc.specs.Kinds.{kind_number}
 use Rattle.jsonb_doc.specs.Answer.{IsDecodingError}
 use Rattle.jsonb_doc.specs.declared.entry_iter.EntryIter.{EntryIter}
 use Rattle.jsonb_doc.specs.declared.entry_iter.StoredEntry.{StoredEntry}
@@ -16,7 +17,7 @@ pub record HasEntriesLeft (form : Form) (it : EntryIter) (ts : Trees) : Type 0 w
 
 -- the entry stores the tree
 pub record Stores (form : Form) (e : StoredEntry) (t : Tree) : Type 0 where
-  pub content : IsContent (number_reader form) t e.kind e.content.now
+  pub content : IsContent (number_reader form) t (kind_number e.kind) e.content.now
 
 -- at most how many entries the iterator gives, on any bytes
 abbrev pub entries_bound : EntryIter → ℕ
@@ -36,7 +37,8 @@ TakesEntry form _ _ after = ⊥
 abbrev pub ReadsEntry : EntryIter → Option (Result StoredEntry Error) → EntryIter → Type 0
 ReadsEntry before None after = before.words.now ≡ []
 ReadsEntry before (Some (Ok e)) after =
-    BeginWith before.words.now before.contents.now e.kind e.content.now after.words.now after.contents.now
+    BeginWith before.words.now before.contents.now (kind_number e.kind) e.content.now
+    after.words.now after.contents.now
 ReadsEntry before (Some (Err e)) after = BeginWithNone before.words.now before.contents.now × (after.words.now ≡ [])
 
 -- What a call of `next` does. On any bytes it gives an entry, an error or `None`, and after `None` nothing more.

@@ -4,6 +4,7 @@ ghost use Rattle.std.specs.Prelude.{◌≡◌, ◌++◌, ◌^◌, ◌<◌, lengt
 ghost use Rattle.jsonb_doc.specs.Tree.{Tree};
 ghost use Rattle.jsonb_doc.specs.Payload.{Form};
 ghost use Rattle.jsonb_doc.specs.Format.{Decodes, header, entry_word, scalar_header};
+ghost use Rattle.jsonb_doc.specs.Kinds.{kind_number};
 ghost use Rattle.jsonb_doc.specs.Answer.{IsDecodingError, IsOutOfMemoryOrTooLarge, ◌or◌};
 ghost use Rattle.jsonb_doc.specs.Spots.{Locates};
 ghost use Rattle.jsonb_doc.specs.declared.error.Error.TheVariants.{OutOfMemory, TooLarge};
@@ -11,8 +12,7 @@ ghost use Rattle.jsonb_doc.specs.declared.error.Error.TheVariants.{OutOfMemory, 
 use super::{Spot, spot_item};
 use crate::encoding::encode_item;
 use crate::error::Error;
-use crate::layout::{CONTAINER, COUNTS, KINDS, LENGTHS, MAX_CONTENT, SCALAR_HEADER, WORD};
-use byteorder::{BigEndian, ByteOrder};
+use crate::layout::{EntryKind, HeaderKind, MAX_CONTENT, WORD, word_of_entry, word_of_header};
 use std::alloc::{AllocError, Global};
 
 /// The item at a spot of these bytes as a document of its own, copied as it is stored, in memory of its exact size.
@@ -32,16 +32,16 @@ pub fn spot_document(alloc: Global, bytes: &[u8], spot: Spot) -> Result<Vec<u8>,
     ensures errors { IfErr result (IsDecodingError or OutOfMemory or TooLarge) }
 {
     let content = spot.content(bytes)?;
-    if spot.kind == CONTAINER {
+    if spot.kind == EntryKind::Container {
         return Ok(Vec::from_slice(alloc, content)?);
     }
-    if spot.kind < KINDS && content.len() <= MAX_CONTENT {
+    if content.len() <= MAX_CONTENT {
         return Ok(scalar_document(alloc, spot.kind, content)?);
     }
     item_document(alloc, bytes, spot)
 }
 
-/// The same where the item is too long for an entry, or is none.
+/// The same where the item is too long for an entry.
 #[cold]
 #[inline(never)]
 fn item_document(alloc: Global, bytes: &[u8], spot: Spot) -> Result<Vec<u8>, Error>
@@ -63,15 +63,18 @@ fn item_document(alloc: Global, bytes: &[u8], spot: Spot) -> Result<Vec<u8>, Err
 ///
 /// Linear in the content, which is copied. Takes memory once, of the document's exact size.
 #[inline(always)]
-pub fn scalar_document(alloc: Global, kind: u32, content: &[u8]) -> Result<Vec<u8>, AllocError>
-    requires kind { kind < 8 }
-    requires len { length content.now < 2 ^ 28 }
+pub fn scalar_document(
+    alloc: Global,
+    kind: EntryKind,
+    content: &[u8],
+) -> Result<Vec<u8>, AllocError>
+    requires { length content.now < 2 ^ 28 }
     ensures { IfOk result
-        (λ v. v.items ≡ header scalar_header 0 ++ (entry_word kind (length content.now) ++ content.now)) }
+        (λ v. v.items ≡ header scalar_header 0 ++ (entry_word (kind_number kind) (length content.now) ++ content.now)) }
 {
     let mut words = [0; 2 * WORD];
-    BigEndian::write_u32(&mut words[..WORD], SCALAR_HEADER * COUNTS);
-    BigEndian::write_u32(&mut words[WORD..], kind * LENGTHS + content.len() as u32);
+    words[..WORD].copy_from_slice(&word_of_header(HeaderKind::Scalar, 0));
+    words[WORD..].copy_from_slice(&word_of_entry(kind, content.len()));
     let mut document = Vec::with_capacity(alloc, 2 * WORD + content.len())?;
     document.extend_from_slice(&words)?;
     document.extend_from_slice(content)?;

@@ -5,11 +5,14 @@ use Rattle.std.proofs.lemmas.List.{nil_from_length, length-append}
 use Rattle.std.proofs.lemmas.Grind.{common_steps}
 use Rattle.jsonb_doc.specs.Payload.{NumberReader, number_or_unsupported}
 use Rattle.jsonb_doc.specs.Private.Checking.{HasContent, HasEntries, HasLarge}
+use Rattle.jsonb_doc.specs.Kinds.{kind_number}
 use Rattle.jsonb_doc.proofs.Entries.{HasEntries-nil, HasEntries-empty, HasEntries-stop, HasEntries-step, has_content_lenient}
 use Rattle.jsonb_doc.proofs.Halves.{halvings-more, halvings-fewer}
 use Rattle.jsonb_doc.proofs.CheckingLemmas.{Leaves-along, Leaves-entries, Leaves-good, Leaves-unsupported, IsValidationError-other, IsApart-within, IsApart-less, IsApart-one, IsApart-large}
+use Rattle.jsonb_doc.specs.declared.layout.EntryKind.TheVariants.{Container}
+use Rattle.jsonb_doc.proofs.KindLemmas.{same_kind, other_kind}
 use Rattle.jsonb_doc.proofs.checking.+check.Goals as goal
-use Rattle.jsonb_doc.proofs.checking.+check.Goals.{check_entries-else-entry-eq-CONTAINER-via-then-entry-eq-CONTAINER+else-entry-half, check_entries-else-entry-eq-CONTAINER-via-else-entry-eq-CONTAINER, check_entries-then-entry-eq-CONTAINER+then-entry-half, check_entries-else-entry-eq-CONTAINER+in-Ok, check_entries-else-entry-eq-CONTAINER+in-Err+in-UnsupportedNumber}
+use Rattle.jsonb_doc.proofs.checking.+check.Goals.{check_entries-else-eq-via-then-eq+else-entry-half, check_entries-else-eq-via-else-eq, check_entries-then-eq+then-entry-half, check_entries-else-eq+in-Ok, check_entries-else-eq+in-Err+in-UnsupportedNumber}
 
 pub check_container-check_entries-requires : goal.check_container-check_entries-requires
 check_container-check_entries-requires t c =
@@ -56,26 +59,26 @@ other_below : (kind calls t : ℕ) → kind ≢ 5 → 0 < t → (if nat_eq kind 
 other_below kind calls t other some = grind (arith, nat_tests)
 
 pub check_entries-check_content-requires : goal.check_entries-check_content-requires
-check_entries-check_content-requires t c = elim c.else-entry-eq-CONTAINER.branch [
-  | check_entries-else-entry-eq-CONTAINER-via-then-entry-eq-CONTAINER+else-entry-half w ↦
+check_entries-check_content-requires t c = elim c.else-eq.branch [
+  | check_entries-else-eq-via-then-eq+else-entry-half w ↦
       let fewer = halvings-fewer (length c.in-Some.entry.content.now) (length c.args.contents.now + 4) (omega arith) (omega (arith, w.if-entry-half.false)) in
-      rw w.if-entry-eq-CONTAINER.true (omega (arith, fewer, c.decreases), tt)
-  | check_entries-else-entry-eq-CONTAINER-via-else-entry-eq-CONTAINER w ↦
-      (other_below c.in-Some.entry.kind _ t w.if-entry-eq-CONTAINER.false (omega (arith, c.decreases)), tt)
+      rw (same_kind _ c.in-Some.entry.kind Container c.eq.ensures w.if-eq.true) (omega (arith, fewer, c.decreases), tt)
+  | check_entries-else-eq-via-else-eq w ↦
+      (other_below (kind_number c.in-Some.entry.kind) _ t (other_kind _ c.in-Some.entry.kind Container c.eq.ensures w.if-eq.false) (omega (arith, c.decreases)), tt)
 ]
 
 pub check_entries-returns-in_default-error : goal.check_entries-returns-in_default-error
 check_entries-returns-in_default-error t c = λ h.
     let step = HasEntries-step number_or_unsupported _ _ _ _ _ _ c.in-Some.ensures in
     IsValidationError-other
-    (HasContent c.in-Some.entry.kind c.in-Some.entry.content.now) c.in-Err.error c.in_default-error.not-UnsupportedNumber c.in-Err.ensures
+    (HasContent (kind_number c.in-Some.entry.kind) c.in-Some.entry.content.now) c.in-Err.error c.in_default-error.not-UnsupportedNumber c.in-Err.ensures
     (step.0 (c.loop-words_left.invariant.left.lenient.0 h).1).0
 
 pub check_entries-loop-words_left-preserved : goal.check_entries-loop-words_left-preserved
 check_entries-loop-words_left-preserved t c =
     let inv = c.loop-words_left.invariant in
     let b = c.in-Some.ensures in
-    let kind = c.in-Some.entry.kind in
+    let kind = kind_number c.in-Some.entry.kind in
     let content = c.in-Some.entry.content.now in
     let ws = c.in-Some.entry.other_words.now in
     let cs = c.in-Some.entry.other_contents.now in
@@ -87,22 +90,22 @@ check_entries-loop-words_left-preserved t c =
     let split : (r : NumberReader) → Left r ↔ (HasContent kind content r × Others r) = λ r.
     let step = HasEntries-step r _ _ _ _ _ _ b in
     (λ h. let k = step.0 h.1 in (k.0, (h.0, k.1)), λ h. (h.1.0, step.1 (h.0, h.1.1))) in
-    elim c.if-entry-eq-CONTAINER.branch [
-      | check_entries-then-entry-eq-CONTAINER+then-entry-half w ↦
+    elim c.if-eq.branch [
+      | check_entries-then-eq+then-entry-half w ↦
           let none = IsApart-one large c.loop-words_left.contents_left.now c.args.contents.now content inv.apart (omega (arith, len)) w.if-entry-half.true in
           let within = IsApart-within large c.loop-words_left.contents_left.now c.args.contents.now inv.apart in
           rw (w.is_supported-is, w.large-is) (record {
             apart = (w.if-entry-half.true, omega (arith, len, within));
             left = Leaves-along c.loop-words_left.is_supported Whole Left _ (λ r.
-                let step = rw w.if-entry-eq-CONTAINER.true at (HasEntries-step r _ _ _ _ _ _ b) in
+                let step = rw (same_kind _ c.in-Some.entry.kind Container c.eq.ensures w.if-eq.true) at (HasEntries-step r _ _ _ _ _ _ b) in
                 (λ h. step.0 h.1, λ h. (rw none tt, step.1 h))) inv.left;
           })
-      | check_entries-else-entry-eq-CONTAINER+in-Ok w ↦ rw (w.is_supported-is, w.large-is) (record {
+      | check_entries-else-eq+in-Ok w ↦ rw (w.is_supported-is, w.large-is) (record {
         apart = IsApart-less large c.loop-words_left.contents_left.now cs c.args.contents.now (omega (arith, len)) inv.apart;
         left = Leaves-good c.loop-words_left.is_supported Whole Left (HasContent kind content) Others inv.left split w.in-Ok.ensures
             (has_content_lenient _ _ w.in-Ok.ensures);
       })
-      | check_entries-else-entry-eq-CONTAINER+in-Err+in-UnsupportedNumber w ↦
+      | check_entries-else-eq+in-Err+in-UnsupportedNumber w ↦
           let refused = rw w.in-UnsupportedNumber.is at w.in-Err.ensures in
           rw (w.is_supported-is, w.large-is) (record {
             apart = IsApart-less large c.loop-words_left.contents_left.now cs c.args.contents.now (omega (arith, len)) inv.apart;

@@ -1,6 +1,7 @@
 use Rattle.std.proofs.Common.{◌*◌, ◌+◌, ◌≤◌, length, nat_eq, if◌then◌else◌}
 use Rattle.std.specs.Prelude.{option_copied}
 use Rattle.jsonb_doc.specs.Private.Checking.{HasContent, HasEntries, HasLarge, ReducesTo}
+use Rattle.jsonb_doc.specs.Kinds.{kind_number}
 use Rattle.jsonb_doc.proofs.Halves.{halvings}
 use Rattle.jsonb_doc.proofs.CheckingLemmas.{IsApart}
 use Rattle.jsonb_doc.proofs.checking.+check.Given as goal
@@ -10,7 +11,7 @@ abbrev pub decreases-check_container : goal.decreases-check_container
 decreases-check_container l = 3 * halvings (length l.bytes.now) + 2
 
 abbrev pub decreases-check_content : goal.decreases-check_content
-decreases-check_content l = if nat_eq l.kind 5 then 3 * halvings (length l.content.now) + 3 else 0
+decreases-check_content l = if nat_eq (kind_number l.kind) 5 then 3 * halvings (length l.content.now) + 3 else 0
 
 abbrev pub decreases-check_entries : goal.decreases-check_entries
 decreases-check_entries l = 3 * halvings (length l.contents.now + 4) + 1

@@ -1,4 +1,5 @@
 use Rattle.jsonb_doc.specs.Private.Checking.{HasContent, HasDocument}
+use Rattle.jsonb_doc.specs.Kinds.{kind_number}
 use Rattle.jsonb_doc.proofs.ScalarLemmas.{Validates-along}
 use Rattle.jsonb_doc.proofs.Containers.{HasDocument-scalar, HasDocument-container}
 use Rattle.jsonb_doc.proofs.checking.check_document.Goals as goal
@@ -6,7 +7,7 @@ use Rattle.jsonb_doc.proofs.checking.check_document.Goals as goal
 pub returns-in-Scalar : goal.returns-in-Scalar
 returns-in-Scalar c =
     let e = c.in-Scalar.entry in
-    Validates-along (HasContent e.kind e.content.now) (HasDocument c.args.bytes.now)
+    Validates-along (HasContent (kind_number e.kind) e.content.now) (HasDocument c.args.bytes.now)
     (HasDocument-scalar c.args.bytes.now e (rw c.in-Scalar.is at c.in-Ok.ensures.cut)) c.check_scalar.result c.check_scalar.ensures
 
 pub returns-in_default-container : goal.returns-in_default-container

@@ -3,11 +3,14 @@ use Rattle.std.specs.Prelude.{option_copied}
 use Rattle.std.proofs.lemmas.List.{length-append}
 use Rattle.jsonb_doc.specs.Payload.{number_reader}
 use Rattle.jsonb_doc.specs.Private.Depths.{parts_of}
+use Rattle.jsonb_doc.specs.Kinds.{kind_number}
 use Rattle.jsonb_doc.proofs.Halves.{halvings-more, halvings-fewer}
 use Rattle.jsonb_doc.proofs.CheckingLemmas.{IsApart-within, IsApart-less, IsApart-one}
 use Rattle.jsonb_doc.proofs.DepthLemmas.{max_of, no_parts, scalar_parts, container_decodes, AreDeep-large, AreDeep-whole, EntriesLeft-none, EntriesLeft-next, EntriesLeft-aside}
+use Rattle.jsonb_doc.specs.declared.layout.EntryKind.TheVariants.{Container}
+use Rattle.jsonb_doc.proofs.KindLemmas.{same_kind, other_kind}
 use Rattle.jsonb_doc.proofs.nesting.+depth.Goals as goal
-use Rattle.jsonb_doc.proofs.nesting.+depth.Goals.{entries_depth-then-entry-eq-CONTAINER+then-entry-half, entries_depth-then-entry-eq-CONTAINER+else-entry-half, entries_depth-else-entry-eq-CONTAINER, document_depth-in-Some+in_default-large, document_depth-in_default}
+use Rattle.jsonb_doc.proofs.nesting.+depth.Goals.{entries_depth-then-eq+then-entry-half, entries_depth-then-eq+else-entry-half, entries_depth-else-eq, document_depth-in-Some+in_default-large, document_depth-in_default}
 
 pub document_depth-entries_depth-depths-requires : goal.document_depth-entries_depth-depths-requires
 document_depth-entries_depth-depths-requires t c =
@@ -56,38 +59,38 @@ pub entries_depth-loop-entry-preserved : goal.entries_depth-loop-entry-preserved
 entries_depth-loop-entry-preserved t c =
     let inv = c.loop-entry.invariant in
     let b = c.in-Some.ensures in
-    let kind = c.in-Some.entry.kind in
+    let kind = kind_number c.in-Some.entry.kind in
     let content = c.in-Some.entry.content.now in
     let ws = c.in-Some.entry.other_words.now in
     let cs = c.in-Some.entry.other_contents.now in
     let large = option_copied c.loop-entry.large in
     let len : length c.loop-entry.contents_left.now ≡ length content + length cs = ap length b.contents_joined ∙ length-append content cs in
     let within = IsApart-within large c.loop-entry.contents_left.now c.args.contents.now inv.apart in
-    let greatest = max_of c.max-known.result c.loop-entry.known (1 + c.if-entry-eq-CONTAINER.within) c.max-known.ensures in
-    elim c.if-entry-eq-CONTAINER.branch [
-      | entries_depth-then-entry-eq-CONTAINER+then-entry-half w ↦
+    let greatest = max_of c.max-known.result c.loop-entry.known (1 + c.if-eq.within) c.max-known.ensures in
+    elim c.if-eq.branch [
+      | entries_depth-then-eq+then-entry-half w ↦
           let none = IsApart-one large c.loop-entry.contents_left.now c.args.contents.now content inv.apart (omega (arith, len)) w.if-entry-half.true in
           let known = inv.bound in
           rw (greatest, w.within-is, w.large-is) (record {
-            left = λ form ts h. EntriesLeft-aside form ts _ _ _ _ kind content ws cs b (inv.left form ts h) none w.if-entry-eq-CONTAINER.true;
+            left = λ form ts h. EntriesLeft-aside form ts _ _ _ _ kind content ws cs b (inv.left form ts h) none (same_kind _ c.in-Some.entry.kind Container c.eq.ensures w.if-eq.true);
             apart = (w.if-entry-half.true, omega (arith, len, within));
             bound = omega arith;
           })
-      | entries_depth-then-entry-eq-CONTAINER+else-entry-half w ↦
+      | entries_depth-then-eq+else-entry-half w ↦
           let known = inv.bound in
           let room = w.document_depth-within.ensures.room in
           let part = w.document_depth-within.ensures.depth in
           rw (greatest, w.within-is, w.large-is) (record {
             left = λ form ts h. EntriesLeft-next form ts _ _ _ _ kind content ws cs b (inv.left form ts h) w.document_depth-within.result
-                (λ tree k. part form tree (container_decodes form tree kind content w.if-entry-eq-CONTAINER.true k));
+                (λ tree k. part form tree (container_decodes form tree kind content (same_kind _ c.in-Some.entry.kind Container c.eq.ensures w.if-eq.true) k));
             apart = IsApart-less large c.loop-entry.contents_left.now cs c.args.contents.now (omega (arith, len)) inv.apart;
             bound = omega (arith, len, within);
           })
-      | entries_depth-else-entry-eq-CONTAINER w ↦
+      | entries_depth-else-eq w ↦
           let known = inv.bound in
           rw (greatest, w.within-is, w.large-is) (record {
             left = λ form ts h. EntriesLeft-next form ts _ _ _ _ kind content ws cs b (inv.left form ts h) 0
-                (λ tree k. sym (no_parts tree (scalar_parts (number_reader form) tree kind content w.if-entry-eq-CONTAINER.false k)));
+                (λ tree k. sym (no_parts tree (scalar_parts (number_reader form) tree kind content (other_kind _ c.in-Some.entry.kind Container c.eq.ensures w.if-eq.false) k)));
             apart = IsApart-less large c.loop-entry.contents_left.now cs c.args.contents.now (omega (arith, len)) inv.apart;
             bound = omega arith;
           })

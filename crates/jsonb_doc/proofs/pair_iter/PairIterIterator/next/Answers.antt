@@ -1,5 +1,6 @@
 use Rattle.std.proofs.Common.{◌∙◌, arith, rules, refl, inl, inr}
 use Rattle.std.proofs.lemmas.Grind.{common_steps}
+use Rattle.jsonb_doc.specs.Kinds.{kind_number}
 use Rattle.jsonb_doc.proofs.Entries.{BeginWith-unique, BeginWith-room}
 use Rattle.jsonb_doc.proofs.PairsLemmas.{HasPairsLeft-first}
 use Rattle.jsonb_doc.proofs.pair_iter.PairIterIterator.next.Goals as goal
@@ -34,9 +35,9 @@ pub returns-in_default-from_utf8-clause-steps : goal.returns-in_default-from_utf
 returns-in_default-from_utf8-clause-steps c = record {
   reads = inr (
     c.in-Some.key.content.now,
-    c.in-Some-split_entry.value.kind,
+    kind_number c.in-Some-split_entry.value.kind,
     c.in-Some-split_entry.value.content.now,
-    record { key_kind = c.in-Some.key.kind; name = c.in-Some.ensures; value = c.in-Some-split_entry.ensures },
+    record { key_kind = kind_number c.in-Some.key.kind; name = c.in-Some.ensures; value = c.in-Some-split_entry.ensures },
     λ utf8 item. absurd (c.in_default-from_utf8.ensures.cases.0 utf8),
   );
   takes = λ form ps h.
@@ -55,9 +56,9 @@ returns-in-Ok-from_content-clause-steps c =
     let room = BeginWith-room _ _ _ _ _ _ c.in-Some-split_entry.ensures in
     record {
       reads = (
-        c.in-Some-split_entry.value.kind,
+        kind_number c.in-Some-split_entry.value.kind,
         c.in-Some-split_entry.value.content.now,
-        record { key_kind = c.in-Some.key.kind; name = rw c.in-Ok.ensures.cases.0 c.in-Some.ensures; value = c.in-Some-split_entry.ensures },
+        record { key_kind = kind_number c.in-Some.key.kind; name = rw c.in-Ok.ensures.cases.0 c.in-Some.ensures; value = c.in-Some-split_entry.ensures },
         rw c.in-Ok.ensures.cases.0 c.in-Ok.ensures.cases.1,
         c.in-Ok-from_content.ensures.reads,
       );
@@ -90,9 +91,9 @@ returns-in-Err-clause-steps c =
     record {
       reads = inr (
         c.in-Some.key.content.now,
-        c.in-Some-split_entry.value.kind,
+        kind_number c.in-Some-split_entry.value.kind,
         c.in-Some-split_entry.value.content.now,
-        record { key_kind = c.in-Some.key.kind; name = c.in-Some.ensures; value = c.in-Some-split_entry.ensures },
+        record { key_kind = kind_number c.in-Some.key.kind; name = c.in-Some.ensures; value = c.in-Some-split_entry.ensures },
         λ utf8 item. c.in-Err.ensures.reads item,
       );
       takes = λ form ps h.

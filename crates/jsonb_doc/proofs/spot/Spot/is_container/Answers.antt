@@ -1,5 +1,8 @@
+use Rattle.std.proofs.Common.{◌∙◌}
+use Rattle.jsonb_doc.specs.declared.layout.EntryKind.TheVariants.{Container}
+use Rattle.jsonb_doc.proofs.KindLemmas.{kinds_told}
 use Rattle.jsonb_doc.proofs.SpotsLemmas.{Locates-has_children}
 use Rattle.jsonb_doc.proofs.spot.Spot.is_container.Goals as goal
 
 pub returns : goal.returns
-returns c = λ bytes t m. Locates-has_children bytes c.args.self t m
+returns c = λ bytes t m. c.eq.ensures ∙ kinds_told c.args.self.kind Container ∙ Locates-has_children bytes c.args.self t m

@@ -1,6 +1,7 @@
-use Rattle.std.proofs.Common.{arith, rules, refl, sym, ◌≡◌, ◌∙◌, ◌<◌, ◌+◌, ◌-◌}
+use Rattle.std.proofs.Common.{arith, rules, refl, sym, ap, ◌≡◌, ◌∙◌, ◌<◌, ◌+◌, ◌-◌}
 use Rattle.std.proofs.lemmas.Grind.{common_steps}
 use Rattle.std.proofs.lemmas.List.{nil_from_length}
+use Rattle.jsonb_doc.specs.Kinds.{kind_number}
 use Rattle.jsonb_doc.proofs.SpotsLemmas.{HasSpotsLeft-empty, HasSpotsLeft-word, HasSpotsLeft-fits, HasSpotsLeft-first, PassesSpot-fits}
 use Rattle.jsonb_doc.proofs.spot_iter.SpotIterIterator.next.Goals as goal
 use Rattle.jsonb_doc.proofs.spot_iter.SpotIterIterator.next.Goals.{in_default-checked_add-via-in-Some-checked_add+else-end-self, in_default-checked_add-via-in_default-checked_add}
@@ -17,7 +18,7 @@ returns-then-is_empty-clause-steps c = record {
 pub returns-in_default-clause-steps : goal.returns-in_default-clause-steps
 returns-in_default-clause-steps c = record {
   reads = (
-    λ spot rest p. c.in_default.ensures.word spot.kind (spot.end - spot.start) rest.words.now
+    λ spot rest p. c.in_default.ensures.word (kind_number spot.kind) (spot.end - spot.start) rest.words.now
         (record { known = p.known; fits = p.fits; joined = p.word }),
     refl,
   );
@@ -31,12 +32,13 @@ pub returns-in-Some-checked_add-clause-steps : goal.returns-in-Some-checked_add-
 returns-in-Some-checked_add-clause-steps c =
     let sum = c.in-Some-checked_add.ensures in
     let start = c.new.ensures.start in
+    let kind = ap kind_number c.new.ensures.kind in
     let end = c.new.ensures.end ∙ sum.1 in
     let len : c.new.result.end - c.new.result.start ≡ c.in-Some.len = omega (arith, start, end) in
     record {
       reads = record {
-        word = rw (c.new.ensures.kind, len) c.in-Some.ensures.word.joined;
-        known = omega (arith, c.new.ensures.kind, c.in-Some.ensures.word.known);
+        word = rw (kind, len) c.in-Some.ensures.word.joined;
+        known = rw kind c.in-Some.ensures.word.known;
         fits = omega (arith, len, c.in-Some.ensures.word.fits);
         front = start;
         ordered = omega (arith, sum.1, start, end);
@@ -45,8 +47,8 @@ returns-in-Some-checked_add-clause-steps c =
         last = refl;
       };
       takes = λ bytes ts h.
-          HasSpotsLeft-first bytes c.args.self.now c.in-Some.kind c.in-Some.len c.in-Some.others.now c.in-Some.ensures.word ts c.new.result _
-          c.new.ensures.kind start end refl sum.1 refl h;
+          HasSpotsLeft-first bytes c.args.self.now (kind_number c.in-Some.kind) c.in-Some.len c.in-Some.others.now c.in-Some.ensures.word ts c.new.result _
+          kind start end refl sum.1 refl h;
       errors = search rules;
       size = omega (arith, sum.1, start, end);
       room = omega (arith, sum.1);
@@ -63,12 +65,16 @@ returns-in_default-checked_add-clause-steps c =
         λ spot rest p. omega (
           arith,
           past,
-          PassesSpot-fits c.args.self.now c.in-Some.kind c.in-Some.len c.in-Some.others.now c.in-Some.ensures.word spot rest p,
+          PassesSpot-fits c.args.self.now (kind_number c.in-Some.kind) c.in-Some.len c.in-Some.others.now c.in-Some.ensures.word spot rest p,
         ),
         refl,
       );
       takes = λ bytes ts h.
-          absurd (omega (arith, past, HasSpotsLeft-fits bytes c.args.self.now c.in-Some.kind c.in-Some.len c.in-Some.others.now c.in-Some.ensures.word ts h));
+          absurd (omega (
+            arith,
+            past,
+            HasSpotsLeft-fits bytes c.args.self.now (kind_number c.in-Some.kind) c.in-Some.len c.in-Some.others.now c.in-Some.ensures.word ts h,
+          ));
       errors = search rules;
       size = search rules;
       room = omega arith;
