@@ -3,9 +3,10 @@ use Rattle.std.proofs.Common.{◌≡◌, ◌≢◌, ℕ, ◌<◌, ◌≤◌, Boo
 use Rattle.std.specs.Prelude.{◌==◌, not, MatchOption, unwrap_or}
 use Rattle.std.proofs.lemmas.Bool.Decides.{nat_tests}
 use denote.Enum.Declared.{tag_of}
+use denote.Enum.Bare.{tag_one}
 use Rattle.jsonb_doc.specs.Kinds.{kind_number, header_number}
 use Rattle.jsonb_doc.specs.declared.layout.EntryKind.{EntryKind}
-use Rattle.jsonb_doc.specs.declared.layout.EntryKind.TheVariants.{Null, Text, Number, False, True, Container, Extension, Unknown}
+use Rattle.jsonb_doc.specs.declared.layout.EntryKind.TheVariants.{Null, Unknown}
 use Rattle.jsonb_doc.specs.declared.layout.HeaderKind.{HeaderKind}
 use Rattle.jsonb_doc.specs.declared.layout.HeaderKind.TheVariants.{Scalar, Array}
 use Rattle.jsonb_doc.specs.contracts.layout.EntryKind.{the_type}
@@ -15,11 +16,6 @@ use Rattle.jsonb_doc.specs.contracts.layout.HeaderKindPartialEq.TheImpl.{eq-valu
 pub kind_known : (kind : EntryKind) → kind_number kind < 8
 kind_known Null = omega arith
 kind_known _ = omega arith
-
--- what is no container has another number
-pub other_number : (kind : EntryKind) → kind ≢ Container → kind_number kind ≢ 5
-other_number Container other = absurd (other refl)
-other_number _ other = λ e. omega arith
 
 -- a number below 8 is read
 pub read_number : (found : Option EntryKind) (n : ℕ) → MatchOption found (8 ≤ n) (λ kind. kind_number kind ≡ n) → n < 8
@@ -34,7 +30,11 @@ number_is : (kind : EntryKind) → tag_of the_type kind ≡ kind_number kind
 number_is Null = refl
 number_is _ = refl
 
--- kinds are one where their numbers are
+-- kinds of one number are one kind
+pub one_kind : (a b : EntryKind) → kind_number a ≡ kind_number b → a ≡ b
+one_kind a b same = tag_one the_type tt a b (number_is a ∙ same ∙ sym (number_is b))
+
+-- a test tells whether their numbers are one
 pub kinds_told : (a b : EntryKind) → kind_equal.it a b ≡ (kind_number a == kind_number b)
 kinds_told a b = ap₂ nat_eq (number_is a) (number_is b)
 

@@ -1,12 +1,10 @@
 -- The entries of a child, in an array and in an object.
-use Rattle.std.proofs.Common.{◌≡◌, ℕ, suc, ◌+◌, ◌*◌, ◌-◌, ◌^◌, ◌<◌, ◌≤◌, List, [], ◌∷◌, ◌++◌, length, take, Some, None, refl, sym, ap, subst, ◌∙◌, arith, append_assoc, slice_get}
-use Rattle.std.specs.Int.{w32, from_be_bytes, to_be_bytes}
+use Rattle.std.proofs.Common.{◌≡◌, ℕ, suc, ◌+◌, ◌*◌, ◌-◌, ◌^◌, ◌<◌, ◌≤◌, List, [], ◌∷◌, ◌++◌, length, Some, None, refl, sym, ap, subst, ◌∙◌, arith, append_assoc, slice_get}
 use Rattle.std.proofs.lemmas.Cmp.{nat_list_cmp_total}
 use Rattle.std.proofs.lemmas.List.{length-append}
-use Rattle.std.proofs.lemmas.Nat.{from_be_bytes-to_be_bytes_4}
 use Rattle.jsonb_doc.specs.Tree.{Tree, array, object, Trees, Pairs, elements, count, keys, values}
 use Rattle.jsonb_doc.specs.Payload.{NumberReader}
-use Rattle.jsonb_doc.specs.Format.{header, array_header, object_header, container_entry, text_entry, entry_word, key_words, key_bytes, IsBelowFirst, AreKeys, HeadedBy, IsContainer, AreMembers, AreEntries, AreValues}
+use Rattle.jsonb_doc.specs.Format.{header, array_header, object_header, container_entry, text_entry, entry_word, key_words, key_bytes, IsBelowFirst, AreKeys, IsContainer, AreMembers, AreEntries, AreValues}
 use Rattle.jsonb_doc.specs.Encoding.{EntryParts}
 use Rattle.jsonb_doc.specs.Private.ObjectBytes.{words_of_entries, contents_of_entries}
 use Rattle.jsonb_doc.proofs.Containers.{entries_of, count-values}
@@ -18,17 +16,9 @@ use Rattle.jsonb_raw.proofs.CutLemmas.{content_there, content_replaced, entry_wi
 
 -- ---- headers
 
--- the word of a header is its kind and its count
-pub header_read : (bytes word rest : List ℕ) (kind n m : ℕ) → HeadedBy bytes kind n rest → word ≡ take 4 bytes → m ≡ from_be_bytes w32 word
-    → m ≡ kind * 2 ^ 29 + n
-header_read bytes word rest kind n m h first read =
-    let known = h.known in
-    let fits = h.fits in
-    read ∙ ap (from_be_bytes w32) (first ∙ ap (take 4) h.joined) ∙ from_be_bytes-to_be_bytes_4 (kind * 2 ^ 29 + n) (omega arith)
-
 -- one entry less
-header_less : (kind n n' m : ℕ) → m ≡ kind * 2 ^ 29 + n → n ≡ suc n' → to_be_bytes w32 (m - 1) ≡ header kind n'
-header_less kind n n' m is more = let e : m - 1 ≡ kind * 2 ^ 29 + n' = omega (arith, is, more) in ap (to_be_bytes w32) e
+header_less : (kind n n' : ℕ) (less : List ℕ) → less ≡ header kind (n - 1) → n ≡ suc n' → less ≡ header kind n'
+header_less kind n n' less is more = let e : n - 1 ≡ n' = omega (arith, more) in is ∙ ap (header kind) e
 
 both : (a b x y : List ℕ) → a ≡ x → b ≡ y → a ++ b ≡ x ++ y
 both a b x y e f = rw (e, f) refl
@@ -66,11 +56,10 @@ module _ (number_at : NumberReader) (ts : Trees) (bytes : List ℕ) (h : IsConta
   pub element_held : HoldEntries bytes (cut_entries.front ++ cut_entries.entry ∷ cut_entries.back)
   element_held = record { head = header array_header (count ts); four = refl; within = within; joined = whole }
 
-  pub element_of : (word : List ℕ) (m : ℕ) (place : EntryPlace) → word ≡ take 4 bytes → m ≡ from_be_bytes w32 word
+  pub element_of : (less : List ℕ) (place : EntryPlace) → less ≡ header array_header (count ts - 1)
       → IsPlaceOf place (count ts) cut_entries.front cut_entries.entry
-      → AreOfChild number_at bytes (array ts) n child (record { header = m - 1; key = None; value = place })
-  element_of word m place first read is =
-      let word_is = header_read bytes word (h.words ++ h.contents) array_header (count ts) m h.headed first read in
+      → AreOfChild number_at bytes (array ts) n child (record { header = less; key = None; value = place })
+  element_of less place less_is is =
       let there = content_there bytes (header array_header (count ts)) cut_entries.front cut_entries.back cut_entries.entry place
       (count ts) whole refl element_total is in
       let fits = (within-back cut_entries.front (cut_entries.entry ∷ cut_entries.back) within).0 in
@@ -78,6 +67,7 @@ module _ (number_at : NumberReader) (ts : Trees) (bytes : List ℕ) (h : IsConta
       let within_back = (within-back cut_entries.front (cut_entries.entry ∷ cut_entries.back) within).1 in
       let counted = h.headed.fits in
       record {
+        four = ap length less_is;
         kind = cut_entries.entry.0;
         content = rw there cut_entries.is;
         short = rw there fits.1;
@@ -103,7 +93,7 @@ module _ (number_at : NumberReader) (ts : Trees) (bytes : List ℕ) (h : IsConta
                 headed = record {
                   known = omega arith;
                   fits = omega (arith, counted, more);
-                  joined = both _ _ _ _ (header_less array_header (count ts) (count (change_tree n change ts)) m word_is more)
+                  joined = both _ _ _ _ (header_less array_header (count ts) (count (change_tree n change ts)) less less_is more)
                       (entry_left_out bytes (header array_header (count ts)) cut_entries.front cut_entries.back cut_entries.entry place
                       (count ts) whole refl element_total is);
                 };
@@ -111,11 +101,11 @@ module _ (number_at : NumberReader) (ts : Trees) (bytes : List ℕ) (h : IsConta
                     (within-both cut_entries.front cut_entries.back within_front within_back) are;
               },
             );
-        shorter = omega (
+        shorter = rw less_is (omega (
           arith,
           left_out_shorter bytes (header array_header (count ts)) cut_entries.front cut_entries.back cut_entries.entry place
               (count ts) whole refl element_total is,
-        );
+        ));
         changed = λ change child' content' made is' no_longer.
             let are = cut_entries.changed change child' (container_entry, content') made is' in
             let left = count_are number_at (change_tree n change ts) (cut_entries.front ++ (container_entry, content') ∷ cut_entries.back) are in
@@ -413,12 +403,11 @@ module _ (number_at : NumberReader) (ps : Pairs) (bytes : List ℕ)
       ++ (words_of_entries (before_value ++ cut_values.entry ∷ cut_values.back) ++ contents_of_entries (before_value ++ cut_values.entry ∷ cut_values.back))
   value_joined = regrouped bytes (header object_header (length (keys ps))) _ _ _ _ in_a_row refl refl by_value
 
-  pub member_of : (word : List ℕ) (m : ℕ) (key value : EntryPlace) → word ≡ take 4 bytes → m ≡ from_be_bytes w32 word
+  pub member_of : (less : List ℕ) (key value : EntryPlace) → less ≡ header object_header (length (keys ps) - 1)
       → IsPlaceOf key (2 * length (keys ps)) (key_entries cut_keys.front) (text_entry, cut_keys.key)
       → IsPlaceOf value (2 * length (keys ps)) before_value cut_values.entry
-      → AreOfChild number_at bytes (object ps) n child (record { header = m - 1; key = Some key; value = value })
-  member_of word m key value first read key_is value_is =
-      let word_is = header_read bytes word (h.words ++ h.contents) object_header (length (keys ps)) m h.headed first read in
+      → AreOfChild number_at bytes (object ps) n child (record { header = less; key = Some key; value = value })
+  member_of less key value less_is key_is value_is =
       let there = content_there bytes (header object_header (length (keys ps))) before_value cut_values.back cut_values.entry value
       (2 * length (keys ps)) value_joined refl value_total value_is in
       let cut_within = subst FitEntries cut_values.whole all_values.within in
@@ -427,6 +416,7 @@ module _ (number_at : NumberReader) (ps : Pairs) (bytes : List ℕ)
       let within_back = (within-back cut_values.front (cut_values.entry ∷ cut_values.back) cut_within).1 in
       let counted = h.headed.fits in
       record {
+        four = ap length less_is;
         kind = cut_values.entry.0;
         content = rw there cut_values.is;
         short = rw there fits.1;
@@ -454,7 +444,7 @@ module _ (number_at : NumberReader) (ps : Pairs) (bytes : List ℕ)
                 headed = record {
                   known = omega arith;
                   fits = omega (arith, counted, more);
-                  joined = both _ _ _ _ (header_less object_header (length (keys ps)) (length (keys (change_value n change ps))) m word_is more)
+                  joined = both _ _ _ _ (header_less object_header (length (keys ps)) (length (keys (change_value n change ps))) less less_is more)
                       (pair_left_out bytes (header object_header (length (keys ps))) cut_keys.front cut_keys.back
                       (keys ps) cut_keys.key cut_values.front cut_values.back cut_values.entry key value
                       (2 * length (keys ps)) cut_keys.whole refl both_joined both_total key_is value_is (keys (change_value n change ps)) keys_left);
@@ -470,12 +460,12 @@ module _ (number_at : NumberReader) (ps : Pairs) (bytes : List ℕ)
                 };
               },
             );
-        shorter = omega (
+        shorter = rw less_is (omega (
           arith,
           pair_shorter bytes (header object_header (length (keys ps))) cut_keys.front cut_keys.back
               (keys ps) cut_keys.key cut_values.front cut_values.back cut_values.entry key value
               (2 * length (keys ps)) cut_keys.whole refl both_joined both_total key_is value_is,
-        );
+        ));
         changed = λ change child' content' made is' no_longer.
             let are = rw (← values_changed ps n change) at (cut_values.changed change child' (container_entry, content') made is') in
             let keys_same = cut_keys.changed change child' made in

@@ -253,9 +253,9 @@ all_cut number_at bytes t (n ∷ ns) (p ∷ ps) inner u last removed new h is si
         rw (← is) (simp length-append (omega (arith, first, middle, inner, behind, within)))
 
 -- the bytes that a child's entries take are gone
-pub entries_gone : (bytes : List ℕ) (child : ChildEntries) → AreInOrder child.key child.value (length bytes)
+pub entries_gone : (bytes : List ℕ) (child : ChildEntries) → length child.header ≡ 4 → AreInOrder child.key child.value (length bytes)
     → length (without_child bytes child) + entries_size child ≡ length bytes
-entries_gone bytes child ordered = by child.key ordered
+entries_gone bytes child four ordered = by child.key ordered
   where
     by : (key : Option EntryPlace) → AreInOrder key child.value (length bytes)
         → length (without_child bytes (record child { key = key })) + entries_size (record child { key = key }) ≡ length bytes
@@ -263,14 +263,14 @@ entries_gone bytes child ordered = by child.key ordered
         let a = length-between bytes 4 child.value.word (omega (arith, o.0, o.1.0, o.1.1, o.1.2)) in
         let b = length-between bytes (child.value.word + 4) child.value.start (omega (arith, o.1.1, o.1.2)) in
         let c = length-between bytes child.value.end (length bytes) (omega arith) in
-        simp length-append (omega (arith, a, b, c, o.0, o.1.0, o.1.1, o.1.2))
+        simp length-append (omega (arith, four, a, b, c, o.0, o.1.0, o.1.1, o.1.2))
     by (Some key) o =
         let a = length-between bytes 4 key.word (omega (arith, o.0, o.1, o.2, o.3, o.4, o.5, o.6)) in
         let b = length-between bytes (key.word + 4) child.value.word (omega (arith, o.2, o.3, o.4, o.5, o.6)) in
         let c = length-between bytes (child.value.word + 4) key.start (omega (arith, o.3, o.4, o.5, o.6)) in
         let d = length-between bytes key.end child.value.start (omega (arith, o.5, o.6)) in
         let e = length-between bytes child.value.end (length bytes) (omega arith) in
-        simp length-append (omega (arith, a, b, c, d, e, o.0, o.1, o.2, o.3, o.4, o.5, o.6))
+        simp length-append (omega (arith, four, a, b, c, d, e, o.0, o.1, o.2, o.3, o.4, o.5, o.6))
 
 pub without_pushed : (number_at : NumberReader) (bytes : List ℕ) (t left : Tree) (ns : List ℕ) (ps : List EntryPlace) (inner : List ℕ) (last removed : ℕ)
     (new before fronted cut after : List ℕ) (from : ℕ) (r : Result (Unit {0}) Error)

@@ -13,10 +13,12 @@ use Rattle.jsonb_doc.specs.Limits.{IsShort, AreShortKeys, HasShortValues, IsTooL
 use Rattle.jsonb_doc.specs.Encoding.{EntryParts}
 use Rattle.jsonb_doc.specs.ObjectBuilder.{FitsEntry, HoldsPairs, insert_pair}
 use Rattle.jsonb_doc.specs.Private.ObjectBytes.{words_of_entries, contents_of_entries, object_bytes}
+use Rattle.jsonb_doc.specs.Kinds.{kind_number}
 use Rattle.jsonb_doc.proofs.Containers.{object_document}
 use Rattle.jsonb_doc.proofs.ObjectLemmas.{held_inserted, object_decodes}
 use Rattle.jsonb_doc.proofs.Sizes.{size_within}
 use Rattle.jsonb_doc.proofs.TreeLists.{keys-pairs_of, keys_of-members}
+use Rattle.jsonb_doc.proofs.KindLemmas.{kind_known}
 use Rattle.jsonb_raw.specs.declared.functions.object.pair_parts.PairPlace.{PairPlace}
 use Rattle.jsonb_raw.specs.declared.functions.object.pair_parts.KeptEntries.{KeptEntries}
 use Rattle.jsonb_raw.specs.declared.functions.parts.RootEntry.{RootEntry}
@@ -231,45 +233,45 @@ module _ (form : Form) (bytes : List ℕ) (ps : Pairs) (d : Decodes form bytes (
       }
 
   module _ (t : Tree) (kept : KeptEntries) (kept_are : AreKept kept before between behind) (value : RootEntry)
-      (is : IsContent (number_reader form) t value.kind value.content.now) where
-    entries_are : insert_pair name (value.kind, value.content.now) held.entries ≡ split.front ++ (name, (value.kind, value.content.now)) ∷ split.back
-    entries_are = ap (insert_pair name (value.kind, value.content.now)) split.joined
-        ∙ inserted_at name (value.kind, value.content.now) split.front split.there split.back (rw split.front_are at.below)
+      (is : IsContent (number_reader form) t (kind_number value.kind) value.content.now) where
+    entries_are : insert_pair name (kind_number value.kind, value.content.now) held.entries ≡ split.front ++ (name, (kind_number value.kind, value.content.now)) ∷ split.back
+    entries_are = ap (insert_pair name (kind_number value.kind, value.content.now)) split.joined
+        ∙ inserted_at name (kind_number value.kind, value.content.now) split.front split.there split.back (rw split.front_are at.below)
         (rw (split.there_are, split.back_are) at.is_place)
 
-    keys_are : keys_of (split.front ++ (name, (value.kind, value.content.now)) ∷ split.back) ≡ at.front ++ name ∷ at.back
-    keys_are = keys_of-append split.front ((name, (value.kind, value.content.now)) ∷ split.back) ∙ rw (split.front_are, split.back_are) refl
+    keys_are : keys_of (split.front ++ (name, (kind_number value.kind, value.content.now)) ∷ split.back) ≡ at.front ++ name ∷ at.back
+    keys_are = keys_of-append split.front ((name, (kind_number value.kind, value.content.now)) ∷ split.back) ∙ rw (split.front_are, split.back_are) refl
 
-    count_is : length (split.front ++ (name, (value.kind, value.content.now)) ∷ split.back) ≡ kept.pairs + 1
+    count_is : length (split.front ++ (name, (kind_number value.kind, value.content.now)) ∷ split.back) ≡ kept.pairs + 1
     count_is = omega (
       arith,
       length-append split.front
-          ((name, (value.kind, value.content.now)) ∷ split.back),
+          ((name, (kind_number value.kind, value.content.now)) ∷ split.back),
       front_count,
       back_count,
       between_count,
       kept_are.pairs,
     )
 
-    all_values : values_of (split.front ++ (name, (value.kind, value.content.now)) ∷ split.back)
-        ≡ values_of split.front ++ (value.kind, value.content.now) ∷ values_of split.back
-    all_values = values-append split.front ((name, (value.kind, value.content.now)) ∷ split.back)
+    all_values : values_of (split.front ++ (name, (kind_number value.kind, value.content.now)) ∷ split.back)
+        ≡ values_of split.front ++ (kind_number value.kind, value.content.now) ∷ values_of split.back
+    all_values = values-append split.front ((name, (kind_number value.kind, value.content.now)) ∷ split.back)
 
-    all_are_within : length value.content.now < 2 ^ 28 → FitEntries (values_of split.front ++ (value.kind, value.content.now) ∷ values_of split.back)
+    all_are_within : length value.content.now < 2 ^ 28 → FitEntries (values_of split.front ++ (kind_number value.kind, value.content.now) ∷ values_of split.back)
     all_are_within short =
         let old = subst FitEntries
         (ap values_of split.joined ∙ values-append split.front (split.there ++ split.back)
         ∙ ap (λ es. values_of split.front ++ es) (values-append split.there split.back)) held.within in
         let rest = within-back (values_of split.front) (values_of split.there ++ values_of split.back) old in
-        within-both (values_of split.front) ((value.kind, value.content.now) ∷ values_of split.back)
+        within-both (values_of split.front) ((kind_number value.kind, value.content.now) ∷ values_of split.back)
         (within-front (values_of split.front) (values_of split.there ++ values_of split.back) old)
-        ((value.known, short), within-back (values_of split.there) (values_of split.back) rest)
+        ((kind_known value.kind, short), within-back (values_of split.there) (values_of split.back) rest)
 
-    made_bytes : word_row kept name value ++ content_row kept name value ≡ object_bytes (split.front ++ (name, (value.kind, value.content.now)) ∷ split.back)
+    made_bytes : word_row kept name value ++ content_row kept name value ≡ object_bytes (split.front ++ (name, (kind_number value.kind, value.content.now)) ∷ split.back)
     made_bytes =
         let kb = key_entries at.back in
         let vf = values_of split.front in
-        let e : EntryParts = (value.kind, value.content.now) in
+        let e : EntryParts = (kind_number value.kind, value.content.now) in
         let es : List (List ℕ × EntryParts) = split.front ++ (name, e) ∷ split.back in
         let middle_words : kept.between.words.now ≡ words_of_entries kb ++ words_of_entries vf = kept_are.between_are.words ∙ words-append kb vf in
         let middle_contents : kept.between.contents.now ≡ contents_of_entries kb ++ contents_of_entries vf = kept_are.between_are.contents
@@ -280,16 +282,16 @@ module _ (form : Form) (bytes : List ℕ) (ps : Pairs) (d : Decodes form bytes (
         let kc : key_bytes (keys_of es) ≡ contents_of_entries before ++ (name ++ contents_of_entries kb) =
         ap key_bytes keys_are ∙ sym (key-contents (at.front ++ name ∷ at.back)) ∙ ap contents_of_entries (keys-append at.front (name ∷ at.back))
         ∙ contents-append before ((text_entry, name) ∷ kb) in
-        let vw : words_of_entries (values_of es) ≡ words_of_entries vf ++ (entry_word value.kind (length value.content.now) ++ words_of_entries behind) =
+        let vw : words_of_entries (values_of es) ≡ words_of_entries vf ++ (entry_word (kind_number value.kind) (length value.content.now) ++ words_of_entries behind) =
         ap words_of_entries all_values ∙ words-append vf (e ∷ behind) in
         let vc : contents_of_entries (values_of es) ≡ contents_of_entries vf ++ (value.content.now ++ contents_of_entries behind) =
         ap contents_of_entries all_values ∙ contents-append vf (e ∷ behind) in
         parts_same (header object_header (kept.pairs + 1)) (entry_word text_entry (length name))
-        (entry_word value.kind
+        (entry_word (kind_number value.kind)
         (length value.content.now)) name value.content.now kept_are.before_are.words middle_words kept_are.behind_are.words kept_are.before_are.contents
         middle_contents kept_are.behind_are.contents
         ∙ in_order (header object_header (kept.pairs + 1)) (words_of_entries before) (entry_word text_entry (length name)) (words_of_entries kb)
-        (words_of_entries vf) (entry_word value.kind (length value.content.now)) (words_of_entries behind) (contents_of_entries before) name
+        (words_of_entries vf) (entry_word (kind_number value.kind) (length value.content.now)) (words_of_entries behind) (contents_of_entries before) name
         (contents_of_entries kb) (contents_of_entries vf) value.content.now (contents_of_entries behind)
         ∙ sym (halves_same (ap (header object_header) count_is) kw vw kc vc)
 
@@ -297,7 +299,7 @@ module _ (form : Form) (bytes : List ℕ) (ps : Pairs) (d : Decodes form bytes (
         → length value.content.now < 2 ^ 28 → kept.pairs + 1 < 2 ^ 29
         → Decodes form made (object (pairs_of (insert_pair name t (members ps))))
     made_decodes made made_is utf8 short_name short_content fits =
-        let e : EntryParts = (value.kind, value.content.now) in
+        let e : EntryParts = (kind_number value.kind, value.content.now) in
         let holds = held_inserted form name e t held.entries (members ps) held.holds is in
         let holds' = subst (λ (es : List (List ℕ × EntryParts)). HoldsPairs form es (insert_pair name t (members ps))) entries_are holds in
         let are = keys_at name at.front at.there at.back (subst AreKeys at.joined container.parts.are_keys) (utf8, short_name) at.below at.is_place in
@@ -322,7 +324,7 @@ module _ (form : Form) (bytes : List ℕ) (ps : Pairs) (d : Decodes form bytes (
           | inl long ↦ let key = short_key name t f b short.1 in omega (arith, long, key)
           | inr (inl long) ↦
               let small = short_value form name t f b short.2 in
-              let size = size_within form t value.kind value.content.now is in
+              let size = size_within form t (kind_number value.kind) value.content.now is in
               omega (arith, long, small, size)
           | inr (inr many) ↦
               omega

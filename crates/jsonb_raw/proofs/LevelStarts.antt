@@ -9,6 +9,8 @@ use Rattle.jsonb_doc.specs.Payload.{Form, number_reader}
 use Rattle.jsonb_doc.specs.Format.{Decodes, IsContent, HeadedBy}
 use Rattle.jsonb_doc.specs.Item.{StandsFor}
 use Rattle.jsonb_doc.specs.Private.Stored.{Stores}
+use Rattle.jsonb_doc.specs.Kinds.{kind_number, header_number}
+use Rattle.jsonb_doc.specs.declared.layout.HeaderKind.{HeaderKind}
 use Rattle.jsonb_doc.specs.declared.entry_iter.StoredEntry.{StoredEntry}
 use Rattle.jsonb_doc.specs.declared.item.Item.{Item}
 use Rattle.jsonb_doc.specs.declared.item.Item.TheVariants.{Array, Object}
@@ -44,7 +46,7 @@ module _ (form : Form) (t : Tree) (bytes : List ℕ) (content : IsContent (numbe
     ]
 
   -- a container has a header
-  pub headed : ((kind n : ℕ) (rest : List ℕ) → HeadedBy bytes kind n rest → ⊥) → ⊥
+  pub headed : ((kind : HeaderKind) (n : ℕ) (rest : List ℕ) → HeadedBy bytes (header_number kind) n rest → ⊥) → ⊥
   headed none = let (kind, n, rest, h) = HasContent-headed (number_reader form) bytes (t, content) in none kind n rest h
 
 -- the container that an item stands for, or an entry stores
@@ -53,9 +55,9 @@ pub container_item : (form : Form) (item : Item) (bytes : Bor (List ℕ)) (t : T
 container_item form item bytes t (inl e) h = let (ts, is, d) = rw e at h in rw is (array_document (number_reader form) ts bytes.now d.document)
 container_item form item bytes t (inr e) h = let (ps, is, d) = rw e at h in rw is (object_document (number_reader form) ps bytes.now d.document)
 
-pub stored_container : (form : Form) (e : StoredEntry) (t : Tree) → Stores form e t → (e.kind == 5) ≡ true
+pub stored_container : (form : Form) (e : StoredEntry) (t : Tree) → Stores form e t → (kind_number e.kind == 5) ≡ true
     → IsContent (number_reader form) t 5 e.content.now
-stored_container form e t h k = let is : e.kind ≡ 5 = grind (arith, nat_tests) in rw is at h.content
+stored_container form e t h k = let is : kind_number e.kind ≡ 5 = grind (arith, nat_tests) in rw is at h.content
 
 -- ---- starts of keys
 

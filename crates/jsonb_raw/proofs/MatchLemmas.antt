@@ -9,6 +9,7 @@ use Rattle.std.specs.List.{list_any}
 use Rattle.std.specs.Str.{bytes_eq}
 use Rattle.std.proofs.lemmas.Cmp.{nat_list_cmp_total}
 use Rattle.std.specs.Borrow.{Bor}
+use Rattle.jsonb_doc.specs.Kinds.{kind_number}
 use Rattle.jsonb_doc.specs.declared.item.Item.{Item}
 use Rattle.jsonb_doc.specs.declared.item.Item.TheVariants as item
 use Rattle.jsonb_doc.specs.Payload.{Form}
@@ -99,12 +100,12 @@ entry_found form e None h = absurd h
 entry_found form e (Some t) h = (t, refl, h)
 
 -- what is no container matches where it is equal
-pub scalar_match : (form : Form) (e : StoredEntry) (y : Tree) → Stores form e y → (e.kind == 5) ≡ false → (x : Tree) → is_equal x y ≡ is_part_of y x
-scalar_match form e (array ys) h k x = absurd (no_container e.kind k h.content.0)
-scalar_match form e (object qs) h k x = absurd (no_container e.kind k h.content.0)
+pub scalar_match : (form : Form) (e : StoredEntry) (y : Tree) → Stores form e y → (kind_number e.kind == 5) ≡ false → (x : Tree) → is_equal x y ≡ is_part_of y x
+scalar_match form e (array ys) h k x = absurd (no_container (kind_number e.kind) k h.content.0)
+scalar_match form e (object qs) h k x = absurd (no_container (kind_number e.kind) k h.content.0)
 scalar_match form e _ h k x = refl
 
-pub scalar_matches : (form : Form) (e : StoredEntry) (y : Tree) → Stores form e y → (e.kind == 5) ≡ false → (xs : List Tree)
+pub scalar_matches : (form : Form) (e : StoredEntry) (y : Tree) → Stores form e y → (kind_number e.kind == 5) ≡ false → (xs : List Tree)
     → list_any (λ x. is_equal x y) xs ≡ list_any (is_part_of y) xs
 scalar_matches form e y h k [] = refl
 scalar_matches form e y h k (x ∷ xs) = ap₂ (λ a b. a || b) (scalar_match form e y h k x) (scalar_matches form e y h k xs)

@@ -4,6 +4,7 @@ use Rattle.std.specs.Prelude.{IsUtf8}
 use Rattle.jsonb_doc.specs.Tree.{Tree}
 use Rattle.jsonb_doc.specs.Payload.{Form, number_reader}
 use Rattle.jsonb_doc.specs.Format.{IsContent}
+use Rattle.jsonb_doc.specs.Kinds.{kind_number}
 use Rattle.jsonb_raw.specs.declared.functions.parts.Entries.{Entries}
 use Rattle.jsonb_raw.specs.declared.functions.parts.FirstEntry.{FirstEntry}
 use Rattle.jsonb_raw.specs.declared.functions.parts.PairEntries.{PairEntries}
@@ -18,7 +19,7 @@ pub record EntryTaken (form : Form) (ts : List Tree) (first : FirstEntry) : Type
   pub t : Tree
   pub rest : List Tree
   pub split : ts ≡ t ∷ rest
-  pub part : IsContent (number_reader form) t first.kind first.content.now
+  pub part : IsContent (number_reader form) t (kind_number first.kind) first.content.now
   pub others : HoldTrees form first.others rest
 
 pub entry_taken : (form : Form) (row : Entries) (ts : List Tree) (found : Option FirstEntry) (first : FirstEntry) → found ≡ Some first
@@ -38,7 +39,7 @@ pub record PairTaken (form : Form) (ps : List Member) (first : FirstPair) : Type
   pub rest : List Member
   pub split : ps ≡ (first.key.now, value) ∷ rest
   pub utf8 : IsUtf8 first.key.now
-  pub part : IsContent (number_reader form) value first.kind first.content.now
+  pub part : IsContent (number_reader form) value (kind_number first.kind) first.content.now
   pub others : HoldPairs form first.others rest
 
 pub pair_taken : (form : Form) (row : PairEntries) (ps : List Member) (found : Option FirstPair) (first : FirstPair) → found ≡ Some first

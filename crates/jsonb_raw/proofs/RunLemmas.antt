@@ -5,6 +5,7 @@ use Rattle.jsonb_doc.specs.Tree.{Tree, text, object, no_trees, tree, trees_of, P
 use Rattle.jsonb_doc.specs.Payload.{NumberReader, Form, number_reader}
 use Rattle.jsonb_doc.specs.Format.{Decodes, AreEntries, AreValues, AreKeys, BeginWith, entry_word, text_entry, header, object_header, key_words, key_bytes}
 use Rattle.jsonb_doc.specs.Limits.{IsTooLarge}
+use Rattle.jsonb_doc.specs.Kinds.{kind_number}
 use Rattle.jsonb_doc.proofs.BuilderSteps.{AreRising, keys_rise}
 use Rattle.jsonb_doc.proofs.Entries.{BeginWith-unique}
 use Rattle.jsonb_doc.proofs.Containers.{length-words}
@@ -31,12 +32,12 @@ Member = List ℕ × Tree
 
 -- what is read is the first of the trees
 pub first_read : (form : Form) (row : Entries) (ts : List Tree) (first : FirstEntry) → HoldTrees form row ts
-    → BeginWith row.words.now row.contents.now first.kind first.content.now first.others.words.now first.others.contents.now
+    → BeginWith row.words.now row.contents.now (kind_number first.kind) first.content.now first.others.words.now first.others.contents.now
     → TakesFirst form row ts (Some first)
 first_read form row [] first h begin = omega (arith, ap length h.entries.0, ap length begin.words_joined)
 first_read form row (t ∷ ts) first h begin =
     let e = h.entries in
-    let same = BeginWith-unique row.words.now row.contents.now first.kind e.kind first.content.now e.content first.others.words.now e.other_words
+    let same = BeginWith-unique row.words.now row.contents.now (kind_number first.kind) e.kind first.content.now e.content first.others.words.now e.other_words
     first.others.contents.now e.other_contents begin e.begin in
     record {
       part = rw (same.0, same.1) e.part;
@@ -294,7 +295,7 @@ pair_kept form rows run left first xs ys p h f = record {
   names = rw (text_names xs (p ∷ [])) (holding_kept form rows.keys.items run.keys left.keys first.others.keys (map text (keys_of xs)) (map text (keys_of ys))
       (text p.0) text_entry p.0 h.names f.name);
   parts = rw (all_values xs (p ∷ [])) (holding_kept form rows.values.items run.values left.values first.others.values (values_of xs) (values_of ys)
-      p.1 first.kind first.content.now h.parts f.value);
+      p.1 (kind_number first.kind) first.content.now h.parts f.value);
 }
 
 pub others_hold : (form : Form) (left : PairEntries) (first : FirstPair) (ys : List Member) (p : Member) → IsFirstPair form left p ys first

@@ -5,6 +5,7 @@ use Rattle.jsonb_doc.specs.Tree.{Tree, array, object, Trees, no_trees, tree, ele
 use Rattle.jsonb_doc.specs.Payload.{Form, canonical, number_reader}
 use Rattle.jsonb_doc.specs.Format.{IsContent}
 use Rattle.jsonb_doc.specs.Private.Stored.{Stores}
+use Rattle.jsonb_doc.specs.Kinds.{kind_number}
 use Rattle.jsonb_doc.specs.declared.entry_iter.StoredEntry.{StoredEntry}
 use Rattle.jsonb_doc.specs.Limits.{Fits, AreInRange, IsShort, HasShortParts, HasShortElements, IsWithinLimits, IsTooLarge}
 use Rattle.jsonb_doc.specs.Answer.{IsOutOfMemoryOrTooLarge}
@@ -153,7 +154,7 @@ module _ (form : Form) (kind : Kept) (m : KeyCounts) (other : List Tree) (parts 
 
 -- an entry of this kind and content stores what they are
 pub stores_next : (form : Form) (t : Tree) (entry : StoredEntry) (first : FirstEntry) → entry.kind ≡ first.kind → entry.content.now ≡ first.content.now
-    → IsContent (number_reader form) t first.kind first.content.now → Stores form entry t
+    → IsContent (number_reader form) t (kind_number first.kind) first.content.now → Stores form entry t
 stores_next form t entry first kind content part = record { content = rw (kind, content) part }
 
 kept_in : (kind : Kept) (other before : List Tree) (t : Tree) (left : List Tree) → keeps kind other (before, t) ≡ true
@@ -214,7 +215,7 @@ module _ (form : Form) (kind : Kept) (m : KeyCounts) (other : List Tree) (rows :
   pub record Next : Type 0 where
     pub t : Tree
     pub ts : List Tree
-    pub first_is : IsFirst form left t ts first.kind first.content.now first.others
+    pub first_is : IsFirst form left t ts (kind_number first.kind) first.content.now first.others
     pub opened : Holding form rows run left h.held (t ∷ ts)
     pub few : length h.before + length (t ∷ ts) < 2 ^ 63
     pub fit : AllByRecursion Fits (t ∷ ts)
@@ -240,7 +241,7 @@ module _ (form : Form) (kind : Kept) (m : KeyCounts) (other : List Tree) (rows :
     few = let few : length h.before + length (n.t ∷ n.ts) < 2 ^ 63 = n.few in omega arith;
     fit = n.fit.1;
     behind = behind;
-    holds = holding_kept form rows run left first.others h.held n.ts n.t first.kind first.content.now n.opened n.first_is;
+    holds = holding_kept form rows run left first.others h.held n.ts n.t (kind_number first.kind) first.content.now n.opened n.first_is;
     joined = append_assoc h.held (n.t ∷ []) (kept_behind kind other (n.t ∷ h.before) n.ts)
         ∙ ap (λ (l : List Tree). h.held ++ l) (sym (kept_in kind other h.before n.t n.ts is)) ∙ n.whole_is;
   }

@@ -4,6 +4,7 @@ use Rattle.std.specs.List.{list_any}
 use Rattle.jsonb_doc.specs.Tree.{Tree, null, boolean, number, text, extension, array, object, Trees, no_trees, tree}
 use Rattle.jsonb_doc.specs.Payload.{Form}
 use Rattle.jsonb_doc.specs.Private.Stored.{Stores}
+use Rattle.jsonb_doc.specs.Kinds.{kind_number}
 use Rattle.jsonb_doc.specs.declared.entry_iter.StoredEntry.{StoredEntry}
 use Rattle.jsonb_raw.specs.Contains.{is_part_of, each_is_matched}
 use Rattle.jsonb_raw.specs.Private.Starts.{is_container, scalars_matched}
@@ -24,7 +25,7 @@ module _ {A : Type 0} (P : A → Type 0) (d : A) where
   repeated_each (suc n) p (suc k) = repeated_each n p k
 
 -- the kind of an entry tells a container
-container_kind : (form : Form) (e : StoredEntry) (t : Tree) → Stores form e t → is_container t ≡ (e.kind == 5)
+container_kind : (form : Form) (e : StoredEntry) (t : Tree) → Stores form e t → is_container t ≡ (kind_number e.kind == 5)
 container_kind form e null h = rw h.content.0 refl
 container_kind form e (boolean true) h = rw h.content.0 refl
 container_kind form e (boolean false) h = rw h.content.0 refl
@@ -35,10 +36,10 @@ container_kind form e (array ts) h = rw h.content.0 refl
 container_kind form e (object ps) h = rw h.content.0 refl
 
 module _ (form : Form) (e : StoredEntry) (t : Tree) (h : Stores form e t) where
-  pub container_told : (e.kind == 5) ≡ true → is_container t ≡ true
+  pub container_told : (kind_number e.kind == 5) ≡ true → is_container t ≡ true
   container_told k = container_kind form e t h ∙ k
 
-  pub scalar_told : (e.kind == 5) ≡ false → is_container t ≡ false
+  pub scalar_told : (kind_number e.kind == 5) ≡ false → is_container t ≡ false
   scalar_told k = container_kind form e t h ∙ k
 
 module _ (y : Tree) (ys : Trees) (xs : List Tree) (whole : Bool) (is : scalars_matched (tree y ys) xs ≡ whole) where

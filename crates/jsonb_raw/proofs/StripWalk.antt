@@ -2,6 +2,7 @@
 use Rattle.std.proofs.Common.{◌≡◌, ◌⊎◌, inl, inr, ◌+◌, ◌*◌, ◌/◌, ◌%◌, ◌^◌, ◌<◌, ◌≤◌, ◌++◌, ℕ, suc, Bool, true, false, List, [], ◌∷◌, Some, None, Result, Ok, Err, length, take, drop, refl, sym, ap, subst, ◌∙◌, arith, append_assoc, append-nil, MatchResult}
 use Rattle.std.specs.Prelude.{reverse, slice_range, ◌==◌}
 use Rattle.std.proofs.lemmas.List.{length-append, take_at, drop_at, take-append-drop}
+use Rattle.jsonb_doc.specs.Kinds.{kind_number}
 use Rattle.jsonb_doc.specs.declared.error.Error.{Error}
 use Rattle.jsonb_doc.specs.Tree as spec
 use Rattle.jsonb_doc.specs.Tree.{Tree, Trees, Pairs, elements, values, count}
@@ -200,14 +201,14 @@ module _ (form : Form) (is_object : Bool) (start word : ℕ) (words contents : L
     outside = h.outside;
   }
 
-  pub entry_skipped : leaves_out is_object (given.kind == null_entry) ≡ true
+  pub entry_skipped : leaves_out is_object (kind_number given.kind == null_entry) ≡ true
       → IsWithinAll form is_object start word given.words.now given.contents.now around out whole
   entry_skipped out_of =
       first_entry form is_object h.before out start word words contents h.target h.most given reads h.opened
       (λ e es t ts r w.
       still_within es ts out word r.words r.contents (skipped form is_object h.before out start word e es t ts h.target h.most w (rw r.kind at out_of)))
 
-  pub entry_copied : (out' : List ℕ) (word' : ℕ) → leaves_out is_object (given.kind == null_entry) ≡ false → (given.kind ≡ container_entry → ⊥)
+  pub entry_copied : (out' : List ℕ) (word' : ℕ) → leaves_out is_object (kind_number given.kind == null_entry) ≡ false → (kind_number given.kind ≡ container_entry → ⊥)
       → length out < 2 ^ 63 → word' ≡ (word + 4) % 2 ^ 64 → out' ≡ out ++ given.content.now
       → IsWithinAll form is_object start word' given.words.now given.contents.now around out' whole
   entry_copied out' word' stays scalar long more pushed =
@@ -230,7 +231,7 @@ module _ (form : Form) (is_object : Bool) (start word : ℕ) (words contents : L
 
   -- a container is begun within
   pub entry_entered : (w' : Writing) (around' : List Writing) (b : Bool) (bs bw : ℕ) (bwords bcontents out' : List ℕ) → w'.is_object ≡ is_object
-      → w'.start ≡ start → w'.word ≡ word → w'.words ≡ given.words → w'.contents ≡ given.contents → around' ≡ around ++ w' ∷ [] → given.kind ≡ container_entry
+      → w'.start ≡ start → w'.word ≡ word → w'.words ≡ given.words → w'.contents ≡ given.contents → around' ≡ around ++ w' ∷ [] → kind_number given.kind ≡ container_entry
       → ((t : Tree) → IsContent (number_reader form) t container_entry given.content.now
       → IsOpen form b out out' bs bw bwords bcontents (strip t) (length given.content.now)) → IsWithinAll form b bs bw bwords bcontents around' out' whole
   entry_entered w' around' b bs bw bwords bcontents out' same_kind same_start same_word same_words same_contents pushed kind begun =
@@ -674,13 +675,6 @@ module _ (form : Form) (container : List ℕ) (kind n : ℕ) (rest : List ℕ) (
       inr (same.0, record { pairs = ps; is = refl; content = h; counted = same.1 })
   container_case _ h = absurd (omega (arith, h.0))
 
-pub no_header : (form : Form) (t : Tree) (container : List ℕ) → IsContent (number_reader form) t container_entry container
-    → ((kind n : ℕ) (rest : List ℕ) → HeadedBy container kind n rest → ⊥) → ⊥
-no_header form (spec.boolean true) container h none = omega (arith, h.0)
-no_header form (spec.array ts) container h none = none _ _ _ h.1.headed
-no_header form (spec.object ps) container h none = none _ _ _ h.1.headed
-no_header form _ container h none = omega (arith, h.0)
-
 -- ---- how the walk begins
 
 pub begun_alone : (form : Form) (is_object : Bool) (start word : ℕ) (words contents old out : List ℕ) (t : Tree) (most : ℕ) (around : List Writing) → old ≡ []
@@ -709,7 +703,7 @@ module _ {G : Type 0} where
   pub first_content : (form : Form) (is_object : Bool) (start word : ℕ) (words contents : List ℕ) (around : List Writing) (out : List ℕ) (whole : Tree)
       (given : StoredEntry)
       → ((es : List EntryParts) → FitEntries es → words ≡ words_of_entries es → contents ≡ contents_of_entries es → ReadsEntry es (Ok (Some given)))
-      → IsWithinAll form is_object start word words contents around out whole → given.kind ≡ container_entry
+      → IsWithinAll form is_object start word words contents around out whole → kind_number given.kind ≡ container_entry
       → ((t : Tree) → IsContent (number_reader form) t container_entry given.content.now → G) → G
   first_content form is_object start word words contents around out whole given reads h kind go =
       first_entry form is_object h.before out start word words contents h.target h.most given reads h.opened

@@ -3,6 +3,7 @@ use Rattle.std.proofs.Common.{◌≡◌, ◌==◌, ℕ, Option, Some, None, ◌+
 use Rattle.std.proofs.lemmas.Bool.{eqb-true}
 use Rattle.jsonb_doc.specs.Payload.{number_reader}
 use Rattle.jsonb_doc.specs.Private.Stored.{Stores}
+use Rattle.jsonb_doc.specs.Kinds.{kind_number}
 use Rattle.jsonb_doc.specs.declared.entry_iter.StoredEntry.{StoredEntry}
 use Rattle.jsonb_doc.proofs.ScalarLemmas.{text_content}
 use Rattle.std.specs.Prelude.{All, Any}
@@ -101,14 +102,14 @@ module _ {F : Type 0} (calls : Shared F (Bor (List ℕ) × Unit {0}) Bool) (func
 
 module _ (form : Form) (e : StoredEntry) where
   -- an entry of that kind is the text of its bytes
-  pub text_stored : (t : Tree) → Stores form e t → (e.kind == 1) ≡ true → texts t ≡ e.content.now ∷ []
+  pub text_stored : (t : Tree) → Stores form e t → (kind_number e.kind == 1) ≡ true → texts t ≡ e.content.now ∷ []
   text_stored t h k =
-      let is : e.kind ≡ 1 = eqb-true e.kind 1 k in
-      let told = text_content (number_reader form) e.kind e.content.now t is h.content in
+      let is : kind_number e.kind ≡ 1 = eqb-true (kind_number e.kind) 1 k in
+      let told = text_content (number_reader form) (kind_number e.kind) e.content.now t is h.content in
       rw told.0 refl
 
   -- what is neither a text nor a container has none
-  pub no_texts : (t : Tree) → Stores form e t → (e.kind == 1) ≡ false → (e.kind == 5) ≡ false → texts t ≡ []
+  pub no_texts : (t : Tree) → Stores form e t → (kind_number e.kind == 1) ≡ false → (kind_number e.kind == 5) ≡ false → texts t ≡ []
   no_texts null h k l = refl
   no_texts (boolean b) h k l = refl
   no_texts (number n) h k l = refl

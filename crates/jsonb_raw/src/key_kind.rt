@@ -9,7 +9,8 @@ ghost use Rattle.jsonb_raw.specs.Private.Levels.{HasAllLeft};
 ghost use Rattle.jsonb_raw.specs.Private.KeyKinds.{IsLiteralKind};
 
 use crate::level::Level;
-use jsonb_doc::{StoredEntry, layout};
+use jsonb_doc::StoredEntry;
+use jsonb_doc::layout::EntryKind;
 
 pub const EXTENSION: u8 = 1;
 
@@ -47,9 +48,9 @@ pub fn of_literal(entry: &StoredEntry<'_>) -> Option<u8>
         return None;
     }
     match entry.kind {
-        layout::NULL => Some(NULL),
-        layout::FALSE => Some(FALSE),
-        layout::TRUE => Some(TRUE),
+        EntryKind::Null => Some(NULL),
+        EntryKind::False => Some(FALSE),
+        EntryKind::True => Some(TRUE),
         _ => None,
     }
 }

@@ -9,7 +9,7 @@ ghost use Rattle.jsonb_doc.specs.Answer.{IsDecodingError};
 ghost use Rattle.jsonb_raw.specs.Scalars.{is_array};
 ghost use Rattle.jsonb_raw.specs.Private.Levels.{Part, HasPartsLeft, HasAllLeft, IsLevelWithin, TakesPart, IsSmaller};
 
-use jsonb_doc::layout::{ARRAY_HEADER, OBJECT_HEADER, split_header};
+use jsonb_doc::layout::{HeaderKind, split_header};
 use jsonb_doc::{EntryIter, Error, PairEntryIter, StoredEntry, array_entries, object_entries};
 
 /// The elements or the pairs of a container that are left, as they are stored.
@@ -26,7 +26,7 @@ pub fn is_array(bytes: &[u8]) -> bool
         → result ≡ is_array t }
 {
     match split_header(bytes) {
-        Some((kind, _, _)) => kind == ARRAY_HEADER,
+        Some((kind, _, _)) => kind == HeaderKind::Array,
         None => false,
     }
 }
@@ -44,9 +44,9 @@ impl<'a> Level<'a> {
             return Err(Error::InvalidJsonb);
         };
         match kind {
-            ARRAY_HEADER => Ok(Level::Elements(array_entries(bytes)?)),
-            OBJECT_HEADER => Ok(Level::Pairs(object_entries(bytes)?)),
-            _ => Err(Error::InvalidJsonb),
+            HeaderKind::Array => Ok(Level::Elements(array_entries(bytes)?)),
+            HeaderKind::Object => Ok(Level::Pairs(object_entries(bytes)?)),
+            HeaderKind::Scalar => Err(Error::InvalidJsonb),
         }
     }
 

@@ -6,6 +6,7 @@ use Rattle.jsonb_doc.specs.Payload.{Form, number_of}
 use Rattle.jsonb_doc.specs.Item.{StandsFor, item_size}
 use Rattle.jsonb_doc.specs.Private.Short.{short_value}
 use Rattle.jsonb_doc.specs.Private.Stored.{HasEntriesLeft}
+use Rattle.jsonb_doc.specs.Kinds.{kind_number}
 use Rattle.jsonb_doc.specs.declared.short_number.ShortNumber.{ShortNumber}
 use Rattle.jsonb_doc.specs.declared.entry_iter.StoredEntry.{StoredEntry}
 use Rattle.jsonb_doc.specs.declared.entry_iter.EntryIter.{EntryIter}
@@ -35,7 +36,7 @@ matches x y = is_part_of y x
 
 -- the entry is this number, where it is given
 pub record IsShortOf (entry : StoredEntry) (short : Option ShortNumber) : Type 0 where
-  pub kind : IfSome short (λ n. entry.kind ≡ 2)
+  pub kind : IfSome short (λ n. kind_number entry.kind ≡ 2)
   pub number : IfSome short (λ n. number_of entry.content.now ≡ Some (short_value n))
 
 -- what is left afterwards was left before

@@ -1,6 +1,5 @@
 -- Containers as bytes: their entries in a row, one of them replaced or left out.
 use Rattle.std.specs.Prelude.{◌≡◌, ℕ, ◌+◌, ◌-◌, ◌*◌, ◌^◌, ◌<◌, ◌≤◌, List, [], ◌∷◌, ◌++◌, length, slice_get, slice_range, Option, Some, None, ⊤}
-use Rattle.std.specs.Int.{w32, to_be_bytes}
 use Rattle.jsonb_doc.specs.Tree.{Tree}
 use Rattle.jsonb_doc.specs.Payload.{NumberReader}
 use Rattle.jsonb_doc.specs.Format.{IsContent, container_entry, entry_word}
@@ -52,7 +51,7 @@ around bytes (Some key) value =
 
 -- the container without a child
 abbrev pub without_child : List ℕ → ChildEntries → List ℕ
-without_child bytes child = to_be_bytes w32 child.header ++ around bytes child.key child.value
+without_child bytes child = child.header ++ around bytes child.key child.value
 
 -- the place lies within so many bytes, its word before its content
 abbrev pub LiesWithin : EntryPlace → ℕ → Type 0
@@ -70,6 +69,7 @@ AreInOrder (Some key) value len =
 -- with another content in its place, the bytes are those of the changed tree.
 pub record AreOfChild (number_at : NumberReader) (bytes : List ℕ) (t : Tree) (n : ℕ) (child : Tree)
     (entries : ChildEntries) : Type 0 where
+  pub four : length entries.header ≡ 4
   pub kind : ℕ
   pub content : IsContent number_at child kind (content_at bytes entries.value)
   pub short : length (content_at bytes entries.value) < 2 ^ 28

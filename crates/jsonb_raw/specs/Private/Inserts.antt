@@ -7,6 +7,7 @@ use Rattle.jsonb_doc.specs.Tree.{Tree, object, keys}
 use Rattle.jsonb_doc.specs.Format.{IsBelowFirst, header, object_header, text_entry, entry_word}
 use Rattle.jsonb_doc.specs.Encoding.{EntryParts}
 use Rattle.jsonb_doc.specs.Private.ObjectBytes.{words_of_entries, contents_of_entries}
+use Rattle.jsonb_doc.specs.Kinds.{kind_number}
 use Rattle.jsonb_raw.specs.declared.functions.object.pair_parts.PairPlace.{PairPlace}
 use Rattle.jsonb_raw.specs.declared.functions.parts.Entries.{Entries}
 use Rattle.jsonb_raw.specs.declared.functions.object.pair_parts.KeptEntries.{KeptEntries}
@@ -79,7 +80,8 @@ pub record AreKept (kept : KeptEntries) (before between behind : List EntryParts
 abbrev pub word_row : KeptEntries → List ℕ → RootEntry → List ℕ
 word_row kept key value =
     header object_header (kept.pairs + 1) ++ (kept.before.words.now ++ (entry_word text_entry (length key)
-    ++ (kept.between.words.now ++ (entry_word value.kind (length value.content.now) ++ kept.behind.words.now))))
+    ++ (kept.between.words.now
+    ++ (entry_word (kind_number value.kind) (length value.content.now) ++ kept.behind.words.now))))
 
 -- the contents of the entries that stay, with those of the new pair
 abbrev pub content_row : KeptEntries → List ℕ → RootEntry → List ℕ

@@ -6,6 +6,7 @@ use Rattle.jsonb_doc.specs.Payload.{Form, number_reader}
 use Rattle.jsonb_doc.specs.Format.{IsContent, AreEntries, BeginWith, text_entry}
 use Rattle.jsonb_doc.specs.ArrayBuilder.{HoldsElements}
 use Rattle.jsonb_doc.specs.Limits.{IsShort}
+use Rattle.jsonb_doc.specs.Kinds.{kind_number}
 use Rattle.jsonb_doc.specs.declared.error.Error.{Error}
 use Rattle.jsonb_doc.specs.declared.error.Error.TheVariants.{TooLarge}
 use Rattle.jsonb_raw.specs.Arrays.{as_elements}
@@ -72,7 +73,7 @@ abbrev pub TakesFirst : Form → Entries → List Tree → Option FirstEntry →
 TakesFirst form row [] None = ⊤
 TakesFirst form row [] (Some first) = ⊥
 TakesFirst form row (t ∷ ts) None = ⊥
-TakesFirst form row (t ∷ ts) (Some first) = IsFirst form row t ts first.kind first.content.now first.others
+TakesFirst form row (t ∷ ts) (Some first) = IsFirst form row t ts (kind_number first.kind) first.content.now first.others
 
 -- ---- pairs
 
@@ -93,7 +94,7 @@ pub record IsFirstPair (form : Form) (row : PairEntries) (p : List ℕ × Tree) 
     (first : FirstPair) : Type 0 where
   pub key : first.key.now ≡ p.0
   pub name : IsFirst form row.keys (text p.0) (map text (keys_of ps)) text_entry p.0 first.others.keys
-  pub value : IsFirst form row.values p.1 (values_of ps) first.kind first.content.now first.others.values
+  pub value : IsFirst form row.values p.1 (values_of ps) (kind_number first.kind) first.content.now first.others.values
 
 abbrev pub TakesFirstPair : Form → PairEntries → List (List ℕ × Tree) → Option FirstPair → Type 0
 TakesFirstPair form row [] None = ⊤

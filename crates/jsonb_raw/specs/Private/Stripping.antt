@@ -1,6 +1,7 @@
 -- Containers that are being written again, without the nulls of their objects.
 use Rattle.std.specs.Prelude.{◌≡◌, ℕ, ◌+◌, ◌≤◌, ◌==◌, Bool, true, false, List, [], ◌∷◌, ◌++◌, length, Option, Some, None, Result, Ok, if◌then◌else◌, ⊤}
 use Rattle.std.specs.Borrow.{Bor}
+use Rattle.jsonb_doc.specs.Kinds.{kind_number}
 use Rattle.jsonb_doc.specs.declared.error.Error.{Error}
 use Rattle.jsonb_doc.specs.Tree.{Tree}
 use Rattle.jsonb_doc.specs.Payload.{Form, number_reader}
@@ -54,7 +55,7 @@ AreOfEach form (t ∷ ts) (e ∷ es) = IsContent (number_reader form) t e.0 e.1 
 
 -- the entry that was read, and what is left behind it
 pub record IsEntry (given : StoredEntry) (e : EntryParts) (es : List EntryParts) : Type 0 where
-  pub kind : given.kind ≡ e.0
+  pub kind : kind_number given.kind ≡ e.0
   pub content : given.content.now ≡ e.1
   pub words : given.words.now ≡ words_of_entries es
   pub contents : given.contents.now ≡ contents_of_entries es

@@ -4,6 +4,7 @@ ghost use Rattle.std.specs.Prelude.{◌≡◌, ◌+◌, List, ◌++◌, length, 
 ghost use Rattle.jsonb_doc.specs.Tree.{Tree};
 ghost use Rattle.jsonb_doc.specs.Payload.{Form, number_reader};
 ghost use Rattle.jsonb_doc.specs.Format.{Decodes, IsContent};
+ghost use Rattle.jsonb_doc.specs.Kinds.{kind_number};
 ghost use Rattle.jsonb_doc.specs.Encoding.{EntryParts};
 ghost use Rattle.jsonb_doc.specs.Answer.{IsDecodingError, ◌or◌};
 ghost use Rattle.jsonb_doc.specs.declared.error.Error.TheVariants.{OutOfMemory, TooLarge};
@@ -13,7 +14,7 @@ ghost use Rattle.jsonb_raw.specs.Private.Rows.{HoldTrees, AreElementsOf};
 
 use crate::functions::parts::{Elements, Entries, LoneEntry, RootEntry};
 use crate::owned::OwnedJsonb;
-use jsonb_doc::layout::{CONTAINER, KINDS, MAX_CONTENT, TEXT, WORD, word_of_entry};
+use jsonb_doc::layout::{EntryKind, MAX_CONTENT, WORD, word_of_entry};
 use jsonb_doc::{Container, Error, StoredEntry, contents_len, read_container, scalar_document};
 use std::alloc::Global;
 
@@ -83,7 +84,7 @@ pub fn around_entry(row: Entries<'_>, position: usize) -> Result<(Entries<'_>, E
 /// The entry that the root of a document becomes within another, as it is stored.
 pub fn root_entry(document: &[u8]) -> Result<RootEntry<'_>, Error>
     ensures entry { (form : Form) (t : Tree) → Decodes form document.now t
-        → IsOkAnd result (λ entry. IsContent (number_reader form) t entry.kind entry.content.now) }
+        → IsOkAnd result (λ entry. IsContent (number_reader form) t (kind_number entry.kind) entry.content.now) }
     ensures errors { IfErr result IsDecodingError }
 {
     match read_container(document)? {
@@ -95,7 +96,7 @@ pub fn root_entry(document: &[u8]) -> Result<RootEntry<'_>, Error>
             })
         }
         _ => Ok(RootEntry {
-            kind: CONTAINER,
+            kind: EntryKind::Container,
             content: document,
         }),
     }
@@ -103,20 +104,17 @@ pub fn root_entry(document: &[u8]) -> Result<RootEntry<'_>, Error>
 
 /// The entry as a document of its own, as it is stored. A number or an extension value that can't be read is refused,
 /// and so is an entry of no kind; a text and a container are copied unread.
-pub fn entry_document(alloc: Global, kind: u32, content: &[u8]) -> Result<OwnedJsonb, Error>
-    ensures document { (form : Form) (t : Tree) → IsContent (number_reader form) t kind content.now
+pub fn entry_document(alloc: Global, kind: EntryKind, content: &[u8]) -> Result<OwnedJsonb, Error>
+    ensures document { (form : Form) (t : Tree) → IsContent (number_reader form) t (kind_number kind) content.now
         → Makes form t result }
     ensures errors { IfErr result (IsDecodingError or OutOfMemory or TooLarge) }
 {
-    if kind == CONTAINER {
+    if kind == EntryKind::Container {
         return Ok(OwnedJsonb::new(Vec::from_slice(alloc, content)?));
     }
     let entry = StoredEntry { kind, content };
-    if kind != TEXT && entry.short_number().is_none() {
+    if kind != EntryKind::Text && entry.short_number().is_none() {
         entry.item()?;
-    }
-    if kind >= KINDS {
-        return Err(Error::InvalidJsonb);
     }
     if content.len() > MAX_CONTENT {
         return Err(Error::TooLarge);

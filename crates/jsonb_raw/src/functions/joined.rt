@@ -5,6 +5,7 @@ ghost use Rattle.std.specs.Map.{keys_of, values_of};
 ghost use Rattle.jsonb_doc.specs.Tree.{Tree, text, array, object, trees_of, pairs_of};
 ghost use Rattle.jsonb_doc.specs.Payload.{Form};
 ghost use Rattle.jsonb_doc.specs.Format.{AreKeys, header};
+ghost use Rattle.jsonb_doc.specs.Kinds.{header_number};
 ghost use Rattle.jsonb_doc.specs.Answer.{IsOutOfMemory, ◌or◌};
 ghost use Rattle.jsonb_doc.specs.declared.error.Error.TheVariants.{TooLarge};
 ghost use Rattle.jsonb_raw.specs.Documents.{Makes};
@@ -13,7 +14,7 @@ ghost use Rattle.jsonb_raw.specs.Private.Rows.{HoldTrees, RowsHold, row_words, r
 use crate::functions::parts::Entries;
 use crate::owned::OwnedJsonb;
 use jsonb_doc::Error;
-use jsonb_doc::layout::{ARRAY_HEADER, MAX_ENTRIES, OBJECT_HEADER, WORD, word_of_header};
+use jsonb_doc::layout::{HeaderKind, MAX_ENTRIES, WORD, word_of_header};
 use std::alloc::{AllocError, Global};
 
 /// How long the words of all rows are, and `None` where they are more than a container may have.
@@ -63,14 +64,13 @@ fn push_contents(document: &mut Vec<u8>, rows: &[Entries<'_>]) -> Result<(), All
 /// A container of this kind and count, of the entries of these rows and then of those.
 fn container_of(
     alloc: Global,
-    kind: u32,
+    kind: HeaderKind,
     count: usize,
     front: &[Entries<'_>],
     back: &[Entries<'_>],
 ) -> Result<OwnedJsonb, Error>
-    requires kind { kind < 8 }
-    requires count { count < 2 ^ 29 }
-    ensures container { IfOk result (λ made. made ≡ header kind count
+    requires { count < 2 ^ 29 }
+    ensures container { IfOk result (λ made. made ≡ header (header_number kind) count
         ++ ((row_words front.now ++ row_words back.now) ++ (row_contents front.now ++ row_contents back.now))) }
     ensures errors { IfErr result IsOutOfMemory }
 {
@@ -95,7 +95,7 @@ pub fn array_of(alloc: Global, rows: &[Entries<'_>]) -> Result<OwnedJsonb, Error
     let Some(len) = words_len(rows) else {
         return Err(Error::TooLarge);
     };
-    container_of(alloc, ARRAY_HEADER, len / WORD, rows, &[])
+    container_of(alloc, HeaderKind::Array, len / WORD, rows, &[])
 }
 
 /// The object whose keys are the entries of the one rows, and its values those of the others.
@@ -112,7 +112,7 @@ pub fn object_of(
     let Some(len) = words_len(keys) else {
         return Err(Error::TooLarge);
     };
-    container_of(alloc, OBJECT_HEADER, len / WORD, keys, values)
+    container_of(alloc, HeaderKind::Object, len / WORD, keys, values)
 }
 
 /// The array of the entries of two rows.

@@ -8,6 +8,7 @@ ghost use Rattle.std.specs.Prelude.{◌≡◌, ℕ, List, ◌⊎◌, ◌||◌, f
 ghost use Rattle.jsonb_doc.specs.Tree.{Tree, object, pairs_of};
 ghost use Rattle.jsonb_doc.specs.Payload.{Form, number_reader};
 ghost use Rattle.jsonb_doc.specs.Format.{Decodes, AreKeys, IsContent};
+ghost use Rattle.jsonb_doc.specs.Kinds.{kind_number};
 ghost use Rattle.jsonb_doc.specs.Limits.{IsTooLarge};
 ghost use Rattle.jsonb_doc.specs.Answer.{IsOutOfMemory, IsOutOfMemoryOrTooLarge, IsDecodingError, ◌or◌, ◌or◌when◌};
 ghost use Rattle.jsonb_doc.specs.declared.error.Error.TheVariants.{OutOfMemory, TooLarge, InvalidObject, ObjectDuplicateKey};
@@ -201,7 +202,7 @@ fn owned_pairs(alloc: Global, row: PairEntries<'_>) -> Result<Vec<(String, Owned
 /// The key of a pair, and the value as a document of its own.
 fn owned_pair(alloc: Global, pair: FirstPair<'_>) -> Result<(String, OwnedJsonb), Error>
     ensures pair { (form : Form) (t : Tree) → IsUtf8 pair.entry.key.now
-        → IsContent (number_reader form) t pair.entry.kind pair.entry.content.now
+        → IsContent (number_reader form) t (kind_number pair.entry.kind) pair.entry.content.now
         → MatchResult result (λ made. IsPairOf form made (pair.entry.key.now, t)) (IsOutOfMemoryOrTooLarge form t) }
     ensures errors { IfErr result (IsDecodingError or OutOfMemory or TooLarge) }
 {

@@ -2,7 +2,7 @@
 
 ghost use Rattle.std.specs.Prelude.{◌^◌, ◌<◌, length};
 
-use jsonb_doc::layout::WORD;
+use jsonb_doc::layout::{EntryKind, WORD};
 
 /// The words and the contents of some entries, in their order.
 #[derive(Clone, Copy)]
@@ -15,9 +15,8 @@ pub struct Entries<'a> {
 /// The entry that the root of a document is as a part of another.
 #[derive(Clone, Copy)]
 pub struct RootEntry<'a> {
-    pub kind: u32,
+    pub kind: EntryKind,
     pub content: &'a [u8],
-    ghost known: { kind < 8 },
 }
 
 /// An entry with its word.
@@ -37,7 +36,7 @@ pub enum Elements<'a> {
 /// The first of some entries, and the others.
 #[derive(Clone, Copy)]
 pub struct FirstEntry<'a> {
-    pub kind: u32,
+    pub kind: EntryKind,
     pub content: &'a [u8],
     pub others: Entries<'a>,
 }
@@ -53,7 +52,7 @@ pub struct PairEntries<'a> {
 #[derive(Clone, Copy)]
 pub struct FirstPair<'a> {
     pub key: &'a [u8],
-    pub kind: u32,
+    pub kind: EntryKind,
     pub content: &'a [u8],
     pub others: PairEntries<'a>,
 }

@@ -1,5 +1,6 @@
 use Rattle.std.proofs.Common.{Some, sym, ◌∙◌}
 use Rattle.std.proofs.lemmas.Slice.Eq.{bytes_eq-Decides}
+use Rattle.jsonb_doc.proofs.KindLemmas.{equal_kind}
 use Rattle.jsonb_raw.proofs.EntryEquals.{same_tell, numbers_tell}
 use Rattle.jsonb_raw.proofs.equal_items.bytes_tell.Goals as goal
 
@@ -11,4 +12,4 @@ returns-in-Some-Some c = λ form other_form t u h k.
 
 pub returns-then-eq : goal.returns-then-eq
 returns-then-eq c = λ form other_form t u h k.
-    same_tell form other_form _ _ t u h k c.if-entry-wanted.false ((bytes_eq-Decides _ _).0 (sym c.eq-2.ensures ∙ c.if-eq.true))
+    same_tell form other_form _ _ t u h k (equal_kind _ c.args.entry.now.kind c.args.wanted.now.kind c.ne.ensures c.if-ne.false) ((bytes_eq-Decides _ _).0 (sym c.eq-2.ensures ∙ c.if-eq.true))

@@ -9,7 +9,7 @@ ghost use Rattle.jsonb_doc.specs.Private.Short.{short_value};
 ghost use Rattle.jsonb_doc.specs.Private.Stored.{Stores};
 ghost use Rattle.jsonb_raw.specs.Private.Marks.{IsMarkOf, Covers, value_mark, text_mark};
 
-use jsonb_doc::layout::NUMBER;
+use jsonb_doc::layout::EntryKind;
 use jsonb_doc::{ShortNumber, StoredEntry};
 use std::hash::{FoldHasher, Hasher};
 
@@ -86,10 +86,14 @@ pub(crate) fn mark(entry: &StoredEntry<'_>) -> Option<usize>
     if let Some(number) = entry.short_number() {
         return number_mark(number);
     }
-    if entry.kind == NUMBER || entry.kind > 6 {
-        return None;
+    match entry.kind {
+        EntryKind::Null => Some(0),
+        EntryKind::False => Some(3),
+        EntryKind::True => Some(4),
+        EntryKind::Container => Some(5),
+        EntryKind::Extension => Some(6),
+        EntryKind::Text | EntryKind::Number | EntryKind::Unknown => None,
     }
-    Some(entry.kind as usize)
 }
 
 /// Which marks some entries have.

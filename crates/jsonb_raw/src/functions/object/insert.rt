@@ -16,7 +16,7 @@ use crate::functions::entries::{root_entry, split_entries};
 use crate::functions::parts::{Entries, RootEntry};
 use crate::owned::OwnedJsonb;
 use jsonb_doc::layout::{
-    MAX_CONTENT, MAX_ENTRIES, OBJECT_HEADER, TEXT, WORD, split_header, word_of_entry,
+    EntryKind, HeaderKind, MAX_CONTENT, MAX_ENTRIES, WORD, split_header, word_of_entry,
     word_of_header,
 };
 use jsonb_doc::{Error, keys};
@@ -76,9 +76,9 @@ fn push_words(
     requires value { length value.now.content.now < 2 ^ 28 }
     ensures { OnOk result (document.new.items ≡ document.old.items ++ word_row kept.now key.now value.now) }
 {
-    document.extend_from_slice(&word_of_header(OBJECT_HEADER, kept.pairs + 1))?;
+    document.extend_from_slice(&word_of_header(HeaderKind::Object, kept.pairs + 1))?;
     document.extend_from_slice(kept.before.words)?;
-    document.extend_from_slice(&word_of_entry(TEXT, key.len()))?;
+    document.extend_from_slice(&word_of_entry(EntryKind::Text, key.len()))?;
     document.extend_from_slice(kept.between.words)?;
     document.extend_from_slice(&word_of_entry(value.kind, value.content.len()))?;
     document.extend_from_slice(kept.behind.words)

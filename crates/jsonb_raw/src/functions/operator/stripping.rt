@@ -14,8 +14,7 @@ ghost use Rattle.jsonb_raw.specs.Private.Stripping.{beside, key_entries, IsAbove
 
 use crate::functions::path::cut::set_container_word;
 use jsonb_doc::layout::{
-    ARRAY_HEADER, CONTAINER, NULL, OBJECT_HEADER, WORD, read_entry_word, split_header,
-    word_of_header,
+    EntryKind, HeaderKind, WORD, read_entry_word, split_header, word_of_header,
 };
 use jsonb_doc::{Error, contents_len};
 use std::alloc::Global;
@@ -24,7 +23,7 @@ use std::cmp::Ordering;
 /// An entry of the source, and what is left behind it.
 #[derive(Clone, Copy)]
 struct StoredEntry<'a> {
-    kind: u32,
+    kind: EntryKind,
     content: &'a [u8],
     words: &'a [u8],
     contents: &'a [u8],
@@ -79,7 +78,7 @@ fn count_kept(words: &[u8]) -> usize
     let mut count = 0;
     let mut left = words;
     while let Some((word, others)) = left.split_first_chunk::<WORD>() {
-        if read_entry_word(word).0 != NULL {
+        if read_entry_word(word).0 != EntryKind::Null {
             count += 1;
         }
         left = others;
@@ -100,7 +99,7 @@ fn push_words_kept(out: &mut Vec<u8>, words: &[u8], value_words: &[u8]) -> Resul
         let Some((word, others)) = words_left.split_first_chunk::<WORD>() else {
             return Err(Error::InvalidJsonb);
         };
-        if read_entry_word(value).0 != NULL {
+        if read_entry_word(value).0 != EntryKind::Null {
             out.extend_from_slice(word)?;
         }
         words_left = others;
@@ -151,7 +150,7 @@ fn push_keys_kept(
         words_left = key.words;
         keys_left = key.contents;
         values_left = values;
-        if read_entry_word(value).0 != NULL {
+        if read_entry_word(value).0 != EntryKind::Null {
             out.extend_from_slice(key.content)?;
         }
     }
@@ -209,7 +208,7 @@ fn begin_object<'a>(
         return Err(Error::InvalidJsonb);
     };
     let start = out.len();
-    out.extend_from_slice(&word_of_header(OBJECT_HEADER, count_kept(words)))?;
+    out.extend_from_slice(&word_of_header(HeaderKind::Object, count_kept(words)))?;
     push_words_kept(out, key_words, words)?;
     let word = out.len();
     push_words_kept(out, words, words)?;
@@ -234,9 +233,9 @@ fn begin<'a>(out: &mut Vec<u8>, container: &'a [u8]) -> Result<Writing<'a>, Erro
         return Err(Error::InvalidJsonb);
     };
     match kind {
-        ARRAY_HEADER => begin_array(out, container, entries),
-        OBJECT_HEADER => begin_object(out, container, entries),
-        _ => Err(Error::InvalidJsonb),
+        HeaderKind::Array => begin_array(out, container, entries),
+        HeaderKind::Object => begin_object(out, container, entries),
+        HeaderKind::Scalar => Err(Error::InvalidJsonb),
     }
 }
 
@@ -257,11 +256,11 @@ pub fn strip_container(alloc: Global, container: &[u8]) -> Result<Vec<u8>, Error
                 inner.words = entry.words;
                 inner.contents = entry.contents;
                 match entry.kind {
-                    CONTAINER => {
+                    EntryKind::Container => {
                         around.push(inner)?;
                         inner = begin(&mut out, entry.content)?;
                     }
-                    NULL if inner.is_object => {}
+                    EntryKind::Null if inner.is_object => {}
                     _ => {
                         out.extend_from_slice(entry.content)?;
                         inner.word = inner.word.wrapping_add(WORD);

@@ -14,8 +14,8 @@ ghost use Rattle.jsonb_raw.specs.Private.Cuts.{FitEntries, HoldEntries, IsPlaceO
 
 use super::entry_place::{ChildEntries, EntryPlace};
 use jsonb_doc::layout::{
-    ARRAY_HEADER, CONTAINER, COUNTS, MAX_CONTENT, OBJECT_HEADER, WORD, read_entry_word,
-    word_of_entry,
+    EntryKind, HeaderKind, MAX_CONTENT, WORD, read_entry_word, split_header, word_of_entry,
+    word_of_header,
 };
 use jsonb_doc::{Error, contents_len};
 use std::alloc::Global;
@@ -45,24 +45,23 @@ fn child_entries(container: &[u8], position: usize) -> Option<ChildEntries>
         → slice_get (children t) position ≡ Some child
         → IsSomeAnd result (λ entries. AreOfChild (number_reader form) container.now t position child entries) }
 {
-    let (word, _) = container.split_first_chunk::<WORD>()?;
-    let header = u32::from_be_bytes(*word);
-    let count = (header % COUNTS) as usize;
+    let (kind, count, _) = split_header(container)?;
     if position >= count {
         return None;
     }
-    match header / COUNTS {
-        ARRAY_HEADER => Some(ChildEntries {
-            header: header - 1,
+    let header = word_of_header(kind, count - 1);
+    match kind {
+        HeaderKind::Array => Some(ChildEntries {
+            header,
             key: None,
             value: entry_place(container, count, position)?,
         }),
-        OBJECT_HEADER => Some(ChildEntries {
-            header: header - 1,
+        HeaderKind::Object => Some(ChildEntries {
+            header,
             key: Some(entry_place(container, 2 * count, position)?),
             value: entry_place(container, 2 * count, count + position)?,
         }),
-        _ => None,
+        HeaderKind::Scalar => None,
     }
 }
 
@@ -119,7 +118,7 @@ fn push_without_child(
         ≡ out.old.items ++ without_child container.now entries.now) IsOutOfMemory }
     ensures errors { IfErr result (IsDecodingError or OutOfMemory) }
 {
-    out.extend_from_slice(&entries.header.to_be_bytes())?;
+    out.extend_from_slice(&entries.header)?;
     match entries.key {
         Some(key) => push_around_pair(out, container, key, entries.value),
         None => push_around_element(out, container, entries.value),
@@ -146,7 +145,7 @@ pub fn set_container_word(out: &mut Vec<u8>, word: usize, start: usize) -> Resul
     if start > end || end - start > MAX_CONTENT || end < WORD || word > end - WORD {
         return Err(Error::InvalidJsonb);
     }
-    set_word(out, word, word_of_entry(CONTAINER, end - start));
+    set_word(out, word, word_of_entry(EntryKind::Container, end - start));
     Ok(())
 }
 
@@ -216,7 +215,7 @@ fn push_front(
         return Err(Error::InvalidJsonb);
     }
     push_part(out, container, 0, child.word)?;
-    out.extend_from_slice(&word_of_entry(CONTAINER, len))?;
+    out.extend_from_slice(&word_of_entry(EntryKind::Container, len))?;
     push_part(out, container, child.word + WORD, child.start)
 }
 

@@ -2,6 +2,8 @@
 
 ghost use Rattle.std.specs.Prelude.{◌<◌, ◌^◌};
 
+use jsonb_doc::layout::WORD;
+
 /// Where an entry stands in the bytes of a container: its word, and its content.
 #[derive(Clone, Copy)]
 pub struct EntryPlace {
@@ -15,7 +17,7 @@ pub struct EntryPlace {
 /// parent has without it.
 #[derive(Clone, Copy)]
 pub struct ChildEntries {
-    pub header: u32,
+    pub header: [u8; WORD],
     pub key: Option<EntryPlace>,
     pub value: EntryPlace,
 }

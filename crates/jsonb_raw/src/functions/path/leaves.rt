@@ -24,7 +24,7 @@ mod documents;
 
 use crate::level::{Level, is_array};
 use crate::raw::RawJsonb;
-use jsonb_doc::layout::{NULL, TEXT};
+use jsonb_doc::layout::EntryKind;
 use jsonb_doc::{Error, Item, StoredEntry, Value, root_item, to_value};
 use jsonb_keypath::{KeyPath, KeyPaths};
 use std::alloc::Global;
@@ -258,8 +258,8 @@ impl<'a> LeafPart<'a> for Value<'a> {
         found: &mut Vec<(KeyPaths<'a>, Value<'a>)>,
     ) -> Result<(), Error> {
         match entry.kind {
-            TEXT => push_text(entry.content, path, found),
-            NULL if entry.content.is_empty() => push_part(path, Value::Null, found),
+            EntryKind::Text => push_text(entry.content, path, found),
+            EntryKind::Null if entry.content.is_empty() => push_part(path, Value::Null, found),
             _ => push_value(alloc, entry, path, found),
         }
     }

@@ -1,10 +1,11 @@
 use Rattle.std.proofs.Common.{◌≡◌, ◌++◌, arith, length, refl}
+use Rattle.jsonb_doc.specs.declared.layout.HeaderKind.TheVariants.{Object}
 use Rattle.jsonb_raw.proofs.InsertSplits.{has_header, row_of}
 use Rattle.jsonb_raw.proofs.functions.object.insert.kept_entries.Goals as goal
 
 pub returns-in_err-count : goal.returns-in_err-count
 returns-in_err-count c = λ before key between value behind h.
-    absurd (c.in_err-count.ensures _ _ _ (has_header _ c.args.place before key between value behind h))
+    absurd (c.in_err-count.ensures Object _ _ (has_header _ c.args.place before key between value behind h))
 
 pub returns-in_err-words : goal.returns-in_err-words
 returns-in_err-words c = λ before key between value behind h.

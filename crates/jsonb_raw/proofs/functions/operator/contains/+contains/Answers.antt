@@ -6,6 +6,7 @@ use Rattle.std.specs.Borrow.{Bor}
 use Rattle.jsonb_doc.specs.declared.item.Item.TheVariants as item
 use Rattle.jsonb_doc.specs.Tree.{keys, elements, members}
 use Rattle.jsonb_doc.proofs.BuilderSteps.{keys_rise}
+use Rattle.jsonb_doc.proofs.KindLemmas.{equal_kind}
 use Rattle.jsonb_raw.specs.Private.PairSteps.{pairs_above}
 use Rattle.jsonb_raw.specs.Contains.{is_part_of, each_is_matched, each_pair_is_matched}
 use Rattle.jsonb_raw.specs.Private.Compared.{matches}
@@ -314,7 +315,7 @@ entry_matches-returns-then-not-is_container-clause-answer t c = λ form other_fo
 
 pub entry_matches-returns-then-eq-clause-answer : goal.entry_matches-returns-then-eq-clause-answer
 entry_matches-returns-then-eq-clause-answer t c = λ form other_form x y h k.
-    let one : x ≡ y = same_tree form other_form _ _ x y h k c.if-entry-wanted.false ((bytes_eq-Decides _ _).0 (sym c.eq.ensures ∙ c.if-eq.true)) in
+    let one : x ≡ y = same_tree form other_form _ _ x y h k (equal_kind _ c.args.entry.now.kind c.args.wanted.now.kind c.ne.ensures c.if-ne.false) ((bytes_eq-Decides _ _).0 (sym c.eq.ensures ∙ c.if-eq.true)) in
     rw one (sym (matched_refl y))
 
 -- ---- objects

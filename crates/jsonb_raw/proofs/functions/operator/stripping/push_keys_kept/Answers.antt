@@ -1,4 +1,6 @@
 use Rattle.std.proofs.Common.{arith, refl, sym, subst, ℕ, List, ◌∷◌}
+use Rattle.jsonb_doc.specs.declared.layout.EntryKind.TheVariants.{Null}
+use Rattle.jsonb_doc.proofs.KindLemmas.{differing_kind, equal_kind}
 use Rattle.jsonb_raw.specs.Private.Stripping.{IsAboveLast}
 use Rattle.jsonb_raw.proofs.StripLists.{both_ways, next_key, key_left_out, key_pushed, keys_pushed}
 use Rattle.jsonb_raw.proofs.functions.operator.stripping.push_keys_kept.Goals as goal
@@ -45,7 +47,7 @@ loop-value-preserved-in-Continue-branch-3 c =
       left = λ es ks within are many values words keys.
           key_pushed _ _ _ _ _ h.0 h.1 h.2 c.read_entry_word.ensures.told _ _ _
           (λ xs w a b. rw c.in-Some-2.is at
-          (c.in_ok-key.ensures.reads xs w a b)) _ _ _ _ c.if-read_entry_word-ne-NULL.true c.in_ok-extend_from_slice.ensures.items
+          (c.in_ok-key.ensures.reads xs w a b)) _ _ _ _ (differing_kind _ c.read_entry_word.result.0 Null c.ne.ensures c.if-ne.true) c.in_ok-extend_from_slice.ensures.items
           (c.loop-value.invariant.left es ks within are many values words keys);
     }
 
@@ -55,7 +57,7 @@ loop-value-preserved c =
     record {
       left = λ es ks within are many values words keys.
           key_left_out _ _ _ _ _ h.0 h.1 h.2 c.read_entry_word.ensures.told _ _ _
-          (λ xs w a b. rw c.in-Some-2.is at (c.in_ok-key.ensures.reads xs w a b)) _ _ _ _ c.if-read_entry_word-ne-NULL.false refl
+          (λ xs w a b. rw c.in-Some-2.is at (c.in_ok-key.ensures.reads xs w a b)) _ _ _ _ (equal_kind _ c.read_entry_word.result.0 Null c.ne.ensures c.if-ne.false) refl
           (c.loop-value.invariant.left es ks within are many values words keys);
     }
 

@@ -17,7 +17,7 @@ returns-in_err-start-clause-pushed c = λ form t end left is there out.
     let p = c.in_ok-places.ensures.places form t end c.in-Some.last.now is (rw c.in-Some.ensures.cases.0 at there) in
     let a = c.in-Some-child_entries.ensures form p.u p.child p.content p.there in
     let size = c.entries_len.ensures (length c.in_ok-places.inner.now) (omega arith) a.ordered in
-    let gone = entries_gone c.in_ok-places.inner.now c.in-Some-child_entries.entries a.ordered in
+    let gone = entries_gone c.in_ok-places.inner.now c.in-Some-child_entries.entries a.four a.ordered in
     rw (e.1, e.2) (c.in_err-start.ensures.pushed (number_reader form) t p.u c.in-Some.around.now
     c.in_ok-places.inner.now (rw c.as_slice.ensures.value p.walk) (omega (arith, size, gone)))
 
@@ -38,7 +38,7 @@ returns-clause-pushed c = λ form t end left is there out.
     let p = c.in_ok-places.ensures.places form t end last is (rw c.in-Some.ensures.cases.0 at there) in
     let a = c.in-Some-child_entries.ensures form p.u p.child p.content p.there in
     let size = c.entries_len.ensures (length inner) (omega arith) a.ordered in
-    let gone = entries_gone inner c.in-Some-child_entries.entries a.ordered in
+    let gone = entries_gone inner c.in-Some-child_entries.entries a.four a.ordered in
     let walk : LeadTo (number_reader form) bytes t around places inner p.u = rw c.as_slice.ensures.value p.walk in
     let within = inner_within (number_reader form) bytes t around places inner p.u walk in
     let fronted = c.in_ok-start.ensures.pushed (number_reader form) t p.u around inner walk (omega (arith, size, gone)) in
