@@ -6,7 +6,7 @@ use std::alloc::{AllocError, Global};
 use std::test::Fail;
 
 /// Documents and other bytes, and their depth or refusal.
-const DEPTHS: [(&[u8], Result<usize, Error>); 13] = [
+static DEPTHS: [(&[u8], Result<usize, Error>); 13] = [
     // null
     (b"\x20\0\0\0\0\0\0\0", Ok(0)),
     // []
@@ -54,8 +54,8 @@ const DEPTHS: [(&[u8], Result<usize, Error>); 13] = [
 
 #[test]
 fn depths_of_documents_and_refusals(rt: HostRuntime) {
-    for (bytes, wanted) in DEPTHS {
-        assert_eq!(rt; depth(bytes), wanted, "{bytes:?}");
+    for (bytes, wanted) in &DEPTHS {
+        assert_eq!(rt; depth(bytes), *wanted, "{bytes:?}");
         let levels = wanted.unwrap_or(0);
         assert_eq!(rt; check_depth(bytes, levels), wanted.and(Ok(())), "{bytes:?}");
         if levels > 0 {

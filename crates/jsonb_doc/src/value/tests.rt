@@ -8,6 +8,24 @@ use crate::reading::root_item;
 use crate::reading::tests::{DATE, FRED, MIXED, NULLS};
 use std::test::Fail;
 
+/// `[1,"a"]`
+const ONE_AND_A: &[u8] = b"\x80\0\0\x02\x20\0\0\x02\x10\0\0\x01\x50\x01a";
+
+/// `[1.0,"a"]`
+const TENTHS_AND_A: &[u8] = b"\x80\0\0\x02\x20\0\0\x0a\x10\0\0\x01\x70\0\0\0\0\0\0\0\x0a\x01a";
+
+/// `[1.0,"b"]`
+const TENTHS_AND_B: &[u8] = b"\x80\0\0\x02\x20\0\0\x0a\x10\0\0\x01\x70\0\0\0\0\0\0\0\x0a\x01b";
+
+/// `[1]`
+const ONE_ALONE: &[u8] = b"\x80\0\0\x01\x20\0\0\x02\x50\x01";
+
+/// `1.0`
+const ONE_POINT_ZERO: Decimal64 = Decimal64 {
+    scale: 1,
+    value: 10,
+};
+
 /// An array of two values.
 fn two<'a>(alloc: Global, first: Value<'a>, second: Value<'a>) -> Result<Value<'a>, Error> {
     let mut values = Vec::new(alloc);
@@ -55,24 +73,38 @@ fn decoded(alloc: Global, bytes: &[u8]) -> Result<Value<'_>, Error> {
     to_value(alloc, &root_item(bytes)?)
 }
 
+/// `[false, 10, {"k":"v"}]`, of numbers without a sign.
+fn mixed(alloc: Global) -> Result<Value<'static>, Error> {
+    let member = with(alloc, Value::Null, "k", text("v"))?;
+    Ok(Value::Array(vec![in alloc; Value::Bool(false), whole(10), member]?))
+}
+
+/// `{"a":null,"b":[null]}`
+fn nulls(alloc: Global) -> Result<Value<'static>, Error> {
+    let first = with(alloc, Value::Null, "a", Value::Null)?;
+    with(
+        alloc,
+        first,
+        "b",
+        Value::Array(vec![in alloc; Value::Null]?),
+    )
+}
+
+/// `{"name":"Fred","phones":[{"number":3720453,"type":"home"},{"number":5062051,"type":"work"}]}`
+fn fred(alloc: Global) -> Result<Value<'static>, Error> {
+    let home = phone(alloc, 3_720_453, "home")?;
+    let work = phone(alloc, 5_062_051, "work")?;
+    let phones = two(alloc, home, work)?;
+    let named = with(alloc, Value::Null, "name", text("Fred"))?;
+    with(alloc, named, "phones", phones)
+}
+
 #[test]
 fn decodes_containers(rt: HostRuntime) -> Result<(), Fail> {
     let alloc = rt.alloc();
-    let member = with(alloc, Value::Null, "k", text("v"))?;
-    let mixed = vec![in alloc; Value::Bool(false), whole(10), member]?;
-    let value = decoded(alloc, MIXED)?;
-    assert_eq!(rt; value, Value::Array(mixed));
-    let first = with(alloc, Value::Null, "a", Value::Null)?;
-    let nulls = vec![in alloc; Value::Null]?;
-    let both = with(alloc, first, "b", Value::Array(nulls))?;
-    let value = decoded(alloc, NULLS)?;
-    assert_eq!(rt; value, both);
-    let home = phone(alloc, 3_720_453, "home")?;
-    let work = phone(alloc, 5_062_051, "work")?;
-    let named = with(alloc, Value::Null, "name", text("Fred"))?;
-    let fred = with(alloc, named, "phones", two(alloc, home, work)?)?;
-    let value = decoded(alloc, FRED)?;
-    assert_eq!(rt; value, fred);
+    assert_eq!(rt; decoded(alloc, MIXED)?, mixed(alloc)?);
+    assert_eq!(rt; decoded(alloc, NULLS)?, nulls(alloc)?);
+    assert_eq!(rt; decoded(alloc, FRED)?, fred(alloc)?);
     Ok(())
 }
 
@@ -124,44 +156,45 @@ fn prints_kinds(rt: HostRuntime) -> Result<(), Fail> {
     Ok(())
 }
 
+const ONE: Item<'static> = Item::Number(Number::UInt64(1));
+
+const DAY: Item<'static> = Item::Extension(ExtensionValue::Date(Date { value: 1 }));
+
+const TIME: Item<'static> = Item::Extension(ExtensionValue::Timestamp(Timestamp { value: 1 }));
+
+/// Items, and whether their values are equal.
+static COMPARED: [(Item<'static>, Item<'static>, bool); 9] = [
+    (ONE, Item::Number(Number::Decimal64(ONE_POINT_ZERO)), true),
+    (
+        ONE,
+        Item::Number(Number::Decimal64(Decimal64 {
+            scale: 1,
+            value: 11,
+        })),
+        false,
+    ),
+    (
+        Item::Number(Number::Int64(-1)),
+        Item::Number(Number::Decimal64(Decimal64 {
+            scale: 1,
+            value: -10,
+        })),
+        true,
+    ),
+    // [1,"a"] and [1.0,"a"], [1.0,"b"], [1]
+    (Item::Array(ONE_AND_A), Item::Array(TENTHS_AND_A), true),
+    (Item::Array(ONE_AND_A), Item::Array(TENTHS_AND_B), false),
+    (Item::Array(ONE_ALONE), Item::Array(ONE_AND_A), false),
+    (DAY, DAY, true),
+    (DAY, TIME, false),
+    (DAY, ONE, false),
+];
+
 #[test]
 fn compares_by_value(rt: HostRuntime) -> Result<(), Fail> {
-    let alloc = rt.alloc();
-    let date = Date { value: 1 };
-    let pairs = [
-        ([whole(1), tenths(10)], true),
-        ([whole(1), tenths(11)], false),
-        ([Value::Number(Number::Int64(-1)), tenths(-10)], true),
-        (
-            [
-                two(alloc, whole(1), text("a"))?,
-                two(alloc, tenths(10), text("a"))?,
-            ],
-            true,
-        ),
-        (
-            [
-                two(alloc, whole(1), text("a"))?,
-                two(alloc, tenths(10), text("b"))?,
-            ],
-            false,
-        ),
-        (
-            [
-                Value::Array(vec![in alloc; whole(1)]?),
-                two(alloc, whole(1), text("a"))?,
-            ],
-            false,
-        ),
-        ([Value::Date(date), Value::Date(date)], true),
-        (
-            [Value::Date(date), Value::Timestamp(Timestamp { value: 1 })],
-            false,
-        ),
-        ([Value::Date(date), whole(1)], false),
-    ];
-    for (pair, is_equal) in &pairs {
-        assert_eq!(rt; pair[0] == pair[1], *is_equal, "{pair:?}");
+    for (one, other, is_equal) in &COMPARED {
+        let is_so = to_value(rt.alloc(), one)? == to_value(rt.alloc(), other)?;
+        assert_eq!(rt; is_so, *is_equal, "{one:?} and {other:?}");
     }
     Ok(())
 }
@@ -191,20 +224,33 @@ fn keeps_numbers_and_borrowed_texts(rt: HostRuntime) -> Result<(), Fail> {
     assert!(rt; has_unsigned(&decoded(alloc, MIXED)?));
     let texts = b"\x40\0\0\x01\x10\0\0\x03\x10\0\0\x03asdadf";
     assert!(rt; borrows(&decoded(alloc, texts)?));
+    Ok(())
+}
+
+/// `{"values":[1.0,"Fred"]}`, with a text of its own.
+fn with_own_text(alloc: Global) -> Result<Value<'static>, Error> {
     let owned = CowStr::Owned(String::from_str(alloc, "Fred")?);
     let values = two(alloc, tenths(10), Value::String(owned))?;
-    let object = with(alloc, Value::Null, "values", values)?;
-    let copy = object.clone(alloc)?;
-    assert!(rt; copy == object);
-    let one = tenths(10).clone(alloc)?;
-    let has_scale = matches!(
-        &one,
+    with(alloc, Value::Null, "values", values)
+}
+
+/// Whether the value is the decimal `1.0` of scale 1.
+fn is_one_with_its_scale(value: &Value<'_>) -> bool {
+    matches!(
+        value,
         Value::Number(Number::Decimal64(Decimal64 {
             scale: 1,
             value: 10,
         }))
-    );
-    assert!(rt; has_scale);
+    )
+}
+
+#[test]
+fn clones_hold_the_same(rt: HostRuntime) -> Result<(), Fail> {
+    let alloc = rt.alloc();
+    let object = with_own_text(alloc)?;
+    assert!(rt; object.clone(alloc)? == object);
+    assert!(rt; is_one_with_its_scale(&tenths(10).clone(alloc)?));
     assert!(rt;
         matches!(
             &text("a").clone(alloc)?,
