@@ -6,3 +6,4 @@ pub mod ColumnPaths
 pub mod MakingLemmas
 pub mod ObjectRows
 pub mod LeafRows
+pub mod KeyRows

@@ -3,6 +3,7 @@
 ghost use Rattle.jsonb_c.specs.Columns.{row};
 ghost use Rattle.std.specs.Prelude.{◌≡◌, ◌<◌, Some, length, option_copied, slice_get};
 
+mod asked;
 mod call;
 mod casts;
 mod check;

@@ -8,6 +8,7 @@ ghost use Rattle.jsonb.specs.KeyPathGrammar.{key_path};
 ghost use Rattle.jsonb.specs.Documents.{raw_bytes};
 ghost use Rattle.jsonb.specs.PathGrammar.{json_path};
 ghost use Rattle.jsonb_tool.specs.Output.{ShowsTreeAt, ShowsKeyOf, ShowsLeavesOf, ShowsSelection, ShowsPredicate, IsDamage, IsOutputOf, truth_line};
+ghost use Rattle.jsonb_tool.specs.Private.Lines.{Prints};
 ghost use Rattle.jsonb_tool.specs.Views.{found_text, found_lines, leaf_line, leaf_lines, request};
 ghost use Rattle.hex.specs.Hex.{encode_lower};
 
@@ -41,9 +42,7 @@ pub fn output(alloc: Global, command: &Command<'_>) -> Result<String, Error>
 
 /// The document at the place of a key path, or `none`.
 fn get(alloc: Global, path: &str, document: &[u8]) -> Result<String, Error>
-    ensures { MatchResult result
-        (λ lines. ShowsTreeAt (key_path path.now) document.now (Ok (string_bytes lines)))
-        (λ e. (e ≡ OutOfMemory) ⊎ ShowsTreeAt (key_path path.now) document.now (Err e)) }
+    ensures { Prints (ShowsTreeAt (key_path path.now) document.now) result }
 {
     let steps = parse_key_paths(alloc, path.as_bytes())?;
     let document = checked(document)?;
@@ -53,9 +52,7 @@ fn get(alloc: Global, path: &str, document: &[u8]) -> Result<String, Error>
 
 /// The sortable key of a document.
 fn key(alloc: Global, document: &[u8]) -> Result<String, Error>
-    ensures { MatchResult result
-        (λ lines. ShowsKeyOf document.now (Ok (string_bytes lines)))
-        (λ e. (e ≡ OutOfMemory) ⊎ ShowsKeyOf document.now (Err e)) }
+    ensures { Prints (ShowsKeyOf document.now) result }
 {
     let document = checked(document)?;
     let key = document.convert_to_comparable(alloc)?;
@@ -64,9 +61,7 @@ fn key(alloc: Global, document: &[u8]) -> Result<String, Error>
 
 /// The leaves of a document with their key paths, a line for each, or `none`.
 fn leaves(alloc: Global, document: &[u8]) -> Result<String, Error>
-    ensures { MatchResult result
-        (λ lines. ShowsLeavesOf document.now (Ok (string_bytes lines)))
-        (λ e. (e ≡ OutOfMemory) ⊎ ShowsLeavesOf document.now (Err e)) }
+    ensures { Prints (ShowsLeavesOf document.now) result }
 {
     let document = checked(document)?;
     let leaves = document.leaf_documents(alloc, false)?;
@@ -75,9 +70,7 @@ fn leaves(alloc: Global, document: &[u8]) -> Result<String, Error>
 
 /// The documents that a JSON path selects, each on a line, or `none`.
 fn select<'a>(alloc: Global, path: &'a str, document: &'a [u8]) -> Result<String, Error>
-    ensures { MatchResult result
-        (λ lines. ShowsSelection (json_path path.now) document.now (Ok (string_bytes lines)))
-        (λ e. (e ≡ OutOfMemory) ⊎ ShowsSelection (json_path path.now) document.now (Err e)) }
+    ensures { Prints (ShowsSelection (json_path path.now) document.now) result }
 {
     let steps = parse_json_path(alloc, path.as_bytes())?;
     let document = checked(document)?;
@@ -87,9 +80,7 @@ fn select<'a>(alloc: Global, path: &'a str, document: &'a [u8]) -> Result<String
 
 /// What a JSON path says as a predicate: `true`, `false` or `unknown`.
 fn path_match<'a>(alloc: Global, path: &'a str, document: &'a [u8]) -> Result<String, Error>
-    ensures { MatchResult result
-        (λ lines. ShowsPredicate (json_path path.now) document.now (Ok (string_bytes lines)))
-        (λ e. (e ≡ OutOfMemory) ⊎ ShowsPredicate (json_path path.now) document.now (Err e)) }
+    ensures { Prints (ShowsPredicate (json_path path.now) document.now) result }
 {
     let steps = parse_json_path(alloc, path.as_bytes())?;
     let document = checked(document)?;

@@ -10,8 +10,7 @@ ghost use Rattle.jsonb_c.specs.Rows.{WritesI64, WritesText};
 
 use super::Column;
 use super::call::{RowCall, RowWriter};
-use super::fill::fill_rows;
-use super::join::{Progress, join_rows};
+use super::join::Progress;
 use jsonb::{Error, RawJsonb};
 use std::alloc::Global;
 
@@ -73,8 +72,7 @@ pub extern "C" fn jsonb_column_to_i64(
     ensures { FillsRows WritesI64 (pos 0) (rows bytes.now offsets.now)
         (numbers.old, statuses.old) (numbers.new, statuses.new) done.new result }
 {
-    let column = Column::new(bytes, offsets);
-    fill_rows(alloc, &ToI64, 0, &column, numbers, statuses, done)
+    Column::new(bytes, offsets).fill(alloc, &ToI64, 0, numbers, statuses, done)
 }
 
 /// Each document as a text, as `jsonb_to_str` casts it.
@@ -91,6 +89,5 @@ pub extern "C" fn jsonb_column_to_str(
     ensures { JoinsRows WritesText (rows bytes.now offsets.now)
         (out.old, positions.old, statuses.old) (out.new, positions.new, statuses.new) progress.new result }
 {
-    let column = Column::new(bytes, offsets);
-    join_rows(alloc, &ToText, &column, out, positions, statuses, progress)
+    Column::new(bytes, offsets).join(alloc, &ToText, out, positions, statuses, progress)
 }

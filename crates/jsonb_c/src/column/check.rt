@@ -5,7 +5,6 @@ ghost use Rattle.jsonb_c.specs.Rows.{ChecksDocument};
 
 use super::Column;
 use super::call::RowCall;
-use super::fill::check_rows;
 use jsonb::Error;
 use std::alloc::Global;
 
@@ -35,5 +34,5 @@ pub extern "C" fn jsonb_column_check(
 ) -> u32
     ensures { ChecksRows ChecksDocument (rows bytes.now offsets.now) statuses.old statuses.new done.new result }
 {
-    check_rows(alloc, &Checks, &Column::new(bytes, offsets), statuses, done)
+    Column::new(bytes, offsets).check(alloc, &Checks, statuses, done)
 }

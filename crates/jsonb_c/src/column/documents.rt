@@ -19,9 +19,9 @@ ghost use Rattle.jsonb_c.specs.Rows.{DeletesPart, FindsPart, SelectsItem};
 ghost use Rattle.jsonb_c.specs.Views.{one_array};
 ghost use Rattle.jsonb_c.specs.Private.Views.{pick_of};
 
-use super::Column;
+use super::asked::Asked;
 use super::call::RowWriter;
-use super::join::{Progress, do_nothing, join_rows};
+use super::join::{Progress, do_nothing};
 use crate::document::select::{Pick, pick_by_path};
 use crate::status::Status;
 use jsonb::{Error, JsonPath, KeyPaths, OwnedJsonb, RawJsonb, parse_json_path, parse_key_paths};
@@ -138,11 +138,8 @@ pub extern "C" fn jsonb_column_get(
     ensures { JoinsByPath InvalidKeyPath (key_path path.now) FindsPart (rows bytes.now offsets.now)
         (out.old, positions.old, statuses.old) (out.new, positions.new, statuses.new) progress.new result }
 {
-    let column = Column::new(bytes, offsets);
-    let wanted = Wanted::Part;
-    place_rows(
-        alloc, &column, path, wanted, out, positions, statuses, progress,
-    )
+    let asked = Asked::new(alloc, bytes, offsets, path);
+    asked.place(Wanted::Part, out, positions, statuses, progress)
 }
 
 /// Each document without the place that a key path meets.
@@ -160,33 +157,8 @@ pub extern "C" fn jsonb_column_delete_by_keypath(
     ensures { JoinsByPath InvalidKeyPath (key_path path.now) DeletesPart (rows bytes.now offsets.now)
         (out.old, positions.old, statuses.old) (out.new, positions.new, statuses.new) progress.new result }
 {
-    let column = Column::new(bytes, offsets);
-    let wanted = Wanted::Rest;
-    place_rows(
-        alloc, &column, path, wanted, out, positions, statuses, progress,
-    )
-}
-
-fn place_rows(
-    alloc: Global,
-    column: &Column<'_>,
-    path: &[u8],
-    wanted: Wanted,
-    out: &mut [u8],
-    positions: &mut [u64],
-    statuses: &mut [u8],
-    progress: &mut Progress,
-) -> u32
-    ensures { JoinsByPath InvalidKeyPath (key_path path.now) (place_of wanted) column.now
-        (out.old, positions.old, statuses.old) (out.new, positions.new, statuses.new) progress.new result }
-{
-    match parse_key_paths(alloc, path) {
-        Ok(steps) => {
-            let call = AtPlace { steps, wanted };
-            join_rows(alloc, &call, column, out, positions, statuses, progress)
-        }
-        Err(error) => do_nothing(Status::Refused(error), progress),
-    }
+    let asked = Asked::new(alloc, bytes, offsets, path);
+    asked.place(Wanted::Rest, out, positions, statuses, progress)
 }
 
 /// The first item that a JSON path selects of each document.
@@ -206,11 +178,8 @@ pub extern "C" fn jsonb_column_select_first(
         (rows bytes.now offsets.now)
         (out.old, positions.old, statuses.old) (out.new, positions.new, statuses.new) progress.new result }
 {
-    let column = Column::new(bytes, offsets);
-    let pick = Pick::First;
-    select_rows(
-        alloc, &column, path, strict, pick, out, positions, statuses, progress,
-    )
+    let asked = Asked::new(alloc, bytes, offsets, path);
+    asked.select(strict, Pick::First, out, positions, statuses, progress)
 }
 
 /// The only item that a JSON path selects of each document, or one array of several.
@@ -230,11 +199,8 @@ pub extern "C" fn jsonb_column_select_value(
         (rows bytes.now offsets.now)
         (out.old, positions.old, statuses.old) (out.new, positions.new, statuses.new) progress.new result }
 {
-    let column = Column::new(bytes, offsets);
-    let pick = Pick::Value;
-    select_rows(
-        alloc, &column, path, strict, pick, out, positions, statuses, progress,
-    )
+    let asked = Asked::new(alloc, bytes, offsets, path);
+    asked.select(strict, Pick::Value, out, positions, statuses, progress)
 }
 
 /// One array of the items that a JSON path selects of each document.
@@ -254,33 +220,54 @@ pub extern "C" fn jsonb_column_select_array(
         (rows bytes.now offsets.now)
         (out.old, positions.old, statuses.old) (out.new, positions.new, statuses.new) progress.new result }
 {
-    let column = Column::new(bytes, offsets);
-    let pick = Pick::Array;
-    select_rows(
-        alloc, &column, path, strict, pick, out, positions, statuses, progress,
-    )
+    let asked = Asked::new(alloc, bytes, offsets, path);
+    asked.select(strict, Pick::Array, out, positions, statuses, progress)
 }
 
-fn select_rows(
-    alloc: Global,
-    column: &Column<'_>,
-    path: &[u8],
-    strict: bool,
-    pick: Pick,
-    out: &mut [u8],
-    positions: &mut [u64],
-    statuses: &mut [u8],
-    progress: &mut Progress,
-) -> u32
-    ensures { JoinsByPath InvalidJsonPath (json_path path.now) (SelectsItem (mode_of strict) (pick_of pick))
-        column.now
-        (out.old, positions.old, statuses.old) (out.new, positions.new, statuses.new) progress.new result }
-{
-    match parse_json_path(alloc, path) {
-        Ok(path) => {
-            let call = Selects { path, strict, pick };
-            join_rows(alloc, &call, column, out, positions, statuses, progress)
+impl Asked<'_> {
+    /// What is wanted of the place that the path, a key path, meets in each row.
+    fn place(
+        &self,
+        wanted: Wanted,
+        out: &mut [u8],
+        positions: &mut [u64],
+        statuses: &mut [u8],
+        progress: &mut Progress,
+    ) -> u32
+        ensures { JoinsByPath InvalidKeyPath (key_path self.now.path.now) (place_of wanted) self.now.column
+            (out.old, positions.old, statuses.old) (out.new, positions.new, statuses.new) progress.new result }
+    {
+        match parse_key_paths(self.alloc, self.path) {
+            Ok(steps) => {
+                let call = AtPlace { steps, wanted };
+                self.column
+                    .join(self.alloc, &call, out, positions, statuses, progress)
+            }
+            Err(error) => do_nothing(Status::Refused(error), progress),
         }
-        Err(error) => do_nothing(Status::Refused(error), progress),
+    }
+
+    /// The document of the items that the path, a JSON path, selects of each row.
+    fn select(
+        &self,
+        strict: bool,
+        pick: Pick,
+        out: &mut [u8],
+        positions: &mut [u64],
+        statuses: &mut [u8],
+        progress: &mut Progress,
+    ) -> u32
+        ensures { JoinsByPath InvalidJsonPath (json_path self.now.path.now)
+            (SelectsItem (mode_of strict) (pick_of pick)) self.now.column
+            (out.old, positions.old, statuses.old) (out.new, positions.new, statuses.new) progress.new result }
+    {
+        match parse_json_path(self.alloc, self.path) {
+            Ok(path) => {
+                let call = Selects { path, strict, pick };
+                self.column
+                    .join(self.alloc, &call, out, positions, statuses, progress)
+            }
+            Err(error) => do_nothing(Status::Refused(error), progress),
+        }
     }
 }

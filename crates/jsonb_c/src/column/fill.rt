@@ -10,48 +10,50 @@ use crate::status::Status;
 use jsonb::Error;
 use std::alloc::Global;
 
-/// Writes a status a row.
-pub(crate) fn check_rows<A: Drop, C: RowCall<A>>(
-    alloc: Global,
-    call: &C,
-    column: &Column<'_>,
-    statuses: &mut [u8],
-    done: &mut usize,
-) -> u32
-    ensures { ChecksRows (C.IsAnswerTo call.now) column.now statuses.old statuses.new done.new result }
-{
-    let rows = column.len();
-    let room = rows.min(statuses.len());
-    for index in 0..room {
-        let cell = ask(alloc, call, column.row(index));
-        statuses[index] = cell_status(&cell);
+impl Column<'_> {
+    /// Writes a status a row.
+    pub(crate) fn check<A: Drop, C: RowCall<A>>(
+        &self,
+        alloc: Global,
+        call: &C,
+        statuses: &mut [u8],
+        done: &mut usize,
+    ) -> u32
+        ensures { ChecksRows (C.IsAnswerTo call.now) self.now statuses.old statuses.new done.new result }
+    {
+        let rows = self.len();
+        let room = rows.min(statuses.len());
+        for index in 0..room {
+            let cell = ask(alloc, call, self.row(index));
+            statuses[index] = cell_status(&cell);
+        }
+        *done = room;
+        end_of(room, rows)
     }
-    *done = room;
-    end_of(room, rows)
-}
 
-/// Writes a value and a status a row: `other` where a row has no value.
-pub(crate) fn fill_rows<A: Copy, C: RowCall<A>>(
-    alloc: Global,
-    call: &C,
-    other: A,
-    column: &Column<'_>,
-    values: &mut [A],
-    statuses: &mut [u8],
-    done: &mut usize,
-) -> u32
-    ensures { FillsRows (C.IsAnswerTo call.now) other column.now
-        (values.old, statuses.old) (values.new, statuses.new) done.new result }
-{
-    let rows = column.len();
-    let room = rows.min(values.len()).min(statuses.len());
-    for index in 0..room {
-        let cell = ask(alloc, call, column.row(index));
-        values[index] = cell_value(&cell, other);
-        statuses[index] = cell_status(&cell);
+    /// Writes a value and a status a row: `other` where a row has no value.
+    pub(crate) fn fill<A: Copy, C: RowCall<A>>(
+        &self,
+        alloc: Global,
+        call: &C,
+        other: A,
+        values: &mut [A],
+        statuses: &mut [u8],
+        done: &mut usize,
+    ) -> u32
+        ensures { FillsRows (C.IsAnswerTo call.now) other self.now
+            (values.old, statuses.old) (values.new, statuses.new) done.new result }
+    {
+        let rows = self.len();
+        let room = rows.min(values.len()).min(statuses.len());
+        for index in 0..room {
+            let cell = ask(alloc, call, self.row(index));
+            values[index] = cell_value(&cell, other);
+            statuses[index] = cell_status(&cell);
+        }
+        *done = room;
+        end_of(room, rows)
     }
-    *done = room;
-    end_of(room, rows)
 }
 
 /// Does no row.

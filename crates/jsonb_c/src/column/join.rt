@@ -20,48 +20,50 @@ pub struct Progress {
     pub next: usize,
 }
 
-/// The answers' bytes, the offsets between them, and a status a row.
-pub(crate) fn join_rows<C: RowWriter>(
-    alloc: Global,
-    call: &C,
-    column: &Column<'_>,
-    out: &mut [u8],
-    positions: &mut [u64],
-    statuses: &mut [u8],
-    progress: &mut Progress,
-) -> u32
-    ensures { JoinsRows (C.IsAnswerTo call.now) column.now
-        (out.old, positions.old, statuses.old) (out.new, positions.new, statuses.new) progress.new result }
-{
-    if positions.is_empty() {
-        return do_nothing(Status::BufferTooSmall, progress);
-    }
-    let rows = column.len();
-    let room = rows.min(positions.len() - 1).min(statuses.len());
-    positions[0] = 0;
-    let mut at = 0;
-    let mut buffer = Vec::new(alloc);
-    for index in 0..room {
-        let cell = ask_for_bytes(alloc, call, column.row(index), &mut buffer);
-        let made = written_bytes(cell, &buffer);
-        if !place(made, out, at) {
-            *progress = Progress {
-                rows: index,
-                bytes: at,
-                next: made.len(),
-            };
-            return Status::BufferTooSmall.to_u32();
+impl Column<'_> {
+    /// The answers' bytes, the offsets between them, and a status a row.
+    pub(crate) fn join<C: RowWriter>(
+        &self,
+        alloc: Global,
+        call: &C,
+        out: &mut [u8],
+        positions: &mut [u64],
+        statuses: &mut [u8],
+        progress: &mut Progress,
+    ) -> u32
+        ensures { JoinsRows (C.IsAnswerTo call.now) self.now
+            (out.old, positions.old, statuses.old) (out.new, positions.new, statuses.new) progress.new result }
+    {
+        if positions.is_empty() {
+            return do_nothing(Status::BufferTooSmall, progress);
         }
-        at += made.len();
-        positions[index + 1] = at as u64;
-        statuses[index] = written_status(cell);
+        let rows = self.len();
+        let room = rows.min(positions.len() - 1).min(statuses.len());
+        positions[0] = 0;
+        let mut at = 0;
+        let mut buffer = Vec::new(alloc);
+        for index in 0..room {
+            let cell = ask_for_bytes(alloc, call, self.row(index), &mut buffer);
+            let made = written_bytes(cell, &buffer);
+            if !place(made, out, at) {
+                *progress = Progress {
+                    rows: index,
+                    bytes: at,
+                    next: made.len(),
+                };
+                return Status::BufferTooSmall.to_u32();
+            }
+            at += made.len();
+            positions[index + 1] = at as u64;
+            statuses[index] = written_status(cell);
+        }
+        *progress = Progress {
+            rows: room,
+            bytes: at,
+            next: 0,
+        };
+        end_of(room, rows)
     }
-    *progress = Progress {
-        rows: room,
-        bytes: at,
-        next: 0,
-    };
-    end_of(room, rows)
 }
 
 /// Does no row.

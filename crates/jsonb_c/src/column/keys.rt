@@ -6,7 +6,7 @@ ghost use Rattle.jsonb_c.specs.Rows.{WritesEqualityKey, WritesKey};
 
 use super::Column;
 use super::call::RowWriter;
-use super::join::{Progress, join_rows};
+use super::join::Progress;
 use crate::document::keys::{write_equality_key, write_sort_key};
 use jsonb::Error;
 use std::alloc::Global;
@@ -24,8 +24,7 @@ impl RowWriter for SortKeys {
     ghost IsAnswerTo = { λ call document answer. WritesKey (width_of call.wide) document answer };
 
     fn write(&self, alloc: Global, document: &[u8], out: &mut Vec<u8>) -> Result<bool, Error> {
-        write_sort_key(alloc, document, self.wide, out)?;
-        Ok(true)
+        write_sort_key(alloc, document, self.wide, out).and(Ok(true))
     }
 }
 
@@ -39,8 +38,7 @@ impl RowWriter for EqualityKeys {
     ghost IsAnswerTo = { λ call document answer. WritesEqualityKey document answer };
 
     fn write(&self, alloc: Global, document: &[u8], out: &mut Vec<u8>) -> Result<bool, Error> {
-        write_equality_key(alloc, document, out)?;
-        Ok(true)
+        write_equality_key(alloc, document, out).and(Ok(true))
     }
 }
 
@@ -59,16 +57,8 @@ pub extern "C" fn jsonb_column_key(
     ensures { JoinsRows (WritesKey (width_of wide)) (rows bytes.now offsets.now)
         (out.old, positions.old, statuses.old) (out.new, positions.new, statuses.new) progress.new result }
 {
-    let column = Column::new(bytes, offsets);
-    join_rows(
-        alloc,
-        &SortKeys { wide },
-        &column,
-        out,
-        positions,
-        statuses,
-        progress,
-    )
+    let keys = SortKeys { wide };
+    Column::new(bytes, offsets).join(alloc, &keys, out, positions, statuses, progress)
 }
 
 /// The equality key of each document.
@@ -85,14 +75,5 @@ pub extern "C" fn jsonb_column_equality_key(
     ensures { JoinsRows WritesEqualityKey (rows bytes.now offsets.now)
         (out.old, positions.old, statuses.old) (out.new, positions.new, statuses.new) progress.new result }
 {
-    let column = Column::new(bytes, offsets);
-    join_rows(
-        alloc,
-        &EqualityKeys,
-        &column,
-        out,
-        positions,
-        statuses,
-        progress,
-    )
+    Column::new(bytes, offsets).join(alloc, &EqualityKeys, out, positions, statuses, progress)
 }

@@ -12,8 +12,9 @@ ghost use Rattle.jsonb_c.specs.Private.ByHand.{told};
 ghost use Rattle.jsonb_c.specs.Rows.{TellsContainment, TellsExistence, TellsTruth};
 
 use super::Column;
+use super::asked::Asked;
 use super::call::RowCall;
-use super::fill::{fill_rows, refuse_rows};
+use super::fill::refuse_rows;
 use crate::deliver::{bool_byte, truth_byte};
 use crate::document::select::{exists_by_path, match_by_path};
 use jsonb::{Error, JsonPath, RawJsonb, parse_json_path};
@@ -101,11 +102,8 @@ pub extern "C" fn jsonb_column_exists(
     ensures { FillsByPath InvalidJsonPath (json_path path.now) (TellsExistence (mode_of strict)) 2
         (rows bytes.now offsets.now) (truths.old, statuses.old) (truths.new, statuses.new) done.new result }
 {
-    let column = Column::new(bytes, offsets);
-    let question = Question::Existence;
-    tell_rows(
-        alloc, &column, path, strict, question, truths, statuses, done,
-    )
+    let asked = Asked::new(alloc, bytes, offsets, path);
+    asked.tell(strict, Question::Existence, truths, statuses, done)
 }
 
 /// What a JSON path says of each document.
@@ -123,36 +121,35 @@ pub extern "C" fn jsonb_column_match(
     ensures { FillsByPath InvalidJsonPath (json_path path.now) (TellsTruth (mode_of strict)) 2
         (rows bytes.now offsets.now) (truths.old, statuses.old) (truths.new, statuses.new) done.new result }
 {
-    let column = Column::new(bytes, offsets);
-    let question = Question::Truth;
-    tell_rows(
-        alloc, &column, path, strict, question, truths, statuses, done,
-    )
+    let asked = Asked::new(alloc, bytes, offsets, path);
+    asked.tell(strict, Question::Truth, truths, statuses, done)
 }
 
-fn tell_rows(
-    alloc: Global,
-    column: &Column<'_>,
-    path: &[u8],
-    strict: bool,
-    question: Question,
-    truths: &mut [u8],
-    statuses: &mut [u8],
-    done: &mut usize,
-) -> u32
-    ensures { FillsByPath InvalidJsonPath (json_path path.now) (told question (mode_of strict)) 2 column.now
-        (truths.old, statuses.old) (truths.new, statuses.new) done.new result }
-{
-    match parse_json_path(alloc, path) {
-        Ok(path) => {
-            let call = Tells {
-                path,
-                strict,
-                question,
-            };
-            fill_rows(alloc, &call, UNKNOWN, column, truths, statuses, done)
+impl Asked<'_> {
+    /// What the path, a JSON path, tells of each row.
+    fn tell(
+        &self,
+        strict: bool,
+        question: Question,
+        truths: &mut [u8],
+        statuses: &mut [u8],
+        done: &mut usize,
+    ) -> u32
+        ensures { FillsByPath InvalidJsonPath (json_path self.now.path.now) (told question (mode_of strict)) 2
+            self.now.column (truths.old, statuses.old) (truths.new, statuses.new) done.new result }
+    {
+        match parse_json_path(self.alloc, self.path) {
+            Ok(path) => {
+                let call = Tells {
+                    path,
+                    strict,
+                    question,
+                };
+                self.column
+                    .fill(self.alloc, &call, UNKNOWN, truths, statuses, done)
+            }
+            Err(error) => refuse_rows(error, done),
         }
-        Err(error) => refuse_rows(error, done),
     }
 }
 
@@ -170,14 +167,5 @@ pub extern "C" fn jsonb_column_contains(
     ensures { FillsRows (TellsContainment wanted.now) 2 (rows bytes.now offsets.now)
         (truths.old, statuses.old) (truths.new, statuses.new) done.new result }
 {
-    let column = Column::new(bytes, offsets);
-    fill_rows(
-        alloc,
-        &Holds { wanted },
-        UNKNOWN,
-        &column,
-        truths,
-        statuses,
-        done,
-    )
+    Column::new(bytes, offsets).fill(alloc, &Holds { wanted }, UNKNOWN, truths, statuses, done)
 }

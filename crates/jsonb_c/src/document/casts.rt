@@ -24,15 +24,6 @@ pub extern "C" fn jsonb_as_bool(document: &[u8], truth: &mut u8) -> u32
     show_found_bool(RawJsonb::new(document).as_bool(), truth)
 }
 
-/// The truth value, which is also read from texts.
-#[unsafe(no_mangle)]
-pub extern "C" fn jsonb_to_bool(document: &[u8], truth: &mut u8) -> u32
-    ensures { HandsOverBool (OfDocument document.now (λ form t. CastsToBool t)) (IsDecodingError or InvalidCast)
-        truth.old truth.new result }
-{
-    show_bool(RawJsonb::new(document).to_bool(), truth)
-}
-
 /// The number as an `i64`, where it is whole and fits.
 #[unsafe(no_mangle)]
 pub extern "C" fn jsonb_as_i64(document: &[u8], number: &mut i64) -> u32
@@ -42,15 +33,6 @@ pub extern "C" fn jsonb_as_i64(document: &[u8], number: &mut i64) -> u32
     show_found(RawJsonb::new(document).as_i64(), number)
 }
 
-/// The document as an `i64`: a truth value as 1 or 0, a number rounded, a text as it reads.
-#[unsafe(no_mangle)]
-pub extern "C" fn jsonb_to_i64(document: &[u8], number: &mut i64) -> u32
-    ensures { HandsOver (OfDocument document.now (λ form t. CastsToI64 t)) (IsDecodingError or InvalidCast)
-        (λ answer. Shows answer number.old number.new result) }
-{
-    show(RawJsonb::new(document).to_i64(), number)
-}
-
 /// The number as a `u64`, where it is whole and fits.
 #[unsafe(no_mangle)]
 pub extern "C" fn jsonb_as_u64(document: &[u8], number: &mut u64) -> u32
@@ -58,15 +40,6 @@ pub extern "C" fn jsonb_as_u64(document: &[u8], number: &mut u64) -> u32
         (λ answer. ShowsFound answer number.old number.new result) }
 {
     show_found(RawJsonb::new(document).as_u64(), number)
-}
-
-/// The document as a `u64`: a truth value as 1 or 0, a number rounded, a text as it reads.
-#[unsafe(no_mangle)]
-pub extern "C" fn jsonb_to_u64(document: &[u8], number: &mut u64) -> u32
-    ensures { HandsOver (OfDocument document.now (λ form t. CastsToU64 t)) (IsDecodingError or InvalidCast)
-        (λ answer. Shows answer number.old number.new result) }
-{
-    show(RawJsonb::new(document).to_u64(), number)
 }
 
 /// The bytes of the text, where the document is one.
@@ -87,6 +60,33 @@ fn as_str(document: &[u8]) -> Result<Option<&str>, Error>
         Item::String(text) => Ok(Some(text)),
         _ => Ok(None),
     }
+}
+
+/// The truth value, which is also read from texts.
+#[unsafe(no_mangle)]
+pub extern "C" fn jsonb_to_bool(document: &[u8], truth: &mut u8) -> u32
+    ensures { HandsOverBool (OfDocument document.now (λ form t. CastsToBool t)) (IsDecodingError or InvalidCast)
+        truth.old truth.new result }
+{
+    show_bool(RawJsonb::new(document).to_bool(), truth)
+}
+
+/// The document as an `i64`: a truth value as 1 or 0, a number rounded, a text as it reads.
+#[unsafe(no_mangle)]
+pub extern "C" fn jsonb_to_i64(document: &[u8], number: &mut i64) -> u32
+    ensures { HandsOver (OfDocument document.now (λ form t. CastsToI64 t)) (IsDecodingError or InvalidCast)
+        (λ answer. Shows answer number.old number.new result) }
+{
+    show(RawJsonb::new(document).to_i64(), number)
+}
+
+/// The document as a `u64`: a truth value as 1 or 0, a number rounded, a text as it reads.
+#[unsafe(no_mangle)]
+pub extern "C" fn jsonb_to_u64(document: &[u8], number: &mut u64) -> u32
+    ensures { HandsOver (OfDocument document.now (λ form t. CastsToU64 t)) (IsDecodingError or InvalidCast)
+        (λ answer. Shows answer number.old number.new result) }
+{
+    show(RawJsonb::new(document).to_u64(), number)
 }
 
 /// The document as a text: a truth value, a number in decimal, a text as it is.

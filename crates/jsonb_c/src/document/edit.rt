@@ -43,22 +43,6 @@ fn delete_by_keypath(alloc: Global, document: &[u8], path: &[u8]) -> Result<Owne
     RawJsonb::new(document).delete_by_keypath(alloc, steps.paths.iter())
 }
 
-/// The array without the element that an index means, counted from the end where it is negative.
-#[unsafe(no_mangle)]
-pub extern "C" fn jsonb_delete_by_index(
-    alloc: Global,
-    document: &[u8],
-    index: i32,
-    out: &mut [u8],
-    out_len: &mut usize,
-) -> u32
-    ensures { HandsOverBytes (DeletesIndex index document.now)
-        (IsDecodingError or OutOfMemory or TooLarge or InvalidJsonType) out.old out.new out_len.new result }
-{
-    let document = RawJsonb::new(document);
-    deliver_made(document.delete_by_index(alloc, index), out, out_len)
-}
-
 /// The object without the key, or the array without the texts that are the name.
 #[unsafe(no_mangle)]
 pub extern "C" fn jsonb_delete_by_name(
@@ -80,6 +64,38 @@ pub extern "C" fn jsonb_delete_by_name(
     deliver_made(document.delete_by_name(alloc, name), out, out_len)
 }
 
+/// The array without the element that an index means, counted from the end where it is negative.
+#[unsafe(no_mangle)]
+pub extern "C" fn jsonb_delete_by_index(
+    alloc: Global,
+    document: &[u8],
+    index: i32,
+    out: &mut [u8],
+    out_len: &mut usize,
+) -> u32
+    ensures { HandsOverBytes (DeletesIndex index document.now)
+        (IsDecodingError or OutOfMemory or TooLarge or InvalidJsonType) out.old out.new out_len.new result }
+{
+    let document = RawJsonb::new(document);
+    deliver_made(document.delete_by_index(alloc, index), out, out_len)
+}
+
+/// Two objects as one, or the elements of two documents as one array.
+#[unsafe(no_mangle)]
+pub extern "C" fn jsonb_concat(
+    alloc: Global,
+    document: &[u8],
+    other: &[u8],
+    out: &mut [u8],
+    out_len: &mut usize,
+) -> u32
+    ensures { HandsOverBytes (OfDocuments document.now other.now (λ form t u. Makes form (concat t u)))
+        (IsDecodingError or OutOfMemory or TooLarge) out.old out.new out_len.new result }
+{
+    let document = RawJsonb::new(document);
+    deliver_made(document.concat(alloc, &RawJsonb::new(other)), out, out_len)
+}
+
 /// The array with the root of another document as one element more, at a position that counts from the end where it
 /// is negative.
 #[unsafe(no_mangle)]
@@ -95,8 +111,7 @@ pub extern "C" fn jsonb_array_insert(
         (OfDocuments document.now value.now (λ form t v. Makes form (array_insert position v t)))
         (IsDecodingError or OutOfMemory or TooLarge) out.old out.new out_len.new result }
 {
-    let document = RawJsonb::new(document);
-    let made = document.array_insert(alloc, position, &RawJsonb::new(value));
+    let made = RawJsonb::new(document).array_insert(alloc, position, &RawJsonb::new(value));
     deliver_made(made, out, out_len)
 }
 
@@ -120,25 +135,7 @@ pub extern "C" fn jsonb_object_insert(
     let Ok(name) = str::from_utf8(name) else {
         return deliver_nothing(Status::NotUtf8, out_len);
     };
-    let document = RawJsonb::new(document);
-    let made = document.object_insert(alloc, name, &RawJsonb::new(value), update);
-    deliver_made(made, out, out_len)
-}
-
-/// Two objects as one, or the elements of two documents as one array.
-#[unsafe(no_mangle)]
-pub extern "C" fn jsonb_concat(
-    alloc: Global,
-    document: &[u8],
-    other: &[u8],
-    out: &mut [u8],
-    out_len: &mut usize,
-) -> u32
-    ensures { HandsOverBytes (OfDocuments document.now other.now (λ form t u. Makes form (concat t u)))
-        (IsDecodingError or OutOfMemory or TooLarge) out.old out.new out_len.new result }
-{
-    let document = RawJsonb::new(document);
-    let made = document.concat(alloc, &RawJsonb::new(other));
+    let made = RawJsonb::new(document).object_insert(alloc, name, &RawJsonb::new(value), update);
     deliver_made(made, out, out_len)
 }
 

@@ -29,8 +29,7 @@ pub extern "C" fn jsonb_exists_all_keys(
 ) -> u32
     ensures { ShowsKeys has_all document.now (names_of (rows names.now offsets.now)) truth.old truth.new result }
 {
-    let names = Column::new(names, offsets);
-    show_keys(alloc, document, &names, Quantity::All, truth)
+    show_keys(alloc, document, names, offsets, Quantity::All, truth)
 }
 
 /// Whether the document has one of the texts: as a key of an object, as an element of an array, or as the root.
@@ -44,8 +43,7 @@ pub extern "C" fn jsonb_exists_any_keys(
 ) -> u32
     ensures { ShowsKeys has_any document.now (names_of (rows names.now offsets.now)) truth.old truth.new result }
 {
-    let names = Column::new(names, offsets);
-    show_keys(alloc, document, &names, Quantity::Any, truth)
+    show_keys(alloc, document, names, offsets, Quantity::Any, truth)
 }
 
 /// How many of the names are to be there.
@@ -61,13 +59,15 @@ enum Quantity {
 fn show_keys(
     alloc: Global,
     document: &[u8],
-    names: &Column<'_>,
+    names: &[u8],
+    offsets: &[u64],
     quantity: Quantity,
     truth: &mut u8,
 ) -> u32
-    ensures { ShowsKeys (has_keys quantity) document.now (names_of names.now) truth.old truth.new result }
+    ensures { ShowsKeys (has_keys quantity) document.now (names_of (rows names.now offsets.now))
+        truth.old truth.new result }
 {
-    match read_names(alloc, names) {
+    match read_names(alloc, &Column::new(names, offsets)) {
         Ok(names) => show_bool(exists_keys(document, &names, quantity), truth),
         Err(cause) => cause.to_u32(),
     }
@@ -98,8 +98,7 @@ pub extern "C" fn jsonb_object_pick(
     ensures { DeliversPairs picked_names document.now (names_of (rows names.now offsets.now))
         out.old out.new out_len.new result }
 {
-    let names = Column::new(names, offsets);
-    deliver_pairs(alloc, document, &names, Kept::Named, out, out_len)
+    deliver_pairs(alloc, document, names, offsets, Kept::Named, out, out_len)
 }
 
 /// The object without the pairs whose keys are among the names.
@@ -115,8 +114,7 @@ pub extern "C" fn jsonb_object_delete(
     ensures { DeliversPairs dropped_names document.now (names_of (rows names.now offsets.now))
         out.old out.new out_len.new result }
 {
-    let names = Column::new(names, offsets);
-    deliver_pairs(alloc, document, &names, Kept::Others, out, out_len)
+    deliver_pairs(alloc, document, names, offsets, Kept::Others, out, out_len)
 }
 
 /// Which pairs of an object are kept.
@@ -132,15 +130,16 @@ enum Kept {
 fn deliver_pairs(
     alloc: Global,
     document: &[u8],
-    names: &Column<'_>,
+    names: &[u8],
+    offsets: &[u64],
     kept: Kept,
     out: &mut [u8],
     out_len: &mut usize,
 ) -> u32
-    ensures { DeliversPairs (kept_pairs kept) document.now (names_of names.now)
+    ensures { DeliversPairs (kept_pairs kept) document.now (names_of (rows names.now offsets.now))
         out.old out.new out_len.new result }
 {
-    match read_set(alloc, names) {
+    match read_set(alloc, &Column::new(names, offsets)) {
         Ok(keys) => deliver_made(object_of_kept(alloc, document, &keys, kept), out, out_len),
         Err(cause) => deliver_nothing(cause, out_len),
     }

@@ -15,29 +15,6 @@ use crate::status::Status;
 use jsonb::{Error, OwnedJsonb, RawJsonb, parse_key_paths};
 use std::alloc::Global;
 
-/// The part at the place that a key path meets.
-#[unsafe(no_mangle)]
-pub extern "C" fn jsonb_get_by_keypath(
-    alloc: Global,
-    document: &[u8],
-    path: &[u8],
-    out: &mut [u8],
-    out_len: &mut usize,
-) -> u32
-    ensures { HandsOverFound (Gets (key_path path.now) document.now)
-        (IsDecodingError or OutOfMemory or TooLarge or InvalidKeyPath) out.old out.new out_len.new result }
-{
-    deliver(get_by_keypath(alloc, document, path), out, out_len)
-}
-
-fn get_by_keypath(alloc: Global, document: &[u8], path: &[u8]) -> Result<Option<OwnedJsonb>, Error>
-    ensures part { Gets (key_path path.now) document.now result }
-    ensures errors { IfErr result (IsDecodingError or OutOfMemory or TooLarge or InvalidKeyPath) }
-{
-    let steps = parse_key_paths(alloc, path)?;
-    RawJsonb::new(document).get_by_keypath(alloc, steps.paths.iter())
-}
-
 /// The element at a position of an array.
 #[unsafe(no_mangle)]
 pub extern "C" fn jsonb_get_by_index(
@@ -74,6 +51,28 @@ pub extern "C" fn jsonb_get_by_name(
         return deliver_nothing(Status::NotUtf8, out_len);
     };
     let document = RawJsonb::new(document);
-    let found = document.get_by_name(alloc, name, ignore_case);
-    deliver(found, out, out_len)
+    deliver(document.get_by_name(alloc, name, ignore_case), out, out_len)
+}
+
+/// The part at the place that a key path meets.
+#[unsafe(no_mangle)]
+pub extern "C" fn jsonb_get_by_keypath(
+    alloc: Global,
+    document: &[u8],
+    path: &[u8],
+    out: &mut [u8],
+    out_len: &mut usize,
+) -> u32
+    ensures { HandsOverFound (Gets (key_path path.now) document.now)
+        (IsDecodingError or OutOfMemory or TooLarge or InvalidKeyPath) out.old out.new out_len.new result }
+{
+    deliver(get_by_keypath(alloc, document, path), out, out_len)
+}
+
+fn get_by_keypath(alloc: Global, document: &[u8], path: &[u8]) -> Result<Option<OwnedJsonb>, Error>
+    ensures part { Gets (key_path path.now) document.now result }
+    ensures errors { IfErr result (IsDecodingError or OutOfMemory or TooLarge or InvalidKeyPath) }
+{
+    let steps = parse_key_paths(alloc, path)?;
+    RawJsonb::new(document).get_by_keypath(alloc, steps.paths.iter())
 }

@@ -73,28 +73,6 @@ fn select_item(
     pick_by_path(alloc, document, &steps, strict, pick)
 }
 
-/// What a path that was read selects.
-pub(crate) fn pick_by_path<'a>(
-    alloc: Global,
-    document: &'a [u8],
-    path: &'a JsonPath<'_>,
-    strict: bool,
-    pick: Pick,
-) -> Result<Option<OwnedJsonb>, Error>
-    ensures picked { ByMeanings (mode_of strict) document.now (path_view path.now)
-        (IsPicked (pick_of pick)) result }
-    ensures errors { IfErr result (IsDocumentError (mode_of strict)) }
-{
-    match pick {
-        Pick::First => selector(alloc, document, strict).select_first(path),
-        Pick::Value => selector(alloc, document, strict).select_value(path),
-        Pick::Array => match array_by_path(alloc, document, path, strict) {
-            Ok(array) => Ok(Some(array)),
-            Err(error) => Err(error),
-        },
-    }
-}
-
 /// One array of what a JSON path selects.
 #[unsafe(no_mangle)]
 pub extern "C" fn jsonb_select_array(
@@ -122,19 +100,7 @@ fn select_array(
     ensures errors { IfErr result (IsDocumentError (mode_of strict)) }
 {
     let steps = parse_json_path(alloc, path)?;
-    array_by_path(alloc, document, &steps, strict)
-}
-
-fn array_by_path<'a>(
-    alloc: Global,
-    document: &'a [u8],
-    path: &'a JsonPath<'_>,
-    strict: bool,
-) -> Result<OwnedJsonb, Error>
-    ensures array { ByMeanings (mode_of strict) document.now (path_view path.now) IsArrayOf result }
-    ensures errors { IfErr result (IsDocumentError (mode_of strict)) }
-{
-    selector(alloc, document, strict).select_array(path)
+    selector(alloc, document, strict).select_array(&steps)
 }
 
 /// Whether a JSON path selects anything.
@@ -158,31 +124,6 @@ fn path_exists(alloc: Global, document: &[u8], path: &[u8], strict: bool) -> Res
 {
     let steps = parse_json_path(alloc, path)?;
     exists_by_path(alloc, document, &steps, strict)
-}
-
-pub(crate) fn exists_by_path<'a>(
-    alloc: Global,
-    document: &'a [u8],
-    path: &'a JsonPath<'_>,
-    strict: bool,
-) -> Result<bool, Error>
-    ensures exists { ByMeanings (mode_of strict) document.now (path_view path.now) IsFound result }
-    ensures errors { IfErr result (IsSelectionError (mode_of strict)) }
-{
-    selector(alloc, document, strict).exists(path)
-}
-
-/// A selector of the mode.
-pub(crate) fn selector(alloc: Global, document: &[u8], strict: bool) -> Selector<'_>
-    ensures root { root_bytes result ≡ document.now }
-    ensures mode { selector_mode result ≡ mode_of strict }
-{
-    let document = RawJsonb::new(document);
-    if strict {
-        Selector::new_strict(alloc, document)
-    } else {
-        Selector::new(alloc, document)
-    }
 }
 
 /// What a JSON path says of the document: 0 for false, 1 for true, 2 for unknown.
@@ -211,6 +152,54 @@ fn predicate_match(
 {
     let steps = parse_json_path(alloc, path)?;
     match_by_path(alloc, document, &steps, strict)
+}
+
+/// A selector of the mode.
+pub(crate) fn selector(alloc: Global, document: &[u8], strict: bool) -> Selector<'_>
+    ensures root { root_bytes result ≡ document.now }
+    ensures mode { selector_mode result ≡ mode_of strict }
+{
+    let document = RawJsonb::new(document);
+    if strict {
+        Selector::new_strict(alloc, document)
+    } else {
+        Selector::new(alloc, document)
+    }
+}
+
+/// What a path that was read selects.
+pub(crate) fn pick_by_path<'a>(
+    alloc: Global,
+    document: &'a [u8],
+    path: &'a JsonPath<'_>,
+    strict: bool,
+    pick: Pick,
+) -> Result<Option<OwnedJsonb>, Error>
+    ensures picked { ByMeanings (mode_of strict) document.now (path_view path.now)
+        (IsPicked (pick_of pick)) result }
+    ensures errors { IfErr result (IsDocumentError (mode_of strict)) }
+{
+    match pick {
+        Pick::First => selector(alloc, document, strict).select_first(path),
+        Pick::Value => selector(alloc, document, strict).select_value(path),
+        Pick::Array => match selector(alloc, document, strict).select_array(path) {
+            Ok(array) => Ok(Some(array)),
+            Err(error) => Err(error),
+        },
+    }
+}
+
+/// Whether a path that was read selects anything.
+pub(crate) fn exists_by_path<'a>(
+    alloc: Global,
+    document: &'a [u8],
+    path: &'a JsonPath<'_>,
+    strict: bool,
+) -> Result<bool, Error>
+    ensures exists { ByMeanings (mode_of strict) document.now (path_view path.now) IsFound result }
+    ensures errors { IfErr result (IsSelectionError (mode_of strict)) }
+{
+    selector(alloc, document, strict).exists(path)
 }
 
 /// What a path that was read says.

@@ -41,8 +41,7 @@ pub extern "C" fn jsonb_array_intersection(
         (λ form t u. Makes form (array (trees_of (intersection_of (as_elements t) (as_elements u))))))
         (IsDecodingError or OutOfMemory or TooLarge) out.old out.new out_len.new result }
 {
-    let document = RawJsonb::new(document);
-    let made = document.array_intersection(alloc, &RawJsonb::new(other));
+    let made = RawJsonb::new(document).array_intersection(alloc, &RawJsonb::new(other));
     deliver_made(made, out, out_len)
 }
 
@@ -59,8 +58,7 @@ pub extern "C" fn jsonb_array_except(
         (λ form t u. Makes form (array (trees_of (difference_of (as_elements t) (as_elements u))))))
         (IsDecodingError or OutOfMemory or TooLarge) out.old out.new out_len.new result }
 {
-    let document = RawJsonb::new(document);
-    let made = document.array_except(alloc, &RawJsonb::new(other));
+    let made = RawJsonb::new(document).array_except(alloc, &RawJsonb::new(other));
     deliver_made(made, out, out_len)
 }
 

@@ -6,7 +6,7 @@ pub returns : goal.returns
 returns c = (
   c.array_insert-made.result,
   λ form t u d e. rw (to_z-of_z w32 c.args.position c.ranges.position) at
-      (c.array_insert-made.ensures.inserted form t u (rw c.new-document.ensures d) (rw c.new.ensures e)),
+      (c.array_insert-made.ensures.inserted form t u (rw c.new.ensures d) (rw c.new-2.ensures e)),
   c.array_insert-made.ensures.errors,
   c.deliver_made.ensures,
 )

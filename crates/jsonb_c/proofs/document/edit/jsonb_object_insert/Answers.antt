@@ -5,8 +5,8 @@ returns-clause-named c = λ _. (
   c.object_insert-made.result,
   record {
     inserted = λ form t v d e free. rw c.in-Ok.ensures.cases.0 at
-        (c.object_insert-made.ensures.inserted form t v (rw c.new-document.ensures d) (rw c.new.ensures e) (rw c.in-Ok.ensures.cases.0 free));
-    duplicate = λ form t d there keeps. c.object_insert-made.ensures.duplicate form t (rw c.new-document.ensures d) (rw c.in-Ok.ensures.cases.0 there) keeps;
+        (c.object_insert-made.ensures.inserted form t v (rw c.new.ensures d) (rw c.new-2.ensures e) (rw c.in-Ok.ensures.cases.0 free));
+    duplicate = λ form t d there keeps. c.object_insert-made.ensures.duplicate form t (rw c.new.ensures d) (rw c.in-Ok.ensures.cases.0 there) keeps;
   },
   c.object_insert-made.ensures.errors,
   c.deliver_made.ensures,

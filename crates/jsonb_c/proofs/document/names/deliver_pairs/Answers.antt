@@ -2,7 +2,7 @@ use Rattle.jsonb_c.proofs.NameSets.{answered_by_set}
 use Rattle.jsonb_c.proofs.document.names.deliver_pairs.Goals as goal
 
 pub returns-in-Ok : goal.returns-in-Ok
-returns-in-Ok c = answered_by_set _ c.in-Ok.keys _ _ c.in-Ok.ensures (λ names has. (
+returns-in-Ok c = answered_by_set _ c.in-Ok.keys _ _ (rw c.new.ensures at c.in-Ok.ensures) (λ names has. (
   c.object_of_kept.result,
   c.object_of_kept.ensures.object names has,
   c.object_of_kept.ensures.errors,

@@ -1,16 +1,8 @@
-use Rattle.std.proofs.Common.{Ok, Err, refl}
-use Rattle.std.proofs.lemmas.Result.{err_from_is_err_and}
+use Rattle.jsonb_c.specs.Calls.{IsEqualityKeyOf}
+use Rattle.jsonb_c.proofs.KeyRows.{writes_key}
 use Rattle.jsonb_c.proofs.column.keys.EqualityKeysRowWriter.write.Goals as goal
 
-pub returns-in_err-write_equality_key : goal.returns-in_err-write_equality_key
-returns-in_err-write_equality_key c =
-    let p = err_from_is_err_and c.from_residual.result c.from_residual.ensures.1 in
-    rw (p.1, p.2) (
-      Err c.in_err-write_equality_key.field-0.0,
-      c.in_err-write_equality_key.ensures.key,
-      c.in_err-write_equality_key.ensures.errors,
-      refl,
-    )
-
 pub returns : goal.returns
-returns c = (Ok c.write_equality_key.new.key, c.in_ok-write_equality_key.ensures.key, tt, refl)
+returns c =
+    rw c.and.ensures (writes_key c.write_equality_key.result c.write_equality_key.new.key (IsEqualityKeyOf c.args.document.now) _
+    c.write_equality_key.ensures.key c.write_equality_key.ensures.errors)

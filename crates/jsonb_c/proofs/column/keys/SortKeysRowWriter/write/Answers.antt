@@ -1,16 +1,8 @@
-use Rattle.std.proofs.Common.{Ok, Err, refl}
-use Rattle.std.proofs.lemmas.Result.{err_from_is_err_and}
+use Rattle.jsonb_c.specs.Calls.{IsKeyOf, width_of}
+use Rattle.jsonb_c.proofs.KeyRows.{writes_key}
 use Rattle.jsonb_c.proofs.column.keys.SortKeysRowWriter.write.Goals as goal
 
-pub returns-in_err-write_sort_key : goal.returns-in_err-write_sort_key
-returns-in_err-write_sort_key c =
-    let p = err_from_is_err_and c.from_residual.result c.from_residual.ensures.1 in
-    rw (p.1, p.2) (
-      Err c.in_err-write_sort_key.field-0.0,
-      c.in_err-write_sort_key.ensures.key,
-      c.in_err-write_sort_key.ensures.errors,
-      refl,
-    )
-
 pub returns : goal.returns
-returns c = (Ok c.write_sort_key.new.key, c.in_ok-write_sort_key.ensures.key, tt, refl)
+returns c =
+    rw c.and.ensures (writes_key c.write_sort_key.result c.write_sort_key.new.key (IsKeyOf (width_of c.args.self.now.wide) c.args.document.now) _
+    c.write_sort_key.ensures.key c.write_sort_key.ensures.errors)

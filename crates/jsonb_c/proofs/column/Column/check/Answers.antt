@@ -1,6 +1,6 @@
 use Rattle.std.proofs.Common.{◌<◌, length, arith}
 use Rattle.jsonb_c.proofs.Rows.{checked_more}
-use Rattle.jsonb_c.proofs.column.fill.check_rows.Goals as goal
+use Rattle.jsonb_c.proofs.column.Column.check.Goals as goal
 
 pub loop-index-preserved : goal.loop-index-preserved
 loop-index-preserved g c =

@@ -1,7 +1,7 @@
 use Rattle.std.proofs.Common.{◌≡◌, ◌+◌, ◌<◌, length, true, false, ap, inr, arith, rules}
 use Rattle.jsonb_c.specs.Private.Buffers.{written_cell}
 use Rattle.jsonb_c.proofs.Rows.{joined_more, placed, not_placed, lacks_room}
-use Rattle.jsonb_c.proofs.column.join.join_rows.Goals as goal
+use Rattle.jsonb_c.proofs.column.Column.join.Goals as goal
 
 pub returns-then-not-place : goal.returns-then-not-place
 returns-then-not-place g c =

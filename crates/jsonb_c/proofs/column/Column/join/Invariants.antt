@@ -1,0 +1,6 @@
+use Rattle.jsonb_c.specs.Columns.{Joined}
+use Rattle.jsonb_c.proofs.column.Column.join.Given as goal
+
+abbrev pub invariant-loop-index : goal.invariant-loop-index
+invariant-loop-index g l =
+    Joined (g.C.RowWriter.IsAnswerTo l.call) l.self (l.fn.out, l.fn.positions, l.fn.statuses) (l.out, l.positions, l.statuses) l.index l.at

@@ -1,6 +1,0 @@
-use Rattle.jsonb_c.specs.Columns.{Filled}
-use Rattle.jsonb_c.proofs.column.fill.fill_rows.Given as goal
-
-abbrev pub invariant-loop-index : goal.invariant-loop-index
-invariant-loop-index g l =
-    Filled (g.C.RowCall.IsAnswerTo l.call) l.other l.column (l.initial.values, l.initial.statuses) (l.values, l.statuses) l.index

@@ -1,6 +1,0 @@
-use Rattle.jsonb_c.specs.Columns.{Joined}
-use Rattle.jsonb_c.proofs.column.join.join_rows.Given as goal
-
-abbrev pub invariant-loop-index : goal.invariant-loop-index
-invariant-loop-index g l =
-    Joined (g.C.RowWriter.IsAnswerTo l.call) l.column (l.fn.out, l.fn.positions, l.fn.statuses) (l.out, l.positions, l.statuses) l.index l.at
