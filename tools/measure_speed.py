@@ -7,9 +7,11 @@
 
 Needs `rt`, `cargo` and `cc`. The crates are proved first where they are not (the library is built as `rt lib` does). The work lies in
 tools/speed/out, and the repository is left as it is. Best of N rounds (40) in four processes; in each the two sides take turns, with
-one allocator that gives nothing back to the system. Both are built for x86-64-v2 at the highest level of optimisation.
+one allocator that gives nothing back to the system. Both are built for x86-64-v2 at the highest level of optimisation. The answers
+alone are timed beside them, where they are documents or bytes: copies of those in vectors of their own, and nothing else.
 """
 import argparse
+import math
 import os
 import random
 import re
@@ -251,6 +253,7 @@ class Row:
     name: str
     rust: float
     ours: float
+    alone: float  # (infinite where the answer is neither documents nor bytes)
     instructions: float | None
 
     @property
@@ -260,13 +263,14 @@ class Row:
 
 def times_of_one(program, path, rounds):
     said = subprocess.check_output([program, path, str(rounds)], text=True, env=KEEPING_HEAP)
-    return {name: (float(rust), float(ours)) for name, rust, ours in (line.split("\t") for line in said.splitlines())}
+    lines = [line.split("\t") for line in said.splitlines()]
+    return {name: [float(side) for side in sides] for name, *sides in lines}
 
 
 def times(program, path, rounds):
     """The best of all processes: where the stack and the heap of one lie costs a case up to a third."""
     found = [times_of_one(program, path, -(-rounds // PROCESSES)) for _ in range(PROCESSES)]
-    return {name: tuple(min(side) for side in zip(*(one[name] for one in found))) for name in found[0]}
+    return {name: [min(side) for side in zip(*(one[name] for one in found))] for name in found[0]}
 
 
 def counted(program, path, name, side, calls):
@@ -287,8 +291,8 @@ def instruction_ratio(program, path, name):
 
 
 def measured(program, path, rounds):
-    for name, (rust, ours) in times(program, path, rounds).items():
-        row = Row(name, rust, ours, instruction_ratio(program, path, name))
+    for name, sides in times(program, path, rounds).items():
+        row = Row(name, *sides, instruction_ratio(program, path, name))
         print(f"{row.ratio:6.2f} {row.instructions or 0:6.2f}  {name}", file=sys.stderr)
         yield row
 
@@ -304,11 +308,13 @@ def line_of(cells):
 
 def table(rows):
     has_counts = any(row.instructions is not None for row in rows)
-    lines = [line_of(["Case", "Rust", "This", "Time, this by Rust"] + ["Instructions"] * has_counts)]
-    lines.append("|" + "---|" * (4 + has_counts))
+    lines = [line_of(["Case", "Rust", "This", "Time, this by Rust", "Answers alone"] + ["Instructions"] * has_counts)]
+    lines.append("|" + "---|" * (5 + has_counts))
     for row in rows:
+        alone = "" if math.isinf(row.alone) else f"{row.alone / row.rust:.2f}"
         counts = [] if not has_counts else ["" if row.instructions is None else f"{row.instructions:.2f}"]
-        lines.append(line_of([row.name, nanoseconds(row.rust), nanoseconds(row.ours), f"{row.ratio:.2f}", *counts]))
+        cells = [row.name, nanoseconds(row.rust), nanoseconds(row.ours), f"{row.ratio:.2f}", alone, *counts]
+        lines.append(line_of(cells))
     mean = statistics.geometric_mean(row.ratio for row in rows)
     slower = sum(row.ratio > 1 for row in rows)
     return "\n".join([*lines, "", f"Geometric mean of the times: {mean:.2f}. Slower than the Rust: {slower} of {len(rows)}."])

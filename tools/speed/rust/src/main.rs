@@ -1,13 +1,16 @@
 //! Times the Rust crate `jsonb` and this repository's library in turn, in one process.
 //!
-//! `speed CASES ROUNDS` prints a line a case: its name, and the nanoseconds of a call of both, best of so many rounds.
+//! `speed CASES ROUNDS` prints a line a case: its name, and the nanoseconds of a call of both, and of its answers alone,
+//! best of so many rounds; `inf` where an answer is neither documents nor bytes.
 //! `speed CASES NAME SIDE TIMES` makes so many calls of one side, for a counter of instructions.
 //! A line of CASES has the name of a case, of its call, its argument, another document and the document, in hexadecimal,
 //! with tabs between.
 
+mod answers;
 mod ours;
 mod theirs;
 
+use answers::Handed;
 use std::time::Instant;
 
 /// What a call is made with.
@@ -17,6 +20,8 @@ pub struct Case {
     pub argument: Vec<u8>,
     pub other: Vec<u8>,
     pub document: Vec<u8>,
+    /// What it answers, where that is documents or bytes.
+    pub answer: Option<Handed>,
 }
 
 type Side = fn(&Case, usize) -> u64;
@@ -36,6 +41,7 @@ fn case(line: &str) -> Case {
         argument: unhex(words[2]),
         other: unhex(words[3]),
         document: unhex(words[4]),
+        answer: None,
     }
 }
 
@@ -55,16 +61,24 @@ fn batch(side: Side, case: &Case) -> usize {
 }
 
 /// The best time of a call of each side, in turn.
-fn best(case: &Case, rounds: usize) -> [f64; 2] {
-    let sides: [Side; 2] = [theirs::calls, ours::calls];
+fn best<const N: usize>(sides: [Side; N], case: &Case, rounds: usize) -> [f64; N] {
     let batches = sides.map(|side| batch(side, case));
-    let mut best = [f64::MAX; 2];
+    let mut best = [f64::INFINITY; N];
     for _ in 0..rounds {
-        for i in 0..2 {
+        for i in 0..N {
             best[i] = best[i].min(nanoseconds(sides[i], case, batches[i]) as f64 / batches[i] as f64);
         }
     }
     best
+}
+
+/// The best time of a call of the Rust crate and of this library, and of the answers alone.
+fn times(case: &Case, rounds: usize) -> [f64; 3] {
+    if case.answer.is_some() {
+        return best([theirs::calls, ours::calls, answers::copies], case, rounds);
+    }
+    let [rust, rattle] = best([theirs::calls, ours::calls], case, rounds);
+    [rust, rattle, f64::INFINITY]
 }
 
 fn main() {
@@ -78,11 +92,12 @@ fn main() {
         return;
     }
     let rounds = words[1].parse().expect("a number of rounds");
-    for case in &cases {
+    for mut case in cases {
         // The two write sortable keys in bytes of their own.
-        let is_same = case.call == "sort_key" || theirs::calls(case, 1) == ours::calls(case, 1);
+        let is_same = case.call == "sort_key" || theirs::calls(&case, 1) == ours::calls(&case, 1);
         assert!(is_same, "{}: the two sides answer with other lengths or counts", case.name);
-        let [rust, rattle] = best(case, rounds);
-        println!("{}\t{rust:.1}\t{rattle:.1}", case.name);
+        case.answer = theirs::answer(&case);
+        let [rust, rattle, alone] = times(&case, rounds);
+        println!("{}\t{rust:.1}\t{rattle:.1}\t{alone:.1}", case.name);
     }
 }

@@ -1,5 +1,6 @@
 //! The Rust crate.
 
+use crate::answers::Handed;
 use crate::Case;
 use jsonb::jsonpath::parse_json_path;
 use jsonb::keypath::parse_key_paths;
@@ -7,74 +8,173 @@ use jsonb::{OwnedJsonb, RawJsonb};
 use std::collections::BTreeSet;
 use std::hint::black_box;
 
-fn length(document: OwnedJsonb) -> usize {
-    document.to_vec().len()
+/// What a call answers.
+trait Answer {
+    /// What the sum of all answers is made of: a length, a count, or 1 for true.
+    fn number(self) -> usize;
+
+    /// The documents or bytes that it is, if any.
+    fn handed(self) -> Option<Handed>;
 }
 
-fn option_length(document: Option<OwnedJsonb>) -> usize {
-    document.map_or(0, length)
+impl Answer for usize {
+    fn number(self) -> usize {
+        self
+    }
+
+    fn handed(self) -> Option<Handed> {
+        None
+    }
 }
 
-fn repeat(case: &Case, times: usize, call: impl Fn(RawJsonb<'_>) -> usize) -> u64 {
-    (0..times).map(|_| black_box(call(RawJsonb::new(black_box(&case.document)))) as u64).fold(0, u64::wrapping_add)
+impl Answer for Vec<u8> {
+    fn number(self) -> usize {
+        self.len()
+    }
+
+    fn handed(self) -> Option<Handed> {
+        Some(Handed::One(self))
+    }
+}
+
+impl Answer for OwnedJsonb {
+    fn number(self) -> usize {
+        self.to_vec().number()
+    }
+
+    fn handed(self) -> Option<Handed> {
+        self.to_vec().handed()
+    }
+}
+
+impl Answer for Vec<OwnedJsonb> {
+    fn number(self) -> usize {
+        self.len()
+    }
+
+    fn handed(self) -> Option<Handed> {
+        Some(Handed::Many(self.into_iter().map(OwnedJsonb::to_vec).collect()))
+    }
+}
+
+impl Answer for Vec<(String, OwnedJsonb)> {
+    fn number(self) -> usize {
+        self.len()
+    }
+
+    fn handed(self) -> Option<Handed> {
+        let parts = self.into_iter().flat_map(|(key, value)| [key.into_bytes(), value.to_vec()]);
+        Some(Handed::Many(parts.collect()))
+    }
+}
+
+impl<A: Answer> Answer for Option<A> {
+    fn number(self) -> usize {
+        self.map_or(0, A::number)
+    }
+
+    fn handed(self) -> Option<Handed> {
+        self.and_then(A::handed)
+    }
+}
+
+/// What is done with the call of a case.
+trait Task {
+    type Done;
+
+    fn run<A: Answer>(self, case: &Case, call: impl Fn(RawJsonb<'_>) -> A) -> Self::Done;
+}
+
+/// It is made so many times, and the answers are summed up.
+struct Sum {
+    times: usize,
+}
+
+impl Task for Sum {
+    type Done = u64;
+
+    fn run<A: Answer>(self, case: &Case, call: impl Fn(RawJsonb<'_>) -> A) -> u64 {
+        let number = |_| black_box(call(RawJsonb::new(black_box(&case.document))).number()) as u64;
+        (0..self.times).map(number).fold(0, u64::wrapping_add)
+    }
+}
+
+/// It is made once, and the answer is kept.
+struct Keep;
+
+impl Task for Keep {
+    type Done = Option<Handed>;
+
+    fn run<A: Answer>(self, case: &Case, call: impl Fn(RawJsonb<'_>) -> A) -> Option<Handed> {
+        call(RawJsonb::new(&case.document)).handed()
+    }
 }
 
 /// So many calls of a case: the sum of what they answer.
 pub fn calls(case: &Case, times: usize) -> u64 {
+    with_call(case, Sum { times })
+}
+
+/// What a case answers, where that is documents or bytes.
+pub fn answer(case: &Case) -> Option<Handed> {
+    with_call(case, Keep)
+}
+
+/// Does a task with the call of a case.
+fn with_call<T: Task>(case: &Case, task: T) -> T::Done {
     let text = std::str::from_utf8(&case.argument).expect("an argument that is UTF-8");
     let other = RawJsonb::new(&case.other);
     let names: Vec<&str> = text.split(',').collect();
     let keys: BTreeSet<&str> = names.iter().copied().collect();
     let position = || text.parse::<i32>().expect("a position");
-    let run = |call: &dyn Fn(RawJsonb<'_>) -> usize| repeat(case, times, call);
     match case.call.as_str() {
         "parse_path" => {
-            run(&|_| parse_json_path(black_box(&case.document)).expect("a path").paths.len())
+            task.run(case, |_| parse_json_path(black_box(&case.document)).expect("a path").paths.len())
         }
         "parse_keypath" => {
-            run(&|_| parse_key_paths(black_box(&case.document)).expect("a key path").paths.len())
+            task.run(case, |_| parse_key_paths(black_box(&case.document)).expect("a key path").paths.len())
         }
         "select" | "select_first" | "exists" | "match" => {
             let path = parse_json_path(&case.argument).expect("a path");
             match case.call.as_str() {
-                "select" => run(&|d| d.select_by_path(&path).unwrap().len()),
-                "select_first" => run(&|d| option_length(d.select_first_by_path(&path).unwrap())),
-                "exists" => run(&|d| d.path_exists(&path).unwrap() as usize),
-                _ => run(&|d| (d.path_match(&path).unwrap() == Some(true)) as usize),
+                "select" => task.run(case, |d| d.select_by_path(&path).unwrap()),
+                "select_first" => task.run(case, |d| d.select_first_by_path(&path).unwrap()),
+                "exists" => task.run(case, |d| d.path_exists(&path).unwrap() as usize),
+                _ => task.run(case, |d| (d.path_match(&path).unwrap() == Some(true)) as usize),
             }
         }
         "get_by_keypath" | "delete_by_keypath" => {
             let path = parse_key_paths(&case.argument).expect("a key path");
             match case.call.as_str() {
-                "get_by_keypath" => run(&|d| option_length(d.get_by_keypath(path.paths.iter()).unwrap())),
-                _ => run(&|d| length(d.delete_by_keypath(path.paths.iter()).unwrap())),
+                "get_by_keypath" => task.run(case, |d| d.get_by_keypath(path.paths.iter()).unwrap()),
+                _ => task.run(case, |d| d.delete_by_keypath(path.paths.iter()).unwrap()),
             }
         }
-        "get_by_name" => run(&|d| option_length(d.get_by_name(text, false).unwrap())),
-        "get_by_name_ignore_case" => run(&|d| option_length(d.get_by_name(text, true).unwrap())),
-        "delete_by_name" => run(&|d| length(d.delete_by_name(text).unwrap())),
-        "object_insert" => run(&|d| length(d.object_insert(text, &other, false).unwrap())),
-        "get_by_index" => run(&|d| option_length(d.get_by_index(position() as usize).unwrap())),
-        "delete_by_index" => run(&|d| length(d.delete_by_index(position()).unwrap())),
-        "array_insert" => run(&|d| length(d.array_insert(position(), &other).unwrap())),
-        "exists_all_keys" => run(&|d| d.exists_all_keys(names.iter().copied()).unwrap() as usize),
-        "exists_any_keys" => run(&|d| d.exists_any_keys(names.iter().copied()).unwrap() as usize),
-        "object_pick" => run(&|d| length(d.object_pick(&keys).unwrap())),
-        "object_delete" => run(&|d| length(d.object_delete(&keys).unwrap())),
-        "contains" => run(&|d| d.contains(&other).unwrap() as usize),
-        "array_overlap" => run(&|d| d.array_overlap(&other).unwrap() as usize),
-        "concat" => run(&|d| length(d.concat(&other).unwrap())),
-        "array_intersection" => run(&|d| length(d.array_intersection(&other).unwrap())),
-        "array_except" => run(&|d| length(d.array_except(&other).unwrap())),
-        "array_distinct" => run(&|d| length(d.array_distinct().unwrap())),
-        "strip_nulls" => run(&|d| length(d.strip_nulls().unwrap())),
-        "sort_key" => run(&|d| d.convert_to_comparable().len()),
-        "leaves" => run(&|d| d.extract_scalar_key_values(false).unwrap().len()),
-        "array_values" => run(&|d| d.array_values().unwrap().map_or(0, |v| v.len())),
-        "object_keys" => run(&|d| option_length(d.object_keys().unwrap())),
-        "object_each" => run(&|d| d.object_each().unwrap().map_or(0, |v| v.len())),
+        "get_by_name" => task.run(case, |d| d.get_by_name(text, false).unwrap()),
+        "get_by_name_ignore_case" => task.run(case, |d| d.get_by_name(text, true).unwrap()),
+        "delete_by_name" => task.run(case, |d| d.delete_by_name(text).unwrap()),
+        "object_insert" => task.run(case, |d| d.object_insert(text, &other, false).unwrap()),
+        "get_by_index" => task.run(case, |d| d.get_by_index(position() as usize).unwrap()),
+        "delete_by_index" => task.run(case, |d| d.delete_by_index(position()).unwrap()),
+        "array_insert" => task.run(case, |d| d.array_insert(position(), &other).unwrap()),
+        "exists_all_keys" => task.run(case, |d| d.exists_all_keys(names.iter().copied()).unwrap() as usize),
+        "exists_any_keys" => task.run(case, |d| d.exists_any_keys(names.iter().copied()).unwrap() as usize),
+        "object_pick" => task.run(case, |d| d.object_pick(&keys).unwrap()),
+        "object_delete" => task.run(case, |d| d.object_delete(&keys).unwrap()),
+        "contains" => task.run(case, |d| d.contains(&other).unwrap() as usize),
+        "array_overlap" => task.run(case, |d| d.array_overlap(&other).unwrap() as usize),
+        "concat" => task.run(case, |d| d.concat(&other).unwrap()),
+        "array_intersection" => task.run(case, |d| d.array_intersection(&other).unwrap()),
+        "array_except" => task.run(case, |d| d.array_except(&other).unwrap()),
+        "array_distinct" => task.run(case, |d| d.array_distinct().unwrap()),
+        "strip_nulls" => task.run(case, |d| d.strip_nulls().unwrap()),
+        "sort_key" => task.run(case, |d| d.convert_to_comparable()),
+        "leaves" => task.run(case, |d| d.extract_scalar_key_values(false).unwrap().len()),
+        "array_values" => task.run(case, |d| d.array_values().unwrap()),
+        "object_keys" => task.run(case, |d| d.object_keys().unwrap()),
+        "object_each" => task.run(case, |d| d.object_each().unwrap()),
         "traverse_check_string" => {
-            run(&|d| d.traverse_check_string(|text| text.is_empty()).unwrap() as usize)
+            task.run(case, |d| d.traverse_check_string(|text| text.is_empty()).unwrap() as usize)
         }
         other => panic!("no call has the name {other}"),
     }
