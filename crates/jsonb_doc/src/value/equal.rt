@@ -1,6 +1,6 @@
 //! Equality of decoded values, without memory. Calls nest 48 deep at most: what they leave open is gone into by a loop.
 
-ghost use Rattle.std.specs.Prelude.{◌≡◌, ◌+◌, ◌<◌, ◌≤◌, ◌&&◌, IfSome, MatchOption};
+ghost use Rattle.std.specs.Prelude.{◌≡◌, ◌+◌, ◌<◌, ◌≤◌, ◌&&◌, true, IfSome, MatchOption};
 ghost use Rattle.std.specs.Cmp.{on_equiv, partial_equiv_from_equiv};
 ghost use Rattle.std.specs.Ordering.{eq_by_cmp};
 ghost use Rattle.std.specs.Slice.Iter.{iter_rest};
@@ -11,6 +11,7 @@ ghost use Rattle.jsonb_doc.specs.View.{number_view};
 ghost use Rattle.jsonb_doc.specs.Value.{value_tree};
 ghost use Rattle.jsonb_doc.specs.Private.Parts.{parts, values_parts, entries_parts};
 ghost use Rattle.jsonb_doc.specs.Private.Comparing.{values_same, entries_same, told, told_parts, IsTold};
+ghost use Rattle.jsonb_doc.specs.declared.value.equal.Compared.TheVariants.{Told};
 
 use crate::number::Number;
 use crate::value::Value;
@@ -59,7 +60,7 @@ fn equal(value: &Value<'_>, other: &Value<'_>) -> bool
     }
 }
 
-/// Two values, compared as far as the calls that are left tell.
+/// Two values, compared as far as the calls that are left tell. With none a container is left open.
 #[cycle(equal)]
 fn reduced<'v, 'a, 'w, 'b>(
     value: &'v Value<'a>,
@@ -70,6 +71,9 @@ fn reduced<'v, 'a, 'w, 'b>(
     ensures fewer { told_parts result ≤ parts value.now }
     ensures told { 48 ≤ calls → IsTold result }
 {
+    if calls == 0 && matches!(value, Value::Array(_) | Value::Object(_)) {
+        return Compared::As(value, other);
+    }
     let mut left = Compared::As(value, other);
     loop {
         left = match left {
@@ -119,11 +123,6 @@ fn numbers_equal(number: &Number, other: &Number) -> bool
     number == other
 }
 
-/// How many calls the first parts get.
-fn first_calls(calls: u32) -> u32 {
-    if calls > FEW_CALLS { calls - 1 } else { 0 }
-}
-
 /// The values that are left, one by one.
 #[cycle(equal)]
 fn values_compared<'v, 'a, 'w, 'b>(
@@ -135,26 +134,16 @@ fn values_compared<'v, 'a, 'w, 'b>(
         (λ left. told left ≡ values_same (iter_rest values.entry) (iter_rest others.entry)) }
     ensures fewer { IfSome result (λ left. told_parts left ≤ values_parts (iter_rest values.entry)) }
 {
-    let mut within = first_calls(calls);
-    let mut left = Compared::Told(true);
+    let mut joined = Joined::none(calls);
     while let Some(value) = values.next() {
         let Some(other) = others.next() else {
             return Some(Compared::Told(false));
         };
-        match part_compared(value, other, within) {
-            Compared::Told(true) => {}
-            Compared::Told(false) => return Some(Compared::Told(false)),
-            Compared::As(value, other) => {
-                let joined = with_open(left, Compared::As(value, other), within, calls)?;
-                left = joined.left;
-                within = joined.within;
-            }
+        if !joined.goes_on(value, other, calls)? {
+            return Some(Compared::Told(false));
         }
     }
-    if others.next().is_some() {
-        return Some(Compared::Told(false));
-    }
-    Some(left)
+    Some(joined.ended(others.next().is_none()))
 }
 
 /// The members that are left, one by one.
@@ -168,8 +157,7 @@ fn members_compared<'v, 'a, 'w, 'b>(
         (λ left. told left ≡ entries_same members.entry others.entry) }
     ensures fewer { IfSome result (λ left. told_parts left ≤ entries_parts members.entry) }
 {
-    let mut within = first_calls(calls);
-    let mut left = Compared::Told(true);
+    let mut joined = Joined::none(calls);
     while let Some((key, value)) = members.next() {
         let Some((name, other)) = others.next() else {
             return Some(Compared::Told(false));
@@ -177,36 +165,11 @@ fn members_compared<'v, 'a, 'w, 'b>(
         if key != name {
             return Some(Compared::Told(false));
         }
-        match part_compared(value, other, within) {
-            Compared::Told(true) => {}
-            Compared::Told(false) => return Some(Compared::Told(false)),
-            Compared::As(value, other) => {
-                let joined = with_open(left, Compared::As(value, other), within, calls)?;
-                left = joined.left;
-                within = joined.within;
-            }
+        if !joined.goes_on(value, other, calls)? {
+            return Some(Compared::Told(false));
         }
     }
-    if others.next().is_some() {
-        return Some(Compared::Told(false));
-    }
-    Some(left)
-}
-
-/// Two parts, for which so many calls may nest. With none a container is left open.
-#[cycle(equal)]
-fn part_compared<'v, 'a, 'w, 'b>(
-    value: &'v Value<'a>,
-    other: &'w Value<'b>,
-    calls: u32,
-) -> Compared<'v, 'a, 'w, 'b>
-    ensures same { told result ≡ is_equal (value_tree value.now) (value_tree other.now) }
-    ensures fewer { told_parts result ≤ parts value.now }
-{
-    if calls == 0 && matches!(value, Value::Array(_) | Value::Object(_)) {
-        return Compared::As(value, other);
-    }
-    reduced(value, other, calls)
+    Some(joined.ended(others.next().is_none()))
 }
 
 /// What is told of parts, at most one of which is open, and how many calls the next one gets.
@@ -216,21 +179,62 @@ struct Joined<'v, 'a, 'w, 'b> {
     within: u32,
 }
 
+impl<'v, 'a, 'w, 'b> Joined<'v, 'a, 'w, 'b> {
+    /// No parts are equal.
+    fn none(calls: u32) -> Joined<'v, 'a, 'w, 'b>
+        ensures { result.left ≡ Told true }
+    {
+        Joined {
+            left: Compared::Told(true),
+            within: if calls > FEW_CALLS { calls - 1 } else { 0 },
+        }
+    }
+
+    /// Whether two parts more may be equal. What they leave open is joined to it.
+    #[cycle(equal)]
+    #[inline(always)]
+    fn goes_on(&mut self, value: &'v Value<'a>, other: &'w Value<'b>, calls: u32) -> Option<bool>
+        ensures same { MatchOption result (calls < 48) (λ may. (may && told self.new.left)
+            ≡ (told self.old.left && is_equal (value_tree value.now) (value_tree other.now))) }
+        ensures fewer { IfSome result (λ _. told_parts self.new.left ≤ told_parts self.old.left + parts value.now) }
+    {
+        match reduced(value, other, self.within) {
+            Compared::Told(answer) => Some(answer),
+            open => {
+                *self = with_open(*self, open, calls)?;
+                Some(true)
+            }
+        }
+    }
+
+    /// What is told where no more parts follow, or where parts of one of the two do.
+    fn ended(self, no_more: bool) -> Compared<'v, 'a, 'w, 'b>
+        ensures same { told result ≡ (told self.entry.left && no_more) }
+        ensures fewer { told_parts result ≤ told_parts self.entry.left }
+    {
+        if no_more {
+            self.left
+        } else {
+            Compared::Told(false)
+        }
+    }
+}
+
 /// What is told of parts and of one more. Of two open ones each is tried with more calls until one is told.
 #[cycle(equal)]
 fn with_open<'v, 'a, 'w, 'b>(
-    left: Compared<'v, 'a, 'w, 'b>,
+    joined: Joined<'v, 'a, 'w, 'b>,
     part: Compared<'v, 'a, 'w, 'b>,
-    within: u32,
     calls: u32,
 ) -> Option<Joined<'v, 'a, 'w, 'b>>
-    ensures same { MatchOption result (calls < 48) (λ joined. told joined.left ≡ (told left.entry && told part.entry)) }
-    ensures fewer { IfSome result (λ joined. told_parts joined.left ≤ told_parts left.entry + told_parts part.entry) }
+    ensures same { MatchOption result (calls < 48)
+        (λ more. told more.left ≡ (told joined.entry.left && told part.entry)) }
+    ensures fewer { IfSome result (λ more. told_parts more.left ≤ told_parts joined.entry.left + told_parts part.entry) }
 {
     let most = calls.saturating_sub(1);
-    let mut first = left;
+    let mut first = joined.left;
     let mut second = part;
-    let mut within = within;
+    let mut within = joined.within;
     while within < most && is_open(first) && is_open(second) {
         within = within.saturating_mul(4).saturating_add(3).min(most);
         second = compared_again(second, within);
@@ -257,7 +261,7 @@ fn compared_again<'v, 'a, 'w, 'b>(
 {
     match left {
         Compared::Told(answer) => Compared::Told(answer),
-        Compared::As(value, other) => part_compared(value, other, calls),
+        Compared::As(value, other) => reduced(value, other, calls),
     }
 }
 
