@@ -119,11 +119,7 @@ fn push_short(out: &mut Vec<u8>, number: ShortNumber, depth: Depth) -> Result<()
 
 /// Appends what stands before the parts of a container, which it hands out.
 #[inline(always)]
-fn push_container<'a>(
-    out: &mut Vec<u8>,
-    bytes: &'a [u8],
-    depth: Depth,
-) -> Result<Level<'a>, Error>
+fn push_container<'a>(out: &mut Vec<u8>, bytes: &'a [u8], depth: Depth) -> Result<Level<'a>, Error>
     ensures key { (form : Form) (tree : Tree) → IsContent (number_reader form) tree container_entry bytes.now
         → AppendsStart form depth tree out.old.items result out.new.items }
     ensures within { IfOk result (λ level. IsLevelWithin (length bytes.now) (Some level)) }

@@ -1,4 +1,4 @@
-use Rattle.std.proofs.Common.{◌≡◌, ◌≤◌, ◌+◌, ◌*◌, length}
+use Rattle.std.proofs.Common.{◌≤◌, ◌+◌, ◌*◌, length}
 use Rattle.std.specs.Prelude.{IfSome}
 use Rattle.jsonb_doc.specs.Tree.{Tree, Trees}
 use Rattle.jsonb_doc.specs.Equal.{is_equal, are_equal}

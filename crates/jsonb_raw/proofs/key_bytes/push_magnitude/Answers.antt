@@ -1,4 +1,4 @@
-use Rattle.std.proofs.Common.{arith, ap, sym, ◌∙◌, ◌≡◌, ◌≤◌, ◌+◌, ◌-◌, ◌++◌, ◌∷◌, [], length, map, suc, append_assoc, refl}
+use Rattle.std.proofs.Common.{arith, ap, sym, ◌∙◌, ◌≡◌, ◌+◌, ◌-◌, ◌++◌, ◌∷◌, [], length, map, suc, append_assoc, refl}
 use Rattle.std.specs.Int.Digits.{digits_of}
 use Rattle.jsonb_raw.proofs.PushedNumbers.{magnitude_steps, row_from}
 use Rattle.jsonb_raw.specs.SortableKey.{significant}

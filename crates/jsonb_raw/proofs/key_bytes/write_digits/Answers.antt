@@ -1,5 +1,5 @@
-use Rattle.std.proofs.Common.{arith, refl, ap, ◌∙◌, ◌++◌}
-use Rattle.jsonb_raw.specs.Private.Complements.{complement_byte, complement_bytes}
+use Rattle.std.proofs.Common.{arith, refl, ap, ◌∙◌}
+use Rattle.jsonb_raw.specs.Private.Complements.{complement_byte}
 use Rattle.jsonb_raw.proofs.DigitSteps.{room_left, digit_passed}
 use Rattle.jsonb_raw.proofs.key_bytes.write_digits.Goals as goal
 

@@ -48,8 +48,8 @@ walk-preserved-then-is_container c = record {
       let begun = c.in_ok-inner-in-Some.ensures.key form part.1 inner in
       parts_left form _ _ _ (parts part.1) (rest ∷ others) begun.2 (pushed_around form _ _ _ rest others c.in_ok-push-in-Some.ensures.items left around)
       (part_begun_at (width_of c.args.width) part rest others _ _ _ _ _ _
-            (omega (arith, c.len-value.ensures, as_many_around form c.walk.around.items others around)) fact
-            (part_written (width_of c.args.width) part _ _ _ _ (c.in_ok-push_name-in-Some.ensures.key part.0 keyed) begun.0, begun.1)));
+      (omega (arith, c.len-value.ensures, as_many_around form c.walk.around.items others around)) fact
+      (part_written (width_of c.args.width) part _ _ _ _ (c.in_ok-push_name-in-Some.ensures.key part.0 keyed) begun.0, begun.1)));
 }
 
 pub walk-smaller-in-Continue-branch-7 : goal.walk-smaller-in-Continue-branch-7
@@ -64,12 +64,12 @@ walk-preserved-in-Continue-branch-7 c = record {
       let begun = c.in_ok-push_scalar-in-Some.ensures.key form part.1 is scalar in
       parts_left form _ _ _ rest others left around
       (part_done (width_of c.args.width) part rest others _ _ _ _ (scalar_parts part.1 scalar)
-            (part_begun_at (width_of c.args.width) part rest others _ _ _ _ _ _
-            (omega (arith, c.len-value.ensures, as_many_around form c.walk.around.items others around)) fact (
-              part_written (width_of c.args.width) part _ _ _ _ (c.in_ok-push_name-in-Some.ensures.key part.0 keyed)
-                  (begun.0 ∙ ap (λ x. c.push_name.new.out.items ++ x) (sym (scalar_start (width_of c.args.width) part.1 _ scalar))),
-              begun.1,
-            ))));
+      (part_begun_at (width_of c.args.width) part rest others _ _ _ _ _ _
+      (omega (arith, c.len-value.ensures, as_many_around form c.walk.around.items others around)) fact (
+        part_written (width_of c.args.width) part _ _ _ _ (c.in_ok-push_name-in-Some.ensures.key part.0 keyed)
+            (begun.0 ∙ ap (λ x. c.push_name.new.out.items ++ x) (sym (scalar_start (width_of c.args.width) part.1 _ scalar))),
+        begun.1,
+      ))));
 }
 
 pub returns-in_err-push_scalar-in-Some-clause-key : goal.returns-in_err-push_scalar-in-Some-clause-key

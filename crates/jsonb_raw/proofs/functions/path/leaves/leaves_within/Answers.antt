@@ -13,7 +13,7 @@ walk-init g c = record {
       let entered = rw c.in-Some.is at (c.in_ok-first.ensures.leaf form t stands) in
       parts_left form _ _ _ (parts t) [] entered.1 (rw c.new-around.ensures.items tt)
       (walk_begun (IsKept (g.P.LeafPart.IsOf form)) c.args.ignore_array _ _ t c.new-found.ensures.items c.new-steps.ensures.items
-            (item_leaves form c.args.item.now c.args.ignore_array t stands entered.0));
+      (item_leaves form c.args.item.now c.args.ignore_array t stands entered.0));
 }
 
 pub returns-in_err-name-clause-leaves : goal.returns-in_err-name-clause-leaves
@@ -44,8 +44,8 @@ walk-preserved-in-Some-3 g c = record {
       let entered = rw c.in-Some-3.is at (c.in_ok-inner-in-Some-2.ensures.leaf form part.1 is) in
       parts_left form _ _ _ (parts part.1) (rest ∷ others) entered.1 (pushed_around form _ _ _ rest others c.in_ok-push-in-Some-3.ensures.items left around)
       (part_entered (IsKept (g.P.LeafPart.IsOf form)) c.args.ignore_array _ _ _ _ part rest others _ fact entered.0
-            (c.in_ok-key-in-Some-2.ensures.name part.0 keyed)
-            (entry_leaves form _ c.args.ignore_array part.1 is entered.0) c.in_ok-push-in-Some-3-2.ensures.items));
+      (c.in_ok-key-in-Some-2.ensures.name part.0 keyed)
+      (entry_leaves form _ c.args.ignore_array part.1 is entered.0) c.in_ok-push-in-Some-3-2.ensures.items));
 }
 
 pub returns-in_err-push_leaf-in-None-2-clause-leaves : goal.returns-in_err-push_leaf-in-None-2-clause-leaves
@@ -70,11 +70,11 @@ walk-preserved-in-None-2 g c = record {
       let more = c.in_ok-push_leaf-in-None-2.ensures.leaf form part.1 is in
       parts_left form _ _ _ rest others left around
       (leaf_found (IsKept (g.P.LeafPart.IsOf form)) c.args.ignore_array _ _ _ _ _ part rest others _
-            (c.in_ok-path-in-None-2.path, more.part) fact
-            (rw c.in-None-2.is at
-            (c.in_ok-inner-in-Some-2.ensures.leaf form part.1 is)) (c.in_ok-key-in-Some-2.ensures.name part.0 keyed)
-            (rw c.deref.ensures.value at c.in_ok-path-in-None-2.ensures, more.is)
-            more.pushed));
+      (c.in_ok-path-in-None-2.path, more.part) fact
+      (rw c.in-None-2.is at
+      (c.in_ok-inner-in-Some-2.ensures.leaf form part.1 is)) (c.in_ok-key-in-Some-2.ensures.name part.0 keyed)
+      (rw c.deref.ensures.value at c.in_ok-path-in-None-2.ensures, more.is)
+      more.pushed));
 }
 
 pub walk-smaller : goal.walk-smaller
@@ -92,7 +92,7 @@ walk-preserved g c =
           popped_around form _ _ _ others c.in-Some-pop.ensures.items around
           (λ here more same left outside. parts_left form _ _ _ here more left outside
           (rw (popped.0, popped.1)
-                (level_done (IsKept (g.P.LeafPart.IsOf form)) c.args.ignore_array _ _ h.front h.last c.walk.index here others more _ same h.joined fact))));
+          (level_done (IsKept (g.P.LeafPart.IsOf form)) c.args.ignore_array _ _ h.front h.last c.walk.index here others more _ same h.joined fact))));
     }
 
 pub returns-in-None-pop-clause-leaves : goal.returns-in-None-pop-clause-leaves
