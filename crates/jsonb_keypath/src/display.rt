@@ -64,17 +64,14 @@ impl fmt::Display for OwnedKeyPaths {
         f.write_str("{")?;
         if let Some((first, others)) = self.paths.split_first() {
             write!(f, "{first}")?;
-            write_other_owned(others, f)?;
+            write_more_owned(others, f)?;
         }
         f.write_str("}")
     }
 }
 
 /// Writes each step behind a comma.
-fn write_other_owned<W: fmt::Write>(
-    steps: &[OwnedKeyPath],
-    f: &mut fmt::Formatter<W>,
-) -> fmt::Result
+fn write_more_owned<W: fmt::Write>(steps: &[OwnedKeyPath], f: &mut fmt::Formatter<W>) -> fmt::Result
     ensures { WritesOnOk W.write_str_gives f.old result
         (flat_map other_key_text (owned_keys_view steps.now)) f.new }
 {

@@ -1,12 +1,13 @@
 -- Steps from a number's digits to those of the number without its last digit.
-use Rattle.std.proofs.Common.{◌≡◌, ◌≢◌, ℕ, zero, suc, ◌+◌, ◌-◌, ◌/◌, ◌%◌, ◌^◌, ◌<◌, ◌≤◌, ◌==◌, ◌&&◌, Bool, true, false, cond, List, [], ◌∷◌, ◌++◌, map, length, drop, set, length-set, refl, sym, ap, ap₂, ◌∙◌, arith, append_assoc}
+use Rattle.std.proofs.Common.{◌≡◌, ◌≢◌, ℕ, zero, suc, ◌+◌, ◌/◌, ◌%◌, ◌^◌, ◌<◌, ◌≤◌, ◌==◌, ◌&&◌, Bool, true, false, cond, List, [], ◌∷◌, ◌++◌, map, length, drop, refl, sym, ap, ap₂, ◌∙◌, arith, append_assoc}
 use Rattle.std.specs.List.{list_all}
 use Rattle.std.specs.Int.Digits.{digits_of}
-use Rattle.std.proofs.lemmas.List.{map-append, drop-set}
+use Rattle.std.proofs.lemmas.List.{map-append}
 use Rattle.std.proofs.lemmas.Bool.{ne_eqb}
 use Rattle.std.proofs.lemmas.Int.Digits.{digits_of_step, length-digits_of_step, length-digits_of-le}
 use Rattle.jsonb_raw.specs.SortableKey.{significant}
 use Rattle.jsonb_raw.specs.Private.Complements.{complement_byte, complement_bytes}
+use Rattle.jsonb_raw.specs.Private.WrittenBefore.{WritesBefore}
 
 pub count_step : (n : ℕ) → 0 < n → length (digits_of 10 (n / 10)) + 1 ≡ length (digits_of 10 n)
 count_step n h = sym (length-digits_of_step 10 n (omega arith) h)
@@ -28,17 +29,16 @@ digits_pushed negative old n h =
     (sym (map-append suc (digits_of 10 (n / 10)) (n % 10 ∷ [])) ∙ ap (map suc) (sym (digits_of_step 10 n (omega arith) h))))
 
 -- one digit more is written in front of a place
-pub digit_written : (negative : Bool) (n m at : ℕ) (row row' whole : List ℕ) (byte : ℕ) → 0 < n → m ≡ n / 10 → 0 < at → at ≤ length row
-    → byte ≡ complement_byte negative (suc (n % 10)) → row' ≡ set row (at - 1) byte
-    → complement_bytes negative (map suc (digits_of 10 n)) ++ drop at row ≡ whole
-    → complement_bytes negative (map suc (digits_of 10 m)) ++ drop (at - 1) row' ≡ whole
-digit_written negative n m at row row' whole byte some less room within is e h =
+pub digit_written : (negative : Bool) (n m : ℕ) (behind before whole : List ℕ) (byte : ℕ) → 0 < n → m ≡ n / 10
+    → byte ≡ complement_byte negative (suc (n % 10)) → before ≡ byte ∷ behind
+    → complement_bytes negative (map suc (digits_of 10 n)) ++ behind ≡ whole
+    → complement_bytes negative (map suc (digits_of 10 m)) ++ before ≡ whole
+digit_written negative n m behind before whole byte some less is more h =
     let others = complement_bytes negative (map suc (digits_of 10 (n / 10))) in
-    let next : at - 1 + 1 ≡ at = omega arith in
-    ap (λ k. complement_bytes negative (map suc (digits_of 10 k)) ++ drop (at - 1) row') less
-    ∙ ap (λ x. others ++ x) (ap (drop (at - 1)) e ∙ drop-set row (at - 1) byte (omega arith) ∙ ap (λ k. byte ∷ drop k row) next)
-    ∙ sym (append_assoc others (byte ∷ []) (drop at row))
-    ∙ ap (λ x. x ++ drop at row) (ap (λ b. others ++ b ∷ []) is ∙ digits_pushed negative [] n some)
+    ap (λ k. complement_bytes negative (map suc (digits_of 10 k)) ++ before) less
+    ∙ ap (λ xs. others ++ xs) (more ∙ ap (λ b. b ∷ behind) is)
+    ∙ sym (append_assoc others (complement_byte negative (suc (n % 10)) ∷ []) behind)
+    ∙ ap (λ xs. xs ++ behind) (digits_pushed negative [] n some)
     ∙ h
 
 all_zero_behind : (ds : List ℕ) → list_all (λ d. d == 0) (ds ++ 0 ∷ []) ≡ list_all (λ d. d == 0) ds
@@ -106,22 +106,24 @@ pub record DigitsWritten (negative : Bool) (n end : ℕ) (row : List ℕ) (left 
   pub within : at ≤ length now
   pub written : complement_bytes negative (map suc (digits_of 10 left)) ++ drop at now
       ≡ complement_bytes negative (map suc (digits_of 10 n)) ++ drop end row
+  pub len : length now ≡ length row
 
 module _ (negative : Bool) (n end : ℕ) (row : List ℕ) (left at : ℕ) (now : List ℕ) (h : DigitsWritten negative n end row left at now) where
   -- there is room for one digit more
   pub room_left : length (digits_of 10 n) ≤ end → 0 < left → 0 < at
   room_left room some = let count = h.count in let step = count_step left some in omega arith
 
-  pub digit_passed : (others byte : ℕ) → length (digits_of 10 n) ≤ end → 0 < left → others ≡ left / 10
-      → byte ≡ complement_byte negative (suc (left % 10)) → DigitsWritten negative n end row others (at - 1) (set now (at - 1) byte)
-  digit_passed others byte room some is byte_is =
+  pub digit_passed : (others byte before : ℕ) (row' : List ℕ) → length (digits_of 10 n) ≤ end → 0 < left → others ≡ left / 10
+      → byte ≡ complement_byte negative (suc (left % 10)) → before + 1 ≡ at → WritesBefore now at (byte ∷ []) before row'
+      → DigitsWritten negative n end row others before row'
+  digit_passed others byte before row' room some is byte_is place more =
       let count = h.count in
-      let more = room_left room some in
       let step : length (digits_of 10 others) + 1 ≡ length (digits_of 10 left) = ap (λ k. length (digits_of 10 k) + 1) is ∙ count_step left some in
       record {
         count = omega arith;
-        within = omega (arith, h.within, length-set {A = ℕ});
-        written = digit_written negative left others at now _ _ byte some is more h.within byte_is refl h.written;
+        within = omega (arith, h.within, more.1);
+        written = digit_written negative left others _ _ _ byte some is byte_is more.0 h.written;
+        len = more.1 ∙ h.len;
       }
 
   pub all_digits : left ≡ 0 → drop at now ≡ complement_bytes negative (map suc (digits_of 10 n)) ++ drop end row

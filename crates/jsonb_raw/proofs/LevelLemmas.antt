@@ -66,6 +66,10 @@ pub record SomeParts (form : Form) (level : Level) (around : List Level) (Q : Li
   pub left_around : HavePartsLeft form (reverse around) others
   pub fact : Q here others
 
+pub parts_left : (form : Form) (level : Level) (around : List Level) (Q : List Part → List (List Part) → Type 0) (here : List Part) (others : List (List Part))
+    → HasPartsLeft form level here → HavePartsLeft form (reverse around) others → Q here others → SomeParts form level around Q
+parts_left form level around Q here others left outside fact = record { here = here; others = others; left = left; left_around = outside; fact = fact }
+
 pub as_many : (form : Form) (ls : List Level) (ps : List (List Part)) → HavePartsLeft form ls ps → length ls ≡ length ps
 as_many form [] [] h = refl
 as_many form [] (p ∷ ps) h = absurd h

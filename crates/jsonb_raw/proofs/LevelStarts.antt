@@ -1,9 +1,10 @@
 -- Levels of all parts of a container, and the starts of their keys.
-use Rattle.std.proofs.Common.{◌≡◌, ◌==◌, ℕ, true, List, ◌∷◌, length, refl, ap, sym, ◌∙◌, ◌⊎◌, inl, inr, Bor, arith}
+use Rattle.std.proofs.Common.{◌≡◌, ◌==◌, ℕ, true, false, List, ◌∷◌, length, refl, ap, sym, ◌∙◌, ◌⊎◌, inl, inr, Bor, arith}
 use Rattle.std.specs.Int.{w32, to_be_bytes}
 use Rattle.std.proofs.lemmas.Bool.Decides.{nat_tests}
 use Rattle.jsonb_doc.specs.Tree as spec
 use Rattle.jsonb_doc.specs.Tree.{Tree, Trees}
+use Rattle.jsonb_doc.specs.Depth.{deepest}
 use Rattle.jsonb_doc.specs.Order.{rank}
 use Rattle.jsonb_doc.specs.Payload.{Form, number_reader}
 use Rattle.jsonb_doc.specs.Format.{Decodes, IsContent, HeadedBy}
@@ -19,6 +20,7 @@ use Rattle.jsonb_raw.specs.Scalars.{is_array}
 use Rattle.jsonb_raw.specs.declared.level.Level.{Level}
 use Rattle.jsonb_raw.specs.declared.level.Level.TheVariants.{Elements, Pairs}
 use Rattle.jsonb_raw.specs.Private.Levels.{parts, HasPartsLeft, HasAllLeft}
+use Rattle.jsonb_raw.specs.Private.Starts.{is_container}
 use Rattle.jsonb_raw.specs.Private.EqualityParts.{equality_start}
 use Rattle.jsonb_raw.proofs.LevelLemmas.{count_of_trees, count_of_pairs}
 
@@ -54,6 +56,13 @@ pub container_item : (form : Form) (item : Item) (bytes : Bor (List ℕ)) (t : T
     → IsContent (number_reader form) t 5 bytes.now
 container_item form item bytes t (inl e) h = let (ts, is, d) = rw e at h in rw is (array_document (number_reader form) ts bytes.now d.document)
 container_item form item bytes t (inr e) h = let (ps, is, d) = rw e at h in rw is (object_document (number_reader form) ps bytes.now d.document)
+
+-- any other item stands for a tree that has no parts
+pub scalar_item : (form : Form) (item : Item) (t : Tree) → ((bytes : Bor (List ℕ)) → item ≡ Array bytes → ⊥) → ((bytes : Bor (List ℕ)) → item ≡ Object bytes → ⊥)
+    → StandsFor form item t → (is_container t ≡ false) × (deepest t ≡ 0)
+scalar_item form (Array bytes) t array object h = absurd (array bytes refl)
+scalar_item form (Object bytes) t array object h = absurd (object bytes refl)
+scalar_item form _ t array object h = rw h (refl, refl)
 
 pub stored_container : (form : Form) (e : StoredEntry) (t : Tree) → Stores form e t → (kind_number e.kind == 5) ≡ true
     → IsContent (number_reader form) t 5 e.content.now

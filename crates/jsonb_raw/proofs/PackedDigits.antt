@@ -9,7 +9,7 @@ use Rattle.std.proofs.Math.Seq.{take-append-add}
 use Rattle.std.proofs.lemmas.Int.Digits.{length-digits_of-le}
 use Rattle.jsonb_raw.specs.SortableKey.{significant, magnitude_bytes, escaped_byte, text_bytes}
 use Rattle.jsonb_raw.specs.Private.Complements.{complement_byte, complement_bytes}
-use Rattle.jsonb_raw.proofs.DigitSteps.{count_step, digits_pushed, no_digits}
+use Rattle.jsonb_raw.proofs.DigitSteps.{count_step, digit_written, no_digits}
 use Rattle.jsonb_raw.proofs.TextChunks.{text_bytes-append}
 
 -- one byte more, in front
@@ -45,15 +45,10 @@ module _ (negative : Bool) (n left len : ℕ) (bytes : List ℕ) (h : DigitsPack
   digit_packed others len' byte bytes' some is more byte_is bytes_are =
       let counted = h.counted in
       let step : length (digits_of 10 others) + 1 ≡ length (digits_of 10 left) = ap (λ k. length (digits_of 10 k) + 1) is ∙ count_step left some in
-      let rest = complement_bytes negative (map suc (digits_of 10 (left / 10))) in
       record {
         counted = omega arith;
         few = h.few;
-        packed = ap (λ k. complement_bytes negative (map suc (digits_of 10 k)) ++ bytes') is
-            ∙ ap (λ xs. rest ++ xs) (bytes_are ∙ ap (λ b. b ∷ bytes) byte_is)
-            ∙ sym (append_assoc rest (complement_byte negative (suc (left % 10)) ∷ []) bytes)
-            ∙ ap (λ xs. xs ++ bytes) (digits_pushed negative [] left some)
-            ∙ h.packed;
+        packed = digit_written negative left others bytes bytes' _ byte some is byte_is bytes_are h.packed;
       }
 
   pub all_packed : left ≡ 0 → bytes ≡ complement_bytes negative (map suc (digits_of 10 n) ++ 0 ∷ [])

@@ -3,11 +3,14 @@ use Rattle.std.proofs.Common.{◌≡◌, ℕ, zero, suc, ◌<◌, ◌==◌, ◌|
 use Rattle.std.specs.List.{list_any}
 use Rattle.jsonb_doc.specs.Tree.{Tree, null, boolean, number, text, extension, array, object, Trees, no_trees, tree}
 use Rattle.jsonb_doc.specs.Payload.{Form}
-use Rattle.jsonb_doc.specs.Private.Stored.{Stores}
+use Rattle.jsonb_doc.specs.Private.Stored.{HasEntriesLeft, Stores}
 use Rattle.jsonb_doc.specs.Kinds.{kind_number}
+use Rattle.jsonb_doc.specs.declared.entry_iter.EntryIter.{EntryIter}
 use Rattle.jsonb_doc.specs.declared.entry_iter.StoredEntry.{StoredEntry}
 use Rattle.jsonb_raw.specs.Contains.{is_part_of, each_is_matched}
 use Rattle.jsonb_raw.specs.Private.Starts.{is_container, scalars_matched}
+use Rattle.jsonb_raw.proofs.Aside.{Aside, part_holds}
+use Rattle.jsonb_raw.proofs.EntriesLeft.{SomeEntries}
 
 module _ {A : Type 0} (P : A → Type 0) (d : A) where
   -- what holds of each holds of each after a write of one of which it holds
@@ -94,3 +97,13 @@ pub set_length : {A : Type 0} → (xs : List A) (i : ℕ) (y : A) → length (sl
 set_length [] i y = refl
 set_length (x ∷ xs) zero y = refl
 set_length (x ∷ xs) (suc i) y = ap suc (set_length xs i y)
+
+-- an element that is matched leaves the others to match, with the pair that was put aside
+pub matched_left : (form : Form) (it : EntryIter) (Large : Bool → Type 0) (y : Tree) (ys : Trees) (xs : List Tree) (whole : Bool) → HasEntriesLeft form it ys
+    → list_any (is_part_of y) xs ≡ true → (scalars_matched (tree y ys) xs ≡ true) × Aside Large (each_is_matched (tree y ys) xs) whole
+    → SomeEntries form it (λ left. (scalars_matched left xs ≡ true) × Aside Large (each_is_matched left xs) whole)
+matched_left form it Large y ys xs whole left holds fact = record {
+  trees = ys;
+  left = left;
+  fact = (scalars_left y ys xs fact.0, part_holds Large (list_any (is_part_of y) xs) (each_is_matched ys xs) whole holds fact.1);
+}

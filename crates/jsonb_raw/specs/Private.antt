@@ -17,6 +17,7 @@ pub mod SetCounts
 pub mod Marks
 pub mod Starts
 pub mod Complements
+pub mod WrittenBefore
 pub mod PackedBytes
 pub mod Rows
 pub mod NamePositions

@@ -15,11 +15,31 @@ ghost use Rattle.jsonb_doc.specs.View.{number_view, extension_view};
 ghost use Rattle.jsonb_doc.specs.Answer.{IsDecodingError};
 ghost use Rattle.jsonb_raw.specs.Private.Compared.{Decides, IsShorter, IsShortOf, PassesOver};
 
-use crate::compared::Compared;
+use crate::compared::{Compared, is_beyond};
 use jsonb_doc::{
     EntryIter, Error, ExtensionValue, Item, Number, ShortNumber, StoredEntry, array_entries,
     digits_equal, object_entries,
 };
+
+/// Whether two items are equal by value: of one shape, with numbers of one exact value and extensions of the same
+/// fields.
+///
+/// It goes into a pair of parts that is longer than half of all by this loop, and into the others by a call.
+/// `InvalidJsonb` or `UnsupportedNumber` only where an item's bytes don't decode.
+#[cycle(equal)]
+pub(crate) fn items_equal(item: &Item<'_>, other: &Item<'_>) -> Result<bool, Error>
+    ensures equal { (form other_form : Form) (t u : Tree) → StandsFor form item.now t → StandsFor other_form other.now u
+        → IsOkAnd result (λ b. b ≡ is_equal t u) }
+    ensures errors { IfErr result IsDecodingError }
+{
+    let mut left = Compared::AsOf(*item, *other);
+    loop {
+        left = match left {
+            Compared::Known(answer) => return Ok(answer),
+            Compared::AsOf(part, other_part) => parts_equal(&part, &other_part)?,
+        };
+    }
+}
 
 /// Whether two numbers have one exact value.
 fn numbers_equal(number: &Number, other: &Number) -> bool
@@ -33,30 +53,6 @@ fn extensions_equal(value: &ExtensionValue<'_>, other: &ExtensionValue<'_>) -> b
     ensures { result ≡ is_same_extension (extension_view value.now) (extension_view other.now) }
 {
     value == other
-}
-
-/// Whether two items are equal by value: of one shape, with numbers of one exact value and extensions of the same
-/// fields.
-///
-/// It goes into a pair of parts that is longer than half of all by this loop, and into the others by a call.
-/// `InvalidJsonb` or `UnsupportedNumber` only where an item's bytes don't decode.
-#[cycle(equal)]
-pub(crate) fn items_equal(item: &Item<'_>, other: &Item<'_>) -> Result<bool, Error>
-    ensures equal { (form other_form : Form) (t u : Tree) → StandsFor form item.now t → StandsFor other_form other.now u
-        → IsOkAnd result (λ b. b ≡ is_equal t u) }
-    ensures errors { IfErr result IsDecodingError }
-{
-    let mut left = *item;
-    let mut right = *other;
-    loop {
-        match parts_equal(&left, &right)? {
-            Compared::Known(answer) => return Ok(answer),
-            Compared::AsOf(part, other_part) => {
-                left = part;
-                right = other_part;
-            }
-        }
-    }
 }
 
 /// The same of two items, but for a pair of parts of theirs.
@@ -141,7 +137,7 @@ fn entries_equal<'a>(
             return Ok(Compared::Known(false));
         };
         let other = other?;
-        if large.is_none() && entry.is_container() && entry.content.len() > half {
+        if large.is_none() && is_beyond(&entry, half) {
             large = Some((entry, other));
         } else if !stored_equal(&entry, &other, other.short_number())? {
             return Ok(Compared::Known(false));

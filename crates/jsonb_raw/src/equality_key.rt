@@ -18,6 +18,7 @@ ghost use Rattle.jsonb_doc.specs.declared.error.Error.TheVariants.{OutOfMemory};
 use crate::key_bytes::{push_number, push_short_number, push_text};
 use crate::key_kind;
 use crate::level::Level;
+use crate::packed::ROOM;
 use jsonb_doc::{
     Error, ExtensionValue, Item, Number, StoredEntry, push_extension_payload, root_item,
 };
@@ -193,11 +194,12 @@ fn push_item(alloc: Global, out: &mut Vec<u8>, item: &Item<'_>) -> Result<(), Er
     }
 }
 
-/// How many bytes a key is begun with, so that it seldom grows.
+/// How many bytes a key is begun with, so that it seldom grows: also those that stand for a moment behind what is made
+/// in two words.
 fn first_capacity(item: &Item<'_>) -> usize {
     match item {
-        Item::String(text) => text.len().saturating_add(2),
-        Item::Array(bytes) | Item::Object(bytes) => bytes.len(),
+        Item::String(text) => text.len().saturating_add(ROOM + 1),
+        Item::Array(bytes) | Item::Object(bytes) => bytes.len().saturating_add(ROOM),
         _ => 32,
     }
 }
@@ -241,6 +243,6 @@ pub fn push_document_key(alloc: Global, out: &mut Vec<u8>, bytes: &[u8]) -> Resu
     ensures errors { IfErr result (IsDecodingError or OutOfMemory) }
 {
     let root = root_item(bytes)?;
-    out.reserve(bytes.len())?;
+    out.reserve(bytes.len().saturating_add(ROOM))?;
     push_item(alloc, out, &root)
 }

@@ -1,18 +1,17 @@
 //! The sortable key of a document: a walk over its items that writes each behind its depth and its kind.
 
-ghost use Rattle.std.specs.Prelude.{◌≡◌, ◌≤◌, ◌<◌, ◌++◌, ℕ, [], false, length, List, Option, IfOk, IfErr, MatchResult};
+ghost use Rattle.std.specs.Prelude.{◌≡◌, ◌≤◌, ◌<◌, ◌++◌, ℕ, [], length, List, Option, IfOk, IfErr, MatchResult};
 ghost use Rattle.std.specs.Int.{to_be_bytes};
 ghost use Rattle.jsonb_doc.specs.Tree.{Tree};
 ghost use Rattle.jsonb_doc.specs.Payload.{Form, number_reader};
 ghost use Rattle.jsonb_doc.specs.Format.{Decodes, IsContent, container_entry};
 ghost use Rattle.jsonb_doc.specs.Item.{StandsFor};
 ghost use Rattle.jsonb_doc.specs.Private.Stored.{Stores};
-ghost use Rattle.jsonb_raw.specs.SortableKey.{key, item_bytes, text_bytes, number_bytes, depths};
+ghost use Rattle.jsonb_raw.specs.SortableKey.{text_bytes, number_bytes, depths};
 ghost use Rattle.jsonb_raw.specs.Private.PackedBytes.{packed_bytes};
 ghost use Rattle.jsonb_doc.specs.Private.Short.{short_value};
 ghost use Rattle.jsonb_raw.specs.Private.Levels.{IsKeyOf, IsLevelWithin};
-ghost use Rattle.jsonb_raw.specs.Private.Starts.{is_container};
-ghost use Rattle.jsonb_raw.specs.Private.KeyParts.{name_start, AppendsItem, AppendsStart, AppendsKey};
+ghost use Rattle.jsonb_raw.specs.Private.KeyParts.{name_start, AppendsItem, AppendsScalar, AppendsStart, AppendsKey};
 ghost use Rattle.jsonb_raw.specs.Private.KeyWidth.{width_of};
 ghost use Rattle.jsonb_raw.specs.KeyAnswer.{MakesKey, RanksAsTree, IsOutOfMemoryOrTooDeep};
 ghost use Rattle.jsonb_doc.specs.Answer.{IsDecodingError, ◌or◌};
@@ -36,28 +35,35 @@ pub enum DepthWidth {
     TwoBytes,
 }
 
+/// How deep an item lies, and how many bytes a key has for it.
+#[derive(Clone, Copy)]
+struct Depth {
+    value: usize,
+    width: DepthWidth,
+}
+
 /// The bytes of an item behind its depth. `TooDeep` where the width has no bytes for the depth.
 #[inline(always)]
-fn behind_depth(item: Packed, depth: usize, width: DepthWidth) -> Result<Packed, Error>
+fn behind_depth(item: Packed, depth: Depth) -> Result<Packed, Error>
     requires { item.len ≤ 14 }
     ensures placed { MatchResult result
-        (λ p. (packed_bytes p ≡ to_be_bytes (width_of width) depth ++ packed_bytes item)
-        × (depth < depths (width_of width)))
-        (IsOutOfMemoryOrTooDeep depth (depths (width_of width))) }
+        (λ p. (packed_bytes p ≡ to_be_bytes (width_of depth.width) depth.value ++ packed_bytes item)
+        × (depth.value < depths (width_of depth.width)))
+        (IsOutOfMemoryOrTooDeep depth.value (depths (width_of depth.width))) }
     ensures few { IfOk result (λ p. p.len ≤ 16) }
 {
-    match width {
+    match depth.width {
         DepthWidth::OneByte => {
-            if depth > 255 {
+            if depth.value > 255 {
                 return Err(Error::TooDeep);
             }
-            Ok(item.behind(depth as u8))
+            Ok(item.behind(depth.value as u8))
         }
         DepthWidth::TwoBytes => {
-            if depth > 65535 {
+            if depth.value > 65535 {
                 return Err(Error::TooDeep);
             }
-            let [high, low] = (depth as u16).to_be_bytes();
+            let [high, low] = (depth.value as u16).to_be_bytes();
             Ok(item.behind(low).behind(high))
         }
     }
@@ -65,108 +71,83 @@ fn behind_depth(item: Packed, depth: usize, width: DepthWidth) -> Result<Packed,
 
 /// Appends an item behind its depth and its kind.
 #[inline(always)]
-fn push_packed(
-    out: &mut Vec<u8>,
-    depth: usize,
-    kind: u8,
-    content: Packed,
-    width: DepthWidth,
-) -> Result<(), Error>
+fn push_packed(out: &mut Vec<u8>, depth: Depth, kind: u8, content: Packed) -> Result<(), Error>
     requires { content.len ≤ 13 }
-    ensures { AppendsItem (width_of width) depth (item_bytes (width_of width) depth kind (packed_bytes content))
-        out.old.items result out.new.items }
+    ensures { AppendsItem depth kind (packed_bytes content) out.old.items result out.new.items }
 {
-    let item = behind_depth(content.behind(kind), depth, width)?;
+    let item = behind_depth(content.behind(kind), depth)?;
     item.push(out)?;
     Ok(())
 }
 
 /// Appends the depth and the kind of an item.
 #[inline(always)]
-fn push_front(out: &mut Vec<u8>, depth: usize, kind: u8, width: DepthWidth) -> Result<(), Error>
-    ensures { AppendsItem (width_of width) depth (item_bytes (width_of width) depth kind [])
-        out.old.items result out.new.items }
+fn push_front(out: &mut Vec<u8>, depth: Depth, kind: u8) -> Result<(), Error>
+    ensures { AppendsItem depth kind [] out.old.items result out.new.items }
 {
-    let item = behind_depth(Packed::one(kind), depth, width)?;
+    let item = behind_depth(Packed::one(kind), depth)?;
     item.push(out)?;
     Ok(())
 }
 
 /// Appends the key of a text, also of an object's key.
 #[inline(always)]
-fn push_string(out: &mut Vec<u8>, text: &[u8], depth: usize, width: DepthWidth) -> Result<(), Error>
-    ensures { AppendsItem (width_of width) depth (item_bytes (width_of width) depth 5 (text_bytes text.now))
-        out.old.items result out.new.items }
+fn push_string(out: &mut Vec<u8>, text: &[u8], depth: Depth) -> Result<(), Error>
+    ensures { AppendsItem depth 5 (text_bytes text.now) out.old.items result out.new.items }
 {
     if let Some(packed) = pack_text(text) {
-        return push_packed(out, depth, key_kind::STRING, packed, width);
+        return push_packed(out, depth, key_kind::STRING, packed);
     }
-    push_front(out, depth, key_kind::STRING, width)?;
+    push_front(out, depth, key_kind::STRING)?;
     push_unpacked_text(out, text)?;
     Ok(())
 }
 
 /// Appends the key of a number whose digits are stored in at most 64 bits.
 #[inline(always)]
-fn push_short(
-    out: &mut Vec<u8>,
-    number: ShortNumber,
-    depth: usize,
-    width: DepthWidth,
-) -> Result<(), Error>
-    ensures { AppendsItem (width_of width) depth
-        (item_bytes (width_of width) depth 4 (number_bytes (short_value number).whole (short_value number).scale))
+fn push_short(out: &mut Vec<u8>, number: ShortNumber, depth: Depth) -> Result<(), Error>
+    ensures { AppendsItem depth 4 (number_bytes (short_value number).whole (short_value number).scale)
         out.old.items result out.new.items }
 {
     if let Some(packed) = pack_number(number) {
-        return push_packed(out, depth, key_kind::NUMBER, packed, width);
+        return push_packed(out, depth, key_kind::NUMBER, packed);
     }
-    push_front(out, depth, key_kind::NUMBER, width)?;
+    push_front(out, depth, key_kind::NUMBER)?;
     push_unpacked_number(out, number)?;
     Ok(())
 }
 
 /// Appends what stands before the parts of a container, which it hands out.
 #[inline(always)]
-fn push_container<'a>(
-    out: &mut Vec<u8>,
-    bytes: &'a [u8],
-    depth: usize,
-    width: DepthWidth,
-) -> Result<Level<'a>, Error>
+fn push_container<'a>(out: &mut Vec<u8>, bytes: &'a [u8], depth: Depth) -> Result<Level<'a>, Error>
     ensures key { (form : Form) (tree : Tree) → IsContent (number_reader form) tree container_entry bytes.now
-        → AppendsStart form (width_of width) depth tree out.old.items result out.new.items }
+        → AppendsStart form depth tree out.old.items result out.new.items }
     ensures within { IfOk result (λ level. IsLevelWithin (length bytes.now) (Some level)) }
     ensures errors { IfErr result (IsDecodingError or OutOfMemory or TooDeep) }
 {
     let level = Level::of_container(bytes)?;
-    push_front(out, depth, key_kind::of_level(&level), width)?;
+    push_front(out, depth, key_kind::of_level(&level))?;
     Ok(level)
 }
 
 /// Appends the key of an item that is no container.
 #[inline(always)]
-fn push_scalar_item(
-    out: &mut Vec<u8>,
-    item: &Item<'_>,
-    depth: usize,
-    width: DepthWidth,
-) -> Result<(), Error>
-    ensures key { (form : Form) (tree : Tree) → StandsFor form item.now tree → is_container tree ≡ false
-        → AppendsItem (width_of width) depth (key (width_of width) tree depth) out.old.items result out.new.items }
+fn push_scalar_item(out: &mut Vec<u8>, item: &Item<'_>, depth: Depth) -> Result<(), Error>
+    ensures key { (form : Form) (tree : Tree) → StandsFor form item.now tree
+        → AppendsScalar depth tree out.old.items result out.new.items }
     ensures errors { IfErr result (IsDecodingError or OutOfMemory or TooDeep) }
 {
     match item {
-        Item::Null => push_front(out, depth, key_kind::NULL, width)?,
-        Item::Boolean(false) => push_front(out, depth, key_kind::FALSE, width)?,
-        Item::Boolean(true) => push_front(out, depth, key_kind::TRUE, width)?,
+        Item::Null => push_front(out, depth, key_kind::NULL)?,
+        Item::Boolean(false) => push_front(out, depth, key_kind::FALSE)?,
+        Item::Boolean(true) => push_front(out, depth, key_kind::TRUE)?,
         Item::Number(number) => {
-            push_front(out, depth, key_kind::NUMBER, width)?;
+            push_front(out, depth, key_kind::NUMBER)?;
             push_number(out, *number)?;
         }
-        Item::String(text) => push_string(out, text.as_bytes(), depth, width)?,
+        Item::String(text) => push_string(out, text.as_bytes(), depth)?,
         Item::Extension(value) => {
-            push_front(out, depth, key_kind::EXTENSION, width)?;
+            push_front(out, depth, key_kind::EXTENSION)?;
             push_extension_payload(out, value)?;
             out.push(0)?;
         }
@@ -177,58 +158,43 @@ fn push_scalar_item(
 
 /// The same of an entry. It stands apart, so that a walk over the commonest entries has no room for items.
 #[inline(never)]
-fn push_stored_item(
-    out: &mut Vec<u8>,
-    entry: &StoredEntry<'_>,
-    depth: usize,
-    width: DepthWidth,
-) -> Result<(), Error>
-    ensures key { (form : Form) (tree : Tree) → Stores form entry.now tree → is_container tree ≡ false
-        → AppendsItem (width_of width) depth (key (width_of width) tree depth) out.old.items result out.new.items }
+fn push_stored_item(out: &mut Vec<u8>, entry: &StoredEntry<'_>, depth: Depth) -> Result<(), Error>
+    ensures key { (form : Form) (tree : Tree) → Stores form entry.now tree
+        → AppendsScalar depth tree out.old.items result out.new.items }
     ensures errors { IfErr result (IsDecodingError or OutOfMemory or TooDeep) }
 {
-    push_scalar_item(out, &entry.item()?, depth, width)
+    push_scalar_item(out, &entry.item()?, depth)
 }
 
 /// The same. An item is made of an extension value and of a long decimal alone.
 #[inline(always)]
-fn push_scalar(
-    out: &mut Vec<u8>,
-    entry: &StoredEntry<'_>,
-    depth: usize,
-    width: DepthWidth,
-) -> Result<(), Error>
-    ensures key { (form : Form) (tree : Tree) → Stores form entry.now tree → is_container tree ≡ false
-        → AppendsItem (width_of width) depth (key (width_of width) tree depth) out.old.items result out.new.items }
+fn push_scalar(out: &mut Vec<u8>, entry: &StoredEntry<'_>, depth: Depth) -> Result<(), Error>
+    ensures key { (form : Form) (tree : Tree) → Stores form entry.now tree
+        → AppendsScalar depth tree out.old.items result out.new.items }
     ensures errors { IfErr result (IsDecodingError or OutOfMemory or TooDeep) }
 {
     if entry.is_text() {
-        return push_string(out, entry.content, depth, width);
+        return push_string(out, entry.content, depth);
     }
     if let Some(number) = entry.short_number() {
-        return push_short(out, number, depth, width);
+        return push_short(out, number, depth);
     }
     match key_kind::of_literal(entry) {
-        Some(kind) => push_front(out, depth, kind, width),
-        None => push_stored_item(out, entry, depth, width),
+        Some(kind) => push_front(out, depth, kind),
+        None => push_stored_item(out, entry, depth),
     }
 }
 
 /// Appends the key of a part, where it has one, as it stands before the part.
 #[inline(always)]
-fn push_name(
-    out: &mut Vec<u8>,
-    name: Option<&[u8]>,
-    depth: usize,
-    width: DepthWidth,
-) -> Result<(), Error>
-    ensures key { (k : Option (List ℕ)) → IsKeyOf name.entry k
-        → MatchResult result (λ _. out.new.items ≡ out.old.items ++ name_start (width_of width) k depth)
-        (IsOutOfMemoryOrTooDeep depth (depths (width_of width))) }
+fn push_name(out: &mut Vec<u8>, name: Option<&[u8]>, depth: Depth) -> Result<(), Error>
+    ensures key { (k : Option (List ℕ)) → IsKeyOf name.entry k → MatchResult result
+        (λ _. out.new.items ≡ out.old.items ++ name_start (width_of depth.width) k depth.value)
+        (IsOutOfMemoryOrTooDeep depth.value (depths (width_of depth.width))) }
     ensures errors { IfErr result (IsDecodingError or OutOfMemory or TooDeep) }
 {
     match name {
-        Some(name) => push_string(out, name, depth, width),
+        Some(name) => push_string(out, name, depth),
         None => Ok(()),
     }
 }
@@ -244,19 +210,20 @@ fn push_parts(
         → AppendsKey (width_of width) tree out.old.items result out.new.items }
     ensures errors { IfErr result (IsDecodingError or OutOfMemory or TooDeep) }
 {
-    let mut level = push_container(out, bytes, 0, width)?;
+    let mut level = push_container(out, bytes, Depth { value: 0, width })?;
     let mut around = Vec::new(alloc);
     'walk: loop {
         match level.take()? {
             Some((name, part)) => {
-                let depth = around.len() + 1;
-                push_name(out, name, depth, width)?;
+                let value = around.len() + 1;
+                let depth = Depth { value, width };
+                push_name(out, name, depth)?;
                 if part.is_container() {
-                    let inner = push_container(out, part.content, depth, width)?;
+                    let inner = push_container(out, part.content, depth)?;
                     around.push(level)?;
                     level = inner;
                 } else {
-                    push_scalar(out, &part, depth, width)?;
+                    push_scalar(out, &part, depth)?;
                 }
             }
             None => match around.pop() {
@@ -264,23 +231,6 @@ fn push_parts(
                 None => return Ok(()),
             },
         }
-    }
-}
-
-/// Appends the key of an item.
-fn push_item(
-    alloc: Global,
-    out: &mut Vec<u8>,
-    item: &Item<'_>,
-    width: DepthWidth,
-) -> Result<(), Error>
-    ensures key { (form : Form) (tree : Tree) → StandsFor form item.now tree
-        → AppendsKey (width_of width) tree out.old.items result out.new.items }
-    ensures errors { IfErr result (IsDecodingError or OutOfMemory or TooDeep) }
-{
-    match item {
-        Item::Array(bytes) | Item::Object(bytes) => push_parts(alloc, out, bytes, width),
-        scalar => push_scalar_item(out, scalar, 0, width),
     }
 }
 
@@ -297,7 +247,10 @@ pub fn push_document_key(
 {
     let root = root_item(bytes)?;
     out.reserve(bytes.len().saturating_add(ROOM))?;
-    push_item(alloc, out, &root, width)
+    match &root {
+        Item::Array(parts) | Item::Object(parts) => push_parts(alloc, out, parts, width),
+        scalar => push_scalar_item(out, scalar, Depth { value: 0, width }),
+    }
 }
 
 /// The sortable key of a document.

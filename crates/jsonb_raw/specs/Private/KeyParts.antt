@@ -1,13 +1,16 @@
 -- The sortable key of a part of a container, as a walk writes it: its start, and then the keys of its own parts.
-use Rattle.std.specs.Prelude.{◌≡◌, ◌<◌, ℕ, List, [], ◌++◌, Option, Some, None, Result, MatchResult}
+use Rattle.std.specs.Prelude.{◌≡◌, ◌<◌, ℕ, false, List, [], ◌++◌, Option, Some, None, Result, MatchResult}
 use Rattle.std.specs.Int.{Width}
 use Rattle.jsonb_doc.specs.Tree as spec
 use Rattle.jsonb_doc.specs.Tree.{Tree}
 use Rattle.jsonb_doc.specs.declared.error.Error.{Error}
 use Rattle.jsonb_doc.specs.Payload.{Form}
 use Rattle.jsonb_raw.specs.declared.level.Level.{Level}
+use Rattle.jsonb_raw.specs.declared.sortable_key.Depth.{Depth}
 use Rattle.jsonb_raw.specs.KeyAnswer.{GivesKey, IsOutOfMemoryOrTooDeep}
+use Rattle.jsonb_raw.specs.Private.KeyWidth.{width_of}
 use Rattle.jsonb_raw.specs.Private.Levels.{Part, parts, HasPartsLeft}
+use Rattle.jsonb_raw.specs.Private.Starts.{is_container}
 use Rattle.jsonb_raw.specs.SortableKey.{key, item_bytes, text_bytes, depths}
 
 -- what stands before the keys of a tree's parts: of a tree without parts the whole key
@@ -28,13 +31,25 @@ part_start w part d = name_start w part.0 d ++ start w part.1 d
 abbrev pub AppendsKey : Width → Tree → List ℕ → Result (Unit {0}) Error → List ℕ → Type 0
 AppendsKey w tree old r new = GivesKey w tree r (λ _. new ≡ old ++ key w tree 0)
 
--- the bytes of an item at a depth, written behind the bytes `old`; it may lie too deep
-abbrev pub AppendsItem : Width → ℕ → List ℕ → List ℕ → Result (Unit {0}) Error → List ℕ → Type 0
-AppendsItem w d bytes old r new =
-    MatchResult r (λ _. (new ≡ old ++ bytes) × (d < depths w)) (IsOutOfMemoryOrTooDeep d (depths w))
+-- these bytes, written behind the bytes `old` where an item at the depth does not lie too deep
+abbrev pub AppendsBytes : Depth → List ℕ → List ℕ → Result (Unit {0}) Error → List ℕ → Type 0
+AppendsBytes depth bytes old r new =
+    MatchResult r (λ _. (new ≡ old ++ bytes) × (depth.value < depths (width_of depth.width)))
+    (IsOutOfMemoryOrTooDeep depth.value (depths (width_of depth.width)))
 
--- the same of what stands before the parts of a container, which are handed out
-abbrev pub AppendsStart : Form → Width → ℕ → Tree → List ℕ → Result Level Error → List ℕ → Type 0
-AppendsStart form w d t old r new =
-    MatchResult r (λ level. (new ≡ old ++ start w t d) × (d < depths w) × HasPartsLeft form level (parts t))
-    (IsOutOfMemoryOrTooDeep d (depths w))
+-- an item of this kind and content, behind its depth
+abbrev pub AppendsItem : Depth → ℕ → List ℕ → List ℕ → Result (Unit {0}) Error → List ℕ → Type 0
+AppendsItem depth kind content =
+    AppendsBytes depth (item_bytes (width_of depth.width) depth.value kind content)
+
+-- the key of a tree that is no container
+abbrev pub AppendsScalar : Depth → Tree → List ℕ → Result (Unit {0}) Error → List ℕ → Type 0
+AppendsScalar depth t old r new = is_container t ≡ false
+    → AppendsBytes depth (key (width_of depth.width) t depth.value) old r new
+
+-- what stands before the parts of a container, which are handed out
+abbrev pub AppendsStart : Form → Depth → Tree → List ℕ → Result Level Error → List ℕ → Type 0
+AppendsStart form depth t old r new =
+    MatchResult r (λ level. (new ≡ old ++ start (width_of depth.width) t depth.value)
+    × (depth.value < depths (width_of depth.width)) × HasPartsLeft form level (parts t))
+    (IsOutOfMemoryOrTooDeep depth.value (depths (width_of depth.width)))

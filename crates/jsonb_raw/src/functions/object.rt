@@ -73,6 +73,27 @@ impl RawJsonb<'_> {
         pairs_by_set(alloc, row, keys, false)
     }
 
+    /// The keys of the object, in order, each with its value as a document of its own, and `None` where the root is
+    /// no object. PostgreSQL has `jsonb_each`.
+    ///
+    /// # Errors
+    ///
+    /// Those of making documents.
+    ///
+    /// # Cost
+    ///
+    /// Linear in n, each key and value copied. Takes memory.
+    pub fn object_each(&self, alloc: Global) -> Result<Option<Vec<(String, OwnedJsonb)>>, Error>
+        ensures pairs { (form : Form) (t : Tree) → Decodes form (raw_bytes self.now) t
+            → MakesPairs form (object_each t) result }
+        ensures errors { IfErr result (IsDecodingError or OutOfMemory or TooLarge) }
+    {
+        let Some(row) = pair_entries(self.as_bytes())? else {
+            return Ok(None);
+        };
+        Ok(Some(owned_pairs(alloc, row)?))
+    }
+
     /// The keys of the object, in order, as an array, and `None` where the root is no object. PostgreSQL has
     /// `jsonb_object_keys`.
     ///
@@ -94,27 +115,6 @@ impl RawJsonb<'_> {
             return Ok(None);
         };
         Ok(Some(array_of(alloc, &[pairs.keys])?))
-    }
-
-    /// The keys of the object, in order, each with its value as a document of its own, and `None` where the root is
-    /// no object. PostgreSQL has `jsonb_each`.
-    ///
-    /// # Errors
-    ///
-    /// Those of making documents.
-    ///
-    /// # Cost
-    ///
-    /// Linear in n, each key and value copied. Takes memory.
-    pub fn object_each(&self, alloc: Global) -> Result<Option<Vec<(String, OwnedJsonb)>>, Error>
-        ensures pairs { (form : Form) (t : Tree) → Decodes form (raw_bytes self.now) t
-            → MakesPairs form (object_each t) result }
-        ensures errors { IfErr result (IsDecodingError or OutOfMemory or TooLarge) }
-    {
-        let Some(row) = pair_entries(self.as_bytes())? else {
-            return Ok(None);
-        };
-        Ok(Some(owned_pairs(alloc, row)?))
     }
 
     /// The object with one pair more: this key with the root of the other document. Where the key is there, its value

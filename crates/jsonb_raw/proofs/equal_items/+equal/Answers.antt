@@ -5,7 +5,7 @@ use Rattle.jsonb_doc.specs.Equal.{is_equal, are_equal, pairs_are_equal}
 use Rattle.jsonb_doc.specs.Private.Stored.{key_trees}
 use Rattle.jsonb_raw.specs.Private.Compared.{Decides}
 use Rattle.jsonb_raw.proofs.EntriesLeft.{SomeEntries-first, SomeEntries-error, SomeEntries-none}
-use Rattle.jsonb_raw.proofs.Aside.{Aside, IsAnswer, put_aside, part_holds, part_fails, rest_fails, entries_ended, shorter_than}
+use Rattle.jsonb_raw.proofs.Aside.{Aside, IsAnswer, first_falls, decided_along, put_aside, part_holds, part_fails, rest_fails, entries_ended, shorter_than}
 use Rattle.jsonb_raw.proofs.TextTrees.{equal_by_parts}
 use Rattle.jsonb_raw.proofs.equal_items.+equal.Goals as goal
 
@@ -25,8 +25,8 @@ entries_equal-returns-in_err-other-clause-equal t c = λ form other_form ts us d
     SomeEntries-first form _ _ _ _ _ c.in_ok-entry.was c.in-Some.ensures.steps (c.loop-entry.invariant.left form other_form ts us d e)
     (λ first rest left stored fact. SomeEntries-error other_form _ _ _ _ _ c.in_err-other.was c.in-Some-next.ensures.steps fact)
 
-pub entries_equal-loop-entry-preserved-then-entry-half : goal.entries_equal-loop-entry-preserved-then-entry-half
-entries_equal-loop-entry-preserved-then-entry-half t c =
+pub entries_equal-loop-entry-preserved-then-is_beyond : goal.entries_equal-loop-entry-preserved-then-is_beyond
+entries_equal-loop-entry-preserved-then-is_beyond t c =
     let none : c.loop-entry.large ≡ None = search rules in
     let size = rw c.in_ok-entry.was at c.in-Some.ensures.steps.size in
     record {
@@ -126,18 +126,20 @@ entries_equal-returns-clause-equal t c = λ form other_form ts us d e.
 -- ---- items
 
 pub items_equal-returns-in-Known-clause-equal : goal.items_equal-returns-in-Known-clause-equal
-items_equal-returns-in-Known-clause-equal t c = λ form other_form s u h i.
-    let l = c.loop-answer.invariant.left form other_form s u h i in
-    let told = rw c.in-Known.is at (c.in_ok-answer.ensures.equal form other_form l.0 l.1 l.2 l.3) in
-    told ∙ l.4
+items_equal-returns-in-Known-clause-equal t c = λ form other_form s u h i. rw c.in-Known.is at (c.loop-left.invariant.left form other_form s u h i)
 
-pub items_equal-loop-answer-preserved : goal.items_equal-loop-answer-preserved
-items_equal-loop-answer-preserved t c = record {
-  shorter = let size = rw c.in-AsOf.is at c.in_ok-answer.ensures.shorter in omega (arith, size, c.loop-answer.invariant.shorter);
+pub items_equal-returns-in_err-left-in-AsOf-clause-equal : goal.items_equal-returns-in_err-left-in-AsOf-clause-equal
+items_equal-returns-in_err-left-in-AsOf-clause-equal t c = λ form other_form s u h i.
+    let l = rw c.in-AsOf.is at (c.loop-left.invariant.left form other_form s u h i) in
+    absurd (c.in_err-left-in-AsOf.ensures.equal form other_form l.0 l.1 l.2 l.3)
+
+pub items_equal-loop-left-preserved : goal.items_equal-loop-left-preserved
+items_equal-loop-left-preserved t c = record {
+  shorter = let size = rw c.in-AsOf.is at c.loop-left.invariant.shorter in
+      omega (arith, size, first_falls _ _ c.in_ok-left-in-AsOf.ensures.shorter);
   left = λ form other_form s u h i.
-      let l = c.loop-answer.invariant.left form other_form s u h i in
-      let m = rw c.in-AsOf.is at (c.in_ok-answer.ensures.equal form other_form l.0 l.1 l.2 l.3) in
-      (m.0, m.1, m.2, m.3, m.4 ∙ l.4);
+      decided_along is_equal form other_form _ _ _ _ (rw c.in-AsOf.is at (c.loop-left.invariant.left form other_form s u h i))
+      (c.in_ok-left-in-AsOf.ensures.equal form other_form);
 }
 
 pub objects_equal-returns-in_err-found-clause-equal : goal.objects_equal-returns-in_err-found-clause-equal

@@ -1,12 +1,13 @@
-use Rattle.std.proofs.Common.{◌≡◌, ◌≤◌, ◌+◌, ◌*◌, length}
+use Rattle.std.proofs.Common.{◌≤◌, ◌+◌, ◌*◌, length}
 use Rattle.std.specs.Prelude.{IfSome}
 use Rattle.jsonb_doc.specs.Tree.{Tree, Trees}
 use Rattle.jsonb_doc.specs.Equal.{is_equal, are_equal}
 use Rattle.jsonb_doc.specs.Payload.{Form}
 use Rattle.jsonb_doc.specs.Item.{StandsFor, item_size}
 use Rattle.jsonb_doc.specs.Private.Stored.{HasEntriesLeft, entries_room}
+use Rattle.jsonb_raw.specs.Private.Compared.{Decides}
 use Rattle.jsonb_raw.proofs.EntriesLeft.{SomeEntries}
-use Rattle.jsonb_raw.proofs.Aside.{Aside, IsAnswer}
+use Rattle.jsonb_raw.proofs.Aside.{Aside, IsAnswer, first_left}
 use Rattle.jsonb_raw.proofs.equal_items.+equal.Given as goal
 
 abbrev pub decreases-items_equal : goal.decreases-items_equal
@@ -28,15 +29,15 @@ abbrev pub decreases-stored_items_equal : goal.decreases-stored_items_equal
 decreases-stored_items_equal l = 8 * length l.entry.now.content.now + 5
 
 -- the parts that are left decide the whole
-abbrev pub invariant-items_equal-loop-answer : goal.invariant-items_equal-loop-answer
-invariant-items_equal-loop-answer l = record {
-  shorter : item_size l.left ≤ item_size l.fn.item;
+abbrev pub invariant-items_equal-loop-left : goal.invariant-items_equal-loop-left
+invariant-items_equal-loop-left l = record {
+  shorter : first_left l.left ≤ item_size l.fn.item + 1;
   left : (form other_form : Form) (t u : Tree) → StandsFor form l.fn.item t → StandsFor other_form l.fn.other u
-      → (x : Tree) × (y : Tree) × StandsFor form l.left x × StandsFor other_form l.right y × (is_equal x y ≡ is_equal t u);
+      → Decides is_equal form other_form l.left (is_equal t u);
 }
 
-abbrev pub decreases-items_equal-loop-answer : goal.decreases-items_equal-loop-answer
-decreases-items_equal-loop-answer l = item_size l.left
+abbrev pub decreases-items_equal-loop-left : goal.decreases-items_equal-loop-left
+decreases-items_equal-loop-left l = first_left l.left
 
 -- what is left of both decides what all decides, with the pair that was put aside
 abbrev pub invariant-entries_equal-loop-entry : goal.invariant-entries_equal-loop-entry

@@ -1,20 +1,15 @@
 use Rattle.std.proofs.Common.{[], ◌∷◌, arith}
 use Rattle.std.proofs.lemmas.Result.{err_from_is_err_and}
 use Rattle.jsonb_raw.specs.Private.Levels.{parts}
-use Rattle.jsonb_raw.proofs.LevelLemmas.{pushed_around, popped_around, SomeParts-first, SomeParts-none, SomeParts-error, falls_within, falls_beside, falls_done}
+use Rattle.jsonb_raw.proofs.LevelLemmas.{parts_left, pushed_around, popped_around, SomeParts-first, SomeParts-none, SomeParts-error, falls_within, falls_beside, falls_done}
 use Rattle.jsonb_raw.proofs.EqualityWalk.{walk_begun, part_begun, part_done, all_written}
 use Rattle.jsonb_raw.proofs.equality_key.push_parts.Goals as goal
 
 pub walk-init : goal.walk-init
 walk-init c = record {
   left = λ form tree front found started.
-      record {
-        here = parts tree;
-        others = [];
-        left = found;
-        left_around = rw c.new-around.ensures.items tt;
-        fact = walk_begun tree front _ started;
-      };
+      parts_left form _ _ _ (parts tree) [] found (rw c.new-around.ensures.items tt)
+      (walk_begun tree front _ started);
 }
 
 pub walk-smaller-in-Some-2 : goal.walk-smaller-in-Some-2
@@ -28,13 +23,8 @@ walk-preserved-in-Some-2 c = record {
       SomeParts-first form _ _ _ _ _ _ (λ ps h. rw c.in-Some.is at (c.in_ok-key.ensures.takes form ps h)) (c.walk.invariant.left form tree front found started)
       (λ part rest others keyed is left around fact.
       let begun = rw c.in-Some-2.is at (c.in_ok-inner-in-Some.ensures.key form part keyed is) in
-      record {
-        here = parts part.1;
-        others = rest ∷ others;
-        left = begun.1;
-        left_around = pushed_around form _ _ _ rest others c.in_ok-push-in-Some.ensures.items left around;
-        fact = part_begun part rest others _ _ _ fact begun.0;
-      });
+      parts_left form _ _ _ (parts part.1) (rest ∷ others) begun.1 (pushed_around form _ _ _ rest others c.in_ok-push-in-Some.ensures.items left around)
+      (part_begun part rest others _ _ _ fact begun.0));
 }
 
 pub walk-smaller-in_default : goal.walk-smaller-in_default
@@ -46,13 +36,8 @@ walk-preserved-in_default c = record {
       SomeParts-first form _ _ _ _ _ _ (λ ps h. rw c.in-Some.is at (c.in_ok-key.ensures.takes form ps h)) (c.walk.invariant.left form tree front found started)
       (λ part rest others keyed is left around fact.
       let begun = rw c.in_default.is at (c.in_ok-inner-in-Some.ensures.key form part keyed is) in
-      record {
-        here = rest;
-        others = others;
-        left = left;
-        left_around = around;
-        fact = part_done part rest others _ _ _ begun.1 fact begun.0;
-      });
+      parts_left form _ _ _ rest others left around
+      (part_done part rest others _ _ _ begun.1 fact begun.0));
 }
 
 pub walk-smaller : goal.walk-smaller
@@ -64,13 +49,8 @@ walk-preserved c = record {
       SomeParts-none form _ _ _ _ (λ ps h. rw c.in-None.is at (c.in_ok-key.ensures.takes form ps h)) (c.walk.invariant.left form tree front found started)
       (λ others around fact.
       popped_around form _ _ _ others c.in-Some-pop.ensures.items around
-      (λ here more same left outside. record {
-        here = here;
-        others = more;
-        left = left;
-        left_around = outside;
-        fact = rw same at fact;
-      }));
+      (λ here more same left outside. parts_left form _ _ _ here more left outside
+      (rw same at fact)));
 }
 
 pub returns-in_err-key-clause-key : goal.returns-in_err-key-clause-key

@@ -1,19 +1,7 @@
-use Rattle.std.proofs.Common.{◌≡◌, ◌≤◌, ◌+◌, ◌-◌, ◌∷◌, [], length, ap, ap₂, ◌∙◌, arith}
-use Rattle.std.specs.Int.Digits.{digits_of}
+use Rattle.std.proofs.Common.{◌+◌, ◌-◌, ◌∷◌, [], ap, ap₂, ◌∙◌, arith}
 use Rattle.jsonb_raw.specs.Private.PackedBytes.{packed_bytes}
-use Rattle.jsonb_raw.proofs.DigitSteps.{count_short}
 use Rattle.jsonb_raw.proofs.PackedDigits.{magnitude_packed}
 use Rattle.jsonb_raw.proofs.key_bytes.pack_magnitude.Goals as goal
-
-pub overflow_add-count : goal.overflow_add-count
-overflow_add-count c =
-    let few : length (digits_of 10 c.args.n) ≤ 20 = count_short c.args.n (omega arith) in
-    omega (arith, few, c.short_without_zeros-shorter.ensures.zeros, c.pack_digits-digits.ensures.len)
-
-pub overflow_add-count-2 : goal.overflow_add-count-2
-overflow_add-count-2 c =
-    let few : length (digits_of 10 c.args.n) ≤ 20 = count_short c.args.n (omega arith) in
-    omega (arith, few, c.short_without_zeros-shorter.ensures.zeros, c.pack_digits-digits.ensures.len)
 
 pub returns-clause-bytes : goal.returns-clause-bytes
 returns-clause-bytes c =

@@ -1,25 +1,9 @@
-use Rattle.std.proofs.Common.{arith, ap, sym, ◌∙◌, ◌≡◌, ◌≤◌, ◌+◌, ◌-◌, ◌++◌, ◌∷◌, [], length, map, suc, append_assoc, refl}
+use Rattle.std.proofs.Common.{arith, ap, sym, ◌∙◌, ◌≡◌, ◌+◌, ◌-◌, ◌++◌, ◌∷◌, [], length, map, suc, append_assoc, refl}
 use Rattle.std.specs.Int.Digits.{digits_of}
-use Rattle.jsonb_raw.proofs.DigitSteps.{count_few}
 use Rattle.jsonb_raw.proofs.PushedNumbers.{magnitude_steps, row_from}
 use Rattle.jsonb_raw.specs.SortableKey.{significant}
 use Rattle.jsonb_raw.specs.Private.Complements.{complement_bytes}
 use Rattle.jsonb_raw.proofs.key_bytes.push_magnitude.Goals as goal
-
-pub write_digits-first-requires-clause-room : goal.write_digits-first-requires-clause-room
-write_digits-first-requires-clause-room c =
-    let few : length (digits_of 10 c.args.n) ≤ 39 = count_few c.args.n (omega arith) in
-    omega (arith, few, c.without_zeros-shorter.ensures.zeros)
-
-pub overflow_add-count : goal.overflow_add-count
-overflow_add-count c =
-    let few : length (digits_of 10 c.args.n) ≤ 39 = count_few c.args.n (omega arith) in
-    omega (arith, few, c.without_zeros-shorter.ensures.zeros, c.write_digits-first.ensures.first)
-
-pub overflow_add-count-2 : goal.overflow_add-count-2
-overflow_add-count-2 c =
-    let few : length (digits_of 10 c.args.n) ≤ 39 = count_few c.args.n (omega arith) in
-    omega (arith, few, c.without_zeros-shorter.ensures.zeros, c.write_digits-first.ensures.first)
 
 pub returns : goal.returns
 returns c =
@@ -27,8 +11,8 @@ returns c =
     let exponent : 39 - c.write_digits-first.result + c.without_zeros-shorter.result.1 + 1000 - c.from.result ≡ length
     (digits_of 10 c.args.n) + 1000 - c.args.scale =
     omega (arith, c.write_digits-first.ensures.first, c.without_zeros-shorter.ensures.zeros, c.from.ensures) in
-    let written = rw c.without_zeros-shorter.ensures.digits at c.write_digits-first.ensures.written in
-    let row = row_from c.write_digits-first.result c.write_digits-first.new.row digits c.spell-row.result written c.write_digits-first.ensures.len in
+    let written = rw c.without_zeros-shorter.ensures.digits at c.write_digits-first.ensures.row.0 in
+    let row = row_from c.write_digits-first.result c.write_digits-first.new.row digits c.spell-row.result written c.write_digits-first.ensures.row.1 in
     magnitude_steps c.args.negative c.args.out.now.items c.push_exponent.new.out.items
     (c.push_exponent.new.out.items ++ digits) c.extend_from_slice.new.self.items
     c.args.n c.args.scale _ c.spell-row.result exponent c.in_ok-push_exponent.ensures refl c.spell-row.ensures

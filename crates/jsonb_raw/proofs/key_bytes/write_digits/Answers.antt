@@ -1,23 +1,24 @@
-use Rattle.std.proofs.Common.{arith, refl, ap, ◌∙◌, length}
+use Rattle.std.proofs.Common.{arith, refl, ap, ◌∙◌}
 use Rattle.jsonb_raw.specs.Private.Complements.{complement_byte}
-use Rattle.jsonb_raw.proofs.DigitSteps.{room_left, digit_passed, all_digits, no_digits}
+use Rattle.jsonb_raw.proofs.DigitSteps.{room_left, digit_passed}
 use Rattle.jsonb_raw.proofs.key_bytes.write_digits.Goals as goal
 
 pub loop-left-init : goal.loop-left-init
-loop-left-init c = record { count = refl; within = c.requires.within; written = refl }
+loop-left-init c = record { count = refl; within = c.requires.within; written = refl; len = refl }
 
-pub overflow_sub-at : goal.overflow_sub-at
-overflow_sub-at c = omega (arith, room_left _ _ _ _ _ _ _ c.loop-left.invariant c.requires.room (omega arith))
-
-pub bounds-row-at : goal.bounds-row-at
-bounds-row-at c = omega (arith, room_left _ _ _ _ _ _ _ c.loop-left.invariant c.requires.room (omega arith), c.loop-left.invariant.within)
+pub write_before-at-requires-clause-some : goal.write_before-at-requires-clause-some
+write_before-at-requires-clause-some c = room_left _ _ _ _ _ _ _ c.loop-left.invariant c.requires.room (omega arith)
 
 pub loop-left-preserved : goal.loop-left-preserved
 loop-left-preserved c =
-    digit_passed _ _ _ _ _ _ _ c.loop-left.invariant c.split_last-others.result.0 _ c.requires.room (omega arith) c.split_last-others.ensures.others (c.spell.ensures ∙ ap (complement_byte c.args.negative) (omega (arith, c.split_last-others.ensures.last)))
+    digit_passed _ _ _ _ _ _ _ c.loop-left.invariant c.split_last-others.result.0 _ _ _ c.requires.room (omega arith) c.split_last-others.ensures.others
+    (c.spell.ensures ∙ ap (complement_byte c.args.negative) (omega (arith, c.split_last-others.ensures.last))) c.write_before-at.ensures.place c.write_before-at.ensures.row
+
+pub write_short_digits-requires-clause-room : goal.write_short_digits-requires-clause-room
+write_short_digits-requires-clause-room c = omega (arith, c.loop-left.invariant.count, c.requires.room)
 
 pub returns-clause-first : goal.returns-clause-first
-returns-clause-first c = let none = no_digits c.loop-left.left (omega arith) in omega (arith, ap length none, c.loop-left.invariant.count)
+returns-clause-first c = omega (arith, c.write_short_digits.ensures.first, c.loop-left.invariant.count)
 
-pub returns-clause-written : goal.returns-clause-written
-returns-clause-written c = all_digits _ _ _ _ _ _ _ c.loop-left.invariant (omega arith)
+pub returns-clause-row : goal.returns-clause-row
+returns-clause-row c = (c.write_short_digits.ensures.row.0 ∙ c.loop-left.invariant.written, c.write_short_digits.ensures.row.1 ∙ c.loop-left.invariant.len)

@@ -4,20 +4,18 @@ use Rattle.jsonb_raw.proofs.DigitSteps.{room_left, digit_passed, all_digits, no_
 use Rattle.jsonb_raw.proofs.key_bytes.write_short_digits.Goals as goal
 
 pub loop-left-init : goal.loop-left-init
-loop-left-init c = record { count = refl; within = c.requires.within; written = refl }
+loop-left-init c = record { count = refl; within = c.requires.within; written = refl; len = refl }
 
-pub overflow_sub-first : goal.overflow_sub-first
-overflow_sub-first c = omega (arith, room_left _ _ _ _ _ _ _ c.loop-left.invariant c.requires.room (omega arith))
-
-pub bounds-row-first : goal.bounds-row-first
-bounds-row-first c = omega (arith, room_left _ _ _ _ _ _ _ c.loop-left.invariant c.requires.room (omega arith), c.loop-left.invariant.within)
+pub write_before-first-requires-clause-some : goal.write_before-first-requires-clause-some
+write_before-first-requires-clause-some c = room_left _ _ _ _ _ _ _ c.loop-left.invariant c.requires.room (omega arith)
 
 pub loop-left-preserved : goal.loop-left-preserved
 loop-left-preserved c =
-    digit_passed _ _ _ _ _ _ _ c.loop-left.invariant _ _ c.requires.room (omega arith) refl (c.spell.ensures ∙ ap (complement_byte c.args.negative) (omega arith))
+    digit_passed _ _ _ _ _ _ _ c.loop-left.invariant _ _ _ _ c.requires.room (omega arith) refl
+    (c.spell.ensures ∙ ap (complement_byte c.args.negative) (omega arith)) c.write_before-first.ensures.place c.write_before-first.ensures.row
 
 pub returns-clause-first : goal.returns-clause-first
 returns-clause-first c = let none = no_digits c.loop-left.left (omega arith) in omega (arith, ap length none, c.loop-left.invariant.count)
 
-pub returns-clause-written : goal.returns-clause-written
-returns-clause-written c = all_digits _ _ _ _ _ _ _ c.loop-left.invariant (omega arith)
+pub returns-clause-row : goal.returns-clause-row
+returns-clause-row c = (all_digits _ _ _ _ _ _ _ c.loop-left.invariant (omega arith), c.loop-left.invariant.len)

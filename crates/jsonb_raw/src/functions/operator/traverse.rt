@@ -1,6 +1,6 @@
 //! A closure asked of the texts of a document.
 
-ghost use Rattle.std.specs.Prelude.{◌≡◌, ◌<◌, length, IsOkAnd, IfOk, IfSome, IfErr};
+ghost use Rattle.std.specs.Prelude.{◌≡◌, length, None, IsOkAnd, IfErr};
 ghost use Rattle.jsonb_doc.specs.Tree.{Tree, Trees, Pairs, array, object};
 ghost use Rattle.jsonb_doc.specs.Payload.{Form};
 ghost use Rattle.jsonb_doc.specs.Format.{Decodes};
@@ -8,9 +8,10 @@ ghost use Rattle.jsonb_doc.specs.Item.{StandsFor, item_size};
 ghost use Rattle.jsonb_doc.specs.Private.Stored.{Stores};
 ghost use Rattle.jsonb_doc.specs.Answer.{IsDecodingError};
 ghost use Rattle.jsonb_raw.specs.Documents.{raw_bytes};
-ghost use Rattle.jsonb_raw.specs.Texts.{texts, texts_of_trees, texts_of_pairs, Tells};
-ghost use Rattle.jsonb_raw.specs.Private.LargeTexts.{LeavesTexts};
+ghost use Rattle.jsonb_raw.specs.Texts.{texts, Tells};
+ghost use Rattle.jsonb_raw.specs.Private.LargeTexts.{LeavesTexts, LeavesLess, TellsBut};
 
+use crate::compared::is_beyond;
 use crate::raw::RawJsonb;
 use jsonb_doc::{Error, Item, StoredEntry, array_entries, object_entries, root_item};
 
@@ -47,6 +48,20 @@ struct Told<'a> {
     large: Option<Item<'a>>,
 }
 
+impl<'a> Told<'a> {
+    /// No container is left.
+    #[inline(always)]
+    fn of(answer: bool) -> Told<'a>
+        ensures answer { result.answer ≡ answer }
+        ensures all { result.large ≡ None }
+    {
+        Told {
+            answer,
+            large: None,
+        }
+    }
+}
+
 /// Whether `func` answers true for a text of the item.
 ///
 /// It goes into a part that is longer than half of all by this loop, and into the others by a call. So calls nest no
@@ -77,20 +92,13 @@ fn part_tells<'a, F: Fn(&[u8]) -> bool>(item: &Item<'a>, func: &F) -> Result<Tol
     requires { F.IsAlwaysCallable func.now }
     ensures told { (form : Form) (tree : Tree) → StandsFor form item.now tree
         → IsOkAnd result (λ told. LeavesTexts F.Fn func.now form (texts tree) told.answer told.large) }
-    ensures size { IfOk result (λ told. IfSome told.large (λ large. item_size large < item_size item.now)) }
-    ensures errors { IfErr result IsDecodingError }
+    ensures less { LeavesLess (item_size item.now) result }
 {
     match item {
-        Item::String(text) => Ok(Told {
-            answer: func(text.as_bytes()),
-            large: None,
-        }),
+        Item::String(text) => Ok(Told::of(func(text.as_bytes()))),
         Item::Array(bytes) => array_tells(bytes, func),
         Item::Object(bytes) => object_tells(bytes, func),
-        _ => Ok(Told {
-            answer: false,
-            large: None,
-        }),
+        _ => Ok(Told::of(false)),
     }
 }
 
@@ -115,23 +123,16 @@ fn entry_tells<F: Fn(&[u8]) -> bool>(entry: &StoredEntry<'_>, func: &F) -> Resul
 #[cycle(texts)]
 fn array_tells<'a, F: Fn(&[u8]) -> bool>(bytes: &'a [u8], func: &F) -> Result<Told<'a>, Error>
     requires { F.IsAlwaysCallable func.now }
-    ensures told { (form : Form) (ts : Trees) → Decodes form bytes.now (array ts)
-        → IsOkAnd result (λ told. LeavesTexts F.Fn func.now form (texts_of_trees ts) told.answer told.large) }
-    ensures size { IfOk result (λ told. IfSome told.large (λ item. item_size item < length bytes.now)) }
-    ensures errors { IfErr result IsDecodingError }
+    ensures told { (form : Form) (ts : Trees) → TellsBut F.Fn func.now form (array ts) bytes.now result }
+    ensures less { LeavesLess (length bytes.now) result }
 {
-    let found = array_entries(bytes)?;
     let mut large = None;
-    for entry in found {
+    for entry in array_entries(bytes)? {
         let entry = entry?;
-        if large.is_none() && entry.is_container() && entry.content.len() > bytes.len() / 2 {
-            let item = entry.item()?;
-            large = Some(item);
+        if large.is_none() && is_beyond(&entry, bytes.len() / 2) {
+            large = Some(entry.item()?);
         } else if entry_tells(&entry, func)? {
-            return Ok(Told {
-                answer: true,
-                large: None,
-            });
+            return Ok(Told::of(true));
         }
     }
     Ok(Told {
@@ -144,29 +145,19 @@ fn array_tells<'a, F: Fn(&[u8]) -> bool>(bytes: &'a [u8], func: &F) -> Result<To
 #[cycle(texts)]
 fn object_tells<'a, F: Fn(&[u8]) -> bool>(bytes: &'a [u8], func: &F) -> Result<Told<'a>, Error>
     requires { F.IsAlwaysCallable func.now }
-    ensures told { (form : Form) (ps : Pairs) → Decodes form bytes.now (object ps)
-        → IsOkAnd result (λ told. LeavesTexts F.Fn func.now form (texts_of_pairs ps) told.answer told.large) }
-    ensures size { IfOk result (λ told. IfSome told.large (λ item. item_size item < length bytes.now)) }
-    ensures errors { IfErr result IsDecodingError }
+    ensures told { (form : Form) (ps : Pairs) → TellsBut F.Fn func.now form (object ps) bytes.now result }
+    ensures less { LeavesLess (length bytes.now) result }
 {
-    let found = object_entries(bytes)?;
     let mut large = None;
-    for pair in found {
+    for pair in object_entries(bytes)? {
         let (key, value) = pair?;
         if func(key) {
-            return Ok(Told {
-                answer: true,
-                large: None,
-            });
+            return Ok(Told::of(true));
         }
-        if large.is_none() && value.is_container() && value.content.len() > bytes.len() / 2 {
-            let item = value.item()?;
-            large = Some(item);
+        if large.is_none() && is_beyond(&value, bytes.len() / 2) {
+            large = Some(value.item()?);
         } else if entry_tells(&value, func)? {
-            return Ok(Told {
-                answer: true,
-                large: None,
-            });
+            return Ok(Told::of(true));
         }
     }
     Ok(Told {

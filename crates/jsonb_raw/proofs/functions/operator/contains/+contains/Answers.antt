@@ -13,27 +13,29 @@ use Rattle.jsonb_raw.specs.Private.Compared.{matches}
 use Rattle.jsonb_raw.proofs.ContainsLaws.{matched_refl}
 use Rattle.jsonb_raw.proofs.EntriesLeft.{SomeEntries-first, SomeEntries-error, SomeEntries-none, SomePairEntries-first, SomePairEntries-error, SomePairEntries-none}
 use Rattle.jsonb_raw.proofs.EntryEquals.{same_tree}
-use Rattle.jsonb_raw.proofs.Aside.{IsAnswer, IsItemAnswer, none_aside, put_aside, part_holds, part_fails, whole_fails, aside_along, IsOneAnswer, put_one_aside, one_holds, one_fails}
+use Rattle.jsonb_raw.proofs.Aside.{IsAnswer, IsItemAnswer, both_fall, decided_along, none_aside, put_aside, part_holds, part_fails, whole_fails, aside_along, IsOneAnswer, put_one_aside, one_holds, one_fails}
 use Rattle.jsonb_raw.proofs.MatchLemmas.{unmatched_key, matched_pair, no_entry_found, entry_found, scalar_match, matches_if_equal, no_object}
-use Rattle.jsonb_raw.proofs.StartLemmas.{scalar_told, scalar_found, scalars_left, scalars_decide}
+use Rattle.jsonb_raw.proofs.StartLemmas.{scalar_told, scalar_found, scalars_left, scalars_decide, matched_left}
 use Rattle.jsonb_raw.proofs.functions.operator.contains.+contains.Goals as goal
 use Rattle.jsonb_raw.proofs.functions.operator.contains.+contains.Goals.{parts_match-in_default-via-in-Array+in_default, parts_match-in_default-via-in-Object+in_default, parts_match-in_default-via-in_default}
 
 -- ---- items
 
 pub item_matches-returns-in-Known-clause-answer : goal.item_matches-returns-in-Known-clause-answer
-item_matches-returns-in-Known-clause-answer t c = λ form other_form x y h i.
-    let l = c.loop-answer.invariant.left form other_form x y h i in
-    let told = rw c.in-Known.is at (c.in_ok-answer.ensures.answer form other_form l.0 l.1 l.2 l.3) in
-    told ∙ l.4
+item_matches-returns-in-Known-clause-answer t c = λ form other_form x y h i. rw c.in-Known.is at (c.loop-left.invariant.left form other_form x y h i)
 
-pub item_matches-loop-answer-preserved : goal.item_matches-loop-answer-preserved
-item_matches-loop-answer-preserved t c = record {
-  shorter = let size = rw c.in-AsOf.is at c.in_ok-answer.ensures.within in omega (arith, size.0, size.1, c.loop-answer.invariant.shorter);
+pub item_matches-returns-in_err-left-in-AsOf-clause-answer : goal.item_matches-returns-in_err-left-in-AsOf-clause-answer
+item_matches-returns-in_err-left-in-AsOf-clause-answer t c = λ form other_form x y h i.
+    let l = rw c.in-AsOf.is at (c.loop-left.invariant.left form other_form x y h i) in
+    absurd (c.in_err-left-in-AsOf.ensures.answer form other_form l.0 l.1 l.2 l.3)
+
+pub item_matches-loop-left-preserved : goal.item_matches-loop-left-preserved
+item_matches-loop-left-preserved t c = record {
+  shorter = let size = rw c.in-AsOf.is at c.loop-left.invariant.shorter in
+      omega (arith, size, both_fall _ _ _ c.in_ok-left-in-AsOf.ensures.within);
   left = λ form other_form x y h i.
-      let l = c.loop-answer.invariant.left form other_form x y h i in
-      let m = rw c.in-AsOf.is at (c.in_ok-answer.ensures.answer form other_form l.0 l.1 l.2 l.3) in
-      (m.0, m.1, m.2, m.3, m.4 ∙ l.4);
+      decided_along matches form other_form _ _ _ _ (rw c.in-AsOf.is at (c.loop-left.invariant.left form other_form x y h i))
+      (c.in_ok-left-in-AsOf.ensures.answer form other_form);
 }
 
 pub parts_match-returns-in-Array-Array-clause-answer : goal.parts_match-returns-in-Array-Array-clause-answer
@@ -103,16 +105,7 @@ array_contains-loop-wanted-preserved-in-Known-true t c = record {
       SomeEntries-first other_form _ _ _ _ _ c.in_ok-wanted.was c.in-Some.ensures.steps (c.loop-wanted.invariant.left form other_form xs ys d e)
       (λ first rest left stored fact.
       let told = rw c.in-Known-true.is at (c.in_ok-container_match.ensures.answer form other_form xs first (c.in_ok-all.ensures.decodes form xs d) stored) in
-      let holds : list_any (is_part_of first) (elements xs) ≡ true = sym told ∙ c.in-Known-true.field-0-test in
-      record {
-        trees = rest;
-        left = left;
-        fact = (
-          scalars_left first rest (elements xs) fact.0,
-          part_holds _ (list_any (is_part_of first) (elements xs)) (each_is_matched rest (elements xs))
-              (each_is_matched ys (elements xs)) holds fact.1,
-        );
-      });
+      matched_left other_form _ _ first rest (elements xs) (each_is_matched ys (elements xs)) left (sym told ∙ c.in-Known-true.field-0-test) fact);
 }
 
 pub array_contains-returns-in-Known-false-clause-answer : goal.array_contains-returns-in-Known-false-clause-answer
@@ -182,17 +175,8 @@ array_contains-loop-wanted-preserved t c = record {
       SomeEntries-first other_form _ _ _ _ _ c.in_ok-wanted.was c.in-Some.ensures.steps (c.loop-wanted.invariant.left form other_form xs ys d e)
       (λ first rest left stored fact.
       let m = rw c.in-AsOf.is at (c.in_ok-container_match.ensures.answer form other_form xs first (c.in_ok-all.ensures.decodes form xs d) stored) in
-      let holds : list_any (is_part_of first) (elements xs) ≡ true = sym m.4
-      ∙ sym (c.in_ok-item_matches-in-AsOf.ensures.answer form other_form m.0 m.1 m.2 m.3) ∙ c.if-not-branch-2.false in
-      record {
-        trees = rest;
-        left = left;
-        fact = (
-          scalars_left first rest (elements xs) fact.0,
-          part_holds _ (list_any (is_part_of first) (elements xs)) (each_is_matched rest (elements xs))
-              (each_is_matched ys (elements xs)) holds fact.1,
-        );
-      });
+      matched_left other_form _ _ first rest (elements xs) (each_is_matched ys (elements xs)) left
+      (sym m.4 ∙ sym (c.in_ok-item_matches-in-AsOf.ensures.answer form other_form m.0 m.1 m.2 m.3) ∙ c.if-not-branch-2.false) fact);
 }
 
 pub array_contains-returns-in-Some-large-clause-answer : goal.array_contains-returns-in-Some-large-clause-answer
@@ -216,15 +200,7 @@ array_contains-loop-wanted-preserved-then-not-is_container t c = record {
       SomeEntries-first other_form _ _ _ _ _ c.in_ok-wanted.was c.in-Some.ensures.steps (c.loop-wanted.invariant.left form other_form xs ys d e)
       (λ first rest left stored fact.
       let scalar = scalar_told other_form _ first stored (sym c.is_container.ensures ∙ c.if-not-is_container.true) in
-      record {
-        trees = rest;
-        left = left;
-        fact = (
-          scalars_left first rest (elements xs) fact.0,
-          part_holds _ (list_any (is_part_of first) (elements xs)) (each_is_matched rest (elements xs))
-              (each_is_matched ys (elements xs)) (scalar_found first rest (elements xs) fact.0 scalar) fact.1,
-        );
-      });
+      matched_left other_form _ _ first rest (elements xs) (each_is_matched ys (elements xs)) left (scalar_found first rest (elements xs) fact.0 scalar) fact);
 }
 
 pub array_contains-returns-in_err-entries-clause-answer : goal.array_contains-returns-in_err-entries-clause-answer
@@ -241,8 +217,8 @@ pub container_match-returns-in_err-entry-clause-answer : goal.container_match-re
 container_match-returns-in_err-entry-clause-answer t c = λ form other_form xs y h k.
     SomeEntries-error form _ _ _ _ _ c.in_err-entry.was c.in-Some.ensures.steps (c.loop-entry.invariant.left form other_form xs y h k)
 
-pub container_match-loop-entry-preserved-then-entry-half : goal.container_match-loop-entry-preserved-then-entry-half
-container_match-loop-entry-preserved-then-entry-half t c =
+pub container_match-loop-entry-preserved-then-is_beyond : goal.container_match-loop-entry-preserved-then-is_beyond
+container_match-loop-entry-preserved-then-is_beyond t c =
     let none : c.loop-entry.large ≡ None = search rules in
     let size = rw c.in_ok-entry.was at c.in-Some.ensures.steps.size in
     record {

@@ -24,7 +24,7 @@ item_tells-returns-in_default-clause-told g t c = λ form tree stands.
 
 pub item_tells-loop-told-preserved : goal.item_tells-loop-told-preserved
 item_tells-loop-told-preserved g t c = record {
-  shorter = let size = rw c.in-Some.is at c.in_ok-told.ensures.size in omega (arith, size, c.loop-told.invariant.shorter);
+  shorter = let size = rw c.in-Some.is at c.in_ok-told.ensures.less in omega (arith, size, c.loop-told.invariant.shorter);
   left = λ form tree stands.
       let l = c.loop-told.invariant.left form tree stands in
       let m = rw (c.if-told.false, c.in-Some.is) at (c.in_ok-told.ensures.told form l.0 l.1) in
@@ -36,7 +36,7 @@ part_tells-returns-in-String-clause-told g t c = λ form tree stands.
     let is = rw c.in-String.is at stands in
     let told : FnReturnsAt g.F.Fn c.args.func.now c.in-String.text.now c.func.result = record
     { shown = c.as_bytes.result; shows = c.as_bytes.ensures.value; says = record { met = c.func.ensures } } in
-    rw is (leaves_told g.F.Fn c.args.func.now form [] (c.in-String.text.now ∷ []) c.func.result (told_alone g.F.Fn c.args.func.now _ c.func.result told))
+    rw (is, c.of.ensures.answer, c.of.ensures.all) (leaves_told g.F.Fn c.args.func.now form [] (c.in-String.text.now ∷ []) c.func.result (told_alone g.F.Fn c.args.func.now _ c.func.result told))
 
 pub part_tells-returns-in-Array-clause-told : goal.part_tells-returns-in-Array-clause-told
 part_tells-returns-in-Array-clause-told g t c = λ form tree stands.
@@ -65,8 +65,8 @@ entry_tells-returns-then-not-is_container-clause-told g t c = λ form tree store
 
 -- ---- arrays
 
-pub array_tells-returns-in_err-found-clause-told : goal.array_tells-returns-in_err-found-clause-told
-array_tells-returns-in_err-found-clause-told g t c = λ form ts d. absurd (c.in_err-found.ensures.decodes form ts d)
+pub array_tells-returns-in_err-entry-items-clause-told : goal.array_tells-returns-in_err-entry-items-clause-told
+array_tells-returns-in_err-entry-items-clause-told g t c = λ form ts d. absurd (c.in_err-entry-items.ensures.decodes form ts d)
 
 pub array_tells-loop-entry-init : goal.array_tells-loop-entry-init
 array_tells-loop-entry-init g t c = record {
@@ -76,7 +76,7 @@ array_tells-loop-entry-init g t c = record {
   room = search rules;
   left = λ form ts d. record {
     trees = ts;
-    left = rw c.into_iter-entry-iterator.ensures.into_iter_gives (c.in_ok-found.ensures.decodes form ts d);
+    left = rw c.into_iter-entry-iterator.ensures.into_iter_gives (c.in_ok-entry-items.ensures.decodes form ts d);
     fact = leaves_all g.F.Fn c.args.func.now form (texts_of_trees ts);
   };
 }
@@ -109,15 +109,15 @@ array_tells-returns-in_err-entry_tells-clause-told g t c = λ form ts d.
 pub array_tells-returns-then-branch-clause-told : goal.array_tells-returns-then-branch-clause-told
 array_tells-returns-then-branch-clause-told g t c = λ form ts d.
     SomeEntries-first form _ _ _ _ _ c.in_ok-entry.was c.in-Some.ensures.steps (c.loop-entry.invariant.left form ts d)
-    (λ first rest left stored fact. fact.found
-    (told_first g.F.Fn c.args.func.now (texts first) (texts_of_trees rest) (rw c.if-branch.true at (c.in_ok-entry_tells.ensures.told form first stored))))
+    (λ first rest left stored fact. rw c.of.ensures.answer (fact.found
+    (told_first g.F.Fn c.args.func.now (texts first) (texts_of_trees rest) (rw c.if-branch.true at (c.in_ok-entry_tells.ensures.told form first stored)))))
 
 pub array_tells-returns-clause-told : goal.array_tells-returns-clause-told
 array_tells-returns-clause-told g t c = λ form ts d.
     (SomeEntries-none form _ _ _ c.in-None.ensures.steps (c.loop-entry.invariant.left form ts d)).rest (told_none g.F.Fn c.args.func.now)
 
-pub array_tells-loop-entry-preserved-then-entry-bytes : goal.array_tells-loop-entry-preserved-then-entry-bytes
-array_tells-loop-entry-preserved-then-entry-bytes g t c =
+pub array_tells-loop-entry-preserved-then-is_beyond : goal.array_tells-loop-entry-preserved-then-is_beyond
+array_tells-loop-entry-preserved-then-is_beyond g t c =
     let none : c.loop-entry.large ≡ None = search rules in
     let size = rw c.in_ok-entry.was at c.in-Some.ensures.steps.size in
     record {
@@ -131,14 +131,14 @@ array_tells-loop-entry-preserved-then-entry-bytes g t c =
             trees = rest;
             left = left;
             fact = leaves_aside g.F.Fn c.args.func.now form
-                (texts_of_trees ts) c.in_ok-item.item first (texts_of_trees rest) (c.in_ok-item.ensures.decodes form first stored.content) fact;
+                (texts_of_trees ts) c.in_ok-item.field-0 first (texts_of_trees rest) (c.in_ok-item.ensures.decodes form first stored.content) fact;
           });
     }
 
 -- ---- objects
 
-pub object_tells-returns-in_err-found-clause-told : goal.object_tells-returns-in_err-found-clause-told
-object_tells-returns-in_err-found-clause-told g t c = λ form ps d. absurd (c.in_err-found.ensures.decodes form ps d)
+pub object_tells-returns-in_err-pair-items-clause-told : goal.object_tells-returns-in_err-pair-items-clause-told
+object_tells-returns-in_err-pair-items-clause-told g t c = λ form ps d. absurd (c.in_err-pair-items.ensures.decodes form ps d)
 
 pub object_tells-loop-pair-init : goal.object_tells-loop-pair-init
 object_tells-loop-pair-init g t c = record {
@@ -148,7 +148,7 @@ object_tells-loop-pair-init g t c = record {
   room = search rules;
   left = λ form ps d. record {
     pairs = ps;
-    left = rw c.into_iter-pair-iterator.ensures.into_iter_gives (c.in_ok-found.ensures.decodes form ps d);
+    left = rw c.into_iter-pair-iterator.ensures.into_iter_gives (c.in_ok-pair-items.ensures.decodes form ps d);
     fact = leaves_all g.F.Fn c.args.func.now form (texts_of_pairs ps);
   };
 }
@@ -168,7 +168,7 @@ object_tells-returns-then-func-clause-told g t c = λ form ps d.
     (λ value rest left stored fact.
     let told : FnReturnsAt g.F.Fn c.args.func.now c.in_ok-key.key.now true = record
     { shown = c.in_ok-key.key; shows = refl; says = record { met = rw c.if-func.true at c.func.ensures } } in
-    fact.found (told_head g.F.Fn c.args.func.now c.in_ok-key.key.now (texts value ++ texts_of_pairs rest) told))
+    rw c.of.ensures.answer (fact.found (told_head g.F.Fn c.args.func.now c.in_ok-key.key.now (texts value ++ texts_of_pairs rest) told)))
 
 pub object_tells-returns-then-branch-clause-told : goal.object_tells-returns-then-branch-clause-told
 object_tells-returns-then-branch-clause-told g t c = λ form ps d.
@@ -176,8 +176,8 @@ object_tells-returns-then-branch-clause-told g t c = λ form ps d.
     (λ value rest left stored fact.
     let told : FnReturnsAt g.F.Fn c.args.func.now c.in_ok-key.key.now false = record
     { shown = c.in_ok-key.key; shows = refl; says = record { met = rw c.if-func.false at c.func.ensures } } in
-    fact.found (told_after g.F.Fn c.args.func.now c.in_ok-key.key.now (texts value ++ texts_of_pairs rest) told true
-    (told_first g.F.Fn c.args.func.now (texts value) (texts_of_pairs rest) (rw c.if-branch.true at (c.in_ok-entry_tells.ensures.told form value stored)))))
+    rw c.of-then-branch.ensures.answer (fact.found (told_after g.F.Fn c.args.func.now c.in_ok-key.key.now (texts value ++ texts_of_pairs rest) told true
+    (told_first g.F.Fn c.args.func.now (texts value) (texts_of_pairs rest) (rw c.if-branch.true at (c.in_ok-entry_tells.ensures.told form value stored))))))
 
 pub object_tells-loop-pair-preserved : goal.object_tells-loop-pair-preserved
 object_tells-loop-pair-preserved g t c = record {
@@ -200,8 +200,8 @@ object_tells-loop-pair-preserved g t c = record {
       });
 }
 
-pub object_tells-loop-pair-preserved-then-value-bytes : goal.object_tells-loop-pair-preserved-then-value-bytes
-object_tells-loop-pair-preserved-then-value-bytes g t c =
+pub object_tells-loop-pair-preserved-then-is_beyond : goal.object_tells-loop-pair-preserved-then-is_beyond
+object_tells-loop-pair-preserved-then-is_beyond g t c =
     let none : c.loop-pair.large ≡ None = search rules in
     let size = rw c.in_ok-key.was at c.in-Some.ensures.steps.size in
     record {
@@ -218,7 +218,7 @@ object_tells-loop-pair-preserved-then-value-bytes g t c =
           record {
             pairs = rest;
             left = left;
-            fact = leaves_aside g.F.Fn c.args.func.now form (texts_of_pairs ps) c.in_ok-item.item value
+            fact = leaves_aside g.F.Fn c.args.func.now form (texts_of_pairs ps) c.in_ok-item.field-0 value
                 (texts_of_pairs rest) (c.in_ok-item.ensures.decodes form value stored.content)
                 (leaves_after g.F.Fn c.args.func.now form (texts_of_pairs ps) None (c.in_ok-key.key.now ∷ []) (texts value ++ texts_of_pairs rest) none fact);
           });

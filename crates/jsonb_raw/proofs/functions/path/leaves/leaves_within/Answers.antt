@@ -2,7 +2,7 @@ use Rattle.std.proofs.Common.{arith, inr, [], ◌∷◌, ap, length}
 use Rattle.std.proofs.lemmas.Result.{err_from_is_err_and}
 use Rattle.jsonb_raw.specs.Private.Levels.{parts}
 use Rattle.jsonb_raw.specs.Private.LeafSteps.{IsKept}
-use Rattle.jsonb_raw.proofs.LevelLemmas.{pushed_around, popped_around, SomeParts-first, SomeParts-none, SomeParts-error, falls_within, falls_beside, falls_done}
+use Rattle.jsonb_raw.proofs.LevelLemmas.{parts_left, pushed_around, popped_around, SomeParts-first, SomeParts-none, SomeParts-error, falls_within, falls_beside, falls_done}
 use Rattle.jsonb_raw.proofs.LeafWalk.{no_items, last_of, fronts_as_many, one_more, item_leaves, walk_begun, entry_leaves, leaf_found, leaf_of_whole, part_entered, level_done, walk_done}
 use Rattle.jsonb_raw.proofs.functions.path.leaves.leaves_within.Goals as goal
 
@@ -11,14 +11,9 @@ walk-init g c = record {
   as_many = omega (arith, ap length c.new-steps.ensures.items, ap length c.new-around.ensures.items);
   left = λ form t stands.
       let entered = rw c.in-Some.is at (c.in_ok-first.ensures.leaf form t stands) in
-      record {
-        here = parts t;
-        others = [];
-        left = entered.1;
-        left_around = rw c.new-around.ensures.items tt;
-        fact = walk_begun (IsKept (g.P.LeafPart.IsOf form)) c.args.ignore_array _ _ t c.new-found.ensures.items c.new-steps.ensures.items
-            (item_leaves form c.args.item.now c.args.ignore_array t stands entered.0);
-      };
+      parts_left form _ _ _ (parts t) [] entered.1 (rw c.new-around.ensures.items tt)
+      (walk_begun (IsKept (g.P.LeafPart.IsOf form)) c.args.ignore_array _ _ t c.new-found.ensures.items c.new-steps.ensures.items
+      (item_leaves form c.args.item.now c.args.ignore_array t stands entered.0));
 }
 
 pub returns-in_err-name-clause-leaves : goal.returns-in_err-name-clause-leaves
@@ -47,15 +42,10 @@ walk-preserved-in-Some-3 g c = record {
       SomeParts-first form _ _ _ _ _ _ (λ ps h. rw c.in-Some-2.is at (c.in_ok-name.ensures.takes form ps h)) (c.walk.invariant.left form t stands)
       (λ part rest others keyed is left around fact.
       let entered = rw c.in-Some-3.is at (c.in_ok-inner-in-Some-2.ensures.leaf form part.1 is) in
-      record {
-        here = parts part.1;
-        others = rest ∷ others;
-        left = entered.1;
-        left_around = pushed_around form _ _ _ rest others c.in_ok-push-in-Some-3.ensures.items left around;
-        fact = part_entered (IsKept (g.P.LeafPart.IsOf form)) c.args.ignore_array _ _ _ _ part rest others _ fact entered.0
-            (c.in_ok-key-in-Some-2.ensures.name part.0 keyed)
-            (entry_leaves form _ c.args.ignore_array part.1 is entered.0) c.in_ok-push-in-Some-3-2.ensures.items;
-      });
+      parts_left form _ _ _ (parts part.1) (rest ∷ others) entered.1 (pushed_around form _ _ _ rest others c.in_ok-push-in-Some-3.ensures.items left around)
+      (part_entered (IsKept (g.P.LeafPart.IsOf form)) c.args.ignore_array _ _ _ _ part rest others _ fact entered.0
+      (c.in_ok-key-in-Some-2.ensures.name part.0 keyed)
+      (entry_leaves form _ c.args.ignore_array part.1 is entered.0) c.in_ok-push-in-Some-3-2.ensures.items));
 }
 
 pub returns-in_err-push_leaf-in-None-2-clause-leaves : goal.returns-in_err-push_leaf-in-None-2-clause-leaves
@@ -78,18 +68,13 @@ walk-preserved-in-None-2 g c = record {
       SomeParts-first form _ _ _ _ _ _ (λ ps h. rw c.in-Some-2.is at (c.in_ok-name.ensures.takes form ps h)) (c.walk.invariant.left form t stands)
       (λ part rest others keyed is left around fact.
       let more = c.in_ok-push_leaf-in-None-2.ensures.leaf form part.1 is in
-      record {
-        here = rest;
-        others = others;
-        left = left;
-        left_around = around;
-        fact = leaf_found (IsKept (g.P.LeafPart.IsOf form)) c.args.ignore_array _ _ _ _ _ part rest others _
-            (c.in_ok-path-in-None-2.path, more.part) fact
-            (rw c.in-None-2.is at
-            (c.in_ok-inner-in-Some-2.ensures.leaf form part.1 is)) (c.in_ok-key-in-Some-2.ensures.name part.0 keyed)
-            (rw c.deref.ensures.value at c.in_ok-path-in-None-2.ensures, more.is)
-            more.pushed;
-      });
+      parts_left form _ _ _ rest others left around
+      (leaf_found (IsKept (g.P.LeafPart.IsOf form)) c.args.ignore_array _ _ _ _ _ part rest others _
+      (c.in_ok-path-in-None-2.path, more.part) fact
+      (rw c.in-None-2.is at
+      (c.in_ok-inner-in-Some-2.ensures.leaf form part.1 is)) (c.in_ok-key-in-Some-2.ensures.name part.0 keyed)
+      (rw c.deref.ensures.value at c.in_ok-path-in-None-2.ensures, more.is)
+      more.pushed));
 }
 
 pub walk-smaller : goal.walk-smaller
@@ -105,14 +90,9 @@ walk-preserved g c =
           SomeParts-none form _ _ _ _ (λ ps h. rw c.in-None.is at (c.in_ok-name.ensures.takes form ps h)) (c.walk.invariant.left form t stands)
           (λ others around fact.
           popped_around form _ _ _ others c.in-Some-pop.ensures.items around
-          (λ here more same left outside. record {
-            here = here;
-            others = more;
-            left = left;
-            left_around = outside;
-            fact = rw (popped.0, popped.1)
-                (level_done (IsKept (g.P.LeafPart.IsOf form)) c.args.ignore_array _ _ h.front h.last c.walk.index here others more _ same h.joined fact);
-          }));
+          (λ here more same left outside. parts_left form _ _ _ here more left outside
+          (rw (popped.0, popped.1)
+          (level_done (IsKept (g.P.LeafPart.IsOf form)) c.args.ignore_array _ _ h.front h.last c.walk.index here others more _ same h.joined fact))));
     }
 
 pub returns-in-None-pop-clause-leaves : goal.returns-in-None-pop-clause-leaves

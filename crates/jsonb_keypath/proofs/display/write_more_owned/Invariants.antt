@@ -3,7 +3,7 @@ use Rattle.std.specs.Prelude.{flat_map}
 use Rattle.std.specs.Fmt.{HasWritten, IsPlainFormatter}
 use Rattle.jsonb_keypath.specs.KeyPathText.{other_key_text}
 use Rattle.jsonb_keypath.specs.KeyPathViews.{owned_key_view}
-use Rattle.jsonb_keypath.proofs.display.write_other_owned.Given as goal
+use Rattle.jsonb_keypath.proofs.display.write_more_owned.Given as goal
 
 -- the steps before the index are written
 abbrev pub invariant-loop-step : goal.invariant-loop-step

@@ -3,7 +3,7 @@ use Rattle.std.proofs.Output.{has_written_append, has_written_of_eq}
 use Rattle.jsonb_keypath.specs.KeyPathText.{other_key_text}
 use Rattle.jsonb_keypath.specs.KeyPathViews.{owned_key_view}
 use Rattle.jsonb_keypath.proofs.ShowLemmas.{text_of_one_more}
-use Rattle.jsonb_keypath.proofs.display.write_other_owned.Goals as goal
+use Rattle.jsonb_keypath.proofs.display.write_more_owned.Goals as goal
 
 pub loop-step-preserved : goal.loop-step-preserved
 loop-step-preserved g c plain =

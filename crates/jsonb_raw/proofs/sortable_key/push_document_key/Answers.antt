@@ -1,0 +1,20 @@
+use Rattle.std.proofs.Common.{ℕ, List, rules, subst}
+use Rattle.jsonb_raw.specs.Private.KeyParts.{AppendsKey}
+use Rattle.jsonb_raw.specs.Private.KeyWidth.{width_of}
+use Rattle.jsonb_raw.proofs.LevelStarts.{container_item, scalar_item}
+use Rattle.jsonb_raw.proofs.sortable_key.push_document_key.Goals as goal
+
+pub returns-in-Array-clause-key : goal.returns-in-Array-clause-key
+returns-in-Array-clause-key c = λ form tree decodes.
+    subst (λ (old : List ℕ). AppendsKey (width_of c.args.width) tree old c.push_parts.result c.push_parts.new.out.items) c.reserve.ensures.items
+    (c.push_parts.ensures.key form tree (container_item form _ _ tree c.in-Array.is (c.in_ok-root.ensures.decodes form tree decodes)))
+
+pub returns-in_default : goal.returns-in_default
+returns-in_default c = record {
+  key = λ form tree decodes.
+      let stands = c.in_ok-root.ensures.decodes form tree decodes in
+      let scalar = scalar_item form _ tree c.in_default.not-Array c.in_default.not-Object stands in
+      subst (λ (old : List ℕ). AppendsKey (width_of c.args.width) tree old c.push_scalar_item.result c.push_scalar_item.new.out.items) c.reserve.ensures.items
+      (rw scalar.1 (c.push_scalar_item.ensures.key form tree stands scalar.0));
+  errors = search rules;
+}
