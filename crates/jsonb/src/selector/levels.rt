@@ -19,8 +19,8 @@ use std::alloc::Global;
 /// The levels at which items are taken: from the first to the last, and none where the last is before the first.
 #[derive(Clone, Copy)]
 struct LevelRange {
-    first: u16,
-    last: u16,
+    first: usize,
+    last: usize,
 }
 
 impl LevelRange {
@@ -33,20 +33,29 @@ impl LevelRange {
         ensures { AreLevelsOf (option_map levels_view levels) result }
     {
         let Some(RecursiveLevel { start, end }) = levels else {
-            return LevelRange { first: 0, last: u16::MAX };
+            return LevelRange {
+                first: 0,
+                last: usize::MAX,
+            };
         };
-        let first = u16::from(start);
+        let first = usize::from(start);
         match end {
             None => LevelRange { first, last: first },
             Some(RecursiveLevelEnd::Index(end)) if end < start => LevelRange { first: 1, last: 0 },
-            Some(RecursiveLevelEnd::Index(end)) => LevelRange { first, last: u16::from(end) },
-            Some(RecursiveLevelEnd::Last) => LevelRange { first, last: u16::MAX },
+            Some(RecursiveLevelEnd::Index(end)) => LevelRange {
+                first,
+                last: usize::from(end),
+            },
+            Some(RecursiveLevelEnd::Last) => LevelRange {
+                first,
+                last: usize::MAX,
+            },
         }
     }
 
     /// Whether a level is one of them.
     #[inline(always)]
-    fn contains(self, level: u16) -> bool
+    fn contains(self, level: usize) -> bool
         ensures { result ≡ (nat_le self.first level && nat_le level self.last) }
     {
         self.first <= level && level <= self.last
@@ -57,7 +66,7 @@ impl LevelRange {
 #[derive(Clone, Copy)]
 pub(crate) struct OpenLevel<'a> {
     children: SpotIter<'a>,
-    level: u16,
+    level: usize,
 }
 
 /// The items from this one down, each before its children, behind what the nodes has. A level past 255,
@@ -66,7 +75,7 @@ pub(crate) fn push_levels(
     alloc: Global,
     bytes: &[u8],
     levels: Option<RecursiveLevel>,
-    level: u16,
+    level: usize,
     item: Spot,
     nodes: &mut Vec<Spot>,
 ) -> Result<(), Error>
@@ -147,7 +156,7 @@ fn keep_level<'a>(around: &mut Vec<OpenLevel<'a>>, within: OpenLevel<'a>) -> Res
 fn push_item<'a>(
     bytes: &'a [u8],
     range: LevelRange,
-    level: u16,
+    level: usize,
     item: Spot,
     nodes: &mut Vec<Spot>,
 ) -> Result<Option<OpenLevel<'a>>, Error>
@@ -174,7 +183,7 @@ fn push_item<'a>(
 
 /// The level below.
 #[inline(always)]
-fn next_level(level: u16) -> u16
+fn next_level(level: usize) -> usize
     ensures { (n : ℕ) → level ≡ min n 256 → result ≡ min (n + 1) 256 }
 {
     if level < 256 { level + 1 } else { level }

@@ -25,16 +25,16 @@ returns-in-Some-clause-meant c = λ levels u n before ranged l m a.
 
 pub returns-in-None-clause-meant : goal.returns-in-None-clause-meant
 returns-in-None-clause-meant c = λ levels u n before ranged l m a. (
-      subst (λ l. AllRelated (Locates c.args.bytes.now) c.push_if.new.nodes.items (before ++ l))
-          (ap (λ b. if b then u ∷ [] else []) (range_taken levels _ _ n _ ranged l c.contains.ensures))
-          ((c.in_ok-push_if.ensures.meant c.args.bytes.now u before m a).ok),
-      preorder-leaf levels n u (no_spots c.args.bytes.now (children_of u) (rw c.in-None.is at (c.in_ok-children.ensures.spots u m))),
-    )
+  subst (λ l. AllRelated (Locates c.args.bytes.now) c.push_if.new.nodes.items (before ++ l))
+      (ap (λ b. if b then u ∷ [] else []) (range_taken levels _ _ n _ ranged l c.contains.ensures))
+      ((c.in_ok-push_if.ensures.meant c.args.bytes.now u before m a).ok),
+  preorder-leaf levels n u (no_spots c.args.bytes.now (children_of u) (rw c.in-None.is at (c.in_ok-children.ensures.spots u m))),
+)
 
 pub returns-then-range-level-clause-meant : goal.returns-then-range-level-clause-meant
 returns-then-range-level-clause-meant c = λ levels u n before ranged l m a. (
-      subst (λ l. AllRelated (Locates c.args.bytes.now) c.push_if.new.nodes.items (before ++ l))
-          (ap (λ b. if b then u ∷ [] else []) (range_taken levels _ _ n _ ranged l c.contains.ensures))
-          ((c.in_ok-push_if.ensures.meant c.args.bytes.now u before m a).ok),
-      preorder-passed levels n u (ranged.left n (omega (arith, l, c.if-range-level.true))),
-    )
+  subst (λ l. AllRelated (Locates c.args.bytes.now) c.push_if.new.nodes.items (before ++ l))
+      (ap (λ b. if b then u ∷ [] else []) (range_taken levels _ _ n _ ranged l c.contains.ensures))
+      ((c.in_ok-push_if.ensures.meant c.args.bytes.now u before m a).ok),
+  preorder-passed levels n u (ranged.left n (omega (arith, l, c.if-range-level.true))),
+)

@@ -32,19 +32,25 @@ returns-in_err-container-clause-meant c = λ u n before l m a.
     let w = c.walk.invariant.whole u n before l m a in
     let p = err_from_is_err_and c.from_residual-in_err-container.result c.from_residual-in_err-container.ensures.1 in
     same_answer (p.1 ∙ ap Err p.2)
-    (record { ok = tt; err = inl (c.in_err-container.ensures.meant c.args.bytes.now (option_map levels_view c.args.levels) w.level w.here w.given
-    (range_taken (option_map levels_view c.args.levels) _ _ w.level _ c.of_step-range.ensures w.deep c.contains-is_taken.ensures) w.left w.done) })
+    (record {
+      ok = tt;
+      err = inl (c.in_err-container.ensures.meant c.args.bytes.now (option_map levels_view c.args.levels) w.level w.here w.given
+          (range_taken (option_map levels_view c.args.levels) _ _ w.level _ c.of_step-range.ensures w.deep c.contains-is_taken.ensures) w.left w.done);
+    })
 
 pub returns-in_err-below-in-Some-2-clause-meant : goal.returns-in_err-below-in-Some-2-clause-meant
 returns-in_err-below-in-Some-2-clause-meant c = λ u n before l m a.
     let w = c.walk.invariant.whole u n before l m a in
     let v = leaves_passed c.args.bytes.now (option_map levels_view c.args.levels) _ _ _ _ _ _ _ w
     (rw c.in-Some-2.is at (c.in_ok-container.ensures.meant c.args.bytes.now (option_map levels_view c.args.levels) w.level w.here w.given
-      (range_taken (option_map levels_view c.args.levels) _ _ w.level _ c.of_step-range.ensures w.deep c.contains-is_taken.ensures) w.left w.done)) in
+    (range_taken (option_map levels_view c.args.levels) _ _ w.level _ c.of_step-range.ensures w.deep c.contains-is_taken.ensures) w.left w.done)) in
     let p = err_from_is_err_and c.from_residual-in_err-below-in-Some-2.result c.from_residual-in_err-below-in-Some-2.ensures.1 in
     same_answer (p.1 ∙ ap Err p.2)
-    (record { ok = tt; err = inl (c.in_err-below-in-Some-2.ensures.meant (option_map levels_view c.args.levels) v.left.first v.level v.given
-    c.of_step-range.ensures v.deep v.left.holds v.done) })
+    (record {
+      ok = tt;
+      err = inl (c.in_err-below-in-Some-2.ensures.meant (option_map levels_view c.args.levels) v.left.first v.level v.given
+          c.of_step-range.ensures v.deep v.left.holds v.done);
+    })
 
 pub walk-smaller-in-Some-below : goal.walk-smaller-in-Some-below
 walk-smaller-in-Some-below c =
@@ -103,7 +109,7 @@ returns-in-None-pop-clause-meant c = λ u n before l m a.
       ok = walk_done c.args.bytes.now (option_map levels_view c.args.levels) _ _ _
           (all_passed c.args.bytes.now (option_map levels_view c.args.levels) _ _ _ _ _ w
           (rw c.in-None.is at (c.in_ok-container.ensures.meant c.args.bytes.now (option_map levels_view c.args.levels) w.level w.here w.given
-      (range_taken (option_map levels_view c.args.levels) _ _ w.level _ c.of_step-range.ensures w.deep c.contains-is_taken.ensures) w.left w.done)))
+          (range_taken (option_map levels_view c.args.levels) _ _ w.level _ c.of_step-range.ensures w.deep c.contains-is_taken.ensures) w.left w.done)))
           (no_levels c.walk.around.items (omega (arith, c.in-None-pop.ensures.cases.0, c.walk.around.ok.0)));
       err = tt;
     }
