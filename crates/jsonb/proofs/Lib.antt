@@ -22,6 +22,7 @@ pub mod Progress
 pub mod ItemKinds
 pub mod PickLemmas
 pub mod LevelLemmas
+pub mod LevelRanges
 pub mod BelowLemmas
 pub mod PathNodes
 pub mod StepLemmas

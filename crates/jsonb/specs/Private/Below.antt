@@ -1,5 +1,5 @@
 -- What a recursive step has left of the containers that it is sized.
-use Rattle.std.specs.Prelude.{◌≡◌, ◌⊎◌, ℕ, ◌+◌, min, Bool, not, ◌&&◌, List, [], ◌∷◌, ◌++◌, flat_map, Option, Some, None}
+use Rattle.std.specs.Prelude.{◌≡◌, ◌⊎◌, ℕ, ◌+◌, ◌<◌, ◌≤◌, min, nat_le, Bool, true, false, not, ◌&&◌, List, [], ◌∷◌, ◌++◌, flat_map, Option, Some, None}
 use Rattle.jsonb_doc.specs.Spots.{HasSpotsLeft, Locates}
 use Rattle.jsonb_doc.specs.declared.spot.Spot.{Spot}
 use Rattle.jsonb_doc.specs.declared.spot_iter.SpotIter.{SpotIter}
@@ -7,6 +7,7 @@ use Rattle.jsonb_doc.specs.Tree.{Tree}
 use Rattle.jsonb.specs.PathTree.{Levels}
 use Rattle.jsonb.specs.Preorder.{answer_at, own, preorder}
 use Rattle.jsonb.specs.Related.{AllRelated}
+use Rattle.jsonb.specs.declared.selector.levels.LevelRange.{LevelRange}
 use Rattle.jsonb.specs.declared.selector.levels.OpenLevel.{OpenLevel}
 
 -- these items are left at this level, of which more than 256 count as 256
@@ -32,6 +33,13 @@ PassesLeaves bytes levels n ts before nodes (Some (spot, others)) =
 -- nothing of this level and of those below it is taken
 abbrev pub is_shut : Option Levels → ℕ → Bool
 is_shut levels n = not (answer_at levels n).0 && not (answer_at levels n).1
+
+-- The range holds the levels at which these take an item, where more than 256 count as 256. Above its last level they look
+-- at children, and from there on they do not, or nothing below is taken.
+pub record AreLevelsOf (levels : Option Levels) (range : LevelRange) : Type 0 where
+  pub taken : (n : ℕ) → (nat_le range.first (min n 256) && nat_le (min n 256) range.last) ≡ (answer_at levels n).0
+  pub entered : (n : ℕ) → min n 256 < range.last → (answer_at levels n).1 ≡ true
+  pub left : (n : ℕ) → range.last ≤ min n 256 → ((answer_at levels n).1 ≡ false) ⊎ (is_shut levels (n + 1) ≡ true)
 
 -- the level is put behind those around it, or it has nothing left
 abbrev pub KeepsLevel : List OpenLevel → OpenLevel → List OpenLevel → Type 0

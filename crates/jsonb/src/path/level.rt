@@ -1,6 +1,6 @@
 //! What a recursive step does at a level.
 
-ghost use Rattle.std.specs.Prelude.{◌≡◌, ℕ, min};
+ghost use Rattle.std.specs.Prelude.{◌≡◌};
 ghost use Rattle.jsonb.specs.LevelTable.{level_answer};
 ghost use Rattle.jsonb.specs.PathViews.{levels_view};
 
@@ -19,21 +19,12 @@ impl RecursiveLevel {
     pub fn check_recursive_level(&self, level: u8) -> (bool, bool)
         ensures { result ≡ level_answer (levels_view self.now) level }
     {
-        self.answer_at(u16::from(level))
-    }
-
-    /// The same for a level of any depth. One past 255, which no range names, is given as 256.
-    pub(crate) fn answer_at(&self, level: u16) -> (bool, bool)
-        ensures { (n : ℕ) → level ≡ min n 256 → result ≡ level_answer (levels_view self.now) n }
-    {
-        let start = u16::from(self.start);
-        let is_below = level < start;
+        let is_below = level < self.start;
         match self.end {
-            None => (level == start, is_below),
+            None => (level == self.start, is_below),
             Some(RecursiveLevelEnd::Index(end)) => {
-                let end = u16::from(end);
                 if is_below {
-                    (false, start <= end)
+                    (false, self.start <= end)
                 } else {
                     (level <= end, level <= end)
                 }

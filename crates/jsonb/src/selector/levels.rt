@@ -5,21 +5,68 @@ ghost use Rattle.jsonb_doc.specs.Answer.{Gives, IsOutOfMemory, IsDecodingError, 
 ghost use Rattle.jsonb_doc.specs.declared.error.Error.TheVariants.{OutOfMemory};
 ghost use Rattle.jsonb_doc.specs.Spots.{Locates, HasSpotsLeft, spot_size, spots_room, spots_bound};
 ghost use Rattle.jsonb_doc.specs.Tree.{Tree};
+ghost use Rattle.jsonb.specs.PathTree.{Levels};
 ghost use Rattle.jsonb.specs.PathViews.{levels_view};
 ghost use Rattle.jsonb.specs.Related.{AllRelated};
 ghost use Rattle.jsonb.specs.Preorder.{answer_at, own, preorder};
-ghost use Rattle.jsonb.specs.Private.Below.{AreBelow, KeepsLevel, PassesLeaves, is_shut};
+ghost use Rattle.jsonb.specs.Private.Below.{AreBelow, KeepsLevel, PassesLeaves, AreLevelsOf};
 
 use super::children::push_if;
-use crate::path::RecursiveLevel;
+use crate::path::{RecursiveLevel, RecursiveLevelEnd};
 use jsonb_doc::{Error, Spot, SpotIter, child_spots};
 use std::alloc::Global;
+
+/// The levels at which items are taken: from the first to the last, and none where the last is before the first.
+#[derive(Clone, Copy)]
+struct LevelRange {
+    first: usize,
+    last: usize,
+}
+
+impl LevelRange {
+    ghost use Rattle.std.specs.Prelude.{◌≡◌, ◌&&◌, nat_le, option_map};
+    ghost use Rattle.jsonb.specs.PathViews.{levels_view};
+    ghost use Rattle.jsonb.specs.Private.Below.{AreLevelsOf};
+
+    /// Those of a step: without levels all.
+    fn of_step(levels: Option<RecursiveLevel>) -> LevelRange
+        ensures { AreLevelsOf (option_map levels_view levels) result }
+    {
+        let Some(RecursiveLevel { start, end }) = levels else {
+            return LevelRange {
+                first: 0,
+                last: usize::MAX,
+            };
+        };
+        let first = usize::from(start);
+        match end {
+            None => LevelRange { first, last: first },
+            Some(RecursiveLevelEnd::Index(end)) if end < start => LevelRange { first: 1, last: 0 },
+            Some(RecursiveLevelEnd::Index(end)) => LevelRange {
+                first,
+                last: usize::from(end),
+            },
+            Some(RecursiveLevelEnd::Last) => LevelRange {
+                first,
+                last: usize::MAX,
+            },
+        }
+    }
+
+    /// Whether a level is one of them.
+    #[inline(always)]
+    fn contains(self, level: usize) -> bool
+        ensures { result ≡ (nat_le self.first level && nat_le level self.last) }
+    {
+        self.first <= level && level <= self.last
+    }
+}
 
 /// The children that are left of a container, and their level.
 #[derive(Clone, Copy)]
 pub(crate) struct OpenLevel<'a> {
     children: SpotIter<'a>,
-    level: u16,
+    level: usize,
 }
 
 /// The items from this one down, each before its children, behind what the nodes has. A level past 255,
@@ -28,7 +75,7 @@ pub(crate) fn push_levels(
     alloc: Global,
     bytes: &[u8],
     levels: Option<RecursiveLevel>,
-    level: u16,
+    level: usize,
     item: Spot,
     nodes: &mut Vec<Spot>,
 ) -> Result<(), Error>
@@ -38,16 +85,18 @@ pub(crate) fn push_levels(
         IsOutOfMemory result (Ok (preorder (option_map levels_view levels) n t)) }
     ensures errors { IfErr result (IsDecodingError or OutOfMemory) }
 {
-    let Some(below) = push_item(bytes, levels, level, item, nodes)? else {
+    let range = LevelRange::of_step(levels);
+    let Some(below) = push_item(bytes, range, level, item, nodes)? else {
         return Ok(());
     };
     let mut within = below;
     let mut around = Vec::new(alloc);
     'walk: loop {
-        match pass_leaves(levels, within.level, within.children, nodes)? {
+        let is_taken = range.contains(within.level);
+        match pass_leaves(is_taken, within.children, nodes)? {
             Some((container, others)) => {
                 within.children = others;
-                let below = push_item(bytes, levels, within.level, container, nodes)?;
+                let below = push_item(bytes, range, within.level, container, nodes)?;
                 if let Some(inner) = below {
                     keep_level(&mut around, within)?;
                     within = inner;
@@ -61,25 +110,23 @@ pub(crate) fn push_levels(
     }
 }
 
-/// The children of this level up to the first that is a container, where their level is taken, behind what the nodes
-/// has. The answer is that container, with those behind it; none where all are passed.
+/// These children up to the first that is a container, where they are taken, behind what the nodes has. The answer is
+/// that container, with those behind it; none where all are passed.
 #[inline(always)]
 fn pass_leaves<'a>(
-    levels: Option<RecursiveLevel>,
-    level: u16,
+    is_taken: bool,
     children: SpotIter<'a>,
     nodes: &mut Vec<Spot>,
 ) -> Result<Option<(Spot, SpotIter<'a>)>, Error>
-    ensures meant { (bytes : List ℕ) (n : ℕ) (ts before : List Tree) → level ≡ min n 256
+    ensures meant { (bytes : List ℕ) (levels : Option Levels) (n : ℕ) (ts before : List Tree)
+        → is_taken ≡ (answer_at levels n).0
         → HasSpotsLeft bytes children.entry ts → AllRelated (Locates bytes) nodes.old.items before
-        → MatchResult result
-        (PassesLeaves bytes (option_map levels_view levels) n ts before nodes.new.items) IsOutOfMemory }
+        → MatchResult result (PassesLeaves bytes levels n ts before nodes.new.items) IsOutOfMemory }
     ensures size { IfOk result (λ found. IfSome found (λ r. spot_size r.0 ≤ spots_room children.entry)) }
     ensures room { IfOk result (λ found. IfSome found (λ r. spots_room r.1 ≤ spots_room children.entry)) }
     ensures bound { IfOk result (λ found. IfSome found (λ r. spots_bound r.1 < spots_bound children.entry)) }
     ensures errors { IfErr result (IsDecodingError or OutOfMemory) }
 {
-    let (is_taken, _) = answer_at(levels, level);
     let mut left = children;
     while let Some(child) = left.next() {
         let child = child?;
@@ -104,65 +151,39 @@ fn keep_level<'a>(around: &mut Vec<OpenLevel<'a>>, within: OpenLevel<'a>) -> Res
     Ok(())
 }
 
-/// An item where its level is taken, behind what the nodes has, and its children where they are looked at.
+/// An item where its level is taken, behind what the nodes has, and its children where some below are taken.
 #[inline(always)]
 fn push_item<'a>(
     bytes: &'a [u8],
-    levels: Option<RecursiveLevel>,
-    level: u16,
+    range: LevelRange,
+    level: usize,
     item: Spot,
     nodes: &mut Vec<Spot>,
 ) -> Result<Option<OpenLevel<'a>>, Error>
-    ensures meant { (t : Tree) (n : ℕ) (before : List Tree) → level ≡ min n 256 → Locates bytes.now item t
-        → AllRelated (Locates bytes.now) nodes.old.items before
-        → MatchResult result (λ below.
-        AllRelated (Locates bytes.now) nodes.new.items (before ++ own (option_map levels_view levels) n t)
-        × AreBelow bytes.now (option_map levels_view levels) n t below) IsOutOfMemory }
+    ensures meant { (levels : Option Levels) (t : Tree) (n : ℕ) (before : List Tree) → AreLevelsOf levels range
+        → level ≡ min n 256 → Locates bytes.now item t → AllRelated (Locates bytes.now) nodes.old.items before
+        → MatchResult result (λ below. AllRelated (Locates bytes.now) nodes.new.items (before ++ own levels n t)
+        × AreBelow bytes.now levels n t below) IsOutOfMemory }
     ensures room { IfOk result (λ below. IfSome below (λ within. spots_room within.children < spot_size item)) }
     ensures bound { IfOk result (λ below. IfSome below (λ within. spots_bound within.children < 2 ^ 64)) }
     ensures errors { IfErr result (IsDecodingError or OutOfMemory) }
 {
-    let (is_taken, goes_on) = answer_at(levels, level);
-    push_if(is_taken, item, nodes)?;
-    if !goes_on {
-        return Ok(None);
-    }
-    let below = next_level(level);
-    if is_shut(levels, below) {
+    push_if(range.contains(level), item, nodes)?;
+    if range.last <= level {
         return Ok(None);
     }
     match child_spots(bytes, item)? {
         Some(children) => Ok(Some(OpenLevel {
             children,
-            level: below,
+            level: next_level(level),
         })),
         None => Ok(None),
     }
 }
 
-/// Whether an item of this level is taken, and whether its children are looked at. Without levels all are.
-#[inline(always)]
-fn answer_at(levels: Option<RecursiveLevel>, level: u16) -> (bool, bool)
-    ensures { (n : ℕ) → level ≡ min n 256 → result ≡ answer_at (option_map levels_view levels) n }
-{
-    match levels {
-        Some(levels) => levels.answer_at(level),
-        None => (true, true),
-    }
-}
-
-/// Whether nothing of this level and of those below it is taken.
-#[inline(always)]
-fn is_shut(levels: Option<RecursiveLevel>, level: u16) -> bool
-    ensures { (n : ℕ) → level ≡ min n 256 → result ≡ is_shut (option_map levels_view levels) n }
-{
-    let (is_taken, goes_on) = answer_at(levels, level);
-    !is_taken && !goes_on
-}
-
 /// The level below.
 #[inline(always)]
-fn next_level(level: u16) -> u16
+fn next_level(level: usize) -> usize
     ensures { (n : ℕ) → level ≡ min n 256 → result ≡ min (n + 1) 256 }
 {
     if level < 256 { level + 1 } else { level }

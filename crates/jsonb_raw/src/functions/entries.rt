@@ -104,6 +104,7 @@ pub fn root_entry(document: &[u8]) -> Result<RootEntry<'_>, Error>
 
 /// The entry as a document of its own, as it is stored. A number or an extension value that can't be read is refused,
 /// and so is an entry of no kind; a text and a container are copied unread.
+#[inline(always)]
 pub fn entry_document(alloc: Global, kind: EntryKind, content: &[u8]) -> Result<OwnedJsonb, Error>
     ensures document { (form : Form) (t : Tree) → IsContent (number_reader form) t (kind_number kind) content.now
         → Makes form t result }

@@ -200,6 +200,7 @@ fn owned_pairs(alloc: Global, row: PairEntries<'_>) -> Result<Vec<(String, Owned
 }
 
 /// The key of a pair, and the value as a document of its own.
+#[inline(always)]
 fn owned_pair(alloc: Global, pair: FirstPair<'_>) -> Result<(String, OwnedJsonb), Error>
     ensures pair { (form : Form) (t : Tree) → IsUtf8 pair.entry.key.now
         → IsContent (number_reader form) t (kind_number pair.entry.kind) pair.entry.content.now

@@ -1,8 +1,7 @@
-use Rattle.std.proofs.Common.{◌≡◌, ◌++◌, ◌∷◌, [], ◌<◌, ap, sym, ◌∙◌, subst, arith, option_map, if◌then◌else◌}
+use Rattle.std.proofs.Common.{◌≡◌, ◌++◌, ◌∷◌, [], ◌<◌, ap, sym, ◌∙◌, subst, arith, if◌then◌else◌}
 use Rattle.jsonb_doc.proofs.SpotsTaken.{no_refusal}
 use Rattle.jsonb_doc.specs.Spots.{Locates, spots_bound}
 use Rattle.jsonb_doc.specs.Tree.{children_of}
-use Rattle.jsonb.specs.PathViews.{levels_view}
 use Rattle.jsonb.specs.Preorder.{preorder}
 use Rattle.jsonb.specs.Related.{AllRelated}
 use Rattle.jsonb.proofs.BelowLemmas.{none_passed, leaf_passed, next_left, none_left}
@@ -15,18 +14,18 @@ pub loop-child-init : goal.loop-child-init
 loop-child-init c = record {
   room = omega arith;
   bound = omega arith;
-  passed = λ bytes n ts before l m a. none_passed bytes (option_map levels_view c.args.levels) n ts before _ _ m a;
+  passed = λ bytes levels n ts before l m a. none_passed bytes levels n ts before _ _ m a;
 }
 
 pub returns-in_err-child-clause-meant : goal.returns-in_err-child-clause-meant
-returns-in_err-child-clause-meant c = λ bytes n ts before l m a.
-    let w = c.loop-child.invariant.passed bytes n ts before l m a in
+returns-in_err-child-clause-meant c = λ bytes levels n ts before l m a.
+    let w = c.loop-child.invariant.passed bytes levels n ts before l m a in
     absurd (no_refusal bytes w.rest c.in-Some.child _ _ c.in_err-child.was (c.in-Some.ensures.steps.takes bytes w.rest w.left))
 
 pub returns-then-is_container-clause-meant : goal.returns-then-is_container-clause-meant
-returns-then-is_container-clause-meant c = λ bytes n ts before l m a.
-    let w = c.loop-child.invariant.passed bytes n ts before l m a in
-    next_left bytes (option_map levels_view c.args.levels) n ts before _ _ _ _ w
+returns-then-is_container-clause-meant c = λ bytes levels n ts before l m a.
+    let w = c.loop-child.invariant.passed bytes levels n ts before l m a in
+    next_left bytes levels n ts before _ _ _ _ w
     (spot_first bytes _ _ _ _ c.in_ok-child.was c.in-Some.ensures.steps w.rest w.left)
 
 pub returns-then-is_container-clause-size : goal.returns-then-is_container-clause-size
@@ -46,19 +45,18 @@ loop-child-preserved c =
     record {
       room = omega (arith, c.loop-child.invariant.room, c.in-Some.ensures.steps.room);
       bound = omega (arith, c.loop-child.invariant.bound, fewer);
-      passed = λ bytes n ts before l m a.
-          let w = c.loop-child.invariant.passed bytes n ts before l m a in
-          let levels = option_map levels_view c.args.levels in
+      passed = λ bytes levels n ts before l m a.
+          let w = c.loop-child.invariant.passed bytes levels n ts before l m a in
           let f = spot_first bytes _ _ _ _ c.in_ok-child.was c.in-Some.ensures.steps w.rest w.left in
           let leaf = none_of (children_of f.first) (sym (c.is_container.ensures bytes f.first f.holds) ∙ c.if-is_container.false) in
-          let own_is : (if c.answer_at-is_taken.result.0 then f.first ∷ [] else []) ≡ preorder levels n f.first =
-          ap (λ r. if r.0 then f.first ∷ [] else []) (c.answer_at-is_taken.ensures n l) ∙ sym (preorder-leaf levels n f.first leaf) in
+          let own_is : (if c.args.is_taken then f.first ∷ [] else []) ≡ preorder levels n f.first =
+          ap (λ b. if b then f.first ∷ [] else []) l ∙ sym (preorder-leaf levels n f.first leaf) in
           leaf_passed bytes levels n ts before _ _ _ _ _ w f
           (λ given done. subst (λ us. AllRelated (Locates bytes) c.push_if.new.nodes.items (given ++ us)) own_is
           ((c.in_ok-push_if.ensures.meant bytes f.first given f.holds done).ok));
     }
 
 pub returns-clause-meant : goal.returns-clause-meant
-returns-clause-meant c = λ bytes n ts before l m a.
-    let w = c.loop-child.invariant.passed bytes n ts before l m a in
-    none_left bytes (option_map levels_view c.args.levels) n ts before _ _ w (spot_end bytes _ _ c.in_default.ensures.steps w.rest w.left)
+returns-clause-meant c = λ bytes levels n ts before l m a.
+    let w = c.loop-child.invariant.passed bytes levels n ts before l m a in
+    none_left bytes levels n ts before _ _ w (spot_end bytes _ _ c.in_default.ensures.steps w.rest w.left)

@@ -1,7 +1,8 @@
-use Rattle.std.proofs.Common.{◌≡◌, ◌≤◌, ℕ, List, min, option_map}
+use Rattle.std.proofs.Common.{◌≡◌, ◌≤◌, ℕ, List, Option}
 use Rattle.jsonb_doc.specs.Spots.{Locates, HasSpotsLeft, spots_room, spots_bound}
 use Rattle.jsonb_doc.specs.Tree.{Tree}
-use Rattle.jsonb.specs.PathViews.{levels_view}
+use Rattle.jsonb.specs.PathTree.{Levels}
+use Rattle.jsonb.specs.Preorder.{answer_at}
 use Rattle.jsonb.specs.Related.{AllRelated}
 use Rattle.jsonb.proofs.BelowLemmas.{PassedSo}
 use Rattle.jsonb.proofs.selector.levels.pass_leaves.Given as goal
@@ -11,9 +12,8 @@ abbrev pub invariant-loop-child : goal.invariant-loop-child
 invariant-loop-child l = record {
   room : spots_room l.left ≤ spots_room l.children;
   bound : spots_bound l.left ≤ spots_bound l.children;
-  passed : (bytes : List ℕ) (n : ℕ) (ts before : List Tree) → l.level ≡ min n 256 → HasSpotsLeft bytes l.children ts
-      → AllRelated (Locates bytes) l.fn.nodes.items before
-      → PassedSo bytes (option_map levels_view l.fn.levels) n (HasSpotsLeft bytes l.left) ts before l.nodes.items;
+  passed : (bytes : List ℕ) (levels : Option Levels) (n : ℕ) (ts before : List Tree) → l.is_taken ≡ (answer_at levels n).0 → HasSpotsLeft bytes l.children ts
+      → AllRelated (Locates bytes) l.fn.nodes.items before → PassedSo bytes levels n (HasSpotsLeft bytes l.left) ts before l.nodes.items;
 }
 
 abbrev pub decreases-loop-child : goal.decreases-loop-child

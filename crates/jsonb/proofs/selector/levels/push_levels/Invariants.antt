@@ -12,7 +12,7 @@ use Rattle.jsonb.proofs.selector.levels.push_levels.Given as goal
 abbrev pub invariant-walk : goal.invariant-walk
 invariant-walk l = record {
   whole : (t : Tree) (n : ℕ) (before : List Tree) → l.level ≡ min n 256 → Locates l.bytes l.fn.item t → AllRelated (Locates l.bytes) l.fn.nodes.items before
-      → Walked l.bytes (option_map levels_view l.levels) l.within l.around.items l.nodes.items (before ++ preorder (option_map levels_view l.levels) n t);
+      → Walked l.bytes (option_map levels_view l.fn.levels) l.within l.around.items l.nodes.items (before ++ preorder (option_map levels_view l.fn.levels) n t);
 }
 
 abbrev pub decreases-walk : goal.decreases-walk

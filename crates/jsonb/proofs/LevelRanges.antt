@@ -1,0 +1,22 @@
+-- The levels at which items are taken, as a range.
+use Rattle.std.proofs.Common.{◌≡◌, ◌⊎◌, ℕ, ◌+◌, min, Bool, true, false, ◌&&◌, Option, inl, inr, ap, ◌∙◌}
+use Rattle.std.specs.Prelude.{nat_le}
+use Rattle.jsonb_doc.specs.Tree.{Tree}
+use Rattle.jsonb.specs.PathTree.{Levels}
+use Rattle.jsonb.specs.Preorder.{answer_at, own, preorder}
+use Rattle.jsonb.specs.Private.Below.{AreLevelsOf, is_shut}
+use Rattle.jsonb.specs.declared.selector.levels.LevelRange.{LevelRange}
+use Rattle.jsonb.proofs.LevelLemmas.{preorder-left, preorder-shut}
+
+-- the range has a level where an item of it is taken
+pub range_taken : (levels : Option Levels) (range : LevelRange) (at n : ℕ) (is_taken : Bool) → AreLevelsOf levels range → at ≡ min n 256
+    → is_taken ≡ (nat_le range.first at && nat_le at range.last) → is_taken ≡ (answer_at levels n).0
+range_taken levels range at n is_taken ranged place is = is ∙ ap (λ k. nat_le range.first k && nat_le k range.last) place ∙ ranged.taken n
+
+-- nothing below is taken
+pub preorder-passed : (levels : Option Levels) (n : ℕ) (t : Tree) → ((answer_at levels n).1 ≡ false) ⊎ (is_shut levels (n + 1) ≡ true)
+    → preorder levels n t ≡ own levels n t
+preorder-passed levels n t passed = elim passed [
+  | inl left ↦ preorder-left levels n t left
+  | inr shut ↦ preorder-shut levels n t shut
+]
