@@ -6,50 +6,50 @@ use Rattle.jsonb_doc.specs.declared.error.ArithmeticFault.TheVariants.{Overflow,
 use Rattle.jsonb_c.specs.declared.status.Status.{Status}
 use Rattle.jsonb_c.specs.declared.status.Status.TheVariants.{Answered, Absent, BufferTooSmall, BadOffsets, NotUtf8, Refused}
 
+-- each status
+abbrev pub code : Status → ℕ
+code Answered = 0
+code Absent = 1
+code BufferTooSmall = 2
+code BadOffsets = 3
+code NotUtf8 = 4
+code (Refused InvalidJsonb) = 16
+code (Refused UnsupportedNumber) = 17
+code (Refused InvalidJsonPath) = 18
+code (Refused InvalidKeyPath) = 19
+code (Refused InvalidCast) = 20
+code (Refused InvalidObject) = 21
+code (Refused InvalidJsonType) = 22
+code (Refused ObjectDuplicateKey) = 23
+code (Refused TooLarge) = 24
+code (Refused TooDeep) = 25
+code (Refused OutOfMemory) = 26
+code (Refused StrictPath) = 27
+code (Refused (Arithmetic Overflow)) = 48
+code (Refused (Arithmetic ZeroDivisor)) = 49
+code (Refused (Arithmetic Inexact)) = 50
+code (Refused (Arithmetic DecimalOperand)) = 51
+
 -- the call is answered
 abbrev pub ok : ℕ
-ok = 0
+ok = code Answered
 
 -- there is no such part
 abbrev pub none : ℕ
-none = 1
+none = code Absent
 
 -- the answer is longer than the buffer
 abbrev pub buffer_too_small : ℕ
-buffer_too_small = 2
+buffer_too_small = code BufferTooSmall
 
 -- offsets fall, or pass the data
 abbrev pub bad_offsets : ℕ
-bad_offsets = 3
+bad_offsets = code BadOffsets
 
 -- a name is no UTF-8
 abbrev pub not_utf8 : ℕ
-not_utf8 = 4
+not_utf8 = code NotUtf8
 
 -- a refusal
 abbrev pub status_of : Error → ℕ
-status_of InvalidJsonb = 16
-status_of UnsupportedNumber = 17
-status_of InvalidJsonPath = 18
-status_of InvalidKeyPath = 19
-status_of InvalidCast = 20
-status_of InvalidObject = 21
-status_of InvalidJsonType = 22
-status_of ObjectDuplicateKey = 23
-status_of TooLarge = 24
-status_of TooDeep = 25
-status_of OutOfMemory = 26
-status_of StrictPath = 27
-status_of (Arithmetic Overflow) = 48
-status_of (Arithmetic ZeroDivisor) = 49
-status_of (Arithmetic Inexact) = 50
-status_of (Arithmetic DecimalOperand) = 51
-
--- each status
-abbrev pub code : Status → ℕ
-code Answered = ok
-code Absent = none
-code BufferTooSmall = buffer_too_small
-code BadOffsets = bad_offsets
-code NotUtf8 = not_utf8
-code (Refused e) = status_of e
+status_of e = code (Refused e)
