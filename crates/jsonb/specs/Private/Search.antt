@@ -7,7 +7,7 @@ use Rattle.jsonb_doc.specs.declared.error.Error.{Error}
 use Rattle.jsonb_doc.specs.declared.spot.Spot.{Spot}
 use Rattle.jsonb.specs.PathTree.{Step, dot_wildcard, recursive_dot_wildcard, bracket_wildcard, array_indices, filter, Expression, steps_of}
 use Rattle.jsonb.specs.PathViews.{step_view, entry_view, levels_view}
-use Rattle.jsonb.specs.Related.{AllRelated}
+use Rattle.std.specs.List.{AllZip}
 use Rattle.jsonb.specs.Meaning.{steps_meaning}
 use Rattle.jsonb.specs.Private.Compared.{IsMemberCompared, AreCompared}
 use Rattle.jsonb.specs.Private.Members.{is_member}
@@ -38,7 +38,7 @@ IsSearched (search.Joined all) s = (e : Expression) × (s ≡ filter e) × AreCo
 -- these items are left
 abbrev pub HasItems : List ℕ → Items → List Tree → Type 0
 HasItems bytes (items.Children children) ts = HasSpotsLeft bytes children ts
-HasItems bytes (items.Listed v) ts = AllRelated (Locates bytes) (reverse v.items) ts
+HasItems bytes (items.Listed v) ts = AllZip (Locates bytes) (reverse v.items) ts
 
 -- at most how many items are left, on any bytes
 abbrev pub items_bound : Items → ℕ
@@ -53,7 +53,7 @@ TakesItem bytes _ _ after = ⊥
 
 -- these are the items that a step gives
 abbrev pub AreGiven : List ℕ → Given → List Tree → Type 0
-AreGiven bytes (given.AtMostOne found) ts = AllRelated (Locates bytes) (option_spots found) ts
+AreGiven bytes (given.AtMostOne found) ts = AllZip (Locates bytes) (option_spots found) ts
 AreGiven bytes (given.Many left) ts = HasItems bytes left ts
 
 abbrev pub given_bound : Given → ℕ
@@ -63,11 +63,11 @@ given_bound (given.Many left) = items_bound left
 -- the steps lead from the item to one at most, or to those that are left, with steps before them
 abbrev pub IsReached : List ℕ → Tree → Tree → List Step → Reached → Type 0
 IsReached bytes top t ss (reached.AtMostOne found) =
-    (us : List Tree) × AllRelated (Locates bytes) (option_spots found) us
+    (us : List Tree) × AllZip (Locates bytes) (option_spots found) us
     × (steps_meaning Lax (steps_of ss) top (t ∷ []) ≡ Ok us)
 IsReached bytes top t ss (reached.Many inner) =
     (us : List Tree) × (rest : List Step) × HasItems bytes inner.items us
-    × AllRelated IsSearched inner.steps.now rest
+    × AllZip IsSearched inner.steps.now rest
     × (steps_meaning Lax (steps_of ss) top (t ∷ []) ≡ steps_meaning Lax (steps_of rest) top us)
 
 -- fewer steps than these are before what is left

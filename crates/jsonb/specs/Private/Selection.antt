@@ -15,7 +15,7 @@ use Rattle.jsonb_doc.specs.Tree.{Tree, number, array, trees_of}
 use Rattle.jsonb.specs.PathTree.{Expression, Step, UnaryOp, current, filter, whole_expression}
 use Rattle.jsonb.specs.PathArithmetic.{signed_number}
 use Rattle.jsonb.specs.Meaning.{Means}
-use Rattle.jsonb.specs.Related.{AllRelated}
+use Rattle.std.specs.List.{AllZip}
 use Rattle.jsonb.specs.Values as val
 use Rattle.jsonb.specs.declared.selector.document.Document.{Document}
 use Rattle.jsonb.specs.declared.selector.document.Mode.{Mode}
@@ -43,8 +43,8 @@ HasTree document t = IsAt document document.root t
 abbrev pub PushesStep : List ℕ → Spot → List Spot → List Spot → Result (Unit {0}) Error
     → (Tree → Outcome (List Tree)) → Type 0
 PushesStep bytes item old new answer step =
-    (t : Tree) (before : List Tree) → Locates bytes item t → AllRelated (Locates bytes) old before
-    → Gives (λ _ ts. AllRelated (Locates bytes) new (before ++ ts)) IsOutOfMemory answer (step t)
+    (t : Tree) (before : List Tree) → Locates bytes item t → AllZip (Locates bytes) old before
+    → Gives (λ _ ts. AllZip (Locates bytes) new (before ++ ts)) IsOutOfMemory answer (step t)
 
 -- the value that an operand's value is
 abbrev pub atom_value : Atom → val.Value
@@ -86,9 +86,9 @@ IsNumberItem n t = t ≡ number (number_view n)
 
 -- what is selected are these trees
 abbrev pub AreSelected : Form → Document → Selected → List Tree → Type 0
-AreSelected form document (selected.Nodes places) ts = AllRelated (IsAt document) (node_spots places) ts
-AreSelected form document (selected.Numbers v) ts = AllRelated IsNumberItem v.items ts
-AreSelected form document (selected.Made part) ts = AllRelated (IsMadeItem form) (part ∷ []) ts
+AreSelected form document (selected.Nodes places) ts = AllZip (IsAt document) (node_spots places) ts
+AreSelected form document (selected.Numbers v) ts = AllZip IsNumberItem v.items ts
+AreSelected form document (selected.Made part) ts = AllZip (IsMadeItem form) (part ∷ []) ts
 
 -- the answer is that of the path's meaning on the document's tree
 abbrev pub GivesMeant :

@@ -10,7 +10,7 @@ ghost use Rattle.jsonb_doc.specs.Tree.{Tree};
 ghost use Rattle.jsonb_raw.specs.Arrays.{array_values};
 ghost use Rattle.jsonb.specs.PathTree.{single, from_front};
 ghost use Rattle.jsonb.specs.PathViews.{entry_view};
-ghost use Rattle.jsonb.specs.Related.{AllRelated};
+ghost use Rattle.std.specs.List.{AllZip};
 ghost use Rattle.jsonb.specs.ItemSteps.{values_of, field_step, values_step, elements_step, indices_step, picked_by, picked};
 ghost use Rattle.jsonb.specs.Private.Selection.{PushesStep};
 ghost use Rattle.jsonb.specs.SelectionErrors.{IsSelectionError};
@@ -75,8 +75,8 @@ pub(crate) fn push_spot(nodes: &mut Vec<Spot>, spot: Spot) -> Result<(), Error>
 #[inline(always)]
 pub(crate) fn push_if(condition: bool, spot: Spot, nodes: &mut Vec<Spot>) -> Result<(), Error>
     ensures meant { (bytes : List ℕ) (t : Tree) (before : List Tree) → Locates bytes spot t
-        → AllRelated (Locates bytes) nodes.old.items before
-        → Gives (λ _ us. AllRelated (Locates bytes) nodes.new.items (before ++ us)) IsOutOfMemory result
+        → AllZip (Locates bytes) nodes.old.items before
+        → Gives (λ _ us. AllZip (Locates bytes) nodes.new.items (before ++ us)) IsOutOfMemory result
         (Ok (if condition then t ∷ [] else [])) }
     ensures errors { IfErr result IsOutOfMemory }
 {
@@ -90,8 +90,8 @@ pub(crate) fn push_if(condition: bool, spot: Spot, nodes: &mut Vec<Spot>) -> Res
 /// The places that are left in an iterator.
 pub(crate) fn push_spots(spots: SpotIter<'_>, nodes: &mut Vec<Spot>) -> Result<(), Error>
     ensures meant { (bytes : List ℕ) (ts before : List Tree) → HasSpotsLeft bytes spots.entry ts
-        → AllRelated (Locates bytes) nodes.old.items before
-        → Gives (λ _ us. AllRelated (Locates bytes) nodes.new.items (before ++ us)) IsOutOfMemory result (Ok ts) }
+        → AllZip (Locates bytes) nodes.old.items before
+        → Gives (λ _ us. AllZip (Locates bytes) nodes.new.items (before ++ us)) IsOutOfMemory result (Ok ts) }
     ensures errors { IfErr result (IsDecodingError or OutOfMemory) }
 {
     nodes.reserve(spots.len())?;
@@ -191,8 +191,8 @@ fn push_picked(
     nodes: &mut Vec<Spot>,
 ) -> Result<(), Error>
     ensures meant { (bytes : List ℕ) (ts before : List Tree) → HasSpotsLeft bytes elements.entry ts
-        → AllRelated (Locates bytes) nodes.old.items before
-        → Gives (λ _ us. AllRelated (Locates bytes) nodes.new.items (before ++ us)) IsOutOfMemory result
+        → AllZip (Locates bytes) nodes.old.items before
+        → Gives (λ _ us. AllZip (Locates bytes) nodes.new.items (before ++ us)) IsOutOfMemory result
         (Ok (picked (map entry_view entries.now) ts)) }
     ensures errors { IfErr result (IsDecodingError or OutOfMemory) }
 {
@@ -217,8 +217,8 @@ fn plain_index(entries: &[ArrayIndex]) -> Option<usize>
 /// The element at a position.
 fn push_nth(elements: SpotIter<'_>, position: usize, nodes: &mut Vec<Spot>) -> Result<(), Error>
     ensures meant { (bytes : List ℕ) (ts before : List Tree) → HasSpotsLeft bytes elements.entry ts
-        → AllRelated (Locates bytes) nodes.old.items before
-        → Gives (λ _ us. AllRelated (Locates bytes) nodes.new.items (before ++ us)) IsOutOfMemory result
+        → AllZip (Locates bytes) nodes.old.items before
+        → Gives (λ _ us. AllZip (Locates bytes) nodes.new.items (before ++ us)) IsOutOfMemory result
         (Ok (filter_map (slice_get ts) (position ∷ []))) }
     ensures errors { IfErr result (IsDecodingError or OutOfMemory) }
 {
@@ -239,9 +239,9 @@ fn push_entries(
     elements: &[Spot],
     nodes: &mut Vec<Spot>,
 ) -> Result<(), Error>
-    ensures meant { (bytes : List ℕ) (ts before : List Tree) → AllRelated (Locates bytes) elements.now ts
-        → AllRelated (Locates bytes) nodes.old.items before
-        → Gives (λ _ us. AllRelated (Locates bytes) nodes.new.items (before ++ us)) IsOutOfMemory result
+    ensures meant { (bytes : List ℕ) (ts before : List Tree) → AllZip (Locates bytes) elements.now ts
+        → AllZip (Locates bytes) nodes.old.items before
+        → Gives (λ _ us. AllZip (Locates bytes) nodes.new.items (before ++ us)) IsOutOfMemory result
         (Ok (picked (map entry_view entries.now) ts)) }
     ensures errors { IfErr result (IsDecodingError or OutOfMemory) }
 {
@@ -253,9 +253,9 @@ fn push_entries(
 
 /// The elements at the positions of one entry, ascending.
 fn push_entry(entry: &ArrayIndex, elements: &[Spot], nodes: &mut Vec<Spot>) -> Result<(), Error>
-    ensures meant { (bytes : List ℕ) (ts before : List Tree) → AllRelated (Locates bytes) elements.now ts
-        → AllRelated (Locates bytes) nodes.old.items before
-        → Gives (λ _ us. AllRelated (Locates bytes) nodes.new.items (before ++ us)) IsOutOfMemory result
+    ensures meant { (bytes : List ℕ) (ts before : List Tree) → AllZip (Locates bytes) elements.now ts
+        → AllZip (Locates bytes) nodes.old.items before
+        → Gives (λ _ us. AllZip (Locates bytes) nodes.new.items (before ++ us)) IsOutOfMemory result
         (Ok (picked_by (entry_view entry.now) ts)) }
     ensures errors { IfErr result IsOutOfMemory }
 {

@@ -6,7 +6,7 @@ ghost use Rattle.jsonb_doc.specs.Spots.{Locates};
 ghost use Rattle.jsonb_doc.specs.Tree.{Tree};
 ghost use Rattle.jsonb.specs.PathTree.{Expression, steps_of, paths};
 ghost use Rattle.jsonb.specs.PathViews.{steps_view, expression_view};
-ghost use Rattle.jsonb.specs.Related.{AllRelated};
+ghost use Rattle.std.specs.List.{AllZip};
 ghost use Rattle.jsonb.specs.Meaning.{truth};
 ghost use Rattle.jsonb.specs.Private.Compared.{IsMemberCompared, IsListCompared, list_truth};
 ghost use Rattle.jsonb.specs.Private.Members.{are_members};
@@ -132,7 +132,7 @@ fn items_truth(
     items: &[Spot],
 ) -> Result<Option<bool>, Error>
     ensures meant { (e : Expression) (top : Tree) (ts : List Tree) → IsMemberCompared comparison.now e
-        → AllRelated (Locates bytes.now) items.now ts
+        → AllZip (Locates bytes.now) items.now ts
         → Gives (λ b c. b ≡ c) IsOutOfMemory result (list_truth comparison.now top ts) }
     ensures errors { IfErr result (IsSelectionError Lax) }
 {

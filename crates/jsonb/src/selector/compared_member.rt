@@ -7,7 +7,7 @@ ghost use Rattle.jsonb_doc.specs.Spots.{Locates};
 ghost use Rattle.jsonb_doc.specs.Tree.{Tree};
 ghost use Rattle.jsonb.specs.PathTree.{steps_of, paths};
 ghost use Rattle.jsonb.specs.PathViews.{steps_view, operator_view};
-ghost use Rattle.jsonb.specs.Related.{AllRelated};
+ghost use Rattle.std.specs.List.{AllZip};
 ghost use Rattle.jsonb.specs.Compare.{compare};
 ghost use Rattle.jsonb.specs.Values.{values_of_item};
 ghost use Rattle.jsonb.specs.Meaning.{operand_values};
@@ -56,7 +56,7 @@ pub(crate) fn compared(
     member: Option<Spot>,
     rights: &[Atom<'_>],
 ) -> Result<Option<bool>, Error>
-    ensures meant { (ts : List Tree) → AllRelated (Locates bytes.now) (option_spots member) ts
+    ensures meant { (ts : List Tree) → AllZip (Locates bytes.now) (option_spots member) ts
         → Gives (λ b c. b ≡ c) IsOutOfMemory result
         (Ok (compare (operator_view op) (flat_map values_of_item ts) (map atom_value rights.now))) }
     ensures errors { IfErr result (IsDecodingError or OutOfMemory) }
@@ -84,7 +84,7 @@ fn list_compared(
     item: Spot,
     rights: &[Atom<'_>],
 ) -> Result<Option<bool>, Error>
-    ensures meant { (ts : List Tree) → AllRelated (Locates bytes.now) (item ∷ []) ts
+    ensures meant { (ts : List Tree) → AllZip (Locates bytes.now) (item ∷ []) ts
         → Gives (λ b c. b ≡ c) IsOutOfMemory result
         (Ok (compare (operator_view op) (flat_map values_of_item ts) (map atom_value rights.now))) }
     ensures errors { IfErr result (IsDecodingError or OutOfMemory) }

@@ -7,7 +7,7 @@ ghost use Rattle.jsonb_doc.specs.Spots.{Locates};
 ghost use Rattle.jsonb_doc.specs.Tree.{Tree};
 ghost use Rattle.jsonb.specs.PathTree.{Step, steps_of, filter};
 ghost use Rattle.jsonb.specs.PathViews.{step_view, steps_view, expression_view};
-ghost use Rattle.jsonb.specs.Related.{AllRelated};
+ghost use Rattle.std.specs.List.{AllZip};
 ghost use Rattle.jsonb.specs.ItemSteps.{values_step, elements_step};
 ghost use Rattle.jsonb.specs.Meaning.{step_meaning, steps_meaning, filtered};
 ghost use Rattle.jsonb.specs.SelectorAnswers.{first_item};
@@ -144,7 +144,7 @@ fn searched_steps<'s, 'p>(
     steps: &'s [Path<'p>],
 ) -> Result<Option<Vec<SearchStep<'s, 'p>>>, Error>
     ensures searched { IfOk result (λ found. MatchOption found ⊤
-        (λ v. AllRelated IsSearched v.items (map (taken_step expressions) (steps_view steps.now)))) }
+        (λ v. AllZip IsSearched v.items (map (taken_step expressions) (steps_view steps.now)))) }
     ensures errors { IfErr result IsOutOfMemory }
 {
     let mut searched = Vec::with_capacity(alloc, steps.len())?;
@@ -217,7 +217,7 @@ fn first_found(
     bytes: &[u8],
     first: Spot,
 ) -> Result<Option<Spot>, Error>
-    ensures meant { (top t : Tree) (ss : List Step) → AllRelated IsSearched steps.now ss → Locates bytes.now first t
+    ensures meant { (top t : Tree) (ss : List Step) → AllZip IsSearched steps.now ss → Locates bytes.now first t
         → Gives (λ found us. SameOption (Locates bytes.now) found (first_item us)) IsOutOfMemory result
         (steps_meaning Lax (steps_of ss) top (t ∷ [])) }
     ensures errors { IfErr result (IsSelectionError Lax) }
@@ -253,7 +253,7 @@ fn reach<'t, 's, 'p, 'a>(
     bytes: &'a [u8],
     first: Spot,
 ) -> Result<Reached<'t, 's, 'p, 'a>, Error>
-    ensures meant { (top t : Tree) (ss : List Step) → AllRelated IsSearched steps.now ss → Locates bytes.now first t
+    ensures meant { (top t : Tree) (ss : List Step) → AllZip IsSearched steps.now ss → Locates bytes.now first t
         → MatchResult result (IsReached bytes.now top t ss) IsOutOfMemory }
     ensures within { IfOk result (IsWithin (length steps.now)) }
     ensures errors { IfErr result (IsSelectionError Lax) }
@@ -326,7 +326,7 @@ fn kept<'a>(truth: Option<bool>, item: Spot) -> Given<'a>
 /// The places of a list.
 #[inline(always)]
 fn listed<'a>(mut spots: Vec<Spot>) -> Given<'a>
-    ensures given { (bytes : List ℕ) (ts : List Tree) → AllRelated (Locates bytes) spots.items ts
+    ensures given { (bytes : List ℕ) (ts : List Tree) → AllZip (Locates bytes) spots.items ts
         → AreGiven bytes result ts }
     ensures few { given_bound result < 2 ^ 64 }
 {

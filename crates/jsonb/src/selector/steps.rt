@@ -7,7 +7,7 @@ ghost use Rattle.jsonb_doc.specs.Tree.{Tree};
 ghost use Rattle.jsonb.specs.PathTree.{Expression, steps_of, filter};
 ghost use Rattle.jsonb.specs.ItemSteps.{field_step};
 ghost use Rattle.jsonb.specs.PathViews.{step_view, steps_view, expression_view};
-ghost use Rattle.jsonb.specs.Related.{AllRelated};
+ghost use Rattle.std.specs.List.{AllZip};
 ghost use Rattle.jsonb.specs.Meaning.{step_meaning, steps_meaning, truth, operand_values, is_some_item};
 ghost use Rattle.jsonb.specs.Private.Selection.{IsAt, HasTree, node_spots, atoms_view, taken_step, is_filter, IsPlain};
 ghost use Rattle.jsonb.specs.Private.Exists.{is_exists};
@@ -49,8 +49,8 @@ fn push_step(
     nodes: &mut Vec<Spot>,
 ) -> Result<(), Error>
     ensures meant { (top t : Tree) (before : List Tree) → is_filter (step_view step.now) ≡ false
-        → Locates bytes.now item t → AllRelated (Locates bytes.now) nodes.old.items before
-        → Gives (λ _ ts. AllRelated (Locates bytes.now) nodes.new.items (before ++ ts))
+        → Locates bytes.now item t → AllZip (Locates bytes.now) nodes.old.items before
+        → Gives (λ _ ts. AllZip (Locates bytes.now) nodes.new.items (before ++ ts))
         IsOutOfMemory result (step_meaning mode (step_view step.now) top t) }
     ensures errors { IfErr result (IsSelectionError mode) }
 {
@@ -77,7 +77,7 @@ fn plain_step(
     item: Spot,
 ) -> Result<NodeList, Error>
     ensures meant { (top t : Tree) → is_filter (step_view step.now) ≡ false → Locates bytes.now item t
-        → Gives (λ found ts. AllRelated (Locates bytes.now) (node_spots found) ts)
+        → Gives (λ found ts. AllZip (Locates bytes.now) (node_spots found) ts)
         IsOutOfMemory result (step_meaning mode (step_view step.now) top t) }
     ensures errors { IfErr result (IsSelectionError mode) }
 {
@@ -99,8 +99,8 @@ fn plain_steps(
     items: &[Spot],
 ) -> Result<NodeList, Error>
     ensures meant { (top : Tree) (ts : List Tree) → is_filter (step_view step.now) ≡ false
-        → AllRelated (Locates bytes.now) items.now ts
-        → Gives (λ found us. AllRelated (Locates bytes.now) (node_spots found) us)
+        → AllZip (Locates bytes.now) items.now ts
+        → Gives (λ found us. AllZip (Locates bytes.now) (node_spots found) us)
         IsOutOfMemory result (try_flat_map (step_meaning mode (step_view step.now) top) ts) }
     ensures errors { IfErr result (IsSelectionError mode) }
 {
@@ -123,8 +123,8 @@ fn named_values(
     bytes: &[u8],
     items: &[Spot],
 ) -> Result<NodeList, Error>
-    ensures meant { (ts : List Tree) → AllRelated (Locates bytes.now) items.now ts
-        → Gives (λ found us. AllRelated (Locates bytes.now) (node_spots found) us)
+    ensures meant { (ts : List Tree) → AllZip (Locates bytes.now) items.now ts
+        → Gives (λ found us. AllZip (Locates bytes.now) (node_spots found) us)
         IsOutOfMemory result (try_flat_map (field_step mode name.now) ts) }
     ensures errors { IfErr result (IsSelectionError mode) }
 {
@@ -164,7 +164,7 @@ fn step_item<'a>(
     item: Spot,
 ) -> Result<NodeList, Error>
     ensures meant { (top t : Tree) → HasTree document.entry top → IsAt document.entry item t
-        → Gives (λ found ts. AllRelated (IsAt document.entry) (node_spots found) ts)
+        → Gives (λ found ts. AllZip (IsAt document.entry) (node_spots found) ts)
         IsOutOfMemory result (step_meaning mode (taken_step expressions (step_view step.now)) top t) }
     ensures errors { IfErr result (IsSelectionError mode) }
 {
@@ -189,8 +189,8 @@ pub(crate) fn step_list<'a>(
     items: NodeList,
 ) -> Result<NodeList, Error>
     ensures meant { (top : Tree) (ts : List Tree) → HasTree document.entry top
-        → AllRelated (IsAt document.entry) (node_spots items) ts
-        → Gives (λ found us. AllRelated (IsAt document.entry) (node_spots found) us)
+        → AllZip (IsAt document.entry) (node_spots items) ts
+        → Gives (λ found us. AllZip (IsAt document.entry) (node_spots found) us)
         IsOutOfMemory result (try_flat_map (step_meaning mode (taken_step expressions (step_view step.now)) top) ts) }
     ensures errors { IfErr result (IsSelectionError mode) }
 {
@@ -215,8 +215,8 @@ fn step_many<'a>(
     items: &[Spot],
 ) -> Result<NodeList, Error>
     ensures meant { (top : Tree) (ts : List Tree) → HasTree document.entry top
-        → AllRelated (IsAt document.entry) items.now ts
-        → Gives (λ found us. AllRelated (IsAt document.entry) (node_spots found) us)
+        → AllZip (IsAt document.entry) items.now ts
+        → Gives (λ found us. AllZip (IsAt document.entry) (node_spots found) us)
         IsOutOfMemory result (try_flat_map (step_meaning mode (taken_step expressions (step_view step.now)) top) ts) }
     ensures errors { IfErr result (IsSelectionError mode) }
 {
@@ -243,8 +243,8 @@ fn filter_many<'a>(
     items: &[Spot],
 ) -> Result<NodeList, Error>
     ensures meant { (top : Tree) (ts : List Tree) → HasTree document.entry top
-        → AllRelated (IsAt document.entry) items.now ts
-        → Gives (λ found us. AllRelated (IsAt document.entry) (node_spots found) us)
+        → AllZip (IsAt document.entry) items.now ts
+        → Gives (λ found us. AllZip (IsAt document.entry) (node_spots found) us)
         IsOutOfMemory result (try_flat_map (step_meaning mode (filter (expression_view e.now)) top) ts) }
     ensures errors { IfErr result (IsSelectionError mode) }
 {
@@ -276,8 +276,8 @@ fn push_kept<'a>(
     requires { is_joined (expression_view e.now) ≡ true → AreTermsOf e.now terms.now }
     ensures meant { (top t : Tree) (before : List Tree) → HasTree document.entry top → IsAt document.entry item t
         → IsKeptFor mode top (expression_view e.now) run.old.kept
-        → AllRelated (IsAt document.entry) nodes.old.items before
-        → Gives (λ _ ts. AllRelated (IsAt document.entry) nodes.new.items (before ++ ts)) IsOutOfMemory result
+        → AllZip (IsAt document.entry) nodes.old.items before
+        → Gives (λ _ ts. AllZip (IsAt document.entry) nodes.new.items (before ++ ts)) IsOutOfMemory result
         (step_meaning mode (filter (expression_view e.now)) top t) }
     ensures kept { (top t : Tree) → HasTree document.entry top → IsAt document.entry item t
         → IsKeptFor mode top (expression_view e.now) run.old.kept
@@ -301,7 +301,7 @@ pub(crate) fn select_steps<'a>(
     first: Spot,
 ) -> Result<NodeList, Error>
     ensures meant { (top t : Tree) → HasTree document.entry top → IsAt document.entry first t
-        → Gives (λ found us. AllRelated (IsAt document.entry) (node_spots found) us)
+        → Gives (λ found us. AllZip (IsAt document.entry) (node_spots found) us)
         IsOutOfMemory result
         (steps_meaning mode (steps_of (map (taken_step expressions) (steps_view steps.now))) top (t ∷ [])) }
     ensures errors { IfErr result (IsSelectionError mode) }

@@ -7,7 +7,7 @@ ghost use Rattle.jsonb_doc.specs.Payload.{Form};
 ghost use Rattle.jsonb_doc.specs.Tree.{Tree};
 ghost use Rattle.jsonb.specs.PathTree.{whole_expression, value};
 ghost use Rattle.jsonb.specs.PathViews.{step_view, steps_view, expression_view, literal_view, operator_view, sign_view};
-ghost use Rattle.jsonb.specs.Related.{AllRelated};
+ghost use Rattle.std.specs.List.{AllZip};
 ghost use Rattle.jsonb.specs.PathArithmetic.{operation, each_signed};
 ghost use Rattle.jsonb.specs.Meaning.{operand_values, truth, Means, truth_item, truth_list, calculation, expression_predicate};
 ghost use Rattle.jsonb.specs.Private.Search.{BeginsAs};
@@ -158,7 +158,7 @@ fn whole_unary<'a>(
     document: Document<'a>,
 ) -> Result<Vec<Number>, Error>
     ensures meant { (top : Tree) → HasTree document.entry top
-        → Gives (λ v ts. AllRelated IsNumberItem v.items ts) IsOutOfMemory result
+        → Gives (λ v ts. AllZip IsNumberItem v.items ts) IsOutOfMemory result
         (and_then (operand_values mode (expression_view operand.now) top top) (each_signed (sign_view op))) }
     ensures errors { IfErr result (IsSelectionError mode) }
 {

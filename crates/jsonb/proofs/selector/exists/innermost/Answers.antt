@@ -2,7 +2,7 @@ use Rattle.std.proofs.Common.{◌≡◌, ◌<◌, ◌≤◌, Err, Option, Bool, 
 use Rattle.std.proofs.lemmas.Result.{err_from_is_err_and}
 use Rattle.jsonb_doc.specs.Spots.{Locates}
 use Rattle.jsonb.specs.PathViews.{expression_view, steps_view}
-use Rattle.jsonb.specs.Related.{AllRelated}
+use Rattle.std.specs.List.{AllZip}
 use Rattle.jsonb.specs.Meaning.{truth}
 use Rattle.jsonb.specs.Private.Exists.{LeadsTo}
 use Rattle.jsonb.specs.Private.Selection.{option_spots}
@@ -38,7 +38,7 @@ loop-nested-preserved c =
           let first = c.first_item-first.ensures top inv.0 r inv.1 in
           let whole = inv.2 ∙ ap (λ x. truth c.args.mode x top inv.0) n.2
           ∙ nested_truth c.args.mode (steps_view c.in-Some.nested.names.now) e top inv.0 in
-          let next = continued (λ us. AllRelated (Locates c.args.document.bytes.now) (option_spots c.in_ok-item.field-0) us)
+          let next = continued (λ us. AllZip (Locates c.args.document.bytes.now) (option_spots c.in_ok-item.field-0) us)
           _ (filtered_by c.args.mode e top) ((c.in_ok-item.ensures.meant AreRefused top _ n.0 first).ok) in
           let one = one_member (Locates c.args.document.bytes.now) _ c.in-Some-2.item next.0 c.in-Some-2.is next.1 in
           (one.0, one.2, whole ∙ next.2 ∙ ap (filtered_by c.args.mode e top) one.1 ∙ one_filtered c.args.mode e top one.0 n.1);
@@ -54,6 +54,6 @@ returns-in-None-clause-meant c = λ top t is r s.
     let first = c.first_item-first.ensures top inv.0 r inv.1 in
     let whole = inv.2 ∙ ap (λ x. truth c.args.mode x top inv.0) n.2
     ∙ nested_truth c.args.mode (steps_view c.in-Some.nested.names.now) e top inv.0 in
-    let next = continued (λ us. AllRelated (Locates c.args.document.bytes.now) (option_spots c.in_ok-item.field-0) us)
+    let next = continued (λ us. AllZip (Locates c.args.document.bytes.now) (option_spots c.in_ok-item.field-0) us)
     _ (filtered_by c.args.mode e top) ((c.in_ok-item.ensures.meant AreRefused top _ n.0 first).ok) in
     whole ∙ next.2 ∙ ap (filtered_by c.args.mode e top) (no_member (Locates c.args.document.bytes.now) _ next.0 c.in-None.is next.1)

@@ -2,7 +2,7 @@ use Rattle.std.proofs.Common.{◌≡◌, ◌≤◌, ℕ, List, min, option_map}
 use Rattle.jsonb_doc.specs.Spots.{Locates, HasSpotsLeft, spots_room, spots_bound}
 use Rattle.jsonb_doc.specs.Tree.{Tree}
 use Rattle.jsonb.specs.PathViews.{levels_view}
-use Rattle.jsonb.specs.Related.{AllRelated}
+use Rattle.std.specs.List.{AllZip}
 use Rattle.jsonb.proofs.BelowLemmas.{PassedSo}
 use Rattle.jsonb.proofs.selector.levels.pass_leaves.Given as goal
 
@@ -12,7 +12,7 @@ invariant-loop-child l = record {
   room : spots_room l.left ≤ spots_room l.children;
   bound : spots_bound l.left ≤ spots_bound l.children;
   passed : (bytes : List ℕ) (n : ℕ) (ts before : List Tree) → l.level ≡ min n 256 → HasSpotsLeft bytes l.children ts
-      → AllRelated (Locates bytes) l.fn.nodes.items before
+      → AllZip (Locates bytes) l.fn.nodes.items before
       → PassedSo bytes (option_map levels_view l.fn.levels) n (HasSpotsLeft bytes l.left) ts before l.nodes.items;
 }
 

@@ -6,7 +6,7 @@ use Rattle.jsonb_doc.specs.Answer.{try_flat_map, and_then, Gives, IsOutOfMemory}
 use Rattle.jsonb.specs.PathTree as math
 use Rattle.jsonb.specs.PathTree.{steps_of}
 use Rattle.jsonb.specs.PathViews.{step_view, steps_view, expression_view, operator_view}
-use Rattle.jsonb.specs.Related.{AllRelated}
+use Rattle.std.specs.List.{AllZip}
 use Rattle.jsonb.specs.Values.{values_of_item}
 use Rattle.jsonb.specs.Compare.{compare}
 use Rattle.jsonb.specs.Private.Selection.{IsAt, node_spots, taken_step, atoms_view}
@@ -51,9 +51,9 @@ push_kept-returns-clause-kept t c = λ top u r s k.
 
 pub filter_many-loop-item-init : goal.filter_many-loop-item-init
 filter_many-loop-item-init t c = λ top ts r a. (
-  at_start (step_meaning c.args.mode (math.filter (expression_view c.args.e.now)) top) (AllRelated (IsAt c.args.document) c.args.items.now)
-      (AllRelated (IsAt c.args.document) c.new-nodes.result.items) ts a
-      (subst (λ l. AllRelated (IsAt c.args.document) l []) (sym c.new-nodes.ensures.items) tt),
+  at_start (step_meaning c.args.mode (math.filter (expression_view c.args.e.now)) top) (AllZip (IsAt c.args.document) c.args.items.now)
+      (AllZip (IsAt c.args.document) c.new-nodes.result.items) ts a
+      (subst (λ l. AllZip (IsAt c.args.document) l []) (sym c.new-nodes.ensures.items) tt),
   subst (λ k. IsKeptFor c.args.mode top (expression_view c.args.e.now) k) (sym c.new-run.ensures)
       (c.new-kept.ensures c.args.mode top (conditions (expression_view c.args.e.now))),
 )
@@ -63,9 +63,9 @@ filter_many-returns-in_err-push_kept-clause-meant t c = λ top ts r a.
     let inv = c.loop-item.invariant top ts r a in
     let p = err_from_is_err_and c.from_residual-in_err-push_kept.result c.from_residual-in_err-push_kept.ensures.1 in
     same_answer (p.1 ∙ ap Err p.2) (refused_in (step_meaning c.args.mode (math.filter (expression_view c.args.e.now)) top) _
-    (AllRelated (IsAt c.args.document) (drop c.loop-item.item-index c.args.items.now))
-    (AllRelated (IsAt c.args.document) (drop (c.loop-item.item-index + 1) c.args.items.now))
-    (AllRelated (IsAt c.args.document) c.loop-item.nodes.items) (AllRelated (IsAt c.args.document) c.push_kept.new.nodes.items) _ _ _
+    (AllZip (IsAt c.args.document) (drop c.loop-item.item-index c.args.items.now))
+    (AllZip (IsAt c.args.document) (drop (c.loop-item.item-index + 1) c.args.items.now))
+    (AllZip (IsAt c.args.document) c.loop-item.nodes.items) (AllZip (IsAt c.args.document) c.push_kept.new.nodes.items) _ _ _
     inv.0
     (list_first (IsAt c.args.document) c.args.items.now c.loop-item.item-index no_spot c.loop-item-test.true)
     (λ u before s b. c.in_err-push_kept.ensures.meant top u before r s inv.1 b))
@@ -76,9 +76,9 @@ filter_many-loop-item-preserved t c = λ top ts r a.
     let here = list_first (IsAt c.args.document) c.args.items.now c.loop-item.item-index no_spot c.loop-item-test.true in
     let k = here inv.0.rest inv.0.left in (
       one_more (step_meaning c.args.mode (math.filter (expression_view c.args.e.now)) top)
-          (AllRelated (IsAt c.args.document) (drop c.loop-item.item-index c.args.items.now))
-          (AllRelated (IsAt c.args.document) (drop (c.loop-item.item-index + 1) c.args.items.now))
-          (AllRelated (IsAt c.args.document) c.loop-item.nodes.items) (AllRelated (IsAt c.args.document) c.push_kept.new.nodes.items) _ _
+          (AllZip (IsAt c.args.document) (drop c.loop-item.item-index c.args.items.now))
+          (AllZip (IsAt c.args.document) (drop (c.loop-item.item-index + 1) c.args.items.now))
+          (AllZip (IsAt c.args.document) c.loop-item.nodes.items) (AllZip (IsAt c.args.document) c.push_kept.new.nodes.items) _ _
           inv.0 here
           (λ u before s b. (c.in_ok-push_kept.ensures.meant top u before r s inv.1 b).ok),
       c.in_ok-push_kept.ensures.kept top k.first r k.holds inv.1,
@@ -87,8 +87,8 @@ filter_many-loop-item-preserved t c = λ top ts r a.
 pub filter_many-returns-clause-meant : goal.filter_many-returns-clause-meant
 filter_many-returns-clause-meant t c = λ top ts r a. record {
   ok = at_end (step_meaning c.args.mode (math.filter (expression_view c.args.e.now)) top)
-      (AllRelated (IsAt c.args.document) (drop c.loop-item.item-index c.args.items.now))
-      (AllRelated (IsAt c.args.document) c.loop-item.nodes.items) _ (c.loop-item.invariant top ts r a).0
+      (AllZip (IsAt c.args.document) (drop c.loop-item.item-index c.args.items.now))
+      (AllZip (IsAt c.args.document) c.loop-item.nodes.items) _ (c.loop-item.invariant top ts r a).0
       (list_end (IsAt c.args.document) c.args.items.now c.loop-item.item-index c.loop-item-test.false);
   err = tt;
 }
@@ -105,7 +105,7 @@ pub step_item-returns-in_ok-truth-in-Some-clause-meant : goal.step_item-returns-
 step_item-returns-in_ok-truth-in-Some-clause-meant t c = λ top u r s.
     same_outcome (ap (λ x. step_meaning c.args.mode x top u) c.in-Some.ensures.expression)
     (one_ok (λ b. Ok (filtered u b)) (c.in_ok-truth-in-Some.ensures.meant top u r s) (λ b is.
-    subst (λ l. AllRelated (IsAt c.args.document) l (filtered u b)) (sym c.at_most_one.ensures)
+    subst (λ l. AllZip (IsAt c.args.document) l (filtered u b)) (sym c.at_most_one.ensures)
     (kept_found (IsAt c.args.document) c.is_kept-keeps.result c.then_some.result c.args.item u (filtered u b) c.then_some.ensures
     (ap (filtered u) (sym is) ∙ c.is_kept-keeps.ensures u) s)))
 
@@ -118,7 +118,7 @@ step_item-returns-in-None-clause-meant t c = λ top u r s.
 
 pub step_list-returns-in-Root-clause-meant : goal.step_list-returns-in-Root-clause-meant
 step_list-returns-in-Root-clause-meant t c = λ top ts r a.
-    let filtered : Gives (λ found us. AllRelated (IsAt c.args.document) (node_spots found) us) IsOutOfMemory (Ok c.args.items)
+    let filtered : Gives (λ found us. AllZip (IsAt c.args.document) (node_spots found) us) IsOutOfMemory (Ok c.args.items)
     (Ok ts) = record { ok = a; err = tt } in
     elim c.in-Root.is [
       | inl is ↦ same_outcome (ap (λ x. try_flat_map (step_meaning c.args.mode (taken_step c.args.expressions x) top) ts) (root_is c.args.step.now is)
@@ -129,7 +129,7 @@ step_list-returns-in-Root-clause-meant t c = λ top ts r a.
 
 pub step_list-returns-in-One-clause-meant : goal.step_list-returns-in-One-clause-meant
 step_list-returns-in-One-clause-meant t c = λ top ts r a.
-    let one = only_one (IsAt c.args.document) c.in-One.item ts (subst (λ f. AllRelated (IsAt c.args.document) (node_spots f) ts) c.in-One.is a) in
+    let one = only_one (IsAt c.args.document) c.in-One.item ts (subst (λ f. AllZip (IsAt c.args.document) (node_spots f) ts) c.in-One.is a) in
     same_outcome (ap (try_flat_map (step_meaning c.args.mode (taken_step c.args.expressions (step_view c.args.step.now)) top)) one.1
     ∙ joined_one (step_meaning c.args.mode (taken_step c.args.expressions (step_view c.args.step.now)) top) one.0)
     (c.step_item.ensures.meant top one.0 r one.2)
@@ -137,8 +137,8 @@ step_list-returns-in-One-clause-meant t c = λ top ts r a.
 pub step_list-returns-in-Many-clause-meant : goal.step_list-returns-in-Many-clause-meant
 step_list-returns-in-Many-clause-meant t c = λ top ts r a.
     c.step_many.ensures.meant top ts r
-    (subst (λ l. AllRelated (IsAt c.args.document) l ts) (sym c.deref.ensures.value)
-    (subst (λ f. AllRelated (IsAt c.args.document) (node_spots f) ts) c.in-Many.is a))
+    (subst (λ l. AllZip (IsAt c.args.document) l ts) (sym c.deref.ensures.value)
+    (subst (λ f. AllZip (IsAt c.args.document) (node_spots f) ts) c.in-Many.is a))
 
 pub step_many-returns-in-Some-member_compared-clause-meant : goal.step_many-returns-in-Some-member_compared-clause-meant
 step_many-returns-in-Some-member_compared-clause-meant t c = λ top ts r a.
@@ -191,7 +191,7 @@ select_steps-returns-in_err-items-clause-meant t c = λ top u r s.
 pub select_steps-loop-step-preserved : goal.select_steps-loop-step-preserved
 select_steps-loop-step-preserved t c = λ top u r s.
     let inv = c.loop-step.invariant top u r s in
-    let next = continued (λ us. AllRelated (IsAt c.args.document) (node_spots c.in_ok-items.items) us)
+    let next = continued (λ us. AllZip (IsAt c.args.document) (node_spots c.in_ok-items.items) us)
     (try_flat_map (step_meaning c.args.mode (taken_step c.args.expressions (step_view c.step-item.result)) top) inv.0)
     (steps_meaning c.args.mode (steps_of (map (taken_step c.args.expressions) (steps_view (drop (c.loop-step.step-index + 1) c.args.steps.now)))) top)
     ((c.in_ok-items.ensures.meant top inv.0 r inv.1).ok) in (
@@ -207,7 +207,7 @@ select_steps-returns-clause-meant t c = λ top u r s.
     let inv = c.loop-step.invariant top u r s in
     let none = inv.2 ∙ ap (λ l. steps_meaning c.args.mode (steps_of (map (taken_step c.args.expressions) (steps_view l))) top inv.0)
     (drop_of_length-le c.args.steps.now c.loop-step-test.false) in
-    record { ok = subst (λ o. IsOkAnd o (AllRelated (IsAt c.args.document) (node_spots c.loop-step.items))) (sym none) inv.1; err = tt }
+    record { ok = subst (λ o. IsOkAnd o (AllZip (IsAt c.args.document) (node_spots c.loop-step.items))) (sym none) inv.1; err = tt }
 
 -- ---- operands
 

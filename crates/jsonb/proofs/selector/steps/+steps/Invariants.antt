@@ -3,7 +3,7 @@ use Rattle.jsonb_doc.specs.Answer.{try_flat_map, and_then}
 use Rattle.jsonb_doc.specs.Tree.{Tree}
 use Rattle.jsonb.specs.PathTree.{Expression, steps_of, filter}
 use Rattle.jsonb.specs.PathViews.{steps_view, expression_view}
-use Rattle.jsonb.specs.Related.{AllRelated}
+use Rattle.std.specs.List.{AllZip}
 use Rattle.jsonb.specs.Private.Selection.{IsAt, HasTree, node_spots, taken_step}
 use Rattle.jsonb.specs.Private.Kept.{conditions, AreKept, IsKeptFor}
 use Rattle.jsonb.specs.Private.Terms.{executed, last_truth, term_conditions, term_view, truths_view}
@@ -15,14 +15,14 @@ use Rattle.jsonb.proofs.selector.steps.+steps.Given as goal
 abbrev pub invariant-select_steps-loop-step : goal.invariant-select_steps-loop-step
 invariant-select_steps-loop-step l =
     (top t : Tree) → HasTree l.document top → IsAt l.document l.fn.first t →
-    (us : List Tree) × AllRelated (IsAt l.document) (node_spots l.items) us
+    (us : List Tree) × AllZip (IsAt l.document) (node_spots l.items) us
     × (steps_meaning l.mode (steps_of (map (taken_step l.expressions) (steps_view l.steps))) top (t ∷ [])
     ≡ steps_meaning l.mode (steps_of (map (taken_step l.expressions) (steps_view (drop l.step-index l.steps)))) top us)
 
 abbrev pub invariant-filter_many-loop-item : goal.invariant-filter_many-loop-item
 invariant-filter_many-loop-item l =
-    (top : Tree) (ts : List Tree) → HasTree l.document top → AllRelated (IsAt l.document) l.items ts →
-    Progress (AllRelated (IsAt l.document) (drop l.item-index l.items)) (AllRelated (IsAt l.document) l.nodes.items)
+    (top : Tree) (ts : List Tree) → HasTree l.document top → AllZip (IsAt l.document) l.items ts →
+    Progress (AllZip (IsAt l.document) (drop l.item-index l.items)) (AllZip (IsAt l.document) l.nodes.items)
     (step_meaning l.mode (filter (expression_view l.e)) top)
     (try_flat_map (step_meaning l.mode (filter (expression_view l.e)) top) ts)
     × IsKeptFor l.mode top (expression_view l.e) l.run.kept
