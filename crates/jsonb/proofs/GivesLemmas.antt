@@ -6,8 +6,10 @@ use Rattle.jsonb_doc.specs.declared.error.Error.{Error}
 use Rattle.jsonb_doc.specs.Tree.{Tree}
 use Rattle.std.specs.List.{AllZip}
 use Rattle.jsonb.specs.Meaning.{is_some_item}
-use Rattle.jsonb.specs.ItemSteps.{list_or}
+use Rattle.jsonb.specs.ItemSteps.{list_or, on_mismatch}
+use Rattle.jsonb.specs.Private.Selection.{misfit}
 use Rattle.jsonb.specs.declared.selector.document.Mode.{Mode}
+use Rattle.jsonb.specs.declared.selector.document.Mode.TheVariants.{Lax, Strict}
 
 -- ---- related lists
 
@@ -56,6 +58,12 @@ pushed R r old new x before u is none a h = pushed_all R r old new (x ∷ []) be
 pub unchanged : {A B : Type 0} (R : A → B → Type 0) (xs : List A) (before : List B) → AllZip R xs before →
     Gives {A = Unit {0}} (λ _ ts. AllZip R xs (before ++ ts)) IsOutOfMemory (Ok tt) (Ok [])
 unchanged R xs before a = record { ok = subst (λ l. AllZip R xs l) (sym (append-nil before)) a; err = tt }
+
+-- a step that doesn't fit gives nothing, or is refused
+pub misfits : {A : Type 0} (mode : Mode) (R : A → Tree → Type 0) (xs : List A) (before : List Tree) → AllZip R xs before →
+    Gives (λ _ ts. AllZip R xs (before ++ ts)) IsOutOfMemory (misfit mode) (on_mismatch mode [])
+misfits Lax R xs before a = unchanged R xs before a
+misfits Strict R xs before a = record { ok = tt; err = inr refl }
 
 -- ---- two parts, one after the other
 
@@ -154,3 +162,10 @@ pub found_one : {A V : Type 0} {S : A → List Tree → Type 0} {r : Outcome A} 
     SameOption R (Some v) o → ((u : Tree) → R v u → Gives S IsOutOfMemory r (Ok (g u))) → Gives S IsOutOfMemory r (list_or mode otherwise (option_map g o))
 found_one mode otherwise R g v (Some u) h go = go u h
 found_one mode otherwise R g v None h go = absurd h
+
+-- nothing that was found
+pub none_found : {A V T : Type 0} {S : A → List Tree → Type 0} {r : Outcome A} (mode : Mode) (otherwise : List Tree) (R : V → T → Type 0)
+    (g : T → List Tree) (o : Option T) →
+    SameOption R None o → Gives S IsOutOfMemory r (on_mismatch mode otherwise) → Gives S IsOutOfMemory r (list_or mode otherwise (option_map g o))
+none_found mode otherwise R g (Some u) h given = absurd h
+none_found mode otherwise R g None h given = given

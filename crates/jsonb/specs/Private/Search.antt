@@ -1,5 +1,6 @@
 -- The first item that steps lead to, in lax mode, where each step is executed item by item.
 use Rattle.std.specs.Prelude.{◌≡◌, ℕ, ◌<◌, ◌^◌, true, List, [], ◌∷◌, map, length, reverse, option_map, Option, Some, None, Result, Ok}
+use Rattle.jsonb_doc.specs.Answer.{Outcome, Gives, IsOutOfMemory}
 use Rattle.jsonb_doc.specs.Payload.{Form}
 use Rattle.jsonb_doc.specs.Spots.{Locates, HasSpotsLeft, spots_bound}
 use Rattle.jsonb_doc.specs.Tree.{Tree}
@@ -55,6 +56,11 @@ TakesItem bytes _ _ after = ⊥
 abbrev pub AreGiven : List ℕ → Given → List Tree → Type 0
 AreGiven bytes (given.AtMostOne found) ts = AllZip (Locates bytes) (option_spots found) ts
 AreGiven bytes (given.Many left) ts = HasItems bytes left ts
+
+-- the answer is what the step gives of the tree at a place
+abbrev pub GivesItems : List ℕ → Spot → Result Given Error → (Tree → Outcome (List Tree)) → Type 0
+GivesItems bytes item answer step =
+    (t : Tree) → Locates bytes item t → Gives (AreGiven bytes) IsOutOfMemory answer (step t)
 
 abbrev pub given_bound : Given → ℕ
 given_bound (given.AtMostOne found) = 0

@@ -1,8 +1,8 @@
 -- What a path selects: places of the document, or what an expression makes.
-use Rattle.std.specs.Prelude.{◌≡◌, ◌&&◌, ℕ, Bool, true, false, List, [], ◌∷◌, ◌++◌, map, Option, Some, None, Result, Err, if◌then◌else◌}
+use Rattle.std.specs.Prelude.{◌≡◌, ◌&&◌, ℕ, Bool, true, false, List, [], ◌∷◌, ◌++◌, map, Option, Some, None, Result, Ok, Err, if◌then◌else◌}
 use Rattle.jsonb_doc.specs.Answer.{Outcome, Gives, IsOutOfMemory}
 use Rattle.jsonb_doc.specs.declared.error.Error.{Error}
-use Rattle.jsonb_doc.specs.declared.error.Error.TheVariants.{InvalidJsonPath}
+use Rattle.jsonb_doc.specs.declared.error.Error.TheVariants.{InvalidJsonPath, StrictPath}
 use Rattle.jsonb_doc.specs.declared.spot.Spot.{Spot}
 use Rattle.jsonb_doc.specs.declared.number.Number.{Number as CodeNumber}
 use Rattle.jsonb_doc.specs.Number.{Number}
@@ -19,6 +19,7 @@ use Rattle.std.specs.List.{AllZip}
 use Rattle.jsonb.specs.Values as val
 use Rattle.jsonb.specs.declared.selector.document.Document.{Document}
 use Rattle.jsonb.specs.declared.selector.document.Mode.{Mode}
+use Rattle.jsonb.specs.declared.selector.document.Mode.TheVariants.{Lax, Strict}
 use Rattle.jsonb.specs.declared.selector.document.Expressions.{Expressions}
 use Rattle.jsonb.specs.declared.selector.document.Expressions.TheVariants as expressions
 use Rattle.jsonb.specs.declared.selector.atom.Atom.{Atom}
@@ -45,6 +46,11 @@ abbrev pub PushesStep : List ℕ → Spot → List Spot → List Spot → Result
 PushesStep bytes item old new answer step =
     (t : Tree) (before : List Tree) → Locates bytes item t → AllZip (Locates bytes) old before
     → Gives (λ _ ts. AllZip (Locates bytes) new (before ++ ts)) IsOutOfMemory answer (step t)
+
+-- what a step answers that doesn't fit the item: in strict mode it is refused
+abbrev pub misfit : Mode → Result (Unit {0}) Error
+misfit Lax = Ok tt
+misfit Strict = Err StrictPath
 
 -- the value that an operand's value is
 abbrev pub atom_value : Atom → val.Value

@@ -120,8 +120,7 @@ fn owned_leaf<'e, 'a>(
 ) -> Result<Copied<'e, 'a, 'static>, Error>
     ensures copy { IfOk result (λ copied. copied_view copied ≡ leaf_view leaf.entry) }
     ensures fewer { IfOk result (λ copied. copied_parts copied < leaf_parts leaf.entry) }
-    ensures whole { leaf_has_document leaf.entry ≡ false
-        → IfOk result (λ copied. copied_has_document copied ≡ false) }
+    ensures whole { leaf_has_document leaf.entry ≡ false → IfOk result (λ copied. copied_has_document copied ≡ false) }
     ensures errors { IfErr result (IsOwningError (expression_has_document (leaf_view leaf.entry))) }
 {
     match leaf {

@@ -12,7 +12,7 @@ ghost use Rattle.jsonb.specs.ItemSteps.{values_step, elements_step};
 ghost use Rattle.jsonb.specs.Meaning.{step_meaning, steps_meaning, filtered};
 ghost use Rattle.jsonb.specs.SelectorAnswers.{first_item};
 ghost use Rattle.jsonb.specs.Private.Compared.{GivesIfAny};
-ghost use Rattle.jsonb.specs.Private.Search.{IsSearched, HasItems, items_bound, TakesItem, AreGiven, given_bound, IsReached, IsWithin};
+ghost use Rattle.jsonb.specs.Private.Search.{IsSearched, HasItems, items_bound, TakesItem, AreGiven, GivesItems, given_bound, IsReached, IsWithin};
 ghost use Rattle.jsonb.specs.Private.Selection.{IsAt, HasTree, taken_step};
 ghost use Rattle.jsonb.specs.SelectionErrors.{IsSelectionError};
 ghost use Rattle.jsonb.specs.declared.selector.document.Mode.TheVariants.{Lax};
@@ -337,8 +337,7 @@ fn listed<'a>(mut spots: Vec<Spot>) -> Given<'a>
 /// The values of an object.
 #[inline(always)]
 fn value_items<'a>(bytes: &'a [u8], item: Spot) -> Result<Given<'a>, Error>
-    ensures meant { (t : Tree) → Locates bytes.now item t
-        → Gives (AreGiven bytes.now) IsOutOfMemory result (values_step Lax t) }
+    ensures meant { GivesItems bytes.now item result (values_step Lax) }
     ensures few { IfOk result (λ given. given_bound given < 2 ^ 64) }
     ensures errors { IfErr result IsDecodingError }
 {
@@ -351,8 +350,7 @@ fn value_items<'a>(bytes: &'a [u8], item: Spot) -> Result<Given<'a>, Error>
 /// The elements of an array; another item is itself.
 #[inline(always)]
 fn element_items<'a>(bytes: &'a [u8], item: Spot) -> Result<Given<'a>, Error>
-    ensures meant { (t : Tree) → Locates bytes.now item t
-        → Gives (AreGiven bytes.now) IsOutOfMemory result (elements_step Lax t) }
+    ensures meant { GivesItems bytes.now item result (elements_step Lax) }
     ensures few { IfOk result (λ given. given_bound given < 2 ^ 64) }
     ensures errors { IfErr result IsDecodingError }
 {

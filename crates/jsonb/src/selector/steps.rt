@@ -19,14 +19,13 @@ ghost use Rattle.jsonb.specs.declared.path.Path.{size-Path};
 ghost use Rattle.jsonb.specs.SelectionErrors.{IsSelectionError};
 
 use super::atom::{Atoms, compare, literal_atom};
-use super::children::{push_elements, push_field, push_if, push_positions, push_spot, push_values};
+use super::children::{push_field, push_if, push_step};
 use super::compared_items::{compared_items, member_compared};
 use super::compared_member::member_truth;
 use super::comparisons::joined_filter;
 use super::document::{Document, Expressions, Mode};
 use super::exists::innermost;
 use super::kept::{Kept, KeptPart, comparison_part, exists_part, is_comparison, is_kept};
-use super::levels::push_levels;
 use super::members::{
     are_members, first_item, is_member, member, member_name, member_of, member_steps,
 };
@@ -37,35 +36,6 @@ use super::values::found_values;
 use crate::path::{Expr, Path};
 use jsonb_doc::{Error, Spot};
 use std::alloc::Global;
-
-/// One step of one item that is no filter, behind what the nodes has.
-#[inline(always)]
-fn push_step(
-    alloc: Global,
-    mode: Mode,
-    step: &Path<'_>,
-    bytes: &[u8],
-    item: Spot,
-    nodes: &mut Vec<Spot>,
-) -> Result<(), Error>
-    ensures meant { (top t : Tree) (before : List Tree) → is_filter (step_view step.now) ≡ false
-        → Locates bytes.now item t → AllZip (Locates bytes.now) nodes.old.items before
-        → Gives (λ _ ts. AllZip (Locates bytes.now) nodes.new.items (before ++ ts))
-        IsOutOfMemory result (step_meaning mode (step_view step.now) top t) }
-    ensures errors { IfErr result (IsSelectionError mode) }
-{
-    match step {
-        Path::DotWildcard => push_values(bytes, mode, item, nodes),
-        Path::BracketWildcard => push_elements(bytes, mode, item, nodes),
-        Path::ArrayIndices(entries) => push_positions(alloc, bytes, mode, entries, item, nodes),
-        Path::RecursiveDotWildcard(levels) => push_levels(alloc, bytes, *levels, 0, item, nodes),
-        Path::Root | Path::Current => push_spot(nodes, item),
-        Path::DotField(name) => push_field(bytes, mode, name.as_str(), item, nodes),
-        Path::ColonField(name) => push_field(bytes, mode, name.as_str(), item, nodes),
-        Path::ObjectField(name) => push_field(bytes, mode, name.as_str(), item, nodes),
-        Path::FilterExpr(_) | Path::Expr(_) => Err(Error::InvalidJsonPath),
-    }
-}
 
 /// One step of one item that is no filter. What gives one item at most needs no memory.
 #[inline(never)]
