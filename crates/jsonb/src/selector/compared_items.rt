@@ -19,7 +19,7 @@ ghost use Rattle.jsonb.specs.SelectionErrors.{IsSelectionError};
 use super::atom::{Atom, literal_atom, short_number_truth};
 use super::children::push_if;
 use super::compared_member::compared;
-use super::document::Mode;
+use super::document::{Mode, TruthResult};
 use super::kept::{is_comparison, is_kept};
 use super::members::{member, member_steps};
 use super::node_list::NodeList;
@@ -128,7 +128,7 @@ pub(crate) fn item_truth(
     comparison: &MemberCompared<'_, '_>,
     bytes: &[u8],
     item: Spot,
-) -> Result<Option<bool>, Error>
+) -> TruthResult
     ensures meant { (e : Expression) (top t : Tree) → IsMemberCompared comparison.now e
         → Locates bytes.now item t
         → Gives (λ b c. b ≡ c) IsOutOfMemory result (truth mode e top t) }
@@ -147,7 +147,7 @@ fn value_truth(
     comparison: &MemberCompared<'_, '_>,
     bytes: &[u8],
     value: Spot,
-) -> Result<Option<bool>, Error>
+) -> TruthResult
     ensures meant { (t : Tree) → Locates bytes.now value t
         → Gives (λ b c. b ≡ c) IsOutOfMemory result (Ok (compare (operator_view comparison.now.op)
         (values_of_item t) (atom_value comparison.now.literal ∷ []))) }
@@ -168,7 +168,7 @@ fn other_truth(
     bytes: &[u8],
     item: Spot,
     literal: &Atom<'_>,
-) -> Result<Option<bool>, Error>
+) -> TruthResult
     ensures meant { (t : Tree) → Locates bytes.now item t
         → Gives (λ b c. b ≡ c) IsOutOfMemory result
         (Ok (compare (operator_view op) (values_of_item t) (atom_value literal.now ∷ []))) }

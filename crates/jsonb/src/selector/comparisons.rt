@@ -15,7 +15,7 @@ ghost use Rattle.jsonb.specs.declared.path.Expr.{size-Expr};
 
 use super::children::push_if;
 use super::compared_items::{MemberCompared, item_truth, member_compared};
-use super::document::Mode;
+use super::document::{Mode, TruthResult};
 use super::kept::is_kept;
 use super::node_list::NodeList;
 use super::terms::{Join, joining, pair_of};
@@ -175,7 +175,7 @@ pub(crate) fn joint_truth(
     comparisons: &[MemberCompared<'_, '_>],
     bytes: &[u8],
     item: Spot,
-) -> Result<Option<bool>, Error>
+) -> TruthResult
     ensures meant { (e : Expression) (top t : Tree) → AreCompared join comparisons.now e → Locates bytes.now item t
         → Gives (λ b ts. filtered t b ≡ ts) IsOutOfMemory result (step_meaning mode (filter e) top t) }
     ensures errors { IfErr result (IsSelectionError mode) }

@@ -20,7 +20,7 @@ ghost use Rattle.jsonb.specs.declared.selector.document.Mode.TheVariants.{Lax};
 use super::children::{elements, push_positions, values};
 use super::compared_items::{MemberCompared, item_truth, member_compared};
 use super::comparisons::{JoinedComparisons, joined_comparisons, joint_truth};
-use super::document::{Document, Expressions, Mode};
+use super::document::{Context, Document, Expressions, Mode};
 use super::kept::is_kept;
 use super::levels::push_levels;
 use super::members::{are_members, member_of};
@@ -96,24 +96,23 @@ impl<'a> Items<'a> {
 /// told: in strict mode, where a later item may be refused, for names alone, and for other filters.
 #[inline(always)]
 pub(crate) fn search<'s>(
-    alloc: Global,
-    mode: Mode,
+    context: &Context<'_>,
     expressions: Expressions,
     steps: &'s [Path<'_>],
-    document: Document<'_>,
     first: Spot,
 ) -> Result<Option<Option<Spot>>, Error>
-    ensures meant { (top t : Tree) → HasTree document.entry top → IsAt document.entry first t
-        → GivesIfAny (λ found us. SameOption (IsAt document.entry) found (first_item us)) result
-        (steps_meaning mode (steps_of (map (taken_step expressions) (steps_view steps.now))) top (t ∷ [])) }
-    ensures errors { IfErr result (IsSelectionError mode) }
+    ensures meant { (top t : Tree) → HasTree context.now.document top → IsAt context.now.document first t
+        → GivesIfAny (λ found us. SameOption (IsAt context.now.document) found (first_item us)) result
+        (steps_meaning context.now.mode (steps_of (map (taken_step expressions) (steps_view steps.now)))
+        top (t ∷ [])) }
+    ensures errors { IfErr result (IsSelectionError context.now.mode) }
 {
     if are_members(steps) {
         return Ok(None);
     }
-    match mode {
+    match context.mode {
         Mode::Strict => Ok(None),
-        Mode::Lax => lax_search(alloc, expressions, steps, document, first),
+        Mode::Lax => lax_search(context.alloc, expressions, steps, context.document, first),
     }
 }
 
