@@ -10,7 +10,7 @@ use Rattle.jsonb_doc.specs.declared.spot.Spot.{Spot}
 use Rattle.jsonb_doc.specs.declared.spot_iter.SpotIter.{SpotIter}
 use Rattle.jsonb.specs.PathTree.{Levels}
 use Rattle.jsonb.specs.Preorder.{own, preorder}
-use Rattle.jsonb.specs.Related.{AllRelated}
+use Rattle.std.specs.List.{AllZip}
 use Rattle.jsonb.specs.Private.Below.{HasLeft, KeepsLevel, PassesLeaves}
 use Rattle.jsonb.specs.declared.selector.levels.OpenLevel.{OpenLevel}
 use Rattle.jsonb.proofs.Progress.{First}
@@ -41,7 +41,7 @@ pub record Walking (bytes : List ℕ) (levels : Option Levels) (Left : List Tree
   pub left : Left here
   pub deep : depth ≡ min level 256
   pub left_around : HaveLeft bytes (reverse around) others
-  pub done : AllRelated (Locates bytes) nodes given
+  pub done : AllZip (Locates bytes) nodes given
   pub is : given ++ (flat_map (preorder levels level) here ++ items_of levels others) ≡ whole
 
 abbrev pub Walked : List ℕ → Option Levels → OpenLevel → List OpenLevel → List Spot → List Tree → Type 0
@@ -65,7 +65,7 @@ module _ (bytes : List ℕ) (levels : Option Levels) where
 
   -- the first item is looked at
   pub walk_begun : (within : OpenLevel) (around : List OpenLevel) (nodes : List Spot) (before ts : List Tree) (n : ℕ) (t : Tree) → around ≡ []
-      → AllRelated (Locates bytes) nodes (before ++ own levels n t) → HasLeft bytes within ts (n + 1)
+      → AllZip (Locates bytes) nodes (before ++ own levels n t) → HasLeft bytes within ts (n + 1)
       → preorder levels n t ≡ own levels n t ++ flat_map (preorder levels (n + 1)) ts
       → Walked bytes levels within around nodes (before ++ preorder levels n t)
   walk_begun within around nodes before ts n t none done left is = record {
@@ -120,8 +120,8 @@ module _ (bytes : List ℕ) (levels : Option Levels) where
   -- an item whose children are not looked at, or that has none
   pub item_passed : {Left : List Tree → Type 0} {depth : ℕ} (within' : OpenLevel) (around : List OpenLevel) (nodes nodes' : List Spot) (whole : List Tree)
       (w : Walking bytes levels Left depth around nodes whole)
-      (f : First (HasSpotsLeft bytes within'.children) (λ t. (before : List Tree) → AllRelated (Locates bytes) nodes before
-      → AllRelated (Locates bytes) nodes' (before ++ own levels w.level t) × (preorder levels w.level t ≡ own levels w.level t)) w.here)
+      (f : First (HasSpotsLeft bytes within'.children) (λ t. (before : List Tree) → AllZip (Locates bytes) nodes before
+      → AllZip (Locates bytes) nodes' (before ++ own levels w.level t) × (preorder levels w.level t ≡ own levels w.level t)) w.here)
       → within'.level ≡ depth → Walked bytes levels within' around nodes' whole
   item_passed within' around nodes nodes' whole w f same =
       let told = f.holds w.given w.done in record {
@@ -142,8 +142,8 @@ module _ (bytes : List ℕ) (levels : Option Levels) where
   -- an item whose children come next
   pub item_entered : {Left : List Tree → Type 0} {depth : ℕ} (within' inner : OpenLevel) (around around' : List OpenLevel) (nodes nodes' : List Spot)
       (whole : List Tree) (w : Walking bytes levels Left depth around nodes whole)
-      (f : First (HasSpotsLeft bytes within'.children) (λ t. (before : List Tree) → AllRelated (Locates bytes) nodes before
-      → AllRelated (Locates bytes) nodes' (before ++ own levels w.level t) × ((ts : List Tree) × HasLeft bytes inner ts (w.level + 1)
+      (f : First (HasSpotsLeft bytes within'.children) (λ t. (before : List Tree) → AllZip (Locates bytes) nodes before
+      → AllZip (Locates bytes) nodes' (before ++ own levels w.level t) × ((ts : List Tree) × HasLeft bytes inner ts (w.level + 1)
       × (preorder levels w.level t ≡ own levels w.level t ++ flat_map (preorder levels (w.level + 1)) ts))) w.here)
       → within'.level ≡ depth → KeepsLevel around within' around' → Walked bytes levels inner around' nodes' whole
   item_entered within' inner around around' nodes nodes' whole w f same kept =
@@ -202,12 +202,12 @@ module _ (bytes : List ℕ) (levels : Option Levels) where
 
   -- all are done
   pub walk_done : {depth : ℕ} (around : List OpenLevel) (nodes : List Spot) (whole : List Tree)
-      (w : Walking bytes levels (λ ts. ts ≡ []) depth around nodes whole) → around ≡ [] → AllRelated (Locates bytes) nodes whole
+      (w : Walking bytes levels (λ ts. ts ≡ []) depth around nodes whole) → around ≡ [] → AllZip (Locates bytes) nodes whole
   walk_done around nodes whole w e = go w.others (subst (λ l. HaveLeft bytes (reverse l) w.others) e w.left_around)
       (ap (λ l. w.given ++ (flat_map (preorder levels w.level) l ++ items_of levels w.others)) (sym w.left) ∙ w.is)
     where
-      go : (rs : List Rest) → HaveLeft bytes [] rs → w.given ++ items_of levels rs ≡ whole → AllRelated (Locates bytes) nodes whole
-      go [] h is = subst (AllRelated (Locates bytes) nodes) (sym (append-nil w.given) ∙ is) w.done
+      go : (rs : List Rest) → HaveLeft bytes [] rs → w.given ++ items_of levels rs ≡ whole → AllZip (Locates bytes) nodes whole
+      go [] h is = subst (AllZip (Locates bytes) nodes) (sym (append-nil w.given) ∙ is) w.done
       go (r ∷ rs) h is = absurd h
 
 -- ---- items without children, one after the other
@@ -218,30 +218,30 @@ pub record PassedSo (bytes : List ℕ) (levels : Option Levels) (n : ℕ) (Left 
   pub rest : List Tree
   pub split : ts ≡ passed ++ rest
   pub left : Left rest
-  pub done : AllRelated (Locates bytes) nodes (before ++ flat_map (preorder levels n) passed)
+  pub done : AllZip (Locates bytes) nodes (before ++ flat_map (preorder levels n) passed)
 
 module _ (bytes : List ℕ) (levels : Option Levels) (n : ℕ) (ts before : List Tree) where
-  pub none_passed : (Left : List Tree → Type 0) (nodes : List Spot) → Left ts → AllRelated (Locates bytes) nodes before
+  pub none_passed : (Left : List Tree → Type 0) (nodes : List Spot) → Left ts → AllZip (Locates bytes) nodes before
       → PassedSo bytes levels n Left ts before nodes
   none_passed Left nodes left done = record {
     passed = [];
     rest = ts;
     split = refl;
     left = left;
-    done = subst (AllRelated (Locates bytes) nodes) (sym (append-nil before)) done;
+    done = subst (AllZip (Locates bytes) nodes) (sym (append-nil before)) done;
   }
 
   -- one more
   pub leaf_passed : (Left Left' : List Tree → Type 0) (spot : Spot) (nodes nodes' : List Spot) (w : PassedSo bytes levels n Left ts before nodes)
       (f : First Left' (Locates bytes spot) w.rest)
-      → ((given : List Tree) → AllRelated (Locates bytes) nodes given → AllRelated (Locates bytes) nodes' (given ++ preorder levels n f.first))
+      → ((given : List Tree) → AllZip (Locates bytes) nodes given → AllZip (Locates bytes) nodes' (given ++ preorder levels n f.first))
       → PassedSo bytes levels n Left' ts before nodes'
   leaf_passed Left Left' spot nodes nodes' w f push = record {
     passed = w.passed ++ f.first ∷ [];
     rest = f.others;
     split = w.split ∙ ap (λ l. w.passed ++ l) f.whole ∙ sym (append_assoc w.passed (f.first ∷ []) f.others);
     left = f.left;
-    done = subst (AllRelated (Locates bytes) nodes')
+    done = subst (AllZip (Locates bytes) nodes')
         (append_assoc before (flat_map (preorder levels n) w.passed) (preorder levels n f.first)
         ∙ ap (λ l. before ++ (flat_map (preorder levels n) w.passed ++ l)) (sym (append-nil (preorder levels n f.first)))
         ∙ ap (λ l. before ++ l) (sym (flat_map-append (preorder levels n) w.passed (f.first ∷ []))))
@@ -257,7 +257,7 @@ module _ (bytes : List ℕ) (levels : Option Levels) (n : ℕ) (ts before : List
   -- none is left
   pub none_left : (Left : List Tree → Type 0) (nodes : List Spot) (w : PassedSo bytes levels n Left ts before nodes) → w.rest ≡ []
       → PassesLeaves bytes levels n ts before nodes None
-  none_left Left nodes w none = subst (λ l. AllRelated (Locates bytes) nodes (before ++ flat_map (preorder levels n) l))
+  none_left Left nodes w none = subst (λ l. AllZip (Locates bytes) nodes (before ++ flat_map (preorder levels n) l))
       (sym (w.split ∙ ap (λ l. w.passed ++ l) none ∙ append-nil w.passed)) w.done
 
 -- ---- how the levels shrink

@@ -13,12 +13,12 @@ use Rattle.jsonb_doc.specs.View.{number_view}
 use Rattle.jsonb_doc.specs.declared.number.Number.{Number as CodeNumber}
 use Rattle.jsonb.specs.PathArithmetic.{number_list, two_numbers, all_numbers, signed_number, each_signed}
 use Rattle.jsonb.specs.PathTree.{UnaryOp}
-use Rattle.jsonb.specs.Related.{AllRelated}
+use Rattle.std.specs.List.{AllZip}
 use Rattle.jsonb.specs.Private.Selection.{only_number, are_numbers, signed_value, IsNumberTree, IsNumberItem}
 use Rattle.jsonb.specs.SelectionErrors.{IsPathError, IsSelectionError}
 use Rattle.jsonb.specs.Values.{Value, number}
 use Rattle.jsonb.specs.declared.selector.document.Mode.{Mode}
-use Rattle.jsonb.proofs.GivesLemmas.{AllRelated-append}
+use Rattle.jsonb.proofs.GivesLemmas.{AllZip-append}
 
 -- what is never refused for want of memory
 pub as_memory : {A B : Type 0} {R : A → B → Type 0} {r : Outcome A} {o : Outcome B} → Gives R (λ _. ⊥) r o → Gives R IsOutOfMemory r o
@@ -138,7 +138,7 @@ module _ (op : UnaryOp) where
 
 -- one more number
 pub number_added : (old new : List CodeNumber) (n : CodeNumber) (o : Outcome (List Tree)) (before : List Tree)
-    → new ≡ old ++ n ∷ [] → IsOkAnd o (IsNumberTree n) → AllRelated IsNumberItem old before
-    → IsOkAnd o (λ us. AllRelated IsNumberItem new (before ++ us))
-number_added old new n (Ok us) before added is held = rw (added, ← is) (AllRelated-append IsNumberItem old _ before _ held (refl, tt))
+    → new ≡ old ++ n ∷ [] → IsOkAnd o (IsNumberTree n) → AllZip IsNumberItem old before
+    → IsOkAnd o (λ us. AllZip IsNumberItem new (before ++ us))
+number_added old new n (Ok us) before added is held = rw (added, ← is) (AllZip-append IsNumberItem old _ before _ held (refl, tt))
 number_added old new n (Err e) before added is held = absurd is

@@ -22,7 +22,7 @@ use Rattle.jsonb.specs.Private.Compared.{IsMemberCompared, no_truth, joint_truth
 use Rattle.jsonb.specs.Private.Kept.{is_comparison}
 use Rattle.jsonb.specs.Private.Members.{is_member, are_members}
 use Rattle.jsonb.specs.Private.Terms.{joining, joining_op}
-use Rattle.jsonb.specs.Related.{AllRelated}
+use Rattle.std.specs.List.{AllZip}
 use Rattle.jsonb.specs.Private.Selection.{atom_value, taken_step}
 use Rattle.jsonb.specs.declared.selector.document.Expressions.TheVariants.{AreRefused}
 use Rattle.jsonb.specs.declared.selector.document.Mode.{Mode}
@@ -196,7 +196,7 @@ comparison_total c e top t k =
     (with_ok Any (λ o. IsOkAnd o Any) (steps_meaning Lax (steps_of (steps_view c.names.now)) top (t ∷ [])) (told_by c)
     (members_total (steps_view c.names.now) top (t ∷ []) k.members) (λ ts _. tt))
 
-pub joint_total : (j : Join) (cs : List MemberCompared) (es : List Expression) (top t : Tree) → AllRelated IsMemberCompared cs es
+pub joint_total : (j : Join) (cs : List MemberCompared) (es : List Expression) (top t : Tree) → AllZip IsMemberCompared cs es
     → IsOkAnd (joint_truth j Lax es top t) Any
 joint_total j [] [] top t a = tt
 joint_total j [] (e ∷ es) top t a = absurd a
@@ -224,7 +224,7 @@ decided_lax Lax j a h = refl
 decided_lax Strict j a h = cc
 
 pub told_early : (mode : Mode) (j : Join) (a : Truth) (cs : List MemberCompared) (es : List Expression) (top t : Tree) → is_decided mode j a ≡ true
-    → AllRelated IsMemberCompared cs es → and_then (both j (Ok a) (joint_truth j mode es top t)) (λ b. Ok (filtered t b)) ≡ Ok (filtered t a)
+    → AllZip IsMemberCompared cs es → and_then (both j (Ok a) (joint_truth j mode es top t)) (λ b. Ok (filtered t b)) ≡ Ok (filtered t a)
 told_early mode j a cs es top t h related =
     go (joint_truth j mode es top t) (subst (λ m. IsOkAnd (joint_truth j m es top t) Any) (sym (decided_lax mode j a h)) (joint_total j cs es top t related))
   where
@@ -236,9 +236,9 @@ told_early mode j a cs es top t h related =
 
 -- the comparison that comes next, and those behind it
 pub next_compared : (j : Join) (mode : Mode) (cs : List MemberCompared) (i : ℕ) (x : MemberCompared) (o : Outcome Truth) (a : Truth) (top t : Tree)
-    → i < length cs → x ≡ get_or cs i x → (rest : List Expression) → AllRelated IsMemberCompared (drop i cs) rest
+    → i < length cs → x ≡ get_or cs i x → (rest : List Expression) → AllZip IsMemberCompared (drop i cs) rest
     → o ≡ both j (Ok a) (joint_truth j mode rest top t) →
-    (e : Expression) × (others : List Expression) × IsMemberCompared x e × AllRelated IsMemberCompared (drop (i + 1) cs) others
+    (e : Expression) × (others : List Expression) × IsMemberCompared x e × AllZip IsMemberCompared (drop (i + 1) cs) others
     × (o ≡ both j (Ok a) (both j (truth mode e top t) (joint_truth j mode others top t)))
 next_compared j mode cs i x o a top t short is rest related told =
     let first = list_first IsMemberCompared cs i x short rest related in (
@@ -262,11 +262,11 @@ joint_refused j a t p h = record {
 }
 
 -- lists that are turned
-pub related_reverse : {A B : Type 0} (R : A → B → Type 0) (xs : List A) (ys : List B) → AllRelated R xs ys → AllRelated R (reverse xs) (reverse ys)
+pub related_reverse : {A B : Type 0} (R : A → B → Type 0) (xs : List A) (ys : List B) → AllZip R xs ys → AllZip R (reverse xs) (reverse ys)
 related_reverse R [] [] h = tt
 related_reverse R [] (y ∷ ys) h = absurd h
 related_reverse R (x ∷ xs) [] h = absurd h
 related_reverse R (x ∷ xs) (y ∷ ys) h =
-    subst (λ l. AllRelated R l (reverse (y ∷ ys))) (sym (reverse-append (x ∷ []) xs))
-    (subst (λ l. AllRelated R (reverse xs ++ x ∷ []) l) (sym (reverse-append (y ∷ []) ys))
+    subst (λ l. AllZip R l (reverse (y ∷ ys))) (sym (reverse-append (x ∷ []) xs))
+    (subst (λ l. AllZip R (reverse xs ++ x ∷ []) l) (sym (reverse-append (y ∷ []) ys))
     (related_more R (reverse xs) (reverse ys) x y (related_reverse R xs ys h.1) h.0))

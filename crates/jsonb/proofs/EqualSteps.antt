@@ -28,8 +28,7 @@ unfolding out-Expr Carrier.out
 other_than_levels l (block.RecursiveDotWildcard x) other = absurd (other x refl)
 other_than_levels l t other = rw (seen-is t) refl
 
-pub other_than_dot_field : (n : List ℕ) (t : Path) → ((x : CowStr Global) → t ≡ step.DotField x → ⊥) →
-    false ≡ is_same_step (tree.dot_field n) (step_view t)
+pub other_than_dot_field : (n : List ℕ) (t : Path) → ((x : CowStr Global) → t ≡ step.DotField x → ⊥) → false ≡ is_same_step (tree.dot_field n) (step_view t)
 unfolding out-Expr Carrier.out
 other_than_dot_field n (block.DotField x) other = absurd (other x refl)
 other_than_dot_field n t other = rw (seen-is t) refl
@@ -52,8 +51,7 @@ unfolding out-Expr Carrier.out
 other_than_indices es (block.ArrayIndices x) other = absurd (other x refl)
 other_than_indices es t other = rw (seen-is t) refl
 
-pub other_than_filter : (e : Expression) (t : Path) → ((x : Box Expr Global) → t ≡ step.FilterExpr x → ⊥) →
-    false ≡ is_same_step (tree.filter e) (step_view t)
+pub other_than_filter : (e : Expression) (t : Path) → ((x : Box Expr Global) → t ≡ step.FilterExpr x → ⊥) → false ≡ is_same_step (tree.filter e) (step_view t)
 unfolding out-Expr Carrier.out
 other_than_filter e (block.FilterExpr' b f) other = absurd (other (record { ptr = b.ptr; alloc = b.alloc; value = f }) refl)
 other_than_filter e t other = rw (seen-is t) refl

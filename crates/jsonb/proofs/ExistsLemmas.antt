@@ -3,11 +3,14 @@ use Rattle.std.proofs.Common.{◌≡◌, List, [], ◌∷◌, ◌++◌, map, Boo
 use Rattle.jsonb_doc.specs.Answer.{Outcome, and_then, try_flat_map}
 use Rattle.jsonb_doc.specs.Tree.{Tree}
 use Rattle.jsonb.specs.PathTree as math
+use Rattle.jsonb.specs.PathViews.{expression_view, steps_view}
 use Rattle.jsonb.specs.PathTree.{Step, Steps, Expression, exists, filter, steps_of}
 use Rattle.jsonb.specs.Compare.{Truth}
 use Rattle.jsonb.specs.Meaning.{step_meaning, steps_meaning, truth, start, filtered, is_some_item}
-use Rattle.jsonb.specs.Private.Exists.{is_exists}
+use Rattle.jsonb.specs.Private.Exists.{is_exists, IsNested}
 use Rattle.jsonb.specs.Private.Selection.{taken_step}
+use Rattle.jsonb.specs.declared.path.Expr.{Expr}
+use Rattle.jsonb.specs.declared.selector.exists.Nested.{Nested}
 use Rattle.jsonb.specs.declared.selector.document.Expressions.TheVariants.{AreRefused}
 use Rattle.jsonb.specs.declared.selector.document.Mode.{Mode}
 use Rattle.jsonb.proofs.StepLemmas.{joined_one, refused_steps}
@@ -56,7 +59,7 @@ one_filtered mode (math.value l) top u h = cc
 one_filtered mode (math.binary op l r) top u h = cc
 one_filtered mode (math.unary op e) top u h = cc
 
-pub nested_truth : (mode : Mode) (names : List Step) (e : Expression) (top t : Tree) →
+nested_truth : (mode : Mode) (names : List Step) (e : Expression) (top t : Tree) →
     truth mode (exists (steps_of (names ++ filter e ∷ []))) top t
     ≡ and_then (steps_meaning mode (steps_of (map (taken_step AreRefused) names)) top (start (steps_of names) top t ∷ [])) (filtered_by mode e top)
 nested_truth mode names e top t =
@@ -68,3 +71,11 @@ nested_truth mode names e top t =
     go : (o : Outcome (List Tree)) → and_then (and_then o (steps_meaning mode (steps_of (filter e ∷ [])) top)) met ≡ and_then o (filtered_by mode e top)
     go (Ok ts) = refl
     go (Err x) = refl
+
+-- what an `exists` of names says that leads to a nested one
+pub behind_names : (mode : Mode) (asked : Expr) (nested : Nested) (top u : Tree) {outcome : Outcome Truth} → IsNested asked nested
+    → outcome ≡ truth mode (expression_view asked) top u
+    → outcome ≡ and_then (steps_meaning mode (steps_of (map (taken_step AreRefused) (steps_view nested.names.now))) top
+    (start (steps_of (steps_view nested.names.now)) top u ∷ [])) (filtered_by mode (expression_view nested.exists.now) top)
+behind_names mode asked nested top u n is =
+    is ∙ ap (λ x. truth mode x top u) n.2 ∙ nested_truth mode (steps_view nested.names.now) (expression_view nested.exists.now) top u

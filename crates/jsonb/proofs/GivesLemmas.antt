@@ -4,22 +4,24 @@ use Rattle.std.specs.Prelude.{not, ◌==◌}
 use Rattle.jsonb_doc.specs.Answer.{Outcome, and_then, Gives, SameOption, IsOutOfMemory}
 use Rattle.jsonb_doc.specs.declared.error.Error.{Error}
 use Rattle.jsonb_doc.specs.Tree.{Tree}
-use Rattle.jsonb.specs.Related.{AllRelated}
+use Rattle.std.specs.List.{AllZip}
 use Rattle.jsonb.specs.Meaning.{is_some_item}
-use Rattle.jsonb.specs.ItemSteps.{list_or}
+use Rattle.jsonb.specs.ItemSteps.{list_or, on_mismatch}
+use Rattle.jsonb.specs.Private.Selection.{misfit}
 use Rattle.jsonb.specs.declared.selector.document.Mode.{Mode}
+use Rattle.jsonb.specs.declared.selector.document.Mode.TheVariants.{Lax, Strict}
 
 -- ---- related lists
 
-pub AllRelated-append : {A B : Type 0} (R : A → B → Type 0) (xs ys : List A) (us vs : List B) → AllRelated R xs us → AllRelated R ys vs
-    → AllRelated R (xs ++ ys) (us ++ vs)
-AllRelated-append R [] ys [] vs p q = q
-AllRelated-append R [] ys (u ∷ us) vs p q = absurd p
-AllRelated-append R (x ∷ xs) ys [] vs p q = absurd p
-AllRelated-append R (x ∷ xs) ys (u ∷ us) vs p q = (p.0, AllRelated-append R xs ys us vs p.1 q)
+pub AllZip-append : {A B : Type 0} (R : A → B → Type 0) (xs ys : List A) (us vs : List B) → AllZip R xs us → AllZip R ys vs
+    → AllZip R (xs ++ ys) (us ++ vs)
+AllZip-append R [] ys [] vs p q = q
+AllZip-append R [] ys (u ∷ us) vs p q = absurd p
+AllZip-append R (x ∷ xs) ys [] vs p q = absurd p
+AllZip-append R (x ∷ xs) ys (u ∷ us) vs p q = (p.0, AllZip-append R xs ys us vs p.1 q)
 
 -- related lists are empty together
-pub some_related : {A : Type 0} (R : A → Tree → Type 0) (xs : List A) (ts : List Tree) → AllRelated R xs ts → not (length xs == 0) ≡ is_some_item ts
+pub some_related : {A : Type 0} (R : A → Tree → Type 0) (xs : List A) (ts : List Tree) → AllZip R xs ts → not (length xs == 0) ≡ is_some_item ts
 some_related R [] [] h = refl
 some_related R [] (t ∷ ts) h = absurd h
 some_related R (x ∷ xs) [] h = absurd h
@@ -29,33 +31,39 @@ some_related R (x ∷ xs) (t ∷ ts) h = search rules
 abbrev pub Is : {A B : Type 0} → (A → B) → A → B → Type 0
 Is f x y = f x ≡ y
 
-pub related_of_map : {A B : Type 0} (f : A → B) (xs : List A) (ys : List B) → map f xs ≡ ys → AllRelated (Is f) xs ys
-related_of_map {A} f xs ys is = subst (λ l. AllRelated (Is f) xs l) is (each xs)
+pub related_of_map : {A B : Type 0} (f : A → B) (xs : List A) (ys : List B) → map f xs ≡ ys → AllZip (Is f) xs ys
+related_of_map {A} f xs ys is = subst (λ l. AllZip (Is f) xs l) is (each xs)
   where
-    each : (l : List A) → AllRelated (Is f) l (map f l)
+    each : (l : List A) → AllZip (Is f) l (map f l)
     each [] = tt
     each (x ∷ l) = (refl, each l)
 
 -- ---- what is pushed behind a nodes
 
 pub pushed_all : {A B : Type 0} (R : A → B → Type 0) (r : Result (Unit {0}) Error) (old new more : List A) (before us : List B) →
-    OnOk r (new ≡ old ++ more) → IfErr r IsOutOfMemory → AllRelated R old before → AllRelated R more us →
-    Gives (λ _ ts. AllRelated R new (before ++ ts)) IsOutOfMemory r (Ok us)
+    OnOk r (new ≡ old ++ more) → IfErr r IsOutOfMemory → AllZip R old before → AllZip R more us →
+    Gives (λ _ ts. AllZip R new (before ++ ts)) IsOutOfMemory r (Ok us)
 pushed_all R (Ok v) old new more before us is none a h = record {
-  ok = subst (λ l. AllRelated R l (before ++ us)) (sym is) (AllRelated-append R old more before us a h);
+  ok = subst (λ l. AllZip R l (before ++ us)) (sym is) (AllZip-append R old more before us a h);
   err = tt;
 }
 pushed_all R (Err e) old new more before us is none a h = record { ok = tt; err = inl none }
 
 pub pushed : {A B : Type 0} (R : A → B → Type 0) (r : Result (Unit {0}) Error) (old new : List A) (x : A) (before : List B) (u : B) →
-    OnOk r (new ≡ old ++ x ∷ []) → IfErr r IsOutOfMemory → AllRelated R old before → R x u →
-    Gives (λ _ ts. AllRelated R new (before ++ ts)) IsOutOfMemory r (Ok (u ∷ []))
+    OnOk r (new ≡ old ++ x ∷ []) → IfErr r IsOutOfMemory → AllZip R old before → R x u →
+    Gives (λ _ ts. AllZip R new (before ++ ts)) IsOutOfMemory r (Ok (u ∷ []))
 pushed R r old new x before u is none a h = pushed_all R r old new (x ∷ []) before (u ∷ []) is none a (h, tt)
 
 -- nothing
-pub unchanged : {A B : Type 0} (R : A → B → Type 0) (xs : List A) (before : List B) → AllRelated R xs before →
-    Gives {A = Unit {0}} (λ _ ts. AllRelated R xs (before ++ ts)) IsOutOfMemory (Ok tt) (Ok [])
-unchanged R xs before a = record { ok = subst (λ l. AllRelated R xs l) (sym (append-nil before)) a; err = tt }
+pub unchanged : {A B : Type 0} (R : A → B → Type 0) (xs : List A) (before : List B) → AllZip R xs before →
+    Gives {A = Unit {0}} (λ _ ts. AllZip R xs (before ++ ts)) IsOutOfMemory (Ok tt) (Ok [])
+unchanged R xs before a = record { ok = subst (λ l. AllZip R xs l) (sym (append-nil before)) a; err = tt }
+
+-- a step that doesn't fit gives nothing, or is refused
+pub misfits : {A : Type 0} (mode : Mode) (R : A → Tree → Type 0) (xs : List A) (before : List Tree) → AllZip R xs before →
+    Gives (λ _ ts. AllZip R xs (before ++ ts)) IsOutOfMemory (misfit mode) (on_mismatch mode [])
+misfits Lax R xs before a = unchanged R xs before a
+misfits Strict R xs before a = record { ok = tt; err = inr refl }
 
 -- ---- two parts, one after the other
 
@@ -154,3 +162,10 @@ pub found_one : {A V : Type 0} {S : A → List Tree → Type 0} {r : Outcome A} 
     SameOption R (Some v) o → ((u : Tree) → R v u → Gives S IsOutOfMemory r (Ok (g u))) → Gives S IsOutOfMemory r (list_or mode otherwise (option_map g o))
 found_one mode otherwise R g v (Some u) h go = go u h
 found_one mode otherwise R g v None h go = absurd h
+
+-- nothing that was found
+pub none_found : {A V T : Type 0} {S : A → List Tree → Type 0} {r : Outcome A} (mode : Mode) (otherwise : List Tree) (R : V → T → Type 0)
+    (g : T → List Tree) (o : Option T) →
+    SameOption R None o → Gives S IsOutOfMemory r (on_mismatch mode otherwise) → Gives S IsOutOfMemory r (list_or mode otherwise (option_map g o))
+none_found mode otherwise R g (Some u) h given = absurd h
+none_found mode otherwise R g None h given = given

@@ -10,7 +10,7 @@ use Rattle.jsonb.specs.PathTree.{Step, Steps, no_steps, steps_of}
 use Rattle.jsonb.specs.PathViews.{step_view, steps_view}
 use Rattle.jsonb.specs.Meaning.{step_meaning, steps_meaning}
 use Rattle.jsonb.specs.Private.Members.{is_member, are_members}
-use Rattle.jsonb.specs.Related.{AllRelated}
+use Rattle.std.specs.List.{AllZip}
 use Rattle.jsonb.specs.Private.Selection.{option_spots, taken_step}
 use Rattle.jsonb.specs.declared.selector.document.Mode.{Mode}
 use Rattle.jsonb.specs.declared.selector.document.Expressions.{Expressions}
@@ -27,12 +27,12 @@ none_left mode no_steps top = refl
 none_left mode (math.step s rest) top = none_left mode rest top
 
 -- what was found stands for one tree, or for none
-pub no_member : (R : Spot → Tree → Type 0) (found : Option Spot) (ts : List Tree) → found ≡ None → AllRelated R (option_spots found) ts → ts ≡ []
+pub no_member : (R : Spot → Tree → Type 0) (found : Option Spot) (ts : List Tree) → found ≡ None → AllZip R (option_spots found) ts → ts ≡ []
 no_member R found [] none h = refl
 no_member R None (t ∷ ts) none h = absurd h
 no_member R (Some x) (t ∷ ts) none h = cc
 
-pub one_member : (R : Spot → Tree → Type 0) (found : Option Spot) (x : Spot) (ts : List Tree) → found ≡ Some x → AllRelated R (option_spots found) ts
+pub one_member : (R : Spot → Tree → Type 0) (found : Option Spot) (x : Spot) (ts : List Tree) → found ≡ Some x → AllZip R (option_spots found) ts
     → (t : Tree) × (ts ≡ t ∷ []) × R x t
 one_member R found x ts is h = only_one R x ts (rw is at h)
 

@@ -2,13 +2,12 @@
 use Rattle.std.proofs.Common.{◌≡◌, ℕ, zero, suc, ◌+◌, ◌-◌, ◌<◌, ◌≤◌, ◌↔◌, ℤ, pos, ◌≤ℤ◌, Bool, true, false, cond, ◌&&◌, List, [], ◌∷◌, ◌++◌, length, take, drop, filter, filter_map, slice_get, Some, None, nat_lt, refl, sym, ap, ◌∙◌, arith, append-nil}
 use Rattle.std.specs.Prelude.{int_le, slice_range}
 use Rattle.std.specs.Bool.{Decides}
-use Rattle.std.specs.List.{cons_option, range_with_len}
+use Rattle.std.specs.List.{cons_option, range_with_len, AllZip}
 use Rattle.std.proofs.lemmas.Bool.Decides.{Decides-int_eq, nat_tests}
 use Rattle.std.proofs.lemmas.Int.{ints}
 use Rattle.jsonb_doc.specs.Tree.{Tree}
 use Rattle.jsonb.specs.PathTree.{Entry, single, slice, from_front}
 use Rattle.jsonb.specs.Positions.{position, IsPosition}
-use Rattle.jsonb.specs.Related.{AllRelated}
 use Rattle.jsonb.specs.ItemSteps.{is_meant, picked_by, picked}
 
 -- ---- the test and the relation agree
@@ -103,28 +102,28 @@ picked_between entry ts start end h k meant =
 -- ---- related lists, cut at the same places
 
 module _ {A B : Type 0} (R : A → B → Type 0) where
-  pub AllRelated-length : (xs : List A) (ys : List B) → AllRelated R xs ys → length xs ≡ length ys
-  AllRelated-length [] [] h = refl
-  AllRelated-length [] (y ∷ ys) h = absurd h
-  AllRelated-length (x ∷ xs) [] h = absurd h
-  AllRelated-length (x ∷ xs) (y ∷ ys) h = ap suc (AllRelated-length xs ys h.1)
+  pub AllZip-length : (xs : List A) (ys : List B) → AllZip R xs ys → length xs ≡ length ys
+  AllZip-length [] [] h = refl
+  AllZip-length [] (y ∷ ys) h = absurd h
+  AllZip-length (x ∷ xs) [] h = absurd h
+  AllZip-length (x ∷ xs) (y ∷ ys) h = ap suc (AllZip-length xs ys h.1)
 
-  AllRelated-take : (d : ℕ) (xs : List A) (ys : List B) → AllRelated R xs ys → AllRelated R (take d xs) (take d ys)
-  AllRelated-take zero xs ys h = tt
-  AllRelated-take (suc d) [] [] h = tt
-  AllRelated-take (suc d) [] (y ∷ ys) h = absurd h
-  AllRelated-take (suc d) (x ∷ xs) [] h = absurd h
-  AllRelated-take (suc d) (x ∷ xs) (y ∷ ys) h = (h.0, AllRelated-take d xs ys h.1)
+  AllZip-take : (d : ℕ) (xs : List A) (ys : List B) → AllZip R xs ys → AllZip R (take d xs) (take d ys)
+  AllZip-take zero xs ys h = tt
+  AllZip-take (suc d) [] [] h = tt
+  AllZip-take (suc d) [] (y ∷ ys) h = absurd h
+  AllZip-take (suc d) (x ∷ xs) [] h = absurd h
+  AllZip-take (suc d) (x ∷ xs) (y ∷ ys) h = (h.0, AllZip-take d xs ys h.1)
 
-  AllRelated-drop : (d : ℕ) (xs : List A) (ys : List B) → AllRelated R xs ys → AllRelated R (drop d xs) (drop d ys)
-  AllRelated-drop zero xs ys h = h
-  AllRelated-drop (suc d) [] [] h = tt
-  AllRelated-drop (suc d) [] (y ∷ ys) h = absurd h
-  AllRelated-drop (suc d) (x ∷ xs) [] h = absurd h
-  AllRelated-drop (suc d) (x ∷ xs) (y ∷ ys) h = AllRelated-drop d xs ys h.1
+  AllZip-drop : (d : ℕ) (xs : List A) (ys : List B) → AllZip R xs ys → AllZip R (drop d xs) (drop d ys)
+  AllZip-drop zero xs ys h = h
+  AllZip-drop (suc d) [] [] h = tt
+  AllZip-drop (suc d) [] (y ∷ ys) h = absurd h
+  AllZip-drop (suc d) (x ∷ xs) [] h = absurd h
+  AllZip-drop (suc d) (x ∷ xs) (y ∷ ys) h = AllZip-drop d xs ys h.1
 
-  pub AllRelated-between : (start end : ℕ) (xs : List A) (ys : List B) → AllRelated R xs ys → AllRelated R (slice_range xs start end) (slice_range ys start end)
-  AllRelated-between start end xs ys h = AllRelated-take (end - start) (drop start xs) (drop start ys) (AllRelated-drop start xs ys h)
+  pub AllZip-between : (start end : ℕ) (xs : List A) (ys : List B) → AllZip R xs ys → AllZip R (slice_range xs start end) (slice_range ys start end)
+  AllZip-between start end xs ys h = AllZip-take (end - start) (drop start xs) (drop start ys) (AllZip-drop start xs ys h)
 
 -- ---- one plain index
 

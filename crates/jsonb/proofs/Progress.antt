@@ -10,7 +10,7 @@ use Rattle.jsonb_doc.specs.declared.spot_iter.SpotIter.{SpotIter}
 use Rattle.jsonb_doc.specs.Tree.{Tree}
 use Rattle.jsonb_doc.specs.Spots.{Locates, HasSpotsLeft, GivesSpot}
 use Rattle.jsonb_doc.proofs.SpotsTaken.{taken_spot, no_refusal, no_spots_left}
-use Rattle.jsonb.specs.Related.{AllRelated}
+use Rattle.std.specs.List.{AllZip}
 
 -- a list in front of a list, or its refusal
 abbrev pub behind : {C : Type 0} → List C → Outcome (List C) → Outcome (List C)
@@ -111,18 +111,18 @@ abbrev pub no_spot : Spot
 no_spot = record { kind = 0; start = 0; end = 0 }
 
 module _ {A B : Type 0} (R : A → B → Type 0) (xs : List A) where
-  pub list_first : (i : ℕ) (d : A) → i < length xs → (rest : List B) → AllRelated R (drop i xs) rest
-      → First (AllRelated R (drop (i + 1) xs)) (R (get_or xs i d)) rest
-  list_first i d h rest a = go rest (subst (λ l. AllRelated R l rest) (drop-cons xs i d h ∙ ap (λ n. get_or xs i d ∷ drop n xs) (sym (add-one i))) a)
+  pub list_first : (i : ℕ) (d : A) → i < length xs → (rest : List B) → AllZip R (drop i xs) rest
+      → First (AllZip R (drop (i + 1) xs)) (R (get_or xs i d)) rest
+  list_first i d h rest a = go rest (subst (λ l. AllZip R l rest) (drop-cons xs i d h ∙ ap (λ n. get_or xs i d ∷ drop n xs) (sym (add-one i))) a)
     where
-      go : (rest : List B) → AllRelated R (get_or xs i d ∷ drop (i + 1) xs) rest → First (AllRelated R (drop (i + 1) xs)) (R (get_or xs i d)) rest
+      go : (rest : List B) → AllZip R (get_or xs i d ∷ drop (i + 1) xs) rest → First (AllZip R (drop (i + 1) xs)) (R (get_or xs i d)) rest
       go [] a = absurd a
       go (t ∷ ts) a = record { first = t; others = ts; whole = refl; holds = a.0; left = a.1 }
 
-  pub list_end : (i : ℕ) → length xs ≤ i → (rest : List B) → AllRelated R (drop i xs) rest → rest ≡ []
-  list_end i h rest a = go rest (subst (λ l. AllRelated R l rest) (drop_of_length-le xs h) a)
+  pub list_end : (i : ℕ) → length xs ≤ i → (rest : List B) → AllZip R (drop i xs) rest → rest ≡ []
+  list_end i h rest a = go rest (subst (λ l. AllZip R l rest) (drop_of_length-le xs h) a)
     where
-      go : (rest : List B) → AllRelated R [] rest → rest ≡ []
+      go : (rest : List B) → AllZip R [] rest → rest ≡ []
       go [] a = refl
       go (t ∷ ts) a = absurd a
 
@@ -131,32 +131,32 @@ module _ {A B : Type 0} (R : A → B → Type 0) (xs : List A) where
 module _ (f : Tree → Outcome (List Tree)) (bytes : List ℕ) (spots : List Spot) (ts : List Tree) where
   -- so many places are passed, and this was found
   abbrev pub SpotsPassed : ℕ → List Spot → Type 0
-  SpotsPassed i found = Progress (AllRelated (Locates bytes) (drop i spots)) (AllRelated (Locates bytes) found) f (try_flat_map f ts)
+  SpotsPassed i found = Progress (AllZip (Locates bytes) (drop i spots)) (AllZip (Locates bytes) found) f (try_flat_map f ts)
 
-  pub none_passed : (found : List Spot) → found ≡ [] → AllRelated (Locates bytes) spots ts → SpotsPassed 0 found
+  pub none_passed : (found : List Spot) → found ≡ [] → AllZip (Locates bytes) spots ts → SpotsPassed 0 found
   none_passed found none a =
-      at_start f (AllRelated (Locates bytes) spots) (AllRelated (Locates bytes) found) ts a (subst (λ l. AllRelated (Locates bytes) l []) (sym none) tt)
+      at_start f (AllZip (Locates bytes) spots) (AllZip (Locates bytes) found) ts a (subst (λ l. AllZip (Locates bytes) l []) (sym none) tt)
 
   module _ (i : ℕ) (found found' : List Spot) (passed : SpotsPassed i found) where
     pub spot_passed : i < length spots
-        → ((t : Tree) (before : List Tree) → Locates bytes (get_or spots i no_spot) t → AllRelated (Locates bytes) found before
-        → IsOkAnd (f t) (λ us. AllRelated (Locates bytes) found' (before ++ us)))
+        → ((t : Tree) (before : List Tree) → Locates bytes (get_or spots i no_spot) t → AllZip (Locates bytes) found before
+        → IsOkAnd (f t) (λ us. AllZip (Locates bytes) found' (before ++ us)))
         → SpotsPassed (i + 1) found'
     spot_passed less one =
-        one_more f (AllRelated (Locates bytes) (drop i spots)) (AllRelated (Locates bytes) (drop (i + 1) spots)) (AllRelated (Locates bytes) found)
-        (AllRelated (Locates bytes) found') _ _ passed (list_first (Locates bytes) spots i no_spot less) one
+        one_more f (AllZip (Locates bytes) (drop i spots)) (AllZip (Locates bytes) (drop (i + 1) spots)) (AllZip (Locates bytes) found)
+        (AllZip (Locates bytes) found') _ _ passed (list_first (Locates bytes) spots i no_spot less) one
 
     pub spot_not_passed : {G : Type 0} (Q : G → List Tree → Type 0) (e : Error) → i < length spots
-        → ((t : Tree) (before : List Tree) → Locates bytes (get_or spots i no_spot) t → AllRelated (Locates bytes) found before
-        → Gives (λ (_ : Unit {0}) us. AllRelated (Locates bytes) found' (before ++ us)) IsOutOfMemory (Err e) (f t))
+        → ((t : Tree) (before : List Tree) → Locates bytes (get_or spots i no_spot) t → AllZip (Locates bytes) found before
+        → Gives (λ (_ : Unit {0}) us. AllZip (Locates bytes) found' (before ++ us)) IsOutOfMemory (Err e) (f t))
         → Gives Q IsOutOfMemory (Err e) (try_flat_map f ts)
     spot_not_passed Q e less one =
-        refused_in f Q (AllRelated (Locates bytes) (drop i spots)) (AllRelated (Locates bytes) (drop (i + 1) spots)) (AllRelated (Locates bytes) found)
-        (AllRelated (Locates bytes) found') _ e _ passed (list_first (Locates bytes) spots i no_spot less) one
+        refused_in f Q (AllZip (Locates bytes) (drop i spots)) (AllZip (Locates bytes) (drop (i + 1) spots)) (AllZip (Locates bytes) found)
+        (AllZip (Locates bytes) found') _ e _ passed (list_first (Locates bytes) spots i no_spot less) one
 
-  pub all_passed : (i : ℕ) (found : List Spot) → SpotsPassed i found → length spots ≤ i → IsOkAnd (try_flat_map f ts) (AllRelated (Locates bytes) found)
+  pub all_passed : (i : ℕ) (found : List Spot) → SpotsPassed i found → length spots ≤ i → IsOkAnd (try_flat_map f ts) (AllZip (Locates bytes) found)
   all_passed i found passed end =
-      at_end f (AllRelated (Locates bytes) (drop i spots)) (AllRelated (Locates bytes) found) _ passed (list_end (Locates bytes) spots i end)
+      at_end f (AllZip (Locates bytes) (drop i spots)) (AllZip (Locates bytes) found) _ passed (list_end (Locates bytes) spots i end)
 
 -- ---- over the children of an item
 

@@ -13,7 +13,7 @@ use Rattle.jsonb_raw.specs.Arrays.{array_values}
 use Rattle.jsonb.specs.PathTree.{Step, steps_of}
 use Rattle.jsonb.specs.PathViews.{step_view, steps_view}
 use Rattle.jsonb.specs.ItemSteps.{values_of}
-use Rattle.jsonb.specs.Related.{AllRelated}
+use Rattle.std.specs.List.{AllZip}
 use Rattle.jsonb.specs.Meaning.{step_meaning, steps_meaning, truth, filtered, is_some_item}
 use Rattle.jsonb.specs.SelectorAnswers.{first_item}
 use Rattle.jsonb.specs.Private.Search.{IsSearched, HasItems, items_bound, TakesItem, AreGiven, IsReached, BeginsAs}
@@ -54,7 +54,7 @@ searched_total (search.Joined all) s top t h = subst (λ z. IsOkAnd (step_meanin
     (with_ok Any (λ o. IsOkAnd o Any) (truth Lax h.0 top t) (λ b. Ok (filtered t b))
     (subst (λ o. IsOkAnd o Any) (sym (h.2.joined Lax top t)) (joint_total all.join all.comparisons.items h.2.parts top t h.2.compared)) (λ b _. tt))
 
-pub all_searched : (xs : List SearchStep) (ss : List Step) → AllRelated IsSearched xs ss → AreTotal ss
+pub all_searched : (xs : List SearchStep) (ss : List Step) → AllZip IsSearched xs ss → AreTotal ss
 all_searched [] [] h = tt
 all_searched [] (s ∷ ss) h = absurd h
 all_searched (x ∷ xs) [] h = absurd h
@@ -80,11 +80,11 @@ step_taken P s ss rest top u is h =
 
 -- one more step of a search
 pub searched_more : (expressions : Expressions) (steps : List Path) (i : ℕ) (s : Path) (xs : List SearchStep) (x : SearchStep) → i < length steps
-    → s ≡ get_or steps i s → AllRelated IsSearched xs (map (taken_step expressions) (steps_view (take i steps)))
+    → s ≡ get_or steps i s → AllZip IsSearched xs (map (taken_step expressions) (steps_view (take i steps)))
     → IsSearched x (taken_step expressions (step_view s))
-    → AllRelated IsSearched (xs ++ x ∷ []) (map (taken_step expressions) (steps_view (take (i + 1) steps)))
+    → AllZip IsSearched (xs ++ x ∷ []) (map (taken_step expressions) (steps_view (take (i + 1) steps)))
 searched_more expressions steps i s xs x short is h k =
-    subst (λ l. AllRelated IsSearched (xs ++ x ∷ []) l)
+    subst (λ l. AllZip IsSearched (xs ++ x ∷ []) l)
     (sym (ap (λ l. map (taken_step expressions) (steps_view l)) (take_more steps i s short ∙ ap (λ y. take i steps ++ y ∷ []) (sym is))
     ∙ ap (map (taken_step expressions)) (map-append step_view (take i steps) (s ∷ []))
     ∙ map-append (taken_step expressions) (steps_view (take i steps)) (step_view s ∷ [])))
@@ -102,7 +102,7 @@ left_over top (l ∷ ls) = both_lists (steps_meaning Lax (steps_of l.1) top l.0)
 
 abbrev pub HaveLeft : List ℕ → List Waiting → List Left → Type 0
 HaveLeft bytes [] [] = Unit {0}
-HaveLeft bytes (w ∷ ws) (l ∷ ls) = HasItems bytes w.items l.0 × AllRelated IsSearched w.steps.now l.1 × HaveLeft bytes ws ls
+HaveLeft bytes (w ∷ ws) (l ∷ ls) = HasItems bytes w.items l.0 × AllZip IsSearched w.steps.now l.1 × HaveLeft bytes ws ls
 HaveLeft bytes _ _ = ⊥
 
 both_total : (o p : Outcome (List Tree)) → IsOkAnd o Any → IsOkAnd p Any → IsOkAnd (both_lists o p) Any
@@ -115,7 +115,7 @@ none_behind (Ok xs) = ap Ok (sym (append-nil xs))
 none_behind (Err e) = refl
 
 -- in front of a list that is not refused stands its first item
-first_of_all : (bytes : List ℕ) (x : Spot) (us : List Tree) (o p : Outcome (List Tree)) → AllRelated (Locates bytes) (option_spots (Some x)) us → IsOkAnd o Any
+first_of_all : (bytes : List ℕ) (x : Spot) (us : List Tree) (o p : Outcome (List Tree)) → AllZip (Locates bytes) (option_spots (Some x)) us → IsOkAnd o Any
     → IsOkAnd p Any → IsOkAnd (both_lists (both_lists (Ok us) o) p) (λ all. SameOption (Locates bytes) (Some x) (first_item all))
 first_of_all bytes x [] o p h a b = absurd h
 first_of_all bytes x (u ∷ us) (Ok ys) (Ok zs) h a b = h.0
@@ -144,11 +144,11 @@ pub given_one : (bytes : List ℕ) (g : Given) (x : Spot) (us : List Tree) → g
 given_one bytes g x us is h = one_member (Locates bytes) (Some x) x us refl (subst (λ y. AreGiven bytes y us) is h)
 
 -- one item at most is all that the steps lead to
-pub found_at_most : (bytes : List ℕ) (found : Option Spot) (us : List Tree) (o : Outcome (List Tree)) → AllRelated (Locates bytes) (option_spots found) us
+pub found_at_most : (bytes : List ℕ) (found : Option Spot) (us : List Tree) (o : Outcome (List Tree)) → AllZip (Locates bytes) (option_spots found) us
     → o ≡ Ok us → Gives {A = Option Spot} (λ f ts. SameOption (Locates bytes) f (first_item ts)) IsOutOfMemory (Ok found) o
 found_at_most bytes found us o h is = record { ok = subst (λ z. IsOkAnd z (λ ts. SameOption (Locates bytes) found (first_item ts))) (sym is) (go found us h); err = tt }
   where
-    go : (f : Option Spot) (us : List Tree) → AllRelated (Locates bytes) (option_spots f) us → SameOption (Locates bytes) f (first_item us)
+    go : (f : Option Spot) (us : List Tree) → AllZip (Locates bytes) (option_spots f) us → SameOption (Locates bytes) f (first_item us)
     go None [] h = tt
     go None (u ∷ us) h = absurd h
     go (Some x) [] h = absurd h
@@ -161,7 +161,7 @@ pub record Searching (bytes : List ℕ) (top : Tree) (Here : List Tree → Type 
   pub rest : List Step
   pub others : List Left
   pub left : Here here
-  pub searched : AllRelated IsSearched steps rest
+  pub searched : AllZip IsSearched steps rest
   pub left_around : HaveLeft bytes (reverse around) others
   pub is : whole ≡ both_lists (steps_meaning Lax (steps_of rest) top here) (left_over top others)
 
@@ -222,7 +222,7 @@ module _ (bytes : List ℕ) (top : Tree) where
           ∙ ap (λ o. both_lists o (left_over top w.others)) (sym (none_in_front _));
     }
       where
-        no_items : (us : List Tree) → AllRelated (Locates bytes) [] us → us ≡ []
+        no_items : (us : List Tree) → AllZip (Locates bytes) [] us → us ≡ []
         no_items [] h = refl
         no_items (u ∷ us) h = absurd h
 
@@ -236,7 +236,7 @@ module _ (bytes : List ℕ) (top : Tree) where
       left = k.2;
       searched = k.3;
       left_around = subst (λ l. HaveLeft bytes l ((f.others, w.rest) ∷ w.others)) (sym (ap reverse pushed ∙ innermost around within'))
-          (f.left, subst (λ l. AllRelated IsSearched l w.rest) (sym same) w.searched, w.left_around);
+          (f.left, subst (λ l. AllZip IsSearched l w.rest) (sym same) w.searched, w.left_around);
       is = cut_first f
           ∙ ap (λ o. both_lists (both_lists o (steps_meaning Lax (steps_of w.rest) top f.others)) (left_over top w.others)) k.4
           ∙ sym (both_lists-assoc (steps_meaning Lax (steps_of k.1) top k.0) (steps_meaning Lax (steps_of w.rest) top f.others) (left_over top w.others));
@@ -329,8 +329,8 @@ module _ (form : Form) (document : Document) where
     where
       go : (f : Option Spot) (ts : List Tree) → node_spots nodes ≡ option_spots f → SameOption (IsAt document) f (first_item ts)
           → BeginsAs form document (selected.Nodes nodes) ts
-      go None [] is h = ([], subst (λ l. AllRelated (IsAt document) l []) (sym is) tt, refl)
+      go None [] is h = ([], subst (λ l. AllZip (IsAt document) l []) (sym is) tt, refl)
       go None (t ∷ ts) is h = absurd h
       go (Some x) [] is h = absurd h
-      go (Some x) (t ∷ ts) is h = (t ∷ [], subst (λ l. AllRelated (IsAt document) l (t ∷ [])) (sym is) (h, tt), refl)
+      go (Some x) (t ∷ ts) is h = (t ∷ [], subst (λ l. AllZip (IsAt document) l (t ∷ [])) (sym is) (h, tt), refl)
   begins_found nodes found (Err e) is h = absurd h.ok

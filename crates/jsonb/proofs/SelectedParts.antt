@@ -15,8 +15,7 @@ use Rattle.jsonb_doc.proofs.LimitLemmas.{array_too_large-element}
 use Rattle.jsonb.specs.declared.selector.selected.MadeItem.{MadeItem}
 use Rattle.std.specs.Prelude.{Vec}
 use Rattle.std.specs.declared.alloc.Global.{Global}
-use Rattle.std.specs.List.{Any}
-use Rattle.jsonb.specs.Related.{AllRelated}
+use Rattle.std.specs.List.{Any, AllZip}
 use Rattle.jsonb.specs.Private.Selected.{selected_len}
 use Rattle.jsonb.specs.Private.Selection.{IsAt, IsMadeItem, IsNumberItem, AreSelected, node_spots}
 use Rattle.jsonb.specs.SelectorAnswers.{first_item, single_or_array, array_of}
@@ -28,21 +27,21 @@ use Rattle.jsonb.specs.declared.selector.selected.Selected.TheVariants as select
 
 -- ---- related lists
 
-pub related_length : {A B : Type 0} (R : A → B → Type 0) (xs : List A) (ys : List B) → AllRelated R xs ys → length xs ≡ length ys
+pub related_length : {A B : Type 0} (R : A → B → Type 0) (xs : List A) (ys : List B) → AllZip R xs ys → length xs ≡ length ys
 related_length R [] [] h = refl
 related_length R [] (y ∷ ys) h = absurd h
 related_length R (x ∷ xs) [] h = absurd h
 related_length R (x ∷ xs) (y ∷ ys) h = ap suc (related_length R xs ys h.1)
 
-pub related_at : {A B : Type 0} (R : A → B → Type 0) (xs : List A) (ys : List B) (k : ℕ) (d : A) (e : B) → k < length xs → AllRelated R xs ys
+pub related_at : {A B : Type 0} (R : A → B → Type 0) (xs : List A) (ys : List B) (k : ℕ) (d : A) (e : B) → k < length xs → AllZip R xs ys
     → R (get_or xs k d) (get_or ys k e)
 related_at R [] ys k d e short h = absurd (omega (arith, short))
 related_at R (x ∷ xs) [] k d e short h = absurd h
 related_at R (x ∷ xs) (y ∷ ys) zero d e short h = h.0
 related_at R (x ∷ xs) (y ∷ ys) (suc k) d e short h = related_at R xs ys k d e (omega (arith, short)) h.1
 
-pub related_more : {A B : Type 0} (R : A → B → Type 0) (xs : List A) (ys : List B) (x : A) (y : B) → AllRelated R xs ys → R x y
-    → AllRelated R (xs ++ x ∷ []) (ys ++ y ∷ [])
+pub related_more : {A B : Type 0} (R : A → B → Type 0) (xs : List A) (ys : List B) (x : A) (y : B) → AllZip R xs ys → R x y
+    → AllZip R (xs ++ x ∷ []) (ys ++ y ∷ [])
 related_more R [] [] x y h r = (r, tt)
 related_more R [] (v ∷ ys) x y h r = absurd h
 related_more R (u ∷ xs) [] x y h r = absurd h
@@ -71,7 +70,7 @@ pub Selects-made : (form : Form) (document : Document) (s : Selected) (part : Ma
     → s ≡ selected.Made part → k < selected_len s → AreSelected form document s ts → IsMadeItem form part (get_or ts k e)
 Selects-made form document s part ts k e is short h = go ts k (rw is at short) (rw is at h)
   where
-    go : (ts : List Tree) (k : ℕ) → k < 1 → AllRelated (IsMadeItem form) (part ∷ []) ts → IsMadeItem form part (get_or ts k e)
+    go : (ts : List Tree) (k : ℕ) → k < 1 → AllZip (IsMadeItem form) (part ∷ []) ts → IsMadeItem form part (get_or ts k e)
     go [] k short h = absurd h
     go (t ∷ ts) zero short h = h.0
     go (t ∷ ts) (suc k) short h = absurd (omega (arith, short))

@@ -14,7 +14,7 @@ use Rattle.jsonb.specs.PathTree as path
 use Rattle.jsonb.specs.PathTree.{Literal, BinaryOp, and_op, or_op, eq, not_eq, lt, lte, gt, gte, starts_with_op, add, subtract, multiply, divide, modulo, UnaryOp, plus, minus, Step, root, current, dot_wildcard, recursive_dot_wildcard, bracket_wildcard, dot_field, colon_field, object_field, array_indices, filter, whole_expression, Steps, no_steps, step, Expression, paths, value, binary, unary, exists, steps_of}
 use Rattle.jsonb.specs.PathLaws.{settled_literal, settled_step, settled_steps, settled, ReadsBack}
 use Rattle.jsonb.specs.PathGrammar.{json_path}
-use Rattle.jsonb.specs.Related.{AllRelated}
+use Rattle.std.specs.List.{AllZip}
 use Rattle.jsonb.specs.Values.{Value, null, boolean, number, text, raw, literal_item, values_of_literal}
 use Rattle.jsonb.specs.Compare.{Truth, value_order, starts_with_truth, is_raw, pair_truth, first_decisive, compare}
 use Rattle.jsonb.specs.PathArithmetic.{operation, all_numbers, two_numbers, signed_number, each_signed}
@@ -358,7 +358,7 @@ mutual
   )
   same_pairs _ _ e = cc
 
-same_lists : (ts us : List Tree) → map settled_tree ts ≡ map settled_tree us → AllRelated IsEqual ts us
+same_lists : (ts us : List Tree) → map settled_tree ts ≡ map settled_tree us → AllZip IsEqual ts us
 same_lists [] [] e = tt
 same_lists (t ∷ ts) (u ∷ us) e =
     (same_tree t u (let k : settled_tree t ≡ settled_tree u = cc in k), same_lists ts us (let k : map settled_tree ts ≡ map settled_tree us = cc in k))

@@ -17,7 +17,7 @@ use Rattle.jsonb.specs.PathArithmetic.{all_numbers, signed_number}
 use Rattle.jsonb.specs.PathTree.{UnaryOp, paths, steps_of}
 use Rattle.jsonb.specs.PathViews.{steps_view}
 use Rattle.jsonb.specs.Meaning.{operand_values, start, steps_meaning}
-use Rattle.jsonb.specs.Related.{AllRelated}
+use Rattle.std.specs.List.{AllZip}
 use Rattle.jsonb.specs.Private.Selection.{IsNumberTree, IsNumberItem, taken_step}
 use Rattle.jsonb.specs.Values.{Value, number, value_of_item, values_of_item}
 use Rattle.jsonb.specs.declared.path.Path.{Path}
@@ -80,11 +80,11 @@ more_behind old mid new (Err e) before first then = absurd then
 
 -- so many are signed, and the others are as they were
 abbrev pub SignedUntil : UnaryOp → List CodeNumber → ℕ → Outcome (List Tree) → Type 0
-SignedUntil op xs i outcome = Progress (AllRelated (Is number_view) (drop i xs)) (AllRelated IsNumberItem (take i xs)) (signed_number op) outcome
+SignedUntil op xs i outcome = Progress (AllZip (Is number_view) (drop i xs)) (AllZip IsNumberItem (take i xs)) (signed_number op) outcome
 
 pub none_signed : (op : UnaryOp) (xs : List CodeNumber) → SignedUntil op xs 0 (try_flat_map (signed_number op) (map number_view xs))
 none_signed op xs =
-    at_start (signed_number op) (AllRelated (Is number_view) xs) (AllRelated IsNumberItem []) (map number_view xs)
+    at_start (signed_number op) (AllZip (Is number_view) xs) (AllZip IsNumberItem []) (map number_view xs)
     (related_of_map number_view xs (map number_view xs) refl) tt
 
 module _ (op : UnaryOp) (xs : List CodeNumber) (i : ℕ) (d : CodeNumber) (outcome : Outcome (List Tree)) (done : SignedUntil op xs i outcome) where
@@ -93,8 +93,8 @@ module _ (op : UnaryOp) (xs : List CodeNumber) (i : ℕ) (d : CodeNumber) (outco
   one_signed v short is =
       let next : i < i + 1 = omega arith in
       rw (drop-set-lt (i + 1) xs i v next, take_more_set xs i v short)
-      (one_more (signed_number op) (AllRelated (Is number_view) (drop i xs)) (AllRelated (Is number_view) (drop (i + 1) xs))
-      (AllRelated IsNumberItem (take i xs)) (AllRelated IsNumberItem (take i xs ++ v ∷ [])) (Is number_view (get_or xs i d)) outcome done
+      (one_more (signed_number op) (AllZip (Is number_view) (drop i xs)) (AllZip (Is number_view) (drop (i + 1) xs))
+      (AllZip IsNumberItem (take i xs)) (AllZip IsNumberItem (take i xs ++ v ∷ [])) (Is number_view (get_or xs i d)) outcome done
       (list_first (Is number_view) xs i d short)
       (λ n before same held. rw (← same)
       (number_added (take i xs) (take i xs ++ v ∷ []) v (signed_number op (number_view (get_or xs i d))) before refl is held)))
@@ -102,15 +102,15 @@ module _ (op : UnaryOp) (xs : List CodeNumber) (i : ℕ) (d : CodeNumber) (outco
   pub one_refused : {Q : Unit {0} → List Tree → Type 0} {e : Error} → i < length xs
       → Gives {A = CodeNumber} IsNumberTree (λ _. ⊥) (Err e) (signed_number op (number_view (get_or xs i d))) → Gives {A = Unit {0}} Q IsOutOfMemory (Err e) outcome
   one_refused {Q} {e} short is =
-      refused_in (signed_number op) Q (AllRelated (Is number_view) (drop i xs)) (AllRelated (Is number_view) (drop (i + 1) xs))
-      (AllRelated IsNumberItem (take i xs)) (AllRelated IsNumberItem (take i xs)) (Is number_view (get_or xs i d)) e outcome done
+      refused_in (signed_number op) Q (AllZip (Is number_view) (drop i xs)) (AllZip (Is number_view) (drop (i + 1) xs))
+      (AllZip IsNumberItem (take i xs)) (AllZip IsNumberItem (take i xs)) (Is number_view (get_or xs i d)) e outcome done
       (list_first (Is number_view) xs i d short) (λ n before same held. record { ok = tt; err = rw (← same) ((as_memory is).err) })
 
 pub all_signed : (op : UnaryOp) (xs : List CodeNumber) (i : ℕ) (outcome : Outcome (List Tree)) → SignedUntil op xs i outcome → length xs ≤ i
-    → IsOkAnd outcome (AllRelated IsNumberItem xs)
+    → IsOkAnd outcome (AllZip IsNumberItem xs)
 all_signed op xs i outcome done end =
-    subst (λ l. IsOkAnd outcome (AllRelated IsNumberItem l)) (take_all i xs end)
-    (at_end (signed_number op) (AllRelated (Is number_view) (drop i xs)) (AllRelated IsNumberItem (take i xs)) outcome done
+    subst (λ l. IsOkAnd outcome (AllZip IsNumberItem l)) (take_all i xs end)
+    (at_end (signed_number op) (AllZip (Is number_view) (drop i xs)) (AllZip IsNumberItem (take i xs)) outcome done
     (list_end (Is number_view) xs i end))
 
 -- ---- what follows the values of an operand

@@ -8,7 +8,7 @@ use Rattle.jsonb_doc.specs.declared.spot.Spot.{Spot}
 use Rattle.jsonb.specs.PathTree as math
 use Rattle.jsonb.specs.PathTree.{steps_of}
 use Rattle.jsonb.specs.PathViews.{step_view, steps_view, expression_view, operator_view}
-use Rattle.jsonb.specs.Related.{AllRelated}
+use Rattle.std.specs.List.{AllZip}
 use Rattle.jsonb.specs.Compare.{compare}
 use Rattle.jsonb.specs.Meaning.{step_meaning, steps_meaning, truth, operand_values, start, filtered, as_filter}
 use Rattle.jsonb.specs.Private.Selection.{IsKept, option_spots, taken_step}
@@ -30,13 +30,13 @@ joined_one {B} {C} f t = go (f t)
     go (Ok us) = ap Ok (append-nil us)
     go (Err e) = refl
 
-pub only_one : (R : Spot → Tree → Type 0) (item : Spot) (ts : List Tree) → AllRelated R (item ∷ []) ts → (t : Tree) × (ts ≡ t ∷ []) × R item t
+pub only_one : (R : Spot → Tree → Type 0) (item : Spot) (ts : List Tree) → AllZip R (item ∷ []) ts → (t : Tree) × (ts ≡ t ∷ []) × R item t
 only_one R item [] a = absurd a
 only_one R item (t ∷ []) a = (t, refl, a.0)
 only_one R item (t ∷ u ∷ ts) a = absurd a.1
 
 pub kept_found : (R : Spot → Tree → Type 0) (keeps : Bool) (o : Option Spot) (item : Spot) (t : Tree) (ts : List Tree) →
-    o ≡ then_some keeps item → IsKept t keeps ts → R item t → AllRelated R (option_spots o) ts
+    o ≡ then_some keeps item → IsKept t keeps ts → R item t → AllZip R (option_spots o) ts
 kept_found R true o item t ts is k r = rw (is, k) (r, tt)
 kept_found R false o item t ts is k r = rw (is, k) tt
 

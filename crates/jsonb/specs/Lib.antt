@@ -6,7 +6,6 @@ pub mod PathOrder
 pub mod Positions
 pub mod LevelTable
 pub mod PathLaws
-pub mod Related
 pub mod Values
 pub mod Compare
 pub mod Preorder

@@ -14,4 +14,5 @@ pub mod Members
 pub mod Compared
 pub mod Exists
 pub mod Search
+pub mod Steps
 pub mod Repeated

@@ -81,15 +81,13 @@ pub fn selected_positions_are_meant()
 
 /// JSON paths are equal by `==` exactly where they have the same steps, part by part.
 pub fn json_paths_are_equal_by_steps(left: &JsonPath, right: &JsonPath)
-    ensures { (json_paths_equal.it left.now right.now ≡ true) ↔
-        SamePath (path_view left.now) (path_view right.now) }
+    ensures { (json_paths_equal.it left.now right.now ≡ true) ↔ SamePath (path_view left.now) (path_view right.now) }
 {}
 
 /// Steps are equal by `==` exactly where they are of one kind with the same parts, whatever holds
 /// the texts.
 pub fn steps_are_equal_by_parts(left: &Path, right: &Path)
-    ensures { (steps_equal.it left.now right.now ≡ true) ↔
-        SameStep (step_view left.now) (step_view right.now) }
+    ensures { (steps_equal.it left.now right.now ≡ true) ↔ SameStep (step_view left.now) (step_view right.now) }
 {}
 
 /// Expressions are equal by `==` exactly where they are of one kind with the same parts.
@@ -106,38 +104,32 @@ pub fn literals_are_equal_by_value(left: &PathValue, right: &PathValue)
 
 /// Places in an array are equal by `==` exactly where they are counted from the same end, equally far.
 pub fn indices_are_equal_by_parts(left: &Index, right: &Index)
-    ensures { (indices_equal.it left.now right.now ≡ true) ↔
-        (place_view left.now ≡ place_view right.now) }
+    ensures { (indices_equal.it left.now right.now ≡ true) ↔ (place_view left.now ≡ place_view right.now) }
 {}
 
 /// Index entries are equal by `==` exactly where they have the same places.
 pub fn index_entries_are_equal_by_parts(left: &ArrayIndex, right: &ArrayIndex)
-    ensures { (entries_equal.it left.now right.now ≡ true) ↔
-        (entry_view left.now ≡ entry_view right.now) }
+    ensures { (entries_equal.it left.now right.now ≡ true) ↔ (entry_view left.now ≡ entry_view right.now) }
 {}
 
 /// Ends of levels are equal by `==` exactly where they are the same level, or both the last.
 pub fn level_ends_are_equal_by_parts(left: &RecursiveLevelEnd, right: &RecursiveLevelEnd)
-    ensures { (level_ends_equal.it left.now right.now ≡ true) ↔
-        (end_view left.now ≡ end_view right.now) }
+    ensures { (level_ends_equal.it left.now right.now ≡ true) ↔ (end_view left.now ≡ end_view right.now) }
 {}
 
 /// Levels are equal by `==` exactly where they have the same start and the same end.
 pub fn levels_are_equal_by_parts(left: &RecursiveLevel, right: &RecursiveLevel)
-    ensures { (levels_equal.it left.now right.now ≡ true) ↔
-        (levels_view left.now ≡ levels_view right.now) }
+    ensures { (levels_equal.it left.now right.now ≡ true) ↔ (levels_view left.now ≡ levels_view right.now) }
 {}
 
 /// Operators are equal by `==` exactly where they are the same operator.
 pub fn binary_operators_are_equal_by_kind(left: &BinaryOperator, right: &BinaryOperator)
-    ensures { (operators_equal.it left.now right.now ≡ true) ↔
-        (operator_view left.now ≡ operator_view right.now) }
+    ensures { (operators_equal.it left.now right.now ≡ true) ↔ (operator_view left.now ≡ operator_view right.now) }
 {}
 
 /// Signs are equal by `==` exactly where they are the same sign.
 pub fn unary_operators_are_equal_by_kind(left: &UnaryOperator, right: &UnaryOperator)
-    ensures { (signs_equal.it left.now right.now ≡ true) ↔
-        (sign_view left.now ≡ sign_view right.now) }
+    ensures { (signs_equal.it left.now right.now ≡ true) ↔ (sign_view left.now ≡ sign_view right.now) }
 {}
 
 /// Having the same parts is symmetric and transitive. It is not reflexive: a document as a literal

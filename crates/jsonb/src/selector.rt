@@ -41,7 +41,7 @@ mod values;
 mod whole_path;
 
 pub use self::by_path::SelectByPath;
-use self::document::{Document, Mode};
+use self::document::{Context, Document, Mode};
 use self::documents::{array_document, documents, first_document, value_document};
 use self::selected::Selected;
 use self::whole_path::{expression_truth, first_selection, only_expression, selection};
@@ -186,7 +186,12 @@ impl<'a> Selector<'a> {
     {
         let bytes = self.root.as_bytes();
         let document = at_root(bytes)?;
-        let selected = first_selection(self.alloc, self.mode, &path.paths, document)?;
+        let context = Context {
+            alloc: self.alloc,
+            mode: self.mode,
+            document,
+        };
+        let selected = first_selection(&context, &path.paths)?;
         first_document(self.alloc, document, &selected)
     }
 
@@ -227,7 +232,12 @@ impl<'a> Selector<'a> {
         ensures readable { OnOk result (HasReadableRoot (root_bytes self.old)) }
     {
         let document = at_root(self.root.as_bytes())?;
-        let selected = first_selection(self.alloc, self.mode, &path.paths, document)?;
+        let context = Context {
+            alloc: self.alloc,
+            mode: self.mode,
+            document,
+        };
+        let selected = first_selection(&context, &path.paths)?;
         Ok(is_some(&selected))
     }
 
@@ -254,7 +264,12 @@ impl<'a> Selector<'a> {
             Some(e) => {
                 let bytes = self.root.as_bytes();
                 let document = at_root(bytes)?;
-                expression_truth(self.alloc, self.mode, e, document)
+                let context = Context {
+                    alloc: self.alloc,
+                    mode: self.mode,
+                    document,
+                };
+                expression_truth(&context, e)
             }
             None => Ok(None),
         }
@@ -286,7 +301,12 @@ fn selected_at<'s>(
     ensures readable { OnOk result (HasReadableRoot (raw_bytes root.entry)) }
 {
     let document = at_root(root.as_bytes())?;
-    let selected = selection(alloc, mode, &path.paths, document)?;
+    let context = Context {
+        alloc,
+        mode,
+        document,
+    };
+    let selected = selection(&context, &path.paths)?;
     Ok((document, selected))
 }
 

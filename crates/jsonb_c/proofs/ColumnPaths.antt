@@ -1,7 +1,7 @@
 -- Calls on columns by a path that was read: their rows by its one meaning.
 use Rattle.std.proofs.Common.{◌≡◌, ℕ, List, [], ◌∷◌, Option, Some, None, inl, inr, take, length}
 use Rattle.jsonb_doc.specs.Tree.{Tree}
-use Rattle.jsonb.specs.Related.{AllRelated}
+use Rattle.std.specs.List.{AllZip}
 use Rattle.jsonb.specs.Meaning.{meaning}
 use Rattle.jsonb.specs.PathGrammar.{json_path}
 use Rattle.jsonb.specs.PathTree.{Step}
@@ -25,7 +25,7 @@ cell_as R S follows (Some d) None h = absurd h
 
 related_as : {A : Type 0} (R S : List ℕ → Found A → Type 0) → ((d : List ℕ) (row : Found A) → R d row → S d row)
     → (documents : List (Option (List ℕ))) (cells : List (Cell A))
-    → AllRelated (IsCell R) documents cells → AllRelated (IsCell S) documents cells
+    → AllZip (IsCell R) documents cells → AllZip (IsCell S) documents cells
 related_as R S follows [] [] h = tt
 related_as R S follows (d ∷ ds) (c ∷ cs) h = (cell_as R S follows d c h.0, related_as R S follows ds cs h.1)
 related_as R S follows [] (c ∷ cs) h = absurd h

@@ -9,7 +9,6 @@ use Rattle.jsonb.specs.KeyPathText.{key_path_text}
 use Rattle.jsonb.specs.KeyPathGrammar.{Key}
 use Rattle.jsonb.specs.KeyPaths.{KeyPaths}
 use Rattle.jsonb.specs.OwnedJsonb.{OwnedJsonb}
-use Rattle.jsonb.specs.Related.{AllRelated}
 use Rattle.jsonb_raw.specs.LeafDocuments.{IsLeafDocument}
 use Rattle.jsonb_raw.specs.Leaves.{Leaf}
 use Rattle.jsonb_c.specs.Private.LeafColumns.{leaf_row}
@@ -77,7 +76,7 @@ take_all (x ∷ xs) (suc i) le = ap (λ ys. x ∷ ys) (take_all xs i (omega arit
 
 -- the rows of documents of the leaves are rows of the leaves
 pub rows_of_leaves : (form : Form) (found : List (KeyPaths × OwnedJsonb)) (all : List Leaf) → AllZip (IsLeafDocument form) found all
-    → AllRelated (IsRowOfLeaf form) all (map leaf_row found)
+    → AllZip (IsRowOfLeaf form) all (map leaf_row found)
 rows_of_leaves form [] [] each = tt
 rows_of_leaves form [] (leaf ∷ all) each = absurd each
 rows_of_leaves form (x ∷ found) [] each = absurd each

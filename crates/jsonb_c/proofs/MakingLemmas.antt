@@ -7,7 +7,7 @@ use Rattle.jsonb_doc.specs.Answer.{IsOutOfMemoryOrTooLarge}
 use Rattle.jsonb_doc.specs.Tree.{Tree, null, Trees, no_trees, tree, Pairs, no_pairs, pair, count, elements, keys, values}
 use Rattle.jsonb_doc.specs.Payload.{Form}
 use Rattle.jsonb_doc.specs.Format.{Decodes}
-use Rattle.jsonb.specs.Related.{AllRelated}
+use Rattle.std.specs.List.{AllZip}
 use Rattle.jsonb_c.specs.Making.{Encodes, IsRowOf, is_placed}
 use Rattle.jsonb_c.specs.Views.{key_answer}
 
@@ -44,7 +44,7 @@ pub not_placed_at : (column : List (Option (List ℕ))) (i : ℕ) → slice_get 
 not_placed_at column i at = rw (drop_at column i None at) refl
 
 pub row_decodes : (form : Form) (column : List (Option (List ℕ))) (ts : List Tree) (i : ℕ) (document : List ℕ)
-    → AllRelated (IsRowOf form) column ts → slice_get column i ≡ Some (Some document)
+    → AllZip (IsRowOf form) column ts → slice_get column i ≡ Some (Some document)
     → (i < length ts) × Decodes form document (get_or ts i null)
 row_decodes form (row ∷ column) (t ∷ ts) zero document h at =
     let is : row ≡ Some document = cc in (omega arith, rw is at h.0)
@@ -54,13 +54,13 @@ row_decodes form [] ts i document h at = cc
 row_decodes form (row ∷ column) [] i document h at = absurd h
 
 pub row_there : (form : Form) (column : List (Option (List ℕ))) (ts : List Tree) (i : ℕ)
-    → AllRelated (IsRowOf form) column ts → slice_get column i ≡ Some None → ⊥
+    → AllZip (IsRowOf form) column ts → slice_get column i ≡ Some None → ⊥
 row_there form (row ∷ column) (t ∷ ts) zero h at = let is : row ≡ None = cc in absurd (rw is at h.0)
 row_there form (row ∷ column) (t ∷ ts) (suc i) h at = row_there form column ts i h.1 at
 row_there form [] ts i h at = cc
 row_there form (row ∷ column) [] i h at = absurd h
 
-pub rows_length : (form : Form) (column : List (Option (List ℕ))) (ts : List Tree) → AllRelated (IsRowOf form) column ts → length column ≡ length ts
+pub rows_length : (form : Form) (column : List (Option (List ℕ))) (ts : List Tree) → AllZip (IsRowOf form) column ts → length column ≡ length ts
 rows_length form [] [] h = refl
 rows_length form (row ∷ column) (t ∷ ts) h = let e = rows_length form column ts h.1 in omega (arith, e)
 rows_length form [] (t ∷ ts) h = absurd h

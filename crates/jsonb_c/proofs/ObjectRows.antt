@@ -2,7 +2,7 @@
 use Rattle.std.proofs.Common.{◌≡◌, ◌⊎◌, inl, inr, ◌+◌, ◌<◌, ◌≤◌, ℕ, zero, suc, Bool, true, false, not, IsTrue, List, [], ◌∷◌, drop, map, length, get_or, Option, Some, Result, Ok, Err, MatchResult, Ordering, Less, Equal, Greater, refl, sym, ap, ◌∙◌, add-one, arith, cond, ◌↔◌, Vec}
 use Rattle.std.specs.Prelude.{⊤, ◌^◌, IsErrOf, slice_get}
 use Rattle.std.specs.Borrow.{Bor}
-use Rattle.std.specs.List.{zip}
+use Rattle.std.specs.List.{zip, AllZip}
 use Rattle.std.specs.declared.alloc.Global.{Global}
 use Rattle.std.specs.Ordering.{nat_cmp, match_ordering}
 use Rattle.std.specs.Cmp.Lexicographic.{slice_cmp}
@@ -16,7 +16,6 @@ use Rattle.jsonb_doc.specs.Answer.{IsOutOfMemory, IsOutOfMemoryOrTooLarge, ◌or
 use Rattle.jsonb_doc.specs.Encoding.{EntryParts}
 use Rattle.jsonb_doc.specs.ObjectBuilder.{HoldsPairs, has_key, insert_pair}
 use Rattle.jsonb_doc.proofs.ObjectLemmas.{held_key, length-inserted}
-use Rattle.jsonb.specs.Related.{AllRelated}
 use Rattle.jsonb_c.specs.Making.{IsObjectOf, IsRowOf, put_rows}
 use Rattle.jsonb_c.specs.Views.{key_answer}
 use Rattle.jsonb_c.proofs.MakingLemmas.{row_decodes}
@@ -175,7 +174,7 @@ rows_end (name ∷ names) (t ∷ ts) (suc i) le = rows_end names ts i (omega ari
 -- what a push of the next name with the document in its row answers
 pub put_row : (form : Form) (before after : List (List ℕ × EntryParts)) (i : ℕ) (names : List (Bor (List ℕ))) (d : Bor (List ℕ))
     (column : List (Option (List ℕ))) (ts : List Tree) (document : List ℕ) (r : Result (Unit {0}) Error)
-    → AllRelated (IsRowOf form) column ts → slice_get column i ≡ Some (Some document) → i < length names
+    → AllZip (IsRowOf form) column ts → slice_get column i ≡ Some (Some document) → i < length names
     → PutSoFar form before i (zip (texts names) ts)
     → ((t : Tree) → Decodes form document t → IsErrOf r ObjectDuplicateKey ↔ IsTrue (has_key (get_or names i d).now before))
     → ((ps : List (List ℕ × Tree)) (t : Tree) → HoldsPairs form before ps → Decodes form document t → IsTrue (not (has_key (get_or names i d).now before))

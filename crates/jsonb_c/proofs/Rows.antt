@@ -4,7 +4,7 @@ use Rattle.std.specs.Prelude.{slice_get}
 use Rattle.std.proofs.lemmas.List.{map-append, length-append, length-map, length-drop}
 use Rattle.std.proofs.lemmas.Grind.{flat_map-append}
 use Rattle.std.proofs.Math.Seq.{take-append_seam}
-use Rattle.jsonb.specs.Related.{AllRelated}
+use Rattle.std.specs.List.{AllZip}
 use Rattle.jsonb_c.specs.Status.{buffer_too_small}
 use Rattle.jsonb_c.specs.Answers.{IsWritten}
 use Rattle.jsonb_c.specs.Private.Buffers.{Places}
@@ -70,7 +70,7 @@ mapped_more f cells old new cell n is lt h =
 -- ---- cells
 
 pub related_more : {A B : Type 0} (R : A → B → Type 0) (xs : List A) (ys : List B) (x : A) (y : B)
-    → AllRelated R xs ys → R x y → AllRelated R (xs ++ x ∷ []) (ys ++ y ∷ [])
+    → AllZip R xs ys → R x y → AllZip R (xs ++ x ∷ []) (ys ++ y ∷ [])
 related_more R [] [] x y h here = (here, tt)
 related_more R (a ∷ xs) (b ∷ ys) x y h here = (h.0, related_more R xs ys x y h.1 here)
 related_more R [] (b ∷ ys) x y h here = absurd h
@@ -81,7 +81,7 @@ are_more : {A : Type 0} (IsAnswerTo : List ℕ → Found A → Type 0) (column :
     → length cells ≡ i → slice_get column i ≡ Some document → AreCells IsAnswerTo column cells
     → IsCell IsAnswerTo document cell → AreCells IsAnswerTo column (cells ++ cell ∷ [])
 are_more IsAnswerTo column cells document cell i is at all here =
-    let all' : AllRelated (IsCell IsAnswerTo) (take i column) cells = rw (← is) all in
+    let all' : AllZip (IsCell IsAnswerTo) (take i column) cells = rw (← is) all in
     rw (length_more cells cell, is, take_one_more column i document at) (related_more (IsCell IsAnswerTo) _ cells document cell all' here)
 
 count_more : {A : Type 0} (cells : List A) (cell : A) (i : ℕ) → length cells ≡ i → length (cells ++ cell ∷ []) ≡ i + 1

@@ -6,7 +6,7 @@ use Rattle.jsonb_doc.specs.declared.spot_iter.SpotIter.{SpotIter}
 use Rattle.jsonb_doc.specs.Tree.{Tree}
 use Rattle.jsonb.specs.PathTree.{Levels}
 use Rattle.jsonb.specs.Preorder.{answer_at, own, preorder}
-use Rattle.jsonb.specs.Related.{AllRelated}
+use Rattle.std.specs.List.{AllZip}
 use Rattle.jsonb.specs.declared.selector.levels.LevelRange.{LevelRange}
 use Rattle.jsonb.specs.declared.selector.levels.OpenLevel.{OpenLevel}
 
@@ -25,10 +25,10 @@ AreBelow bytes levels n t (Some within) =
 abbrev pub PassesLeaves : List ℕ → Option Levels → ℕ → List Tree → List Tree → List Spot
     → Option (Spot × SpotIter) → Type 0
 PassesLeaves bytes levels n ts before nodes None =
-    AllRelated (Locates bytes) nodes (before ++ flat_map (preorder levels n) ts)
+    AllZip (Locates bytes) nodes (before ++ flat_map (preorder levels n) ts)
 PassesLeaves bytes levels n ts before nodes (Some (spot, others)) =
     (passed : List Tree) × (t : Tree) × (rest : List Tree) × (ts ≡ passed ++ t ∷ rest) × Locates bytes spot t
-    × HasSpotsLeft bytes others rest × AllRelated (Locates bytes) nodes (before ++ flat_map (preorder levels n) passed)
+    × HasSpotsLeft bytes others rest × AllZip (Locates bytes) nodes (before ++ flat_map (preorder levels n) passed)
 
 -- nothing of this level and of those below it is taken
 abbrev pub is_shut : Option Levels → ℕ → Bool

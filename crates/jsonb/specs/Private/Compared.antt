@@ -4,7 +4,7 @@ use Rattle.jsonb_doc.specs.Answer.{Outcome, and_then, Gives, IsOutOfMemory}
 use Rattle.jsonb_doc.specs.Tree.{Tree}
 use Rattle.jsonb.specs.PathTree.{Expression, steps_of, binary}
 use Rattle.jsonb.specs.PathViews.{steps_view, operator_view, expression_view}
-use Rattle.jsonb.specs.Related.{AllRelated}
+use Rattle.std.specs.List.{AllZip}
 use Rattle.jsonb.specs.Compare.{Truth, compare}
 use Rattle.jsonb.specs.Values.{values_of_item}
 use Rattle.jsonb.specs.Meaning.{steps_meaning, truth}
@@ -55,7 +55,7 @@ joint_truth j mode (e ∷ es) top t =
 -- the operator joins what these compare to the expression
 pub record AreCompared (j : Join) (cs : List MemberCompared) (e : Expression) : Type 0 where
   pub parts : List Expression
-  pub compared : AllRelated IsMemberCompared cs parts
+  pub compared : AllZip IsMemberCompared cs parts
   pub joined : (mode : Mode) (top t : Tree) → truth mode e top t ≡ joint_truth j mode parts top t
 
 -- the operator joins the comparison to what stands in front of it

@@ -1,5 +1,6 @@
 -- The first item that steps lead to, in lax mode, where each step is executed item by item.
 use Rattle.std.specs.Prelude.{◌≡◌, ℕ, ◌<◌, ◌^◌, true, List, [], ◌∷◌, map, length, reverse, option_map, Option, Some, None, Result, Ok}
+use Rattle.jsonb_doc.specs.Answer.{Outcome, Gives, IsOutOfMemory}
 use Rattle.jsonb_doc.specs.Payload.{Form}
 use Rattle.jsonb_doc.specs.Spots.{Locates, HasSpotsLeft, spots_bound}
 use Rattle.jsonb_doc.specs.Tree.{Tree}
@@ -7,7 +8,7 @@ use Rattle.jsonb_doc.specs.declared.error.Error.{Error}
 use Rattle.jsonb_doc.specs.declared.spot.Spot.{Spot}
 use Rattle.jsonb.specs.PathTree.{Step, dot_wildcard, recursive_dot_wildcard, bracket_wildcard, array_indices, filter, Expression, steps_of}
 use Rattle.jsonb.specs.PathViews.{step_view, entry_view, levels_view}
-use Rattle.jsonb.specs.Related.{AllRelated}
+use Rattle.std.specs.List.{AllZip}
 use Rattle.jsonb.specs.Meaning.{steps_meaning}
 use Rattle.jsonb.specs.Private.Compared.{IsMemberCompared, AreCompared}
 use Rattle.jsonb.specs.Private.Members.{is_member}
@@ -38,7 +39,7 @@ IsSearched (search.Joined all) s = (e : Expression) × (s ≡ filter e) × AreCo
 -- these items are left
 abbrev pub HasItems : List ℕ → Items → List Tree → Type 0
 HasItems bytes (items.Children children) ts = HasSpotsLeft bytes children ts
-HasItems bytes (items.Listed v) ts = AllRelated (Locates bytes) (reverse v.items) ts
+HasItems bytes (items.Listed v) ts = AllZip (Locates bytes) (reverse v.items) ts
 
 -- at most how many items are left, on any bytes
 abbrev pub items_bound : Items → ℕ
@@ -53,8 +54,13 @@ TakesItem bytes _ _ after = ⊥
 
 -- these are the items that a step gives
 abbrev pub AreGiven : List ℕ → Given → List Tree → Type 0
-AreGiven bytes (given.AtMostOne found) ts = AllRelated (Locates bytes) (option_spots found) ts
+AreGiven bytes (given.AtMostOne found) ts = AllZip (Locates bytes) (option_spots found) ts
 AreGiven bytes (given.Many left) ts = HasItems bytes left ts
+
+-- the answer is what the step gives of the tree at a place
+abbrev pub GivesItems : List ℕ → Spot → Result Given Error → (Tree → Outcome (List Tree)) → Type 0
+GivesItems bytes item answer step =
+    (t : Tree) → Locates bytes item t → Gives (AreGiven bytes) IsOutOfMemory answer (step t)
 
 abbrev pub given_bound : Given → ℕ
 given_bound (given.AtMostOne found) = 0
@@ -63,11 +69,11 @@ given_bound (given.Many left) = items_bound left
 -- the steps lead from the item to one at most, or to those that are left, with steps before them
 abbrev pub IsReached : List ℕ → Tree → Tree → List Step → Reached → Type 0
 IsReached bytes top t ss (reached.AtMostOne found) =
-    (us : List Tree) × AllRelated (Locates bytes) (option_spots found) us
+    (us : List Tree) × AllZip (Locates bytes) (option_spots found) us
     × (steps_meaning Lax (steps_of ss) top (t ∷ []) ≡ Ok us)
 IsReached bytes top t ss (reached.Many inner) =
     (us : List Tree) × (rest : List Step) × HasItems bytes inner.items us
-    × AllRelated IsSearched inner.steps.now rest
+    × AllZip IsSearched inner.steps.now rest
     × (steps_meaning Lax (steps_of ss) top (t ∷ []) ≡ steps_meaning Lax (steps_of rest) top us)
 
 -- fewer steps than these are before what is left

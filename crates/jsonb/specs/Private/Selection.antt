@@ -1,8 +1,8 @@
 -- What a path selects: places of the document, or what an expression makes.
-use Rattle.std.specs.Prelude.{◌≡◌, ◌&&◌, ℕ, Bool, true, false, List, [], ◌∷◌, ◌++◌, map, Option, Some, None, Result, Err, if◌then◌else◌}
+use Rattle.std.specs.Prelude.{◌≡◌, ◌&&◌, ℕ, Bool, true, false, List, [], ◌∷◌, ◌++◌, map, Option, Some, None, Result, Ok, Err, if◌then◌else◌}
 use Rattle.jsonb_doc.specs.Answer.{Outcome, Gives, IsOutOfMemory}
 use Rattle.jsonb_doc.specs.declared.error.Error.{Error}
-use Rattle.jsonb_doc.specs.declared.error.Error.TheVariants.{InvalidJsonPath}
+use Rattle.jsonb_doc.specs.declared.error.Error.TheVariants.{InvalidJsonPath, StrictPath}
 use Rattle.jsonb_doc.specs.declared.spot.Spot.{Spot}
 use Rattle.jsonb_doc.specs.declared.number.Number.{Number as CodeNumber}
 use Rattle.jsonb_doc.specs.Number.{Number}
@@ -15,10 +15,11 @@ use Rattle.jsonb_doc.specs.Tree.{Tree, number, array, trees_of}
 use Rattle.jsonb.specs.PathTree.{Expression, Step, UnaryOp, current, filter, whole_expression}
 use Rattle.jsonb.specs.PathArithmetic.{signed_number}
 use Rattle.jsonb.specs.Meaning.{Means}
-use Rattle.jsonb.specs.Related.{AllRelated}
+use Rattle.std.specs.List.{AllZip}
 use Rattle.jsonb.specs.Values as val
 use Rattle.jsonb.specs.declared.selector.document.Document.{Document}
 use Rattle.jsonb.specs.declared.selector.document.Mode.{Mode}
+use Rattle.jsonb.specs.declared.selector.document.Mode.TheVariants.{Lax, Strict}
 use Rattle.jsonb.specs.declared.selector.document.Expressions.{Expressions}
 use Rattle.jsonb.specs.declared.selector.document.Expressions.TheVariants as expressions
 use Rattle.jsonb.specs.declared.selector.atom.Atom.{Atom}
@@ -43,8 +44,13 @@ HasTree document t = IsAt document document.root t
 abbrev pub PushesStep : List ℕ → Spot → List Spot → List Spot → Result (Unit {0}) Error
     → (Tree → Outcome (List Tree)) → Type 0
 PushesStep bytes item old new answer step =
-    (t : Tree) (before : List Tree) → Locates bytes item t → AllRelated (Locates bytes) old before
-    → Gives (λ _ ts. AllRelated (Locates bytes) new (before ++ ts)) IsOutOfMemory answer (step t)
+    (t : Tree) (before : List Tree) → Locates bytes item t → AllZip (Locates bytes) old before
+    → Gives (λ _ ts. AllZip (Locates bytes) new (before ++ ts)) IsOutOfMemory answer (step t)
+
+-- what a step answers that doesn't fit the item: in strict mode it is refused
+abbrev pub misfit : Mode → Result (Unit {0}) Error
+misfit Lax = Ok tt
+misfit Strict = Err StrictPath
 
 -- the value that an operand's value is
 abbrev pub atom_value : Atom → val.Value
@@ -86,9 +92,9 @@ IsNumberItem n t = t ≡ number (number_view n)
 
 -- what is selected are these trees
 abbrev pub AreSelected : Form → Document → Selected → List Tree → Type 0
-AreSelected form document (selected.Nodes places) ts = AllRelated (IsAt document) (node_spots places) ts
-AreSelected form document (selected.Numbers v) ts = AllRelated IsNumberItem v.items ts
-AreSelected form document (selected.Made part) ts = AllRelated (IsMadeItem form) (part ∷ []) ts
+AreSelected form document (selected.Nodes places) ts = AllZip (IsAt document) (node_spots places) ts
+AreSelected form document (selected.Numbers v) ts = AllZip IsNumberItem v.items ts
+AreSelected form document (selected.Made part) ts = AllZip (IsMadeItem form) (part ∷ []) ts
 
 -- the answer is that of the path's meaning on the document's tree
 abbrev pub GivesMeant :

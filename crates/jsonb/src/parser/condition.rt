@@ -87,10 +87,8 @@ pub(super) fn behind_condition<'a>(
     } = level;
     let found = join(alloc, BinaryOperator::And, all, found)?;
     if let Some(after) = separator_at(b"&&", rest) {
-        let all = Some(Joined {
-            left: Box::new(alloc, found)?,
-            before: rest,
-        });
+        let left = Box::new(alloc, found)?;
+        let all = Some(Joined { left, before: rest });
         return Ok(Joining::Next(
             Level {
                 is_in_filter,
@@ -102,10 +100,8 @@ pub(super) fn behind_condition<'a>(
     }
     let found = join(alloc, BinaryOperator::Or, any, found)?;
     if let Some(after) = separator_at(b"||", rest) {
-        let any = Some(Joined {
-            left: Box::new(alloc, found)?,
-            before: rest,
-        });
+        let left = Box::new(alloc, found)?;
+        let any = Some(Joined { left, before: rest });
         return Ok(Joining::Next(
             Level {
                 is_in_filter,

@@ -15,34 +15,26 @@ use jsonb_doc::Number;
 use jsonb_keypath::token::{int64, literal, nat64, skip_space};
 use std::alloc::Global;
 
+/// Returns what stands beside the first of the texts with which the input begins, and the rest.
+macro_rules! return_first_of {
+    ($input:expr, $($text:literal => $value:expr,)+) => {
+        $(if let Some(rest) = literal($text, $input) {
+            return Some(($value, rest));
+        })+
+    };
+}
+
 #[tactic(auto, unfolding(crate::specs::PathGrammar::operator))]
 fn operator_at(input: &[u8]) -> Option<(BinaryOperator, &[u8])>
     ensures value { read_as operator_view result ≡ operator input.now }
     ensures shrinks { LeavesLess input.now result }
 {
-    if let Some(rest) = literal(b"==", input) {
-        return Some((BinaryOperator::Eq, rest));
-    }
-    if let Some(rest) = literal(b"!=", input) {
-        return Some((BinaryOperator::NotEq, rest));
-    }
-    if let Some(rest) = literal(b"<>", input) {
-        return Some((BinaryOperator::NotEq, rest));
-    }
-    if let Some(rest) = literal(b"<=", input) {
-        return Some((BinaryOperator::Lte, rest));
-    }
-    if let Some(rest) = literal(b"<", input) {
-        return Some((BinaryOperator::Lt, rest));
-    }
-    if let Some(rest) = literal(b">=", input) {
-        return Some((BinaryOperator::Gte, rest));
-    }
-    if let Some(rest) = literal(b">", input) {
-        return Some((BinaryOperator::Gt, rest));
-    }
-    if let Some(rest) = literal(b"starts with", input) {
-        return Some((BinaryOperator::StartsWith, rest));
+    return_first_of! {
+        input,
+        b"==" => BinaryOperator::Eq, b"!=" => BinaryOperator::NotEq, b"<>" => BinaryOperator::NotEq,
+        b"<=" => BinaryOperator::Lte, b"<" => BinaryOperator::Lt,
+        b">=" => BinaryOperator::Gte, b">" => BinaryOperator::Gt,
+        b"starts with" => BinaryOperator::StartsWith,
     }
     arithmetic_operator_at(input)
 }
@@ -52,20 +44,10 @@ fn arithmetic_operator_at(input: &[u8]) -> Option<(BinaryOperator, &[u8])>
     ensures value { read_as operator_view result ≡ arithmetic_operator input.now }
     ensures shrinks { LeavesLess input.now result }
 {
-    if let Some(rest) = literal(b"+", input) {
-        return Some((BinaryOperator::Add, rest));
-    }
-    if let Some(rest) = literal(b"-", input) {
-        return Some((BinaryOperator::Subtract, rest));
-    }
-    if let Some(rest) = literal(b"*", input) {
-        return Some((BinaryOperator::Multiply, rest));
-    }
-    if let Some(rest) = literal(b"/", input) {
-        return Some((BinaryOperator::Divide, rest));
-    }
-    if let Some(rest) = literal(b"%", input) {
-        return Some((BinaryOperator::Modulo, rest));
+    return_first_of! {
+        input,
+        b"+" => BinaryOperator::Add, b"-" => BinaryOperator::Subtract,
+        b"*" => BinaryOperator::Multiply, b"/" => BinaryOperator::Divide, b"%" => BinaryOperator::Modulo,
     }
     None
 }
@@ -75,11 +57,10 @@ fn unary_operator_at(input: &[u8]) -> Option<(UnaryOperator, &[u8])>
     ensures value { read_as sign_view result ≡ unary_operator input.now }
     ensures shrinks { LeavesLess input.now result }
 {
-    if let Some(rest) = literal(b"+", input) {
-        return Some((UnaryOperator::Add, rest));
-    }
-    if let Some(rest) = literal(b"-", input) {
-        return Some((UnaryOperator::Subtract, rest));
+    return_first_of! {
+        input,
+        b"+" => UnaryOperator::Add,
+        b"-" => UnaryOperator::Subtract,
     }
     None
 }
@@ -164,8 +145,7 @@ fn operand_at(alloc: Global, is_in_filter: bool, input: &[u8]) -> Reading<'_, Ex
 
 #[tactic(auto, unfolding(crate::specs::PathGrammar::spaced_operand))]
 fn spaced_operand_at(alloc: Global, is_in_filter: bool, input: &[u8]) -> Reading<'_, Expr<'_>>
-    ensures value { IfOk result (λ found.
-        read_as expression_view found ≡ spaced_operand is_in_filter input.now) }
+    ensures value { IfOk result (λ found. read_as expression_view found ≡ spaced_operand is_in_filter input.now) }
     ensures shrinks { IfOk result (LeavesLess input.now) }
 {
     match operand_at(alloc, is_in_filter, skip_space(input))? {
@@ -180,8 +160,7 @@ pub(super) fn unary_atom_at(
     is_in_filter: bool,
     input: &[u8],
 ) -> Reading<'_, Expr<'_>>
-    ensures value { IfOk result (λ found.
-        read_as expression_view found ≡ unary_atom is_in_filter input.now) }
+    ensures value { IfOk result (λ found. read_as expression_view found ≡ unary_atom is_in_filter input.now) }
     ensures shrinks { IfOk result (LeavesLess input.now) }
 {
     let Some((op, rest)) = unary_operator_at(input) else {
@@ -200,8 +179,7 @@ pub(super) fn binary_atom_at(
     is_in_filter: bool,
     input: &[u8],
 ) -> Reading<'_, Expr<'_>>
-    ensures value { IfOk result (λ found.
-        read_as expression_view found ≡ binary_atom is_in_filter input.now) }
+    ensures value { IfOk result (λ found. read_as expression_view found ≡ binary_atom is_in_filter input.now) }
     ensures shrinks { IfOk result (LeavesLess input.now) }
 {
     let Some((first, rest)) = spaced_operand_at(alloc, is_in_filter, input)? else {

@@ -117,28 +117,22 @@ fn copied_leaf<'e, 'a>(leaf: Leaf<'e, 'a, 'a>, alloc: Global) -> Result<Copied<'
 
 /// Copies the rest of the steps, up to one that holds an expression.
 fn copied_steps<'e, 'a>(
-    steps: StepsSoFar<'e, 'a, 'a>,
+    mut steps: StepsSoFar<'e, 'a, 'a>,
     alloc: Global,
 ) -> Result<Copied<'e, 'a, 'a>, Error>
     ensures whole { MatchResult result (λ copied. copied_view copied ≡ so_far_view steps.entry) IsOutOfMemory }
     ensures fewer { IfOk result (λ copied. copied_parts copied < so_far_parts steps.entry) }
 {
-    let StepsSoFar {
-        kind,
-        mut copies,
-        mut rest,
-    } = steps;
-    while let Some(step) = rest.next() {
+    while let Some(step) = steps.rest.next() {
         match copied_step(step, alloc)? {
-            StepCopy::Whole(copy) => copies.push(copy)?,
+            StepCopy::Whole(copy) => steps.copies.push(copy)?,
             StepCopy::Holding(holder, inner) => {
-                let steps = StepsSoFar { kind, copies, rest };
                 let frame = Frame::Held { holder, steps };
                 return Ok(Copied::Within { inner, frame });
             }
         }
     }
-    Ok(Copied::Whole(listed(kind, copies)))
+    Ok(Copied::Whole(listed(steps.kind, steps.copies)))
 }
 
 /// The same step, but for an expression that it holds.

@@ -312,21 +312,17 @@ fn write_array_indices<W: fmt::Write>(
     f.write_str("[")?;
     if let Some((first, rest)) = indices.split_first() {
         write!(f, "{first}")?;
-        write_other_indices(rest, f)?;
+        write_others(rest, f)?;
     }
     f.write_str("]")
 }
 
 /// Writes each entry behind a comma and a space.
-fn write_other_indices<W: fmt::Write>(
-    indices: &[ArrayIndex],
-    f: &mut fmt::Formatter<W>,
-) -> fmt::Result
-    ensures { WritesOnOk W.write_str_gives f.old result
-        (flat_map other_entry_text (map entry_view indices.now)) f.new }
+fn write_others<W: fmt::Write>(entries: &[ArrayIndex], f: &mut fmt::Formatter<W>) -> fmt::Result
+    ensures { WritesOnOk W.write_str_gives f.old result (flat_map other_entry_text (map entry_view entries.now)) f.new }
 {
-    for index in indices {
-        write!(f, ", {index}")?;
+    for entry in entries {
+        write!(f, ", {entry}")?;
     }
     Ok(())
 }

@@ -120,8 +120,7 @@ fn owned_leaf<'e, 'a>(
 ) -> Result<Copied<'e, 'a, 'static>, Error>
     ensures copy { IfOk result (λ copied. copied_view copied ≡ leaf_view leaf.entry) }
     ensures fewer { IfOk result (λ copied. copied_parts copied < leaf_parts leaf.entry) }
-    ensures whole { leaf_has_document leaf.entry ≡ false
-        → IfOk result (λ copied. copied_has_document copied ≡ false) }
+    ensures whole { leaf_has_document leaf.entry ≡ false → IfOk result (λ copied. copied_has_document copied ≡ false) }
     ensures errors { IfErr result (IsOwningError (expression_has_document (leaf_view leaf.entry))) }
 {
     match leaf {
@@ -131,35 +130,6 @@ fn owned_leaf<'e, 'a>(
         }
         Leaf::Steps(steps) => Ok(owned_rest(steps, alloc)?),
     }
-}
-
-/// Copies the rest of the steps, up to one that holds an expression.
-fn owned_rest<'e, 'a>(
-    steps: StepsSoFar<'e, 'a, 'static>,
-    alloc: Global,
-) -> Result<Copied<'e, 'a, 'static>, Error>
-    ensures copy { IfOk result (λ copied. copied_view copied ≡ so_far_view steps.entry) }
-    ensures fewer { IfOk result (λ copied. copied_parts copied < so_far_parts steps.entry) }
-    ensures whole { so_far_has_document steps.entry ≡ false
-        → IfOk result (λ copied. copied_has_document copied ≡ false) }
-    ensures errors { IfErr result IsOutOfMemory }
-{
-    let StepsSoFar {
-        kind,
-        mut copies,
-        mut rest,
-    } = steps;
-    while let Some(step) = rest.next() {
-        match owned_step(step, alloc)? {
-            StepCopy::Whole(copy) => copies.push(copy)?,
-            StepCopy::Holding(holder, inner) => {
-                let steps = StepsSoFar { kind, copies, rest };
-                let frame = Frame::Held { holder, steps };
-                return Ok(Copied::Within { inner, frame });
-            }
-        }
-    }
-    Ok(Copied::Whole(listed(kind, copies)))
 }
 
 /// The same step with texts of its own, but for an expression that it holds.
@@ -182,6 +152,29 @@ fn owned_step<'e, 'a>(step: &'e Path<'a>, alloc: Global) -> Result<StepCopy<'e, 
         Path::Expr(inner) => return Ok(StepCopy::Holding(Holder::Whole, inner)),
     };
     Ok(StepCopy::Whole(copy))
+}
+
+/// Copies the rest of the steps, up to one that holds an expression.
+fn owned_rest<'e, 'a>(
+    mut steps: StepsSoFar<'e, 'a, 'static>,
+    alloc: Global,
+) -> Result<Copied<'e, 'a, 'static>, Error>
+    ensures copy { IfOk result (λ copied. copied_view copied ≡ so_far_view steps.entry) }
+    ensures fewer { IfOk result (λ copied. copied_parts copied < so_far_parts steps.entry) }
+    ensures whole { so_far_has_document steps.entry ≡ false
+        → IfOk result (λ copied. copied_has_document copied ≡ false) }
+    ensures errors { IfErr result IsOutOfMemory }
+{
+    while let Some(step) = steps.rest.next() {
+        match owned_step(step, alloc)? {
+            StepCopy::Whole(copy) => steps.copies.push(copy)?,
+            StepCopy::Holding(holder, inner) => {
+                let frame = Frame::Held { holder, steps };
+                return Ok(Copied::Within { inner, frame });
+            }
+        }
+    }
+    Ok(Copied::Whole(listed(steps.kind, steps.copies)))
 }
 
 /// The same steps, one after the other.

@@ -6,7 +6,7 @@ ghost use Rattle.jsonb_doc.specs.Arithmetic.{Operation, calculated, IsResultOf};
 ghost use Rattle.jsonb_doc.specs.View.{number_view};
 ghost use Rattle.jsonb.specs.PathArithmetic.{operation, two_numbers, signed_number, each_signed};
 ghost use Rattle.jsonb.specs.PathViews.{operator_view, sign_view};
-ghost use Rattle.jsonb.specs.Related.{AllRelated};
+ghost use Rattle.std.specs.List.{AllZip};
 ghost use Rattle.jsonb.specs.Private.Selection.{atom_value, only_number, is_number, are_numbers, signed_value, IsNumberTree, IsNumberItem};
 ghost use Rattle.jsonb.specs.SelectionErrors.{IsPathError, IsSelectionError};
 ghost use Rattle.jsonb.specs.declared.selector.document.Mode.{Mode};
@@ -110,7 +110,7 @@ fn signed(op: UnaryOperator, number: Number) -> Result<Number, Error>
 
 /// Each number behind a sign, in place of it, from left to right.
 pub(crate) fn sign_each(op: UnaryOperator, numbers: &mut [Number]) -> Result<(), Error>
-    ensures meant { Gives (λ _ ts. AllRelated IsNumberItem numbers.new ts) IsOutOfMemory result
+    ensures meant { Gives (λ _ ts. AllZip IsNumberItem numbers.new ts) IsOutOfMemory result
         (try_flat_map (signed_number (sign_view op)) (map number_view numbers.old)) }
     ensures errors { (mode : Mode) → IfErr result (IsSelectionError mode) }
 {
@@ -135,7 +135,7 @@ fn signed_value(op: UnaryOperator, value: &Atom<'_>) -> Result<Number, Error>
 /// Each value behind a sign, from left to right.
 #[inline(always)]
 fn each_signed(alloc: Global, op: UnaryOperator, values: &[Atom<'_>]) -> Result<Vec<Number>, Error>
-    ensures meant { Gives (λ v ts. AllRelated IsNumberItem v.items ts) IsOutOfMemory result
+    ensures meant { Gives (λ v ts. AllZip IsNumberItem v.items ts) IsOutOfMemory result
         (try_flat_map (signed_value (sign_view op)) (map atom_value values.now)) }
     ensures errors { (mode : Mode) → IfErr result (IsSelectionError mode) }
 {
@@ -153,7 +153,7 @@ pub(crate) fn unary_numbers(
     op: UnaryOperator,
     values: &[Atom<'_>],
 ) -> Result<Vec<Number>, Error>
-    ensures meant { Gives (λ v ts. AllRelated IsNumberItem v.items ts) IsOutOfMemory result
+    ensures meant { Gives (λ v ts. AllZip IsNumberItem v.items ts) IsOutOfMemory result
         (each_signed (sign_view op) (map atom_value values.now)) }
     ensures errors { (mode : Mode) → IfErr result (IsSelectionError mode) }
 {

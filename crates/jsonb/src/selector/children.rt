@@ -1,6 +1,6 @@
-//! The places of an item's children.
+//! The places of an item's children, and of what a step without an expression gives.
 
-ghost use Rattle.std.specs.Prelude.{◌≡◌, ℕ, ◌<◌, ◌^◌, ◌++◌, ◌∷◌, [], map, List, Ok, IfOk, IfSome, IfErr, OnOk, IsOkAnd, if◌then◌else◌, pos, ⊤, MatchOption, filter_map, slice_get};
+ghost use Rattle.std.specs.Prelude.{◌≡◌, ℕ, ◌<◌, ◌^◌, ◌++◌, ◌∷◌, [], map, List, Ok, false, IfOk, IfSome, IfErr, OnOk, IsOkAnd, if◌then◌else◌, pos, ⊤, MatchOption, filter_map, slice_get};
 ghost use Rattle.jsonb_doc.specs.Answer.{Gives, SameOption, IsOutOfMemory, ◌or◌, IsDecodingError};
 ghost use Rattle.jsonb_doc.specs.declared.error.Error.TheVariants.{OutOfMemory};
 ghost use Rattle.jsonb_doc.specs.Spots.{Locates, HasSpotsLeft, spots_bound};
@@ -9,14 +9,16 @@ ghost use Rattle.jsonb_doc.specs.Item.{StandsFor};
 ghost use Rattle.jsonb_doc.specs.Tree.{Tree};
 ghost use Rattle.jsonb_raw.specs.Arrays.{array_values};
 ghost use Rattle.jsonb.specs.PathTree.{single, from_front};
-ghost use Rattle.jsonb.specs.PathViews.{entry_view};
-ghost use Rattle.jsonb.specs.Related.{AllRelated};
+ghost use Rattle.jsonb.specs.PathViews.{entry_view, step_view};
+ghost use Rattle.std.specs.List.{AllZip};
 ghost use Rattle.jsonb.specs.ItemSteps.{values_of, field_step, values_step, elements_step, indices_step, picked_by, picked};
-ghost use Rattle.jsonb.specs.Private.Selection.{PushesStep};
+ghost use Rattle.jsonb.specs.Meaning.{step_meaning};
+ghost use Rattle.jsonb.specs.Private.Selection.{PushesStep, is_filter, misfit};
 ghost use Rattle.jsonb.specs.SelectionErrors.{IsSelectionError};
 
 use super::document::Mode;
-use crate::path::{ArrayIndex, Index};
+use super::levels::push_levels;
+use crate::path::{ArrayIndex, Index, Path};
 use jsonb_doc::{Error, Item, Spot, SpotIter, child_spots, field_spot, spot_item};
 use std::alloc::Global;
 
@@ -75,8 +77,8 @@ pub(crate) fn push_spot(nodes: &mut Vec<Spot>, spot: Spot) -> Result<(), Error>
 #[inline(always)]
 pub(crate) fn push_if(condition: bool, spot: Spot, nodes: &mut Vec<Spot>) -> Result<(), Error>
     ensures meant { (bytes : List ℕ) (t : Tree) (before : List Tree) → Locates bytes spot t
-        → AllRelated (Locates bytes) nodes.old.items before
-        → Gives (λ _ us. AllRelated (Locates bytes) nodes.new.items (before ++ us)) IsOutOfMemory result
+        → AllZip (Locates bytes) nodes.old.items before
+        → Gives (λ _ us. AllZip (Locates bytes) nodes.new.items (before ++ us)) IsOutOfMemory result
         (Ok (if condition then t ∷ [] else [])) }
     ensures errors { IfErr result IsOutOfMemory }
 {
@@ -90,8 +92,8 @@ pub(crate) fn push_if(condition: bool, spot: Spot, nodes: &mut Vec<Spot>) -> Res
 /// The places that are left in an iterator.
 pub(crate) fn push_spots(spots: SpotIter<'_>, nodes: &mut Vec<Spot>) -> Result<(), Error>
     ensures meant { (bytes : List ℕ) (ts before : List Tree) → HasSpotsLeft bytes spots.entry ts
-        → AllRelated (Locates bytes) nodes.old.items before
-        → Gives (λ _ us. AllRelated (Locates bytes) nodes.new.items (before ++ us)) IsOutOfMemory result (Ok ts) }
+        → AllZip (Locates bytes) nodes.old.items before
+        → Gives (λ _ us. AllZip (Locates bytes) nodes.new.items (before ++ us)) IsOutOfMemory result (Ok ts) }
     ensures errors { IfErr result (IsDecodingError or OutOfMemory) }
 {
     nodes.reserve(spots.len())?;
@@ -99,6 +101,47 @@ pub(crate) fn push_spots(spots: SpotIter<'_>, nodes: &mut Vec<Spot>) -> Result<(
         push_spot(nodes, spot?)?;
     }
     Ok(())
+}
+
+/// One step of one item that is no filter, behind what the nodes has.
+#[inline(always)]
+pub(crate) fn push_step(
+    alloc: Global,
+    mode: Mode,
+    step: &Path<'_>,
+    bytes: &[u8],
+    item: Spot,
+    nodes: &mut Vec<Spot>,
+) -> Result<(), Error>
+    ensures meant { (top t : Tree) (before : List Tree) → is_filter (step_view step.now) ≡ false
+        → Locates bytes.now item t → AllZip (Locates bytes.now) nodes.old.items before
+        → Gives (λ _ ts. AllZip (Locates bytes.now) nodes.new.items (before ++ ts))
+        IsOutOfMemory result (step_meaning mode (step_view step.now) top t) }
+    ensures errors { IfErr result (IsSelectionError mode) }
+{
+    match step {
+        Path::DotWildcard => push_values(bytes, mode, item, nodes),
+        Path::BracketWildcard => push_elements(bytes, mode, item, nodes),
+        Path::ArrayIndices(entries) => push_positions(alloc, bytes, mode, entries, item, nodes),
+        Path::RecursiveDotWildcard(levels) => push_levels(alloc, bytes, *levels, 0, item, nodes),
+        Path::Root | Path::Current => push_spot(nodes, item),
+        Path::DotField(name) => push_field(bytes, mode, name.as_str(), item, nodes),
+        Path::ColonField(name) => push_field(bytes, mode, name.as_str(), item, nodes),
+        Path::ObjectField(name) => push_field(bytes, mode, name.as_str(), item, nodes),
+        Path::FilterExpr(_) | Path::Expr(_) => Err(Error::InvalidJsonPath),
+    }
+}
+
+/// A step that does not fit an item: in strict mode it is refused.
+#[inline(always)]
+fn misfit(mode: Mode) -> Result<(), Error>
+    ensures answer { result ≡ misfit mode }
+    ensures errors { IfErr result (IsSelectionError mode) }
+{
+    match mode {
+        Mode::Lax => Ok(()),
+        Mode::Strict => Err(Error::StrictPath),
+    }
 }
 
 /// The value under a key of an object, behind what the nodes has.
@@ -115,39 +158,23 @@ pub(crate) fn push_field(
 {
     match field_spot(bytes, item, name)? {
         Some(value) => push_spot(nodes, value),
-        None => match mode {
-            Mode::Lax => Ok(()),
-            Mode::Strict => Err(Error::StrictPath),
-        },
+        None => misfit(mode),
     }
 }
 
 /// The values of an object, behind what the nodes has.
-pub(crate) fn push_values(
-    bytes: &[u8],
-    mode: Mode,
-    item: Spot,
-    nodes: &mut Vec<Spot>,
-) -> Result<(), Error>
+fn push_values(bytes: &[u8], mode: Mode, item: Spot, nodes: &mut Vec<Spot>) -> Result<(), Error>
     ensures meant { PushesStep bytes.now item nodes.old.items nodes.new.items result (values_step mode) }
     ensures errors { IfErr result (IsSelectionError mode) }
 {
     match values(bytes, item)? {
         Some(values) => push_spots(values, nodes),
-        None => match mode {
-            Mode::Lax => Ok(()),
-            Mode::Strict => Err(Error::StrictPath),
-        },
+        None => misfit(mode),
     }
 }
 
 /// The elements of an array, behind what the nodes has.
-pub(crate) fn push_elements(
-    bytes: &[u8],
-    mode: Mode,
-    item: Spot,
-    nodes: &mut Vec<Spot>,
-) -> Result<(), Error>
+fn push_elements(bytes: &[u8], mode: Mode, item: Spot, nodes: &mut Vec<Spot>) -> Result<(), Error>
     ensures meant { PushesStep bytes.now item nodes.old.items nodes.new.items result (elements_step mode) }
     ensures errors { IfErr result (IsSelectionError mode) }
 {
@@ -175,10 +202,7 @@ pub(crate) fn push_positions(
 {
     match elements(bytes, item)? {
         Some(elements) => push_picked(alloc, elements, entries, nodes),
-        None => match mode {
-            Mode::Lax => Ok(()),
-            Mode::Strict => Err(Error::StrictPath),
-        },
+        None => misfit(mode),
     }
 }
 
@@ -191,8 +215,8 @@ fn push_picked(
     nodes: &mut Vec<Spot>,
 ) -> Result<(), Error>
     ensures meant { (bytes : List ℕ) (ts before : List Tree) → HasSpotsLeft bytes elements.entry ts
-        → AllRelated (Locates bytes) nodes.old.items before
-        → Gives (λ _ us. AllRelated (Locates bytes) nodes.new.items (before ++ us)) IsOutOfMemory result
+        → AllZip (Locates bytes) nodes.old.items before
+        → Gives (λ _ us. AllZip (Locates bytes) nodes.new.items (before ++ us)) IsOutOfMemory result
         (Ok (picked (map entry_view entries.now) ts)) }
     ensures errors { IfErr result (IsDecodingError or OutOfMemory) }
 {
@@ -217,8 +241,8 @@ fn plain_index(entries: &[ArrayIndex]) -> Option<usize>
 /// The element at a position.
 fn push_nth(elements: SpotIter<'_>, position: usize, nodes: &mut Vec<Spot>) -> Result<(), Error>
     ensures meant { (bytes : List ℕ) (ts before : List Tree) → HasSpotsLeft bytes elements.entry ts
-        → AllRelated (Locates bytes) nodes.old.items before
-        → Gives (λ _ us. AllRelated (Locates bytes) nodes.new.items (before ++ us)) IsOutOfMemory result
+        → AllZip (Locates bytes) nodes.old.items before
+        → Gives (λ _ us. AllZip (Locates bytes) nodes.new.items (before ++ us)) IsOutOfMemory result
         (Ok (filter_map (slice_get ts) (position ∷ []))) }
     ensures errors { IfErr result (IsDecodingError or OutOfMemory) }
 {
@@ -239,9 +263,9 @@ fn push_entries(
     elements: &[Spot],
     nodes: &mut Vec<Spot>,
 ) -> Result<(), Error>
-    ensures meant { (bytes : List ℕ) (ts before : List Tree) → AllRelated (Locates bytes) elements.now ts
-        → AllRelated (Locates bytes) nodes.old.items before
-        → Gives (λ _ us. AllRelated (Locates bytes) nodes.new.items (before ++ us)) IsOutOfMemory result
+    ensures meant { (bytes : List ℕ) (ts before : List Tree) → AllZip (Locates bytes) elements.now ts
+        → AllZip (Locates bytes) nodes.old.items before
+        → Gives (λ _ us. AllZip (Locates bytes) nodes.new.items (before ++ us)) IsOutOfMemory result
         (Ok (picked (map entry_view entries.now) ts)) }
     ensures errors { IfErr result (IsDecodingError or OutOfMemory) }
 {
@@ -253,9 +277,9 @@ fn push_entries(
 
 /// The elements at the positions of one entry, ascending.
 fn push_entry(entry: &ArrayIndex, elements: &[Spot], nodes: &mut Vec<Spot>) -> Result<(), Error>
-    ensures meant { (bytes : List ℕ) (ts before : List Tree) → AllRelated (Locates bytes) elements.now ts
-        → AllRelated (Locates bytes) nodes.old.items before
-        → Gives (λ _ us. AllRelated (Locates bytes) nodes.new.items (before ++ us)) IsOutOfMemory result
+    ensures meant { (bytes : List ℕ) (ts before : List Tree) → AllZip (Locates bytes) elements.now ts
+        → AllZip (Locates bytes) nodes.old.items before
+        → Gives (λ _ us. AllZip (Locates bytes) nodes.new.items (before ++ us)) IsOutOfMemory result
         (Ok (picked_by (entry_view entry.now) ts)) }
     ensures errors { IfErr result IsOutOfMemory }
 {

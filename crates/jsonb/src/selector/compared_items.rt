@@ -7,7 +7,7 @@ ghost use Rattle.jsonb_doc.specs.Spots.{Locates};
 ghost use Rattle.jsonb_doc.specs.Tree.{Tree};
 ghost use Rattle.jsonb.specs.PathTree.{Expression, steps_of, step, current, paths, filter};
 ghost use Rattle.jsonb.specs.PathViews.{steps_view, expression_view, operator_view};
-ghost use Rattle.jsonb.specs.Related.{AllRelated};
+ghost use Rattle.std.specs.List.{AllZip};
 ghost use Rattle.jsonb.specs.Compare.{compare};
 ghost use Rattle.jsonb.specs.Values.{values_of_item};
 ghost use Rattle.jsonb.specs.Meaning.{step_meaning, operand_values, truth};
@@ -19,7 +19,7 @@ ghost use Rattle.jsonb.specs.SelectionErrors.{IsSelectionError};
 use super::atom::{Atom, literal_atom, short_number_truth};
 use super::children::push_if;
 use super::compared_member::compared;
-use super::document::Mode;
+use super::document::{Mode, TruthResult};
 use super::kept::{is_comparison, is_kept};
 use super::members::{member, member_steps};
 use super::node_list::NodeList;
@@ -88,8 +88,8 @@ pub(crate) fn compared_items(
     items: &[Spot],
 ) -> Result<NodeList, Error>
     ensures meant { (e : Expression) (top : Tree) (ts : List Tree) → IsMemberCompared comparison.entry e
-        → AllRelated (Locates bytes.now) items.now ts
-        → Gives (λ found us. AllRelated (Locates bytes.now) (node_spots found) us)
+        → AllZip (Locates bytes.now) items.now ts
+        → Gives (λ found us. AllZip (Locates bytes.now) (node_spots found) us)
         IsOutOfMemory result (try_flat_map (step_meaning mode (filter e) top) ts) }
     ensures errors { IfErr result (IsSelectionError mode) }
 {
@@ -111,8 +111,8 @@ fn push_compared(
     nodes: &mut Vec<Spot>,
 ) -> Result<(), Error>
     ensures meant { (e : Expression) (top t : Tree) (before : List Tree) → IsMemberCompared comparison.now e
-        → Locates bytes.now item t → AllRelated (Locates bytes.now) nodes.old.items before
-        → Gives (λ _ ts. AllRelated (Locates bytes.now) nodes.new.items (before ++ ts)) IsOutOfMemory result
+        → Locates bytes.now item t → AllZip (Locates bytes.now) nodes.old.items before
+        → Gives (λ _ ts. AllZip (Locates bytes.now) nodes.new.items (before ++ ts)) IsOutOfMemory result
         (step_meaning mode (filter e) top t) }
     ensures errors { IfErr result (IsSelectionError mode) }
 {
@@ -128,7 +128,7 @@ pub(crate) fn item_truth(
     comparison: &MemberCompared<'_, '_>,
     bytes: &[u8],
     item: Spot,
-) -> Result<Option<bool>, Error>
+) -> TruthResult
     ensures meant { (e : Expression) (top t : Tree) → IsMemberCompared comparison.now e
         → Locates bytes.now item t
         → Gives (λ b c. b ≡ c) IsOutOfMemory result (truth mode e top t) }
@@ -147,7 +147,7 @@ fn value_truth(
     comparison: &MemberCompared<'_, '_>,
     bytes: &[u8],
     value: Spot,
-) -> Result<Option<bool>, Error>
+) -> TruthResult
     ensures meant { (t : Tree) → Locates bytes.now value t
         → Gives (λ b c. b ≡ c) IsOutOfMemory result (Ok (compare (operator_view comparison.now.op)
         (values_of_item t) (atom_value comparison.now.literal ∷ []))) }
@@ -168,7 +168,7 @@ fn other_truth(
     bytes: &[u8],
     item: Spot,
     literal: &Atom<'_>,
-) -> Result<Option<bool>, Error>
+) -> TruthResult
     ensures meant { (t : Tree) → Locates bytes.now item t
         → Gives (λ b c. b ≡ c) IsOutOfMemory result
         (Ok (compare (operator_view op) (values_of_item t) (atom_value literal.now ∷ []))) }

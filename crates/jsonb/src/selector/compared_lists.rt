@@ -6,7 +6,7 @@ ghost use Rattle.jsonb_doc.specs.Spots.{Locates};
 ghost use Rattle.jsonb_doc.specs.Tree.{Tree};
 ghost use Rattle.jsonb.specs.PathTree.{Expression, steps_of, paths};
 ghost use Rattle.jsonb.specs.PathViews.{steps_view, expression_view};
-ghost use Rattle.jsonb.specs.Related.{AllRelated};
+ghost use Rattle.std.specs.List.{AllZip};
 ghost use Rattle.jsonb.specs.Meaning.{truth};
 ghost use Rattle.jsonb.specs.Private.Compared.{IsMemberCompared, IsListCompared, list_truth};
 ghost use Rattle.jsonb.specs.Private.Members.{are_members};
@@ -15,12 +15,12 @@ ghost use Rattle.jsonb.specs.SelectionErrors.{IsSelectionError};
 ghost use Rattle.jsonb.specs.declared.selector.document.Mode.TheVariants.{Lax};
 
 use super::compared_items::{MemberCompared, item_truth, literal_of};
-use super::document::{Document, Expressions, Mode};
+use super::document::{Context, Current, Document, Expressions, Mode, TruthResult};
 use super::kept::is_comparison;
 use super::members::is_member;
 use super::steps::{select_steps, truth};
 use crate::path::{Expr, Path};
-use jsonb_doc::{Error, Spot};
+use jsonb_doc::Spot;
 use std::alloc::Global;
 
 /// Steps that lead to items, and the comparison of a member of each.
@@ -31,19 +31,16 @@ pub(crate) struct ListCompared<'s, 'a> {
 }
 
 /// Whether an expression is true of the root. None is for unknown.
-pub(crate) fn root_truth<'a>(
-    alloc: Global,
-    mode: Mode,
-    e: &'a Expr<'_>,
-    document: Document<'a>,
-) -> Result<Option<bool>, Error>
-    ensures meant { (top : Tree) → HasTree document.entry top
-        → Gives (λ b c. b ≡ c) IsOutOfMemory result (truth mode (expression_view e.now) top top) }
-    ensures errors { IfErr result (IsSelectionError mode) }
+pub(crate) fn root_truth<'a>(context: &Context<'a>, e: &'a Expr<'_>) -> TruthResult
+    ensures meant { (top : Tree) → HasTree context.now.document top
+        → Gives (λ b c. b ≡ c) IsOutOfMemory result (truth context.now.mode (expression_view e.now) top top) }
+    ensures errors { IfErr result (IsSelectionError context.now.mode) }
 {
-    match (mode, list_compared(e)) {
-        (Mode::Lax, Some(list)) => list_compared_truth(alloc, &list, document),
-        _ => truth(alloc, mode, e, document, document.root),
+    let document = &context.document;
+    let item = document.root;
+    match (context.mode, list_compared(e)) {
+        (Mode::Lax, Some(list)) => list_compared_truth(context.alloc, &list, document),
+        _ => truth(Current { context, item }, e),
     }
 }
 
@@ -97,9 +94,9 @@ fn members_behind(steps: &[Path<'_>]) -> usize
 fn list_compared_truth<'a>(
     alloc: Global,
     list: &ListCompared<'a, '_>,
-    document: Document<'a>,
-) -> Result<Option<bool>, Error>
-    ensures meant { (e : Expression) (top : Tree) → IsListCompared list.now e → HasTree document.entry top
+    document: &Document<'a>,
+) -> TruthResult
+    ensures meant { (e : Expression) (top : Tree) → IsListCompared list.now e → HasTree document.now top
         → Gives (λ b c. b ≡ c) IsOutOfMemory result (truth Lax e top top) }
     ensures errors { IfErr result (IsSelectionError Lax) }
 {
@@ -112,14 +109,13 @@ fn list_compared_truth<'a>(
             document.root,
         );
     }
-    let found = select_steps(
+    let context = Context {
         alloc,
-        Mode::Lax,
-        Expressions::AreRefused,
-        list.front,
-        document,
-        document.root,
-    )?;
+        mode: Mode::Lax,
+        document: *document,
+    };
+    let all = Expressions::AreRefused;
+    let found = select_steps(&context, all, list.front, document.root)?;
     items_truth(alloc, &list.comparison, document.bytes, found.as_slice())
 }
 
@@ -130,9 +126,9 @@ fn items_truth(
     comparison: &MemberCompared<'_, '_>,
     bytes: &[u8],
     items: &[Spot],
-) -> Result<Option<bool>, Error>
+) -> TruthResult
     ensures meant { (e : Expression) (top : Tree) (ts : List Tree) → IsMemberCompared comparison.now e
-        → AllRelated (Locates bytes.now) items.now ts
+        → AllZip (Locates bytes.now) items.now ts
         → Gives (λ b c. b ≡ c) IsOutOfMemory result (list_truth comparison.now top ts) }
     ensures errors { IfErr result (IsSelectionError Lax) }
 {

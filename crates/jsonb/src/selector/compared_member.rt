@@ -7,7 +7,7 @@ ghost use Rattle.jsonb_doc.specs.Spots.{Locates};
 ghost use Rattle.jsonb_doc.specs.Tree.{Tree};
 ghost use Rattle.jsonb.specs.PathTree.{steps_of, paths};
 ghost use Rattle.jsonb.specs.PathViews.{steps_view, operator_view};
-ghost use Rattle.jsonb.specs.Related.{AllRelated};
+ghost use Rattle.std.specs.List.{AllZip};
 ghost use Rattle.jsonb.specs.Compare.{compare};
 ghost use Rattle.jsonb.specs.Values.{values_of_item};
 ghost use Rattle.jsonb.specs.Meaning.{operand_values};
@@ -16,35 +16,33 @@ ghost use Rattle.jsonb.specs.Private.Selection.{IsAt, HasTree, option_spots, ato
 ghost use Rattle.jsonb.specs.SelectionErrors.{IsSelectionError};
 
 use super::atom::{Atom, compare, compare_number, compare_one, item_atom};
-use super::document::{Document, Mode};
+use super::document::{Current, TruthResult};
 use super::members::{first_item, member};
 use super::node_list::NodeList;
 use super::values::found_values;
 use crate::path::{BinaryOperator, Path};
-use jsonb_doc::{Error, Item, Spot, spot_item};
+use jsonb_doc::{Item, Spot, spot_item};
 use std::alloc::Global;
 
 /// How the values of the member that these steps name compare with others.
 #[inline(always)]
 pub(crate) fn member_truth(
-    alloc: Global,
-    mode: Mode,
+    current: Current<'_, '_>,
     op: BinaryOperator,
     steps: &[Path<'_>],
     rights: &[Atom<'_>],
-    document: Document<'_>,
-    item: Spot,
-) -> Result<Option<bool>, Error>
-    ensures meant { (top t : Tree) → are_members (steps_view steps.now) ≡ true → HasTree document.entry top
-        → IsAt document.entry item t
+) -> TruthResult
+    ensures meant { (top t : Tree) → are_members (steps_view steps.now) ≡ true
+        → HasTree current.entry.context.now.document top → IsAt current.entry.context.now.document current.entry.item t
         → Gives (λ b c. b ≡ c) IsOutOfMemory result
-        (and_then (operand_values mode (paths (steps_of (steps_view steps.now))) top t)
+        (and_then (operand_values current.entry.context.now.mode (paths (steps_of (steps_view steps.now))) top t)
         (λ ls. Ok (compare (operator_view op) ls (map atom_value rights.now)))) }
-    ensures errors { IfErr result (IsSelectionError mode) }
+    ensures errors { IfErr result (IsSelectionError current.entry.context.now.mode) }
 {
-    let first = first_item(steps, document, item);
-    let member = member(mode, steps, document.bytes, first)?;
-    compared(alloc, op, document.bytes, member, rights)
+    let Current { context, item } = current;
+    let first = first_item(steps, context.document, item);
+    let member = member(context.mode, steps, context.document.bytes, first)?;
+    compared(context.alloc, op, context.document.bytes, member, rights)
 }
 
 /// How the values of a member compare with others.
@@ -55,8 +53,8 @@ pub(crate) fn compared(
     bytes: &[u8],
     member: Option<Spot>,
     rights: &[Atom<'_>],
-) -> Result<Option<bool>, Error>
-    ensures meant { (ts : List Tree) → AllRelated (Locates bytes.now) (option_spots member) ts
+) -> TruthResult
+    ensures meant { (ts : List Tree) → AllZip (Locates bytes.now) (option_spots member) ts
         → Gives (λ b c. b ≡ c) IsOutOfMemory result
         (Ok (compare (operator_view op) (flat_map values_of_item ts) (map atom_value rights.now))) }
     ensures errors { IfErr result (IsDecodingError or OutOfMemory) }
@@ -83,8 +81,8 @@ fn list_compared(
     bytes: &[u8],
     item: Spot,
     rights: &[Atom<'_>],
-) -> Result<Option<bool>, Error>
-    ensures meant { (ts : List Tree) → AllRelated (Locates bytes.now) (item ∷ []) ts
+) -> TruthResult
+    ensures meant { (ts : List Tree) → AllZip (Locates bytes.now) (item ∷ []) ts
         → Gives (λ b c. b ≡ c) IsOutOfMemory result
         (Ok (compare (operator_view op) (flat_map values_of_item ts) (map atom_value rights.now))) }
     ensures errors { IfErr result (IsDecodingError or OutOfMemory) }

@@ -6,7 +6,7 @@ ghost use Rattle.jsonb_doc.specs.Spots.{Locates};
 ghost use Rattle.jsonb_doc.specs.Tree.{Tree};
 ghost use Rattle.jsonb.specs.PathTree.{Expression, filter};
 ghost use Rattle.jsonb.specs.PathViews.{expression_view};
-ghost use Rattle.jsonb.specs.Related.{AllRelated};
+ghost use Rattle.std.specs.List.{AllZip};
 ghost use Rattle.jsonb.specs.Meaning.{step_meaning, filtered};
 ghost use Rattle.jsonb.specs.Private.Compared.{AreCompared, GivesIfAny, IsLastCompared, no_truth, is_decided};
 ghost use Rattle.jsonb.specs.Private.Selection.{node_spots};
@@ -15,7 +15,7 @@ ghost use Rattle.jsonb.specs.declared.path.Expr.{size-Expr};
 
 use super::children::push_if;
 use super::compared_items::{MemberCompared, item_truth, member_compared};
-use super::document::Mode;
+use super::document::{Mode, TruthResult};
 use super::kept::is_kept;
 use super::node_list::NodeList;
 use super::terms::{Join, joining, pair_of};
@@ -54,8 +54,8 @@ pub(crate) fn joined_filter(
     bytes: &[u8],
     items: &[Spot],
 ) -> Result<Option<NodeList>, Error>
-    ensures kept { (top : Tree) (ts : List Tree) → AllRelated (Locates bytes.now) items.now ts
-        → GivesIfAny (λ found us. AllRelated (Locates bytes.now) (node_spots found) us) result
+    ensures kept { (top : Tree) (ts : List Tree) → AllZip (Locates bytes.now) items.now ts
+        → GivesIfAny (λ found us. AllZip (Locates bytes.now) (node_spots found) us) result
         (try_flat_map (step_meaning mode (filter (expression_view e.now)) top) ts) }
     ensures errors { IfErr result (IsSelectionError mode) }
 {
@@ -132,8 +132,8 @@ fn joined_items(
     items: &[Spot],
 ) -> Result<NodeList, Error>
     ensures meant { (e : Expression) (top : Tree) (ts : List Tree) → AreCompared join comparisons.now e
-        → AllRelated (Locates bytes.now) items.now ts
-        → Gives (λ found us. AllRelated (Locates bytes.now) (node_spots found) us)
+        → AllZip (Locates bytes.now) items.now ts
+        → Gives (λ found us. AllZip (Locates bytes.now) (node_spots found) us)
         IsOutOfMemory result (try_flat_map (step_meaning mode (filter e) top) ts) }
     ensures errors { IfErr result (IsSelectionError mode) }
 {
@@ -156,8 +156,8 @@ fn push_joined(
     nodes: &mut Vec<Spot>,
 ) -> Result<(), Error>
     ensures meant { (e : Expression) (top t : Tree) (before : List Tree) → AreCompared join comparisons.now e
-        → Locates bytes.now item t → AllRelated (Locates bytes.now) nodes.old.items before
-        → Gives (λ _ ts. AllRelated (Locates bytes.now) nodes.new.items (before ++ ts)) IsOutOfMemory result
+        → Locates bytes.now item t → AllZip (Locates bytes.now) nodes.old.items before
+        → Gives (λ _ ts. AllZip (Locates bytes.now) nodes.new.items (before ++ ts)) IsOutOfMemory result
         (step_meaning mode (filter e) top t) }
     ensures errors { IfErr result (IsSelectionError mode) }
 {
@@ -175,7 +175,7 @@ pub(crate) fn joint_truth(
     comparisons: &[MemberCompared<'_, '_>],
     bytes: &[u8],
     item: Spot,
-) -> Result<Option<bool>, Error>
+) -> TruthResult
     ensures meant { (e : Expression) (top t : Tree) → AreCompared join comparisons.now e → Locates bytes.now item t
         → Gives (λ b ts. filtered t b ≡ ts) IsOutOfMemory result (step_meaning mode (filter e) top t) }
     ensures errors { IfErr result (IsSelectionError mode) }

@@ -1,6 +1,7 @@
 //! What a selection runs on.
 
-use jsonb_doc::Spot;
+use jsonb_doc::{Error, Spot};
+use std::alloc::Global;
 
 /// The bytes of a document with the place of its root.
 #[derive(Clone, Copy)]
@@ -26,3 +27,21 @@ pub(crate) enum Expressions {
     /// Refused, as within an operand or `exists`.
     AreRefused,
 }
+
+/// What a path is executed with.
+#[derive(Clone, Copy)]
+pub(crate) struct Context<'a> {
+    pub(crate) alloc: Global,
+    pub(crate) mode: Mode,
+    pub(crate) document: Document<'a>,
+}
+
+/// The item that `@` is, in its context.
+#[derive(Clone, Copy)]
+pub(crate) struct Current<'c, 'a> {
+    pub(crate) context: &'c Context<'a>,
+    pub(crate) item: Spot,
+}
+
+/// Whether an expression is true of an item. None is for unknown.
+pub(crate) type TruthResult = Result<Option<bool>, Error>;

@@ -12,7 +12,6 @@ ghost use Rattle.jsonb_doc.specs.ArrayBuilder.{HoldsElements};
 ghost use Rattle.jsonb_doc.specs.Limits.{IsTooLarge};
 ghost use Rattle.jsonb_doc.specs.Spots.{Locates};
 ghost use Rattle.jsonb_raw.specs.Documents.{Makes, MakesOption};
-ghost use Rattle.jsonb.specs.Related.{AllRelated};
 ghost use Rattle.jsonb.specs.Private.Selection.{IsMadeItem, IsNumberItem, OfSelected};
 ghost use Rattle.jsonb.specs.SelectorAnswers.{array_of, first_item, single_or_array};
 ghost use Rattle.jsonb.specs.Private.Selected.{selected_len};
@@ -147,7 +146,7 @@ pub(crate) fn documents(
 /// The items at these places, each as a document, copied as it is stored.
 fn node_documents(alloc: Global, bytes: &[u8], spots: &[Spot]) -> Result<Vec<OwnedJsonb>, Error>
     ensures documents { (form : Form) (top : Tree) (ts : List Tree) → Decodes form bytes.now top
-        → AllRelated (Locates bytes.now) spots.now ts
+        → AllZip (Locates bytes.now) spots.now ts
         → Gives (λ v us. AllZip (Decodes form) v.items us) (IsOutOfMemory or TooLarge when Any (IsTooLarge form) ts)
         result (Ok ts) }
     ensures errors { IfErr result (IsDecodingError or OutOfMemory or TooLarge) }
@@ -162,7 +161,7 @@ fn node_documents(alloc: Global, bytes: &[u8], spots: &[Spot]) -> Result<Vec<Own
 
 /// These numbers, each as a document.
 fn number_documents(alloc: Global, numbers: &[Number]) -> Result<Vec<OwnedJsonb>, Error>
-    ensures documents { (form : Form) (ts : List Tree) → AllRelated IsNumberItem numbers.now ts
+    ensures documents { (form : Form) (ts : List Tree) → AllZip IsNumberItem numbers.now ts
         → Gives (λ v us. AllZip (Decodes form) v.items us) (IsOutOfMemory or TooLarge when Any (IsTooLarge form) ts)
         result (Ok ts) }
     ensures errors { IfErr result (IsOutOfMemory or TooLarge) }

@@ -7,7 +7,7 @@ ghost use Rattle.jsonb_doc.specs.Spots.{Locates, HasSpotsLeft, spot_size, spots_
 ghost use Rattle.jsonb_doc.specs.Tree.{Tree};
 ghost use Rattle.jsonb.specs.PathTree.{Levels};
 ghost use Rattle.jsonb.specs.PathViews.{levels_view};
-ghost use Rattle.jsonb.specs.Related.{AllRelated};
+ghost use Rattle.std.specs.List.{AllZip};
 ghost use Rattle.jsonb.specs.Preorder.{answer_at, own, preorder};
 ghost use Rattle.jsonb.specs.Private.Below.{AreBelow, KeepsLevel, PassesLeaves, AreLevelsOf};
 
@@ -80,8 +80,8 @@ pub(crate) fn push_levels(
     nodes: &mut Vec<Spot>,
 ) -> Result<(), Error>
     ensures meant { (t : Tree) (n : ℕ) (before : List Tree) → level ≡ min n 256 → Locates bytes.now item t
-        → AllRelated (Locates bytes.now) nodes.old.items before
-        → Gives (λ _ ts. AllRelated (Locates bytes.now) nodes.new.items (before ++ ts))
+        → AllZip (Locates bytes.now) nodes.old.items before
+        → Gives (λ _ ts. AllZip (Locates bytes.now) nodes.new.items (before ++ ts))
         IsOutOfMemory result (Ok (preorder (option_map levels_view levels) n t)) }
     ensures errors { IfErr result (IsDecodingError or OutOfMemory) }
 {
@@ -120,7 +120,7 @@ fn pass_leaves<'a>(
 ) -> Result<Option<(Spot, SpotIter<'a>)>, Error>
     ensures meant { (bytes : List ℕ) (levels : Option Levels) (n : ℕ) (ts before : List Tree)
         → is_taken ≡ (answer_at levels n).0
-        → HasSpotsLeft bytes children.entry ts → AllRelated (Locates bytes) nodes.old.items before
+        → HasSpotsLeft bytes children.entry ts → AllZip (Locates bytes) nodes.old.items before
         → MatchResult result (PassesLeaves bytes levels n ts before nodes.new.items) IsOutOfMemory }
     ensures size { IfOk result (λ found. IfSome found (λ r. spot_size r.0 ≤ spots_room children.entry)) }
     ensures room { IfOk result (λ found. IfSome found (λ r. spots_room r.1 ≤ spots_room children.entry)) }
@@ -161,8 +161,8 @@ fn push_item<'a>(
     nodes: &mut Vec<Spot>,
 ) -> Result<Option<OpenLevel<'a>>, Error>
     ensures meant { (levels : Option Levels) (t : Tree) (n : ℕ) (before : List Tree) → AreLevelsOf levels range
-        → level ≡ min n 256 → Locates bytes.now item t → AllRelated (Locates bytes.now) nodes.old.items before
-        → MatchResult result (λ below. AllRelated (Locates bytes.now) nodes.new.items (before ++ own levels n t)
+        → level ≡ min n 256 → Locates bytes.now item t → AllZip (Locates bytes.now) nodes.old.items before
+        → MatchResult result (λ below. AllZip (Locates bytes.now) nodes.new.items (before ++ own levels n t)
         × AreBelow bytes.now levels n t below) IsOutOfMemory }
     ensures room { IfOk result (λ below. IfSome below (λ within. spots_room within.children < spot_size item)) }
     ensures bound { IfOk result (λ below. IfSome below (λ within. spots_bound within.children < 2 ^ 64)) }

@@ -6,7 +6,7 @@ ghost use Rattle.jsonb_doc.specs.Spots.{Locates};
 ghost use Rattle.jsonb_doc.specs.Tree.{Tree};
 ghost use Rattle.jsonb.specs.PathTree.{steps_of, paths};
 ghost use Rattle.jsonb.specs.PathViews.{step_view, steps_view, expression_view};
-ghost use Rattle.jsonb.specs.Related.{AllRelated};
+ghost use Rattle.std.specs.List.{AllZip};
 ghost use Rattle.jsonb.specs.Meaning.{step_meaning, steps_meaning, start};
 ghost use Rattle.jsonb.specs.ItemSteps.{field_step};
 ghost use Rattle.jsonb.specs.Private.Members.{is_member, are_members};
@@ -67,7 +67,7 @@ pub(crate) fn is_member(step: &Path<'_>) -> bool
 #[inline(always)]
 fn field(bytes: &[u8], mode: Mode, name: &str, item: Spot) -> Result<Option<Spot>, Error>
     ensures meant { (t : Tree) → Locates bytes.now item t
-        → Gives (λ found us. AllRelated (Locates bytes.now) (option_spots found) us) IsOutOfMemory result
+        → Gives (λ found us. AllZip (Locates bytes.now) (option_spots found) us) IsOutOfMemory result
         (field_step mode name.now t) }
     ensures errors { IfErr result (IsSelectionError mode) }
 {
@@ -113,7 +113,7 @@ pub(crate) fn member_of(
     item: Spot,
 ) -> Result<Option<Spot>, Error>
     ensures meant { (top t : Tree) → is_member (step_view step.now) ≡ true → Locates bytes.now item t
-        → Gives (λ found us. AllRelated (Locates bytes.now) (option_spots found) us) IsOutOfMemory result
+        → Gives (λ found us. AllZip (Locates bytes.now) (option_spots found) us) IsOutOfMemory result
         (step_meaning mode (step_view step.now) top t) }
     ensures errors { IfErr result (IsSelectionError mode) }
 {
@@ -133,7 +133,7 @@ pub(crate) fn member(
 ) -> Result<Option<Spot>, Error>
     ensures meant { (expressions : Expressions) (top t : Tree) → are_members (steps_view steps.now) ≡ true
         → Locates bytes.now first t
-        → Gives (λ found us. AllRelated (Locates bytes.now) (option_spots found) us) IsOutOfMemory result
+        → Gives (λ found us. AllZip (Locates bytes.now) (option_spots found) us) IsOutOfMemory result
         (steps_meaning mode (steps_of (map (taken_step expressions) (steps_view steps.now))) top (t ∷ [])) }
     ensures errors { IfErr result (IsSelectionError mode) }
 {

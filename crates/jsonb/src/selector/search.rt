@@ -7,12 +7,12 @@ ghost use Rattle.jsonb_doc.specs.Spots.{Locates};
 ghost use Rattle.jsonb_doc.specs.Tree.{Tree};
 ghost use Rattle.jsonb.specs.PathTree.{Step, steps_of, filter};
 ghost use Rattle.jsonb.specs.PathViews.{step_view, steps_view, expression_view};
-ghost use Rattle.jsonb.specs.Related.{AllRelated};
+ghost use Rattle.std.specs.List.{AllZip};
 ghost use Rattle.jsonb.specs.ItemSteps.{values_step, elements_step};
 ghost use Rattle.jsonb.specs.Meaning.{step_meaning, steps_meaning, filtered};
 ghost use Rattle.jsonb.specs.SelectorAnswers.{first_item};
 ghost use Rattle.jsonb.specs.Private.Compared.{GivesIfAny};
-ghost use Rattle.jsonb.specs.Private.Search.{IsSearched, HasItems, items_bound, TakesItem, AreGiven, given_bound, IsReached, IsWithin};
+ghost use Rattle.jsonb.specs.Private.Search.{IsSearched, HasItems, items_bound, TakesItem, AreGiven, GivesItems, given_bound, IsReached, IsWithin};
 ghost use Rattle.jsonb.specs.Private.Selection.{IsAt, HasTree, taken_step};
 ghost use Rattle.jsonb.specs.SelectionErrors.{IsSelectionError};
 ghost use Rattle.jsonb.specs.declared.selector.document.Mode.TheVariants.{Lax};
@@ -20,7 +20,7 @@ ghost use Rattle.jsonb.specs.declared.selector.document.Mode.TheVariants.{Lax};
 use super::children::{elements, push_positions, values};
 use super::compared_items::{MemberCompared, item_truth, member_compared};
 use super::comparisons::{JoinedComparisons, joined_comparisons, joint_truth};
-use super::document::{Document, Expressions, Mode};
+use super::document::{Context, Document, Expressions, Mode};
 use super::kept::is_kept;
 use super::levels::push_levels;
 use super::members::{are_members, member_of};
@@ -96,24 +96,23 @@ impl<'a> Items<'a> {
 /// told: in strict mode, where a later item may be refused, for names alone, and for other filters.
 #[inline(always)]
 pub(crate) fn search<'s>(
-    alloc: Global,
-    mode: Mode,
+    context: &Context<'_>,
     expressions: Expressions,
     steps: &'s [Path<'_>],
-    document: Document<'_>,
     first: Spot,
 ) -> Result<Option<Option<Spot>>, Error>
-    ensures meant { (top t : Tree) → HasTree document.entry top → IsAt document.entry first t
-        → GivesIfAny (λ found us. SameOption (IsAt document.entry) found (first_item us)) result
-        (steps_meaning mode (steps_of (map (taken_step expressions) (steps_view steps.now))) top (t ∷ [])) }
-    ensures errors { IfErr result (IsSelectionError mode) }
+    ensures meant { (top t : Tree) → HasTree context.now.document top → IsAt context.now.document first t
+        → GivesIfAny (λ found us. SameOption (IsAt context.now.document) found (first_item us)) result
+        (steps_meaning context.now.mode (steps_of (map (taken_step expressions) (steps_view steps.now)))
+        top (t ∷ [])) }
+    ensures errors { IfErr result (IsSelectionError context.now.mode) }
 {
     if are_members(steps) {
         return Ok(None);
     }
-    match mode {
+    match context.mode {
         Mode::Strict => Ok(None),
-        Mode::Lax => lax_search(alloc, expressions, steps, document, first),
+        Mode::Lax => lax_search(context.alloc, expressions, steps, context.document, first),
     }
 }
 
@@ -144,7 +143,7 @@ fn searched_steps<'s, 'p>(
     steps: &'s [Path<'p>],
 ) -> Result<Option<Vec<SearchStep<'s, 'p>>>, Error>
     ensures searched { IfOk result (λ found. MatchOption found ⊤
-        (λ v. AllRelated IsSearched v.items (map (taken_step expressions) (steps_view steps.now)))) }
+        (λ v. AllZip IsSearched v.items (map (taken_step expressions) (steps_view steps.now)))) }
     ensures errors { IfErr result IsOutOfMemory }
 {
     let mut searched = Vec::with_capacity(alloc, steps.len())?;
@@ -217,7 +216,7 @@ fn first_found(
     bytes: &[u8],
     first: Spot,
 ) -> Result<Option<Spot>, Error>
-    ensures meant { (top t : Tree) (ss : List Step) → AllRelated IsSearched steps.now ss → Locates bytes.now first t
+    ensures meant { (top t : Tree) (ss : List Step) → AllZip IsSearched steps.now ss → Locates bytes.now first t
         → Gives (λ found us. SameOption (Locates bytes.now) found (first_item us)) IsOutOfMemory result
         (steps_meaning Lax (steps_of ss) top (t ∷ [])) }
     ensures errors { IfErr result (IsSelectionError Lax) }
@@ -253,7 +252,7 @@ fn reach<'t, 's, 'p, 'a>(
     bytes: &'a [u8],
     first: Spot,
 ) -> Result<Reached<'t, 's, 'p, 'a>, Error>
-    ensures meant { (top t : Tree) (ss : List Step) → AllRelated IsSearched steps.now ss → Locates bytes.now first t
+    ensures meant { (top t : Tree) (ss : List Step) → AllZip IsSearched steps.now ss → Locates bytes.now first t
         → MatchResult result (IsReached bytes.now top t ss) IsOutOfMemory }
     ensures within { IfOk result (IsWithin (length steps.now)) }
     ensures errors { IfErr result (IsSelectionError Lax) }
@@ -326,7 +325,7 @@ fn kept<'a>(truth: Option<bool>, item: Spot) -> Given<'a>
 /// The places of a list.
 #[inline(always)]
 fn listed<'a>(mut spots: Vec<Spot>) -> Given<'a>
-    ensures given { (bytes : List ℕ) (ts : List Tree) → AllRelated (Locates bytes) spots.items ts
+    ensures given { (bytes : List ℕ) (ts : List Tree) → AllZip (Locates bytes) spots.items ts
         → AreGiven bytes result ts }
     ensures few { given_bound result < 2 ^ 64 }
 {
@@ -337,8 +336,7 @@ fn listed<'a>(mut spots: Vec<Spot>) -> Given<'a>
 /// The values of an object.
 #[inline(always)]
 fn value_items<'a>(bytes: &'a [u8], item: Spot) -> Result<Given<'a>, Error>
-    ensures meant { (t : Tree) → Locates bytes.now item t
-        → Gives (AreGiven bytes.now) IsOutOfMemory result (values_step Lax t) }
+    ensures meant { GivesItems bytes.now item result (values_step Lax) }
     ensures few { IfOk result (λ given. given_bound given < 2 ^ 64) }
     ensures errors { IfErr result IsDecodingError }
 {
@@ -351,8 +349,7 @@ fn value_items<'a>(bytes: &'a [u8], item: Spot) -> Result<Given<'a>, Error>
 /// The elements of an array; another item is itself.
 #[inline(always)]
 fn element_items<'a>(bytes: &'a [u8], item: Spot) -> Result<Given<'a>, Error>
-    ensures meant { (t : Tree) → Locates bytes.now item t
-        → Gives (AreGiven bytes.now) IsOutOfMemory result (elements_step Lax t) }
+    ensures meant { GivesItems bytes.now item result (elements_step Lax) }
     ensures few { IfOk result (λ given. given_bound given < 2 ^ 64) }
     ensures errors { IfErr result IsDecodingError }
 {

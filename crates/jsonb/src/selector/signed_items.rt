@@ -10,7 +10,7 @@ ghost use Rattle.jsonb_doc.specs.Tree.{Tree};
 ghost use Rattle.jsonb_doc.specs.View.{number_view};
 ghost use Rattle.jsonb.specs.PathArithmetic.{all_numbers, each_signed};
 ghost use Rattle.jsonb.specs.PathViews.{sign_view};
-ghost use Rattle.jsonb.specs.Related.{AllRelated};
+ghost use Rattle.std.specs.List.{AllZip};
 ghost use Rattle.jsonb.specs.Values.{value_of_item, values_of_item};
 ghost use Rattle.jsonb.specs.Private.Selection.{IsNumberItem};
 ghost use Rattle.jsonb.specs.SelectionErrors.{IsSelectionError};
@@ -32,8 +32,8 @@ pub(crate) fn signed_items(
     bytes: &[u8],
     items: &[Spot],
 ) -> Result<Vec<Number>, Error>
-    ensures meant { (ts : List Tree) → AllRelated (Locates bytes.now) items.now ts
-        → Gives (λ v us. AllRelated IsNumberItem v.items us) IsOutOfMemory result
+    ensures meant { (ts : List Tree) → AllZip (Locates bytes.now) items.now ts
+        → Gives (λ v us. AllZip IsNumberItem v.items us) IsOutOfMemory result
         (each_signed (sign_view op) (flat_map values_of_item ts)) }
     ensures errors { (mode : Mode) → IfErr result (IsSelectionError mode) }
 {
@@ -44,7 +44,7 @@ pub(crate) fn signed_items(
 
 /// The numbers of items. `InvalidJsonPath` is for another value.
 fn item_numbers(alloc: Global, bytes: &[u8], items: &[Spot]) -> Result<Vec<Number>, Error>
-    ensures meant { (ts : List Tree) → AllRelated (Locates bytes.now) items.now ts
+    ensures meant { (ts : List Tree) → AllZip (Locates bytes.now) items.now ts
         → Gives (λ v ns. map number_view v.items ≡ ns) IsOutOfMemory result
         (all_numbers (flat_map values_of_item ts)) }
     ensures errors { (mode : Mode) → IfErr result (IsSelectionError mode) }

@@ -1,71 +1,42 @@
 //! The steps of a path, one after the other, and the filters in them.
 
 ghost use Rattle.std.specs.Prelude.{◌≡◌, ◌<◌, ◌++◌, ◌∷◌, [], List, map, None, true, false, ⊤, IfErr, OnOk, MatchOption};
-ghost use Rattle.jsonb_doc.specs.Answer.{Gives, try_flat_map, and_then, IsOutOfMemory};
+ghost use Rattle.jsonb_doc.specs.Answer.{Gives, try_flat_map, IsOutOfMemory};
 ghost use Rattle.jsonb_doc.specs.Spots.{Locates};
 ghost use Rattle.jsonb_doc.specs.Tree.{Tree};
-ghost use Rattle.jsonb.specs.PathTree.{Expression, steps_of, filter};
+ghost use Rattle.jsonb.specs.PathTree.{steps_of, filter};
 ghost use Rattle.jsonb.specs.ItemSteps.{field_step};
 ghost use Rattle.jsonb.specs.PathViews.{step_view, steps_view, expression_view};
-ghost use Rattle.jsonb.specs.Related.{AllRelated};
+ghost use Rattle.std.specs.List.{AllZip};
 ghost use Rattle.jsonb.specs.Meaning.{step_meaning, steps_meaning, truth, operand_values, is_some_item};
 ghost use Rattle.jsonb.specs.Private.Selection.{IsAt, HasTree, node_spots, atoms_view, taken_step, is_filter, IsPlain};
 ghost use Rattle.jsonb.specs.Private.Exists.{is_exists};
 ghost use Rattle.jsonb.specs.Private.Terms.{is_joined, AreTermsOf};
-ghost use Rattle.jsonb.specs.Private.Kept.{conditions, is_condition, IsSame, AreKept, IsKeptFor, kept_part};
+ghost use Rattle.jsonb.specs.Private.Kept.{conditions, is_condition, IsSame, IsKeptFor, kept_part};
+ghost use Rattle.jsonb.specs.Private.Steps.{GivesOfEach, TellsTruth, TellsByPart, TellsByKept, KeepsNext};
 ghost use Rattle.jsonb.specs.declared.path.Expr.{size-Expr};
 ghost use Rattle.jsonb.specs.declared.selector.document.Expressions.TheVariants.{AreRefused};
 ghost use Rattle.jsonb.specs.declared.path.Path.{size-Path};
 ghost use Rattle.jsonb.specs.SelectionErrors.{IsSelectionError};
 
 use super::atom::{Atoms, compare, literal_atom};
-use super::children::{push_elements, push_field, push_if, push_positions, push_spot, push_values};
+use super::children::{push_field, push_if, push_step};
 use super::compared_items::{compared_items, member_compared};
 use super::compared_member::member_truth;
 use super::comparisons::joined_filter;
-use super::document::{Document, Expressions, Mode};
+use super::document::{Context, Current, Expressions, Mode, TruthResult};
 use super::exists::innermost;
 use super::kept::{Kept, KeptPart, comparison_part, exists_part, is_comparison, is_kept};
-use super::levels::push_levels;
 use super::members::{
     are_members, first_item, is_member, member, member_name, member_of, member_steps,
 };
 use super::node_list::NodeList;
 use super::search::search;
-use super::terms::{Run, Term, is_joined, terms_of};
+use super::terms::{Run, Term, Truths, is_joined, terms_of};
 use super::values::found_values;
 use crate::path::{Expr, Path};
 use jsonb_doc::{Error, Spot};
 use std::alloc::Global;
-
-/// One step of one item that is no filter, behind what the nodes has.
-#[inline(always)]
-fn push_step(
-    alloc: Global,
-    mode: Mode,
-    step: &Path<'_>,
-    bytes: &[u8],
-    item: Spot,
-    nodes: &mut Vec<Spot>,
-) -> Result<(), Error>
-    ensures meant { (top t : Tree) (before : List Tree) → is_filter (step_view step.now) ≡ false
-        → Locates bytes.now item t → AllRelated (Locates bytes.now) nodes.old.items before
-        → Gives (λ _ ts. AllRelated (Locates bytes.now) nodes.new.items (before ++ ts))
-        IsOutOfMemory result (step_meaning mode (step_view step.now) top t) }
-    ensures errors { IfErr result (IsSelectionError mode) }
-{
-    match step {
-        Path::DotWildcard => push_values(bytes, mode, item, nodes),
-        Path::BracketWildcard => push_elements(bytes, mode, item, nodes),
-        Path::ArrayIndices(entries) => push_positions(alloc, bytes, mode, entries, item, nodes),
-        Path::RecursiveDotWildcard(levels) => push_levels(alloc, bytes, *levels, 0, item, nodes),
-        Path::Root | Path::Current => push_spot(nodes, item),
-        Path::DotField(name) => push_field(bytes, mode, name.as_str(), item, nodes),
-        Path::ColonField(name) => push_field(bytes, mode, name.as_str(), item, nodes),
-        Path::ObjectField(name) => push_field(bytes, mode, name.as_str(), item, nodes),
-        Path::FilterExpr(_) | Path::Expr(_) => Err(Error::InvalidJsonPath),
-    }
-}
 
 /// One step of one item that is no filter. What gives one item at most needs no memory.
 #[inline(never)]
@@ -77,7 +48,7 @@ fn plain_step(
     item: Spot,
 ) -> Result<NodeList, Error>
     ensures meant { (top t : Tree) → is_filter (step_view step.now) ≡ false → Locates bytes.now item t
-        → Gives (λ found ts. AllRelated (Locates bytes.now) (node_spots found) ts)
+        → Gives (λ found ts. AllZip (Locates bytes.now) (node_spots found) ts)
         IsOutOfMemory result (step_meaning mode (step_view step.now) top t) }
     ensures errors { IfErr result (IsSelectionError mode) }
 {
@@ -99,8 +70,8 @@ fn plain_steps(
     items: &[Spot],
 ) -> Result<NodeList, Error>
     ensures meant { (top : Tree) (ts : List Tree) → is_filter (step_view step.now) ≡ false
-        → AllRelated (Locates bytes.now) items.now ts
-        → Gives (λ found us. AllRelated (Locates bytes.now) (node_spots found) us)
+        → AllZip (Locates bytes.now) items.now ts
+        → Gives (λ found us. AllZip (Locates bytes.now) (node_spots found) us)
         IsOutOfMemory result (try_flat_map (step_meaning mode (step_view step.now) top) ts) }
     ensures errors { IfErr result (IsSelectionError mode) }
 {
@@ -123,8 +94,8 @@ fn named_values(
     bytes: &[u8],
     items: &[Spot],
 ) -> Result<NodeList, Error>
-    ensures meant { (ts : List Tree) → AllRelated (Locates bytes.now) items.now ts
-        → Gives (λ found us. AllRelated (Locates bytes.now) (node_spots found) us)
+    ensures meant { (ts : List Tree) → AllZip (Locates bytes.now) items.now ts
+        → Gives (λ found us. AllZip (Locates bytes.now) (node_spots found) us)
         IsOutOfMemory result (try_flat_map (field_step mode name.now) ts) }
     ensures errors { IfErr result (IsSelectionError mode) }
 {
@@ -156,24 +127,28 @@ pub(crate) fn filter_of<'s, 'a>(
 #[cycle(steps)]
 #[inline(always)]
 fn step_item<'a>(
-    alloc: Global,
-    mode: Mode,
+    context: &Context<'a>,
     expressions: Expressions,
     step: &'a Path<'_>,
-    document: Document<'a>,
     item: Spot,
 ) -> Result<NodeList, Error>
-    ensures meant { (top t : Tree) → HasTree document.entry top → IsAt document.entry item t
-        → Gives (λ found ts. AllRelated (IsAt document.entry) (node_spots found) ts)
-        IsOutOfMemory result (step_meaning mode (taken_step expressions (step_view step.now)) top t) }
-    ensures errors { IfErr result (IsSelectionError mode) }
+    ensures meant { (top t : Tree) → HasTree context.now.document top → IsAt context.now.document item t
+        → Gives (λ found ts. AllZip (IsAt context.now.document) (node_spots found) ts) IsOutOfMemory result
+        (step_meaning context.now.mode (taken_step expressions (step_view step.now)) top t) }
+    ensures errors { IfErr result (IsSelectionError context.now.mode) }
 {
     match filter_of(expressions, step) {
         Some(e) => {
-            let keeps = is_kept(truth(alloc, mode, e, document, item)?);
-            Ok(NodeList::at_most_one(alloc, keeps.then_some(item)))
+            let keeps = is_kept(truth(Current { context, item }, e)?);
+            Ok(NodeList::at_most_one(context.alloc, keeps.then_some(item)))
         }
-        None => plain_step(alloc, mode, step, document.bytes, item),
+        None => plain_step(
+            context.alloc,
+            context.mode,
+            step,
+            context.document.bytes,
+            item,
+        ),
     }
 }
 
@@ -181,24 +156,19 @@ fn step_item<'a>(
 #[cycle(steps)]
 #[inline(always)]
 pub(crate) fn step_list<'a>(
-    alloc: Global,
-    mode: Mode,
+    context: &Context<'a>,
     expressions: Expressions,
     step: &'a Path<'_>,
-    document: Document<'a>,
     items: NodeList,
 ) -> Result<NodeList, Error>
-    ensures meant { (top : Tree) (ts : List Tree) → HasTree document.entry top
-        → AllRelated (IsAt document.entry) (node_spots items) ts
-        → Gives (λ found us. AllRelated (IsAt document.entry) (node_spots found) us)
-        IsOutOfMemory result (try_flat_map (step_meaning mode (taken_step expressions (step_view step.now)) top) ts) }
-    ensures errors { IfErr result (IsSelectionError mode) }
+    ensures meant { GivesOfEach context.now (taken_step expressions (step_view step.now)) (node_spots items) result }
+    ensures errors { IfErr result (IsSelectionError context.now.mode) }
 {
     match step {
         Path::Root | Path::Current => Ok(items),
         _ => match items {
-            NodeList::One(item) => step_item(alloc, mode, expressions, step, document, item),
-            NodeList::Many(items) => step_many(alloc, mode, expressions, step, document, &items),
+            NodeList::One(item) => step_item(context, expressions, step, item),
+            NodeList::Many(items) => step_many(context, expressions, step, &items),
         },
     }
 }
@@ -207,19 +177,19 @@ pub(crate) fn step_list<'a>(
 #[cycle(steps)]
 #[inline(never)]
 fn step_many<'a>(
-    alloc: Global,
-    mode: Mode,
+    context: &Context<'a>,
     expressions: Expressions,
     step: &'a Path<'_>,
-    document: Document<'a>,
     items: &[Spot],
 ) -> Result<NodeList, Error>
-    ensures meant { (top : Tree) (ts : List Tree) → HasTree document.entry top
-        → AllRelated (IsAt document.entry) items.now ts
-        → Gives (λ found us. AllRelated (IsAt document.entry) (node_spots found) us)
-        IsOutOfMemory result (try_flat_map (step_meaning mode (taken_step expressions (step_view step.now)) top) ts) }
-    ensures errors { IfErr result (IsSelectionError mode) }
+    ensures meant { GivesOfEach context.now (taken_step expressions (step_view step.now)) items.now result }
+    ensures errors { IfErr result (IsSelectionError context.now.mode) }
 {
+    let Context {
+        alloc,
+        mode,
+        document,
+    } = *context;
     let Some(e) = filter_of(expressions, step) else {
         return plain_steps(alloc, mode, step, document.bytes, items);
     };
@@ -228,7 +198,7 @@ fn step_many<'a>(
     }
     match joined_filter(alloc, mode, e, document.bytes, items)? {
         Some(nodes) => Ok(nodes),
-        None => filter_many(alloc, mode, e, document, items),
+        None => filter_many(context, e, items),
     }
 }
 
@@ -236,26 +206,23 @@ fn step_many<'a>(
 #[cycle(steps)]
 #[inline(never)]
 fn filter_many<'a>(
-    alloc: Global,
-    mode: Mode,
+    context: &Context<'a>,
     e: &'a Expr<'_>,
-    document: Document<'a>,
     items: &[Spot],
 ) -> Result<NodeList, Error>
-    ensures meant { (top : Tree) (ts : List Tree) → HasTree document.entry top
-        → AllRelated (IsAt document.entry) items.now ts
-        → Gives (λ found us. AllRelated (IsAt document.entry) (node_spots found) us)
-        IsOutOfMemory result (try_flat_map (step_meaning mode (filter (expression_view e.now)) top) ts) }
-    ensures errors { IfErr result (IsSelectionError mode) }
+    ensures meant { GivesOfEach context.now (filter (expression_view e.now)) items.now result }
+    ensures errors { IfErr result (IsSelectionError context.now.mode) }
 {
-    let terms = terms_of(alloc, e)?;
-    let kept = Kept::new(alloc);
-    let mut run = Run::new(alloc, kept);
-    let mut nodes = Vec::new(alloc);
+    let terms = terms_of(context.alloc, e)?;
+    let kept = Kept::new(context.alloc);
+    let mut run = Run::new(context.alloc, kept);
+    let mut nodes = Vec::new(context.alloc);
     for item in items {
-        push_kept(
-            alloc, mode, e, &terms, &mut run, document, *item, &mut nodes,
-        )?;
+        let current = Current {
+            context,
+            item: *item,
+        };
+        push_kept(current, e, &terms, &mut run, &mut nodes)?;
     }
     Ok(NodeList::Many(nodes))
 }
@@ -264,103 +231,87 @@ fn filter_many<'a>(
 #[cycle(steps)]
 #[inline(always)]
 fn push_kept<'a>(
-    alloc: Global,
-    mode: Mode,
+    current: Current<'_, 'a>,
     e: &'a Expr<'_>,
     terms: &[Term<'a, '_>],
     run: &mut Run<'a>,
-    document: Document<'a>,
-    item: Spot,
     nodes: &mut Vec<Spot>,
 ) -> Result<(), Error>
     requires { is_joined (expression_view e.now) ≡ true → AreTermsOf e.now terms.now }
-    ensures meant { (top t : Tree) (before : List Tree) → HasTree document.entry top → IsAt document.entry item t
-        → IsKeptFor mode top (expression_view e.now) run.old.kept
-        → AllRelated (IsAt document.entry) nodes.old.items before
-        → Gives (λ _ ts. AllRelated (IsAt document.entry) nodes.new.items (before ++ ts)) IsOutOfMemory result
-        (step_meaning mode (filter (expression_view e.now)) top t) }
-    ensures kept { (top t : Tree) → HasTree document.entry top → IsAt document.entry item t
-        → IsKeptFor mode top (expression_view e.now) run.old.kept
-        → OnOk result (IsKeptFor mode top (expression_view e.now) run.new.kept) }
-    ensures errors { IfErr result (IsSelectionError mode) }
+    ensures meant { (top t : Tree) (before : List Tree) → HasTree current.entry.context.now.document top
+        → IsAt current.entry.context.now.document current.entry.item t
+        → IsKeptFor current.entry.context.now.mode top (expression_view e.now) run.old.kept
+        → AllZip (IsAt current.entry.context.now.document) nodes.old.items before
+        → Gives (λ _ ts. AllZip (IsAt current.entry.context.now.document) nodes.new.items (before ++ ts))
+        IsOutOfMemory result (step_meaning current.entry.context.now.mode (filter (expression_view e.now)) top t) }
+    ensures kept { (top t : Tree) → HasTree current.entry.context.now.document top
+        → IsAt current.entry.context.now.document current.entry.item t
+        → IsKeptFor current.entry.context.now.mode top (expression_view e.now) run.old.kept
+        → OnOk result (IsKeptFor current.entry.context.now.mode top (expression_view e.now) run.new.kept) }
+    ensures errors { IfErr result (IsSelectionError current.entry.context.now.mode) }
 {
-    let keeps = is_kept(truth_by_kept(alloc, mode, e, terms, run, document, item)?);
+    let keeps = is_kept(truth_by_kept(current, e, terms, run)?);
     run.kept.restart();
-    push_if(keeps, item, nodes)
+    push_if(keeps, current.item, nodes)
 }
 
 /// Several steps, one after the other, from one item.
 #[cycle(steps)]
 #[inline(never)]
 pub(crate) fn select_steps<'a>(
-    alloc: Global,
-    mode: Mode,
+    context: &Context<'a>,
     expressions: Expressions,
     steps: &'a [Path<'_>],
-    document: Document<'a>,
     first: Spot,
 ) -> Result<NodeList, Error>
-    ensures meant { (top t : Tree) → HasTree document.entry top → IsAt document.entry first t
-        → Gives (λ found us. AllRelated (IsAt document.entry) (node_spots found) us)
-        IsOutOfMemory result
-        (steps_meaning mode (steps_of (map (taken_step expressions) (steps_view steps.now))) top (t ∷ [])) }
-    ensures errors { IfErr result (IsSelectionError mode) }
+    ensures meant { (top t : Tree) → HasTree context.now.document top → IsAt context.now.document first t
+        → Gives (λ found us. AllZip (IsAt context.now.document) (node_spots found) us) IsOutOfMemory result
+        (steps_meaning context.now.mode (steps_of (map (taken_step expressions) (steps_view steps.now)))
+        top (t ∷ [])) }
+    ensures errors { IfErr result (IsSelectionError context.now.mode) }
 {
     if are_members(steps) {
-        let found = member(mode, steps, document.bytes, first)?;
-        return Ok(NodeList::at_most_one(alloc, found));
+        let found = member(context.mode, steps, context.document.bytes, first)?;
+        return Ok(NodeList::at_most_one(context.alloc, found));
     }
     let mut items = NodeList::One(first);
     for step in steps {
-        items = step_list(alloc, mode, expressions, step, document, items)?;
+        items = step_list(context, expressions, step, items)?;
     }
     Ok(items)
 }
 
-/// Whether an expression is true of an item. None is for unknown.
+/// Whether an expression is true of an item.
 #[cycle(steps)]
 #[inline(never)]
-pub(crate) fn truth<'a>(
-    alloc: Global,
-    mode: Mode,
-    e: &'a Expr<'_>,
-    document: Document<'a>,
-    item: Spot,
-) -> Result<Option<bool>, Error>
-    ensures meant { (top t : Tree) → HasTree document.entry top → IsAt document.entry item t
-        → Gives (λ b c. b ≡ c) IsOutOfMemory result (truth mode (expression_view e.now) top t) }
-    ensures errors { IfErr result (IsSelectionError mode) }
+pub(crate) fn truth<'a>(current: Current<'_, 'a>, e: &'a Expr<'_>) -> TruthResult
+    ensures meant { TellsTruth current.entry (expression_view e.now) result }
+    ensures errors { IfErr result (IsSelectionError current.entry.context.now.mode) }
 {
-    let terms = terms_of(alloc, e)?;
-    let mut run = Run::new(alloc, Kept::Nothing);
-    truth_by_kept(alloc, mode, e, &terms, &mut run, document, item)
+    let terms = terms_of(current.context.alloc, e)?;
+    let mut run = Run::new(current.context.alloc, Kept::Nothing);
+    truth_by_kept(current, e, &terms, &mut run)
 }
 
 /// The same with what is kept from the items before.
 #[cycle(steps)]
 #[inline(always)]
 fn truth_by_kept<'a>(
-    alloc: Global,
-    mode: Mode,
+    current: Current<'_, 'a>,
     e: &'a Expr<'_>,
     terms: &[Term<'a, '_>],
     run: &mut Run<'a>,
-    document: Document<'a>,
-    item: Spot,
-) -> Result<Option<bool>, Error>
+) -> TruthResult
     requires { is_joined (expression_view e.now) ≡ true → AreTermsOf e.now terms.now }
-    ensures meant { (top t : Tree) (all more : List Expression) → HasTree document.entry top
-        → IsAt document.entry item t → AreKept mode top run.old.kept all (conditions (expression_view e.now) ++ more)
-        → Gives (λ b c. b ≡ c) IsOutOfMemory result (truth mode (expression_view e.now) top t) }
-    ensures kept { (top t : Tree) (all more : List Expression) → HasTree document.entry top
-        → IsAt document.entry item t → AreKept mode top run.old.kept all (conditions (expression_view e.now) ++ more)
-        → OnOk result (AreKept mode top run.new.kept all more) }
-    ensures errors { IfErr result (IsSelectionError mode) }
+    ensures meant { TellsByKept current.entry (expression_view e.now) (conditions (expression_view e.now))
+        run.old.kept result }
+    ensures kept { KeepsNext current.entry (conditions (expression_view e.now)) run.old.kept run.new.kept result }
+    ensures errors { IfErr result (IsSelectionError current.entry.context.now.mode) }
 {
     if is_joined(e) {
-        joined_truth(alloc, mode, e, terms, run, document, item)
+        joined_truth(current, e, terms, &mut run.truths, &mut run.kept)
     } else {
-        single_truth(alloc, mode, e, &mut run.kept, document, item)
+        single_truth(current, e, &mut run.kept)
     }
 }
 
@@ -368,34 +319,29 @@ fn truth_by_kept<'a>(
 #[cycle(steps)]
 #[inline(never)]
 fn joined_truth<'a>(
-    alloc: Global,
-    mode: Mode,
+    current: Current<'_, 'a>,
     e: &'a Expr<'_>,
     terms: &[Term<'a, '_>],
-    run: &mut Run<'a>,
-    document: Document<'a>,
-    item: Spot,
-) -> Result<Option<bool>, Error>
+    truths: &mut Truths,
+    kept: &mut Kept<'a>,
+) -> TruthResult
     requires { AreTermsOf e.now terms.now }
-    ensures meant { (top t : Tree) (all more : List Expression) → HasTree document.entry top
-        → IsAt document.entry item t → AreKept mode top run.old.kept all (conditions (expression_view e.now) ++ more)
-        → Gives (λ b c. b ≡ c) IsOutOfMemory result (truth mode (expression_view e.now) top t) }
-    ensures kept { (top t : Tree) (all more : List Expression) → HasTree document.entry top
-        → IsAt document.entry item t → AreKept mode top run.old.kept all (conditions (expression_view e.now) ++ more)
-        → OnOk result (AreKept mode top run.new.kept all more) }
-    ensures errors { IfErr result (IsSelectionError mode) }
+    ensures meant { TellsByKept current.entry (expression_view e.now) (conditions (expression_view e.now))
+        kept.old result }
+    ensures kept { KeepsNext current.entry (conditions (expression_view e.now)) kept.old kept.new result }
+    ensures errors { IfErr result (IsSelectionError current.entry.context.now.mode) }
 {
-    run.truths.clear();
+    truths.clear();
     for term in terms {
         match term {
             Term::Condition(part) => {
-                let truth = single_truth(alloc, mode, part, &mut run.kept, document, item)?;
-                run.truths.push(truth)?;
+                let truth = single_truth(current, part, kept)?;
+                truths.push(truth)?;
             }
-            Term::Join(join) => run.truths.join(*join)?,
+            Term::Join(join) => truths.join(*join)?,
         }
     }
-    match run.truths.pop() {
+    match truths.pop() {
         Some(truth) => Ok(truth),
         None => Err(Error::InvalidJsonPath),
     }
@@ -404,33 +350,22 @@ fn joined_truth<'a>(
 /// The same of an expression that joins no others.
 #[cycle(steps)]
 #[inline(always)]
-fn single_truth<'a>(
-    alloc: Global,
-    mode: Mode,
-    e: &'a Expr<'_>,
-    kept: &mut Kept<'a>,
-    document: Document<'a>,
-    item: Spot,
-) -> Result<Option<bool>, Error>
-    ensures meant { (top t : Tree) (all more : List Expression) → is_joined (expression_view e.now) ≡ false
-        → HasTree document.entry top → IsAt document.entry item t
-        → AreKept mode top kept.old all (conditions (expression_view e.now) ++ more)
-        → Gives (λ b c. b ≡ c) IsOutOfMemory result (truth mode (expression_view e.now) top t) }
-    ensures kept { (top t : Tree) (all more : List Expression) → is_joined (expression_view e.now) ≡ false
-        → HasTree document.entry top → IsAt document.entry item t
-        → AreKept mode top kept.old all (conditions (expression_view e.now) ++ more)
-        → OnOk result (AreKept mode top kept.new all more) }
-    ensures errors { IfErr result (IsSelectionError mode) }
+fn single_truth<'a>(current: Current<'_, 'a>, e: &'a Expr<'_>, kept: &mut Kept<'a>) -> TruthResult
+    ensures meant { is_joined (expression_view e.now) ≡ false
+        → TellsByKept current.entry (expression_view e.now) (conditions (expression_view e.now)) kept.old result }
+    ensures kept { is_joined (expression_view e.now) ≡ false
+        → KeepsNext current.entry (conditions (expression_view e.now)) kept.old kept.new result }
+    ensures errors { IfErr result (IsSelectionError current.entry.context.now.mode) }
 {
     match e {
         Expr::BinaryOp { op, .. } => {
             if is_comparison(*op) {
-                condition(alloc, mode, e, kept, document, item)
+                condition(current, e, kept)
             } else {
                 Ok(None)
             }
         }
-        Expr::ExistsFunc(_) => condition(alloc, mode, e, kept, document, item),
+        Expr::ExistsFunc(_) => condition(current, e, kept),
         Expr::Paths(_) | Expr::Value(_) | Expr::UnaryOp { .. } => Err(Error::InvalidJsonPath),
     }
 }
@@ -438,55 +373,34 @@ fn single_truth<'a>(
 /// Whether a comparison or `exists` is true of an item. What is the same for each item is kept.
 #[cycle(steps)]
 #[inline(always)]
-fn condition<'a>(
-    alloc: Global,
-    mode: Mode,
-    e: &'a Expr<'_>,
-    kept: &mut Kept<'a>,
-    document: Document<'a>,
-    item: Spot,
-) -> Result<Option<bool>, Error>
-    ensures meant { (top t : Tree) (all more : List Expression) → is_condition (expression_view e.now) ≡ true
-        → HasTree document.entry top → IsAt document.entry item t
-        → AreKept mode top kept.old all (expression_view e.now ∷ more)
-        → Gives (λ b c. b ≡ c) IsOutOfMemory result (truth mode (expression_view e.now) top t) }
-    ensures kept { (top t : Tree) (all more : List Expression) → is_condition (expression_view e.now) ≡ true
-        → HasTree document.entry top → IsAt document.entry item t
-        → AreKept mode top kept.old all (expression_view e.now ∷ more)
-        → OnOk result (AreKept mode top kept.new all more) }
-    ensures errors { IfErr result (IsSelectionError mode) }
+fn condition<'a>(current: Current<'_, 'a>, e: &'a Expr<'_>, kept: &mut Kept<'a>) -> TruthResult
+    ensures meant { is_condition (expression_view e.now) ≡ true
+        → TellsByKept current.entry (expression_view e.now) (expression_view e.now ∷ []) kept.old result }
+    ensures kept { is_condition (expression_view e.now) ≡ true
+        → KeepsNext current.entry (expression_view e.now ∷ []) kept.old kept.new result }
+    ensures errors { IfErr result (IsSelectionError current.entry.context.now.mode) }
 {
     match kept.part() {
         Some(part) => {
-            let truth = later_truth(alloc, mode, e, part, document, item)?;
+            let truth = later_truth(current, e, part)?;
             kept.pass();
             Ok(truth)
         }
-        None => first_kept(alloc, mode, e, kept, document, item),
+        None => first_kept(current, e, kept),
     }
 }
 
 /// The same of the first item, whose part is kept.
 #[cycle(steps)]
 #[inline(never)]
-fn first_kept<'a>(
-    alloc: Global,
-    mode: Mode,
-    e: &'a Expr<'_>,
-    kept: &mut Kept<'a>,
-    document: Document<'a>,
-    item: Spot,
-) -> Result<Option<bool>, Error>
-    ensures meant { (top t : Tree) → is_condition (expression_view e.now) ≡ true → HasTree document.entry top
-        → IsAt document.entry item t
-        → Gives (λ b c. b ≡ c) IsOutOfMemory result (truth mode (expression_view e.now) top t) }
-    ensures kept { (top t : Tree) (all more : List Expression) → is_condition (expression_view e.now) ≡ true
-        → HasTree document.entry top → IsAt document.entry item t → kept_part kept.old ≡ None
-        → AreKept mode top kept.old all (expression_view e.now ∷ more)
-        → OnOk result (AreKept mode top kept.new all more) }
-    ensures errors { IfErr result (IsSelectionError mode) }
+fn first_kept<'a>(current: Current<'_, 'a>, e: &'a Expr<'_>, kept: &mut Kept<'a>) -> TruthResult
+    ensures meant { is_condition (expression_view e.now) ≡ true
+        → TellsTruth current.entry (expression_view e.now) result }
+    ensures kept { is_condition (expression_view e.now) ≡ true → kept_part kept.old ≡ None
+        → KeepsNext current.entry (expression_view e.now ∷ []) kept.old kept.new result }
+    ensures errors { IfErr result (IsSelectionError current.entry.context.now.mode) }
 {
-    let (truth, part) = first_truth(alloc, mode, e, document, item)?;
+    let (truth, part) = first_truth(current, e)?;
     kept.add(part)?;
     Ok(truth)
 }
@@ -494,58 +408,40 @@ fn first_kept<'a>(
 /// Whether a comparison or `exists` is true of an item, with what is kept of it.
 #[cycle(steps)]
 #[inline(always)]
-fn later_truth<'a>(
-    alloc: Global,
-    mode: Mode,
-    e: &'a Expr<'_>,
-    part: &KeptPart<'a>,
-    document: Document<'a>,
-    item: Spot,
-) -> Result<Option<bool>, Error>
-    ensures meant { (top t : Tree) → is_condition (expression_view e.now) ≡ true → HasTree document.entry top
-        → IsAt document.entry item t → IsSame mode top part.now (expression_view e.now)
-        → Gives (λ b c. b ≡ c) IsOutOfMemory result (truth mode (expression_view e.now) top t) }
-    ensures errors { IfErr result (IsSelectionError mode) }
+fn later_truth<'a>(current: Current<'_, 'a>, e: &'a Expr<'_>, part: &KeptPart<'a>) -> TruthResult
+    ensures meant { is_condition (expression_view e.now) ≡ true
+        → TellsByPart current.entry (expression_view e.now) part.now result }
+    ensures errors { IfErr result (IsSelectionError current.entry.context.now.mode) }
 {
     match (part, e) {
         (KeptPart::Truth(truth), _) => Ok(*truth),
         (KeptPart::Right(rights), Expr::BinaryOp { op, left, .. }) => match member_steps(left) {
-            Some(steps) => {
-                member_truth(alloc, mode, *op, steps, rights.as_slice(), document, item)
-            }
-            None => later_values(alloc, mode, e, part, document, item),
+            Some(steps) => member_truth(current, *op, steps, rights.as_slice()),
+            None => later_values(current, e, part),
         },
-        _ => later_values(alloc, mode, e, part, document, item),
+        _ => later_values(current, e, part),
     }
 }
 
 /// The same by the lists of the operands' values.
 #[cycle(steps)]
 #[inline(never)]
-fn later_values<'a>(
-    alloc: Global,
-    mode: Mode,
-    e: &'a Expr<'_>,
-    part: &KeptPart<'a>,
-    document: Document<'a>,
-    item: Spot,
-) -> Result<Option<bool>, Error>
-    ensures meant { (top t : Tree) → is_condition (expression_view e.now) ≡ true → HasTree document.entry top
-        → IsAt document.entry item t → IsSame mode top part.now (expression_view e.now)
-        → Gives (λ b c. b ≡ c) IsOutOfMemory result (truth mode (expression_view e.now) top t) }
-    ensures errors { IfErr result (IsSelectionError mode) }
+fn later_values<'a>(current: Current<'_, 'a>, e: &'a Expr<'_>, part: &KeptPart<'a>) -> TruthResult
+    ensures meant { is_condition (expression_view e.now) ≡ true
+        → TellsByPart current.entry (expression_view e.now) part.now result }
+    ensures errors { IfErr result (IsSelectionError current.entry.context.now.mode) }
 {
     match (part, e) {
         (KeptPart::Left(lefts), Expr::BinaryOp { op, right, .. }) => {
-            let rights = operand_values(alloc, mode, right, document, item)?;
+            let rights = operand_values(current, right)?;
             Ok(compare(*op, lefts.as_slice(), rights.as_slice()))
         }
         (KeptPart::Right(rights), Expr::BinaryOp { op, left, .. }) => {
-            let lefts = operand_values(alloc, mode, left, document, item)?;
+            let lefts = operand_values(current, left)?;
             Ok(compare(*op, lefts.as_slice(), rights.as_slice()))
         }
         _ => {
-            let (truth, _) = first_truth(alloc, mode, e, document, item)?;
+            let (truth, _) = first_truth(current, e)?;
             Ok(truth)
         }
     }
@@ -555,27 +451,24 @@ fn later_values<'a>(
 #[cycle(steps)]
 #[inline(never)]
 fn first_truth<'a>(
-    alloc: Global,
-    mode: Mode,
+    current: Current<'_, 'a>,
     e: &'a Expr<'_>,
-    document: Document<'a>,
-    item: Spot,
 ) -> Result<(Option<bool>, KeptPart<'a>), Error>
-    ensures meant { (top t : Tree) → is_condition (expression_view e.now) ≡ true → HasTree document.entry top
-        → IsAt document.entry item t
-        → Gives (λ made c. (made.0 ≡ c) × IsSame mode top made.1 (expression_view e.now)) IsOutOfMemory result
-        (truth mode (expression_view e.now) top t) }
-    ensures errors { IfErr result (IsSelectionError mode) }
+    ensures meant { (top t : Tree) → is_condition (expression_view e.now) ≡ true
+        → HasTree current.entry.context.now.document top → IsAt current.entry.context.now.document current.entry.item t
+        → Gives (λ made c. (made.0 ≡ c) × IsSame current.entry.context.now.mode top made.1 (expression_view e.now))
+        IsOutOfMemory result (truth current.entry.context.now.mode (expression_view e.now) top t) }
+    ensures errors { IfErr result (IsSelectionError current.entry.context.now.mode) }
 {
     match e {
         Expr::BinaryOp { op, left, right } => {
-            let lefts = operand_values(alloc, mode, left, document, item)?;
-            let rights = operand_values(alloc, mode, right, document, item)?;
+            let lefts = operand_values(current, left)?;
+            let rights = operand_values(current, right)?;
             let truth = compare(*op, lefts.as_slice(), rights.as_slice());
             Ok((truth, comparison_part(left, right, lefts, rights, truth)))
         }
         Expr::ExistsFunc(steps) => {
-            let truth = exists_truth(alloc, mode, e, document, item)?;
+            let truth = exists_truth(current, e)?;
             Ok((truth, exists_part(steps, truth)))
         }
         Expr::Paths(_) | Expr::Value(_) | Expr::UnaryOp { .. } => Err(Error::InvalidJsonPath),
@@ -585,25 +478,18 @@ fn first_truth<'a>(
 /// Whether an `exists` is true of an item. Filters by `exists` behind names are no calls, however many they are.
 #[cycle(steps)]
 #[inline(never)]
-fn exists_truth<'a>(
-    alloc: Global,
-    mode: Mode,
-    e: &'a Expr<'_>,
-    document: Document<'a>,
-    item: Spot,
-) -> Result<Option<bool>, Error>
-    ensures meant { (top t : Tree) → is_exists (expression_view e.now) ≡ true → HasTree document.entry top
-        → IsAt document.entry item t
-        → Gives (λ b c. b ≡ c) IsOutOfMemory result (truth mode (expression_view e.now) top t) }
-    ensures errors { IfErr result (IsSelectionError mode) }
+fn exists_truth<'a>(current: Current<'_, 'a>, e: &'a Expr<'_>) -> TruthResult
+    ensures meant { is_exists (expression_view e.now) ≡ true → TellsTruth current.entry (expression_view e.now) result }
+    ensures errors { IfErr result (IsSelectionError current.entry.context.now.mode) }
 {
-    let Some(asked) = innermost(mode, e, document, item)? else {
+    let Current { context, item } = current;
+    let Some(asked) = innermost(context.mode, e, context.document, item)? else {
         return Ok(Some(false));
     };
     match asked.exists {
         Expr::ExistsFunc(steps) => {
-            let first = first_item(steps, document, asked.item);
-            let is_found = leads_to_any(alloc, mode, steps, document, first)?;
+            let first = first_item(steps, context.document, asked.item);
+            let is_found = leads_to_any(context, steps, first)?;
             Ok(Some(is_found))
         }
         _ => Err(Error::InvalidJsonPath),
@@ -614,22 +500,21 @@ fn exists_truth<'a>(
 #[cycle(steps)]
 #[inline(always)]
 fn leads_to_any<'a>(
-    alloc: Global,
-    mode: Mode,
+    context: &Context<'a>,
     steps: &'a [Path<'_>],
-    document: Document<'a>,
     first: Spot,
 ) -> Result<bool, Error>
-    ensures meant { (top t : Tree) → HasTree document.entry top → IsAt document.entry first t
+    ensures meant { (top t : Tree) → HasTree context.now.document top → IsAt context.now.document first t
         → Gives (λ b us. b ≡ is_some_item us) IsOutOfMemory result
-        (steps_meaning mode (steps_of (map (taken_step AreRefused) (steps_view steps.now))) top (t ∷ [])) }
-    ensures errors { IfErr result (IsSelectionError mode) }
+        (steps_meaning context.now.mode (steps_of (map (taken_step AreRefused) (steps_view steps.now)))
+        top (t ∷ [])) }
+    ensures errors { IfErr result (IsSelectionError context.now.mode) }
 {
     let all = Expressions::AreRefused;
-    match search(alloc, mode, all, steps, document, first)? {
+    match search(context, all, steps, first)? {
         Some(found) => Ok(found.is_some()),
         None => {
-            let found = select_steps(alloc, mode, all, steps, document, first)?;
+            let found = select_steps(context, all, steps, first)?;
             Ok(!found.as_slice().is_empty())
         }
     }
@@ -639,22 +524,21 @@ fn leads_to_any<'a>(
 #[cycle(steps)]
 #[inline(never)]
 pub(crate) fn operand_values<'a>(
-    alloc: Global,
-    mode: Mode,
+    current: Current<'_, 'a>,
     e: &'a Expr<'_>,
-    document: Document<'a>,
-    item: Spot,
 ) -> Result<Atoms<'a>, Error>
-    ensures meant { (top t : Tree) → HasTree document.entry top → IsAt document.entry item t
+    ensures meant { (top t : Tree) → HasTree current.entry.context.now.document top
+        → IsAt current.entry.context.now.document current.entry.item t
         → Gives (λ values vs. atoms_view values ≡ vs) IsOutOfMemory result
-        (operand_values mode (expression_view e.now) top t) }
-    ensures errors { IfErr result (IsSelectionError mode) }
+        (operand_values current.entry.context.now.mode (expression_view e.now) top t) }
+    ensures errors { IfErr result (IsSelectionError current.entry.context.now.mode) }
 {
+    let Current { context, item } = current;
     match e {
         Expr::Paths(steps) => {
-            let first = first_item(steps, document, item);
-            let found = select_steps(alloc, mode, Expressions::AreRefused, steps, document, first)?;
-            found_values(alloc, document.bytes, found)
+            let first = first_item(steps, context.document, item);
+            let found = select_steps(context, Expressions::AreRefused, steps, first)?;
+            found_values(context.alloc, context.document.bytes, found)
         }
         Expr::Value(literal) => Ok(Atoms::One(literal_atom(literal))),
         Expr::BinaryOp { .. } | Expr::UnaryOp { .. } | Expr::ExistsFunc(_) => Err(

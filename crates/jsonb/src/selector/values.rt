@@ -7,7 +7,7 @@ ghost use Rattle.jsonb_doc.specs.Spots.{Locates, HasSpotsLeft};
 ghost use Rattle.jsonb_doc.specs.Payload.{any};
 ghost use Rattle.jsonb_doc.specs.Item.{StandsFor};
 ghost use Rattle.jsonb_doc.specs.Tree.{Tree};
-ghost use Rattle.jsonb.specs.Related.{AllRelated};
+ghost use Rattle.std.specs.List.{AllZip};
 ghost use Rattle.jsonb.specs.Values.{values_of_item, value_of_item};
 ghost use Rattle.jsonb.specs.Private.Selection.{node_spots, atom_value, atoms_view};
 
@@ -24,7 +24,7 @@ pub(crate) fn found_values<'a>(
     bytes: &'a [u8],
     items: NodeList,
 ) -> Result<Atoms<'a>, Error>
-    ensures meant { (ts : List Tree) → AllRelated (Locates bytes.now) (node_spots items) ts
+    ensures meant { (ts : List Tree) → AllZip (Locates bytes.now) (node_spots items) ts
         → Gives (λ values vs. atoms_view values ≡ vs) IsOutOfMemory result (Ok (flat_map values_of_item ts)) }
     ensures errors { IfErr result (IsDecodingError or OutOfMemory) }
 {
@@ -36,7 +36,7 @@ pub(crate) fn found_values<'a>(
 
 /// The values of many items.
 fn many_values<'a>(alloc: Global, bytes: &'a [u8], items: &[Spot]) -> Result<Atoms<'a>, Error>
-    ensures meant { (ts : List Tree) → AllRelated (Locates bytes.now) items.now ts
+    ensures meant { (ts : List Tree) → AllZip (Locates bytes.now) items.now ts
         → Gives (λ values vs. atoms_view values ≡ vs) IsOutOfMemory result (Ok (flat_map values_of_item ts)) }
     ensures errors { IfErr result (IsDecodingError or OutOfMemory) }
 {

@@ -7,7 +7,7 @@ ghost use Rattle.jsonb_doc.specs.Payload.{Form};
 ghost use Rattle.jsonb_doc.specs.Tree.{Tree};
 ghost use Rattle.jsonb.specs.PathTree.{whole_expression, value};
 ghost use Rattle.jsonb.specs.PathViews.{step_view, steps_view, expression_view, literal_view, operator_view, sign_view};
-ghost use Rattle.jsonb.specs.Related.{AllRelated};
+ghost use Rattle.std.specs.List.{AllZip};
 ghost use Rattle.jsonb.specs.PathArithmetic.{operation, each_signed};
 ghost use Rattle.jsonb.specs.Meaning.{operand_values, truth, Means, truth_item, truth_list, calculation, expression_predicate};
 ghost use Rattle.jsonb.specs.Private.Search.{BeginsAs};
@@ -19,7 +19,7 @@ ghost use Rattle.jsonb.specs.SelectionErrors.{IsSelectionError};
 
 use super::calculate::{binary_number, is_arithmetic, unary_numbers};
 use super::compared_lists::root_truth;
-use super::document::{Document, Expressions, Mode};
+use super::document::{Context, Current, Expressions, TruthResult};
 use super::kept::begins_with_current;
 use super::members::first_item;
 use super::node_list::NodeList;
@@ -29,52 +29,41 @@ use super::signed_items::signed_items;
 use super::steps::{operand_values, select_steps};
 use crate::path::{BinaryOperator, Expr, Path, PathValue, UnaryOperator};
 use jsonb_doc::{Error, Item, Number, root_item};
-use std::alloc::Global;
 
 /// What a path selects.
 pub(crate) fn selection<'a>(
-    alloc: Global,
-    mode: Mode,
+    context: &Context<'a>,
     steps: &'a [Path<'_>],
-    document: Document<'a>,
 ) -> Result<Selected<'a>, Error>
-    ensures meant { GivesMeant AreSelected document.entry mode (steps_view steps.now) result }
-    ensures errors { IfErr result (IsSelectionError mode) }
+    ensures meant { GivesMeant AreSelected context.now.document context.now.mode (steps_view steps.now) result }
+    ensures errors { IfErr result (IsSelectionError context.now.mode) }
 {
     if let Some(e) = only_expression(steps) {
-        return expression_parts(alloc, mode, e, document);
+        return expression_parts(context, e);
     }
     if begins_with_current(steps) {
         return Err(Error::InvalidJsonPath);
     }
-    let spots = select_steps(
-        alloc,
-        mode,
-        Expressions::AreFilters,
-        steps,
-        document,
-        document.root,
-    )?;
+    let all = Expressions::AreFilters;
+    let spots = select_steps(context, all, steps, context.document.root)?;
     Ok(Selected::Nodes(spots))
 }
 
 /// What a path selects, for a caller who asks for the first item alone: in lax mode others may be left out.
 pub(crate) fn first_selection<'a>(
-    alloc: Global,
-    mode: Mode,
+    context: &Context<'a>,
     steps: &'a [Path<'_>],
-    document: Document<'a>,
 ) -> Result<Selected<'a>, Error>
-    ensures meant { GivesMeant BeginsAs document.entry mode (steps_view steps.now) result }
-    ensures errors { IfErr result (IsSelectionError mode) }
+    ensures meant { GivesMeant BeginsAs context.now.document context.now.mode (steps_view steps.now) result }
+    ensures errors { IfErr result (IsSelectionError context.now.mode) }
 {
     if only_expression(steps).is_some() || begins_with_current(steps) {
-        return selection(alloc, mode, steps, document);
+        return selection(context, steps);
     }
     let all = Expressions::AreFilters;
-    match search(alloc, mode, all, steps, document, document.root)? {
-        Some(first) => Ok(Selected::Nodes(NodeList::at_most_one(alloc, first))),
-        None => selection(alloc, mode, steps, document),
+    match search(context, all, steps, context.document.root)? {
+        Some(first) => Ok(Selected::Nodes(NodeList::at_most_one(context.alloc, first))),
+        None => selection(context, steps),
     }
 }
 
@@ -102,31 +91,27 @@ fn step_expression<'s, 'a>(step: &'s Path<'a>) -> Option<&'s Expr<'a>>
 }
 
 /// What an expression makes that is the whole path.
-fn expression_parts<'a>(
-    alloc: Global,
-    mode: Mode,
-    e: &'a Expr<'_>,
-    document: Document<'a>,
-) -> Result<Selected<'a>, Error>
-    ensures meant { GivesMeant AreSelected document.entry mode (whole_expression (expression_view e.now) ∷ []) result }
-    ensures errors { IfErr result (IsSelectionError mode) }
+fn expression_parts<'a>(context: &Context<'a>, e: &'a Expr<'_>) -> Result<Selected<'a>, Error>
+    ensures meant { GivesMeant AreSelected context.now.document context.now.mode
+        (whole_expression (expression_view e.now) ∷ []) result }
+    ensures errors { IfErr result (IsSelectionError context.now.mode) }
 {
     match e {
         Expr::Paths(_) => Err(Error::InvalidJsonPath),
         Expr::Value(value) => literal_parts(value),
         Expr::UnaryOp { op, operand } => {
-            let numbers = whole_unary(alloc, mode, *op, operand, document)?;
+            let numbers = whole_unary(context, *op, operand)?;
             Ok(Selected::Numbers(numbers))
         }
         Expr::BinaryOp { op, left, right } => {
             if is_arithmetic(*op) {
-                let number = whole_binary(alloc, mode, *op, left, right, document)?;
+                let number = whole_binary(context, *op, left, right)?;
                 Ok(one_item(MadeItem::Item(Item::Number(number))))
             } else {
-                whole_truth(alloc, mode, e, document)
+                whole_truth(context, e)
             }
         }
-        Expr::ExistsFunc(_) => whole_truth(alloc, mode, e, document),
+        Expr::ExistsFunc(_) => whole_truth(context, e),
     }
 }
 
@@ -151,25 +136,30 @@ fn literal_parts<'a>(literal: &'a PathValue<'_>) -> Result<Selected<'a>, Error>
 
 /// The signed numbers of an operand.
 fn whole_unary<'a>(
-    alloc: Global,
-    mode: Mode,
+    context: &Context<'a>,
     op: UnaryOperator,
     operand: &'a Expr<'_>,
-    document: Document<'a>,
 ) -> Result<Vec<Number>, Error>
-    ensures meant { (top : Tree) → HasTree document.entry top
-        → Gives (λ v ts. AllRelated IsNumberItem v.items ts) IsOutOfMemory result
-        (and_then (operand_values mode (expression_view operand.now) top top) (each_signed (sign_view op))) }
-    ensures errors { IfErr result (IsSelectionError mode) }
+    ensures meant { (top : Tree) → HasTree context.now.document top
+        → Gives (λ v ts. AllZip IsNumberItem v.items ts) IsOutOfMemory result
+        (and_then (operand_values context.now.mode (expression_view operand.now) top top)
+        (each_signed (sign_view op))) }
+    ensures errors { IfErr result (IsSelectionError context.now.mode) }
 {
+    let Context {
+        alloc,
+        document,
+        ..
+    } = *context;
     match operand {
         Expr::Paths(steps) => {
             let first = first_item(steps, document, document.root);
-            let found = select_steps(alloc, mode, Expressions::AreRefused, steps, document, first)?;
+            let found = select_steps(context, Expressions::AreRefused, steps, first)?;
             signed_items(alloc, op, document.bytes, found.as_slice())
         }
         Expr::Value(_) | Expr::BinaryOp { .. } | Expr::UnaryOp { .. } | Expr::ExistsFunc(_) => {
-            let values = operand_values(alloc, mode, operand, document, document.root)?;
+            let item = document.root;
+            let values = operand_values(Current { context, item }, operand)?;
             unary_numbers(alloc, op, values.as_slice())
         }
     }
@@ -177,37 +167,31 @@ fn whole_unary<'a>(
 
 /// The number of two operands, the values of both taken first.
 fn whole_binary<'a>(
-    alloc: Global,
-    mode: Mode,
+    context: &Context<'a>,
     op: BinaryOperator,
     left: &'a Expr<'_>,
     right: &'a Expr<'_>,
-    document: Document<'a>,
 ) -> Result<Number, Error>
-    ensures meant { (top : Tree) (o : Operation) → HasTree document.entry top → operation (operator_view op) ≡ Some o
-        → Gives IsNumberTree IsOutOfMemory result
-        (calculation o (operand_values mode (expression_view left.now) top top)
-        (operand_values mode (expression_view right.now) top top)) }
-    ensures errors { IfErr result (IsSelectionError mode) }
+    ensures meant { (top : Tree) (o : Operation) → HasTree context.now.document top
+        → operation (operator_view op) ≡ Some o → Gives IsNumberTree IsOutOfMemory result
+        (calculation o (operand_values context.now.mode (expression_view left.now) top top)
+        (operand_values context.now.mode (expression_view right.now) top top)) }
+    ensures errors { IfErr result (IsSelectionError context.now.mode) }
 {
-    let lefts = operand_values(alloc, mode, left, document, document.root)?;
-    let rights = operand_values(alloc, mode, right, document, document.root)?;
+    let item = context.document.root;
+    let lefts = operand_values(Current { context, item }, left)?;
+    let rights = operand_values(Current { context, item }, right)?;
     binary_number(op, lefts.as_slice(), rights.as_slice())
 }
 
 /// A comparison, `&&`, `||` or `exists`: its truth.
-fn whole_truth<'a>(
-    alloc: Global,
-    mode: Mode,
-    e: &'a Expr<'_>,
-    document: Document<'a>,
-) -> Result<Selected<'a>, Error>
-    ensures meant { (form : Form) (top : Tree) → HasTree document.entry top
-        → Gives (AreSelected form document.entry) IsOutOfMemory result
-        (truth_list (truth mode (expression_view e.now) top top)) }
-    ensures errors { IfErr result (IsSelectionError mode) }
+fn whole_truth<'a>(context: &Context<'a>, e: &'a Expr<'_>) -> Result<Selected<'a>, Error>
+    ensures meant { (form : Form) (top : Tree) → HasTree context.now.document top
+        → Gives (AreSelected form context.now.document) IsOutOfMemory result
+        (truth_list (truth context.now.mode (expression_view e.now) top top)) }
+    ensures errors { IfErr result (IsSelectionError context.now.mode) }
 {
-    let truth = root_truth(alloc, mode, e, document)?;
+    let truth = root_truth(context, e)?;
     Ok(one_item(MadeItem::Item(truth_item(truth))))
 }
 
@@ -229,31 +213,27 @@ fn one_item<'a>(part: MadeItem<'a>) -> Selected<'a>
 }
 
 /// What an expression says as a predicate.
-pub(crate) fn expression_truth<'a>(
-    alloc: Global,
-    mode: Mode,
-    e: &'a Expr<'_>,
-    document: Document<'a>,
-) -> Result<Option<bool>, Error>
-    ensures meant { (top : Tree) → HasTree document.entry top
-        → Gives (λ b c. b ≡ c) IsOutOfMemory result (expression_predicate mode (expression_view e.now) top) }
-    ensures errors { IfErr result (IsSelectionError mode) }
+pub(crate) fn expression_truth<'a>(context: &Context<'a>, e: &'a Expr<'_>) -> TruthResult
+    ensures meant { (top : Tree) → HasTree context.now.document top
+        → Gives (λ b c. b ≡ c) IsOutOfMemory result
+        (expression_predicate context.now.mode (expression_view e.now) top) }
+    ensures errors { IfErr result (IsSelectionError context.now.mode) }
 {
     match e {
         Expr::Paths(_) => Err(Error::InvalidJsonPath),
         Expr::Value(_) => Ok(None),
         Expr::UnaryOp { op, operand } => {
-            let _numbers = whole_unary(alloc, mode, *op, operand, document)?;
+            let _numbers = whole_unary(context, *op, operand)?;
             Ok(None)
         }
         Expr::BinaryOp { op, left, right } => {
             if is_arithmetic(*op) {
-                let _number = whole_binary(alloc, mode, *op, left, right, document)?;
+                let _number = whole_binary(context, *op, left, right)?;
                 Ok(None)
             } else {
-                root_truth(alloc, mode, e, document)
+                root_truth(context, e)
             }
         }
-        Expr::ExistsFunc(_) => root_truth(alloc, mode, e, document),
+        Expr::ExistsFunc(_) => root_truth(context, e),
     }
 }

@@ -8,14 +8,14 @@ use Rattle.jsonb.proofs.parser.condition.behind_condition.Goals as goal
 pub returns-in-Some-clause-value : goal.returns-in-Some-clause-value
 unfolding joining_outcome
 returns-in-Some-clause-value c =
-    and-goes c.args.level (expression_view c.args.found) (record { left = c.in_ok-new.field-0; before = c.args.rest }) c.in-Some.after.now
-    (ap expression_view c.in_ok-new.ensures.ok ∙ c.in_ok-found.ensures) (sym c.in-Some.ensures.value)
+    and-goes c.args.level (expression_view c.args.found) (record { left = c.in_ok-left.left; before = c.args.rest }) c.in-Some.after.now
+    (ap expression_view c.in_ok-left.ensures.ok ∙ c.in_ok-found.ensures) (sym c.in-Some.ensures.value)
 
 pub returns-in-Some-separator_at-clause-value : goal.returns-in-Some-separator_at-clause-value
 unfolding joining_outcome
 returns-in-Some-separator_at-clause-value c =
-    or-goes c.args.level (expression_view c.args.found) (record { left = c.in_ok-new-2.field-0; before = c.args.rest }) c.in-Some-separator_at.after.now
-    (ap expression_view c.in_ok-new-2.ensures.ok ∙ c.in_ok-found-2.ensures ∙ ap (joined_view or_op c.args.level.any) c.in_ok-found.ensures)
+    or-goes c.args.level (expression_view c.args.found) (record { left = c.in_ok-left-2.left; before = c.args.rest }) c.in-Some-separator_at.after.now
+    (ap expression_view c.in_ok-left-2.ensures.ok ∙ c.in_ok-found-2.ensures ∙ ap (joined_view or_op c.args.level.any) c.in_ok-found.ensures)
     (sym c.in_default.ensures.value) (sym c.in-Some-separator_at.ensures.value)
 
 pub returns-clause-value : goal.returns-clause-value

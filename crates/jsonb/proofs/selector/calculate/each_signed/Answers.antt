@@ -1,7 +1,7 @@
 use Rattle.std.proofs.Common.{[], map, refl}
 use Rattle.std.proofs.lemmas.Result.{err_from_is_err_and}
 use Rattle.jsonb.specs.PathViews.{sign_view}
-use Rattle.jsonb.specs.Related.{AllRelated}
+use Rattle.std.specs.List.{AllZip}
 use Rattle.jsonb.specs.Private.Selection.{atom_value, signed_value, IsNumberItem}
 use Rattle.jsonb.proofs.GivesLemmas.{Is, related_of_map}
 use Rattle.jsonb.proofs.Progress.{at_start, one_more, refused_in, at_end, list_first, list_end}
@@ -11,7 +11,7 @@ use Rattle.jsonb.proofs.selector.calculate.each_signed.Goals as goal
 pub loop-value-init : goal.loop-value-init
 loop-value-init c =
     rw c.in_ok-numbers.ensures.items
-    (at_start (signed_value (sign_view c.args.op)) (AllRelated (Is atom_value) c.args.values.now) (AllRelated IsNumberItem [])
+    (at_start (signed_value (sign_view c.args.op)) (AllZip (Is atom_value) c.args.values.now) (AllZip IsNumberItem [])
     (map atom_value c.args.values.now)
     (related_of_map atom_value c.args.values.now (map atom_value c.args.values.now) refl) tt)
 
@@ -19,8 +19,8 @@ pub returns-in_err-signed_value-clause-meant : goal.returns-in_err-signed_value-
 returns-in_err-signed_value-clause-meant c =
     let p = err_from_is_err_and c.from_residual-in_err-signed_value.result c.from_residual-in_err-signed_value.ensures.1 in
     rw (p.1, p.2)
-    (refused_in (signed_value (sign_view c.args.op)) (λ v ts. AllRelated IsNumberItem v.items ts) _ _ _
-    (AllRelated IsNumberItem c.loop-value.numbers.items) _ _ _ c.loop-value.invariant
+    (refused_in (signed_value (sign_view c.args.op)) (λ v ts. AllZip IsNumberItem v.items ts) _ _ _
+    (AllZip IsNumberItem c.loop-value.numbers.items) _ _ _ c.loop-value.invariant
     (list_first (Is atom_value) c.args.values.now c.loop-value.value-index _ c.loop-value-test.true)
     (λ v before is held. record { ok = tt; err = rw (← is) ((as_memory c.in_err-signed_value.ensures.meant).err) }))
 

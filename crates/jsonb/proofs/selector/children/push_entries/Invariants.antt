@@ -2,13 +2,13 @@ use Rattle.std.proofs.Common.{◌≡◌, ℕ, ◌++◌, map, List, drop}
 use Rattle.jsonb_doc.specs.Spots.{Locates}
 use Rattle.jsonb_doc.specs.Tree.{Tree}
 use Rattle.jsonb.specs.PathViews.{entry_view}
-use Rattle.jsonb.specs.Related.{AllRelated}
+use Rattle.std.specs.List.{AllZip}
 use Rattle.jsonb.specs.ItemSteps.{picked}
 use Rattle.jsonb.proofs.selector.children.push_entries.Given as goal
 
 -- what the entries so far picked, and what those that are left pick, is what all pick
 abbrev pub invariant-loop-entry : goal.invariant-loop-entry
 invariant-loop-entry l =
-    (bytes : List ℕ) (ts before : List Tree) → AllRelated (Locates bytes) l.elements ts → AllRelated (Locates bytes) l.fn.nodes.items before →
-    (given : List Tree) × AllRelated (Locates bytes) l.nodes.items given
+    (bytes : List ℕ) (ts before : List Tree) → AllZip (Locates bytes) l.elements ts → AllZip (Locates bytes) l.fn.nodes.items before →
+    (given : List Tree) × AllZip (Locates bytes) l.nodes.items given
     × (before ++ picked (map entry_view l.entries) ts ≡ given ++ picked (map entry_view (drop l.entry-index l.entries)) ts)

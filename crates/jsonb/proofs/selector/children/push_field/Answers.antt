@@ -1,7 +1,7 @@
 use Rattle.std.proofs.Common.{[], ◌∷◌}
 use Rattle.jsonb_doc.specs.Spots.{Locates}
 use Rattle.jsonb_doc.specs.Tree.{field_of}
-use Rattle.jsonb.proofs.GivesLemmas.{found_one, pushed}
+use Rattle.jsonb.proofs.GivesLemmas.{found_one, none_found, misfits, same_answer, pushed}
 use Rattle.jsonb.proofs.selector.children.push_field.Goals as goal
 
 pub returns-in_err-value-clause-meant : goal.returns-in_err-value-clause-meant
@@ -14,3 +14,8 @@ returns-in-Some-clause-meant c = λ t before m a.
     (λ u h. pushed
     (Locates c.args.bytes.now) c.push_spot.result c.args.nodes.now.items c.push_spot.new.nodes.items c.in-Some.value
     before u c.push_spot.ensures.ok c.push_spot.ensures.err a h)
+
+pub returns-in-None-clause-meant : goal.returns-in-None-clause-meant
+returns-in-None-clause-meant c = λ t before m a.
+    none_found c.args.mode [] (Locates c.args.bytes.now) (λ u. u ∷ []) (field_of c.args.name.now t) (rw c.in-None.is at (c.in_ok-value.ensures.field t m))
+    (same_answer c.misfit.ensures.answer (misfits c.args.mode (Locates c.args.bytes.now) c.args.nodes.now.items before a))

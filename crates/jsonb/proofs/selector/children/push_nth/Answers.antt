@@ -1,8 +1,7 @@
 use Rattle.std.proofs.Common.{[], Ok, ap, sym, ◌∙◌, refl, subst}
-use Rattle.std.specs.List.{cons_option}
+use Rattle.std.specs.List.{cons_option, AllZip}
 use Rattle.jsonb_doc.specs.Spots.{Locates, HasSpotsLeft}
 use Rattle.jsonb_doc.proofs.SpotsTaken.{no_refusal}
-use Rattle.jsonb.specs.Related.{AllRelated}
 use Rattle.jsonb.proofs.GivesLemmas.{pushed, unchanged, same_outcome}
 use Rattle.jsonb.proofs.Progress.{spot_first, spot_end}
 use Rattle.jsonb.proofs.PickLemmas.{get_first, get_further, get_none}
@@ -25,7 +24,7 @@ returns-then-before-eq0-clause-meant c = λ bytes ts before h a.
     let k = spot_first bytes c.loop-element.element-iterator c.next.new.self c.in-Some.element _ c.in_ok-element.was c.in-Some.ensures.steps inv.0 inv.1 in
     same_outcome (ap (λ o. Ok (cons_option o [])) (sym inv.2 ∙ get_first inv.0 k.first k.others c.loop-element.before k.whole c.if-before-eq0.true))
     (pushed (Locates bytes) c.push_spot.result _ c.push_spot.new.nodes.items _ before k.first c.push_spot.ensures.ok c.push_spot.ensures.err
-    (subst (λ l. AllRelated (Locates bytes) l before) (sym c.loop-element.invariant.same) a) k.holds)
+    (subst (λ l. AllZip (Locates bytes) l before) (sym c.loop-element.invariant.same) a) k.holds)
 
 pub loop-element-preserved : goal.loop-element-preserved
 loop-element-preserved c = record {
@@ -41,4 +40,4 @@ returns-clause-meant c = λ bytes ts before h a.
     let inv = c.loop-element.invariant.left bytes ts h in
     let none = spot_end bytes c.loop-element.element-iterator c.next.new.self c.in-None.ensures.steps inv.0 inv.1 in
     same_outcome (ap (λ o. Ok (cons_option o [])) (sym inv.2 ∙ get_none inv.0 c.loop-element.before none))
-    (unchanged (Locates bytes) c.loop-element.nodes.items before (subst (λ l. AllRelated (Locates bytes) l before) (sym c.loop-element.invariant.same) a))
+    (unchanged (Locates bytes) c.loop-element.nodes.items before (subst (λ l. AllZip (Locates bytes) l before) (sym c.loop-element.invariant.same) a))

@@ -1,9 +1,9 @@
 use Rattle.std.proofs.Common.{[], map}
-use Rattle.jsonb_doc.specs.Spots.{HasSpotsLeft}
+use Rattle.jsonb_doc.specs.Spots.{Locates, HasSpotsLeft}
 use Rattle.jsonb_raw.specs.Arrays.{array_values}
 use Rattle.jsonb.specs.PathViews.{entry_view}
 use Rattle.jsonb.specs.ItemSteps.{picked}
-use Rattle.jsonb.proofs.GivesLemmas.{listed}
+use Rattle.jsonb.proofs.GivesLemmas.{listed, none_found, misfits, same_answer}
 use Rattle.jsonb.proofs.selector.children.push_positions.Goals as goal
 
 pub returns-in_err-elements-clause-meant : goal.returns-in_err-elements-clause-meant
@@ -14,3 +14,9 @@ returns-in-Some-clause-meant c = λ t before m a.
     listed c.args.mode [] (HasSpotsLeft c.args.bytes.now) (picked (map entry_view c.args.entries.now)) c.in-Some.elements (array_values t)
     (rw c.in-Some.is at (c.in_ok-elements.ensures.meant t m))
     (λ us h. c.push_picked.ensures.meant c.args.bytes.now us before h a)
+
+pub returns-in-None-clause-meant : goal.returns-in-None-clause-meant
+returns-in-None-clause-meant c = λ t before m a.
+    none_found c.args.mode [] (HasSpotsLeft c.args.bytes.now) (picked (map entry_view c.args.entries.now)) (array_values t)
+    (rw c.in-None.is at (c.in_ok-elements.ensures.meant t m))
+    (same_answer c.misfit.ensures.answer (misfits c.args.mode (Locates c.args.bytes.now) c.args.nodes.now.items before a))

@@ -3,7 +3,7 @@ use Rattle.jsonb_doc.specs.Answer.{try_flat_map}
 use Rattle.jsonb_doc.specs.Spots.{Locates}
 use Rattle.jsonb_doc.specs.Tree.{Tree}
 use Rattle.jsonb.specs.PathTree.{Expression, filter}
-use Rattle.jsonb.specs.Related.{AllRelated}
+use Rattle.std.specs.List.{AllZip}
 use Rattle.jsonb.specs.Private.Compared.{IsMemberCompared}
 use Rattle.jsonb.specs.Meaning.{step_meaning}
 use Rattle.jsonb.proofs.Progress.{SpotsPassed}
@@ -11,5 +11,5 @@ use Rattle.jsonb.proofs.selector.compared_items.compared_items.Given as goal
 
 abbrev pub invariant-loop-item : goal.invariant-loop-item
 invariant-loop-item l =
-    (e : Expression) (top : Tree) (ts : List Tree) → IsMemberCompared l.comparison e → AllRelated (Locates l.bytes) l.items ts →
+    (e : Expression) (top : Tree) (ts : List Tree) → IsMemberCompared l.comparison e → AllZip (Locates l.bytes) l.items ts →
     SpotsPassed (step_meaning l.mode (filter e) top) l.bytes l.items ts l.item-index l.nodes.items

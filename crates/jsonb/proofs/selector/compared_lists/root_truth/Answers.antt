@@ -8,3 +8,6 @@ pub returns-in-Lax-Some-clause-meant : goal.returns-in-Lax-Some-clause-meant
 returns-in-Lax-Some-clause-meant c = λ top r.
     same_outcome (ap (λ mode. truth mode (expression_view c.args.e.now) top top) c.in-Lax-Some.is-0)
     (c.list_compared_truth.ensures.meant (expression_view c.args.e.now) top c.in-Lax-Some.ensures r)
+
+pub returns-in_default-clause-meant : goal.returns-in_default-clause-meant
+returns-in_default-clause-meant c = λ top r. c.truth.ensures.meant top top r r

@@ -23,7 +23,7 @@ returns-in_err-member-clause-meant c = λ top u all r s.
     same_answer (p.1 ∙ ap Err p.2) (same_outcome
     (joined _ (flat_map values_of_item) compares
     ∙ ap (λ o. and_then o (λ ts. compares (flat_map values_of_item ts)))
-    (from_start c.args.mode c.args.steps.now c.args.steps.now c.args.steps.now top u refl refl))
+    (from_start c.args.current.context.now.mode c.args.steps.now c.args.steps.now c.args.steps.now top u refl refl))
     (first_refused (λ (ts : List Tree). compares (flat_map values_of_item ts))
     (c.in_err-member.ensures.meant AreRefused top _ all (c.first_item-first.ensures top u r s))))
 
@@ -34,7 +34,7 @@ returns-clause-meant c = λ top u all r s.
     same_outcome
     (joined _ (flat_map values_of_item) compares
     ∙ ap (λ o. and_then o (λ ts. compares (flat_map values_of_item ts)))
-    (from_start c.args.mode c.args.steps.now c.args.steps.now c.args.steps.now top u refl refl))
+    (from_start c.args.current.context.now.mode c.args.steps.now c.args.steps.now c.args.steps.now top u refl refl))
     (followed (λ (ts : List Tree). compares (flat_map values_of_item ts))
     (c.in_ok-member.ensures.meant AreRefused top _ all (c.first_item-first.ensures top u r s))
     (λ ts related. c.compared.ensures.meant ts related))

@@ -3,7 +3,7 @@ use Rattle.std.specs.Prelude.{reverse}
 use Rattle.std.proofs.lemmas.List.{reverse-append}
 use Rattle.jsonb.specs.PathTree.{binary}
 use Rattle.jsonb.specs.PathViews.{expression_view}
-use Rattle.jsonb.specs.Related.{AllRelated}
+use Rattle.std.specs.List.{AllZip}
 use Rattle.jsonb.specs.Meaning.{truth}
 use Rattle.jsonb.specs.Private.Compared.{IsMemberCompared, joint_truth}
 use Rattle.jsonb.specs.Private.Terms.{joining_op}
@@ -16,7 +16,7 @@ loop-last-init c = record {
   join = refl;
   meant = (
     [],
-    subst (λ l. AllRelated IsMemberCompared l []) (sym c.new-comparisons.ensures.items) tt,
+    subst (λ l. AllZip IsMemberCompared l []) (sym c.new-comparisons.ensures.items) tt,
     λ mode top t. sym (both-right c.in-Some.pair.join (truth mode (expression_view c.args.e.now) top t)),
   );
 }
@@ -32,7 +32,7 @@ loop-last-preserved c =
       join = last.0 ∙ same;
       meant = (
         inv.0 ++ last.1 ∷ [],
-        subst (λ l. AllRelated IsMemberCompared l (inv.0 ++ last.1 ∷ [])) (sym c.in_ok-push.ensures.items)
+        subst (λ l. AllZip IsMemberCompared l (inv.0 ++ last.1 ∷ [])) (sym c.in_ok-push.ensures.items)
             (related_more IsMemberCompared c.loop-last.comparisons.items inv.0 c.in-Some-last_compared.last.comparison last.1 inv.1 last.3),
         λ mode top t.
             let behind = joint_truth join mode (reverse inv.0) top t in
@@ -49,7 +49,7 @@ returns-clause-compared c =
     let inv = c.loop-last.invariant.meant in
     record {
       parts = expression_view c.loop-last.front.e.now ∷ reverse inv.0;
-      compared = subst (λ l. AllRelated IsMemberCompared l (expression_view c.loop-last.front.e.now ∷ reverse inv.0))
+      compared = subst (λ l. AllZip IsMemberCompared l (expression_view c.loop-last.front.e.now ∷ reverse inv.0))
           (sym (c.reverse.ensures.items ∙ ap reverse c.in_ok-push-2.ensures.items
           ∙ reverse-append c.loop-last.comparisons.items (c.in-Some-member_compared.comparison ∷ [])))
           (c.in-Some-member_compared.ensures, related_reverse IsMemberCompared c.loop-last.comparisons.items inv.0 inv.1);

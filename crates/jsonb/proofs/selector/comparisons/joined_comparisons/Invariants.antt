@@ -3,7 +3,7 @@ use Rattle.std.specs.Prelude.{reverse}
 use Rattle.jsonb_doc.specs.Tree.{Tree}
 use Rattle.jsonb.specs.PathTree.{Expression}
 use Rattle.jsonb.specs.PathViews.{expression_view}
-use Rattle.jsonb.specs.Related.{AllRelated}
+use Rattle.std.specs.List.{AllZip}
 use Rattle.jsonb.specs.Meaning.{truth}
 use Rattle.jsonb.specs.Private.Compared.{IsMemberCompared, joint_truth}
 use Rattle.jsonb.specs.declared.path.Expr.{size-Expr}
@@ -15,7 +15,7 @@ use Rattle.jsonb.proofs.selector.comparisons.joined_comparisons.Given as goal
 abbrev pub invariant-loop-last : goal.invariant-loop-last
 invariant-loop-last l = record {
   join : l.front.join ≡ l.join;
-  meant : (parts : List Expression) × AllRelated IsMemberCompared l.comparisons.items parts
+  meant : (parts : List Expression) × AllZip IsMemberCompared l.comparisons.items parts
       × ((mode : Mode) (top t : Tree) → truth mode (expression_view l.e) top t
       ≡ both l.join (truth mode (expression_view l.front.e.now) top t) (joint_truth l.join mode (reverse parts) top t));
 }

@@ -2,7 +2,7 @@ use Rattle.std.proofs.Common.{◌≡◌, List, Ok, drop}
 use Rattle.jsonb_doc.specs.Spots.{Locates}
 use Rattle.jsonb_doc.specs.Tree.{Tree}
 use Rattle.jsonb.specs.PathTree.{Expression}
-use Rattle.jsonb.specs.Related.{AllRelated}
+use Rattle.std.specs.List.{AllZip}
 use Rattle.jsonb.specs.Meaning.{truth}
 use Rattle.jsonb.specs.Private.Compared.{IsMemberCompared, AreCompared, joint_truth}
 use Rattle.jsonb.proofs.ComparedLemmas.{both}
@@ -12,5 +12,5 @@ use Rattle.jsonb.proofs.selector.comparisons.joint_truth.Given as goal
 abbrev pub invariant-loop-comparison : goal.invariant-loop-comparison
 invariant-loop-comparison l =
     (e : Expression) (top t : Tree) → AreCompared l.join l.comparisons e → Locates l.bytes l.item t →
-    (rest : List Expression) × AllRelated IsMemberCompared (drop l.comparison-index l.comparisons) rest
+    (rest : List Expression) × AllZip IsMemberCompared (drop l.comparison-index l.comparisons) rest
     × (truth l.mode e top t ≡ both l.join (Ok l.all) (joint_truth l.join l.mode rest top t))

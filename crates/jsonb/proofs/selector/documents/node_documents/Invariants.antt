@@ -4,9 +4,8 @@ use Rattle.jsonb_doc.specs.Format.{Decodes}
 use Rattle.jsonb_doc.specs.Payload.{Form}
 use Rattle.jsonb_doc.specs.Spots.{Locates}
 use Rattle.jsonb_doc.specs.Tree.{Tree}
-use Rattle.jsonb.specs.Related.{AllRelated}
 use Rattle.jsonb.proofs.selector.documents.node_documents.Given as goal
 
 abbrev pub invariant-loop-spot : goal.invariant-loop-spot
-invariant-loop-spot l = (form : Form) (top : Tree) (ts : List Tree) → Decodes form l.bytes top → AllRelated (Locates l.bytes) l.spots ts
+invariant-loop-spot l = (form : Form) (top : Tree) (ts : List Tree) → Decodes form l.bytes top → AllZip (Locates l.bytes) l.spots ts
     → AllZip (Decodes form) l.documents.items (take l.spot-index ts)

@@ -3,7 +3,7 @@ use Rattle.jsonb_doc.proofs.SpotsTaken.{no_refusal}
 use Rattle.jsonb_doc.specs.Spots.{Locates, spots_bound}
 use Rattle.jsonb_doc.specs.Tree.{children_of}
 use Rattle.jsonb.specs.Preorder.{preorder}
-use Rattle.jsonb.specs.Related.{AllRelated}
+use Rattle.std.specs.List.{AllZip}
 use Rattle.jsonb.proofs.BelowLemmas.{none_passed, leaf_passed, next_left, none_left}
 use Rattle.jsonb.proofs.LevelLemmas.{preorder-leaf}
 use Rattle.jsonb.proofs.Progress.{spot_first, spot_end}
@@ -52,7 +52,7 @@ loop-child-preserved c =
           let own_is : (if c.args.is_taken then f.first ∷ [] else []) ≡ preorder levels n f.first =
           ap (λ b. if b then f.first ∷ [] else []) l ∙ sym (preorder-leaf levels n f.first leaf) in
           leaf_passed bytes levels n ts before _ _ _ _ _ w f
-          (λ given done. subst (λ us. AllRelated (Locates bytes) c.push_if.new.nodes.items (given ++ us)) own_is
+          (λ given done. subst (λ us. AllZip (Locates bytes) c.push_if.new.nodes.items (given ++ us)) own_is
           ((c.in_ok-push_if.ensures.meant bytes f.first given f.holds done).ok));
     }
 

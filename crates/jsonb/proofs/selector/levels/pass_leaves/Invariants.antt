@@ -3,7 +3,7 @@ use Rattle.jsonb_doc.specs.Spots.{Locates, HasSpotsLeft, spots_room, spots_bound
 use Rattle.jsonb_doc.specs.Tree.{Tree}
 use Rattle.jsonb.specs.PathTree.{Levels}
 use Rattle.jsonb.specs.Preorder.{answer_at}
-use Rattle.jsonb.specs.Related.{AllRelated}
+use Rattle.std.specs.List.{AllZip}
 use Rattle.jsonb.proofs.BelowLemmas.{PassedSo}
 use Rattle.jsonb.proofs.selector.levels.pass_leaves.Given as goal
 
@@ -13,7 +13,7 @@ invariant-loop-child l = record {
   room : spots_room l.left ≤ spots_room l.children;
   bound : spots_bound l.left ≤ spots_bound l.children;
   passed : (bytes : List ℕ) (levels : Option Levels) (n : ℕ) (ts before : List Tree) → l.is_taken ≡ (answer_at levels n).0 → HasSpotsLeft bytes l.children ts
-      → AllRelated (Locates bytes) l.fn.nodes.items before → PassedSo bytes levels n (HasSpotsLeft bytes l.left) ts before l.nodes.items;
+      → AllZip (Locates bytes) l.fn.nodes.items before → PassedSo bytes levels n (HasSpotsLeft bytes l.left) ts before l.nodes.items;
 }
 
 abbrev pub decreases-loop-child : goal.decreases-loop-child

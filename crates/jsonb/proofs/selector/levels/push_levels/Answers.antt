@@ -2,7 +2,7 @@ use Rattle.std.proofs.Common.{◌++◌, Err, inl, ap, sym, ◌∙◌, refl, subs
 use Rattle.std.proofs.lemmas.Result.{err_from_is_err_and}
 use Rattle.jsonb_doc.specs.Spots.{Locates}
 use Rattle.jsonb.specs.PathViews.{levels_view}
-use Rattle.jsonb.specs.Related.{AllRelated}
+use Rattle.std.specs.List.{AllZip}
 use Rattle.jsonb.proofs.GivesLemmas.{same_answer}
 use Rattle.jsonb.proofs.BelowLemmas.{no_levels, walk_begun, leaves_passed, all_passed, item_passed, item_entered, level_done, walk_done, told_first, falls_within, falls_beside, falls_done}
 use Rattle.jsonb.proofs.LevelRanges.{range_taken}
@@ -16,7 +16,7 @@ returns-in_err-below-clause-meant c = λ u n before l m a.
 pub returns-in_default-clause-meant : goal.returns-in_default-clause-meant
 returns-in_default-clause-meant c = λ u n before l m a.
     let told = rw c.in_default.is at (c.in_ok-below.ensures.meant (option_map levels_view c.args.levels) u n before c.of_step-range.ensures l m a) in record {
-      ok = subst (λ ts. AllRelated (Locates c.args.bytes.now) c.push_item.new.nodes.items (before ++ ts)) (sym told.1) told.0;
+      ok = subst (λ ts. AllZip (Locates c.args.bytes.now) c.push_item.new.nodes.items (before ++ ts)) (sym told.1) told.0;
       err = tt;
     }
 

@@ -4,14 +4,14 @@ use Rattle.jsonb_doc.specs.Spots.{Locates}
 use Rattle.jsonb_doc.specs.Tree.{Tree}
 use Rattle.jsonb.specs.PathViews.{levels_view}
 use Rattle.jsonb.specs.Preorder.{preorder}
-use Rattle.jsonb.specs.Related.{AllRelated}
+use Rattle.std.specs.List.{AllZip}
 use Rattle.jsonb.proofs.BelowLemmas.{Walked, weight, weights}
 use Rattle.jsonb.proofs.selector.levels.push_levels.Given as goal
 
 -- what is given, and then what each level has left, the innermost first, is the whole
 abbrev pub invariant-walk : goal.invariant-walk
 invariant-walk l = record {
-  whole : (t : Tree) (n : ℕ) (before : List Tree) → l.level ≡ min n 256 → Locates l.bytes l.fn.item t → AllRelated (Locates l.bytes) l.fn.nodes.items before
+  whole : (t : Tree) (n : ℕ) (before : List Tree) → l.level ≡ min n 256 → Locates l.bytes l.fn.item t → AllZip (Locates l.bytes) l.fn.nodes.items before
       → Walked l.bytes (option_map levels_view l.fn.levels) l.within l.around.items l.nodes.items (before ++ preorder (option_map levels_view l.fn.levels) n t);
 }
 

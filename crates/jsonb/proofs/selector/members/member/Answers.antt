@@ -4,7 +4,7 @@ use Rattle.std.proofs.lemmas.Result.{err_from_is_err_and}
 use Rattle.jsonb_doc.specs.Spots.{Locates}
 use Rattle.jsonb.specs.PathTree.{steps_of}
 use Rattle.jsonb.specs.PathViews.{step_view, steps_view}
-use Rattle.jsonb.specs.Related.{AllRelated}
+use Rattle.std.specs.List.{AllZip}
 use Rattle.jsonb.specs.Meaning.{step_meaning, steps_meaning}
 use Rattle.jsonb.specs.Private.Selection.{option_spots, taken_step}
 use Rattle.jsonb.proofs.GivesLemmas.{same_outcome, same_answer, first_refused, one_ok, continued}
@@ -31,7 +31,7 @@ returns-in-None-clause-meant c = λ expressions top t all m.
     (inv.3 ∙ member_next c.args.steps.now c.loop-step.step-index c.step-item.result c.loop-step-test.true
     c.step-item.is c.args.mode expressions top inv.0 first.0)
     (one_ok (steps_meaning c.args.mode left top) (c.in_ok-next.ensures.meant top inv.0 first.0 inv.1) (λ us related.
-    subst (λ o. IsOkAnd o (AllRelated (Locates c.args.bytes.now) []))
+    subst (λ o. IsOkAnd o (AllZip (Locates c.args.bytes.now) []))
     (sym (ap (steps_meaning c.args.mode left top) (no_member (Locates c.args.bytes.now) _ us c.in-None.is related) ∙ none_left c.args.mode left top)) tt))
 
 pub loop-step-preserved : goal.loop-step-preserved
@@ -39,7 +39,7 @@ loop-step-preserved c = λ expressions top t all m.
     let inv = c.loop-step.invariant expressions top t all m in
     let first = member_first c.args.steps.now c.loop-step.step-index c.step-item.result c.loop-step-test.true c.step-item.is inv.2 in
     let left = steps_of (map (taken_step expressions) (steps_view (drop (c.loop-step.step-index + 1) c.args.steps.now))) in
-    let next = continued (λ us. AllRelated (Locates c.args.bytes.now) (option_spots c.in_ok-next.field-0) us)
+    let next = continued (λ us. AllZip (Locates c.args.bytes.now) (option_spots c.in_ok-next.field-0) us)
     (step_meaning c.args.mode (step_view c.step-item.result) top inv.0) (steps_meaning c.args.mode left top)
     ((c.in_ok-next.ensures.meant top inv.0 first.0 inv.1).ok) in
     let one = one_member (Locates c.args.bytes.now) _ c.in-Some.next next.0 c.in-Some.is next.1 in (
@@ -57,4 +57,4 @@ returns-clause-meant c = λ expressions top t all m.
     let inv = c.loop-step.invariant expressions top t all m in
     let none = inv.3 ∙ ap (λ l. steps_meaning c.args.mode (steps_of (map (taken_step expressions) (steps_view l))) top (inv.0 ∷ []))
     (drop_of_length-le c.args.steps.now c.loop-step-test.false) in
-    record { ok = subst (λ o. IsOkAnd o (AllRelated (Locates c.args.bytes.now) (c.loop-step.item ∷ []))) (sym none) (inv.1, tt); err = tt }
+    record { ok = subst (λ o. IsOkAnd o (AllZip (Locates c.args.bytes.now) (c.loop-step.item ∷ []))) (sym none) (inv.1, tt); err = tt }

@@ -3,7 +3,7 @@ use Rattle.std.specs.Prelude.{reverse}
 use Rattle.jsonb_doc.specs.Spots.{Locates}
 use Rattle.jsonb_doc.specs.Tree.{Tree}
 use Rattle.jsonb.specs.PathTree.{Step, steps_of}
-use Rattle.jsonb.specs.Related.{AllRelated}
+use Rattle.std.specs.List.{AllZip}
 use Rattle.jsonb.specs.Meaning.{steps_meaning}
 use Rattle.jsonb.specs.Private.Search.{IsSearched, HasItems}
 use Rattle.jsonb.specs.declared.selector.document.Mode.TheVariants.{Lax}
@@ -12,7 +12,7 @@ use Rattle.jsonb.proofs.selector.search.first_found.Given as goal
 
 -- what is left, the innermost first, gives the list of the whole
 abbrev pub invariant-walk : goal.invariant-walk
-invariant-walk l = (top t : Tree) (ss : List Step) → AllRelated IsSearched l.steps ss → Locates l.bytes l.fn.first t →
+invariant-walk l = (top t : Tree) (ss : List Step) → AllZip IsSearched l.steps ss → Locates l.bytes l.fn.first t →
     Searching l.bytes top (HasItems l.bytes l.within.items) l.within.steps.now l.around.items (steps_meaning Lax (steps_of ss) top (t ∷ []))
 
 abbrev pub decreases-walk : goal.decreases-walk

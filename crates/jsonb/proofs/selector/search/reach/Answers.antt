@@ -5,7 +5,7 @@ use Rattle.std.specs.Result.{MatchResult}
 use Rattle.jsonb_doc.specs.Answer.{IsOutOfMemory}
 use Rattle.jsonb.specs.PathTree.{steps_of}
 use Rattle.jsonb.specs.Meaning.{step_meaning, steps_meaning}
-use Rattle.jsonb.specs.Related.{AllRelated}
+use Rattle.std.specs.List.{AllZip}
 use Rattle.jsonb.specs.Private.Search.{IsSearched, AreGiven, IsReached}
 use Rattle.jsonb.specs.declared.selector.document.Mode.TheVariants.{Lax}
 use Rattle.jsonb.specs.declared.selector.search.Given.TheVariants as given
@@ -51,7 +51,7 @@ returns-in-Many-clause-meant c = λ top t ss a m.
       k.0,
       f.others,
       subst (λ g. AreGiven c.args.bytes.now g k.0) c.in-Many.is k.1,
-      subst (λ l. AllRelated IsSearched l f.others) (sym all) f.left,
+      subst (λ l. AllZip IsSearched l f.others) (sym all) f.left,
       inv.4 ∙ k.2,
     )
 

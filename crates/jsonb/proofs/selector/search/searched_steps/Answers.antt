@@ -1,7 +1,7 @@
 use Rattle.std.proofs.Common.{map, subst}
 use Rattle.std.proofs.lemmas.List.{take_all}
 use Rattle.jsonb.specs.PathViews.{steps_view}
-use Rattle.jsonb.specs.Related.{AllRelated}
+use Rattle.std.specs.List.{AllZip}
 use Rattle.jsonb.specs.Private.Search.{IsSearched}
 use Rattle.jsonb.specs.Private.Selection.{taken_step}
 use Rattle.jsonb.proofs.SearchLemmas.{searched_more}
@@ -15,5 +15,5 @@ loop-step-preserved c =
 
 pub returns-clause-searched : goal.returns-clause-searched
 returns-clause-searched c =
-    subst (λ l. AllRelated IsSearched c.loop-step.searched.items (map (taken_step c.args.expressions) (steps_view l)))
+    subst (λ l. AllZip IsSearched c.loop-step.searched.items (map (taken_step c.args.expressions) (steps_view l)))
     (take_all c.loop-step.step-index c.args.steps.now c.loop-step-test.false) c.loop-step.invariant

@@ -4,7 +4,7 @@ use Rattle.jsonb_doc.specs.Answer.{try_flat_map}
 use Rattle.jsonb_doc.specs.Spots.{Locates}
 use Rattle.jsonb_doc.specs.View.{number_view}
 use Rattle.jsonb.specs.PathArithmetic.{all_numbers}
-use Rattle.jsonb.specs.Related.{AllRelated}
+use Rattle.std.specs.List.{AllZip}
 use Rattle.jsonb.specs.Values.{values_of_item}
 use Rattle.jsonb.proofs.GivesLemmas.{same_answer, same_outcome, refused_as}
 use Rattle.jsonb.proofs.Progress.{no_spot, at_start, one_more, refused_in, at_end, list_first, list_end}
@@ -13,7 +13,7 @@ use Rattle.jsonb.proofs.selector.signed_items.item_numbers.Goals as goal
 
 pub loop-item-init : goal.loop-item-init
 loop-item-init c = λ ts h.
-    at_start (λ t. all_numbers (values_of_item t)) (AllRelated (Locates c.args.bytes.now) c.args.items.now) (Behind [] c.in_ok-numbers.numbers.items) ts h
+    at_start (λ t. all_numbers (values_of_item t)) (AllZip (Locates c.args.bytes.now) c.args.items.now) (Behind [] c.in_ok-numbers.numbers.items) ts h
     (ap (map number_view) c.in_ok-numbers.ensures.items)
 
 pub returns-in_err-push_item-clause-meant : goal.returns-in_err-push_item-clause-meant
@@ -21,8 +21,8 @@ returns-in_err-push_item-clause-meant c = λ ts h.
     let p = err_from_is_err_and c.from_residual-in_err-push_item.result c.from_residual-in_err-push_item.ensures.1 in
     same_answer (p.1 ∙ ap Err p.2) (same_outcome (numbers_of_parts values_of_item ts)
     (refused_in (λ t. all_numbers (values_of_item t)) _
-    (AllRelated (Locates c.args.bytes.now) (drop c.loop-item.item-index c.args.items.now))
-    (AllRelated (Locates c.args.bytes.now) (drop (c.loop-item.item-index + 1) c.args.items.now))
+    (AllZip (Locates c.args.bytes.now) (drop c.loop-item.item-index c.args.items.now))
+    (AllZip (Locates c.args.bytes.now) (drop (c.loop-item.item-index + 1) c.args.items.now))
     (Behind [] c.loop-item.numbers.items) (Behind [] c.push_item.new.numbers.items) _ _
     (try_flat_map (λ t. all_numbers (values_of_item t)) ts) (c.loop-item.invariant ts h)
     (list_first (Locates c.args.bytes.now) c.args.items.now c.loop-item.item-index no_spot c.loop-item-test.true)
@@ -30,8 +30,8 @@ returns-in_err-push_item-clause-meant c = λ ts h.
 
 pub loop-item-preserved : goal.loop-item-preserved
 loop-item-preserved c = λ ts h.
-    one_more (λ t. all_numbers (values_of_item t)) (AllRelated (Locates c.args.bytes.now) (drop c.loop-item.item-index c.args.items.now))
-    (AllRelated (Locates c.args.bytes.now) (drop (c.loop-item.item-index + 1) c.args.items.now))
+    one_more (λ t. all_numbers (values_of_item t)) (AllZip (Locates c.args.bytes.now) (drop c.loop-item.item-index c.args.items.now))
+    (AllZip (Locates c.args.bytes.now) (drop (c.loop-item.item-index + 1) c.args.items.now))
     (Behind [] c.loop-item.numbers.items) (Behind [] c.push_item.new.numbers.items) _
     (try_flat_map (λ t. all_numbers (values_of_item t)) ts) (c.loop-item.invariant ts h)
     (list_first (Locates c.args.bytes.now) c.args.items.now c.loop-item.item-index no_spot c.loop-item-test.true)
@@ -40,7 +40,7 @@ loop-item-preserved c = λ ts h.
 
 pub returns-clause-meant : goal.returns-clause-meant
 returns-clause-meant c = λ ts h. same_outcome (numbers_of_parts values_of_item ts) (record {
-  ok = at_end (λ t. all_numbers (values_of_item t)) (AllRelated (Locates c.args.bytes.now) (drop c.loop-item.item-index c.args.items.now))
+  ok = at_end (λ t. all_numbers (values_of_item t)) (AllZip (Locates c.args.bytes.now) (drop c.loop-item.item-index c.args.items.now))
       (Behind [] c.loop-item.numbers.items) (try_flat_map (λ t. all_numbers (values_of_item t)) ts) (c.loop-item.invariant ts h)
       (list_end (Locates c.args.bytes.now) c.args.items.now c.loop-item.item-index c.loop-item-test.false);
   err = tt;

@@ -6,7 +6,7 @@ use Rattle.jsonb_doc.specs.Answer.{try_flat_map, and_then, Gives, IsOutOfMemory}
 use Rattle.jsonb.specs.PathTree as math
 use Rattle.jsonb.specs.PathTree.{steps_of}
 use Rattle.jsonb.specs.PathViews.{step_view, steps_view, expression_view, operator_view}
-use Rattle.jsonb.specs.Related.{AllRelated}
+use Rattle.std.specs.List.{AllZip}
 use Rattle.jsonb.specs.Values.{values_of_item}
 use Rattle.jsonb.specs.Compare.{compare}
 use Rattle.jsonb.specs.Private.Selection.{IsAt, node_spots, taken_step, atoms_view}
@@ -22,7 +22,6 @@ use Rattle.jsonb.proofs.KeptLemmas.{comparison_is, by_right, value_of, one_compa
 use Rattle.jsonb.proofs.SearchLemmas.{found_any}
 use Rattle.jsonb.proofs.TermLemmas.{executed-whole, conditions-postorder, at_term}
 use Rattle.jsonb.proofs.StepLemmas.{joined_one, only_one, kept_found, steps_at, from_start}
-use Rattle.jsonb.specs.declared.selector.terms.Run.{Run}
 use Rattle.jsonb.proofs.selector.steps.+steps.Goals as goal
 use Rattle.jsonb.proofs.selector.steps.+steps.Goals.{joined_truth-in-Condition+in_ok-truth-in-Condition+in_ok-push-in-Condition, joined_truth-in-Join+in_ok-join-in-Join}
 
@@ -31,54 +30,54 @@ use Rattle.jsonb.proofs.selector.steps.+steps.Goals.{joined_truth-in-Condition+i
 pub push_kept-returns-in_err-truth_by_kept-clause-meant : goal.push_kept-returns-in_err-truth_by_kept-clause-meant
 push_kept-returns-in_err-truth_by_kept-clause-meant t c = λ top u before r s k a.
     let all = conditions (expression_view c.args.e.now) in
-    let first = subst (λ l. AreKept c.args.mode top c.args.run.now.kept all l) (sym (append-nil all)) k in
+    let first = subst (λ l. AreKept c.args.current.context.now.mode top c.args.run.now.kept all l) (sym (append-nil all)) k in
     let p = err_from_is_err_and c.from_residual.result c.from_residual.ensures.1 in
     same_answer (p.1 ∙ ap Err p.2) (first_refused (λ b. Ok (filtered u b)) (c.in_err-truth_by_kept.ensures.meant top u all [] r s first))
 
 pub push_kept-returns-clause-meant : goal.push_kept-returns-clause-meant
 push_kept-returns-clause-meant t c = λ top u before r s k a.
     let all = conditions (expression_view c.args.e.now) in
-    let first = subst (λ l. AreKept c.args.mode top c.args.run.now.kept all l) (sym (append-nil all)) k in
+    let first = subst (λ l. AreKept c.args.current.context.now.mode top c.args.run.now.kept all l) (sym (append-nil all)) k in
     followed (λ b. Ok (filtered u b)) (c.in_ok-truth_by_kept.ensures.meant top u all [] r s first)
     (λ b is. same_outcome (ap (λ z. Ok (filtered u z)) (sym is) ∙ ap Ok (c.is_kept-keeps.ensures u))
-    (c.push_if.ensures.meant c.args.document.bytes.now u before s a))
+    (c.push_if.ensures.meant c.args.current.context.now.document.bytes.now u before s a))
 
 pub push_kept-returns-clause-kept : goal.push_kept-returns-clause-kept
 push_kept-returns-clause-kept t c = λ top u r s k.
     let all = conditions (expression_view c.args.e.now) in
-    let first = subst (λ l. AreKept c.args.mode top c.args.run.now.kept all l) (sym (append-nil all)) k in
-    always c.push_if.result (c.restart.ensures c.args.mode top all [] (c.in_ok-truth_by_kept.ensures.kept top u all [] r s first))
+    let first = subst (λ l. AreKept c.args.current.context.now.mode top c.args.run.now.kept all l) (sym (append-nil all)) k in
+    always c.push_if.result (c.restart.ensures c.args.current.context.now.mode top all [] (c.in_ok-truth_by_kept.ensures.kept top u all [] r s first))
 
 pub filter_many-loop-item-init : goal.filter_many-loop-item-init
 filter_many-loop-item-init t c = λ top ts r a. (
-  at_start (step_meaning c.args.mode (math.filter (expression_view c.args.e.now)) top) (AllRelated (IsAt c.args.document) c.args.items.now)
-      (AllRelated (IsAt c.args.document) c.new-nodes.result.items) ts a
-      (subst (λ l. AllRelated (IsAt c.args.document) l []) (sym c.new-nodes.ensures.items) tt),
-  subst (λ k. IsKeptFor c.args.mode top (expression_view c.args.e.now) k) (sym c.new-run.ensures)
-      (c.new-kept.ensures c.args.mode top (conditions (expression_view c.args.e.now))),
+  at_start (step_meaning c.args.context.now.mode (math.filter (expression_view c.args.e.now)) top) (AllZip (IsAt c.args.context.now.document) c.args.items.now)
+      (AllZip (IsAt c.args.context.now.document) c.new-nodes.result.items) ts a
+      (subst (λ l. AllZip (IsAt c.args.context.now.document) l []) (sym c.new-nodes.ensures.items) tt),
+  subst (λ k. IsKeptFor c.args.context.now.mode top (expression_view c.args.e.now) k) (sym c.new-run.ensures)
+      (c.new-kept.ensures c.args.context.now.mode top (conditions (expression_view c.args.e.now))),
 )
 
 pub filter_many-returns-in_err-push_kept-clause-meant : goal.filter_many-returns-in_err-push_kept-clause-meant
 filter_many-returns-in_err-push_kept-clause-meant t c = λ top ts r a.
     let inv = c.loop-item.invariant top ts r a in
     let p = err_from_is_err_and c.from_residual-in_err-push_kept.result c.from_residual-in_err-push_kept.ensures.1 in
-    same_answer (p.1 ∙ ap Err p.2) (refused_in (step_meaning c.args.mode (math.filter (expression_view c.args.e.now)) top) _
-    (AllRelated (IsAt c.args.document) (drop c.loop-item.item-index c.args.items.now))
-    (AllRelated (IsAt c.args.document) (drop (c.loop-item.item-index + 1) c.args.items.now))
-    (AllRelated (IsAt c.args.document) c.loop-item.nodes.items) (AllRelated (IsAt c.args.document) c.push_kept.new.nodes.items) _ _ _
+    same_answer (p.1 ∙ ap Err p.2) (refused_in (step_meaning c.args.context.now.mode (math.filter (expression_view c.args.e.now)) top) _
+    (AllZip (IsAt c.args.context.now.document) (drop c.loop-item.item-index c.args.items.now))
+    (AllZip (IsAt c.args.context.now.document) (drop (c.loop-item.item-index + 1) c.args.items.now))
+    (AllZip (IsAt c.args.context.now.document) c.loop-item.nodes.items) (AllZip (IsAt c.args.context.now.document) c.push_kept.new.nodes.items) _ _ _
     inv.0
-    (list_first (IsAt c.args.document) c.args.items.now c.loop-item.item-index no_spot c.loop-item-test.true)
+    (list_first (IsAt c.args.context.now.document) c.args.items.now c.loop-item.item-index no_spot c.loop-item-test.true)
     (λ u before s b. c.in_err-push_kept.ensures.meant top u before r s inv.1 b))
 
 pub filter_many-loop-item-preserved : goal.filter_many-loop-item-preserved
 filter_many-loop-item-preserved t c = λ top ts r a.
     let inv = c.loop-item.invariant top ts r a in
-    let here = list_first (IsAt c.args.document) c.args.items.now c.loop-item.item-index no_spot c.loop-item-test.true in
+    let here = list_first (IsAt c.args.context.now.document) c.args.items.now c.loop-item.item-index no_spot c.loop-item-test.true in
     let k = here inv.0.rest inv.0.left in (
-      one_more (step_meaning c.args.mode (math.filter (expression_view c.args.e.now)) top)
-          (AllRelated (IsAt c.args.document) (drop c.loop-item.item-index c.args.items.now))
-          (AllRelated (IsAt c.args.document) (drop (c.loop-item.item-index + 1) c.args.items.now))
-          (AllRelated (IsAt c.args.document) c.loop-item.nodes.items) (AllRelated (IsAt c.args.document) c.push_kept.new.nodes.items) _ _
+      one_more (step_meaning c.args.context.now.mode (math.filter (expression_view c.args.e.now)) top)
+          (AllZip (IsAt c.args.context.now.document) (drop c.loop-item.item-index c.args.items.now))
+          (AllZip (IsAt c.args.context.now.document) (drop (c.loop-item.item-index + 1) c.args.items.now))
+          (AllZip (IsAt c.args.context.now.document) c.loop-item.nodes.items) (AllZip (IsAt c.args.context.now.document) c.push_kept.new.nodes.items) _ _
           inv.0 here
           (λ u before s b. (c.in_ok-push_kept.ensures.meant top u before r s inv.1 b).ok),
       c.in_ok-push_kept.ensures.kept top k.first r k.holds inv.1,
@@ -86,10 +85,10 @@ filter_many-loop-item-preserved t c = λ top ts r a.
 
 pub filter_many-returns-clause-meant : goal.filter_many-returns-clause-meant
 filter_many-returns-clause-meant t c = λ top ts r a. record {
-  ok = at_end (step_meaning c.args.mode (math.filter (expression_view c.args.e.now)) top)
-      (AllRelated (IsAt c.args.document) (drop c.loop-item.item-index c.args.items.now))
-      (AllRelated (IsAt c.args.document) c.loop-item.nodes.items) _ (c.loop-item.invariant top ts r a).0
-      (list_end (IsAt c.args.document) c.args.items.now c.loop-item.item-index c.loop-item-test.false);
+  ok = at_end (step_meaning c.args.context.now.mode (math.filter (expression_view c.args.e.now)) top)
+      (AllZip (IsAt c.args.context.now.document) (drop c.loop-item.item-index c.args.items.now))
+      (AllZip (IsAt c.args.context.now.document) c.loop-item.nodes.items) _ (c.loop-item.invariant top ts r a).0
+      (list_end (IsAt c.args.context.now.document) c.args.items.now c.loop-item.item-index c.loop-item-test.false);
   err = tt;
 }
 
@@ -98,66 +97,66 @@ filter_many-returns-clause-meant t c = λ top ts r a. record {
 pub step_item-returns-in_err-truth-in-Some-clause-meant : goal.step_item-returns-in_err-truth-in-Some-clause-meant
 step_item-returns-in_err-truth-in-Some-clause-meant t c = λ top u r s.
     let p = err_from_is_err_and c.from_residual.result c.from_residual.ensures.1 in
-    same_answer (p.1 ∙ ap Err p.2) (same_outcome (ap (λ x. step_meaning c.args.mode x top u) c.in-Some.ensures.expression)
+    same_answer (p.1 ∙ ap Err p.2) (same_outcome (ap (λ x. step_meaning c.args.context.now.mode x top u) c.in-Some.ensures.expression)
     (first_refused (λ b. Ok (filtered u b)) (c.in_err-truth-in-Some.ensures.meant top u r s)))
 
 pub step_item-returns-in_ok-truth-in-Some-clause-meant : goal.step_item-returns-in_ok-truth-in-Some-clause-meant
 step_item-returns-in_ok-truth-in-Some-clause-meant t c = λ top u r s.
-    same_outcome (ap (λ x. step_meaning c.args.mode x top u) c.in-Some.ensures.expression)
+    same_outcome (ap (λ x. step_meaning c.args.context.now.mode x top u) c.in-Some.ensures.expression)
     (one_ok (λ b. Ok (filtered u b)) (c.in_ok-truth-in-Some.ensures.meant top u r s) (λ b is.
-    subst (λ l. AllRelated (IsAt c.args.document) l (filtered u b)) (sym c.at_most_one.ensures)
-    (kept_found (IsAt c.args.document) c.is_kept-keeps.result c.then_some.result c.args.item u (filtered u b) c.then_some.ensures
+    subst (λ l. AllZip (IsAt c.args.context.now.document) l (filtered u b)) (sym c.at_most_one.ensures)
+    (kept_found (IsAt c.args.context.now.document) c.is_kept-keeps.result c.then_some.result c.args.item u (filtered u b) c.then_some.ensures
     (ap (filtered u) (sym is) ∙ c.is_kept-keeps.ensures u) s)))
 
 pub step_item-returns-in-None-clause-meant : goal.step_item-returns-in-None-clause-meant
 step_item-returns-in-None-clause-meant t c = λ top u r s.
-    same_outcome (ap (λ x. step_meaning c.args.mode x top u) c.in-None.ensures.expression.1)
+    same_outcome (ap (λ x. step_meaning c.args.context.now.mode x top u) c.in-None.ensures.expression.1)
     (c.plain_step.ensures.meant top u c.in-None.ensures.expression.0 s)
 
 -- ---- one step of a list
 
 pub step_list-returns-in-Root-clause-meant : goal.step_list-returns-in-Root-clause-meant
 step_list-returns-in-Root-clause-meant t c = λ top ts r a.
-    let filtered : Gives (λ found us. AllRelated (IsAt c.args.document) (node_spots found) us) IsOutOfMemory (Ok c.args.items)
+    let filtered : Gives (λ found us. AllZip (IsAt c.args.context.now.document) (node_spots found) us) IsOutOfMemory (Ok c.args.items)
     (Ok ts) = record { ok = a; err = tt } in
     elim c.in-Root.is [
-      | inl is ↦ same_outcome (ap (λ x. try_flat_map (step_meaning c.args.mode (taken_step c.args.expressions x) top) ts) (root_is c.args.step.now is)
+      | inl is ↦ same_outcome (ap (λ x. try_flat_map (step_meaning c.args.context.now.mode (taken_step c.args.expressions x) top) ts) (root_is c.args.step.now is)
           ∙ joined_singles ts) filtered
-      | inr is ↦ same_outcome (ap (λ x. try_flat_map (step_meaning c.args.mode (taken_step c.args.expressions x) top) ts) (current_is c.args.step.now is)
+      | inr is ↦ same_outcome (ap (λ x. try_flat_map (step_meaning c.args.context.now.mode (taken_step c.args.expressions x) top) ts) (current_is c.args.step.now is)
           ∙ joined_singles ts) filtered
     ]
 
 pub step_list-returns-in-One-clause-meant : goal.step_list-returns-in-One-clause-meant
 step_list-returns-in-One-clause-meant t c = λ top ts r a.
-    let one = only_one (IsAt c.args.document) c.in-One.item ts (subst (λ f. AllRelated (IsAt c.args.document) (node_spots f) ts) c.in-One.is a) in
-    same_outcome (ap (try_flat_map (step_meaning c.args.mode (taken_step c.args.expressions (step_view c.args.step.now)) top)) one.1
-    ∙ joined_one (step_meaning c.args.mode (taken_step c.args.expressions (step_view c.args.step.now)) top) one.0)
+    let one = only_one (IsAt c.args.context.now.document) c.in-One.item ts (subst (λ f. AllZip (IsAt c.args.context.now.document) (node_spots f) ts) c.in-One.is a) in
+    same_outcome (ap (try_flat_map (step_meaning c.args.context.now.mode (taken_step c.args.expressions (step_view c.args.step.now)) top)) one.1
+    ∙ joined_one (step_meaning c.args.context.now.mode (taken_step c.args.expressions (step_view c.args.step.now)) top) one.0)
     (c.step_item.ensures.meant top one.0 r one.2)
 
 pub step_list-returns-in-Many-clause-meant : goal.step_list-returns-in-Many-clause-meant
 step_list-returns-in-Many-clause-meant t c = λ top ts r a.
     c.step_many.ensures.meant top ts r
-    (subst (λ l. AllRelated (IsAt c.args.document) l ts) (sym c.deref.ensures.value)
-    (subst (λ f. AllRelated (IsAt c.args.document) (node_spots f) ts) c.in-Many.is a))
+    (subst (λ l. AllZip (IsAt c.args.context.now.document) l ts) (sym c.deref.ensures.value)
+    (subst (λ f. AllZip (IsAt c.args.context.now.document) (node_spots f) ts) c.in-Many.is a))
 
 pub step_many-returns-in-Some-member_compared-clause-meant : goal.step_many-returns-in-Some-member_compared-clause-meant
 step_many-returns-in-Some-member_compared-clause-meant t c = λ top ts r a.
-    same_outcome (ap (λ x. try_flat_map (step_meaning c.args.mode x top) ts) c.in-Some.ensures.expression)
+    same_outcome (ap (λ x. try_flat_map (step_meaning c.args.context.now.mode x top) ts) c.in-Some.ensures.expression)
     (c.compared_items.ensures.meant (expression_view c.in-Some.e.now) top ts c.in-Some-member_compared.ensures a)
 
 pub step_many-returns-in_err-nodes-clause-meant : goal.step_many-returns-in_err-nodes-clause-meant
 step_many-returns-in_err-nodes-clause-meant t c = λ top ts r a.
     let p = err_from_is_err_and c.from_residual.result c.from_residual.ensures.1 in
-    same_outcome (ap (λ x. try_flat_map (step_meaning c.args.mode x top) ts) c.in-Some.ensures.expression)
+    same_outcome (ap (λ x. try_flat_map (step_meaning c.args.context.now.mode x top) ts) c.in-Some.ensures.expression)
     (same_answer (p.1 ∙ ap Err p.2) (c.in_err-nodes.ensures.kept top ts a))
 
 pub step_many-returns-in-None-clause-meant : goal.step_many-returns-in-None-clause-meant
 step_many-returns-in-None-clause-meant t c = λ top ts r a.
-    same_outcome (ap (λ x. try_flat_map (step_meaning c.args.mode x top) ts) c.in-Some.ensures.expression) (c.filter_many.ensures.meant top ts r a)
+    same_outcome (ap (λ x. try_flat_map (step_meaning c.args.context.now.mode x top) ts) c.in-Some.ensures.expression) (c.filter_many.ensures.meant top ts r a)
 
 pub step_many-returns-in_default-clause-meant : goal.step_many-returns-in_default-clause-meant
 step_many-returns-in_default-clause-meant t c = λ top ts r a.
-    same_outcome (ap (λ x. try_flat_map (step_meaning c.args.mode x top) ts) c.in_default.ensures.expression.1)
+    same_outcome (ap (λ x. try_flat_map (step_meaning c.args.context.now.mode x top) ts) c.in_default.ensures.expression.1)
     (c.plain_steps.ensures.meant top ts c.in_default.ensures.expression.0 a)
 
 -- ---- several steps
@@ -183,93 +182,91 @@ select_steps-returns-in_err-items-clause-meant t c = λ top u r s.
     same_answer (p.1 ∙ ap Err p.2)
     (same_outcome
     (inv.2
-    ∙ steps_at c.args.mode c.args.expressions c.args.steps.now c.loop-step.step-index c.step-item.result top inv.0 c.loop-step-test.true c.step-item.is)
-    (first_refused (steps_meaning c.args.mode
+    ∙ steps_at c.args.context.now.mode c.args.expressions c.args.steps.now c.loop-step.step-index c.step-item.result top inv.0 c.loop-step-test.true c.step-item.is)
+    (first_refused (steps_meaning c.args.context.now.mode
     (steps_of (map (taken_step c.args.expressions) (steps_view (drop (c.loop-step.step-index + 1) c.args.steps.now)))) top)
     (c.in_err-items.ensures.meant top inv.0 r inv.1)))
 
 pub select_steps-loop-step-preserved : goal.select_steps-loop-step-preserved
 select_steps-loop-step-preserved t c = λ top u r s.
     let inv = c.loop-step.invariant top u r s in
-    let next = continued (λ us. AllRelated (IsAt c.args.document) (node_spots c.in_ok-items.items) us)
-    (try_flat_map (step_meaning c.args.mode (taken_step c.args.expressions (step_view c.step-item.result)) top) inv.0)
-    (steps_meaning c.args.mode (steps_of (map (taken_step c.args.expressions) (steps_view (drop (c.loop-step.step-index + 1) c.args.steps.now)))) top)
+    let next = continued (λ us. AllZip (IsAt c.args.context.now.document) (node_spots c.in_ok-items.items) us)
+    (try_flat_map (step_meaning c.args.context.now.mode (taken_step c.args.expressions (step_view c.step-item.result)) top) inv.0)
+    (steps_meaning c.args.context.now.mode (steps_of (map (taken_step c.args.expressions) (steps_view (drop (c.loop-step.step-index + 1) c.args.steps.now)))) top)
     ((c.in_ok-items.ensures.meant top inv.0 r inv.1).ok) in (
       next.0,
       next.1,
       inv.2
-          ∙ steps_at c.args.mode c.args.expressions c.args.steps.now c.loop-step.step-index c.step-item.result top inv.0 c.loop-step-test.true c.step-item.is
+          ∙ steps_at c.args.context.now.mode c.args.expressions c.args.steps.now c.loop-step.step-index c.step-item.result top inv.0 c.loop-step-test.true c.step-item.is
           ∙ next.2,
     )
 
 pub select_steps-returns-clause-meant : goal.select_steps-returns-clause-meant
 select_steps-returns-clause-meant t c = λ top u r s.
     let inv = c.loop-step.invariant top u r s in
-    let none = inv.2 ∙ ap (λ l. steps_meaning c.args.mode (steps_of (map (taken_step c.args.expressions) (steps_view l))) top inv.0)
+    let none = inv.2 ∙ ap (λ l. steps_meaning c.args.context.now.mode (steps_of (map (taken_step c.args.expressions) (steps_view l))) top inv.0)
     (drop_of_length-le c.args.steps.now c.loop-step-test.false) in
-    record { ok = subst (λ o. IsOkAnd o (AllRelated (IsAt c.args.document) (node_spots c.loop-step.items))) (sym none) inv.1; err = tt }
+    record { ok = subst (λ o. IsOkAnd o (AllZip (IsAt c.args.context.now.document) (node_spots c.loop-step.items))) (sym none) inv.1; err = tt }
 
 -- ---- operands
 
 pub operand_values-returns-in_err-found-in-Paths-clause-meant : goal.operand_values-returns-in_err-found-in-Paths-clause-meant
 operand_values-returns-in_err-found-in-Paths-clause-meant t c = λ top u r s. let p = err_from_is_err_and c.from_residual.result c.from_residual.ensures.1 in
-    same_answer (p.1 ∙ ap Err p.2) (same_outcome (ap (λ x. operand_values c.args.mode x top u) (paths_is c.args.e.now c.in-Paths.steps c.in-Paths.is)
-    ∙ ap (λ o. and_then o (λ ts. Ok (flat_map values_of_item ts))) (from_start c.args.mode _ _ _ top u c.deref-in-Paths.ensures.value c.deref.ensures.value))
+    same_answer (p.1 ∙ ap Err p.2) (same_outcome (ap (λ x. operand_values c.args.current.context.now.mode x top u) (paths_is c.args.e.now c.in-Paths.steps c.in-Paths.is)
+    ∙ ap (λ o. and_then o (λ ts. Ok (flat_map values_of_item ts))) (from_start c.args.current.context.now.mode _ _ _ top u c.deref-in-Paths.ensures.value c.deref.ensures.value))
     (first_refused (λ ts. Ok (flat_map values_of_item ts)) (c.in_err-found-in-Paths.ensures.meant top _ r (c.first_item-first.ensures top u r s))))
 
 pub operand_values-returns-in_ok-found-in-Paths-clause-meant : goal.operand_values-returns-in_ok-found-in-Paths-clause-meant
 operand_values-returns-in_ok-found-in-Paths-clause-meant t c = λ top u r s.
-    same_outcome (ap (λ x. operand_values c.args.mode x top u) (paths_is c.args.e.now c.in-Paths.steps c.in-Paths.is)
-    ∙ ap (λ o. and_then o (λ ts. Ok (flat_map values_of_item ts))) (from_start c.args.mode _ _ _ top u c.deref-in-Paths.ensures.value c.deref.ensures.value))
+    same_outcome (ap (λ x. operand_values c.args.current.context.now.mode x top u) (paths_is c.args.e.now c.in-Paths.steps c.in-Paths.is)
+    ∙ ap (λ o. and_then o (λ ts. Ok (flat_map values_of_item ts))) (from_start c.args.current.context.now.mode _ _ _ top u c.deref-in-Paths.ensures.value c.deref.ensures.value))
     (followed (λ ts. Ok (flat_map values_of_item ts)) (c.in_ok-found-in-Paths.ensures.meant top _ r (c.first_item-first.ensures top u r s))
     (λ ts related. c.found_values.ensures.meant ts related))
-
--- ---- truths
 
 -- ---- truths
 
 pub truth-returns-clause-meant : goal.truth-returns-clause-meant
 truth-returns-clause-meant t c = λ top u r s.
     c.truth_by_kept.ensures.meant top u [] [] r s
-    (subst (λ k. AreKept c.args.mode top k [] (conditions (expression_view c.args.e.now) ++ [])) (sym c.new-run.ensures) tt)
+    (subst (λ k. AreKept c.args.current.context.now.mode top k [] (conditions (expression_view c.args.e.now) ++ [])) (sym c.new-run.ensures) tt)
 
 pub truth_by_kept-returns-else-is_joined-clause-meant : goal.truth_by_kept-returns-else-is_joined-clause-meant
 truth_by_kept-returns-else-is_joined-clause-meant t c = λ top u all more r s k.
-    c.single_truth.ensures.meant top u all more (sym c.is_joined.ensures ∙ c.if-is_joined.false) r s k
+    c.single_truth.ensures.meant (sym c.is_joined.ensures ∙ c.if-is_joined.false) top u all more r s k
 
 pub truth_by_kept-returns-else-is_joined-clause-kept : goal.truth_by_kept-returns-else-is_joined-clause-kept
 truth_by_kept-returns-else-is_joined-clause-kept t c = λ top u all more r s k.
-    c.single_truth.ensures.kept top u all more (sym c.is_joined.ensures ∙ c.if-is_joined.false) r s k
+    c.single_truth.ensures.kept (sym c.is_joined.ensures ∙ c.if-is_joined.false) top u all more r s k
 
 pub single_truth-returns-then-is_comparison-clause-meant : goal.single_truth-returns-then-is_comparison-clause-meant
-single_truth-returns-then-is_comparison-clause-meant t c = λ top u all more alone r s k.
+single_truth-returns-then-is_comparison-clause-meant t c = λ alone top u all more r s k.
     let one = one_comparison c.args.e.now c.in-BinaryOp.op c.in-BinaryOp.left c.in-BinaryOp.right c.in-BinaryOp.is
     (sym c.is_comparison.ensures ∙ c.if-is_comparison.true) in
-    c.condition.ensures.meant top u all more one.0 r s (subst (λ l. AreKept c.args.mode top c.args.kept.now all (l ++ more)) one.1 k)
+    c.condition.ensures.meant one.0 top u all more r s (subst (λ l. AreKept c.args.current.context.now.mode top c.args.kept.now all (l ++ more)) one.1 k)
 
 pub single_truth-returns-then-is_comparison-clause-kept : goal.single_truth-returns-then-is_comparison-clause-kept
-single_truth-returns-then-is_comparison-clause-kept t c = λ top u all more alone r s k.
+single_truth-returns-then-is_comparison-clause-kept t c = λ alone top u all more r s k.
     let one = one_comparison c.args.e.now c.in-BinaryOp.op c.in-BinaryOp.left c.in-BinaryOp.right c.in-BinaryOp.is
     (sym c.is_comparison.ensures ∙ c.if-is_comparison.true) in
-    c.condition.ensures.kept top u all more one.0 r s (subst (λ l. AreKept c.args.mode top c.args.kept.now all (l ++ more)) one.1 k)
+    c.condition.ensures.kept one.0 top u all more r s (subst (λ l. AreKept c.args.current.context.now.mode top c.args.kept.now all (l ++ more)) one.1 k)
 
 pub single_truth-returns-in-ExistsFunc-clause-meant : goal.single_truth-returns-in-ExistsFunc-clause-meant
-single_truth-returns-in-ExistsFunc-clause-meant t c = λ top u all more alone r s k.
+single_truth-returns-in-ExistsFunc-clause-meant t c = λ alone top u all more r s k.
     let one = one_exists c.args.e.now c.in-ExistsFunc.field-0 c.in-ExistsFunc.is in
-    c.condition-in-ExistsFunc.ensures.meant top u all more one.0 r s (subst (λ l. AreKept c.args.mode top c.args.kept.now all (l ++ more)) one.1 k)
+    c.condition-in-ExistsFunc.ensures.meant one.0 top u all more r s (subst (λ l. AreKept c.args.current.context.now.mode top c.args.kept.now all (l ++ more)) one.1 k)
 
 pub single_truth-returns-in-ExistsFunc-clause-kept : goal.single_truth-returns-in-ExistsFunc-clause-kept
-single_truth-returns-in-ExistsFunc-clause-kept t c = λ top u all more alone r s k.
+single_truth-returns-in-ExistsFunc-clause-kept t c = λ alone top u all more r s k.
     let one = one_exists c.args.e.now c.in-ExistsFunc.field-0 c.in-ExistsFunc.is in
-    c.condition-in-ExistsFunc.ensures.kept top u all more one.0 r s (subst (λ l. AreKept c.args.mode top c.args.kept.now all (l ++ more)) one.1 k)
+    c.condition-in-ExistsFunc.ensures.kept one.0 top u all more r s (subst (λ l. AreKept c.args.current.context.now.mode top c.args.kept.now all (l ++ more)) one.1 k)
 
 -- term after term
 
 pub joined_truth-loop-term-init : goal.joined_truth-loop-term-init
 joined_truth-loop-term-init t c = λ top u all more r s k. (
-  executed-whole c.args.mode top u (expression_view c.args.e.now)
-      ∙ (λ i. and_then (executed c.args.mode top u (sym c.requires.0 i) (sym c.clear.ensures i)) last_truth),
-  subst (λ l. AreKept c.args.mode top c.args.run.now.kept all (l ++ more))
+  executed-whole c.args.current.context.now.mode top u (expression_view c.args.e.now)
+      ∙ (λ i. and_then (executed c.args.current.context.now.mode top u (sym c.requires.0 i) (sym c.clear.ensures i)) last_truth),
+  subst (λ l. AreKept c.args.current.context.now.mode top c.args.kept.now all (l ++ more))
       (sym (conditions-postorder (expression_view c.args.e.now)) ∙ ap (flat_map term_conditions) (sym c.requires.0)) k,
 )
 
@@ -281,13 +278,13 @@ joined_truth-returns-in_err-truth-in-Condition-clause-meant t c = λ top u all m
     ∙ ap (λ x. term_view x ∷ next) c.in-Condition.is in
     let below = subst (IsBelow (size-Expr c.args.e.now)) (sym c.term-item.is ∙ c.in-Condition.is)
     (c.requires.1 c.loop-term.term-index c.term-item.result c.loop-term-test.true) in
-    let comes = subst (λ l. AreKept c.args.mode top c.loop-term.run.kept all l) (ap (λ l. flat_map term_conditions l ++ more) here
+    let comes = subst (λ l. AreKept c.args.current.context.now.mode top c.loop-term.kept all l) (ap (λ l. flat_map term_conditions l ++ more) here
     ∙ append_assoc (conditions (expression_view c.in-Condition.part.now)) (flat_map term_conditions next) more) inv.1 in
     let p = err_from_is_err_and c.from_residual.result c.from_residual.ensures.1 in
     same_answer (p.1 ∙ ap Err p.2)
-    (same_outcome (inv.0 ∙ ap (λ l. and_then (executed c.args.mode top u l (truths_view c.loop-term.run.truths)) last_truth) here)
-    (first_of_three_refused (λ b. executed c.args.mode top u next (b ∷ truths_view c.loop-term.run.truths)) last_truth
-    (c.in_err-truth-in-Condition.ensures.meant top u all (flat_map term_conditions next ++ more) below.1 r s comes)))
+    (same_outcome (inv.0 ∙ ap (λ l. and_then (executed c.args.current.context.now.mode top u l (truths_view c.loop-term.truths)) last_truth) here)
+    (first_of_three_refused (λ b. executed c.args.current.context.now.mode top u next (b ∷ truths_view c.loop-term.truths)) last_truth
+    (c.in_err-truth-in-Condition.ensures.meant below.1 top u all (flat_map term_conditions next ++ more) r s comes)))
 
 pub joined_truth-returns-in_err-join-in-Join-clause-meant : goal.joined_truth-returns-in_err-join-in-Join-clause-meant
 joined_truth-returns-in_err-join-in-Join-clause-meant t c = λ top u all more r s k.
@@ -297,58 +294,56 @@ joined_truth-returns-in_err-join-in-Join-clause-meant t c = λ top u all more r 
     ∙ ap (λ x. term_view x ∷ next) c.in-Join.is in
     let p = err_from_is_err_and c.from_residual-in_err-join-in-Join.result c.from_residual-in_err-join-in-Join.ensures.1 in
     same_answer (p.1 ∙ ap Err p.2)
-    (same_outcome (inv.0 ∙ ap (λ l. and_then (executed c.args.mode top u l (truths_view c.loop-term.run.truths)) last_truth) here)
-    (first_of_three_refused (executed c.args.mode top u next) last_truth c.in_err-join-in-Join.ensures.meant))
+    (same_outcome (inv.0 ∙ ap (λ l. and_then (executed c.args.current.context.now.mode top u l (truths_view c.loop-term.truths)) last_truth) here)
+    (first_of_three_refused (executed c.args.current.context.now.mode top u next) last_truth c.in_err-join-in-Join.ensures.meant))
 
 pub joined_truth-loop-term-preserved : goal.joined_truth-loop-term-preserved
 joined_truth-loop-term-preserved t c = λ top u all more r s k.
     let inv = c.loop-term.invariant top u all more r s k in
     let next = map term_view (drop (c.loop-term.term-index + 1) c.args.terms.now) in
     let rest = flat_map term_conditions next ++ more in
-    let truths = truths_view c.loop-term.run.truths in
+    let truths = truths_view c.loop-term.truths in
     let first = at_term c.args.terms.now c.loop-term.term-index c.term-item.result c.loop-term-test.true c.term-item.is in
-    let Holds = λ (run : Run). (truth c.args.mode (expression_view c.args.e.now) top u
-    ≡ and_then (executed c.args.mode top u next (truths_view run.truths)) last_truth) × AreKept c.args.mode top run.kept all rest in
     elim c.match-term.branch [
       | joined_truth-in-Condition+in_ok-truth-in-Condition+in_ok-push-in-Condition w ↦
           let here = first ∙ ap (λ x. term_view x ∷ next) w.in-Condition.is in
           let below = subst (IsBelow (size-Expr c.args.e.now)) (sym c.term-item.is ∙ w.in-Condition.is)
           (c.requires.1 c.loop-term.term-index c.term-item.result c.loop-term-test.true) in
-          let comes = subst (λ l. AreKept c.args.mode top c.loop-term.run.kept all l) (ap (λ l. flat_map term_conditions l ++ more) here
+          let comes = subst (λ l. AreKept c.args.current.context.now.mode top c.loop-term.kept all l) (ap (λ l. flat_map term_conditions l ++ more) here
           ∙ append_assoc (conditions (expression_view w.in-Condition.part.now)) (flat_map term_conditions next) more) inv.1 in
-          subst Holds (sym w.run-is) (
-            inv.0 ∙ ap (λ l. and_then (executed c.args.mode top u l truths) last_truth) here
-                ∙ ap (λ o. and_then (and_then o (λ b. executed c.args.mode top u next (b ∷ truths))) last_truth)
-                (value_is (w.in_ok-truth-in-Condition.ensures.meant top u all rest below.1 r s comes).ok)
-                ∙ ap (λ ts. and_then (executed c.args.mode top u next ts) last_truth) (sym w.in_ok-push-in-Condition.ensures.ok),
-            w.in_ok-truth-in-Condition.ensures.kept top u all rest below.1 r s comes,
+          rw (w.truths-is, w.kept-is) (
+            inv.0 ∙ ap (λ l. and_then (executed c.args.current.context.now.mode top u l truths) last_truth) here
+                ∙ ap (λ o. and_then (and_then o (λ b. executed c.args.current.context.now.mode top u next (b ∷ truths))) last_truth)
+                (value_is (w.in_ok-truth-in-Condition.ensures.meant below.1 top u all rest r s comes).ok)
+                ∙ ap (λ ts. and_then (executed c.args.current.context.now.mode top u next ts) last_truth) (sym w.in_ok-push-in-Condition.ensures.ok),
+            w.in_ok-truth-in-Condition.ensures.kept below.1 top u all rest r s comes,
           )
       | joined_truth-in-Join+in_ok-join-in-Join w ↦
           let here = first ∙ ap (λ x. term_view x ∷ next) w.in-Join.is in
-          subst Holds (sym w.run-is) (
-            inv.0 ∙ ap (λ l. and_then (executed c.args.mode top u l truths) last_truth) here
-                ∙ ap (λ o. and_then (and_then o (executed c.args.mode top u next)) last_truth) (value_is w.in_ok-join-in-Join.ensures.meant.ok),
-            subst (λ l. AreKept c.args.mode top c.loop-term.run.kept all (flat_map term_conditions l ++ more)) here inv.1,
+          rw (w.truths-is, w.kept-is) (
+            inv.0 ∙ ap (λ l. and_then (executed c.args.current.context.now.mode top u l truths) last_truth) here
+                ∙ ap (λ o. and_then (and_then o (executed c.args.current.context.now.mode top u next)) last_truth) (value_is w.in_ok-join-in-Join.ensures.meant.ok),
+            subst (λ l. AreKept c.args.current.context.now.mode top c.loop-term.kept all (flat_map term_conditions l ++ more)) here inv.1,
           )
     ]
 
 pub joined_truth-returns-in-Some-clause-meant : goal.joined_truth-returns-in-Some-clause-meant
 joined_truth-returns-in-Some-clause-meant t c = λ top u all more r s k.
     known ((c.loop-term.invariant top u all more r s k).0
-    ∙ ap (λ l. and_then (executed c.args.mode top u (map term_view l) (truths_view c.loop-term.run.truths)) last_truth)
+    ∙ ap (λ l. and_then (executed c.args.current.context.now.mode top u (map term_view l) (truths_view c.loop-term.truths)) last_truth)
     (drop_of_length-le c.args.terms.now c.loop-term-test.false)
     ∙ ap last_truth c.in-Some.ensures) refl
 
 pub joined_truth-returns-in-Some-clause-kept : goal.joined_truth-returns-in-Some-clause-kept
 joined_truth-returns-in-Some-clause-kept t c = λ top u all more r s k.
-    subst (λ l. AreKept c.args.mode top c.loop-term.run.kept all (flat_map term_conditions (map term_view l) ++ more))
+    subst (λ l. AreKept c.args.current.context.now.mode top c.loop-term.kept all (flat_map term_conditions (map term_view l) ++ more))
     (drop_of_length-le c.args.terms.now c.loop-term-test.false) (c.loop-term.invariant top u all more r s k).1
 
 pub joined_truth-returns-in-None-clause-meant : goal.joined_truth-returns-in-None-clause-meant
 joined_truth-returns-in-None-clause-meant t c = λ top u all more r s k. record {
   ok = tt;
   err = inr ((c.loop-term.invariant top u all more r s k).0
-      ∙ ap (λ l. and_then (executed c.args.mode top u (map term_view l) (truths_view c.loop-term.run.truths)) last_truth)
+      ∙ ap (λ l. and_then (executed c.args.current.context.now.mode top u (map term_view l) (truths_view c.loop-term.truths)) last_truth)
       (drop_of_length-le c.args.terms.now c.loop-term-test.false)
       ∙ ap last_truth c.in-None.ensures);
 }
@@ -356,39 +351,39 @@ joined_truth-returns-in-None-clause-meant t c = λ top u all more r s k. record 
 -- ---- comparisons and `exists`
 
 pub condition-returns-in_err-truth-in-Some-clause-meant : goal.condition-returns-in_err-truth-in-Some-clause-meant
-condition-returns-in_err-truth-in-Some-clause-meant t c = λ top u all more is r s k.
+condition-returns-in_err-truth-in-Some-clause-meant t c = λ is top u all more r s k.
     let p = err_from_is_err_and c.from_residual.result c.from_residual.ensures.1 in
-    same_answer (p.1 ∙ ap Err p.2) (refused_as (c.in_err-truth-in-Some.ensures.meant top u is r s
-    (kept_same c.args.mode top c.args.kept.now all more (expression_view c.args.e.now) c.in-Some.part.now k c.in-Some.ensures)))
+    same_answer (p.1 ∙ ap Err p.2) (refused_as (c.in_err-truth-in-Some.ensures.meant is top u r s
+    (kept_same c.args.current.context.now.mode top c.args.kept.now all more (expression_view c.args.e.now) c.in-Some.part.now k c.in-Some.ensures)))
 
 pub condition-returns-in_ok-truth-in-Some-clause-meant : goal.condition-returns-in_ok-truth-in-Some-clause-meant
-condition-returns-in_ok-truth-in-Some-clause-meant t c = λ top u all more is r s k. record {
-  ok = (c.in_ok-truth-in-Some.ensures.meant top u is r s
-      (kept_same c.args.mode top c.args.kept.now all more (expression_view c.args.e.now) c.in-Some.part.now k c.in-Some.ensures)).ok;
+condition-returns-in_ok-truth-in-Some-clause-meant t c = λ is top u all more r s k. record {
+  ok = (c.in_ok-truth-in-Some.ensures.meant is top u r s
+      (kept_same c.args.current.context.now.mode top c.args.kept.now all more (expression_view c.args.e.now) c.in-Some.part.now k c.in-Some.ensures)).ok;
   err = tt;
 }
 
 pub condition-returns-in-None-clause-kept : goal.condition-returns-in-None-clause-kept
-condition-returns-in-None-clause-kept t c = λ top u all more is r s k. c.first_kept.ensures.kept top u all more is r s c.in-None.ensures k
+condition-returns-in-None-clause-kept t c = λ is top u all more r s k. c.first_kept.ensures.kept is c.in-None.ensures top u all more r s k
 
 pub first_kept-returns-clause-meant : goal.first_kept-returns-clause-meant
-first_kept-returns-clause-meant t c = λ top u is r s. without _ _ (c.in_ok-truth.ensures.meant top u is r s).ok
+first_kept-returns-clause-meant t c = λ is top u r s. without _ _ (c.in_ok-truth.ensures.meant top u is r s).ok
 
 pub first_kept-returns-clause-kept : goal.first_kept-returns-clause-kept
-first_kept-returns-clause-kept t c = λ top u all more is r s none k.
-    c.in_ok-add.ensures.ok c.args.mode top all more (expression_view c.args.e.now) none
+first_kept-returns-clause-kept t c = λ is none top u all more r s k.
+    c.in_ok-add.ensures.ok c.args.current.context.now.mode top all more (expression_view c.args.e.now) none
     (from_ok _ _ _ (c.in_ok-truth.ensures.meant top u is r s).ok) k
 
 pub later_truth-returns-in-Some-clause-meant : goal.later_truth-returns-in-Some-clause-meant
-later_truth-returns-in-Some-clause-meant t c = λ top u is r s same.
-    same_outcome (by_right c.args.mode top u c.args.e.now c.in-Right-BinaryOp.op c.in-Right-BinaryOp.left _ c.args.part.now c.in-Right-BinaryOp.rights
+later_truth-returns-in-Some-clause-meant t c = λ is top u r s same.
+    same_outcome (by_right c.args.current.context.now.mode top u c.args.e.now c.in-Right-BinaryOp.op c.in-Right-BinaryOp.left _ c.args.part.now c.in-Right-BinaryOp.rights
     c.deref.result.now _ c.in-Right-BinaryOp.is-1 c.in-Right-BinaryOp.is-0 c.deref.ensures c.in-Some.ensures.1 is same
-    ∙ ap (λ rs. and_then (operand_values c.args.mode (math.paths (steps_of (steps_view c.in-Some.steps.now))) top u)
+    ∙ ap (λ rs. and_then (operand_values c.args.current.context.now.mode (math.paths (steps_of (steps_view c.in-Some.steps.now))) top u)
     (λ ls. Ok (compare (operator_view c.in-Right-BinaryOp.op) ls rs))) (sym c.as_slice.ensures))
     (c.member_truth.ensures.meant top u c.in-Some.ensures.0 r s)
 
 pub later_values-returns-in_ok-truth-in_default-clause-meant : goal.later_values-returns-in_ok-truth-in_default-clause-meant
-later_values-returns-in_ok-truth-in_default-clause-meant t c = λ top u is r s same. without _ _ (c.in_ok-truth-in_default.ensures.meant top u is r s).ok
+later_values-returns-in_ok-truth-in_default-clause-meant t c = λ is top u r s same. without _ _ (c.in_ok-truth-in_default.ensures.meant top u is r s).ok
 
 -- a comparison takes the values of both operands
 pub first_truth-returns-in_err-lefts-in-BinaryOp-clause-meant : goal.first_truth-returns-in_err-lefts-in-BinaryOp-clause-meant
@@ -396,9 +391,9 @@ first_truth-returns-in_err-lefts-in-BinaryOp-clause-meant t c = λ top u is r s.
     let view = binary_is c.args.e.now c.in-BinaryOp.op c.in-BinaryOp.left c.in-BinaryOp.right c.in-BinaryOp.is
     ∙ (λ i. math.binary (operator_view c.in-BinaryOp.op) (expression_view (sym c.deref.ensures i)) (expression_view c.in-BinaryOp.right.value)) in
     let p = err_from_is_err_and c.from_residual.result c.from_residual.ensures.1 in
-    same_answer (p.1 ∙ ap Err p.2) (same_outcome (ap (λ x. truth c.args.mode x top u) view
-    ∙ comparison_is c.args.mode (operator_view c.in-BinaryOp.op) _ _ top u (sym (ap is_condition view) ∙ is))
-    (first_refused (λ ls. and_then (operand_values c.args.mode (expression_view c.in-BinaryOp.right.value) top u)
+    same_answer (p.1 ∙ ap Err p.2) (same_outcome (ap (λ x. truth c.args.current.context.now.mode x top u) view
+    ∙ comparison_is c.args.current.context.now.mode (operator_view c.in-BinaryOp.op) _ _ top u (sym (ap is_condition view) ∙ is))
+    (first_refused (λ ls. and_then (operand_values c.args.current.context.now.mode (expression_view c.in-BinaryOp.right.value) top u)
     (λ rs. Ok (compare (operator_view c.in-BinaryOp.op) ls rs))) (c.in_err-lefts-in-BinaryOp.ensures.meant top u r s)))
 
 pub first_truth-returns-in_err-rights-in-BinaryOp-clause-meant : goal.first_truth-returns-in_err-rights-in-BinaryOp-clause-meant
@@ -406,8 +401,8 @@ first_truth-returns-in_err-rights-in-BinaryOp-clause-meant t c = λ top u is r s
     let view = binary_is c.args.e.now c.in-BinaryOp.op c.in-BinaryOp.left c.in-BinaryOp.right c.in-BinaryOp.is
     ∙ (λ i. math.binary (operator_view c.in-BinaryOp.op) (expression_view (sym c.deref.ensures i)) (expression_view (sym c.deref-in-BinaryOp.ensures i))) in
     let p = err_from_is_err_and c.from_residual-in_err-rights-in-BinaryOp.result c.from_residual-in_err-rights-in-BinaryOp.ensures.1 in
-    same_answer (p.1 ∙ ap Err p.2) (same_outcome (ap (λ x. truth c.args.mode x top u) view
-    ∙ comparison_is c.args.mode (operator_view c.in-BinaryOp.op) _ _ top u (sym (ap is_condition view) ∙ is))
+    same_answer (p.1 ∙ ap Err p.2) (same_outcome (ap (λ x. truth c.args.current.context.now.mode x top u) view
+    ∙ comparison_is c.args.current.context.now.mode (operator_view c.in-BinaryOp.op) _ _ top u (sym (ap is_condition view) ∙ is))
     (second_refused (λ ls rs. Ok (compare (operator_view c.in-BinaryOp.op) ls rs)) (c.in_ok-lefts-in-BinaryOp.ensures.meant top u r s)
     (c.in_err-rights-in-BinaryOp.ensures.meant top u r s)))
 
@@ -417,38 +412,38 @@ first_truth-returns-in_ok-rights-in-BinaryOp-clause-meant t c = λ top u is r s.
     ∙ (λ i. math.binary (operator_view c.in-BinaryOp.op) (expression_view (sym c.deref-in-BinaryOp-2.ensures i))
     (expression_view (sym c.deref-in-BinaryOp-3.ensures i))) in
     let compares = sym (ap is_condition view) ∙ is in
-    let lefts = ap (λ x. operand_values c.args.mode (expression_view x) top u) (c.deref-in-BinaryOp-2.ensures ∙ sym c.deref.ensures)
+    let lefts = ap (λ x. operand_values c.args.current.context.now.mode (expression_view x) top u) (c.deref-in-BinaryOp-2.ensures ∙ sym c.deref.ensures)
     ∙ value_of atoms_view (c.in_ok-lefts-in-BinaryOp.ensures.meant top u r s) in
-    let rights = ap (λ x. operand_values c.args.mode (expression_view x) top u) (c.deref-in-BinaryOp-3.ensures ∙ sym c.deref-in-BinaryOp.ensures)
+    let rights = ap (λ x. operand_values c.args.current.context.now.mode (expression_view x) top u) (c.deref-in-BinaryOp-3.ensures ∙ sym c.deref-in-BinaryOp.ensures)
     ∙ value_of atoms_view (c.in_ok-rights-in-BinaryOp.ensures.meant top u r s) in
-    let told = compared c.args.mode (operator_view c.in-BinaryOp.op) _ _ top u _ _ compares lefts rights
+    let told = compared c.args.current.context.now.mode (operator_view c.in-BinaryOp.op) _ _ top u _ _ compares lefts rights
     ∙ ap Ok (sym (c.compare-truth.ensures
     ∙ (λ i. compare (operator_view c.in-BinaryOp.op) (c.as_slice.ensures i) (c.as_slice-in-BinaryOp.ensures i)))) in
-    let same = c.comparison_part.ensures c.args.mode top u (operator_view c.in-BinaryOp.op) compares lefts rights told in
-    known (ap (λ x. truth c.args.mode x top u) view ∙ told) (refl, subst (λ x. IsSame c.args.mode top c.comparison_part.result x) (sym view) same)
+    let same = c.comparison_part.ensures c.args.current.context.now.mode top u (operator_view c.in-BinaryOp.op) compares lefts rights told in
+    known (ap (λ x. truth c.args.current.context.now.mode x top u) view ∙ told) (refl, subst (λ x. IsSame c.args.current.context.now.mode top c.comparison_part.result x) (sym view) same)
 
 -- `exists` takes the items that the path of the innermost one meets
 pub exists_truth-returns-in_err-is_found-in-ExistsFunc-clause-meant : goal.exists_truth-returns-in_err-is_found-in-ExistsFunc-clause-meant
-exists_truth-returns-in_err-is_found-in-ExistsFunc-clause-meant t c = λ top u is r s.
-    let asked = subst (λ found. LeadsTo c.args.mode c.args.document top (Ok found) (truth c.args.mode (expression_view c.args.e.now) top u)) c.in-Some.is
+exists_truth-returns-in_err-is_found-in-ExistsFunc-clause-meant t c = λ is top u r s.
+    let asked = subst (λ found. LeadsTo c.args.current.context.now.mode c.args.current.context.now.document top (Ok found) (truth c.args.current.context.now.mode (expression_view c.args.e.now) top u)) c.in-Some.is
     (c.in_ok-asked.ensures.meant top u is r s) in
     let p = err_from_is_err_and c.from_residual-in_err-is_found-in-ExistsFunc.result c.from_residual-in_err-is_found-in-ExistsFunc.ensures.1 in
     same_answer (p.1 ∙ ap Err p.2) (same_outcome (asked.2
-    ∙ ap (λ x. truth c.args.mode x top asked.0) (exists_is c.in-Some.asked.exists.now c.in-ExistsFunc.steps c.in-ExistsFunc.is)
+    ∙ ap (λ x. truth c.args.current.context.now.mode x top asked.0) (exists_is c.in-Some.asked.exists.now c.in-ExistsFunc.steps c.in-ExistsFunc.is)
     ∙ ap (λ o. and_then o (λ ts. Ok (Some (is_some_item ts))))
-    (from_start c.args.mode _ _ _ top asked.0 c.deref-in-ExistsFunc.ensures.value c.deref.ensures.value))
+    (from_start c.args.current.context.now.mode _ _ _ top asked.0 c.deref-in-ExistsFunc.ensures.value c.deref.ensures.value))
     (first_refused (λ ts. Ok (Some (is_some_item ts)))
     (c.in_err-is_found-in-ExistsFunc.ensures.meant top _ r (c.first_item-first.ensures top asked.0 r asked.1))))
 
 pub exists_truth-returns-in_ok-is_found-in-ExistsFunc-clause-meant : goal.exists_truth-returns-in_ok-is_found-in-ExistsFunc-clause-meant
-exists_truth-returns-in_ok-is_found-in-ExistsFunc-clause-meant t c = λ top u is r s.
-    let asked = subst (λ found. LeadsTo c.args.mode c.args.document top (Ok found) (truth c.args.mode (expression_view c.args.e.now) top u)) c.in-Some.is
+exists_truth-returns-in_ok-is_found-in-ExistsFunc-clause-meant t c = λ is top u r s.
+    let asked = subst (λ found. LeadsTo c.args.current.context.now.mode c.args.current.context.now.document top (Ok found) (truth c.args.current.context.now.mode (expression_view c.args.e.now) top u)) c.in-Some.is
     (c.in_ok-asked.ensures.meant top u is r s) in
     let met = one_ok {S = λ (b : Option Bool) d. b ≡ d} {z = Some c.in_ok-is_found-in-ExistsFunc.is_found} (λ ts. Ok (Some (is_some_item ts)))
     (c.in_ok-is_found-in-ExistsFunc.ensures.meant top _ r (c.first_item-first.ensures top asked.0 r asked.1)) (λ ts same. ap Some same) in
-    known (asked.2 ∙ ap (λ x. truth c.args.mode x top asked.0) (exists_is c.in-Some.asked.exists.now c.in-ExistsFunc.steps c.in-ExistsFunc.is)
+    known (asked.2 ∙ ap (λ x. truth c.args.current.context.now.mode x top asked.0) (exists_is c.in-Some.asked.exists.now c.in-ExistsFunc.steps c.in-ExistsFunc.is)
     ∙ ap (λ o. and_then o (λ ts. Ok (Some (is_some_item ts))))
-    (from_start c.args.mode _ _ _ top asked.0 c.deref-in-ExistsFunc.ensures.value c.deref.ensures.value) ∙ value_is met.ok) refl
+    (from_start c.args.current.context.now.mode _ _ _ top asked.0 c.deref-in-ExistsFunc.ensures.value c.deref.ensures.value) ∙ value_is met.ok) refl
 
 pub leads_to_any-returns-in_err-found-clause-meant : goal.leads_to_any-returns-in_err-found-clause-meant
 leads_to_any-returns-in_err-found-clause-meant t c = λ top u r s.
@@ -457,7 +452,7 @@ leads_to_any-returns-in_err-found-clause-meant t c = λ top u r s.
 
 pub leads_to_any-returns-in-Some-clause-meant : goal.leads_to_any-returns-in-Some-clause-meant
 leads_to_any-returns-in-Some-clause-meant t c = λ top u r s.
-    found_any (IsAt c.args.document) c.in-Some.found c.is_some.result _ c.is_some.ensures (rw c.in-Some.is at (c.in_ok-found.ensures.meant top u r s))
+    found_any (IsAt c.args.context.now.document) c.in-Some.found c.is_some.result _ c.is_some.ensures (rw c.in-Some.is at (c.in_ok-found.ensures.meant top u r s))
 
 pub leads_to_any-returns-in_err-found-in-None-clause-meant : goal.leads_to_any-returns-in_err-found-in-None-clause-meant
 leads_to_any-returns-in_err-found-in-None-clause-meant t c = λ top u r s.
@@ -468,6 +463,6 @@ pub leads_to_any-returns-in_ok-found-in-None-clause-meant : goal.leads_to_any-re
 leads_to_any-returns-in_ok-found-in-None-clause-meant t c = λ top u r s.
     given_by (c.in_ok-found-in-None.ensures.meant top u r s)
     (λ ts related. record {
-      ok = ap not c.is_empty.ensures ∙ ap (λ l. not (length l == 0)) c.as_slice.ensures ∙ some_related (IsAt c.args.document) _ ts related;
+      ok = ap not c.is_empty.ensures ∙ ap (λ l. not (length l == 0)) c.as_slice.ensures ∙ some_related (IsAt c.args.context.now.document) _ ts related;
       err = tt;
     })

@@ -2,14 +2,14 @@ use Rattle.std.proofs.Common.{List, drop}
 use Rattle.jsonb_doc.specs.Answer.{try_flat_map}
 use Rattle.jsonb_doc.specs.Spots.{Locates}
 use Rattle.jsonb_doc.specs.Tree.{Tree}
-use Rattle.jsonb.specs.Related.{AllRelated}
+use Rattle.std.specs.List.{AllZip}
 use Rattle.jsonb.specs.ItemSteps.{field_step}
 use Rattle.jsonb.proofs.Progress.{Progress}
 use Rattle.jsonb.proofs.selector.steps.named_values.Given as goal
 
 abbrev pub invariant-loop-item : goal.invariant-loop-item
 invariant-loop-item l =
-    (ts : List Tree) → AllRelated (Locates l.bytes) l.items ts →
-    Progress (AllRelated (Locates l.bytes) (drop l.item-index l.items)) (AllRelated (Locates l.bytes) l.nodes.items)
+    (ts : List Tree) → AllZip (Locates l.bytes) l.items ts →
+    Progress (AllZip (Locates l.bytes) (drop l.item-index l.items)) (AllZip (Locates l.bytes) l.nodes.items)
     (field_step l.mode l.name)
     (try_flat_map (field_step l.mode l.name) ts)

@@ -1,13 +1,13 @@
 use Rattle.std.proofs.Common.{◌≡◌, Ok, List, map, flat_map, drop}
 use Rattle.jsonb_doc.specs.Spots.{Locates}
 use Rattle.jsonb_doc.specs.Tree.{Tree}
-use Rattle.jsonb.specs.Related.{AllRelated}
+use Rattle.std.specs.List.{AllZip}
 use Rattle.jsonb.specs.Values.{values_of_item}
 use Rattle.jsonb.specs.Private.Selection.{atom_value}
 use Rattle.jsonb.proofs.Progress.{Progress}
 use Rattle.jsonb.proofs.selector.values.many_values.Given as goal
 
 abbrev pub invariant-loop-item : goal.invariant-loop-item
-invariant-loop-item l = (ts : List Tree) → AllRelated (Locates l.bytes) l.items ts →
-    Progress (AllRelated (Locates l.bytes) (drop l.item-index l.items)) (λ vs. map atom_value l.values.items ≡ vs) (λ t. Ok (values_of_item t))
+invariant-loop-item l = (ts : List Tree) → AllZip (Locates l.bytes) l.items ts →
+    Progress (AllZip (Locates l.bytes) (drop l.item-index l.items)) (λ vs. map atom_value l.values.items ≡ vs) (λ t. Ok (values_of_item t))
     (Ok (flat_map values_of_item ts))

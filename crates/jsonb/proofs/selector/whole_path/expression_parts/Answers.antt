@@ -15,21 +15,21 @@ use Rattle.jsonb.proofs.selector.whole_path.expression_parts.Goals as goal
 
 pub returns-in-Value-clause-meant : goal.returns-in-Value-clause-meant
 returns-in-Value-clause-meant c = λ form top outcome r h.
-    c.literal_parts.ensures.meant form c.args.document c.args.mode top outcome
-    (meant form c.args.mode top outcome _ _ (literal_is c.args.e.now c.in-Value.value c.in-Value.is ∙ ap (λ v. value (literal_view v)) (sym c.deref.ensures)) h)
+    c.literal_parts.ensures.meant form c.args.context.now.document c.args.context.now.mode top outcome
+    (meant form c.args.context.now.mode top outcome _ _ (literal_is c.args.e.now c.in-Value.value c.in-Value.is ∙ ap (λ v. value (literal_view v)) (sym c.deref.ensures)) h)
 
 pub returns-in_err-numbers-in-UnaryOp-clause-meant : goal.returns-in_err-numbers-in-UnaryOp-clause-meant
 returns-in_err-numbers-in-UnaryOp-clause-meant c = λ form top outcome r h.
     let p = err_from_is_err_and c.from_residual.result c.from_residual.ensures.1 in
     same_answer (p.1 ∙ ap Err p.2)
-    (same_outcome (meant form c.args.mode top outcome _ _ (unary_is c.args.e.now c.in-UnaryOp.op c.in-UnaryOp.operand c.in-UnaryOp.is) h
-    ∙ ap (λ x. and_then (operand_values c.args.mode (expression_view x) top top) (each_signed (sign_view c.in-UnaryOp.op))) (sym c.deref-in-UnaryOp.ensures))
+    (same_outcome (meant form c.args.context.now.mode top outcome _ _ (unary_is c.args.e.now c.in-UnaryOp.op c.in-UnaryOp.operand c.in-UnaryOp.is) h
+    ∙ ap (λ x. and_then (operand_values c.args.context.now.mode (expression_view x) top top) (each_signed (sign_view c.in-UnaryOp.op))) (sym c.deref-in-UnaryOp.ensures))
     (refused_as (c.in_err-numbers-in-UnaryOp.ensures.meant top r)))
 
 pub returns-in_ok-numbers-in-UnaryOp-clause-meant : goal.returns-in_ok-numbers-in-UnaryOp-clause-meant
 returns-in_ok-numbers-in-UnaryOp-clause-meant c = λ form top outcome r h.
-    same_outcome (meant form c.args.mode top outcome _ _ (unary_is c.args.e.now c.in-UnaryOp.op c.in-UnaryOp.operand c.in-UnaryOp.is) h
-    ∙ ap (λ x. and_then (operand_values c.args.mode (expression_view x) top top) (each_signed (sign_view c.in-UnaryOp.op))) (sym c.deref-in-UnaryOp.ensures))
+    same_outcome (meant form c.args.context.now.mode top outcome _ _ (unary_is c.args.e.now c.in-UnaryOp.op c.in-UnaryOp.operand c.in-UnaryOp.is) h
+    ∙ ap (λ x. and_then (operand_values c.args.context.now.mode (expression_view x) top top) (each_signed (sign_view c.in-UnaryOp.op))) (sym c.deref-in-UnaryOp.ensures))
     (record { ok = (c.in_ok-numbers-in-UnaryOp.ensures.meant top r).ok; err = tt })
 
 pub returns-in_err-number-in-BinaryOp-clause-meant : goal.returns-in_err-number-in-BinaryOp-clause-meant
@@ -37,37 +37,37 @@ returns-in_err-number-in-BinaryOp-clause-meant c = λ form top outcome r h.
     let p = err_from_is_err_and c.from_residual-in_err-number-in-BinaryOp.result c.from_residual-in_err-number-in-BinaryOp.ensures.1 in
     let o = some_of (operation (operator_view c.in-BinaryOp.op)) (sym c.is_arithmetic.ensures ∙ c.if-is_arithmetic.true) in
     same_answer (p.1 ∙ ap Err p.2)
-    (same_outcome (meant form c.args.mode top outcome _ _
+    (same_outcome (meant form c.args.context.now.mode top outcome _ _
     (binary_is c.args.e.now c.in-BinaryOp.op c.in-BinaryOp.left c.in-BinaryOp.right c.in-BinaryOp.is) h
-    ∙ ap (λ x. binary_meaning c.args.mode x (operator_view c.in-BinaryOp.op) (expression_view c.in-BinaryOp.left.value)
+    ∙ ap (λ x. binary_meaning c.args.context.now.mode x (operator_view c.in-BinaryOp.op) (expression_view c.in-BinaryOp.left.value)
     (expression_view c.in-BinaryOp.right.value) top) o.1
-    ∙ (λ i. calculation o.0 (operand_values c.args.mode (expression_view (sym c.deref-then-is_arithmetic.ensures i)) top top)
-    (operand_values c.args.mode (expression_view (sym c.deref-then-is_arithmetic-2.ensures i)) top top)))
+    ∙ (λ i. calculation o.0 (operand_values c.args.context.now.mode (expression_view (sym c.deref-then-is_arithmetic.ensures i)) top top)
+    (operand_values c.args.context.now.mode (expression_view (sym c.deref-then-is_arithmetic-2.ensures i)) top top)))
     (refused_as (c.in_err-number-in-BinaryOp.ensures.meant top o.0 r o.1)))
 
 pub returns-in_ok-number-in-BinaryOp-clause-meant : goal.returns-in_ok-number-in-BinaryOp-clause-meant
 returns-in_ok-number-in-BinaryOp-clause-meant c = λ form top outcome r h.
     let o = some_of (operation (operator_view c.in-BinaryOp.op)) (sym c.is_arithmetic.ensures ∙ c.if-is_arithmetic.true) in
-    same_outcome (meant form c.args.mode top outcome _ _ (binary_is c.args.e.now c.in-BinaryOp.op c.in-BinaryOp.left c.in-BinaryOp.right c.in-BinaryOp.is) h
-    ∙ ap (λ x. binary_meaning c.args.mode x (operator_view c.in-BinaryOp.op) (expression_view c.in-BinaryOp.left.value)
+    same_outcome (meant form c.args.context.now.mode top outcome _ _ (binary_is c.args.e.now c.in-BinaryOp.op c.in-BinaryOp.left c.in-BinaryOp.right c.in-BinaryOp.is) h
+    ∙ ap (λ x. binary_meaning c.args.context.now.mode x (operator_view c.in-BinaryOp.op) (expression_view c.in-BinaryOp.left.value)
     (expression_view c.in-BinaryOp.right.value) top) o.1
-    ∙ (λ i. calculation o.0 (operand_values c.args.mode (expression_view (sym c.deref-then-is_arithmetic.ensures i)) top top)
-    (operand_values c.args.mode (expression_view (sym c.deref-then-is_arithmetic-2.ensures i)) top top))
+    ∙ (λ i. calculation o.0 (operand_values c.args.context.now.mode (expression_view (sym c.deref-then-is_arithmetic.ensures i)) top top)
+    (operand_values c.args.context.now.mode (expression_view (sym c.deref-then-is_arithmetic-2.ensures i)) top top))
     ∙ is_outcome _ (number (number_view c.in_ok-number-in-BinaryOp.number) ∷ []) ((c.in_ok-number-in-BinaryOp.ensures.meant top o.0 r o.1).ok))
-    (one_given (AreSelected form c.args.document) _
-    (c.one_item.ensures form c.args.document (number (number_view c.in_ok-number-in-BinaryOp.number)) refl))
+    (one_given (AreSelected form c.args.context.now.document) _
+    (c.one_item.ensures form c.args.context.now.document (number (number_view c.in_ok-number-in-BinaryOp.number)) refl))
 
 pub returns-else-is_arithmetic-clause-meant : goal.returns-else-is_arithmetic-clause-meant
 returns-else-is_arithmetic-clause-meant c = λ form top outcome r h.
     let view = binary_is c.args.e.now c.in-BinaryOp.op c.in-BinaryOp.left c.in-BinaryOp.right c.in-BinaryOp.is in
-    same_outcome (meant form c.args.mode top outcome _ _ view h
-    ∙ ap (λ x. binary_meaning c.args.mode x (operator_view c.in-BinaryOp.op) (expression_view c.in-BinaryOp.left.value)
+    same_outcome (meant form c.args.context.now.mode top outcome _ _ view h
+    ∙ ap (λ x. binary_meaning c.args.context.now.mode x (operator_view c.in-BinaryOp.op) (expression_view c.in-BinaryOp.left.value)
     (expression_view c.in-BinaryOp.right.value) top)
     (none_of (operation (operator_view c.in-BinaryOp.op)) (sym c.is_arithmetic.ensures ∙ c.if-is_arithmetic.false))
-    ∙ ap (λ x. truth_list (truth c.args.mode x top top)) (sym view)) (c.whole_truth.ensures.meant form top r)
+    ∙ ap (λ x. truth_list (truth c.args.context.now.mode x top top)) (sym view)) (c.whole_truth.ensures.meant form top r)
 
 pub returns-in-ExistsFunc-clause-meant : goal.returns-in-ExistsFunc-clause-meant
 returns-in-ExistsFunc-clause-meant c = λ form top outcome r h.
     let view = exists_is c.args.e.now c.in-ExistsFunc.field-0 c.in-ExistsFunc.is in
-    same_outcome (meant form c.args.mode top outcome _ _ view h ∙ ap (λ x. truth_list (truth c.args.mode x top top)) (sym view))
+    same_outcome (meant form c.args.context.now.mode top outcome _ _ view h ∙ ap (λ x. truth_list (truth c.args.context.now.mode x top top)) (sym view))
     (c.whole_truth-in-ExistsFunc.ensures.meant form top r)

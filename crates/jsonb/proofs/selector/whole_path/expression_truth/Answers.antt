@@ -16,17 +16,17 @@ pub returns-in_err-_numbers-in-UnaryOp-clause-meant : goal.returns-in_err-_numbe
 returns-in_err-_numbers-in-UnaryOp-clause-meant c = λ top r.
     let p = err_from_is_err_and c.from_residual.result c.from_residual.ensures.1 in
     same_answer (p.1 ∙ ap Err p.2)
-    (same_outcome (ap (λ x. expression_predicate c.args.mode x top) (unary_is c.args.e.now c.in-UnaryOp.op c.in-UnaryOp.operand c.in-UnaryOp.is)
-    ∙ predicate_by_cases c.args.mode (math.unary (sign_view c.in-UnaryOp.op) (expression_view c.in-UnaryOp.operand.value)) top
-    ∙ ap (λ x. and_then (and_then (operand_values c.args.mode (expression_view x) top top) (each_signed (sign_view c.in-UnaryOp.op))) (λ ts. Ok None))
+    (same_outcome (ap (λ x. expression_predicate c.args.context.now.mode x top) (unary_is c.args.e.now c.in-UnaryOp.op c.in-UnaryOp.operand c.in-UnaryOp.is)
+    ∙ predicate_by_cases c.args.context.now.mode (math.unary (sign_view c.in-UnaryOp.op) (expression_view c.in-UnaryOp.operand.value)) top
+    ∙ ap (λ x. and_then (and_then (operand_values c.args.context.now.mode (expression_view x) top top) (each_signed (sign_view c.in-UnaryOp.op))) (λ ts. Ok None))
     (sym c.deref.ensures))
     (first_refused (λ ts. Ok None) (c.in_err-_numbers-in-UnaryOp.ensures.meant top r)))
 
 pub returns-in_ok-_numbers-in-UnaryOp-clause-meant : goal.returns-in_ok-_numbers-in-UnaryOp-clause-meant
 returns-in_ok-_numbers-in-UnaryOp-clause-meant c = λ top r.
-    same_outcome (ap (λ x. expression_predicate c.args.mode x top) (unary_is c.args.e.now c.in-UnaryOp.op c.in-UnaryOp.operand c.in-UnaryOp.is)
-    ∙ predicate_by_cases c.args.mode (math.unary (sign_view c.in-UnaryOp.op) (expression_view c.in-UnaryOp.operand.value)) top
-    ∙ ap (λ x. and_then (and_then (operand_values c.args.mode (expression_view x) top top) (each_signed (sign_view c.in-UnaryOp.op))) (λ ts. Ok None))
+    same_outcome (ap (λ x. expression_predicate c.args.context.now.mode x top) (unary_is c.args.e.now c.in-UnaryOp.op c.in-UnaryOp.operand c.in-UnaryOp.is)
+    ∙ predicate_by_cases c.args.context.now.mode (math.unary (sign_view c.in-UnaryOp.op) (expression_view c.in-UnaryOp.operand.value)) top
+    ∙ ap (λ x. and_then (and_then (operand_values c.args.context.now.mode (expression_view x) top top) (each_signed (sign_view c.in-UnaryOp.op))) (λ ts. Ok None))
     (sym c.deref.ensures))
     (one_ok (λ ts. Ok None) (c.in_ok-_numbers-in-UnaryOp.ensures.meant top r) (λ ts h. refl))
 
@@ -35,43 +35,43 @@ returns-in_err-_number-in-BinaryOp-clause-meant c = λ top r.
     let p = err_from_is_err_and c.from_residual-in_err-_number-in-BinaryOp.result c.from_residual-in_err-_number-in-BinaryOp.ensures.1 in
     let o = some_of (operation (operator_view c.in-BinaryOp.op)) (sym c.is_arithmetic.ensures ∙ c.if-is_arithmetic.true) in
     same_answer (p.1 ∙ ap Err p.2)
-    (same_outcome (ap (λ x. expression_predicate c.args.mode x top)
+    (same_outcome (ap (λ x. expression_predicate c.args.context.now.mode x top)
     (binary_is c.args.e.now c.in-BinaryOp.op c.in-BinaryOp.left c.in-BinaryOp.right c.in-BinaryOp.is)
-    ∙ predicate_by_cases c.args.mode
+    ∙ predicate_by_cases c.args.context.now.mode
     (math.binary (operator_view c.in-BinaryOp.op) (expression_view c.in-BinaryOp.left.value) (expression_view c.in-BinaryOp.right.value)) top
-    ∙ ap (λ x. binary_predicate c.args.mode x (operator_view c.in-BinaryOp.op) (expression_view c.in-BinaryOp.left.value)
+    ∙ ap (λ x. binary_predicate c.args.context.now.mode x (operator_view c.in-BinaryOp.op) (expression_view c.in-BinaryOp.left.value)
     (expression_view c.in-BinaryOp.right.value) top) o.1
-    ∙ (λ i. and_then (calculation o.0 (operand_values c.args.mode (expression_view (sym c.deref-then-is_arithmetic.ensures i)) top top)
-    (operand_values c.args.mode (expression_view (sym c.deref-then-is_arithmetic-2.ensures i)) top top)) (λ ts. Ok None)))
+    ∙ (λ i. and_then (calculation o.0 (operand_values c.args.context.now.mode (expression_view (sym c.deref-then-is_arithmetic.ensures i)) top top)
+    (operand_values c.args.context.now.mode (expression_view (sym c.deref-then-is_arithmetic-2.ensures i)) top top)) (λ ts. Ok None)))
     (first_refused (λ ts. Ok None) (c.in_err-_number-in-BinaryOp.ensures.meant top o.0 r o.1)))
 
 pub returns-in_ok-_number-in-BinaryOp-clause-meant : goal.returns-in_ok-_number-in-BinaryOp-clause-meant
 returns-in_ok-_number-in-BinaryOp-clause-meant c = λ top r.
     let o = some_of (operation (operator_view c.in-BinaryOp.op)) (sym c.is_arithmetic.ensures ∙ c.if-is_arithmetic.true) in
-    same_outcome (ap (λ x. expression_predicate c.args.mode x top)
+    same_outcome (ap (λ x. expression_predicate c.args.context.now.mode x top)
     (binary_is c.args.e.now c.in-BinaryOp.op c.in-BinaryOp.left c.in-BinaryOp.right c.in-BinaryOp.is)
-    ∙ predicate_by_cases c.args.mode
+    ∙ predicate_by_cases c.args.context.now.mode
     (math.binary (operator_view c.in-BinaryOp.op) (expression_view c.in-BinaryOp.left.value) (expression_view c.in-BinaryOp.right.value)) top
-    ∙ ap (λ x. binary_predicate c.args.mode x (operator_view c.in-BinaryOp.op) (expression_view c.in-BinaryOp.left.value)
+    ∙ ap (λ x. binary_predicate c.args.context.now.mode x (operator_view c.in-BinaryOp.op) (expression_view c.in-BinaryOp.left.value)
     (expression_view c.in-BinaryOp.right.value) top) o.1
-    ∙ (λ i. and_then (calculation o.0 (operand_values c.args.mode (expression_view (sym c.deref-then-is_arithmetic.ensures i)) top top)
-    (operand_values c.args.mode (expression_view (sym c.deref-then-is_arithmetic-2.ensures i)) top top)) (λ ts. Ok None)))
+    ∙ (λ i. and_then (calculation o.0 (operand_values c.args.context.now.mode (expression_view (sym c.deref-then-is_arithmetic.ensures i)) top top)
+    (operand_values c.args.context.now.mode (expression_view (sym c.deref-then-is_arithmetic-2.ensures i)) top top)) (λ ts. Ok None)))
     (one_ok (λ ts. Ok None) (c.in_ok-_number-in-BinaryOp.ensures.meant top o.0 r o.1) (λ ts h. refl))
 
 pub returns-else-is_arithmetic-clause-meant : goal.returns-else-is_arithmetic-clause-meant
 returns-else-is_arithmetic-clause-meant c = λ top r.
     let view = binary_is c.args.e.now c.in-BinaryOp.op c.in-BinaryOp.left c.in-BinaryOp.right c.in-BinaryOp.is in
-    same_outcome (ap (λ x. expression_predicate c.args.mode x top) view
-    ∙ predicate_by_cases c.args.mode
+    same_outcome (ap (λ x. expression_predicate c.args.context.now.mode x top) view
+    ∙ predicate_by_cases c.args.context.now.mode
     (math.binary (operator_view c.in-BinaryOp.op) (expression_view c.in-BinaryOp.left.value) (expression_view c.in-BinaryOp.right.value)) top
-    ∙ ap (λ x. binary_predicate c.args.mode x (operator_view c.in-BinaryOp.op) (expression_view c.in-BinaryOp.left.value)
+    ∙ ap (λ x. binary_predicate c.args.context.now.mode x (operator_view c.in-BinaryOp.op) (expression_view c.in-BinaryOp.left.value)
     (expression_view c.in-BinaryOp.right.value) top)
     (none_of (operation (operator_view c.in-BinaryOp.op)) (sym c.is_arithmetic.ensures ∙ c.if-is_arithmetic.false))
-    ∙ ap (λ x. truth c.args.mode x top top) (sym view)) (c.root_truth.ensures.meant top r)
+    ∙ ap (λ x. truth c.args.context.now.mode x top top) (sym view)) (c.root_truth.ensures.meant top r)
 
 pub returns-in-ExistsFunc-clause-meant : goal.returns-in-ExistsFunc-clause-meant
 returns-in-ExistsFunc-clause-meant c = λ top r.
     let view = exists_is c.args.e.now c.in-ExistsFunc.field-0 c.in-ExistsFunc.is in
-    same_outcome (ap (λ x. expression_predicate c.args.mode x top) view
-    ∙ predicate_by_cases c.args.mode (math.exists (steps_of (steps_view c.in-ExistsFunc.field-0.items))) top
-    ∙ ap (λ x. truth c.args.mode x top top) (sym view)) (c.root_truth-in-ExistsFunc.ensures.meant top r)
+    same_outcome (ap (λ x. expression_predicate c.args.context.now.mode x top) view
+    ∙ predicate_by_cases c.args.context.now.mode (math.exists (steps_of (steps_view c.in-ExistsFunc.field-0.items))) top
+    ∙ ap (λ x. truth c.args.context.now.mode x top top) (sym view)) (c.root_truth-in-ExistsFunc.ensures.meant top r)

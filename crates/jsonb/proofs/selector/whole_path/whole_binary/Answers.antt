@@ -12,4 +12,4 @@ returns-clause-meant c = λ top o r h.
     (without_memory (c.binary_number.ensures.meant o h))))
 
 pub returns-clause-errors : goal.returns-clause-errors
-returns-clause-errors c = refused_as_path c.args.mode c.binary_number.result (c.binary_number.ensures.errors c.args.mode)
+returns-clause-errors c = refused_as_path c.args.context.now.mode c.binary_number.result (c.binary_number.ensures.errors c.args.context.now.mode)

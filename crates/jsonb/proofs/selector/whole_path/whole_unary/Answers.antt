@@ -3,7 +3,7 @@ use Rattle.std.proofs.lemmas.Result.{err_from_is_err_and}
 use Rattle.jsonb_doc.specs.Answer.{and_then}
 use Rattle.jsonb.specs.PathArithmetic.{each_signed}
 use Rattle.jsonb.specs.PathViews.{sign_view}
-use Rattle.jsonb.specs.Related.{AllRelated}
+use Rattle.std.specs.List.{AllZip}
 use Rattle.jsonb.specs.Values.{values_of_item}
 use Rattle.jsonb.specs.Meaning.{operand_values}
 use Rattle.jsonb.specs.Private.Selection.{IsAt}
@@ -15,20 +15,20 @@ use Rattle.jsonb.proofs.selector.whole_path.whole_unary.Goals as goal
 pub returns-in_err-found-in-Paths-clause-meant : goal.returns-in_err-found-in-Paths-clause-meant
 returns-in_err-found-in-Paths-clause-meant c = λ top r.
     let p = err_from_is_err_and c.from_residual.result c.from_residual.ensures.1 in
-    same_answer (p.1 ∙ ap Err p.2) (same_outcome (ap (λ x. and_then (operand_values c.args.mode x top top) (each_signed (sign_view c.args.op)))
+    same_answer (p.1 ∙ ap Err p.2) (same_outcome (ap (λ x. and_then (operand_values c.args.context.now.mode x top top) (each_signed (sign_view c.args.op)))
     (paths_is c.args.operand.now c.in-Paths.steps c.in-Paths.is)
-    ∙ by_path (each_signed (sign_view c.args.op)) c.args.mode _ _ _ top top c.deref-in-Paths.ensures.value c.deref.ensures.value)
+    ∙ by_path (each_signed (sign_view c.args.op)) c.args.context.now.mode _ _ _ top top c.deref-in-Paths.ensures.value c.deref.ensures.value)
     (first_refused (λ ts. each_signed (sign_view c.args.op) (flat_map values_of_item ts))
     (c.in_err-found-in-Paths.ensures.meant top _ r (c.first_item-first.ensures top top r r))))
 
 pub returns-in_ok-found-in-Paths-clause-meant : goal.returns-in_ok-found-in-Paths-clause-meant
 returns-in_ok-found-in-Paths-clause-meant c = λ top r.
-    same_outcome (ap (λ x. and_then (operand_values c.args.mode x top top) (each_signed (sign_view c.args.op)))
+    same_outcome (ap (λ x. and_then (operand_values c.args.context.now.mode x top top) (each_signed (sign_view c.args.op)))
     (paths_is c.args.operand.now c.in-Paths.steps c.in-Paths.is)
-    ∙ by_path (each_signed (sign_view c.args.op)) c.args.mode _ _ _ top top c.deref-in-Paths.ensures.value c.deref.ensures.value)
+    ∙ by_path (each_signed (sign_view c.args.op)) c.args.context.now.mode _ _ _ top top c.deref-in-Paths.ensures.value c.deref.ensures.value)
     (followed (λ ts. each_signed (sign_view c.args.op) (flat_map values_of_item ts))
     (c.in_ok-found-in-Paths.ensures.meant top _ r (c.first_item-first.ensures top top r r))
-    (λ ts related. c.signed_items.ensures.meant ts (subst (λ l. AllRelated (IsAt c.args.document) l ts) (sym c.as_slice.ensures) related)))
+    (λ ts related. c.signed_items.ensures.meant ts (subst (λ l. AllZip (IsAt c.args.context.now.document) l ts) (sym c.as_slice.ensures) related)))
 
 pub returns-in_ok-values-in-Value-clause-meant : goal.returns-in_ok-values-in-Value-clause-meant
 returns-in_ok-values-in-Value-clause-meant c = λ top r.

@@ -5,7 +5,7 @@ use Rattle.jsonb_doc.specs.Spots.{Locates}
 use Rattle.jsonb.specs.Meaning.{step_meaning}
 use Rattle.jsonb.proofs.GivesLemmas.{same_outcome, pushed}
 use Rattle.jsonb.proofs.PathNodes.{root_is, current_is, values_is, elements_is, levels_is, dot_field_is, colon_field_is, object_field_is, indices_is}
-use Rattle.jsonb.proofs.selector.steps.push_step.Goals as goal
+use Rattle.jsonb.proofs.selector.children.push_step.Goals as goal
 
 pub returns-in-DotWildcard-clause-meant : goal.returns-in-DotWildcard-clause-meant
 returns-in-DotWildcard-clause-meant c = λ top u before n s a.

@@ -1,0 +1,49 @@
+-- What the functions answer that execute steps and filters.
+use Rattle.std.specs.Prelude.{◌≡◌, List, ◌++◌, OnOk}
+use Rattle.std.specs.List.{AllZip}
+use Rattle.jsonb_doc.specs.Answer.{Outcome, Gives, try_flat_map, IsOutOfMemory}
+use Rattle.jsonb_doc.specs.Tree.{Tree}
+use Rattle.jsonb_doc.specs.declared.spot.Spot.{Spot}
+use Rattle.jsonb.specs.PathTree.{Step, Expression}
+use Rattle.jsonb.specs.Compare.{Truth}
+use Rattle.jsonb.specs.Meaning.{step_meaning, truth}
+use Rattle.jsonb.specs.Private.Kept.{AreKept, IsSame}
+use Rattle.jsonb.specs.Private.Selection.{IsAt, HasTree, node_spots}
+use Rattle.jsonb.specs.declared.selector.document.Context.{Context}
+use Rattle.jsonb.specs.declared.selector.document.Current.{Current}
+use Rattle.jsonb.specs.declared.selector.kept.Kept.{Kept}
+use Rattle.jsonb.specs.declared.selector.kept.KeptPart.{KeptPart}
+use Rattle.jsonb.specs.declared.selector.node_list.NodeList.{NodeList}
+
+-- the answer is what the step gives of each of these items, in order
+abbrev pub GivesOfEach : Context → Step → List Spot → Outcome NodeList → Type 0
+GivesOfEach context s items answer = (top : Tree) (ts : List Tree) → HasTree context.document top
+    → AllZip (IsAt context.document) items ts
+    → Gives (λ found us. AllZip (IsAt context.document) (node_spots found) us) IsOutOfMemory answer
+    (try_flat_map (step_meaning context.mode s top) ts)
+
+-- the answer is whether the expression is true of the item
+abbrev pub TellsTruth : Current → Expression → Outcome Truth → Type 0
+TellsTruth current e answer = (top t : Tree) → HasTree current.context.now.document top
+    → IsAt current.context.now.document current.item t
+    → Gives (λ b c. b ≡ c) IsOutOfMemory answer (truth current.context.now.mode e top t)
+
+-- the same where this part of the expression is kept
+abbrev pub TellsByPart : Current → Expression → KeptPart → Outcome Truth → Type 0
+TellsByPart current e part answer = (top t : Tree) → HasTree current.context.now.document top
+    → IsAt current.context.now.document current.item t → IsSame current.context.now.mode top part e
+    → Gives (λ b c. b ≡ c) IsOutOfMemory answer (truth current.context.now.mode e top t)
+
+-- the same where parts are kept of a filter's conditions, and these come next
+abbrev pub TellsByKept : Current → Expression → List Expression → Kept → Outcome Truth → Type 0
+TellsByKept current e next kept answer = (top t : Tree) (all more : List Expression)
+    → HasTree current.context.now.document top → IsAt current.context.now.document current.item t
+    → AreKept current.context.now.mode top kept all (next ++ more)
+    → Gives (λ b c. b ≡ c) IsOutOfMemory answer (truth current.context.now.mode e top t)
+
+-- what is kept then is that of these conditions too
+abbrev pub KeepsNext : Current → List Expression → Kept → Kept → Outcome Truth → Type 0
+KeepsNext current next old new answer = (top t : Tree) (all more : List Expression)
+    → HasTree current.context.now.document top → IsAt current.context.now.document current.item t
+    → AreKept current.context.now.mode top old all (next ++ more)
+    → OnOk answer (AreKept current.context.now.mode top new all more)
