@@ -7,7 +7,7 @@ use Rattle.jsonb_doc.specs.Tree.{Tree}
 use Rattle.std.specs.List.{AllZip}
 use Rattle.jsonb.specs.Meaning.{is_some_item}
 use Rattle.jsonb.specs.ItemSteps.{list_or, on_mismatch}
-use Rattle.jsonb.specs.Private.Selection.{misfit}
+use Rattle.jsonb.specs.Private.Selection.{mismatch}
 use Rattle.jsonb.specs.declared.selector.document.Mode.{Mode}
 use Rattle.jsonb.specs.declared.selector.document.Mode.TheVariants.{Lax, Strict}
 
@@ -60,10 +60,10 @@ pub unchanged : {A B : Type 0} (R : A → B → Type 0) (xs : List A) (before : 
 unchanged R xs before a = record { ok = subst (λ l. AllZip R xs l) (sym (append-nil before)) a; err = tt }
 
 -- a step that doesn't fit gives nothing, or is refused
-pub misfits : {A : Type 0} (mode : Mode) (R : A → Tree → Type 0) (xs : List A) (before : List Tree) → AllZip R xs before →
-    Gives (λ _ ts. AllZip R xs (before ++ ts)) IsOutOfMemory (misfit mode) (on_mismatch mode [])
-misfits Lax R xs before a = unchanged R xs before a
-misfits Strict R xs before a = record { ok = tt; err = inr refl }
+pub mismatches : {A : Type 0} (mode : Mode) (R : A → Tree → Type 0) (xs : List A) (before : List Tree) → AllZip R xs before →
+    Gives (λ _ ts. AllZip R xs (before ++ ts)) IsOutOfMemory (mismatch mode) (on_mismatch mode [])
+mismatches Lax R xs before a = unchanged R xs before a
+mismatches Strict R xs before a = record { ok = tt; err = inr refl }
 
 -- ---- two parts, one after the other
 

@@ -22,7 +22,7 @@ abbrev pub on_mismatch : Mode → List Tree → Outcome (List Tree)
 on_mismatch Lax otherwise = Ok otherwise
 on_mismatch Strict otherwise = Err StrictPath
 
--- the list, or a misfit where there is none
+-- the list, or a mismatch where there is none
 abbrev pub list_or : Mode → List Tree → Option (List Tree) → Outcome (List Tree)
 list_or mode otherwise (Some ts) = Ok ts
 list_or mode otherwise None = on_mismatch mode otherwise

@@ -48,9 +48,9 @@ PushesStep bytes item old new answer step =
     → Gives (λ _ ts. AllZip (Locates bytes) new (before ++ ts)) IsOutOfMemory answer (step t)
 
 -- what a step answers that doesn't fit the item: in strict mode it is refused
-abbrev pub misfit : Mode → Result (Unit {0}) Error
-misfit Lax = Ok tt
-misfit Strict = Err StrictPath
+abbrev pub mismatch : Mode → Result (Unit {0}) Error
+mismatch Lax = Ok tt
+mismatch Strict = Err StrictPath
 
 -- the value that an operand's value is
 abbrev pub atom_value : Atom → val.Value

@@ -13,7 +13,7 @@ ghost use Rattle.jsonb.specs.PathViews.{entry_view, step_view};
 ghost use Rattle.std.specs.List.{AllZip};
 ghost use Rattle.jsonb.specs.ItemSteps.{values_of, field_step, values_step, elements_step, indices_step, picked_by, picked};
 ghost use Rattle.jsonb.specs.Meaning.{step_meaning};
-ghost use Rattle.jsonb.specs.Private.Selection.{PushesStep, is_filter, misfit};
+ghost use Rattle.jsonb.specs.Private.Selection.{PushesStep, is_filter, mismatch};
 ghost use Rattle.jsonb.specs.SelectionErrors.{IsSelectionError};
 
 use super::document::Mode;
@@ -134,8 +134,8 @@ pub(crate) fn push_step(
 
 /// A step that does not fit an item: in strict mode it is refused.
 #[inline(always)]
-fn misfit(mode: Mode) -> Result<(), Error>
-    ensures answer { result ≡ misfit mode }
+fn mismatch(mode: Mode) -> Result<(), Error>
+    ensures answer { result ≡ mismatch mode }
     ensures errors { IfErr result (IsSelectionError mode) }
 {
     match mode {
@@ -158,7 +158,7 @@ pub(crate) fn push_field(
 {
     match field_spot(bytes, item, name)? {
         Some(value) => push_spot(nodes, value),
-        None => misfit(mode),
+        None => mismatch(mode),
     }
 }
 
@@ -169,7 +169,7 @@ fn push_values(bytes: &[u8], mode: Mode, item: Spot, nodes: &mut Vec<Spot>) -> R
 {
     match values(bytes, item)? {
         Some(values) => push_spots(values, nodes),
-        None => misfit(mode),
+        None => mismatch(mode),
     }
 }
 
@@ -202,7 +202,7 @@ pub(crate) fn push_positions(
 {
     match elements(bytes, item)? {
         Some(elements) => push_picked(alloc, elements, entries, nodes),
-        None => misfit(mode),
+        None => mismatch(mode),
     }
 }
 

@@ -1,7 +1,7 @@
 use Rattle.std.proofs.Common.{[], ◌∷◌}
 use Rattle.jsonb_doc.specs.Spots.{Locates}
 use Rattle.jsonb_doc.specs.Tree.{field_of}
-use Rattle.jsonb.proofs.GivesLemmas.{found_one, none_found, misfits, same_answer, pushed}
+use Rattle.jsonb.proofs.GivesLemmas.{found_one, none_found, mismatches, same_answer, pushed}
 use Rattle.jsonb.proofs.selector.children.push_field.Goals as goal
 
 pub returns-in_err-value-clause-meant : goal.returns-in_err-value-clause-meant
@@ -18,4 +18,4 @@ returns-in-Some-clause-meant c = λ t before m a.
 pub returns-in-None-clause-meant : goal.returns-in-None-clause-meant
 returns-in-None-clause-meant c = λ t before m a.
     none_found c.args.mode [] (Locates c.args.bytes.now) (λ u. u ∷ []) (field_of c.args.name.now t) (rw c.in-None.is at (c.in_ok-value.ensures.field t m))
-    (same_answer c.misfit.ensures.answer (misfits c.args.mode (Locates c.args.bytes.now) c.args.nodes.now.items before a))
+    (same_answer c.mismatch.ensures.answer (mismatches c.args.mode (Locates c.args.bytes.now) c.args.nodes.now.items before a))

@@ -3,7 +3,7 @@ use Rattle.jsonb_doc.specs.Spots.{Locates, HasSpotsLeft}
 use Rattle.jsonb_raw.specs.Arrays.{array_values}
 use Rattle.jsonb.specs.PathViews.{entry_view}
 use Rattle.jsonb.specs.ItemSteps.{picked}
-use Rattle.jsonb.proofs.GivesLemmas.{listed, none_found, misfits, same_answer}
+use Rattle.jsonb.proofs.GivesLemmas.{listed, none_found, mismatches, same_answer}
 use Rattle.jsonb.proofs.selector.children.push_positions.Goals as goal
 
 pub returns-in_err-elements-clause-meant : goal.returns-in_err-elements-clause-meant
@@ -19,4 +19,4 @@ pub returns-in-None-clause-meant : goal.returns-in-None-clause-meant
 returns-in-None-clause-meant c = λ t before m a.
     none_found c.args.mode [] (HasSpotsLeft c.args.bytes.now) (picked (map entry_view c.args.entries.now)) (array_values t)
     (rw c.in-None.is at (c.in_ok-elements.ensures.meant t m))
-    (same_answer c.misfit.ensures.answer (misfits c.args.mode (Locates c.args.bytes.now) c.args.nodes.now.items before a))
+    (same_answer c.mismatch.ensures.answer (mismatches c.args.mode (Locates c.args.bytes.now) c.args.nodes.now.items before a))

@@ -1,7 +1,7 @@
 use Rattle.std.proofs.Common.{[]}
 use Rattle.jsonb_doc.specs.Spots.{Locates, HasSpotsLeft}
 use Rattle.jsonb.specs.ItemSteps.{values_of}
-use Rattle.jsonb.proofs.GivesLemmas.{listed_itself, unlisted, misfits, same_answer}
+use Rattle.jsonb.proofs.GivesLemmas.{listed_itself, unlisted, mismatches, same_answer}
 use Rattle.jsonb.proofs.selector.children.push_values.Goals as goal
 
 pub returns-in_err-values-clause-meant : goal.returns-in_err-values-clause-meant
@@ -15,4 +15,4 @@ returns-in-Some-clause-meant c = λ t before m a.
 pub returns-in-None-clause-meant : goal.returns-in-None-clause-meant
 returns-in-None-clause-meant c = λ t before m a.
     unlisted c.args.mode [] (HasSpotsLeft c.args.bytes.now) (values_of t) (rw c.in-None.is at (c.in_ok-values.ensures.meant t m))
-    (same_answer c.misfit.ensures.answer (misfits c.args.mode (Locates c.args.bytes.now) c.args.nodes.now.items before a))
+    (same_answer c.mismatch.ensures.answer (mismatches c.args.mode (Locates c.args.bytes.now) c.args.nodes.now.items before a))
