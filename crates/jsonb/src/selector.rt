@@ -186,11 +186,7 @@ impl<'a> Selector<'a> {
     {
         let bytes = self.root.as_bytes();
         let document = at_root(bytes)?;
-        let context = Context {
-            alloc: self.alloc,
-            mode: self.mode,
-            document,
-        };
+        let context = context_of(self.alloc, self.mode, document);
         let selected = first_selection(&context, &path.paths)?;
         first_document(self.alloc, document, &selected)
     }
@@ -232,11 +228,7 @@ impl<'a> Selector<'a> {
         ensures readable { OnOk result (HasReadableRoot (root_bytes self.old)) }
     {
         let document = at_root(self.root.as_bytes())?;
-        let context = Context {
-            alloc: self.alloc,
-            mode: self.mode,
-            document,
-        };
+        let context = context_of(self.alloc, self.mode, document);
         let selected = first_selection(&context, &path.paths)?;
         Ok(is_some(&selected))
     }
@@ -264,11 +256,7 @@ impl<'a> Selector<'a> {
             Some(e) => {
                 let bytes = self.root.as_bytes();
                 let document = at_root(bytes)?;
-                let context = Context {
-                    alloc: self.alloc,
-                    mode: self.mode,
-                    document,
-                };
+                let context = context_of(self.alloc, self.mode, document);
                 expression_truth(&context, e)
             }
             None => Ok(None),
@@ -287,6 +275,19 @@ fn at_root(bytes: &[u8]) -> Result<Document<'_>, Error>
     Ok(Document { bytes, root })
 }
 
+/// What a path is executed with on a document.
+#[inline(always)]
+fn context_of<'a>(alloc: Global, mode: Mode, document: Document<'a>) -> Context<'a>
+    ensures mode { result.mode ≡ mode }
+    ensures document { result.document ≡ document.entry }
+{
+    Context {
+        alloc,
+        mode,
+        document,
+    }
+}
+
 /// The document with its root, and what the path selects of it.
 #[inline(always)]
 fn selected_at<'s>(
@@ -301,11 +302,7 @@ fn selected_at<'s>(
     ensures readable { OnOk result (HasReadableRoot (raw_bytes root.entry)) }
 {
     let document = at_root(root.as_bytes())?;
-    let context = Context {
-        alloc,
-        mode,
-        document,
-    };
+    let context = context_of(alloc, mode, document);
     let selected = selection(&context, &path.paths)?;
     Ok((document, selected))
 }

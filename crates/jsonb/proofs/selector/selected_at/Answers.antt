@@ -15,12 +15,12 @@ returns-in_err-selected-clause-meant c = λ form top outcome d m.
     let k = c.in_ok-document.ensures.meant form top (subst (λ b. Decodes form b top) (sym c.as_bytes.ensures) d) in
     let p = err_from_is_err_and c.from_residual-in_err-selected.result c.from_residual-in_err-selected.ensures.1 in
     same_answer (p.1 ∙ ap Err p.2)
-    (refused_as (c.in_err-selected.ensures.meant form top outcome k.1
+    (refused_as ((rw (c.context_of-context.ensures.mode, c.context_of-context.ensures.document) at c.in_err-selected.ensures.meant) form top outcome k.1
     (subst (λ l. Means form c.args.mode (steps_view l) top outcome) (sym c.deref.ensures.value) m)))
 
 pub returns-clause-meant : goal.returns-clause-meant
 returns-clause-meant c = λ form top outcome d m.
     let k = c.in_ok-document.ensures.meant form top (subst (λ b. Decodes form b top) (sym c.as_bytes.ensures) d) in
-    given_by (c.in_ok-selected.ensures.meant form top outcome k.1
+    given_by ((rw (c.context_of-context.ensures.mode, c.context_of-context.ensures.document) at c.in_ok-selected.ensures.meant) form top outcome k.1
     (subst (λ l. Means form c.args.mode (steps_view l) top outcome) (sym c.deref.ensures.value) m))
     (λ ts h. record { ok = (k.0 ∙ c.as_bytes.ensures, h); err = tt })

@@ -14,4 +14,4 @@ returns-in_ok-document-in-Some-clause-truth c = λ form top d.
     same_outcome (ap (λ p. predicate (mode_of c.args.self.now) p top)
     (lone_is (path_view c.args.path.now) (expression_view c.in-Some.e.now)
     (ap (λ l. only_expression (steps_view l)) (sym c.deref.ensures.value) ∙ c.in-Some.ensures)))
-    (c.expression_truth.ensures.meant top k.1)
+    ((rw (c.context_of-context.ensures.mode, c.context_of-context.ensures.document) at c.expression_truth.ensures.meant) top k.1)
