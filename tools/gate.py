@@ -24,6 +24,7 @@ import re
 import shutil
 import sys
 import tempfile
+from collections import ChainMap
 
 sys.dont_write_bytecode = True
 import check_edits
@@ -96,9 +97,27 @@ class Output:
 
 
 def in_lanes(tasks):
-    """Does rt ci's tasks side by side. A crate's tests and edits wait for its proof, whose work they begin with."""
-    behind = {key: [(key[0], "proof")] if key[1] in ("tests", "seed") else [] for key in tasks}
-    return lanes.in_lanes({key: ([*waits, *behind[key]], *rest) for key, (waits, *rest) in tasks.items()})
+    """Does rt ci's tasks side by side. A crate's tests and edits wait for its proof, whose work they begin with.
+
+    Its edits don't wait for its tests, as they do in rt ci: a crate whose tests are not proved has failed, whatever its
+    edits came to.
+    """
+    done = {}
+    for (name, kind, *number), (waits, lines, memory, call) in tasks.items():
+        proof, tests = (name, "proof"), (name, "tests")
+        if kind in ("tests", "seed"):
+            waits = [*waits, proof]
+        elif kind == "edits":
+            waits, call = [it for it in waits if it != tests], as_if_given({tests: True}, call)
+        elif kind == "sound":
+            waits = [*waits, tests]
+        done[name, kind, *number] = waits, lines, memory, call
+    return lanes.in_lanes(done)
+
+
+def as_if_given(more, call):
+    """Returns the call of a task that takes this as given, beside what was given so far."""
+    return lambda given, jobs: call(ChainMap(given, more), jobs)
 
 
 def prove_once():

@@ -2,7 +2,9 @@
 
 rt's own estimate of memory is several times what a check of these crates takes, so that it runs nearly one at a time.
 """
+import contextlib
 import os
+import threading
 import time
 from concurrent.futures import FIRST_COMPLETED, ThreadPoolExecutor, wait
 
@@ -12,6 +14,8 @@ from edits import rt, say
 MEMORY_OF_A_CHECK = 4_500_000_000
 # The kinds of tasks, those that others wait for first.
 KINDS = ("proof", "seed", "tests", "edits", "sound", "again")
+# How much nicer than a proof the other tasks are to the processor.
+NICE = 10
 BEGUN = time.time()
 
 
@@ -24,9 +28,19 @@ def minutes(since):
     return f"{(time.time() - since) / 60:.1f} min"
 
 
+def be_nice(by):
+    """Has what this thread starts wait for the processor behind what is less nice."""
+    with contextlib.suppress(OSError):
+        os.setpriority(os.PRIO_PROCESS, threading.get_native_id(), by)
+
+
 def do_task(key, call, *given):
-    """Does a task, says how long it took and at once where an edit is not refused, and returns what it gave."""
+    """Does a task, says how long it took and at once where an edit is not refused, and returns what it gave.
+
+    Other tasks wait for a proof, so what it does goes before what they do.
+    """
     started = time.time()
+    be_nice(0 if key[1] == "proof" else NICE)
     result = call(*given)
     if key[1] == "edits" and result and result[0] != rt.REFUSED:
         say(result[1])
