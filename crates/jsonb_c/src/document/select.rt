@@ -131,6 +131,19 @@ fn predicate_match(
     match_by_path(alloc, document, &steps, strict)
 }
 
+/// A selector of the mode.
+pub(crate) fn selector(alloc: Global, document: &[u8], strict: bool) -> Selector<'_>
+    ensures root { root_bytes result ≡ document.now }
+    ensures mode { selector_mode result ≡ mode_of strict }
+{
+    let document = RawJsonb::new(document);
+    if strict {
+        Selector::new_strict(alloc, document)
+    } else {
+        Selector::new(alloc, document)
+    }
+}
+
 /// Whether a JSON path selects anything.
 #[unsafe(no_mangle)]
 pub extern "C" fn jsonb_exists(
@@ -152,19 +165,6 @@ fn path_exists(alloc: Global, document: &[u8], path: &[u8], strict: bool) -> Res
 {
     let steps = parse_json_path(alloc, path)?;
     exists_by_path(alloc, document, &steps, strict)
-}
-
-/// A selector of the mode.
-pub(crate) fn selector(alloc: Global, document: &[u8], strict: bool) -> Selector<'_>
-    ensures root { root_bytes result ≡ document.now }
-    ensures mode { selector_mode result ≡ mode_of strict }
-{
-    let document = RawJsonb::new(document);
-    if strict {
-        Selector::new_strict(alloc, document)
-    } else {
-        Selector::new(alloc, document)
-    }
 }
 
 /// What a path that was read selects.
