@@ -100,30 +100,7 @@ fn select_array(
     ensures errors { IfErr result (IsDocumentError (mode_of strict)) }
 {
     let steps = parse_json_path(alloc, path)?;
-    selector(alloc, document, strict).select_array(&steps)
-}
-
-/// Whether a JSON path selects anything.
-#[unsafe(no_mangle)]
-pub extern "C" fn jsonb_exists(
-    alloc: Global,
-    document: &[u8],
-    path: &[u8],
-    strict: bool,
-    truth: &mut u8,
-) -> u32
-    ensures { HandsOverBool (ByMeaning (mode_of strict) document.now (json_path path.now) IsFound)
-        (IsSelectionError (mode_of strict)) truth.old truth.new result }
-{
-    show_bool(path_exists(alloc, document, path, strict), truth)
-}
-
-fn path_exists(alloc: Global, document: &[u8], path: &[u8], strict: bool) -> Result<bool, Error>
-    ensures exists { ByMeaning (mode_of strict) document.now (json_path path.now) IsFound result }
-    ensures errors { IfErr result (IsSelectionError (mode_of strict)) }
-{
-    let steps = parse_json_path(alloc, path)?;
-    exists_by_path(alloc, document, &steps, strict)
+    array_by_path(alloc, document, &steps, strict)
 }
 
 /// What a JSON path says of the document: 0 for false, 1 for true, 2 for unknown.
@@ -167,6 +144,29 @@ pub(crate) fn selector(alloc: Global, document: &[u8], strict: bool) -> Selector
     }
 }
 
+/// Whether a JSON path selects anything.
+#[unsafe(no_mangle)]
+pub extern "C" fn jsonb_exists(
+    alloc: Global,
+    document: &[u8],
+    path: &[u8],
+    strict: bool,
+    truth: &mut u8,
+) -> u32
+    ensures { HandsOverBool (ByMeaning (mode_of strict) document.now (json_path path.now) IsFound)
+        (IsSelectionError (mode_of strict)) truth.old truth.new result }
+{
+    show_bool(path_exists(alloc, document, path, strict), truth)
+}
+
+fn path_exists(alloc: Global, document: &[u8], path: &[u8], strict: bool) -> Result<bool, Error>
+    ensures exists { ByMeaning (mode_of strict) document.now (json_path path.now) IsFound result }
+    ensures errors { IfErr result (IsSelectionError (mode_of strict)) }
+{
+    let steps = parse_json_path(alloc, path)?;
+    exists_by_path(alloc, document, &steps, strict)
+}
+
 /// What a path that was read selects.
 pub(crate) fn pick_by_path<'a>(
     alloc: Global,
@@ -182,24 +182,24 @@ pub(crate) fn pick_by_path<'a>(
     match pick {
         Pick::First => selector(alloc, document, strict).select_first(path),
         Pick::Value => selector(alloc, document, strict).select_value(path),
-        Pick::Array => match selector(alloc, document, strict).select_array(path) {
+        Pick::Array => match array_by_path(alloc, document, path, strict) {
             Ok(array) => Ok(Some(array)),
             Err(error) => Err(error),
         },
     }
 }
 
-/// Whether a path that was read selects anything.
-pub(crate) fn exists_by_path<'a>(
+/// One array of what a path that was read selects.
+fn array_by_path(
     alloc: Global,
-    document: &'a [u8],
-    path: &'a JsonPath<'_>,
+    document: &[u8],
+    path: &JsonPath<'_>,
     strict: bool,
-) -> Result<bool, Error>
-    ensures exists { ByMeanings (mode_of strict) document.now (path_view path.now) IsFound result }
-    ensures errors { IfErr result (IsSelectionError (mode_of strict)) }
+) -> Result<OwnedJsonb, Error>
+    ensures array { ByMeanings (mode_of strict) document.now (path_view path.now) IsArrayOf result }
+    ensures errors { IfErr result (IsDocumentError (mode_of strict)) }
 {
-    selector(alloc, document, strict).exists(path)
+    selector(alloc, document, strict).select_array(path)
 }
 
 /// What a path that was read says.
@@ -213,4 +213,17 @@ pub(crate) fn match_by_path<'a>(
     ensures errors { IfErr result (IsSelectionError (mode_of strict)) }
 {
     selector(alloc, document, strict).predicate_match(path)
+}
+
+/// Whether a path that was read selects anything.
+pub(crate) fn exists_by_path<'a>(
+    alloc: Global,
+    document: &'a [u8],
+    path: &'a JsonPath<'_>,
+    strict: bool,
+) -> Result<bool, Error>
+    ensures exists { ByMeanings (mode_of strict) document.now (path_view path.now) IsFound result }
+    ensures errors { IfErr result (IsSelectionError (mode_of strict)) }
+{
+    selector(alloc, document, strict).exists(path)
 }
