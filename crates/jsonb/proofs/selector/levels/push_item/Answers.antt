@@ -1,4 +1,4 @@
-use Rattle.std.proofs.Common.{◌≡◌, ◌+◌, ◌++◌, [], ◌∷◌, ap, subst, if◌then◌else◌, arith}
+use Rattle.std.proofs.Common.{◌++◌, [], ◌∷◌, ap, subst, if◌then◌else◌, arith}
 use Rattle.jsonb_doc.specs.Tree.{children_of}
 use Rattle.jsonb_doc.specs.Spots.{Locates}
 use Rattle.jsonb_doc.proofs.SpotsTaken.{some_spots, no_spots}
