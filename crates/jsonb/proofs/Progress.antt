@@ -5,6 +5,7 @@ use Rattle.std.proofs.Math.ListN.{drop_of_length-le}
 use Rattle.jsonb_doc.specs.Answer.{Outcome, and_then, try_flat_map, Gives, IsOutOfMemory}
 use Rattle.jsonb_doc.specs.declared.error.Error.{Error}
 use Rattle.jsonb_doc.specs.declared.error.Error.TheVariants.{OutOfMemory}
+use Rattle.jsonb_doc.specs.declared.layout.EntryKind.TheVariants as kind
 use Rattle.jsonb_doc.specs.declared.spot.Spot.{Spot}
 use Rattle.jsonb_doc.specs.declared.spot_iter.SpotIter.{SpotIter}
 use Rattle.jsonb_doc.specs.Tree.{Tree}
@@ -108,7 +109,7 @@ singles_start Left Done ts before l d = record { rest = ts; given = before; left
 
 -- what stands for no place of a list
 abbrev pub no_spot : Spot
-no_spot = record { kind = 0; start = 0; end = 0 }
+no_spot = record { kind = kind.Null; start = 0; end = 0 }
 
 module _ {A B : Type 0} (R : A → B → Type 0) (xs : List A) where
   pub list_first : (i : ℕ) (d : A) → i < length xs → (rest : List B) → AllZip R (drop i xs) rest

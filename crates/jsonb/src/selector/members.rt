@@ -16,6 +16,7 @@ ghost use Rattle.jsonb.specs.declared.selector.document.Mode.{Mode};
 ghost use Rattle.jsonb.specs.SelectionErrors.{IsSelectionError};
 
 use super::document::{Document, Mode};
+use super::kept::begins_with_current;
 use crate::path::{Expr, Path};
 use jsonb_doc::{Error, Spot, field_spot};
 
@@ -25,9 +26,10 @@ pub(crate) fn first_item(steps: &[Path<'_>], document: Document<'_>, item: Spot)
     ensures { (top t : Tree) → HasTree document.entry top → IsAt document.entry item t
         → IsAt document.entry result (start (steps_of (steps_view steps.now)) top t) }
 {
-    match steps.first() {
-        Some(Path::Current) => item,
-        _ => document.root,
+    if begins_with_current(steps) {
+        item
+    } else {
+        document.root
     }
 }
 
