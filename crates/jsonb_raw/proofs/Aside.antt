@@ -10,7 +10,7 @@ use Rattle.jsonb_doc.specs.declared.error.Error.{Error}
 use Rattle.jsonb_doc.specs.declared.item.Item.{Item}
 use Rattle.jsonb_doc.specs.declared.entry_iter.EntryIter.{EntryIter}
 use Rattle.jsonb_doc.specs.declared.entry_iter.StoredEntry.{StoredEntry}
-use Rattle.jsonb_raw.specs.Private.Compared.{Decides, IsShorter, IsWithin}
+use Rattle.jsonb_raw.specs.Private.Compared.{Decides, IsShorter}
 use Rattle.jsonb_raw.specs.declared.compared.Compared.{Compared}
 use Rattle.jsonb_raw.specs.declared.compared.Compared.TheVariants.{Known, AsOf}
 use Rattle.jsonb_raw.proofs.EntriesLeft.{SomeEntries}
@@ -86,22 +86,14 @@ pub entries_ended : (form : Form) (it it' : EntryIter) (r : Option (Result Store
     → SomeEntries form it (λ right. Q (are_equal no_trees right)) → Q b
 entries_ended form it it' r b Q e n s = subst Q (none_left form it' r b s.trees e (n.takes form s.trees s.left)) s.fact
 
--- how long the first part is that is left to compare, or both are, and one more
+-- how long the first part is that is left to compare, and one more
 abbrev pub first_left : Compared → ℕ
 first_left (Known b) = 0
 first_left (AsOf x y) = 1 + item_size x
 
-abbrev pub both_left : Compared → ℕ
-both_left (Known b) = 0
-both_left (AsOf x y) = 1 + (item_size x + item_size y)
-
 pub first_falls : (told : Compared) (n : ℕ) → IsShorter told n → first_left told ≤ n
 first_falls (Known b) n h = omega arith
 first_falls (AsOf x y) n h = omega arith
-
-pub both_fall : (told : Compared) (m n : ℕ) → IsWithin told m n → both_left told ≤ m + n
-both_fall (Known b) m n h = omega arith
-both_fall (AsOf x y) m n h = omega (arith, h.0, h.1)
 
 -- the parts that are left in the place of two others
 pub decided_along : (test : Tree → Tree → Bool) (form other_form : Form) (told : Compared) (x y : Item) (whole : Bool)

@@ -3,7 +3,7 @@ use Rattle.std.proofs.Common.{◌≡◌, ℕ, zero, suc, ◌+◌, ◌-◌, ◌/�
 use Rattle.std.specs.Int.{to_be_bytes}
 use Rattle.std.specs.Int.Digits.{digits_of}
 use Rattle.std.specs.List.{flat_map}
-use Rattle.std.proofs.lemmas.List.{map-append, take-take, take-append-le, length-append}
+use Rattle.std.proofs.lemmas.List.{map-append, take-take, length-append}
 use Rattle.std.proofs.lemmas.Grind.{flat_map-append}
 use Rattle.std.proofs.Math.Seq.{take-append-add}
 use Rattle.std.proofs.lemmas.Int.Digits.{length-digits_of-le}
@@ -18,19 +18,11 @@ packed_behind len byte now before room is =
     let next : len + 1 ≡ suc len = omega arith in
     ap₂ take next is ∙ ap (λ xs. byte ∷ xs) (take-take len 15 before (omega arith))
 
--- a word is appended, and as many of its bytes stay
-pub word_pushed : (old one two word : List ℕ) (len at : ℕ) → at ≡ length old + len → one ≡ old ++ word → two ≡ take at one → two ≡ old ++ take len word
-word_pushed old one two word len at place begun cut = cut ∙ ap₂ take place begun ∙ take-append-add old word len
-
--- the bytes are in the first word, and in both
-pub packed_short : (old first second new : List ℕ) (len : ℕ) → len ≤ length first → new ≡ old ++ take len first → new ≡ old ++ take len (first ++ second)
-packed_short old first second new len few is = is ∙ ap (λ xs. old ++ xs) (sym (take-append-le len first second few))
-
-pub packed_long : (old first second one new : List ℕ) (len more : ℕ) → len ≡ length first + more → one ≡ old ++ first → new ≡ one ++ take more second
-    → new ≡ old ++ take len (first ++ second)
-packed_long old first second one new len more split begun is =
-    is ∙ ap (λ xs. xs ++ take more second) begun ∙ append_assoc old first (take more second)
-    ∙ ap (λ xs. old ++ xs) (sym (ap (λ k. take k (first ++ second)) split ∙ take-append-add first second more))
+-- two words are appended, and as many of their bytes stay
+pub packed_pushed : (old one two three first second : List ℕ) (len at : ℕ) → at ≡ length old + len → one ≡ old ++ first → two ≡ one ++ second
+    → three ≡ take at two → three ≡ old ++ take len (first ++ second)
+packed_pushed old one two three first second len at place begun more cut =
+    cut ∙ ap₂ take place (more ∙ ap (λ xs. xs ++ second) begun ∙ append_assoc old first second) ∙ take-append-add old (first ++ second) len
 
 -- the digits that are left, and the bytes that are packed: together the number's digits and the end byte
 pub record DigitsPacked (negative : Bool) (n left len : ℕ) (bytes : List ℕ) : Type 0 where

@@ -1,5 +1,5 @@
-//! Up to 16 bytes of a key, made in two words from the last byte on and appended a word at once. No byte of them is
-//! stored alone: a load of many would have to wait for such stores.
+//! Up to 16 bytes of a key, made in two words from the last byte on and appended at once. No byte of them is stored
+//! alone: a load of many would have to wait for such stores.
 
 ghost use Rattle.std.specs.Prelude.{◌≡◌, ◌≤◌, ◌<◌, ◌+◌, ◌++◌, [], ◌∷◌, OnOk, take};
 ghost use Rattle.std.specs.Int.{to_le_bytes, w64};
@@ -9,9 +9,6 @@ use std::alloc::AllocError;
 
 /// How many bytes there can be.
 pub const ROOM: usize = 16;
-
-/// How many of them a word has.
-const HALF: usize = 8;
 
 /// Some bytes: so many of those of two words, the lowest of each first.
 #[derive(Clone, Copy)]
@@ -27,18 +24,6 @@ fn word_behind(byte: u8, word: u64) -> u64
     ensures { to_le_bytes w64 result ≡ byte ∷ take 7 (to_le_bytes w64 word) }
 {
     (word << 8) + u64::from(byte)
-}
-
-/// Appends so many of a word's bytes, the lowest first. For a moment the word stands there whole.
-#[inline(always)]
-fn push_low(out: &mut Vec<u8>, word: u64, len: usize) -> Result<(), AllocError>
-    requires { len ≤ 8 }
-    ensures { OnOk result (out.new.items ≡ out.old.items ++ take len (to_le_bytes w64 word)) }
-{
-    let start = out.len();
-    out.extend_from_slice(&word.to_le_bytes())?;
-    out.truncate(start + len);
-    Ok(())
 }
 
 impl Packed {
@@ -70,16 +55,16 @@ impl Packed {
         }
     }
 
-    /// Appends them. The second word is left alone where there is nothing in it.
+    /// Appends them. For a moment both words stand there whole.
     #[inline(always)]
     pub fn push(self, out: &mut Vec<u8>) -> Result<(), AllocError>
         requires { self.len ≤ 16 }
         ensures { OnOk result (out.new.items ≡ out.old.items ++ packed_bytes self) }
     {
-        if self.len <= HALF {
-            return push_low(out, self.first, self.len);
-        }
+        let start = out.len();
         out.extend_from_slice(&self.first.to_le_bytes())?;
-        push_low(out, self.second, self.len - HALF)
+        out.extend_from_slice(&self.second.to_le_bytes())?;
+        out.truncate(start + self.len);
+        Ok(())
     }
 }

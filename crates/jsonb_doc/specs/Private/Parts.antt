@@ -6,9 +6,7 @@ use Rattle.jsonb_doc.specs.Tree.{Tree, array, object, Trees, no_trees, tree, Pai
 use Rattle.jsonb_doc.specs.View.{number_view}
 use Rattle.jsonb_doc.specs.Value.{value_tree}
 use Rattle.jsonb_doc.specs.Private.Values.{trees_seen, members_seen}
-use Rattle.jsonb_doc.specs.declared.value.Value.{Value, Array, Object}
-use Rattle.jsonb_doc.specs.declared.value.release.Contents.{Contents}
-use Rattle.jsonb_doc.specs.declared.value.release.Contents.TheVariants.{Values, Members}
+use Rattle.jsonb_doc.specs.declared.value.Value.{Value}
 use Rattle.jsonb_doc.specs.declared.value.release.Remaining.{Remaining}
 
 abbrev mutual
@@ -42,11 +40,6 @@ waiting_parts (Some v) = parts v
 -- with so many parts in the value and so many that wait: it falls with their sum, and where that stays, with the first
 unfoldable pub to_release : ℕ → ℕ → ℕ
 to_release next waiting = (next + waiting) * (next + waiting) + next
-
--- the container that holds this
-abbrev pub holder : Contents → Value
-holder (Values vs) = Array vs
-holder (Members ms) = Object ms
 
 abbrev pub remaining : Remaining → ℕ
 remaining r = to_release (parts r.next) (waiting_parts r.waiting)

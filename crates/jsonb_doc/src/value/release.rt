@@ -3,7 +3,7 @@
 //! What waits for its turn lies in the room that a part before it has left in its container.
 
 ghost use Rattle.std.specs.Prelude.{◌≡◌, ℕ, ◌+◌, ◌<◌, IfSome, vec_len, vec_capacity};
-ghost use Rattle.jsonb_doc.specs.Private.Parts.{parts, values_parts, entries_parts, waiting_parts, to_release, remaining, holder};
+ghost use Rattle.jsonb_doc.specs.Private.Parts.{parts, values_parts, entries_parts, waiting_parts, to_release, remaining};
 
 use crate::value::Value;
 use std::collections::BTreeMap;
@@ -13,12 +13,6 @@ use std::mem::replace;
 struct Remaining<'a> {
     next: Value<'a>,
     waiting: Option<Value<'a>>,
-}
-
-/// What a container holds.
-enum Contents<'a> {
-    Values(Vec<Value<'a>>),
-    Members(BTreeMap<String, Value<'a>>),
 }
 
 impl<'a> Value<'a> {
@@ -37,10 +31,18 @@ impl<'a> Value<'a> {
     fn without_a_part(self, waiting: Option<Value<'a>>) -> Option<Remaining<'a>>
         ensures { IfSome result (λ left. remaining left < to_release (parts self.entry) (waiting_parts waiting.entry)) }
     {
-        match self.contents() {
-            Some(Contents::Values(values)) => without_value(values, waiting),
-            Some(Contents::Members(members)) => without_member(members, waiting),
-            None => without_next(waiting),
+        match self {
+            Value::Array(values) => without_value(values, waiting),
+            Value::Object(members) => without_member(members, waiting),
+            Value::Null
+            | Value::Bool(_)
+            | Value::String(_)
+            | Value::Number(_)
+            | Value::Binary(_)
+            | Value::Date(_)
+            | Value::Timestamp(_)
+            | Value::TimestampTz(_)
+            | Value::Interval(_) => without_next(waiting),
         }
     }
 
@@ -49,20 +51,9 @@ impl<'a> Value<'a> {
     pub(super) fn container(self) -> Option<Value<'a>>
         ensures { IfSome result (λ inner. inner ≡ self.entry) }
     {
-        match self.contents()? {
-            Contents::Values(values) => Some(Value::Array(values)),
-            Contents::Members(members) => Some(Value::Object(members)),
-        }
-    }
-
-    /// What the value holds, if it is a container.
-    #[inline(always)]
-    fn contents(self) -> Option<Contents<'a>>
-        ensures { IfSome result (λ held. holder held ≡ self.entry) }
-    {
         match self {
-            Value::Array(values) => Some(Contents::Values(values)),
-            Value::Object(members) => Some(Contents::Members(members)),
+            Value::Array(values) => Some(Value::Array(values)),
+            Value::Object(members) => Some(Value::Object(members)),
             Value::Null
             | Value::Bool(_)
             | Value::String(_)

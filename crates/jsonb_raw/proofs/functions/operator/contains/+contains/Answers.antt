@@ -13,7 +13,7 @@ use Rattle.jsonb_raw.specs.Private.Compared.{matches}
 use Rattle.jsonb_raw.proofs.ContainsLaws.{matched_refl}
 use Rattle.jsonb_raw.proofs.EntriesLeft.{SomeEntries-first, SomeEntries-error, SomeEntries-none, SomePairEntries-first, SomePairEntries-error, SomePairEntries-none}
 use Rattle.jsonb_raw.proofs.EntryEquals.{same_tree}
-use Rattle.jsonb_raw.proofs.Aside.{IsAnswer, IsItemAnswer, both_fall, decided_along, none_aside, put_aside, part_holds, part_fails, whole_fails, aside_along, IsOneAnswer, put_one_aside, one_holds, one_fails}
+use Rattle.jsonb_raw.proofs.Aside.{IsAnswer, IsItemAnswer, none_aside, put_aside, part_holds, part_fails, whole_fails, aside_along, IsOneAnswer, put_one_aside, one_holds, one_fails}
 use Rattle.jsonb_raw.proofs.MatchLemmas.{unmatched_key, matched_pair, no_entry_found, entry_found, scalar_match, matches_if_equal, no_object}
 use Rattle.jsonb_raw.proofs.StartLemmas.{scalar_told, scalar_found, scalars_left, scalars_decide, matched_left}
 use Rattle.jsonb_raw.proofs.functions.operator.contains.+contains.Goals as goal
@@ -22,20 +22,18 @@ use Rattle.jsonb_raw.proofs.functions.operator.contains.+contains.Goals.{parts_m
 -- ---- items
 
 pub item_matches-returns-in-Known-clause-answer : goal.item_matches-returns-in-Known-clause-answer
-item_matches-returns-in-Known-clause-answer t c = λ form other_form x y h i. rw c.in-Known.is at (c.loop-left.invariant.left form other_form x y h i)
+item_matches-returns-in-Known-clause-answer t c = λ form other_form x y h i.
+    let l = c.loop-answer.invariant.left form other_form x y h i in
+    let told = rw c.in-Known.is at (c.in_ok-answer.ensures.answer form other_form l.0 l.1 l.2 l.3) in
+    told ∙ l.4
 
-pub item_matches-returns-in_err-left-in-AsOf-clause-answer : goal.item_matches-returns-in_err-left-in-AsOf-clause-answer
-item_matches-returns-in_err-left-in-AsOf-clause-answer t c = λ form other_form x y h i.
-    let l = rw c.in-AsOf.is at (c.loop-left.invariant.left form other_form x y h i) in
-    absurd (c.in_err-left-in-AsOf.ensures.answer form other_form l.0 l.1 l.2 l.3)
-
-pub item_matches-loop-left-preserved : goal.item_matches-loop-left-preserved
-item_matches-loop-left-preserved t c = record {
-  shorter = let size = rw c.in-AsOf.is at c.loop-left.invariant.shorter in
-      omega (arith, size, both_fall _ _ _ c.in_ok-left-in-AsOf.ensures.within);
+pub item_matches-loop-answer-preserved : goal.item_matches-loop-answer-preserved
+item_matches-loop-answer-preserved t c = record {
+  shorter = let size = rw c.in-AsOf.is at c.in_ok-answer.ensures.within in omega (arith, size.0, size.1, c.loop-answer.invariant.shorter);
   left = λ form other_form x y h i.
-      decided_along matches form other_form _ _ _ _ (rw c.in-AsOf.is at (c.loop-left.invariant.left form other_form x y h i))
-      (c.in_ok-left-in-AsOf.ensures.answer form other_form);
+      let l = c.loop-answer.invariant.left form other_form x y h i in
+      let m = rw c.in-AsOf.is at (c.in_ok-answer.ensures.answer form other_form l.0 l.1 l.2 l.3) in
+      (m.0, m.1, m.2, m.3, m.4 ∙ l.4);
 }
 
 pub parts_match-returns-in-Array-Array-clause-answer : goal.parts_match-returns-in-Array-Array-clause-answer

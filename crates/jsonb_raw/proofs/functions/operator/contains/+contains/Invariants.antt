@@ -8,10 +8,10 @@ use Rattle.jsonb_doc.specs.Item.{StandsFor, item_size}
 use Rattle.jsonb_doc.specs.Private.Stored.{HasEntriesLeft, Stores, entries_room}
 use Rattle.jsonb_doc.proofs.BuilderSteps.{AreRising}
 use Rattle.jsonb_raw.specs.Contains.{is_part_of, each_is_matched, each_pair_is_matched}
-use Rattle.jsonb_raw.specs.Private.Compared.{Decides, matches}
+use Rattle.jsonb_raw.specs.Private.Compared.{matches}
 use Rattle.jsonb_raw.specs.Private.Starts.{scalars_matched}
 use Rattle.jsonb_raw.proofs.EntriesLeft.{SomeEntries, SomePairEntries}
-use Rattle.jsonb_raw.proofs.Aside.{Aside, IsAnswer, IsItemAnswer, OneAside, IsOneAnswer, both_left}
+use Rattle.jsonb_raw.proofs.Aside.{Aside, IsAnswer, IsItemAnswer, OneAside, IsOneAnswer}
 use Rattle.jsonb_raw.proofs.functions.operator.contains.+contains.Given as goal
 
 abbrev pub decreases-item_matches : goal.decreases-item_matches
@@ -33,15 +33,15 @@ abbrev pub decreases-entry_matches : goal.decreases-entry_matches
 decreases-entry_matches l = 8 * (length l.entry.now.content.now + length l.wanted.now.content.now) + 7
 
 -- the parts that are left decide the whole
-abbrev pub invariant-item_matches-loop-left : goal.invariant-item_matches-loop-left
-invariant-item_matches-loop-left l = record {
-  shorter : both_left l.left ≤ item_size l.fn.item + item_size l.fn.wanted + 1;
+abbrev pub invariant-item_matches-loop-answer : goal.invariant-item_matches-loop-answer
+invariant-item_matches-loop-answer l = record {
+  shorter : item_size l.left + item_size l.right ≤ item_size l.fn.item + item_size l.fn.wanted;
   left : (form other_form : Form) (x y : Tree) → StandsFor form l.fn.item x → StandsFor other_form l.fn.wanted y
-      → Decides matches form other_form l.left (matches x y);
+      → (t : Tree) × (u : Tree) × StandsFor form l.left t × StandsFor other_form l.right u × (matches t u ≡ matches x y);
 }
 
-abbrev pub decreases-item_matches-loop-left : goal.decreases-item_matches-loop-left
-decreases-item_matches-loop-left l = both_left l.left
+abbrev pub decreases-item_matches-loop-answer : goal.decreases-item_matches-loop-answer
+decreases-item_matches-loop-answer l = item_size l.left + item_size l.right
 
 -- the wanted elements that are left decide, with the pair that was put aside
 abbrev pub invariant-array_contains-loop-wanted : goal.invariant-array_contains-loop-wanted
