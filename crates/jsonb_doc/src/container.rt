@@ -117,6 +117,7 @@ pub fn read_container(bytes: &[u8]) -> Result<Container<'_>, Error>
 }
 
 /// The entry that is all of these bytes, its word and its content, where it is no container.
+#[inline(always)]
 fn lone_entry(bytes: &[u8]) -> Option<StoredEntry<'_>>
     ensures { MatchOption result
         ((kind : ℕ) (content : List ℕ) → IsLoneEntry bytes.now kind content → ⊥)
