@@ -1,6 +1,8 @@
 //! What a call answered, and what it is to answer.
 
-use jsonb::OwnedJsonb;
+use jsonb::{Error, OwnedJsonb};
+use std::alloc::Global;
+use std::fmt::Display;
 
 /// What a call answered.
 #[derive(Drop)]
@@ -82,4 +84,19 @@ fn are(documents: &[OwnedJsonb], wanted: &[&[u8]]) -> bool {
     documents.len() == wanted.len()
         && documents.iter().zip(wanted.iter()).all(|(document, wanted)| document.as_raw().as_bytes()
             == *wanted)
+}
+
+/// Whether a call answered this value.
+pub fn is_same<T: PartialEq + Drop>(answer: Result<T, Error>, wanted: &T) -> Result<bool, Error> {
+    Ok(answer? == *wanted)
+}
+
+/// Whether a call answered what prints so.
+pub fn prints<T: Display + Drop>(
+    alloc: Global,
+    answer: Result<T, Error>,
+    text: &str,
+) -> Result<bool, Error> {
+    let value = answer?;
+    Ok(format!(in alloc; "{value}")?.as_str() == text)
 }

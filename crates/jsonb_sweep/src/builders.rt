@@ -1,10 +1,13 @@
 //! The builders: pushes, after which a builder holds one more or is as before, and `build`.
 
 use crate::documents::*;
-use crate::mark::{begin, end, tell};
+use crate::mark::tell;
 use jsonb::{ArrayBuilder, Error, Item, Number, ObjectBuilder, elements, pairs};
 use std::alloc::Global;
 use std::io;
+
+/// `[10,20]`
+const TEN_AND_TWENTY: &[u8] = b"\x80\x00\x00\x02 \x00\x00\x02 \x00\x00\x02P\x0aP\x14";
 
 /// Makes each case of an array's builder, and tells what came of it.
 pub fn arrays(rt: &HostRuntime) -> io::Result<()> {
@@ -40,25 +43,19 @@ fn has_thirty(builder: &ArrayBuilder, pushed: Result<(), Error>) -> Result<bool,
 fn array_push_item(rt: &HostRuntime) -> Result<bool, Error> {
     let mut builder = ten_and_twenty(rt.alloc())?;
     let thirty = Item::Number(Number::UInt64(30));
-    begin(rt);
-    let pushed = builder.push_item(&thirty);
-    end(rt);
+    let pushed = marked!(rt, builder.push_item(&thirty));
     has_thirty(&builder, pushed)
 }
 
 fn array_push_document(rt: &HostRuntime) -> Result<bool, Error> {
     let mut builder = ten_and_twenty(rt.alloc())?;
-    begin(rt);
-    let pushed = builder.push_document(THIRTY);
-    end(rt);
+    let pushed = marked!(rt, builder.push_document(THIRTY));
     has_thirty(&builder, pushed)
 }
 
 fn array_build(rt: &HostRuntime) -> Result<bool, Error> {
     let builder = ten_and_twenty(rt.alloc())?;
-    begin(rt);
-    let built = builder.build();
-    end(rt);
+    let built = marked!(rt, builder.build());
     let is_kept = holds(&builder, 2, TEN_AND_TWENTY)?;
     Ok(built?.as_slice() == TEN_AND_TWENTY && is_kept)
 }
@@ -109,34 +106,26 @@ fn has_b(builder: &ObjectBuilder, pushed: Result<(), Error>) -> Result<bool, Err
 fn object_push_item(rt: &HostRuntime) -> Result<bool, Error> {
     let mut builder = letters(rt.alloc())?;
     let nine = Item::Number(Number::UInt64(9));
-    begin(rt);
-    let pushed = builder.push_item("b", &nine);
-    end(rt);
+    let pushed = marked!(rt, builder.push_item("b", &nine));
     has_b(&builder, pushed)
 }
 
 fn object_push_document(rt: &HostRuntime) -> Result<bool, Error> {
     let mut builder = letters(rt.alloc())?;
-    begin(rt);
-    let pushed = builder.push_document("b", NINE);
-    end(rt);
+    let pushed = marked!(rt, builder.push_document("b", NINE));
     has_b(&builder, pushed)
 }
 
 /// The key is found before anything is copied.
 fn object_push_again(rt: &HostRuntime) -> Result<bool, Error> {
     let mut builder = letters(rt.alloc())?;
-    begin(rt);
-    let pushed = builder.push_document("a", NINE);
-    end(rt);
+    let pushed = marked!(rt, builder.push_document("a", NINE));
     Ok(holds_letters(&builder, false, LETTERS)? && pushed == Err(Error::ObjectDuplicateKey))
 }
 
 fn object_build(rt: &HostRuntime) -> Result<bool, Error> {
     let builder = letters(rt.alloc())?;
-    begin(rt);
-    let built = builder.build();
-    end(rt);
+    let built = marked!(rt, builder.build());
     let is_kept = holds_letters(&builder, false, LETTERS)?;
     Ok(built?.as_slice() == LETTERS && is_kept)
 }
@@ -153,18 +142,14 @@ fn is_taken(pushed: Result<(), Error>, is_there: bool) -> Result<bool, Error> {
 /// Whether a builder takes an item, and holds it alone.
 pub fn array_takes(rt: &HostRuntime, item: &Item<'_>) -> Result<bool, Error> {
     let mut builder = ArrayBuilder::new(rt.alloc());
-    begin(rt);
-    let pushed = builder.push_item(item);
-    end(rt);
+    let pushed = marked!(rt, builder.push_item(item));
     is_taken(pushed, builder.len() == 1)
 }
 
 /// Whether a builder takes a pair, and holds it alone.
 pub fn object_takes(rt: &HostRuntime, key: &str, item: &Item<'_>) -> Result<bool, Error> {
     let mut builder = ObjectBuilder::new(rt.alloc());
-    begin(rt);
-    let pushed = builder.push_item(key, item);
-    end(rt);
+    let pushed = marked!(rt, builder.push_item(key, item));
     let has_one = builder.len() == 1;
     Ok(builder.contains_key(key) == has_one && is_taken(pushed, has_one)?)
 }
@@ -178,10 +163,7 @@ pub fn array_builds(rt: &HostRuntime, array: &[u8]) -> Result<bool, Error> {
     for item in items {
         builder.push_item(&item?)?;
     }
-    begin(rt);
-    let built = builder.build();
-    end(rt);
-    Ok(built?.as_slice() == array)
+    Ok(marked!(rt, builder.build())?.as_slice() == array)
 }
 
 /// Whether a builder of the object's pairs builds the object again.
@@ -194,8 +176,5 @@ pub fn object_builds(rt: &HostRuntime, object: &[u8]) -> Result<bool, Error> {
         let (key, item) = pair?;
         builder.push_item(key, &item)?;
     }
-    begin(rt);
-    let built = builder.build();
-    end(rt);
-    Ok(built?.as_slice() == object)
+    Ok(marked!(rt, builder.build())?.as_slice() == object)
 }

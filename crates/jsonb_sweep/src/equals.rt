@@ -22,10 +22,7 @@ fn values(rt: &HostRuntime) -> Result<bool, Error> {
     let item = root_item(NESTED)?;
     let value = to_value(rt.alloc(), &item)?;
     let other = to_value(rt.alloc(), &item)?;
-    begin(rt);
-    let is_same = value == other;
-    end(rt);
-    Ok(is_same)
+    Ok(marked!(rt, value == other))
 }
 
 /// The hash of a value.
@@ -38,36 +35,24 @@ fn hash_of<T: Hash>(value: &T) -> u64 {
 fn key_paths(rt: &HostRuntime) -> Result<bool, Error> {
     let paths = parse_key_paths(rt.alloc(), b"{1,a,\"b c\"}")?;
     let other = parse_key_paths(rt.alloc(), b" { 1 , \\u0061 , \"b c\" } ")?;
-    begin(rt);
-    let is_same = paths == other && hash_of(&paths) == hash_of(&other);
-    end(rt);
-    Ok(is_same)
+    Ok(marked!(rt, paths == other && hash_of(&paths) == hash_of(&other)))
 }
 
 fn owned_key_paths(rt: &HostRuntime) -> Result<bool, Error> {
     let paths = parse_key_paths(rt.alloc(), b"{1,a,\"b c\"}")?.to_owned(rt.alloc())?;
     let other = paths.clone(rt.alloc())?;
-    begin(rt);
-    let is_same = paths == other && hash_of(&paths) == hash_of(&other);
-    end(rt);
-    Ok(is_same)
+    Ok(marked!(rt, paths == other && hash_of(&paths) == hash_of(&other)))
 }
 
 fn json_paths(rt: &HostRuntime) -> Result<bool, Error> {
     let path = parse_json_path(rt.alloc(), b"$.a[*]?(@.\\u0062 == \"c\")")?;
     let other = parse_json_path(rt.alloc(), b"$.a[*]?(@.b == \"c\")")?;
-    begin(rt);
-    let is_same = path == other;
-    end(rt);
-    Ok(is_same)
+    Ok(marked!(rt, path == other))
 }
 
 fn literals(rt: &HostRuntime) -> Result<bool, Error> {
     let (document, truth) = (PathValue::Raw(RawJsonb::new(ONE)), PathValue::Boolean(true));
-    begin(rt);
-    let is_right = document != truth && truth.partial_cmp(&truth).is_some();
-    end(rt);
-    Ok(is_right)
+    Ok(marked!(rt, document != truth && truth.partial_cmp(&truth).is_some()))
 }
 
 /// Makes each case of a view, and of what is made without memory, and tells what came of it.
@@ -87,21 +72,18 @@ pub fn views(rt: &HostRuntime) -> io::Result<()> {
 
 fn as_key_path(rt: &HostRuntime) -> Result<bool, Error> {
     let step = OwnedKeyPath::Name(String::from_str(rt.alloc(), "abc")?);
-    begin(rt);
-    let is_abc = match step.as_key_path() {
-        KeyPath::Name(name) => name.as_str() == "abc",
-        _ => false,
-    };
-    end(rt);
-    Ok(is_abc)
+    Ok(marked!(
+        rt,
+        match step.as_key_path() {
+            KeyPath::Name(name) => name.as_str() == "abc",
+            _ => false,
+        }
+    ))
 }
 
 fn is_predicate(rt: &HostRuntime) -> Result<bool, Error> {
     let path = parse_json_path(rt.alloc(), b"$.a == 1")?;
-    begin(rt);
-    let is_predicate = path.is_predicate();
-    end(rt);
-    Ok(is_predicate)
+    Ok(marked!(rt, path.is_predicate()))
 }
 
 fn level(rt: &HostRuntime) -> Result<bool, Error> {
@@ -109,9 +91,7 @@ fn level(rt: &HostRuntime) -> Result<bool, Error> {
         start: 2,
         end: None,
     };
-    begin(rt);
-    let answer = second.check_recursive_level(1);
-    end(rt);
+    let answer = marked!(rt, second.check_recursive_level(1));
     Ok(answer == (false, true))
 }
 

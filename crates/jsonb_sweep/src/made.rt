@@ -35,18 +35,13 @@ pub fn nested(alloc: Global, depth: u8) -> Result<Vec<u8>, Error> {
     Ok(document)
 }
 
-/// A text of a part that many times, with another one in front and one behind.
-pub fn repeated(
-    alloc: Global,
-    front: &str,
-    part: &str,
-    behind: &str,
-    count: u64,
-) -> Result<String, Error> {
+/// A text of three parts, the middle one that many times.
+pub fn repeated(alloc: Global, parts: [&str; 3], count: u64) -> Result<String, Error> {
+    let [front, part, end] = parts;
     let mut text = String::from_str(alloc, front)?;
     for _ in 0..count {
         text.push_str(part)?;
     }
-    text.push_str(behind)?;
+    text.push_str(end)?;
     Ok(text)
 }

@@ -1,20 +1,60 @@
 //! Makes each call between two marks, and tells what came of it.
 #![tactic(auto)]
 
+/// Makes a call between the marks.
+macro_rules! marked {
+    ($rt:expr, $call:expr) => {{
+        $crate::mark::begin($rt);
+        let answer = $call;
+        $crate::mark::end($rt);
+        answer
+    }};
+}
+
+/// Copies a value between the marks. True where the copy is that value.
+macro_rules! clones {
+    ($rt:expr, $value:expr) => {{
+        let value = $value;
+        let answer = marked!($rt, value.clone($rt.alloc()));
+        $crate::answer::is_same(answer, &value)
+    }};
+}
+
+/// Makes a value own its texts between the marks. True where that is the same value.
+macro_rules! owns {
+    ($rt:expr, $value:expr) => {{
+        let value = $value;
+        let answer = marked!($rt, value.to_owned($rt.alloc()));
+        $crate::answer::is_same(answer, &value)
+    }};
+}
+
+/// Makes calls that take no memory, each between marks of its own, and tells what came of them.
+macro_rules! tell_free {
+    ($rt:expr; $($name:literal: $are_right:expr;)+) => {{
+        $($crate::mark::tell($rt, $name, Ok(marked!($rt, $are_right)))?;)+
+        Ok(())
+    }};
+}
+
+/// A table: each row stands in a line, and is a tuple.
+macro_rules! rows {
+    ($($($part:expr),+;)+) => { [$(($($part),+)),+] };
+}
+
 mod answer;
 mod arrays;
 mod builders;
 mod call;
 mod documents;
 mod equals;
-mod free;
-mod key_paths;
 mod long;
 mod made;
 mod many;
 mod mark;
 mod numbers;
 mod objects;
+mod parts;
 mod paths;
 mod prints;
 mod reads;
@@ -46,14 +86,14 @@ fn small(rt: &HostRuntime) -> io::Result<()> {
     values::cases(rt)?;
     builders::arrays(rt)?;
     builders::objects(rt)?;
-    key_paths::cases(rt)?;
-    key_paths::steps(rt)?;
-    key_paths::tokens(rt)?;
+    paths::key_paths(rt)?;
+    parts::of_key_paths(rt)?;
+    parts::tokens(rt)?;
     arrays::cases(rt)?;
     objects::cases(rt)?;
     wholes::cases(rt)?;
-    paths::cases(rt)?;
-    paths::parts(rt)?;
+    paths::json_paths(rt)?;
+    parts::of_json_paths(rt)?;
     selections::calls(rt)?;
     selections::others(rt)
 }
@@ -70,14 +110,9 @@ fn without_memory(rt: &HostRuntime) -> io::Result<()> {
 
 /// The calls on documents and texts of that many parts.
 fn many_parts(rt: &HostRuntime, count: u64) -> io::Result<()> {
-    many::arrays(rt, count)?;
-    many::array_parts(rt, count)?;
-    many::elements_of_arrays(rt, count)?;
-    many::objects(rt, count)?;
-    many::object_parts(rt, count)?;
-    many::pairs_of_objects(rt, count)?;
+    many::elements(rt, count)?;
+    many::pairs(rt, count)?;
     many::selections(rt, count)?;
-    long::key_paths_of(rt, count)?;
-    long::json_paths_of(rt, count)?;
+    long::paths(rt, count)?;
     long::texts(rt, count)
 }

@@ -1,281 +1,212 @@
 //! Calls on documents of many parts, in which growths come late.
 
 use crate::answer::Wanted;
-use crate::arrays::ArrayCall;
-use crate::call::{Call, asked, asked_again};
+use crate::call::{Call, Key, asked, asked_again};
 use crate::documents::*;
-use crate::made::{elements, pairs};
-use crate::mark::{begin, end, tell};
-use crate::objects::{ObjectCall, Picking};
-use crate::selections::{Asked, Selection};
-use crate::wholes::WholeCall;
-use crate::{builders, paths, values, wholes};
+use crate::mark::tell;
+use crate::objects::Picking;
+use crate::selections::{Selection, Way, ask};
+use crate::{builders, made, parts, values, wholes};
 use jsonb::{ArrayBuilder, Error, ObjectBuilder, RawJsonb};
+use std::alloc::Global;
 use std::io;
 
-/// The calls that make one key of a whole document.
-const KEYS_OF: [(&str, WholeCall<'static>); 6] = [
-    ("convert_to_comparable", WholeCall::ConvertToComparable),
-    (
-        "convert_to_comparable_wide",
-        WholeCall::ConvertToComparableWide,
-    ),
-    ("equality_key", WholeCall::EqualityKey),
-    (
-        "convert_to_comparable_into",
-        WholeCall::ConvertToComparableInto,
-    ),
-    (
-        "convert_to_comparable_wide_into",
-        WholeCall::ConvertToComparableWideInto,
-    ),
-    ("equality_key_into", WholeCall::EqualityKeyInto),
-];
+/// `[10]`
+const ONLY_TEN: &[u8] = b"\x80\x00\x00\x01 \x00\x00\x02P\x0a";
 
-/// Makes the calls on an array that give it back, and tells what came of each.
-pub fn arrays(rt: &HostRuntime, count: u64) -> io::Result<()> {
-    for (name, call) in [
-        ("array_distinct", ArrayCall::Distinct),
-        ("array_except", ArrayCall::Except(ONE_ELEMENT)),
-        ("delete_by_index of none", ArrayCall::Delete(-2147483648)),
-        ("delete_by_name of none", ArrayCall::DeleteText("a")),
-    ] {
-        let is_right = array_is_kept(rt, &call, count);
-        tell(rt, format_args!("{count} elements: {name}"), is_right)?;
-    }
-    for (name, call) in [
-        ("strip_nulls", WholeCall::StripNulls),
-        ("concat", WholeCall::Concat(EMPTY_ARRAY)),
-    ] {
-        let is_right = array_is_kept(rt, &call, count);
-        tell(rt, format_args!("{count} elements: {name}"), is_right)?;
-    }
-    Ok(())
-}
+/// `[]`
+const EMPTY_ARRAY: &[u8] = b"\x80\x00\x00\x00";
 
-/// Whether the call gives the array back.
-fn array_is_kept<C: Call>(rt: &HostRuntime, call: &C, count: u64) -> Result<bool, Error> {
-    let document = elements(rt.alloc(), count)?;
-    asked(rt, call, &document, Wanted::Document(&document))
-}
-
-/// Makes the calls on an array that change it, or find something in it, and tells what came of each.
-pub fn array_parts(rt: &HostRuntime, count: u64) -> io::Result<()> {
-    for (name, call) in [
-        ("array_insert in the middle", ArrayCall::Insert(20, ONE)),
-        ("get_by_index", ArrayCall::Get(20)),
-        ("delete_by_index", ArrayCall::Delete(20)),
-    ] {
-        let is_right = of_elements(rt, &call, count);
-        tell(rt, format_args!("{count} elements: {name}"), is_right)?;
-    }
-    for (name, call) in &KEYS_OF {
-        let is_right = of_elements(rt, call, count);
-        tell(rt, format_args!("{count} elements: {name}"), is_right)?;
-    }
-    Ok(())
-}
-
-fn of_elements<C: Call>(rt: &HostRuntime, call: &C, count: u64) -> Result<bool, Error> {
-    asked_again(rt, call, &elements(rt.alloc(), count)?)
-}
-
-/// Other calls on an array.
+/// What a document has many of.
 #[derive(Clone, Copy)]
-enum OfArray {
+enum Kind {
+    Elements,
+    Pairs,
+}
+
+impl Kind {
+    fn name(self) -> &'static str {
+        match self {
+            Kind::Elements => "elements",
+            Kind::Pairs => "pairs",
+        }
+    }
+
+    fn document(self, alloc: Global, count: u64) -> Result<Vec<u8>, Error> {
+        match self {
+            Kind::Elements => made::elements(alloc, count),
+            Kind::Pairs => made::pairs(alloc, count),
+        }
+    }
+}
+
+/// A call on a document of many parts.
+#[derive(Clone, Copy)]
+enum ManyCall {
+    /// One that gives the document back.
+    Keep(Call<'static>),
+    /// One that answers the same again.
+    Again(Call<'static>),
     Intersection,
     Values,
     Leaves,
     ToValue,
     CloneValue,
     Encode,
-    Push,
-    Build,
+    PushElement,
+    BuildArray,
     GetByKeyPath,
     DeleteByKeyPath,
     CloneDocument,
+    Insert,
+    Keys,
+    DeleteText,
+    Each,
+    Pick(Picking),
+    PushPair,
+    BuildObject,
 }
 
-const OF_ARRAYS: [(&str, OfArray); 11] = [
-    ("array_intersection", OfArray::Intersection),
-    ("array_values", OfArray::Values),
-    ("extract_scalar_key_values", OfArray::Leaves),
-    ("to_value", OfArray::ToValue),
-    ("Value::clone", OfArray::CloneValue),
-    ("encode_item", OfArray::Encode),
-    ("ArrayBuilder::push_document", OfArray::Push),
-    ("ArrayBuilder::build", OfArray::Build),
-    ("get_by_keypath", OfArray::GetByKeyPath),
-    ("delete_by_keypath", OfArray::DeleteByKeyPath),
-    ("OwnedJsonb::clone", OfArray::CloneDocument),
-];
+static ARRAYS_CHANGED: [(&str, ManyCall); 9] = rows! {
+    "array_distinct", ManyCall::Keep(Call::Distinct);
+    "array_except", ManyCall::Keep(Call::Except(ONE_ELEMENT));
+    "delete_by_index of none", ManyCall::Keep(Call::DeleteAt(-2147483648));
+    "delete_by_name of none", ManyCall::Keep(Call::Delete("a"));
+    "strip_nulls", ManyCall::Keep(Call::StripNulls);
+    "concat", ManyCall::Keep(Call::Concat(EMPTY_ARRAY));
+    "array_insert in the middle", ManyCall::Again(Call::InsertAt(20, ONE));
+    "get_by_index", ManyCall::Again(Call::GetAt(20));
+    "delete_by_index", ManyCall::Again(Call::DeleteAt(20));
+};
 
-/// Makes other calls on an array, and tells what came of each.
-pub fn elements_of_arrays(rt: &HostRuntime, count: u64) -> io::Result<()> {
-    for (name, call) in &OF_ARRAYS {
-        let is_right = of_array(rt, *call, count);
-        tell(rt, format_args!("{count} elements: {name}"), is_right)?;
+/// The calls that make one key of a whole document.
+static KEYS_OF: [(&str, ManyCall); 6] = rows! {
+    "convert_to_comparable", ManyCall::Again(Call::Make(Key::Comparable));
+    "convert_to_comparable_wide", ManyCall::Again(Call::Make(Key::ComparableWide));
+    "equality_key", ManyCall::Again(Call::Make(Key::Equality));
+    "convert_to_comparable_into", ManyCall::Again(Call::Push(Key::Comparable));
+    "convert_to_comparable_wide_into", ManyCall::Again(Call::Push(Key::ComparableWide));
+    "equality_key_into", ManyCall::Again(Call::Push(Key::Equality));
+};
+
+static OF_ARRAYS: [(&str, ManyCall); 11] = rows! {
+    "array_intersection", ManyCall::Intersection;
+    "array_values", ManyCall::Values;
+    "extract_scalar_key_values", ManyCall::Leaves;
+    "to_value", ManyCall::ToValue;
+    "Value::clone", ManyCall::CloneValue;
+    "encode_item", ManyCall::Encode;
+    "ArrayBuilder::push_document", ManyCall::PushElement;
+    "ArrayBuilder::build", ManyCall::BuildArray;
+    "get_by_keypath", ManyCall::GetByKeyPath;
+    "delete_by_keypath", ManyCall::DeleteByKeyPath;
+    "OwnedJsonb::clone", ManyCall::CloneDocument;
+};
+
+static OBJECTS_CHANGED: [(&str, ManyCall); 7] = rows! {
+    "delete_by_name of none", ManyCall::Keep(Call::Delete("a"));
+    "object_insert of a pair that is there", ManyCall::Keep(Call::Replace("key 000001", ONE));
+    "strip_nulls", ManyCall::Keep(Call::StripNulls);
+    "concat", ManyCall::Keep(Call::Concat(EMPTY_OBJECT));
+    "get_by_name", ManyCall::Again(Call::Get("key 000020"));
+    "get_by_name in another case", ManyCall::Again(Call::GetIgnoringCase("KEY 000020"));
+    "delete_by_name", ManyCall::Again(Call::Delete("key 000020"));
+};
+
+static OF_OBJECTS: [(&str, ManyCall); 10] = rows! {
+    "object_insert in the middle", ManyCall::Insert;
+    "object_keys", ManyCall::Keys;
+    "delete_by_name of a text", ManyCall::DeleteText;
+    "object_each", ManyCall::Each;
+    "object_pick", ManyCall::Pick(Picking::Pick);
+    "object_delete", ManyCall::Pick(Picking::Delete);
+    "to_value", ManyCall::ToValue;
+    "Value::clone", ManyCall::CloneValue;
+    "ObjectBuilder::push_document", ManyCall::PushPair;
+    "ObjectBuilder::build", ManyCall::BuildObject;
+};
+
+/// Makes the calls on an array of that many elements, and tells what came of each.
+pub fn elements(rt: &HostRuntime, count: u64) -> io::Result<()> {
+    ask_each(rt, Kind::Elements, count, &ARRAYS_CHANGED)?;
+    ask_each(rt, Kind::Elements, count, &KEYS_OF)?;
+    ask_each(rt, Kind::Elements, count, &OF_ARRAYS)
+}
+
+/// Makes the calls on an object of that many pairs, and tells what came of each.
+pub fn pairs(rt: &HostRuntime, count: u64) -> io::Result<()> {
+    ask_each(rt, Kind::Pairs, count, &OBJECTS_CHANGED)?;
+    ask_each(rt, Kind::Pairs, count, &KEYS_OF)?;
+    ask_each(rt, Kind::Pairs, count, &OF_OBJECTS)
+}
+
+fn ask_each(rt: &HostRuntime, of: Kind, count: u64, calls: &[(&str, ManyCall)]) -> io::Result<()> {
+    for (name, call) in calls {
+        let is_right = call.ask(rt, of, count);
+        tell(rt, format_args!("{count} {}: {name}", of.name()), is_right)?;
     }
     Ok(())
 }
 
-fn of_array(rt: &HostRuntime, call: OfArray, count: u64) -> Result<bool, Error> {
-    let document = elements(rt.alloc(), count)?;
-    match call {
-        OfArray::Intersection => asked(
-            rt,
-            &ArrayCall::Intersection(&document),
-            &document,
-            Wanted::Document(&document),
-        ),
-        OfArray::Values => asked(rt, &ArrayCall::Values, &document, Wanted::Count(count)),
-        OfArray::Leaves => leaves(rt, &document, count),
-        OfArray::ToValue => values::decode(rt, &document),
-        OfArray::CloneValue => values::clone(rt, &document),
-        OfArray::Encode => values::encode(rt, &document),
-        OfArray::Push => push_to_array(rt, &document),
-        OfArray::Build => builders::array_builds(rt, &document),
-        OfArray::GetByKeyPath => wholes::number_is_found(rt, &document),
-        OfArray::DeleteByKeyPath => wholes::number_is_deleted(rt, &document),
-        OfArray::CloneDocument => wholes::clone(rt, &document),
+impl ManyCall {
+    fn ask(self, rt: &HostRuntime, of: Kind, count: u64) -> Result<bool, Error> {
+        let document = of.document(rt.alloc(), count)?;
+        let same = Wanted::Document(&document);
+        match self {
+            ManyCall::Keep(call) => asked(rt, &call, &document, same),
+            ManyCall::Again(call) => asked_again(rt, &call, &document),
+            ManyCall::Intersection => asked(rt, &Call::Intersection(&document), &document, same),
+            ManyCall::Values => asked(rt, &Call::Values, &document, Wanted::Count(count)),
+            ManyCall::Leaves => leaves(rt, &document, count),
+            ManyCall::ToValue => values::decode(rt, &document),
+            ManyCall::CloneValue => values::clone(rt, &document),
+            ManyCall::Encode => values::encode(rt, &document),
+            ManyCall::PushElement => push_element(rt, &document),
+            ManyCall::BuildArray => builders::array_builds(rt, &document),
+            ManyCall::GetByKeyPath => wholes::number_is_found(rt, &document),
+            ManyCall::DeleteByKeyPath => wholes::number_is_deleted(rt, &document),
+            ManyCall::CloneDocument => wholes::clone(rt, &document),
+            ManyCall::Insert => insert(rt, &document),
+            ManyCall::Keys => keys(rt, &document, count),
+            ManyCall::DeleteText => delete_text(rt, &document),
+            ManyCall::Each => each(rt, &document, count),
+            ManyCall::Pick(picking) => picking.picks_all(rt, &document),
+            ManyCall::PushPair => push_pair(rt, &document),
+            ManyCall::BuildObject => builders::object_builds(rt, &document),
+        }
     }
 }
 
 fn leaves(rt: &HostRuntime, document: &[u8], count: u64) -> Result<bool, Error> {
-    begin(rt);
-    let answer = RawJsonb::new(document).extract_scalar_key_values(rt.alloc(), false);
-    end(rt);
+    let answer = marked!(
+        rt,
+        RawJsonb::new(document).extract_scalar_key_values(rt.alloc(), false)
+    );
     Ok(answer?.len() as u64 == count)
 }
 
-fn push_to_array(rt: &HostRuntime, document: &[u8]) -> Result<bool, Error> {
+fn push_element(rt: &HostRuntime, document: &[u8]) -> Result<bool, Error> {
     let mut builder = ArrayBuilder::new(rt.alloc());
     builder.push_document(TEN)?;
-    begin(rt);
-    let pushed = builder.push_document(document);
-    end(rt);
+    let pushed = marked!(rt, builder.push_document(document));
     if pushed.is_err() && builder.len() == 1 && builder.build()?.as_slice() == ONLY_TEN {
         pushed?;
     }
     Ok(builder.len() == 2)
 }
 
-/// Makes the calls on an object that give it back, and tells what came of each.
-pub fn objects(rt: &HostRuntime, count: u64) -> io::Result<()> {
-    for (name, call) in [
-        ("delete_by_name of none", ObjectCall::DeleteByName("a")),
-        (
-            "object_insert of a pair that is there",
-            ObjectCall::Replace("key 000001", ONE),
-        ),
-    ] {
-        let is_right = object_is_kept(rt, &call, count);
-        tell(rt, format_args!("{count} pairs: {name}"), is_right)?;
-    }
-    for (name, call) in [
-        ("strip_nulls", WholeCall::StripNulls),
-        ("concat", WholeCall::Concat(EMPTY_OBJECT)),
-    ] {
-        let is_right = object_is_kept(rt, &call, count);
-        tell(rt, format_args!("{count} pairs: {name}"), is_right)?;
-    }
-    Ok(())
-}
-
-/// Whether the call gives the object back.
-fn object_is_kept<C: Call>(rt: &HostRuntime, call: &C, count: u64) -> Result<bool, Error> {
-    let document = pairs(rt.alloc(), count)?;
-    asked(rt, call, &document, Wanted::Document(&document))
-}
-
-/// Makes the calls on an object that change it, or find something in it, and tells what came of each.
-pub fn object_parts(rt: &HostRuntime, count: u64) -> io::Result<()> {
-    for (name, call) in [
-        ("get_by_name", ObjectCall::Get("key 000020")),
-        (
-            "get_by_name in another case",
-            ObjectCall::GetIgnoringCase("KEY 000020"),
-        ),
-        ("delete_by_name", ObjectCall::DeleteByName("key 000020")),
-    ] {
-        let is_right = of_pairs(rt, &call, count);
-        tell(rt, format_args!("{count} pairs: {name}"), is_right)?;
-    }
-    for (name, call) in &KEYS_OF {
-        let is_right = of_pairs(rt, call, count);
-        tell(rt, format_args!("{count} pairs: {name}"), is_right)?;
-    }
-    Ok(())
-}
-
-fn of_pairs<C: Call>(rt: &HostRuntime, call: &C, count: u64) -> Result<bool, Error> {
-    asked_again(rt, call, &pairs(rt.alloc(), count)?)
-}
-
-/// Other calls on an object.
-#[derive(Clone, Copy)]
-enum OfObject {
-    Insert,
-    Keys,
-    DeleteText,
-    Each,
-    Pick(Picking),
-    ToValue,
-    CloneValue,
-    Push,
-    Build,
-}
-
-const OF_OBJECTS: [(&str, OfObject); 10] = [
-    ("object_insert in the middle", OfObject::Insert),
-    ("object_keys", OfObject::Keys),
-    ("delete_by_name of a text", OfObject::DeleteText),
-    ("object_each", OfObject::Each),
-    ("object_pick", OfObject::Pick(Picking::Pick)),
-    ("object_delete", OfObject::Pick(Picking::Delete)),
-    ("to_value", OfObject::ToValue),
-    ("Value::clone", OfObject::CloneValue),
-    ("ObjectBuilder::push_document", OfObject::Push),
-    ("ObjectBuilder::build", OfObject::Build),
-];
-
-/// Makes other calls on an object, and tells what came of each.
-pub fn pairs_of_objects(rt: &HostRuntime, count: u64) -> io::Result<()> {
-    for (name, call) in &OF_OBJECTS {
-        let is_right = of_object(rt, *call, count);
-        tell(rt, format_args!("{count} pairs: {name}"), is_right)?;
-    }
-    Ok(())
-}
-
-fn of_object(rt: &HostRuntime, call: OfObject, count: u64) -> Result<bool, Error> {
-    let document = pairs(rt.alloc(), count)?;
-    match call {
-        OfObject::Insert => insert(rt, &document),
-        OfObject::Keys => keys(rt, &document, count),
-        OfObject::DeleteText => delete_text(rt, &document),
-        OfObject::Each => each(rt, &document, count),
-        OfObject::Pick(picking) => picking.picks_all(rt, &document),
-        OfObject::ToValue => values::decode(rt, &document),
-        OfObject::CloneValue => values::clone(rt, &document),
-        OfObject::Push => push_to_object(rt, &document),
-        OfObject::Build => builders::object_builds(rt, &document),
-    }
-}
-
 fn insert(rt: &HostRuntime, document: &[u8]) -> Result<bool, Error> {
     let raw = RawJsonb::new(document);
-    begin(rt);
-    let answer = raw.object_insert(rt.alloc(), "key 000020a", &raw, false);
-    end(rt);
+    let answer = marked!(
+        rt,
+        raw.object_insert(rt.alloc(), "key 000020a", &raw, false)
+    );
     let without = answer?.as_raw().delete_by_name(rt.alloc(), "key 000020a");
     Ok(without?.as_raw().as_bytes() == document)
 }
 
 fn keys(rt: &HostRuntime, document: &[u8], count: u64) -> Result<bool, Error> {
-    begin(rt);
-    let answer = RawJsonb::new(document).object_keys(rt.alloc());
-    end(rt);
+    let answer = marked!(rt, RawJsonb::new(document).object_keys(rt.alloc()));
     Ok(match answer? {
         Some(keys) => keys
             .as_raw()
@@ -291,26 +222,21 @@ fn delete_text(rt: &HostRuntime, document: &[u8]) -> Result<bool, Error> {
     let Some(keys) = RawJsonb::new(document).object_keys(rt.alloc())? else {
         return Ok(false);
     };
-    let call = ArrayCall::DeleteText("key 000020");
-    asked_again(rt, &call, keys.as_raw().as_bytes())
+    asked_again(rt, &Call::Delete("key 000020"), keys.as_raw().as_bytes())
 }
 
 fn each(rt: &HostRuntime, document: &[u8], count: u64) -> Result<bool, Error> {
-    begin(rt);
-    let answer = RawJsonb::new(document).object_each(rt.alloc());
-    end(rt);
+    let answer = marked!(rt, RawJsonb::new(document).object_each(rt.alloc()));
     Ok(match answer? {
         Some(pairs) => pairs.len() as u64 == count,
         None => false,
     })
 }
 
-fn push_to_object(rt: &HostRuntime, document: &[u8]) -> Result<bool, Error> {
+fn push_pair(rt: &HostRuntime, document: &[u8]) -> Result<bool, Error> {
     let mut builder = ObjectBuilder::new(rt.alloc());
     builder.push_document("a", ONE)?;
-    begin(rt);
-    let pushed = builder.push_document("b", document);
-    end(rt);
+    let pushed = marked!(rt, builder.push_document("b", document));
     if pushed.is_err() && builder.len() == 1 && builder.build()?.as_slice() == ONLY_A {
         pushed?;
     }
@@ -329,91 +255,33 @@ enum Given {
     Truth(bool),
 }
 
-/// A selection of many elements.
-struct Selecting {
-    name: &'static str,
-    selection: Selection,
-    path: &'static [u8],
-    given: Given,
-}
+/// The name of a selection of many elements, what is asked for, by which path, and what that is to give.
+type Selecting = (&'static str, Selection, &'static [u8], Given);
 
-const SELECTING: [Selecting; 9] = [
-    Selecting {
-        name: "select_values of a member",
-        selection: Selection::Values,
-        path: b"$[*].number",
-        given: Given::Each,
-    },
-    Selecting {
-        name: "select_values of an arithmetic list",
-        selection: Selection::Values,
-        path: b"+$[*].number",
-        given: Given::Each,
-    },
-    Selecting {
-        name: "select_array of a filter",
-        selection: Selection::Array,
-        path: FILTER,
-        given: Given::All,
-    },
-    Selecting {
-        name: "select_first of the root",
-        selection: Selection::First,
-        path: b"$",
-        given: Given::All,
-    },
-    Selecting {
-        name: "select_value of a filter",
-        selection: Selection::Value,
-        path: FILTER,
-        given: Given::All,
-    },
-    Selecting {
-        name: "select_value of a wildcard",
-        selection: Selection::Value,
-        path: b"$[*]",
-        given: Given::All,
-    },
-    Selecting {
-        name: "exists of a filter that none passes",
-        selection: Selection::Exists,
-        path: b"$[*]?(@.number < 0)",
-        given: Given::Truth(false),
-    },
-    Selecting {
-        name: "predicate_match that none meets",
-        selection: Selection::Truth,
-        path: b"$[*].number < 0",
-        given: Given::Truth(false),
-    },
-    Selecting {
-        name: "predicate_match of exists",
-        selection: Selection::Truth,
-        path: b"exists($[*]?(@.number < 0))",
-        given: Given::Truth(false),
-    },
-];
+static SELECTING: [Selecting; 9] = rows! {
+    "select_values of a member", Selection::Values, b"$[*].number", Given::Each;
+    "select_values of an arithmetic list", Selection::Values, b"+$[*].number", Given::Each;
+    "select_array of a filter", Selection::Array, FILTER, Given::All;
+    "select_first of the root", Selection::First, b"$", Given::All;
+    "select_value of a filter", Selection::Value, FILTER, Given::All;
+    "select_value of a wildcard", Selection::Value, b"$[*]", Given::All;
+    "exists of a filter that none passes", Selection::Exists, b"$[*]?(@.number < 0)", Given::Truth(false);
+    "predicate_match that none meets", Selection::Truth, b"$[*].number < 0", Given::Truth(false);
+    "predicate_match of exists", Selection::Truth, b"exists($[*]?(@.number < 0))", Given::Truth(false);
+};
 
-/// How a selection is asked for.
-#[derive(Clone, Copy)]
-enum Way {
-    Lax,
-    Strict,
-    ByPath,
-}
-
-const WAYS: [(&str, Way); 3] = [
-    ("lax", Way::Lax),
-    ("strict", Way::Strict),
-    ("by path", Way::ByPath),
-];
+static WAYS: [(&str, Way); 3] = rows! {
+    "lax", Way::Lax;
+    "strict", Way::Strict;
+    "by path", Way::ByPath;
+};
 
 /// Makes selections of many elements, and tells what came of each.
 pub fn selections(rt: &HostRuntime, count: u64) -> io::Result<()> {
     for selecting in &SELECTING {
         for (word, way) in &WAYS {
-            let is_right = selecting.ask(rt, *way, count);
-            let name = selecting.name;
+            let is_right = select(rt, selecting, *way, count);
+            let name = selecting.0;
             tell(
                 rt,
                 format_args!("{count} elements: {name}, {word}"),
@@ -421,30 +289,21 @@ pub fn selections(rt: &HostRuntime, count: u64) -> io::Result<()> {
             )?;
         }
     }
+    let is_right = parts::to_indices(rt, count as usize);
     tell(
         rt,
         format_args!("{count} elements: ArrayIndex::to_indices"),
-        paths::to_indices(rt, count as usize),
+        is_right,
     )
 }
 
-impl Selecting {
-    fn ask(&self, rt: &HostRuntime, way: Way, count: u64) -> Result<bool, Error> {
-        let document = elements(rt.alloc(), count)?;
-        let asked = Asked {
-            selection: self.selection,
-            path: self.path,
-            document: &document,
-            wanted: match self.given {
-                Given::All => Wanted::Document(&document),
-                Given::Each => Wanted::Count(count),
-                Given::Truth(truth) => Wanted::Truth(truth),
-            },
-        };
-        match way {
-            Way::Lax => asked.laxly(rt),
-            Way::Strict => asked.strictly(rt),
-            Way::ByPath => asked.by_path(rt),
-        }
-    }
+fn select(rt: &HostRuntime, selecting: &Selecting, way: Way, count: u64) -> Result<bool, Error> {
+    let document = made::elements(rt.alloc(), count)?;
+    let (_, selection, path, given) = *selecting;
+    let wanted = match given {
+        Given::All => Wanted::Document(&document),
+        Given::Each => Wanted::Count(count),
+        Given::Truth(truth) => Wanted::Truth(truth),
+    };
+    ask(rt, &(selection, path, &document, wanted), way)
 }

@@ -1,54 +1,19 @@
 //! The calls on numbers.
 
-use crate::free::{Free, ask_each};
 use jsonb::{ArithmeticFault, Decimal64, Decimal128, Error, Number};
 use std::alloc::AllocError;
 use std::cmp::Ordering;
 use std::io;
 
-/// Calls on numbers.
-#[derive(Clone, Copy)]
-enum Calculation {
-    Arithmetic,
-    Refusals,
-    Rounding,
-    Order,
-    OrderOfDecimals,
-}
-
-impl Free for Calculation {
-    fn are_right(&self) -> bool {
-        match self {
-            Calculation::Arithmetic => arithmetic(Number::UInt64(20), Number::Int64(-5)),
-            Calculation::Refusals => refusals(Number::UInt64(20), Number::UInt64(3)),
-            Calculation::Rounding => rounding(Number::Decimal64(PRICE)),
-            Calculation::Order => order(Number::UInt64(1), Number::Decimal64(PRICE)),
-            Calculation::OrderOfDecimals => order_of_decimals(PRICE, WIDE_PRICE),
-        }
-    }
-}
-
 /// Makes the calls, and tells what came of each kind.
 pub fn cases(rt: &HostRuntime) -> io::Result<()> {
-    ask_each(
-        rt,
-        &[
-            (
-                "Number::add, sub, mul, div, rem, neg",
-                Calculation::Arithmetic,
-            ),
-            ("Number::div, add that are refused", Calculation::Refusals),
-            (
-                "Number::as_i64, as_u64, to_i64, to_u64",
-                Calculation::Rounding,
-            ),
-            ("Number::eq, cmp, clone", Calculation::Order),
-            (
-                "Decimal64::cmp, Decimal128::cmp",
-                Calculation::OrderOfDecimals,
-            ),
-        ],
-    )
+    tell_free! { rt;
+        "Number::add, sub, mul, div, rem, neg": arithmetic(Number::UInt64(20), Number::Int64(-5));
+        "Number::div, add that are refused": refusals(Number::UInt64(20), Number::UInt64(3));
+        "Number::as_i64, as_u64, to_i64, to_u64": rounding(Number::Decimal64(PRICE));
+        "Number::eq, cmp, clone": order(Number::UInt64(1), Number::Decimal64(PRICE));
+        "Decimal64::cmp, Decimal128::cmp": order_of_decimals(PRICE, WIDE_PRICE);
+    }
 }
 
 /// `12.34`

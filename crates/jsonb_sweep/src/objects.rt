@@ -1,99 +1,26 @@
 //! The calls on objects.
 
-use crate::answer::{Answer, Wanted};
+use crate::answer::Wanted;
 use crate::call::{Call, Case, ask_each};
 use crate::documents::*;
-use crate::mark::{begin, end, tell};
+use crate::mark::tell;
 use jsonb::{Error, OwnedJsonb, RawJsonb, keys};
-use std::alloc::Global;
 use std::collections::BTreeSet;
 use std::io;
 
-/// A call on an object.
-#[derive(Clone, Copy)]
-pub enum ObjectCall<'a> {
-    Keys,
-    /// The key and the value of a new pair.
-    Insert(&'a str, &'a [u8]),
-    /// The key and the value of a pair that may be there.
-    Replace(&'a str, &'a [u8]),
-    Get(&'a str),
-    GetIgnoringCase(&'a str),
-    DeleteByName(&'a str),
-}
+/// `{"c":3}`
+const ONLY_C: &[u8] = b"\x40\x00\x00\x01\x10\x00\x00\x01 \x00\x00\x02cP\x03";
 
-impl Call for ObjectCall<'_> {
-    fn answer(&self, alloc: Global, object: RawJsonb<'_>) -> Result<Answer, Error> {
-        Ok(match *self {
-            ObjectCall::Keys => Answer::found(object.object_keys(alloc)?),
-            ObjectCall::Insert(key, value) => Answer::Document(object.object_insert(
-                alloc,
-                key,
-                &RawJsonb::new(value),
-                false,
-            )?),
-            ObjectCall::Replace(key, value) => {
-                Answer::Document(object.object_insert(alloc, key, &RawJsonb::new(value), true)?)
-            }
-            ObjectCall::Get(name) => Answer::found(object.get_by_name(alloc, name, false)?),
-            ObjectCall::GetIgnoringCase(name) => {
-                Answer::found(object.get_by_name(alloc, name, true)?)
-            }
-            ObjectCall::DeleteByName(name) => Answer::Document(object.delete_by_name(alloc, name)?),
-        })
-    }
-}
-
-const CASES: [Case<ObjectCall<'static>>; 8] = [
-    Case {
-        name: "object_keys",
-        call: ObjectCall::Keys,
-        document: LETTERS,
-        wanted: Wanted::Document(KEYS),
-    },
-    Case {
-        name: "object_keys of an array",
-        call: ObjectCall::Keys,
-        document: TENS,
-        wanted: Wanted::Nothing,
-    },
-    Case {
-        name: "object_insert",
-        call: ObjectCall::Insert("b", NINE),
-        document: LETTERS,
-        wanted: Wanted::Document(MORE_LETTERS),
-    },
-    Case {
-        name: "object_insert of a key that is there",
-        call: ObjectCall::Replace("b", NINE),
-        document: MORE_LETTERS,
-        wanted: Wanted::Document(MORE_LETTERS),
-    },
-    Case {
-        name: "get_by_name",
-        call: ObjectCall::Get("a"),
-        document: LETTERS,
-        wanted: Wanted::Document(ONE),
-    },
-    Case {
-        name: "get_by_name of none",
-        call: ObjectCall::Get("A"),
-        document: LETTERS,
-        wanted: Wanted::Nothing,
-    },
-    Case {
-        name: "get_by_name in another case",
-        call: ObjectCall::GetIgnoringCase("A"),
-        document: LETTERS,
-        wanted: Wanted::Document(ONE),
-    },
-    Case {
-        name: "delete_by_name",
-        call: ObjectCall::DeleteByName("a"),
-        document: LETTERS,
-        wanted: Wanted::Document(ONLY_C),
-    },
-];
+static CASES: [Case; 8] = rows! {
+    "object_keys", Call::Keys, LETTERS, Wanted::Document(KEYS);
+    "object_keys of an array", Call::Keys, TENS, Wanted::Nothing;
+    "object_insert", Call::Insert("b", NINE), LETTERS, Wanted::Document(MORE_LETTERS);
+    "object_insert of a key that is there", Call::Replace("b", NINE), MORE_LETTERS, Wanted::Document(MORE_LETTERS);
+    "get_by_name", Call::Get("a"), LETTERS, Wanted::Document(ONE);
+    "get_by_name of none", Call::Get("A"), LETTERS, Wanted::Nothing;
+    "get_by_name in another case", Call::GetIgnoringCase("A"), LETTERS, Wanted::Document(ONE);
+    "delete_by_name", Call::Delete("a"), LETTERS, Wanted::Document(ONLY_C);
+};
 
 /// Makes each case, and tells what came of it.
 pub fn cases(rt: &HostRuntime) -> io::Result<()> {
@@ -119,12 +46,10 @@ impl Picking {
         wanted: &[u8],
     ) -> Result<bool, Error> {
         let object = RawJsonb::new(object);
-        begin(rt);
         let answer = match self {
-            Picking::Pick => object.object_pick(rt.alloc(), keys),
-            Picking::Delete => object.object_delete(rt.alloc(), keys),
+            Picking::Pick => marked!(rt, object.object_pick(rt.alloc(), keys)),
+            Picking::Delete => marked!(rt, object.object_delete(rt.alloc(), keys)),
         };
-        end(rt);
         Ok(answer?.as_raw().as_bytes() == wanted)
     }
 
@@ -152,9 +77,7 @@ impl Picking {
 }
 
 fn object_each(rt: &HostRuntime) -> Result<bool, Error> {
-    begin(rt);
-    let answer = RawJsonb::new(LETTERS).object_each(rt.alloc());
-    end(rt);
+    let answer = marked!(rt, RawJsonb::new(LETTERS).object_each(rt.alloc()));
     Ok(are_letters(answer?.as_deref()))
 }
 

@@ -1,7 +1,7 @@
 //! Printing into a text of fixed size.
 
 use crate::documents::*;
-use crate::mark::{begin, end, tell};
+use crate::mark::tell;
 use arrayvec::ArrayString;
 use jsonb::{
     ArithmeticFault, Decimal64, Error, Number, PathValue, RawJsonb, parse_json_path,
@@ -34,9 +34,7 @@ pub fn cases(rt: &HostRuntime) -> io::Result<()> {
 /// Prints a value between the marks. True where that is this text.
 fn prints<T: Display>(rt: &HostRuntime, value: &T, text: &str) -> bool {
     let mut printed = ArrayString::<128>::new();
-    begin(rt);
-    let written = write!(printed, "{value}");
-    end(rt);
+    let written = marked!(rt, write!(printed, "{value}"));
     written.is_ok() && printed.as_str() == text
 }
 

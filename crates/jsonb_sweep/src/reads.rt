@@ -1,68 +1,28 @@
 //! The calls that read documents without memory: checks, roots, iterators, spots, and questions of whole documents.
 
 use crate::documents::*;
-use crate::free::{Free, ask_each};
 use jsonb::{
     Item, RawJsonb, check, child_spots, elements, field_spot, keys, pairs, root_item, root_spot,
     spot_item, values,
 };
 use std::io;
 
-/// Calls that read a document.
-#[derive(Clone, Copy)]
-enum Read {
-    Check,
-    Root,
-    Elements,
-    Keys,
-    Values,
-    Pairs,
-    Spots,
-    Questions,
-    Contains,
-    Overlap,
-    ExistsKeys,
-    Traverse,
-}
-
-impl Free for Read {
-    fn are_right(&self) -> bool {
-        match self {
-            Read::Check => check(PHONES) == Ok(()) && RawJsonb::new(PHONES).check() == Ok(()),
-            Read::Root => root_is_phones(),
-            Read::Elements => count_of_elements() == 3,
-            Read::Keys => count_of_keys() == 2,
-            Read::Values => count_of_values() == 2,
-            Read::Pairs => count_of_pairs() == 2,
-            Read::Spots => spots_are_right(),
-            Read::Questions => questions_are_right(RawJsonb::new(TENS)),
-            Read::Contains => contains_is_right(),
-            Read::Overlap => overlap_is_right(RawJsonb::new(EQUAL_NUMBERS)),
-            Read::ExistsKeys => exists_keys_are_right(RawJsonb::new(LETTERS)),
-            Read::Traverse => traverse_is_right(RawJsonb::new(PHONES)),
-        }
-    }
-}
-
 /// Makes the calls, and tells what came of each kind.
 pub fn cases(rt: &HostRuntime) -> io::Result<()> {
-    ask_each(
-        rt,
-        &[
-            ("check", Read::Check),
-            ("root_item", Read::Root),
-            ("elements", Read::Elements),
-            ("keys", Read::Keys),
-            ("values", Read::Values),
-            ("pairs", Read::Pairs),
-            ("root_spot, field_spot, child_spots, spot_item", Read::Spots),
-            ("array_length, type_of", Read::Questions),
-            ("contains", Read::Contains),
-            ("array_overlap", Read::Overlap),
-            ("exists_all_keys, exists_any_keys", Read::ExistsKeys),
-            ("traverse_check_string", Read::Traverse),
-        ],
-    )
+    tell_free! { rt;
+        "check": check(PHONES) == Ok(()) && RawJsonb::new(PHONES).check() == Ok(());
+        "root_item": root_is_phones();
+        "elements": count_of_elements() == 3;
+        "keys": count_of_keys() == 2;
+        "values": count_of_values() == 2;
+        "pairs": count_of_pairs() == 2;
+        "root_spot, field_spot, child_spots, spot_item": spots_are_right();
+        "array_length, type_of": questions_are_right(RawJsonb::new(TENS));
+        "contains": contains_is_right();
+        "array_overlap": overlap_is_right(RawJsonb::new(EQUAL_NUMBERS));
+        "exists_all_keys, exists_any_keys": exists_keys_are_right(RawJsonb::new(LETTERS));
+        "traverse_check_string": traverse_is_right(RawJsonb::new(PHONES));
+    }
 }
 
 fn root_is_phones() -> bool {

@@ -1,64 +1,45 @@
 //! The tests and the casts of scalars.
 
 use crate::documents::*;
-use crate::free::{Free, ask_each};
 use jsonb::{
     Date, Decimal64, Error, ExtensionValue, Interval, Number, RawJsonb, Timestamp, TimestampTz,
 };
 use std::io;
 
-/// A scalar, whose tests and casts are made.
-#[derive(Clone, Copy)]
-enum Scalar {
-    Null,
-    Truth,
-    Number,
-    Decimal,
-    Text,
-    Binary,
-    Date,
-    Timestamp,
-    TimestampTz,
-    Interval,
-}
+/// `true`
+const TRUE: &[u8] = b" \x00\x00\x00\x40\x00\x00\x00";
 
-impl Free for Scalar {
-    fn are_right(&self) -> bool {
-        match self {
-            Scalar::Null => of_null(RawJsonb::new(NULL)),
-            Scalar::Truth => of_truth(RawJsonb::new(TRUE)),
-            Scalar::Number => of_number(RawJsonb::new(TEN)),
-            Scalar::Decimal => of_decimal(RawJsonb::new(PRICE)),
-            Scalar::Text => of_text(RawJsonb::new(V)),
-            Scalar::Binary => of_binary(RawJsonb::new(BYTES)),
-            Scalar::Date => of_date(RawJsonb::new(DATE)),
-            Scalar::Timestamp => of_timestamp(RawJsonb::new(TIMESTAMP)),
-            Scalar::TimestampTz => of_timestamp_tz(RawJsonb::new(TIMESTAMP_TZ)),
-            Scalar::Interval => of_interval(RawJsonb::new(INTERVAL)),
-        }
-    }
-}
+/// null
+const NULL: &[u8] = b" \x00\x00\x00\x00\x00\x00\x00";
+
+/// The date 1.
+const DATE: &[u8] = b" \x00\x00\x00\x60\x00\x00\x05\x10\x00\x00\x00\x01";
+
+/// The timestamp 1.
+const TIMESTAMP: &[u8] = b" \x00\x00\x00\x60\x00\x00\x09 \x00\x00\x00\x00\x00\x00\x00\x01";
+
+/// The timestamp 2 with the offset 1.
+const TIMESTAMP_TZ: &[u8] =
+    b" \x00\x00\x00\x60\x00\x00\x0d0\x00\x00\x00\x01\x00\x00\x00\x00\x00\x00\x00\x02";
+
+/// The interval of 1 month, 2 days and 3 microseconds.
+const INTERVAL: &[u8] =
+    b" \x00\x00\x00\x60\x00\x00\x11\x40\x00\x00\x00\x01\x00\x00\x00\x02\x00\x00\x00\x00\x00\x00\x00\x03";
 
 /// Makes the tests and the casts of each scalar, and tells what came of them.
 pub fn cases(rt: &HostRuntime) -> io::Result<()> {
-    ask_each(
-        rt,
-        &[
-            ("tests and casts of null", Scalar::Null),
-            ("tests and casts of a truth value", Scalar::Truth),
-            ("tests and casts of a number", Scalar::Number),
-            ("tests and casts of a decimal", Scalar::Decimal),
-            ("tests and casts of a text", Scalar::Text),
-            ("tests and casts of bytes", Scalar::Binary),
-            ("tests and casts of a date", Scalar::Date),
-            ("tests and casts of a timestamp", Scalar::Timestamp),
-            (
-                "tests and casts of a timestamp with a zone",
-                Scalar::TimestampTz,
-            ),
-            ("tests and casts of an interval", Scalar::Interval),
-        ],
-    )
+    tell_free! { rt;
+        "tests and casts of null": of_null(RawJsonb::new(NULL));
+        "tests and casts of a truth value": of_truth(RawJsonb::new(TRUE));
+        "tests and casts of a number": of_number(RawJsonb::new(TEN));
+        "tests and casts of a decimal": of_decimal(RawJsonb::new(PRICE));
+        "tests and casts of a text": of_text(RawJsonb::new(V));
+        "tests and casts of bytes": of_binary(RawJsonb::new(BYTES));
+        "tests and casts of a date": of_date(RawJsonb::new(DATE));
+        "tests and casts of a timestamp": of_timestamp(RawJsonb::new(TIMESTAMP));
+        "tests and casts of a timestamp with a zone": of_timestamp_tz(RawJsonb::new(TIMESTAMP_TZ));
+        "tests and casts of an interval": of_interval(RawJsonb::new(INTERVAL));
+    }
 }
 
 /// What the tests of a scalar answer, by the names of the calls behind `is_`: null, boolean, number, string, array,

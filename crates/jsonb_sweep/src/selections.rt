@@ -2,7 +2,7 @@
 
 use crate::answer::{Answer, Wanted};
 use crate::documents::*;
-use crate::mark::{begin, end, tell};
+use crate::mark::tell;
 use jsonb::{Error, JsonPath, RawJsonb, SelectByPath, Selector, parse_json_path};
 use std::alloc::Global;
 use std::io;
@@ -21,14 +21,14 @@ pub enum Selection {
 impl Selection {
     /// Asks a selector.
     fn of(self, selector: &mut Selector<'_>, path: &JsonPath<'_>) -> Result<Answer, Error> {
-        Ok(match self {
-            Selection::Values => Answer::Documents(selector.select_values(path)?),
-            Selection::Array => Answer::Document(selector.select_array(path)?),
-            Selection::First => Answer::found(selector.select_first(path)?),
-            Selection::Value => Answer::found(selector.select_value(path)?),
-            Selection::Exists => Answer::Truth(selector.exists(path)?),
-            Selection::Truth => Answer::found_truth(selector.predicate_match(path)?),
-        })
+        match self {
+            Selection::Values => selector.select_values(path).map(Answer::Documents),
+            Selection::Array => selector.select_array(path).map(Answer::Document),
+            Selection::First => selector.select_first(path).map(Answer::found),
+            Selection::Value => selector.select_value(path).map(Answer::found),
+            Selection::Exists => selector.exists(path).map(Answer::Truth),
+            Selection::Truth => selector.predicate_match(path).map(Answer::found_truth),
+        }
     }
 
     /// Asks through `SelectByPath`.
@@ -38,231 +38,124 @@ impl Selection {
         document: RawJsonb<'_>,
         path: &JsonPath<'_>,
     ) -> Result<Answer, Error> {
-        Ok(match self {
-            Selection::Values => Answer::Documents(document.select_by_path(alloc, path)?),
-            Selection::Array => Answer::Document(document.select_array_by_path(alloc, path)?),
-            Selection::First => Answer::found(document.select_first_by_path(alloc, path)?),
-            Selection::Value => Answer::found(document.select_value_by_path(alloc, path)?),
-            Selection::Exists => Answer::Truth(document.path_exists(alloc, path)?),
-            Selection::Truth => Answer::found_truth(document.path_match(alloc, path)?),
-        })
+        match self {
+            Selection::Values => document.select_by_path(alloc, path).map(Answer::Documents),
+            Selection::Array => document
+                .select_array_by_path(alloc, path)
+                .map(Answer::Document),
+            Selection::First => document
+                .select_first_by_path(alloc, path)
+                .map(Answer::found),
+            Selection::Value => document
+                .select_value_by_path(alloc, path)
+                .map(Answer::found),
+            Selection::Exists => document.path_exists(alloc, path).map(Answer::Truth),
+            Selection::Truth => document.path_match(alloc, path).map(Answer::found_truth),
+        }
     }
 }
 
-/// A selection, and what it is to give.
+/// How a selection is asked for.
 #[derive(Clone, Copy)]
-pub struct Asked<'a> {
-    pub selection: Selection,
-    pub path: &'static [u8],
-    pub document: &'a [u8],
-    pub wanted: Wanted<'a>,
+pub enum Way {
+    Lax,
+    Strict,
+    ByPath,
 }
 
-impl Asked<'_> {
-    /// Asks a lax selector between the marks, and again behind them: it answers as a new one.
-    pub fn laxly(&self, rt: &HostRuntime) -> Result<bool, Error> {
-        let document = RawJsonb::new(self.document);
-        self.of(rt, Selector::new(rt.alloc(), document))
-    }
+/// What is asked for, by which path, of which document, and what that is to give.
+pub type Asked<'a> = (Selection, &'static [u8], &'a [u8], Wanted<'a>);
 
-    /// The same of a strict selector.
-    pub fn strictly(&self, rt: &HostRuntime) -> Result<bool, Error> {
-        let document = RawJsonb::new(self.document);
-        self.of(rt, Selector::new_strict(rt.alloc(), document))
-    }
-
-    fn of(&self, rt: &HostRuntime, new: Selector<'_>) -> Result<bool, Error> {
-        let mut selector = new;
-        let path = parse_json_path(rt.alloc(), self.path)?;
-        begin(rt);
-        let answer = self.selection.of(&mut selector, &path);
-        end(rt);
-        let again = self.selection.of(&mut selector, &path)?;
-        Ok(answer?.is(self.wanted) && again.is(self.wanted))
-    }
-
-    /// Asks through `SelectByPath` between the marks.
-    pub fn by_path(&self, rt: &HostRuntime) -> Result<bool, Error> {
-        let path = parse_json_path(rt.alloc(), self.path)?;
-        begin(rt);
-        let answer = self
-            .selection
-            .by_path(rt.alloc(), RawJsonb::new(self.document), &path);
-        end(rt);
-        Ok(answer?.is(self.wanted))
-    }
+/// Asks between the marks.
+pub fn ask(rt: &HostRuntime, asked: &Asked<'_>, way: Way) -> Result<bool, Error> {
+    let (selection, path, document, wanted) = *asked;
+    let path = parse_json_path(rt.alloc(), path)?;
+    let document = RawJsonb::new(document);
+    let selector = match way {
+        Way::Lax => Selector::new(rt.alloc(), document),
+        Way::Strict => Selector::new_strict(rt.alloc(), document),
+        Way::ByPath => {
+            let answer = marked!(rt, selection.by_path(rt.alloc(), document, &path));
+            return Ok(answer?.is(wanted));
+        }
+    };
+    is_given_twice(rt, selector, &path, selection, wanted)
 }
+
+/// Asks a selector between the marks, and again behind them: it answers as a new one.
+fn is_given_twice(
+    rt: &HostRuntime,
+    new: Selector<'_>,
+    path: &JsonPath<'_>,
+    selection: Selection,
+    wanted: Wanted<'_>,
+) -> Result<bool, Error> {
+    let mut selector = new;
+    let answer = marked!(rt, selection.of(&mut selector, path));
+    let again = selection.of(&mut selector, path)?;
+    Ok(answer?.is(wanted) && again.is(wanted))
+}
+
+/// `{"number":3720453,"type":"home"}`
+const HOME: &[u8] =
+    b"\x40\x00\x00\x02\x10\x00\x00\x06\x10\x00\x00\x04 \x00\x00\x05\x10\x00\x00\x04numbertypeP\x008\xc5\x05home";
+
+/// `{"number":5062051,"type":"work"}`
+const WORK: &[u8] =
+    b"\x40\x00\x00\x02\x10\x00\x00\x06\x10\x00\x00\x04 \x00\x00\x05\x10\x00\x00\x04numbertypeP\x00M\x3d\xa3work";
 
 /// The phones, each of which passes a filter within a filter.
 const BOTH: &[u8] = b"$.phones[*]?(@.number > 1 && exists(@.type?(@ != \"fax\")))";
 
 /// The six calls, each with the name of its method on a selector and in `SelectByPath`.
-const CALLS: [(&str, &str, Asked<'static>); 6] = [
-    (
-        "select_values",
-        "select_by_path",
-        Asked {
-            selection: Selection::Values,
-            path: BOTH,
-            document: PHONES,
-            wanted: Wanted::Documents(&[HOME, WORK]),
-        },
-    ),
-    (
-        "select_array",
-        "select_array_by_path",
-        Asked {
-            selection: Selection::Array,
-            path: BOTH,
-            document: PHONES,
-            wanted: Wanted::Document(BOTH_PHONES),
-        },
-    ),
-    (
-        "select_first",
-        "select_first_by_path",
-        Asked {
-            selection: Selection::First,
-            path: BOTH,
-            document: PHONES,
-            wanted: Wanted::Document(HOME),
-        },
-    ),
-    (
-        "select_value",
-        "select_value_by_path",
-        Asked {
-            selection: Selection::Value,
-            path: BOTH,
-            document: PHONES,
-            wanted: Wanted::Document(BOTH_PHONES),
-        },
-    ),
-    (
-        "exists",
-        "path_exists",
-        Asked {
-            selection: Selection::Exists,
-            path: BOTH,
-            document: PHONES,
-            wanted: Wanted::Truth(true),
-        },
-    ),
-    (
-        "predicate_match",
-        "path_match",
-        Asked {
-            selection: Selection::Truth,
-            path: b"$.phones[*].number > 5000000 && exists($.name)",
-            document: PHONES,
-            wanted: Wanted::Truth(true),
-        },
-    ),
-];
+static CALLS: [(&str, &str, Asked<'static>); 6] = rows! {
+    "select_values", "select_by_path", (Selection::Values, BOTH, PHONES, Wanted::Documents(&[HOME, WORK]));
+    "select_array", "select_array_by_path", (Selection::Array, BOTH, PHONES, Wanted::Document(BOTH_PHONES));
+    "select_first", "select_first_by_path", (Selection::First, BOTH, PHONES, Wanted::Document(HOME));
+    "select_value", "select_value_by_path", (Selection::Value, BOTH, PHONES, Wanted::Document(BOTH_PHONES));
+    "exists", "path_exists", (Selection::Exists, BOTH, PHONES, Wanted::Truth(true));
+    "predicate_match", "path_match",
+        (Selection::Truth, b"$.phones[*].number > 5000000 && exists($.name)", PHONES, Wanted::Truth(true));
+};
 
 /// Makes the six calls, and tells what came of each.
 pub fn calls(rt: &HostRuntime) -> io::Result<()> {
     for (of_selector, of_trait, asked) in &CALLS {
-        let is_right = asked.laxly(rt);
+        let is_right = ask(rt, asked, Way::Lax);
         tell(rt, format_args!("{of_selector}, lax"), is_right)?;
-        let is_right = asked.strictly(rt);
+        let is_right = ask(rt, asked, Way::Strict);
         tell(rt, format_args!("{of_selector}, strict"), is_right)?;
-        let is_right = asked.by_path(rt);
-        tell(rt, of_trait, is_right)?;
+        tell(rt, *of_trait, ask(rt, asked, Way::ByPath))?;
     }
     Ok(())
 }
 
+/// `[-10,-20,-30]`
+const MINUS_TEN_TO_MINUS_THIRTY: &[u8] =
+    b"\x80\x00\x00\x03 \x00\x00\x02 \x00\x00\x02 \x00\x00\x02\x40\xf6\x40\xec\x40\xe2";
+
+/// `{"a":{"b":1}}`
+const A_OF_B: &[u8] =
+    b"\x40\x00\x00\x01\x10\x00\x00\x01P\x00\x00\x0fa\x40\x00\x00\x01\x10\x00\x00\x01 \x00\x00\x02bP\x01";
+
 /// Selections of other kinds.
-const OTHERS: [(&str, Asked<'static>); 9] = [
-    (
-        "select_array of an arithmetic list",
-        Asked {
-            selection: Selection::Array,
-            path: b"-$[*]",
-            document: TENS,
-            wanted: Wanted::Document(MINUS_TEN_TO_MINUS_THIRTY),
-        },
-    ),
-    (
-        "select_values of index entries",
-        Asked {
-            selection: Selection::Values,
-            path: b"$[last, 0]",
-            document: TENS,
-            wanted: Wanted::Documents(&[THIRTY, TEN]),
-        },
-    ),
-    (
-        "select_values of each level",
-        Asked {
-            selection: Selection::Values,
-            path: b"$.**",
-            document: ONE_ELEMENT,
-            wanted: Wanted::Documents(&[ONE_ELEMENT, ONE]),
-        },
-    ),
-    (
-        "select_first of a member of a member",
-        Asked {
-            selection: Selection::First,
-            path: b"$.a.b",
-            document: A_OF_B,
-            wanted: Wanted::Document(ONE),
-        },
-    ),
-    (
-        "select_first of an element",
-        Asked {
-            selection: Selection::First,
-            path: b"$.phones[0]",
-            document: PHONES,
-            wanted: Wanted::Document(HOME),
-        },
-    ),
-    (
-        "exists of a member",
-        Asked {
-            selection: Selection::Exists,
-            path: b"$.name",
-            document: PHONES,
-            wanted: Wanted::Truth(true),
-        },
-    ),
-    (
-        "exists of a member of a member",
-        Asked {
-            selection: Selection::Exists,
-            path: b"$.a.b",
-            document: A_OF_B,
-            wanted: Wanted::Truth(true),
-        },
-    ),
-    (
-        "predicate_match of no predicate",
-        Asked {
-            selection: Selection::Truth,
-            path: b"$.a",
-            document: LETTERS,
-            wanted: Wanted::Nothing,
-        },
-    ),
-    (
-        "select_first of none",
-        Asked {
-            selection: Selection::First,
-            path: b"$.phones[2]",
-            document: PHONES,
-            wanted: Wanted::Nothing,
-        },
-    ),
-];
+static OTHERS: [(&str, Asked<'static>); 9] = rows! {
+    "select_array of an arithmetic list",
+        (Selection::Array, b"-$[*]", TENS, Wanted::Document(MINUS_TEN_TO_MINUS_THIRTY));
+    "select_values of index entries", (Selection::Values, b"$[last, 0]", TENS, Wanted::Documents(&[THIRTY, TEN]));
+    "select_values of each level", (Selection::Values, b"$.**", ONE_ELEMENT, Wanted::Documents(&[ONE_ELEMENT, ONE]));
+    "select_first of a member of a member", (Selection::First, b"$.a.b", A_OF_B, Wanted::Document(ONE));
+    "select_first of an element", (Selection::First, b"$.phones[0]", PHONES, Wanted::Document(HOME));
+    "exists of a member", (Selection::Exists, b"$.name", PHONES, Wanted::Truth(true));
+    "exists of a member of a member", (Selection::Exists, b"$.a.b", A_OF_B, Wanted::Truth(true));
+    "predicate_match of no predicate", (Selection::Truth, b"$.a", LETTERS, Wanted::Nothing);
+    "select_first of none", (Selection::First, b"$.phones[2]", PHONES, Wanted::Nothing);
+};
 
 /// Makes the other selections, and tells what came of each.
 pub fn others(rt: &HostRuntime) -> io::Result<()> {
     for (name, asked) in &OTHERS {
-        let is_right = asked.laxly(rt);
-        tell(rt, name, is_right)?;
+        tell(rt, *name, ask(rt, asked, Way::Lax))?;
     }
     Ok(())
 }

@@ -1,14 +1,15 @@
 //! Items as documents, and documents as values.
 
+use crate::answer::is_same;
 use crate::documents::*;
-use crate::mark::{begin, end, tell};
+use crate::mark::tell;
 use jsonb::{Error, ExtensionValue, Value, encode_item, root_item, to_value};
 use jsonb_doc::{push_extension_payload, root_spot, spot_document};
 use std::borrow::CowStr;
 use std::io;
 
 /// Documents, each with its kind.
-const DOCUMENTS: [(&str, &[u8]); 6] = [
+static DOCUMENTS: [(&str, &[u8]); 6] = [
     ("a number", TEN),
     ("a decimal", PRICE),
     ("a text", V),
@@ -40,54 +41,41 @@ pub fn cases(rt: &HostRuntime) -> io::Result<()> {
 /// The root of a document is that document again.
 pub fn encode(rt: &HostRuntime, document: &[u8]) -> Result<bool, Error> {
     let item = root_item(document)?;
-    begin(rt);
-    let answer = encode_item(rt.alloc(), &item);
-    end(rt);
+    let answer = marked!(rt, encode_item(rt.alloc(), &item));
     Ok(answer?.as_slice() == document)
 }
 
 /// The item at the root's spot is, as a document, that document again.
 pub fn copy(rt: &HostRuntime, document: &[u8]) -> Result<bool, Error> {
     let root = root_spot(document)?;
-    begin(rt);
-    let answer = spot_document(rt.alloc(), document, root);
-    end(rt);
+    let answer = marked!(rt, spot_document(rt.alloc(), document, root));
     Ok(answer?.as_slice() == document)
 }
 
 pub fn decode(rt: &HostRuntime, document: &[u8]) -> Result<bool, Error> {
     let item = root_item(document)?;
     let wanted = to_value(rt.alloc(), &item)?;
-    begin(rt);
-    let answer = to_value(rt.alloc(), &item);
-    end(rt);
-    Ok(answer? == wanted)
+    is_same(marked!(rt, to_value(rt.alloc(), &item)), &wanted)
 }
 
 pub fn clone(rt: &HostRuntime, document: &[u8]) -> Result<bool, Error> {
     let item = root_item(document)?;
     let value = to_value(rt.alloc(), &item)?;
-    begin(rt);
-    let answer = value.clone(rt.alloc());
-    end(rt);
+    let answer = marked!(rt, value.clone(rt.alloc()));
     let is_kept = value == to_value(rt.alloc(), &item)?;
     Ok(answer? == value && is_kept)
 }
 
 pub fn clone_own_text(rt: &HostRuntime, text: &str) -> Result<bool, Error> {
-    let value = Value::String(CowStr::Owned(String::from_str(rt.alloc(), text)?));
-    begin(rt);
-    let answer = value.clone(rt.alloc());
-    end(rt);
-    Ok(answer? == value)
+    let text = String::from_str(rt.alloc(), text)?;
+    clones!(rt, Value::String(CowStr::Owned(text)))
 }
 
 /// The payload of bytes is a byte of 0 and the bytes. After a refusal what was there is there.
 pub fn push_payload(rt: &HostRuntime, bytes: &[u8]) -> Result<bool, Error> {
     let mut payload = Vec::from_slice(rt.alloc(), b"front")?;
-    begin(rt);
-    let pushed = push_extension_payload(&mut payload, &ExtensionValue::Binary(bytes));
-    end(rt);
+    let binary = ExtensionValue::Binary(bytes);
+    let pushed = marked!(rt, push_extension_payload(&mut payload, &binary));
     let is_kept = payload.starts_with(b"front");
     if is_kept {
         pushed?;

@@ -1,0 +1,162 @@
+//! The calls on parts of paths: copies of a step, an expression or a literal, tokens, and the positions of an index entry.
+
+use crate::answer::is_same;
+use crate::mark::tell;
+use jsonb::{
+    ArrayIndex, BinaryOperator, Error, Expr, Index, KeyPath, OwnedKeyPath, Path, PathValue,
+    read_name, read_quoted,
+};
+use std::alloc::Global;
+use std::borrow::CowStr;
+use std::io;
+
+/// A call on a part of a path that has a text.
+#[derive(Clone, Copy)]
+pub enum PartCall {
+    CloneBorrowedKey,
+    CloneKey,
+    OwnKey,
+    CloneOwnedKey,
+    CloneStep,
+    OwnStep,
+    CloneExpression,
+    OwnExpression,
+    CloneLiteral,
+    CloneBorrowedLiteral,
+    OwnLiteral,
+}
+
+impl PartCall {
+    /// Makes the call on a part with this text.
+    pub fn ask(self, rt: &HostRuntime, text: &str) -> Result<bool, Error> {
+        let alloc = rt.alloc();
+        match self {
+            PartCall::CloneBorrowedKey => clones!(rt, KeyPath::Name(CowStr::Borrowed(text))),
+            PartCall::CloneKey => clones!(rt, KeyPath::Name(owned(alloc, text)?)),
+            PartCall::OwnKey => own_key(rt, text),
+            PartCall::CloneOwnedKey => clones!(rt, quoted(alloc, text)?),
+            PartCall::CloneStep => clones!(rt, filter(alloc, text)?),
+            PartCall::OwnStep => owns!(rt, filter(alloc, text)?),
+            PartCall::CloneExpression => clones!(rt, comparison(alloc, text)?),
+            PartCall::OwnExpression => owns!(rt, comparison(alloc, text)?),
+            PartCall::CloneLiteral => clones!(rt, literal(alloc, text)?),
+            PartCall::CloneBorrowedLiteral => clones!(
+                rt,
+                PathValue::String(CowStr::Borrowed(text))
+            ),
+            PartCall::OwnLiteral => owns!(rt, literal(alloc, text)?),
+        }
+    }
+}
+
+/// A text of its own.
+fn owned(alloc: Global, text: &str) -> Result<CowStr<'static, Global>, Error> {
+    Ok(CowStr::Owned(String::from_str(alloc, text)?))
+}
+
+/// A quoted step that owns its text.
+fn quoted(alloc: Global, text: &str) -> Result<OwnedKeyPath, Error> {
+    Ok(OwnedKeyPath::QuotedName(String::from_str(alloc, text)?))
+}
+
+/// A literal that owns its text.
+fn literal(alloc: Global, text: &str) -> Result<PathValue<'static>, Error> {
+    Ok(PathValue::String(owned(alloc, text)?))
+}
+
+/// `@ == "c"`, of any text.
+fn comparison(alloc: Global, text: &str) -> Result<Expr<'static>, Error> {
+    let mut steps = Vec::new(alloc);
+    steps.push(Path::Current)?;
+    let right = Expr::Value(Box::new(alloc, literal(alloc, text)?)?);
+    Ok(Expr::BinaryOp {
+        op: BinaryOperator::Eq,
+        left: Box::new(alloc, Expr::Paths(steps))?,
+        right: Box::new(alloc, right)?,
+    })
+}
+
+/// `?(@ == "c")`, of any text.
+fn filter(alloc: Global, text: &str) -> Result<Path<'static>, Error> {
+    Ok(Path::FilterExpr(Box::new(alloc, comparison(alloc, text)?)?))
+}
+
+fn own_key(rt: &HostRuntime, text: &str) -> Result<bool, Error> {
+    let step = KeyPath::Name(CowStr::Borrowed(text));
+    let answer = marked!(rt, step.to_owned(rt.alloc()));
+    Ok(answer?.as_key_path() == step)
+}
+
+static OF_KEY_PATHS: [(&str, PartCall); 4] = rows! {
+    "KeyPath::clone of a borrowed name", PartCall::CloneBorrowedKey;
+    "KeyPath::clone of a name of its own", PartCall::CloneKey;
+    "KeyPath::to_owned", PartCall::OwnKey;
+    "OwnedKeyPath::clone", PartCall::CloneOwnedKey;
+};
+
+static OF_JSON_PATHS: [(&str, PartCall); 7] = rows! {
+    "Path::clone", PartCall::CloneStep;
+    "Path::to_owned", PartCall::OwnStep;
+    "Expr::clone", PartCall::CloneExpression;
+    "Expr::to_owned", PartCall::OwnExpression;
+    "PathValue::clone of a text of its own", PartCall::CloneLiteral;
+    "PathValue::clone of a borrowed text", PartCall::CloneBorrowedLiteral;
+    "PathValue::to_owned", PartCall::OwnLiteral;
+};
+
+/// Makes each call on a part with this text, and tells what came of it.
+fn ask_each(rt: &HostRuntime, text: &str, calls: &[(&str, PartCall)]) -> io::Result<()> {
+    for (name, call) in calls {
+        tell(rt, *name, call.ask(rt, text))?;
+    }
+    Ok(())
+}
+
+pub fn of_key_paths(rt: &HostRuntime) -> io::Result<()> {
+    ask_each(rt, "abc", &OF_KEY_PATHS)
+}
+
+pub fn of_json_paths(rt: &HostRuntime) -> io::Result<()> {
+    ask_each(rt, "c", &OF_JSON_PATHS)
+}
+
+/// Makes each case of a token, and tells what came of it.
+pub fn tokens(rt: &HostRuntime) -> io::Result<()> {
+    for (kind, name, quoted) in [
+        ("a plain text", b"abc,d".as_slice(), b"\"abc\",d".as_slice()),
+        ("an escape", b"a\\u0062c,d", b"\"a\\u0062c\",d"),
+    ] {
+        let is_right = reads_name(rt, name, "abc");
+        tell(rt, format_args!("read_name of {kind}"), is_right)?;
+        let is_right = reads_quoted(rt, quoted, "abc");
+        tell(rt, format_args!("read_quoted of {kind}"), is_right)?;
+    }
+    Ok(())
+}
+
+/// Whether the name in front of `,d` reads as this text.
+pub fn reads_name(rt: &HostRuntime, input: &[u8], text: &str) -> Result<bool, Error> {
+    let answer = marked!(rt, read_name(rt.alloc(), input));
+    Ok(is_in_front(answer?, text))
+}
+
+/// Whether the quoted text in front of `,d` reads as this one.
+pub fn reads_quoted(rt: &HostRuntime, input: &[u8], text: &str) -> Result<bool, Error> {
+    let answer = marked!(rt, read_quoted(rt.alloc(), input));
+    Ok(is_in_front(answer?, text))
+}
+
+/// Whether a token is this text with `,d` behind it.
+fn is_in_front(found: Option<(CowStr<'_, Global>, &[u8])>, wanted: &str) -> bool {
+    match found {
+        Some((text, rest)) => text.as_str() == wanted && rest == b",d".as_slice(),
+        None => false,
+    }
+}
+
+/// Whether `0 to last` has as many positions as an array of that many elements.
+pub fn to_indices(rt: &HostRuntime, count: usize) -> Result<bool, Error> {
+    let all = ArrayIndex::Slice((Index::Index(0), Index::LastIndex(0)));
+    let answer = marked!(rt, all.to_indices(rt.alloc(), count));
+    Ok(answer?.len() == count)
+}
