@@ -1,4 +1,5 @@
-//! The calls on parts of paths: copies of a step, an expression or a literal, tokens, and the positions of an index entry.
+//! The calls on parts of paths: copies of a step, an expression or a literal, tokens, and the positions of an index
+//! entry.
 
 use crate::answer::is_same;
 use crate::mark::tell;

@@ -34,8 +34,8 @@ PassesLeaves bytes levels n ts before nodes (Some (spot, others)) =
 abbrev pub is_shut : Option Levels → ℕ → Bool
 is_shut levels n = not (answer_at levels n).0 && not (answer_at levels n).1
 
--- The range holds the levels at which these take an item, where more than 256 count as 256. Above its last level they look
--- at children, and from there on they do not, or nothing below is taken.
+-- The range holds the levels at which these take an item, where more than 256 count as 256. Above its last level they
+-- look at children, and from there on they do not, or nothing below is taken.
 pub record AreLevelsOf (levels : Option Levels) (range : LevelRange) : Type 0 where
   pub taken : (n : ℕ) → (nat_le range.first (min n 256) && nat_le (min n 256) range.last) ≡ (answer_at levels n).0
   pub entered : (n : ℕ) → min n 256 < range.last → (answer_at levels n).1 ≡ true

@@ -229,7 +229,8 @@ fn with_open<'v, 'a, 'w, 'b>(
 ) -> Option<Joined<'v, 'a, 'w, 'b>>
     ensures same { MatchOption result (calls < 48)
         (λ more. told more.left ≡ (told joined.entry.left && told part.entry)) }
-    ensures fewer { IfSome result (λ more. told_parts more.left ≤ told_parts joined.entry.left + told_parts part.entry) }
+    ensures fewer { IfSome result
+        (λ more. told_parts more.left ≤ told_parts joined.entry.left + told_parts part.entry) }
 {
     let most = calls.saturating_sub(1);
     let mut first = joined.left;

@@ -73,7 +73,8 @@ abbrev pub TakesFirst : Form → Entries → List Tree → Option FirstEntry →
 TakesFirst form row [] None = ⊤
 TakesFirst form row [] (Some first) = ⊥
 TakesFirst form row (t ∷ ts) None = ⊥
-TakesFirst form row (t ∷ ts) (Some first) = IsFirst form row t ts (kind_number first.kind) first.content.now first.others
+TakesFirst form row (t ∷ ts) (Some first) =
+    IsFirst form row t ts (kind_number first.kind) first.content.now first.others
 
 -- ---- pairs
 
