@@ -3,19 +3,13 @@ use Rattle.std.proofs.Common.{◌≡◌, ℕ, ◌+◌, ◌<◌, List, [], ◌∷
 use Rattle.std.specs.Prelude.{reverse}
 use Rattle.std.proofs.lemmas.List.{reverse-append}
 use Rattle.jsonb_doc.specs.Answer.{Outcome, and_then, try_flat_map, Gives, IsOutOfMemory}
-use Rattle.jsonb_doc.specs.Tree as tree
 use Rattle.jsonb_doc.specs.Tree.{Tree}
 use Rattle.jsonb_doc.specs.declared.error.Error.{Error}
-use Rattle.jsonb_doc.specs.Private.Short.{short_value}
-use Rattle.jsonb_doc.specs.declared.short_number.ShortNumber.{ShortNumber}
-use Rattle.jsonb_doc.specs.Payload.{number_of}
-use Rattle.jsonb_doc.specs.Format.{IsContent}
-use Rattle.jsonb_doc.proofs.ScalarLemmas.{number_content, some_injective}
 use Rattle.jsonb.specs.PathTree as math
 use Rattle.jsonb.specs.PathTree.{Expression, steps_of}
 use Rattle.jsonb.specs.PathViews.{steps_view, operator_view}
 use Rattle.jsonb.specs.Compare.{Truth, compare, pair_truth, first_decisive}
-use Rattle.jsonb.specs.Values.{Value, number, values_of_item}
+use Rattle.jsonb.specs.Values.{Value, values_of_item}
 use Rattle.jsonb.specs.ItemSteps.{list_or}
 use Rattle.jsonb.specs.Meaning.{step_meaning, steps_meaning, truth, operand_values, filtered}
 use Rattle.jsonb.specs.Private.Compared.{IsMemberCompared, no_truth, joint_truth, is_decided}
@@ -77,17 +71,6 @@ compares_member mode op steps r literal top t compares is =
         ≡ and_then o (λ ts. Ok (compare op (flat_map values_of_item ts) (literal ∷ [])))
     joined (Ok ts) = refl
     joined (Err e) = refl
-
--- an item that is a short number, and its values
-pub short_tree : (kind : ℕ) (bytes : List ℕ) (t : Tree) (n : ShortNumber) → kind ≡ 2 → number_of bytes ≡ Some (short_value n) → IsContent number_of t kind bytes
-    → t ≡ tree.number (short_value n)
-short_tree kind bytes t n is read content =
-    let found = number_content number_of kind bytes t is content in
-    found.1 ∙ ap tree.number (some_injective (sym found.2 ∙ read))
-
-pub short_values : (kind : ℕ) (bytes : List ℕ) (t : Tree) (n : ShortNumber) → kind ≡ 2 → number_of bytes ≡ Some (short_value n) → IsContent number_of t kind bytes
-    → values_of_item t ≡ number (short_value n) ∷ []
-short_values kind bytes t n is read content = ap values_of_item (short_tree kind bytes t n is read content)
 
 -- ---- truths that one operator joins
 

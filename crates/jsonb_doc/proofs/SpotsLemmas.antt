@@ -14,6 +14,7 @@ use Rattle.jsonb_doc.specs.Spots.{Locates, HasSpotsLeft, TakesSpot, PassesSpot, 
 use Rattle.jsonb_doc.specs.Kinds.{kind_number}
 use Rattle.jsonb_doc.specs.declared.spot.Spot.{Spot}
 use Rattle.jsonb_doc.specs.declared.spot_iter.SpotIter.{SpotIter}
+use Rattle.jsonb_doc.proofs.KindLemmas.{kind_known}
 use Rattle.jsonb_doc.proofs.WordLemmas.{append_cancel, word_cancel}
 use Rattle.jsonb_doc.proofs.Entries.{BeginWith-long, BeginWith-room, BeginWith-unique}
 use Rattle.jsonb_doc.proofs.LengthsLemmas.{StandBefore-joined}
@@ -163,6 +164,7 @@ module _ (bytes : List ℕ) (it : SpotIter) where
           record {
             whole = h.whole;
             decodes = h.decodes;
+            few = omega (arith, h.few);
             ordered = omega arith;
             within = omega arith;
             entries = λ form top d. rw (words, start, end, range_rest bytes it.start it.end len fits within) (first form top d).1;
@@ -248,6 +250,7 @@ module _ (bytes : List ℕ) (it : SpotIter) (ts : List Tree) (h : HasSpotsLeft b
         record {
           whole = h.whole;
           decodes = h.decodes;
+          few = omega (arith, h.few, length-drop count ts);
           ordered = omega (arith, fits, start, end);
           within = omega (arith, within, end);
           entries = λ form top d.
@@ -260,9 +263,10 @@ module _ (bytes : List ℕ) (it : SpotIter) (ts : List Tree) (h : HasSpotsLeft b
 pub PassesSpot-fits : (it : SpotIter) (kind len : ℕ) (others : List ℕ) → StartWith it.words.now kind len others → (spot : Spot) (rest : SpotIter)
     → PassesSpot it spot rest → it.start + len ≤ it.end
 PassesSpot-fits it kind len others w spot rest p =
+    let known = kind_known spot.kind in
     let same = word_cancel (kind * 2 ^ 28 + len) (kind_number spot.kind * 2 ^ 28 + (spot.end - spot.start)) others rest.words.now (omega (arith, w.known, w.fits))
-    (omega (arith, p.known, p.fits)) (sym w.joined ∙ p.word) in
-    omega (arith, same.0, w.known, w.fits, p.known, p.fits, p.front, p.ordered, p.within)
+    (omega (arith, known, p.fits)) (sym w.joined ∙ p.word) in
+    omega (arith, same.0, w.known, w.fits, known, p.fits, p.front, p.ordered, p.within)
 
 -- ---- spots
 
@@ -302,13 +306,16 @@ module _ (bytes : List ℕ) (parent : Spot) (t : Tree) (m : Locates bytes parent
   -- the spots of the entries at the end of a content
   pub HasSpotsLeft-part : (it : SpotIter) (ts : Trees) (front contents : List ℕ) → spot_content bytes parent ≡ front ++ contents
       → it.start ≡ parent.end - length contents → it.end ≡ parent.end
+      → length it.words.now < 2 ^ 31
       → ((form : Form) (top : Tree) → Decodes form bytes top → AreEntries (number_reader form) ts it.words.now contents) → HasSpotsLeft bytes it (elements ts)
-  HasSpotsLeft-part it ts front contents joined s e entries =
+  HasSpotsLeft-part it ts front contents joined s e short entries =
       let found = range_end bytes parent.start parent.end front contents m.ordered m.within joined in
       let within = m.within in
+      let counted = words_counted (number_reader any) (elements ts) it.words.now contents (rw (trees_of-elements ts) (entries any m.whole m.decodes)) in
       record {
         whole = m.whole;
         decodes = m.decodes;
+        few = omega (arith, counted, short);
         ordered = rw (s, e) found.0;
         within = omega arith;
         entries = λ form top d. rw (trees_of-elements ts, s, e, found.1) (entries form top d);
@@ -382,7 +389,7 @@ module _ (bytes : List ℕ) (parent : Spot) (t : Tree) (m : Locates bytes parent
         go : (u : Tree) → Locates bytes parent u → ((form : Form) (top : Tree) → Decodes form bytes top → Holds (number_reader form) u (Array p))
             → SameOption (HasSpotsLeft bytes) (Some it) (children_of u)
         go (array ts) k held = HasSpotsLeft-part bytes parent (array ts) k it ts (header 4 cut.0 ++ p.words.now) p.contents.now (sym is ∙ joined) start end
-            (λ form top d. rw words (held form top d))
+            (omega (arith, ap length words, cut.1.fits, cut.2)) (λ form top d. rw words (held form top d))
         go _ k held = absurd (held any m.whole m.decodes)
 
     pub array_no_field : (name : List ℕ) → SameOption (Locates bytes) None (field_of name t)
@@ -414,6 +421,7 @@ module _ (bytes : List ℕ) (parent : Spot) (t : Tree) (m : Locates bytes parent
             (h.bytes ∙ ap (λ (w : List ℕ). key_bytes (keys ps) ++ w) (sym (HoldsPairs-values (number_reader any) ps p found h skips)))
             ∙ sym (append_assoc front (key_bytes (keys ps)) found) in
             HasSpotsLeft-part bytes parent (object ps) k it (values ps) (front ++ key_bytes (keys ps)) found joined start end
+            (omega (arith, ap length words, cut.1.fits, cut.3))
             (λ form top d. let o = held form top d in rw (words, HoldsPairs-values (number_reader form) ps p found o skips)
             (entries_of (number_reader form) ps _ _ o.values))
         go _ k held = absurd (held any m.whole m.decodes)

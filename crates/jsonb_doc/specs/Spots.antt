@@ -1,5 +1,5 @@
 -- Places of trees within the bytes of a document.
-use Rattle.std.specs.Prelude.{◌≡◌, ℕ, ◌+◌, ◌-◌, ◌/◌, ◌^◌, ◌<◌, ◌≤◌, List, [], ◌∷◌, ◌++◌, length, slice_range, Option, Some, None, Result, Ok, Err, IfSome, IfOk, IfErr}
+use Rattle.std.specs.Prelude.{◌≡◌, ℕ, ◌+◌, ◌-◌, ◌/◌, ◌^◌, ◌<◌, ◌≤◌, List, [], ◌∷◌, ◌++◌, length, slice_range, Option, Some, None, Result, Ok, Err, IfSome, IfNone, IfOk, IfErr}
 use Rattle.jsonb_doc.specs.Tree.{Tree, trees_of}
 use Rattle.jsonb_doc.specs.Payload.{Form, any, number_reader}
 use Rattle.jsonb_doc.specs.Format.{Decodes, IsContent, AreEntries, entry_word}
@@ -30,6 +30,7 @@ pub record Locates (bytes : List ℕ) (spot : Spot) (t : Tree) : Type 0 where
 pub record HasSpotsLeft (bytes : List ℕ) (it : SpotIter) (ts : List Tree) : Type 0 where
   pub whole : Tree
   pub decodes : Decodes any bytes whole
+  pub few : length ts < 2 ^ 29
   pub ordered : it.start ≤ it.end
   pub within : it.end ≤ length bytes
   pub entries : (form : Form) (top : Tree) → Decodes form bytes top
@@ -53,7 +54,6 @@ TakesSpot bytes _ _ after = ⊥
 -- left.
 pub record PassesSpot (before : SpotIter) (spot : Spot) (after : SpotIter) : Type 0 where
   pub word : before.words.now ≡ entry_word (kind_number spot.kind) (spot.end - spot.start) ++ after.words.now
-  pub known : kind_number spot.kind < 8
   pub fits : spot.end - spot.start < 2 ^ 28
   pub front : spot.start ≡ before.start
   pub ordered : spot.start ≤ spot.end
@@ -69,10 +69,11 @@ ReadsSpot before (Some (Ok spot)) after = PassesSpot before spot after
 ReadsSpot before (Some (Err e)) after =
     ((spot : Spot) (rest : SpotIter) → PassesSpot before spot rest → ⊥) × (after.words.now ≡ [])
 
--- what a call of `next` does
+-- What a call of `next` does. On any bytes it gives a spot, an error or `None`, and after `None` nothing more.
 pub record GivesSpot (before : SpotIter) (r : Option (Result Spot Error)) (after : SpotIter) : Type 0 where
   pub reads : ReadsSpot before r after
   pub takes : (bytes : List ℕ) (ts : List Tree) → HasSpotsLeft bytes before ts → TakesSpot bytes ts r after
   pub errors : IfSome r (λ x. IfErr x IsDecodingError)
+  pub ended : IfNone r (spots_bound after ≡ 0)
   pub size : IfSome r (λ x. IfOk x (λ spot. spot_size spot ≤ spots_room before))
   pub room : spots_room after ≤ spots_room before

@@ -237,7 +237,7 @@ pub fn word_of_header(kind: HeaderKind, count: usize) -> [u8; WORD]
 ///
 /// Constant, without memory.
 #[inline(always)]
-pub fn told_len(word: &[u8; WORD]) -> usize
+pub fn entry_len(word: &[u8; WORD]) -> usize
     ensures { result ≡ from_be_bytes w32 word.now % 2 ^ 28 }
 {
     (u32::from_be_bytes(*word) % LENGTHS) as usize
@@ -254,7 +254,7 @@ pub fn read_entry_word(word: &[u8; WORD]) -> (EntryKind, usize)
     ensures bound { result.1 < 2 ^ 28 }
 {
     let kind = EntryKind::from_u32(u32::from_be_bytes(*word) / LENGTHS);
-    (kind.unwrap_or(EntryKind::Unknown), told_len(word))
+    (kind.unwrap_or(EntryKind::Unknown), entry_len(word))
 }
 
 /// The word at the front, and the bytes after it; `None` where there are fewer than four bytes.

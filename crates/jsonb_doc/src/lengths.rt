@@ -5,7 +5,7 @@ ghost use Rattle.jsonb_doc.specs.Format.{BeginWith};
 ghost use Rattle.jsonb_doc.specs.Kinds.{kind_number};
 ghost use Rattle.jsonb_doc.specs.Lengths.{StandBefore};
 
-use crate::layout::{Entry, WORD, split_entry, told_len};
+use crate::layout::{Entry, WORD, entry_len, split_entry};
 
 /// How long the contents of these entry words are, all together. The words are a list of their own, so that many are
 /// added at once.
@@ -23,7 +23,7 @@ pub fn contents_len(words: &[u8]) -> usize
     let (chunks, _) = words.as_chunks::<WORD>();
     let mut len = 0;
     for word in chunks {
-        len += told_len(word);
+        len += entry_len(word);
     }
     len
 }

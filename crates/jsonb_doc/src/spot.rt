@@ -1,7 +1,7 @@
 //! Items by their places in the bytes of a document.
 
 ghost use Rattle.std.specs.Prelude.{◌≡◌, ℕ, ◌+◌, ◌*◌, ◌^◌, ◌<◌, ◌≤◌, List, length, slice_range, is_some, IsOkAnd, IfOk, IfErr, IfSome, MatchResult, OnOk};
-ghost use Rattle.jsonb_doc.specs.Tree.{Tree, children_of, field_of};
+ghost use Rattle.jsonb_doc.specs.Tree.{Tree, number, children_of, field_of};
 ghost use Rattle.jsonb_doc.specs.Payload.{Form, any, number_reader};
 ghost use Rattle.jsonb_doc.specs.Format.{Decodes, IsContent, HeadedBy};
 ghost use Rattle.jsonb_doc.specs.Kinds.{kind_number};
@@ -9,6 +9,7 @@ ghost use Rattle.jsonb_doc.specs.Item.{StandsFor, IsNormal, item_size};
 ghost use Rattle.jsonb_doc.specs.Answer.{SameOption, IsDecodingError};
 ghost use Rattle.jsonb_doc.specs.Readable.{HasReadableRoot};
 ghost use Rattle.jsonb_doc.specs.Private.Lengths.{HoldKeys, FindsKey};
+ghost use Rattle.jsonb_doc.specs.Private.Short.{short_value};
 ghost use Rattle.jsonb_doc.specs.Spots.{Locates, HasSpotsLeft, spot_size, spot_content, spots_bound, spots_room};
 
 use crate::container::{Container, read_container};
@@ -17,6 +18,7 @@ use crate::error::Error;
 use crate::item::Item;
 use crate::layout::{EntryKind, WORD, split_entry};
 use crate::lengths::{entry_behind, skip_contents};
+use crate::short_number::ShortNumber;
 use crate::spot_iter::SpotIter;
 
 mod document;
@@ -131,6 +133,24 @@ pub fn spot_entry<'a>(bytes: &'a [u8], spot: Spot) -> Result<StoredEntry<'a>, Er
         kind: spot.kind,
         content: spot.content(bytes)?,
     })
+}
+
+/// The number at a spot of these bytes, where its digits are stored in at most 64 bits; `None` for every other item.
+///
+/// # Errors
+///
+/// `InvalidJsonb` or `UnsupportedNumber`, only where the bytes don't decode or the spot is of other bytes.
+///
+/// # Cost
+///
+/// Constant, without memory.
+#[inline(always)]
+pub fn spot_number(bytes: &[u8], spot: Spot) -> Result<Option<ShortNumber>, Error>
+    ensures number { (t : Tree) → Locates bytes.now spot t
+        → IsOkAnd result (λ found. IfSome found (λ n. t ≡ number (short_value n))) }
+    ensures errors { IfErr result IsDecodingError }
+{
+    Ok(spot_entry(bytes, spot)?.short_number())
 }
 
 /// The spots of an array's elements or of an object's values, in stored order. `None` is for a scalar.

@@ -1,7 +1,7 @@
 //! The iterator over the places of a container's children.
 
 use crate::error::Error;
-use crate::layout::{WORD, split_entry_word};
+use crate::layout::{MAX_ENTRIES, WORD, split_entry_word};
 use crate::lengths::contents_len;
 use crate::spot::Spot;
 
@@ -19,9 +19,9 @@ pub struct SpotIter<'a> {
 }
 
 impl<'a> SpotIter<'a> {
-    ghost use Rattle.std.specs.Prelude.{◌≡◌, ◌<◌, ◌^◌, ℕ, List, length, drop, MatchOption};
+    ghost use Rattle.std.specs.Prelude.{◌≡◌, ◌<◌, ℕ, List, length, drop, MatchOption};
     ghost use Rattle.jsonb_doc.specs.Tree.{Tree};
-    ghost use Rattle.jsonb_doc.specs.Spots.{HasSpotsLeft, spots_bound};
+    ghost use Rattle.jsonb_doc.specs.Spots.{HasSpotsLeft};
 
     pub(crate) fn new(words: &'a [u8], start: usize, end: usize) -> SpotIter<'a>
         ensures words { result.words.now ≡ words.now }
@@ -49,10 +49,12 @@ impl<'a> SpotIter<'a> {
     ///
     /// Linear in the count, without memory.
     pub fn behind(&self, count: usize) -> Option<SpotIter<'a>>
-        requires { spots_bound self.now < 2 ^ 30 }
         ensures left { (bytes : List ℕ) (ts : List Tree) → HasSpotsLeft bytes self.now ts
             → MatchOption result (length ts < count) (λ rest. HasSpotsLeft bytes rest (drop count ts)) }
     {
+        if count > MAX_ENTRIES {
+            return None;
+        }
         if count > self.words.len() / WORD {
             return None;
         }

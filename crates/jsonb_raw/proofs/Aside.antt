@@ -111,11 +111,6 @@ shorter_than (Ok (AsOf x y)) m n le h = omega arith
 
 -- ---- one of several
 
--- the answer of the test for the entry that was put aside, and false where there is none
-abbrev pub IsOneAnswer : (Tree → Bool) → Form → Option StoredEntry → Bool → Type 0
-IsOneAnswer test form None b = b ≡ false
-IsOneAnswer test form (Some e) b = (t : Tree) × Stores form e t × (test t ≡ b)
-
 -- what is left and what was put aside decide together whether one holds
 pub record OneAside (Large : Bool → Type 0) (rest whole : Bool) : Type 0 where
   pub answer : Bool

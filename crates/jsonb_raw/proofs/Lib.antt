@@ -70,6 +70,7 @@ mod DeleteRows
 pub mod Copies
 pub mod EntriesLeft
 pub mod EntryEquals
+pub mod EntryTails
 pub mod Aside
 pub mod TextTrees
 pub mod EqualAny

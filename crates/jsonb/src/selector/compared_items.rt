@@ -24,7 +24,7 @@ use super::kept::{is_comparison, is_kept};
 use super::members::{member, member_steps};
 use super::node_list::NodeList;
 use crate::path::{BinaryOperator, Expr, Path};
-use jsonb_doc::{Error, Spot, spot_entry};
+use jsonb_doc::{Error, Spot, spot_number};
 use std::alloc::Global;
 use std::slice;
 
@@ -154,7 +154,7 @@ fn value_truth(
     ensures errors { IfErr result (IsDecodingError or OutOfMemory) }
 {
     let MemberCompared { op, literal, .. } = comparison;
-    match spot_entry(bytes, value)?.short_number() {
+    match spot_number(bytes, value)? {
         Some(number) => Ok(short_number_truth(*op, number, literal)),
         None => other_truth(alloc, *op, bytes, value, literal),
     }

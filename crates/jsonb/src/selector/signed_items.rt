@@ -20,7 +20,7 @@ use super::calculate::sign_each;
 use super::children::array_elements;
 use crate::path::UnaryOperator;
 use jsonb_doc::{
-    Decimal64, Error, Item, Number, ShortNumber, Spot, SpotIter, spot_entry, spot_item,
+    Decimal64, Error, Item, Number, ShortNumber, Spot, SpotIter, spot_item, spot_number,
 };
 use std::alloc::Global;
 
@@ -138,7 +138,7 @@ fn number_at(bytes: &[u8], item: Spot) -> Result<Option<Number>, Error>
         → IsOkAnd result (λ found. MatchOption found ⊤ (λ n. IsNumberItem n t)) }
     ensures errors { IfErr result IsDecodingError }
 {
-    match spot_entry(bytes, item)?.short_number() {
+    match spot_number(bytes, item)? {
         Some(number) => Ok(Some(number_of(number))),
         None => Ok(None),
     }

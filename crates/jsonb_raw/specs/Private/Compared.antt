@@ -1,11 +1,11 @@
 -- What walks along two containers tell, and which parts they leave.
-use Rattle.std.specs.Prelude.{◌≡◌, ℕ, ◌<◌, Bool, true, Option, Some, IfSome, ⊤}
+use Rattle.std.specs.Prelude.{◌≡◌, ℕ, ◌<◌, ◌≤◌, Bool, true, false, List, ◌++◌, Option, Some, None, IfSome, ⊤}
 use Rattle.std.specs.List.{list_any}
 use Rattle.jsonb_doc.specs.Tree.{Tree, Trees, elements}
 use Rattle.jsonb_doc.specs.Payload.{Form, number_of}
 use Rattle.jsonb_doc.specs.Item.{StandsFor, item_size}
 use Rattle.jsonb_doc.specs.Private.Short.{short_value}
-use Rattle.jsonb_doc.specs.Private.Stored.{HasEntriesLeft}
+use Rattle.jsonb_doc.specs.Private.Stored.{HasEntriesLeft, Stores, entries_room}
 use Rattle.jsonb_doc.specs.Kinds.{kind_number}
 use Rattle.jsonb_doc.specs.declared.short_number.ShortNumber.{ShortNumber}
 use Rattle.jsonb_doc.specs.declared.entry_iter.StoredEntry.{StoredEntry}
@@ -44,3 +44,19 @@ pub record PassesOver (before after : EntryIter) : Type 0 where
   pub others : (form : Form) (ts : Trees) → HasEntriesLeft form before ts
       → (us : Trees) × HasEntriesLeft form after us
       × ((test : Tree → Bool) → list_any test (elements us) ≡ true → list_any test (elements ts) ≡ true)
+
+-- what is left in the second was the last that is left in the first
+pub record IsTailOf (all left : EntryIter) : Type 0 where
+  pub room : entries_room left ≤ entries_room all
+  pub last : (form : Form) (ts : Trees) → HasEntriesLeft form all ts
+      → (us : Trees) × HasEntriesLeft form left us × ((front : List Tree) × (elements ts ≡ front ++ elements us))
+
+-- the answer of the test for the entry that was put aside, and false where there is none
+abbrev pub IsOneAnswer : (Tree → Bool) → Form → Option StoredEntry → Bool → Type 0
+IsOneAnswer test form None b = b ≡ false
+IsOneAnswer test form (Some entry) b = (t : Tree) × Stores form entry t × (test t ≡ b)
+
+-- a search tells that the test holds of one, or leaves that to the entry that was put aside
+abbrev pub FindsOne : (Tree → Bool) → Form → Bool → Option EntryIter → Option StoredEntry → Type 0
+FindsOne test form whole (Some rest) large = whole ≡ true
+FindsOne test form whole None large = IsOneAnswer test form large whole

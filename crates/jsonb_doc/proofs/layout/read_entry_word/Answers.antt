@@ -11,5 +11,5 @@ returns-clause-told c = λ kind len known short is.
     ∙ from_be_bytes-to_be_bytes_4 (kind * 2 ^ 28 + len) (omega arith) in
     let number : c.from_be_bytes.result / 2 ^ 28 ≡ kind = omega (arith, c.from_be_bytes.ensures, read) in (
       ap kind_number c.unwrap_or.ensures ∙ read_number _ _ c.from_u32-kind.ensures (omega (arith, number)) ∙ number,
-      omega (arith, c.told_len.ensures, read),
+      omega (arith, c.entry_len.ensures, read),
     )

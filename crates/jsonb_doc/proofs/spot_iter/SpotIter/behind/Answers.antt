@@ -2,6 +2,9 @@ use Rattle.std.proofs.Common.{◌≡◌, ◌+◌, ◌%◌, ◌^◌, arith, refl}
 use Rattle.jsonb_doc.proofs.SpotsLemmas.{spots_counted, HasSpotsLeft-passed, HasSpotsLeft-behind}
 use Rattle.jsonb_doc.proofs.spot_iter.SpotIter.behind.Goals as goal
 
+pub returns-then-count-gt-MAX_ENTRIES : goal.returns-then-count-gt-MAX_ENTRIES
+returns-then-count-gt-MAX_ENTRIES c = record { left = λ bytes ts h. omega (arith, h.few, c.if-count-gt-MAX_ENTRIES.true) }
+
 pub returns-then-count-self : goal.returns-then-count-self
 returns-then-count-self c = record { left = λ bytes ts h. omega (arith, spots_counted bytes c.args.self.now ts h, c.if-count-self.true) }
 

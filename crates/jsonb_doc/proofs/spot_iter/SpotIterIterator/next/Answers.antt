@@ -1,7 +1,8 @@
-use Rattle.std.proofs.Common.{arith, rules, refl, sym, ap, ◌≡◌, ◌∙◌, ◌<◌, ◌+◌, ◌-◌}
+use Rattle.std.proofs.Common.{arith, rules, refl, sym, ap, ◌≡◌, ◌∙◌, ◌<◌, ◌+◌, ◌-◌, length}
 use Rattle.std.proofs.lemmas.Grind.{common_steps}
 use Rattle.std.proofs.lemmas.List.{nil_from_length}
 use Rattle.jsonb_doc.specs.Kinds.{kind_number}
+use Rattle.jsonb_doc.proofs.KindLemmas.{kind_known}
 use Rattle.jsonb_doc.proofs.SpotsLemmas.{HasSpotsLeft-empty, HasSpotsLeft-word, HasSpotsLeft-fits, HasSpotsLeft-first, PassesSpot-fits}
 use Rattle.jsonb_doc.proofs.spot_iter.SpotIterIterator.next.Goals as goal
 use Rattle.jsonb_doc.proofs.spot_iter.SpotIterIterator.next.Goals.{in_default-checked_add-via-in-Some-checked_add+else-end-self, in_default-checked_add-via-in_default-checked_add}
@@ -11,6 +12,7 @@ returns-then-is_empty-clause-steps c = record {
   reads = nil_from_length c.args.self.now.words.now (grind (arith, common_steps));
   takes = λ bytes ts h. HasSpotsLeft-empty bytes c.args.self.now ts c.args.self.now (grind (arith, common_steps)) refl h;
   errors = search rules;
+  ended = let none : length c.args.self.now.words.now ≡ 0 = grind (arith, common_steps) in omega (arith, none);
   size = search rules;
   room = omega arith;
 }
@@ -19,11 +21,12 @@ pub returns-in_default-clause-steps : goal.returns-in_default-clause-steps
 returns-in_default-clause-steps c = record {
   reads = (
     λ spot rest p. c.in_default.ensures.word (kind_number spot.kind) (spot.end - spot.start) rest.words.now
-        (record { known = p.known; fits = p.fits; joined = p.word }),
+        (record { known = kind_known spot.kind; fits = p.fits; joined = p.word }),
     refl,
   );
   takes = λ bytes ts h. absurd (HasSpotsLeft-word bytes c.args.self.now ts (grind (arith, common_steps)) c.in_default.ensures.word h);
   errors = search rules;
+  ended = search rules;
   size = search rules;
   room = omega arith;
 }
@@ -38,7 +41,6 @@ returns-in-Some-checked_add-clause-steps c =
     record {
       reads = record {
         word = rw (kind, len) c.in-Some.ensures.word.joined;
-        known = rw kind c.in-Some.ensures.word.known;
         fits = omega (arith, len, c.in-Some.ensures.word.fits);
         front = start;
         ordered = omega (arith, sum.1, start, end);
@@ -50,6 +52,7 @@ returns-in-Some-checked_add-clause-steps c =
           HasSpotsLeft-first bytes c.args.self.now (kind_number c.in-Some.kind) c.in-Some.len c.in-Some.others.now c.in-Some.ensures.word ts c.new.result _
           kind start end refl sum.1 refl h;
       errors = search rules;
+      ended = search rules;
       size = omega (arith, sum.1, start, end);
       room = omega (arith, sum.1);
     }
@@ -76,6 +79,7 @@ returns-in_default-checked_add-clause-steps c =
             HasSpotsLeft-fits bytes c.args.self.now (kind_number c.in-Some.kind) c.in-Some.len c.in-Some.others.now c.in-Some.ensures.word ts h,
           ));
       errors = search rules;
+      ended = search rules;
       size = search rules;
       room = omega arith;
     }

@@ -1,19 +1,21 @@
-use Rattle.std.proofs.Common.{rules, arith, ℕ, List, Bool, Some, None, true, false, ◌≡◌, refl, sym, ◌∙◌, subst}
+use Rattle.std.proofs.Common.{rules, arith, ℕ, ◌-◌, ◌||◌, List, take, Bool, Some, None, true, false, ◌≡◌, refl, sym, ◌∙◌, subst}
 use Rattle.std.specs.Prelude.{IsOkAnd}
 use Rattle.std.proofs.lemmas.Slice.Eq.{bytes_eq-Decides}
 use Rattle.std.specs.List.{list_any}
 use Rattle.std.specs.Borrow.{Bor}
 use Rattle.jsonb_doc.specs.declared.item.Item.TheVariants as item
-use Rattle.jsonb_doc.specs.Tree.{keys, elements, members}
+use Rattle.jsonb_doc.specs.Tree.{count, keys, elements, members}
 use Rattle.jsonb_doc.proofs.BuilderSteps.{keys_rise}
 use Rattle.jsonb_doc.proofs.KindLemmas.{equal_kind}
 use Rattle.jsonb_raw.specs.Private.PairSteps.{pairs_above}
 use Rattle.jsonb_raw.specs.Contains.{is_part_of, each_is_matched, each_pair_is_matched}
-use Rattle.jsonb_raw.specs.Private.Compared.{matches}
+use Rattle.jsonb_raw.specs.Private.Compared.{IsOneAnswer, IsTailOf, matches}
 use Rattle.jsonb_raw.proofs.ContainsLaws.{matched_refl}
+use Rattle.jsonb_raw.proofs.TakenEntries.{take_one, take_no, take_zero}
+use Rattle.jsonb_raw.proofs.EntryTails.{tail_none, tail_next, tail_along, tail_whole, tail_found}
 use Rattle.jsonb_raw.proofs.EntriesLeft.{SomeEntries-first, SomeEntries-error, SomeEntries-none, SomePairEntries-first, SomePairEntries-error, SomePairEntries-none}
 use Rattle.jsonb_raw.proofs.EntryEquals.{same_tree}
-use Rattle.jsonb_raw.proofs.Aside.{IsAnswer, IsItemAnswer, none_aside, put_aside, part_holds, part_fails, whole_fails, aside_along, IsOneAnswer, put_one_aside, one_holds, one_fails}
+use Rattle.jsonb_raw.proofs.Aside.{IsAnswer, IsItemAnswer, none_aside, put_aside, part_holds, part_fails, whole_fails, aside_along, put_one_aside, one_holds, one_fails}
 use Rattle.jsonb_raw.proofs.MatchLemmas.{unmatched_key, matched_pair, no_entry_found, entry_found, scalar_match, matches_if_equal, no_object}
 use Rattle.jsonb_raw.proofs.StartLemmas.{scalar_told, scalar_found, scalars_left, scalars_decide, matched_left}
 use Rattle.jsonb_raw.proofs.functions.operator.contains.+contains.Goals as goal
@@ -71,6 +73,7 @@ pub array_contains-loop-wanted-init : goal.array_contains-loop-wanted-init
 array_contains-loop-wanted-init t c = record {
   can = tt;
   finite = tt;
+  tail = tail_none c.in_ok-all.all;
   room = search rules;
   size = tt;
   left = λ form other_form xs ys d e. record {
@@ -97,6 +100,7 @@ pub array_contains-loop-wanted-preserved-in-Known-true : goal.array_contains-loo
 array_contains-loop-wanted-preserved-in-Known-true t c = record {
   can = tt;
   finite = tt;
+  tail = c.in_ok-container_match.ensures.tail;
   room = omega (arith, c.in-Some.ensures.steps.room, c.loop-wanted.invariant.room);
   size = c.loop-wanted.invariant.size;
   left = λ form other_form xs ys d e.
@@ -122,6 +126,7 @@ array_contains-loop-wanted-preserved-then-wanted-others t c =
     record {
       can = tt;
       finite = tt;
+      tail = c.in_ok-container_match.ensures.tail;
       room = omega (arith, c.in-Some.ensures.steps.room, c.loop-wanted.invariant.room);
       size = (omega (arith, within.0, c.in_ok-all.ensures.room), omega (arith, within.1, size, c.loop-wanted.invariant.room));
       left = λ form other_form xs ys d e.
@@ -167,6 +172,7 @@ pub array_contains-loop-wanted-preserved : goal.array_contains-loop-wanted-prese
 array_contains-loop-wanted-preserved t c = record {
   can = tt;
   finite = tt;
+  tail = c.in_ok-container_match.ensures.tail;
   room = omega (arith, c.in-Some.ensures.steps.room, c.loop-wanted.invariant.room);
   size = c.loop-wanted.invariant.size;
   left = λ form other_form xs ys d e.
@@ -192,6 +198,7 @@ pub array_contains-loop-wanted-preserved-then-not-is_container : goal.array_cont
 array_contains-loop-wanted-preserved-then-not-is_container t c = record {
   can = tt;
   finite = tt;
+  tail = c.loop-wanted.invariant.tail;
   room = omega (arith, c.in-Some.ensures.steps.room, c.loop-wanted.invariant.room);
   size = c.loop-wanted.invariant.size;
   left = λ form other_form xs ys d e.
@@ -211,76 +218,134 @@ array_contains-returns-in_err-scalars_matched-clause-answer t c = λ form other_
 
 -- ---- entries
 
-pub container_match-returns-in_err-entry-clause-answer : goal.container_match-returns-in_err-entry-clause-answer
-container_match-returns-in_err-entry-clause-answer t c = λ form other_form xs y h k.
-    SomeEntries-error form _ _ _ _ _ c.in_err-entry.was c.in-Some.ensures.steps (c.loop-entry.invariant.left form other_form xs y h k)
+pub container_match-returns-in-Some-clause-answer : goal.container_match-returns-in-Some-clause-answer
+container_match-returns-in-Some-clause-answer t c = λ form other_form xs y h k.
+    let q = c.requires.last form xs h in
+    let found = rw c.in-Some.is at (c.in_ok-rest.ensures.answer form other_form q.0 y false q.1 k refl) in
+    sym (tail_found (is_part_of y) xs q.0 q.2.0 q.2.1 c.len.result (count xs - count q.0) (c.len.ensures form q.0 q.1) refl found)
 
-pub container_match-loop-entry-preserved-then-is_beyond : goal.container_match-loop-entry-preserved-then-is_beyond
-container_match-loop-entry-preserved-then-is_beyond t c =
-    let none : c.loop-entry.large ≡ None = search rules in
+pub container_match-returns-in-Some-clause-tail : goal.container_match-returns-in-Some-clause-tail
+container_match-returns-in-Some-clause-tail t c = tail_along _ _ _ c.requires (rw c.in-Some.is at c.in_ok-rest.ensures.tail)
+
+pub container_match-returns-in_err-rest-2-clause-answer : goal.container_match-returns-in_err-rest-2-clause-answer
+container_match-returns-in_err-rest-2-clause-answer t c = λ form other_form xs y h k.
+    let q = c.requires.last form xs h in
+    let first = rw c.in_default.is at (c.in_ok-rest.ensures.answer form other_form q.0 y false q.1 k refl) in
+    absurd (c.in_err-rest-2.ensures.answer form other_form xs y _ h k first)
+
+pub container_match-returns-in-Some-2-clause-answer : goal.container_match-returns-in-Some-2-clause-answer
+container_match-returns-in-Some-2-clause-answer t c = λ form other_form xs y h k.
+    let q = c.requires.last form xs h in
+    let first = rw c.in_default.is at (c.in_ok-rest.ensures.answer form other_form q.0 y false q.1 k refl) in
+    let second = rw c.in-Some-2.is at (c.in_ok-rest-2.ensures.answer form other_form xs y _ h k first) in
+    let left = c.len.ensures form q.0 q.1 in
+    let before : c.saturating_sub-front.result ≡ count xs - count q.0 = omega (arith, c.saturating_sub-front.ensures, c.len-2.ensures form xs h, c.len-3.ensures form q.0 q.1) in
+    sym second ∙ tail_whole (is_part_of y) xs q.0 q.2.0 q.2.1 _ _ left before
+
+pub container_match-returns-in_err-item-in-Some-large-clause-answer : goal.container_match-returns-in_err-item-in-Some-large-clause-answer
+container_match-returns-in_err-item-in-Some-large-clause-answer t c = λ form other_form xs y h k.
+    let q = c.requires.last form xs h in
+    let first = rw c.in_default.is at (c.in_ok-rest.ensures.answer form other_form q.0 y false q.1 k refl) in
+    let second = rw (c.in_default-2.is, c.in-Some-large.is) at (c.in_ok-rest-2.ensures.answer form other_form xs y _ h k first) in
+    absurd (c.in_err-item-in-Some-large.ensures.decodes form second.0 second.1.content)
+
+pub container_match-returns-in_ok-item-in-Some-large-2-clause-answer : goal.container_match-returns-in_ok-item-in-Some-large-2-clause-answer
+container_match-returns-in_ok-item-in-Some-large-2-clause-answer t c = λ form other_form xs y h k.
+    let q = c.requires.last form xs h in
+    let first = rw c.in_default.is at (c.in_ok-rest.ensures.answer form other_form q.0 y false q.1 k refl) in
+    let second = rw (c.in_default-2.is, c.in-Some-large.is) at (c.in_ok-rest-2.ensures.answer form other_form xs y _ h k first) in
+    let left = c.len.ensures form q.0 q.1 in
+    let before : c.saturating_sub-front.result ≡ count xs - count q.0 = omega (arith, c.saturating_sub-front.ensures, c.len-2.ensures form xs h, c.len-3.ensures form q.0 q.1) in (
+      second.0,
+      y,
+      c.in_ok-item-in-Some-large.ensures.decodes form second.0 second.1.content,
+      c.in_ok-item-in-Some-large-2.ensures.decodes other_form y k.content,
+      second.2 ∙ tail_whole (is_part_of y) xs q.0 q.2.0 q.2.1 _ _ left before,
+    )
+
+pub container_match-returns-in-None-clause-answer : goal.container_match-returns-in-None-clause-answer
+container_match-returns-in-None-clause-answer t c = λ form other_form xs y h k.
+    let q = c.requires.last form xs h in
+    let first = rw c.in_default.is at (c.in_ok-rest.ensures.answer form other_form q.0 y false q.1 k refl) in
+    let second = rw (c.in_default-2.is, c.in-None.is) at (c.in_ok-rest-2.ensures.answer form other_form xs y _ h k first) in
+    let left = c.len.ensures form q.0 q.1 in
+    let before : c.saturating_sub-front.result ≡ count xs - count q.0 = omega (arith, c.saturating_sub-front.ensures, c.len-2.ensures form xs h, c.len-3.ensures form q.0 q.1) in
+    sym second ∙ tail_whole (is_part_of y) xs q.0 q.2.0 q.2.1 _ _ left before
+
+pub find_match-loop-more-init : goal.find_match-loop-more-init
+find_match-loop-more-init t c = record {
+  tail = tail_none c.args.found;
+  room = λ most few large. large;
+  left = λ form other_form xs y b h k is. record { trees = xs; left = h; fact = record { answer = b; is = is; fact = refl } };
+}
+
+pub find_match-returns-in_err-entry-clause-answer : goal.find_match-returns-in_err-entry-clause-answer
+find_match-returns-in_err-entry-clause-answer t c = λ form other_form xs y b h k is.
+    SomeEntries-error form _ _ _ _ _ c.in_err-entry.was c.in-Some.ensures.steps (c.loop-more.invariant.left form other_form xs y b h k is)
+
+pub find_match-returns-in_err-entry_matches-clause-answer : goal.find_match-returns-in_err-entry_matches-clause-answer
+find_match-returns-in_err-entry_matches-clause-answer t c = λ form other_form xs y b h k is.
+    SomeEntries-first form _ _ _ _ _ c.in_ok-entry.was c.in-Some.ensures.steps (c.loop-more.invariant.left form other_form xs y b h k is)
+    (λ first rest left stored fact. absurd (c.in_err-entry_matches.ensures.answer form other_form first y stored k))
+
+pub find_match-returns-in_default-clause-answer : goal.find_match-returns-in_default-clause-answer
+find_match-returns-in_default-clause-answer t c = λ form other_form xs y b h k is.
+    let a = rw take_no at (SomeEntries-none form _ _ _ c.in_default.ensures.steps (c.loop-more.invariant.left form other_form xs y b h k is)) in
+    rw a.fact at a.is
+
+pub find_match-loop-more-preserved-then-is_beyond : goal.find_match-loop-more-preserved-then-is_beyond
+find_match-loop-more-preserved-then-is_beyond t c =
+    let none : c.loop-more.large ≡ None = search rules in
     let size = rw c.in_ok-entry.was at c.in-Some.ensures.steps.size in
     record {
-      can = tt;
-      finite = tt;
-      room = omega (arith, c.in-Some.ensures.steps.room, c.loop-entry.invariant.room);
-      size = omega (arith, size, c.loop-entry.invariant.room);
-      left = λ form other_form xs y h k.
-          SomeEntries-first form _ _ _ _ _ c.in_ok-entry.was c.in-Some.ensures.steps (rw none at (c.loop-entry.invariant.left form other_form xs y h k))
+      tail = tail_next _ _ _ _ _ c.in_ok-entry.was c.in-Some.ensures.steps c.loop-more.invariant.tail;
+      room = λ most few large. omega (arith, size, few, c.loop-more.invariant.tail.room);
+      left = λ form other_form xs y b h k is.
+          SomeEntries-first form _ _ _ _ _ c.in_ok-entry.was c.in-Some.ensures.steps
+          (rw none at (c.loop-more.invariant.left form other_form xs y b h k is))
           (λ first rest left stored fact. record {
             trees = rest;
             left = left;
             fact = put_one_aside (IsOneAnswer (is_part_of y) form None) (IsOneAnswer (is_part_of y) form (Some c.in_ok-entry.entry)) (is_part_of y first)
-                (list_any (is_part_of y) (elements rest)) (list_any (is_part_of y) (elements xs)) (λ b i. i) (first, stored, refl) fact;
+                (list_any (is_part_of y) (take (c.loop-more.more - 1) (elements rest)))
+                (list_any (is_part_of y) (take c.args.count (elements xs)) || b) (λ b i. i) (first, stored, refl)
+                (rw (take_one c.loop-more.more first (elements rest) c.loop-more-test.true) at fact);
           });
     }
 
-pub container_match-returns-in_err-entry_matches-clause-answer : goal.container_match-returns-in_err-entry_matches-clause-answer
-container_match-returns-in_err-entry_matches-clause-answer t c = λ form other_form xs y h k.
-    SomeEntries-first form _ _ _ _ _ c.in_ok-entry.was c.in-Some.ensures.steps (c.loop-entry.invariant.left form other_form xs y h k)
-    (λ first rest left stored fact. absurd (c.in_err-entry_matches.ensures.answer form other_form first y stored k))
-
-pub container_match-returns-then-branch-clause-answer : goal.container_match-returns-then-branch-clause-answer
-container_match-returns-then-branch-clause-answer t c = λ form other_form xs y h k.
-    SomeEntries-first form _ _ _ _ _ c.in_ok-entry.was c.in-Some.ensures.steps (c.loop-entry.invariant.left form other_form xs y h k)
+pub find_match-returns-then-branch-clause-answer : goal.find_match-returns-then-branch-clause-answer
+find_match-returns-then-branch-clause-answer t c = λ form other_form xs y b h k is.
+    SomeEntries-first form _ _ _ _ _ c.in_ok-entry.was c.in-Some.ensures.steps (c.loop-more.invariant.left form other_form xs y b h k is)
     (λ first rest left stored fact.
-    one_holds _ (is_part_of y first) (list_any (is_part_of y) (elements rest)) (list_any (is_part_of y) (elements xs))
-    (sym (c.in_ok-entry_matches.ensures.answer form other_form first y stored k) ∙ c.if-branch.true) fact)
+    sym (one_holds _ (is_part_of y first) (list_any (is_part_of y) (take (c.loop-more.more - 1) (elements rest)))
+    (list_any (is_part_of y) (take c.args.count (elements xs)) || b)
+    (sym (c.in_ok-entry_matches.ensures.answer form other_form first y stored k) ∙ c.if-branch.true)
+    (rw (take_one c.loop-more.more first (elements rest) c.loop-more-test.true) at fact)))
 
-pub container_match-loop-entry-preserved : goal.container_match-loop-entry-preserved
-container_match-loop-entry-preserved t c = record {
-  can = tt;
-  finite = tt;
-  room = omega (arith, c.in-Some.ensures.steps.room, c.loop-entry.invariant.room);
-  size = c.loop-entry.invariant.size;
-  left = λ form other_form xs y h k.
-      SomeEntries-first form _ _ _ _ _ c.in_ok-entry.was c.in-Some.ensures.steps (c.loop-entry.invariant.left form other_form xs y h k)
+pub find_match-returns-then-branch-clause-tail : goal.find_match-returns-then-branch-clause-tail
+find_match-returns-then-branch-clause-tail t c = tail_next _ _ _ _ _ c.in_ok-entry.was c.in-Some.ensures.steps c.loop-more.invariant.tail
+
+pub find_match-loop-more-preserved : goal.find_match-loop-more-preserved
+find_match-loop-more-preserved t c = record {
+  tail = tail_next _ _ _ _ _ c.in_ok-entry.was c.in-Some.ensures.steps c.loop-more.invariant.tail;
+  room = c.loop-more.invariant.room;
+  left = λ form other_form xs y b h k is.
+      SomeEntries-first form _ _ _ _ _ c.in_ok-entry.was c.in-Some.ensures.steps (c.loop-more.invariant.left form other_form xs y b h k is)
       (λ first rest left stored fact. record {
         trees = rest;
         left = left;
-        fact = one_fails _ (is_part_of y first) (list_any (is_part_of y) (elements rest)) (list_any (is_part_of y) (elements xs))
-            (sym (c.in_ok-entry_matches.ensures.answer form other_form first y stored k) ∙ c.if-branch.false) fact;
+        fact = one_fails _ (is_part_of y first) (list_any (is_part_of y) (take (c.loop-more.more - 1) (elements rest)))
+            (list_any (is_part_of y) (take c.args.count (elements xs)) || b)
+            (sym (c.in_ok-entry_matches.ensures.answer form other_form first y stored k) ∙ c.if-branch.false)
+            (rw (take_one c.loop-more.more first (elements rest) c.loop-more-test.true) at fact);
       });
 }
 
-pub container_match-returns-in_err-item-in-Some-large-clause-answer : goal.container_match-returns-in_err-item-in-Some-large-clause-answer
-container_match-returns-in_err-item-in-Some-large-clause-answer t c = λ form other_form xs y h k.
-    let a = rw c.in-Some-large.is at (SomeEntries-none form _ _ _ c.in-None.ensures.steps (c.loop-entry.invariant.left form other_form xs y h k)) in
-    absurd (c.in_err-item-in-Some-large.ensures.decodes form a.is.0 a.is.1.content)
-
-pub container_match-returns-in_ok-item-in-Some-large-2-clause-answer : goal.container_match-returns-in_ok-item-in-Some-large-2-clause-answer
-container_match-returns-in_ok-item-in-Some-large-2-clause-answer t c = λ form other_form xs y h k.
-    let a = rw c.in-Some-large.is at (SomeEntries-none form _ _ _ c.in-None.ensures.steps (c.loop-entry.invariant.left form other_form xs y h k)) in (
-      a.is.0,
-      y,
-      c.in_ok-item-in-Some-large.ensures.decodes form a.is.0 a.is.1.content,
-      c.in_ok-item-in-Some-large-2.ensures.decodes other_form y k.content,
-      a.is.2 ∙ a.fact,
-    )
-
-pub container_match-returns-in-None-large-clause-answer : goal.container_match-returns-in-None-large-clause-answer
-container_match-returns-in-None-large-clause-answer t c = λ form other_form xs y h k.
-    let a = rw c.in-None-large.is at (SomeEntries-none form _ _ _ c.in-None.ensures.steps (c.loop-entry.invariant.left form other_form xs y h k)) in
-    sym a.is ∙ a.fact
+pub find_match-returns-clause-answer : goal.find_match-returns-clause-answer
+find_match-returns-clause-answer t c = λ form other_form xs y b h k is.
+    let some = c.loop-more.invariant.left form other_form xs y b h k is in
+    let a = rw (take_zero c.loop-more.more (elements some.trees) c.loop-more-test.false) at some.fact in
+    rw a.fact at a.is
 
 pub entry_matches-returns-then-not-is_container-clause-answer : goal.entry_matches-returns-then-not-is_container-clause-answer
 entry_matches-returns-then-not-is_container-clause-answer t c = λ form other_form x y h k.

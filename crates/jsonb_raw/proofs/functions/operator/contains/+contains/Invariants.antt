@@ -1,4 +1,4 @@
-use Rattle.std.proofs.Common.{◌≡◌, ◌<◌, ◌≤◌, ◌+◌, ◌*◌, true, length}
+use Rattle.std.proofs.Common.{◌≡◌, ℕ, ◌<◌, ◌≤◌, ◌+◌, ◌*◌, ◌||◌, Bool, true, length, take}
 use Rattle.std.specs.Prelude.{IfSome}
 use Rattle.std.specs.List.{list_any}
 use Rattle.jsonb_doc.specs.Tree.{Tree, Trees, Pairs, array, object, keys, elements, members}
@@ -8,10 +8,10 @@ use Rattle.jsonb_doc.specs.Item.{StandsFor, item_size}
 use Rattle.jsonb_doc.specs.Private.Stored.{HasEntriesLeft, Stores, entries_room}
 use Rattle.jsonb_doc.proofs.BuilderSteps.{AreRising}
 use Rattle.jsonb_raw.specs.Contains.{is_part_of, each_is_matched, each_pair_is_matched}
-use Rattle.jsonb_raw.specs.Private.Compared.{matches}
+use Rattle.jsonb_raw.specs.Private.Compared.{IsOneAnswer, IsTailOf, matches}
 use Rattle.jsonb_raw.specs.Private.Starts.{scalars_matched}
 use Rattle.jsonb_raw.proofs.EntriesLeft.{SomeEntries, SomePairEntries}
-use Rattle.jsonb_raw.proofs.Aside.{Aside, IsAnswer, IsItemAnswer, OneAside, IsOneAnswer}
+use Rattle.jsonb_raw.proofs.Aside.{Aside, IsAnswer, IsItemAnswer, OneAside}
 use Rattle.jsonb_raw.proofs.functions.operator.contains.+contains.Given as goal
 
 abbrev pub decreases-item_matches : goal.decreases-item_matches
@@ -27,7 +27,10 @@ abbrev pub decreases-object_contains : goal.decreases-object_contains
 decreases-object_contains l = 8 * (length l.bytes.now + length l.others.now) + 2
 
 abbrev pub decreases-container_match : goal.decreases-container_match
-decreases-container_match l = 8 * (entries_room l.found + length l.wanted.now.content.now) + 8
+decreases-container_match l = 8 * (entries_room l.all + length l.wanted.now.content.now) + 9
+
+abbrev pub decreases-find_match : goal.decreases-find_match
+decreases-find_match l = 8 * (entries_room l.found + length l.wanted.now.content.now) + 8
 
 abbrev pub decreases-entry_matches : goal.decreases-entry_matches
 decreases-entry_matches l = 8 * (length l.entry.now.content.now + length l.wanted.now.content.now) + 7
@@ -48,6 +51,7 @@ abbrev pub invariant-array_contains-loop-wanted : goal.invariant-array_contains-
 invariant-array_contains-loop-wanted l = record {
   can : (goal.iterator-array_contains-loop-wanted).can_next l.wanted-iterator;
   finite : (goal.iterator-array_contains-loop-wanted).is_finite l.wanted-iterator;
+  tail : IsTailOf l.all l.left;
   room : entries_room l.wanted-iterator < length l.fn.others;
   size : IfSome l.large (λ pair. (item_size pair.0 < length l.fn.bytes) × (item_size pair.1 < length l.fn.others));
   left : (form other_form : Form) (xs ys : Trees) → Decodes form l.fn.bytes (array xs) → Decodes other_form l.fn.others (array ys)
@@ -56,17 +60,20 @@ invariant-array_contains-loop-wanted l = record {
       × Aside (IsItemAnswer matches form other_form l.large) (each_is_matched left (elements xs)) (each_is_matched ys (elements xs)));
 }
 
--- the entries that are left decide, with the one that was put aside
-abbrev pub invariant-container_match-loop-entry : goal.invariant-container_match-loop-entry
-invariant-container_match-loop-entry l = record {
-  can : (goal.iterator-container_match-loop-entry).can_next l.entry-iterator;
-  finite : (goal.iterator-container_match-loop-entry).is_finite l.entry-iterator;
-  room : entries_room l.entry-iterator ≤ entries_room l.fn.found;
-  size : IfSome l.large (λ entry. length entry.content.now ≤ entries_room l.fn.found);
-  left : (form other_form : Form) (xs : Trees) (y : Tree) → HasEntriesLeft form l.fn.found xs → Stores other_form l.fn.wanted y
-      → SomeEntries form l.entry-iterator
-      (λ left. OneAside (IsOneAnswer (is_part_of y) form l.large) (list_any (is_part_of y) (elements left)) (list_any (is_part_of y) (elements xs)));
+-- the next of the entries that are left decide, with the one that was put aside
+abbrev pub invariant-find_match-loop-more : goal.invariant-find_match-loop-more
+invariant-find_match-loop-more l = record {
+  tail : IsTailOf l.fn.found l.rest;
+  room : (most : ℕ) → entries_room l.fn.found ≤ most → IfSome l.fn.large (λ entry. length entry.content.now ≤ most)
+      → IfSome l.large (λ entry. length entry.content.now ≤ most);
+  left : (form other_form : Form) (xs : Trees) (y : Tree) (b : Bool) → HasEntriesLeft form l.fn.found xs → Stores other_form l.fn.wanted y
+      → IsOneAnswer (is_part_of y) form l.fn.large b
+      → SomeEntries form l.rest (λ left. OneAside (IsOneAnswer (is_part_of y) form l.large) (list_any (is_part_of y) (take l.more (elements left)))
+      (list_any (is_part_of y) (take l.fn.count (elements xs)) || b));
 }
+
+abbrev pub decreases-find_match-loop-more : goal.decreases-find_match-loop-more
+decreases-find_match-loop-more l = l.more
 
 -- the wanted pairs that are left decide, by the pairs that are left, with the pair of values that was put aside
 abbrev pub invariant-object_contains-loop-pair : goal.invariant-object_contains-loop-pair
