@@ -10,17 +10,25 @@
  * that finds nothing, returns JSONB_NONE. All others are refusals, and jsonb_status_name gives their names.
  *
  * Bytes that go in are a pointer and a length. They need no end byte and no alignment. NULL with length 0 is no bytes.
- * They are only read, and no call keeps a pointer.
+ * They are only read, must not change while the call runs, and may overlap each other. No call keeps a pointer.
  *
  * Bytes that come out go into the caller's buffer: `out` with room for `out_size` bytes.
  *   JSONB_OK                 the answer is in out[0 .. *out_len]; what lies behind is as it was
  *   JSONB_BUFFER_TOO_SMALL   nothing was written; *out_len is the size that the answer needs
  *   any other status         nothing was written; *out_len is 0
- * So a caller may ask with out_size 0 first, and then with a buffer of that size. Nothing has to be freed.
+ * So a caller may ask with NULL and out_size 0 first, and then with a buffer of that size. Nothing has to be freed.
  *
- * One truth or one number goes to where a pointer points, which must not be NULL. It is written only with JSONB_OK.
+ * One truth or one number goes to where a pointer points, and is written only with JSONB_OK. `out_len`, `key_len`,
+ * `value_len`, `done`, `sizes` and `progress` are written with every status. None of these pointers may be NULL.
  *
- * Buffers of one call must not overlap. Calls share nothing: any number of threads may call at the same time.
+ * What is written must not overlap anything else of the same call.
+ *
+ * Threads. Calls share nothing: any number of threads may call at the same time. A signal handler may not.
+ *
+ * Memory. What a call takes (by malloc, realloc and free of the C library) it gives back before it returns. These take
+ * none: jsonb_status_name, jsonb_check, jsonb_type, jsonb_len, jsonb_as_.., jsonb_to_bool, jsonb_to_i64,
+ * jsonb_to_u64, jsonb_contains, jsonb_array_overlap, jsonb_column_check, jsonb_column_contains, jsonb_column_to_i64.
+ * Of the stack most calls take little at any depth; docs/STACK.md has those that take more.
  *
  * Refusals that any call may answer, and that are not listed with each:
  *   JSONB_INVALID_JSONB       the bytes are no document. Every call returns on any bytes, but only jsonb_check looks
@@ -36,8 +44,10 @@
  * asks for a field or an element of what has none is JSONB_STRICT_PATH; without, that part gives nothing.
  *
  * Columns. Documents lie one behind the other in `bytes`; `offsets` holds their n + 1 positions, so that row i is
- * bytes[offsets[i] .. offsets[i + 1]], as in Arrow's large binary arrays. Positions are numbers of 64 bits in the
- * machine's order. docs/C.md says why, and what is proved of each call.
+ * bytes[offsets[i] .. offsets[i + 1]], as in Arrow's large binary arrays. Positions are numbers of 64 bits, in the
+ * machine's order and alignment. Names are a column of texts.
+ *
+ * docs/C.md says what is proved of each call, and docs/DECISIONS.md why the calls are so.
  */
 #ifndef JSONB_H
 #define JSONB_H
@@ -82,7 +92,7 @@ uint32_t jsonb_status_name(uint32_t status, uint8_t *out, size_t out_size, size_
 /* ONE DOCUMENT */
 
 /* JSONB_OK exactly where the bytes are a document; JSONB_UNSUPPORTED_NUMBER where they would be one if each float and
- * each decimal of 256 bits were a number; else JSONB_INVALID_JSONB. Takes no memory. */
+ * each decimal of 256 bits were a number; else JSONB_INVALID_JSONB. */
 uint32_t jsonb_check(const uint8_t *document, size_t document_len);
 
 enum jsonb_kind {
@@ -100,7 +110,7 @@ enum jsonb_kind {
     JSONB_KIND_OBJECT = 11
 };
 
-/* The kind of the document, of enum jsonb_kind. Takes no memory. */
+/* The kind of the document, of enum jsonb_kind. */
 uint32_t jsonb_type(const uint8_t *document, size_t document_len, uint8_t *kind);
 
 /* The part at the place that a key path meets, as a document. JSONB_NONE: it meets none. The path {} meets the whole.
@@ -185,12 +195,12 @@ uint32_t jsonb_array_intersection(const uint8_t *document, size_t document_len, 
 uint32_t jsonb_array_except(const uint8_t *document, size_t document_len, const uint8_t *other, size_t other_len,
                             uint8_t *out, size_t out_size, size_t *out_len);
 
-/* *truth: whether the intersection has an element. Takes no memory. */
+/* *truth: whether the intersection has an element. */
 uint32_t jsonb_array_overlap(const uint8_t *document, size_t document_len, const uint8_t *other, size_t other_len,
                              uint8_t *truth);
 
-/* The pairs of an object whose keys are among the names, which are a column of texts. JSONB_INVALID_OBJECT: no object.
- * JSONB_BAD_OFFSETS, JSONB_NOT_UTF8: the names. */
+/* The pairs of an object whose keys are among the names. JSONB_INVALID_OBJECT: no object. JSONB_BAD_OFFSETS,
+ * JSONB_NOT_UTF8: the first name that is wrong. */
 uint32_t jsonb_object_pick(const uint8_t *document, size_t document_len, const uint8_t *names, size_t names_len,
                            const uint64_t *offsets, size_t offsets_len, uint8_t *out, size_t out_size, size_t *out_len);
 
@@ -199,16 +209,16 @@ uint32_t jsonb_object_delete(const uint8_t *document, size_t document_len, const
                              const uint64_t *offsets, size_t offsets_len, uint8_t *out, size_t out_size,
                              size_t *out_len);
 
-/* *truth: whether the document contains the other, as PostgreSQL's @> says. Takes no memory. */
+/* *truth: whether the document contains the other, as PostgreSQL's @> says. */
 uint32_t jsonb_contains(const uint8_t *document, size_t document_len, const uint8_t *other, size_t other_len,
                         uint8_t *truth);
 
-/* *truth: whether all of the names, a column of texts, are keys of an object, texts in an array, or equal to a text.
- * JSONB_BAD_OFFSETS, JSONB_NOT_UTF8: the first name that is wrong. */
+/* *truth: whether all of the names are keys of an object, texts in an array, or equal to a text. JSONB_BAD_OFFSETS,
+ * JSONB_NOT_UTF8: the first name that is wrong. */
 uint32_t jsonb_exists_all_keys(const uint8_t *document, size_t document_len, const uint8_t *names, size_t names_len,
                                const uint64_t *offsets, size_t offsets_len, uint8_t *truth);
 
-/* *truth: whether any of them is. */
+/* *truth: whether any of the names is. Refusals as of jsonb_exists_all_keys. */
 uint32_t jsonb_exists_any_keys(const uint8_t *document, size_t document_len, const uint8_t *names, size_t names_len,
                                const uint64_t *offsets, size_t offsets_len, uint8_t *truth);
 
@@ -220,9 +230,9 @@ uint32_t jsonb_as_u64(const uint8_t *document, size_t document_len, uint64_t *nu
 uint32_t jsonb_as_str(const uint8_t *document, size_t document_len, uint8_t *out, size_t out_size, size_t *out_len);
 
 /* The parts of a number, whole or decimal: it is (*high * 2^64 + *low) / 10^*scale. A whole number has the scale 0, and
- * so has zero in whatever form. jsonb_from_decimal of the parts gives a decimal that is equal by value; where jsonb_type
- * says JSONB_KIND_INTEGER, jsonb_from_i64 or jsonb_from_u64 gives the whole number again. JSONB_NONE: no number. Takes no
- * memory. */
+ * so has zero in whatever form. jsonb_from_decimal of the parts gives a decimal that is equal by value; where
+ * jsonb_type says JSONB_KIND_INTEGER, jsonb_from_i64 or jsonb_from_u64 gives the whole number again. JSONB_NONE: no
+ * number. */
 uint32_t jsonb_as_decimal(const uint8_t *document, size_t document_len, int64_t *high, uint64_t *low, uint8_t *scale);
 
 /* The value cast. JSONB_INVALID_CAST: it can't be. Truths: truth values, and true, yes, false, no in any case. Numbers:
@@ -268,14 +278,15 @@ uint32_t jsonb_object_from_columns(const uint8_t *names, size_t names_len, const
                                    const uint64_t *offsets, size_t offsets_len, uint8_t *out, size_t out_size,
                                    size_t *out_len);
 
-/* READING DOCUMENTS APART: jsonb_type, then the casts, or jsonb_len with jsonb_get_by_index or jsonb_pair; or all leaves
- * at once */
+/* READING DOCUMENTS APART: jsonb_type, then the casts, or jsonb_len with jsonb_get_by_index or jsonb_pair, which count
+ * from the front, so that all parts of a container take the square of their number; or all leaves at once */
 
 /* The count of elements or of pairs. JSONB_NONE: neither an array nor an object. */
 uint32_t jsonb_len(const uint8_t *document, size_t document_len, size_t *len);
 
 /* The pair of an object at a position in the order of keys: the key's text, and the value as a document. JSONB_NONE:
- * there is none. JSONB_BUFFER_TOO_SMALL: one of both buffers is; neither is written, and both lengths are said. */
+ * there is none, or this is no object. JSONB_BUFFER_TOO_SMALL: one of both buffers is; neither is written, and both
+ * lengths are said. */
 uint32_t jsonb_pair(const uint8_t *document, size_t document_len, size_t index, uint8_t *key, size_t key_size,
                     size_t *key_len, uint8_t *value, size_t value_size, size_t *value_len);
 
@@ -311,8 +322,9 @@ uint32_t jsonb_leaves(const uint8_t *document, size_t document_len, uint8_t *pat
  *
  * Bytes a row: the answers go into `out`, one behind the other, and progress->rows + 1 positions into `positions`, the
  * first of them 0: a column again. A row without an answer is empty. JSONB_BUFFER_TOO_SMALL: there are more rows, and
- * the next did not fit; the rows that are done stand. Go on with offsets + progress->rows and new or emptied buffers.
- * If progress->rows is 0 and progress->next is not, `out` needs progress->next bytes at least.
+ * the next had no room: in `out`, where progress->next is what its answer needs, or in `positions` or `statuses`,
+ * where it is 0. The rows that are done stand; go on with offsets + progress->rows and new or emptied buffers.
+ * `positions` without room for one is too small also for no rows.
  *
  * With each call stands what the status of the call or of a row is beyond these and beyond those of any call.
  *
@@ -329,7 +341,7 @@ typedef struct jsonb_progress {
     size_t next;  /* what the next row's answer needs, where `out` had no room for it; else 0 */
 } jsonb_progress;
 
-/* Each row's status is that of jsonb_check. Takes no memory. */
+/* Each row's status is that of jsonb_check. */
 uint32_t jsonb_column_check(const uint8_t *bytes, size_t bytes_len, const uint64_t *offsets, size_t offsets_len,
                             uint8_t *statuses, size_t statuses_len, size_t *done);
 
@@ -345,12 +357,12 @@ uint32_t jsonb_column_match(const uint8_t *bytes, size_t bytes_len, const uint64
                             const uint8_t *path, size_t path_len, bool strict, uint8_t *truths, size_t truths_len,
                             uint8_t *statuses, size_t statuses_len, size_t *done);
 
-/* A truth a row: whether it contains the other document. Takes no memory. */
+/* A truth a row: whether it contains the other document. */
 uint32_t jsonb_column_contains(const uint8_t *bytes, size_t bytes_len, const uint64_t *offsets, size_t offsets_len,
                                const uint8_t *other, size_t other_len, uint8_t *truths, size_t truths_len,
                                uint8_t *statuses, size_t statuses_len, size_t *done);
 
-/* A number a row, cast as jsonb_to_i64 does. JSONB_INVALID_CAST: a row that can't be. Takes no memory. */
+/* A number a row, cast as jsonb_to_i64 does. JSONB_INVALID_CAST: a row that can't be. */
 uint32_t jsonb_column_to_i64(const uint8_t *bytes, size_t bytes_len, const uint64_t *offsets, size_t offsets_len,
                              int64_t *numbers, size_t numbers_len, uint8_t *statuses, size_t statuses_len,
                              size_t *done);

@@ -47,7 +47,8 @@ class Column(Sequence[bytes]):
 
     @classmethod
     def from_buffers(cls, data: Any, offsets: Any) -> "Column":
-        """A column over memory as it lies: bytes, memoryview, array, numpy. The offsets are n + 1 numbers of 64 bits.
+        """A column over memory as it lies: bytes, memoryview, array, numpy. The offsets are n + 1 numbers of 64 bits. The memory
+        is kept as long as the column is there.
 
         >>> Column.from_buffers(bytes.fromhex("8000000040000000"), array("Q", [0, 4, 8]))[1].hex()
         '40000000'

@@ -69,7 +69,7 @@ def get_by_index(document: Any, index: int) -> Optional[bytes]:
 
 
 def get_by_name(document: Any, name: str, *, ignore_case: bool = False) -> Optional[bytes]:
-    """The value of an object under a name; the case is that of ASCII letters."""
+    """The value of an object under a name, or with `ignore_case` under one that differs in the case of ASCII letters alone."""
     return bytes_of("get_by_name", document, name, ignore_case)
 
 
@@ -139,7 +139,7 @@ def object_insert(document: Any, name: str, value: Any, *, update: bool = False)
 
 
 def concat(document: Any, other: Any) -> bytes:
-    """Two objects as one, the other's pairs first in rank; else two arrays joined."""
+    """Two objects as one, with the other's value where both have a key; else two arrays joined."""
     return _known(bytes_of("concat", document, other, room=_room(document) + len(other)))
 
 

@@ -55,7 +55,7 @@ const KINDS: [&str; 12] = [
     "OBJECT",
 ];
 
-/// The declarations of jsonb.h for calls on one document.
+/// The declarations of jsonb.h that the wrapper needs.
 mod sys {
     macro_rules! declare {
         ($($name:ident($($kind:ty),*);)*) => { extern "C" { $(pub fn $name($(_: $kind),*) -> u32;)* } };

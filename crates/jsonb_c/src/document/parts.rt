@@ -31,8 +31,8 @@ pub extern "C" fn jsonb_get_by_index(
     deliver(document.get_by_index(alloc, index), out, out_len)
 }
 
-/// The value under a name, or where the case of ASCII letters is ignored, under the first key that is the name in some
-/// case.
+/// The value under a name. Where the case of ASCII letters is ignored and no key is the name, that of the first key
+/// that is the name in some case.
 #[unsafe(no_mangle)]
 pub extern "C" fn jsonb_get_by_name(
     alloc: Global,
