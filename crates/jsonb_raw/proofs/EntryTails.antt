@@ -1,16 +1,15 @@
 -- What is left of the entries of a container is the last of all of them.
-use Rattle.std.proofs.Common.{◌≡◌, ◌||◌, ℕ, zero, suc, ◌-◌, ◌+◌, ◌≤◌, Bool, true, false, List, [], ◌∷◌, ◌++◌, length, take, drop, Some, Result, Ok, refl, sym, ap, ◌∙◌, arith, append_assoc}
+use Rattle.std.proofs.Common.{◌≡◌, ◌||◌, ℕ, ◌-◌, Bool, true, false, List, [], ◌∷◌, ◌++◌, length, take, drop, Some, Result, Ok, refl, sym, ap, ◌∙◌, arith, append_assoc}
 use Rattle.std.proofs.lemmas.List.{length-append}
 use Rattle.std.specs.List.{list_any}
 use Rattle.jsonb_doc.specs.Tree.{Tree, Trees, elements, count}
-use Rattle.jsonb_doc.specs.Payload.{Form}
-use Rattle.jsonb_doc.specs.Private.Stored.{HasEntriesLeft, Stores, GivesEntry}
+use Rattle.jsonb_doc.specs.Private.Stored.{GivesEntry}
 use Rattle.jsonb_doc.specs.declared.error.Error.{Error}
 use Rattle.jsonb_doc.specs.declared.entry_iter.EntryIter.{EntryIter}
 use Rattle.jsonb_doc.specs.declared.entry_iter.StoredEntry.{StoredEntry}
 use Rattle.jsonb_raw.specs.Private.Compared.{IsTailOf}
 use Rattle.jsonb_raw.proofs.ArrayLemmas.{length-elements}
-use Rattle.jsonb_raw.proofs.EntriesLeft.{SomeEntries-first, or_second}
+use Rattle.jsonb_raw.proofs.EntriesLeft.{SomeEntries-first}
 use Rattle.jsonb_raw.proofs.TakenEntries.{any_split}
 
 -- what was left may be left still
@@ -50,6 +49,12 @@ or_false : (b : Bool) → (b || false) ≡ b
 or_false true = refl
 or_false false = refl
 
+turned : (a b : Bool) → (a || (b || false)) ≡ (b || (a || false))
+turned true true = refl
+turned true false = refl
+turned false true = refl
+turned false false = refl
+
 module _ (test : Tree → Bool) (ts us : Trees) (front : List Tree) (same : elements ts ≡ front ++ elements us) (n m : ℕ)
     (left : n ≡ count us) (before : m ≡ count ts - count us) where
   behind : (list_any test (take n (elements us)) || false) ≡ list_any test (elements us)
@@ -64,6 +69,6 @@ module _ (test : Tree → Bool) (ts us : Trees) (front : List Tree) (same : elem
       let rest : drop m (elements ts) ≡ elements us = rw (long, same) (drop_front front (elements us)) in
       ap (λ b. list_any test (take m (elements ts)) || b) (behind ∙ sym (ap (list_any test) rest)) ∙ sym (any_split test m (elements ts))
 
-  -- one of those that are left is one of all
-  pub tail_found : (list_any test (take n (elements us)) || false) ≡ true → list_any test (elements ts) ≡ true
-  tail_found one = sym tail_whole ∙ or_second (list_any test (take m (elements ts))) _ one
+  -- the same in the other order
+  pub tail_turned : (list_any test (take n (elements us)) || (list_any test (take m (elements ts)) || false)) ≡ list_any test (elements ts)
+  tail_turned = turned (list_any test (take n (elements us))) (list_any test (take m (elements ts))) ∙ tail_whole

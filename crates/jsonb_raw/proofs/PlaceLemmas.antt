@@ -1,5 +1,5 @@
 -- Places, step by step.
-use Rattle.std.proofs.Common.{◌≡◌, ℕ, suc, ◌+◌, ◌<◌, ℤ, Bool, true, false, cond, nat_lt, List, [], ◌∷◌, length, Option, Some, None, refl, ◌∙◌, arith, slice_get}
+use Rattle.std.proofs.Common.{◌≡◌, ℕ, suc, ◌+◌, ◌<◌, ℤ, Bool, true, false, cond, nat_lt, List, ◌∷◌, length, Option, Some, None, refl, ◌∙◌, arith, slice_get}
 use Rattle.std.specs.Prelude.{position, option_and_then, option_map}
 use Rattle.std.specs.List.{position_or_len}
 use Rattle.std.specs.Str.{bytes_eq}

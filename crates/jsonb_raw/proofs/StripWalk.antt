@@ -1,5 +1,5 @@
 -- A walk that writes containers again without the nulls of their objects: how a container is begun, goes on and is done.
-use Rattle.std.proofs.Common.{◌≡◌, ◌⊎◌, inl, inr, ◌+◌, ◌*◌, ◌/◌, ◌%◌, ◌^◌, ◌<◌, ◌≤◌, ◌++◌, ℕ, suc, Bool, true, false, List, [], ◌∷◌, Some, None, Result, Ok, Err, length, take, drop, refl, sym, ap, subst, ◌∙◌, arith, append_assoc, append-nil, MatchResult}
+use Rattle.std.proofs.Common.{◌≡◌, ◌⊎◌, inl, inr, ◌+◌, ◌*◌, ◌%◌, ◌^◌, ◌<◌, ◌≤◌, ◌++◌, ℕ, suc, Bool, true, false, List, [], ◌∷◌, Some, None, Result, Ok, Err, length, take, drop, refl, sym, ap, subst, ◌∙◌, arith, append_assoc, append-nil, MatchResult}
 use Rattle.std.specs.Prelude.{reverse, slice_range, ◌==◌}
 use Rattle.std.proofs.lemmas.List.{length-append, take_at, drop_at, take-append-drop}
 use Rattle.jsonb_doc.specs.Kinds.{kind_number}

@@ -1,5 +1,5 @@
 -- What walks along two containers tell, and which parts they leave.
-use Rattle.std.specs.Prelude.{◌≡◌, ℕ, ◌<◌, ◌≤◌, Bool, true, false, List, ◌++◌, Option, Some, None, IfSome, ⊤}
+use Rattle.std.specs.Prelude.{◌≡◌, ℕ, ◌<◌, ◌≤◌, ◌||◌, Bool, true, false, List, ◌++◌, take, Option, Some, None, IfSome, ⊤}
 use Rattle.std.specs.List.{list_any}
 use Rattle.jsonb_doc.specs.Tree.{Tree, Trees, elements}
 use Rattle.jsonb_doc.specs.Payload.{Form, number_of}
@@ -12,6 +12,7 @@ use Rattle.jsonb_doc.specs.declared.entry_iter.StoredEntry.{StoredEntry}
 use Rattle.jsonb_doc.specs.declared.entry_iter.EntryIter.{EntryIter}
 use Rattle.jsonb_raw.specs.Contains.{is_part_of}
 use Rattle.jsonb_raw.specs.declared.compared.Compared.{Compared}
+use Rattle.jsonb_raw.specs.declared.functions.operator.contains.Part.{Part}
 use Rattle.jsonb_raw.specs.declared.compared.Compared.TheVariants.{Known, AsOf}
 
 -- the answer of a test for two trees is the one that is known, or that for the two parts
@@ -60,3 +61,11 @@ IsOneAnswer test form (Some entry) b = (t : Tree) × Stores form entry t × (tes
 abbrev pub FindsOne : (Tree → Bool) → Form → Bool → Option EntryIter → Option StoredEntry → Type 0
 FindsOne test form whole (Some rest) large = whole ≡ true
 FindsOne test form whole None large = IsOneAnswer test form large whole
+
+-- one of the trees is among the first entries of the one part, or among those of the other
+abbrev pub ArePartsOf : Form → Trees → Part → Part → Type 0
+ArePartsOf form xs first second =
+    (ts : Trees) × (us : Trees) × HasEntriesLeft form first.entries ts × HasEntriesLeft form second.entries us
+    × ((test : Tree → Bool)
+    → (list_any test (take second.count (elements us)) || (list_any test (take first.count (elements ts)) || false))
+    ≡ list_any test (elements xs))

@@ -7,12 +7,12 @@ use Rattle.jsonb.specs.Values.{number, values_of_item}
 use Rattle.jsonb.proofs.ComparedLemmas.{one_pair}
 use Rattle.jsonb.proofs.selector.compared_items.value_truth.Goals as goal
 
-pub returns-in_err-spot_number-clause-meant : goal.returns-in_err-spot_number-clause-meant
-returns-in_err-spot_number-clause-meant c = λ t l. absurd (c.in_err-spot_number.ensures.number t l)
+pub returns-in_err-number-clause-meant : goal.returns-in_err-number-clause-meant
+returns-in_err-number-clause-meant c = λ t l. absurd (c.in_err-number.ensures.number t l)
 
 pub returns-in-Some-clause-meant : goal.returns-in-Some-clause-meant
 returns-in-Some-clause-meant c = λ t l.
-    let is = rw c.in-Some.is at (c.in_ok-spot_number.ensures.number t l) in
+    let is = rw c.in-Some.is at (c.in_ok-number.ensures.number t l) in
     let literal = atom_value c.args.comparison.now.literal in
     record {
       ok = c.short_number_truth.ensures

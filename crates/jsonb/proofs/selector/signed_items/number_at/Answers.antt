@@ -2,8 +2,8 @@ use Rattle.std.proofs.Common.{ap, sym, ◌∙◌}
 use Rattle.jsonb_doc.specs.Tree.{number}
 use Rattle.jsonb.proofs.selector.signed_items.number_at.Goals as goal
 
-pub returns-in_err-spot_number-clause-meant : goal.returns-in_err-spot_number-clause-meant
-returns-in_err-spot_number-clause-meant c = λ t l. absurd (c.in_err-spot_number.ensures.number t l)
+pub returns-in_err-number-clause-meant : goal.returns-in_err-number-clause-meant
+returns-in_err-number-clause-meant c = λ t l. absurd (c.in_err-number.ensures.number t l)
 
 pub returns-in-Some-clause-meant : goal.returns-in-Some-clause-meant
-returns-in-Some-clause-meant c = λ t l. rw c.in-Some.is at (c.in_ok-spot_number.ensures.number t l) ∙ ap number (sym c.number_of.ensures)
+returns-in-Some-clause-meant c = λ t l. rw c.in-Some.is at (c.in_ok-number.ensures.number t l) ∙ ap number (sym c.number_of.ensures)

@@ -1,5 +1,4 @@
-use Rattle.std.proofs.Common.{◌++◌, ap, ap₂, ◌∙◌, take, arith}
-use Rattle.std.specs.Int.{to_le_bytes, w64}
+use Rattle.std.proofs.Common.{◌++◌, ap₂, ◌∙◌, take, arith}
 use Rattle.jsonb_raw.proofs.PackedDigits.{packed_pushed}
 use Rattle.jsonb_raw.proofs.packed.Packed.push.Goals as goal
 

@@ -1,4 +1,4 @@
-use Rattle.std.proofs.Common.{◌≡◌, ◌++◌, arith, length, refl}
+use Rattle.std.proofs.Common.{◌≡◌, ◌++◌, arith, length}
 use Rattle.jsonb_doc.specs.declared.layout.HeaderKind.TheVariants.{Object}
 use Rattle.jsonb_raw.proofs.InsertSplits.{has_header, row_of}
 use Rattle.jsonb_raw.proofs.functions.object.insert.kept_entries.Goals as goal

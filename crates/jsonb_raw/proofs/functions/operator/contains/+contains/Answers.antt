@@ -4,7 +4,7 @@ use Rattle.std.proofs.lemmas.Slice.Eq.{bytes_eq-Decides}
 use Rattle.std.specs.List.{list_any}
 use Rattle.std.specs.Borrow.{Bor}
 use Rattle.jsonb_doc.specs.declared.item.Item.TheVariants as item
-use Rattle.jsonb_doc.specs.Tree.{count, keys, elements, members}
+use Rattle.jsonb_doc.specs.Tree.{keys, elements, members}
 use Rattle.jsonb_doc.proofs.BuilderSteps.{keys_rise}
 use Rattle.jsonb_doc.proofs.KindLemmas.{equal_kind}
 use Rattle.jsonb_raw.specs.Private.PairSteps.{pairs_above}
@@ -12,8 +12,8 @@ use Rattle.jsonb_raw.specs.Contains.{is_part_of, each_is_matched, each_pair_is_m
 use Rattle.jsonb_raw.specs.Private.Compared.{IsOneAnswer, IsTailOf, matches}
 use Rattle.jsonb_raw.proofs.ContainsLaws.{matched_refl}
 use Rattle.jsonb_raw.proofs.TakenEntries.{take_one, take_no, take_zero}
-use Rattle.jsonb_raw.proofs.EntryTails.{tail_none, tail_next, tail_along, tail_whole, tail_found}
-use Rattle.jsonb_raw.proofs.EntriesLeft.{SomeEntries-first, SomeEntries-error, SomeEntries-none, SomePairEntries-first, SomePairEntries-error, SomePairEntries-none}
+use Rattle.jsonb_raw.proofs.EntryTails.{tail_none, tail_next, tail_along}
+use Rattle.jsonb_raw.proofs.EntriesLeft.{or_second, SomeEntries-first, SomeEntries-error, SomeEntries-none, SomePairEntries-first, SomePairEntries-error, SomePairEntries-none}
 use Rattle.jsonb_raw.proofs.EntryEquals.{same_tree}
 use Rattle.jsonb_raw.proofs.Aside.{IsAnswer, IsItemAnswer, none_aside, put_aside, part_holds, part_fails, whole_fails, aside_along, put_one_aside, one_holds, one_fails}
 use Rattle.jsonb_raw.proofs.MatchLemmas.{unmatched_key, matched_pair, no_entry_found, entry_found, scalar_match, matches_if_equal, no_object}
@@ -220,61 +220,61 @@ array_contains-returns-in_err-scalars_matched-clause-answer t c = λ form other_
 
 pub container_match-returns-in-Some-clause-answer : goal.container_match-returns-in-Some-clause-answer
 container_match-returns-in-Some-clause-answer t c = λ form other_form xs y h k.
-    let q = c.requires.last form xs h in
-    let found = rw c.in-Some.is at (c.in_ok-rest.ensures.answer form other_form q.0 y false q.1 k refl) in
-    sym (tail_found (is_part_of y) xs q.0 q.2.0 q.2.1 c.len.result (count xs - count q.0) (c.len.ensures form q.0 q.1) refl found)
+    let q = c.parts.ensures.parts form xs h in
+    let found = rw c.in-Some.is at (c.in_ok-left.ensures.answer form other_form q.0 y false q.2 k refl) in
+    let whole = q.4 (is_part_of y) in
+    sym (or_second _ _ found) ∙ whole
 
 pub container_match-returns-in-Some-clause-tail : goal.container_match-returns-in-Some-clause-tail
-container_match-returns-in-Some-clause-tail t c = tail_along _ _ _ c.requires (rw c.in-Some.is at c.in_ok-rest.ensures.tail)
+container_match-returns-in-Some-clause-tail t c =
+    subst (IsTailOf c.args.all) (sym c.pass.ensures) (tail_along _ _ _ c.parts.ensures.first (rw c.in-Some.is at c.in_ok-left.ensures.tail))
 
-pub container_match-returns-in_err-rest-2-clause-answer : goal.container_match-returns-in_err-rest-2-clause-answer
-container_match-returns-in_err-rest-2-clause-answer t c = λ form other_form xs y h k.
-    let q = c.requires.last form xs h in
-    let first = rw c.in_default.is at (c.in_ok-rest.ensures.answer form other_form q.0 y false q.1 k refl) in
-    absurd (c.in_err-rest-2.ensures.answer form other_form xs y _ h k first)
+pub container_match-returns-in_err-left-2-clause-answer : goal.container_match-returns-in_err-left-2-clause-answer
+container_match-returns-in_err-left-2-clause-answer t c = λ form other_form xs y h k.
+    let q = c.parts.ensures.parts form xs h in
+    let first = rw c.in_default.is at (c.in_ok-left.ensures.answer form other_form q.0 y false q.2 k refl) in
+    absurd (c.in_err-left-2.ensures.answer form other_form q.1 y _ q.3 k first)
 
 pub container_match-returns-in-Some-2-clause-answer : goal.container_match-returns-in-Some-2-clause-answer
 container_match-returns-in-Some-2-clause-answer t c = λ form other_form xs y h k.
-    let q = c.requires.last form xs h in
-    let first = rw c.in_default.is at (c.in_ok-rest.ensures.answer form other_form q.0 y false q.1 k refl) in
-    let second = rw c.in-Some-2.is at (c.in_ok-rest-2.ensures.answer form other_form xs y _ h k first) in
-    let left = c.len.ensures form q.0 q.1 in
-    let before : c.saturating_sub-front.result ≡ count xs - count q.0 = omega (arith, c.saturating_sub-front.ensures, c.len-2.ensures form xs h, c.len-3.ensures form q.0 q.1) in
-    sym second ∙ tail_whole (is_part_of y) xs q.0 q.2.0 q.2.1 _ _ left before
+    let q = c.parts.ensures.parts form xs h in
+    let first = rw c.in_default.is at (c.in_ok-left.ensures.answer form other_form q.0 y false q.2 k refl) in
+    let second = rw c.in-Some-2.is at (c.in_ok-left-2.ensures.answer form other_form q.1 y _ q.3 k first) in
+    sym second ∙ q.4 (is_part_of y)
+
+pub container_match-returns-in-Some-2-clause-tail : goal.container_match-returns-in-Some-2-clause-tail
+container_match-returns-in-Some-2-clause-tail t c =
+    subst (IsTailOf c.args.all) (sym c.pass-in-Some-2.ensures) (tail_along _ _ _ c.parts.ensures.second (rw c.in-Some-2.is at c.in_ok-left-2.ensures.tail))
 
 pub container_match-returns-in_err-item-in-Some-large-clause-answer : goal.container_match-returns-in_err-item-in-Some-large-clause-answer
 container_match-returns-in_err-item-in-Some-large-clause-answer t c = λ form other_form xs y h k.
-    let q = c.requires.last form xs h in
-    let first = rw c.in_default.is at (c.in_ok-rest.ensures.answer form other_form q.0 y false q.1 k refl) in
-    let second = rw (c.in_default-2.is, c.in-Some-large.is) at (c.in_ok-rest-2.ensures.answer form other_form xs y _ h k first) in
+    let q = c.parts.ensures.parts form xs h in
+    let first = rw c.in_default.is at (c.in_ok-left.ensures.answer form other_form q.0 y false q.2 k refl) in
+    let second = rw (c.in_default-2.is, c.in-Some-large.is) at (c.in_ok-left-2.ensures.answer form other_form q.1 y _ q.3 k first) in
     absurd (c.in_err-item-in-Some-large.ensures.decodes form second.0 second.1.content)
 
 pub container_match-returns-in_ok-item-in-Some-large-2-clause-answer : goal.container_match-returns-in_ok-item-in-Some-large-2-clause-answer
 container_match-returns-in_ok-item-in-Some-large-2-clause-answer t c = λ form other_form xs y h k.
-    let q = c.requires.last form xs h in
-    let first = rw c.in_default.is at (c.in_ok-rest.ensures.answer form other_form q.0 y false q.1 k refl) in
-    let second = rw (c.in_default-2.is, c.in-Some-large.is) at (c.in_ok-rest-2.ensures.answer form other_form xs y _ h k first) in
-    let left = c.len.ensures form q.0 q.1 in
-    let before : c.saturating_sub-front.result ≡ count xs - count q.0 = omega (arith, c.saturating_sub-front.ensures, c.len-2.ensures form xs h, c.len-3.ensures form q.0 q.1) in (
+    let q = c.parts.ensures.parts form xs h in
+    let first = rw c.in_default.is at (c.in_ok-left.ensures.answer form other_form q.0 y false q.2 k refl) in
+    let second = rw (c.in_default-2.is, c.in-Some-large.is) at (c.in_ok-left-2.ensures.answer form other_form q.1 y _ q.3 k first) in (
       second.0,
       y,
       c.in_ok-item-in-Some-large.ensures.decodes form second.0 second.1.content,
       c.in_ok-item-in-Some-large-2.ensures.decodes other_form y k.content,
-      second.2 ∙ tail_whole (is_part_of y) xs q.0 q.2.0 q.2.1 _ _ left before,
+      second.2 ∙ q.4 (is_part_of y),
     )
 
 pub container_match-returns-in-None-clause-answer : goal.container_match-returns-in-None-clause-answer
 container_match-returns-in-None-clause-answer t c = λ form other_form xs y h k.
-    let q = c.requires.last form xs h in
-    let first = rw c.in_default.is at (c.in_ok-rest.ensures.answer form other_form q.0 y false q.1 k refl) in
-    let second = rw (c.in_default-2.is, c.in-None.is) at (c.in_ok-rest-2.ensures.answer form other_form xs y _ h k first) in
-    let left = c.len.ensures form q.0 q.1 in
-    let before : c.saturating_sub-front.result ≡ count xs - count q.0 = omega (arith, c.saturating_sub-front.ensures, c.len-2.ensures form xs h, c.len-3.ensures form q.0 q.1) in
-    sym second ∙ tail_whole (is_part_of y) xs q.0 q.2.0 q.2.1 _ _ left before
+    let q = c.parts.ensures.parts form xs h in
+    let first = rw c.in_default.is at (c.in_ok-left.ensures.answer form other_form q.0 y false q.2 k refl) in
+    let second = rw (c.in_default-2.is, c.in-None.is) at (c.in_ok-left-2.ensures.answer form other_form q.1 y _ q.3 k first) in
+    sym second ∙ q.4 (is_part_of y)
 
 pub find_match-loop-more-init : goal.find_match-loop-more-init
 find_match-loop-more-init t c = record {
-  tail = tail_none c.args.found;
+  tail = tail_none c.args.part.entries;
   room = λ most few large. large;
   left = λ form other_form xs y b h k is. record { trees = xs; left = h; fact = record { answer = b; is = is; fact = refl } };
 }
@@ -308,7 +308,7 @@ find_match-loop-more-preserved-then-is_beyond t c =
             left = left;
             fact = put_one_aside (IsOneAnswer (is_part_of y) form None) (IsOneAnswer (is_part_of y) form (Some c.in_ok-entry.entry)) (is_part_of y first)
                 (list_any (is_part_of y) (take (c.loop-more.more - 1) (elements rest)))
-                (list_any (is_part_of y) (take c.args.count (elements xs)) || b) (λ b i. i) (first, stored, refl)
+                (list_any (is_part_of y) (take c.args.part.count (elements xs)) || b) (λ b i. i) (first, stored, refl)
                 (rw (take_one c.loop-more.more first (elements rest) c.loop-more-test.true) at fact);
           });
     }
@@ -318,7 +318,7 @@ find_match-returns-then-branch-clause-answer t c = λ form other_form xs y b h k
     SomeEntries-first form _ _ _ _ _ c.in_ok-entry.was c.in-Some.ensures.steps (c.loop-more.invariant.left form other_form xs y b h k is)
     (λ first rest left stored fact.
     sym (one_holds _ (is_part_of y first) (list_any (is_part_of y) (take (c.loop-more.more - 1) (elements rest)))
-    (list_any (is_part_of y) (take c.args.count (elements xs)) || b)
+    (list_any (is_part_of y) (take c.args.part.count (elements xs)) || b)
     (sym (c.in_ok-entry_matches.ensures.answer form other_form first y stored k) ∙ c.if-branch.true)
     (rw (take_one c.loop-more.more first (elements rest) c.loop-more-test.true) at fact)))
 
@@ -335,7 +335,7 @@ find_match-loop-more-preserved t c = record {
         trees = rest;
         left = left;
         fact = one_fails _ (is_part_of y first) (list_any (is_part_of y) (take (c.loop-more.more - 1) (elements rest)))
-            (list_any (is_part_of y) (take c.args.count (elements xs)) || b)
+            (list_any (is_part_of y) (take c.args.part.count (elements xs)) || b)
             (sym (c.in_ok-entry_matches.ensures.answer form other_form first y stored k) ∙ c.if-branch.false)
             (rw (take_one c.loop-more.more first (elements rest) c.loop-more-test.true) at fact);
       });

@@ -30,7 +30,7 @@ abbrev pub decreases-container_match : goal.decreases-container_match
 decreases-container_match l = 8 * (entries_room l.all + length l.wanted.now.content.now) + 9
 
 abbrev pub decreases-find_match : goal.decreases-find_match
-decreases-find_match l = 8 * (entries_room l.found + length l.wanted.now.content.now) + 8
+decreases-find_match l = 8 * (entries_room l.part.entries + length l.wanted.now.content.now) + 8
 
 abbrev pub decreases-entry_matches : goal.decreases-entry_matches
 decreases-entry_matches l = 8 * (length l.entry.now.content.now + length l.wanted.now.content.now) + 7
@@ -51,7 +51,7 @@ abbrev pub invariant-array_contains-loop-wanted : goal.invariant-array_contains-
 invariant-array_contains-loop-wanted l = record {
   can : (goal.iterator-array_contains-loop-wanted).can_next l.wanted-iterator;
   finite : (goal.iterator-array_contains-loop-wanted).is_finite l.wanted-iterator;
-  tail : IsTailOf l.all l.left;
+  tail : IsTailOf l.all l.last.left;
   room : entries_room l.wanted-iterator < length l.fn.others;
   size : IfSome l.large (λ pair. (item_size pair.0 < length l.fn.bytes) × (item_size pair.1 < length l.fn.others));
   left : (form other_form : Form) (xs ys : Trees) → Decodes form l.fn.bytes (array xs) → Decodes other_form l.fn.others (array ys)
@@ -63,13 +63,13 @@ invariant-array_contains-loop-wanted l = record {
 -- the next of the entries that are left decide, with the one that was put aside
 abbrev pub invariant-find_match-loop-more : goal.invariant-find_match-loop-more
 invariant-find_match-loop-more l = record {
-  tail : IsTailOf l.fn.found l.rest;
-  room : (most : ℕ) → entries_room l.fn.found ≤ most → IfSome l.fn.large (λ entry. length entry.content.now ≤ most)
+  tail : IsTailOf l.fn.part.entries l.rest;
+  room : (most : ℕ) → entries_room l.fn.part.entries ≤ most → IfSome l.fn.large (λ entry. length entry.content.now ≤ most)
       → IfSome l.large (λ entry. length entry.content.now ≤ most);
-  left : (form other_form : Form) (xs : Trees) (y : Tree) (b : Bool) → HasEntriesLeft form l.fn.found xs → Stores other_form l.fn.wanted y
+  left : (form other_form : Form) (xs : Trees) (y : Tree) (b : Bool) → HasEntriesLeft form l.fn.part.entries xs → Stores other_form l.fn.wanted y
       → IsOneAnswer (is_part_of y) form l.fn.large b
       → SomeEntries form l.rest (λ left. OneAside (IsOneAnswer (is_part_of y) form l.large) (list_any (is_part_of y) (take l.more (elements left)))
-      (list_any (is_part_of y) (take l.fn.count (elements xs)) || b));
+      (list_any (is_part_of y) (take l.fn.part.count (elements xs)) || b));
 }
 
 abbrev pub decreases-find_match-loop-more : goal.decreases-find_match-loop-more
