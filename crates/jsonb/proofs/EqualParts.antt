@@ -4,13 +4,12 @@ use Rattle.std.specs.Prelude.{◌&&◌, nat_eq, option_map}
 use Rattle.std.specs.Bool.{Decides}
 use Rattle.std.specs.Option.{option_eq}
 use Rattle.std.specs.Cmp.Lexicographic.{pointwise}
-use Rattle.std.proofs.lemmas.Bool.Decides.{same_from_decides}
 use denote.Enum.Bare.{same_true, true_same}
 use Rattle.jsonb.specs.PathTree as tree
 use Rattle.jsonb.specs.PathTree.{BinaryOp}
 use Rattle.jsonb.specs.PathViews.{place_view, entry_view, end_view, levels_view, operator_view, sign_view}
-use Rattle.jsonb.specs.Proofs.SamePath.{place-same, entry-same, end-same, level-same, operator-same, sign-same}
-use Rattle.jsonb.specs.SamePath.{is_same_place, is_same_entry, is_same_end, is_same_level, is_same_operator, is_same_sign}
+use Rattle.jsonb.specs.Proofs.SamePath.{place-same, entry-same, end-same, level-same, sign-same}
+use Rattle.jsonb.specs.SamePath.{is_same_place, is_same_entry, is_same_end, is_same_level, is_same_sign}
 use Rattle.jsonb.specs.declared.path.Index.{Index}
 use Rattle.jsonb.specs.declared.path.Index.TheVariants as index
 use Rattle.jsonb.specs.declared.path.ArrayIndex.{ArrayIndex}

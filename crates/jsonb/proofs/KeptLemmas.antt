@@ -1,13 +1,13 @@
 -- What is kept of a filter from one item to the next.
-use Rattle.std.proofs.Common.{◌≡◌, Vec, Box, Global, ℕ, ◌≤◌, ◌+◌, zero, suc, List, [], ◌∷◌, ◌++◌, length, drop, true, false, not, Some, None, Ok, Err, IsOkAnd, OnOk, arith, refl, sym, ap, ◌∙◌, subst, inl, inr, add-one}
+use Rattle.std.proofs.Common.{◌≡◌, Vec, Box, Global, ℕ, ◌≤◌, ◌+◌, zero, suc, List, [], ◌∷◌, ◌++◌, length, drop, true, Some, None, Ok, Err, IsOkAnd, OnOk, arith, refl, sym, ap, ◌∙◌, subst, inl, inr, add-one}
 use Rattle.std.specs.List.{slice_get}
 use Rattle.std.proofs.lemmas.Option.{slice_get_cases}
 use Rattle.jsonb_doc.specs.Answer.{Outcome, and_then, Gives, IsOutOfMemory}
 use Rattle.jsonb_doc.specs.Tree.{Tree}
 use Rattle.jsonb.specs.PathTree as math
 use Rattle.jsonb.specs.PathTree.{Step, Expression, steps_of}
-use Rattle.jsonb.specs.Meaning.{steps_meaning, truth, operand_values, start, is_some_item}
-use Rattle.jsonb.specs.Private.Selection.{atoms_view, begins_with_current}
+use Rattle.jsonb.specs.Meaning.{truth, operand_values}
+use Rattle.jsonb.specs.Private.Selection.{atoms_view}
 use Rattle.jsonb.specs.Private.Kept.{is_fixed, is_comparison, is_condition, conditions, IsSame, AreSame, AreKept, kept_part}
 use Rattle.jsonb.specs.declared.selector.document.Mode.{Mode}
 use Rattle.jsonb.specs.declared.selector.atom.Atoms.{Atoms}

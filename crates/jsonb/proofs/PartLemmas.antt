@@ -1,10 +1,10 @@
 -- The parts of a path, as it is let go of them one by one.
-use Rattle.std.proofs.Common.{◌≡◌, ℕ, zero, suc, true, ◌+◌, ◌<◌, ◌≤◌, List, [], ◌∷◌, ◌++◌, Option, None, Some, IfSome, length, get_or, take, drop, Vec, Box, Global, refl, ap, arith}
+use Rattle.std.proofs.Common.{◌≡◌, ℕ, zero, suc, ◌+◌, ◌<◌, ◌≤◌, List, [], ◌∷◌, ◌++◌, Option, None, Some, IfSome, length, get_or, take, drop, Vec, Box, Global, refl, ap, arith}
 use Rattle.std.proofs.Math.Seq.{drop-cons}
 use Rattle.std.proofs.lemmas.List.{take-append-drop}
 use Rattle.jsonb.specs.PathTree.{Step, filter, whole_expression, Expression, paths, value, binary, unary, exists, steps_of}
 use Rattle.jsonb.specs.PathViews.{step_view, steps_view}
-use Rattle.jsonb.specs.Private.Chain.{is_pair, left_of, below}
+use Rattle.jsonb.specs.Private.Chain.{left_of, below}
 use Rattle.jsonb.specs.Private.Parts.{step_parts, steps_parts, expression_parts, parts, remaining}
 use Rattle.jsonb.specs.declared.path.BinaryOperator.{BinaryOperator}
 use Rattle.jsonb.specs.declared.path.Expr.{Expr}

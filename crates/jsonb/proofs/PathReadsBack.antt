@@ -3,7 +3,7 @@ use Rattle.std.proofs.Common.{◌≡◌, ℕ, ◌+◌, ◌<◌, List, [], ◌∷
 use Rattle.std.specs.Prelude.{◌==◌, flat_map, map}
 use Rattle.std.proofs.lemmas.Bool.Decides.{nat_tests, Decides-eqb}
 use Rattle.jsonb_keypath.specs.Each.{Each}
-use Rattle.jsonb_keypath.specs.Rules.{Parsed, Rule, ◌</>◌, parsed_map, literal, repeat, list_of, all_consuming}
+use Rattle.jsonb_keypath.specs.Rules.{Parsed, Rule, ◌</>◌, parsed_map, literal, repeat, all_consuming}
 use Rattle.jsonb_keypath.specs.Tokens.{ws, past, is_space, is_stop, name}
 use Rattle.jsonb_keypath.proofs.ReadBackLemmas.{front, front-stops, front-implies, begins, begins-excludes, stops-from_begins, is_sign}
 use Rattle.jsonb_keypath.proofs.NameLemmas.{name-none}

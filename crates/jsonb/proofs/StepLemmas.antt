@@ -1,5 +1,5 @@
 -- Parts of the meaning of steps and filters.
-use Rattle.std.proofs.Common.{◌≡◌, ◌≢◌, ℕ, ◌+◌, ◌<◌, List, [], ◌∷◌, ◌++◌, length, drop, get_or, suc, add-one, map, Bool, true, false, Option, Some, None, Ok, Err, refl, sym, ap, ◌∙◌, append-nil, Box, Global, if◌then◌else◌}
+use Rattle.std.proofs.Common.{◌≡◌, ℕ, ◌+◌, ◌<◌, List, [], ◌∷◌, ◌++◌, length, drop, get_or, suc, add-one, map, Bool, true, false, Option, Ok, Err, refl, sym, ap, ◌∙◌, append-nil}
 use Rattle.std.specs.Bool.{then_some}
 use Rattle.std.proofs.Math.Seq.{drop-cons}
 use Rattle.jsonb_doc.specs.Answer.{Outcome, and_then, try_flat_map}
@@ -7,20 +7,14 @@ use Rattle.jsonb_doc.specs.Tree.{Tree}
 use Rattle.jsonb_doc.specs.declared.spot.Spot.{Spot}
 use Rattle.jsonb.specs.PathTree as math
 use Rattle.jsonb.specs.PathTree.{steps_of}
-use Rattle.jsonb.specs.PathViews.{step_view, steps_view, expression_view, operator_view}
+use Rattle.jsonb.specs.PathViews.{step_view, steps_view}
 use Rattle.std.specs.List.{AllZip}
-use Rattle.jsonb.specs.Compare.{compare}
-use Rattle.jsonb.specs.Meaning.{step_meaning, steps_meaning, truth, operand_values, start, filtered, as_filter}
+use Rattle.jsonb.specs.Meaning.{step_meaning, steps_meaning, start, as_filter}
 use Rattle.jsonb.specs.Private.Selection.{IsKept, option_spots, taken_step}
 use Rattle.jsonb.specs.declared.selector.document.Mode.{Mode}
 use Rattle.jsonb.specs.declared.selector.document.Expressions.{Expressions}
 use Rattle.jsonb.specs.declared.selector.document.Expressions.TheVariants.{AreFilters, AreRefused}
 use Rattle.jsonb.specs.declared.path.Path.{Path}
-use Rattle.jsonb.specs.declared.path.Expr.{Expr}
-use Rattle.jsonb.specs.declared.path.Expr.TheVariants as expr
-use Rattle.jsonb.specs.declared.path.BinaryOperator.{BinaryOperator}
-use Rattle.jsonb.specs.declared.path.BinaryOperator.TheVariants.{And, Or, Add, Subtract, Multiply, Divide, Modulo}
-use Rattle.jsonb.proofs.PathNodes.{binary_is}
 
 -- one item alone
 pub joined_one : {B C : Type 0} (f : B → Outcome (List C)) (t : B) → try_flat_map f (t ∷ []) ≡ f t

@@ -1,5 +1,5 @@
 -- Expressions in the order in which they are executed.
-use Rattle.std.proofs.Common.{◌≡◌, ℕ, ◌+◌, ◌<◌, List, [], ◌∷◌, ◌++◌, length, drop, get_or, map, flat_map, false, Ok, Err, refl, sym, ap, ◌∙◌, append_assoc, append-nil, add-one, arith}
+use Rattle.std.proofs.Common.{◌≡◌, ℕ, ◌+◌, ◌<◌, List, [], ◌∷◌, ◌++◌, length, drop, get_or, map, flat_map, Ok, Err, refl, sym, ap, ◌∙◌, append_assoc, append-nil, add-one}
 use Rattle.std.specs.Prelude.{reverse}
 use Rattle.std.specs.Borrow.{Bor}
 use Rattle.std.specs.List.{All}
@@ -7,7 +7,6 @@ use Rattle.std.proofs.Math.Seq.{drop-cons}
 use Rattle.std.proofs.lemmas.Grind.{flat_map-append}
 use Rattle.std.proofs.lemmas.List.{map-append, reverse-append, reverse-reverse}
 use Rattle.std.proofs.lemmas.List.Sorted.{All-permutation, IsPermutation-reverse}
-use Rattle.std.proofs.lemmas.List.Sums.{sum_by-append}
 use Rattle.jsonb_doc.specs.Answer.{Outcome, and_then}
 use Rattle.jsonb_doc.specs.Tree.{Tree}
 use Rattle.jsonb.specs.Compare.{Truth}
@@ -15,16 +14,12 @@ use Rattle.jsonb.specs.Meaning.{truth}
 use Rattle.jsonb.specs.PathTree.{Expression, binary, exists, and_op, or_op}
 use Rattle.jsonb.specs.PathViews.{expression_view}
 use Rattle.jsonb.specs.Private.Kept.{conditions}
-use Rattle.jsonb.specs.Private.Parts.{expression_parts, parts}
-use Rattle.jsonb.specs.Private.Terms.{Term, condition, join, joining, joining_op, postorder, executed, last_truth, term_conditions, term_view, order_left, parts_left, IsBelow, AreTermsOf, IsPairOf, is_joined}
+use Rattle.jsonb.specs.Private.Terms.{Term, join, joining, postorder, executed, last_truth, term_conditions, term_view, order_left, IsBelow, AreTermsOf}
 use Rattle.jsonb.specs.declared.path.Expr.{Expr, size-Expr}
 use Rattle.jsonb.specs.declared.selector.document.Mode.{Mode}
 use Rattle.jsonb.specs.declared.selector.terms.Join.{Join}
 use Rattle.jsonb.specs.declared.selector.terms.Join.TheVariants.{And, Or}
-use Rattle.jsonb.specs.declared.selector.terms.Pair.{Pair}
 use Rattle.jsonb.specs.declared.selector.terms.Term.{Term as CodeTerm}
-use Rattle.jsonb.specs.declared.selector.terms.Term.TheVariants as code
-use Rattle.jsonb.proofs.PartLemmas.{some_parts}
 
 -- ---- executing
 

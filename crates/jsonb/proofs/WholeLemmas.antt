@@ -1,18 +1,17 @@
 -- Paths that are one expression, and all others.
-use Rattle.std.proofs.Common.{◌≡◌, List, [], ◌∷◌, map, Some, None, is_some, subst, Option, true, false, Ok, Err, IsOkAnd, length, get_or, arith, refl, ap, sym, ◌∙◌, inl, inr, Box, Global}
+use Rattle.std.proofs.Common.{◌≡◌, List, [], ◌∷◌, map, Some, None, is_some, subst, Option, true, false, Ok, Err, IsOkAnd, refl, ap, sym, ◌∙◌, inl, inr, Box, Global}
 use Rattle.jsonb_doc.specs.Answer.{Outcome, Gives, IsOutOfMemory}
 use Rattle.jsonb_doc.specs.Payload.{Form}
 use Rattle.jsonb_doc.specs.View.{number_view}
 use Rattle.jsonb_doc.specs.Tree as tree
 use Rattle.jsonb_doc.specs.Tree.{Tree}
 use Rattle.jsonb_doc.specs.declared.error.Error.{Error}
-use Rattle.jsonb_doc.specs.declared.error.Error.TheVariants.{InvalidJsonPath}
 use Rattle.jsonb_doc.specs.declared.number.Number.{Number}
 use Rattle.jsonb_doc.specs.declared.number.Number.TheVariants.{Int64, UInt64, Decimal64, Decimal128}
 use Rattle.jsonb.specs.PathTree as math
 use Rattle.jsonb.specs.PathTree.{Step, Expression, steps_of}
-use Rattle.jsonb.specs.PathViews.{step_view, steps_view, number_literal, literal_view}
-use Rattle.jsonb.specs.Meaning.{steps_meaning, as_filter, Means, predicate}
+use Rattle.jsonb.specs.PathViews.{step_view, number_literal, literal_view}
+use Rattle.jsonb.specs.Meaning.{steps_meaning, as_filter, Means}
 use Rattle.jsonb.specs.Private.Selection.{step_expression, only_expression, begins_with_current}
 use Rattle.jsonb.specs.declared.selector.document.Mode.{Mode}
 use Rattle.jsonb.specs.declared.path.PathValue.{PathValue}

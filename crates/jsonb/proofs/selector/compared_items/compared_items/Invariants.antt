@@ -1,5 +1,4 @@
-use Rattle.std.proofs.Common.{List, drop}
-use Rattle.jsonb_doc.specs.Answer.{try_flat_map}
+use Rattle.std.proofs.Common.{List}
 use Rattle.jsonb_doc.specs.Spots.{Locates}
 use Rattle.jsonb_doc.specs.Tree.{Tree}
 use Rattle.jsonb.specs.PathTree.{Expression, filter}
