@@ -71,5 +71,3 @@ CastsToU64 t r = Casts (λ n. IsUnsignedOf t n × (n < 2 ^ 64)) r
 abbrev pub CastsToText : Option (List ℕ) → Result (String Global) Error → Type 0
 CastsToText (Some wanted) r = MatchResult r (λ s. string_bytes s ≡ wanted) IsOutOfMemory
 CastsToText None r = r ≡ Err InvalidCast
-
--- ---- on any bytes

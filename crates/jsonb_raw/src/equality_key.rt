@@ -194,8 +194,8 @@ fn push_item(alloc: Global, out: &mut Vec<u8>, item: &Item<'_>) -> Result<(), Er
     }
 }
 
-/// How many bytes a key is begun with, so that it seldom grows: also those that stand for a moment behind what is made
-/// in two words.
+/// How many bytes a key is begun with, so that it seldom grows. Both words of a `Packed` stand behind it for a moment:
+/// there is room for them.
 fn first_capacity(item: &Item<'_>) -> usize {
     match item {
         Item::String(text) => text.len().saturating_add(ROOM + 1),
