@@ -100,7 +100,7 @@ pub(crate) fn compared_items(
     Ok(NodeList::Many(nodes))
 }
 
-/// An item of which the comparison is true, behind what the nodes has.
+/// An item of which the comparison is true, behind the nodes that there are.
 #[inline(always)]
 fn push_compared(
     alloc: Global,

@@ -227,7 +227,7 @@ fn filter_many<'a>(
     Ok(NodeList::Many(nodes))
 }
 
-/// An item that a filter keeps, behind what the nodes has.
+/// An item that a filter keeps, behind the nodes that there are.
 #[cycle(steps)]
 #[inline(always)]
 fn push_kept<'a>(
