@@ -17,7 +17,7 @@ ghost use Rattle.jsonb.specs.SelectionErrors.{IsSelectionError};
 
 use super::atom::{Atom, compare, compare_number, compare_one, item_atom};
 use super::document::{Current, TruthResult};
-use super::members::{first_item, member};
+use super::members::{member, starting_item};
 use super::node_list::NodeList;
 use super::values::found_values;
 use crate::path::{BinaryOperator, Path};
@@ -40,7 +40,7 @@ pub(crate) fn member_truth(
     ensures errors { IfErr result (IsSelectionError current.entry.context.now.mode) }
 {
     let Current { context, item } = current;
-    let first = first_item(steps, context.document, item);
+    let first = starting_item(steps, context.document, item);
     let member = member(context.mode, steps, context.document.bytes, first)?;
     compared(context.alloc, op, context.document.bytes, member, rights)
 }

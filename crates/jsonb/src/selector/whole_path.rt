@@ -21,7 +21,7 @@ use super::calculate::{binary_number, is_arithmetic, unary_numbers};
 use super::compared_lists::root_truth;
 use super::document::{Context, Current, Expressions, TruthResult};
 use super::kept::begins_with_current;
-use super::members::first_item;
+use super::members::starting_item;
 use super::node_list::NodeList;
 use super::search::search;
 use super::selected::{MadeItem, Selected};
@@ -153,7 +153,7 @@ fn whole_unary<'a>(
     } = *context;
     match operand {
         Expr::Paths(steps) => {
-            let first = first_item(steps, document, document.root);
+            let first = starting_item(steps, document, document.root);
             let found = select_steps(context, Expressions::AreRefused, steps, first)?;
             signed_items(alloc, op, document.bytes, found.as_slice())
         }
