@@ -37,4 +37,4 @@ returns-clause-meant c = λ top u all r s.
     (from_start c.args.current.context.now.mode c.args.steps.now c.args.steps.now c.args.steps.now top u refl refl))
     (followed (λ (ts : List Tree). compares (flat_map values_of_item ts))
     (c.in_ok-member.ensures.meant AreRefused top _ all (c.starting_item-first.ensures top u r s))
-    (λ ts related. c.compared.ensures.meant ts related))
+    (λ ts related. c.compared_truth.ensures.meant ts related))
