@@ -237,7 +237,7 @@ pub fn write_entry_key(
 }
 
 /// Appends the equality key of a document.
-pub fn push_document_key(alloc: Global, out: &mut Vec<u8>, bytes: &[u8]) -> Result<(), Error>
+pub fn push_equality_key(alloc: Global, out: &mut Vec<u8>, bytes: &[u8]) -> Result<(), Error>
     ensures key { (form : Form) (tree : Tree) → Decodes form bytes.now tree
         → MatchResult result (λ _. out.new.items ≡ out.old.items ++ equality_key tree) IsOutOfMemory }
     ensures errors { IfErr result (IsDecodingError or OutOfMemory) }

@@ -236,7 +236,7 @@ fn push_parts(
 }
 
 /// Appends the sortable key of a document.
-pub fn push_document_key(
+pub fn push_sortable_key(
     alloc: Global,
     out: &mut Vec<u8>,
     bytes: &[u8],
@@ -255,7 +255,7 @@ pub fn push_document_key(
 }
 
 /// The sortable key of a document.
-pub fn document_key(alloc: Global, bytes: &[u8], width: DepthWidth) -> Result<Vec<u8>, Error>
+pub fn sortable_key(alloc: Global, bytes: &[u8], width: DepthWidth) -> Result<Vec<u8>, Error>
     ensures key { (form : Form) (tree : Tree) → Decodes form bytes.now tree
         → MakesKey (width_of width) tree result }
     ensures order { (form : Form) (tree : Tree) → Decodes form bytes.now tree
@@ -263,6 +263,6 @@ pub fn document_key(alloc: Global, bytes: &[u8], width: DepthWidth) -> Result<Ve
     ensures errors { IfErr result (IsDecodingError or OutOfMemory or TooDeep) }
 {
     let mut out = Vec::new(alloc);
-    push_document_key(alloc, &mut out, bytes, width)?;
+    push_sortable_key(alloc, &mut out, bytes, width)?;
     Ok(out)
 }
