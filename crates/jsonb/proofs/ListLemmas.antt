@@ -13,7 +13,7 @@ use Rattle.jsonb.specs.PathViews.{steps_view, operator_view}
 use Rattle.jsonb.specs.Compare.{Truth, compare, pair_truth, first_decisive}
 use Rattle.jsonb.specs.Values.{Value, values_of_item}
 use Rattle.jsonb.specs.Meaning.{step_meaning, steps_meaning, truth, operand_values, start}
-use Rattle.jsonb.specs.Private.Compared.{IsMemberCompared, IsListCompared, list_truth}
+use Rattle.jsonb.specs.Private.Compared.{IsMemberCompared, IsListCompared, items_truth}
 use Rattle.jsonb.specs.Private.Kept.{is_comparison}
 use Rattle.jsonb.specs.Private.Members.{are_members}
 use Rattle.jsonb.specs.Private.Selection.{atom_value, taken_step}
@@ -126,13 +126,13 @@ module _ (c : MemberCompared) where
 
   module _ (e : Expression) (top : Tree) (k : IsMemberCompared c e) where
     -- an item of which the comparison is false is passed
-    pub list_passes : (u : Tree) (rest : List Tree) → truth Lax e top u ≡ Ok (Some false) → list_truth c top (u ∷ rest) ≡ list_truth c top rest
+    pub list_passes : (u : Tree) (rest : List Tree) → truth Lax e top u ≡ Ok (Some false) → items_truth c top (u ∷ rest) ≡ items_truth c top rest
     list_passes u rest is =
         ap (λ o. and_then o (told_by c)) (members-append (steps_view c.names.now) top (u ∷ []) rest k.members)
         ∙ passes_one _ _ (members_total (steps_view c.names.now) top rest k.members) (sym (k.compares Lax top u) ∙ is)
 
     -- and another decides
-    pub list_stops : (u : Tree) (rest : List Tree) (b : Truth) → truth Lax e top u ≡ Ok b → (b ≡ Some false → ⊥) → list_truth c top (u ∷ rest) ≡ Ok b
+    pub list_stops : (u : Tree) (rest : List Tree) (b : Truth) → truth Lax e top u ≡ Ok b → (b ≡ Some false → ⊥) → items_truth c top (u ∷ rest) ≡ Ok b
     list_stops u rest b is decides =
         ap (λ o. and_then o (told_by c)) (members-append (steps_view c.names.now) top (u ∷ []) rest k.members)
         ∙ stops_at _ _ b (members_total (steps_view c.names.now) top rest k.members) (sym (k.compares Lax top u) ∙ is) decides
@@ -148,8 +148,8 @@ module _ (c : MemberCompared) where
         go (Err e) t h = absurd t
 
   -- no items
-  pub list_none : (top : Tree) (ts : List Tree) → ts ≡ [] → list_truth c top ts ≡ Ok (Some false)
-  list_none top ts none = ap (list_truth c top) none ∙ ap (λ o. and_then o (told_by c)) (none_left Lax (steps_of (steps_view c.names.now)) top)
+  pub list_none : (top : Tree) (ts : List Tree) → ts ≡ [] → items_truth c top ts ≡ Ok (Some false)
+  list_none top ts none = ap (items_truth c top) none ∙ ap (λ o. and_then o (told_by c)) (none_left Lax (steps_of (steps_view c.names.now)) top)
 
 -- ---- steps to items, and then names of their members
 
@@ -200,15 +200,15 @@ compares_list op steps front names r literal top split compares is =
 
 -- the front as its steps are taken within an operand
 pub by_front : (list : ListCompared) (e : Expression) (top : Tree) → IsListCompared list e → truth Lax e top top
-    ≡ and_then (steps_meaning Lax (steps_of (map (taken_step AreRefused) (steps_view list.front.now))) top (top ∷ [])) (list_truth list.comparison top)
+    ≡ and_then (steps_meaning Lax (steps_of (map (taken_step AreRefused) (steps_view list.front.now))) top (top ∷ [])) (items_truth list.comparison top)
 by_front list e top k =
     k.compares top
-    ∙ ap (λ l. and_then (steps_meaning Lax (steps_of l) top (top ∷ [])) (list_truth list.comparison top)) (sym (refused_steps (steps_view list.front.now)))
+    ∙ ap (λ l. and_then (steps_meaning Lax (steps_of l) top (top ∷ [])) (items_truth list.comparison top)) (sym (refused_steps (steps_view list.front.now)))
 
 -- no steps in front of the names: the member is the root's
 pub by_names : (list : ListCompared) (e : Expression) (top : Tree) (k : IsListCompared list e) → list.front.now ≡ []
     → truth Lax e top top ≡ truth Lax k.each top top
 by_names list e top k none =
     k.compares top
-    ∙ ap (λ l. and_then (steps_meaning Lax (steps_of (steps_view l)) top (top ∷ [])) (list_truth list.comparison top)) none
+    ∙ ap (λ l. and_then (steps_meaning Lax (steps_of (steps_view l)) top (top ∷ [])) (items_truth list.comparison top)) none
     ∙ sym (k.member.compares Lax top top)

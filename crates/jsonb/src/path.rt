@@ -26,7 +26,7 @@ mod release;
 ///
 /// It prints so that it reads back, where it was read from a text. Two are equal where they have the same steps, part
 /// by part, and literals that are equal by value. Comparing and printing nest only as deep as parts that have something
-/// behind them: docs/DECISIONS.md, "Stack", says where.
+/// behind them: docs/STACK.md says where.
 #[derive(PartialEq, Drop)]
 pub struct JsonPath<'a> {
     /// The steps, the first one first.

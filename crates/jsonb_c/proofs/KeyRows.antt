@@ -6,11 +6,11 @@ use Rattle.std.specs.declared.alloc.Global.{Global}
 use Rattle.jsonb_doc.specs.declared.error.Error.{Error}
 use Rattle.jsonb_c.specs.Private.Buffers.{written_answer, written_key}
 use Rattle.jsonb_c.specs.Rows.{Writes}
-use Rattle.jsonb_c.specs.Views.{key_answer}
+use Rattle.jsonb_c.specs.Views.{vec_answer}
 
 -- the row is the key, or why there is none
 pub writes_key : (written : Result (Unit {0}) Error) (made : Vec ℕ Global) (IsKey : Result (List ℕ) Error → Type 0) (Refusals : Error → Type 0)
     → IsKey (written_key written made.items) → IfErr written Refusals
-    → Writes (λ answer. IsKey (key_answer answer)) Refusals (λ key. key.items) (written_answer (result_and written (Ok true)) made.items)
+    → Writes (λ answer. IsKey (vec_answer answer)) Refusals (λ key. key.items) (written_answer (result_and written (Ok true)) made.items)
 writes_key (Ok _) made IsKey Refusals is errors = (Ok made, is, tt, refl)
 writes_key (Err e) made IsKey Refusals is errors = (Err e, is, errors, refl)

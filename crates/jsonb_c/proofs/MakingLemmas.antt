@@ -9,21 +9,21 @@ use Rattle.jsonb_doc.specs.Payload.{Form}
 use Rattle.jsonb_doc.specs.Format.{Decodes}
 use Rattle.std.specs.List.{AllZip}
 use Rattle.jsonb_c.specs.Making.{Encodes, IsRowOf, is_placed}
-use Rattle.jsonb_c.specs.Views.{key_answer}
+use Rattle.jsonb_c.specs.Views.{vec_answer}
 
 -- ---- a vector as its bytes
 
 pub made_answer : (P : List ℕ → Type 0) (Refusals : Error → Type 0) (r : Result (Vec ℕ Global) Error)
-    → MatchResult r (λ made. P made.items) Refusals → MatchResult (key_answer r) P Refusals
+    → MatchResult r (λ made. P made.items) Refusals → MatchResult (vec_answer r) P Refusals
 made_answer P Refusals (Ok made) h = h
 made_answer P Refusals (Err e) h = h
 
-pub errors_answer : (Refusals : Error → Type 0) (r : Result (Vec ℕ Global) Error) → IfErr r Refusals → IfErr (key_answer r) Refusals
+pub errors_answer : (Refusals : Error → Type 0) (r : Result (Vec ℕ Global) Error) → IfErr r Refusals → IfErr (vec_answer r) Refusals
 errors_answer Refusals (Ok made) h = h
 errors_answer Refusals (Err e) h = h
 
 pub encodes : (t : Tree) (r : Result (Vec ℕ Global) Error)
-    → ((form : Form) → MatchResult r (λ made. Decodes form made.items t) (IsOutOfMemoryOrTooLarge form t)) → Encodes t (key_answer r)
+    → ((form : Form) → MatchResult r (λ made. Decodes form made.items t) (IsOutOfMemoryOrTooLarge form t)) → Encodes t (vec_answer r)
 encodes t r h = λ form. made_answer (λ made. Decodes form made t) (IsOutOfMemoryOrTooLarge form t) r (h form)
 
 -- ---- rows

@@ -17,7 +17,7 @@ use Rattle.jsonb_doc.specs.Encoding.{EntryParts}
 use Rattle.jsonb_doc.specs.ObjectBuilder.{HoldsPairs, has_key, insert_pair}
 use Rattle.jsonb_doc.proofs.ObjectLemmas.{held_key, length-inserted}
 use Rattle.jsonb_c.specs.Making.{IsObjectOf, IsRowOf, put_rows}
-use Rattle.jsonb_c.specs.Views.{key_answer}
+use Rattle.jsonb_c.specs.Views.{vec_answer}
 use Rattle.jsonb_c.proofs.MakingLemmas.{row_decodes}
 
 -- ---- limits
@@ -193,12 +193,12 @@ put_refused form after i rows e h = record { ok = tt; err = h }
 pub object_built : (form : Form) (es : List (List ℕ × EntryParts)) (i : ℕ) (names : List (Bor (List ℕ))) (ts : List Tree) (r : Result (Vec ℕ Global) Error)
     → length names ≤ i → PutSoFar form es i (zip (texts names) ts)
     → ((ps : List (List ℕ × Tree)) → HoldsPairs form es ps → MatchResult r (λ v. Decodes form v.items (object (pairs_of ps))) IsOutOfMemory)
-    → IsObjectOf form (zip (texts names) ts) (key_answer r)
+    → IsObjectOf form (zip (texts names) ts) (vec_answer r)
 object_built form es i names ts r done so_far built =
     let all = all_put form es i (zip (texts names) ts) (rows_end names ts i done) so_far in
     go r all.0 all.2 (built all.0 all.1)
   where
     go : (answer : Result (Vec ℕ Global) Error) (ps : List (List ℕ × Tree)) → put_rows [] (zip (texts names) ts) ≡ Ok ps
-        → MatchResult answer (λ v. Decodes form v.items (object (pairs_of ps))) IsOutOfMemory → IsObjectOf form (zip (texts names) ts) (key_answer answer)
+        → MatchResult answer (λ v. Decodes form v.items (object (pairs_of ps))) IsOutOfMemory → IsObjectOf form (zip (texts names) ts) (vec_answer answer)
     go (Ok v) ps is h = record { ok = rw is h; err = tt }
     go (Err e) ps is h = record { ok = tt; err = inl (inl h) }

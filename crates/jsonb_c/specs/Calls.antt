@@ -125,12 +125,12 @@ width_of true = w16
 width_of false = w8
 
 -- the key of the document's tree; the refusal is that an item lies too deep for a key
-abbrev pub IsKey : Width → Tree → Result (List ℕ) Error → Type 0
-IsKey w t (Ok bytes) = (bytes ≡ key w t 0) × (deepest t < depths w)
-IsKey w t (Err e) = (e ≡ OutOfMemory) ⊎ ((e ≡ TooDeep) × (depths w ≤ deepest t))
+abbrev pub IsSortableKey : Width → Tree → Result (List ℕ) Error → Type 0
+IsSortableKey w t (Ok bytes) = (bytes ≡ key w t 0) × (deepest t < depths w)
+IsSortableKey w t (Err e) = (e ≡ OutOfMemory) ⊎ ((e ≡ TooDeep) × (depths w ≤ deepest t))
 
-abbrev pub IsKeyOf : Width → List ℕ → Result (List ℕ) Error → Type 0
-IsKeyOf w document answer = OfDocument document (λ form t. IsKey w t) answer
+abbrev pub IsSortableKeyOf : Width → List ℕ → Result (List ℕ) Error → Type 0
+IsSortableKeyOf w document answer = OfDocument document (λ form t. IsSortableKey w t) answer
 
 -- ---- equality keys
 

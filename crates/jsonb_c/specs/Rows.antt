@@ -15,10 +15,10 @@ use Rattle.jsonb.specs.PathTree.{Step}
 use Rattle.jsonb.specs.SelectionErrors.{IsDocumentError, IsSelectionError}
 use Rattle.jsonb.specs.declared.selector.document.Mode.{Mode}
 use Rattle.jsonb_c.specs.Answers.{OfDocument, OfBoth, bool_byte, truth_byte}
-use Rattle.jsonb_c.specs.Calls.{DeletesPlace, IsCheckOf, IsEqualityKeyOf, IsKeyOf}
+use Rattle.jsonb_c.specs.Calls.{DeletesPlace, IsCheckOf, IsEqualityKeyOf, IsSortableKeyOf}
 use Rattle.jsonb.specs.SelectorAnswers.{IsFound, IsPicked, IsTruthOf}
 use Rattle.jsonb_c.specs.Columns.{Found, cell_status}
-use Rattle.jsonb_c.specs.Views.{key_answer}
+use Rattle.jsonb_c.specs.Views.{vec_answer}
 
 -- the value, written so
 abbrev pub found : {A B : Type 0} → (A → B) → Result A Error → Found B
@@ -68,12 +68,12 @@ WritesText document row =
 
 abbrev pub WritesKey : Width → List ℕ → Found (List ℕ) → Type 0
 WritesKey w document row =
-    Writes (λ answer. IsKeyOf w document (key_answer answer)) (IsDecodingError or OutOfMemory or TooDeep)
+    Writes (λ answer. IsSortableKeyOf w document (vec_answer answer)) (IsDecodingError or OutOfMemory or TooDeep)
     (λ made. made.items) row
 
 abbrev pub WritesEqualityKey : List ℕ → Found (List ℕ) → Type 0
 WritesEqualityKey document row =
-    Writes (λ answer. IsEqualityKeyOf document (key_answer answer)) (IsDecodingError or OutOfMemory)
+    Writes (λ answer. IsEqualityKeyOf document (vec_answer answer)) (IsDecodingError or OutOfMemory)
     (λ made. made.items) row
 
 -- ---- documents

@@ -6,7 +6,7 @@ use Rattle.jsonb_doc.specs.declared.error.ArithmeticFault.TheVariants.{Overflow,
 use Rattle.jsonb_c.specs.declared.status.Status.{Status}
 use Rattle.jsonb_c.specs.declared.status.Status.TheVariants.{Answered, Absent, BufferTooSmall, BadOffsets, NotUtf8, Refused}
 
--- each status
+-- the number of a status
 abbrev pub code : Status → ℕ
 code Answered = 0
 code Absent = 1

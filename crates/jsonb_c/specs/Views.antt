@@ -5,9 +5,10 @@ use Rattle.jsonb_doc.specs.declared.error.Error.{Error}
 use Rattle.jsonb_doc.specs.Tree.{Tree}
 use Rattle.jsonb.specs.SelectorAnswers.{array_of}
 
-abbrev pub key_answer : Result (Vec ℕ Global) Error → Result (List ℕ) Error
-key_answer (Ok made) = Ok made.items
-key_answer (Err e) = Err e
+-- the bytes of a vector that was made, or why there is none
+abbrev pub vec_answer : Result (Vec ℕ Global) Error → Result (List ℕ) Error
+vec_answer (Ok made) = Ok made.items
+vec_answer (Err e) = Err e
 
 -- one array of all
 abbrev pub one_array : List Tree → Option Tree

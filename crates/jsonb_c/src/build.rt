@@ -14,12 +14,12 @@ ghost use Rattle.jsonb_c.specs.Answers.{DeliversNothing, HandsOverBytes};
 ghost use Rattle.jsonb_c.specs.Columns.{rows};
 ghost use Rattle.jsonb_c.specs.Making.{Encodes, IsDecimalOf, MakesArray, is_placed, whole_of};
 ghost use Rattle.jsonb_c.specs.Status.{bad_offsets, not_utf8};
-ghost use Rattle.jsonb_c.specs.Views.{key_answer};
+ghost use Rattle.jsonb_c.specs.Views.{vec_answer};
 
 pub(crate) mod object;
 
 use crate::column::Column;
-use crate::deliver::{deliver_key, deliver_nothing};
+use crate::deliver::{deliver_nothing, deliver_vec};
 use crate::status::Status;
 use jsonb::{ArrayBuilder, Decimal64, Decimal128, Error, Item, Number, encode_item};
 use std::alloc::Global;
@@ -132,7 +132,7 @@ fn deliver_item(alloc: Global, item: &Item<'_>, out: &mut [u8], out_len: &mut us
     ensures { (t : Tree) → ((form : Form) → StandsFor form item.now t)
         → HandsOverBytes (Encodes t) (IsOutOfMemory or TooLarge) out.old out.new out_len.new result }
 {
-    deliver_key(encode_item(alloc, item), out, out_len)
+    deliver_vec(encode_item(alloc, item), out, out_len)
 }
 
 /// An array of the documents of a column.
@@ -152,7 +152,7 @@ pub extern "C" fn jsonb_array_from_column(
 {
     let column = Column::new(bytes, offsets);
     if column.is_placed() {
-        deliver_key(array_of(alloc, &column), out, out_len)
+        deliver_vec(array_of(alloc, &column), out, out_len)
     } else {
         deliver_nothing(Status::BadOffsets, out_len)
     }
@@ -160,7 +160,7 @@ pub extern "C" fn jsonb_array_from_column(
 
 /// An array of the rows, each of which has a place.
 fn array_of(alloc: Global, column: &Column<'_>) -> Result<Vec<u8>, Error>
-    ensures array { MakesArray column.now (key_answer result) }
+    ensures array { MakesArray column.now (vec_answer result) }
     ensures errors { IfErr result (IsDecodingError or OutOfMemory or TooLarge) }
 {
     let mut builder = ArrayBuilder::new(alloc);

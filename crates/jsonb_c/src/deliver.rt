@@ -4,7 +4,7 @@ ghost use Rattle.std.specs.Prelude.{◌≡◌, ◌≤◌, ◌+◌, ◌++◌, tak
 ghost use Rattle.jsonb_c.specs.Status.{code};
 ghost use Rattle.jsonb_c.specs.Answers.{Delivers, DeliversBytes, Shows, ShowsBool, ShowsFound, ShowsFoundBool, ShowsTruth, bool_byte, truth_byte, whole};
 ghost use Rattle.jsonb_c.specs.Private.Buffers.{Places};
-ghost use Rattle.jsonb_c.specs.Views.{key_answer};
+ghost use Rattle.jsonb_c.specs.Views.{vec_answer};
 ghost use Rattle.jsonb_c.specs.Private.Views.{found_text, text_answer};
 
 use crate::status::Status;
@@ -53,16 +53,16 @@ pub(crate) fn deliver_made(
     }
 }
 
-/// Hands a key over, or why there is none.
-pub(crate) fn deliver_key(
+/// Hands bytes over that were made, or why there are none.
+pub(crate) fn deliver_vec(
     answer: Result<Vec<u8>, Error>,
     out: &mut [u8],
     out_len: &mut usize,
 ) -> u32
-    ensures { Delivers (whole (key_answer answer)) out.old out.new out_len.new result }
+    ensures { Delivers (whole (vec_answer answer)) out.old out.new out_len.new result }
 {
     match answer {
-        Ok(key) => deliver_bytes(&key, out, out_len),
+        Ok(made) => deliver_bytes(&made, out, out_len),
         Err(error) => deliver_nothing(Status::Refused(error), out_len),
     }
 }

@@ -12,7 +12,7 @@ header_number Scalar = scalar_header
 header_number Object = object_header
 header_number Array = array_header
 
--- The number of an entry's kind. No content is of the last.
+-- The number of an entry's kind. No document has an entry of the last.
 abbrev pub kind_number : EntryKind → ℕ
 kind_number Null = null_entry
 kind_number Text = text_entry

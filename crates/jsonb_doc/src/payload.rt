@@ -1,4 +1,5 @@
 //! How numbers and extension values are written.
+
 ghost use Rattle.std.specs.Prelude.{◌≡◌, ◌≤◌, ◌++◌, [], ◌∷◌, length, OnOk, OnErr};
 ghost use Rattle.std.specs.Int.{w32, w64};
 ghost use Rattle.byteorder.specs.Endian.{big_bytes};

@@ -70,7 +70,7 @@ fn parts_equal(number: ShortNumber, other: ShortNumber) -> bool
 ///
 /// Constant, without memory.
 #[inline(always)]
-pub fn digits_equal(number: ShortNumber, other: ShortNumber) -> bool
+pub fn short_equal(number: ShortNumber, other: ShortNumber) -> bool
     ensures { result ≡ eq_by_cmp number_cmp (short_value number) (short_value other) }
 {
     match (number, other) {
@@ -101,7 +101,7 @@ fn parts_cmp(number: ShortNumber, other: &Number) -> Ordering
 ///
 /// Constant, without memory.
 #[inline(always)]
-pub fn digits_cmp(number: ShortNumber, other: &Number) -> Ordering
+pub fn short_cmp(number: ShortNumber, other: &Number) -> Ordering
     ensures { result ≡ number_cmp (short_value number) (number_view other.now) }
 {
     match (number, other) {
@@ -121,7 +121,7 @@ pub fn digits_cmp(number: ShortNumber, other: &Number) -> Ordering
 /// The number whose payload has these bytes behind the tag of zero.
 #[inline(always)]
 #[tactic(auto, unfolding(crate::specs::Payload::number_of))]
-pub(crate) fn zero_digits(rest: &[u8]) -> Option<ShortNumber>
+pub(crate) fn read_zero(rest: &[u8]) -> Option<ShortNumber>
     ensures { IfSome result (λ n. number_of (0 ∷ rest.now) ≡ Some (short_value n)) }
 {
     match rest {
@@ -133,7 +133,7 @@ pub(crate) fn zero_digits(rest: &[u8]) -> Option<ShortNumber>
 /// The number whose payload has these bytes behind the tag of a whole number that is not negative.
 #[inline(always)]
 #[tactic(auto, unfolding(crate::specs::Payload::number_of))]
-pub(crate) fn unsigned_digits(rest: &[u8]) -> Option<ShortNumber>
+pub(crate) fn read_unsigned(rest: &[u8]) -> Option<ShortNumber>
     ensures { IfSome result (λ n. number_of (0x50 ∷ rest.now) ≡ Some (short_value n)) }
 {
     match rest.len() {
@@ -148,7 +148,7 @@ pub(crate) fn unsigned_digits(rest: &[u8]) -> Option<ShortNumber>
 /// The same behind the tag of a whole number with a sign.
 #[inline(always)]
 #[tactic(auto, unfolding(crate::specs::Payload::number_of))]
-pub(crate) fn signed_digits(rest: &[u8]) -> Option<ShortNumber>
+pub(crate) fn read_signed(rest: &[u8]) -> Option<ShortNumber>
     ensures { IfSome result (λ n. number_of (0x40 ∷ rest.now) ≡ Some (short_value n)) }
 {
     match rest.len() {
@@ -160,7 +160,7 @@ pub(crate) fn signed_digits(rest: &[u8]) -> Option<ShortNumber>
 /// The same behind the tag of a decimal.
 #[inline(always)]
 #[tactic(auto, unfolding(crate::specs::Payload::number_of))]
-pub(crate) fn decimal_digits(rest: &[u8]) -> Option<ShortNumber>
+pub(crate) fn read_decimal(rest: &[u8]) -> Option<ShortNumber>
     ensures { IfSome result (λ n. number_of (0x70 ∷ rest.now) ≡ Some (short_value n)) }
 {
     if rest.len() != DECIMAL64_LEN {

@@ -49,11 +49,12 @@ optional rule = (rule >>= λ a. give (Some a)) </> give None
 abbrev pub only_if : Bool → Rule (Unit {0})
 only_if test = λ input. if test then Some (tt, input) else None
 
+-- these very bytes
 abbrev pub bytes : List ℕ → Rule (Unit {0})
 bytes text =
     λ input. if starts_with nat_eq input text then Some (tt, drop (length text) input) else None
 
--- these very bytes
+-- the characters of the text
 abbrev pub literal : String → Rule (Unit {0})
 literal text = bytes (codes text)
 

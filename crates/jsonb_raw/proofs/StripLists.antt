@@ -12,7 +12,7 @@ use Rattle.jsonb_doc.specs.Lengths.{Tells}
 use Rattle.jsonb_doc.specs.Private.ObjectBytes.{words_of_entries, contents_of_entries}
 use Rattle.jsonb_doc.proofs.BuilderSteps.{keys_rise}
 use Rattle.jsonb_doc.specs.declared.error.Error.{Error}
-use Rattle.jsonb_raw.specs.declared.functions.operator.stripping.StoredEntry.{StoredEntry}
+use Rattle.jsonb_raw.specs.declared.functions.operator.stripping.NextEntry.{NextEntry}
 use Rattle.jsonb_raw.specs.Private.Cuts.{FitEntries}
 use Rattle.jsonb_raw.specs.Scalars.{is_null}
 use Rattle.jsonb_raw.specs.Strip.{strip, strip_trees, strip_pairs}
@@ -246,7 +246,7 @@ pub record KeysToPush (out values words keys : List ℕ) (last : Option (Bor (Li
 
 -- while values are left, so is a key
 module _ {G : Type 0} where
-  pub next_key : (out values words keys : List ℕ) (last : Option (Bor (List ℕ))) (whole : List ℕ) (r : Result (Option StoredEntry) Error) → 4 ≤ length values
+  pub next_key : (out values words keys : List ℕ) (last : Option (Bor (List ℕ))) (whole : List ℕ) (r : Result (Option NextEntry) Error) → 4 ≤ length values
       → ((xs : List EntryParts) → FitEntries xs → words ≡ words_of_entries xs → keys ≡ contents_of_entries xs → ReadsEntry xs r)
       → KeysToPush out values words keys last whole
       → ((k : List ℕ) (ks : List (List ℕ)) → IsAboveLast last (k ∷ ks) → ReadsEntry ((text_entry, k) ∷ key_entries ks) r → G) → G
@@ -261,7 +261,7 @@ module _ {G : Type 0} where
 
 module _ (n len : ℕ) (values value values' : List ℕ) (first : value ≡ take 4 values) (rest : values' ≡ drop 4 values) (long : length values' + 4 ≡ length values)
     (read : Tells value n len)
-    (words keys : List ℕ) (given : StoredEntry)
+    (words keys : List ℕ) (given : NextEntry)
     (reads : (xs : List EntryParts) → FitEntries xs → words ≡ words_of_entries xs → keys ≡ contents_of_entries xs → ReadsEntry xs (Ok (Some given)))
     (last : Option (Bor (List ℕ))) (out out' whole : List ℕ) where
   -- the first of the values goes, and the key beside it

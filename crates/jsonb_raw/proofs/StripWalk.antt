@@ -15,7 +15,7 @@ use Rattle.jsonb_doc.specs.Encoding.{EntryParts}
 use Rattle.jsonb_doc.specs.ObjectBuilder.{FitsEntry}
 use Rattle.jsonb_doc.specs.Private.ObjectBytes.{words_of_entries, contents_of_entries}
 use Rattle.jsonb_raw.specs.declared.functions.operator.stripping.Writing.{Writing}
-use Rattle.jsonb_raw.specs.declared.functions.operator.stripping.StoredEntry.{StoredEntry}
+use Rattle.jsonb_raw.specs.declared.functions.operator.stripping.NextEntry.{NextEntry}
 use Rattle.jsonb_raw.specs.Private.Cuts.{FitEntries}
 use Rattle.jsonb_raw.specs.Scalars.{is_null}
 use Rattle.jsonb_raw.specs.Strip.{strip, strip_trees, strip_pairs}
@@ -130,7 +130,7 @@ closed form is_object before out start word target most w =
 
 module _ {G : Type 0} where
   pub first_entry : (form : Form) (is_object : Bool) (before out : List ℕ) (start word : ℕ) (words contents : List ℕ) (target : Tree) (most : ℕ)
-      (given : StoredEntry)
+      (given : NextEntry)
       → ((es : List EntryParts) → FitEntries es → words ≡ words_of_entries es → contents ≡ contents_of_entries es → ReadsEntry es (Ok (Some given)))
       → IsOpen form is_object before out start word words contents target most
       → ((e : EntryParts) (es : List EntryParts) (t : Tree) (ts : List Tree) → IsEntry given e es
@@ -186,7 +186,7 @@ pub record IsWithinAll (form : Form) (is_object : Bool) (start word : ℕ) (word
   pub opened : IsOpen form is_object before out start word words contents target most
   pub outside : AreAround form (reverse around) before target most whole
 
-module _ (form : Form) (is_object : Bool) (start word : ℕ) (words contents : List ℕ) (around : List Writing) (out : List ℕ) (whole : Tree) (given : StoredEntry)
+module _ (form : Form) (is_object : Bool) (start word : ℕ) (words contents : List ℕ) (around : List Writing) (out : List ℕ) (whole : Tree) (given : NextEntry)
     (reads : (es : List EntryParts) → FitEntries es → words ≡ words_of_entries es → contents ≡ contents_of_entries es → ReadsEntry es (Ok (Some given)))
     (h : IsWithinAll form is_object start word words contents around out whole) where
   -- the first entry is passed, and what is written is as said
@@ -701,7 +701,7 @@ array_stays is_object kind array = rw array refl
 module _ {G : Type 0} where
   -- the content of an entry that is a container is one of some tree
   pub first_content : (form : Form) (is_object : Bool) (start word : ℕ) (words contents : List ℕ) (around : List Writing) (out : List ℕ) (whole : Tree)
-      (given : StoredEntry)
+      (given : NextEntry)
       → ((es : List EntryParts) → FitEntries es → words ≡ words_of_entries es → contents ≡ contents_of_entries es → ReadsEntry es (Ok (Some given)))
       → IsWithinAll form is_object start word words contents around out whole → kind_number given.kind ≡ container_entry
       → ((t : Tree) → IsContent (number_reader form) t container_entry given.content.now → G) → G

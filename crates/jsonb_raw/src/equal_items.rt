@@ -18,7 +18,7 @@ ghost use Rattle.jsonb_raw.specs.Private.Compared.{Decides, IsShorter, IsShortOf
 use crate::compared::{Compared, is_beyond};
 use jsonb_doc::{
     EntryIter, Error, ExtensionValue, Item, Number, ShortNumber, StoredEntry, array_entries,
-    digits_equal, object_entries,
+    object_entries, short_equal,
 };
 
 /// Whether two items are equal by value: of one shape, with numbers of one exact value and extensions of the same
@@ -201,7 +201,7 @@ fn bytes_tell(
         return Some(entry.content == wanted.content);
     }
     if let (Some(number), Some(other)) = (entry.short_number(), short) {
-        return Some(digits_equal(number, other));
+        return Some(short_equal(number, other));
     }
     if entry.content == wanted.content {
         return Some(true);

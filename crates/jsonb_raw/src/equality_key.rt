@@ -194,8 +194,8 @@ fn push_item(alloc: Global, out: &mut Vec<u8>, item: &Item<'_>) -> Result<(), Er
     }
 }
 
-/// How many bytes a key is begun with, so that it seldom grows: also those that stand for a moment behind what is made
-/// in two words.
+/// How many bytes a key is begun with, so that it seldom grows. Both words of a `Packed` stand behind it for a moment:
+/// there is room for them.
 fn first_capacity(item: &Item<'_>) -> usize {
     match item {
         Item::String(text) => text.len().saturating_add(ROOM + 1),
@@ -237,7 +237,7 @@ pub fn write_entry_key(
 }
 
 /// Appends the equality key of a document.
-pub fn push_document_key(alloc: Global, out: &mut Vec<u8>, bytes: &[u8]) -> Result<(), Error>
+pub fn push_equality_key(alloc: Global, out: &mut Vec<u8>, bytes: &[u8]) -> Result<(), Error>
     ensures key { (form : Form) (tree : Tree) → Decodes form bytes.now tree
         → MatchResult result (λ _. out.new.items ≡ out.old.items ++ equality_key tree) IsOutOfMemory }
     ensures errors { IfErr result (IsDecodingError or OutOfMemory) }

@@ -156,7 +156,8 @@ fn push_scalar_item(out: &mut Vec<u8>, item: &Item<'_>, depth: Depth) -> Result<
     Ok(())
 }
 
-/// The same of an entry. It stands apart, so that a walk over the commonest entries has no room for items.
+/// Appends the key of an entry that is no container, by its item. It stands apart, so that a walk over the commonest
+/// entries has no room for items.
 #[inline(never)]
 fn push_stored_item(out: &mut Vec<u8>, entry: &StoredEntry<'_>, depth: Depth) -> Result<(), Error>
     ensures key { (form : Form) (tree : Tree) → Stores form entry.now tree
@@ -166,7 +167,7 @@ fn push_stored_item(out: &mut Vec<u8>, entry: &StoredEntry<'_>, depth: Depth) ->
     push_scalar_item(out, &entry.item()?, depth)
 }
 
-/// The same. An item is made of an extension value and of a long decimal alone.
+/// Appends the key of an entry that is no container. Only of an extension value and of a long decimal is an item made.
 #[inline(always)]
 fn push_scalar(out: &mut Vec<u8>, entry: &StoredEntry<'_>, depth: Depth) -> Result<(), Error>
     ensures key { (form : Form) (tree : Tree) → Stores form entry.now tree
@@ -235,7 +236,7 @@ fn push_parts(
 }
 
 /// Appends the sortable key of a document.
-pub fn push_document_key(
+pub fn push_sortable_key(
     alloc: Global,
     out: &mut Vec<u8>,
     bytes: &[u8],
@@ -254,7 +255,7 @@ pub fn push_document_key(
 }
 
 /// The sortable key of a document.
-pub fn document_key(alloc: Global, bytes: &[u8], width: DepthWidth) -> Result<Vec<u8>, Error>
+pub fn sortable_key(alloc: Global, bytes: &[u8], width: DepthWidth) -> Result<Vec<u8>, Error>
     ensures key { (form : Form) (tree : Tree) → Decodes form bytes.now tree
         → MakesKey (width_of width) tree result }
     ensures order { (form : Form) (tree : Tree) → Decodes form bytes.now tree
@@ -262,6 +263,6 @@ pub fn document_key(alloc: Global, bytes: &[u8], width: DepthWidth) -> Result<Ve
     ensures errors { IfErr result (IsDecodingError or OutOfMemory or TooDeep) }
 {
     let mut out = Vec::new(alloc);
-    push_document_key(alloc, &mut out, bytes, width)?;
+    push_sortable_key(alloc, &mut out, bytes, width)?;
     Ok(out)
 }

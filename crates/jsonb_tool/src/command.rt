@@ -1,4 +1,5 @@
 //! Commands, read from the words of a command line.
+
 ghost use Rattle.std.specs.Prelude.{◌≡◌, map, option_map, IfOk, IfErr, string_bytes};
 ghost use Rattle.jsonb.specs.Error.TheVariants.{OutOfMemory};
 ghost use Rattle.jsonb_tool.specs.Requests.{bytes_of, request_of};

@@ -1,4 +1,5 @@
 //! What each command prints.
+
 ghost use Rattle.std.specs.Prelude.{◌≡◌, ◌⊎◌, ◌++◌, Ok, Err, IfOk, MatchResult, codes, string_bytes};
 ghost use Rattle.jsonb.specs.Error.TheVariants.{OutOfMemory};
 ghost use Rattle.jsonb.specs.Tree.{Tree};

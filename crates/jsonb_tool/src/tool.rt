@@ -1,4 +1,5 @@
 //! The engine: from the words of a command line to lines and an exit status.
+
 ghost use Rattle.std.specs.Prelude.{ℕ, List, map, IfOk, string_bytes};
 ghost use Rattle.std.specs.Cow.{cow_str_bytes};
 ghost use Rattle.std.specs.Io.KnownBytes.{Appends};

@@ -28,8 +28,8 @@ pub record IsMemberCompared (c : MemberCompared) (e : Expression) : Type 0 where
       (λ ts. Ok (compare (operator_view c.op) (flat_map values_of_item ts) (atom_value c.literal ∷ [])))
 
 -- the truth of the comparison of a member of each item
-abbrev pub list_truth : MemberCompared → Tree → List Tree → Outcome Truth
-list_truth c top items =
+abbrev pub items_truth : MemberCompared → Tree → List Tree → Outcome Truth
+items_truth c top items =
     and_then (steps_meaning Lax (steps_of (steps_view c.names.now)) top items)
     (λ ts. Ok (compare (operator_view c.op) (flat_map values_of_item ts) (atom_value c.literal ∷ [])))
 
@@ -39,7 +39,7 @@ pub record IsListCompared (list : ListCompared) (e : Expression) : Type 0 where
   pub member : IsMemberCompared list.comparison each
   pub compares : (top : Tree) → truth Lax e top top
       ≡ and_then (steps_meaning Lax (steps_of (steps_view list.front.now)) top (top ∷ []))
-      (list_truth list.comparison top)
+      (items_truth list.comparison top)
 
 -- the truth of no expressions
 abbrev pub no_truth : Join → Truth

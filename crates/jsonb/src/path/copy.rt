@@ -22,7 +22,7 @@ impl<'a> JsonPath<'a> {
     ///
     /// # Cost
     ///
-    /// Linear in the path. Takes memory; its stack is told on the type.
+    /// Linear in the path. Takes memory.
     pub fn clone(&self, alloc: Global) -> Result<JsonPath<'a>, Error>
         ensures { MatchResult result (λ copy. path_view copy ≡ path_view self.now) IsOutOfMemory }
     {

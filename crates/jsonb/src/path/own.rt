@@ -26,7 +26,7 @@ impl JsonPath<'_> {
     ///
     /// # Cost
     ///
-    /// Linear in the path. Takes memory; its stack is told on the type.
+    /// Linear in the path. Takes memory.
     pub fn to_owned(&self, alloc: Global) -> Result<JsonPath<'static>, Error>
         ensures copy { IfOk result (λ copy. path_view copy ≡ path_view self.now) }
         ensures whole { OnOk result (has_document (path_view self.now) ≡ false) }

@@ -28,7 +28,7 @@ impl<'a> Expr<'a> {
         }
     }
 
-    /// What is left behind one part at most.
+    /// One step of letting go: what remains of the expression and of what waits.
     fn without_a_part(self, waiting: Option<Box<Expr<'a>>>) -> Option<Remaining<'a>>
         ensures { IfSome result (λ left. remaining left < to_release (parts self.entry) (waiting_parts waiting.entry)) }
     {

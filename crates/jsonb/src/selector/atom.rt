@@ -12,7 +12,7 @@ ghost use Rattle.jsonb.specs.Compare.{compare, pair_truth, value_order, is_met_b
 ghost use Rattle.jsonb.specs.Private.Selection.{atom_value, atoms_view, option_atoms};
 
 use crate::path::{BinaryOperator, PathValue};
-use jsonb_doc::{Item, Number, ShortNumber, digits_cmp};
+use jsonb_doc::{Item, Number, ShortNumber, short_cmp};
 use std::alloc::Global;
 use std::cmp::Ordering;
 use std::slice;
@@ -148,7 +148,7 @@ pub(crate) fn short_number_truth(op: BinaryOperator, l: ShortNumber, r: &Atom<'_
 {
     match (op, r) {
         (BinaryOperator::StartsWith, _) => None,
-        (_, Atom::Number(r)) => truth_of_order(op, Some(digits_cmp(l, r))),
+        (_, Atom::Number(r)) => truth_of_order(op, Some(short_cmp(l, r))),
         (_, Atom::Raw) => None,
         _ => truth_of_order(op, None),
     }

@@ -103,7 +103,7 @@ pub(crate) fn push_spots(spots: SpotIter<'_>, nodes: &mut Vec<Spot>) -> Result<(
     Ok(())
 }
 
-/// One step of one item that is no filter, behind what the nodes has.
+/// One step of one item that is no filter, behind the nodes that there are.
 #[inline(always)]
 pub(crate) fn push_step(
     alloc: Global,
@@ -144,7 +144,7 @@ fn mismatch(mode: Mode) -> Result<(), Error>
     }
 }
 
-/// The value under a key of an object, behind what the nodes has.
+/// The value under a key of an object, behind the nodes that there are.
 #[inline(always)]
 pub(crate) fn push_field(
     bytes: &[u8],
@@ -162,7 +162,7 @@ pub(crate) fn push_field(
     }
 }
 
-/// The values of an object, behind what the nodes has.
+/// The values of an object, behind the nodes that there are.
 fn push_values(bytes: &[u8], mode: Mode, item: Spot, nodes: &mut Vec<Spot>) -> Result<(), Error>
     ensures meant { PushesStep bytes.now item nodes.old.items nodes.new.items result (values_step mode) }
     ensures errors { IfErr result (IsSelectionError mode) }
@@ -173,7 +173,7 @@ fn push_values(bytes: &[u8], mode: Mode, item: Spot, nodes: &mut Vec<Spot>) -> R
     }
 }
 
-/// The elements of an array, behind what the nodes has.
+/// The elements of an array, behind the nodes that there are.
 fn push_elements(bytes: &[u8], mode: Mode, item: Spot, nodes: &mut Vec<Spot>) -> Result<(), Error>
     ensures meant { PushesStep bytes.now item nodes.old.items nodes.new.items result (elements_step mode) }
     ensures errors { IfErr result (IsSelectionError mode) }
@@ -187,7 +187,7 @@ fn push_elements(bytes: &[u8], mode: Mode, item: Spot, nodes: &mut Vec<Spot>) ->
     }
 }
 
-/// The elements at the positions of the entries, behind what the nodes has.
+/// The elements at the positions of the entries, behind the nodes that there are.
 pub(crate) fn push_positions(
     alloc: Global,
     bytes: &[u8],

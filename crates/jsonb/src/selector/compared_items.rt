@@ -18,7 +18,7 @@ ghost use Rattle.jsonb.specs.SelectionErrors.{IsSelectionError};
 
 use super::atom::{Atom, literal_atom, short_number_truth};
 use super::children::push_if;
-use super::compared_member::compared;
+use super::compared_member::compared_truth;
 use super::document::{Mode, TruthResult};
 use super::kept::{is_comparison, is_kept};
 use super::members::{member, member_steps};
@@ -100,7 +100,7 @@ pub(crate) fn compared_items(
     Ok(NodeList::Many(nodes))
 }
 
-/// An item of which the comparison is true, behind what the nodes has.
+/// An item of which the comparison is true, behind the nodes that there are.
 #[inline(always)]
 fn push_compared(
     alloc: Global,
@@ -174,5 +174,5 @@ fn other_truth(
         (Ok (compare (operator_view op) (values_of_item t) (atom_value literal.now ∷ []))) }
     ensures errors { IfErr result (IsDecodingError or OutOfMemory) }
 {
-    compared(alloc, op, bytes, Some(item), slice::from_ref(literal))
+    compared_truth(alloc, op, bytes, Some(item), slice::from_ref(literal))
 }

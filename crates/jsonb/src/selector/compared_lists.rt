@@ -8,7 +8,7 @@ ghost use Rattle.jsonb.specs.PathTree.{Expression, steps_of, paths};
 ghost use Rattle.jsonb.specs.PathViews.{steps_view, expression_view};
 ghost use Rattle.std.specs.List.{AllZip};
 ghost use Rattle.jsonb.specs.Meaning.{truth};
-ghost use Rattle.jsonb.specs.Private.Compared.{IsMemberCompared, IsListCompared, list_truth};
+ghost use Rattle.jsonb.specs.Private.Compared.{IsMemberCompared, IsListCompared, items_truth};
 ghost use Rattle.jsonb.specs.Private.Members.{are_members};
 ghost use Rattle.jsonb.specs.Private.Selection.{HasTree};
 ghost use Rattle.jsonb.specs.SelectionErrors.{IsSelectionError};
@@ -129,7 +129,7 @@ fn items_truth(
 ) -> TruthResult
     ensures meant { (e : Expression) (top : Tree) (ts : List Tree) → IsMemberCompared comparison.now e
         → AllZip (Locates bytes.now) items.now ts
-        → Gives (λ b c. b ≡ c) IsOutOfMemory result (list_truth comparison.now top ts) }
+        → Gives (λ b c. b ≡ c) IsOutOfMemory result (items_truth comparison.now top ts) }
     ensures errors { IfErr result (IsSelectionError Lax) }
 {
     for item in items {

@@ -17,7 +17,7 @@ ghost use Rattle.jsonb.specs.SelectionErrors.{IsSelectionError};
 
 use super::atom::{Atom, compare, compare_number, compare_one, item_atom};
 use super::document::{Current, TruthResult};
-use super::members::{first_item, member};
+use super::members::{member, starting_item};
 use super::node_list::NodeList;
 use super::values::found_values;
 use crate::path::{BinaryOperator, Path};
@@ -40,14 +40,14 @@ pub(crate) fn member_truth(
     ensures errors { IfErr result (IsSelectionError current.entry.context.now.mode) }
 {
     let Current { context, item } = current;
-    let first = first_item(steps, context.document, item);
+    let first = starting_item(steps, context.document, item);
     let member = member(context.mode, steps, context.document.bytes, first)?;
-    compared(context.alloc, op, context.document.bytes, member, rights)
+    compared_truth(context.alloc, op, context.document.bytes, member, rights)
 }
 
 /// How the values of a member compare with others.
 #[inline(always)]
-pub(crate) fn compared(
+pub(crate) fn compared_truth(
     alloc: Global,
     op: BinaryOperator,
     bytes: &[u8],
@@ -64,7 +64,7 @@ pub(crate) fn compared(
     };
     let item = spot_item(bytes, spot)?;
     match item {
-        Item::Array(_) => list_compared(alloc, op, bytes, spot, rights),
+        Item::Array(_) => array_truth(alloc, op, bytes, spot, rights),
         Item::Number(number) => Ok(compare_number(op, &number, rights)),
         _ => match item_atom(item) {
             Some(value) => Ok(compare_one(op, &value, rights)),
@@ -73,9 +73,9 @@ pub(crate) fn compared(
     }
 }
 
-/// How the values of an item compare with others.
+/// How the elements of an array compare with others.
 #[inline(never)]
-fn list_compared(
+fn array_truth(
     alloc: Global,
     op: BinaryOperator,
     bytes: &[u8],

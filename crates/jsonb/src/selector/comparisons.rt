@@ -144,7 +144,7 @@ fn joined_items(
     Ok(NodeList::Many(nodes))
 }
 
-/// An item of which the comparisons are true, behind what the nodes has.
+/// An item of which the comparisons are true, behind the nodes that there are.
 #[inline(always)]
 fn push_joined(
     alloc: Global,

@@ -11,7 +11,7 @@ ghost use Rattle.jsonb.specs.declared.selector.document.Mode.{Mode};
 ghost use Rattle.jsonb.specs.SelectionErrors.{IsSelectionError};
 
 use super::document::{Document, Mode};
-use super::members::{are_members, first_item, member};
+use super::members::{are_members, member, starting_item};
 use crate::path::{Expr, Path};
 use jsonb_doc::{Error, Spot};
 
@@ -47,7 +47,7 @@ pub(crate) fn innermost<'s, 'p>(
 {
     let mut asked = Asked { exists, item };
     while let Some(nested) = nested_in(asked.exists) {
-        let first = first_item(nested.names, document, asked.item);
+        let first = starting_item(nested.names, document, asked.item);
         match member(mode, nested.names, document.bytes, first)? {
             Some(item) => {
                 asked = Asked {

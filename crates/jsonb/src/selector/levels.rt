@@ -69,8 +69,8 @@ pub(crate) struct OpenLevel<'a> {
     level: usize,
 }
 
-/// The items from this one down, each before its children, behind what the nodes has. A level past 255,
-/// which no range names, counts as 256. What is left of the containers that the walk is within lies in a `Vec`.
+/// The items from this one down, each before its children, behind the nodes that there are. A level past 255, which no
+/// range names, counts as 256. What is left of the containers that the walk is within lies in a `Vec`.
 pub(crate) fn push_levels(
     alloc: Global,
     bytes: &[u8],
@@ -110,8 +110,8 @@ pub(crate) fn push_levels(
     }
 }
 
-/// These children up to the first that is a container, where they are taken, behind what the nodes has. The answer is
-/// that container, with those behind it; none where all are passed.
+/// These children up to the first that is a container, where they are taken, behind the nodes that there are. The
+/// answer is that container, with those behind it; none where all are passed.
 #[inline(always)]
 fn pass_leaves<'a>(
     is_taken: bool,
@@ -151,7 +151,7 @@ fn keep_level<'a>(around: &mut Vec<OpenLevel<'a>>, within: OpenLevel<'a>) -> Res
     Ok(())
 }
 
-/// An item where its level is taken, behind what the nodes has, and its children where some below are taken.
+/// An item where its level is taken, behind the nodes that there are, and its children where some below are taken.
 #[inline(always)]
 fn push_item<'a>(
     bytes: &'a [u8],

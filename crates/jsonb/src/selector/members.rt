@@ -22,7 +22,7 @@ use jsonb_doc::{Error, Spot, field_spot};
 
 /// Where a path within an expression starts.
 #[inline(always)]
-pub(crate) fn first_item(steps: &[Path<'_>], document: Document<'_>, item: Spot) -> Spot
+pub(crate) fn starting_item(steps: &[Path<'_>], document: Document<'_>, item: Spot) -> Spot
     ensures { (top t : Tree) → HasTree document.entry top → IsAt document.entry item t
         → IsAt document.entry result (start (steps_of (steps_view steps.now)) top t) }
 {

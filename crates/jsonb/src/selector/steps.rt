@@ -28,7 +28,7 @@ use super::document::{Context, Current, Expressions, Mode, TruthResult};
 use super::exists::innermost;
 use super::kept::{Kept, KeptPart, comparison_part, exists_part, is_comparison, is_kept};
 use super::members::{
-    are_members, first_item, is_member, member, member_name, member_of, member_steps,
+    are_members, is_member, member, member_name, member_of, member_steps, starting_item,
 };
 use super::node_list::NodeList;
 use super::search::search;
@@ -227,7 +227,7 @@ fn filter_many<'a>(
     Ok(NodeList::Many(nodes))
 }
 
-/// An item that a filter keeps, behind what the nodes has.
+/// An item that a filter keeps, behind the nodes that there are.
 #[cycle(steps)]
 #[inline(always)]
 fn push_kept<'a>(
@@ -488,7 +488,7 @@ fn exists_truth<'a>(current: Current<'_, 'a>, e: &'a Expr<'_>) -> TruthResult
     };
     match asked.exists {
         Expr::ExistsFunc(steps) => {
-            let first = first_item(steps, context.document, asked.item);
+            let first = starting_item(steps, context.document, asked.item);
             let is_found = leads_to_any(context, steps, first)?;
             Ok(Some(is_found))
         }
@@ -536,7 +536,7 @@ pub(crate) fn operand_values<'a>(
     let Current { context, item } = current;
     match e {
         Expr::Paths(steps) => {
-            let first = first_item(steps, context.document, item);
+            let first = starting_item(steps, context.document, item);
             let found = select_steps(context, Expressions::AreRefused, steps, first)?;
             found_values(context.alloc, context.document.bytes, found)
         }

@@ -21,7 +21,7 @@ use super::calculate::{binary_number, is_arithmetic, unary_numbers};
 use super::compared_lists::root_truth;
 use super::document::{Context, Current, Expressions, TruthResult};
 use super::kept::begins_with_current;
-use super::members::first_item;
+use super::members::starting_item;
 use super::node_list::NodeList;
 use super::search::search;
 use super::selected::{MadeItem, Selected};
@@ -39,7 +39,7 @@ pub(crate) fn selection<'a>(
     ensures errors { IfErr result (IsSelectionError context.now.mode) }
 {
     if let Some(e) = only_expression(steps) {
-        return expression_parts(context, e);
+        return expression_selection(context, e);
     }
     if begins_with_current(steps) {
         return Err(Error::InvalidJsonPath);
@@ -91,14 +91,14 @@ fn step_expression<'s, 'a>(step: &'s Path<'a>) -> Option<&'s Expr<'a>>
 }
 
 /// What an expression makes that is the whole path.
-fn expression_parts<'a>(context: &Context<'a>, e: &'a Expr<'_>) -> Result<Selected<'a>, Error>
+fn expression_selection<'a>(context: &Context<'a>, e: &'a Expr<'_>) -> Result<Selected<'a>, Error>
     ensures meant { GivesMeant AreSelected context.now.document context.now.mode
         (whole_expression (expression_view e.now) ∷ []) result }
     ensures errors { IfErr result (IsSelectionError context.now.mode) }
 {
     match e {
         Expr::Paths(_) => Err(Error::InvalidJsonPath),
-        Expr::Value(value) => literal_parts(value),
+        Expr::Value(value) => literal_selection(value),
         Expr::UnaryOp { op, operand } => {
             let numbers = whole_unary(context, *op, operand)?;
             Ok(Selected::Numbers(numbers))
@@ -116,7 +116,7 @@ fn expression_parts<'a>(context: &Context<'a>, e: &'a Expr<'_>) -> Result<Select
 }
 
 /// A literal as the whole path: an array of it, and of a document the document.
-fn literal_parts<'a>(literal: &'a PathValue<'_>) -> Result<Selected<'a>, Error>
+fn literal_selection<'a>(literal: &'a PathValue<'_>) -> Result<Selected<'a>, Error>
     ensures meant { (form : Form) (document : Document) (mode : Mode) (top : Tree) (outcome : Outcome (List Tree))
         → Means form mode (whole_expression (value (literal_view literal.now)) ∷ []) top outcome
         → Gives (AreSelected form document) IsOutOfMemory result outcome }
@@ -153,7 +153,7 @@ fn whole_unary<'a>(
     } = *context;
     match operand {
         Expr::Paths(steps) => {
-            let first = first_item(steps, document, document.root);
+            let first = starting_item(steps, document, document.root);
             let found = select_steps(context, Expressions::AreRefused, steps, first)?;
             signed_items(alloc, op, document.bytes, found.as_slice())
         }

@@ -8,10 +8,10 @@ ghost use Rattle.jsonb_c.specs.Columns.{rows};
 ghost use Rattle.jsonb_c.specs.Making.{MakesObject, is_placed};
 ghost use Rattle.jsonb_c.specs.Names.{WithNames, names_of};
 ghost use Rattle.jsonb_c.specs.Status.{bad_offsets, code};
-ghost use Rattle.jsonb_c.specs.Views.{key_answer};
+ghost use Rattle.jsonb_c.specs.Views.{vec_answer};
 
 use crate::column::Column;
-use crate::deliver::{deliver_key, deliver_nothing};
+use crate::deliver::{deliver_nothing, deliver_vec};
 use crate::document::names::read_names;
 use crate::status::Status;
 use jsonb::{Error, ObjectBuilder};
@@ -45,7 +45,7 @@ pub extern "C" fn jsonb_object_from_columns(
         return deliver_nothing(Status::BadOffsets, out_len);
     }
     match read_names(alloc, &names) {
-        Ok(names) => deliver_key(object_of(alloc, &names, &documents), out, out_len),
+        Ok(names) => deliver_vec(object_of(alloc, &names, &documents), out, out_len),
         Err(cause) => deliver_nothing(cause, out_len),
     }
 }
@@ -53,7 +53,7 @@ pub extern "C" fn jsonb_object_from_columns(
 /// An object of the names, each with the document in its row.
 fn object_of(alloc: Global, names: &[&str], documents: &Column<'_>) -> Result<Vec<u8>, Error>
     requires { length names.now ≡ length documents.now }
-    ensures object { MakesObject (map (λ name. name.now) names.now) documents.now (key_answer result) }
+    ensures object { MakesObject (map (λ name. name.now) names.now) documents.now (vec_answer result) }
     ensures errors { IfErr result (IsDecodingError or OutOfMemory or TooLarge or ObjectDuplicateKey) }
 {
     let mut builder = ObjectBuilder::new(alloc);

@@ -4,11 +4,11 @@ ghost use Rattle.std.specs.Prelude.{IfErr};
 ghost use Rattle.jsonb_doc.specs.Answer.{IsDecodingError, ◌or◌};
 ghost use Rattle.jsonb_doc.specs.declared.error.Error.TheVariants.{OutOfMemory, TooDeep};
 ghost use Rattle.jsonb_c.specs.Answers.{HandsOverBytes};
-ghost use Rattle.jsonb_c.specs.Calls.{IsEqualityKeyOf, IsKeyOf, width_of};
-ghost use Rattle.jsonb_c.specs.Views.{key_answer};
+ghost use Rattle.jsonb_c.specs.Calls.{IsEqualityKeyOf, IsSortableKeyOf, width_of};
+ghost use Rattle.jsonb_c.specs.Views.{vec_answer};
 ghost use Rattle.jsonb_c.specs.Private.Buffers.{written_key};
 
-use crate::deliver::deliver_key;
+use crate::deliver::deliver_vec;
 use jsonb::{Error, RawJsonb};
 use std::alloc::Global;
 
@@ -21,15 +21,15 @@ pub extern "C" fn jsonb_sort_key(
     out: &mut [u8],
     out_len: &mut usize,
 ) -> u32
-    ensures { HandsOverBytes (IsKeyOf (width_of wide) document.now)
+    ensures { HandsOverBytes (IsSortableKeyOf (width_of wide) document.now)
         (IsDecodingError or OutOfMemory or TooDeep) out.old out.new out_len.new result }
 {
-    deliver_key(sort_key(alloc, document, wide), out, out_len)
+    deliver_vec(sort_key(alloc, document, wide), out, out_len)
 }
 
 /// The sortable key of a document.
 pub(crate) fn sort_key(alloc: Global, document: &[u8], wide: bool) -> Result<Vec<u8>, Error>
-    ensures key { IsKeyOf (width_of wide) document.now (key_answer result) }
+    ensures key { IsSortableKeyOf (width_of wide) document.now (vec_answer result) }
     ensures errors { IfErr result (IsDecodingError or OutOfMemory or TooDeep) }
 {
     let document = RawJsonb::new(document);
@@ -47,7 +47,7 @@ pub(crate) fn write_sort_key(
     wide: bool,
     key: &mut Vec<u8>,
 ) -> Result<(), Error>
-    ensures key { IsKeyOf (width_of wide) document.now (written_key result key.new.items) }
+    ensures key { IsSortableKeyOf (width_of wide) document.now (written_key result key.new.items) }
     ensures errors { IfErr result (IsDecodingError or OutOfMemory or TooDeep) }
 {
     let document = RawJsonb::new(document);
@@ -69,12 +69,12 @@ pub extern "C" fn jsonb_equality_key(
     ensures { HandsOverBytes (IsEqualityKeyOf document.now) (IsDecodingError or OutOfMemory)
         out.old out.new out_len.new result }
 {
-    deliver_key(equality_key(alloc, document), out, out_len)
+    deliver_vec(equality_key(alloc, document), out, out_len)
 }
 
 /// The equality key of a document.
 pub(crate) fn equality_key(alloc: Global, document: &[u8]) -> Result<Vec<u8>, Error>
-    ensures key { IsEqualityKeyOf document.now (key_answer result) }
+    ensures key { IsEqualityKeyOf document.now (vec_answer result) }
     ensures errors { IfErr result (IsDecodingError or OutOfMemory) }
 {
     RawJsonb::new(document).equality_key(alloc)

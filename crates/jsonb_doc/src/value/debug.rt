@@ -3,8 +3,8 @@
 use super::Value;
 use std::fmt;
 
-/// The kind and what it holds, of an array or an object how many. So the deepest value is printed in the stack of a flat
-/// one.
+/// The kind and what it holds, of an array or an object how many. So the deepest value is printed in the stack of a
+/// flat one.
 impl fmt::Debug for Value<'_> {
     fn fmt<W: fmt::Write>(&self, f: &mut fmt::Formatter<W>) -> fmt::Result {
         match self {

@@ -1,4 +1,5 @@
-//! Equality of decoded values, without memory. Calls nest 48 deep at most: what they leave open is gone into by a loop.
+//! Equality of decoded values, without memory. Calls nest 48 deep at most for up to 10^10 parts: what they leave open
+//! is gone into by a loop.
 
 ghost use Rattle.std.specs.Prelude.{◌≡◌, ◌+◌, ◌<◌, ◌≤◌, ◌&&◌, true, IfSome, MatchOption};
 ghost use Rattle.std.specs.Cmp.{on_equiv, partial_equiv_from_equiv};
@@ -180,7 +181,7 @@ struct Joined<'v, 'a, 'w, 'b> {
 }
 
 impl<'v, 'a, 'w, 'b> Joined<'v, 'a, 'w, 'b> {
-    /// No parts are equal.
+    /// What is told of no parts: that they are equal.
     fn none(calls: u32) -> Joined<'v, 'a, 'w, 'b>
         ensures { result.left ≡ Told true }
     {

@@ -27,7 +27,7 @@ impl<'a> Value<'a> {
         }
     }
 
-    /// What is left behind one part at least.
+    /// One step of letting go: what remains of the value and of what waits.
     fn without_a_part(self, waiting: Option<Value<'a>>) -> Option<Remaining<'a>>
         ensures { IfSome result (λ left. remaining left < to_release (parts self.entry) (waiting_parts waiting.entry)) }
     {

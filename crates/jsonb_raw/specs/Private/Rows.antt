@@ -44,13 +44,13 @@ AreElementsOf form _ None = ⊤
 -- ---- what a document adds to an array
 
 -- the entry is one of this tree
-pub record IsLoneEntry (form : Form) (entry : LoneEntry) (t : Tree) : Type 0 where
+pub record HoldsTree (form : Form) (entry : LoneEntry) (t : Tree) : Type 0 where
   pub entries : AreEntries (number_reader form) (tree t no_trees) entry.word entry.content.now
 
 -- the entries are those of these trees
 abbrev pub HoldElements : Form → Elements → List Tree → Type 0
 HoldElements form (Row row) ts = HoldTrees form row ts
-HoldElements form (Root entry) ts = (t : Tree) × (ts ≡ t ∷ []) × IsLoneEntry form entry t
+HoldElements form (Root entry) ts = (t : Tree) × (ts ≡ t ∷ []) × HoldsTree form entry t
 
 -- the tree is too long for an entry
 abbrev pub IsTooLongRoot : Form → Tree → Error → Type 0

@@ -9,7 +9,7 @@ use Rattle.jsonb_doc.specs.Format.{IsContent, container_entry, null_entry, text_
 use Rattle.jsonb_doc.specs.Encoding.{EntryParts}
 use Rattle.jsonb_doc.specs.Private.ObjectBytes.{words_of_entries, contents_of_entries}
 use Rattle.jsonb_raw.specs.declared.functions.operator.stripping.Writing.{Writing}
-use Rattle.jsonb_raw.specs.declared.functions.operator.stripping.StoredEntry.{StoredEntry}
+use Rattle.jsonb_raw.specs.declared.functions.operator.stripping.NextEntry.{NextEntry}
 use Rattle.jsonb_raw.specs.Private.Cuts.{FitEntries}
 use Rattle.jsonb_raw.specs.Scalars.{is_null}
 use Rattle.jsonb_raw.specs.Strip.{strip}
@@ -54,13 +54,13 @@ AreOfEach form (t ∷ ts) [] = ⊥
 AreOfEach form (t ∷ ts) (e ∷ es) = IsContent (number_reader form) t e.0 e.1 × AreOfEach form ts es
 
 -- the entry that was read, and what is left behind it
-pub record IsEntry (given : StoredEntry) (e : EntryParts) (es : List EntryParts) : Type 0 where
+pub record IsEntry (given : NextEntry) (e : EntryParts) (es : List EntryParts) : Type 0 where
   pub kind : kind_number given.kind ≡ e.0
   pub content : given.content.now ≡ e.1
   pub words : given.words.now ≡ words_of_entries es
   pub contents : given.contents.now ≡ contents_of_entries es
 
-abbrev pub ReadsEntry : List EntryParts → Result (Option StoredEntry) Error → Type 0
+abbrev pub ReadsEntry : List EntryParts → Result (Option NextEntry) Error → Type 0
 ReadsEntry [] (Ok None) = ⊤
 ReadsEntry [] _ = ⊥
 ReadsEntry (e ∷ es) (Ok (Some given)) = IsEntry given e es

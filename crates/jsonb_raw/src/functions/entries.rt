@@ -130,12 +130,12 @@ impl<'a> LoneEntry<'a> {
     ghost use Rattle.jsonb_doc.specs.Format.{Decodes};
     ghost use Rattle.jsonb_doc.specs.Answer.{IsDecodingError, ◌or◌};
     ghost use Rattle.jsonb_doc.specs.declared.error.Error.TheVariants.{TooLarge};
-    ghost use Rattle.jsonb_raw.specs.Private.Rows.{HoldTrees, IsLoneEntry, IsTooLongRoot};
+    ghost use Rattle.jsonb_raw.specs.Private.Rows.{HoldTrees, HoldsTree, IsTooLongRoot};
 
     /// The root of a document as an element. Where it is too long for one, it is `TooLarge`.
     pub fn of_root(document: &'a [u8]) -> Result<LoneEntry<'a>, Error>
         ensures root { (form : Form) (t : Tree) → Decodes form document.now t
-            → MatchResult result (λ entry. IsLoneEntry form entry t) (IsTooLongRoot form t) }
+            → MatchResult result (λ entry. HoldsTree form entry t) (IsTooLongRoot form t) }
         ensures errors { IfErr result (IsDecodingError or TooLarge) }
     {
         let RootEntry { kind, content } = root_entry(document)?;
@@ -150,7 +150,7 @@ impl<'a> LoneEntry<'a> {
 
     /// The row of this one entry.
     pub fn row(&self) -> Entries<'_>
-        ensures { (form : Form) (t : Tree) → IsLoneEntry form self.now t → HoldTrees form result (t ∷ []) }
+        ensures { (form : Form) (t : Tree) → HoldsTree form self.now t → HoldTrees form result (t ∷ []) }
     {
         Entries {
             words: &self.word,

@@ -21,9 +21,9 @@ mod stripping;
 mod tests;
 mod traverse;
 
-use crate::equality_key::{item_key, push_document_key as push_equality_key_of};
+use crate::equality_key::{item_key, push_equality_key};
 use crate::raw::RawJsonb;
-use crate::sortable_key::{DepthWidth, document_key, push_document_key};
+use crate::sortable_key::{DepthWidth, push_sortable_key, sortable_key};
 use jsonb_doc::{Error, root_item};
 use std::alloc::Global;
 
@@ -50,7 +50,7 @@ impl RawJsonb<'_> {
             → RanksAsTree w8 tree result }
         ensures errors { IfErr result (IsDecodingError or OutOfMemory or TooDeep) }
     {
-        document_key(alloc, self.as_bytes(), DepthWidth::OneByte)
+        sortable_key(alloc, self.as_bytes(), DepthWidth::OneByte)
     }
 
     /// The wide sortable key: as `convert_to_comparable`, with each depth in two bytes, the high byte first. Nothing
@@ -70,7 +70,7 @@ impl RawJsonb<'_> {
             → RanksAsTree w16 tree result }
         ensures errors { IfErr result (IsDecodingError or OutOfMemory or TooDeep) }
     {
-        document_key(alloc, self.as_bytes(), DepthWidth::TwoBytes)
+        sortable_key(alloc, self.as_bytes(), DepthWidth::TwoBytes)
     }
 
     /// The equality key: bytes that two documents share exactly where they are equal by value, at every depth and
@@ -108,7 +108,7 @@ impl RawJsonb<'_> {
         ensures errors { IfErr result (IsDecodingError or OutOfMemory or TooDeep) }
     {
         key.clear();
-        let written = push_document_key(alloc, key, self.as_bytes(), DepthWidth::OneByte);
+        let written = push_sortable_key(alloc, key, self.as_bytes(), DepthWidth::OneByte);
         kept_where_written(key, written)
     }
 
@@ -132,7 +132,7 @@ impl RawJsonb<'_> {
         ensures errors { IfErr result (IsDecodingError or OutOfMemory or TooDeep) }
     {
         key.clear();
-        let written = push_document_key(alloc, key, self.as_bytes(), DepthWidth::TwoBytes);
+        let written = push_sortable_key(alloc, key, self.as_bytes(), DepthWidth::TwoBytes);
         kept_where_written(key, written)
     }
 
@@ -152,7 +152,7 @@ impl RawJsonb<'_> {
         ensures errors { IfErr result (IsDecodingError or OutOfMemory) }
     {
         key.clear();
-        let written = push_equality_key_of(alloc, key, self.as_bytes());
+        let written = push_equality_key(alloc, key, self.as_bytes());
         kept_where_written(key, written)
     }
 }

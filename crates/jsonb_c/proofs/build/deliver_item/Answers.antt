@@ -1,11 +1,11 @@
 use Rattle.jsonb_c.proofs.MakingLemmas.{encodes, errors_answer}
-use Rattle.jsonb_c.specs.Views.{key_answer}
+use Rattle.jsonb_c.specs.Views.{vec_answer}
 use Rattle.jsonb_c.proofs.build.deliver_item.Goals as goal
 
 pub returns : goal.returns
 returns c = λ t stands. (
-  key_answer c.encode_item.result,
+  vec_answer c.encode_item.result,
   encodes t c.encode_item.result (λ form. c.encode_item.ensures.decodes form t (stands form)),
   errors_answer _ c.encode_item.result c.encode_item.ensures.errors,
-  c.deliver_key.ensures,
+  c.deliver_vec.ensures,
 )

@@ -22,7 +22,7 @@ use std::cmp::Ordering;
 
 /// An entry of the source, and what is left behind it.
 #[derive(Clone, Copy)]
-struct StoredEntry<'a> {
+struct NextEntry<'a> {
     kind: EntryKind,
     content: &'a [u8],
     words: &'a [u8],
@@ -46,7 +46,7 @@ struct Writing<'a> {
 
 /// The first of the entries that are left. Words that no contents are there for are `InvalidJsonb`.
 #[inline(always)]
-fn next_entry<'a>(words: &'a [u8], contents: &'a [u8]) -> Result<Option<StoredEntry<'a>>, Error>
+fn next_entry<'a>(words: &'a [u8], contents: &'a [u8]) -> Result<Option<NextEntry<'a>>, Error>
     ensures reads { (es : List EntryParts) → FitEntries es → words.now ≡ words_of_entries es
         → contents.now ≡ contents_of_entries es
         → ReadsEntry es result }
@@ -61,7 +61,7 @@ fn next_entry<'a>(words: &'a [u8], contents: &'a [u8]) -> Result<Option<StoredEn
     let Some((content, contents)) = contents.split_at_checked(len) else {
         return Err(Error::InvalidJsonb);
     };
-    Ok(Some(StoredEntry {
+    Ok(Some(NextEntry {
         kind,
         content,
         words,

@@ -10,4 +10,4 @@ pub returns-clause-meant : goal.returns-clause-meant
 returns-clause-meant c = λ t l.
     same_outcome
     (λ i. Ok (compare (operator_view c.args.op) (sym (append-nil (values_of_item t)) i) (map atom_value (sym c.from_ref.ensures.value i))))
-    (c.compared.ensures.meant (t ∷ []) (l, tt))
+    (c.compared_truth.ensures.meant (t ∷ []) (l, tt))

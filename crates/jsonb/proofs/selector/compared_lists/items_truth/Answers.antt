@@ -1,7 +1,7 @@
 use Rattle.std.proofs.Common.{Ok, Err, refl, ap, sym, ◌∙◌}
 use Rattle.std.proofs.lemmas.Result.{err_from_is_err_and}
 use Rattle.jsonb_doc.specs.Spots.{Locates}
-use Rattle.jsonb.specs.Private.Compared.{list_truth}
+use Rattle.jsonb.specs.Private.Compared.{items_truth}
 use Rattle.jsonb.proofs.GivesLemmas.{same_answer}
 use Rattle.jsonb.proofs.KeptLemmas.{known, value_is}
 use Rattle.jsonb.proofs.ListLemmas.{is_false, is_not_false, list_passes, list_stops, list_refused, list_none}
@@ -22,7 +22,7 @@ pub returns-then-ne-clause-meant : goal.returns-then-ne-clause-meant
 returns-then-ne-clause-meant c = λ e top ts k a.
     let inv = c.loop-item.invariant e top ts k a in
     let f = list_first (Locates c.args.bytes.now) c.args.items.now c.loop-item.item-index no_spot c.loop-item-test.true inv.0 inv.1 in
-    known (inv.2 ∙ ap (list_truth c.args.comparison.now top) f.whole
+    known (inv.2 ∙ ap (items_truth c.args.comparison.now top) f.whole
     ∙ list_stops c.args.comparison.now e top k f.first f.others c.in_ok-truth.truth (value_is (c.in_ok-truth.ensures.meant e top f.first k f.holds).ok)
     (is_not_false c.in_ok-truth.truth (sym c.ne.ensures ∙ c.if-ne.true))) refl
 
@@ -32,7 +32,7 @@ loop-item-preserved c = λ e top ts k a.
     let f = list_first (Locates c.args.bytes.now) c.args.items.now c.loop-item.item-index no_spot c.loop-item-test.true inv.0 inv.1 in (
       f.others,
       f.left,
-      inv.2 ∙ ap (list_truth c.args.comparison.now top) f.whole
+      inv.2 ∙ ap (items_truth c.args.comparison.now top) f.whole
           ∙ list_passes c.args.comparison.now e top k f.first f.others
           (value_is (c.in_ok-truth.ensures.meant e top f.first k f.holds).ok ∙ ap Ok (is_false c.in_ok-truth.truth (sym c.ne.ensures ∙ c.if-ne.false))),
     )

@@ -3,11 +3,11 @@ use Rattle.jsonb_doc.specs.Spots.{Locates}
 use Rattle.jsonb_doc.specs.Tree.{Tree}
 use Rattle.jsonb.specs.PathTree.{Expression}
 use Rattle.std.specs.List.{AllZip}
-use Rattle.jsonb.specs.Private.Compared.{IsMemberCompared, list_truth}
+use Rattle.jsonb.specs.Private.Compared.{IsMemberCompared, items_truth}
 use Rattle.jsonb.proofs.selector.compared_lists.items_truth.Given as goal
 
 -- the items that are left tell the truth of all
 abbrev pub invariant-loop-item : goal.invariant-loop-item
 invariant-loop-item l = (e : Expression) (top : Tree) (ts : List Tree) → IsMemberCompared l.comparison e → AllZip (Locates l.bytes) l.items ts
     → (rest : List Tree) × AllZip (Locates l.bytes) (drop l.item-index l.items) rest
-    × (list_truth l.comparison top ts ≡ list_truth l.comparison top rest)
+    × (items_truth l.comparison top ts ≡ items_truth l.comparison top rest)

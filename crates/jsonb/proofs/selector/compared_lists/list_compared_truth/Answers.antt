@@ -2,7 +2,7 @@ use Rattle.std.proofs.Common.{Err, ap, sym, ◌∙◌, arith}
 use Rattle.std.proofs.lemmas.Bool.Decides.{nat_tests}
 use Rattle.std.proofs.lemmas.List.{nil_from_length}
 use Rattle.std.proofs.lemmas.Result.{err_from_is_err_and}
-use Rattle.jsonb.specs.Private.Compared.{list_truth}
+use Rattle.jsonb.specs.Private.Compared.{items_truth}
 use Rattle.jsonb.proofs.GivesLemmas.{same_answer, same_outcome, first_refused, followed}
 use Rattle.jsonb.proofs.ListLemmas.{by_front, by_names}
 use Rattle.jsonb.proofs.selector.compared_lists.list_compared_truth.Goals as goal
@@ -17,10 +17,10 @@ pub returns-in_err-found-clause-meant : goal.returns-in_err-found-clause-meant
 returns-in_err-found-clause-meant c = λ e top k r.
     let p = err_from_is_err_and c.from_residual.result c.from_residual.ensures.1 in
     same_answer (p.1 ∙ ap Err p.2) (same_outcome (by_front c.args.list.now e top k)
-    (first_refused (list_truth c.args.list.now.comparison top) (c.in_err-found.ensures.meant top top r r)))
+    (first_refused (items_truth c.args.list.now.comparison top) (c.in_err-found.ensures.meant top top r r)))
 
 pub returns-clause-meant : goal.returns-clause-meant
 returns-clause-meant c = λ e top k r.
     same_outcome (by_front c.args.list.now e top k)
-    (followed (list_truth c.args.list.now.comparison top) (c.in_ok-found.ensures.meant top top r r) (λ us related.
+    (followed (items_truth c.args.list.now.comparison top) (c.in_ok-found.ensures.meant top top r r) (λ us related.
     c.items_truth.ensures.meant k.each top us k.member (rw c.as_slice.ensures related)))

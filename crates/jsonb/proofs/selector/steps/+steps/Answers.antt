@@ -214,13 +214,13 @@ pub operand_values-returns-in_err-found-in-Paths-clause-meant : goal.operand_val
 operand_values-returns-in_err-found-in-Paths-clause-meant t c = λ top u r s. let p = err_from_is_err_and c.from_residual.result c.from_residual.ensures.1 in
     same_answer (p.1 ∙ ap Err p.2) (same_outcome (ap (λ x. operand_values c.args.current.context.now.mode x top u) (paths_is c.args.e.now c.in-Paths.steps c.in-Paths.is)
     ∙ ap (λ o. and_then o (λ ts. Ok (flat_map values_of_item ts))) (from_start c.args.current.context.now.mode _ _ _ top u c.deref-in-Paths.ensures.value c.deref.ensures.value))
-    (first_refused (λ ts. Ok (flat_map values_of_item ts)) (c.in_err-found-in-Paths.ensures.meant top _ r (c.first_item-first.ensures top u r s))))
+    (first_refused (λ ts. Ok (flat_map values_of_item ts)) (c.in_err-found-in-Paths.ensures.meant top _ r (c.starting_item-first.ensures top u r s))))
 
 pub operand_values-returns-in_ok-found-in-Paths-clause-meant : goal.operand_values-returns-in_ok-found-in-Paths-clause-meant
 operand_values-returns-in_ok-found-in-Paths-clause-meant t c = λ top u r s.
     same_outcome (ap (λ x. operand_values c.args.current.context.now.mode x top u) (paths_is c.args.e.now c.in-Paths.steps c.in-Paths.is)
     ∙ ap (λ o. and_then o (λ ts. Ok (flat_map values_of_item ts))) (from_start c.args.current.context.now.mode _ _ _ top u c.deref-in-Paths.ensures.value c.deref.ensures.value))
-    (followed (λ ts. Ok (flat_map values_of_item ts)) (c.in_ok-found-in-Paths.ensures.meant top _ r (c.first_item-first.ensures top u r s))
+    (followed (λ ts. Ok (flat_map values_of_item ts)) (c.in_ok-found-in-Paths.ensures.meant top _ r (c.starting_item-first.ensures top u r s))
     (λ ts related. c.found_values.ensures.meant ts related))
 
 -- ---- truths
@@ -433,14 +433,14 @@ exists_truth-returns-in_err-is_found-in-ExistsFunc-clause-meant t c = λ is top 
     ∙ ap (λ o. and_then o (λ ts. Ok (Some (is_some_item ts))))
     (from_start c.args.current.context.now.mode _ _ _ top asked.0 c.deref-in-ExistsFunc.ensures.value c.deref.ensures.value))
     (first_refused (λ ts. Ok (Some (is_some_item ts)))
-    (c.in_err-is_found-in-ExistsFunc.ensures.meant top _ r (c.first_item-first.ensures top asked.0 r asked.1))))
+    (c.in_err-is_found-in-ExistsFunc.ensures.meant top _ r (c.starting_item-first.ensures top asked.0 r asked.1))))
 
 pub exists_truth-returns-in_ok-is_found-in-ExistsFunc-clause-meant : goal.exists_truth-returns-in_ok-is_found-in-ExistsFunc-clause-meant
 exists_truth-returns-in_ok-is_found-in-ExistsFunc-clause-meant t c = λ is top u r s.
     let asked = subst (λ found. LeadsTo c.args.current.context.now.mode c.args.current.context.now.document top (Ok found) (truth c.args.current.context.now.mode (expression_view c.args.e.now) top u)) c.in-Some.is
     (c.in_ok-asked.ensures.meant top u is r s) in
     let met = one_ok {S = λ (b : Option Bool) d. b ≡ d} {z = Some c.in_ok-is_found-in-ExistsFunc.is_found} (λ ts. Ok (Some (is_some_item ts)))
-    (c.in_ok-is_found-in-ExistsFunc.ensures.meant top _ r (c.first_item-first.ensures top asked.0 r asked.1)) (λ ts same. ap Some same) in
+    (c.in_ok-is_found-in-ExistsFunc.ensures.meant top _ r (c.starting_item-first.ensures top asked.0 r asked.1)) (λ ts same. ap Some same) in
     known (asked.2 ∙ ap (λ x. truth c.args.current.context.now.mode x top asked.0) (exists_is c.in-Some.asked.exists.now c.in-ExistsFunc.steps c.in-ExistsFunc.is)
     ∙ ap (λ o. and_then o (λ ts. Ok (Some (is_some_item ts))))
     (from_start c.args.current.context.now.mode _ _ _ top asked.0 c.deref-in-ExistsFunc.ensures.value c.deref.ensures.value) ∙ value_is met.ok) refl

@@ -4,7 +4,7 @@ use Rattle.jsonb.specs.PathTree.{Step, current, steps_of}
 use Rattle.jsonb.specs.PathViews.{steps_view}
 use Rattle.jsonb.specs.Meaning.{start}
 use Rattle.jsonb.specs.Private.Selection.{IsAt, begins_with_current}
-use Rattle.jsonb.proofs.selector.members.first_item.Goals as goal
+use Rattle.jsonb.proofs.selector.members.starting_item.Goals as goal
 
 at_item : (steps : List Step) (top t : Tree) → begins_with_current steps ≡ true → start (steps_of steps) top t ≡ t
 at_item (current ∷ rest) top t h = refl

@@ -5,7 +5,7 @@ use Rattle.jsonb_doc.specs.View.{number_view}
 use Rattle.jsonb.specs.Private.Selection.{AreSelected}
 use Rattle.jsonb.proofs.GivesLemmas.{same_outcome, one_given}
 use Rattle.jsonb.proofs.WholeLemmas.{literal_meant, number_meant}
-use Rattle.jsonb.proofs.selector.whole_path.literal_parts.Goals as goal
+use Rattle.jsonb.proofs.selector.whole_path.literal_selection.Goals as goal
 
 pub returns-in-Null-clause-meant : goal.returns-in-Null-clause-meant
 returns-in-Null-clause-meant c = λ form document mode top outcome h.

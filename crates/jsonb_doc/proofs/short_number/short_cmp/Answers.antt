@@ -5,7 +5,7 @@ use Rattle.jsonb_doc.specs.Number.{decimal64, number_cmp}
 use Rattle.jsonb_doc.specs.Private.Short.{short_parts}
 use Rattle.jsonb_doc.specs.View.{number_parts}
 use Rattle.jsonb_doc.proofs.EqualValues.{short_number_cmp, digits_tell}
-use Rattle.jsonb_doc.proofs.short_number.digits_cmp.Goals as goal
+use Rattle.jsonb_doc.proofs.short_number.short_cmp.Goals as goal
 
 pub returns-then-scale-b : goal.returns-then-scale-b
 returns-then-scale-b c =

@@ -11,11 +11,11 @@ use Rattle.jsonb.specs.Private.Selection.{AreSelected}
 use Rattle.jsonb.proofs.GivesLemmas.{same_outcome, same_answer, refused_as, one_given}
 use Rattle.jsonb.proofs.PathNodes.{literal_is, unary_is, binary_is, exists_is}
 use Rattle.jsonb.proofs.WholeLemmas.{meant, some_of, none_of, is_outcome}
-use Rattle.jsonb.proofs.selector.whole_path.expression_parts.Goals as goal
+use Rattle.jsonb.proofs.selector.whole_path.expression_selection.Goals as goal
 
 pub returns-in-Value-clause-meant : goal.returns-in-Value-clause-meant
 returns-in-Value-clause-meant c = λ form top outcome r h.
-    c.literal_parts.ensures.meant form c.args.context.now.document c.args.context.now.mode top outcome
+    c.literal_selection.ensures.meant form c.args.context.now.document c.args.context.now.mode top outcome
     (meant form c.args.context.now.mode top outcome _ _ (literal_is c.args.e.now c.in-Value.value c.in-Value.is ∙ ap (λ v. value (literal_view v)) (sym c.deref.ensures)) h)
 
 pub returns-in_err-numbers-in-UnaryOp-clause-meant : goal.returns-in_err-numbers-in-UnaryOp-clause-meant

@@ -9,7 +9,7 @@ use Rattle.jsonb.specs.Private.Selection.{atom_value}
 use Rattle.jsonb.specs.Values.{Value, values_of_item}
 use Rattle.jsonb.proofs.ItemKinds.{no_elements, other_values}
 use Rattle.jsonb.proofs.MemberLemmas.{one_member}
-use Rattle.jsonb.proofs.selector.compared_member.compared.Goals as goal
+use Rattle.jsonb.proofs.selector.compared_member.compared_truth.Goals as goal
 
 -- the values of one item
 of_one : (t : Tree) (ts : List Tree) (vs : List Value) → ts ≡ t ∷ [] → values_of_item t ≡ vs → vs ≡ flat_map values_of_item ts

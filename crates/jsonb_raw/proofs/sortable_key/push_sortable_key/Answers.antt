@@ -2,7 +2,7 @@ use Rattle.std.proofs.Common.{ℕ, List, rules, subst}
 use Rattle.jsonb_raw.specs.Private.KeyParts.{AppendsKey}
 use Rattle.jsonb_raw.specs.Private.KeyWidth.{width_of}
 use Rattle.jsonb_raw.proofs.LevelStarts.{container_item, scalar_item}
-use Rattle.jsonb_raw.proofs.sortable_key.push_document_key.Goals as goal
+use Rattle.jsonb_raw.proofs.sortable_key.push_sortable_key.Goals as goal
 
 pub returns-in-Array-clause-key : goal.returns-in-Array-clause-key
 returns-in-Array-clause-key c = λ form tree decodes.
