@@ -49,8 +49,8 @@ GIVES_TEXT = "array_length type_of as_null as_bool as_number as_i64 as_u64 as_st
 
 # The parts of a row of each file, by whether it has the calls on documents.
 PARTS = {
-    False: "what is asked, the text of a path, a document, and the answer",
-    True: "the call, its document, another one, a text, and the answer",
+    False: "with tabs between: what is asked, the text of a path, a document, and the answer",
+    True: "with spaces between: the call, its document, another one, a text, an arrow, and the answer",
 }
 
 
@@ -231,19 +231,27 @@ def rows_of(pages, of_calls):
     return found
 
 
-def rows_file(found, parts):
-    """The file of rows: one text, a line for each row, and tabs between its parts."""
-    lines = ["\t".join(row).replace("\\", "\\\\").replace('"', '\\"').replace("\t", "\\t") for row in found]
+def call_line(call, document, other, text, answer):
+    """The line of a row of a call. Where there is no document a `-` stands, and nothing where nothing is given."""
+    given = [other or "-", text] if text else [other] if other else []
+    return " ".join([call, document or "-", *given, "=>", *([answer] if answer else [])])
+
+
+def rows_file(lines, parts):
+    """The file of rows: one text."""
+    lines = [line.replace("\\", "\\\\").replace('"', '\\"').replace("\t", "\\t") for line in lines]
     return "\n".join([
         "//! The rows of the tables of answers in docs/, as tools/check_quotes.py --write writes them.", "",
-        f"/// A line for each row, with tabs between: {parts}.",
+        f"/// A line for each row, {parts}.",
         'pub const ROWS: &str = "', *lines, '";', ""])
 
 
 def wanted_rows(path):
     """What a file of rows has to hold."""
     of_calls = path == CALL_ROWS
-    return rows_file(rows_of(PAGES, of_calls), PARTS[of_calls])
+    found = rows_of(PAGES, of_calls)
+    lines = [call_line(*row) if of_calls else "\t".join(row) for row in found]
+    return rows_file(lines, PARTS[of_calls])
 
 
 def check_rows(path):

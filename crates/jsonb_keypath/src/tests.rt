@@ -1,26 +1,12 @@
 //! Worked rows of key paths: what is read, refused and printed.
 
 use super::*;
+use jsonb_doc::Error;
 use std::alloc::{AllocError, Global};
 use std::borrow::CowStr;
 use std::fmt;
 use std::hash::{DefaultHasher, Hash, Hasher};
 use std::test::Fail;
-
-#[test]
-fn reads_steps_with_white_space(rt: HostRuntime) -> Result<(), Fail> {
-    let found = parse_key_paths(rt.alloc(), b" {\t1, a ,\r\n\"b c\"} ")?;
-    assert_eq!(rt; found.paths.len(), 3);
-    assert!(rt; matches!(&found.paths[0], KeyPath::Index(1)));
-    assert!(rt; matches!(&found.paths[1], KeyPath::Name(CowStr::Borrowed("a"))));
-    assert!(rt;
-        matches!(
-            &found.paths[2],
-            KeyPath::QuotedName(CowStr::Borrowed("b c"))
-        )
-    );
-    Ok(())
-}
 
 /// A step: its kind and what it has. A text that had to be copied is its own.
 fn described(alloc: Global, step: &KeyPath<'_>) -> Result<String, AllocError> {
@@ -48,7 +34,7 @@ fn steps_of(alloc: Global, text: &[u8]) -> Result<String, AllocError> {
 }
 
 /// A line for each text: the text, a space and an equals sign, and its steps or the refusal.
-const READ: &str = "
+static READ: &str = "
 {} =
  { }  =
 {+1} =index 1;
@@ -73,6 +59,13 @@ ab =InvalidKeyPath
 {\\ude00} =InvalidKeyPath
 {\"\\ud83d\\u0061\"} =InvalidKeyPath";
 
+/// The same of texts that no line can hold.
+static READ_AS_BYTES: [(&[u8], &str); 3] = [
+    (b" {\t1, a ,\r\n\"b c\"} ", "index 1;name a;quoted b c;"),
+    (b"{a\xff}", "InvalidKeyPath"),
+    (b"{\"\xff\"}", "InvalidKeyPath"),
+];
+
 #[test]
 fn texts_are_read_or_refused(rt: HostRuntime) -> Result<(), Fail> {
     for line in READ.lines().skip(1) {
@@ -80,63 +73,59 @@ fn texts_are_read_or_refused(rt: HostRuntime) -> Result<(), Fail> {
         let found = steps_of(rt.alloc(), text.as_bytes())?;
         assert_eq!(rt; found.as_str(), wanted, "{text}");
     }
-    for text in [b"{a\xff}".as_slice(), b"{\"\xff\"}".as_slice()] {
+    for (text, wanted) in &READ_AS_BYTES {
         let found = steps_of(rt.alloc(), text)?;
-        assert_eq!(rt; found.as_str(), "InvalidKeyPath");
+        assert_eq!(rt; found.as_str(), *wanted);
     }
     Ok(())
 }
 
-/// Whether a reader found this text and this rest. A text that had to be copied is its own.
-fn is_read(found: &Option<(CowStr<'_>, &[u8])>, text: &str, rest: &str, is_own: bool) -> bool {
-    let Some((name, behind)) = found else {
-        return false;
-    };
-    let is_same = match name {
-        CowStr::Borrowed(borrowed) => !is_own && *borrowed == text,
-        CowStr::Owned(own) => is_own && own.as_str() == text,
-    };
-    is_same && *behind == rest.as_bytes()
+/// A name or a quoted text that stands in front, what stands behind it, and whether its text had to be copied.
+type Front = (&'static str, &'static [u8], bool);
+
+/// Whether a reader found this.
+fn is_read(found: &Option<(CowStr<'_>, &[u8])>, wanted: Option<Front>) -> bool {
+    match (found, wanted) {
+        (Some((name, behind)), Some((text, rest, is_own))) => {
+            name.as_str() == text && *behind == rest && is_own == matches!(name, CowStr::Owned(_))
+        }
+        (None, None) => true,
+        _ => false,
+    }
 }
 
-/// What is read, the name in it, the rest, and whether the name had to be copied.
-const NAMES: [(&str, &str, &str, bool); 3] = [
-    ("ab.c", "ab", ".c", false),
-    ("\\u{0061}b.c", "ab", ".c", true),
-    ("\\ud83d\\u{de00}", "\u{1f600}", "", true),
+/// Texts, and the names in front.
+static NAMES: [(&[u8], Option<Front>); 7] = [
+    (b"ab.c", Some(("ab", b".c", false))),
+    (b"\\u{0061}b.c", Some(("ab", b".c", true))),
+    (b"\\ud83d\\u{de00}", Some(("\u{1f600}", b"", true))),
+    (b"", None),
+    (b".a", None),
+    (b"a\\q", None),
+    (b"\xc3.", None),
 ];
 
-/// The same of quoted texts.
-const QUOTED: [(&str, &str, &str, bool); 2] = [
-    ("\"a b\".c", "a b", ".c", false),
+/// Texts, and the quoted texts in front.
+static QUOTED: [(&[u8], Option<Front>); 5] = [
+    (b"\"a b\".c", Some(("a b", b".c", false))),
     (
-        "\"\\\"\\\\\\/\\b\\f\\n\\r\\t\"!",
-        "\"\\/\u{8}\u{c}\n\r\t",
-        "!",
-        true,
+        b"\"\\\"\\\\\\/\\b\\f\\n\\r\\t\"!",
+        Some(("\"\\/\u{8}\u{c}\n\r\t", b"!", true)),
     ),
+    (b"\"\"", None),
+    (b"\"a", None),
+    (b"a", None),
 ];
 
 #[test]
-fn names_are_read(rt: HostRuntime) -> Result<(), Fail> {
-    for (text, name, rest, is_own) in &NAMES {
-        let found = read_name(rt.alloc(), text.as_bytes())?;
-        assert!(rt; is_read(&found, name, rest, *is_own), "{text}");
+fn names_and_quoted_texts_are_read(rt: HostRuntime) -> Result<(), Fail> {
+    for (text, wanted) in &NAMES {
+        let found = read_name(rt.alloc(), text)?;
+        assert!(rt; is_read(&found, *wanted), "{text:?}");
     }
-    for text in [b"".as_slice(), b".a", b"a\\q", b"\xc3."] {
-        assert!(rt; read_name(rt.alloc(), text)?.is_none(), "{text:?}");
-    }
-    Ok(())
-}
-
-#[test]
-fn quoted_texts_are_read(rt: HostRuntime) -> Result<(), Fail> {
-    for (text, quoted, rest, is_own) in &QUOTED {
-        let found = read_quoted(rt.alloc(), text.as_bytes())?;
-        assert!(rt; is_read(&found, quoted, rest, *is_own), "{text}");
-    }
-    for text in [b"\"\"".as_slice(), b"\"a", b"a"] {
-        assert!(rt; read_quoted(rt.alloc(), text)?.is_none(), "{text:?}");
+    for (text, wanted) in &QUOTED {
+        let found = read_quoted(rt.alloc(), text)?;
+        assert!(rt; is_read(&found, *wanted), "{text:?}");
     }
     Ok(())
 }
@@ -163,15 +152,16 @@ fn tokens_and_their_rests(rt: HostRuntime) {
     assert!(rt; token::literal(b"to", b"t").is_none());
 }
 
-/// What a key path prints, borrowed and owned.
-fn printed(alloc: Global, text: &str) -> Result<(String, String), Fail> {
+/// Whether a key path of a text prints so, and one with texts of its own too.
+fn prints(alloc: Global, text: &str, wanted: &str) -> Result<bool, Fail> {
     let found = parse_key_paths(alloc, text.as_bytes())?;
     let owned = found.to_owned(alloc)?;
-    Ok((format!(in alloc; "{found}")?, format!(in alloc; "{owned}")?))
+    let printed = format!(in alloc; "{found}\n{owned}")?;
+    Ok(printed.as_str().split_once('\n') == Some((wanted, wanted)))
 }
 
 /// A line for each text: the text, a space and an equals sign, and what is printed.
-const PRINTED: &str = "
+static PRINTED: &str = "
  { 1, a }  ={1,a}
 {\"a b\",-2} ={\"a b\",-2}
 {\\u{0061}} ={a}
@@ -185,9 +175,7 @@ const PRINTED: &str = "
 fn prints_key_paths(rt: HostRuntime) -> Result<(), Fail> {
     for line in PRINTED.lines().skip(1) {
         let (text, wanted) = line.split_once(" =").ok_or("a line without its answer")?;
-        let (borrowed, owned) = printed(rt.alloc(), text)?;
-        assert_eq!(rt; borrowed.as_str(), wanted, "{text}");
-        assert_eq!(rt; owned.as_str(), wanted, "{text}");
+        assert!(rt; prints(rt.alloc(), text, wanted)?, "{text}");
     }
     Ok(())
 }
@@ -226,33 +214,41 @@ fn prints_steps(rt: HostRuntime) -> Result<(), Fail> {
     Ok(())
 }
 
-#[test]
-fn copied_paths_are_equal(rt: HostRuntime) -> Result<(), Fail> {
-    let found = parse_key_paths(rt.alloc(), b"{1,a,\"b\",\\u0061}")?;
-    let copy = found.clone(rt.alloc())?;
-    let owned = found.to_owned(rt.alloc())?;
-    let copy_of_owned = owned.clone(rt.alloc())?;
-    let again = owned.as_key_paths(rt.alloc())?.to_owned(rt.alloc())?;
-    assert_eq!(rt;
-        (copy == found, copy_of_owned == owned, again == owned),
-        (true, true, true)
-    );
-    Ok(())
+/// Whether a path with texts of its own equals its copy, and a copy of what is seen of it.
+fn equals_its_copies(alloc: Global, path: &OwnedKeyPaths) -> Result<bool, Error> {
+    let is_copied = path.clone(alloc)? == *path;
+    Ok(is_copied && path.as_key_paths(alloc)?.to_owned(alloc)? == *path)
+}
+
+/// Whether the path of a text equals its copy, and the one with texts of its own its copies.
+fn copies_are_equal(alloc: Global, text: &[u8]) -> Result<bool, Error> {
+    let found = parse_key_paths(alloc, text)?;
+    let is_copied = found.clone(alloc)? == found;
+    Ok(is_copied && equals_its_copies(alloc, &found.to_owned(alloc)?)?)
 }
 
 #[test]
-fn copied_steps_are_equal(rt: HostRuntime) -> Result<(), Fail> {
+fn copied_paths_are_equal(rt: HostRuntime) {
+    let found = copies_are_equal(rt.alloc(), b"{1,a,\"b\",\\u0061}");
+    assert_eq!(rt; found, Ok(true));
+}
+
+/// Whether a step is a name that is borrowed, the text `a`.
+fn borrows_a(step: &KeyPath<'_>) -> bool {
+    matches!(step, KeyPath::Name(CowStr::Borrowed("a")))
+}
+
+/// Whether a copy of this name borrows it, and so does what is seen of one with a text of its own, which equals its copy.
+fn is_copied(alloc: Global, step: &KeyPath<'_>) -> Result<bool, Error> {
+    let owned = step.to_owned(alloc)?;
+    let is_same = owned.clone(alloc)? == owned && borrows_a(&owned.as_key_path());
+    Ok(is_same && borrows_a(&step.clone(alloc)?))
+}
+
+#[test]
+fn copied_steps_are_equal(rt: HostRuntime) {
     let step = KeyPath::Name(CowStr::Borrowed("a"));
-    let copy = step.clone(rt.alloc())?;
-    let owned = step.to_owned(rt.alloc())?;
-    let copy_of_owned = owned.clone(rt.alloc())?;
-    let is_same = matches!(&copy, KeyPath::Name(CowStr::Borrowed("a")));
-    let is_seen = matches!(owned.as_key_path(), KeyPath::Name(CowStr::Borrowed("a")));
-    assert_eq!(rt;
-        (is_same, copy_of_owned == owned, is_seen),
-        (true, true, true)
-    );
-    Ok(())
+    assert_eq!(rt; is_copied(rt.alloc(), &step), Ok(true));
 }
 
 fn hash_of<T: Hash>(value: &T) -> u64 {
@@ -261,32 +257,38 @@ fn hash_of<T: Hash>(value: &T) -> u64 {
     state.finish()
 }
 
-#[test]
-fn paths_are_equal_by_texts(rt: HostRuntime) -> Result<(), Fail> {
-    let written = parse_key_paths(rt.alloc(), b"{1,a,\"b\"}")?;
-    let escaped = parse_key_paths(rt.alloc(), b"{+1,\\u0061,\"\\u0062\"}")?;
-    let same = (written == escaped, hash_of(&written) == hash_of(&escaped));
-    assert_eq!(rt; same, (true, true));
-    let first = written.to_owned(rt.alloc())?;
-    let second = escaped.to_owned(rt.alloc())?;
-    let same = (first == second, hash_of(&first) == hash_of(&second));
-    assert_eq!(rt; same, (true, true));
-    Ok(())
+/// Whether two paths are equal and have equal hashes, and so have they with texts of their own.
+fn are_same(alloc: Global, one: &KeyPaths<'_>, other: &KeyPaths<'_>) -> Result<bool, Error> {
+    let is_same = *one == *other && hash_of(one) == hash_of(other);
+    let (one, other) = (one.to_owned(alloc)?, other.to_owned(alloc)?);
+    Ok(is_same && one == other && hash_of(&one) == hash_of(&other))
+}
+
+/// Whether so are the paths of two texts.
+fn are_read_as_same(alloc: Global, one: &[u8], other: &[u8]) -> Result<bool, Error> {
+    let one = parse_key_paths(alloc, one)?;
+    let other = parse_key_paths(alloc, other)?;
+    are_same(alloc, &one, &other)
 }
 
 #[test]
-fn steps_of_other_kinds_differ(rt: HostRuntime) -> Result<(), Fail> {
+fn paths_are_equal_by_texts(rt: HostRuntime) {
+    let escaped = b"{+1,\\u0061,\"\\u0062\"}";
+    let is_same = are_read_as_same(rt.alloc(), b"{1,a,\"b\"}", escaped);
+    assert_eq!(rt; is_same, Ok(true));
+}
+
+/// Whether two steps differ, and so do they with texts of their own.
+fn differ(alloc: Global, one: &KeyPath<'_>, other: &KeyPath<'_>) -> Result<bool, Error> {
+    Ok(*one != *other && one.to_owned(alloc)? != other.to_owned(alloc)?)
+}
+
+#[test]
+fn steps_of_other_kinds_differ(rt: HostRuntime) {
     let name = KeyPath::Name(CowStr::Borrowed("1"));
     let quoted = KeyPath::QuotedName(CowStr::Borrowed("1"));
     let longer = KeyPath::Name(CowStr::Borrowed("11"));
-    let index = KeyPath::Index(1);
-    let own = (name.to_owned(rt.alloc())?, quoted.to_owned(rt.alloc())?);
-    let differ = (
-        name != quoted,
-        name != index,
-        name != longer,
-        own.0 != own.1,
-    );
-    assert_eq!(rt; differ, (true, true, true, true));
-    Ok(())
+    assert_eq!(rt; differ(rt.alloc(), &name, &quoted), Ok(true));
+    assert_eq!(rt; differ(rt.alloc(), &name, &longer), Ok(true));
+    assert_eq!(rt; differ(rt.alloc(), &name, &KeyPath::Index(1)), Ok(true));
 }

@@ -11,14 +11,12 @@ mod calls;
 mod deep;
 pub(crate) mod documents;
 mod leaves;
-mod nested;
 
 use super::*;
 use crate::tests::documents::MIXED_ARRAY;
 use jsonb_doc::Error;
-use jsonb_keypath::{KeyPath, KeyPaths};
+use jsonb_keypath::{KeyPaths, parse_key_paths};
 use std::alloc::Global;
-use std::borrow::CowStr;
 use std::test::Fail;
 
 /// `{"number":3720453,"type":"home"}`
@@ -39,20 +37,20 @@ fn part_at(
 
 #[test]
 fn steps_come_from_any_iterator(rt: HostRuntime) -> Result<(), Fail> {
-    let steps = [
-        KeyPath::Index(-1),
-        KeyPath::Name(CowStr::Borrowed("k")),
-        KeyPath::Index(0),
-    ];
+    let steps = parse_key_paths(rt.alloc(), b"{-1,k,0}")?;
     let document = RawJsonb::new(MIXED_ARRAY);
-    let Some(part) = document.get_by_keypath(rt.alloc(), steps[..2].iter())? else {
+    let Some(part) = document.get_by_keypath(rt.alloc(), steps.paths.iter().take(2))? else {
         panic!(rt; "no part");
     };
     assert_eq!(rt;
         part.as_raw().as_bytes(),
         b"\x20\0\0\0\x10\0\0\x01v".as_slice()
     );
-    assert!(rt; document.get_by_keypath(rt.alloc(), steps.iter())?.is_none());
+    assert!(rt;
+        document
+            .get_by_keypath(rt.alloc(), steps.paths.iter())?
+            .is_none()
+    );
     Ok(())
 }
 
@@ -60,8 +58,7 @@ fn steps_come_from_any_iterator(rt: HostRuntime) -> Result<(), Fail> {
 fn documents_keep_their_bytes(rt: HostRuntime) -> Result<(), Fail> {
     let owned = OwnedJsonb::new(Vec::from_slice(rt.alloc(), HOME)?);
     assert_eq!(rt; owned.as_raw().as_bytes(), HOME);
-    let copy = owned.clone(rt.alloc())?;
-    assert_eq!(rt; copy.to_vec().as_slice(), HOME);
+    assert_eq!(rt; owned.clone(rt.alloc())?.to_vec().as_slice(), HOME);
     assert_eq!(rt; owned.to_vec().as_slice(), HOME);
     let raw = RawJsonb::new(MIXED_ARRAY);
     let again = raw;

@@ -4,43 +4,39 @@ mod calls;
 mod damage;
 mod entries;
 
-use crate::documents::{DOCUMENTS, Document};
+use crate::documents::DOCUMENTS;
+use jsonb_doc::Error;
 use jsonb_keypath::parse_key_paths;
 use jsonb_raw::RawJsonb;
 use std::alloc::Global;
-use std::test::Fail;
 
-/// The bytes of a document.
-fn bytes_of(alloc: Global, document: Document) -> Result<Vec<u8>, Fail> {
-    let mut digits = String::new(alloc);
-    for part in document.digits.split(' ') {
-        digits.push_str(part)?;
+/// The bytes of a document's digits.
+fn bytes_of(alloc: Global, digits: &str) -> Result<Vec<u8>, Error> {
+    let mut joined = String::new(alloc);
+    for part in digits.split(' ') {
+        joined.push_str(part)?;
     }
-    Ok(hex::decode(alloc, digits)?)
+    hex::decode(alloc, joined).or(Err(Error::InvalidJsonb))
+}
+
+/// Whether the path of no steps gives the document back.
+fn is_given_back(alloc: Global, bytes: &[u8]) -> Result<bool, Error> {
+    let no_steps = parse_key_paths(alloc, b"{}")?;
+    let found = RawJsonb::new(bytes).get_by_keypath(alloc, no_steps.paths.iter())?;
+    Ok(match found {
+        Some(document) => document.to_vec().as_slice() == bytes,
+        None => false,
+    })
 }
 
 #[test]
-fn each_document_is_accepted(rt: HostRuntime) -> Result<(), Fail> {
-    for document in DOCUMENTS {
-        let bytes = bytes_of(rt.alloc(), document)?;
+fn each_document_is_accepted_and_given_back_whole(rt: HostRuntime) -> Result<(), Error> {
+    for document in &DOCUMENTS {
         let value = document.value;
-        assert_eq!(rt; jsonb_doc::check(bytes.as_slice()), Ok(()), "{value}");
-        assert_eq!(rt; RawJsonb::new(bytes.as_slice()).check(), Ok(()), "{value}");
-    }
-    Ok(())
-}
-
-#[test]
-fn the_path_of_no_steps_gives_the_document_back(rt: HostRuntime) -> Result<(), Fail> {
-    let no_steps = parse_key_paths(rt.alloc(), b"{}")?;
-    for document in DOCUMENTS {
-        let bytes = bytes_of(rt.alloc(), document)?;
-        let value = document.value;
-        let raw = RawJsonb::new(bytes.as_slice());
-        let found = raw
-            .get_by_keypath(rt.alloc(), no_steps.paths.iter())?
-            .ok_or(value)?;
-        assert_eq!(rt; found.to_vec().as_slice(), bytes.as_slice(), "{value}");
+        let bytes = bytes_of(rt.alloc(), document.digits)?;
+        assert_eq!(rt; jsonb_doc::check(&bytes), Ok(()), "{value}");
+        assert_eq!(rt; RawJsonb::new(&bytes).check(), Ok(()), "{value}");
+        assert_eq!(rt; is_given_back(rt.alloc(), &bytes), Ok(true), "{value}");
     }
     Ok(())
 }

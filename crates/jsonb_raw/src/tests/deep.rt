@@ -1,193 +1,221 @@
 //! Documents nested so deeply that a walk with a call a level would overflow the machine's stack.
 
+use crate::OwnedJsonb;
 use crate::raw::RawJsonb;
-use crate::tests::documents::nested;
+use crate::tests::documents::{
+    ALONE, EMPTY_ARRAY, EMPTY_OBJECT, Level, MEMBER, NULL_IN_ARRAY, nested,
+};
 use jsonb_doc::{Error, Value};
-use jsonb_keypath::KeyPath;
-use std::alloc::Global;
+use jsonb_keypath::{KeyPath, KeyPaths};
+use std::alloc::{AllocError, Global};
 use std::borrow::CowStr;
-use std::test::Fail;
 
-/// So many arrays of one element, the text `x` in the innermost: 8 bytes a level and one.
-fn arrays(alloc: Global, levels: u32) -> Result<Vec<u8>, Error> {
-    let mut out = Vec::new(alloc);
-    for within in (0..levels).rev() {
-        out.extend_from_slice(b"\x80\0\0\x01")?;
-        out.extend_from_slice(&word(within, 8).to_be_bytes())?;
+/// `["x"]`
+const X_IN_ARRAY: &[u8] = b"\x80\0\0\x01\x10\0\0\x01x";
+
+/// `{"a":"x"}`
+const X_IN_OBJECT: &[u8] = b"\x40\0\0\x01\x10\0\0\x01\x10\0\0\x01ax";
+
+/// `[true]`
+const TRUE_IN_ARRAY: &[u8] = b"\x80\0\0\x01\x40\0\0\0";
+
+/// `[child,null]`
+const FIRST: Level = (b"\x80\0\0\x02", b"\0\0\0\0");
+
+/// `[null,child]`
+const LAST: Level = (b"\x80\0\0\x02\0\0\0\0", b"");
+
+/// So many steps into levels that have the child alone: by its index, or by its key.
+fn steps_into(
+    alloc: Global,
+    level: Level,
+    count: u32,
+) -> Result<Vec<KeyPath<'static>>, AllocError> {
+    let mut steps = Vec::new(alloc);
+    for _ in 0..count {
+        steps.push(if level.1.is_empty() {
+            KeyPath::Index(0)
+        } else {
+            KeyPath::Name(CowStr::Borrowed("a"))
+        })?;
     }
-    out.push(b'x')?;
-    Ok(out)
+    Ok(steps)
 }
 
-/// So many objects of one pair under `a`, the text `x` in the innermost: 13 bytes a level and one.
-fn objects(alloc: Global, levels: u32) -> Result<Vec<u8>, Error> {
-    let mut out = Vec::new(alloc);
-    for within in (0..levels).rev() {
-        out.extend_from_slice(b"\x40\0\0\x01\x10\0\0\x01")?;
-        out.extend_from_slice(&word(within, 13).to_be_bytes())?;
-        out.push(b'a')?;
-    }
-    out.push(b'x')?;
-    Ok(out)
+/// So many levels of a kind, the container within, and how many steps lead to what is taken out; then how many levels
+/// are left, and the container within.
+type TakenOut = (Level, u32, &'static [u8], u32, u32, &'static [u8]);
+
+static TAKEN_OUT: [TakenOut; 4] = [
+    (ALONE, 199_999, X_IN_ARRAY, 200_000, 199_999, EMPTY_ARRAY),
+    (MEMBER, 199_999, X_IN_OBJECT, 200_000, 199_999, EMPTY_OBJECT),
+    (ALONE, 299, EMPTY_ARRAY, 299, 298, EMPTY_ARRAY),
+    (ALONE, 299, EMPTY_ARRAY, 300, 299, EMPTY_ARRAY),
+];
+
+/// What is left of a document.
+fn left_of(
+    alloc: Global,
+    level: Level,
+    levels: u32,
+    core: &[u8],
+    steps: u32,
+) -> Result<OwnedJsonb, Error> {
+    let document = nested(alloc, &[level], levels, core)?;
+    let steps = steps_into(alloc, level, steps)?;
+    RawJsonb::new(&document).delete_by_keypath(alloc, steps.iter())
 }
 
-/// The entry word of what has so many levels of so many bytes within: of a text of one byte where it has none.
-fn word(within: u32, bytes: u32) -> u32 {
-    if within == 0 {
-        return 0x1000_0001;
-    }
-    within.wrapping_mul(bytes).wrapping_add(0x5000_0001)
+/// Whether that is left which is wanted.
+fn is_taken_out(alloc: Global, row: &TakenOut) -> Result<bool, Error> {
+    let (level, levels, core, steps, levels_left, core_left) = *row;
+    let wanted = nested(alloc, &[level], levels_left, core_left)?;
+    let found = left_of(alloc, level, levels, core, steps)?;
+    Ok(found.as_raw().as_bytes() == wanted.as_slice())
 }
 
-/// How many steps lead to the only leaf, which is the text `x`, and whether each is of the kind that is wanted.
-fn leaf_depth(alloc: Global, document: &[u8], indexes: bool) -> Result<Option<usize>, Error> {
-    let found = RawJsonb::new(document).extract_scalar_key_values(alloc, false)?;
-    let [leaf] = found.as_slice() else {
-        return Ok(None);
-    };
+#[test]
+fn parts_taken_out_of_deep_documents(rt: HostRuntime) {
+    for row in &TAKEN_OUT {
+        assert_eq!(rt; is_taken_out(rt.alloc(), row), Ok(true));
+    }
+}
+
+/// Whether the document's equality key is so long and ends with the text `x`.
+fn has_equality_key(alloc: Global, document: RawJsonb<'_>, len: usize) -> Result<bool, Error> {
+    let key = document.equality_key(alloc)?;
+    Ok(key.len() == len && key.ends_with(b"\x05x\0"))
+}
+
+/// Whether nothing is stripped of the document.
+fn keeps_all(alloc: Global, document: RawJsonb<'_>) -> Result<bool, Error> {
+    let stripped = document.strip_nulls(alloc)?;
+    Ok(stripped.as_raw().as_bytes() == document.as_bytes())
+}
+
+/// Whether a step leads into a level that has the child alone.
+fn leads_into(level: Level, step: &KeyPath<'_>) -> bool {
+    match step {
+        KeyPath::Index(index) => level.1.is_empty() && *index == 0,
+        KeyPath::Name(name) => !level.1.is_empty() && name.as_str() == "a",
+        KeyPath::QuotedName(_) => false,
+    }
+}
+
+/// Whether a leaf is the text `x`, 200,000 steps into levels of this kind.
+fn is_deep_leaf(leaf: &(KeyPaths<'_>, Value<'_>), level: Level) -> bool {
     let Value::String(text) = &leaf.1 else {
-        return Ok(None);
+        return false;
     };
+    let mut is_so = text.as_str() == "x" && leaf.0.paths.len() == 200_000;
     for step in &leaf.0.paths {
-        let is_wanted = match step {
-            KeyPath::Index(index) => indexes && *index == 0,
-            KeyPath::Name(name) => !indexes && name.as_str() == "a",
-            KeyPath::QuotedName(_) => false,
-        };
-        if !is_wanted {
-            return Ok(None);
-        }
+        is_so = is_so && leads_into(level, step);
     }
-    if text.as_str() != "x" {
-        return Ok(None);
-    }
-    Ok(Some(leaf.0.paths.len()))
+    is_so
+}
+
+/// Whether the document's only leaf is one.
+fn has_deep_leaf(alloc: Global, document: RawJsonb<'_>, level: Level) -> Result<bool, Error> {
+    let found = document.extract_scalar_key_values(alloc, false)?;
+    Ok(match found.as_slice() {
+        [leaf] => is_deep_leaf(leaf, level),
+        _ => false,
+    })
 }
 
 #[test]
-fn parts_taken_out_of_deep_arrays(rt: HostRuntime) -> Result<(), Fail> {
-    // The innermost array is empty then, and each one around it 5 bytes shorter: a word and a byte.
-    let alloc = rt.alloc();
-    let mut steps = Vec::new(alloc);
-    let mut wanted = Vec::new(alloc);
-    for within in (1..200_000u32).rev() {
-        steps.push(KeyPath::Index(0))?;
-        wanted.extend_from_slice(b"\x80\0\0\x01")?;
-        wanted.extend_from_slice(
-            &within
-                .wrapping_mul(8)
-                .wrapping_add(0x4fff_fffc)
-                .to_be_bytes(),
-        )?;
-    }
-    steps.push(KeyPath::Index(0))?;
-    wanted.extend_from_slice(b"\x80\0\0\0")?;
-    let document = arrays(alloc, 200_000)?;
-    let left = RawJsonb::new(&document).delete_by_keypath(alloc, steps.iter())?;
-    assert_eq!(rt; left.as_raw().as_bytes(), wanted.as_slice());
-    Ok(())
-}
-
-#[test]
-fn parts_taken_out_of_deep_objects(rt: HostRuntime) -> Result<(), Fail> {
-    // The innermost object is empty then, and each one around it 10 bytes shorter: two words and two bytes.
-    let alloc = rt.alloc();
-    let mut steps = Vec::new(alloc);
-    let mut wanted = Vec::new(alloc);
-    for within in (1..200_000u32).rev() {
-        steps.push(KeyPath::Name(CowStr::Borrowed("a")))?;
-        wanted.extend_from_slice(b"\x40\0\0\x01\x10\0\0\x01")?;
-        wanted.extend_from_slice(
-            &within
-                .wrapping_mul(13)
-                .wrapping_add(0x4fff_fff7)
-                .to_be_bytes(),
-        )?;
-        wanted.push(b'a')?;
-    }
-    steps.push(KeyPath::Name(CowStr::Borrowed("a")))?;
-    wanted.extend_from_slice(b"\x40\0\0\0")?;
-    let document = objects(alloc, 200_000)?;
-    let left = RawJsonb::new(&document).delete_by_keypath(alloc, steps.iter())?;
-    assert_eq!(rt; left.as_raw().as_bytes(), wanted.as_slice());
-    Ok(())
-}
-
-#[test]
-fn deep_documents_are_walked(rt: HostRuntime) -> Result<(), Fail> {
-    let array = arrays(rt.alloc(), 200_000)?;
-    let object = objects(rt.alloc(), 200_000)?;
+fn deep_documents_are_walked(rt: HostRuntime) -> Result<(), AllocError> {
     // An equality key has a kind and a count a level, in an object the key `a` too; the text's kind, bytes and end.
-    for (document, key_len) in [
-        (array.as_slice(), 1_000_003),
-        (object.as_slice(), 1_600_003),
+    for (level, core, key_len) in [
+        (ALONE, X_IN_ARRAY, 1_000_003),
+        (MEMBER, X_IN_OBJECT, 1_600_003),
     ] {
-        let raw = RawJsonb::new(document);
+        let document = nested(rt.alloc(), &[level], 199_999, core)?;
+        let raw = RawJsonb::new(&document);
         assert_eq!(rt; raw.depth(), Ok(200_000));
         assert_eq!(rt; raw.check_depth(199_999), Err(Error::TooDeep));
         assert_eq!(rt;
             raw.traverse_check_string(|text| text == b"y".as_slice()),
             Ok(false)
         );
-        let key = raw.equality_key(rt.alloc())?;
-        assert_eq!(rt; key.len(), key_len);
-        assert!(rt; key.ends_with(b"\x05x\0"));
-        assert_eq!(rt; raw.strip_nulls(rt.alloc())?.as_raw().as_bytes(), document);
+        assert_eq!(rt; has_equality_key(rt.alloc(), raw, key_len), Ok(true));
+        assert_eq!(rt; keeps_all(rt.alloc(), raw), Ok(true));
+        assert_eq!(rt; has_deep_leaf(rt.alloc(), raw, level), Ok(true));
     }
-    assert_eq!(rt; leaf_depth(rt.alloc(), &array, true)?, Some(200_000));
-    assert_eq!(rt; leaf_depth(rt.alloc(), &object, false)?, Some(200_000));
+    let document = nested(rt.alloc(), &[ALONE], 300, EMPTY_OBJECT)?;
+    assert_eq!(rt; keeps_all(rt.alloc(), RawJsonb::new(&document)), Ok(true));
     Ok(())
 }
 
-#[test]
-fn the_innermost_of_300_arrays(rt: HostRuntime) -> Result<(), Fail> {
-    let whole = nested(rt.alloc(), b"\x80\0\0\0", 299)?;
-    let left = nested(rt.alloc(), b"\x80\0\0\0", 298)?;
-    let mut steps = Vec::new(rt.alloc());
-    for _ in 0..299 {
-        steps.push(KeyPath::Index(0))?;
-    }
-    let document = RawJsonb::new(whole.as_slice());
-    let found = document.delete_by_keypath(rt.alloc(), steps.iter())?;
-    assert_eq!(rt; found.as_raw().as_bytes(), left.as_slice());
-    steps.push(KeyPath::Index(0))?;
-    let found = document.delete_by_keypath(rt.alloc(), steps.iter())?;
-    assert_eq!(rt; found.as_raw().as_bytes(), whole.as_slice());
-    let empty_object = nested(rt.alloc(), b"\x40\0\0\0", 300)?;
-    let stripped = RawJsonb::new(empty_object.as_slice()).strip_nulls(rt.alloc())?;
-    assert_eq!(rt; stripped.as_raw().as_bytes(), empty_object.as_slice());
-    Ok(())
+/// Whether what is distinct in a document has so many bytes, and is what it shares with itself; nothing else is left.
+fn has_sets(alloc: Global, document: RawJsonb<'_>, len: usize) -> Result<bool, Error> {
+    let distinct = document.array_distinct(alloc)?;
+    let shared = document.array_intersection(alloc, &document)?;
+    let is_shared = shared.as_raw().as_bytes() == distinct.as_raw().as_bytes();
+    Ok(
+        is_shared
+            && distinct.as_raw().as_bytes().len() == len
+            && has_nothing_alone(alloc, document)?,
+    )
+}
+
+/// Whether a document has nothing that it does not share with itself.
+fn has_nothing_alone(alloc: Global, document: RawJsonb<'_>) -> Result<bool, Error> {
+    let unshared = document.array_except(alloc, &document)?;
+    Ok(unshared.as_raw().as_bytes() == EMPTY_ARRAY)
 }
 
 #[test]
-fn sets_of_deep_documents(rt: HostRuntime) -> Result<(), Fail> {
-    let array = arrays(rt.alloc(), 30_000)?;
-    let object = objects(rt.alloc(), 30_000)?;
-    for (document, made) in [(array.as_slice(), 240_001), (object.as_slice(), 390_009)] {
-        let raw = RawJsonb::new(document);
-        let distinct = raw.array_distinct(rt.alloc())?;
-        assert_eq!(rt; distinct.as_raw().as_bytes().len(), made);
-        let shared = raw.array_intersection(rt.alloc(), &raw)?;
-        assert_eq!(rt; shared.as_raw().as_bytes(), distinct.as_raw().as_bytes());
-        let unshared = raw.array_except(rt.alloc(), &raw)?;
-        assert_eq!(rt; unshared.as_raw().as_bytes(), b"\x80\0\0\0".as_slice());
+fn sets_of_deep_documents(rt: HostRuntime) -> Result<(), AllocError> {
+    for (level, core, len) in [(ALONE, X_IN_ARRAY, 240_001), (MEMBER, X_IN_OBJECT, 390_009)] {
+        let document = nested(rt.alloc(), &[level], 29_999, core)?;
+        let found = has_sets(rt.alloc(), RawJsonb::new(&document), len);
+        assert_eq!(rt; found, Ok(true));
     }
     Ok(())
 }
 
+/// How many bytes the wide key of such a document has.
+fn wide_key_len(alloc: Global, level: Level, levels: u32, core: &[u8]) -> Result<usize, Error> {
+    let document = nested(alloc, &[level], levels, core)?;
+    let key = RawJsonb::new(&document).convert_to_comparable_wide(alloc)?;
+    Ok(key.len())
+}
+
 #[test]
-fn wide_keys_of_deep_documents(rt: HostRuntime) -> Result<(), Fail> {
-    // A depth in two bytes and a kind a level, and the text's end.
-    let deepest = arrays(rt.alloc(), 65_535)?;
-    let key = RawJsonb::new(&deepest).convert_to_comparable_wide(rt.alloc())?;
-    assert_eq!(rt; key.len(), 3 * 65_536 + 2);
-    for levels in [65_536, 200_000] {
-        let deeper = arrays(rt.alloc(), levels)?;
-        let refused = RawJsonb::new(&deeper).convert_to_comparable_wide(rt.alloc());
-        assert_eq!(rt; refused.err(), Some(Error::TooDeep));
-        let deeper = objects(rt.alloc(), levels)?;
-        let refused = RawJsonb::new(&deeper).convert_to_comparable_wide(rt.alloc());
-        assert_eq!(rt; refused.err(), Some(Error::TooDeep));
+fn wide_keys_of_deep_documents(rt: HostRuntime) {
+    // A depth in two bytes and a kind for each of 65,536 values, and the text's byte and end.
+    for (level, levels, core, wanted) in [
+        (ALONE, 65_534, X_IN_ARRAY, Ok(196_610)),
+        (ALONE, 65_535, X_IN_ARRAY, Err(Error::TooDeep)),
+        (ALONE, 199_999, X_IN_ARRAY, Err(Error::TooDeep)),
+        (MEMBER, 65_535, X_IN_OBJECT, Err(Error::TooDeep)),
+        (MEMBER, 199_999, X_IN_OBJECT, Err(Error::TooDeep)),
+    ] {
+        assert_eq!(rt; wide_key_len(rt.alloc(), level, levels, core), wanted);
     }
-    Ok(())
+}
+
+/// Whether a document of these levels contains itself.
+fn contains_itself(alloc: Global, levels: &[Level]) -> Result<bool, Error> {
+    let document = nested(alloc, levels, 100_000, NULL_IN_ARRAY)?;
+    let raw = RawJsonb::new(&document);
+    raw.contains(&raw)
+}
+
+/// Whether two documents of these levels overlap that differ in the innermost value.
+fn overlap(alloc: Global, levels: &[Level]) -> Result<bool, Error> {
+    let one = nested(alloc, levels, 100_000, NULL_IN_ARRAY)?;
+    let other = nested(alloc, levels, 100_000, TRUE_IN_ARRAY)?;
+    RawJsonb::new(&one).array_overlap(&RawJsonb::new(&other))
+}
+
+#[test]
+fn deep_documents_are_compared(rt: HostRuntime) {
+    for levels in [[FIRST, LAST], [MEMBER, ALONE]] {
+        assert_eq!(rt; contains_itself(rt.alloc(), &levels), Ok(true));
+    }
+    for levels in [[ALONE, ALONE], [ALONE, MEMBER]] {
+        assert_eq!(rt; overlap(rt.alloc(), &levels), Ok(false));
+    }
 }

@@ -1,7 +1,6 @@
 //! Documents that the tests of several calls ask.
 
-use jsonb_doc::{ArrayBuilder, Error};
-use std::alloc::Global;
+use std::alloc::{AllocError, Global};
 
 /// `[false, 10, {"k":"v"}]`
 pub(crate) const MIXED_ARRAY: &[u8] =
@@ -29,32 +28,46 @@ pub(crate) const DATE: &[u8] = b"\x20\0\0\0\x60\0\0\x05\x10\0\0\0\x01";
 /// A float.
 pub(crate) const FLOAT: &[u8] = b"\x20\0\0\0\x20\0\0\x09\x60\x3f\xf8\0\0\0\0\0\0";
 
-/// `false`
-pub(crate) const FALSE: &[u8] = b"\x20\0\0\0\x30\0\0\0";
-
-/// `[[1]]`
-pub(crate) const NESTED_ARRAY: &[u8] = b"\x80\0\0\x01\x50\0\0\x0a\x80\0\0\x01\x20\0\0\x02\x50\x01";
-
 /// `[null]`
 pub(crate) const NULL_IN_ARRAY: &[u8] = b"\x80\0\0\x01\0\0\0\0";
 
-/// `1`
-pub(crate) const ONE: &[u8] = b"\x20\0\0\0\x20\0\0\x02\x50\x01";
+/// A kind of container around one that goes on: what stands before and behind the entry word of that one.
+pub(crate) type Level = (&'static [u8], &'static [u8]);
 
-/// `{"name":"Fred","phones":[{"number":3720453,"type":"home"},{"number":5062051,"type":"work"}]}`
-pub(crate) const PHONES: &[u8] =
-    b"\x40\0\0\x02\x10\0\0\x04\x10\0\0\x06\x10\0\0\x04\x50\0\0\x5anamephonesFred\x80\0\0\x02\x50\0\0\x27\x50\0\0\x27\x40\0\0\x02\x10\0\0\x06\x10\0\0\x04\x20\0\0\x05\x10\0\0\x04numbertype\x50\0\x38\xc5\x05home\x40\0\0\x02\x10\0\0\x06\x10\0\0\x04\x20\0\0\x05\x10\0\0\x04numbertype\x50\0\x4d\x3d\xa3work";
+/// `[child]`
+pub(crate) const ALONE: Level = (b"\x80\0\0\x01", b"");
 
-/// `true`
-pub(crate) const TRUE: &[u8] = b"\x20\0\0\0\x40\0\0\0";
+/// `{"a":child}`
+pub(crate) const MEMBER: Level = (b"\x40\0\0\x01\x10\0\0\x01", b"a");
 
-/// A document in so many arrays, one in the other.
-pub(crate) fn nested(alloc: Global, document: &[u8], arrays: usize) -> Result<Vec<u8>, Error> {
-    let mut found = Vec::from_slice(alloc, document)?;
-    for _ in 0..arrays {
-        let mut builder = ArrayBuilder::new(alloc);
-        builder.push_document(found.as_slice())?;
-        found = builder.build()?;
+/// The bytes of a level, its entry word among them.
+fn level_len(level: Level) -> u32 {
+    let around = level.0.len().wrapping_add(level.1.len());
+    u32::try_from(around).unwrap_or(0).wrapping_add(4)
+}
+
+/// A container in so many rounds of these levels, the first one outermost.
+pub(crate) fn nested(
+    alloc: Global,
+    levels: &[Level],
+    rounds: u32,
+    core: &[u8],
+) -> Result<Vec<u8>, AllocError> {
+    let mut round = 0u32;
+    for level in levels {
+        round = round.wrapping_add(level_len(*level));
     }
-    Ok(found)
+    let core_len = u32::try_from(core.len()).unwrap_or(0);
+    let mut left = round.wrapping_mul(rounds).wrapping_add(core_len);
+    let mut bytes = Vec::new(alloc);
+    for _ in 0..rounds {
+        for level in levels {
+            left = left.wrapping_sub(level_len(*level));
+            bytes.extend_from_slice(level.0)?;
+            bytes.extend_from_slice(&0x5000_0000_u32.wrapping_add(left).to_be_bytes())?;
+            bytes.extend_from_slice(level.1)?;
+        }
+    }
+    bytes.extend_from_slice(core)?;
+    Ok(bytes)
 }

@@ -2,11 +2,10 @@
 
 use crate::raw::RawJsonb;
 use crate::tests::documents::{
-    DATE, EMPTY_ARRAY, EMPTY_OBJECT, FLOAT, NULL, NULLS, ONE_ELEMENT, nested,
+    ALONE, DATE, EMPTY_ARRAY, EMPTY_OBJECT, FLOAT, NULL, NULLS, ONE_ELEMENT, nested,
 };
 use jsonb_doc::Error;
-use std::alloc::Global;
-use std::test::Fail;
+use std::alloc::{AllocError, Global};
 
 /// `[[1],2]`
 const ONE_THEN_TWO: &[u8] =
@@ -17,27 +16,36 @@ const ONE_AND_TWO: &[u8] =
 /// `{"k":null}`
 const NULL_PAIR: &[u8] = b"\x40\0\0\x01\x10\0\0\x01\0\0\0\0k";
 
+/// Why a container in so many arrays has no sortable key, where it has none.
+fn refusal(alloc: Global, innermost: &[u8], arrays: u32) -> Result<Option<Error>, AllocError> {
+    let document = nested(alloc, &[ALONE], arrays, innermost)?;
+    Ok(RawJsonb::new(&document).convert_to_comparable(alloc).err())
+}
+
 #[test]
-fn keys_by_depth(rt: HostRuntime) -> Result<(), Fail> {
-    for (innermost, arrays, refusal) in [
+fn keys_by_depth(rt: HostRuntime) -> Result<(), AllocError> {
+    for (innermost, arrays, wanted) in [
         (EMPTY_ARRAY, 255, None),
         (EMPTY_ARRAY, 256, Some(Error::TooDeep)),
         (EMPTY_OBJECT, 255, None),
         (NULL_PAIR, 255, Some(Error::TooDeep)),
     ] {
-        let document = nested(rt.alloc(), innermost, arrays)?;
-        let key = RawJsonb::new(document.as_slice()).convert_to_comparable(rt.alloc());
-        assert_eq!(rt; key.err(), refusal);
+        assert_eq!(rt; refusal(rt.alloc(), innermost, arrays)?, wanted);
     }
     Ok(())
 }
 
+/// Whether the wide key of a document is so long and ends so.
+fn has_wide_key(alloc: Global, document: &[u8], len: usize, end: &[u8]) -> Result<bool, Error> {
+    let key = RawJsonb::new(document).convert_to_comparable_wide(alloc)?;
+    Ok(key.len() == len && key.ends_with(end))
+}
+
 #[test]
-fn a_wide_key_goes_deeper(rt: HostRuntime) -> Result<(), Fail> {
-    let document = nested(rt.alloc(), EMPTY_ARRAY, 256)?;
-    let key = RawJsonb::new(document.as_slice()).convert_to_comparable_wide(rt.alloc())?;
-    assert_eq!(rt; key.len(), 771);
-    assert!(rt; key.as_slice().ends_with(b"\x01\0\x07"));
+fn a_wide_key_goes_deeper(rt: HostRuntime) -> Result<(), AllocError> {
+    let document = nested(rt.alloc(), &[ALONE], 256, EMPTY_ARRAY)?;
+    let found = has_wide_key(rt.alloc(), &document, 771, b"\x01\0\x07");
+    assert_eq!(rt; found, Ok(true));
     Ok(())
 }
 
@@ -52,25 +60,25 @@ fn has_same_keys(alloc: Global, document: RawJsonb<'_>, key: &mut Vec<u8>) -> Re
 }
 
 #[test]
-fn keys_in_a_vector_that_is_used_again(rt: HostRuntime) -> Result<(), Fail> {
-    let alloc = rt.alloc();
-    let mut key = Vec::new(alloc);
+fn keys_in_a_vector_that_is_used_again(rt: HostRuntime) {
+    let mut key = Vec::new(rt.alloc());
     for document in [ONE_ELEMENT, NULL, NULLS, DATE] {
-        assert!(rt;
-            has_same_keys(alloc, RawJsonb::new(document), &mut key)?,
-            "{document:?}"
-        );
+        let is_same = has_same_keys(rt.alloc(), RawJsonb::new(document), &mut key);
+        assert_eq!(rt; is_same, Ok(true), "{document:?}");
     }
-    let float = RawJsonb::new(FLOAT).convert_to_comparable_into(alloc, &mut key);
+    let float = RawJsonb::new(FLOAT).convert_to_comparable_into(rt.alloc(), &mut key);
     assert_eq!(rt; float, Err(Error::UnsupportedNumber));
     assert!(rt; key.is_empty());
-    Ok(())
+}
+
+/// Whether the sortable key of one document is below that of the other.
+fn is_below(alloc: Global, one: &[u8], other: &[u8]) -> Result<bool, Error> {
+    let low = RawJsonb::new(one).convert_to_comparable(alloc)?;
+    let high = RawJsonb::new(other).convert_to_comparable(alloc)?;
+    Ok(low.as_slice() < high.as_slice())
 }
 
 #[test]
-fn a_shorter_array_is_below(rt: HostRuntime) -> Result<(), Fail> {
-    let low = RawJsonb::new(ONE_THEN_TWO).convert_to_comparable(rt.alloc())?;
-    let high = RawJsonb::new(ONE_AND_TWO).convert_to_comparable(rt.alloc())?;
-    assert!(rt; low.as_slice() < high.as_slice());
-    Ok(())
+fn a_shorter_array_is_below(rt: HostRuntime) {
+    assert_eq!(rt; is_below(rt.alloc(), ONE_THEN_TWO, ONE_AND_TWO), Ok(true));
 }

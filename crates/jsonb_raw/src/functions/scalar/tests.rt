@@ -2,34 +2,44 @@
 
 use crate::raw::RawJsonb;
 use crate::tests::documents::DATE;
-use jsonb_doc::{Date, Error, ExtensionValue, Interval, Item, Timestamp, TimestampTz, encode_item};
+use jsonb_doc::{Date, Error, ExtensionValue, Interval, Timestamp, TimestampTz};
 use std::alloc::Global;
-use std::test::Fail;
 
-/// 1 month, 2 days and 3 microseconds.
-const INTERVAL: &[u8] = b"\x20\0\0\0\x60\0\0\x11\x40\0\0\0\x01\0\0\0\x02\0\0\0\0\0\0\0\x03";
-
-const SPAN: Interval = Interval {
-    months: 1,
-    days: 2,
-    micros: 3,
-};
-
-const DAY: Date = Date { value: 1 };
-
-const BINARY: &[u8] = b"\0\xff";
-
-const TIMESTAMP: Timestamp = Timestamp { value: -7 };
-
-const TIMESTAMP_TZ: TimestampTz = TimestampTz {
-    offset: 8,
-    value: 9,
-};
-
-/// A document of an extension.
-fn document(alloc: Global, value: ExtensionValue<'_>) -> Result<Vec<u8>, Error> {
-    encode_item(alloc, &Item::Extension(value))
-}
+/// Documents of one extension, its value, and what `kinds` says of it.
+static EXTENSIONS: [(&[u8], ExtensionValue<'static>, [bool; 6]); 5] = [
+    (
+        b"\x20\0\0\0\x60\0\0\x03\0\0\xff",
+        ExtensionValue::Binary(b"\0\xff"),
+        [true, false, false, false, false, true],
+    ),
+    (
+        DATE,
+        ExtensionValue::Date(Date { value: 1 }),
+        [false, true, false, false, false, true],
+    ),
+    (
+        b"\x20\0\0\0\x60\0\0\x09\x20\xff\xff\xff\xff\xff\xff\xff\xf9",
+        ExtensionValue::Timestamp(Timestamp { value: -7 }),
+        [false, false, true, false, false, true],
+    ),
+    (
+        b"\x20\0\0\0\x60\0\0\x0d\x30\0\0\0\x08\0\0\0\0\0\0\0\x09",
+        ExtensionValue::TimestampTz(TimestampTz {
+            offset: 8,
+            value: 9,
+        }),
+        [false, false, false, true, false, true],
+    ),
+    (
+        b"\x20\0\0\0\x60\0\0\x11\x40\0\0\0\x01\0\0\0\x02\0\0\0\0\0\0\0\x03",
+        ExtensionValue::Interval(Interval {
+            months: 1,
+            days: 2,
+            micros: 3,
+        }),
+        [false, false, false, false, true, true],
+    ),
+];
 
 /// Whether a document is said to be binary, a date, a timestamp, one with an offset, an interval, and any of these.
 fn kinds(document: &RawJsonb<'_>) -> Result<[bool; 6], Error> {
@@ -43,71 +53,33 @@ fn kinds(document: &RawJsonb<'_>) -> Result<[bool; 6], Error> {
     ])
 }
 
+/// Whether the call for its kind reads this value.
+fn is_read(
+    alloc: Global,
+    document: &RawJsonb<'_>,
+    value: ExtensionValue<'_>,
+) -> Result<bool, Error> {
+    Ok(match value {
+        ExtensionValue::Binary(bytes) => match document.as_binary(alloc)? {
+            Some(found) => found.as_slice() == bytes,
+            None => false,
+        },
+        ExtensionValue::Date(date) => document.as_date()? == Some(date),
+        ExtensionValue::Timestamp(time) => document.as_timestamp()? == Some(time),
+        ExtensionValue::TimestampTz(time) => document.as_timestamp_tz()? == Some(time),
+        ExtensionValue::Interval(span) => document.as_interval()? == Some(span),
+    })
+}
+
 #[test]
-fn an_extension_is_of_one_kind(rt: HostRuntime) -> Result<(), Fail> {
-    for (value, wanted) in [
-        (
-            ExtensionValue::Binary(BINARY),
-            [true, false, false, false, false, true],
-        ),
-        (
-            ExtensionValue::Date(DAY),
-            [false, true, false, false, false, true],
-        ),
-        (
-            ExtensionValue::Timestamp(TIMESTAMP),
-            [false, false, true, false, false, true],
-        ),
-        (
-            ExtensionValue::TimestampTz(TIMESTAMP_TZ),
-            [false, false, false, true, false, true],
-        ),
-        (
-            ExtensionValue::Interval(SPAN),
-            [false, false, false, false, true, true],
-        ),
-    ] {
-        let bytes = document(rt.alloc(), value)?;
-        assert_eq!(rt; kinds(&RawJsonb::new(bytes.as_slice()))?, wanted);
+fn an_extension_is_read_as_what_it_is(rt: HostRuntime) {
+    for (bytes, value, wanted) in &EXTENSIONS {
+        let document = RawJsonb::new(bytes);
+        assert_eq!(rt; kinds(&document), Ok(*wanted));
+        assert_eq!(rt; document.as_extension_value(), Ok(Some(*value)));
+        assert_eq!(rt; is_read(rt.alloc(), &document, *value), Ok(true));
     }
-    Ok(())
-}
-
-#[test]
-fn reads_dates_and_intervals(rt: HostRuntime) -> Result<(), Fail> {
     let date = RawJsonb::new(DATE);
-    assert_eq!(rt; date.as_date(), Ok(Some(DAY)));
     assert_eq!(rt; date.as_timestamp(), Ok(None));
-    assert_eq!(rt;
-        date.as_extension_value(),
-        Ok(Some(ExtensionValue::Date(DAY)))
-    );
-    assert!(rt; date.as_binary(rt.alloc())?.is_none());
-    assert_eq!(rt; RawJsonb::new(INTERVAL).as_interval(), Ok(Some(SPAN)));
-    Ok(())
-}
-
-#[test]
-fn reads_timestamps(rt: HostRuntime) -> Result<(), Fail> {
-    let bytes = document(rt.alloc(), ExtensionValue::Timestamp(TIMESTAMP))?;
-    assert_eq!(rt;
-        RawJsonb::new(bytes.as_slice()).as_timestamp(),
-        Ok(Some(TIMESTAMP))
-    );
-    let bytes = document(rt.alloc(), ExtensionValue::TimestampTz(TIMESTAMP_TZ))?;
-    assert_eq!(rt;
-        RawJsonb::new(bytes.as_slice()).as_timestamp_tz(),
-        Ok(Some(TIMESTAMP_TZ))
-    );
-    Ok(())
-}
-
-#[test]
-fn reads_binary(rt: HostRuntime) -> Result<(), Fail> {
-    let bytes = document(rt.alloc(), ExtensionValue::Binary(BINARY))?;
-    let found = RawJsonb::new(bytes.as_slice())
-        .as_binary(rt.alloc())?
-        .expect(&rt, "bytes");
-    assert_eq!(rt; found.as_slice(), BINARY);
-    Ok(())
+    assert!(rt; matches!(date.as_binary(rt.alloc()), Ok(None)));
 }

@@ -1,7 +1,6 @@
 //! Bytes from hexadecimal, and back.
 
-use jsonb_doc::Error;
-use std::alloc::Global;
+use std::alloc::{AllocError, Global};
 
 /// The value of a digit in small letters.
 fn value(digit: u8) -> u8 {
@@ -13,7 +12,7 @@ fn value(digit: u8) -> u8 {
 }
 
 /// The bytes that a text of digits gives.
-pub fn bytes(alloc: Global, text: &str) -> Result<Vec<u8>, Error> {
+pub fn bytes(alloc: Global, text: &str) -> Result<Vec<u8>, AllocError> {
     let mut bytes = Vec::new(alloc);
     let mut high = None;
     for digit in text.bytes() {
@@ -28,11 +27,23 @@ pub fn bytes(alloc: Global, text: &str) -> Result<Vec<u8>, Error> {
     Ok(bytes)
 }
 
-/// The bytes in hexadecimal.
-pub fn digits(alloc: Global, bytes: &[u8]) -> Result<String, Error> {
-    let mut text = String::new(alloc);
+/// The digit of a value below 16.
+fn digit(value: u8) -> char {
+    char::from_digit(u32::from(value), 16).unwrap_or('?')
+}
+
+/// Appends the bytes in hexadecimal.
+pub fn push_digits(text: &mut String, bytes: &[u8]) -> Result<(), AllocError> {
     for byte in bytes {
-        text.push_str(format!(in alloc; "{byte:02x}")?.as_str())?;
+        text.push(digit(byte >> 4))?;
+        text.push(digit(byte & 15))?;
     }
+    Ok(())
+}
+
+/// The bytes in hexadecimal.
+pub fn digits(alloc: Global, bytes: &[u8]) -> Result<String, AllocError> {
+    let mut text = String::new(alloc);
+    push_digits(&mut text, bytes)?;
     Ok(text)
 }

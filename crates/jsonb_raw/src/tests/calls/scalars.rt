@@ -1,51 +1,61 @@
 //! The rows of calls that look at the root alone.
 
-use super::truth;
 use crate::RawJsonb;
 use jsonb_doc::Error;
 use std::alloc::Global;
 use std::fmt;
 
-/// What is there as it prints, or `none`.
-fn printed<T: fmt::Display + Drop>(
+/// Whether a row says that something is so, or that it is not.
+pub fn says(wanted: &str, is_so: bool) -> bool {
+    wanted == if is_so { "true" } else { "false" }
+}
+
+/// Whether what is there prints so, or is not there where `none` is wanted.
+fn prints<T: fmt::Display + Drop>(
     alloc: Global,
     value: Result<Option<T>, Error>,
-) -> Result<String, Error> {
+    wanted: &str,
+) -> Result<bool, Error> {
     match value? {
-        Some(value) => Ok(format!(in alloc; "{value}")?),
-        None => Ok(String::from_str(alloc, "none")?),
+        Some(value) => Ok(format!(in alloc; "{value}")?.as_str() == wanted),
+        None => Ok(wanted == "none"),
     }
 }
 
-/// Of calls on the root.
-pub fn scalar_answer(alloc: Global, call: &str, document: &RawJsonb<'_>) -> Result<String, Error> {
+/// Of calls that give the value of a root, as it is or cast.
+pub fn scalar_holds(
+    alloc: Global,
+    call: &str,
+    document: &RawJsonb<'_>,
+    wanted: &str,
+) -> Result<bool, Error> {
     match call {
-        "array_length" => printed(alloc, document.array_length()),
-        "type_of" => printed(alloc, document.type_of().map(Some)),
-        "to_bool" => truth(alloc, document.to_bool()),
-        "to_i64" => printed(alloc, document.to_i64().map(Some)),
-        "to_u64" => printed(alloc, document.to_u64().map(Some)),
-        "to_str" => document.to_str(alloc),
-        _ => value_answer(alloc, call, document),
+        "array_length" => prints(alloc, document.array_length(), wanted),
+        "type_of" => prints(alloc, document.type_of().map(Some), wanted),
+        "to_i64" => prints(alloc, document.to_i64().map(Some), wanted),
+        "to_u64" => prints(alloc, document.to_u64().map(Some), wanted),
+        "to_str" => prints(alloc, document.to_str(alloc).map(Some), wanted),
+        "as_bool" => prints(alloc, document.as_bool(), wanted),
+        "as_number" => prints(alloc, document.as_number(), wanted),
+        "as_i64" => prints(alloc, document.as_i64(), wanted),
+        "as_u64" => prints(alloc, document.as_u64(), wanted),
+        "as_str" => prints(alloc, document.as_str(), wanted),
+        "as_null" => Ok(
+            wanted
+                == if document.as_null()?.is_some() {
+                    "null"
+                } else {
+                    "none"
+                },
+        ),
+        _ => kind_holds(call, document, wanted),
     }
 }
 
-/// Of calls that give the value of a root.
-fn value_answer(alloc: Global, call: &str, document: &RawJsonb<'_>) -> Result<String, Error> {
-    match call {
-        "as_null" => printed(alloc, document.as_null().map(|null| null.map(|()| "null"))),
-        "as_bool" => printed(alloc, document.as_bool()),
-        "as_number" => printed(alloc, document.as_number()),
-        "as_i64" => printed(alloc, document.as_i64()),
-        "as_u64" => printed(alloc, document.as_u64()),
-        "as_str" => printed(alloc, document.as_str()),
-        _ => kind_answer(alloc, call, document),
-    }
-}
-
-/// Of calls that tell the kind of a root.
-fn kind_answer(alloc: Global, call: &str, document: &RawJsonb<'_>) -> Result<String, Error> {
+/// Of calls that tell the kind of a root, and its truth value.
+fn kind_holds(call: &str, document: &RawJsonb<'_>, wanted: &str) -> Result<bool, Error> {
     let is_so = match call {
+        "to_bool" => document.to_bool(),
         "is_null" => document.is_null(),
         "is_boolean" => document.is_boolean(),
         "is_number" => document.is_number(),
@@ -54,7 +64,7 @@ fn kind_answer(alloc: Global, call: &str, document: &RawJsonb<'_>) -> Result<Str
         "is_object" => document.is_object(),
         "is_i64" => document.is_i64(),
         "is_u64" => document.is_u64(),
-        _ => return Ok(String::from_str(alloc, "no such call")?),
+        _ => return Ok(false),
     };
-    truth(alloc, is_so)
+    Ok(says(wanted, is_so?))
 }
