@@ -108,42 +108,32 @@ impl<T: Drop> From<AllocFailed<T>> for Error {
 #[cfg(test)]
 mod tests {
     use super::{ArithmeticFault, Error};
+    use crate::number_text::tests::prints;
     use std::test::Fail;
+
+    static NAMES: [(Error, &str); 16] = rows! {
+        Error::InvalidJsonb, "InvalidJsonb";
+        Error::UnsupportedNumber, "UnsupportedNumber";
+        Error::InvalidJsonPath, "InvalidJsonPath";
+        Error::InvalidKeyPath, "InvalidKeyPath";
+        Error::InvalidCast, "InvalidCast";
+        Error::InvalidObject, "InvalidObject";
+        Error::InvalidJsonType, "InvalidJsonType";
+        Error::ObjectDuplicateKey, "ObjectDuplicateKey";
+        Error::Arithmetic(ArithmeticFault::Overflow), "Arithmetic(Overflow)";
+        Error::Arithmetic(ArithmeticFault::ZeroDivisor), "Arithmetic(ZeroDivisor)";
+        Error::Arithmetic(ArithmeticFault::Inexact), "Arithmetic(Inexact)";
+        Error::Arithmetic(ArithmeticFault::DecimalOperand), "Arithmetic(DecimalOperand)";
+        Error::TooLarge, "TooLarge";
+        Error::TooDeep, "TooDeep";
+        Error::OutOfMemory, "OutOfMemory";
+        Error::StrictPath, "StrictPath";
+    };
 
     #[test]
     fn prints_names(rt: HostRuntime) -> Result<(), Fail> {
-        let rows = [
-            (Error::InvalidJsonb, "InvalidJsonb"),
-            (Error::UnsupportedNumber, "UnsupportedNumber"),
-            (Error::InvalidJsonPath, "InvalidJsonPath"),
-            (Error::InvalidKeyPath, "InvalidKeyPath"),
-            (Error::InvalidCast, "InvalidCast"),
-            (Error::InvalidObject, "InvalidObject"),
-            (Error::InvalidJsonType, "InvalidJsonType"),
-            (Error::ObjectDuplicateKey, "ObjectDuplicateKey"),
-            (
-                Error::Arithmetic(ArithmeticFault::Overflow),
-                "Arithmetic(Overflow)",
-            ),
-            (
-                Error::Arithmetic(ArithmeticFault::ZeroDivisor),
-                "Arithmetic(ZeroDivisor)",
-            ),
-            (
-                Error::Arithmetic(ArithmeticFault::Inexact),
-                "Arithmetic(Inexact)",
-            ),
-            (
-                Error::Arithmetic(ArithmeticFault::DecimalOperand),
-                "Arithmetic(DecimalOperand)",
-            ),
-            (Error::TooLarge, "TooLarge"),
-            (Error::TooDeep, "TooDeep"),
-            (Error::OutOfMemory, "OutOfMemory"),
-            (Error::StrictPath, "StrictPath"),
-        ];
-        for (error, text) in rows {
-            assert_eq!(rt; format!(in rt.alloc(); "{error}")?.as_str(), text);
+        for (error, text) in &NAMES {
+            assert!(rt; prints(rt.alloc(), *error, text)?, "{text}");
         }
         Ok(())
     }

@@ -140,4 +140,4 @@ fn entries_depth<'a>(words: &[u8], contents: &'a [u8]) -> Depths<'a>
 }
 
 #[cfg(test)]
-pub(crate) mod tests;
+mod tests;

@@ -2,20 +2,8 @@
 
 use super::{Decimal64, Decimal128, Number};
 use crate::error::Error;
-
-/// The same variant with the same parts, where `==` compares values, or the same refusal.
-fn is_same(read: Result<Number, Error>, wanted: Result<Number, Error>) -> bool {
-    match (read, wanted) {
-        (Ok(Number::Int64(m)), Ok(Number::Int64(n))) => m == n,
-        (Ok(Number::UInt64(m)), Ok(Number::UInt64(n))) => m == n,
-        (Ok(Number::Decimal64(m)), Ok(Number::Decimal64(n))) => m.scale == n.scale
-            && m.value == n.value,
-        (Ok(Number::Decimal128(m)), Ok(Number::Decimal128(n))) => m.scale == n.scale
-            && m.value == n.value,
-        (Err(refusal), Err(wanted)) => refusal == wanted,
-        _ => false,
-    }
-}
+use crate::reading::tests::are_alike;
+use std::test::Fail;
 
 const PRICE: Number = Number::Decimal64(Decimal64 {
     scale: 2,
@@ -33,59 +21,46 @@ const LEAST: Number = Number::Decimal128(Decimal128 {
 });
 
 /// Payloads, and the number of each or its refusal.
-const PAYLOADS: [(&[u8], Result<Number, Error>); 32] = [
-    (b"\0", Ok(Number::UInt64(0))),
-    (b"\x40\x9c", Ok(Number::Int64(-100))),
-    (b"\x40\xff\x9c", Ok(Number::Int64(-100))),
-    (b"\x40\xff\xff\xff\x9c", Ok(Number::Int64(-100))),
-    (
-        b"\x40\xff\xff\xff\xff\xff\xff\xff\x9c",
-        Ok(Number::Int64(-100)),
-    ),
-    (b"\x40\x80\0\0\0\0\0\0\0", Ok(Number::Int64(i64::MIN))),
-    (b"\x40\x05", Ok(Number::Int64(5))),
-    (b"\x40\0\0", Ok(Number::UInt64(0))),
-    (b"\x50\xff", Ok(Number::UInt64(255))),
-    (b"\x50\xff\0", Ok(Number::UInt64(65280))),
-    (b"\x50\0\0\0\x05", Ok(Number::UInt64(5))),
-    (
-        b"\x50\xff\xff\xff\xff\xff\xff\xff\xff",
-        Ok(Number::UInt64(u64::MAX)),
-    ),
-    (b"\x50\0", Ok(Number::UInt64(0))),
-    (b"\x70\0\0\0\0\0\0\x04\xd2\x02", Ok(PRICE)),
-    (b"\x70\xff\xff\xff\xff\xff\xff\xff\xfb\xff", Ok(SMALL)),
-    (b"\x70\x80\0\0\0\0\0\0\0\0\0\0\0\0\0\0\0\0", Ok(LEAST)),
-    (b"\x70\0\0\0\0\0\0\0\0\x02", Ok(Number::ZERO)),
-    (b"", Err(Error::InvalidJsonb)),
-    (b"\0\0", Err(Error::InvalidJsonb)),
-    (b"\x40", Err(Error::InvalidJsonb)),
-    (b"\x40\0\0\0", Err(Error::InvalidJsonb)),
-    (b"\x50\0\0\0\0\0", Err(Error::InvalidJsonb)),
-    (b"\x50\0\0\0\0\0\0\0\0\0", Err(Error::InvalidJsonb)),
-    (b"\x70\0\0\0\0\0\0\0\0", Err(Error::InvalidJsonb)),
-    (b"\x70\0\0\0\0\0\0\0\0\0\0", Err(Error::InvalidJsonb)),
-    (
-        b"\x70\0\0\0\0\0\0\0\0\0\0\0\0\0\0\0\0\0\0\0\0\0\0\0\0\0\0\0\0\0\0\0\0",
-        Err(Error::InvalidJsonb),
-    ),
-    (b"\x80\0", Err(Error::InvalidJsonb)),
-    (b"\x10", Err(Error::UnsupportedNumber)),
-    (b"\x20\0\0\0\0", Err(Error::UnsupportedNumber)),
-    (b"\x30\0", Err(Error::UnsupportedNumber)),
-    (b"\x60\x3f\xf8\0\0\0\0\0\0", Err(Error::UnsupportedNumber)),
-    (
-        b"\x70\0\0\0\0\0\0\0\0\0\0\0\0\0\0\0\0\0\0\0\0\0\0\0\0\0\0\0\0\0\0\0\0\0",
-        Err(Error::UnsupportedNumber),
-    ),
-];
+static PAYLOADS: [(&[u8], Result<Number, Error>); 32] = rows! {
+    b"\0", Ok(Number::UInt64(0));
+    b"\x40\x9c", Ok(Number::Int64(-100));
+    b"\x40\xff\x9c", Ok(Number::Int64(-100));
+    b"\x40\xff\xff\xff\x9c", Ok(Number::Int64(-100));
+    b"\x40\xff\xff\xff\xff\xff\xff\xff\x9c", Ok(Number::Int64(-100));
+    b"\x40\x80\0\0\0\0\0\0\0", Ok(Number::Int64(i64::MIN));
+    b"\x40\x05", Ok(Number::Int64(5));
+    b"\x40\0\0", Ok(Number::UInt64(0));
+    b"\x50\xff", Ok(Number::UInt64(255));
+    b"\x50\xff\0", Ok(Number::UInt64(65280));
+    b"\x50\0\0\0\x05", Ok(Number::UInt64(5));
+    b"\x50\xff\xff\xff\xff\xff\xff\xff\xff", Ok(Number::UInt64(u64::MAX));
+    b"\x50\0", Ok(Number::UInt64(0));
+    b"\x70\0\0\0\0\0\0\x04\xd2\x02", Ok(PRICE);
+    b"\x70\xff\xff\xff\xff\xff\xff\xff\xfb\xff", Ok(SMALL);
+    b"\x70\x80\0\0\0\0\0\0\0\0\0\0\0\0\0\0\0\0", Ok(LEAST);
+    b"\x70\0\0\0\0\0\0\0\0\x02", Ok(Number::ZERO);
+    b"", Err(Error::InvalidJsonb);
+    b"\0\0", Err(Error::InvalidJsonb);
+    b"\x40", Err(Error::InvalidJsonb);
+    b"\x40\0\0\0", Err(Error::InvalidJsonb);
+    b"\x50\0\0\0\0\0", Err(Error::InvalidJsonb);
+    b"\x50\0\0\0\0\0\0\0\0\0", Err(Error::InvalidJsonb);
+    b"\x70\0\0\0\0\0\0\0\0", Err(Error::InvalidJsonb);
+    b"\x70\0\0\0\0\0\0\0\0\0\0", Err(Error::InvalidJsonb);
+    b"\x70\0\0\0\0\0\0\0\0\0\0\0\0\0\0\0\0\0\0\0\0\0\0\0\0\0\0\0\0\0\0\0\0", Err(Error::InvalidJsonb);
+    b"\x80\0", Err(Error::InvalidJsonb);
+    b"\x10", Err(Error::UnsupportedNumber);
+    b"\x20\0\0\0\0", Err(Error::UnsupportedNumber);
+    b"\x30\0", Err(Error::UnsupportedNumber);
+    b"\x60\x3f\xf8\0\0\0\0\0\0", Err(Error::UnsupportedNumber);
+    b"\x70\0\0\0\0\0\0\0\0\0\0\0\0\0\0\0\0\0\0\0\0\0\0\0\0\0\0\0\0\0\0\0\0\0", Err(Error::UnsupportedNumber);
+};
 
 #[test]
-fn reads_payloads_and_refuses_others(rt: HostRuntime) {
-    for (payload, wanted) in PAYLOADS {
-        assert!(rt;
-            is_same(Number::from_payload(payload), wanted),
-            "{payload:?}"
-        );
+fn reads_payloads_and_refuses_others(rt: HostRuntime) -> Result<(), Fail> {
+    for (payload, wanted) in &PAYLOADS {
+        let is_so = are_alike(rt.alloc(), Number::from_payload(payload), *wanted)?;
+        assert!(rt; is_so, "{payload:?}");
     }
+    Ok(())
 }

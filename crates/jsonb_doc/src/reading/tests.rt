@@ -5,8 +5,8 @@ use crate::error::Error;
 use crate::extension::{Date, ExtensionValue, Interval};
 use crate::item::Item;
 use crate::number::{Decimal64, Number};
-use std::alloc::Global;
-use std::process::Abort;
+use std::alloc::{AllocError, Global};
+use std::fmt::Debug;
 use std::test::Fail;
 
 /// `[false, 10, {"k":"v"}]`
@@ -56,125 +56,104 @@ const SPAN: ExtensionValue<'static> = ExtensionValue::Interval(Interval {
 });
 
 /// Documents of one value or of parts, and their item or refusal.
-const ROOTS: [(&[u8], Result<Item<'static>, Error>); 14] = [
-    (
-        b"\x20\0\0\0\x20\0\0\x02\x40\x9c",
-        Ok(Item::Number(Number::Int64(-100))),
-    ),
-    (
-        b"\x20\0\0\0\x20\0\0\x0a\x70\0\0\0\0\0\0\x04\xd2\x02",
-        Ok(Item::Number(PRICE)),
-    ),
-    (
-        b"\x20\0\0\0\x20\0\0\x01\0",
-        Ok(Item::Number(Number::UInt64(0))),
-    ),
-    (
-        b"\x20\0\0\0\x20\0\0\x0a\x70\0\0\0\0\0\0\0\0\x02",
-        Ok(Item::Number(Number::UInt64(0))),
-    ),
-    (
-        b"\x20\0\0\0\x20\0\0\x09\x60\x3f\xf8\0\0\0\0\0\0",
-        Err(Error::UnsupportedNumber),
-    ),
-    (
-        b"\x20\0\0\0\x20\0\0\x22\x70\0\0\0\0\0\0\0\0\0\0\0\0\0\0\0\0\0\0\0\0\0\0\0\0\0\0\0\0\0\0\0\0\0",
-        Err(Error::UnsupportedNumber),
-    ),
-    (b"\x20\0\0\0\0\0\0\0", Ok(Item::Null)),
-    (b"\x20\0\0\0\x30\0\0\0", Ok(Item::Boolean(false))),
-    (b"\x20\0\0\0\x40\0\0\0", Ok(Item::Boolean(true))),
-    (
-        DATE,
-        Ok(Item::Extension(ExtensionValue::Date(Date { value: 1 }))),
-    ),
-    (
-        b"\x20\0\0\0\x60\0\0\x11\x40\0\0\0\x01\0\0\0\x02\0\0\0\0\0\0\0\x03",
-        Ok(Item::Extension(SPAN)),
-    ),
-    (b"\x20\0\0\0\x10\0\0\x01v", Ok(Item::String("v"))),
-    (MIXED, Ok(Item::Array(MIXED))),
-    (NULLS, Ok(Item::Object(NULLS))),
-];
+static ROOTS: [(&[u8], Result<Item<'static>, Error>); 14] = rows! {
+    b"\x20\0\0\0\x20\0\0\x02\x40\x9c", Ok(Item::Number(Number::Int64(-100)));
+    b"\x20\0\0\0\x20\0\0\x0a\x70\0\0\0\0\0\0\x04\xd2\x02", Ok(Item::Number(PRICE));
+    b"\x20\0\0\0\x20\0\0\x01\0", Ok(Item::Number(Number::UInt64(0)));
+    b"\x20\0\0\0\x20\0\0\x0a\x70\0\0\0\0\0\0\0\0\x02", Ok(Item::Number(Number::UInt64(0)));
+    b"\x20\0\0\0\x20\0\0\x09\x60\x3f\xf8\0\0\0\0\0\0", Err(Error::UnsupportedNumber);
+    b"\x20\0\0\0\x20\0\0\x22\x70\0\0\0\0\0\0\0\0\0\0\0\0\0\0\0\0\0\0\0\0\0\0\0\0\0\0\0\0\0\0\0\0\0",
+        Err(Error::UnsupportedNumber);
+    b"\x20\0\0\0\0\0\0\0", Ok(Item::Null);
+    b"\x20\0\0\0\x30\0\0\0", Ok(Item::Boolean(false));
+    b"\x20\0\0\0\x40\0\0\0", Ok(Item::Boolean(true));
+    DATE, Ok(Item::Extension(ExtensionValue::Date(Date { value: 1 })));
+    b"\x20\0\0\0\x60\0\0\x11\x40\0\0\0\x01\0\0\0\x02\0\0\0\0\0\0\0\x03", Ok(Item::Extension(SPAN));
+    b"\x20\0\0\0\x10\0\0\x01v", Ok(Item::String("v"));
+    MIXED, Ok(Item::Array(MIXED));
+    NULLS, Ok(Item::Object(NULLS));
+};
 
-/// Asserts that an item is read so. Their texts tell a number's variant, where `==` compares values.
-fn assert_item(
-    rt: &impl Abort,
+/// What a call reads of a container, if it has such parts.
+type Parts<T> = Option<&'static [Result<T, Error>]>;
+
+/// A call, and what it reads.
+#[derive(Clone, Copy)]
+enum Read {
+    Elements(Parts<Item<'static>>),
+    Values(Parts<Item<'static>>),
+    Keys(Parts<&'static str>),
+    Pairs(Parts<(&'static str, Item<'static>)>),
+}
+
+/// Containers and others, and what is read of them.
+static CONTAINERS: [(&[u8], Read); 12] = rows! {
+    MIXED, Read::Elements(Some(&[
+        Ok(Item::Boolean(false)), Ok(Item::Number(Number::UInt64(10))), Ok(Item::Object(PAIR))
+    ]));
+    FLOAT_IN_ARRAY, Read::Elements(Some(&[Err(Error::UnsupportedNumber)]));
+    NULLS, Read::Elements(None);
+    TEN, Read::Elements(None);
+    NULLS, Read::Values(Some(&[Ok(Item::Null), Ok(Item::Array(NULL_ALONE))]));
+    FLOAT_IN_OBJECT, Read::Values(Some(&[Err(Error::UnsupportedNumber)]));
+    MIXED, Read::Values(None);
+    NULLS, Read::Keys(Some(&[Ok("a"), Ok("b")]));
+    MIXED, Read::Keys(None);
+    NULLS, Read::Pairs(Some(&[Ok(("a", Item::Null)), Ok(("b", Item::Array(NULL_ALONE)))]));
+    FLOAT_IN_OBJECT, Read::Pairs(Some(&[Err(Error::UnsupportedNumber)]));
+    TEN, Read::Pairs(None);
+};
+
+/// Whether both print the same. Their texts tell a number's variant, where `==` compares values.
+pub(crate) fn are_alike<T: Debug + Copy>(
     alloc: Global,
-    item: Option<Result<Item<'_>, Error>>,
-    wanted: Option<Result<Item<'_>, Error>>,
-) -> Result<(), Fail> {
-    let item = format!(in alloc; "{item:?}")?;
+    found: T,
+    wanted: T,
+) -> Result<bool, AllocError> {
+    let found = format!(in alloc; "{found:?}")?;
     let wanted = format!(in alloc; "{wanted:?}")?;
-    assert_eq!(rt; item.as_str(), wanted.as_str());
-    Ok(())
+    Ok(found == wanted)
 }
 
 #[test]
 fn reads_roots_and_refuses_floats(rt: HostRuntime) -> Result<(), Fail> {
-    for (bytes, wanted) in ROOTS {
-        assert_item(&rt, rt.alloc(), Some(root_item(bytes)), Some(wanted))?;
+    for (bytes, wanted) in &ROOTS {
+        let is_so = are_alike(rt.alloc(), root_item(bytes), *wanted)?;
+        assert!(rt; is_so, "{bytes:?}");
     }
     Ok(())
 }
 
-#[test]
-fn reads_elements_and_values(rt: HostRuntime) -> Result<(), Fail> {
-    let alloc = rt.alloc();
-    let mut items = elements(MIXED)?.ok_or("no array")?;
-    assert_item(&rt, alloc, items.next(), Some(Ok(Item::Boolean(false))))?;
-    assert_item(
-        &rt,
-        alloc,
-        items.next(),
-        Some(Ok(Item::Number(Number::UInt64(10)))),
-    )?;
-    assert_item(&rt, alloc, items.next(), Some(Ok(Item::Object(PAIR))))?;
-    assert_item(&rt, alloc, items.next(), None)?;
-    assert_item(&rt, alloc, items.next(), None)?;
-    let mut items = elements(FLOAT_IN_ARRAY)?.ok_or("no array")?;
-    assert_item(
-        &rt,
-        alloc,
-        items.next(),
-        Some(Err(Error::UnsupportedNumber)),
-    )?;
-    assert!(rt; elements(NULLS)?.is_none());
-    assert!(rt; elements(TEN)?.is_none());
-    let mut items = values(NULLS)?.ok_or("no object")?;
-    assert_item(&rt, alloc, items.next(), Some(Ok(Item::Null)))?;
-    assert_item(&rt, alloc, items.next(), Some(Ok(Item::Array(NULL_ALONE))))?;
-    assert_item(&rt, alloc, items.next(), None)?;
-    let mut items = values(FLOAT_IN_OBJECT)?.ok_or("no object")?;
-    assert_item(
-        &rt,
-        alloc,
-        items.next(),
-        Some(Err(Error::UnsupportedNumber)),
-    )?;
-    assert!(rt; values(MIXED)?.is_none());
-    Ok(())
+/// Whether `next` answers these parts and then twice `None`, or there are no such parts.
+macro_rules! are_parts {
+    ($alloc:ident, $parts:expr, $wanted:ident) => {
+        match ($parts, $wanted) {
+            (Some(mut parts), Some(wanted)) => {
+                let mut is_so = true;
+                for part in wanted {
+                    is_so = are_alike($alloc, parts.next(), Some(*part))? && is_so;
+                }
+                Ok(is_so && parts.next().is_none() && parts.next().is_none())
+            }
+            (None, None) => Ok(true),
+            _ => Ok(false),
+        }
+    };
+}
+
+fn is_read(alloc: Global, bytes: &'static [u8], read: Read) -> Result<bool, Error> {
+    match read {
+        Read::Elements(wanted) => are_parts!(alloc, elements(bytes)?, wanted),
+        Read::Values(wanted) => are_parts!(alloc, values(bytes)?, wanted),
+        Read::Keys(wanted) => are_parts!(alloc, keys(bytes)?, wanted),
+        Read::Pairs(wanted) => are_parts!(alloc, pairs(bytes)?, wanted),
+    }
 }
 
 #[test]
-fn reads_keys_and_pairs(rt: HostRuntime) -> Result<(), Fail> {
-    let mut names = keys(NULLS)?.ok_or("no object")?;
-    assert_eq!(rt; names.next(), Some(Ok("a")));
-    assert_eq!(rt; names.next(), Some(Ok("b")));
-    assert_eq!(rt; names.next(), None);
-    assert!(rt; keys(MIXED)?.is_none());
-    let mut members = pairs(NULLS)?.ok_or("no object")?;
-    let is_null = matches!(members.next(), Some(Ok(("a", Item::Null))));
-    assert!(rt; is_null);
-    let is_array = matches!(
-        members.next(),
-        Some(Ok(("b", Item::Array(b"\x80\0\0\x01\0\0\0\0"))))
-    );
-    assert!(rt; is_array);
-    assert!(rt; members.next().is_none());
-    let mut members = pairs(FLOAT_IN_OBJECT)?.ok_or("no object")?;
-    let is_refused = matches!(members.next(), Some(Err(Error::UnsupportedNumber)));
-    assert!(rt; is_refused);
-    assert!(rt; pairs(TEN)?.is_none());
+fn reads_parts_of_containers(rt: HostRuntime) -> Result<(), Fail> {
+    for (bytes, read) in &CONTAINERS {
+        assert!(rt; is_read(rt.alloc(), bytes, *read)?, "{bytes:?}");
+    }
     Ok(())
 }

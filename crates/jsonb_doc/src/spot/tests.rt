@@ -4,12 +4,50 @@ use crate::error::Error;
 use crate::extension::{Date, ExtensionValue};
 use crate::item::Item;
 use crate::number::Number;
-use crate::reading::tests::{DATE, FRED, MIXED, PAIR};
+use crate::reading::tests::{DATE, FRED, MIXED, PAIR, are_alike};
 use crate::spot::{Spot, child_spots, field_spot, root_spot, spot_document, spot_item};
+use std::alloc::Global;
 use std::test::Fail;
 
 /// `[1]`
 const ONE: &[u8] = b"\x80\0\0\x01\x20\0\0\x02\x50\x01";
+
+/// `[{"number":3720453,"type":"home"},{"number":5062051,"type":"work"}]`
+const PHONES: &[u8] = b"\x80\0\0\x02\x50\0\0\x27\x50\0\0\x27\
+      \x40\0\0\x02\x10\0\0\x06\x10\0\0\x04\x20\0\0\x05\x10\0\0\x04numbertype\x50\0\x38\xc5\x05home\
+      \x40\0\0\x02\x10\0\0\x06\x10\0\0\x04\x20\0\0\x05\x10\0\0\x04numbertype\x50\0\x4d\x3d\xa3work";
+
+/// A step from a spot to one below it.
+#[derive(Clone, Copy, Debug)]
+enum Step {
+    Child(usize),
+    Member(&'static str),
+}
+
+/// Documents, the steps from the root to a part of it, and the item and the document of the part, if it is there.
+static PARTS: [(&[u8], &[Step], Option<(Item<'static>, &[u8])>); 17] = rows! {
+    FRED, &[Step::Member("phones"), Step::Child(0), Step::Member("number")],
+        Some((Item::Number(Number::UInt64(3720453)), b"\x20\0\0\0\x20\0\0\x05\x50\0\x38\xc5\x05"));
+    FRED, &[Step::Member("phones"), Step::Child(1), Step::Member("number")],
+        Some((Item::Number(Number::UInt64(5062051)), b"\x20\0\0\0\x20\0\0\x05\x50\0\x4d\x3d\xa3"));
+    FRED, &[Step::Member("phones"), Step::Child(2)], None;
+    MIXED, &[Step::Child(2), Step::Member("k")], Some((Item::String("v"), b"\x20\0\0\0\x10\0\0\x01v"));
+    MIXED, &[Step::Child(0)], Some((Item::Boolean(false), b"\x20\0\0\0\x30\0\0\0"));
+    MIXED, &[Step::Child(1)], Some((Item::Number(Number::UInt64(10)), b"\x20\0\0\0\x20\0\0\x02\x50\x0a"));
+    MIXED, &[Step::Child(2)], Some((Item::Object(PAIR), PAIR));
+    FRED, &[Step::Child(0)], Some((Item::String("Fred"), b"\x20\0\0\0\x10\0\0\x04Fred"));
+    DATE, &[], Some((Item::Extension(ExtensionValue::Date(Date { value: 1 })), DATE));
+    FRED, &[Step::Member("phones")], Some((Item::Array(PHONES), PHONES));
+    FRED, &[Step::Member("phone")], None;
+    FRED, &[Step::Member("phoness")], None;
+    // as long as a key
+    FRED, &[Step::Member("nave")], None;
+    FRED, &[Step::Member("")], None;
+    // of an array and of a scalar
+    MIXED, &[Step::Member("k")], None;
+    DATE, &[Step::Member("")], None;
+    DATE, &[Step::Child(0)], None;
+};
 
 fn child_at(bytes: &[u8], spot: Spot, place: usize) -> Result<Option<Spot>, Error> {
     let Some(children) = child_spots(bytes, spot)? else {
@@ -26,154 +64,128 @@ fn child_at(bytes: &[u8], spot: Spot, place: usize) -> Result<Option<Spot>, Erro
     Ok(None)
 }
 
-fn phone_number(place: usize) -> Result<Option<Number>, Error> {
-    let Some(phones) = field_spot(FRED, root_spot(FRED)?, "phones")? else {
-        return Ok(None);
-    };
-    let Some(phone) = child_at(FRED, phones, place)? else {
-        return Ok(None);
-    };
-    let Some(number) = field_spot(FRED, phone, "number")? else {
-        return Ok(None);
-    };
-    match spot_item(FRED, number)? {
-        Item::Number(number) => Ok(Some(number)),
-        _ => Ok(None),
+fn spot_at(bytes: &[u8], steps: &[Step]) -> Result<Option<Spot>, Error> {
+    let mut spot = root_spot(bytes)?;
+    for step in steps {
+        let next = match step {
+            Step::Child(place) => child_at(bytes, spot, *place)?,
+            Step::Member(name) => field_spot(bytes, spot, name)?,
+        };
+        let Some(next) = next else {
+            return Ok(None);
+        };
+        spot = next;
     }
+    Ok(Some(spot))
+}
+
+/// Whether the part at these steps has this item and this document, or there is none.
+fn has_part<'a>(
+    alloc: Global,
+    bytes: &'a [u8],
+    steps: &[Step],
+    wanted: Option<(Item<'a>, &[u8])>,
+) -> Result<bool, Error> {
+    let Some(spot) = spot_at(bytes, steps)? else {
+        return Ok(wanted.is_none());
+    };
+    let Some((item, document)) = wanted else {
+        return Ok(false);
+    };
+    let is_item = are_alike(alloc, spot_item(bytes, spot)?, item)?;
+    let copy = spot_document(alloc, bytes, spot)?;
+    Ok(is_item && copy.as_slice() == document)
 }
 
 #[test]
-fn finds_members_of_children(rt: HostRuntime) -> Result<(), Fail> {
-    assert_eq!(rt; phone_number(0)?, Some(Number::UInt64(3720453)));
-    assert_eq!(rt; phone_number(1)?, Some(Number::UInt64(5062051)));
-    assert_eq!(rt; phone_number(2)?, None);
-    let pair = child_at(MIXED, root_spot(MIXED)?, 2)?.ok_or("no child")?;
-    let value = field_spot(MIXED, pair, "k")?.ok_or("no member")?;
-    let is_text = matches!(spot_item(MIXED, value), Ok(Item::String("v")));
-    assert!(rt; is_text);
-    Ok(())
-}
-
-#[test]
-fn reads_and_copies_children(rt: HostRuntime) -> Result<(), Fail> {
-    let ten = Item::Number(Number::UInt64(10));
-    for (bytes, place, wanted, document) in [
-        (
-            MIXED,
-            0,
-            Item::Boolean(false),
-            b"\x20\0\0\0\x30\0\0\0".as_slice(),
-        ),
-        (MIXED, 1, ten, b"\x20\0\0\0\x20\0\0\x02\x50\x0a".as_slice()),
-        (MIXED, 2, Item::Object(PAIR), PAIR),
-        (
-            FRED,
-            0,
-            Item::String("Fred"),
-            b"\x20\0\0\0\x10\0\0\x04Fred".as_slice(),
-        ),
-    ] {
-        let spot = child_at(bytes, root_spot(bytes)?, place)?.ok_or("no child")?;
-        let item = spot_item(bytes, spot)?;
-        let found = format!(in rt.alloc(); "{item:?}")?;
-        let wanted = format!(in rt.alloc(); "{wanted:?}")?;
-        assert_eq!(rt; found.as_str(), wanted.as_str());
-        let copy = spot_document(rt.alloc(), bytes, spot)?;
-        assert_eq!(rt; copy.as_slice(), document);
+fn finds_and_copies_parts(rt: HostRuntime) -> Result<(), Fail> {
+    for (bytes, steps, wanted) in &PARTS {
+        let is_so = has_part(rt.alloc(), bytes, steps, *wanted)?;
+        assert!(rt; is_so, "{steps:?} in {bytes:?}");
     }
     Ok(())
 }
 
-/// How many children there are, and whether the last of them is a container.
-fn counted(bytes: &[u8]) -> Result<(usize, bool), Error> {
-    let Some(children) = child_spots(bytes, root_spot(bytes)?)? else {
-        return Ok((0, false));
+/// Documents, how many children each has, if it is a container, and whether the last of them is one.
+static COUNTED: [(&[u8], Option<(usize, bool)>); 5] = rows! {
+    MIXED, Some((3, true));
+    FRED, Some((2, true));
+    ONE, Some((1, false));
+    b"\x80\0\0\0", Some((0, false));
+    DATE, None;
+};
+
+fn counted(bytes: &[u8], root: Spot) -> Result<Option<(usize, bool)>, Error> {
+    let Some(children) = child_spots(bytes, root)? else {
+        return Ok(None);
     };
     let mut is_container = false;
     for child in children {
         is_container = child?.is_container();
     }
-    Ok((children.len(), is_container))
+    Ok(Some((children.len(), is_container)))
 }
 
 #[test]
 fn counts_children(rt: HostRuntime) -> Result<(), Fail> {
-    for (bytes, wanted) in [
-        (MIXED, (3, true)),
-        (FRED, (2, true)),
-        (ONE, (1, false)),
-        (b"\x80\0\0\0".as_slice(), (0, false)),
-        (DATE, (0, false)),
-    ] {
-        assert_eq!(rt; counted(bytes)?, wanted, "{bytes:?}");
+    for (bytes, wanted) in &COUNTED {
+        let root = root_spot(bytes)?;
+        let is_so = root.is_container() == wanted.is_some() && counted(bytes, root)? == *wanted;
+        assert!(rt; is_so, "{bytes:?}");
     }
-    assert!(rt; root_spot(ONE)?.is_container());
-    let date = root_spot(DATE)?;
-    assert!(rt; !date.is_container());
-    assert!(rt; child_spots(DATE, date)?.is_none());
-    let is_date = matches!(
-        spot_item(DATE, date),
-        Ok(Item::Extension(ExtensionValue::Date(Date { value: 1 })))
-    );
-    assert!(rt; is_date);
-    let copy = spot_document(rt.alloc(), DATE, date)?;
-    assert_eq!(rt; copy.as_slice(), DATE);
     Ok(())
 }
 
-#[test]
-fn finds_only_whole_keys(rt: HostRuntime) -> Result<(), Fail> {
-    for (bytes, key, is_there) in [
-        (FRED, "phones", true),
-        (FRED, "phone", false),
-        (FRED, "phoness", false),
-        // as long as a key
-        (FRED, "nave", false),
-        (FRED, "", false),
-        // of an array and of a scalar
-        (MIXED, "k", false),
-        (DATE, "", false),
-    ] {
-        let found = field_spot(bytes, root_spot(bytes)?, key)?;
-        assert_eq!(rt; found.is_some(), is_there, "{key} in {bytes:?}");
+/// What is asked of a spot, or of the bytes alone.
+#[derive(Clone, Copy)]
+enum Asked {
+    Root,
+    Item,
+    Children,
+    FirstChild,
+    Name,
+    Copy,
+}
+
+/// `[1]` with an element that is longer than the bytes.
+const LONG: &[u8] = b"\x80\0\0\x01\x20\0\0\x09\x50\x01";
+
+/// `[1]` with a word of no kind.
+const UNKNOWN: &[u8] = b"\x80\0\0\x01\x80\0\0\x02\x50\x01";
+
+/// What is asked, the bytes that it is asked of, and those whose root is the spot.
+static REFUSED: [(&str, Asked, &[u8], &[u8]); 10] = rows! {
+    "an item past the end", Asked::Item, ONE, FRED;
+    "children past the end", Asked::Children, ONE, FRED;
+    "a member past the end", Asked::Name, ONE, FRED;
+    "a copy past the end", Asked::Copy, ONE, FRED;
+    // ten bytes, too few for the words that the object counts
+    "children that are cut off", Asked::Children, FRED, ONE;
+    "a member that is cut off", Asked::Name, FRED, ONE;
+    "no bytes", Asked::Root, b"", ONE;
+    "no entry", Asked::Root, b"\x20\0\0\0", ONE;
+    "an element that is cut off", Asked::FirstChild, LONG, LONG;
+    "a word of no kind", Asked::FirstChild, UNKNOWN, UNKNOWN;
+};
+
+fn refusal(alloc: Global, asked: Asked, bytes: &[u8], spot: Spot) -> Option<Error> {
+    match asked {
+        Asked::Root => root_spot(bytes).err(),
+        Asked::Item => spot_item(bytes, spot).err(),
+        Asked::Children => child_spots(bytes, spot).err(),
+        Asked::FirstChild => child_at(bytes, spot, 0).err(),
+        Asked::Name => field_spot(bytes, spot, "name").err(),
+        Asked::Copy => spot_document(alloc, bytes, spot).err(),
     }
-    Ok(())
 }
 
 #[test]
 fn refuses_spots_of_other_bytes_and_damage(rt: HostRuntime) -> Result<(), Fail> {
-    let past = root_spot(FRED)?;
-    // ten bytes, too few for the words that the object counts
-    let short = root_spot(ONE)?;
-    let is_object = matches!(spot_item(FRED, short), Ok(Item::Object(_)));
-    assert!(rt; is_object);
-    let long = b"\x80\0\0\x01\x20\0\0\x09\x50\x01".as_slice();
-    let unknown = b"\x80\0\0\x01\x80\0\0\x02\x50\x01".as_slice();
-    for (asked, refused) in [
-        ("an item past the end", spot_item(ONE, past).err()),
-        ("children past the end", child_spots(ONE, past).err()),
-        ("a member past the end", field_spot(ONE, past, "name").err()),
-        (
-            "a copy past the end",
-            spot_document(rt.alloc(), ONE, past).err(),
-        ),
-        ("children that are cut off", child_spots(FRED, short).err()),
-        (
-            "a member that is cut off",
-            field_spot(FRED, short, "name").err(),
-        ),
-        ("no bytes", root_spot(b"").err()),
-        ("no entry", root_spot(b"\x20\0\0\0").err()),
-        (
-            "an element that is longer than the bytes",
-            child_at(long, root_spot(long)?, 0).err(),
-        ),
-        (
-            "a word of no kind",
-            child_at(unknown, root_spot(unknown)?, 0).err(),
-        ),
-    ] {
-        assert_eq!(rt; refused, Some(Error::InvalidJsonb), "{asked}");
+    for (row, asked, bytes, other) in &REFUSED {
+        let refused = refusal(rt.alloc(), *asked, bytes, root_spot(other)?);
+        assert!(rt; refused == Some(Error::InvalidJsonb), "{row}");
     }
+    let is_object = matches!(spot_item(FRED, root_spot(ONE)?), Ok(Item::Object(_)));
+    assert!(rt; is_object);
     Ok(())
 }

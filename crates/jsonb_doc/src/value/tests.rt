@@ -6,7 +6,163 @@ use crate::item::Item;
 use crate::number::Decimal64;
 use crate::reading::root_item;
 use crate::reading::tests::{DATE, FRED, MIXED, NULLS};
+use std::alloc::AllocError;
 use std::test::Fail;
+
+/// A month, two days and three microseconds.
+const SPAN: Interval = Interval {
+    months: 1,
+    days: 2,
+    micros: 3,
+};
+
+/// What a value holds itself.
+#[derive(Clone, Copy)]
+enum Held {
+    Null,
+    Bool(bool),
+    Borrowed(&'static str),
+    Owned(&'static str),
+    UInt64(u64),
+    /// The scale and the digits.
+    Decimal64(u8, i64),
+    Binary(&'static [u8]),
+    Date(i32),
+    Interval(Interval),
+    /// So many elements.
+    Array(usize),
+    /// Members under these keys.
+    Object(&'static [&'static str]),
+}
+
+impl Held {
+    fn is_in(self, value: &Value<'_>) -> bool {
+        match (value, self) {
+            (Value::Null, Held::Null) => true,
+            (Value::Bool(found), Held::Bool(wanted)) => *found == wanted,
+            (Value::String(CowStr::Borrowed(found)), Held::Borrowed(wanted)) => *found == wanted,
+            (Value::String(CowStr::Owned(found)), Held::Owned(wanted)) => found.as_str() == wanted,
+            (Value::Number(Number::UInt64(found)), Held::UInt64(wanted)) => *found == wanted,
+            (Value::Number(Number::Decimal64(found)), Held::Decimal64(scale, digits)) => {
+                found.scale == scale && found.value == digits
+            }
+            (Value::Binary(found), Held::Binary(wanted)) => *found == wanted,
+            (Value::Date(found), Held::Date(wanted)) => found.value == wanted,
+            (Value::Interval(found), Held::Interval(wanted)) => *found == wanted,
+            (Value::Array(values), Held::Array(count)) => values.len() == count,
+            (Value::Object(members), Held::Object(keys)) => {
+                members.len() == keys.len() && keys.iter().all(|key| members.contains_key(*key))
+            }
+            _ => false,
+        }
+    }
+}
+
+/// Adds the parts of a container.
+fn push_parts<'v, 'a>(
+    parts: &mut Vec<&'v Value<'a>>,
+    value: &'v Value<'a>,
+) -> Result<(), AllocError> {
+    match value {
+        Value::Array(values) => {
+            for part in values {
+                parts.push(part)?;
+            }
+        }
+        Value::Object(members) => {
+            for (_, part) in members {
+                parts.push(part)?;
+            }
+        }
+        _ => {}
+    }
+    Ok(())
+}
+
+/// Whether the value and its parts, level by level, are these.
+fn holds(alloc: Global, value: &Value<'_>, wanted: &[Held]) -> Result<bool, AllocError> {
+    let mut parts = Vec::new(alloc);
+    parts.push(value)?;
+    for (place, held) in wanted.iter().enumerate() {
+        if place >= parts.len() || !held.is_in(parts[place]) {
+            return Ok(false);
+        }
+        let part = parts[place];
+        push_parts(&mut parts, part)?;
+    }
+    Ok(parts.len() == wanted.len())
+}
+
+fn decoded(alloc: Global, bytes: &[u8]) -> Result<Value<'_>, Error> {
+    to_value(alloc, &root_item(bytes)?)
+}
+
+/// Documents, and what their values hold, level by level.
+static DECODED: [(&[u8], &[Held]); 7] = rows! {
+    MIXED, &[Held::Array(3), Held::Bool(false), Held::UInt64(10), Held::Object(&["k"]), Held::Borrowed("v")];
+    NULLS, &[Held::Object(&["a", "b"]), Held::Null, Held::Array(1), Held::Null];
+    FRED, &[
+        Held::Object(&["name", "phones"]), Held::Borrowed("Fred"), Held::Array(2),
+        Held::Object(&["number", "type"]), Held::Object(&["number", "type"]),
+        Held::UInt64(3_720_453), Held::Borrowed("home"), Held::UInt64(5_062_051), Held::Borrowed("work")
+    ];
+    // {"asd":"adf"}
+    b"\x40\0\0\x01\x10\0\0\x03\x10\0\0\x03asdadf", &[Held::Object(&["asd"]), Held::Borrowed("adf")];
+    DATE, &[Held::Date(1)];
+    b"\x20\0\0\0\x60\0\0\x11\x40\0\0\0\x01\0\0\0\x02\0\0\0\0\0\0\0\x03", &[Held::Interval(SPAN)];
+    b"\x20\0\0\0\x60\0\0\x03\0\xff\0", &[Held::Binary(b"\xff\0")];
+};
+
+fn decodes_as(alloc: Global, bytes: &[u8], wanted: &[Held]) -> Result<bool, Error> {
+    let value = decoded(alloc, bytes)?;
+    Ok(holds(alloc, &value, wanted)?)
+}
+
+/// Bytes that don't decode.
+static REFUSED: [(&[u8], Error); 2] = rows! {
+    // an entry word without its content
+    b"\x80\0\0\x01\x20\0\0\x02", Error::InvalidJsonb;
+    // a float in an array
+    b"\x80\0\0\x01\x20\0\0\x09\x60\x3f\xf8\0\0\0\0\0\0", Error::UnsupportedNumber;
+};
+
+#[test]
+fn decodes_documents_and_refuses_damaged_bytes(rt: HostRuntime) -> Result<(), Fail> {
+    for (bytes, wanted) in &DECODED {
+        assert!(rt; decodes_as(rt.alloc(), bytes, wanted)?, "{bytes:?}");
+    }
+    for (bytes, refusal) in &REFUSED {
+        assert_eq!(rt; decoded(rt.alloc(), bytes).err(), Some(*refusal));
+    }
+    Ok(())
+}
+
+/// Documents, and what their values print.
+static PRINTED: [(&[u8], &str); 7] = rows! {
+    b"\x20\0\0\0\0\0\0\0", "Null";
+    b"\x20\0\0\0\x40\0\0\0", "Bool(true)";
+    b"\x20\0\0\0\x10\0\0\x02a\n", "String(\"a\\n\")";
+    // the decimal of scale 1 and -15
+    b"\x20\0\0\0\x20\0\0\x0a\x70\xff\xff\xff\xff\xff\xff\xff\xf1\x01", "Number(-1.5)";
+    DATE, "Date { value: 1 }";
+    // [1,2]
+    b"\x80\0\0\x02\x20\0\0\x02\x20\0\0\x02\x50\x01\x50\x02", "Array of 2";
+    // {"k":null}
+    b"\x40\0\0\x01\x10\0\0\x01\0\0\0\0k", "Object of 1";
+};
+
+fn prints(alloc: Global, bytes: &[u8], wanted: &str) -> Result<bool, Error> {
+    let value = decoded(alloc, bytes)?;
+    Ok(format!(in alloc; "{value:?}")?.as_str() == wanted)
+}
+
+#[test]
+fn prints_kinds(rt: HostRuntime) -> Result<(), Fail> {
+    for (bytes, wanted) in &PRINTED {
+        assert!(rt; prints(rt.alloc(), bytes, wanted)?, "{wanted}");
+    }
+    Ok(())
+}
 
 /// `[1,"a"]`
 const ONE_AND_A: &[u8] = b"\x80\0\0\x02\x20\0\0\x02\x10\0\0\x01\x50\x01a";
@@ -20,43 +176,58 @@ const TENTHS_AND_B: &[u8] = b"\x80\0\0\x02\x20\0\0\x0a\x10\0\0\x01\x70\0\0\0\0\0
 /// `[1]`
 const ONE_ALONE: &[u8] = b"\x80\0\0\x01\x20\0\0\x02\x50\x01";
 
-/// `1.0`
-const ONE_POINT_ZERO: Decimal64 = Decimal64 {
-    scale: 1,
-    value: 10,
+/// `{"a":null,"b":[true]}`
+const NULL_AND_TRUE: &[u8] =
+    b"\x40\0\0\x02\x10\0\0\x01\x10\0\0\x01\0\0\0\0\x50\0\0\x08ab\x80\0\0\x01\x40\0\0\0";
+
+const ONE: Item<'static> = Item::Number(Number::UInt64(1));
+
+const MINUS_ONE: Item<'static> = Item::Number(Number::Int64(-1));
+
+const DAY: Item<'static> = Item::Extension(ExtensionValue::Date(Date { value: 1 }));
+
+const TIME: Item<'static> = Item::Extension(ExtensionValue::Timestamp(Timestamp { value: 1 }));
+
+/// Items, and whether their values are equal.
+static COMPARED: [(Item<'static>, Item<'static>, bool); 14] = rows! {
+    ONE, Item::Number(Number::Decimal64(Decimal64 { scale: 1, value: 10 })), true;
+    ONE, Item::Number(Number::Decimal64(Decimal64 { scale: 1, value: 11 })), false;
+    MINUS_ONE, Item::Number(Number::Decimal64(Decimal64 { scale: 1, value: -10 })), true;
+    // [1,"a"] and [1.0,"a"], [1.0,"b"], [1]
+    Item::Array(ONE_AND_A), Item::Array(TENTHS_AND_A), true;
+    Item::Array(ONE_AND_A), Item::Array(TENTHS_AND_B), false;
+    Item::Array(ONE_ALONE), Item::Array(ONE_AND_A), false;
+    DAY, DAY, true;
+    DAY, TIME, false;
+    DAY, ONE, false;
+    Item::Array(MIXED), Item::Array(MIXED), true;
+    Item::Object(NULLS), Item::Object(NULLS), true;
+    Item::Object(NULLS), Item::Object(NULL_AND_TRUE), false;
+    Item::Object(FRED), Item::Object(FRED), true;
+    Item::Object(FRED), Item::Object(NULLS), false;
 };
 
-/// An array of two values.
-fn two<'a>(alloc: Global, first: Value<'a>, second: Value<'a>) -> Result<Value<'a>, Error> {
-    let mut values = Vec::new(alloc);
-    values.push(first)?;
-    values.push(second)?;
-    Ok(Value::Array(values))
+fn are_equal<'a>(alloc: Global, one: &Item<'a>, other: &Item<'a>) -> Result<bool, Error> {
+    Ok(to_value(alloc, one)? == to_value(alloc, other)?)
 }
 
-/// The object with one member more.
-fn with<'a>(
+#[test]
+fn compares_by_value(rt: HostRuntime) -> Result<(), Fail> {
+    for (one, other, wanted) in &COMPARED {
+        let is_so = are_equal(rt.alloc(), one, other)? == *wanted;
+        assert!(rt; is_so, "{one:?} and {other:?}");
+    }
+    Ok(())
+}
+
+fn insert<'a>(
     alloc: Global,
-    object: Value<'a>,
+    members: &mut BTreeMap<String, Value<'a>>,
     key: &str,
     value: Value<'a>,
-) -> Result<Value<'a>, Error> {
-    let mut object = match &object {
-        Value::Object(_) => object,
-        _ => Value::Object(BTreeMap::new(alloc)),
-    };
-    if let Value::Object(members) = &mut object {
-        drop(members.insert(String::from_str(alloc, key)?, value)?);
-    }
-    Ok(object)
-}
-
-fn text(text: &str) -> Value<'_> {
-    Value::String(CowStr::Borrowed(text))
-}
-
-fn whole(value: u64) -> Value<'static> {
-    Value::Number(Number::UInt64(value))
+) -> Result<(), AllocError> {
+    drop(members.insert(String::from_str(alloc, key)?, value)?);
+    Ok(())
 }
 
 /// A decimal of scale 1.
@@ -64,199 +235,39 @@ fn tenths(value: i64) -> Value<'static> {
     Value::Number(Number::Decimal64(Decimal64 { scale: 1, value }))
 }
 
-fn phone(alloc: Global, number: u64, place: &'static str) -> Result<Value<'static>, Error> {
-    let named = with(alloc, Value::Null, "number", whole(number))?;
-    with(alloc, named, "type", text(place))
-}
-
-fn decoded(alloc: Global, bytes: &[u8]) -> Result<Value<'_>, Error> {
-    to_value(alloc, &root_item(bytes)?)
-}
-
-/// `[false, 10, {"k":"v"}]`, of numbers without a sign.
-fn mixed(alloc: Global) -> Result<Value<'static>, Error> {
-    let member = with(alloc, Value::Null, "k", text("v"))?;
-    Ok(Value::Array(vec![in alloc; Value::Bool(false), whole(10), member]?))
-}
-
-/// `{"a":null,"b":[null]}`
-fn nulls(alloc: Global) -> Result<Value<'static>, Error> {
-    let first = with(alloc, Value::Null, "a", Value::Null)?;
-    with(
-        alloc,
-        first,
-        "b",
-        Value::Array(vec![in alloc; Value::Null]?),
-    )
-}
-
-/// `{"name":"Fred","phones":[{"number":3720453,"type":"home"},{"number":5062051,"type":"work"}]}`
-fn fred(alloc: Global) -> Result<Value<'static>, Error> {
-    let home = phone(alloc, 3_720_453, "home")?;
-    let work = phone(alloc, 5_062_051, "work")?;
-    let phones = two(alloc, home, work)?;
-    let named = with(alloc, Value::Null, "name", text("Fred"))?;
-    with(alloc, named, "phones", phones)
-}
-
-#[test]
-fn decodes_containers(rt: HostRuntime) -> Result<(), Fail> {
-    let alloc = rt.alloc();
-    assert_eq!(rt; decoded(alloc, MIXED)?, mixed(alloc)?);
-    assert_eq!(rt; decoded(alloc, NULLS)?, nulls(alloc)?);
-    assert_eq!(rt; decoded(alloc, FRED)?, fred(alloc)?);
-    Ok(())
-}
-
-#[test]
-fn decodes_extensions_and_refuses_damaged_bytes(rt: HostRuntime) -> Result<(), Fail> {
-    let alloc = rt.alloc();
-    let date = decoded(alloc, DATE)?;
-    assert!(rt; matches!(&date, Value::Date(Date { value: 1 })));
-    let span = decoded(
-        alloc,
-        b"\x20\0\0\0\x60\0\0\x11\x40\0\0\0\x01\0\0\0\x02\0\0\0\0\0\0\0\x03",
-    )?;
-    let is_span = matches!(
-        &span,
-        Value::Interval(Interval {
-            months: 1,
-            days: 2,
-            micros: 3,
-        })
-    );
-    assert!(rt; is_span);
-    let binary = to_value(alloc, &Item::Extension(ExtensionValue::Binary(b"\xff\0")))?;
-    assert!(rt; matches!(&binary, Value::Binary(b"\xff\0")));
-    // an entry word without its content
-    let short = decoded(alloc, b"\x80\0\0\x01\x20\0\0\x02");
-    assert!(rt; matches!(short, Err(Error::InvalidJsonb)));
-    // a float in an array
-    let float = decoded(alloc, b"\x80\0\0\x01\x20\0\0\x09\x60\x3f\xf8\0\0\0\0\0\0");
-    assert!(rt; matches!(float, Err(Error::UnsupportedNumber)));
-    Ok(())
-}
-
-#[test]
-fn prints_kinds(rt: HostRuntime) -> Result<(), Fail> {
-    let member = with(rt.alloc(), Value::Null, "k", Value::Null)?;
-    let kinds = [
-        (Value::Null, "Null"),
-        (Value::Bool(true), "Bool(true)"),
-        (text("a\n"), "String(\"a\\n\")"),
-        (tenths(-15), "Number(-1.5)"),
-        (Value::Date(Date { value: 1 }), "Date { value: 1 }"),
-        (two(rt.alloc(), whole(1), whole(2))?, "Array of 2"),
-        (member, "Object of 1"),
-    ];
-    for (value, printed) in &kinds {
-        let text = format!(in rt.alloc(); "{value:?}")?;
-        assert_eq!(rt; text.as_str(), *printed);
-    }
-    Ok(())
-}
-
-const ONE: Item<'static> = Item::Number(Number::UInt64(1));
-
-const DAY: Item<'static> = Item::Extension(ExtensionValue::Date(Date { value: 1 }));
-
-const TIME: Item<'static> = Item::Extension(ExtensionValue::Timestamp(Timestamp { value: 1 }));
-
-/// Items, and whether their values are equal.
-static COMPARED: [(Item<'static>, Item<'static>, bool); 9] = [
-    (ONE, Item::Number(Number::Decimal64(ONE_POINT_ZERO)), true),
-    (
-        ONE,
-        Item::Number(Number::Decimal64(Decimal64 {
-            scale: 1,
-            value: 11,
-        })),
-        false,
-    ),
-    (
-        Item::Number(Number::Int64(-1)),
-        Item::Number(Number::Decimal64(Decimal64 {
-            scale: 1,
-            value: -10,
-        })),
-        true,
-    ),
-    // [1,"a"] and [1.0,"a"], [1.0,"b"], [1]
-    (Item::Array(ONE_AND_A), Item::Array(TENTHS_AND_A), true),
-    (Item::Array(ONE_AND_A), Item::Array(TENTHS_AND_B), false),
-    (Item::Array(ONE_ALONE), Item::Array(ONE_AND_A), false),
-    (DAY, DAY, true),
-    (DAY, TIME, false),
-    (DAY, ONE, false),
-];
-
-#[test]
-fn compares_by_value(rt: HostRuntime) -> Result<(), Fail> {
-    for (one, other, is_equal) in &COMPARED {
-        let is_so = to_value(rt.alloc(), one)? == to_value(rt.alloc(), other)?;
-        assert_eq!(rt; is_so, *is_equal, "{one:?} and {other:?}");
-    }
-    Ok(())
-}
-
-/// Whether the element at 1 of `[false, 10, {"k":"v"}]` is no signed number and no decimal.
-fn has_unsigned(value: &Value<'_>) -> bool {
-    match value {
-        Value::Array(values) => matches!(values.get(1), Some(Value::Number(Number::UInt64(10)))),
-        _ => false,
-    }
-}
-
-/// Whether the text of `{"asd":"adf"}` is borrowed.
-fn borrows(value: &Value<'_>) -> bool {
-    match value {
-        Value::Object(members) => matches!(
-            members.get("asd"),
-            Some(Value::String(CowStr::Borrowed("adf")))
-        ),
-        _ => false,
-    }
-}
-
-#[test]
-fn keeps_numbers_and_borrowed_texts(rt: HostRuntime) -> Result<(), Fail> {
-    let alloc = rt.alloc();
-    assert!(rt; has_unsigned(&decoded(alloc, MIXED)?));
-    let texts = b"\x40\0\0\x01\x10\0\0\x03\x10\0\0\x03asdadf";
-    assert!(rt; borrows(&decoded(alloc, texts)?));
-    Ok(())
+fn text(text: &str) -> Value<'_> {
+    Value::String(CowStr::Borrowed(text))
 }
 
 /// `{"values":[1.0,"Fred"]}`, with a text of its own.
-fn with_own_text(alloc: Global) -> Result<Value<'static>, Error> {
-    let owned = CowStr::Owned(String::from_str(alloc, "Fred")?);
-    let values = two(alloc, tenths(10), Value::String(owned))?;
-    with(alloc, Value::Null, "values", values)
+fn with_own_text(alloc: Global) -> Result<Value<'static>, AllocError> {
+    let owned = Value::String(CowStr::Owned(String::from_str(alloc, "Fred")?));
+    let values = vec![in alloc; tenths(10), owned]?;
+    let mut members = BTreeMap::new(alloc);
+    insert(alloc, &mut members, "values", Value::Array(values))?;
+    Ok(Value::Object(members))
 }
 
-/// Whether the value is the decimal `1.0` of scale 1.
-fn is_one_with_its_scale(value: &Value<'_>) -> bool {
-    matches!(
-        value,
-        Value::Number(Number::Decimal64(Decimal64 {
-            scale: 1,
-            value: 10,
-        }))
-    )
+/// Whether a clone is equal and holds this, level by level.
+fn is_cloned(alloc: Global, value: &Value<'_>, wanted: &[Held]) -> Result<bool, Error> {
+    let copy = value.clone(alloc)?;
+    Ok(copy == *value && holds(alloc, &copy, wanted)?)
 }
+
+/// What the value with an own text holds.
+static WITH_OWN_TEXT: [Held; 4] = [
+    Held::Object(&["values"]),
+    Held::Array(2),
+    Held::Decimal64(1, 10),
+    Held::Owned("Fred"),
+];
 
 #[test]
 fn clones_hold_the_same(rt: HostRuntime) -> Result<(), Fail> {
     let alloc = rt.alloc();
-    let object = with_own_text(alloc)?;
-    assert!(rt; object.clone(alloc)? == object);
-    assert!(rt; is_one_with_its_scale(&tenths(10).clone(alloc)?));
-    assert!(rt;
-        matches!(
-            &text("a").clone(alloc)?,
-            Value::String(CowStr::Borrowed("a"))
-        )
-    );
+    assert!(rt; is_cloned(alloc, &with_own_text(alloc)?, &WITH_OWN_TEXT)?);
+    assert!(rt; is_cloned(alloc, &tenths(10), &[Held::Decimal64(1, 10)])?);
+    assert!(rt; is_cloned(alloc, &text("a"), &[Held::Borrowed("a")])?);
     Ok(())
 }
 
@@ -264,19 +275,19 @@ fn clones_hold_the_same(rt: HostRuntime) -> Result<(), Fail> {
 fn around<'a>(
     alloc: Global,
     value: Value<'a>,
-    before: bool,
-    behind: bool,
+    (before, behind): (bool, bool),
     object: bool,
-) -> Result<Value<'a>, Error> {
+) -> Result<Value<'a>, AllocError> {
     if object {
-        let mut members = Value::Object(BTreeMap::new(alloc));
+        let mut members = BTreeMap::new(alloc);
+        insert(alloc, &mut members, "b", value)?;
         if before {
-            members = with(alloc, members, "a", Value::Null)?;
+            insert(alloc, &mut members, "a", Value::Null)?;
         }
         if behind {
-            members = with(alloc, members, "c", Value::Null)?;
+            insert(alloc, &mut members, "c", Value::Null)?;
         }
-        return with(alloc, members, "b", value);
+        return Ok(Value::Object(members));
     }
     let mut values = Vec::new(alloc);
     if before {
@@ -290,7 +301,7 @@ fn around<'a>(
 }
 
 /// Where the part that goes on lies in its container.
-#[derive(Clone, Copy)]
+#[derive(Clone, Copy, Debug)]
 enum Place {
     Only,
     First,
@@ -313,55 +324,68 @@ impl Place {
     }
 }
 
+/// How many levels, and whether of objects.
+type Size = (u32, bool);
+
 /// A text in so many containers, with something else beside it in each.
 fn nested<'a>(
     alloc: Global,
     innermost: &'a str,
-    levels: u32,
     place: Place,
-    object: bool,
-) -> Result<Value<'a>, Error> {
+    (levels, object): Size,
+) -> Result<Value<'a>, AllocError> {
     let mut value = text(innermost);
     for level in 0..levels {
-        let (before, behind) = place.neighbours(level);
-        value = around(alloc, value, before, behind, object)?;
+        value = around(alloc, value, place.neighbours(level), object)?;
     }
     Ok(value)
 }
 
-/// Each is cloned, compared and let go.
+static PLACES: [Place; 5] = [
+    Place::Only,
+    Place::First,
+    Place::Middle,
+    Place::Last,
+    Place::Any,
+];
+
+static SIZES: [Size; 4] = [(100, false), (100, true), (10_000, false), (2_000, true)];
+
+/// Whether a clone is equal, and what has one level more or another text innermost is not. All are let go.
+fn is_told_apart(alloc: Global, place: Place, size: Size) -> Result<bool, Error> {
+    let value = nested(alloc, "x", place, size)?;
+    let copy = value.clone(alloc)?;
+    let is_same = copy == value;
+    let deeper = around(alloc, copy, place.neighbours(size.0), size.1)?;
+    let other = nested(alloc, "y", place, size)?;
+    Ok(is_same && deeper != value && other != value)
+}
+
 #[test]
 fn deep_values(rt: HostRuntime) -> Result<(), Fail> {
-    let places = [
-        Place::Only,
-        Place::First,
-        Place::Middle,
-        Place::Last,
-        Place::Any,
-    ];
-    for place in places {
-        for (levels, object) in [(100, false), (100, true), (10_000, false), (2_000, true)] {
-            let value = nested(rt.alloc(), "x", levels, place, object)?;
-            let copy = value.clone(rt.alloc())?;
-            assert!(rt; copy == value);
-            let other = nested(rt.alloc(), "y", levels, place, object)?;
-            assert!(rt; other != value);
-            let (before, behind) = place.neighbours(levels);
-            let deeper = around(rt.alloc(), copy, before, behind, object)?;
-            assert!(rt; deeper != value);
+    for place in &PLACES {
+        for size in &SIZES {
+            let is_so = is_told_apart(rt.alloc(), *place, *size)?;
+            assert!(rt; is_so, "{place:?} {size:?}");
         }
     }
     Ok(())
 }
 
-/// So are much deeper ones.
+static LARGE_SIZES: [Size; 2] = [(100_000, false), (20_000, true)];
+
+/// Whether a clone is equal.
+fn equals_its_clone(alloc: Global, place: Place, size: Size) -> Result<bool, Error> {
+    let value = nested(alloc, "x", place, size)?;
+    Ok(value.clone(alloc)? == value)
+}
+
 #[test]
 fn much_deeper_values(rt: HostRuntime) -> Result<(), Fail> {
-    for place in [Place::Only, Place::First, Place::Middle, Place::Last] {
-        for (levels, object) in [(100_000, false), (20_000, true)] {
-            let value = nested(rt.alloc(), "x", levels, place, object)?;
-            let copy = value.clone(rt.alloc())?;
-            assert!(rt; copy == value);
+    for place in &PLACES[..4] {
+        for size in &LARGE_SIZES {
+            let is_so = equals_its_clone(rt.alloc(), *place, *size)?;
+            assert!(rt; is_so, "{place:?} {size:?}");
         }
     }
     Ok(())

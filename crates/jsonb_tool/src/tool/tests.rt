@@ -5,6 +5,11 @@ use std::io;
 use std::io::ErrorKind;
 use std::test::Fail;
 
+/// A table: each row stands in a line, and is a tuple.
+macro_rules! rows {
+    ($($($part:expr),+;)+) => { [$(($($part),+)),+] };
+}
+
 /// `[false, 10, {"k":"v"}]`
 const ARRAY: &str = "8000000330000000200000025000000e500a4000000110000001100000016b76";
 
@@ -63,179 +68,120 @@ fn first_wrong(alloc: Global, rows: &[Row]) -> Result<Option<&'static [&'static 
     Ok(None)
 }
 
-const GET: [Row; 14] = [
-    (&["get", "{2,k}", ARRAY], "200000001000000176", 0),
-    (&["get", "{-1,k}", ARRAY], "200000001000000176", 0),
-    (&["get", " { 2 , \"k\" } ", ARRAY], "200000001000000176", 0),
-    (&["get", "{2,\\u006b}", ARRAY], "200000001000000176", 0),
-    (&["get", "{}", ARRAY], ARRAY, 0),
-    (&["get", "{}", ARRAY_IN_UPPER_CASE], ARRAY, 0),
-    (&["get", "{3}", ARRAY], "none", 0),
-    (&["get", "{-4}", ARRAY], "none", 0),
-    (&["get", "{-2147483648}", TENS], "none", 0),
-    (&["get", "{1a}", ARRAY], "refused: InvalidKeyPath", 1),
-    (&["get", "{1a}", CUT], "refused: InvalidKeyPath", 1),
-    (&["get", "{}", CUT], CUT_REFUSED, 1),
-    (&["get", "{}", ""], CUT_REFUSED, 1),
-    (&["get", "{}", FLOAT], FLOAT_REFUSED, 1),
-];
+const GET: [Row; 14] = rows! {
+    &["get", "{2,k}", ARRAY], "200000001000000176", 0;
+    &["get", "{-1,k}", ARRAY], "200000001000000176", 0;
+    &["get", " { 2 , \"k\" } ", ARRAY], "200000001000000176", 0;
+    &["get", "{2,\\u006b}", ARRAY], "200000001000000176", 0;
+    &["get", "{}", ARRAY], ARRAY, 0;
+    &["get", "{}", ARRAY_IN_UPPER_CASE], ARRAY, 0;
+    &["get", "{3}", ARRAY], "none", 0;
+    &["get", "{-4}", ARRAY], "none", 0;
+    &["get", "{-2147483648}", TENS], "none", 0;
+    &["get", "{1a}", ARRAY], "refused: InvalidKeyPath", 1;
+    &["get", "{1a}", CUT], "refused: InvalidKeyPath", 1;
+    &["get", "{}", CUT], CUT_REFUSED, 1;
+    &["get", "{}", ""], CUT_REFUSED, 1;
+    &["get", "{}", FLOAT], FLOAT_REFUSED, 1;
+};
 
-const SELECT: [Row; 10] = [
-    (&["select", "1 == -1", ONE_ELEMENT], "2000000030000000", 0),
-    (
-        &["select", "$[0] == 1 || $[1] == 1", NUMBER_THEN_TEXT],
-        "2000000000000000",
-        0,
-    ),
-    (&["select", "$ != null", FIVE], "2000000040000000", 0),
-    (
-        &["select", "$[last, 0]", TENS],
-        "2000000020000002501e\n2000000020000002500a",
-        0,
-    ),
-    (&["select", "$[-1]", TENS], "none", 0),
-    (
-        &["select", "7 - 10", ONE_ELEMENT],
-        "200000002000000240fd",
-        0,
-    ),
-    (&["select", "", ARRAY_IN_UPPER_CASE], ARRAY, 0),
-    (
-        &["select", "$ / 0", FIVE],
-        "refused: Arithmetic(ZeroDivisor)",
-        1,
-    ),
-    (
-        &["select", "-1 == 1", ONE_ELEMENT],
-        "refused: InvalidJsonPath",
-        1,
-    ),
-    (&["select", "$.a", CUT], CUT_REFUSED, 1),
-];
+const SELECT: [Row; 10] = rows! {
+    &["select", "1 == -1", ONE_ELEMENT], "2000000030000000", 0;
+    &["select", "$[0] == 1 || $[1] == 1", NUMBER_THEN_TEXT], "2000000000000000", 0;
+    &["select", "$ != null", FIVE], "2000000040000000", 0;
+    &["select", "$[last, 0]", TENS], "2000000020000002501e\n2000000020000002500a", 0;
+    &["select", "$[-1]", TENS], "none", 0;
+    &["select", "7 - 10", ONE_ELEMENT], "200000002000000240fd", 0;
+    &["select", "", ARRAY_IN_UPPER_CASE], ARRAY, 0;
+    &["select", "$ / 0", FIVE], "refused: Arithmetic(ZeroDivisor)", 1;
+    &["select", "-1 == 1", ONE_ELEMENT], "refused: InvalidJsonPath", 1;
+    &["select", "$.a", CUT], CUT_REFUSED, 1;
+};
 
-const MATCH: [Row; 8] = [
-    (&["match", "1 == -1", ONE_ELEMENT], "false", 0),
-    (
-        &["match", "$[0] == 1 || $[1] == 1", NUMBER_THEN_TEXT],
-        "unknown",
-        0,
-    ),
-    (&["match", "$[*] > 25", TENS], "true", 0),
-    (&["match", "7 - 10", ONE_ELEMENT], "unknown", 0),
-    (&["match", "$.a", ONE_ELEMENT], "unknown", 0),
-    (&["match", "$ / 2", FIVE], "refused: Arithmetic(Inexact)", 1),
-    (&["match", "$[1,]", CUT], "refused: InvalidJsonPath", 1),
-    (&["match", "$.a", FLOAT], FLOAT_REFUSED, 1),
-];
+const MATCH: [Row; 8] = rows! {
+    &["match", "1 == -1", ONE_ELEMENT], "false", 0;
+    &["match", "$[0] == 1 || $[1] == 1", NUMBER_THEN_TEXT], "unknown", 0;
+    &["match", "$[*] > 25", TENS], "true", 0;
+    &["match", "7 - 10", ONE_ELEMENT], "unknown", 0;
+    &["match", "$.a", ONE_ELEMENT], "unknown", 0;
+    &["match", "$ / 2", FIVE], "refused: Arithmetic(Inexact)", 1;
+    &["match", "$[1,]", CUT], "refused: InvalidJsonPath", 1;
+    &["match", "$.a", FLOAT], FLOAT_REFUSED, 1;
+};
 
-const KEY: [Row; 6] = [
-    (&["key", "20000000200000025001"], "00048103e90200", 0),
-    (&["key", "200000002000000100"], "000480", 0),
-    (&["key", "2000000000000000"], "0008", 0),
-    (&["key", ONE_ELEMENT], "000701048103e90200", 0),
-    (&["key", CUT], CUT_REFUSED, 1),
-    (&["key", FLOAT], FLOAT_REFUSED, 1),
-];
+const KEY: [Row; 6] = rows! {
+    &["key", "20000000200000025001"], "00048103e90200", 0;
+    &["key", "200000002000000100"], "000480", 0;
+    &["key", "2000000000000000"], "0008", 0;
+    &["key", ONE_ELEMENT], "000701048103e90200", 0;
+    &["key", CUT], CUT_REFUSED, 1;
+    &["key", FLOAT], FLOAT_REFUSED, 1;
+};
 
-const LEAVES: [Row; 13] = [
-    (
-        &["leaves", ARRAY],
-        "2000000030000000 {0}\n2000000020000002500a {1}\n200000001000000176 {2,k}",
-        0,
-    ),
-    (
-        &["leaves", ARRAY_IN_UPPER_CASE],
-        "2000000030000000 {0}\n2000000020000002500a {1}\n200000001000000176 {2,k}",
-        0,
-    ),
+const LEAVES: [Row; 13] = rows! {
+    &["leaves", ARRAY], "2000000030000000 {0}\n2000000020000002500a {1}\n200000001000000176 {2,k}", 0;
+    &["leaves", ARRAY_IN_UPPER_CASE], "2000000030000000 {0}\n2000000020000002500a {1}\n200000001000000176 {2,k}", 0;
     // {"a":null,"b":[null]}
-    (
-        &[
-            "leaves",
-            "400000021000000110000001000000005000000861628000000100000000",
-        ],
-        "2000000000000000 {a}\n2000000000000000 {b,0}",
-        0,
-    ),
+    &["leaves", "400000021000000110000001000000005000000861628000000100000000"],
+        "2000000000000000 {a}\n2000000000000000 {b,0}", 0;
     // [[],{}]
-    (
-        &["leaves", "8000000250000004500000048000000040000000"],
-        "80000000 {0}\n40000000 {1}",
-        0,
-    ),
+    &["leaves", "8000000250000004500000048000000040000000"], "80000000 {0}\n40000000 {1}", 0;
     // {"a b":1}
-    (
-        &["leaves", "4000000110000003200000026120625001"],
-        "20000000200000025001 {\"a b\"}",
-        0,
-    ),
+    &["leaves", "4000000110000003200000026120625001"], "20000000200000025001 {\"a b\"}", 0;
     // {"":null}
-    (
-        &["leaves", "400000011000000000000000"],
-        "2000000000000000 {\"\"}",
-        0,
-    ),
+    &["leaves", "400000011000000000000000"], "2000000000000000 {\"\"}", 0;
     // [10] with its number in two bytes where one would do
-    (
-        &["leaves", "800000012000000350000a"],
-        "200000002000000350000a {0}",
-        0,
-    ),
-    (&["leaves", FIVE], "none", 0),
-    (&["leaves", "80000000"], "none", 0),
-    (&["leaves", "40000000"], "none", 0),
-    (&["leaves", CUT], CUT_REFUSED, 1),
-    (&["leaves", ""], CUT_REFUSED, 1),
-    (&["leaves", FLOAT], FLOAT_REFUSED, 1),
-];
+    &["leaves", "800000012000000350000a"], "200000002000000350000a {0}", 0;
+    &["leaves", FIVE], "none", 0;
+    &["leaves", "80000000"], "none", 0;
+    &["leaves", "40000000"], "none", 0;
+    &["leaves", CUT], CUT_REFUSED, 1;
+    &["leaves", ""], CUT_REFUSED, 1;
+    &["leaves", FLOAT], FLOAT_REFUSED, 1;
+};
 
 /// Words that are no command.
-const OTHERS: [Row; 30] = [
-    (&[], "usage", 2),
-    (&["get"], "usage", 2),
-    (&["get", "{}"], "usage", 2),
-    (&["get", "{}", ARRAY, ARRAY], "usage", 2),
+const OTHERS: [Row; 30] = rows! {
+    &[], "usage", 2;
+    &["get"], "usage", 2;
+    &["get", "{}"], "usage", 2;
+    &["get", "{}", ARRAY, ARRAY], "usage", 2;
     // half a byte
-    (&["get", "{}", "80000"], "usage", 2),
+    &["get", "{}", "80000"], "usage", 2;
     // no digit
-    (&["get", "{}", "8000000g"], "usage", 2),
+    &["get", "{}", "8000000g"], "usage", 2;
     // before the path is looked at
-    (&["get", "{1a}", "80000"], "usage", 2),
-    (&["key", "8000000g"], "usage", 2),
-    (&["key", "{}", ARRAY], "usage", 2),
-    (&["leaves"], "usage", 2),
-    (&["leaves", "8000000g"], "usage", 2),
-    (&["leaves", "{}", ARRAY], "usage", 2),
-    (&["select", ARRAY], "usage", 2),
-    (&["select", "$", "8000000g"], "usage", 2),
-    (&["select", "$", ARRAY, ARRAY], "usage", 2),
-    (&["match", ARRAY], "usage", 2),
-    (&["match", "$", "8000000g"], "usage", 2),
-    (&["match", "$", ARRAY, ARRAY], "usage", 2),
-    (&["GET", ARRAY], "usage", 2),
-    (&["GET", "{}", ARRAY], "usage", 2),
-    (&["KEY", ARRAY], "usage", 2),
-    (&["KEY", "{}", ARRAY], "usage", 2),
-    (&["LEAVES", ARRAY], "usage", 2),
-    (&["LEAVES", "{}", ARRAY], "usage", 2),
-    (&["SELECT", ARRAY], "usage", 2),
-    (&["SELECT", "{}", ARRAY], "usage", 2),
-    (&["MATCH", ARRAY], "usage", 2),
-    (&["MATCH", "{}", ARRAY], "usage", 2),
-    (&["", ARRAY], "usage", 2),
-    (&["", "{}", ARRAY], "usage", 2),
-];
+    &["get", "{1a}", "80000"], "usage", 2;
+    &["key", "8000000g"], "usage", 2;
+    &["key", "{}", ARRAY], "usage", 2;
+    &["leaves"], "usage", 2;
+    &["leaves", "8000000g"], "usage", 2;
+    &["leaves", "{}", ARRAY], "usage", 2;
+    &["select", ARRAY], "usage", 2;
+    &["select", "$", "8000000g"], "usage", 2;
+    &["select", "$", ARRAY, ARRAY], "usage", 2;
+    &["match", ARRAY], "usage", 2;
+    &["match", "$", "8000000g"], "usage", 2;
+    &["match", "$", ARRAY, ARRAY], "usage", 2;
+    &["GET", ARRAY], "usage", 2;
+    &["GET", "{}", ARRAY], "usage", 2;
+    &["KEY", ARRAY], "usage", 2;
+    &["KEY", "{}", ARRAY], "usage", 2;
+    &["LEAVES", ARRAY], "usage", 2;
+    &["LEAVES", "{}", ARRAY], "usage", 2;
+    &["SELECT", ARRAY], "usage", 2;
+    &["SELECT", "{}", ARRAY], "usage", 2;
+    &["MATCH", ARRAY], "usage", 2;
+    &["MATCH", "{}", ARRAY], "usage", 2;
+    &["", ARRAY], "usage", 2;
+    &["", "{}", ARRAY], "usage", 2;
+};
+
+static COMMANDS: [&[Row]; 6] = [&GET, &SELECT, &MATCH, &KEY, &LEAVES, &OTHERS];
 
 #[test]
 fn commands_are_answered(rt: HostRuntime) -> Result<(), Fail> {
-    for rows in [
-        GET.as_slice(),
-        SELECT.as_slice(),
-        MATCH.as_slice(),
-        KEY.as_slice(),
-        LEAVES.as_slice(),
-        OTHERS.as_slice(),
-    ] {
+    for rows in &COMMANDS {
         assert_eq!(rt; first_wrong(rt.alloc(), rows)?, None);
     }
     Ok(())
@@ -347,18 +293,21 @@ fn writes_made(alloc: Global, at_a_time: usize, how: Break) -> Result<Option<u32
     Ok(None)
 }
 
+/// How many bytes are taken at a time, how a write breaks, and how many writes a run makes.
+static BROKEN: [(usize, Break, u32); 6] = rows! {
+    1, Break::Full, 19;
+    1, Break::Zero, 19;
+    4, Break::Full, 5;
+    4, Break::Zero, 5;
+    100, Break::Full, 1;
+    100, Break::Zero, 1;
+};
+
 #[test]
 fn a_failing_write_is_a_fault(rt: HostRuntime) -> Result<(), Fail> {
-    for (at_a_time, how, wanted) in [
-        (1, Break::Full, 19),
-        (1, Break::Zero, 19),
-        (4, Break::Full, 5),
-        (4, Break::Zero, 5),
-        (100, Break::Full, 1),
-        (100, Break::Zero, 1),
-    ] {
-        let made = writes_made(rt.alloc(), at_a_time, how)?;
-        assert_eq!(rt; made, Some(wanted), "{how:?}, {at_a_time} at a time");
+    for (at_a_time, how, wanted) in &BROKEN {
+        let made = writes_made(rt.alloc(), *at_a_time, *how)?;
+        assert_eq!(rt; made, Some(*wanted), "{how:?}, {at_a_time} at a time");
     }
     Ok(())
 }
