@@ -4,6 +4,12 @@
 //! `bindings/c/jsonb.h` names.
 #![tactic(auto)]
 
+/// A table of a test: each row stands in a line, and is a tuple.
+#[cfg(test)]
+macro_rules! rows {
+    ($($($part:expr),+;)+) => { [$(($($part),+)),+] };
+}
+
 mod build;
 mod column;
 mod deliver;

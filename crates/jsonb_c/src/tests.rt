@@ -8,7 +8,7 @@ use crate::build::{
 use crate::document::decimal::jsonb_as_decimal;
 use crate::leaves::{LeafSizes, jsonb_leaves};
 use crate::read::{jsonb_len, jsonb_pair};
-use std::test::Fail;
+use std::alloc::Global;
 
 const OK: u32 = 0;
 
@@ -20,8 +20,10 @@ const BAD_OFFSETS: u32 = 3;
 
 const NOT_UTF8: u32 = 4;
 
+const OBJECT_DUPLICATE_KEY: u32 = 23;
+
 /// A caller's buffer, and its length.
-#[derive(Drop)]
+#[derive(Clone, Copy)]
 struct Answer {
     out: [u8; 32],
     len: usize,
@@ -48,13 +50,12 @@ macro_rules! assert_gives {
     ($rt:ident; $call:ident($($word:expr),*), $status:expr, $bytes:expr) => {{
         let mut a = Answer::new();
         let status = $call($($word,)* &mut a.out, &mut a.len);
-        assert_eq!($rt; status, $status);
-        assert!($rt; a.is($bytes));
+        assert!($rt; status == $status && a.is($bytes));
     }};
 }
 
 #[test]
-fn values(rt: HostRuntime) -> Result<(), Fail> {
+fn values(rt: HostRuntime) {
     let alloc = rt.alloc();
     assert_gives!(rt; jsonb_from_null(alloc), OK, b"\x20\0\0\0\0\0\0\0");
     assert_gives!(rt; jsonb_from_bool(alloc, true), OK, b"\x20\0\0\0\x40\0\0\0");
@@ -63,75 +64,68 @@ fn values(rt: HostRuntime) -> Result<(), Fail> {
     assert_gives!(rt; jsonb_from_decimal(alloc, 0, 1234, 2), OK, b"\x20\0\0\0\x20\0\0\x0a\x70\0\0\0\0\0\0\x04\xd2\x02");
     assert_gives!(rt; jsonb_from_str(alloc, b"adf"), OK, b"\x20\0\0\0\x10\0\0\x03adf");
     assert_gives!(rt; jsonb_from_str(alloc, b"\xff"), NOT_UTF8, b"");
-    Ok(())
 }
 
-#[test]
-fn arrays(rt: HostRuntime) -> Result<(), Fail> {
-    let alloc = rt.alloc();
-    let rows = b"\x20\0\0\0\0\0\0\0\x20\0\0\0\x20\0\0\x02\x50\x01";
-    assert_gives!(rt; jsonb_array_from_column(alloc, rows, &[0, 8, 18]), OK, b"\x80\0\0\x02\0\0\0\0\x20\0\0\x02\x50\x01");
-    assert_gives!(rt; jsonb_array_from_column(alloc, rows, &[0, 8, 19]), BAD_OFFSETS, b"");
-    Ok(())
-}
+/// null and 1
+static NULL_AND_ONE: &[u8] = b"\x20\0\0\0\0\0\0\0\x20\0\0\0\x20\0\0\x02\x50\x01";
+
+/// Where the documents end, the status and the array.
+static ARRAYS: [(&[u64], u32, &[u8]); 2] = rows! {
+    &[0, 8, 18], OK, b"\x80\0\0\x02\0\0\0\0\x20\0\0\x02\x50\x01";
+    &[0, 8, 19], BAD_OFFSETS, b"";
+};
 
 #[test]
-fn decimals(rt: HostRuntime) -> Result<(), Fail> {
-    let documents: [(&[u8], u32, (i64, u64, u8)); 4] = [
-        (
-            b"\x20\0\0\0\x20\0\0\x0a\x70\0\0\0\0\0\0\x04\xd2\x02",
-            OK,
-            (0, 1234, 2),
-        ),
-        (
-            b"\x20\0\0\0\x20\0\0\x0a\x70\xff\xff\xff\xff\xff\xff\xff\xfb\x03",
-            OK,
-            (-1, 18_446_744_073_709_551_611, 3),
-        ),
-        (
-            b"\x20\0\0\0\x20\0\0\x02\x40\x9c",
-            OK,
-            (-1, 18_446_744_073_709_551_516, 0),
-        ),
-        (b"\x20\0\0\0\x10\0\0\x017", NONE, (9, 9, 9)),
-    ];
-    for (document, status, parts) in &documents {
+fn arrays(rt: HostRuntime) {
+    for (offsets, status, array) in &ARRAYS {
+        assert_gives!(rt; jsonb_array_from_column(rt.alloc(), NULL_AND_ONE, offsets), *status, array);
+    }
+}
+
+/// Documents, the status, and the high half of the whole value, the low half and the scale.
+static DECIMALS: [(&[u8], u32, (i64, u64, u8)); 4] = rows! {
+    b"\x20\0\0\0\x20\0\0\x0a\x70\0\0\0\0\0\0\x04\xd2\x02", OK, (0, 1234, 2);
+    b"\x20\0\0\0\x20\0\0\x0a\x70\xff\xff\xff\xff\xff\xff\xff\xfb\x03", OK, (-1, 18_446_744_073_709_551_611, 3);
+    b"\x20\0\0\0\x20\0\0\x02\x40\x9c", OK, (-1, 18_446_744_073_709_551_516, 0);
+    b"\x20\0\0\0\x10\0\0\x017", NONE, (9, 9, 9);
+};
+
+#[test]
+fn decimals(rt: HostRuntime) {
+    for (document, wanted, parts) in &DECIMALS {
         let mut high = 9;
         let mut low = 9;
         let mut scale = 9;
-        assert_eq!(rt;
-            jsonb_as_decimal(document, &mut high, &mut low, &mut scale),
-            *status
-        );
-        assert_eq!(rt; (high, low, scale), *parts);
+        let status = jsonb_as_decimal(document, &mut high, &mut low, &mut scale);
+        let is_so = status == *wanted && (high, low, scale) == *parts;
+        assert!(rt; is_so, "{document:?}");
     }
-    Ok(())
 }
 
-const OBJECT: &[u8] = b"\x40\0\0\x02\x10\0\0\x01\x10\0\0\x01\x20\0\0\x02\0\0\0\0ab\x50\x01";
+/// `{"a":1,"b":null}`
+static OBJECT: &[u8] = b"\x40\0\0\x02\x10\0\0\x01\x10\0\0\x01\x20\0\0\x02\0\0\0\0ab\x50\x01";
 
 #[test]
-fn counts(rt: HostRuntime) -> Result<(), Fail> {
+fn counts(rt: HostRuntime) {
     let mut len = 9;
-    assert_eq!(rt; jsonb_len(OBJECT, &mut len), OK);
-    assert_eq!(rt; len, 2);
-    assert_eq!(rt; jsonb_len(b"\x20\0\0\0\0\0\0\0", &mut len), NONE);
-    Ok(())
+    assert!(rt; jsonb_len(OBJECT, &mut len) == OK && len == 2);
+    assert!(rt; jsonb_len(b"\x20\0\0\0\0\0\0\0", &mut len) == NONE);
 }
 
+/// Places of pairs in the object, the status, the key and the value.
+static PAIRS: [(usize, u32, &[u8], &[u8]); 3] = rows! {
+    0, OK, b"a", b"\x20\0\0\0\x20\0\0\x02\x50\x01";
+    1, OK, b"b", b"\x20\0\0\0\0\0\0\0";
+    2, NONE, b"", b"";
+};
+
 #[test]
-fn pairs(rt: HostRuntime) -> Result<(), Fail> {
-    let alloc = rt.alloc();
-    let rows: [(usize, u32, &[u8], &[u8]); 3] = [
-        (0, OK, b"a", b"\x20\0\0\0\x20\0\0\x02\x50\x01"),
-        (1, OK, b"b", b"\x20\0\0\0\0\0\0\0"),
-        (2, NONE, b"", b""),
-    ];
-    for (index, wanted, name, document) in &rows {
+fn pairs(rt: HostRuntime) {
+    for (index, wanted, name, document) in &PAIRS {
         let mut key = Answer::new();
         let mut value = Answer::new();
         let status = jsonb_pair(
-            alloc,
+            rt.alloc(),
             OBJECT,
             *index,
             &mut key.out,
@@ -139,14 +133,13 @@ fn pairs(rt: HostRuntime) -> Result<(), Fail> {
             &mut value.out,
             &mut value.len,
         );
-        assert_eq!(rt; status, *wanted);
-        assert!(rt; key.is(name) && value.is(document));
+        let is_so = status == *wanted && key.is(name) && value.is(document);
+        assert!(rt; is_so, "{index}");
     }
-    Ok(())
 }
 
 #[test]
-fn a_pair_without_room(rt: HostRuntime) -> Result<(), Fail> {
+fn a_pair_without_room(rt: HostRuntime) {
     let mut key_len = 9;
     let mut value = Answer::new();
     let status = jsonb_pair(
@@ -158,76 +151,78 @@ fn a_pair_without_room(rt: HostRuntime) -> Result<(), Fail> {
         &mut value.out,
         &mut value.len,
     );
-    assert_eq!(rt; (status, key_len, value.len), (BUFFER_TOO_SMALL, 1, 10));
-    Ok(())
+    assert!(rt; (status, key_len, value.len) == (BUFFER_TOO_SMALL, 1, 10));
 }
 
-const OBJECT_DUPLICATE_KEY: u32 = 23;
+/// 1 and null
+static ONE_AND_NULL: &[u8] = b"\x20\0\0\0\x20\0\0\x02\x50\x01\x20\0\0\0\0\0\0\0";
+
+/// Names, where they end, the status and the object.
+static OBJECTS: [(&[u8], &[u64], u32, &[u8]); 5] = rows! {
+    b"ba", &[0, 1, 2], OK, b"\x40\0\0\x02\x10\0\0\x01\x10\0\0\x01\0\0\0\0\x20\0\0\x02ab\x50\x01";
+    b"aa", &[0, 1, 2], OBJECT_DUPLICATE_KEY, b"";
+    b"a\xff", &[0, 1, 2], NOT_UTF8, b"";
+    b"ab", &[0, 1, 3], BAD_OFFSETS, b"";
+    b"ab", &[0, 1], BAD_OFFSETS, b"";
+};
 
 #[test]
-fn objects_of_columns(rt: HostRuntime) -> Result<(), Fail> {
-    let alloc = rt.alloc();
-    let documents = b"\x20\0\0\0\x20\0\0\x02\x50\x01\x20\0\0\0\0\0\0\0";
-    let made = b"\x40\0\0\x02\x10\0\0\x01\x10\0\0\x01\0\0\0\0\x20\0\0\x02ab\x50\x01";
-    let rows: [(&[u8], &[u64], u32, &[u8]); 5] = [
-        (b"ba", &[0, 1, 2], OK, made),
-        (b"aa", &[0, 1, 2], OBJECT_DUPLICATE_KEY, b""),
-        (b"a\xff", &[0, 1, 2], NOT_UTF8, b""),
-        (b"ab", &[0, 1, 3], BAD_OFFSETS, b""),
-        (b"ab", &[0, 1], BAD_OFFSETS, b""),
-    ];
-    for (names, offsets, status, object) in &rows {
-        assert_gives!(rt; jsonb_object_from_columns(alloc, names, offsets, documents, &[0, 10, 18]), *status, object);
+fn objects_of_columns(rt: HostRuntime) {
+    for (names, offsets, status, object) in &OBJECTS {
+        assert_gives!(rt; jsonb_object_from_columns(rt.alloc(), names, offsets, ONE_AND_NULL, &[0, 10, 18]), *status, object);
     }
-    Ok(())
 }
 
-#[test]
-fn leaves(rt: HostRuntime) -> Result<(), Fail> {
-    let alloc = rt.alloc();
-    let document = b"\x40\0\0\x01\x10\0\0\x03\x50\0\0\x0aa b\x80\0\0\x01\x20\0\0\x02\x50\x01";
+/// `{"a b":[1]}`
+static ONE_LEAF: &[u8] = b"\x40\0\0\x01\x10\0\0\x03\x50\0\0\x0aa b\x80\0\0\x01\x20\0\0\x02\x50\x01";
+
+/// A caller's buffers for leaves, but for the documents' positions.
+#[derive(Clone, Copy)]
+struct LeafBuffers {
+    paths: Answer,
+    path_positions: [u64; 3],
+    documents: Answer,
+    rows: usize,
+}
+
+/// The leaf, and the status.
+fn leaf(alloc: Global, positions: &mut [u64]) -> (LeafBuffers, u32) {
     let mut paths = Answer::new();
     let mut documents = Answer::new();
     let mut path_positions = [9; 3];
-    let mut positions = [9; 2];
     let mut sizes = LeafSizes {
         rows: 9,
         path_bytes: 9,
         document_bytes: 9,
     };
-    assert_eq!(rt;
-        jsonb_leaves(
-            alloc,
-            document,
-            &mut paths.out,
-            &mut path_positions,
-            &mut documents.out,
-            &mut positions,
-            &mut sizes
-        ),
-        OK
+    let status = jsonb_leaves(
+        alloc,
+        ONE_LEAF,
+        &mut paths.out,
+        &mut path_positions,
+        &mut documents.out,
+        positions,
+        &mut sizes,
     );
     paths.len = sizes.path_bytes;
     documents.len = sizes.document_bytes;
-    assert!(rt; paths.is(b"{\"a b\",0}"));
-    assert!(rt; documents.is(b"\x20\0\0\0\x20\0\0\x02\x50\x01"));
-    assert_eq!(rt;
-        (sizes.rows, path_positions, positions),
-        (1, [0, 9, 9], [0, 10])
-    );
+    let leaves = LeafBuffers {
+        paths,
+        path_positions,
+        documents,
+        rows: sizes.rows,
+    };
+    (leaves, status)
+}
+
+#[test]
+fn leaves(rt: HostRuntime) {
+    let mut positions = [9; 2];
+    let (found, status) = leaf(rt.alloc(), &mut positions);
+    assert!(rt; (status, found.rows, positions) == (OK, 1, [0, 10]));
+    assert!(rt; found.paths.is(b"{\"a b\",0}") && found.path_positions == [0, 9, 9]);
+    assert!(rt; found.documents.is(b"\x20\0\0\0\x20\0\0\x02\x50\x01"));
     let mut untouched = [9; 1];
-    assert_eq!(rt;
-        jsonb_leaves(
-            alloc,
-            document,
-            &mut paths.out,
-            &mut path_positions,
-            &mut documents.out,
-            &mut untouched,
-            &mut sizes
-        ),
-        BUFFER_TOO_SMALL
-    );
-    assert_eq!(rt; (sizes.rows, untouched), (1, [9]));
-    Ok(())
+    let (found, status) = leaf(rt.alloc(), &mut untouched);
+    assert!(rt; (status, found.rows, untouched) == (BUFFER_TOO_SMALL, 1, [9]));
 }

@@ -9,7 +9,7 @@ use super::documents::{
 use super::join::Progress;
 use super::keys::{jsonb_column_equality_key, jsonb_column_key};
 use super::truths::{jsonb_column_contains, jsonb_column_exists, jsonb_column_match};
-use std::test::Fail;
+use std::alloc::Global;
 
 const OK: u32 = 0;
 
@@ -17,25 +17,26 @@ const BUFFER_TOO_SMALL: u32 = 2;
 
 const INVALID_JSON_PATH: u32 = 18;
 
-// {"a":1}, bytes that end within a header, {"a":2}, and behind them a row whose offsets fall
-const ROWS: &[u8] =
+/// `{"a":1}`, bytes that end within a header, `{"a":2}`, and behind them a row whose offsets fall.
+static ROWS: &[u8] =
     b"\x40\0\0\x01\x10\0\0\x01\x20\0\0\x02a\x50\x01\x80\0\0\x40\0\0\x01\x10\0\0\x01\x20\0\0\x02a\x50\x02";
 
-const OFFSETS: &[u64] = &[0, 15, 18, 33, 32];
+static OFFSETS: [u64; 5] = [0, 15, 18, 33, 32];
 
-const A_ONE: &[u8] = b"\x40\0\0\x01\x10\0\0\x01\x20\0\0\x02a\x50\x01";
+static A_ONE: &[u8] = b"\x40\0\0\x01\x10\0\0\x01\x20\0\0\x02a\x50\x01";
 
-// 1 and 2, [1] and [2]
-const ONE_AND_TWO: &[u8] = b"\x20\0\0\0\x20\0\0\x02\x50\x01\x20\0\0\0\x20\0\0\x02\x50\x02";
+/// 1 and 2.
+static ONE_AND_TWO: &[u8] = b"\x20\0\0\0\x20\0\0\x02\x50\x01\x20\0\0\0\x20\0\0\x02\x50\x02";
 
-const ONES_AND_TWOS: &[u8] = b"\x80\0\0\x01\x20\0\0\x02\x50\x01\x80\0\0\x01\x20\0\0\x02\x50\x02";
+/// `[1]` and `[2]`.
+static ONES_AND_TWOS: &[u8] = b"\x80\0\0\x01\x20\0\0\x02\x50\x01\x80\0\0\x01\x20\0\0\x02\x50\x02";
 
-const STATUSES: [u8; 4] = [0, 16, 0, 3];
+static STATUSES: [u8; 4] = [0, 16, 0, 3];
 
-// null, "7" and 8
-const SCALARS: &[u8] = b"\x20\0\0\0\0\0\0\0\x20\0\0\0\x10\0\0\x017\x20\0\0\0\x20\0\0\x02\x50\x08";
+/// null, `"7"` and 8.
+static SCALARS: &[u8] = b"\x20\0\0\0\0\0\0\0\x20\0\0\0\x10\0\0\x017\x20\0\0\0\x20\0\0\x02\x50\x08";
 
-const SCALAR_OFFSETS: &[u64] = &[0, 8, 17, 27];
+static SCALAR_OFFSETS: [u64; 4] = [0, 8, 17, 27];
 
 /// Makes a call that gives a truth a row, and asserts the truths and the statuses of all four.
 macro_rules! assert_tells {
@@ -44,60 +45,58 @@ macro_rules! assert_tells {
         let mut statuses = [9; 4];
         let mut done = 9;
         let status = $call($($word,)* &mut truths, &mut statuses, &mut done);
-        assert_eq!($rt; (status, done), (OK, 4));
-        assert_eq!($rt; truths, $truths);
-        assert_eq!($rt; statuses, STATUSES);
+        assert!($rt; (status, done) == (OK, 4) && truths == $truths && statuses == STATUSES);
     }};
 }
 
 #[test]
-fn truths(rt: HostRuntime) -> Result<(), Fail> {
+fn truths(rt: HostRuntime) {
     let alloc = rt.alloc();
-    assert_tells!(rt; jsonb_column_match(alloc, ROWS, OFFSETS, b"$.a > 1", false), [0, 2, 1, 2]);
-    assert_tells!(rt; jsonb_column_exists(alloc, ROWS, OFFSETS, b"$.a?(@ > 1)", false), [0, 2, 1, 2]);
-    assert_tells!(rt; jsonb_column_contains(alloc, ROWS, OFFSETS, A_ONE), [1, 2, 0, 2]);
-    Ok(())
+    assert_tells!(rt; jsonb_column_match(alloc, ROWS, &OFFSETS, b"$.a > 1", false), [0, 2, 1, 2]);
+    assert_tells!(rt; jsonb_column_exists(alloc, ROWS, &OFFSETS, b"$.a?(@ > 1)", false), [0, 2, 1, 2]);
+    assert_tells!(rt; jsonb_column_contains(alloc, ROWS, &OFFSETS, A_ONE), [1, 2, 0, 2]);
 }
 
 #[test]
-fn checks(rt: HostRuntime) -> Result<(), Fail> {
+fn checks(rt: HostRuntime) {
     let mut statuses = [9; 4];
     let mut done = 9;
-    let status = jsonb_column_check(rt.alloc(), ROWS, OFFSETS, &mut statuses, &mut done);
-    assert_eq!(rt; (status, done), (OK, 4));
-    assert_eq!(rt; statuses, STATUSES);
-    Ok(())
+    let status = jsonb_column_check(rt.alloc(), ROWS, &OFFSETS, &mut statuses, &mut done);
+    assert!(rt; (status, done) == (OK, 4) && statuses == STATUSES);
 }
 
+/// Paths, the status of a call with room for two truths, and how many rows are done.
+static OF_FEWER_ROWS: [(&[u8], u32, usize); 2] = rows! {
+    b"$.a > 1", BUFFER_TOO_SMALL, 2;
+    b"$.", INVALID_JSON_PATH, 0;
+};
+
 #[test]
-fn truths_of_fewer_rows(rt: HostRuntime) -> Result<(), Fail> {
-    let alloc = rt.alloc();
+fn truths_of_fewer_rows(rt: HostRuntime) {
     let mut truths = [9; 2];
     let mut statuses = [9; 4];
     let mut done = 9;
-    let paths: [(&[u8], u32, usize); 2] = [
-        (b"$.a > 1", BUFFER_TOO_SMALL, 2),
-        (b"$.", INVALID_JSON_PATH, 0),
-    ];
-    for (path, status, rows) in &paths {
+    for (path, status, rows) in &OF_FEWER_ROWS {
         let ended = jsonb_column_match(
-            alloc,
+            rt.alloc(),
             ROWS,
-            OFFSETS,
+            &OFFSETS,
             path,
             false,
             &mut truths,
             &mut statuses,
             &mut done,
         );
-        assert_eq!(rt; (ended, done), (*status, *rows));
-        assert_eq!(rt; (truths, statuses), ([0, 2], [0, 16, 9, 9]));
+        let is_so = (ended, done) == (*status, *rows);
+        assert!(rt;
+            is_so && truths == [0, 2] && statuses == [0, 16, 9, 9],
+            "{path:?}"
+        );
     }
-    Ok(())
 }
 
 /// A caller's buffers of a call that gives bytes a row.
-#[derive(Drop)]
+#[derive(Clone, Copy)]
 struct Answer {
     out: [u8; 24],
     positions: [u64; 5],
@@ -135,106 +134,76 @@ macro_rules! assert_joins {
     ($rt:ident; $call:ident($($word:expr),*), $bytes:expr, $positions:expr, $statuses:expr) => {{
         let mut a = Answer::new();
         let status = $call($($word,)* &mut a.out, &mut a.positions, &mut a.statuses, &mut a.progress);
-        assert_eq!($rt; status, OK);
-        assert!($rt; a.is($bytes, $positions, $statuses));
+        assert!($rt; status == OK && a.is($bytes, $positions, $statuses));
     }};
 }
 
-// Where the answers for the rows end that give a document of ten bytes each.
-const ENDS: [u64; 5] = [0, 10, 10, 20, 20];
+/// Where the answers for the rows end that give a document of ten bytes each.
+static ENDS: [u64; 5] = [0, 10, 10, 20, 20];
 
 #[test]
-fn documents(rt: HostRuntime) -> Result<(), Fail> {
+fn documents(rt: HostRuntime) {
     let alloc = rt.alloc();
-    assert_joins!(rt; jsonb_column_get(alloc, ROWS, OFFSETS, b"{a}"), ONE_AND_TWO, ENDS, STATUSES);
-    assert_joins!(rt; jsonb_column_delete_by_keypath(alloc, ROWS, OFFSETS, b"{a}"),
+    assert_joins!(rt; jsonb_column_get(alloc, ROWS, &OFFSETS, b"{a}"), ONE_AND_TWO, ENDS, STATUSES);
+    assert_joins!(rt; jsonb_column_delete_by_keypath(alloc, ROWS, &OFFSETS, b"{a}"),
         b"\x40\0\0\0\x40\0\0\0", [0, 4, 4, 8, 8], STATUSES);
-    assert_joins!(rt; jsonb_column_select_first(alloc, ROWS, OFFSETS, b"$.a", true), ONE_AND_TWO, ENDS, STATUSES);
-    assert_joins!(rt; jsonb_column_select_value(alloc, ROWS, OFFSETS, b"$.a", false), ONE_AND_TWO, ENDS, STATUSES);
-    assert_joins!(rt; jsonb_column_select_array(alloc, ROWS, OFFSETS, b"$.a", false), ONES_AND_TWOS, ENDS, STATUSES);
-    Ok(())
+    assert_joins!(rt; jsonb_column_select_first(alloc, ROWS, &OFFSETS, b"$.a", true), ONE_AND_TWO, ENDS, STATUSES);
+    assert_joins!(rt; jsonb_column_select_value(alloc, ROWS, &OFFSETS, b"$.a", false), ONE_AND_TWO, ENDS, STATUSES);
+    assert_joins!(rt; jsonb_column_select_array(alloc, ROWS, &OFFSETS, b"$.a", false), ONES_AND_TWOS, ENDS, STATUSES);
 }
 
-#[test]
-fn goes_on_behind_a_full_buffer(rt: HostRuntime) -> Result<(), Fail> {
-    let alloc = rt.alloc();
+/// The members `a` of rows that end there, in a buffer of 15 bytes, and the status.
+fn get_a(alloc: Global, offsets: &[u64], out: &mut [u8; 15]) -> (Answer, u32) {
     let mut a = Answer::new();
-    let mut out = [9; 15];
-    assert_eq!(rt;
-        jsonb_column_get(
-            alloc,
-            ROWS,
-            OFFSETS,
-            b"{a}",
-            &mut out,
-            &mut a.positions,
-            &mut a.statuses,
-            &mut a.progress
-        ),
-        BUFFER_TOO_SMALL
+    let status = jsonb_column_get(
+        alloc,
+        ROWS,
+        offsets,
+        b"{a}",
+        out,
+        &mut a.positions,
+        &mut a.statuses,
+        &mut a.progress,
     );
-    assert!(rt; ONE_AND_TWO.starts_with(&out[..10]));
-    assert_eq!(rt; out[10..].iter().filter(|byte| **byte != 9).count(), 0);
-    assert_eq!(rt; a.positions, [0, 10, 10, 9, 9]);
-    assert_eq!(rt; a.statuses, [0, 16, 9, 9]);
-    assert_eq!(rt;
-        (a.progress.rows, a.progress.bytes, a.progress.next),
-        (2, 10, 10)
-    );
-    assert_eq!(rt;
-        jsonb_column_get(
-            alloc,
-            ROWS,
-            &OFFSETS[2..],
-            b"{a}",
-            &mut out,
-            &mut a.positions,
-            &mut a.statuses,
-            &mut a.progress
-        ),
-        OK
-    );
-    assert!(rt; ONE_AND_TWO.ends_with(&out[..10]));
-    assert_eq!(rt;
-        (a.progress.rows, a.progress.bytes, a.progress.next),
-        (2, 10, 0)
-    );
-    Ok(())
+    (a, status)
 }
 
 #[test]
-fn casts(rt: HostRuntime) -> Result<(), Fail> {
+fn goes_on_behind_a_full_buffer(rt: HostRuntime) {
+    let mut out = [9; 15];
+    let (a, status) = get_a(rt.alloc(), &OFFSETS, &mut out);
+    assert!(rt; status == BUFFER_TOO_SMALL);
+    assert!(rt; out == *b"\x20\0\0\0\x20\0\0\x02\x50\x01\x09\x09\x09\x09\x09");
+    assert!(rt; a.positions == [0, 10, 10, 9, 9] && a.statuses == [0, 16, 9, 9]);
+    assert!(rt; (a.progress.rows, a.progress.bytes, a.progress.next) == (2, 10, 10));
+    let (a, status) = get_a(rt.alloc(), &OFFSETS[2..], &mut out);
+    assert!(rt; status == OK && out.starts_with(b"\x20\0\0\0\x20\0\0\x02\x50\x02"));
+    assert!(rt; (a.progress.rows, a.progress.bytes, a.progress.next) == (2, 10, 0));
+}
+
+#[test]
+fn casts(rt: HostRuntime) {
     let alloc = rt.alloc();
     let mut numbers = [9; 3];
     let mut statuses = [9; 3];
     let mut done = 9;
-    assert_eq!(rt;
-        jsonb_column_to_i64(
-            alloc,
-            SCALARS,
-            SCALAR_OFFSETS,
-            &mut numbers,
-            &mut statuses,
-            &mut done
-        ),
-        OK
+    let status = jsonb_column_to_i64(
+        alloc,
+        SCALARS,
+        &SCALAR_OFFSETS,
+        &mut numbers,
+        &mut statuses,
+        &mut done,
     );
-    assert_eq!(rt; numbers, [0, 7, 8]);
-    assert_eq!(rt; statuses, [20, 0, 0]);
-    assert_joins!(rt; jsonb_column_to_str(alloc, SCALARS, SCALAR_OFFSETS),
-        b"78", [0, 0, 1, 2, 9], [20, 0, 0, 9]);
-    Ok(())
+    assert!(rt; status == OK && numbers == [0, 7, 8] && statuses == [20, 0, 0]);
+    assert_joins!(rt; jsonb_column_to_str(alloc, SCALARS, &SCALAR_OFFSETS), b"78", [0, 0, 1, 2, 9], [20, 0, 0, 9]);
 }
 
 #[test]
-fn keys_of_a_null(rt: HostRuntime) -> Result<(), Fail> {
+fn keys_of_a_null(rt: HostRuntime) {
     let alloc = rt.alloc();
     let null = &SCALAR_OFFSETS[..2];
-    assert_joins!(rt; jsonb_column_key(alloc, SCALARS, null, false),
-        b"\x00\x08", [0, 2, 9, 9, 9], [0, 9, 9, 9]);
-    assert_joins!(rt; jsonb_column_key(alloc, SCALARS, null, true),
-        b"\x00\x00\x08", [0, 3, 9, 9, 9], [0, 9, 9, 9]);
-    assert_joins!(rt; jsonb_column_equality_key(alloc, SCALARS, null),
-        b"\x08", [0, 1, 9, 9, 9], [0, 9, 9, 9]);
-    Ok(())
+    assert_joins!(rt; jsonb_column_key(alloc, SCALARS, null, false), b"\x00\x08", [0, 2, 9, 9, 9], [0, 9, 9, 9]);
+    assert_joins!(rt; jsonb_column_key(alloc, SCALARS, null, true), b"\x00\x00\x08", [0, 3, 9, 9, 9], [0, 9, 9, 9]);
+    assert_joins!(rt; jsonb_column_equality_key(alloc, SCALARS, null), b"\x08", [0, 1, 9, 9, 9], [0, 9, 9, 9]);
 }
