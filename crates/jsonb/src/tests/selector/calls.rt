@@ -121,18 +121,21 @@ fn next_answer(alloc: Global, selector: &mut Selector<'_>, path: &str) -> Result
     shown(alloc, selector.select_values(&path))
 }
 
+/// Paths, one after the other, and what each selects.
+static CALLS: [(&str, &str); 4] = rows! {
+    "$[*] + 1", "InvalidJsonPath";
+    "$[last, 0]", "30 10";
+    "$[*] + 1", "InvalidJsonPath";
+    "$[last, 0]", "30 10";
+};
+
 #[test]
 fn a_refused_call_leaves_nothing_behind(rt: HostRuntime) -> Result<(), Fail> {
     let document = bytes_of(rt.alloc(), "[10,20,30]")?;
     let mut selector = Selector::new(rt.alloc(), RawJsonb::new(&document));
-    for (path, wanted) in [
-        ("$[*] + 1", "InvalidJsonPath"),
-        ("$[last, 0]", "30 10"),
-        ("$[*] + 1", "InvalidJsonPath"),
-        ("$[last, 0]", "30 10"),
-    ] {
+    for (path, wanted) in &CALLS {
         let found = next_answer(rt.alloc(), &mut selector, path)?;
-        assert_eq!(rt; found.as_str(), wanted, "{path}");
+        assert_eq!(rt; found.as_str(), *wanted, "{path}");
     }
     Ok(())
 }
