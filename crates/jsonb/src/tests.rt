@@ -1,5 +1,10 @@
 //! What no clause says: rows worked by hand, and that names borrow.
 
+/// A table: each row stands in a line, and is a tuple.
+macro_rules! rows {
+    ($($($part:expr),+;)+) => { [$(($($part),+)),+] };
+}
+
 mod deep;
 mod grammar;
 mod natural;

@@ -79,10 +79,7 @@ fn before_truth(alloc: Global, left: Expr<'static>) -> Result<Expr<'static>, All
 // `@?(..)`
 fn filtered(alloc: Global, inner: Expr<'static>) -> Result<Vec<Path<'static>>, AllocError> {
     let filter = Path::FilterExpr(Box::new(alloc, inner)?);
-    let mut steps = Vec::with_capacity(alloc, 3)?;
-    steps.push(Path::Current)?;
-    steps.push(filter)?;
-    Ok(steps)
+    Ok(vec![in alloc; Path::Current, filter]?)
 }
 
 // `exists(@?(..))`
@@ -123,8 +120,11 @@ fn inner_expression(alloc: Global, inner: Innermost) -> Result<Expr<'static>, Al
     }
 }
 
+/// How an expression is nested, and what stands innermost.
+type Nested = (Nesting, Innermost);
+
 // An expression of all levels.
-fn nested(alloc: Global, nesting: Nesting, inner: Innermost) -> Result<Expr<'static>, AllocError> {
+fn nested(alloc: Global, (nesting, inner): Nested) -> Result<Expr<'static>, AllocError> {
     let mut found = inner_expression(alloc, inner)?;
     for n in 0..LEVELS {
         found = around(alloc, nesting, n, found)?;
@@ -141,155 +141,107 @@ fn is_number(expression: &Expr<'_>, n: u32) -> bool {
     matches!(expression, Expr::Value(literal) if **literal == wanted)
 }
 
-// Whether an expression is a chain of all levels.
-fn is_chain(expression: &Expr<'_>) -> bool {
-    let mut inner = expression;
-    let mut left = LEVELS;
-    while let Expr::BinaryOp {
-        op: BinaryOperator::And,
-        left: next,
-        right,
-    } = inner
-    {
-        if left == 0 || !is_number(right, left - 1) {
-            return false;
-        }
-        left -= 1;
-        inner = next;
-    }
-    left == 0 && is_true(inner)
-}
-
-// Whether an expression is all right sides.
-fn are_right_sides(expression: &Expr<'_>) -> bool {
-    let mut inner = expression;
-    let mut left = LEVELS;
-    while let Expr::BinaryOp {
-        op: BinaryOperator::And,
-        left: _,
-        right,
-    } = inner
-    {
-        if left == 0 {
-            return false;
-        }
-        left -= 1;
-        inner = right;
-    }
-    left == 0 && is_true(inner)
-}
-
-// Whether an expression is all signs.
-fn are_signs(expression: &Expr<'_>) -> bool {
-    let mut inner = expression;
-    let mut left = LEVELS;
-    while let Expr::UnaryOp {
-        op: UnaryOperator::Subtract,
-        operand,
-    } = inner
-    {
-        if left == 0 {
-            return false;
-        }
-        left -= 1;
-        inner = operand;
-    }
-    left == 0 && is_true(inner)
-}
-
 // Whether an expression has all levels around `true`. Filters are not looked into.
 fn is_nested(nesting: Nesting, expression: &Expr<'_>) -> bool {
-    match nesting {
-        Nesting::Chain => is_chain(expression),
-        Nesting::RightSides => are_right_sides(expression),
-        Nesting::Signs => are_signs(expression),
-        Nesting::Filters | Nesting::FiltersAndMore => false,
+    let mut inner = expression;
+    for n in (0..LEVELS).rev() {
+        inner = match (nesting, inner) {
+            (
+                Nesting::Chain,
+                Expr::BinaryOp {
+                    op: BinaryOperator::And,
+                    left,
+                    right,
+                },
+            ) if is_number(right, n) => left,
+            (
+                Nesting::RightSides,
+                Expr::BinaryOp {
+                    op: BinaryOperator::And,
+                    left: _,
+                    right,
+                },
+            ) => right,
+            (
+                Nesting::Signs,
+                Expr::UnaryOp {
+                    op: UnaryOperator::Subtract,
+                    operand,
+                },
+            ) => operand,
+            _ => return false,
+        };
     }
+    is_true(inner)
 }
+
+/// How expressions are nested that are looked into.
+static LOOKED_INTO: [Nesting; 3] = [Nesting::Chain, Nesting::RightSides, Nesting::Signs];
 
 #[test]
 fn deep_expressions_are_let_go(rt: HostRuntime) -> Result<(), Fail> {
     let alloc = rt.alloc();
-    for nesting in [Nesting::Chain, Nesting::RightSides, Nesting::Signs] {
-        drop(nested(alloc, nesting, Innermost::True)?);
+    for nesting in &LOOKED_INTO {
+        drop(nested(alloc, (*nesting, Innermost::True))?);
     }
-    let filters = nested(alloc, Nesting::FiltersAndMore, Innermost::True)?;
+    let filters = nested(alloc, (Nesting::FiltersAndMore, Innermost::True))?;
     drop(Path::FilterExpr(Box::new(alloc, filters)?));
     Ok(())
 }
 
 // Whether an expression, a copy of it and one of its own are nested so, the last two when the first is let go.
-fn are_nested(alloc: Global, nesting: Nesting) -> Result<(bool, bool, bool), Error> {
-    let whole = nested(alloc, nesting, Innermost::True)?;
+fn are_nested(alloc: Global, nesting: Nesting) -> Result<bool, Error> {
+    let whole = nested(alloc, (nesting, Innermost::True))?;
     let is_whole = is_nested(nesting, &whole);
     let copy = whole.clone(alloc)?;
     let owned = whole.to_owned(alloc)?;
     drop(whole);
-    Ok((
-        is_whole,
-        is_nested(nesting, &copy),
-        is_nested(nesting, &owned),
-    ))
+    Ok(is_whole && is_nested(nesting, &copy) && is_nested(nesting, &owned))
 }
 
 #[test]
 fn deep_expressions_are_copied(rt: HostRuntime) -> Result<(), Fail> {
-    for nesting in [Nesting::Chain, Nesting::RightSides, Nesting::Signs] {
-        let found = are_nested(rt.alloc(), nesting)?;
-        assert_eq!(rt; found, (true, true, true), "{nesting:?}");
+    for nesting in &LOOKED_INTO {
+        assert!(rt; are_nested(rt.alloc(), *nesting)?, "{nesting:?}");
     }
     Ok(())
 }
 
-// Whether two expressions are equal.
-fn are_equal(
-    alloc: Global,
-    one: (Nesting, Innermost),
-    other: (Nesting, Innermost),
-) -> Result<bool, AllocError> {
-    let one = nested(alloc, one.0, one.1)?;
-    let other = nested(alloc, other.0, other.1)?;
+const CHAIN: Nested = (Nesting::Chain, Innermost::True);
+
+const RIGHTS: Nested = (Nesting::RightSides, Innermost::True);
+
+const SIGNS: Nested = (Nesting::Signs, Innermost::True);
+
+const FILTERS: Nested = (Nesting::Filters, Innermost::True);
+
+/// Expressions, and whether they are equal.
+static COMPARED: [(Nested, Nested, bool); 10] = rows! {
+    CHAIN, CHAIN, true;
+    CHAIN, (Nesting::Chain, Innermost::Zero), false;
+    CHAIN, (Nesting::Chain, Innermost::TrueAndTrue), false;
+    SIGNS, CHAIN, false;
+    SIGNS, SIGNS, true;
+    RIGHTS, RIGHTS, true;
+    RIGHTS, (Nesting::RightSides, Innermost::Zero), false;
+    FILTERS, FILTERS, true;
+    FILTERS, (Nesting::Filters, Innermost::Zero), false;
+    FILTERS, RIGHTS, false;
+};
+
+fn are_equal(alloc: Global, one: Nested, other: Nested) -> Result<bool, AllocError> {
+    let one = nested(alloc, one)?;
+    let other = nested(alloc, other)?;
     Ok(one == other)
 }
 
 #[test]
-fn deep_chains_and_signs_are_compared(rt: HostRuntime) -> Result<(), Fail> {
-    let chain = (Nesting::Chain, Innermost::True);
-    let signs = (Nesting::Signs, Innermost::True);
-    for (one, other, wanted) in [
-        (chain, chain, true),
-        (chain, (Nesting::Chain, Innermost::Zero), false),
-        (chain, (Nesting::Chain, Innermost::TrueAndTrue), false),
-        (signs, chain, false),
-        (signs, signs, true),
-    ] {
-        let found = are_equal(rt.alloc(), one, other)?;
-        assert_eq!(rt; found, wanted, "{one:?} and {other:?}");
+fn deep_expressions_are_compared(rt: HostRuntime) -> Result<(), Fail> {
+    for (one, other, wanted) in &COMPARED {
+        let is_so = are_equal(rt.alloc(), *one, *other)? == *wanted;
+        assert!(rt; is_so, "{one:?} and {other:?}");
     }
     Ok(())
-}
-
-#[test]
-fn deep_right_sides_and_filters_are_compared(rt: HostRuntime) -> Result<(), Fail> {
-    let rights = (Nesting::RightSides, Innermost::True);
-    let filters = (Nesting::Filters, Innermost::True);
-    for (one, other, wanted) in [
-        (rights, rights, true),
-        (rights, (Nesting::RightSides, Innermost::Zero), false),
-        (filters, filters, true),
-        (filters, (Nesting::Filters, Innermost::Zero), false),
-        (filters, rights, false),
-    ] {
-        let found = are_equal(rt.alloc(), one, other)?;
-        assert_eq!(rt; found, wanted, "{one:?} and {other:?}");
-    }
-    Ok(())
-}
-
-// What an expression prints.
-fn printed(alloc: Global, nesting: Nesting, inner: Innermost) -> Result<String, AllocError> {
-    let expression = nested(alloc, nesting, inner)?;
-    format!(in alloc; "{expression}")
 }
 
 // What a chain prints.
@@ -316,34 +268,26 @@ fn nested_text(
     Ok(text)
 }
 
-#[test]
-fn chains_are_printed(rt: HostRuntime) -> Result<(), Fail> {
-    let found = printed(rt.alloc(), Nesting::Chain, Innermost::True)?;
-    assert!(rt; found == chain_text(rt.alloc())?);
-    Ok(())
+// What an expression prints.
+fn printed(alloc: Global, expression: Nested) -> Result<String, AllocError> {
+    let expression = nested(alloc, expression)?;
+    format!(in alloc; "{expression}")
 }
 
+/// Expressions, and what they print: what stands before the middle at each level, the middle, and what stands behind.
+static PRINTED: [(Nested, &str, &str, &str); 2] = rows! {
+    (Nesting::RightSides, Innermost::TrueAndTrue), "true && (", "true && true", ")";
+    FILTERS, "exists(@?(", "true", "))";
+};
+
 #[test]
-fn right_sides_and_filters_are_printed(rt: HostRuntime) -> Result<(), Fail> {
-    for (nesting, inner, before, middle, behind) in [
-        (
-            Nesting::RightSides,
-            Innermost::TrueAndTrue,
-            "true && (",
-            "true && true",
-            ")",
-        ),
-        (
-            Nesting::Filters,
-            Innermost::True,
-            "exists(@?(",
-            "true",
-            "))",
-        ),
-    ] {
-        let found = printed(rt.alloc(), nesting, inner)?;
+fn deep_expressions_are_printed(rt: HostRuntime) -> Result<(), Fail> {
+    let is_so = printed(rt.alloc(), CHAIN)? == chain_text(rt.alloc())?;
+    assert!(rt; is_so);
+    for (expression, before, middle, behind) in &PRINTED {
         let wanted = nested_text(rt.alloc(), before, middle, behind)?;
-        assert!(rt; found == wanted, "{nesting:?}");
+        let is_so = printed(rt.alloc(), *expression)? == wanted;
+        assert!(rt; is_so, "{expression:?}");
     }
     Ok(())
 }

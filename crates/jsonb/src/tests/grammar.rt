@@ -103,17 +103,20 @@ null => .null
 (1 + 1) => 1 + 1
 (-$) => -$"#;
 
+/// Texts that no such line holds.
+static PRINTED_WITH_ESCAPES: [(&str, &str); 3] = rows! {
+    "", "";
+    "$.a\n", "$.\"a\n\"";
+    "$.a\t== 1", "$.\"a\t\" == 1";
+};
+
 #[test]
 fn prints(rt: HostRuntime) -> Result<(), Fail> {
     for row in PRINTED.lines().skip(1) {
         let (text, wanted) = row.split_once(" => ").ok_or("a row without its answer")?;
         assert!(rt; prints_as(rt.alloc(), text.as_bytes(), wanted)?, "{text}");
     }
-    for (text, wanted) in [
-        ("", ""),
-        ("$.a\n", "$.\"a\n\""),
-        ("$.a\t== 1", "$.\"a\t\" == 1"),
-    ] {
+    for (text, wanted) in &PRINTED_WITH_ESCAPES {
         assert!(rt; prints_as(rt.alloc(), text.as_bytes(), wanted)?, "{text}");
     }
     Ok(())
@@ -137,6 +140,16 @@ fn parentheses_leave_nothing_behind(rt: HostRuntime) -> Result<(), Fail> {
     Ok(())
 }
 
+/// Texts, and whether the last name of the path of each borrows.
+static BORROWED: [(&str, bool); 6] = rows! {
+    "$.a", true;
+    "a", true;
+    "$:\"a b\"", true;
+    "$[\"a b\"]", true;
+    "$.\\u0041b", false;
+    "$[\"x\\\"y\"]", false;
+};
+
 fn last_name_borrows(path: &JsonPath<'_>) -> bool {
     match path.paths.last() {
         Some(
@@ -148,18 +161,16 @@ fn last_name_borrows(path: &JsonPath<'_>) -> bool {
     }
 }
 
+// Whether the last name of the text's path borrows.
+fn borrows(alloc: Global, text: &str) -> Result<bool, Error> {
+    let path = parse_json_path(alloc, text.as_bytes())?;
+    Ok(last_name_borrows(&path))
+}
+
 #[test]
 fn names_without_escapes_borrow(rt: HostRuntime) -> Result<(), Fail> {
-    for (text, borrows) in [
-        ("$.a", true),
-        ("a", true),
-        ("$:\"a b\"", true),
-        ("$[\"a b\"]", true),
-        ("$.\\u0041b", false),
-        ("$[\"x\\\"y\"]", false),
-    ] {
-        let found = parse_json_path(rt.alloc(), text.as_bytes())?;
-        assert_eq!(rt; last_name_borrows(&found), borrows, "{text}");
+    for (text, wanted) in &BORROWED {
+        assert_eq!(rt; borrows(rt.alloc(), text)?, *wanted, "{text}");
     }
     Ok(())
 }

@@ -10,6 +10,20 @@ use std::borrow::CowStr;
 use std::cmp::Ordering;
 use std::test::Fail;
 
+const ALL: ArrayIndex = ArrayIndex::Slice((Index::Index(i32::MIN), Index::Index(i32::MAX)));
+
+/// An entry, the length of an array, and the positions that the entry means there.
+static POSITIONS: [(ArrayIndex, usize, &[usize]); 8] = rows! {
+    ArrayIndex::Slice((Index::Index(-5), Index::Index(1))), 3, &[0, 1];
+    ArrayIndex::Slice((Index::Index(2), Index::Index(0))), 3, &[];
+    ArrayIndex::Slice((Index::LastIndex(0), Index::Index(9))), 3, &[2];
+    ArrayIndex::Index(Index::LastIndex(-1)), 3, &[1];
+    ArrayIndex::Index(Index::Index(-1)), 3, &[];
+    ALL, 3, &[0, 1, 2];
+    ArrayIndex::Index(Index::LastIndex(i32::MAX)), 3, &[];
+    ALL, 0, &[];
+};
+
 // Whether the entry means just these positions of an array of that length.
 fn means(
     alloc: Global,
@@ -24,103 +38,102 @@ fn means(
 
 #[test]
 fn positions(rt: HostRuntime) -> Result<(), Fail> {
-    let all = ArrayIndex::Slice((Index::Index(i32::MIN), Index::Index(i32::MAX)));
-    for (entry, length, positions) in [
-        (
-            ArrayIndex::Slice((Index::Index(-5), Index::Index(1))),
-            3,
-            [0, 1].as_slice(),
-        ),
-        (
-            ArrayIndex::Slice((Index::Index(2), Index::Index(0))),
-            3,
-            [].as_slice(),
-        ),
-        (
-            ArrayIndex::Slice((Index::LastIndex(0), Index::Index(9))),
-            3,
-            [2].as_slice(),
-        ),
-        (ArrayIndex::Index(Index::LastIndex(-1)), 3, [1].as_slice()),
-        (ArrayIndex::Index(Index::Index(-1)), 3, [].as_slice()),
-        (all, 3, [0, 1, 2].as_slice()),
-        (
-            ArrayIndex::Index(Index::LastIndex(i32::MAX)),
-            3,
-            [].as_slice(),
-        ),
-        (all, 0, [].as_slice()),
-    ] {
-        let is_so = means(rt.alloc(), entry, length, positions)?;
+    for (entry, length, positions) in &POSITIONS {
+        let is_so = means(rt.alloc(), *entry, *length, positions)?;
         assert!(rt; is_so, "{entry:?} of {length}");
     }
     Ok(())
 }
 
+/// Where a range of levels starts and ends, a level, whether its item is taken, and whether its children are looked at.
+static LEVELS: [(u8, RecursiveLevelEnd, u8, (bool, bool)); 4] = rows! {
+    3, RecursiveLevelEnd::Index(2), 1, (false, false);
+    3, RecursiveLevelEnd::Index(2), 3, (false, false);
+    2, RecursiveLevelEnd::Last, 1, (false, true);
+    2, RecursiveLevelEnd::Last, 255, (true, true);
+};
+
 #[test]
 fn levels(rt: HostRuntime) {
-    for (start, end, level, wanted) in [
-        (3, RecursiveLevelEnd::Index(2), 1, (false, false)),
-        (3, RecursiveLevelEnd::Index(2), 3, (false, false)),
-        (2, RecursiveLevelEnd::Last, 1, (false, true)),
-        (2, RecursiveLevelEnd::Last, 255, (true, true)),
-    ] {
+    for (start, end, level, wanted) in &LEVELS {
         let levels = RecursiveLevel {
-            start,
-            end: Some(end),
+            start: *start,
+            end: Some(*end),
         };
-        assert_eq!(rt;
-            levels.check_recursive_level(level),
-            wanted,
-            "{levels:?} at {level}"
-        );
+        let answer = levels.check_recursive_level(*level);
+        assert_eq!(rt; answer, *wanted, "{levels:?} at {level}");
     }
 }
 
-// Whether two literals are equal, how they compare, and whether the first is less.
-fn compared(left: &PathValue<'_>, right: &PathValue<'_>) -> (bool, Option<Ordering>, bool) {
-    (left == right, left.partial_cmp(right), left < right)
+/// What a literal is made of.
+#[derive(Clone, Copy, Debug)]
+enum Literal {
+    Null,
+    Boolean(bool),
+    Number(Number),
+    String(&'static str),
 }
+
+impl Literal {
+    fn value(self) -> PathValue<'static> {
+        match self {
+            Literal::Null => PathValue::Null,
+            Literal::Boolean(truth) => PathValue::Boolean(truth),
+            Literal::Number(number) => PathValue::Number(number),
+            Literal::String(text) => PathValue::String(CowStr::Borrowed(text)),
+        }
+    }
+}
+
+/// Whether two literals are equal, how they compare, and whether the first is less.
+type Comparison = (bool, Option<Ordering>, bool);
+
+fn compared(left: Literal, right: Literal) -> Comparison {
+    let (left, right) = (left.value(), right.value());
+    (left == right, left.partial_cmp(&right), left < right)
+}
+
+const ONE: Number = Number::UInt64(1);
+
+const ONE_POINT_ZERO: Number = Number::Decimal64(Decimal64 {
+    scale: 1,
+    value: 10,
+});
+
+const EQUAL: Comparison = (true, Some(Ordering::Equal), false);
+
+const LESS: Comparison = (false, Some(Ordering::Less), true);
+
+static COMPARED: [(Literal, Literal, Comparison); 5] = rows! {
+    Literal::Number(ONE), Literal::Number(ONE_POINT_ZERO), EQUAL;
+    Literal::Boolean(false), Literal::Boolean(true), LESS;
+    Literal::Null, Literal::Null, EQUAL;
+    Literal::String("a"), Literal::String("b"), LESS;
+    Literal::Null, Literal::Boolean(false), (false, None, false);
+};
 
 #[test]
 fn literals_compare(rt: HostRuntime) {
-    let equal = (true, Some(Ordering::Equal), false);
-    let less = (false, Some(Ordering::Less), true);
-    let one = Number::UInt64(1);
-    let decimal = Number::Decimal64(Decimal64 {
-        scale: 1,
-        value: 10,
-    });
-    for (left, right, wanted) in [
-        (PathValue::Number(one), PathValue::Number(decimal), equal),
-        (PathValue::Boolean(false), PathValue::Boolean(true), less),
-        (PathValue::Null, PathValue::Null, equal),
-        (
-            PathValue::String(CowStr::Borrowed("a")),
-            PathValue::String(CowStr::Borrowed("b")),
-            less,
-        ),
-        (
-            PathValue::Null,
-            PathValue::Boolean(false),
-            (false, None, false),
-        ),
-    ] {
-        assert_eq!(rt; compared(&left, &right), wanted, "{left:?} and {right:?}");
+    for (left, right, wanted) in &COMPARED {
+        let found = compared(*left, *right);
+        assert_eq!(rt; found, *wanted, "{left:?} and {right:?}");
     }
+}
+
+static DOCUMENT: &[u8] = b"\x80\0\0\x01\x20\0\0\x02\x50\x01";
+
+// Whether a document and a copy of it print so.
+fn prints_twice(alloc: Global, document: &PathValue<'_>, wanted: &str) -> Result<bool, Error> {
+    let copy = document.clone(alloc)?;
+    Ok(format!(in alloc; "{document} {copy}")?.as_str() == wanted)
 }
 
 #[test]
 fn a_document_prints_in_hexadecimal_and_equals_none(rt: HostRuntime) -> Result<(), Fail> {
-    let document = RawJsonb::new(b"\x80\0\0\x01\x20\0\0\x02\x50\x01");
-    let raw = PathValue::Raw(document);
-    let copy = raw.clone(rt.alloc())?;
-    let printed = format!(in rt.alloc(); "{raw} {copy}")?;
-    assert_eq!(rt;
-        printed.as_str(),
-        "raw(80000001200000025001) raw(80000001200000025001)"
-    );
-    assert!(rt; raw != PathValue::Raw(document));
+    let document = PathValue::Raw(RawJsonb::new(DOCUMENT));
+    let wanted = "raw(80000001200000025001) raw(80000001200000025001)";
+    assert!(rt; prints_twice(rt.alloc(), &document, wanted)?);
+    assert!(rt; document != PathValue::Raw(RawJsonb::new(DOCUMENT)));
     Ok(())
 }
 
@@ -146,17 +159,28 @@ fn parts_are_copied(rt: HostRuntime) -> Result<(), Fail> {
         b"$.**{1}[0]?(exists(@:b) && @.c < \"\\n\" || -@)",
     )?;
     for step in &found.paths {
-        assert!(rt; is_copied(rt.alloc(), step)?, "{step:?}");
-        assert!(rt; is_filter_copied(rt.alloc(), step)?, "{step:?}");
+        let is_so = is_copied(rt.alloc(), step)? && is_filter_copied(rt.alloc(), step)?;
+        assert!(rt; is_so, "{step:?}");
     }
     Ok(())
 }
 
+/// Texts, and whether the path of each is an expression alone.
+static PREDICATES: [(&str, bool); 4] = [
+    ("1 == -1", true),
+    ("-5", true),
+    ("$.a", false),
+    ("", false),
+];
+
+fn is_predicate(alloc: Global, text: &str) -> Result<bool, Error> {
+    Ok(parse_json_path(alloc, text.as_bytes())?.is_predicate())
+}
+
 #[test]
 fn predicates(rt: HostRuntime) -> Result<(), Fail> {
-    for (text, wanted) in [("1 == -1", true), ("-5", true), ("$.a", false), ("", false)] {
-        let found = parse_json_path(rt.alloc(), text.as_bytes())?;
-        assert_eq!(rt; found.is_predicate(), wanted, "{text}");
+    for (text, wanted) in &PREDICATES {
+        assert_eq!(rt; is_predicate(rt.alloc(), text)?, *wanted, "{text}");
     }
     Ok(())
 }

@@ -11,7 +11,8 @@ static PAYLOADS: [(&[u8], Result<ExtensionValue<'static>, Error>); 13] = rows! {
     b"\x10\xff\xff\xff\xff", Ok(ExtensionValue::Date(Date { value: -1 }));
     b"\x20\0\0\0\0\0\0\0\x0a", Ok(ExtensionValue::Timestamp(Timestamp { value: 10 }));
     b"\x30\xff\xff\xff\xfe\0\0\0\0\0\0\0\x0a", Ok(ExtensionValue::TimestampTz(TimestampTz { offset: -2, value: 10 }));
-    b"\x40\0\0\0\x01\0\0\0\x02\0\0\0\0\0\0\0\x03", Ok(ExtensionValue::Interval(Interval { months: 1, days: 2, micros: 3 }));
+    b"\x40\0\0\0\x01\0\0\0\x02\0\0\0\0\0\0\0\x03",
+        Ok(ExtensionValue::Interval(Interval { months: 1, days: 2, micros: 3 }));
     b"", Err(Error::InvalidJsonb);
     b"\x10\0\0\x01", Err(Error::InvalidJsonb);
     b"\x20\0\0\0\x01", Err(Error::InvalidJsonb);

@@ -82,19 +82,23 @@ fn selected_by(alloc: Global, paths: Vec<Path<'_>>, document: &str) -> Result<St
     shown(alloc, selector.select_values(&path))
 }
 
+/// What is built, a document, and what is selected of it.
+static ROWS: [(Made, &str, &str); 7] = rows! {
+    Made::ItemAlone, "[1]", "InvalidJsonPath";
+    Made::LiteralAlone, "[1]", "[1]";
+    Made::PathAsExpression, "[1]", "InvalidJsonPath";
+    Made::ExpressionAmongSteps, "[1]", "[1]";
+    Made::SignedOperand, "[1]", "InvalidJsonPath";
+    Made::ExpressionWithinPath, "[1]", "InvalidJsonPath";
+    Made::ExpressionWithinPath, "[]", "";
+};
+
 #[test]
 fn steps_that_no_text_reads_as(rt: HostRuntime) -> Result<(), Fail> {
-    for (made, document, wanted) in [
-        (Made::ItemAlone, "[1]", "InvalidJsonPath"),
-        (Made::LiteralAlone, "[1]", "[1]"),
-        (Made::PathAsExpression, "[1]", "InvalidJsonPath"),
-        (Made::ExpressionAmongSteps, "[1]", "[1]"),
-        (Made::SignedOperand, "[1]", "InvalidJsonPath"),
-        (Made::ExpressionWithinPath, "[1]", "InvalidJsonPath"),
-        (Made::ExpressionWithinPath, "[]", ""),
-    ] {
-        let found = selected_by(rt.alloc(), steps(rt.alloc(), made)?, document)?;
-        assert_eq!(rt; found.as_str(), wanted, "{made:?} on {document}");
+    for (made, document, wanted) in &ROWS {
+        let steps = steps(rt.alloc(), *made)?;
+        let found = selected_by(rt.alloc(), steps, document)?;
+        assert_eq!(rt; found.as_str(), *wanted, "{made:?} on {document}");
     }
     Ok(())
 }

@@ -95,11 +95,17 @@ fn an_expression_alone_makes_its_value(rt: HostRuntime) -> Result<(), Fail> {
     assert_selected(&rt, rt.alloc(), REFUSED)
 }
 
+/// Documents, and what a name with a line end selects.
+static LINE_ENDS: [(&str, &str); 2] = rows! {
+    "{\"a\\n\":1}", "1";
+    "{\"a\":null,\"b\":[null]}", "";
+};
+
 #[test]
 fn a_name_takes_a_line_end(rt: HostRuntime) -> Result<(), Fail> {
-    for (document, wanted) in [("{\"a\\n\":1}", "1"), ("{\"a\":null,\"b\":[null]}", "")] {
+    for (document, wanted) in &LINE_ENDS {
         let found = selected(rt.alloc(), "$.a\n", document)?;
-        assert_eq!(rt; found.as_str(), wanted, "{document}");
+        assert_eq!(rt; found.as_str(), *wanted, "{document}");
     }
     Ok(())
 }
@@ -115,14 +121,18 @@ fn nested_arrays(alloc: Global, depth: u32) -> Result<Vec<u8>, Fail> {
     Ok(bytes)
 }
 
+/// How many items of the document the path selects.
+fn count(alloc: Global, document: &[u8], path: &str) -> Result<usize, Error> {
+    let path = parse_json_path(alloc, path.as_bytes())?;
+    let found = Selector::new(alloc, RawJsonb::new(document)).select_values(&path)?;
+    Ok(found.len())
+}
+
 #[test]
 fn levels_are_counted_past_255(rt: HostRuntime) -> Result<(), Fail> {
     let bytes = nested_arrays(rt.alloc(), 300)?;
-    let document = RawJsonb::new(&bytes);
-    assert!(rt; document.check().is_ok());
-    let path = parse_json_path(rt.alloc(), b"$.**{0 to last}")?;
-    let found = Selector::new(rt.alloc(), document).select_values(&path)?;
-    assert_eq!(rt; found.len(), 300);
+    assert!(rt; RawJsonb::new(&bytes).check().is_ok());
+    assert!(rt; count(rt.alloc(), &bytes, "$.**{0 to last}")? == 300);
     Ok(())
 }
 
@@ -132,15 +142,18 @@ fn is_there(alloc: Global, document: &[u8], path: &str) -> Result<bool, Error> {
     Selector::new(alloc, RawJsonb::new(document)).exists(&path)
 }
 
+/// Paths, and whether they select something of a deep array.
+static RECURSIVE: [(&str, bool); 3] = rows! {
+    "$.**", true;
+    "$.**{0 to 254}.k", false;
+    "$.**{255 to last}.k", false;
+};
+
 #[test]
 fn a_recursive_step_goes_down_any_depth(rt: HostRuntime) -> Result<(), Fail> {
     let bytes = nested_arrays(rt.alloc(), 60_000)?;
-    for (path, wanted) in [
-        ("$.**", true),
-        ("$.**{0 to 254}.k", false),
-        ("$.**{255 to last}.k", false),
-    ] {
-        assert_eq!(rt; is_there(rt.alloc(), &bytes, path)?, wanted, "{path}");
+    for (path, wanted) in &RECURSIVE {
+        assert_eq!(rt; is_there(rt.alloc(), &bytes, path)?, *wanted, "{path}");
     }
     Ok(())
 }
