@@ -238,7 +238,7 @@ fn borrows_a(step: &KeyPath<'_>) -> bool {
     matches!(step, KeyPath::Name(CowStr::Borrowed("a")))
 }
 
-/// Whether a copy of this name borrows it, and so does what is seen of one with a text of its own, which equals its copy.
+/// Whether a copy of this name borrows it; so does what is seen of one with a text of its own, which equals its copy.
 fn is_copied(alloc: Global, step: &KeyPath<'_>) -> Result<bool, Error> {
     let owned = step.to_owned(alloc)?;
     let is_same = owned.clone(alloc)? == owned && borrows_a(&owned.as_key_path());
