@@ -135,7 +135,7 @@ pub fn spot_entry<'a>(bytes: &'a [u8], spot: Spot) -> Result<StoredEntry<'a>, Er
     })
 }
 
-/// The number at a spot of these bytes, where its digits are stored in at most 64 bits; `None` for every other item.
+/// The number at a spot of these bytes, where its digits are found in at most 64 bits. `None` says nothing of the item.
 ///
 /// # Errors
 ///
