@@ -31,20 +31,12 @@ pub use self::document::{scalar_document, spot_document};
 /// don't decode.
 #[derive(Clone, Copy, Debug)]
 pub struct Spot {
-    kind: EntryKind,
-    start: usize,
-    end: usize,
+    pub(crate) kind: EntryKind,
+    pub(crate) start: usize,
+    pub(crate) end: usize,
 }
 
 impl Spot {
-    pub(crate) fn new(kind: EntryKind, start: usize, end: usize) -> Spot
-        ensures kind { result.kind ≡ kind }
-        ensures start { result.start ≡ start }
-        ensures end { result.end ≡ end }
-    {
-        Spot { kind, start, end }
-    }
-
     /// Whether it is an array or an object.
     ///
     /// # Cost
@@ -86,13 +78,12 @@ pub fn root_spot(bytes: &[u8]) -> Result<Spot, Error>
     ensures readable { OnOk result (HasReadableRoot bytes.now) }
     ensures errors { IfErr result IsDecodingError }
 {
-    match read_container(bytes)? {
-        Container::Scalar(entry) => {
-            let start = bytes.len() - entry.content.len();
-            Ok(Spot::new(entry.kind, start, bytes.len()))
-        }
-        _ => Ok(Spot::new(EntryKind::Container, 0, bytes.len())),
-    }
+    let end = bytes.len();
+    let (kind, start) = match read_container(bytes)? {
+        Container::Scalar(entry) => (entry.kind, end - entry.content.len()),
+        _ => (EntryKind::Container, 0),
+    };
+    Ok(Spot { kind, start, end })
 }
 
 /// The item at a spot of these bytes, its slices borrowed from them.
@@ -225,8 +216,10 @@ pub fn field_spot(bytes: &[u8], spot: Spot, name: &str) -> Result<Option<Spot>, 
     let Some(value) = entry_behind(parts.value_words, passed, values) else {
         return Err(Error::InvalidJsonb);
     };
+    let kind = value.kind;
     let end = spot.end - value.other_contents.len();
-    Ok(Some(Spot::new(value.kind, end - value.content.len(), end)))
+    let start = end - value.content.len();
+    Ok(Some(Spot { kind, start, end }))
 }
 
 /// What follows the key that is this name, of the keys with these words and bytes.

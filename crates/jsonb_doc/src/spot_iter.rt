@@ -92,7 +92,7 @@ impl<'a> Iterator for SpotIter<'a> {
             Some(end) if end <= self.end => {
                 self.words = others;
                 self.start = end;
-                Some(Ok(Spot::new(kind, start, end)))
+                Some(Ok(Spot { kind, start, end }))
             }
             _ => {
                 self.words = &[];

@@ -1,4 +1,4 @@
-use Rattle.std.proofs.Common.{◌-◌, length, arith, refl, ap}
+use Rattle.std.proofs.Common.{◌-◌, length, refl}
 use Rattle.jsonb_doc.specs.Payload.{any, number_reader}
 use Rattle.jsonb_doc.specs.Kinds.{kind_number}
 use Rattle.jsonb_doc.proofs.SpotsLemmas.{Locates-scalar, no_field, Locates-document, Locates-no-scalar, array_no_field}
@@ -58,9 +58,8 @@ pub returns-clause-field : goal.returns-clause-field
 returns-clause-field c = λ t m.
     let found = rw (c.as_bytes.ensures.value, c.in-Some.is) at c.in_ok-found.ensures.found in
     let v = c.in-Some-entry_behind.value in
-    let end = c.new.ensures.end in
     field_marks c.args.bytes.now c.args.spot t m _ c.in_ok-object.ensures.2 (equal_kind _ c.args.spot.kind Container c.ne.ensures c.if-ne.false) c.in-Object.parts
     (rw c.in-Object.is at c.in_ok-read_container.ensures.cut) c.args.name.now c.in-Some.words_behind.now c.in-Some.bytes_behind.now found
     c.in-Some-skip_contents.values.now c.in-Some-skip_contents.ensures.rest
     (length c.in-Object.parts.key_words.now - length c.in-Some.words_behind.now - 4) refl (kind_number v.kind) v.content.now v.other_words.now
-    v.other_contents.now c.in-Some-entry_behind.ensures.entry c.new.result (ap kind_number c.new.ensures.kind) end (omega (arith, c.new.ensures.start, end))
+    v.other_contents.now c.in-Some-entry_behind.ensures.entry _ refl refl refl

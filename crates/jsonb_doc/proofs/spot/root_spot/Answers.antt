@@ -1,4 +1,4 @@
-use Rattle.std.proofs.Common.{[], sym, ap, arith}
+use Rattle.std.proofs.Common.{[], sym, arith, refl}
 use Rattle.std.proofs.lemmas.List.{append-nil}
 use Rattle.jsonb_doc.specs.Payload.{number_reader}
 use Rattle.jsonb_doc.specs.Kinds.{kind_number}
@@ -11,24 +11,16 @@ returns-in-Scalar-clause-marks c = λ t h.
     let e = c.in-Scalar.entry in
     let cut = rw c.in-Scalar.is at c.in_ok-entry.ensures.cut in
     let (front, joined) = scalar_end c.args.bytes.now e cut in
-    Locates-root c.args.bytes.now c.new.result t (kind_number e.kind) front e.content.now [] joined (ap kind_number c.new.ensures.kind)
-    (omega (arith, c.new.ensures.end))
-    (omega (arith, c.new.ensures.start, c.new.ensures.end)) h
+    Locates-root c.args.bytes.now _ t (kind_number e.kind) front e.content.now [] joined refl (omega arith) (omega arith) h
     (λ form top d. Decodes-scalar form c.args.bytes.now e cut top d)
 
 pub returns-in_default : goal.returns-in_default
-returns-in_default c =
-    let new = c.new-in_default.ensures in
-    record {
-      marks = λ t h.
-          Locates-root c.args.bytes.now c.new-in_default.result t 5 [] c.args.bytes.now [] (sym (append-nil c.args.bytes.now)) (ap kind_number new.kind)
-          (omega (arith, new.end)) (omega (arith, new.start, new.end)) h
-          (λ form top d. IsCut-container
-          (number_reader form) c.args.bytes.now c.in_ok-entry.field-0 c.in_ok-entry.ensures.cut c.in_default.not-Scalar top d.document);
-      size = omega (arith, new.start, new.end);
-      readable = (c.in_ok-entry.field-0, c.in_ok-entry.ensures.cut);
-      errors = tt;
-    }
-
-pub returns-in-Scalar-clause-readable : goal.returns-in-Scalar-clause-readable
-returns-in-Scalar-clause-readable c = (c.in_ok-entry.field-0, c.in_ok-entry.ensures.cut)
+returns-in_default c = record {
+  marks = λ t h.
+      Locates-root c.args.bytes.now _ t 5 [] c.args.bytes.now [] (sym (append-nil c.args.bytes.now)) refl (omega arith) (omega arith) h
+      (λ form top d. IsCut-container
+      (number_reader form) c.args.bytes.now c.in_ok-entry.field-0 c.in_ok-entry.ensures.cut c.in_default.not-Scalar top d.document);
+  size = omega arith;
+  readable = (c.in_ok-entry.field-0, c.in_ok-entry.ensures.cut);
+  errors = tt;
+}

@@ -1,4 +1,4 @@
-use Rattle.std.proofs.Common.{arith, rules, refl, sym, ap, ◌≡◌, ◌∙◌, ◌<◌, ◌+◌, ◌-◌, length}
+use Rattle.std.proofs.Common.{arith, rules, refl, ◌≡◌, ◌<◌, ◌+◌, ◌-◌, length}
 use Rattle.std.proofs.lemmas.Grind.{common_steps}
 use Rattle.std.proofs.lemmas.List.{nil_from_length}
 use Rattle.jsonb_doc.specs.Kinds.{kind_number}
@@ -34,26 +34,23 @@ returns-in_default-clause-steps c = record {
 pub returns-in-Some-checked_add-clause-steps : goal.returns-in-Some-checked_add-clause-steps
 returns-in-Some-checked_add-clause-steps c =
     let sum = c.in-Some-checked_add.ensures in
-    let start = c.new.ensures.start in
-    let kind = ap kind_number c.new.ensures.kind in
-    let end = c.new.ensures.end ∙ sum.1 in
-    let len : c.new.result.end - c.new.result.start ≡ c.in-Some.len = omega (arith, start, end) in
+    let len : c.in-Some-checked_add.end - c.args.self.now.start ≡ c.in-Some.len = omega (arith, sum.1) in
     record {
       reads = record {
-        word = rw (kind, len) c.in-Some.ensures.word.joined;
+        word = rw len c.in-Some.ensures.word.joined;
         fits = omega (arith, len, c.in-Some.ensures.word.fits);
-        front = start;
-        ordered = omega (arith, sum.1, start, end);
-        within = omega (arith, c.new.ensures.end);
-        next = sym c.new.ensures.end;
+        front = refl;
+        ordered = omega (arith, sum.1);
+        within = omega arith;
+        next = refl;
         last = refl;
       };
       takes = λ bytes ts h.
-          HasSpotsLeft-first bytes c.args.self.now (kind_number c.in-Some.kind) c.in-Some.len c.in-Some.others.now c.in-Some.ensures.word ts c.new.result _
-          kind start end refl sum.1 refl h;
+          HasSpotsLeft-first bytes c.args.self.now (kind_number c.in-Some.kind) c.in-Some.len c.in-Some.others.now c.in-Some.ensures.word ts _ _
+          refl refl sum.1 refl sum.1 refl h;
       errors = search rules;
       ended = search rules;
-      size = omega (arith, sum.1, start, end);
+      size = omega (arith, sum.1);
       room = omega (arith, sum.1);
     }
 
