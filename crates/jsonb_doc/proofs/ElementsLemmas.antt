@@ -1,15 +1,25 @@
 -- The iterator over elements and its first item.
-use Rattle.std.proofs.Common.{◌≡◌, Some}
-use Rattle.jsonb_doc.specs.Tree.{Tree, array}
+use Rattle.std.proofs.Common.{◌≡◌, ◌≢◌, ℕ, List, Some}
+use Rattle.jsonb_doc.specs.Tree.{Tree, Trees, array}
 use Rattle.jsonb_doc.specs.Payload.{Form, number_reader}
+use Rattle.jsonb_doc.specs.Format.{Decodes}
+use Rattle.jsonb_doc.specs.Readable.{IsCut}
 use Rattle.jsonb_doc.specs.Elements.{IsElementsOf}
 use Rattle.jsonb_doc.specs.Private.Containers.{Holds}
 use Rattle.jsonb_doc.specs.declared.container.ArrayParts.{ArrayParts}
 use Rattle.jsonb_doc.specs.declared.container.Container.TheVariants.{Array}
 use Rattle.jsonb_doc.specs.declared.element_iter.ElementIter.{ElementIter}
+use Rattle.jsonb_doc.proofs.Containers.{Decodes-array, Holds-elements}
 
 -- the iterator of an array's parts
 pub IsElementsOf-some : (form : Form) (t : Tree) (it : ElementIter) (p : ArrayParts) → it.entries.words.now ≡ p.words.now
     → it.entries.contents.now ≡ p.contents.now → Holds (number_reader form) t (Array p) → IsElementsOf form t (Some it)
 IsElementsOf-some form (array ts) it p words contents held = record { entries = rw (words, contents) held }
 IsElementsOf-some form _ it p words contents held = absurd held
+
+-- a document that is cut into the parts of an array has no other tree
+pub only_array : (form : Form) (bytes : List ℕ) (p : ArrayParts) → IsCut bytes (Array p) → (t : Tree) → Decodes form bytes t
+    → ((ts : Trees) → t ≢ array ts) → ⊥
+only_array form bytes p cut t h other =
+    let found = Holds-elements form bytes t p (Decodes-array form bytes p cut t h) h in
+    other found.0 found.1

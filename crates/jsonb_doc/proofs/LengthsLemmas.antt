@@ -2,7 +2,7 @@
 use Rattle.std.proofs.Common.{◌≡◌, ℕ, zero, suc, ◌+◌, ◌*◌, ◌/◌, ◌%◌, ◌^◌, ◌≤◌, List, [], ◌∷◌, ◌++◌, length, take, drop, map, sum, refl, sym, ap, ◌∙◌, arith, Option, Some, None, append_assoc}
 use Rattle.std.specs.Borrow.{Bor}
 use Rattle.std.specs.Slice.{IsGetRangeResult}
-use Rattle.std.proofs.lemmas.List.{length-append, drop_at}
+use Rattle.std.proofs.lemmas.List.{length-append, drop_at, take-append-drop}
 use Rattle.std.proofs.lemmas.List.Sums.{sum_by-cons}
 use Rattle.std.proofs.lemmas.Slice.{between_to_end}
 use Rattle.std.specs.Prelude.{slice_range, IsSomeAnd, IfSome}
@@ -90,6 +90,13 @@ pub IsPart-size : (contents : List ℕ) (n : ℕ) (r : Option (Bor (List ℕ))) 
     → IfSome r (λ x. length x.now ≤ length contents)
 IsPart-size contents n None h = tt
 IsPart-size contents n (Some x) h = omega (arith, h.0.3)
+
+pub IsPart-end : (contents : List ℕ) (n : ℕ) (r : Option (Bor (List ℕ))) → IsGetRangeResult contents n (length contents) r
+    → IfSome r (λ x. (front : List ℕ) × (contents ≡ front ++ x.now))
+IsPart-end contents n None h = tt
+IsPart-end contents n (Some x) h =
+    let is : x.now ≡ drop n contents = h.0.2 ∙ between_to_end contents n (length contents) (omega arith) in
+    (take n contents, sym (take-append-drop n contents) ∙ ap (λ (back : List ℕ). take n contents ++ back) (sym is))
 
 -- keys stand before what follows them
 pub keys_before : (ks : List (List ℕ)) (words bytes rest : List ℕ) → AreKeys ks → words ≡ key_words ks → bytes ≡ key_bytes ks ++ rest

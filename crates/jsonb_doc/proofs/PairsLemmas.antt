@@ -1,21 +1,22 @@
 -- The iterator over pairs and its first item.
-use Rattle.std.proofs.Common.{◌≡◌, ℕ, ◌<◌, List, [], ◌∷◌, ◌++◌, length, Some, ap, ◌∙◌, arith, refl}
+use Rattle.std.proofs.Common.{◌≡◌, ◌≢◌, ℕ, ◌<◌, List, [], ◌∷◌, ◌++◌, length, Some, ap, ◌∙◌, arith, refl}
 use Rattle.std.specs.Prelude.{IsUtf8}
 use Rattle.jsonb_doc.specs.Tree.{Tree, object, Pairs, no_pairs, pair, keys}
 use Rattle.jsonb_doc.specs.Payload.{NumberReader, Form, number_reader}
-use Rattle.jsonb_doc.specs.Format.{AreValues, AreKeys, key_words, key_bytes, BeginWith, HasFirstEntry, IsContent}
+use Rattle.jsonb_doc.specs.Format.{Decodes, AreValues, AreKeys, key_words, key_bytes, BeginWith, HasFirstEntry, IsContent}
 use Rattle.jsonb_doc.specs.ObjectPairs.{HasPairsLeft, IsPairsOf}
-use Rattle.jsonb_doc.specs.ObjectKeys.{HasKeysLeft, IsKeysOf, IsValuesOf}
+use Rattle.jsonb_doc.specs.ObjectKeys.{HasKeysLeft, HasAllValues, IsKeysOf, IsValuesOf}
 use Rattle.jsonb_doc.specs.declared.key_iter.KeyIter.{KeyIter}
 use Rattle.jsonb_doc.specs.declared.value_iter.ValueIter.{ValueIter}
 use Rattle.jsonb_doc.specs.declared.pair_iter.PairIter.{PairIter}
 use Rattle.jsonb_doc.specs.Lengths.{StandBefore}
+use Rattle.jsonb_doc.specs.Readable.{IsCut}
 use Rattle.jsonb_doc.specs.Private.Containers.{Holds, HasPairParts}
 use Rattle.jsonb_doc.specs.declared.container.ObjectParts.{ObjectParts}
 use Rattle.jsonb_doc.specs.declared.container.Container.TheVariants.{Object}
 use Rattle.jsonb_doc.proofs.KeysRead.{begin_key}
 use Rattle.jsonb_doc.proofs.LengthsLemmas.{HoldKeys-before}
-use Rattle.jsonb_doc.proofs.Containers.{entries_of, HoldsPairs-keys}
+use Rattle.jsonb_doc.proofs.Containers.{entries_of, HoldsPairs-keys, Decodes-object, Holds-pairs}
 
 -- these bytes are what follows the keys of an object
 abbrev pub SkipsKeys : ObjectParts → List ℕ → Type 0
@@ -99,6 +100,19 @@ IsValuesOf-some form (object ps) it p words skips held = record {
       (entries_of (number_reader form) ps _ _ held.values);
 }
 IsValuesOf-some form _ it p words skips held = absurd held
+
+-- a document that is cut into the parts of an object has no other tree
+pub only_object : (form : Form) (bytes : List ℕ) (p : ObjectParts) → IsCut bytes (Object p) → (t : Tree) → Decodes form bytes t
+    → ((ps : Pairs) → t ≢ object ps) → ⊥
+only_object form bytes p cut t h other =
+    let found = Holds-pairs form bytes t p (Decodes-object form bytes p cut t h) h in
+    other found.0 found.1
+
+-- an object's parts are its keys and all that the iterator over its values has
+pub IsCut-values : (bytes : List ℕ) (it : ValueIter) (p : ObjectParts) → it.elements.entries.words.now ≡ p.value_words.now
+    → (front : List ℕ) × (p.contents.now ≡ front ++ it.elements.entries.contents.now) → IsCut bytes (Object p) → HasAllValues bytes it
+IsCut-values bytes it p words end cut =
+    (cut.0, p.key_words.now, end.0, rw (words, ← end.1) cut.1, cut.2, rw words cut.3)
 
 -- the first of the keys, as the bytes hold it
 pub record FirstKey (it : KeyIter) (ks : List (List ℕ)) : Type 0 where

@@ -66,6 +66,14 @@ IsKeysOf _ found = IfSome found (λ it. ⊥)
 abbrev pub HasValuesLeft : Form → ValueIter → Trees → Type 0
 HasValuesLeft form it ts = HasElementsLeft form it.elements ts
 
+-- the bytes are the header of an object, and all words and all contents of the iterator, with the words of keys before
+-- the ones, and the keys before the others
+abbrev pub HasAllValues : List ℕ → ValueIter → Type 0
+HasAllValues bytes it =
+    (n : ℕ) × (key_words keys : List ℕ) × HeadedBy bytes object_header n
+    ((key_words ++ it.elements.entries.words.now) ++ (keys ++ it.elements.entries.contents.now))
+    × (length key_words ≡ 4 * n) × (length it.elements.entries.words.now ≡ 4 * n)
+
 -- at most how many values the iterator gives, on any bytes
 abbrev pub values_bound : ValueIter → ℕ
 values_bound it = elements_bound it.elements

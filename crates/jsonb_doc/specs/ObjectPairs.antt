@@ -18,11 +18,13 @@ pub record HasPairsLeft (form : Form) (it : PairIter) (ps : Pairs) : Type 0 wher
   pub bytes : it.key_bytes.now ≡ key_bytes (keys ps) ++ rest
   pub values : AreValues (number_reader form) ps it.value_words.now it.value_contents.now
 
--- the bytes are the header of an object, and all words and contents of the iterator, the keys before the values
+-- The bytes are the header of an object, and all words and contents of the iterator, the keys before the values. The
+-- contents of values end where the bytes do.
 abbrev pub HasWholeObject : List ℕ → PairIter → Type 0
 HasWholeObject bytes it =
     (n : ℕ) × HeadedBy bytes object_header n ((it.key_words.now ++ it.value_words.now) ++ it.key_bytes.now)
     × (length it.key_words.now ≡ 4 * n) × (length it.value_words.now ≡ 4 * n)
+    × (keys : List ℕ) × (it.key_bytes.now ≡ keys ++ it.value_contents.now)
 
 -- at most how many pairs the iterator gives, on any bytes
 abbrev pub pairs_bound : PairIter → ℕ

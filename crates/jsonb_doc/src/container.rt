@@ -34,7 +34,7 @@ pub struct ObjectParts<'a> {
 }
 
 impl<'a> ObjectParts<'a> {
-    ghost use Rattle.std.specs.Prelude.{◌≡◌, ◌^◌, ◌<◌, ◌≤◌, List, ℕ, length, IfErr, IfOk, IsOkAnd};
+    ghost use Rattle.std.specs.Prelude.{◌≡◌, ◌^◌, ◌<◌, ◌≤◌, List, ◌++◌, ℕ, length, IfErr, IfOk, IsOkAnd};
     ghost use Rattle.jsonb_doc.specs.Lengths.{StandBefore};
     ghost use Rattle.jsonb_doc.specs.Answer.{IsDecodingError};
 
@@ -51,6 +51,7 @@ impl<'a> ObjectParts<'a> {
         requires { length self.now.key_words.now < 2 ^ 32 }
         ensures contents { (parts : List (List ℕ)) (rest : List ℕ)
             → StandBefore parts self.now.key_words.now self.now.contents.now rest → IsOkAnd result (λ r. r.now ≡ rest) }
+        ensures end { IfOk result (λ r. (front : List ℕ) × (self.now.contents.now ≡ front ++ r.now)) }
         ensures size { IfOk result (λ r. length r.now ≤ length self.now.contents.now) }
         ensures errors { IfErr result IsDecodingError }
     {

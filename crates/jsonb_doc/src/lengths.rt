@@ -1,6 +1,6 @@
 //! Contents that are passed over by the lengths in their entry words.
 
-ghost use Rattle.std.specs.Prelude.{◌≡◌, ℕ, ◌+◌, ◌*◌, ◌^◌, ◌<◌, ◌≤◌, List, MatchOption, IsSomeAnd, IfSome, length, take, drop};
+ghost use Rattle.std.specs.Prelude.{◌≡◌, ℕ, ◌+◌, ◌*◌, ◌^◌, ◌<◌, ◌≤◌, List, ◌++◌, MatchOption, IsSomeAnd, IfSome, length, take, drop};
 ghost use Rattle.jsonb_doc.specs.Format.{BeginWith};
 ghost use Rattle.jsonb_doc.specs.Kinds.{kind_number};
 ghost use Rattle.jsonb_doc.specs.Lengths.{StandBefore};
@@ -33,6 +33,7 @@ pub fn skip_contents<'a>(words: &[u8], contents: &'a [u8]) -> Option<&'a [u8]>
     requires { length words.now < 2 ^ 32 }
     ensures rest { (parts : List (List ℕ)) (rest : List ℕ) → StandBefore parts words.now contents.now rest
         → IsSomeAnd result (λ r. r.now ≡ rest) }
+    ensures end { IfSome result (λ r. (front : List ℕ) × (contents.now ≡ front ++ r.now)) }
     ensures size { IfSome result (λ r. length r.now ≤ length contents.now) }
 {
     contents.get(contents_len(words)..)

@@ -1,6 +1,7 @@
 use Rattle.jsonb_doc.specs.Tree.{array}
 use Rattle.jsonb_doc.specs.Payload.{number_reader}
 use Rattle.jsonb_doc.proofs.Containers.{Decodes-array}
+use Rattle.jsonb_doc.proofs.ElementsLemmas.{IsElementsOf-some, only_array}
 use Rattle.jsonb_doc.proofs.reading.array_elements.Goals as goal
 
 pub returns-in_err-parts-clause-decodes : goal.returns-in_err-parts-clause-decodes
@@ -9,5 +10,10 @@ returns-in_err-parts-clause-decodes c = λ form ts h.
 
 pub returns-in-Array-clause-decodes : goal.returns-in-Array-clause-decodes
 returns-in-Array-clause-decodes c = λ form ts h.
-    let held = Decodes-array form c.args.bytes.now c.in-Array.parts (rw c.in-Array.is at c.in_ok-parts.ensures.cut) (array ts) h in
-    record { entries = rw (c.new.ensures.words, c.new.ensures.contents) held }
+    let p = c.in-Array.parts in
+    let held = Decodes-array form c.args.bytes.now p (rw c.in-Array.is at c.in_ok-parts.ensures.cut) (array ts) h in
+    IsElementsOf-some form (array ts) c.new.result p c.new.ensures.words c.new.ensures.contents held
+
+pub returns-in-Array-clause-refused : goal.returns-in-Array-clause-refused
+returns-in-Array-clause-refused c = λ form t h other.
+    absurd (only_array form c.args.bytes.now c.in-Array.parts (rw c.in-Array.is at c.in_ok-parts.ensures.cut) t h other)

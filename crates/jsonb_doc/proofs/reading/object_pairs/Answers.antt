@@ -1,6 +1,7 @@
 use Rattle.jsonb_doc.specs.Tree.{object}
 use Rattle.jsonb_doc.specs.Payload.{number_reader}
 use Rattle.jsonb_doc.proofs.Containers.{Decodes-object}
+use Rattle.jsonb_doc.proofs.PairsLemmas.{only_object}
 use Rattle.jsonb_doc.proofs.reading.object_pairs.Goals as goal
 
 pub returns-in_err-parts-clause-decodes : goal.returns-in_err-parts-clause-decodes
@@ -10,3 +11,7 @@ returns-in_err-parts-clause-decodes c = λ form ps h.
 pub returns-in-Object-clause-decodes : goal.returns-in-Object-clause-decodes
 returns-in-Object-clause-decodes c = λ form ps h.
     c.pairs_within.ensures.pairs form ps (Decodes-object form c.args.bytes.now c.in-Object.parts (rw c.in-Object.is at c.in_ok-parts.ensures.cut) (object ps) h)
+
+pub returns-in-Object-clause-refused : goal.returns-in-Object-clause-refused
+returns-in-Object-clause-refused c = λ form t h other.
+    absurd (only_object form c.args.bytes.now c.in-Object.parts (rw c.in-Object.is at c.in_ok-parts.ensures.cut) t h other)
