@@ -227,20 +227,31 @@ single-condition e j atom (suc n) f rest is h short =
 
 -- ---- two atoms
 
+-- what stands behind the left side
+abbrev behind_left : BinaryOp → Expression → List ℕ → List ℕ
+behind_left op right rest = 32 ∷ operator_text op ++ (32 ∷ side right ++ rest)
+
+-- the left side is read up to the operator, and the right one behind it
+sides_read : (op : BinaryOp) (left right : Expression) → AtomReads left → AtomReads right → (n : ℕ) (f : Bool) (rest : List ℕ) →
+    IsCondition f left → IsCondition f right → front is_close rest ≡ true → length (expression_text (binary op left right) ++ rest) < suc n →
+    ReadsTo (atom_with (nested_or n) f) (side left ++ behind_left op right rest) (settled left) (behind_left op right rest)
+    × ReadsTo (atom_with (nested_or n) f) (past is_space (32 ∷ side right ++ rest)) (settled right) rest
+sides_read op left right l r n f rest is_left is_right h short =
+    let between = behind_left op right rest in
+    let short' : length (side left ++ between) < suc n = rw (binary-shown op left right rest) at short in
+    let second = r n f rest is_right (behind_close rest h) (omega (arith, length-append (side left) between, length-append (operator_text op)
+    (32 ∷ side right ++ rest))) in
+    (l n f between is_left (behind_operator op (32 ∷ side right ++ rest)).0 (omega arith),
+    rw (past-space (side right ++ rest) (no_space-side f right rest is_right)) second)
+
 and-condition : (left right : Expression) → AtomReads left → AtomReads right → ConditionReads (binary and_op left right)
 unfolding nested_or
 and-condition left right l r zero f rest is h short = absurd (omega arith)
 and-condition left right l r (suc n) f rest is h short =
-    let middle = 32 ∷ side right ++ rest in
-    let between = 32 ∷ operator_text and_op ++ middle in
-    let input = side left ++ between in
-    let short' : length input < suc n = rw (binary-shown and_op left right rest) at short in
-    let a = l n f between is.0 (behind_operator and_op middle).0 (omega arith) in
-    let b = r n f rest is.1 (behind_close rest h) (omega (arith, length-append (side left) between)) in
-    let b' : ReadsTo (atom_with (nested_or n) f) (past is_space middle) (settled right) rest = rw (past-space (side right ++ rest)
-    (no_space-side f right rest is.1)) b in
-    let pair = list-pair (atom_with (nested_or n) f) (literal "&&") input (settled left) (settled right) between middle rest a refl b'
-    (omega (arith, length-append (side right) rest)) (no_and-close rest h) in
+    let sides = sides_read and_op left right l r n f rest is.0 is.1 h short in
+    let input = side left ++ behind_left and_op right rest in
+    let pair = list-pair (atom_with (nested_or n) f) (literal "&&") input (settled left) (settled right) (behind_left and_op right rest)
+    (32 ∷ side right ++ rest) rest sides.0 refl sides.1 (omega (arith, length-append (side right) rest)) (no_and-close rest h) in
     rw (binary-shown and_op left right rest)
     (or-single (nested_or n) f input (binary and_op (settled left) (settled right)) rest (and-joined (nested_or n) f input
     (settled left ∷ settled right ∷ []) rest pair) (no_or-close rest h))
@@ -249,18 +260,12 @@ or-condition : (left right : Expression) → AtomReads left → AtomReads right 
 unfolding nested_or
 or-condition left right l r zero f rest is h short = absurd (omega arith)
 or-condition left right l r (suc n) f rest is h short =
-    let middle = 32 ∷ side right ++ rest in
-    let between = 32 ∷ operator_text or_op ++ middle in
-    let input = side left ++ between in
-    let short' : length input < suc n = rw (binary-shown or_op left right rest) at short in
-    let a = l n f between is.0 (behind_operator or_op middle).0 (omega arith) in
-    let a' = and-single (nested_or n) f input (settled left) between a refl in
-    let b = r n f rest is.1 (behind_close rest h) (omega (arith, length-append (side left) between)) in
-    let b' = and-single (nested_or n) f (side right ++ rest) (settled right) rest b (no_and-close rest h) in
-    let b'' : ReadsTo (and_with (nested_or n) f) (past is_space middle) (settled right) rest = rw (past-space (side right ++ rest)
-    (no_space-side f right rest is.1)) b' in
-    let pair = list-pair (and_with (nested_or n) f) (literal "||") input (settled left) (settled right) between middle rest a' refl b''
-    (omega (arith, length-append (side right) rest)) (no_or-close rest h) in
+    let sides = sides_read or_op left right l r n f rest is.0 is.1 h short in
+    let input = side left ++ behind_left or_op right rest in
+    let first = and-single (nested_or n) f input (settled left) (behind_left or_op right rest) sides.0 refl in
+    let second = and-single (nested_or n) f (past is_space (32 ∷ side right ++ rest)) (settled right) rest sides.1 (no_and-close rest h) in
+    let pair = list-pair (and_with (nested_or n) f) (literal "||") input (settled left) (settled right) (behind_left or_op right rest)
+    (32 ∷ side right ++ rest) rest first refl second (omega (arith, length-append (side right) rest)) (no_or-close rest h) in
     rw (binary-shown or_op left right rest) (or-joined (nested_or n) f input (settled left ∷ settled right ∷ []) rest pair)
 
 -- ---- the atoms

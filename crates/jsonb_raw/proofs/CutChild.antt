@@ -62,15 +62,13 @@ module _ (number_at : NumberReader) (ts : Trees) (bytes : List ℕ) (h : IsConta
   element_of less place less_is is =
       let there = content_there bytes (header array_header (count ts)) cut_entries.front cut_entries.back cut_entries.entry place
       (count ts) whole refl element_total is in
-      let fits = (within-back cut_entries.front (cut_entries.entry ∷ cut_entries.back) within).0 in
       let within_front = within-front cut_entries.front (cut_entries.entry ∷ cut_entries.back) within in
-      let within_back = (within-back cut_entries.front (cut_entries.entry ∷ cut_entries.back) within).1 in
-      let counted = h.headed.fits in
+      let within_back = within-back cut_entries.front (cut_entries.entry ∷ cut_entries.back) within in
       record {
         four = ap length less_is;
         kind = cut_entries.entry.0;
         content = rw there cut_entries.is;
-        short = rw there fits.1;
+        short = rw there within_back.0.1;
         within = entry_within bytes (header array_header (count ts)) cut_entries.front cut_entries.back cut_entries.entry place
             (count ts) whole refl element_total is;
         ordered = entry_in_order bytes (header array_header (count ts)) cut_entries.front cut_entries.back cut_entries.entry place
@@ -92,13 +90,13 @@ module _ (number_at : NumberReader) (ts : Trees) (bytes : List ℕ) (h : IsConta
                 contents = contents_of_entries (cut_entries.front ++ cut_entries.back);
                 headed = record {
                   known = omega arith;
-                  fits = omega (arith, counted, more);
+                  fits = omega (arith, h.headed.fits, more);
                   joined = both _ _ _ _ (header_less array_header (count ts) (count (change_tree n change ts)) less less_is more)
                       (entry_left_out bytes (header array_header (count ts)) cut_entries.front cut_entries.back cut_entries.entry place
                       (count ts) whole refl element_total is);
                 };
                 parts = joined number_at (change_tree n change ts) (cut_entries.front ++ cut_entries.back)
-                    (within-both cut_entries.front cut_entries.back within_front within_back) are;
+                    (within-both cut_entries.front cut_entries.back within_front within_back.1) are;
               },
             );
         shorter = rw less_is (omega (
@@ -118,14 +116,14 @@ module _ (number_at : NumberReader) (ts : Trees) (bytes : List ℕ) (h : IsConta
                   ((container_entry, content') ∷ cut_entries.back),
               length-append cut_entries.front (cut_entries.entry ∷ cut_entries.back),
             ) in
-            let short : length content' < 2 ^ 28 = omega (arith, fits.1, no_longer, ap length there) in (
+            let short : length content' < 2 ^ 28 = omega (arith, within_back.0.1, no_longer, ap length there) in (
               refl,
               record {
                 words = words_of_entries (cut_entries.front ++ (container_entry, content') ∷ cut_entries.back);
                 contents = contents_of_entries (cut_entries.front ++ (container_entry, content') ∷ cut_entries.back);
                 headed = record {
                   known = omega arith;
-                  fits = omega (arith, counted, same);
+                  fits = omega (arith, h.headed.fits, same);
                   joined = rw (
                     same,
                     content_replaced bytes (header array_header (count ts)) cut_entries.front cut_entries.back cut_entries.entry place
@@ -133,7 +131,7 @@ module _ (number_at : NumberReader) (ts : Trees) (bytes : List ℕ) (h : IsConta
                   ) refl;
                 };
                 parts = joined number_at (change_tree n change ts) (cut_entries.front ++ (container_entry, content') ∷ cut_entries.back)
-                    (within-both cut_entries.front ((container_entry, content') ∷ cut_entries.back) within_front ((omega arith, short), within_back)) are;
+                    (within-both cut_entries.front ((container_entry, content') ∷ cut_entries.back) within_front ((omega arith, short), within_back.1)) are;
               },
             );
         no_longer = λ content' no_longer.
@@ -335,10 +333,9 @@ module _ (number_at : NumberReader) (ps : Pairs) (bytes : List ℕ)
       ∙ ap (λ es. es ++ all_values.entries) (keys-append cut_keys.front (cut_keys.key ∷ cut_keys.back))
       ∙ append_assoc (key_entries cut_keys.front) ((text_entry, cut_keys.key) ∷ key_entries cut_keys.back) all_values.entries
 
-  pub value_total : 2 * length (keys ps) ≡ length (before_value ++ cut_values.entry ∷ cut_values.back)
-  value_total = omega (
+  row_total : 2 * length (keys ps) ≡ length (key_entries (keys ps) ++ all_values.entries)
+  row_total = omega (
     arith,
-    ap length by_value,
     length-append (key_entries (keys ps)) all_values.entries,
     key-count (keys ps),
     count_are number_at
@@ -346,16 +343,11 @@ module _ (number_at : NumberReader) (ps : Pairs) (bytes : List ℕ)
     count-values ps,
   )
 
+  pub value_total : 2 * length (keys ps) ≡ length (before_value ++ cut_values.entry ∷ cut_values.back)
+  value_total = row_total ∙ ap length by_value
+
   pub key_total : 2 * length (keys ps) ≡ length (key_entries cut_keys.front ++ (text_entry, cut_keys.key) ∷ behind_key)
-  key_total = omega (
-    arith,
-    ap length by_key,
-    length-append (key_entries (keys ps)) all_values.entries,
-    key-count (keys ps),
-    count_are number_at
-        (values ps) all_values.entries all_values.are,
-    count-values ps,
-  )
+  key_total = row_total ∙ ap length by_key
 
   pub value_held : HoldEntries bytes (before_value ++ cut_values.entry ∷ cut_values.back)
   value_held = record {
@@ -411,15 +403,13 @@ module _ (number_at : NumberReader) (ps : Pairs) (bytes : List ℕ)
       let there = content_there bytes (header object_header (length (keys ps))) before_value cut_values.back cut_values.entry value
       (2 * length (keys ps)) value_joined refl value_total value_is in
       let cut_within = subst FitEntries cut_values.whole all_values.within in
-      let fits = (within-back cut_values.front (cut_values.entry ∷ cut_values.back) cut_within).0 in
       let within_front = within-front cut_values.front (cut_values.entry ∷ cut_values.back) cut_within in
-      let within_back = (within-back cut_values.front (cut_values.entry ∷ cut_values.back) cut_within).1 in
-      let counted = h.headed.fits in
+      let within_back = within-back cut_values.front (cut_values.entry ∷ cut_values.back) cut_within in
       record {
         four = ap length less_is;
         kind = cut_values.entry.0;
         content = rw there cut_values.is;
-        short = rw there fits.1;
+        short = rw there within_back.0.1;
         within = entry_within bytes (header object_header (length (keys ps))) before_value cut_values.back cut_values.entry value
             (2 * length (keys ps)) value_joined refl value_total value_is;
         ordered = pair_in_order bytes (header object_header (length (keys ps))) cut_keys.front cut_keys.back
@@ -443,7 +433,7 @@ module _ (number_at : NumberReader) (ps : Pairs) (bytes : List ℕ)
                 contents = key_bytes (keys (change_value n change ps)) ++ contents_of_entries (cut_values.front ++ cut_values.back);
                 headed = record {
                   known = omega arith;
-                  fits = omega (arith, counted, more);
+                  fits = omega (arith, h.headed.fits, more);
                   joined = both _ _ _ _ (header_less object_header (length (keys ps)) (length (keys (change_value n change ps))) less less_is more)
                       (pair_left_out bytes (header object_header (length (keys ps))) cut_keys.front cut_keys.back
                       (keys ps) cut_keys.key cut_values.front cut_values.back cut_values.entry key value
@@ -456,7 +446,7 @@ module _ (number_at : NumberReader) (ps : Pairs) (bytes : List ℕ)
                   contents_joined = refl;
                   are_keys = rw keys_left (keys_without cut_keys.front cut_keys.key cut_keys.back (rw cut_keys.whole at h.parts.are_keys));
                   values = joined_values number_at (change_value n change ps) (cut_values.front ++ cut_values.back)
-                      (within-both cut_values.front cut_values.back within_front within_back) are;
+                      (within-both cut_values.front cut_values.back within_front within_back.1) are;
                 };
               },
             );
@@ -469,7 +459,7 @@ module _ (number_at : NumberReader) (ps : Pairs) (bytes : List ℕ)
         changed = λ change child' content' made is' no_longer.
             let are = rw (← values_changed ps n change) at (cut_values.changed change child' (container_entry, content') made is') in
             let keys_same = cut_keys.changed change child' made in
-            let short : length content' < 2 ^ 28 = omega (arith, fits.1, no_longer, ap length there) in (
+            let short : length content' < 2 ^ 28 = omega (arith, within_back.0.1, no_longer, ap length there) in (
               refl,
               record {
                 words = key_words (keys (change_value n change ps)) ++ words_of_entries (cut_values.front ++ (container_entry, content') ∷ cut_values.back);
@@ -477,7 +467,7 @@ module _ (number_at : NumberReader) (ps : Pairs) (bytes : List ℕ)
                     ++ contents_of_entries (cut_values.front ++ (container_entry, content') ∷ cut_values.back);
                 headed = record {
                   known = omega arith;
-                  fits = omega (arith, counted, ap length keys_same);
+                  fits = omega (arith, h.headed.fits, ap length keys_same);
                   joined = content_replaced bytes (header object_header (length (keys ps))) before_value cut_values.back cut_values.entry value
                       (2 * length (keys ps)) value_joined refl value_total value_is content'
                       ∙ both _ _ _ _ (ap (λ ks. header object_header (length ks)) (sym keys_same))
@@ -490,7 +480,7 @@ module _ (number_at : NumberReader) (ps : Pairs) (bytes : List ℕ)
                   contents_joined = refl;
                   are_keys = rw keys_same h.parts.are_keys;
                   values = joined_values number_at (change_value n change ps) (cut_values.front ++ (container_entry, content') ∷ cut_values.back)
-                      (within-both cut_values.front ((container_entry, content') ∷ cut_values.back) within_front ((omega arith, short), within_back)) are;
+                      (within-both cut_values.front ((container_entry, content') ∷ cut_values.back) within_front ((omega arith, short), within_back.1)) are;
                 };
               },
             );

@@ -4,7 +4,7 @@ use Rattle.std.specs.Ordering.{ordering_then}
 use Rattle.std.specs.Int.{Width}
 use Rattle.jsonb_doc.specs.Proofs.Orderings.{then_Equal}
 use Rattle.jsonb_raw.proofs.Ranking.{bytes_cmp, same_from_bytes_cmp, bytes_cmp_refl}
-use Rattle.jsonb_raw.proofs.TreeKeys.{keys_rank, sortable}
+use Rattle.jsonb_raw.proofs.TreeKeys.{keys_rank}
 use Rattle.jsonb_doc.proofs.TreeOrder.{equal_from_tree_cmp, tree_cmp-equal}
 use Rattle.jsonb_raw.proofs.EqualityKeys.{equal_from_keys, same_key, keyable}
 use Rattle.jsonb_doc.specs.Tree.{Tree}
@@ -22,7 +22,7 @@ use Rattle.jsonb_raw.specs.KeyLaws.{HasKey, KeysKeepBelow, KeysKeepEqual, KeysOr
 
 pub ranked : (w : Width) (t u : Tree) (d : ℕ) (r s : List ℕ) → HasKey w t d → HasKey w u d → IsRest w d r → IsRest w d s
     → bytes_cmp (key w t d ++ r) (key w u d ++ s) ≡ ordering_then (tree_cmp t u) (bytes_cmp r s)
-ranked w t u d r s h k hr hs = keys_rank w t u d r s (sortable t h.in_range h.no_extension) (sortable u k.in_range k.no_extension) h.deep k.deep hr hs
+ranked w t u d r s h k hr hs = keys_rank w t u d r s (h.in_range, h.no_extension) (k.in_range, k.no_extension) h.deep k.deep hr hs
 
 alone : (w : Width) (t u : Tree) (d : ℕ) → HasKey w t d → HasKey w u d → bytes_cmp (key w t d) (key w u d) ≡ tree_cmp t u
 alone w t u d h k = ap₂ bytes_cmp (sym (append-nil (key w t d))) (sym (append-nil (key w u d))) ∙ ranked w t u d [] [] h k (inl refl) (inl refl)

@@ -1,15 +1,21 @@
 -- A walk over levels that spells sortable keys: what is written, and then the keys of what each level has left, the innermost
 -- first, is the whole.
-use Rattle.std.proofs.Common.{◌≡◌, ◌+◌, ◌<◌, ◌≤◌, ◌++◌, ℕ, List, [], ◌∷◌, Some, None, refl, sym, ap, ◌∙◌, arith, append_assoc, inl, inr, suc, max, append-nil, length, false}
+use Rattle.std.proofs.Common.{◌≡◌, ◌+◌, ◌<◌, ◌≤◌, ◌++◌, ℕ, List, [], ◌∷◌, Option, Some, None, Ok, refl, sym, ap, ◌∙◌, arith, append_assoc, inl, inr, suc, max, append-nil, length, false}
+use Rattle.std.specs.Borrow.{Bor}
 use Rattle.std.specs.Int.{Width, to_be_bytes}
+use Rattle.jsonb_doc.specs.declared.entry_iter.StoredEntry.{StoredEntry}
 use Rattle.jsonb_doc.specs.declared.error.Error.{Error}
+use Rattle.jsonb_doc.specs.Payload.{Form}
+use Rattle.jsonb_doc.specs.Private.Stored.{Stores}
 use Rattle.jsonb_doc.specs.Tree.{Tree, Trees, Pairs}
 use Rattle.jsonb_doc.specs.Depth.{deepest, deepest_of_trees, deepest_of_pairs}
 use Rattle.jsonb_raw.specs.SortableKey.{key, keys_of_trees, keys_of_pairs, item_bytes, text_bytes, depths}
 use Rattle.jsonb_raw.specs.KeyAnswer.{IsOutOfMemoryOrTooDeep}
-use Rattle.jsonb_raw.specs.Private.Levels.{Part, parts, parts_of_trees, parts_of_pairs}
+use Rattle.jsonb_raw.specs.declared.level.Level.{Level}
+use Rattle.jsonb_raw.specs.Private.Levels.{Part, parts, parts_of_trees, parts_of_pairs, HasPartsLeft, TakesPart, IsKeyOf}
 use Rattle.jsonb_raw.specs.Private.KeyParts.{start, name_start, part_start}
 use Rattle.jsonb_raw.specs.Private.Starts.{is_container}
+use Rattle.jsonb_raw.proofs.LevelLemmas.{SomeParts, SomeParts-first, as_many_around}
 
 -- ---- bytes that are written in a row, and the depths of what they are for
 
@@ -202,7 +208,20 @@ pub part_begun_at : (w : Width) (p : Part) (ps : List Part) (ls : List (List Par
     → (out' ≡ out ++ part_start w p (d + 1)) × (d + 1 < depths w) → IsWithin w out' (parts p.1 ∷ ps ∷ ls) old whole deep
 part_begun_at w p ps ls d out out' old whole deep is h e = part_begun w p ps ls out out' old whole deep h (rw is at e)
 
-pub part_refused_at : (w : Width) (p : Part) (ps : List Part) (ls : List (List Part)) (d : ℕ) (out old whole : List ℕ) (deep : ℕ) (e : Error) → d ≡ length ls
+part_refused_at : (w : Width) (p : Part) (ps : List Part) (ls : List (List Part)) (d : ℕ) (out old whole : List ℕ) (deep : ℕ) (e : Error) → d ≡ length ls
     → IsWithin w out ((p ∷ ps) ∷ ls) old whole deep
     → IsOutOfMemoryOrTooDeep (d + 1) (depths w) e → IsOutOfMemoryOrTooDeep deep (depths w) e
 part_refused_at w p ps ls d out old whole deep e is h r = part_refused w p ps ls out old whole deep e h (rw is at r)
+
+-- what refuses the first part that is left refuses the whole
+pub first_refused : (form : Form) (w : Width) (level level' : Level) (around : List Level) (name : Option (Bor (List ℕ))) (entry : StoredEntry) (d : ℕ)
+    (out old whole : List ℕ) (deep : ℕ) (e : Error)
+    → ((ps : List Part) → HasPartsLeft form level ps → TakesPart form ps (Ok (Some (name, entry))) level')
+    → SomeParts form level around (λ here others. IsWithin w out (here ∷ others) old whole deep) → d ≡ length around
+    → ((p : Part) → IsKeyOf name p.0 → Stores form entry p.1 → IsOutOfMemoryOrTooDeep (d + 1) (depths w) e)
+    → IsOutOfMemoryOrTooDeep deep (depths w) e
+first_refused form w level level' around name entry d out old whole deep e takes left is refused =
+    SomeParts-first form level level' around name entry _ takes left
+    (λ part rest others keyed stored here outside fact.
+    part_refused_at w part rest others d out old whole deep e (omega (arith, is, as_many_around form around others outside)) fact
+    (refused part keyed stored))

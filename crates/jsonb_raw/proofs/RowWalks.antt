@@ -24,11 +24,10 @@ pub record EntryTaken (form : Form) (ts : List Tree) (first : FirstEntry) : Type
 
 pub entry_taken : (form : Form) (row : Entries) (ts : List Tree) (found : Option FirstEntry) (first : FirstEntry) → found ≡ Some first
     → TakesFirst form row ts found → EntryTaken form ts first
-entry_taken form row ts found first is h = by ts (rw is at h)
-  where
-    by : (us : List Tree) → TakesFirst form row us (Some first) → EntryTaken form us first
-    by [] g = absurd g
-    by (u ∷ us) g = record { t = u; rest = us; split = refl; part = g.part; others = g.others_hold }
+entry_taken form row [] found first is h = absurd (rw is at h)
+entry_taken form row (t ∷ ts) found first is h =
+    let taken : TakesFirst form row (t ∷ ts) (Some first) = rw is at h in
+    record { t = t; rest = ts; split = refl; part = taken.part; others = taken.others_hold }
 
 pub no_entry_left : (form : Form) (row : Entries) (ts : List Tree) (found : Option FirstEntry) → found ≡ None → TakesFirst form row ts found → ts ≡ []
 no_entry_left form row [] found is h = refl
@@ -44,17 +43,16 @@ pub record PairTaken (form : Form) (ps : List Member) (first : FirstPair) : Type
 
 pub pair_taken : (form : Form) (row : PairEntries) (ps : List Member) (found : Option FirstPair) (first : FirstPair) → found ≡ Some first
     → TakesFirstPair form row ps found → PairTaken form ps first
-pair_taken form row ps found first is h = by ps (rw is at h)
-  where
-    by : (qs : List Member) → TakesFirstPair form row qs (Some first) → PairTaken form qs first
-    by [] g = absurd g
-    by (q ∷ qs) g = record {
-      value = q.1;
-      rest = qs;
-      split = rw g.key refl;
-      utf8 = rw g.key g.name.part.2;
-      part = g.value.part;
-      others = others_hold form row first qs q g;
+pair_taken form row [] found first is h = absurd (rw is at h)
+pair_taken form row (p ∷ ps) found first is h =
+    let taken : TakesFirstPair form row (p ∷ ps) (Some first) = rw is at h in
+    record {
+      value = p.1;
+      rest = ps;
+      split = rw taken.key refl;
+      utf8 = rw taken.key taken.name.part.2;
+      part = taken.value.part;
+      others = others_hold form row first ps p taken;
     }
 
 pub no_pair_left : (form : Form) (row : PairEntries) (ps : List Member) (found : Option FirstPair) → found ≡ None → TakesFirstPair form row ps found → ps ≡ []

@@ -10,46 +10,19 @@ use Rattle.jsonb_doc.specs.Tree.{Tree, Trees, Pairs}
 use Rattle.jsonb_doc.specs.Payload.{extension_payload}
 use Rattle.jsonb_doc.specs.Depth.{deepest, deepest_of_trees, deepest_of_pairs}
 use Rattle.jsonb_raw.specs.NoExtension.{HasNoExtension, HaveNoExtension, ValuesHaveNoExtension}
-use Rattle.jsonb_doc.specs.Number.{FitsNumber}
 use Rattle.jsonb_doc.specs.Limits.{IsInRange, AreInRange, ValuesAreInRange}
 use Rattle.jsonb_doc.specs.Order.{rank, tree_cmp, trees_cmp, pairs_cmp}
 use Rattle.jsonb_raw.specs.SortableKey.{key, keys_of_trees, keys_of_pairs, depths, item_bytes, text_bytes, number_bytes, IsRest}
 
--- No extension occurs, and each number fits its variant: what sortable keys put in order.
-abbrev mutual
-  pub IsSortable : Tree → Type 0
-  IsSortable (Tree.number n) = FitsNumber n
-  IsSortable (Tree.extension x) = ⊥
-  IsSortable (Tree.array ts) = AreSortable ts
-  IsSortable (Tree.object ps) = HasSortableValues ps
-  IsSortable _ = Unit {0}
+-- The parts are in range, and no extension occurs: what sortable keys put in order.
+abbrev pub IsSortable : Tree → Type 0
+IsSortable t = IsInRange t × HasNoExtension t
 
-  pub AreSortable : Trees → Type 0
-  AreSortable Trees.no_trees = Unit {0}
-  AreSortable (Trees.tree t ts) = IsSortable t × AreSortable ts
+abbrev pub AreSortable : Trees → Type 0
+AreSortable ts = AreInRange ts × HaveNoExtension ts
 
-  pub HasSortableValues : Pairs → Type 0
-  HasSortableValues Pairs.no_pairs = Unit {0}
-  HasSortableValues (Pairs.pair k v ps) = IsSortable v × HasSortableValues ps
-
--- such are the trees in range that hold no extension
-mutual
-  pub sortable : (t : Tree) → IsInRange t → HasNoExtension t → IsSortable t
-  sortable Tree.null r h = tt
-  sortable (Tree.boolean b) r h = tt
-  sortable (Tree.number n) r h = r
-  sortable (Tree.text bytes) r h = tt
-  sortable (Tree.extension x) r h = absurd h
-  sortable (Tree.array ts) r h = all_sortable ts r h
-  sortable (Tree.object ps) r h = values_sortable ps r.1 h
-
-  all_sortable : (ts : Trees) → AreInRange ts → HaveNoExtension ts → AreSortable ts
-  all_sortable Trees.no_trees r h = tt
-  all_sortable (Trees.tree t ts) r h = (sortable t r.0 h.0, all_sortable ts r.1 h.1)
-
-  values_sortable : (ps : Pairs) → ValuesAreInRange ps → ValuesHaveNoExtension ps → HasSortableValues ps
-  values_sortable Pairs.no_pairs r h = tt
-  values_sortable (Pairs.pair k v ps) r h = (sortable v r.0 h.0, values_sortable ps r.1 h.1)
+abbrev pub HasSortableValues : Pairs → Type 0
+HasSortableValues ps = ValuesAreInRange ps × ValuesHaveNoExtension ps
 
 -- depths rank as numbers
 depth_ranks : (w : Width) (d e : ℕ) (r s : List ℕ) → d < depths w → e < depths w
@@ -149,15 +122,15 @@ mutual
   keys_rank w (Tree.boolean a) (Tree.boolean b) d r s ht hu dt du hr hs = items_rank w d (rank (Tree.boolean a)) (rank (Tree.boolean b)) [] [] r s (omega arith)
   keys_rank w (Tree.number m) (Tree.number n) d r s ht hu dt du hr hs = same_kind w d 4 (number_bytes m.whole m.scale) (number_bytes n.whole n.scale) r s
       (tree_cmp (Tree.number m) (Tree.number n)) (omega arith)
-      ((Ranks-number_bytes m.whole n.whole m.scale n.scale (bounded_from_fits m ht) (bounded_from_fits n hu)).ranks r s)
+      ((Ranks-number_bytes m.whole n.whole m.scale n.scale (bounded_from_fits m ht.0) (bounded_from_fits n hu.0)).ranks r s)
   keys_rank w (Tree.text a) (Tree.text b) d r s ht hu dt du hr hs = same_kind w d 5 (text_bytes a) (text_bytes b) r s (bytes_cmp a b) (omega arith)
       ((Ranks-text_bytes a b).ranks r s)
-  keys_rank w (Tree.extension a) u d r s ht hu dt du hr hs = absurd ht
-  keys_rank w t (Tree.extension b) d r s ht hu dt du hr hs = absurd hu
+  keys_rank w (Tree.extension a) u d r s ht hu dt du hr hs = absurd ht.1
+  keys_rank w t (Tree.extension b) d r s ht hu dt du hr hs = absurd hu.1
   keys_rank w (Tree.array ts) (Tree.array us) d r s ht hu dt du hr hs = same_kind w d 7 (keys_of_trees w ts (suc d)) (keys_of_trees w us (suc d)) r s
       (trees_cmp ts us) (omega arith) (trees_rank w ts us d r s ht hu dt du hr hs)
   keys_rank w (Tree.object ps) (Tree.object qs) d r s ht hu dt du hr hs = same_kind w d 6 (keys_of_pairs w ps (suc d)) (keys_of_pairs w qs (suc d)) r s
-      (pairs_cmp ps qs) (omega arith) (pairs_rank w ps qs d r s ht hu dt du hr hs)
+      (pairs_cmp ps qs) (omega arith) (pairs_rank w ps qs d r s (ht.0.1, ht.1) (hu.0.1, hu.1) dt du hr hs)
   keys_rank w t u d r s ht hu dt du hr hs = other_kind w d (rank t) (rank u) _ _ r s (omega arith) (omega (arith, rank_boolean))
 
   pub trees_rank : (w : Width) (ts us : Trees) (d : ℕ) (r s : List ℕ) → AreSortable ts → AreSortable us → d + deepest_of_trees ts < depths w
@@ -174,9 +147,9 @@ mutual
       ∙ rest_above w d (rank t) i.0 (keys_of_trees w ts (suc d) ++ r) s (omega arith) hs
   trees_rank w (Trees.tree t ts) (Trees.tree u us) d r s ht hu dt du hr hs =
       ap₂ bytes_cmp (append_assoc (key w t (suc d)) (keys_of_trees w ts (suc d)) r) (append_assoc (key w u (suc d)) (keys_of_trees w us (suc d)) s)
-      ∙ keys_rank w t u (suc d) (keys_of_trees w ts (suc d) ++ r) (keys_of_trees w us (suc d) ++ s) ht.0 hu.0 (omega arith) (omega arith)
-      (IsRest-trees w ts d r hr) (IsRest-trees w us d s hs)
-      ∙ ap (ordering_then (tree_cmp t u)) (trees_rank w ts us d r s ht.1 hu.1 (omega arith) (omega arith) hr hs)
+      ∙ keys_rank w t u (suc d) (keys_of_trees w ts (suc d) ++ r) (keys_of_trees w us (suc d) ++ s) (ht.0.0, ht.1.0) (hu.0.0, hu.1.0)
+      (omega arith) (omega arith) (IsRest-trees w ts d r hr) (IsRest-trees w us d s hs)
+      ∙ ap (ordering_then (tree_cmp t u)) (trees_rank w ts us d r s (ht.0.1, ht.1.1) (hu.0.1, hu.1.1) (omega arith) (omega arith) hr hs)
       ∙ sym (then_assoc (tree_cmp t u) (trees_cmp ts us) (bytes_cmp r s))
 
   pub pairs_rank : (w : Width) (ps qs : Pairs) (d : ℕ) (r s : List ℕ) → HasSortableValues ps → HasSortableValues qs → d + deepest_of_pairs ps < depths w
@@ -195,9 +168,9 @@ mutual
       (key w u (suc d) ++ (keys_of_pairs w qs (suc d) ++ s)) (bytes_cmp k l) (omega arith)
       ((Ranks-text_bytes k l).ranks (key w t (suc d) ++ (keys_of_pairs w ps (suc d) ++ r)) (key w u (suc d) ++ (keys_of_pairs w qs (suc d) ++ s)))
       ∙ ap (ordering_then (bytes_cmp k l))
-      (keys_rank w t u (suc d) (keys_of_pairs w ps (suc d) ++ r) (keys_of_pairs w qs (suc d) ++ s) ht.0 hu.0 (omega arith) (omega arith)
+      (keys_rank w t u (suc d) (keys_of_pairs w ps (suc d) ++ r) (keys_of_pairs w qs (suc d) ++ s) (ht.0.0, ht.1.0) (hu.0.0, hu.1.0) (omega arith) (omega arith)
       (IsRest-pairs w ps d r hr) (IsRest-pairs w qs d s hs)
-      ∙ ap (ordering_then (tree_cmp t u)) (pairs_rank w ps qs d r s ht.1 hu.1 (omega arith) (omega arith) hr hs)
+      ∙ ap (ordering_then (tree_cmp t u)) (pairs_rank w ps qs d r s (ht.0.1, ht.1.1) (hu.0.1, hu.1.1) (omega arith) (omega arith) hr hs)
       ∙ sym (then_assoc (tree_cmp t u) (pairs_cmp ps qs) (bytes_cmp r s)))
       ∙ sym (then_assoc (bytes_cmp k l) (ordering_then (tree_cmp t u) (pairs_cmp ps qs)) (bytes_cmp r s))
     where

@@ -1,12 +1,14 @@
 -- How many parts a value has: each value within it, at every depth, and itself. How many steps letting go of it still
 -- takes.
-use Rattle.std.specs.Prelude.{ℕ, ◌+◌, ◌*◌, List, String, Option, None, Some}
+use Rattle.std.specs.Prelude.{◌≡◌, ℕ, ◌+◌, ◌*◌, List, String, Option, None, Some}
 use Rattle.std.specs.declared.alloc.Global.{Global}
 use Rattle.jsonb_doc.specs.Tree.{Tree, array, object, Trees, no_trees, tree, Pairs, no_pairs, pair, trees_of, pairs_of}
 use Rattle.jsonb_doc.specs.View.{number_view}
 use Rattle.jsonb_doc.specs.Value.{value_tree}
 use Rattle.jsonb_doc.specs.Private.Values.{trees_seen, members_seen}
-use Rattle.jsonb_doc.specs.declared.value.Value.{Value}
+use Rattle.jsonb_doc.specs.declared.value.Value.{Value, Array, Object}
+use Rattle.jsonb_doc.specs.declared.value.release.Held.{Held}
+use Rattle.jsonb_doc.specs.declared.value.release.Held.TheVariants.{Values, Members, Nothing}
 use Rattle.jsonb_doc.specs.declared.value.release.Remaining.{Remaining}
 
 abbrev mutual
@@ -32,6 +34,12 @@ values_parts vs = trees_parts (trees_of (trees_seen number_view vs))
 
 abbrev pub entries_parts : List (String Global × Value) → ℕ
 entries_parts es = pairs_parts (pairs_of (members_seen number_view es))
+
+-- what lies right within the value
+abbrev pub IsHeldBy : Held → Value → Type 0
+IsHeldBy (Values vs) v = v ≡ Array vs
+IsHeldBy (Members ms) v = v ≡ Object ms
+IsHeldBy Nothing v = parts v ≡ 1
 
 abbrev pub waiting_parts : Option Value → ℕ
 waiting_parts None = 0

@@ -3,7 +3,7 @@
 //! What waits for its turn lies in the room that a part before it has left in its container.
 
 ghost use Rattle.std.specs.Prelude.{◌≡◌, ℕ, ◌+◌, ◌<◌, IfSome, vec_len, vec_capacity};
-ghost use Rattle.jsonb_doc.specs.Private.Parts.{parts, values_parts, entries_parts, waiting_parts, to_release, remaining};
+ghost use Rattle.jsonb_doc.specs.Private.Parts.{IsHeldBy, parts, values_parts, entries_parts, waiting_parts, to_release, remaining};
 
 use crate::value::Value;
 use std::collections::BTreeMap;
@@ -13,6 +13,16 @@ use std::mem::replace;
 struct Remaining<'a> {
     next: Value<'a>,
     waiting: Option<Value<'a>>,
+}
+
+/// The values that lie right within a value.
+enum Held<'a> {
+    /// Those of an array.
+    Values(Vec<Value<'a>>),
+    /// Those of an object.
+    Members(BTreeMap<String, Value<'a>>),
+    /// A scalar has none.
+    Nothing,
 }
 
 impl<'a> Value<'a> {
@@ -31,18 +41,10 @@ impl<'a> Value<'a> {
     fn without_a_part(self, waiting: Option<Value<'a>>) -> Option<Remaining<'a>>
         ensures { IfSome result (λ left. remaining left < to_release (parts self.entry) (waiting_parts waiting.entry)) }
     {
-        match self {
-            Value::Array(values) => without_value(values, waiting),
-            Value::Object(members) => without_member(members, waiting),
-            Value::Null
-            | Value::Bool(_)
-            | Value::String(_)
-            | Value::Number(_)
-            | Value::Binary(_)
-            | Value::Date(_)
-            | Value::Timestamp(_)
-            | Value::TimestampTz(_)
-            | Value::Interval(_) => without_next(waiting),
+        match self.held() {
+            Held::Values(values) => without_value(values, waiting),
+            Held::Members(members) => without_member(members, waiting),
+            Held::Nothing => without_next(waiting),
         }
     }
 
@@ -51,9 +53,21 @@ impl<'a> Value<'a> {
     pub(super) fn container(self) -> Option<Value<'a>>
         ensures { IfSome result (λ inner. inner ≡ self.entry) }
     {
+        match self.held() {
+            Held::Values(values) => Some(Value::Array(values)),
+            Held::Members(members) => Some(Value::Object(members)),
+            Held::Nothing => None,
+        }
+    }
+
+    /// The values right within this one.
+    #[inline(always)]
+    fn held(self) -> Held<'a>
+        ensures { IsHeldBy result self.entry }
+    {
         match self {
-            Value::Array(values) => Some(Value::Array(values)),
-            Value::Object(members) => Some(Value::Object(members)),
+            Value::Array(values) => Held::Values(values),
+            Value::Object(members) => Held::Members(members),
             Value::Null
             | Value::Bool(_)
             | Value::String(_)
@@ -62,7 +76,7 @@ impl<'a> Value<'a> {
             | Value::Date(_)
             | Value::Timestamp(_)
             | Value::TimestampTz(_)
-            | Value::Interval(_) => None,
+            | Value::Interval(_) => Held::Nothing,
         }
     }
 }

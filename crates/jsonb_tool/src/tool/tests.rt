@@ -85,27 +85,25 @@ const GET: [Row; 14] = rows! {
     &["get", "{}", FLOAT], FLOAT_REFUSED, 1;
 };
 
-const SELECT: [Row; 10] = rows! {
+/// What paths select, and what they say.
+const PATHS: [Row; 18] = rows! {
     &["select", "1 == -1", ONE_ELEMENT], "2000000030000000", 0;
+    &["match", "1 == -1", ONE_ELEMENT], "false", 0;
+    &["select", "-1 == 1", ONE_ELEMENT], "refused: InvalidJsonPath", 1;
     &["select", "$[0] == 1 || $[1] == 1", NUMBER_THEN_TEXT], "2000000000000000", 0;
+    &["match", "$[0] == 1 || $[1] == 1", NUMBER_THEN_TEXT], "unknown", 0;
+    &["select", "7 - 10", ONE_ELEMENT], "200000002000000240fd", 0;
+    &["match", "7 - 10", ONE_ELEMENT], "unknown", 0;
+    &["select", "$ / 0", FIVE], "refused: Arithmetic(ZeroDivisor)", 1;
+    &["match", "$ / 2", FIVE], "refused: Arithmetic(Inexact)", 1;
     &["select", "$ != null", FIVE], "2000000040000000", 0;
+    &["match", "$[*] > 25", TENS], "true", 0;
     &["select", "$[last, 0]", TENS], "2000000020000002501e\n2000000020000002500a", 0;
     &["select", "$[-1]", TENS], "none", 0;
-    &["select", "7 - 10", ONE_ELEMENT], "200000002000000240fd", 0;
     &["select", "", ARRAY_IN_UPPER_CASE], ARRAY, 0;
-    &["select", "$ / 0", FIVE], "refused: Arithmetic(ZeroDivisor)", 1;
-    &["select", "-1 == 1", ONE_ELEMENT], "refused: InvalidJsonPath", 1;
-    &["select", "$.a", CUT], CUT_REFUSED, 1;
-};
-
-const MATCH: [Row; 8] = rows! {
-    &["match", "1 == -1", ONE_ELEMENT], "false", 0;
-    &["match", "$[0] == 1 || $[1] == 1", NUMBER_THEN_TEXT], "unknown", 0;
-    &["match", "$[*] > 25", TENS], "true", 0;
-    &["match", "7 - 10", ONE_ELEMENT], "unknown", 0;
     &["match", "$.a", ONE_ELEMENT], "unknown", 0;
-    &["match", "$ / 2", FIVE], "refused: Arithmetic(Inexact)", 1;
     &["match", "$[1,]", CUT], "refused: InvalidJsonPath", 1;
+    &["select", "$.a", CUT], CUT_REFUSED, 1;
     &["match", "$.a", FLOAT], FLOAT_REFUSED, 1;
 };
 
@@ -177,7 +175,7 @@ const OTHERS: [Row; 30] = rows! {
     &["", "{}", ARRAY], "usage", 2;
 };
 
-static COMMANDS: [&[Row]; 6] = [&GET, &SELECT, &MATCH, &KEY, &LEAVES, &OTHERS];
+static COMMANDS: [&[Row]; 5] = [&GET, &PATHS, &KEY, &LEAVES, &OTHERS];
 
 #[test]
 fn commands_are_answered(rt: HostRuntime) -> Result<(), Fail> {

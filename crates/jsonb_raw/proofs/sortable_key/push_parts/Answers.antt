@@ -5,7 +5,7 @@ use Rattle.jsonb_raw.specs.Private.Levels.{parts}
 use Rattle.jsonb_raw.proofs.LevelLemmas.{parts_left, as_many_around, pushed_around, popped_around, SomeParts-first, SomeParts-none, falls_within, falls_beside, falls_done}
 use Rattle.jsonb_raw.proofs.LevelStarts.{stored_container}
 use Rattle.jsonb_raw.proofs.StartLemmas.{scalar_told}
-use Rattle.jsonb_raw.proofs.LevelKeys.{walk_begun, part_begun_at, part_refused_at, part_done, part_written, scalar_start, scalar_parts, level_done}
+use Rattle.jsonb_raw.proofs.LevelKeys.{walk_begun, part_begun_at, first_refused, part_done, part_written, scalar_start, scalar_parts, level_done}
 use Rattle.jsonb_raw.proofs.sortable_key.push_parts.Goals as goal
 
 pub walk-init : goal.walk-init
@@ -19,21 +19,17 @@ walk-init c = record {
 pub returns-in_err-push_name-in-Some-clause-key : goal.returns-in_err-push_name-in-Some-clause-key
 returns-in_err-push_name-in-Some-clause-key c = λ form tree content.
     let p = err_from_is_err_and c.from_residual-in_err-push_name-in-Some.result c.from_residual-in_err-push_name-in-Some.ensures.1 in
-    SomeParts-first form _ _ _ _ _ _ (λ ps h. rw c.in-Some.is at (c.in_ok-name.ensures.takes form ps h)) (c.walk.invariant.left form tree content)
-    (λ part rest others keyed is left around fact.
-    rw (p.1, p.2) (part_refused_at (width_of c.args.width) part rest others _ _ _ _ _ _
-    (omega (arith, c.len-value.ensures, as_many_around form c.walk.around.items others around)) fact
-    (c.in_err-push_name-in-Some.ensures.key part.0 keyed)))
+    rw (p.1, p.2) (first_refused form (width_of c.args.width) _ _ c.walk.around.items _ _ _ _ _ _ _ _
+    (λ ps h. rw c.in-Some.is at (c.in_ok-name.ensures.takes form ps h)) (c.walk.invariant.left form tree content) (omega (arith, c.len-value.ensures))
+    (λ part keyed is. c.in_err-push_name-in-Some.ensures.key part.0 keyed))
 
 pub returns-in_err-inner-in-Some-clause-key : goal.returns-in_err-inner-in-Some-clause-key
 returns-in_err-inner-in-Some-clause-key c = λ form tree content.
     let p = err_from_is_err_and c.from_residual-in_err-inner-in-Some.result c.from_residual-in_err-inner-in-Some.ensures.1 in
-    SomeParts-first form _ _ _ _ _ _ (λ ps h. rw c.in-Some.is at (c.in_ok-name.ensures.takes form ps h)) (c.walk.invariant.left form tree content)
-    (λ part rest others keyed is left around fact.
-    let inner = stored_container form _ part.1 is (sym c.is_container.ensures ∙ c.if-is_container.true) in
-    rw (p.1, p.2) (part_refused_at (width_of c.args.width) part rest others _ _ _ _ _ _
-    (omega (arith, c.len-value.ensures, as_many_around form c.walk.around.items others around)) fact
-    (c.in_err-inner-in-Some.ensures.key form part.1 inner)))
+    rw (p.1, p.2) (first_refused form (width_of c.args.width) _ _ c.walk.around.items _ _ _ _ _ _ _ _
+    (λ ps h. rw c.in-Some.is at (c.in_ok-name.ensures.takes form ps h)) (c.walk.invariant.left form tree content) (omega (arith, c.len-value.ensures))
+    (λ part keyed is.
+    c.in_err-inner-in-Some.ensures.key form part.1 (stored_container form _ part.1 is (sym c.is_container.ensures ∙ c.if-is_container.true))))
 
 pub walk-smaller-then-is_container : goal.walk-smaller-then-is_container
 walk-smaller-then-is_container c =
@@ -75,12 +71,10 @@ walk-preserved-in-Continue-branch-7 c = record {
 pub returns-in_err-push_scalar-in-Some-clause-key : goal.returns-in_err-push_scalar-in-Some-clause-key
 returns-in_err-push_scalar-in-Some-clause-key c = λ form tree content.
     let p = err_from_is_err_and c.from_residual-in_err-push_scalar-in-Some.result c.from_residual-in_err-push_scalar-in-Some.ensures.1 in
-    SomeParts-first form _ _ _ _ _ _ (λ ps h. rw c.in-Some.is at (c.in_ok-name.ensures.takes form ps h)) (c.walk.invariant.left form tree content)
-    (λ part rest others keyed is left around fact.
-    let scalar = scalar_told form _ part.1 is (sym c.is_container.ensures ∙ c.if-is_container.false) in
-    rw (p.1, p.2) (part_refused_at (width_of c.args.width) part rest others _ _ _ _ _ _
-    (omega (arith, c.len-value.ensures, as_many_around form c.walk.around.items others around)) fact
-    (c.in_err-push_scalar-in-Some.ensures.key form part.1 is scalar)))
+    rw (p.1, p.2) (first_refused form (width_of c.args.width) _ _ c.walk.around.items _ _ _ _ _ _ _ _
+    (λ ps h. rw c.in-Some.is at (c.in_ok-name.ensures.takes form ps h)) (c.walk.invariant.left form tree content) (omega (arith, c.len-value.ensures))
+    (λ part keyed is.
+    c.in_err-push_scalar-in-Some.ensures.key form part.1 is (scalar_told form _ part.1 is (sym c.is_container.ensures ∙ c.if-is_container.false))))
 
 pub walk-smaller : goal.walk-smaller
 walk-smaller c = falls_done _ _ _ _ c.in-Some-pop.ensures.items
