@@ -1,5 +1,5 @@
 use Rattle.jsonb_raw.proofs.RunLemmas.{holding_pushed}
-use Rattle.jsonb_raw.proofs.functions.parts.PairRows.push_run.Goals as goal
+use Rattle.jsonb_raw.proofs.functions.parts.PairRuns.push_run.Goals as goal
 
 pub returns-clause-pushed : goal.returns-clause-pushed
 returns-clause-pushed c = λ form xs ys h. record {

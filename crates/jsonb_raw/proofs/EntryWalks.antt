@@ -9,7 +9,7 @@ use Rattle.jsonb_raw.specs.declared.functions.parts.Entries.{Entries}
 use Rattle.jsonb_raw.specs.declared.functions.parts.FirstEntry.{FirstEntry}
 use Rattle.jsonb_raw.specs.declared.functions.parts.PairEntries.{PairEntries}
 use Rattle.jsonb_raw.specs.declared.functions.parts.FirstPair.{FirstPair}
-use Rattle.jsonb_raw.specs.Private.Rows.{HoldTrees, HoldPairs, TakesFirst, TakesFirstPair}
+use Rattle.jsonb_raw.specs.Private.Entries.{HoldTrees, HoldPairs, TakesFirst, TakesFirstPair}
 use Rattle.jsonb_raw.proofs.RunLemmas.{others_hold}
 
 abbrev Member : Type 0
@@ -22,17 +22,17 @@ pub record EntryTaken (form : Form) (ts : List Tree) (first : FirstEntry) : Type
   pub part : IsContent (number_reader form) t (kind_number first.kind) first.content.now
   pub others : HoldTrees form first.others rest
 
-pub entry_taken : (form : Form) (row : Entries) (ts : List Tree) (found : Option FirstEntry) (first : FirstEntry) → found ≡ Some first
-    → TakesFirst form row ts found → EntryTaken form ts first
-entry_taken form row ts found first is h = by ts (rw is at h)
+pub entry_taken : (form : Form) (entries : Entries) (ts : List Tree) (found : Option FirstEntry) (first : FirstEntry) → found ≡ Some first
+    → TakesFirst form entries ts found → EntryTaken form ts first
+entry_taken form entries ts found first is h = by ts (rw is at h)
   where
-    by : (us : List Tree) → TakesFirst form row us (Some first) → EntryTaken form us first
+    by : (us : List Tree) → TakesFirst form entries us (Some first) → EntryTaken form us first
     by [] g = absurd g
     by (u ∷ us) g = record { t = u; rest = us; split = refl; part = g.part; others = g.others_hold }
 
-pub no_entry_left : (form : Form) (row : Entries) (ts : List Tree) (found : Option FirstEntry) → found ≡ None → TakesFirst form row ts found → ts ≡ []
-no_entry_left form row [] found is h = refl
-no_entry_left form row (t ∷ ts) found is h = absurd (rw is at h)
+pub no_entry_left : (form : Form) (entries : Entries) (ts : List Tree) (found : Option FirstEntry) → found ≡ None → TakesFirst form entries ts found → ts ≡ []
+no_entry_left form entries [] found is h = refl
+no_entry_left form entries (t ∷ ts) found is h = absurd (rw is at h)
 
 pub record PairTaken (form : Form) (ps : List Member) (first : FirstPair) : Type 0 where
   pub value : Tree
@@ -42,11 +42,11 @@ pub record PairTaken (form : Form) (ps : List Member) (first : FirstPair) : Type
   pub part : IsContent (number_reader form) value (kind_number first.kind) first.content.now
   pub others : HoldPairs form first.others rest
 
-pub pair_taken : (form : Form) (row : PairEntries) (ps : List Member) (found : Option FirstPair) (first : FirstPair) → found ≡ Some first
-    → TakesFirstPair form row ps found → PairTaken form ps first
-pair_taken form row ps found first is h = by ps (rw is at h)
+pub pair_taken : (form : Form) (pairs : PairEntries) (ps : List Member) (found : Option FirstPair) (first : FirstPair) → found ≡ Some first
+    → TakesFirstPair form pairs ps found → PairTaken form ps first
+pair_taken form pairs ps found first is h = by ps (rw is at h)
   where
-    by : (qs : List Member) → TakesFirstPair form row qs (Some first) → PairTaken form qs first
+    by : (qs : List Member) → TakesFirstPair form pairs qs (Some first) → PairTaken form qs first
     by [] g = absurd g
     by (q ∷ qs) g = record {
       value = q.1;
@@ -54,9 +54,10 @@ pair_taken form row ps found first is h = by ps (rw is at h)
       split = rw g.key refl;
       utf8 = rw g.key g.name.part.2;
       part = g.value.part;
-      others = others_hold form row first qs q g;
+      others = others_hold form pairs first qs q g;
     }
 
-pub no_pair_left : (form : Form) (row : PairEntries) (ps : List Member) (found : Option FirstPair) → found ≡ None → TakesFirstPair form row ps found → ps ≡ []
-no_pair_left form row [] found is h = refl
-no_pair_left form row (p ∷ ps) found is h = absurd (rw is at h)
+pub no_pair_left : (form : Form) (pairs : PairEntries) (ps : List Member) (found : Option FirstPair) → found ≡ None
+    → TakesFirstPair form pairs ps found → ps ≡ []
+no_pair_left form pairs [] found is h = refl
+no_pair_left form pairs (p ∷ ps) found is h = absurd (rw is at h)

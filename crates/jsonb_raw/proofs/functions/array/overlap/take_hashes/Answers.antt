@@ -4,7 +4,7 @@ use Rattle.jsonb_doc.specs.Tree.{elements}
 use Rattle.jsonb_doc.specs.Equal.{is_equal}
 use Rattle.jsonb_raw.proofs.EntriesLeft.{SomeEntries-first, SomeEntries-none}
 use Rattle.jsonb_raw.proofs.TakenEntries.{take_one, drop_one, take_no, take_zero, not_of_none, one_more}
-use Rattle.jsonb_raw.proofs.functions.array.overlap.take_marks.Goals as goal
+use Rattle.jsonb_raw.proofs.functions.array.overlap.take_hashes.Goals as goal
 
 pub returns-in_default-clause-marked : goal.returns-in_default-clause-marked
 returns-in_default-clause-marked c = λ form us t h some.

@@ -1,7 +1,7 @@
 use Rattle.std.proofs.Common.{refl, arith, ap, length, ℕ, List, Bor}
 use Rattle.jsonb_doc.specs.Kinds.{kind_number}
-use Rattle.jsonb_raw.proofs.RowLemmas.{too_long}
-use Rattle.jsonb_raw.proofs.functions.parts.LoneEntry.of_root.Goals as goal
+use Rattle.jsonb_raw.proofs.JoinedEntries.{too_long}
+use Rattle.jsonb_raw.proofs.functions.parts.EntryWithWord.of_root.Goals as goal
 
 pub returns-then-content-gt-MAX_CONTENT-clause-root : goal.returns-then-content-gt-MAX_CONTENT-clause-root
 returns-then-content-gt-MAX_CONTENT-clause-root c = λ form t d. (

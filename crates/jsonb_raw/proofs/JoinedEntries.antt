@@ -1,4 +1,4 @@
--- Entries in rows, split and joined, and the arrays that they make.
+-- Entries in runs, split and joined, and the arrays that they make.
 use Rattle.std.proofs.Common.{◌≡◌, inl, inr, ℕ, zero, suc, min, ◌/◌, ◌^◌, ◌<◌, ◌≤◌, List, [], ◌∷◌, ◌++◌, length, take, drop, Option, Some, None, refl, sym, ap, subst, ◌∙◌, arith, append_assoc, append-nil}
 use Rattle.std.specs.Prelude.{IsSomeAnd, IfOk, IfErr, Result, Ok, Err}
 use Rattle.std.proofs.lemmas.List.{length-take, take-append-drop}
@@ -22,10 +22,10 @@ use Rattle.jsonb_raw.specs.declared.owned.OwnedJsonb.{OwnedJsonb}
 use Rattle.jsonb_raw.specs.Documents.{Makes}
 use Rattle.jsonb_raw.specs.Arrays.{as_elements}
 use Rattle.jsonb_raw.specs.Private.Inserts.{AreBytesOf}
-use Rattle.jsonb_raw.specs.Private.Rows.{HoldTrees, RowsHold, row_words, row_contents, AreElementsOf, IsTooLongRoot, IsTooLongElement}
+use Rattle.jsonb_raw.specs.Private.Entries.{HoldTrees, RunsHold, words_of_runs, contents_of_runs, AreElementsOf, IsTooLongRoot, IsTooLongElement}
 use Rattle.jsonb_raw.proofs.EntryLists.{AreOf, listed, joined}
 
--- ---- rows one behind the other
+-- ---- runs one behind the other
 
 pub entries_append : (number_at : NumberReader) (xs ys : List Tree) (w c v d : List ℕ) → AreEntries number_at (trees_of xs) w c
     → AreEntries number_at (trees_of ys) v d → AreEntries number_at (trees_of (xs ++ ys)) (w ++ v) (c ++ d)
@@ -45,30 +45,33 @@ entries_append number_at (x ∷ xs) ys w c v d e g = record {
   others = entries_append number_at xs ys e.other_words e.other_contents v d e.others g;
 }
 
-pub no_rows : (form : Form) → RowsHold form [] []
-no_rows form = record { parts = (refl, refl) }
+pub no_runs : (form : Form) → RunsHold form [] []
+no_runs form = record { parts = (refl, refl) }
 
-pub row_before : (form : Form) (row : Entries) (rows : List Entries) (xs ys : List Tree) → HoldTrees form row xs → RowsHold form rows ys
-    → RowsHold form (row ∷ rows) (xs ++ ys)
-row_before form row rows xs ys h g =
-    record { parts = entries_append (number_reader form) xs ys row.words.now row.contents.now (row_words rows) (row_contents rows) h.entries g.parts }
+pub run_before : (form : Form) (entries : Entries) (runs : List Entries) (xs ys : List Tree) → HoldTrees form entries xs → RunsHold form runs ys
+    → RunsHold form (entries ∷ runs) (xs ++ ys)
+run_before form entries runs xs ys h g =
+    record {
+      parts = entries_append (number_reader form) xs ys entries.words.now entries.contents.now (words_of_runs runs)
+          (contents_of_runs runs) h.entries g.parts;
+    }
 
-pub one_row : (form : Form) (row : Entries) (xs : List Tree) → HoldTrees form row xs → RowsHold form (row ∷ []) xs
-one_row form row xs h = subst (RowsHold form (row ∷ [])) (append-nil xs) (row_before form row [] xs [] h (no_rows form))
+pub one_run : (form : Form) (entries : Entries) (xs : List Tree) → HoldTrees form entries xs → RunsHold form (entries ∷ []) xs
+one_run form entries xs h = subst (RunsHold form (entries ∷ [])) (append-nil xs) (run_before form entries [] xs [] h (no_runs form))
 
-pub two_rows : (form : Form) (a b : Entries) (xs ys : List Tree) → HoldTrees form a xs → HoldTrees form b ys → RowsHold form (a ∷ b ∷ []) (xs ++ ys)
-two_rows form a b xs ys h g = row_before form a (b ∷ []) xs ys h (one_row form b ys g)
+pub two_runs : (form : Form) (a b : Entries) (xs ys : List Tree) → HoldTrees form a xs → HoldTrees form b ys → RunsHold form (a ∷ b ∷ []) (xs ++ ys)
+two_runs form a b xs ys h g = run_before form a (b ∷ []) xs ys h (one_run form b ys g)
 
-pub three_rows : (form : Form) (a b c : Entries) (xs ys zs : List Tree) → HoldTrees form a xs → HoldTrees form b ys → HoldTrees form c zs
-    → RowsHold form (a ∷ b ∷ c ∷ []) (xs ++ (ys ++ zs))
-three_rows form a b c xs ys zs h g k = row_before form a (b ∷ c ∷ []) xs (ys ++ zs) h (two_rows form b c ys zs g k)
+pub three_runs : (form : Form) (a b c : Entries) (xs ys zs : List Tree) → HoldTrees form a xs → HoldTrees form b ys → HoldTrees form c zs
+    → RunsHold form (a ∷ b ∷ c ∷ []) (xs ++ (ys ++ zs))
+three_runs form a b c xs ys zs h g k = run_before form a (b ∷ c ∷ []) xs (ys ++ zs) h (two_runs form b c ys zs g k)
 
 -- what is put behind a header, part by part
 pub four_parts : (h a b c d one two three four whole : List ℕ) → one ≡ h → two ≡ one ++ a → three ≡ two ++ b → four ≡ three ++ c → whole ≡ four ++ d
     → whole ≡ h ++ ((a ++ b) ++ (c ++ d))
 four_parts h a b c d one two three four whole e f g i j = rw (j, i, g, f, e) (simp append_assoc)
 
--- ---- a row split in two
+-- ---- entries split in two
 
 record SplitOf (number_at : NumberReader) (xs ys : List Tree) (es : List EntryParts) : Type 0 where
   pub front : List EntryParts
@@ -92,22 +95,23 @@ split_of number_at (x ∷ xs) ys (e ∷ es) h =
       back_are = s.back_are;
     }
 
-held : (form : Form) (row : Entries) (ts : List Tree) (es : List EntryParts) → AreBytesOf row es → AreOf (number_reader form) (trees_of ts) es
-    → HoldTrees form row ts
-held form row ts es h are = record { entries = rw (h.words, h.contents) (joined (number_reader form) (trees_of ts) es h.within are) }
+held : (form : Form) (entries : Entries) (ts : List Tree) (es : List EntryParts) → AreBytesOf entries es → AreOf (number_reader form) (trees_of ts) es
+    → HoldTrees form entries ts
+held form entries ts es h are = record { entries = rw (h.words, h.contents) (joined (number_reader form) (trees_of ts) es h.within are) }
 
-pub row_split : (form : Form) (row : Entries) (ts : List Tree) (n m : ℕ) (r : Option (Entries × Entries)) → HoldTrees form row ts → m ≡ min n (length ts)
-    → ((front back : List EntryParts) → AreBytesOf row (front ++ back) → m ≡ length front
+pub entries_split : (form : Form) (entries : Entries) (ts : List Tree) (n m : ℕ) (r : Option (Entries × Entries)) → HoldTrees form entries ts
+    → m ≡ min n (length ts)
+    → ((front back : List EntryParts) → AreBytesOf entries (front ++ back) → m ≡ length front
     → IsSomeAnd r (λ parts. AreBytesOf parts.0 front × AreBytesOf parts.1 back))
     → IsSomeAnd r (λ parts. HoldTrees form parts.0 (take n ts) × HoldTrees form parts.1 (drop n ts))
-row_split form row ts n m r h count split =
+entries_split form entries ts n m r h count split =
     let number_at = number_reader form in
-    let all = listed number_at (trees_of ts) row.words.now row.contents.now h.entries in
+    let all = listed number_at (trees_of ts) entries.words.now entries.contents.now h.entries in
     let are : AreOf number_at (trees_of (take n ts ++ drop n ts)) all.entries =
     subst (λ (us : List Tree). AreOf number_at (trees_of us) all.entries) (sym (take-append-drop n ts)) all.are in
     let s = split_of number_at (take n ts) (drop n ts) all.entries are in
-    let bytes : AreBytesOf row (s.front ++ s.back) =
-    subst (AreBytesOf row) s.whole (record { within = all.within; words = all.words_are; contents = all.contents_are }) in
+    let bytes : AreBytesOf entries (s.front ++ s.back) =
+    subst (AreBytesOf entries) s.whole (record { within = all.within; words = all.words_are; contents = all.contents_are }) in
     of r s.front s.back (split s.front s.back bytes (count ∙ sym (length-take n ts) ∙ sym s.passed)) (s.front_are, s.back_are)
   where
     of : (r : Option (Entries × Entries)) (front back : List EntryParts)
@@ -156,29 +160,30 @@ refused_beside form t u place e h = rw h.1 (at place)
     at (suc n) = refused_between form [] (take n [] ++ u ∷ drop n []) t e h.0
 
 -- nor has one of too many elements
-pub too_many_rows : (form : Form) (rows : List Entries) (ts : List Tree) → RowsHold form rows ts → 2 ^ 31 ≤ length (row_words rows)
+pub too_many_entries : (form : Form) (runs : List Entries) (ts : List Tree) → RunsHold form runs ts → 2 ^ 31 ≤ length (words_of_runs runs)
     → IsTooLarge form (array (trees_of ts))
-too_many_rows form rows ts h many =
-    λ within. omega (arith, within.0, length-words (number_reader form) (trees_of ts) (row_words rows) (row_contents rows) h.parts, many)
+too_many_entries form runs ts h many =
+    λ within. omega (arith, within.0, length-words (number_reader form) (trees_of ts) (words_of_runs runs) (contents_of_runs runs) h.parts, many)
 
-pub rows_built : (form : Form) (rows : List Entries) (ts : List Tree) (bytes : List ℕ) (len : ℕ) → RowsHold form rows ts → len ≡ length (row_words rows)
-    → len < 2 ^ 31 → bytes ≡ header array_header (len / 4) ++ ((row_words rows ++ []) ++ (row_contents rows ++ [])) → Decodes form bytes (array (trees_of ts))
-rows_built form rows ts bytes len h is few made =
-    array_built form ts (record { words = row_words rows; contents = row_contents rows }) bytes h.parts (omega (arith, is, few))
-    (made ∙ rw (append-nil (row_words rows), append-nil (row_contents rows))
-    (ap (λ n. header array_header (n / 4) ++ (row_words rows ++ row_contents rows)) is))
+pub runs_built : (form : Form) (runs : List Entries) (ts : List Tree) (bytes : List ℕ) (len : ℕ) → RunsHold form runs ts → len ≡ length (words_of_runs runs)
+    → len < 2 ^ 31 → bytes ≡ header array_header (len / 4) ++ ((words_of_runs runs ++ []) ++ (contents_of_runs runs ++ []))
+    → Decodes form bytes (array (trees_of ts))
+runs_built form runs ts bytes len h is few made =
+    array_built form ts (record { words = words_of_runs runs; contents = contents_of_runs runs }) bytes h.parts (omega (arith, is, few))
+    (made ∙ rw (append-nil (words_of_runs runs), append-nil (contents_of_runs runs))
+    (ap (λ n. header array_header (n / 4) ++ (words_of_runs runs ++ contents_of_runs runs)) is))
 
 -- the entries of an array, as its parts tell
-pub row_of_array : (form : Form) (t : Tree) (p : ArrayParts) (row : Entries) → row.words.now ≡ p.words.now → row.contents.now ≡ p.contents.now
-    → Holds (number_reader form) t (Array p) → AreElementsOf form t (Some row)
-row_of_array form (array ts) p row words contents h = record { entries = rw (words, contents, trees_of-elements ts) h }
-row_of_array form _ p row words contents h = absurd h
+pub entries_of_array : (form : Form) (t : Tree) (p : ArrayParts) (entries : Entries) → entries.words.now ≡ p.words.now → entries.contents.now ≡ p.contents.now
+    → Holds (number_reader form) t (Array p) → AreElementsOf form t (Some entries)
+entries_of_array form (array ts) p entries words contents h = record { entries = rw (words, contents, trees_of-elements ts) h }
+entries_of_array form _ p entries words contents h = absurd h
 
 -- a tree with such entries is an array
-pub array_row : (form : Form) (t : Tree) (found : Option Entries) (row : Entries) → found ≡ Some row → AreElementsOf form t found
-    → (ts : Trees) × (t ≡ array ts) × HoldTrees form row (elements ts)
-array_row form (array ts) found row is h = (ts, refl, rw is at h)
-array_row form _ found row is h = absurd (rw is at h)
+pub array_of_entries : (form : Form) (t : Tree) (found : Option Entries) (entries : Entries) → found ≡ Some entries → AreElementsOf form t found
+    → (ts : Trees) × (t ≡ array ts) × HoldTrees form entries (elements ts)
+array_of_entries form (array ts) found entries is h = (ts, refl, rw is at h)
+array_of_entries form _ found entries is h = absurd (rw is at h)
 
 -- a container that was made, or refused for memory alone
 pub container_made : (form : Form) (t : Tree) (r : Result OwnedJsonb Error) (bytes : List ℕ) → IfOk r (λ made. made ≡ bytes) → IfErr r IsOutOfMemory
