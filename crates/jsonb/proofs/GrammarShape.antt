@@ -11,7 +11,7 @@ use Rattle.jsonb_keypath.specs.Tokens.{ws, past, is_space, is_within, int32, int
 use Rattle.jsonb_keypath.proofs.ReadBackLemmas.{begins, begins-excludes, stops-from_begins, is_sign, sign-none, natural-none}
 use Rattle.jsonb_keypath.proofs.YieldsLemmas.{Yields, IsName, yields-give, yields-then, yields-behind, yields-choice, yields-repeat, yields-list_of, yields-integer_within, yields-natural_below, yields-name, yields-quoted}
 use Rattle.jsonb.specs.PathTree.{from_front, from_last, Entry, single, slice, level, last_level, Levels, Literal, null, boolean, unsigned, signed, string, BinaryOp, and_op, or_op, eq, not_eq, lt, lte, gt, gte, starts_with_op, add, subtract, multiply, divide, modulo, Step, root, current, dot_wildcard, recursive_dot_wildcard, bracket_wildcard, dot_field, colon_field, object_field, array_indices, filter, whole_expression, Expression, paths, value, binary, unary, exists, steps_of}
-use Rattle.jsonb.specs.PathGrammar.{word, spaced, negated, last_and, place, entry, levels, field, spaced_entry, entries, wildcard, named_field, bracket_field, inner, spaced_inner, path_root, literal_value, operand_steps, operand, spaced_operand, operator, arithmetic_operator, unary_operator, unary_atom, binary_atom, joined_by, filter_with, path_with, group_with, exists_steps, exists_with, atom_with, and_with, or_with, nested_or, expression, root_expression, first_step, front_steps, path_step, plain_path, json_path}
+use Rattle.jsonb.specs.PathGrammar.{keyword, spaced, negated, last_and, place, entry, levels, field, spaced_entry, entries, wildcard, named_field, bracket_field, inner, spaced_inner, path_root, literal_value, operand_steps, operand, spaced_operand, operator, arithmetic_operator, unary_operator, unary_atom, binary_atom, joined_by, filter_with, path_with, group_with, exists_steps, exists_with, atom_with, and_with, or_with, nested_or, expression, root_expression, first_step, front_steps, path_step, plain_path, json_path}
 use Rattle.jsonb.specs.PathText.{joins}
 use Rattle.jsonb.proofs.PathShape.{IsIndex, IsPlace, IsEntry, AreLevels, IsLiteral, IsInner, AreInner, IsBeginning, IsOperand, is_signed, is_signed_literal, IsPathStep, ArePathSteps, IsExistsPath, IsCondition, IsPath}
 use Rattle.jsonb_keypath.proofs.KeyPathReadsBack.{whole-some}
@@ -34,7 +34,7 @@ negated_is_index i = go (is_within (2 ^ 31) (neg_ℤ i)) refl where
 
 last_and_is_index : (sign : String) → Yields IsIndex (last_and sign)
 last_and_is_index sign =
-    yields-behind IsIndex (word "last") _ (λ _. yields-behind IsIndex ws _ (λ _. yields-behind IsIndex (literal sign) _
+    yields-behind IsIndex (keyword "last") _ (λ _. yields-behind IsIndex ws _ (λ _. yields-behind IsIndex (literal sign) _
     (λ _. yields-behind IsIndex ws _ (λ _. yields-integer_within (2 ^ 31)))))
 
 place_is_place : Yields IsPlace place
@@ -47,13 +47,13 @@ place_is_place =
     (λ i is. yields-give IsPlace (from_last (negated i)) (negated_is_index i)))
     (yields-choice IsPlace _ _
     (yields-then IsIndex IsPlace (last_and "+") _ (last_and_is_index "+") (λ i is. yields-give IsPlace (from_last i) is))
-    (yields-behind IsPlace (word "last") _ (λ _. yields-give IsPlace (from_last (pos 0)) refl))))
+    (yields-behind IsPlace (keyword "last") _ (λ _. yields-give IsPlace (from_last (pos 0)) refl))))
 
 entry_is_entry : Yields IsEntry entry
 unfolding entry
 entry_is_entry =
     yields-choice IsEntry _ _
-    (yields-then IsPlace IsEntry place _ place_is_place (λ first is. yields-behind IsEntry ws _ (λ _. yields-behind IsEntry (word "to") _
+    (yields-then IsPlace IsEntry place _ place_is_place (λ first is. yields-behind IsEntry ws _ (λ _. yields-behind IsEntry (keyword "to") _
     (λ _. yields-behind IsEntry ws _ (λ _.
     yields-then IsPlace IsEntry place _ place_is_place (λ last is'. yields-give IsEntry (slice first last) (is, is')))))))
     (yields-then IsPlace IsEntry place _ place_is_place (λ p is. yields-give IsEntry (single p) is))
@@ -70,15 +70,15 @@ levels_are_levels =
     yields-choice IsLevels _ _
     (yields-behind IsLevels (literal "{") _ (λ _. yields-behind IsLevels ws _
     (λ _. yields-then IsByte IsLevels nat8 _ (yields-natural_below (2 ^ 8)) (λ start is.
-    yields-behind IsLevels ws _ (λ _. yields-behind IsLevels (word "to") _ (λ _. yields-behind IsLevels ws _
+    yields-behind IsLevels ws _ (λ _. yields-behind IsLevels (keyword "to") _ (λ _. yields-behind IsLevels ws _
     (λ _. yields-then IsByte IsLevels nat8 _ (yields-natural_below (2 ^ 8)) (λ end is'.
     yields-behind IsLevels ws _ (λ _. yields-behind IsLevels (literal "}") _
     (λ _. yields-give IsLevels (record { start = start; end = Some (level end) }) (is, is')))))))))))
     (yields-choice IsLevels _ _
     (yields-behind IsLevels (literal "{") _ (λ _. yields-behind IsLevels ws _
     (λ _. yields-then IsByte IsLevels nat8 _ (yields-natural_below (2 ^ 8)) (λ start is.
-    yields-behind IsLevels ws _ (λ _. yields-behind IsLevels (word "to") _ (λ _. yields-behind IsLevels ws _
-    (λ _. yields-behind IsLevels (word "last") _ (λ _.
+    yields-behind IsLevels ws _ (λ _. yields-behind IsLevels (keyword "to") _ (λ _. yields-behind IsLevels ws _
+    (λ _. yields-behind IsLevels (keyword "last") _ (λ _.
     yields-behind IsLevels ws _ (λ _. yields-behind IsLevels (literal "}") _
     (λ _. yields-give IsLevels (record { start = start; end = Some last_level }) (is, tt)))))))))))
     (yields-behind IsLevels (literal "{") _ (λ _. yields-behind IsLevels ws _

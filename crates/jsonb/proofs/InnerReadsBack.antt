@@ -16,7 +16,7 @@ use Rattle.jsonb_keypath.proofs.KeyPathReadsBack.{begins-signed_decimal}
 use Rattle.jsonb_keypath.proofs.RepeatLemmas.{repeat-goes, repeat-ends}
 use Rattle.jsonb_keypath.proofs.YieldsLemmas.{IsName}
 use Rattle.jsonb.specs.PathTree.{Place, from_front, from_last, Entry, single, slice, LevelEnd, level, last_level, Levels, Step, root, current, dot_wildcard, recursive_dot_wildcard, bracket_wildcard, dot_field, colon_field, object_field, array_indices, filter, whole_expression}
-use Rattle.jsonb.specs.PathGrammar.{word, spaced, place, entry, levels, field, spaced_entry, entries, wildcard, named_field, bracket_field, inner}
+use Rattle.jsonb.specs.PathGrammar.{keyword, spaced, place, entry, levels, field, spaced_entry, entries, wildcard, named_field, bracket_field, inner}
 use Rattle.jsonb.specs.PathText.{place_text, entry_text, other_entry_text, entries_text, levels_text, step_text}
 use Rattle.jsonb.proofs.PathShape.{IsIndex, IsPlace, IsEntry, IsLevelEnd, AreLevels, IsInner}
 
@@ -136,7 +136,7 @@ place-text (from_last (negsuc n)) rest is h = go (n == 2147483647) refl where
 -- what has to stand behind an entry
 record IsBehindEntry (rest : List ℕ) : Type 0 where
   place : IsBehindPlace rest
-  no_to : word "to" rest ≡ None
+  no_to : keyword "to" rest ≡ None
   no_space : past is_space rest ≡ rest
 
 behind_comma : (rest : List ℕ) → IsBehindEntry (44 ∷ rest)

@@ -6,7 +6,7 @@ use Rattle.jsonb.specs.PathViews.{operator_view}
 use Rattle.jsonb.specs.Values.{number}
 use Rattle.jsonb.specs.declared.path.BinaryOperator.{BinaryOperator}
 use Rattle.jsonb.specs.declared.path.BinaryOperator.TheVariants.{StartsWith}
-use Rattle.jsonb.proofs.selector.atom.number_truth.Goals as goal
+use Rattle.jsonb.proofs.selector.operand_value.number_truth.Goals as goal
 
 by_order : (op : BinaryOperator) (m n : Number) → op ≢ StartsWith
     → truth_of_order (operator_view op) (Some (number_cmp m n)) ≡ pair_truth (operator_view op) (number m) (number n)

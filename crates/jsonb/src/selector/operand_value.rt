@@ -8,8 +8,8 @@ ghost use Rattle.jsonb.specs.PathViews.{operator_view, literal_view};
 ghost use Rattle.jsonb_doc.specs.Private.Short.{short_value};
 ghost use Rattle.jsonb_doc.specs.View.{number_view};
 ghost use Rattle.jsonb.specs.Values.{number, value_of_item, literal_item, values_of_literal};
-ghost use Rattle.jsonb.specs.Compare.{compare, pair_truth, value_order, is_met_by, truth_of_order, starts_with_truth, and_truth, or_truth, is_raw};
-ghost use Rattle.jsonb.specs.Private.Selection.{atom_value, atoms_view, option_atoms};
+ghost use Rattle.jsonb.specs.Compare.{compare, pair_truth, value_order, is_met_by, truth_of_order, starts_with_truth, and_truth, or_truth, is_container};
+ghost use Rattle.jsonb.specs.Private.Selection.{value_view, values_view, option_values};
 
 use crate::path::{BinaryOperator, PathValue};
 use jsonb_doc::{Item, Number, ShortNumber, short_cmp};
@@ -19,68 +19,68 @@ use std::slice;
 
 /// A value of an operand: a scalar, or a container, of which nothing is compared.
 #[derive(Clone, Copy)]
-pub(crate) enum Atom<'a> {
+pub(crate) enum OperandValue<'a> {
     Null,
     Boolean(bool),
     Number(Number),
     String(&'a str),
-    Raw,
+    Container,
 }
 
 /// The values of an operand. One alone needs no memory.
 #[derive(Drop)]
-pub(crate) enum Atoms<'a> {
-    One(Atom<'a>),
-    Many(Vec<Atom<'a>>),
+pub(crate) enum OperandValues<'a> {
+    One(OperandValue<'a>),
+    Many(Vec<OperandValue<'a>>),
 }
 
-impl<'a> Atoms<'a> {
+impl<'a> OperandValues<'a> {
     #[inline(always)]
-    pub(crate) fn at_most_one(alloc: Global, value: Option<Atom<'a>>) -> Atoms<'a>
-        ensures { atoms_view result ≡ option_atoms value.entry }
+    pub(crate) fn at_most_one(alloc: Global, value: Option<OperandValue<'a>>) -> OperandValues<'a>
+        ensures { values_view result ≡ option_values value.entry }
     {
         match value {
-            Some(value) => Atoms::One(value),
-            None => Atoms::Many(Vec::new(alloc)),
+            Some(value) => OperandValues::One(value),
+            None => OperandValues::Many(Vec::new(alloc)),
         }
     }
 
     #[inline(always)]
-    pub(crate) fn as_slice(&self) -> &[Atom<'a>]
-        ensures { map atom_value result.now ≡ atoms_view self.now }
+    pub(crate) fn as_slice(&self) -> &[OperandValue<'a>]
+        ensures { map value_view result.now ≡ values_view self.now }
     {
         match self {
-            Atoms::One(value) => slice::from_ref(value),
-            Atoms::Many(values) => values.as_slice(),
+            OperandValues::One(value) => slice::from_ref(value),
+            OperandValues::Many(values) => values.as_slice(),
         }
     }
 }
 
 /// The value of an item that is no array, and of an element. An extension has none.
 #[inline(always)]
-pub(crate) fn item_atom<'a>(item: Item<'a>) -> Option<Atom<'a>>
-    ensures { (t : Tree) → StandsFor any item.entry t → option_atoms result ≡ value_of_item t }
+pub(crate) fn value_of_item<'a>(item: Item<'a>) -> Option<OperandValue<'a>>
+    ensures { (t : Tree) → StandsFor any item.entry t → option_values result ≡ value_of_item t }
 {
     match item {
-        Item::Null => Some(Atom::Null),
-        Item::Boolean(b) => Some(Atom::Boolean(b)),
-        Item::Number(n) => Some(Atom::Number(n)),
-        Item::String(s) => Some(Atom::String(s)),
+        Item::Null => Some(OperandValue::Null),
+        Item::Boolean(b) => Some(OperandValue::Boolean(b)),
+        Item::Number(n) => Some(OperandValue::Number(n)),
+        Item::String(s) => Some(OperandValue::String(s)),
         Item::Extension(_) => None,
-        Item::Array(_) | Item::Object(_) => Some(Atom::Raw),
+        Item::Array(_) | Item::Object(_) => Some(OperandValue::Container),
     }
 }
 
 /// The value of a literal.
-pub(crate) fn literal_atom<'a>(literal: &'a PathValue<'_>) -> Atom<'a>
-    ensures { option_atoms (Some result) ≡ values_of_literal (literal_item (literal_view literal.now)) }
+pub(crate) fn value_of_literal<'a>(literal: &'a PathValue<'_>) -> OperandValue<'a>
+    ensures { option_values (Some result) ≡ values_of_literal (literal_item (literal_view literal.now)) }
 {
     match literal {
-        PathValue::Null => Atom::Null,
-        PathValue::Boolean(b) => Atom::Boolean(*b),
-        PathValue::Number(n) => Atom::Number(*n),
-        PathValue::String(s) => Atom::String(s.as_str()),
-        PathValue::Raw(_) => Atom::Raw,
+        PathValue::Null => OperandValue::Null,
+        PathValue::Boolean(b) => OperandValue::Boolean(*b),
+        PathValue::Number(n) => OperandValue::Number(*n),
+        PathValue::String(s) => OperandValue::String(s.as_str()),
+        PathValue::Raw(_) => OperandValue::Container,
     }
 }
 
@@ -105,8 +105,8 @@ pub(crate) fn or_truth(a: Option<bool>, b: Option<bool>) -> Option<bool>
 }
 
 /// All pairs, for each left value all right values: the first that is true or unknown decides.
-pub(crate) fn compare(op: BinaryOperator, ls: &[Atom<'_>], rs: &[Atom<'_>]) -> Option<bool>
-    ensures { result ≡ compare (operator_view op) (map atom_value ls.now) (map atom_value rs.now) }
+pub(crate) fn compare(op: BinaryOperator, ls: &[OperandValue<'_>], rs: &[OperandValue<'_>]) -> Option<bool>
+    ensures { result ≡ compare (operator_view op) (map value_view ls.now) (map value_view rs.now) }
 {
     for l in ls {
         for r in rs {
@@ -121,8 +121,8 @@ pub(crate) fn compare(op: BinaryOperator, ls: &[Atom<'_>], rs: &[Atom<'_>]) -> O
 
 /// One left value with all right values.
 #[inline(always)]
-pub(crate) fn compare_one(op: BinaryOperator, l: &Atom<'_>, rs: &[Atom<'_>]) -> Option<bool>
-    ensures { result ≡ compare (operator_view op) (atom_value l.now ∷ []) (map atom_value rs.now) }
+pub(crate) fn compare_one(op: BinaryOperator, l: &OperandValue<'_>, rs: &[OperandValue<'_>]) -> Option<bool>
+    ensures { result ≡ compare (operator_view op) (value_view l.now ∷ []) (map value_view rs.now) }
 {
     match rs {
         [r] => pair_truth(op, l, r),
@@ -132,24 +132,24 @@ pub(crate) fn compare_one(op: BinaryOperator, l: &Atom<'_>, rs: &[Atom<'_>]) -> 
 
 /// One number with all right values.
 #[inline(always)]
-pub(crate) fn compare_number(op: BinaryOperator, l: &Number, rs: &[Atom<'_>]) -> Option<bool>
-    ensures { result ≡ compare (operator_view op) (number (number_view l.now) ∷ []) (map atom_value rs.now) }
+pub(crate) fn compare_number(op: BinaryOperator, l: &Number, rs: &[OperandValue<'_>]) -> Option<bool>
+    ensures { result ≡ compare (operator_view op) (number (number_view l.now) ∷ []) (map value_view rs.now) }
 {
     match rs {
-        [Atom::Number(r)] => number_truth(op, l, r),
-        _ => compare(op, slice::from_ref(&Atom::Number(*l)), rs),
+        [OperandValue::Number(r)] => number_truth(op, l, r),
+        _ => compare(op, slice::from_ref(&OperandValue::Number(*l)), rs),
     }
 }
 
 /// A number that is stored in at most 64 bits, with a right value.
 #[inline(always)]
-pub(crate) fn short_number_truth(op: BinaryOperator, l: ShortNumber, r: &Atom<'_>) -> Option<bool>
-    ensures { result ≡ pair_truth (operator_view op) (number (short_value l)) (atom_value r.now) }
+pub(crate) fn short_number_truth(op: BinaryOperator, l: ShortNumber, r: &OperandValue<'_>) -> Option<bool>
+    ensures { result ≡ pair_truth (operator_view op) (number (short_value l)) (value_view r.now) }
 {
     match (op, r) {
         (BinaryOperator::StartsWith, _) => None,
-        (_, Atom::Number(r)) => truth_of_order(op, Some(short_cmp(l, r))),
-        (_, Atom::Raw) => None,
+        (_, OperandValue::Number(r)) => truth_of_order(op, Some(short_cmp(l, r))),
+        (_, OperandValue::Container) => None,
         _ => truth_of_order(op, None),
     }
 }
@@ -167,53 +167,53 @@ fn number_truth(op: BinaryOperator, l: &Number, r: &Number) -> Option<bool>
 
 /// Of one pair: with a container it is unknown.
 #[inline(always)]
-fn pair_truth(op: BinaryOperator, l: &Atom<'_>, r: &Atom<'_>) -> Option<bool>
-    ensures { result ≡ pair_truth (operator_view op) (atom_value l.now) (atom_value r.now) }
+fn pair_truth(op: BinaryOperator, l: &OperandValue<'_>, r: &OperandValue<'_>) -> Option<bool>
+    ensures { result ≡ pair_truth (operator_view op) (value_view l.now) (value_view r.now) }
 {
     if op == BinaryOperator::StartsWith {
         return starts_with_truth(l, r);
     }
-    if is_raw(l) || is_raw(r) {
+    if is_container(l) || is_container(r) {
         return None;
     }
     truth_of_order(op, value_order(l, r))
 }
 
 /// Whether the right text begins the left one.
-fn starts_with_truth(l: &Atom<'_>, r: &Atom<'_>) -> Option<bool>
-    ensures { result ≡ starts_with_truth (atom_value l.now) (atom_value r.now) }
+fn starts_with_truth(l: &OperandValue<'_>, r: &OperandValue<'_>) -> Option<bool>
+    ensures { result ≡ starts_with_truth (value_view l.now) (value_view r.now) }
 {
     match (l, r) {
-        (Atom::String(l), Atom::String(r)) => Some(l.as_bytes().starts_with(r.as_bytes())),
+        (OperandValue::String(l), OperandValue::String(r)) => Some(l.as_bytes().starts_with(r.as_bytes())),
         _ => None,
     }
 }
 
 #[inline(always)]
-fn is_raw(value: &Atom<'_>) -> bool
-    ensures { result ≡ is_raw (atom_value value.now) }
+fn is_container(value: &OperandValue<'_>) -> bool
+    ensures { result ≡ is_container (value_view value.now) }
 {
     match value {
-        Atom::Raw => true,
+        OperandValue::Container => true,
         _ => false,
     }
 }
 
 /// The order of two values of one kind.
 #[inline(always)]
-fn value_order(l: &Atom<'_>, r: &Atom<'_>) -> Option<Ordering>
-    ensures { result ≡ value_order (atom_value l.now) (atom_value r.now) }
+fn value_order(l: &OperandValue<'_>, r: &OperandValue<'_>) -> Option<Ordering>
+    ensures { result ≡ value_order (value_view l.now) (value_view r.now) }
 {
     match (l, r) {
-        (Atom::Null, Atom::Null) => Some(Ordering::Equal),
-        (Atom::Boolean(l), Atom::Boolean(r)) => Some(l.cmp(r)),
-        (Atom::Number(l), Atom::Number(r)) => Some(l.cmp(r)),
-        (Atom::String(l), Atom::String(r)) => Some(l.cmp(r)),
+        (OperandValue::Null, OperandValue::Null) => Some(Ordering::Equal),
+        (OperandValue::Boolean(l), OperandValue::Boolean(r)) => Some(l.cmp(r)),
+        (OperandValue::Number(l), OperandValue::Number(r)) => Some(l.cmp(r)),
+        (OperandValue::String(l), OperandValue::String(r)) => Some(l.cmp(r)),
         _ => None,
     }
 }
 
-/// Atoms of two kinds differ, and else nothing is known of them.
+/// Values of two kinds differ, and else nothing is known of them.
 #[inline(always)]
 fn truth_of_order(op: BinaryOperator, order: Option<Ordering>) -> Option<bool>
     ensures { result ≡ truth_of_order (operator_view op) order }
