@@ -9,7 +9,7 @@ use Rattle.jsonb_doc.proofs.Weights.{weight_of, weight-pos, inner_weighs, taken_
 use Rattle.jsonb_doc.specs.declared.spot.Spot.{Spot}
 use Rattle.jsonb_doc.specs.declared.spot_iter.SpotIter.{SpotIter}
 use Rattle.jsonb.specs.PathTree.{Levels}
-use Rattle.jsonb.specs.Preorder.{own, preorder}
+use Rattle.jsonb.specs.Preorder.{taken_item, preorder}
 use Rattle.std.specs.List.{AllZip}
 use Rattle.jsonb.specs.Private.Below.{HasLeft, KeepsLevel, PassesLeaves}
 use Rattle.jsonb.specs.declared.selector.levels.OpenLevel.{OpenLevel}
@@ -65,19 +65,19 @@ module _ (bytes : List ℕ) (levels : Option Levels) where
 
   -- the first item is looked at
   pub walk_begun : (within : OpenLevel) (around : List OpenLevel) (nodes : List Spot) (before ts : List Tree) (n : ℕ) (t : Tree) → around ≡ []
-      → AllZip (Locates bytes) nodes (before ++ own levels n t) → HasLeft bytes within ts (n + 1)
-      → preorder levels n t ≡ own levels n t ++ flat_map (preorder levels (n + 1)) ts
+      → AllZip (Locates bytes) nodes (before ++ taken_item levels n t) → HasLeft bytes within ts (n + 1)
+      → preorder levels n t ≡ taken_item levels n t ++ flat_map (preorder levels (n + 1)) ts
       → Walked bytes levels within around nodes (before ++ preorder levels n t)
   walk_begun within around nodes before ts n t none done left is = record {
     here = ts;
     level = n + 1;
     others = [];
-    given = before ++ own levels n t;
+    given = before ++ taken_item levels n t;
     left = left.0;
     deep = left.1;
     left_around = subst (λ l. HaveLeft bytes (reverse l) []) (sym none) tt;
     done = done;
-    is = regrouped before (own levels n t) (flat_map (preorder levels (n + 1)) ts) [] ∙ ap (λ l. before ++ l) (append-nil _ ∙ sym is);
+    is = regrouped before (taken_item levels n t) (flat_map (preorder levels (n + 1)) ts) [] ∙ ap (λ l. before ++ l) (append-nil _ ∙ sym is);
   }
 
   -- items that have no children are passed
@@ -121,19 +121,19 @@ module _ (bytes : List ℕ) (levels : Option Levels) where
   pub item_passed : {Left : List Tree → Type 0} {depth : ℕ} (within' : OpenLevel) (around : List OpenLevel) (nodes nodes' : List Spot) (whole : List Tree)
       (w : Walking bytes levels Left depth around nodes whole)
       (f : First (HasSpotsLeft bytes within'.children) (λ t. (before : List Tree) → AllZip (Locates bytes) nodes before
-      → AllZip (Locates bytes) nodes' (before ++ own levels w.level t) × (preorder levels w.level t ≡ own levels w.level t)) w.here)
+      → AllZip (Locates bytes) nodes' (before ++ taken_item levels w.level t) × (preorder levels w.level t ≡ taken_item levels w.level t)) w.here)
       → within'.level ≡ depth → Walked bytes levels within' around nodes' whole
   item_passed within' around nodes nodes' whole w f same =
       let told = f.holds w.given w.done in record {
         here = f.others;
         level = w.level;
         others = w.others;
-        given = w.given ++ own levels w.level f.first;
+        given = w.given ++ taken_item levels w.level f.first;
         left = f.left;
         deep = same ∙ w.deep;
         left_around = w.left_around;
         done = told.0;
-        is = regrouped w.given (own levels w.level f.first) (flat_map (preorder levels w.level) f.others) (items_of levels w.others)
+        is = regrouped w.given (taken_item levels w.level f.first) (flat_map (preorder levels w.level) f.others) (items_of levels w.others)
             ∙ ap (λ l. w.given ++ ((l ++ flat_map (preorder levels w.level) f.others) ++ items_of levels w.others)) (sym told.1)
             ∙ ap (λ l. w.given ++ (flat_map (preorder levels w.level) l ++ items_of levels w.others)) (sym f.whole)
             ∙ w.is;
@@ -143,14 +143,14 @@ module _ (bytes : List ℕ) (levels : Option Levels) where
   pub item_entered : {Left : List Tree → Type 0} {depth : ℕ} (within' inner : OpenLevel) (around around' : List OpenLevel) (nodes nodes' : List Spot)
       (whole : List Tree) (w : Walking bytes levels Left depth around nodes whole)
       (f : First (HasSpotsLeft bytes within'.children) (λ t. (before : List Tree) → AllZip (Locates bytes) nodes before
-      → AllZip (Locates bytes) nodes' (before ++ own levels w.level t) × ((ts : List Tree) × HasLeft bytes inner ts (w.level + 1)
-      × (preorder levels w.level t ≡ own levels w.level t ++ flat_map (preorder levels (w.level + 1)) ts))) w.here)
+      → AllZip (Locates bytes) nodes' (before ++ taken_item levels w.level t) × ((ts : List Tree) × HasLeft bytes inner ts (w.level + 1)
+      × (preorder levels w.level t ≡ taken_item levels w.level t ++ flat_map (preorder levels (w.level + 1)) ts))) w.here)
       → within'.level ≡ depth → KeepsLevel around within' around' → Walked bytes levels inner around' nodes' whole
   item_entered within' inner around around' nodes nodes' whole w f same kept =
       let told = f.holds w.given w.done in
       let ts = told.1.0 in
       let below = flat_map (preorder levels (w.level + 1)) ts in
-      let mine = own levels w.level f.first in
+      let mine = taken_item levels w.level f.first in
       let beside = flat_map (preorder levels w.level) f.others in
       let outside = items_of levels w.others in
       elim kept [

@@ -2,7 +2,7 @@
 use Rattle.std.proofs.Common.{◌≡◌, ℕ, zero, suc, ◌+◌, List, [], ◌++◌, Bool, true, false, refl, sym, ap, ◌∙◌, append_assoc, add-zero, arith}
 use Rattle.std.specs.Prelude.{codes, if◌then◌else◌}
 use Rattle.std.proofs.lemmas.List.{append-nil}
-use Rattle.jsonb.specs.PathText.{operator_text, is_joined, side_text, expression_text}
+use Rattle.jsonb.specs.PathText.{operator_text, needs_parentheses, side_text, expression_text}
 use Rattle.jsonb.specs.PathTree.{Expression, paths, value, binary, unary, exists}
 use Rattle.jsonb.specs.Private.Chain.{left_of, below}
 use Rattle.jsonb.specs.Private.ChainText.{front_text, fronts_text, link_text, links_text}
@@ -38,7 +38,7 @@ around_side true left operator right = simp append_assoc refl
 around_side false left operator right = simp append_assoc refl
 
 one_link : (e : Expression) → expression_text e ≡ front_text e ++ expression_text (left_of e) ++ link_text e
-one_link (binary op left right) = around_side (is_joined left) (expression_text left) (operator_text op) (side_text right (expression_text right))
+one_link (binary op left right) = around_side (needs_parentheses left) (expression_text left) (operator_text op) (side_text right (expression_text right))
 one_link (paths ss) = sym (append-nil (expression_text (paths ss)))
 one_link (value l) = sym (append-nil (expression_text (value l)))
 one_link (unary op e) = sym (append-nil (expression_text (unary op e)))

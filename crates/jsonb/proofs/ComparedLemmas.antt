@@ -17,7 +17,7 @@ use Rattle.jsonb.specs.Private.Kept.{is_comparison}
 use Rattle.jsonb.specs.Private.Members.{is_member, are_members}
 use Rattle.jsonb.specs.Private.Terms.{joining, joining_op}
 use Rattle.std.specs.List.{AllZip}
-use Rattle.jsonb.specs.Private.Selection.{atom_value, taken_step}
+use Rattle.jsonb.specs.Private.Selection.{value_view, taken_step}
 use Rattle.jsonb.specs.declared.selector.document.Expressions.TheVariants.{AreRefused}
 use Rattle.jsonb.specs.declared.selector.document.Mode.{Mode}
 use Rattle.jsonb.specs.declared.selector.document.Mode.TheVariants.{Lax, Strict}
@@ -42,7 +42,7 @@ one_pair op l r = one_decides (pair_truth op l r)
 
 -- the truth that the values of the items that were found tell
 abbrev pub told_by : MemberCompared → List Tree → Outcome Truth
-told_by c ts = Ok (compare (operator_view c.op) (flat_map values_of_item ts) (atom_value c.literal ∷ []))
+told_by c ts = Ok (compare (operator_view c.op) (flat_map values_of_item ts) (value_view c.literal ∷ []))
 
 -- the truth by the steps as they are taken within an operand
 pub truth_is : (c : MemberCompared) (e : Expression) (mode : Mode) (top t : Tree) → IsMemberCompared c e →
@@ -52,8 +52,8 @@ truth_is c e mode top t k = k.compares mode top t
 
 -- the values of one item
 pub told_by_one : (c : MemberCompared) (t : Tree) (ts : List Tree) → ts ≡ t ∷ []
-    → told_by c ts ≡ Ok (compare (operator_view c.op) (values_of_item t) (atom_value c.literal ∷ []))
-told_by_one c t ts is = ap (λ vs. Ok (compare (operator_view c.op) vs (atom_value c.literal ∷ [])))
+    → told_by c ts ≡ Ok (compare (operator_view c.op) (values_of_item t) (value_view c.literal ∷ []))
+told_by_one c t ts is = ap (λ vs. Ok (compare (operator_view c.op) vs (value_view c.literal ∷ [])))
     (ap (flat_map values_of_item) is ∙ append-nil (values_of_item t))
 
 -- an expression whose operands are the member and the literal

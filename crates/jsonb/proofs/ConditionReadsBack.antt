@@ -8,7 +8,7 @@ use Rattle.jsonb_keypath.proofs.ReadBackLemmas.{front, stops, front-stops, front
 use Rattle.jsonb_keypath.proofs.RepeatLemmas.{repeat-goes, repeat-ends}
 use Rattle.jsonb.specs.PathTree.{BinaryOp, and_op, or_op, UnaryOp, plus, minus, Step, root, current, dot_wildcard, recursive_dot_wildcard, bracket_wildcard, dot_field, colon_field, object_field, array_indices, filter, whole_expression, Steps, no_steps, step, Expression, paths, value, binary, unary, exists, steps_of}
 use Rattle.jsonb.specs.PathGrammar.{spaced, binary_atom, joined_by, filter_with, path_with, group_with, exists_with, atom_with, and_with, or_with, nested_or}
-use Rattle.jsonb.specs.PathText.{step_text, steps_text, expression_text, side_text, is_joined, operator_text, sign_text, joins}
+use Rattle.jsonb.specs.PathText.{step_text, steps_text, expression_text, side_text, needs_parentheses, operator_text, sign_text, joins}
 use Rattle.jsonb.specs.PathLaws.{settled_step, settled_steps, settled}
 use Rattle.jsonb.proofs.PathShape.{IsInner, IsBeginning, IsOperand, is_signed, IsPathStep, ArePathSteps, IsCondition}
 use Rattle.jsonb.proofs.InnerReadsBack.{past-none, past-space, spaced-reads, spaced-none, is_step_end}
@@ -126,13 +126,13 @@ binary-shown op left right rest =
     ∙ append_assoc (side left ++ codes " ") (operator_text op) (32 ∷ side right ++ rest)
     ∙ append_assoc (side left) (codes " ") (operator_text op ++ (32 ∷ side right ++ rest))
 
-side-alone : (e : Expression) → is_joined e ≡ false → side e ≡ expression_text e
+side-alone : (e : Expression) → needs_parentheses e ≡ false → side e ≡ expression_text e
 side-alone e h = rw h refl
 
-side-joined : (e : Expression) (rest : List ℕ) → is_joined e ≡ true → side e ++ rest ≡ 40 ∷ expression_text e ++ (41 ∷ rest)
+side-joined : (e : Expression) (rest : List ℕ) → needs_parentheses e ≡ true → side e ++ rest ≡ 40 ∷ expression_text e ++ (41 ∷ rest)
 side-joined e rest h = rw h (append_assoc (40 ∷ expression_text e) (41 ∷ []) rest)
 
-operand-alone : (f : Bool) (e : Expression) → IsOperand f e → is_joined e ≡ false
+operand-alone : (f : Bool) (e : Expression) → IsOperand f e → needs_parentheses e ≡ false
 operand-alone f (paths ss) is = refl
 operand-alone f (value l) is = refl
 operand-alone f (binary op left right) is = absurd is
@@ -169,14 +169,14 @@ begins-condition f (binary op left right) rest is = rw (binary-shown op left rig
       tail = 32 ∷ operator_text op ++ (32 ∷ side right ++ rest)
 
       left_side : ((more : List ℕ) → IsCondition f left → begins is_condition_start (expression_text left ++ more) ≡ true) → (t : Bool) →
-          is_joined left ≡ t → IsCondition f left → begins is_condition_start (side left ++ tail) ≡ true
+          needs_parentheses left ≡ t → IsCondition f left → begins is_condition_start (side left ++ tail) ≡ true
       left_side ih true j l = rw (side-joined left tail j) refl
       left_side ih false j l = rw (side-alone left j) (ih tail l)
 
       go : ((more : List ℕ) → IsCondition f left → begins is_condition_start (expression_text left ++ more) ≡ true) → (t : Bool) →
           MatchBool t (IsCondition f left × IsCondition f right) ((is_signed left ≡ false) × IsOperand f left × IsOperand f right) →
           begins is_condition_start (side left ++ tail) ≡ true
-      go ih true is' = left_side ih (is_joined left) refl is'.0
+      go ih true is' = left_side ih (needs_parentheses left) refl is'.0
       go ih false is' = rw (side-alone left (operand-alone f left is'.1)) (begins-operand_as_condition f left tail is'.1)
 begins-condition f (unary op e) rest is = rw (append_assoc (sign_text op) (expression_text e) rest) (begins-sign op
     (expression_text e ++ rest))
@@ -190,8 +190,8 @@ no_space-condition f e rest is =
     (begins-condition f e rest is)))
 
 no_space-side : (f : Bool) (e : Expression) (rest : List ℕ) → IsCondition f e → stops is_space (side e ++ rest) ≡ true
-no_space-side f e rest is = go (is_joined e) refl where
-  go : (t : Bool) → is_joined e ≡ t → stops is_space (side e ++ rest) ≡ true
+no_space-side f e rest is = go (needs_parentheses e) refl where
+  go : (t : Bool) → needs_parentheses e ≡ t → stops is_space (side e ++ rest) ≡ true
   go true j = rw (side-joined e rest j) refl
   go false j = rw (side-alone e j) (stops-from_begins is_space (expression_text e ++ rest)
       (begins-excludes is_condition_start is_space condition_start_is_no_space (expression_text e ++ rest) (begins-condition f e rest is)))
@@ -216,7 +216,7 @@ StepsRead ss = (n : ℕ) (rest : List ℕ) → ArePathSteps ss → front is_clos
 
 -- ---- one atom alone
 
-single-condition : (e : Expression) → is_joined e ≡ false → AtomReads e → ConditionReads e
+single-condition : (e : Expression) → needs_parentheses e ≡ false → AtomReads e → ConditionReads e
 unfolding nested_or
 single-condition e j atom zero f rest is h short = absurd (omega arith)
 single-condition e j atom (suc n) f rest is h short =
@@ -280,7 +280,7 @@ group-text : (nested : Bool → Rule Expression) (f : Bool) (text : List ℕ) (e
 unfolding group_with ws
 group-text nested f text e rest no_space r = rw (no_space, r.reads, r.same) refl
 
-group-atom : (e : Expression) → is_joined e ≡ true → ConditionReads e → AtomReads e
+group-atom : (e : Expression) → needs_parentheses e ≡ true → ConditionReads e → AtomReads e
 unfolding atom_with
 group-atom e j condition n f rest is h short =
     let input = 40 ∷ expression_text e ++ (41 ∷ rest) in

@@ -2,9 +2,9 @@
 use Rattle.std.proofs.Common.{◌≡◌, ℕ, List, [], ◌∷◌, Bool, true, false, Option, Some, None, pos, negsuc, zero, suc, refl, inl, inr, map, Equal}
 use Rattle.std.specs.Prelude.{IfSome, MatchBool}
 use Rattle.std.proofs.lemmas.Cmp.{tied_itself}
+use Rattle.std.specs.List.{AllByRecursion}
 use Rattle.jsonb_doc.specs.Number.{Number, int64, uint64, number_from, number_cmp}
 use Rattle.jsonb_doc.specs.Proofs.NumberOrder.{number_cmp_total}
-use Rattle.jsonb_keypath.specs.Each.{Each}
 use Rattle.jsonb.specs.PathEquality.{SameLiteral, SameStep, SameSteps, SameExpression, SamePath, PrintsAsEqual}
 use Rattle.jsonb.specs.PathGrammar.{json_path}
 use Rattle.jsonb.specs.PathLaws.{settled_literal, settled_step, settled_steps, settled}
@@ -76,7 +76,7 @@ mutual
   condition-settled f (exists ss) h = exists-settled ss h
   condition-settled f e h = absurd h
 
-each-settled : (p : List Step) → Each IsPathStep p → SamePath p (map settled_step p)
+each-settled : (p : List Step) → AllByRecursion IsPathStep p → SamePath p (map settled_step p)
 each-settled [] h = tt
 each-settled (s ∷ p) h = (step-settled s h.0, each-settled p h.1)
 

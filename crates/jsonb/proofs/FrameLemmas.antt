@@ -15,9 +15,9 @@ use Rattle.jsonb.specs.PathTree.{BinaryOp, binary, and_op, or_op, Expression, St
 use Rattle.jsonb.specs.PathGrammar.{spaced, atom_with, and_with, or_with, expression, joined_by, spaced_inner, spaced_operand, operator, path_with, filter_with, path_step, path_root, operand_steps, operand, unary_operator, unary_atom, binary_atom, group_with, exists_with, front_steps, first_step, plain_path, root_expression}
 use Rattle.jsonb.specs.Private.Repeated.{another_atom, another_and}
 use Rattle.jsonb.specs.PathViews.{expression_view, steps_view}
-use Rattle.jsonb.specs.Private.Frames.{joined_from, joined_view, joined_behind, level_outcome, IsUnclosed, IsLevel, closed, filter_front, filter_step, steps_behind, opened_outcome, IsOpened, resumed, AreFrames, operation, goes_in_filter, opening_outcome, as_path}
+use Rattle.jsonb.specs.Private.Frames.{joined_from, joined_view, joined_behind, partial_outcome, IsUnclosed, IsPartial, closed, filter_front, filter_step, steps_behind, opened_outcome, IsOpened, resumed, AreFrames, operation, goes_in_filter, opening_outcome, as_path}
 use Rattle.jsonb.specs.declared.parser.condition.Joined.{Joined}
-use Rattle.jsonb.specs.declared.parser.condition.Level.{Level}
+use Rattle.jsonb.specs.declared.parser.condition.PartialExpr.{PartialExpr}
 use Rattle.jsonb.specs.declared.parser.opening.Opened.{Opened}
 use Rattle.jsonb.specs.declared.parser.opening.Opened.TheVariants as opened
 use Rattle.jsonb.specs.declared.parser.expression.Frame.{Frame}
@@ -89,44 +89,44 @@ or-is : (f : Bool) (input : List ℕ) → joined_from or_op (another_and express
 unfolding or_with
 or-is f input = joined-is or_op (another_and expression f) (and_with expression f input)
 
--- a level before its first condition
-pub level-begins : (f : Bool) (input : List ℕ) →
-    level_outcome (record { is_in_filter = f; all = None; any = None }) (atom_with expression f input) ≡ expression f input
-unfolding level_outcome
-level-begins f input =
+-- an expression before its first condition
+pub partial-begins : (f : Bool) (input : List ℕ) →
+    partial_outcome (record { is_in_filter = f; all = None; any = None }) (atom_with expression f input) ≡ expression f input
+unfolding partial_outcome
+partial-begins f input =
     behind-none or_op (another_and expression f) (joined_behind and_op (another_atom expression f) None (atom_with expression f input))
     ∙ ap (joined_from or_op (another_and expression f)) (behind-none and_op (another_atom expression f) (atom_with expression f input) ∙ and-is f input)
     ∙ or-is f input ∙ sym ((rules_hold input).0 f)
 
--- a level whose conditions joined by `&&` are these
-abbrev pub with_all : Level → Joined → Level
+-- an expression whose conditions joined by `&&` are these
+abbrev pub with_all : PartialExpr → Joined → PartialExpr
 with_all l j = record { is_in_filter = l.is_in_filter; all = Some j; any = l.any }
 
-abbrev pub with_any : Level → Joined → Level
+abbrev pub with_any : PartialExpr → Joined → PartialExpr
 with_any l j = record { is_in_filter = l.is_in_filter; all = None; any = Some j }
 
-pub and-goes : (l : Level) (e : Expression) (j : Joined) (after : List ℕ) → expression_view j.left.value ≡ joined_view and_op l.all e →
+pub and-goes : (l : PartialExpr) (e : Expression) (j : Joined) (after : List ℕ) → expression_view j.left.value ≡ joined_view and_op l.all e →
     spaced (literal "&&") j.before.now ≡ Some (tt, after) →
-    level_outcome (with_all l j) (atom_with expression l.is_in_filter after) ≡ level_outcome l (Some (e, j.before.now))
-unfolding level_outcome
+    partial_outcome (with_all l j) (atom_with expression l.is_in_filter after) ≡ partial_outcome l (Some (e, j.before.now))
+unfolding partial_outcome
 and-goes l e j after left reads =
     ap (joined_behind or_op (another_and expression l.is_in_filter) l.any)
     (join-next and_op (spaced (literal "&&")) (atom_with expression l.is_in_filter) (some-another_atom l.is_in_filter) j after reads
     ∙ ap (λ (x : Expression). joined_from and_op (another_atom expression l.is_in_filter) (Some (x, j.before.now))) left)
 
-or-here : (l : Level) (e : Expression) (input : List ℕ) → spaced (literal "&&") input ≡ None →
-    level_outcome l (Some (e, input)) ≡ joined_from or_op (another_and expression l.is_in_filter)
+or-here : (l : PartialExpr) (e : Expression) (input : List ℕ) → spaced (literal "&&") input ≡ None →
+    partial_outcome l (Some (e, input)) ≡ joined_from or_op (another_and expression l.is_in_filter)
     (Some (joined_view or_op l.any (joined_view and_op l.all e), input))
-unfolding level_outcome
+unfolding partial_outcome
 or-here l e input none =
     ap (joined_behind or_op (another_and expression l.is_in_filter) l.any)
     (join-ends and_op (spaced (literal "&&")) (atom_with expression l.is_in_filter) (joined_view and_op l.all e) input none)
 
-pub or-goes : (l : Level) (e : Expression) (j : Joined) (after : List ℕ) →
+pub or-goes : (l : PartialExpr) (e : Expression) (j : Joined) (after : List ℕ) →
     expression_view j.left.value ≡ joined_view or_op l.any (joined_view and_op l.all e) →
     spaced (literal "&&") j.before.now ≡ None → spaced (literal "||") j.before.now ≡ Some (tt, after) →
-    level_outcome (with_any l j) (atom_with expression l.is_in_filter after) ≡ level_outcome l (Some (e, j.before.now))
-unfolding level_outcome
+    partial_outcome (with_any l j) (atom_with expression l.is_in_filter after) ≡ partial_outcome l (Some (e, j.before.now))
+unfolding partial_outcome
 or-goes l e j after left none reads =
     ap (joined_behind or_op (another_and expression l.is_in_filter) (Some j))
     (behind-none and_op (another_atom expression l.is_in_filter) (atom_with expression l.is_in_filter after) ∙ and-is l.is_in_filter after)
@@ -134,9 +134,9 @@ or-goes l e j after left none reads =
     ∙ ap (λ (x : Expression). joined_from or_op (another_and expression l.is_in_filter) (Some (x, j.before.now))) left
     ∙ sym (or-here l e j.before.now none)
 
-pub level-ends : (l : Level) (e : Expression) (input : List ℕ) → spaced (literal "&&") input ≡ None → spaced (literal "||") input ≡ None →
-    Some (joined_view or_op l.any (joined_view and_op l.all e), input) ≡ level_outcome l (Some (e, input))
-level-ends l e input none none' =
+pub partial-ends : (l : PartialExpr) (e : Expression) (input : List ℕ) → spaced (literal "&&") input ≡ None → spaced (literal "||") input ≡ None →
+    Some (joined_view or_op l.any (joined_view and_op l.all e), input) ≡ partial_outcome l (Some (e, input))
+partial-ends l e input none none' =
     sym (or-here l e input none
     ∙ join-ends or_op (spaced (literal "||")) (and_with expression l.is_in_filter) (joined_view or_op l.any (joined_view and_op l.all e)) input none')
 
@@ -161,11 +161,11 @@ filter-unclosed input after e = go (bytes (63 ∷ []) (past is_space input)) ref
 
 -- ---- what fails
 
--- what a level had, where no condition follows
-pub level-ended-all : (l : Level) (j : Joined) → l.all ≡ Some j → spaced (literal "||") j.before.now ≡ None →
-    level_outcome l None ≡ Some (joined_view or_op l.any (expression_view j.left.value), j.before.now)
-unfolding level_outcome
-level-ended-all l j at none =
+-- what an expression had, where no condition follows
+pub partial-ended-all : (l : PartialExpr) (j : Joined) → l.all ≡ Some j → spaced (literal "||") j.before.now ≡ None →
+    partial_outcome l None ≡ Some (joined_view or_op l.any (expression_view j.left.value), j.before.now)
+unfolding partial_outcome
+partial-ended-all l j at none =
     rw at (join-ends or_op (spaced (literal "||")) (and_with expression l.is_in_filter) (joined_view or_op l.any (expression_view j.left.value))
     j.before.now none)
 
@@ -179,11 +179,11 @@ unclosed-here {A} {B} e input next none = go (bytes (41 ∷ []) (past is_space i
   go None at none' = rw at refl
   go (Some p) at none' = absurd (nothing tt (past is_space p.1) (sym (rw at at none')))
 
-level-unclosed : (l : Level) → IsLevel l → closed (level_outcome l None) ≡ None
-unfolding level_outcome
-level-unclosed l is = go l.all l.any refl refl where
-  go : (all any : Option Joined) → l.all ≡ all → l.any ≡ any → closed (level_outcome l None) ≡ None
-  go (Some j) any at at' = rw (level-ended-all l j at ((rw at at is.0).1)) (unclosed-here _ j.before.now give ((rw at at is.0).0))
+partial-unclosed : (l : PartialExpr) → IsPartial l → closed (partial_outcome l None) ≡ None
+unfolding partial_outcome
+partial-unclosed l is = go l.all l.any refl refl where
+  go : (all any : Option Joined) → l.all ≡ all → l.any ≡ any → closed (partial_outcome l None) ≡ None
+  go (Some j) any at at' = rw (partial-ended-all l j at ((rw at at is.0).1)) (unclosed-here _ j.before.now give ((rw at at is.0).0))
   go None (Some j) at at' = rw (at, at') (unclosed-here _ j.before.now give (rw at' at is.1))
   go None None at at' = rw (at, at') refl
 
@@ -196,17 +196,17 @@ opened-fails (opened.Filter steps before) inside is none = rw none
 -- ---- the last frame
 
 pub resumed-push : (frames : List Frame) (frame : Frame) (inside : Parsed Expression) →
-    resumed (frames ++ frame ∷ []) inside ≡ resumed frames (level_outcome frame.level (opened_outcome frame.opened inside))
+    resumed (frames ++ frame ∷ []) inside ≡ resumed frames (partial_outcome frame.partial (opened_outcome frame.opened inside))
 unfolding resumed
 resumed-push [] frame inside = refl
 resumed-push (first ∷ frames) frame inside =
-    ap (λ (o : Parsed Expression). level_outcome first.level (opened_outcome first.opened o)) (resumed-push frames frame inside)
+    ap (λ (o : Parsed Expression). partial_outcome first.partial (opened_outcome first.opened o)) (resumed-push frames frame inside)
 
-pub frames-push : (frames : List Frame) (frame : Frame) → AreFrames frames → IsLevel frame.level → IsOpened frame.opened → AreFrames (frames ++ frame ∷ [])
+pub frames-push : (frames : List Frame) (frame : Frame) → AreFrames frames → IsPartial frame.partial → IsOpened frame.opened → AreFrames (frames ++ frame ∷ [])
 frames-push [] frame are is is' = (is, is', tt)
 frames-push (first ∷ frames) frame are is is' = (are.0, are.1, frames-push frames frame are.2 is is')
 
-pub frames-pop : (frames : List Frame) (frame : Frame) → AreFrames (frames ++ frame ∷ []) → AreFrames frames × IsLevel frame.level × IsOpened frame.opened
+pub frames-pop : (frames : List Frame) (frame : Frame) → AreFrames (frames ++ frame ∷ []) → AreFrames frames × IsPartial frame.partial × IsOpened frame.opened
 frames-pop [] frame are = (tt, are.0, are.1)
 frames-pop (first ∷ frames) frame are = let others = frames-pop frames frame are.2 in ((are.0, are.1, others.0), others.1, others.2)
 
@@ -215,18 +215,19 @@ none_open [] none = refl
 none_open (frame ∷ frames) none = absurd (omega (arith, none))
 
 -- a failure goes through what is open
-pub failure-goes : (frames : List Frame) (frame : Frame) (l : Level) → IsLevel l → IsOpened frame.opened →
-    resumed (frames ++ frame ∷ []) (level_outcome l None) ≡ resumed frames (level_outcome frame.level None)
+pub failure-goes : (frames : List Frame) (frame : Frame) (l : PartialExpr) → IsPartial l → IsOpened frame.opened →
+    resumed (frames ++ frame ∷ []) (partial_outcome l None) ≡ resumed frames (partial_outcome frame.partial None)
 failure-goes frames frame l is is' =
-    resumed-push frames frame (level_outcome l None)
-    ∙ ap (λ (o : Parsed Expression). resumed frames (level_outcome frame.level o)) (opened-fails frame.opened (level_outcome l None) is' (level-unclosed l is))
+    resumed-push frames frame (partial_outcome l None)
+    ∙ ap (λ (o : Parsed Expression). resumed frames (partial_outcome frame.partial o))
+        (opened-fails frame.opened (partial_outcome l None) is' (partial-unclosed l is))
 
 -- a frame is taken off, and the failure goes on through the others
-pub failure-passed : (frames others : List Frame) (frame : Frame) (l : Level) → frames ≡ others ++ frame ∷ [] → IsLevel l → AreFrames frames
-    → (resumed others (level_outcome frame.level None) ≡ resumed frames (level_outcome l None)) × AreFrames others × IsLevel frame.level
+pub failure-passed : (frames others : List Frame) (frame : Frame) (l : PartialExpr) → frames ≡ others ++ frame ∷ [] → IsPartial l → AreFrames frames
+    → (resumed others (partial_outcome frame.partial None) ≡ resumed frames (partial_outcome l None)) × AreFrames others × IsPartial frame.partial
 failure-passed frames others frame l whole is are =
     let popped = frames-pop others frame (rw whole at are) in
-    (sym (failure-goes others frame l is popped.2) ∙ ap (λ (fs : List Frame). resumed fs (level_outcome l None)) (sym whole), popped.0, popped.1)
+    (sym (failure-goes others frame l is popped.2) ∙ ap (λ (fs : List Frame). resumed fs (partial_outcome l None)) (sym whole), popped.0, popped.1)
 
 -- ---- the end of parentheses
 
@@ -385,11 +386,11 @@ module _ (tail : List ℕ) (ss : List Step) (rest here : List ℕ) (reads : oper
 
 -- an expression whose first atom this is
 pub front-is : (input here : List ℕ) (o : Parsed Expression) → ws input ≡ Some (tt, here) → o ≡ atom_with expression false here →
-    as_path (level_outcome (record { is_in_filter = false; all = None; any = None }) o) ≡ root_expression input
+    as_path (partial_outcome (record { is_in_filter = false; all = None; any = None }) o) ≡ root_expression input
 unfolding root_expression
 front-is input here o space is =
-    ap (λ (x : Parsed Expression). as_path (level_outcome (record { is_in_filter = false; all = None; any = None }) x)) is
-    ∙ ap as_path (level-begins false here) ∙ whole (expression false here) refl where
+    ap (λ (x : Parsed Expression). as_path (partial_outcome (record { is_in_filter = false; all = None; any = None }) x)) is
+    ∙ ap as_path (partial-begins false here) ∙ whole (expression false here) refl where
       whole : (x : Parsed Expression) → expression false here ≡ x → as_path x ≡ root_expression input
       whole None at = rw (space, at) refl
       whole (Some p) at = rw (space, at) (inner (ws p.1)) where
@@ -402,11 +403,12 @@ front-is input here o space is =
 -- steps, and an operation on them
 pub front-operation : (input rest here : List ℕ) (ss : List Step) (op : BinaryOp) (e : Expression) (after : List ℕ) →
     operand_steps false input ≡ Some (ss, rest) → ws rest ≡ Some (tt, here) → operation false here ≡ Some ((op, e), after) →
-    as_path (level_outcome (record { is_in_filter = false; all = None; any = None }) (Some (binary op (paths (steps_of ss)) e, after))) ≡ root_expression input
+    as_path (partial_outcome (record { is_in_filter = false; all = None; any = None }) (Some (binary op (paths (steps_of ss)) e, after)))
+        ≡ root_expression input
 front-operation input rest here ss op e after reads space is = go (dollar input (ss, rest) reads) where
-  go : (tail : List ℕ) × (input ≡ 36 ∷ tail) → as_path (level_outcome (record { is_in_filter = false; all = None; any = None })
+  go : (tail : List ℕ) × (input ≡ 36 ∷ tail) → as_path (partial_outcome (record { is_in_filter = false; all = None; any = None })
       (Some (binary op (paths (steps_of ss)) e, after))) ≡ root_expression input
-  go d = subst (λ (i : List ℕ). as_path (level_outcome (record { is_in_filter = false; all = None; any = None })
+  go d = subst (λ (i : List ℕ). as_path (partial_outcome (record { is_in_filter = false; all = None; any = None })
       (Some (binary op (paths (steps_of ss)) e, after))) ≡ root_expression i) (sym d.1)
       (front-is (36 ∷ d.0) (36 ∷ d.0) _ (ws-dollar d.0)
       (sym (atom-some d.0 ss rest here (subst (λ (i : List ℕ). operand_steps false i ≡ Some (ss, rest)) d.1 reads)
@@ -415,7 +417,7 @@ front-operation input rest here ss op e after reads space is = go (dollar input 
 -- steps alone
 pub front-steps : (input rest here : List ℕ) (ss : List Step) → operand_steps false input ≡ Some (ss, rest) → ws rest ≡ Some (tt, here) →
     operation false here ≡ None → root_expression input ≡ None
-unfolding level_outcome
+unfolding partial_outcome
 front-steps input rest here ss reads space none = go (dollar input (ss, rest) reads) where
   go : (tail : List ℕ) × (input ≡ 36 ∷ tail) → root_expression input ≡ None
   go d = subst (λ (i : List ℕ). root_expression i ≡ None) (sym d.1)
@@ -425,22 +427,22 @@ front-steps input rest here ss reads space none = go (dollar input (ss, rest) re
 
 -- ---- the loop over what is open
 
-pub at_start : (frames : List Frame) (l start : Level) (first : Opening) → frames ≡ [] → l ≡ start →
-    resumed frames (level_outcome l (opening_outcome l.is_in_filter first)) ≡ level_outcome start (opening_outcome start.is_in_filter first)
+pub at_start : (frames : List Frame) (l start : PartialExpr) (first : Opening) → frames ≡ [] → l ≡ start →
+    resumed frames (partial_outcome l (opening_outcome l.is_in_filter first)) ≡ partial_outcome start (opening_outcome start.is_in_filter first)
 unfolding resumed
 at_start frames l start first none same = rw (none, same) refl
 
-pub inside-goes : (frames new : List Frame) (frame : Frame) (l : Level) (f : Bool) (inside : List ℕ) (opening : Opening) → new ≡ frames ++ frame ∷ [] →
-    f ≡ goes_in_filter frame.opened frame.level.is_in_filter → l ≡ record { is_in_filter = f; all = None; any = None } →
+pub inside-goes : (frames new : List Frame) (frame : Frame) (l : PartialExpr) (f : Bool) (inside : List ℕ) (opening : Opening) → new ≡ frames ++ frame ∷ [] →
+    f ≡ goes_in_filter frame.opened frame.partial.is_in_filter → l ≡ record { is_in_filter = f; all = None; any = None } →
     opening_outcome f opening ≡ atom_with expression f inside →
-    resumed new (level_outcome l (opening_outcome l.is_in_filter opening)) ≡ resumed frames (level_outcome frame.level
-    (opened_outcome frame.opened (expression (goes_in_filter frame.opened frame.level.is_in_filter) inside)))
+    resumed new (partial_outcome l (opening_outcome l.is_in_filter opening)) ≡ resumed frames (partial_outcome frame.partial
+    (opened_outcome frame.opened (expression (goes_in_filter frame.opened frame.partial.is_in_filter) inside)))
 inside-goes frames new frame l f inside opening pushed flag same is =
-    ap (λ (fs : List Frame). resumed fs (level_outcome l (opening_outcome l.is_in_filter opening))) pushed
-    ∙ ap (λ (m : Level). resumed (frames ++ frame ∷ []) (level_outcome m (opening_outcome m.is_in_filter opening))) same
+    ap (λ (fs : List Frame). resumed fs (partial_outcome l (opening_outcome l.is_in_filter opening))) pushed
+    ∙ ap (λ (m : PartialExpr). resumed (frames ++ frame ∷ []) (partial_outcome m (opening_outcome m.is_in_filter opening))) same
     ∙ resumed-push frames frame _
-    ∙ ap (λ (o : Parsed Expression). resumed frames (level_outcome frame.level (opened_outcome frame.opened o)))
-    (ap (level_outcome (record { is_in_filter = f; all = None; any = None })) is ∙ level-begins f inside ∙ ap (λ (g : Bool). expression g inside) flag)
+    ∙ ap (λ (o : Parsed Expression). resumed frames (partial_outcome frame.partial (opened_outcome frame.opened o)))
+    (ap (partial_outcome (record { is_in_filter = f; all = None; any = None })) is ∙ partial-begins f inside ∙ ap (λ (g : Bool). expression g inside) flag)
 
 pub shorter-expression : (f : Bool) → ReadsSome (expression f)
 unfolding expression

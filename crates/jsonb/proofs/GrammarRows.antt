@@ -5,7 +5,7 @@ use Rattle.std.specs.Fmt.{digits}
 use Rattle.std.specs.Str.{is_utf8, chars}
 use lib.Utf8.{encode}
 use Rattle.jsonb_keypath.specs.Rules.{up_to, repeat}
-use Rattle.jsonb_keypath.specs.Tokens.{ws, natural, natural_below, sign, integer, integer_within, four_hex, code_unit, numbered, escape, unit, units, text, name, quoted}
+use Rattle.jsonb_keypath.specs.Tokens.{ws, natural, natural_below, sign, integer, integer_within, four_hex_digits, code_unit, unicode_escape, escape, unit, units, text, name, quoted}
 use Rattle.jsonb.specs.PathTree.{Step, root, value, binary, eq, unsigned, signed, whole_expression, dot_field}
 use Rattle.jsonb.specs.PathGrammar.{place, entry, levels, field, entries, spaced_entry, wildcard, named_field, bracket_field, inner, spaced_inner, path_root, literal_value, operand, spaced_operand, operator, arithmetic_operator, unary_operator, unary_atom, binary_atom, filter_with, path_with, group_with, exists_with, atom_with, and_with, or_with, nested_or, expression, root_expression, first_step, front_steps, path_step, plain_path, json_path}
 use Rattle.jsonb.specs.PathText.{path_text}
@@ -13,7 +13,7 @@ use Rattle.jsonb_doc.proofs.Tables.{AreRows}
 
 -- the steps of the text, where it is a path; `unfolding read` opens all that it takes
 read : List ℕ → Option (List Step)
-unfolding json_path plain_path path_step front_steps first_step root_expression expression nested_or or_with and_with atom_with exists_with group_with path_with filter_with binary_atom unary_atom unary_operator operator arithmetic_operator spaced_operand operand literal_value path_root spaced_inner inner bracket_field named_field wildcard entries spaced_entry field levels entry place name quoted text units unit escape numbered code_unit four_hex natural natural_below sign integer integer_within ws repeat up_to is_utf8 chars encode
+unfolding json_path plain_path path_step front_steps first_step root_expression expression nested_or or_with and_with atom_with exists_with group_with path_with filter_with binary_atom unary_atom unary_operator operator arithmetic_operator spaced_operand operand literal_value path_root spaced_inner inner bracket_field named_field wildcard entries spaced_entry field levels entry place name quoted text units unit escape unicode_escape code_unit four_hex_digits natural natural_below sign integer integer_within ws repeat up_to is_utf8 chars encode
 read input = json_path input
 
 -- what the path prints, where the text is one; `unfolding printed` opens all that it takes

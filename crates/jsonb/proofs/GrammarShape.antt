@@ -5,13 +5,13 @@ use Rattle.std.specs.Option.{option_and_then}
 use Rattle.std.specs.Char.{is_ascii_digit}
 use Rattle.std.proofs.lemmas.Option.{same_Some}
 use Rattle.std.proofs.lemmas.Bool.Decides.{nat_tests, Decides-ltb, Decides-eqb}
-use Rattle.jsonb_keypath.specs.Each.{Each}
+use Rattle.std.specs.List.{AllByRecursion}
 use Rattle.jsonb_keypath.specs.Rules.{Parsed, Rule, give, ◌>>=◌, ◌>>◌, ◌</>◌, or_else_parsed, optional, only_if, literal, repeat, list_of}
 use Rattle.jsonb_keypath.specs.Tokens.{ws, past, is_space, is_within, int32, int64, nat8, nat64, sign, natural, natural_below, integer, integer_within, with_sign, name, quoted}
 use Rattle.jsonb_keypath.proofs.ReadBackLemmas.{begins, begins-excludes, stops-from_begins, is_sign, sign-none, natural-none}
 use Rattle.jsonb_keypath.proofs.YieldsLemmas.{Yields, IsName, yields-give, yields-then, yields-behind, yields-choice, yields-repeat, yields-list_of, yields-integer_within, yields-natural_below, yields-name, yields-quoted}
 use Rattle.jsonb.specs.PathTree.{from_front, from_last, Entry, single, slice, level, last_level, Levels, Literal, null, boolean, unsigned, signed, string, BinaryOp, and_op, or_op, eq, not_eq, lt, lte, gt, gte, starts_with_op, add, subtract, multiply, divide, modulo, Step, root, current, dot_wildcard, recursive_dot_wildcard, bracket_wildcard, dot_field, colon_field, object_field, array_indices, filter, whole_expression, Expression, paths, value, binary, unary, exists, steps_of}
-use Rattle.jsonb.specs.PathGrammar.{word, spaced, negated, last_and, place, entry, levels, field, spaced_entry, entries, wildcard, named_field, bracket_field, inner, spaced_inner, path_root, literal_value, operand_steps, operand, spaced_operand, operator, arithmetic_operator, unary_operator, unary_atom, binary_atom, joined_by, filter_with, path_with, group_with, exists_steps, exists_with, atom_with, and_with, or_with, nested_or, expression, root_expression, first_step, front_steps, path_step, plain_path, json_path}
+use Rattle.jsonb.specs.PathGrammar.{keyword, spaced, negated, last_and, place, entry, levels, field, spaced_entry, entries, wildcard, named_field, bracket_field, inner, spaced_inner, path_root, literal_value, operand_steps, operand, spaced_operand, operator, arithmetic_operator, unary_operator, unary_atom, binary_atom, joined_by, filter_with, path_with, group_with, exists_steps, exists_with, atom_with, and_with, or_with, nested_or, expression, root_expression, first_step, front_steps, path_step, plain_path, json_path}
 use Rattle.jsonb.specs.PathText.{joins}
 use Rattle.jsonb.proofs.PathShape.{IsIndex, IsPlace, IsEntry, AreLevels, IsLiteral, IsInner, AreInner, IsBeginning, IsOperand, is_signed, is_signed_literal, IsPathStep, ArePathSteps, IsExistsPath, IsCondition, IsPath}
 use Rattle.jsonb_keypath.proofs.KeyPathReadsBack.{whole-some}
@@ -34,7 +34,7 @@ negated_is_index i = go (is_within (2 ^ 31) (neg_ℤ i)) refl where
 
 last_and_is_index : (sign : String) → Yields IsIndex (last_and sign)
 last_and_is_index sign =
-    yields-behind IsIndex (word "last") _ (λ _. yields-behind IsIndex ws _ (λ _. yields-behind IsIndex (literal sign) _
+    yields-behind IsIndex (keyword "last") _ (λ _. yields-behind IsIndex ws _ (λ _. yields-behind IsIndex (literal sign) _
     (λ _. yields-behind IsIndex ws _ (λ _. yields-integer_within (2 ^ 31)))))
 
 place_is_place : Yields IsPlace place
@@ -47,13 +47,13 @@ place_is_place =
     (λ i is. yields-give IsPlace (from_last (negated i)) (negated_is_index i)))
     (yields-choice IsPlace _ _
     (yields-then IsIndex IsPlace (last_and "+") _ (last_and_is_index "+") (λ i is. yields-give IsPlace (from_last i) is))
-    (yields-behind IsPlace (word "last") _ (λ _. yields-give IsPlace (from_last (pos 0)) refl))))
+    (yields-behind IsPlace (keyword "last") _ (λ _. yields-give IsPlace (from_last (pos 0)) refl))))
 
 entry_is_entry : Yields IsEntry entry
 unfolding entry
 entry_is_entry =
     yields-choice IsEntry _ _
-    (yields-then IsPlace IsEntry place _ place_is_place (λ first is. yields-behind IsEntry ws _ (λ _. yields-behind IsEntry (word "to") _
+    (yields-then IsPlace IsEntry place _ place_is_place (λ first is. yields-behind IsEntry ws _ (λ _. yields-behind IsEntry (keyword "to") _
     (λ _. yields-behind IsEntry ws _ (λ _.
     yields-then IsPlace IsEntry place _ place_is_place (λ last is'. yields-give IsEntry (slice first last) (is, is')))))))
     (yields-then IsPlace IsEntry place _ place_is_place (λ p is. yields-give IsEntry (single p) is))
@@ -70,15 +70,15 @@ levels_are_levels =
     yields-choice IsLevels _ _
     (yields-behind IsLevels (literal "{") _ (λ _. yields-behind IsLevels ws _
     (λ _. yields-then IsByte IsLevels nat8 _ (yields-natural_below (2 ^ 8)) (λ start is.
-    yields-behind IsLevels ws _ (λ _. yields-behind IsLevels (word "to") _ (λ _. yields-behind IsLevels ws _
+    yields-behind IsLevels ws _ (λ _. yields-behind IsLevels (keyword "to") _ (λ _. yields-behind IsLevels ws _
     (λ _. yields-then IsByte IsLevels nat8 _ (yields-natural_below (2 ^ 8)) (λ end is'.
     yields-behind IsLevels ws _ (λ _. yields-behind IsLevels (literal "}") _
     (λ _. yields-give IsLevels (record { start = start; end = Some (level end) }) (is, is')))))))))))
     (yields-choice IsLevels _ _
     (yields-behind IsLevels (literal "{") _ (λ _. yields-behind IsLevels ws _
     (λ _. yields-then IsByte IsLevels nat8 _ (yields-natural_below (2 ^ 8)) (λ start is.
-    yields-behind IsLevels ws _ (λ _. yields-behind IsLevels (word "to") _ (λ _. yields-behind IsLevels ws _
-    (λ _. yields-behind IsLevels (word "last") _ (λ _.
+    yields-behind IsLevels ws _ (λ _. yields-behind IsLevels (keyword "to") _ (λ _. yields-behind IsLevels ws _
+    (λ _. yields-behind IsLevels (keyword "last") _ (λ _.
     yields-behind IsLevels ws _ (λ _. yields-behind IsLevels (literal "}") _
     (λ _. yields-give IsLevels (record { start = start; end = Some last_level }) (is, tt)))))))))))
     (yields-behind IsLevels (literal "{") _ (λ _. yields-behind IsLevels ws _
@@ -95,7 +95,7 @@ unfolding spaced_entry
 spaced_entry_is_entry = yields-spaced IsEntry entry entry_is_entry
 
 abbrev AreEntries : List Entry → Type 0
-AreEntries es = (0 < length es) × Each IsEntry es
+AreEntries es = (0 < length es) × AllByRecursion IsEntry es
 
 entries_are_entries : Yields AreEntries entries
 unfolding entries
@@ -175,7 +175,7 @@ literal_is_literal =
     (λ z is. yields-give IsLiteral (signed z) is))
     (yields-then IsName IsLiteral quoted _ yields-quoted (λ text is. yields-give IsLiteral (string text) is))))))
 
-are_inner : (ss : List Step) → Each IsInner ss → AreInner (steps_of ss)
+are_inner : (ss : List Step) → AllByRecursion IsInner ss → AreInner (steps_of ss)
 are_inner [] are = tt
 are_inner (s ∷ ss) are = (are.0, are_inner ss are.1)
 
@@ -185,7 +185,7 @@ operand_is_operand f =
     yields-choice (IsOperand f) _ _
     (yields-then (λ ss. IsOperand f (paths (steps_of ss))) (IsOperand f) (operand_steps f) _
     (yields-then (IsBeginning f) (λ ss. IsOperand f (paths (steps_of ss))) (path_root f) _ (path_root_is_beginning f) (λ first is.
-    yields-then (Each IsInner) (λ ss. IsOperand f (paths (steps_of ss))) (repeat spaced_inner) _
+    yields-then (AllByRecursion IsInner) (λ ss. IsOperand f (paths (steps_of ss))) (repeat spaced_inner) _
     (yields-repeat IsInner spaced_inner spaced_inner_is_inner) (λ others are.
     yields-give (λ ss. IsOperand f (paths (steps_of ss))) (first ∷ others) (is, are_inner others are))))
     (λ ss is. yields-give (IsOperand f) (paths (steps_of ss)) is))
@@ -481,7 +481,7 @@ step_is_path_step nested h =
     (yields-spaced IsPathStep (filter_with nested >>= λ e. give (filter e)) (yields-then (IsCondition true) IsPathStep
     (filter_with nested) _ (filter_is_condition nested h) (λ e is. yields-give IsPathStep (filter e) is)))
 
-are_path_steps : (ss : List Step) → Each IsPathStep ss → ArePathSteps (steps_of ss)
+are_path_steps : (ss : List Step) → AllByRecursion IsPathStep ss → ArePathSteps (steps_of ss)
 are_path_steps [] are = tt
 are_path_steps (s ∷ ss) are = (are.0, are_path_steps ss are.1)
 
@@ -492,7 +492,7 @@ exists_is_condition nested f h =
     (λ _. yields-behind (IsCondition f) (literal "(") _ (λ _. yields-behind (IsCondition f) ws _ (λ _.
     yields-then (λ ss. IsExistsPath (steps_of ss)) (IsCondition f) (exists_steps nested) _
     (yields-then (IsBeginning true) (λ ss. IsExistsPath (steps_of ss)) (path_root true) _ (path_root_is_beginning true) (λ first is.
-    yields-then (Each IsPathStep) (λ ss. IsExistsPath (steps_of ss)) (repeat (path_with nested)) _ (yields-repeat IsPathStep
+    yields-then (AllByRecursion IsPathStep) (λ ss. IsExistsPath (steps_of ss)) (repeat (path_with nested)) _ (yields-repeat IsPathStep
     (path_with nested) (step_is_path_step nested h)) (λ others are.
     yields-give (λ ss. IsExistsPath (steps_of ss)) (first ∷ others) (is, are_path_steps others are))))
     (λ ss is. yields-behind (IsCondition f) ws _ (λ _. yields-behind (IsCondition f) (literal ")") _
@@ -522,24 +522,24 @@ spaced-then P separator rule h input a rest e =
     (λ b middle reads more. h middle (spaced-leaves separator input b middle reads) a rest more)
 
 where-list : {A B : Type 0} (P : A → Type 0) (rule : Rule A) (separator : Rule B) → YieldsWhere IsUnspaced P rule →
-    YieldsWhere IsUnspaced (λ found. (0 < length found) × Each P found) (list_of rule (spaced separator))
+    YieldsWhere IsUnspaced (λ found. (0 < length found) × AllByRecursion P found) (list_of rule (spaced separator))
 where-list P rule separator h =
-    where-then IsUnspaced P (λ found. (0 < length found) × Each P found) rule _ h (λ first is.
-    yields-then (Each P) (λ found. (0 < length found) × Each P found) (repeat (spaced separator >> rule)) _ (yields-repeat P
+    where-then IsUnspaced P (λ found. (0 < length found) × AllByRecursion P found) rule _ h (λ first is.
+    yields-then (AllByRecursion P) (λ found. (0 < length found) × AllByRecursion P found) (repeat (spaced separator >> rule)) _ (yields-repeat P
     (spaced separator >> rule) (spaced-then P separator rule h)) (λ others are.
-    yields-give (λ found. (0 < length found) × Each P found) (first ∷ others) (omega arith, (is, are))))
+    yields-give (λ found. (0 < length found) × AllByRecursion P found) (first ∷ others) (omega arith, (is, are))))
 
 joined : (f : Bool) (op : BinaryOp) (left right : Expression) → joins op ≡ true → IsCondition f left → IsCondition f right →
     IsCondition f (binary op left right)
 joined f op left right j l r = rw j (l, r)
 
 folded : (f : Bool) (op : BinaryOp) → joins op ≡ true → (first : Expression) (others : List Expression) → IsCondition f first →
-    Each (IsCondition f) others → IsCondition f (fold (λ left right. binary op left right) first others)
+    AllByRecursion (IsCondition f) others → IsCondition f (fold (λ left right. binary op left right) first others)
 folded f op j first [] is are = is
 folded f op j first (e ∷ others) is are = folded f op j (binary op first e) others (joined f op first e j is are.0) are.1
 
 all_joined : (f : Bool) (op : BinaryOp) → joins op ≡ true → (members : List Expression) →
-    (0 < length members) × Each (IsCondition f) members → IsCondition f (joined_by op members)
+    (0 < length members) × AllByRecursion (IsCondition f) members → IsCondition f (joined_by op members)
 all_joined f op j [] are = absurd (omega (arith, are.0))
 all_joined f op j (first ∷ others) are = folded f op j first others are.1.0 are.1.1
 
@@ -547,14 +547,14 @@ and_is_condition : (nested : Bool → Rule Expression) (f : Bool) → NestedIs n
     YieldsWhere IsUnspaced (IsCondition f) (and_with nested f)
 unfolding and_with
 and_is_condition nested f h =
-    where-then IsUnspaced (λ found. (0 < length found) × Each (IsCondition f) found) (IsCondition f) _ _ (where-list (IsCondition f)
+    where-then IsUnspaced (λ found. (0 < length found) × AllByRecursion (IsCondition f) found) (IsCondition f) _ _ (where-list (IsCondition f)
     (atom_with nested f) (literal "&&") (atom_is_condition nested f h))
     (λ members are. yields-give (IsCondition f) (joined_by and_op members) (all_joined f and_op refl members are))
 
 or_is_condition : (nested : Bool → Rule Expression) (f : Bool) → NestedIs nested → YieldsWhere IsUnspaced (IsCondition f) (or_with nested f)
 unfolding or_with
 or_is_condition nested f h =
-    where-then IsUnspaced (λ found. (0 < length found) × Each (IsCondition f) found) (IsCondition f) _ _ (where-list (IsCondition f)
+    where-then IsUnspaced (λ found. (0 < length found) × AllByRecursion (IsCondition f) found) (IsCondition f) _ _ (where-list (IsCondition f)
     (and_with nested f) (literal "||") (and_is_condition nested f h))
     (λ members are. yields-give (IsCondition f) (joined_by or_op members) (all_joined f or_op refl members are))
 
@@ -583,7 +583,7 @@ path_step_is_path_step input s rest e = step_is_path_step (nested_or (length inp
     (length input + 1)) input s rest e
 
 abbrev IsFront : List Step → Type 0
-IsFront ss = (ss ≡ root ∷ []) ⊎ Each IsPathStep ss
+IsFront ss = (ss ≡ root ∷ []) ⊎ AllByRecursion IsPathStep ss
 
 front_is_front : Yields IsFront front_steps
 unfolding front_steps first_step
@@ -597,18 +597,18 @@ front_is_front =
     (λ s is. yields-give IsFront (s ∷ []) is))
     (yields-give IsFront [] (inr tt))
 
-each-append : (ss others : List Step) → Each IsPathStep ss → Each IsPathStep others → Each IsPathStep (ss ++ others)
+each-append : (ss others : List Step) → AllByRecursion IsPathStep ss → AllByRecursion IsPathStep others → AllByRecursion IsPathStep (ss ++ others)
 each-append [] others are are' = are'
 each-append (s ∷ ss) others are are' = (are.0, each-append ss others are.1 are')
 
-path_from_front : (ss others : List Step) → IsFront ss → Each IsPathStep others → IsPath (ss ++ others)
+path_from_front : (ss others : List Step) → IsFront ss → AllByRecursion IsPathStep others → IsPath (ss ++ others)
 path_from_front ss others (inl e) are = inr (inl (others, ap (λ (front : List Step). front ++ others) e, are))
 path_from_front ss others (inr is) are = inr (inr (each-append ss others is are))
 
 plain_path_is_path : Yields IsPath plain_path
 unfolding plain_path
 plain_path_is_path =
-    yields-then IsFront IsPath front_steps _ front_is_front (λ front is. yields-then (Each IsPathStep) IsPath (repeat path_step) _
+    yields-then IsFront IsPath front_steps _ front_is_front (λ front is. yields-then (AllByRecursion IsPathStep) IsPath (repeat path_step) _
     (yields-repeat IsPathStep path_step path_step_is_path_step) (λ others are.
     yields-give IsPath (front ++ others) (path_from_front front others is are)))
 

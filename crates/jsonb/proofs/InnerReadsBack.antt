@@ -3,11 +3,10 @@ use Rattle.std.proofs.Common.{◌≡◌, ℕ, zero, suc, ◌+◌, ◌<◌, ◌^�
 use Rattle.std.proofs.lemmas.List.{append-nil}
 use Rattle.std.specs.Prelude.{ℤ, pos, negsuc, nat_lt, ◌==◌, ◌&&◌, ◌||◌, flat_map, codes, if◌then◌else◌}
 use Rattle.std.specs.Char.{is_ascii_digit}
-use Rattle.std.specs.List.{prefix_len}
+use Rattle.std.specs.List.{AllByRecursion, prefix_len}
 use Rattle.std.proofs.lemmas.Grind.{common_steps}
 use Rattle.std.specs.Fmt.{decimal, signed_decimal}
 use Rattle.std.proofs.lemmas.Bool.Decides.{Decides-ltb, nat_tests}
-use Rattle.jsonb_keypath.specs.Each.{Each}
 use Rattle.jsonb_keypath.specs.Rules.{Rule, ◌>>◌, parsed_map, optional, literal, repeat}
 use Rattle.jsonb_keypath.specs.Tokens.{ws, past, is_space, is_quote, is_stop, int32, nat8}
 use Rattle.jsonb_keypath.specs.KeyPathText.{is_plain_name, is_word_byte, quoted_text, name_text}
@@ -17,7 +16,7 @@ use Rattle.jsonb_keypath.proofs.KeyPathReadsBack.{begins-signed_decimal}
 use Rattle.jsonb_keypath.proofs.RepeatLemmas.{repeat-goes, repeat-ends}
 use Rattle.jsonb_keypath.proofs.YieldsLemmas.{IsName}
 use Rattle.jsonb.specs.PathTree.{Place, from_front, from_last, Entry, single, slice, LevelEnd, level, last_level, Levels, Step, root, current, dot_wildcard, recursive_dot_wildcard, bracket_wildcard, dot_field, colon_field, object_field, array_indices, filter, whole_expression}
-use Rattle.jsonb.specs.PathGrammar.{word, spaced, place, entry, levels, field, spaced_entry, entries, wildcard, named_field, bracket_field, inner}
+use Rattle.jsonb.specs.PathGrammar.{keyword, spaced, place, entry, levels, field, spaced_entry, entries, wildcard, named_field, bracket_field, inner}
 use Rattle.jsonb.specs.PathText.{place_text, entry_text, other_entry_text, entries_text, levels_text, step_text}
 use Rattle.jsonb.proofs.PathShape.{IsIndex, IsPlace, IsEntry, IsLevelEnd, AreLevels, IsInner}
 
@@ -137,7 +136,7 @@ place-text (from_last (negsuc n)) rest is h = go (n == 2147483647) refl where
 -- what has to stand behind an entry
 record IsBehindEntry (rest : List ℕ) : Type 0 where
   place : IsBehindPlace rest
-  no_to : word "to" rest ≡ None
+  no_to : keyword "to" rest ≡ None
   no_space : past is_space rest ≡ rest
 
 behind_comma : (rest : List ℕ) → IsBehindEntry (44 ∷ rest)
@@ -200,7 +199,7 @@ behind_others : (es : List Entry) (rest : List ℕ) → IsBehindEntry (flat_map 
 behind_others [] rest = behind_bracket rest
 behind_others (e ∷ es) rest = behind_comma _
 
-more_entries : (es : List Entry) (rest : List ℕ) → Each IsEntry es → repeat (literal "," >> spaced entry)
+more_entries : (es : List Entry) (rest : List ℕ) → AllByRecursion IsEntry es → repeat (literal "," >> spaced entry)
     (flat_map other_entry_text es ++ 93 ∷ rest) ≡ Some (es, 93 ∷ rest)
 more_entries [] rest are = repeat-ends (literal "," >> spaced entry) (93 ∷ rest) refl
 more_entries (e ∷ es) rest are =
@@ -210,7 +209,7 @@ more_entries (e ∷ es) rest are =
     (behind_others es rest)) (omega (arith, length-append (entry_text e) tail))
     ∙ ap (parsed_map (λ (others : List Entry). e ∷ others)) (more_entries es rest are.1))
 
-entries-text : (es : List Entry) (rest : List ℕ) → 0 < length es → Each IsEntry es →
+entries-text : (es : List Entry) (rest : List ℕ) → 0 < length es → AllByRecursion IsEntry es →
     entries (91 ∷ entries_text es ++ 93 ∷ rest) ≡ Some (es, rest)
 unfolding entries spaced_entry
 entries-text [] rest some are = absurd (omega arith)
@@ -222,7 +221,7 @@ entries-text (e ∷ es) rest some are =
       more_entries es rest are.1,
     ) refl
 
-begins-entries : (es : List Entry) (rest : List ℕ) → 0 < length es → Each IsEntry es →
+begins-entries : (es : List Entry) (rest : List ℕ) → 0 < length es → AllByRecursion IsEntry es →
     begins is_place_start (entries_text es ++ rest) ≡ true
 begins-entries [] rest some are = absurd (omega arith)
 begins-entries (e ∷ es) rest some are = rw (append_assoc (entry_text e) (flat_map other_entry_text es) rest) (begins-entry e _ are.0)

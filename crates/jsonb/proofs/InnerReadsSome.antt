@@ -8,9 +8,9 @@ use Rattle.jsonb_keypath.proofs.ReadsLemmas.{NeverGrows, some-no_more, grows-giv
 use Rattle.jsonb_keypath.proofs.CutLemmas.{some-literal}
 use Rattle.jsonb_keypath.proofs.GrowsLemmas.{grows-ws, some-name, some-quoted, some-natural_below}
 use Rattle.jsonb.specs.PathTree.{colon_field, dot_field, object_field, array_indices}
-use Rattle.jsonb.specs.PathGrammar.{word, spaced, levels, wildcard, field, named_field, entry, spaced_entry, entries, bracket_field, inner, spaced_inner}
+use Rattle.jsonb.specs.PathGrammar.{keyword, spaced, levels, wildcard, field, named_field, entry, spaced_entry, entries, bracket_field, inner, spaced_inner}
 use Rattle.jsonb.specs.Private.Repeated.{another_entry, entry_list}
-use Rattle.jsonb.proofs.EntryReadsSome.{some-word, some-spaced, some-entry, some-another_entry}
+use Rattle.jsonb.proofs.EntryReadsSome.{some-keyword, some-spaced, some-entry, some-another_entry}
 
 repeated-no_more : {A : Type 0} (rule : Rule A) → ReadsSome rule → (input : List ℕ) (values : List A) (rest : List ℕ) →
     IsRepeated rule input values rest → length rest ≤ length input
@@ -33,12 +33,12 @@ unfolding levels
 some-levels =
     some-choice _ _ (some-then (literal "{") _ (some-literal 123 []) (λ _. grows-then ws _ grows-ws
     (λ _. grows-then nat8 _ (some-no_more nat8 some-nat8) (λ start. grows-then ws _ grows-ws
-    (λ _. grows-then (word "to") _ (some-no_more (word "to") (some-word 116 (codes "o"))) (λ _. grows-then ws _ grows-ws
+    (λ _. grows-then (keyword "to") _ (some-no_more (keyword "to") (some-keyword 116 (codes "o"))) (λ _. grows-then ws _ grows-ws
     (λ _. grows-then nat8 _ (some-no_more nat8 some-nat8) (λ end. grows-closing _))))))))
     (some-choice _ _ (some-then (literal "{") _ (some-literal 123 []) (λ _. grows-then ws _ grows-ws
     (λ _. grows-then nat8 _ (some-no_more nat8 some-nat8) (λ start. grows-then ws _ grows-ws
-    (λ _. grows-then (word "to") _ (some-no_more (word "to") (some-word 116 (codes "o"))) (λ _. grows-then ws _ grows-ws
-    (λ _. grows-then (word "last") _ (some-no_more (word "last") (some-word 108 (codes "ast"))) (λ _. grows-closing _))))))))
+    (λ _. grows-then (keyword "to") _ (some-no_more (keyword "to") (some-keyword 116 (codes "o"))) (λ _. grows-then ws _ grows-ws
+    (λ _. grows-then (keyword "last") _ (some-no_more (keyword "last") (some-keyword 108 (codes "ast"))) (λ _. grows-closing _))))))))
     (some-then (literal "{") _ (some-literal 123 []) (λ _. grows-then ws _ grows-ws (λ _. grows-then nat8 _ (some-no_more nat8 some-nat8)
     (λ start. grows-closing _)))))
 

@@ -7,10 +7,10 @@ use Rattle.jsonb_doc.specs.Tree.{Tree}
 use Rattle.jsonb.specs.PathTree as math
 use Rattle.jsonb.specs.PathTree.{Step, Expression, steps_of}
 use Rattle.jsonb.specs.Meaning.{truth, operand_values}
-use Rattle.jsonb.specs.Private.Selection.{atoms_view}
+use Rattle.jsonb.specs.Private.Selection.{values_view}
 use Rattle.jsonb.specs.Private.Kept.{is_fixed, is_comparison, is_condition, conditions, IsSame, AreSame, AreKept, kept_part}
 use Rattle.jsonb.specs.declared.selector.document.Mode.{Mode}
-use Rattle.jsonb.specs.declared.selector.atom.Atoms.{Atoms}
+use Rattle.jsonb.specs.declared.selector.operand_value.OperandValues.{OperandValues}
 use Rattle.jsonb.specs.declared.selector.kept.KeptPart.{KeptPart}
 use Rattle.jsonb.specs.declared.selector.kept.KeptPart.TheVariants as part
 use Rattle.jsonb.specs.declared.selector.kept.Kept.{Kept}
@@ -134,11 +134,11 @@ compared mode op l r top u ls rs h p q = comparison_is mode op l r top u h
     ∙ (λ i. and_then (p i) (λ ls. and_then (q i) (λ rs. Ok (compare op ls rs))))
 
 -- the values of the right operand are kept
-pub by_right : (mode : Mode) (top u : Tree) (e : Expr) (op : BinaryOperator) (l r : Box Expr Global) (p : KeptPart) (rights : Atoms) (left : Expr)
+pub by_right : (mode : Mode) (top u : Tree) (e : Expr) (op : BinaryOperator) (l r : Box Expr Global) (p : KeptPart) (rights : OperandValues) (left : Expr)
     (steps : math.Steps) → e ≡ expr.BinaryOp op l r → p ≡ part.Right rights → left ≡ l.value → expression_view left ≡ math.paths steps
     → is_condition (expression_view e) ≡ true → IsSame mode top p (expression_view e) →
     truth mode (expression_view e) top u
-    ≡ and_then (operand_values mode (math.paths steps) top u) (λ ls. Ok (compare (operator_view op) ls (atoms_view rights)))
+    ≡ and_then (operand_values mode (math.paths steps) top u) (λ ls. Ok (compare (operator_view op) ls (values_view rights)))
 by_right mode top u e op l r p rights left steps is kept lent named condition same =
     let view : expression_view e ≡ math.binary (operator_view op) (math.paths steps) (expression_view r.value) =
     binary_is e op l r is ∙ (λ i. math.binary (operator_view op) ((ap expression_view (sym lent) ∙ named) i) (expression_view r.value)) in

@@ -4,7 +4,7 @@ use Rattle.std.specs.Borrow.{Bor}
 use Rattle.std.specs.Prelude.{codes, ◌&&◌, if◌then◌else◌, option_map}
 use Rattle.std.specs.Option.{option_zip}
 use Rattle.std.proofs.lemmas.List.{append-nil}
-use Rattle.jsonb.specs.PathText.{operator_text, sign_text, literal_text, is_joined, side_text, step_text, steps_text, expression_text}
+use Rattle.jsonb.specs.PathText.{operator_text, sign_text, literal_text, needs_parentheses, side_text, step_text, steps_text, expression_text}
 use Rattle.jsonb.specs.PathTree.{Step, filter, whole_expression, Steps, no_steps, step, Expression, paths, value, binary, unary, exists, steps_of}
 use Rattle.jsonb.specs.PathViews.{step_view, steps_view, expression_view}
 use Rattle.jsonb.specs.Private.Last.{but_last, last_step, is_filter, held_by, held_by_last, last_of, down, steps_down, step_down, step_before, last_before, steps_before, text_before, ends_in_filter, closing, is_same_opening, is_same_last, are_same_before, is_same_before}
@@ -106,7 +106,7 @@ mutual
   down_closes : (e : Expression) → Closes (down closing e)
   down_closes (paths ss) = closes_both _ _ (closes_once (ends_in_filter (last_step ss))) (steps_close ss)
   down_closes (value l) = refl
-  down_closes (binary op left right) = closes_both _ _ (closes_once (is_joined right)) (down_closes right)
+  down_closes (binary op left right) = closes_both _ _ (closes_once (needs_parentheses right)) (down_closes right)
   down_closes (unary op e) = down_closes e
   down_closes (exists ss) = closes_both _ _ (closes_twice (ends_in_filter (last_step ss))) (steps_close ss)
 
@@ -152,14 +152,14 @@ left_side false left operator a b c = between_only left (codes " ") operator (co
 
 sides : (left right : Expression) (operator b c : List ℕ) → expression_text right ≡ b ++ c → Closes c →
     side_text left (expression_text left) ++ codes " " ++ operator ++ codes " " ++ side_text right (expression_text right)
-    ≡ (if is_joined left then codes "(" else []) ++ expression_text left
-    ++ ((if is_joined left then codes ")" else []) ++ codes " " ++ operator ++ codes " ")
-    ++ (if is_joined right then codes "(" else []) ++ b ++ ((if is_joined right then codes ")" else []) ++ c)
+    ≡ (if needs_parentheses left then codes "(" else []) ++ expression_text left
+    ++ ((if needs_parentheses left then codes ")" else []) ++ codes " " ++ operator ++ codes " ")
+    ++ (if needs_parentheses right then codes "(" else []) ++ b ++ ((if needs_parentheses right then codes ")" else []) ++ c)
 sides left right operator b c h k =
     ap (λ x. side_text left (expression_text left) ++ codes " " ++ operator ++ codes " " ++ x)
-    (right_side (is_joined right) (expression_text right) b c h k)
-    ∙ left_side (is_joined left) (expression_text left) operator (if is_joined right then codes "(" else []) b
-    ((if is_joined right then codes ")" else []) ++ c)
+    (right_side (needs_parentheses right) (expression_text right) b c h k)
+    ∙ left_side (needs_parentheses left) (expression_text left) operator (if needs_parentheses right then codes "(" else []) b
+    ((if needs_parentheses right then codes ")" else []) ++ c)
 
 fronts : (front a b c : List ℕ) → front ++ (a ++ b) ++ c ≡ front ++ a ++ b ++ c
 fronts front a b c = ap (λ x. x ++ c) (sym (append_assoc front a b))

@@ -3,7 +3,7 @@ use Rattle.std.proofs.Common.{◌≡◌, ◌⊎◌, ℕ, ◌+◌, min, Bool, tru
 use Rattle.std.specs.Prelude.{nat_le}
 use Rattle.jsonb_doc.specs.Tree.{Tree}
 use Rattle.jsonb.specs.PathTree.{Levels}
-use Rattle.jsonb.specs.Preorder.{answer_at, own, preorder}
+use Rattle.jsonb.specs.Preorder.{answer_at, taken_item, preorder}
 use Rattle.jsonb.specs.Private.Below.{AreLevelsOf, is_shut}
 use Rattle.jsonb.specs.declared.selector.levels.LevelRange.{LevelRange}
 use Rattle.jsonb.proofs.LevelLemmas.{preorder-left, preorder-shut}
@@ -15,7 +15,7 @@ range_taken levels range at n is_taken ranged place is = is ∙ ap (λ k. nat_le
 
 -- nothing below is taken
 pub preorder-passed : (levels : Option Levels) (n : ℕ) (t : Tree) → ((answer_at levels n).1 ≡ false) ⊎ (is_shut levels (n + 1) ≡ true)
-    → preorder levels n t ≡ own levels n t
+    → preorder levels n t ≡ taken_item levels n t
 preorder-passed levels n t passed = elim passed [
   | inl left ↦ preorder-left levels n t left
   | inr shut ↦ preorder-shut levels n t shut

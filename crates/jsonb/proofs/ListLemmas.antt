@@ -16,7 +16,7 @@ use Rattle.jsonb.specs.Meaning.{step_meaning, steps_meaning, truth, operand_valu
 use Rattle.jsonb.specs.Private.Compared.{IsMemberCompared, IsListCompared, items_truth}
 use Rattle.jsonb.specs.Private.Kept.{is_comparison}
 use Rattle.jsonb.specs.Private.Members.{are_members}
-use Rattle.jsonb.specs.Private.Selection.{atom_value, taken_step}
+use Rattle.jsonb.specs.Private.Selection.{value_view, taken_step}
 use Rattle.jsonb.specs.declared.selector.compared_items.MemberCompared.{MemberCompared}
 use Rattle.jsonb.specs.declared.selector.compared_lists.ListCompared.{ListCompared}
 use Rattle.jsonb.specs.declared.selector.document.Expressions.TheVariants.{AreRefused}
@@ -99,12 +99,12 @@ is_not_false None h is = cc
 module _ (c : MemberCompared) where
   -- the truths of the values of items
   abbrev truths : List Tree → List Truth
-  truths ts = flat_map (λ l. map (λ r. pair_truth (operator_view c.op) l r) (atom_value c.literal ∷ [])) (flat_map values_of_item ts)
+  truths ts = flat_map (λ l. map (λ r. pair_truth (operator_view c.op) l r) (value_view c.literal ∷ [])) (flat_map values_of_item ts)
 
   truths-append : (fs bs : List Tree) → truths (fs ++ bs) ≡ truths fs ++ truths bs
   truths-append fs bs =
-      ap (flat_map (λ l. map (λ r. pair_truth (operator_view c.op) l r) (atom_value c.literal ∷ []))) (flat_map-append values_of_item fs bs)
-      ∙ flat_map-append (λ l. map (λ r. pair_truth (operator_view c.op) l r) (atom_value c.literal ∷ [])) (flat_map values_of_item fs)
+      ap (flat_map (λ l. map (λ r. pair_truth (operator_view c.op) l r) (value_view c.literal ∷ []))) (flat_map-append values_of_item fs bs)
+      ∙ flat_map-append (λ l. map (λ r. pair_truth (operator_view c.op) l r) (value_view c.literal ∷ [])) (flat_map values_of_item fs)
       (flat_map values_of_item bs)
 
   ok_is : (x y : Truth) (o : Outcome Truth) → o ≡ Ok x → o ≡ Ok y → x ≡ y

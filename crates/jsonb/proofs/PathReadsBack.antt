@@ -2,7 +2,7 @@
 use Rattle.std.proofs.Common.{◌≡◌, ℕ, ◌+◌, ◌<◌, List, [], ◌∷◌, ◌++◌, length, Bool, true, false, Some, None, refl, sym, ◌∙◌, ap, subst, arith, length-append, add-one, ◌⊎◌, inl, inr}
 use Rattle.std.specs.Prelude.{◌==◌, flat_map, map}
 use Rattle.std.proofs.lemmas.Bool.Decides.{nat_tests, Decides-eqb}
-use Rattle.jsonb_keypath.specs.Each.{Each}
+use Rattle.std.specs.List.{AllByRecursion}
 use Rattle.jsonb_keypath.specs.Rules.{Parsed, Rule, ◌</>◌, parsed_map, literal, repeat, all_consuming}
 use Rattle.jsonb_keypath.specs.Tokens.{ws, past, is_space, is_stop, name}
 use Rattle.jsonb_keypath.proofs.ReadBackLemmas.{front, front-stops, front-implies, begins, begins-excludes, stops-from_begins, is_sign}
@@ -93,12 +93,12 @@ no_atom nested f input no_space h =
 
 -- ---- a path that begins with the root
 
-begins-steps : (ss : List Step) → Each IsPathStep ss → front is_step_start (flat_map step_text ss) ≡ true
+begins-steps : (ss : List Step) → AllByRecursion IsPathStep ss → front is_step_start (flat_map step_text ss) ≡ true
 begins-steps [] are = refl
 begins-steps (s ∷ ss) are = front-from_begins is_step_start is_step_start
     (λ b h. h) (step_text s ++ flat_map step_text ss) (begins-step s (flat_map step_text ss) are.0)
 
-no_space-steps : (ss : List Step) → Each IsPathStep ss → past is_space (flat_map step_text ss) ≡ flat_map step_text ss
+no_space-steps : (ss : List Step) → AllByRecursion IsPathStep ss → past is_space (flat_map step_text ss) ≡ flat_map step_text ss
 no_space-steps ss are = past-none is_space (flat_map step_text ss) (front-stops is_step_start is_space step_start_is_no_space
     (flat_map step_text ss) (begins-steps ss are))
 
@@ -128,7 +128,7 @@ question_is_no_inner b h = grind (arith, nat_tests)
 question_is_no_space : (b : ℕ) → is_question b ≡ true → is_space b ≡ false
 question_is_no_space b h = grind (arith, nat_tests)
 
-leading : (ss : List Step) → Each IsPathStep ss → Leading (flat_map step_text ss)
+leading : (ss : List Step) → AllByRecursion IsPathStep ss → Leading (flat_map step_text ss)
 leading [] are = record { found = []; after = []; reads = repeat-ends spaced_inner [] (spaced_inner-none [] refl); ends = refl }
 leading (s ∷ ss) are = go (leading ss are.1) (inner_or_filter s (flat_map step_text ss) are.0) where
   tail : List ℕ
@@ -190,7 +190,7 @@ no_atom-path nested input l =
 
 -- ---- the steps
 
-path_step-text : (s : Step) (ss : List Step) → IsPathStep s → Each IsPathStep ss →
+path_step-text : (s : Step) (ss : List Step) → IsPathStep s → AllByRecursion IsPathStep ss →
     path_step (step_text s ++ flat_map step_text ss) ≡ Some (settled_step s, flat_map step_text ss)
 unfolding path_step
 path_step-text s ss is are =
@@ -203,7 +203,7 @@ path_step-end : path_step [] ≡ None
 unfolding path_step
 path_step-end = no_step (nested_or (length {A = ℕ} [] + 1)) [] refl
 
-path_steps-text : (ss : List Step) → Each IsPathStep ss → repeat path_step (flat_map step_text ss) ≡ Some (map settled_step ss, [])
+path_steps-text : (ss : List Step) → AllByRecursion IsPathStep ss → repeat path_step (flat_map step_text ss) ≡ Some (map settled_step ss, [])
 path_steps-text [] are = repeat-ends path_step [] path_step-end
 path_steps-text (s ∷ ss) are =
     let some : 0 < length (step_text s) = begins-some is_step_start (step_text s) (begins-step s [] are.0) in
@@ -211,7 +211,7 @@ path_steps-text (s ∷ ss) are =
     (path_step-text s ss are.0 are.1) (omega (arith, length-append (step_text s) (flat_map step_text ss)))
     ∙ ap (parsed_map (λ (others : List Step). settled_step s ∷ others)) (path_steps-text ss are.1)
 
-plain_path-root : (ss : List Step) → Each IsPathStep ss → plain_path (36 ∷ flat_map step_text ss) ≡ Some (root ∷ map settled_step ss, [])
+plain_path-root : (ss : List Step) → AllByRecursion IsPathStep ss → plain_path (36 ∷ flat_map step_text ss) ≡ Some (root ∷ map settled_step ss, [])
 unfolding plain_path front_steps first_step
 plain_path-root ss are = rw (path_steps-text ss are) refl
 
@@ -232,13 +232,13 @@ no_first_step input h =
     no_dollar [] h = refl
     no_dollar (b ∷ rest) h = let other : (36 == b) ≡ false = grind (arith, nat_tests) in rw other refl
 
-plain_path-steps : (ss : List Step) → Each IsPathStep ss → plain_path (flat_map step_text ss) ≡ Some (map settled_step ss, [])
+plain_path-steps : (ss : List Step) → AllByRecursion IsPathStep ss → plain_path (flat_map step_text ss) ≡ Some (map settled_step ss, [])
 unfolding plain_path front_steps
 plain_path-steps ss are = rw (no_first_step (flat_map step_text ss) (begins-steps ss are), path_steps-text ss are) refl
 
 -- ---- whole texts
 
-path-of_root : (ss : List Step) → Each IsPathStep ss → json_path (path_text (root ∷ ss)) ≡ Some (root ∷ map settled_step ss)
+path-of_root : (ss : List Step) → AllByRecursion IsPathStep ss → json_path (path_text (root ∷ ss)) ≡ Some (root ∷ map settled_step ss)
 path-of_root ss are =
     whole_path (36 ∷ flat_map step_text ss) (root ∷ map settled_step ss) refl
     (rw (
@@ -250,7 +250,7 @@ path-of_root ss are =
 step_start_is_no_condition : (b : ℕ) → is_step_start b ≡ true → is_condition_start b ≡ false
 step_start_is_no_condition b h = grind (arith, nat_tests)
 
-path-of_steps : (ss : List Step) → Each IsPathStep ss → json_path (path_text ss) ≡ Some (map settled_step ss)
+path-of_steps : (ss : List Step) → AllByRecursion IsPathStep ss → json_path (path_text ss) ≡ Some (map settled_step ss)
 path-of_steps ss are =
     let input = flat_map step_text ss in
     let no_space = no_space-steps ss are in

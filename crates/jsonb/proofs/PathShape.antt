@@ -1,7 +1,7 @@
 -- The paths that the grammar makes.
 use Rattle.std.proofs.Common.{◌≡◌, ◌<◌, ◌^◌, List, [], ◌∷◌, length, Bool, true, false, Option, Some, None, ◌⊎◌}
 use Rattle.std.specs.Prelude.{⊤, ℤ, nat_lt, MatchBool}
-use Rattle.jsonb_keypath.specs.Each.{Each}
+use Rattle.std.specs.List.{AllByRecursion}
 use Rattle.jsonb_keypath.specs.Tokens.{is_within}
 use Rattle.jsonb_keypath.proofs.YieldsLemmas.{IsName}
 use Rattle.jsonb.specs.PathTree.{Place, from_front, from_last, Entry, single, slice, LevelEnd, level, last_level, Levels, Literal, unsigned, signed, decimal64, decimal128, string, raw, Step, root, current, dot_wildcard, recursive_dot_wildcard, bracket_wildcard, dot_field, colon_field, object_field, array_indices, filter, whole_expression, Steps, no_steps, step, Expression, paths, value, binary, unary, exists}
@@ -45,7 +45,7 @@ IsInner bracket_wildcard = ⊤
 IsInner (dot_field name) = IsName name
 IsInner (colon_field name) = IsName name
 IsInner (object_field name) = IsName name
-IsInner (array_indices entries) = (0 < length entries) × Each IsEntry entries
+IsInner (array_indices entries) = (0 < length entries) × AllByRecursion IsEntry entries
 IsInner _ = ⊥
 
 abbrev pub AreInner : Steps → Type 0
@@ -100,4 +100,4 @@ abbrev mutual
 -- a whole path
 abbrev pub IsPath : List Step → Type 0
 IsPath p = ((e : Expression) × (p ≡ whole_expression e ∷ []) × IsCondition false e) ⊎ (((ss : List Step) ×
-    (p ≡ root ∷ ss) × Each IsPathStep ss) ⊎ Each IsPathStep p)
+    (p ≡ root ∷ ss) × AllByRecursion IsPathStep ss) ⊎ AllByRecursion IsPathStep p)

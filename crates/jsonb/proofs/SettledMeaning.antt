@@ -15,8 +15,8 @@ use Rattle.jsonb.specs.PathTree.{Literal, BinaryOp, and_op, or_op, eq, not_eq, l
 use Rattle.jsonb.specs.PathLaws.{settled_literal, settled_step, settled_steps, settled, ReadsBack}
 use Rattle.jsonb.specs.PathGrammar.{json_path}
 use Rattle.std.specs.List.{AllZip}
-use Rattle.jsonb.specs.Values.{Value, null, boolean, number, text, raw, literal_item, values_of_literal}
-use Rattle.jsonb.specs.Compare.{Truth, value_order, starts_with_truth, is_raw, pair_truth, first_decisive, compare}
+use Rattle.jsonb.specs.Values.{Value, null, boolean, number, text, container, literal_item, values_of_literal}
+use Rattle.jsonb.specs.Compare.{Truth, value_order, starts_with_truth, is_container, pair_truth, first_decisive, compare}
 use Rattle.jsonb.specs.PathArithmetic.{operation, all_numbers, two_numbers, signed_number, each_signed}
 use Rattle.jsonb.specs.Meaning.{start, step_meaning, steps_meaning, operand_values, truth, calculation, binary_meaning, literal_list, expression_meaning, as_filter, meaning, truth_list, item_truth, list_truth, expression_predicate, predicate}
 use Rattle.jsonb.specs.SelectorLaws.{SameByValue, VariantsChangeNoMeaning, PrintsWithMeaning}
@@ -39,7 +39,7 @@ settled_value null = null
 settled_value (boolean b) = boolean b
 settled_value (number n) = number (settled_number n)
 settled_value (text bs) = text bs
-settled_value raw = raw
+settled_value container = container
 
 abbrev mutual
   settled_tree : Tree → Tree
@@ -70,7 +70,7 @@ order-settled null null = refl
 order-settled (boolean a) (boolean b) = refl
 order-settled (number m) (number n) = refl
 order-settled (text a) (text b) = refl
-order-settled raw raw = refl
+order-settled container container = refl
 order-settled _ _ = refl
 
 starts_with_truth-settled : (v w : Value) → starts_with_truth (settled_value v) (settled_value w) ≡ starts_with_truth v w
@@ -78,16 +78,16 @@ starts_with_truth-settled null null = refl
 starts_with_truth-settled (boolean a) (boolean b) = refl
 starts_with_truth-settled (number m) (number n) = refl
 starts_with_truth-settled (text a) (text b) = refl
-starts_with_truth-settled raw raw = refl
+starts_with_truth-settled container container = refl
 starts_with_truth-settled _ _ = refl
 
-raw-settled : (v : Value) → is_raw (settled_value v) ≡ is_raw v
-raw-settled null = refl
-raw-settled _ = refl
+container-settled : (v : Value) → is_container (settled_value v) ≡ is_container v
+container-settled null = refl
+container-settled _ = refl
 
 pair-settled : (op : BinaryOp) (v w : Value) → pair_truth op (settled_value v) (settled_value w) ≡ pair_truth op v w
 pair-settled starts_with_op v w = starts_with_truth-settled v w
-pair-settled _ v w = rw (raw-settled v, raw-settled w, order-settled v w) refl
+pair-settled _ v w = rw (container-settled v, container-settled w, order-settled v w) refl
 
 row-settled : (op : BinaryOp) (v : Value) (ws : List Value)
     → map (λ w. pair_truth op (settled_value v) w) (map settled_value ws) ≡ map (λ w. pair_truth op v w) ws
@@ -231,7 +231,7 @@ numbers-settled [] = refl
 numbers-settled (null ∷ vs) = refl
 numbers-settled (boolean b ∷ vs) = refl
 numbers-settled (text bs ∷ vs) = refl
-numbers-settled (raw ∷ vs) = refl
+numbers-settled (container ∷ vs) = refl
 numbers-settled (number n ∷ vs) = rw (numbers-settled vs) (go (all_numbers vs)) where
   go : (o : Outcome (List Number))
       → and_then (and_then o (λ ns. Ok (map settled_number ns))) (λ ns. Ok (settled_number n ∷ ns))

@@ -7,7 +7,7 @@ use Rattle.std.specs.declared.cmp.Ordering.{Ordering}
 use Rattle.std.specs.declared.cmp.Ordering.TheVariants.{Equal}
 use Rattle.jsonb_doc.specs.Number.{number_cmp}
 use Rattle.jsonb.specs.PathTree.{BinaryOp, eq, not_eq, lt, lte, gt, gte, starts_with_op}
-use Rattle.jsonb.specs.Values.{Value, null, boolean, number, text, raw}
+use Rattle.jsonb.specs.Values.{Value, null, boolean, number, text, container}
 
 -- true, false, or none for unknown
 abbrev pub Truth : Type 0
@@ -42,14 +42,14 @@ abbrev pub starts_with_truth : Value → Value → Truth
 starts_with_truth (text a) (text b) = Some (starts_with nat_eq a b)
 starts_with_truth _ _ = None
 
-abbrev pub is_raw : Value → Bool
-is_raw raw = true
-is_raw _ = false
+abbrev pub is_container : Value → Bool
+is_container container = true
+is_container _ = false
 
 -- of one pair: with a container it is unknown
 abbrev pub pair_truth : BinaryOp → Value → Value → Truth
 pair_truth starts_with_op a b = starts_with_truth a b
-pair_truth op a b = if is_raw a || is_raw b then None else truth_of_order op (value_order a b)
+pair_truth op a b = if is_container a || is_container b then None else truth_of_order op (value_order a b)
 
 -- the first that is true or unknown decides; where none is, it is false
 abbrev pub first_decisive : List Truth → Truth

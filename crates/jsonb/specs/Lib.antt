@@ -30,7 +30,6 @@ pub use Rattle.jsonb_doc.specs.Answer
 pub use Rattle.jsonb_doc.specs.declared.value.Value as DecodedValue
 pub use Rattle.jsonb_doc.specs.Value as ValueTree
 pub use Rattle.jsonb_keypath.specs.declared.key_path.KeyPaths
-pub use Rattle.jsonb_keypath.specs.Each
 pub use Rattle.jsonb_keypath.specs.KeyPathGrammar
 pub use Rattle.jsonb_keypath.specs.KeyPathText
 pub use Rattle.jsonb_keypath.specs.KeyPathViews

@@ -12,8 +12,8 @@ in_any_case text =
     λ input.
     if str_eq_ignore_ascii_case (take (length text) input) text then Some (tt, drop (length text) input) else None
 
-abbrev pub word : String → Rule (Unit {0})
-word text = in_any_case (codes text)
+abbrev pub keyword : String → Rule (Unit {0})
+keyword text = in_any_case (codes text)
 
 -- white space around the rule
 abbrev pub spaced : {A : Type 0} → Rule A → Rule A
@@ -32,7 +32,7 @@ negated z = if is_within (2 ^ 31) (neg_ℤ z) then neg_ℤ z else pos (214748364
 -- `last`, this sign, and a number
 abbrev pub last_and : String → Rule ℤ
 last_and sign = do
-  word "last"
+  keyword "last"
   ws
   literal sign
   ws
@@ -43,14 +43,14 @@ place =
     (int32 >>= λ i. give (from_front i))
     </> (last_and "-" >>= λ i. give (from_last (negated i)))
     </> (last_and "+" >>= λ i. give (from_last i))
-    </> (word "last" >> give (from_last (pos 0)))
+    </> (keyword "last" >> give (from_last (pos 0)))
 
 unfoldable pub entry : Rule Entry
 entry =
     (do
       first ← place
       ws
-      word "to"
+      keyword "to"
       ws
       last ← place
       give (slice first last))
@@ -63,7 +63,7 @@ levels =
       ws
       start ← nat8
       ws
-      word "to"
+      keyword "to"
       ws
       end ← nat8
       ws
@@ -74,9 +74,9 @@ levels =
       ws
       start ← nat8
       ws
-      word "to"
+      keyword "to"
       ws
-      word "last"
+      keyword "last"
       ws
       literal "}"
       give (record { start = start; end = Some last_level }))

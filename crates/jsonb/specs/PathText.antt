@@ -78,13 +78,13 @@ joins and_op = true
 joins or_op = true
 joins _ = false
 
-abbrev pub is_joined : Expression → Bool
-is_joined (binary op left right) = joins op
-is_joined _ = false
+abbrev pub needs_parentheses : Expression → Bool
+needs_parentheses (binary op left right) = joins op
+needs_parentheses _ = false
 
 -- the text of a side of a binary expression: joined conditions stand in parentheses
 abbrev pub side_text : Expression → List ℕ → List ℕ
-side_text e text = if is_joined e then codes "(" ++ text ++ codes ")" else text
+side_text e text = if needs_parentheses e then codes "(" ++ text ++ codes ")" else text
 
 abbrev mutual
   pub step_text : Step → List ℕ

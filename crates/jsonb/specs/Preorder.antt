@@ -10,17 +10,17 @@ answer_at (Some levels) n = level_answer levels n
 answer_at None n = (true, true)
 
 -- the item itself, where its level is taken
-abbrev pub own : Option Levels → ℕ → Tree → List Tree
-own levels n t = if (answer_at levels n).0 then t ∷ [] else []
+abbrev pub taken_item : Option Levels → ℕ → Tree → List Tree
+taken_item levels n t = if (answer_at levels n).0 then t ∷ [] else []
 
 -- the items from this one down, each before its children
 abbrev mutual
   pub preorder : Option Levels → ℕ → Tree → List Tree
   preorder levels n (array ts) =
-      own levels n (array ts) ++ (if (answer_at levels n).1 then preorder_elements levels (n + 1) ts else [])
+      taken_item levels n (array ts) ++ (if (answer_at levels n).1 then preorder_elements levels (n + 1) ts else [])
   preorder levels n (object ps) =
-      own levels n (object ps) ++ (if (answer_at levels n).1 then preorder_values levels (n + 1) ps else [])
-  preorder levels n t = own levels n t
+      taken_item levels n (object ps) ++ (if (answer_at levels n).1 then preorder_values levels (n + 1) ps else [])
+  preorder levels n t = taken_item levels n t
 
   pub preorder_elements : Option Levels → ℕ → Trees → List Tree
   preorder_elements levels n no_trees = []

@@ -13,7 +13,7 @@ pub data Value : Type 0 where
   boolean : Bool → Value
   number : Number → Value
   text : List ℕ → Value
-  raw : Value
+  container : Value
 
 -- the value of an item that is no array, and of an element; an extension gives none
 abbrev pub value_of_item : Tree → List Value
@@ -22,8 +22,8 @@ value_of_item (tree.boolean b) = boolean b ∷ []
 value_of_item (tree.number n) = number n ∷ []
 value_of_item (tree.text bytes) = text bytes ∷ []
 value_of_item (tree.extension x) = []
-value_of_item (tree.array ts) = raw ∷ []
-value_of_item (tree.object ps) = raw ∷ []
+value_of_item (tree.array ts) = container ∷ []
+value_of_item (tree.object ps) = container ∷ []
 
 -- the values of an item: an array gives those of its elements
 abbrev pub values_of_item : Tree → List Value
@@ -44,4 +44,4 @@ literal_item (path.raw document) = None
 -- a literal has one value
 abbrev pub values_of_literal : Option Tree → List Value
 values_of_literal (Some item) = value_of_item item
-values_of_literal None = raw ∷ []
+values_of_literal None = container ∷ []

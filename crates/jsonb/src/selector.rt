@@ -17,7 +17,7 @@ ghost use Rattle.jsonb.specs.Private.Selection.{AreSelected, IsSelectionOf, HasT
 ghost use Rattle.jsonb_raw.specs.Documents.{raw_bytes};
 ghost use Rattle.jsonb.specs.declared.selector.document.Document.{Document};
 
-mod atom;
+mod operand_value;
 mod by_path;
 mod calculate;
 mod children;

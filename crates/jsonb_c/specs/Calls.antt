@@ -16,7 +16,7 @@ use Rattle.jsonb.specs.KeyPathGrammar.{Key}
 use Rattle.jsonb_raw.specs.Places.{index_position, tree_at_steps}
 use Rattle.jsonb_doc.specs.Depth.{deepest}
 use Rattle.jsonb_raw.specs.EqualityKey.{equality_key}
-use Rattle.jsonb_raw.specs.SortableKey.{key, depths}
+use Rattle.jsonb_raw.specs.SortableKey.{sortable_key, depths}
 use Rattle.jsonb.specs.Compare.{Truth}
 use Rattle.jsonb.specs.Meaning.{meaning}
 use Rattle.jsonb.specs.PathTree.{Step}
@@ -126,7 +126,7 @@ width_of false = w8
 
 -- the key of the document's tree; the refusal is that an item lies too deep for a key
 abbrev pub IsSortableKey : Width → Tree → Result (List ℕ) Error → Type 0
-IsSortableKey w t (Ok bytes) = (bytes ≡ key w t 0) × (deepest t < depths w)
+IsSortableKey w t (Ok bytes) = (bytes ≡ sortable_key w t 0) × (deepest t < depths w)
 IsSortableKey w t (Err e) = (e ≡ OutOfMemory) ⊎ ((e ≡ TooDeep) × (depths w ≤ deepest t))
 
 abbrev pub IsSortableKeyOf : Width → List ℕ → Result (List ℕ) Error → Type 0

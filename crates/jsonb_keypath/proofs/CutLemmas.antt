@@ -6,7 +6,7 @@ use Rattle.std.specs.Str.{is_utf8}
 use Rattle.std.proofs.lemmas.List.{length-drop}
 use Rattle.std.proofs.lemmas.Bool.Decides.{nat_tests}
 use Rattle.jsonb_keypath.specs.Rules.{Parsed, Rule, give, ◌>>◌, only_if, literal, bytes, repeat}
-use Rattle.jsonb_keypath.specs.Tokens.{unit, units, text, name, quoted, escape, escaped, numbered, code_unit, four_hex, hex_digit, byte_as, unescaped, is_stop, is_quote, is_high_surrogate, is_low_surrogate, surrogate_pair, ahead}
+use Rattle.jsonb_keypath.specs.Tokens.{unit, units, text, name, quoted, escape, escaped, unicode_escape, code_unit, four_hex_digits, hex_digit, byte_as, unescaped, is_stop, is_quote, is_high_surrogate, is_low_surrogate, surrogate_pair, ahead}
 use Rattle.jsonb_keypath.specs.TokenLaws.{ReadsSome, IsRepeated, IsRun, IsText, is_at, IsName, IsQuoted}
 use Rattle.jsonb_keypath.proofs.TextLemmas.{unit-byte, unit-end}
 use Rattle.jsonb_keypath.proofs.ReadsLemmas.{NeverGrows, parts, given, passed, some-no_more, grows-give, grows-then, some-then, some-choice, grows-choice, grows-only_if, repeat-repeated, repeated-repeat}
@@ -38,9 +38,9 @@ grows-if : {A : Type 0} (test : Bool) (first second : Rule A) → NeverGrows fir
 grows-if true first second h k = h
 grows-if false first second h k = k
 
-some-four_hex : ReadsSome four_hex
-unfolding four_hex
-some-four_hex =
+some-four_hex_digits : ReadsSome four_hex_digits
+unfolding four_hex_digits
+some-four_hex_digits =
     some-then (byte_as hex_digit) _ (some-byte_as hex_digit) (λ a. grows-then (byte_as hex_digit) _ (some-no_more (byte_as hex_digit) (some-byte_as hex_digit))
     (λ b. grows-then (byte_as hex_digit) _ (some-no_more (byte_as hex_digit) (some-byte_as hex_digit)) (λ c.
     grows-then (byte_as hex_digit) _ (some-no_more (byte_as hex_digit) (some-byte_as hex_digit)) (λ d. grows-give (((a * 16 + b) * 16 + c) * 16 + d)))))
@@ -48,14 +48,15 @@ some-four_hex =
 some-code_unit : ReadsSome code_unit
 unfolding code_unit
 some-code_unit =
-    some-then (literal "\\u") _ (some-literal 92 (117 ∷ [])) (λ _. grows-choice _ four_hex
-    (grows-then (literal "{") _ (some-no_more (literal "{") (some-literal 123 [])) (λ _. grows-then four_hex _ (some-no_more four_hex some-four_hex) (λ n.
+    some-then (literal "\\u") _ (some-literal 92 (117 ∷ [])) (λ _. grows-choice _ four_hex_digits
+    (grows-then (literal "{") _ (some-no_more (literal "{") (some-literal 123 [])) (λ _. grows-then four_hex_digits _
+    (some-no_more four_hex_digits some-four_hex_digits) (λ n.
     grows-then (literal "}") _ (some-no_more (literal "}") (some-literal 125 [])) (λ _. grows-give n))))
-    (some-no_more four_hex some-four_hex))
+    (some-no_more four_hex_digits some-four_hex_digits))
 
-some-numbered : ReadsSome numbered
-unfolding numbered
-some-numbered =
+some-unicode_escape : ReadsSome unicode_escape
+unfolding unicode_escape
+some-unicode_escape =
     some-then code_unit _ some-code_unit (λ n. grows-if (is_high_surrogate n) _ _
     (grows-then code_unit _ (some-no_more code_unit some-code_unit)
     (λ low. grows-then (only_if (is_low_surrogate low)) _ (grows-only_if (is_low_surrogate low)) (λ _. grows-give (surrogate_pair n low))))
@@ -64,7 +65,8 @@ some-numbered =
 some-escape : ReadsSome escape
 unfolding escape
 some-escape =
-    some-choice _ numbered (some-then (literal "\\") _ (some-literal 92 []) (λ _. some-no_more (byte_as escaped) (some-byte_as escaped))) some-numbered
+    some-choice _ unicode_escape (some-then (literal "\\") _ (some-literal 92 []) (λ _. some-no_more (byte_as escaped) (some-byte_as escaped)))
+    some-unicode_escape
 
 pub some-unit : (e : ℕ → Bool) → ReadsSome (unit e)
 unfolding unit

@@ -2,11 +2,10 @@
 use Rattle.std.proofs.Common.{◌≡◌, ℕ, ◌<◌, List, [], ◌∷◌, length, true, Some, refl, ◌∙◌, ap, arith}
 use Rattle.std.specs.Prelude.{map, not, zero, suc}
 use Rattle.std.specs.Char.{is_ascii_digit}
-use Rattle.std.specs.List.{list_all}
+use Rattle.std.specs.List.{AllByRecursion, list_all}
 use Rattle.std.specs.Str.{is_utf8, IsAscii}
 use Rattle.std.proofs.lemmas.Bool.Decides.{nat_tests}
 use Rattle.std.proofs.lemmas.Str.{is_utf8-from_IsUtf8, IsUtf8-from_ascii}
-use Rattle.jsonb_keypath.specs.Each.{Each}
 use Rattle.jsonb_keypath.specs.KeyPathGrammar.{Key, index, quoted_name, unquoted_name, key_path}
 use Rattle.jsonb_keypath.specs.KeyPathText.{is_word_byte, is_plain_name, key_path_text}
 use Rattle.jsonb_keypath.specs.KeyPathLaws.{IsPlainKey}
@@ -36,7 +35,7 @@ plain_is_readable (index i) is = is
 plain_is_readable (quoted_name text) is = (is.0, is.1)
 plain_is_readable (unquoted_name text) is = (plain_is_some text is, plain_is_utf8 text is)
 
-plain_are_readable : (keys : List Key) → Each IsPlainKey keys → Each IsReadable keys
+plain_are_readable : (keys : List Key) → AllByRecursion IsPlainKey keys → AllByRecursion IsReadable keys
 plain_are_readable [] are = tt
 plain_are_readable (k ∷ keys) are = (plain_is_readable k are.0, plain_are_readable keys are.1)
 
@@ -45,9 +44,9 @@ reread-plain (index i) is = refl
 reread-plain (quoted_name text) is = refl
 reread-plain (unquoted_name text) is = rw is refl
 
-map-reread : (keys : List Key) → Each IsPlainKey keys → map reread keys ≡ keys
+map-reread : (keys : List Key) → AllByRecursion IsPlainKey keys → map reread keys ≡ keys
 map-reread [] are = refl
 map-reread (k ∷ keys) are = rw (reread-plain k are.0, map-reread keys are.1) refl
 
-pub plain_reads_back : (keys : List Key) → Each IsPlainKey keys → key_path (key_path_text keys) ≡ Some keys
+pub plain_reads_back : (keys : List Key) → AllByRecursion IsPlainKey keys → key_path (key_path_text keys) ≡ Some keys
 plain_reads_back keys are = key_path-text keys (plain_are_readable keys are) ∙ ap (λ (found : List Key). Some found) (map-reread keys are)

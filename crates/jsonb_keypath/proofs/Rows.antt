@@ -5,7 +5,7 @@ use Rattle.std.specs.Fmt.{digits}
 use Rattle.std.specs.Str.{is_utf8, chars}
 use lib.Utf8.{encode}
 use Rattle.jsonb_keypath.specs.Rules.{Parsed, up_to, repeat}
-use Rattle.jsonb_keypath.specs.Tokens.{ws, natural, natural_below, sign, integer, integer_within, four_hex, code_unit, numbered, escape, unit, units, text, name, quoted}
+use Rattle.jsonb_keypath.specs.Tokens.{ws, natural, natural_below, sign, integer, integer_within, four_hex_digits, code_unit, unicode_escape, escape, unit, units, text, name, quoted}
 use Rattle.jsonb_keypath.specs.KeyPathGrammar.{Key, index, quoted_name, unquoted_name, key, spaced_key, some_keys, no_keys, key_path}
 use Rattle.jsonb_keypath.specs.KeyPathText.{key_path_text}
 use Rattle.jsonb_doc.proofs.Tables.{AreRows}
@@ -13,7 +13,7 @@ use Rattle.jsonb_doc.proofs.Tables.{AreRows}
 -- ---- reading; `unfolding read` opens all that it takes
 
 read : List ℕ → Option (List Key)
-unfolding key_path some_keys no_keys spaced_key key name quoted units text unit escape numbered code_unit four_hex natural natural_below sign integer integer_within ws repeat up_to is_utf8 chars encode
+unfolding key_path some_keys no_keys spaced_key key name quoted units text unit escape unicode_escape code_unit four_hex_digits natural natural_below sign integer integer_within ws repeat up_to is_utf8 chars encode
 read input = key_path input
 
 paths_read : AreRows read (
@@ -35,7 +35,7 @@ paths_read = refl
 -- ---- names
 
 name_at : List ℕ → Parsed (List ℕ)
-unfolding name units text unit escape numbered code_unit four_hex repeat up_to is_utf8 chars encode
+unfolding name units text unit escape unicode_escape code_unit four_hex_digits repeat up_to is_utf8 chars encode
 name_at input = name input
 
 names_read : AreRows name_at (

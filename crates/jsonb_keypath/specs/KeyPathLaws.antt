@@ -1,8 +1,7 @@
 -- What is promised of a key path that is printed and read again.
 use Rattle.std.specs.Prelude.{◌≡◌, ◌<◌, ◌^◌, true, List, length, Some}
-use Rattle.std.specs.List.{list_all, AllZip}
+use Rattle.std.specs.List.{AllByRecursion, list_all, AllZip}
 use Rattle.std.specs.Str.{is_utf8}
-use Rattle.jsonb_keypath.specs.Each.{Each}
 use Rattle.jsonb_keypath.specs.Tokens.{is_within}
 use Rattle.jsonb_keypath.specs.KeyPathGrammar.{Key, index, quoted_name, unquoted_name, key_path}
 use Rattle.jsonb_keypath.specs.KeyPathText.{is_plain_name, needs_no_escape, key_path_text}
@@ -32,4 +31,4 @@ IsPlainKey (unquoted_name text) = is_plain_name text ≡ true
 -- such key paths read back as they are
 abbrev pub PlainKeyPathsReadBack : Type 0
 PlainKeyPathsReadBack =
-    (keys : List Key) → Each IsPlainKey keys → key_path (key_path_text keys) ≡ Some keys
+    (keys : List Key) → AllByRecursion IsPlainKey keys → key_path (key_path_text keys) ≡ Some keys

@@ -5,6 +5,5 @@ pub mod KeyPathText
 pub mod Views
 pub mod KeyPathViews
 pub mod TokenLaws
-pub mod Each
 pub mod KeyPathLaws
 pub mod Private

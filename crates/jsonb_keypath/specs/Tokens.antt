@@ -95,8 +95,8 @@ abbrev pub hex_digit : ℕ → Option ℕ
 hex_digit b = if nat_lt (digit_value b) 16 then Some (digit_value b) else None
 
 -- four hexadecimal digits
-unfoldable pub four_hex : Rule ℕ
-four_hex = do
+unfoldable pub four_hex_digits : Rule ℕ
+four_hex_digits = do
   a ← byte_as hex_digit
   b ← byte_as hex_digit
   c ← byte_as hex_digit
@@ -109,9 +109,9 @@ code_unit = do
   literal "\\u"
   (do
     literal "{"
-    n ← four_hex
+    n ← four_hex_digits
     literal "}"
-    give n) </> four_hex
+    give n) </> four_hex_digits
 
 abbrev pub is_high_surrogate : ℕ → Bool
 is_high_surrogate n = nat_le 0xD800 n && nat_lt n 0xDC00
@@ -123,10 +123,10 @@ is_low_surrogate n = nat_le 0xDC00 n && nat_lt n 0xE000
 abbrev pub surrogate_pair : ℕ → ℕ → ℕ
 surrogate_pair high low = 0x10000 + (high - 0xD800) * 0x400 + (low - 0xDC00)
 
--- a character by its number; a high surrogate and a low one behind it are one character, and else a
+-- a character by its code units; a high surrogate and a low one behind it are one character, and else a
 -- surrogate fails
-unfoldable pub numbered : Rule ℕ
-numbered = do
+unfoldable pub unicode_escape : Rule ℕ
+unicode_escape = do
   n ← code_unit
   if is_high_surrogate n then (do
     low ← code_unit
@@ -137,7 +137,7 @@ numbered = do
 
 -- one escape, as the character that it stands for
 unfoldable pub escape : Rule ℕ
-escape = (literal "\\" >> byte_as escaped) </> numbered
+escape = (literal "\\" >> byte_as escaped) </> unicode_escape
 
 -- ---- texts
 

@@ -7,7 +7,7 @@ use native.Mathlib.Nat.{one-le-pow}
 use Rattle.jsonb_doc.specs.Proofs.Orderings.{nat_cmp-lt, nat_cmp-gt}
 use Rattle.jsonb_doc.specs.Tree.{Tree}
 use Rattle.jsonb_doc.specs.Order.{rank, tree_cmp}
-use Rattle.jsonb_raw.specs.SortableKey.{key, depths, item_bytes, IsRest}
+use Rattle.jsonb_raw.specs.SortableKey.{sortable_key, depths, item_bytes, IsRest}
 use Rattle.jsonb_raw.specs.KeyLaws.{HasKey}
 use Rattle.jsonb_raw.specs.CompositeKeys.{column_key, composite_key, CompositeKeysOrder}
 use Rattle.jsonb_raw.proofs.Ranking.{bytes_cmp}
@@ -44,14 +44,14 @@ above_nothing w column r =
     ap (λ x. bytes_cmp (x ++ r) []) i.2 ∙ ap (λ x. bytes_cmp x []) (append_assoc (to_be_bytes w 0) (i.0 ∷ i.1) r) ∙ nothing_above_depth w 0 (i.0 ∷ i.1 ++ r)
 
 -- a missing value beside one that is there
-missing_below : (w : Width) (u : Tree) (r s : List ℕ) → bytes_cmp (column_key w None ++ r) (key w u 0 ++ s) ≡ Less
+missing_below : (w : Width) (u : Tree) (r s : List ℕ) → bytes_cmp (column_key w None ++ r) (sortable_key w u 0 ++ s) ≡ Less
 missing_below w u r s =
     let i = key_is_item w u 0 in
     ap (λ x. bytes_cmp (column_key w None ++ r) (x ++ s)) i.1
     ∙ items_rank w 0 0 (rank u) [] i.0 r s (some_depth w)
     ∙ ap (λ o. ordering_then o (bytes_cmp r (i.0 ++ s))) (nat_cmp-lt 0 (rank u) (rank_positive u))
 
-above_missing : (w : Width) (t : Tree) (r s : List ℕ) → bytes_cmp (key w t 0 ++ r) (column_key w None ++ s) ≡ Greater
+above_missing : (w : Width) (t : Tree) (r s : List ℕ) → bytes_cmp (sortable_key w t 0 ++ r) (column_key w None ++ s) ≡ Greater
 above_missing w t r s =
     let i = key_is_item w t 0 in
     ap (λ x. bytes_cmp (x ++ r) (column_key w None ++ s)) i.1

@@ -151,7 +151,7 @@ keys_without (low ∷ []) key back h = (h.0, lower back h.2.1, h.2.2)
     lower (k ∷ ks) above = nat_list_cmp_total.trans low key k h.1 above
 keys_without (low ∷ next ∷ front) key back h = (h.0, h.1, keys_without (next ∷ front) key back h.2)
 
--- the keys and the values of an object as entries in a row
+-- the keys and the values of an object as entries
 key_words_are : (bytes head vw vc words contents : List ℕ) (ks : List (List ℕ)) (es : List EntryParts) → bytes ≡ head ++ (words ++ contents)
     → words ≡ key_words ks ++ vw → contents ≡ key_bytes ks ++ vc
     → vw ≡ words_of_entries es → vc ≡ contents_of_entries es
@@ -170,10 +170,10 @@ key_words_are bytes head vw vc words contents ks es is words_are contents_are va
     ) refl
 
 -- the same with other contents behind the keys
-row_of : (ks changed : List (List ℕ)) (front es : List EntryParts) → changed ≡ ks
+entries_of : (ks changed : List (List ℕ)) (front es : List EntryParts) → changed ≡ ks
     → words_of_entries ((key_entries ks ++ front) ++ es) ++ contents_of_entries ((key_entries ks ++ front) ++ es)
     ≡ (key_words changed ++ words_of_entries (front ++ es)) ++ (key_bytes changed ++ contents_of_entries (front ++ es))
-row_of ks changed front es same =
+entries_of ks changed front es same =
     rw (
       same,
       append_assoc (key_entries ks) front es,
@@ -184,7 +184,7 @@ row_of ks changed front es same =
       key-contents ks,
     ) refl
 
--- a key's entry and its value's in the row
+-- a key's entry and its value's
 module _ (bytes head : List ℕ) (kf kb ks : List (List ℕ)) (k : List ℕ) (vf vb : List EntryParts) (e : EntryParts) (key value : EntryPlace) (total : ℕ)
     (keys_are : ks ≡ kf ++ k ∷ kb) (four : length head ≡ 4)
     (is : bytes ≡ head ++ (words_of_entries (key_entries kf ++ (text_entry, k) ∷ ((key_entries kb ++ vf) ++ e ∷ vb))
@@ -257,12 +257,12 @@ module _ (bytes head : List ℕ) (kf kb ks : List (List ℕ)) (k : List ℕ) (vf
   value_end_at : value.end ≡ value.start + length e.1
   value_end_at = omega (arith, value_at.start, value_at.end)
 
-  left_row : (left : List (List ℕ)) → left ≡ kf ++ kb
+  entries_left : (left : List (List ℕ)) → left ≡ kf ++ kb
       → words_of_entries (key_entries kf)
       ++ (words_of_entries (key_entries kb ++ vf)
       ++ ((words_of_entries vb ++ contents_of_entries (key_entries kf)) ++ (contents_of_entries (key_entries kb ++ vf) ++ contents_of_entries vb)))
       ≡ (key_words left ++ words_of_entries (vf ++ vb)) ++ (key_bytes left ++ contents_of_entries (vf ++ vb))
-  left_row left left_is =
+  entries_left left left_is =
       rw (
         left_is,
         ← key-words (kf ++ kb),
@@ -282,7 +282,7 @@ module _ (bytes head : List ℕ) (kf kb ks : List (List ℕ)) (k : List ℕ) (vf
       both_left_out bytes head (words_of_entries (key_entries kf)) (entry_word text_entry (length k)) (words_of_entries (key_entries kb ++ vf))
       (entry_word e.0 (length e.1)) (words_of_entries vb) (contents_of_entries (key_entries kf)) k (contents_of_entries (key_entries kb ++ vf)) e.1
       (contents_of_entries vb) key value in_two four refl refl key_word_at value_word_at key_start_at key_end_at value_start_at value_end_at
-      ∙ left_row left left_is
+      ∙ entries_left left left_is
 
   pub pair_in_order : AreInOrder (Some key) value (length bytes)
   pair_in_order =
@@ -316,13 +316,13 @@ module _ (number_at : NumberReader) (ps : Pairs) (bytes : List ℕ)
   abbrev pub behind_key : List EntryParts
   behind_key = key_entries cut_keys.back ++ all_values.entries
 
-  in_a_row : bytes ≡ header object_header (length (keys ps))
+  entries_joined : bytes ≡ header object_header (length (keys ps))
       ++ (words_of_entries (key_entries (keys ps) ++ all_values.entries) ++ contents_of_entries (key_entries (keys ps) ++ all_values.entries))
-  in_a_row = key_words_are bytes (header object_header (length (keys ps))) h.parts.value_words h.parts.value_contents h.words h.contents
+  entries_joined = key_words_are bytes (header object_header (length (keys ps))) h.parts.value_words h.parts.value_contents h.words h.contents
       (keys ps) all_values.entries h.headed.joined h.parts.words_joined h.parts.contents_joined all_values.words_are all_values.contents_are
 
-  row_within : FitEntries (key_entries (keys ps) ++ all_values.entries)
-  row_within = within-both (key_entries (keys ps)) all_values.entries (key-within (keys ps) h.parts.are_keys) all_values.within
+  entries_within : FitEntries (key_entries (keys ps) ++ all_values.entries)
+  entries_within = within-both (key_entries (keys ps)) all_values.entries (key-within (keys ps) h.parts.are_keys) all_values.within
 
   by_value : key_entries (keys ps) ++ all_values.entries ≡ before_value ++ cut_values.entry ∷ cut_values.back
   by_value = ap (λ es. key_entries (keys ps) ++ es) cut_values.whole
@@ -353,18 +353,18 @@ module _ (number_at : NumberReader) (ps : Pairs) (bytes : List ℕ)
   value_held = record {
     head = header object_header (length (keys ps));
     four = refl;
-    within = subst FitEntries by_value row_within;
+    within = subst FitEntries by_value entries_within;
     joined = regrouped bytes
-        (header object_header (length (keys ps))) _ _ _ _ in_a_row refl refl by_value;
+        (header object_header (length (keys ps))) _ _ _ _ entries_joined refl refl by_value;
   }
 
   pub key_held : HoldEntries bytes (key_entries cut_keys.front ++ (text_entry, cut_keys.key) ∷ behind_key)
   key_held = record {
     head = header object_header (length (keys ps));
     four = refl;
-    within = subst FitEntries by_key row_within;
+    within = subst FitEntries by_key entries_within;
     joined = regrouped bytes
-        (header object_header (length (keys ps))) _ _ _ _ in_a_row refl refl by_key;
+        (header object_header (length (keys ps))) _ _ _ _ entries_joined refl refl by_key;
   }
 
   pub value_passed : length (keys ps) + n ≡ length before_value
@@ -389,11 +389,11 @@ module _ (number_at : NumberReader) (ps : Pairs) (bytes : List ℕ)
       ∷ ((key_entries cut_keys.back ++ cut_values.front) ++ cut_values.entry ∷ cut_values.back))
       ++ contents_of_entries (key_entries cut_keys.front ++ (text_entry, cut_keys.key)
       ∷ ((key_entries cut_keys.back ++ cut_values.front) ++ cut_values.entry ∷ cut_values.back)))
-  both_joined = regrouped bytes (header object_header (length (keys ps))) _ _ _ _ in_a_row refl refl by_both
+  both_joined = regrouped bytes (header object_header (length (keys ps))) _ _ _ _ entries_joined refl refl by_both
 
   value_joined : bytes ≡ header object_header (length (keys ps))
       ++ (words_of_entries (before_value ++ cut_values.entry ∷ cut_values.back) ++ contents_of_entries (before_value ++ cut_values.entry ∷ cut_values.back))
-  value_joined = regrouped bytes (header object_header (length (keys ps))) _ _ _ _ in_a_row refl refl by_value
+  value_joined = regrouped bytes (header object_header (length (keys ps))) _ _ _ _ entries_joined refl refl by_value
 
   pub member_of : (less : List ℕ) (key value : EntryPlace) → less ≡ header object_header (length (keys ps) - 1)
       → IsPlaceOf key (2 * length (keys ps)) (key_entries cut_keys.front) (text_entry, cut_keys.key)
@@ -471,7 +471,7 @@ module _ (number_at : NumberReader) (ps : Pairs) (bytes : List ℕ)
                   joined = content_replaced bytes (header object_header (length (keys ps))) before_value cut_values.back cut_values.entry value
                       (2 * length (keys ps)) value_joined refl value_total value_is content'
                       ∙ both _ _ _ _ (ap (λ ks. header object_header (length ks)) (sym keys_same))
-                      (row_of (keys ps) (keys (change_value n change ps)) cut_values.front ((container_entry, content') ∷ cut_values.back) keys_same);
+                      (entries_of (keys ps) (keys (change_value n change ps)) cut_values.front ((container_entry, content') ∷ cut_values.back) keys_same);
                 };
                 parts = record {
                   value_words = words_of_entries (cut_values.front ++ (container_entry, content') ∷ cut_values.back);

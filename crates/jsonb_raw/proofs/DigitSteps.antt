@@ -100,23 +100,23 @@ zero_passed n left others zeros most h some is zero_last =
       few = h.few;
     }
 
--- digits are written up to a place of the row: behind those that are left they are all digits
-pub record DigitsWritten (negative : Bool) (n end : ℕ) (row : List ℕ) (left at : ℕ) (now : List ℕ) : Type 0 where
+-- digits are written up to a place of the buffer: behind those that are left they are all digits
+pub record DigitsWritten (negative : Bool) (n end : ℕ) (buffer : List ℕ) (left at : ℕ) (now : List ℕ) : Type 0 where
   pub count : at + length (digits_of 10 n) ≡ end + length (digits_of 10 left)
   pub within : at ≤ length now
   pub written : complement_bytes negative (map suc (digits_of 10 left)) ++ drop at now
-      ≡ complement_bytes negative (map suc (digits_of 10 n)) ++ drop end row
-  pub len : length now ≡ length row
+      ≡ complement_bytes negative (map suc (digits_of 10 n)) ++ drop end buffer
+  pub len : length now ≡ length buffer
 
-module _ (negative : Bool) (n end : ℕ) (row : List ℕ) (left at : ℕ) (now : List ℕ) (h : DigitsWritten negative n end row left at now) where
+module _ (negative : Bool) (n end : ℕ) (buffer : List ℕ) (left at : ℕ) (now : List ℕ) (h : DigitsWritten negative n end buffer left at now) where
   -- there is room for one digit more
   pub room_left : length (digits_of 10 n) ≤ end → 0 < left → 0 < at
   room_left room some = let count = h.count in let step = count_step left some in omega arith
 
-  pub digit_passed : (others byte before : ℕ) (row' : List ℕ) → length (digits_of 10 n) ≤ end → 0 < left → others ≡ left / 10
-      → byte ≡ complement_byte negative (suc (left % 10)) → before + 1 ≡ at → WritesBefore now at (byte ∷ []) before row'
-      → DigitsWritten negative n end row others before row'
-  digit_passed others byte before row' room some is byte_is place more =
+  pub digit_passed : (others byte before : ℕ) (buffer' : List ℕ) → length (digits_of 10 n) ≤ end → 0 < left → others ≡ left / 10
+      → byte ≡ complement_byte negative (suc (left % 10)) → before + 1 ≡ at → WritesBefore now at (byte ∷ []) before buffer'
+      → DigitsWritten negative n end buffer others before buffer'
+  digit_passed others byte before buffer' room some is byte_is place more =
       let count = h.count in
       let step : length (digits_of 10 others) + 1 ≡ length (digits_of 10 left) = ap (λ k. length (digits_of 10 k) + 1) is ∙ count_step left some in
       record {
@@ -126,5 +126,5 @@ module _ (negative : Bool) (n end : ℕ) (row : List ℕ) (left at : ℕ) (now :
         len = more.1 ∙ h.len;
       }
 
-  pub all_digits : left ≡ 0 → drop at now ≡ complement_bytes negative (map suc (digits_of 10 n)) ++ drop end row
+  pub all_digits : left ≡ 0 → drop at now ≡ complement_bytes negative (map suc (digits_of 10 n)) ++ drop end buffer
   all_digits none = ap (λ ds. complement_bytes negative (map suc ds) ++ drop at now) (sym (no_digits left none)) ∙ h.written

@@ -5,7 +5,7 @@ use Rattle.jsonb_doc.specs.Payload.{Form, number_reader}
 use Rattle.jsonb_doc.specs.Format.{Decodes, IsContent, header, scalar_header, entry_word}
 use Rattle.jsonb_doc.specs.Limits.{IsTooLarge}
 use Rattle.jsonb_doc.proofs.EntryDocuments.{entry_decodes}
-use Rattle.jsonb_raw.proofs.RowLemmas.{too_long}
+use Rattle.jsonb_raw.proofs.JoinedEntries.{too_long}
 
 -- another entry behind a header is a document
 pub entry_is_document : (form : Form) (t : Tree) (kind : ℕ) (content : List ℕ) → IsContent (number_reader form) t kind content → kind ≢ 5 → kind < 8

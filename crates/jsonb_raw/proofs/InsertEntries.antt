@@ -21,9 +21,9 @@ use Rattle.jsonb_doc.proofs.TreeLists.{keys-pairs_of, keys_of-members}
 use Rattle.jsonb_doc.proofs.KindLemmas.{kind_known}
 use Rattle.jsonb_raw.specs.declared.functions.object.pair_parts.PairPlace.{PairPlace}
 use Rattle.jsonb_raw.specs.declared.functions.object.pair_parts.KeptEntries.{KeptEntries}
-use Rattle.jsonb_raw.specs.declared.functions.parts.RootEntry.{RootEntry}
+use Rattle.jsonb_doc.specs.declared.entry_iter.StoredEntry.{StoredEntry}
 use Rattle.jsonb_raw.specs.Private.Cuts.{FitEntries}
-use Rattle.jsonb_raw.specs.Private.Inserts.{IsPlaceAmong, IsCutAt, AreKept, word_row, content_row}
+use Rattle.jsonb_raw.specs.Private.Inserts.{IsPlaceAmong, IsCutAt, AreKept, inserted_words, inserted_contents}
 use Rattle.jsonb_raw.proofs.EntryLists.{words-append, contents-append, within-front, within-back, within-both, key_entries, key-words, key-contents, key-within, key-count, keys-append}
 use Rattle.jsonb_raw.proofs.InsertPlaces.{inserted_at, keys_at}
 
@@ -186,8 +186,8 @@ module _ (form : Form) (bytes : List ℕ) (ps : Pairs) (d : Decodes form bytes (
   between_count : length between ≡ length at.back + length at.front
   between_count = omega (arith, length-append (key_entries at.back) (values_of split.front), key-count at.back, length-values_of split.front, front_count)
 
-  row : key_entries (keys ps) ++ values_of held.entries ≡ before ++ (key_there ++ (between ++ (value_there ++ behind)))
-  row = rw (
+  entries_are : key_entries (keys ps) ++ values_of held.entries ≡ before ++ (key_there ++ (between ++ (value_there ++ behind)))
+  entries_are = rw (
     at.joined,
     split.joined,
     keys-append at.front (at.there ++ at.back),
@@ -198,12 +198,12 @@ module _ (form : Form) (bytes : List ℕ) (ps : Pairs) (d : Decodes form bytes (
   )
       (simp append_assoc)
 
-  row_within : FitEntries (key_entries (keys ps) ++ values_of held.entries)
-  row_within = within-both (key_entries (keys ps)) (values_of held.entries) (key-within (keys ps) container.parts.are_keys) held.within
+  entries_within : FitEntries (key_entries (keys ps) ++ values_of held.entries)
+  entries_within = within-both (key_entries (keys ps)) (values_of held.entries) (key-within (keys ps) container.parts.are_keys) held.within
 
-  row_bytes : bytes ≡ header object_header (length (keys ps))
+  entry_bytes : bytes ≡ header object_header (length (keys ps))
       ++ (words_of_entries (key_entries (keys ps) ++ values_of held.entries) ++ contents_of_entries (key_entries (keys ps) ++ values_of held.entries))
-  row_bytes = container.headed.joined ∙ rw (
+  entry_bytes = container.headed.joined ∙ rw (
     container.parts.words_joined,
     container.parts.contents_joined,
     held.words_are,
@@ -216,15 +216,15 @@ module _ (form : Form) (bytes : List ℕ) (ps : Pairs) (d : Decodes form bytes (
 
   cut_bytes : (es : List EntryParts) (n : ℕ) → key_entries (keys ps) ++ values_of held.entries ≡ es → length (keys ps) ≡ n
       → bytes ≡ header object_header n ++ (words_of_entries es ++ contents_of_entries es)
-  cut_bytes es n same count = row_bytes ∙ rw (same, count) refl
+  cut_bytes es n same count = entry_bytes ∙ rw (same, count) refl
 
   pub is_cut : IsCutAt bytes place before key_there between value_there behind
   is_cut =
       let fits = container.headed.fits in
       let count : length (keys ps) ≡ length key_there + length between = omega (arith, key_count, between_count, key-count at.there) in
       record {
-        within = subst FitEntries row row_within;
-        joined = cut_bytes _ _ row count;
+        within = subst FitEntries entries_are entries_within;
+        joined = cut_bytes _ _ entries_are count;
         fits = omega (arith, fits, count);
         passed = omega (arith, at.passed, key-count at.front);
         keys = omega (arith, at.taken, key-count at.there);
@@ -232,7 +232,7 @@ module _ (form : Form) (bytes : List ℕ) (ps : Pairs) (d : Decodes form bytes (
         pairs = omega (arith, key-count at.front, length-values_of split.back, back_count, between_count);
       }
 
-  module _ (t : Tree) (kept : KeptEntries) (kept_are : AreKept kept before between behind) (value : RootEntry)
+  module _ (t : Tree) (kept : KeptEntries) (kept_are : AreKept kept before between behind) (value : StoredEntry)
       (is : IsContent (number_reader form) t (kind_number value.kind) value.content.now) where
     entries_are : insert_pair name (kind_number value.kind, value.content.now) held.entries ≡ split.front ++ (name, (kind_number value.kind, value.content.now)) ∷ split.back
     entries_are = ap (insert_pair name (kind_number value.kind, value.content.now)) split.joined
@@ -267,7 +267,8 @@ module _ (form : Form) (bytes : List ℕ) (ps : Pairs) (d : Decodes form bytes (
         (within-front (values_of split.front) (values_of split.there ++ values_of split.back) old)
         ((kind_known value.kind, short), within-back (values_of split.there) (values_of split.back) rest)
 
-    made_bytes : word_row kept name value ++ content_row kept name value ≡ object_bytes (split.front ++ (name, (kind_number value.kind, value.content.now)) ∷ split.back)
+    made_bytes : inserted_words kept name value ++ inserted_contents kept name value ≡ object_bytes
+        (split.front ++ (name, (kind_number value.kind, value.content.now)) ∷ split.back)
     made_bytes =
         let kb = key_entries at.back in
         let vf = values_of split.front in
@@ -295,7 +296,7 @@ module _ (form : Form) (bytes : List ℕ) (ps : Pairs) (d : Decodes form bytes (
         (contents_of_entries kb) (contents_of_entries vf) value.content.now (contents_of_entries behind)
         ∙ sym (halves_same (ap (header object_header) count_is) kw vw kc vc)
 
-    pub made_decodes : (made : List ℕ) → made ≡ word_row kept name value ++ content_row kept name value → IsUtf8 name → length name < 2 ^ 28
+    pub made_decodes : (made : List ℕ) → made ≡ inserted_words kept name value ++ inserted_contents kept name value → IsUtf8 name → length name < 2 ^ 28
         → length value.content.now < 2 ^ 28 → kept.pairs + 1 < 2 ^ 29
         → Decodes form made (object (pairs_of (insert_pair name t (members ps))))
     made_decodes made made_is utf8 short_name short_content fits =

@@ -33,32 +33,32 @@ module _ (entries : Entries) (front back : List EntryParts) (count : ℕ) (h : A
   pub contents_enough : (len : ℕ) → len ≡ length (contents_of_entries front) → len ≤ length entries.contents.now
   contents_enough len is = omega (arith, is, ap length contents_are, length-append (contents_of_entries front) (contents_of_entries back))
 
-  pub front_are : (row : Entries) (len : ℕ) → row.words.now ≡ take (4 * count) entries.words.now → len ≡ length (contents_of_entries front)
-      → row.contents.now ≡ take len entries.contents.now
-      → AreBytesOf row front
-  front_are row len first is taken = record {
+  pub front_are : (entries : Entries) (len : ℕ) → entries.words.now ≡ take (4 * count) entries.words.now → len ≡ length (contents_of_entries front)
+      → entries.contents.now ≡ take len entries.contents.now
+      → AreBytesOf entries front
+  front_are entries len first is taken = record {
     within = within-front front back h.within;
-    words = front_words row.words.now first;
+    words = front_words entries.words.now first;
     contents = taken ∙ ap (take len) contents_are ∙ take_at (contents_of_entries front) (contents_of_entries back) len (sym is);
   }
 
-  pub back_are : (row : Entries) (len : ℕ) → row.words.now ≡ drop (4 * count) entries.words.now → len ≡ length (contents_of_entries front)
-      → row.contents.now ≡ drop len entries.contents.now
-      → AreBytesOf row back
-  back_are row len rest is dropped = record {
+  pub back_are : (entries : Entries) (len : ℕ) → entries.words.now ≡ drop (4 * count) entries.words.now → len ≡ length (contents_of_entries front)
+      → entries.contents.now ≡ drop len entries.contents.now
+      → AreBytesOf entries back
+  back_are entries len rest is dropped = record {
     within = within-back front back h.within;
-    words = back_words row.words.now rest;
+    words = back_words entries.words.now rest;
     contents = dropped ∙ ap (drop len) contents_are ∙ drop_at (contents_of_entries front) (contents_of_entries back) len (sym is);
   }
 
--- ---- the entries of an object in a row
+-- ---- the entries of an object
 
 -- how many pairs stay, and that the bytes behind the header hold the entries
-pub record IsRow (place : PairPlace) (count : ℕ) (rest : List ℕ) (before key between value behind : List EntryParts) : Type 0 where
+pub record HoldsPairsOf (place : PairPlace) (count : ℕ) (rest : List ℕ) (before key between value behind : List EntryParts) : Type 0 where
   pub kept : place.taken + length between ≡ count
   pub enough : 8 * count ≤ length rest
-  pub are : (row : Entries) → row.words.now ≡ take (8 * count) rest → row.contents.now ≡ drop (8 * count) rest
-      → AreBytesOf row (before ++ (key ++ (between ++ (value ++ behind))))
+  pub are : (entries : Entries) → entries.words.now ≡ take (8 * count) rest → entries.contents.now ≡ drop (8 * count) rest
+      → AreBytesOf entries (before ++ (key ++ (between ++ (value ++ behind))))
 
 pub has_header : (bytes : List ℕ) (place : PairPlace) (before key between value behind : List EntryParts) → IsCutAt bytes place before key between value behind
     → HeadedBy bytes object_header (length key + length between)
@@ -98,11 +98,11 @@ module _ (bytes : List ℕ) (place : PairPlace) (before key between value behind
   words_count : length (words_of_entries all) ≡ 8 * count
   words_count = omega (arith, length-kept_words all, all_count)
 
-  pub row_of : IsRow place count rest before key between value behind
-  row_of = record {
+  pub pairs_held : HoldsPairsOf place count rest before key between value behind
+  pairs_held = record {
     kept = omega (arith, pair_count, h.keys);
     enough = omega (arith, ap length rest_is, length-append (words_of_entries all) (contents_of_entries all), words_count);
-    are = λ row taken dropped. record {
+    are = λ entries taken dropped. record {
       within = h.within;
       words = taken ∙ ap (take (8 * count)) rest_is ∙ take_at (words_of_entries all) (contents_of_entries all) (8 * count) words_count;
       contents = dropped ∙ ap (drop (8 * count)) rest_is ∙ drop_at (words_of_entries all) (contents_of_entries all) (8 * count) words_count;

@@ -16,23 +16,24 @@ use Rattle.jsonb_doc.specs.Depth.{deepest}
 use Rattle.jsonb_raw.specs.NoExtension.{HasNoExtension}
 use Rattle.jsonb_raw.specs.KeyAnswer.{RanksWith}
 use Rattle.jsonb_doc.specs.Order.{tree_cmp}
-use Rattle.jsonb_raw.specs.SortableKey.{key, depths, IsRest}
+use Rattle.jsonb_raw.specs.SortableKey.{sortable_key, depths, IsRest}
 use Rattle.jsonb_raw.specs.EqualityKey.{equality_key}
 use Rattle.jsonb_raw.specs.KeyLaws.{HasKey, KeysKeepBelow, KeysKeepEqual, KeysOrder, KeysTellApart, EqualityKeysTellApart}
 
 pub ranked : (w : Width) (t u : Tree) (d : ℕ) (r s : List ℕ) → HasKey w t d → HasKey w u d → IsRest w d r → IsRest w d s
-    → bytes_cmp (key w t d ++ r) (key w u d ++ s) ≡ ordering_then (tree_cmp t u) (bytes_cmp r s)
+    → bytes_cmp (sortable_key w t d ++ r) (sortable_key w u d ++ s) ≡ ordering_then (tree_cmp t u) (bytes_cmp r s)
 ranked w t u d r s h k hr hs = keys_rank w t u d r s (h.in_range, h.no_extension) (k.in_range, k.no_extension) h.deep k.deep hr hs
 
-alone : (w : Width) (t u : Tree) (d : ℕ) → HasKey w t d → HasKey w u d → bytes_cmp (key w t d) (key w u d) ≡ tree_cmp t u
-alone w t u d h k = ap₂ bytes_cmp (sym (append-nil (key w t d))) (sym (append-nil (key w u d))) ∙ ranked w t u d [] [] h k (inl refl) (inl refl)
+alone : (w : Width) (t u : Tree) (d : ℕ) → HasKey w t d → HasKey w u d → bytes_cmp (sortable_key w t d) (sortable_key w u d) ≡ tree_cmp t u
+alone w t u d h k = ap₂ bytes_cmp (sym (append-nil (sortable_key w t d))) (sym (append-nil (sortable_key w u d)))
+    ∙ ranked w t u d [] [] h k (inl refl) (inl refl)
     ∙ then_Equal (tree_cmp t u)
 
 pub keys_keep_below : (w : Width) → KeysKeepBelow w
 keys_keep_below w t u d r s h k hr hs e = ranked w t u d r s h k hr hs ∙ ap (λ o. ordering_then o (bytes_cmp r s)) e
 
 pub keys_keep_equal : (w : Width) → KeysKeepEqual w
-keys_keep_equal w t u d h k e = same_from_bytes_cmp (key w t d) (key w u d) (alone w t u d h k ∙ tree_cmp-equal t u e)
+keys_keep_equal w t u d h k e = same_from_bytes_cmp (sortable_key w t d) (sortable_key w u d) (alone w t u d h k ∙ tree_cmp-equal t u e)
 
 pub keys_order : (w : Width) → KeysOrder w
 keys_order w t u h k = alone w t u 0 h k
@@ -40,7 +41,7 @@ keys_order w t u h k = alone w t u 0 h k
 pub keys_tell_apart : (w : Width) → KeysTellApart w
 keys_tell_apart w t u h k = (
   λ e. equal_from_tree_cmp t u h.in_range k.in_range
-      (sym (alone w t u 0 h k) ∙ ap (λ x. bytes_cmp x (key w u 0)) e ∙ bytes_cmp_refl (key w u 0)),
+      (sym (alone w t u 0 h k) ∙ ap (λ x. bytes_cmp x (sortable_key w u 0)) e ∙ bytes_cmp_refl (sortable_key w u 0)),
   λ e. keys_keep_equal w t u 0 h k e,
 )
 
@@ -51,11 +52,11 @@ equality_keys_tell_apart t u h k = (
       (keyable t h) (keyable u k) e,
 )
 
-ranks_with : (w : Width) (t u : Tree) (made : List ℕ) → HasKey w t 0 → HasKey w u 0 → made ≡ key w t 0 → RanksWith w t u made
+ranks_with : (w : Width) (t u : Tree) (made : List ℕ) → HasKey w t 0 → HasKey w u 0 → made ≡ sortable_key w t 0 → RanksWith w t u made
 ranks_with w t u made h k e = rw e (record { order = keys_order w t u h k; same = keys_tell_apart w t u h k })
 
 -- the key of a document ranks as its tree, which is in range since it was decoded
-pub decoded_ranks : (w : Width) (form : Form) (bytes made : List ℕ) (t : Tree) → AreBytes bytes → Decodes form bytes t → made ≡ key w t 0
+pub decoded_ranks : (w : Width) (form : Form) (bytes made : List ℕ) (t : Tree) → AreBytes bytes → Decodes form bytes t → made ≡ sortable_key w t 0
     → deepest t < depths w → HasNoExtension t → (u : Tree) → HasKey w u 0 → RanksWith w t u made
 decoded_ranks w form bytes made t all d e deep none u k =
     ranks_with w t u made (record { in_range = (decoded_fits form bytes t all d).0; no_extension = none; deep = omega (arith, deep) }) k e

@@ -1,7 +1,7 @@
 -- No leaf is too large for a document of its own.
 use Rattle.std.proofs.Common.{◌≡◌, ◌≤◌, ◌<◌, ℕ, zero, suc, pos, negsuc, ℤ, Bool, true, false, List, [], ◌∷◌, length, arith, inl, inr, lit<, if◌then◌else◌, refl}
 use Rattle.std.specs.Prelude.{slice_index_or}
-use Rattle.std.specs.List.{Any}
+use Rattle.std.specs.List.{AllByRecursion, Any}
 use Rattle.jsonb_doc.specs.Number.{Variant, int64, uint64, decimal64, decimal128}
 use Rattle.jsonb_doc.specs.Tree.{Tree, null, boolean, number, text, extension, array, object, Trees, no_trees, tree, Pairs, no_pairs, pair}
 use Rattle.jsonb_doc.specs.Payload.{Form, any, canonical}
@@ -9,10 +9,9 @@ use Rattle.jsonb_doc.specs.Answer.{IsOutOfMemory, ◌or◌when◌}
 use Rattle.jsonb_doc.specs.Limits.{IsShort, HasShortParts, HasShortElements, HasShortValues, IsWithinLimits, IsTooLarge, Fits, widest_number}
 use Rattle.jsonb_doc.specs.declared.error.Error.{Error}
 use Rattle.jsonb_doc.specs.declared.error.Error.TheVariants.{TooLarge}
-use Rattle.jsonb_keypath.specs.Each.{Each}
 use Rattle.jsonb_keypath.specs.KeyPathGrammar.{Key, index, unquoted_name}
 use Rattle.jsonb_raw.specs.Leaves.{Leaf, behind, is_leaf, leaves_at, leaves, leaves_of_trees, leaves_of_pairs}
-use Rattle.jsonb_raw.proofs.LeafPlaces.{Each-append}
+use Rattle.jsonb_raw.proofs.LeafPlaces.{AllByRecursion-append}
 
 short_number : (variant : Variant) (whole : ℤ) → widest_number variant whole ≤ 18
 short_number variant (pos zero) = omega arith
@@ -46,40 +45,41 @@ module _ (form : Form) where
   abbrev IsSmall : Leaf → Type 0
   IsSmall leaf = IsWithinLimits form leaf.1
 
-  small_behind : (step : Key) (within : List Leaf) → Each IsSmall within → Each IsSmall (behind (step ∷ []) within)
+  small_behind : (step : Key) (within : List Leaf) → AllByRecursion IsSmall within → AllByRecursion IsSmall (behind (step ∷ []) within)
   small_behind step [] h = tt
   small_behind step (leaf ∷ within) h = (h.0, small_behind step within h.1)
 
-  small_at : (step : Key) (t : Tree) (within : List Leaf) → IsShort canonical t → Each IsSmall within → Each IsSmall (leaves_at false step t within)
+  small_at : (step : Key) (t : Tree) (within : List Leaf) → IsShort canonical t → AllByRecursion IsSmall within
+      → AllByRecursion IsSmall (leaves_at false step t within)
   small_at step t within short h = small_behind step _ (go (is_leaf false t) refl)
     where
-      go : (b : Bool) → is_leaf false t ≡ b → Each IsSmall (if b then ([], t) ∷ [] else within)
+      go : (b : Bool) → is_leaf false t ≡ b → AllByRecursion IsSmall (if b then ([], t) ∷ [] else within)
       go true is = (leaf_within_limits form t is short, tt)
       go false is = h
 
   mutual
-    each_small : (t : Tree) → HasShortParts canonical t → Each IsSmall (leaves false t)
+    each_small : (t : Tree) → HasShortParts canonical t → AllByRecursion IsSmall (leaves false t)
     each_small (array ts) h = trees_small 0 ts h.1
     each_small (object ps) h = pairs_small ps h.2
     each_small _ h = tt
 
-    trees_small : (n : ℕ) (ts : Trees) → HasShortElements canonical ts → Each IsSmall (leaves_of_trees false n ts)
+    trees_small : (n : ℕ) (ts : Trees) → HasShortElements canonical ts → AllByRecursion IsSmall (leaves_of_trees false n ts)
     trees_small n no_trees h = tt
     trees_small n (tree t ts) h =
-        Each-append IsSmall _ _ (small_at (index (pos n)) t (leaves false t) h.0 (each_small t h.1)) (trees_small (suc n) ts h.2)
+        AllByRecursion-append IsSmall _ _ (small_at (index (pos n)) t (leaves false t) h.0 (each_small t h.1)) (trees_small (suc n) ts h.2)
 
-    pairs_small : (ps : Pairs) → HasShortValues canonical ps → Each IsSmall (leaves_of_pairs false ps)
+    pairs_small : (ps : Pairs) → HasShortValues canonical ps → AllByRecursion IsSmall (leaves_of_pairs false ps)
     pairs_small no_pairs h = tt
     pairs_small (pair key t ps) h =
-        Each-append IsSmall _ _ (small_at (unquoted_name key) t (leaves false t) h.0 (each_small t h.1)) (pairs_small ps h.2)
+        AllByRecursion-append IsSmall _ _ (small_at (unquoted_name key) t (leaves false t) h.0 (each_small t h.1)) (pairs_small ps h.2)
 
   -- the leaves of a tree that fits are within the limits
-  pub each_within_limits : (t : Tree) → Fits t → Each (λ leaf. IsWithinLimits form leaf.1) (leaves false t)
+  pub each_within_limits : (t : Tree) → Fits t → AllByRecursion (λ leaf. IsWithinLimits form leaf.1) (leaves false t)
   each_within_limits (array ts) fits = each_small (array ts) fits.1
   each_within_limits (object ps) fits = each_small (object ps) fits.1
   each_within_limits _ fits = tt
 
-none_of : {X : Type 0} (P Q : X → Type 0) → ((x : X) → P x → Q x → ⊥) → (xs : List X) → Each P xs → (k : ℕ) (x : X) → k < length xs
+none_of : {X : Type 0} (P Q : X → Type 0) → ((x : X) → P x → Q x → ⊥) → (xs : List X) → AllByRecursion P xs → (k : ℕ) (x : X) → k < length xs
     → slice_index_or xs k x ≡ x → Q x → ⊥
 none_of P Q both [] each k x inside is q = absurd (omega arith)
 none_of P Q both (y ∷ xs) each zero x inside is q = both x (rw is at each.0) q

@@ -4,11 +4,11 @@ use Rattle.std.specs.Prelude.{option_and_then}
 use Rattle.std.specs.Str.{bytes_eq}
 use Rattle.std.specs.Cmp.Lexicographic.{slice_cmp}
 use Rattle.std.proofs.lemmas.Cmp.{nat_list_cmp_total}
+use Rattle.std.specs.List.{AllByRecursion}
 use Rattle.jsonb_doc.specs.Tree.{Tree, null, boolean, number, text, extension, array, object, Trees, no_trees, tree, Pairs, no_pairs, pair, elements, keys, value_under}
 use Rattle.jsonb_doc.specs.Format.{AreKeys, IsBelowFirst}
 use Rattle.jsonb_doc.specs.Limits.{IsInRange, AreInRange, ValuesAreInRange}
 use Rattle.jsonb_doc.proofs.WordLemmas.{bytes_eq-true, bytes_eq-same}
-use Rattle.jsonb_keypath.specs.Each.{Each}
 use Rattle.jsonb_keypath.specs.KeyPathGrammar.{Key, index, unquoted_name}
 use Rattle.jsonb_raw.specs.Leaves.{Leaf, behind, is_leaf, leaves_at, leaves, leaves_of_trees, leaves_of_pairs}
 use Rattle.jsonb_raw.specs.LeavesLaws.{LeavesAreInPlace}
@@ -21,15 +21,15 @@ use Rattle.jsonb_raw.proofs.PlaceLemmas.{field_met, step_by_step}
 abbrev pub IsInPlace : Tree → Leaf → Type 0
 IsInPlace t leaf = tree_at_steps leaf.0 t ≡ Some leaf.1
 
-pub Each-append : {A : Type 0} (P : A → Type 0) (xs ys : List A) → Each P xs → Each P ys → Each P (xs ++ ys)
-Each-append P [] ys h k = k
-Each-append P (x ∷ xs) ys h k = (h.0, Each-append P xs ys h.1 k)
+pub AllByRecursion-append : {A : Type 0} (P : A → Type 0) (xs ys : List A) → AllByRecursion P xs → AllByRecursion P ys → AllByRecursion P (xs ++ ys)
+AllByRecursion-append P [] ys h k = k
+AllByRecursion-append P (x ∷ xs) ys h k = (h.0, AllByRecursion-append P xs ys h.1 k)
 
 -- ---- one step
 
 -- leaves of a child, one step further in
-further_in : (whole t : Tree) (step : Key) (within : List Leaf) → child_met step whole ≡ Some t → Each (IsInPlace t) within
-    → Each (IsInPlace whole) (behind (step ∷ []) within)
+further_in : (whole t : Tree) (step : Key) (within : List Leaf) → child_met step whole ≡ Some t → AllByRecursion (IsInPlace t) within
+    → AllByRecursion (IsInPlace whole) (behind (step ∷ []) within)
 further_in whole t step [] met h = tt
 further_in whole t step (leaf ∷ within) met h = (
   step_by_step step leaf.0 whole ∙ ap (λ (child : Option Tree). option_and_then (tree_at_steps leaf.0) child) met
@@ -37,11 +37,11 @@ further_in whole t step (leaf ∷ within) met h = (
   further_in whole t step within met h.1,
 )
 
-at_child : (ignore_array : Bool) (whole t : Tree) (step : Key) (within : List Leaf) → child_met step whole ≡ Some t → Each (IsInPlace t) within
-    → Each (IsInPlace whole) (leaves_at ignore_array step t within)
+at_child : (ignore_array : Bool) (whole t : Tree) (step : Key) (within : List Leaf) → child_met step whole ≡ Some t → AllByRecursion (IsInPlace t) within
+    → AllByRecursion (IsInPlace whole) (leaves_at ignore_array step t within)
 at_child ignore_array whole t step within met h = further_in whole t step _ met (go (is_leaf ignore_array t))
   where
-    go : (b : Bool) → Each (IsInPlace t) (if b then ([], t) ∷ [] else within)
+    go : (b : Bool) → AllByRecursion (IsInPlace t) (if b then ([], t) ∷ [] else within)
     go true = (refl, tt)
     go false = h
 
@@ -81,7 +81,7 @@ behind_first ps rest key t below rising back =
 -- ---- all leaves
 
 mutual
-  pub each_in_place : (ignore_array : Bool) (t : Tree) → IsInRange t → Each (IsInPlace t) (leaves ignore_array t)
+  pub each_in_place : (ignore_array : Bool) (t : Tree) → IsInRange t → AllByRecursion (IsInPlace t) (leaves ignore_array t)
   each_in_place ignore_array null r = tt
   each_in_place ignore_array (boolean b) r = tt
   each_in_place ignore_array (number n) r = tt
@@ -92,27 +92,27 @@ mutual
   each_in_place ignore_array (object ps) r = pairs_in_place ignore_array ps ps (λ name among. refl) r.0 r.1
 
   trees_in_place : (ignore_array : Bool) (all : Trees) (n : ℕ) (ts : Trees) → drop n (elements all) ≡ elements ts → AreInRange ts
-      → Each (IsInPlace (array all)) (leaves_of_trees ignore_array n ts)
+      → AllByRecursion (IsInPlace (array all)) (leaves_of_trees ignore_array n ts)
   trees_in_place ignore_array all n no_trees left r = tt
   trees_in_place ignore_array all n (tree t ts) left r =
       let s = split_at (elements all) n t (elements ts) left in
-      Each-append (IsInPlace (array all)) _ _
+      AllByRecursion-append (IsInPlace (array all)) _ _
       (at_child ignore_array (array all) t (index (pos n)) (leaves ignore_array t) (from_front (elements all) n ∙ s.at) (each_in_place ignore_array t r.0))
       (trees_in_place ignore_array all (suc n) ts s.behind r.1)
 
   pairs_in_place : (ignore_array : Bool) (all ps : Pairs) → IsBack all ps → AreKeys (keys ps) → ValuesAreInRange ps
-      → Each (IsInPlace (object all)) (leaves_of_pairs ignore_array ps)
+      → AllByRecursion (IsInPlace (object all)) (leaves_of_pairs ignore_array ps)
   pairs_in_place ignore_array all no_pairs back rising r = tt
   pairs_in_place ignore_array all (pair key t ps) back rising r =
-      Each-append (IsInPlace (object all)) _ _
+      AllByRecursion-append (IsInPlace (object all)) _ _
       (at_child ignore_array (object all) t (unquoted_name key) (leaves ignore_array t) (field_met (unquoted_name key) all ∙ first_of_back all ps key t back)
       (each_in_place ignore_array t r.0))
       (pairs_in_place ignore_array all ps (behind_first all ps key t rising.1 rising.2 back) rising.2 r.1)
 
-of_Each : {A : Type 0} (P : A → Type 0) (xs : List A) (x : A) → Each P xs → Contains xs x → P x
-of_Each P [] x h c = absurd (omega (arith, c.1))
-of_Each P (y ∷ ys) x h (zero, within, is) = rw is at h.0
-of_Each P (y ∷ ys) x h (suc k, within, is) = of_Each P ys x h.1 (k, omega arith, is)
+of_AllByRecursion : {A : Type 0} (P : A → Type 0) (xs : List A) (x : A) → AllByRecursion P xs → Contains xs x → P x
+of_AllByRecursion P [] x h c = absurd (omega (arith, c.1))
+of_AllByRecursion P (y ∷ ys) x h (zero, within, is) = rw is at h.0
+of_AllByRecursion P (y ∷ ys) x h (suc k, within, is) = of_AllByRecursion P ys x h.1 (k, omega arith, is)
 
 pub leaves_are_in_place : LeavesAreInPlace
-leaves_are_in_place ignore_array t fits leaf among = of_Each (IsInPlace t) (leaves ignore_array t) leaf (each_in_place ignore_array t fits.0) among
+leaves_are_in_place ignore_array t fits leaf among = of_AllByRecursion (IsInPlace t) (leaves ignore_array t) leaf (each_in_place ignore_array t fits.0) among

@@ -9,7 +9,7 @@ use Rattle.jsonb_doc.specs.Payload.{Form}
 use Rattle.jsonb_doc.specs.Private.Stored.{Stores}
 use Rattle.jsonb_doc.specs.Tree.{Tree, Trees, Pairs}
 use Rattle.jsonb_doc.specs.Depth.{deepest, deepest_of_trees, deepest_of_pairs}
-use Rattle.jsonb_raw.specs.SortableKey.{key, keys_of_trees, keys_of_pairs, item_bytes, text_bytes, depths}
+use Rattle.jsonb_raw.specs.SortableKey.{sortable_key, keys_of_trees, keys_of_pairs, item_bytes, text_bytes, depths}
 use Rattle.jsonb_raw.specs.KeyAnswer.{IsOutOfMemoryOrTooDeep}
 use Rattle.jsonb_raw.specs.declared.level.Level.{Level}
 use Rattle.jsonb_raw.specs.Private.Levels.{Part, parts, parts_of_trees, parts_of_pairs, HasPartsLeft, TakesPart, IsKeyOf}
@@ -35,8 +35,8 @@ IsToward-refused limit out left part_deep both_deep old whole deep e h l (inr d)
 -- ---- the key of a tree by its parts
 
 abbrev pub part_key : Width → Part → ℕ → List ℕ
-part_key w (None, t) d = key w t d
-part_key w (Some k, t) d = item_bytes w d 5 (text_bytes k) ++ key w t d
+part_key w (None, t) d = sortable_key w t d
+part_key w (Some k, t) d = item_bytes w d 5 (text_bytes k) ++ sortable_key w t d
 
 abbrev pub keys_of_parts : Width → List Part → ℕ → List ℕ
 keys_of_parts w [] d = []
@@ -48,13 +48,13 @@ deep_of_parts (p ∷ ps) = max (suc (deepest p.1)) (deep_of_parts ps)
 
 trees_keys : (w : Width) (ts : Trees) (d : ℕ) → keys_of_parts w (parts_of_trees ts) d ≡ keys_of_trees w ts d
 trees_keys w Trees.no_trees d = refl
-trees_keys w (Trees.tree t ts) d = ap (λ x. key w t d ++ x) (trees_keys w ts d)
+trees_keys w (Trees.tree t ts) d = ap (λ x. sortable_key w t d ++ x) (trees_keys w ts d)
 
 pairs_keys : (w : Width) (ps : Pairs) (d : ℕ) → keys_of_parts w (parts_of_pairs ps) d ≡ keys_of_pairs w ps d
 pairs_keys w Pairs.no_pairs d = refl
 pairs_keys w (Pairs.pair k t ps) d =
-    append_assoc (item_bytes w d 5 (text_bytes k)) (key w t d) (keys_of_parts w (parts_of_pairs ps) d)
-    ∙ ap (λ x. item_bytes w d 5 (text_bytes k) ++ (key w t d ++ x)) (pairs_keys w ps d)
+    append_assoc (item_bytes w d 5 (text_bytes k)) (sortable_key w t d) (keys_of_parts w (parts_of_pairs ps) d)
+    ∙ ap (λ x. item_bytes w d 5 (text_bytes k) ++ (sortable_key w t d ++ x)) (pairs_keys w ps d)
 
 trees_deep : (ts : Trees) → deepest_of_trees ts ≡ deep_of_parts (parts_of_trees ts)
 trees_deep Trees.no_trees = refl
@@ -69,12 +69,12 @@ parts_deep (Tree.array ts) = trees_deep ts
 parts_deep (Tree.object ps) = pairs_deep ps
 parts_deep _ = refl
 
-key_split : (w : Width) (t : Tree) (d : ℕ) → key w t d ≡ start w t d ++ keys_of_parts w (parts t) (suc d)
-key_split w Tree.null d = sym (append-nil (key w Tree.null d))
-key_split w (Tree.boolean b) d = sym (append-nil (key w (Tree.boolean b) d))
-key_split w (Tree.number n) d = sym (append-nil (key w (Tree.number n) d))
-key_split w (Tree.text bytes) d = sym (append-nil (key w (Tree.text bytes) d))
-key_split w (Tree.extension x) d = sym (append-nil (key w (Tree.extension x) d))
+key_split : (w : Width) (t : Tree) (d : ℕ) → sortable_key w t d ≡ start w t d ++ keys_of_parts w (parts t) (suc d)
+key_split w Tree.null d = sym (append-nil (sortable_key w Tree.null d))
+key_split w (Tree.boolean b) d = sym (append-nil (sortable_key w (Tree.boolean b) d))
+key_split w (Tree.number n) d = sym (append-nil (sortable_key w (Tree.number n) d))
+key_split w (Tree.text bytes) d = sym (append-nil (sortable_key w (Tree.text bytes) d))
+key_split w (Tree.extension x) d = sym (append-nil (sortable_key w (Tree.extension x) d))
 key_split w (Tree.array ts) d =
     ap (λ x. item_bytes w d 7 x) (sym (trees_keys w ts (suc d))) ∙ sym (append_assoc (to_be_bytes w d) (7 ∷ []) (keys_of_parts w (parts_of_trees ts) (suc d)))
 key_split w (Tree.object ps) d =
@@ -93,7 +93,7 @@ part_written w p d out named out' is written =
     written ∙ ap (λ x. x ++ start w p.1 d) is ∙ append_assoc out (name_start w p.0 d) (start w p.1 d)
 
 -- the start of a tree without parts is its key
-pub scalar_start : (w : Width) (t : Tree) (d : ℕ) → is_container t ≡ false → start w t d ≡ key w t d
+pub scalar_start : (w : Width) (t : Tree) (d : ℕ) → is_container t ≡ false → start w t d ≡ sortable_key w t d
 scalar_start w (Tree.array ts) d h = cc
 scalar_start w (Tree.object ps) d h = cc
 scalar_start w _ d h = refl
@@ -119,7 +119,7 @@ pub record IsWithin (w : Width) (out : List ℕ) (levels : List (List Part)) (ol
   pub low : length levels ≤ depths w
 
 pub walk_begun : (w : Width) (t : Tree) (old out : List ℕ) → (out ≡ old ++ start w t 0) × (0 < depths w)
-    → IsWithin w out (parts t ∷ []) old (key w t 0) (deepest t)
+    → IsWithin w out (parts t ∷ []) old (sortable_key w t 0) (deepest t)
 walk_begun w t old out p =
     let deep = parts_deep t in
     record {

@@ -22,7 +22,7 @@ pub mod LevelKeys
 pub mod EqualityWalk
 pub mod ScalarLemmas
 pub mod TextChunks
-pub mod MarkLemmas
+pub mod HashLemmas
 pub mod TakenEntries
 pub mod StartLemmas
 pub mod StripLists
@@ -49,7 +49,7 @@ pub mod MatchLemmas
 pub mod ContainLemmas
 pub mod ArrayLemmas
 pub mod EntryLists
-pub mod RowLemmas
+pub mod JoinedEntries
 pub mod RunLemmas
 pub mod PartedRuns
 pub mod CutLemmas
@@ -87,5 +87,5 @@ pub mod PlaceRows
 pub mod NamedPairs
 pub mod NamePlaces
 pub mod EntryDocuments
-pub mod RowWalks
+pub mod EntryWalks
 pub mod CutWalks

@@ -13,9 +13,9 @@ use Rattle.jsonb_doc.proofs.BuilderSteps.{AreRising}
 use Rattle.jsonb_doc.proofs.ObjectLemmas.{below_inserted}
 use Rattle.jsonb_raw.specs.declared.functions.parts.PairEntries.{PairEntries}
 use Rattle.jsonb_raw.specs.declared.functions.parts.FirstPair.{FirstPair}
-use Rattle.jsonb_raw.specs.declared.functions.parts.PairRows.{PairRows}
+use Rattle.jsonb_raw.specs.declared.functions.parts.PairRuns.{PairRuns}
 use Rattle.jsonb_raw.specs.Concat.{merged}
-use Rattle.jsonb_raw.specs.Private.Rows.{HoldPairs, TakesFirstPair, IsFirstPair, PairsHeld, PairsOpen}
+use Rattle.jsonb_raw.specs.Private.Entries.{HoldPairs, TakesFirstPair, IsFirstPair, PairsHeld, PairsOpen}
 use Rattle.jsonb_raw.proofs.PairStepLemmas.{test_of_order, above_key, below_key, below_further, same_below}
 use Rattle.jsonb_raw.proofs.RunLemmas.{pairs_begun, no_pairs_held, pair_kept, others_hold, left_holds}
 
@@ -103,33 +103,33 @@ pub there_or_none : {A : Type 0} (r : Option A) (x : A) → r ≡ Some x → r �
 there_or_none r x some none = let bad : None ≡ Some x = sym none ∙ some in cc
 
 -- the pairs that are kept, followed by what is left of both, are the whole
-pub record Merging (form : Form) (rows : PairRows) (run left other : PairEntries) (is_second : Bool) (whole : List Member) : Type 0 where
+pub record Merging (form : Form) (runs : PairRuns) (run left other : PairEntries) (is_second : Bool) (whole : List Member) : Type 0 where
   pub held : List Member
   pub mine : List Member
   pub theirs : List Member
-  pub pairs : PairsOpen form rows run left held mine
+  pub pairs : PairsOpen form runs run left held mine
   pub others : HoldPairs form other theirs
   pub rising : AreRising (keys_of mine)
   pub other_rising : AreRising (keys_of theirs)
   pub joined : held ++ both is_second mine theirs ≡ whole
 
-pub merging_begun : (form : Form) (rows : PairRows) (first second : PairEntries) (ps qs : List Member) → rows.keys.items ≡ [] → rows.values.items ≡ []
-    → HoldPairs form first ps → HoldPairs form second qs → AreRising (keys_of ps) → AreRising (keys_of qs) → Merging form rows first first second false
+pub merging_begun : (form : Form) (runs : PairRuns) (first second : PairEntries) (ps qs : List Member) → runs.keys.items ≡ [] → runs.values.items ≡ []
+    → HoldPairs form first ps → HoldPairs form second qs → AreRising (keys_of ps) → AreRising (keys_of qs) → Merging form runs first first second false
     (merged ps qs)
-merging_begun form rows first second ps qs keys_none values_none h g r s = record {
+merging_begun form runs first second ps qs keys_none values_none h g r s = record {
   held = [];
   mine = ps;
   theirs = qs;
-  pairs = pairs_begun form rows first [] ps (no_pairs_held form rows keys_none values_none) h;
+  pairs = pairs_begun form runs first [] ps (no_pairs_held form runs keys_none values_none) h;
   others = g;
   rising = r;
   other_rising = s;
   joined = refl;
 }
 
-module _ (form : Form) (rows : PairRows) (run left other : PairEntries) (b : Bool) (whole : List Member) (m : Merging form rows run left other b whole) where
+module _ (form : Form) (runs : PairRuns) (run left other : PairEntries) (b : Bool) (whole : List Member) (m : Merging form runs run left other b whole) where
   pub left_of : HoldPairs form left m.mine
-  left_of = left_holds form rows run left m.held m.mine m.pairs
+  left_of = left_holds form runs run left m.held m.mine m.pairs
 
   module _ (pair next : FirstPair) (mine : TakesFirstPair form left m.mine (Some pair)) (theirs : TakesFirstPair form other m.theirs (Some next)) where
     record Firsts : Type 0 where
@@ -141,7 +141,7 @@ module _ (form : Form) (rows : PairRows) (run left other : PairEntries) (b : Boo
       pub theirs_is : m.theirs ≡ o ∷ os
       pub first : IsFirstPair form left p cs pair
       pub second : IsFirstPair form other o os next
-      pub opened : PairsOpen form rows run left m.held (p ∷ cs)
+      pub opened : PairsOpen form runs run left m.held (p ∷ cs)
       pub hold : HoldPairs form other (o ∷ os)
       pub r : AreRising (p.0 ∷ keys_of cs)
       pub s : AreRising (o.0 ∷ keys_of os)
@@ -150,7 +150,7 @@ module _ (form : Form) (rows : PairRows) (run left other : PairEntries) (b : Boo
     firsts : Firsts
     firsts = go m.mine m.theirs refl refl m.pairs m.others m.rising m.other_rising m.joined mine theirs
       where
-        go : (cs os : List Member) → m.mine ≡ cs → m.theirs ≡ os → PairsOpen form rows run left m.held cs → HoldPairs form other os → AreRising (keys_of cs)
+        go : (cs os : List Member) → m.mine ≡ cs → m.theirs ≡ os → PairsOpen form runs run left m.held cs → HoldPairs form other os → AreRising (keys_of cs)
             → AreRising (keys_of os) → m.held ++ both b cs os ≡ whole → TakesFirstPair form left cs (Some pair) → TakesFirstPair form other os (Some next)
             → Firsts
         go [] os e f opened hold r s j h n = absurd h
@@ -180,21 +180,21 @@ module _ (form : Form) (rows : PairRows) (run left other : PairEntries) (b : Boo
     moved : (x : Member) (rest all : List Member) → all ≡ x ∷ rest → m.held ++ all ≡ whole → (m.held ++ x ∷ []) ++ rest ≡ whole
     moved x rest all is j = append_assoc m.held (x ∷ []) rest ∙ ap (λ (l : List Member). m.held ++ l) (sym is) ∙ j
 
-    pub merging_less : slice_cmp nat_cmp pair.key.now next.key.now ≡ Less → Merging form rows run pair.others other b whole
+    pub merging_less : slice_cmp nat_cmp pair.key.now next.key.now ≡ Less → Merging form runs run pair.others other b whole
     merging_less e =
         let f = firsts in
         record {
           held = m.held ++ f.p ∷ [];
           mine = f.cs;
           theirs = f.o ∷ f.os;
-          pairs = pair_kept form rows run left pair m.held f.cs f.p f.opened f.first;
+          pairs = pair_kept form runs run left pair m.held f.cs f.p f.opened f.first;
           others = f.hold;
           rising = f.r.1;
           other_rising = f.s;
           joined = moved f.p (both b f.cs (f.o ∷ f.os)) _ (both_less f.p f.o f.cs f.os f.r f.s b (same_order Less e)) f.whole_is;
         }
 
-    pub merging_equal_second : b ≡ true → slice_cmp nat_cmp pair.key.now next.key.now ≡ Equal → Merging form rows run pair.others next.others b whole
+    pub merging_equal_second : b ≡ true → slice_cmp nat_cmp pair.key.now next.key.now ≡ Equal → Merging form runs run pair.others next.others b whole
     merging_equal_second is e =
         let f = firsts in
         let j = ap (λ (c : Bool). m.held ++ both c (f.p ∷ f.cs) (f.o ∷ f.os)) (sym is) ∙ f.whole_is in
@@ -202,7 +202,7 @@ module _ (form : Form) (rows : PairRows) (run left other : PairEntries) (b : Boo
           held = m.held ++ f.p ∷ [];
           mine = f.cs;
           theirs = f.os;
-          pairs = pair_kept form rows run left pair m.held f.cs f.p f.opened f.first;
+          pairs = pair_kept form runs run left pair m.held f.cs f.p f.opened f.first;
           others = others_hold form other next f.os f.o f.second;
           rising = f.r.1;
           other_rising = f.s.1;
@@ -210,13 +210,13 @@ module _ (form : Form) (rows : PairRows) (run left other : PairEntries) (b : Boo
               ∙ moved f.p (both true f.cs f.os) _ (both_equal_second f.p f.o f.cs f.os f.r f.s (same_order Equal e)) j;
         }
 
-    module _ (rows' : PairRows) (pushed : PairsHeld form rows' m.held) where
-      turned_to : PairsOpen form rows' other next.others (m.held ++ firsts.o ∷ []) firsts.os
-      turned_to = pair_kept form rows' other other next m.held firsts.os firsts.o
-          (pairs_begun form rows' other m.held (firsts.o ∷ firsts.os) pushed firsts.hold)
+    module _ (runs' : PairRuns) (pushed : PairsHeld form runs' m.held) where
+      turned_to : PairsOpen form runs' other next.others (m.held ++ firsts.o ∷ []) firsts.os
+      turned_to = pair_kept form runs' other other next m.held firsts.os firsts.o
+          (pairs_begun form runs' other m.held (firsts.o ∷ firsts.os) pushed firsts.hold)
           firsts.second
 
-      pub merging_equal : b ≡ false → slice_cmp nat_cmp pair.key.now next.key.now ≡ Equal → Merging form rows' other next.others pair.others true whole
+      pub merging_equal : b ≡ false → slice_cmp nat_cmp pair.key.now next.key.now ≡ Equal → Merging form runs' other next.others pair.others true whole
       merging_equal is e =
           let f = firsts in
           let j = ap (λ (c : Bool). m.held ++ both c (f.p ∷ f.cs) (f.o ∷ f.os)) (sym is) ∙ f.whole_is in
@@ -231,7 +231,7 @@ module _ (form : Form) (rows : PairRows) (run left other : PairEntries) (b : Boo
             joined = moved f.o (both true f.os f.cs) _ (both_equal f.p f.o f.cs f.os f.r f.s (same_order Equal e)) j;
           }
 
-      pub merging_greater : slice_cmp nat_cmp pair.key.now next.key.now ≡ Greater → Merging form rows' other next.others left (not b) whole
+      pub merging_greater : slice_cmp nat_cmp pair.key.now next.key.now ≡ Greater → Merging form runs' other next.others left (not b) whole
       merging_greater e =
           let f = firsts in
           record {
@@ -239,15 +239,15 @@ module _ (form : Form) (rows : PairRows) (run left other : PairEntries) (b : Boo
             mine = f.os;
             theirs = f.p ∷ f.cs;
             pairs = turned_to;
-            others = left_holds form rows run left m.held (f.p ∷ f.cs) f.opened;
+            others = left_holds form runs run left m.held (f.p ∷ f.cs) f.opened;
             rising = f.s.1;
             other_rising = f.r;
             joined = moved f.o (both (not b) f.os (f.p ∷ f.cs)) _ (both_greater f.p f.o f.cs f.os f.r f.s b (same_order Greater e)) f.whole_is;
           }
 
-  none_left : (row : PairEntries) (ps : List Member) → TakesFirstPair form row ps None → ps ≡ []
-  none_left row [] h = refl
-  none_left row (p ∷ ps) h = absurd h
+  none_left : (pairs : PairEntries) (ps : List Member) → TakesFirstPair form pairs ps None → ps ≡ []
+  none_left pairs [] h = refl
+  none_left pairs (p ∷ ps) h = absurd h
 
   -- at last what is left of the one, and then of the other, are what is left of both
   pub merging_done : TakesFirstPair form left m.mine None ⊎ TakesFirstPair form other m.theirs None → (m.held ++ m.mine) ++ m.theirs ≡ whole

@@ -11,7 +11,7 @@ use Rattle.jsonb_doc.proofs.BuilderSteps.{AreRising, keys_rise, AreRising-filter
 use Rattle.jsonb_doc.proofs.WordLemmas.{bytes_eq-true}
 use Rattle.jsonb_raw.specs.declared.functions.parts.Entries.{Entries}
 use Rattle.jsonb_raw.specs.declared.functions.parts.FirstEntry.{FirstEntry}
-use Rattle.jsonb_raw.specs.Private.Rows.{HoldTrees, TakesFirst}
+use Rattle.jsonb_raw.specs.Private.Entries.{HoldTrees, TakesFirst}
 use Rattle.jsonb_raw.proofs.PlaceLemmas.{position-cons}
 use Rattle.jsonb_raw.proofs.GoneLemmas.{below_all}
 
@@ -26,18 +26,18 @@ pub record TextFirst (form : Form) (ks : List (List ℕ)) (first : FirstEntry) :
   pub split : ks ≡ first.content.now ∷ rest
   pub others : HoldTrees form first.others (map text rest)
 
-pub text_first : (form : Form) (row : Entries) (ks : List (List ℕ)) (found : Option FirstEntry) (first : FirstEntry) → found ≡ Some first
-    → TakesFirst form row (map text ks) found → TextFirst form ks first
-text_first form row ks found first is h = by ks (rw is at h)
+pub text_first : (form : Form) (entries : Entries) (ks : List (List ℕ)) (found : Option FirstEntry) (first : FirstEntry) → found ≡ Some first
+    → TakesFirst form entries (map text ks) found → TextFirst form ks first
+text_first form entries ks found first is h = by ks (rw is at h)
   where
-    by : (ls : List (List ℕ)) → TakesFirst form row (map text ls) (Some first) → TextFirst form ls first
+    by : (ls : List (List ℕ)) → TakesFirst form entries (map text ls) (Some first) → TextFirst form ls first
     by [] g = absurd g
     by (l ∷ ls) g = record { rest = ls; split = ap (λ (k : List ℕ). k ∷ ls) (sym g.part.1); others = g.others_hold }
 
-pub no_text_left : (form : Form) (row : Entries) (ks : List (List ℕ)) (found : Option FirstEntry) → found ≡ None
-    → TakesFirst form row (map text ks) found → ks ≡ []
-no_text_left form row [] found is h = refl
-no_text_left form row (k ∷ ks) found is h = absurd (rw is at h)
+pub no_text_left : (form : Form) (entries : Entries) (ks : List (List ℕ)) (found : Option FirstEntry) → found ≡ None
+    → TakesFirst form entries (map text ks) found → ks ≡ []
+no_text_left form entries [] found is h = refl
+no_text_left form entries (k ∷ ks) found is h = absurd (rw is at h)
 
 -- ---- pairs without the one of a key
 

@@ -46,10 +46,10 @@ positive_pushed old (pos (suc n)) scale h ne = append_assoc old (0x81 ∷ []) (c
     ∙ ap (λ x. old ++ 0x81 ∷ x) (same_bytes (magnitude_bytes (suc n) scale))
 positive_pushed old (negsuc n) scale h ne = absurd (true≢false h)
 
--- what a row of digits holds from a place on
-pub row_from : (first : ℕ) (row ds : List ℕ) (byte : ℕ) → drop first row ≡ ds ++ drop 39 (replicate 40 byte) → length row ≡ 40
-    → take (40 - first) (drop first row) ≡ ds ++ byte ∷ []
-row_from first row ds byte e long = take_all (40 - first) (drop first row) (omega (arith, length-drop first row, long)) ∙ e
+-- what a buffer of digits holds from a place on
+pub buffer_from : (first : ℕ) (buffer ds : List ℕ) (byte : ℕ) → drop first buffer ≡ ds ++ drop 39 (replicate 40 byte) → length buffer ≡ 40
+    → take (40 - first) (drop first buffer) ≡ ds ++ byte ∷ []
+buffer_from first buffer ds byte e long = take_all (40 - first) (drop first buffer) (omega (arith, length-drop first buffer, long)) ∙ e
 
 -- the same, push by push
 pub magnitude_steps : (negative : Bool) (old first second last : List ℕ) (n scale e byte : ℕ) → e ≡ length (digits_of 10 n) + 1000 - scale
@@ -73,12 +73,12 @@ number_steps old first sign m z v scale e ne a f (inr h) =
     ∙ ap (λ b. (old ++ 0x81 ∷ []) ++ complement_bytes b (magnitude_bytes (nat_abs z) scale)) h.0
     ∙ positive_pushed old z scale (subst (λ x. int_lt x (pos 0) ≡ false) e h.0) ne
 
--- the same of a row that holds the sign byte, the exponent, the digits and the end byte
-pub row_steps : (negative : Bool) (old last whole front tail : List ℕ) (sign n scale e byte : ℕ) → e ≡ length (digits_of 10 n) + 1000 - scale
+-- the same of a buffer that holds the sign byte, the exponent, the digits and the end byte
+pub buffer_steps : (negative : Bool) (old last whole front tail : List ℕ) (sign n scale e byte : ℕ) → e ≡ length (digits_of 10 n) + 1000 - scale
     → whole ≡ sign ∷ front → front ≡ complement_bytes negative (to_be_bytes w16 e) ++ tail
     → tail ≡ complement_bytes negative (map suc (significant (digits_of 10 n))) ++ byte ∷ [] → byte ≡ complement_byte negative 0 → last ≡ old ++ whole
     → last ≡ (old ++ sign ∷ []) ++ complement_bytes negative (magnitude_bytes n scale)
-row_steps negative old last whole front tail sign n scale e byte h w f t b l =
+buffer_steps negative old last whole front tail sign n scale e byte h w f t b l =
     l ∙ ap (λ x. old ++ x) w ∙ sym (append_assoc old (sign ∷ []) front)
     ∙ ap (λ x. (old ++ sign ∷ []) ++ x) (f ∙ ap (λ x. exponent ++ x) (t ∙ ap (λ c. digits ++ c ∷ []) b))
     ∙ sym (append_assoc (old ++ sign ∷ []) exponent (digits ++ end))

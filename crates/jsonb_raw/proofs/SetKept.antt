@@ -19,7 +19,7 @@ use Rattle.jsonb_doc.specs.Equal.{is_equal}
 use Rattle.jsonb_doc.specs.Proofs.Equality.{is_equal_equiv}
 use Rattle.jsonb_raw.specs.Sets.{Occurrence, occurrences, overlap}
 use Rattle.jsonb_raw.specs.Private.SetCounts.{keeps, kept_one, CountsBehind}
-use Rattle.jsonb_raw.specs.Private.Rows.{HoldTrees, AreElementsOf, RowsHold, IsFirst, TakesFirst, Holding, HasRowMore}
+use Rattle.jsonb_raw.specs.Private.Entries.{HoldTrees, AreElementsOf, RunsHold, IsFirst, TakesFirst, Holding, HasRunMore}
 use Rattle.jsonb_raw.specs.declared.functions.parts.Entries.{Entries}
 use Rattle.jsonb_raw.specs.declared.functions.parts.FirstEntry.{FirstEntry}
 use Rattle.jsonb_raw.specs.declared.functions.array.counts.KeyCounts.{KeyCounts}
@@ -68,9 +68,9 @@ no_array form (array ts) h = absurd h
 no_array form t h = refl
 
 -- the same of the entries of an array
-pub no_row : (form : Form) (t : Tree) (found : Option Entries) → found ≡ None → AreElementsOf form t found → as_elements t ≡ t ∷ []
-no_row form (array ts) found is h = absurd (rw is at h)
-no_row form _ found is h = refl
+pub no_array_entries : (form : Form) (t : Tree) (found : Option Entries) → found ≡ None → AreElementsOf form t found → as_elements t ≡ t ∷ []
+no_array_entries form (array ts) found is h = absurd (rw is at h)
+no_array_entries form _ found is h = refl
 
 pub or_false : (b : Bool) → (b || false) ≡ b
 or_false true = refl
@@ -165,42 +165,44 @@ kept_out : (kind : Kept) (other before : List Tree) (t : Tree) (left : List Tree
     → kept_behind kind other before (t ∷ left) ≡ kept_behind kind other (t ∷ before) left
 kept_out kind other before t left is = rw is refl
 
--- The rows, and the run that is open, hold what is kept so far; followed by what is kept of the elements that are left, it is
+-- The runs, and the run that is open, hold what is kept so far; followed by what is kept of the elements that are left, it is
 -- the whole.
-pub record KeptRuns (form : Form) (kind : Kept) (m : KeyCounts) (other : List Tree) (rows : List Entries) (run left : Entries) (whole : List Tree) : Type 0 where
+pub record KeptRuns (form : Form) (kind : Kept) (m : KeyCounts) (other : List Tree) (runs : List Entries) (run left : Entries)
+    (whole : List Tree) : Type 0 where
   pub before : List Tree
   pub held : List Tree
   pub rest : List Tree
   pub few : length before + length rest < 2 ^ 63
   pub fit : AllByRecursion Fits rest
   pub behind : CountsBehind kind m other before
-  pub holds : Holding form rows run left held rest
+  pub holds : Holding form runs run left held rest
   pub joined : held ++ kept_behind kind other before rest ≡ whole
 
-pub KeptRuns-all : (form : Form) (kind : Kept) (m : KeyCounts) (other : List Tree) (rows : List Entries) (row : Entries) (ts : List Tree) → rows ≡ []
-    → HoldTrees form row ts → AllByRecursion Fits ts → length ts < 2 ^ 63 → CountsBehind kind m other []
-    → KeptRuns form kind m other rows row row (kept_behind kind other [] ts)
-KeptRuns-all form kind m other rows row ts is h fit few behind = record {
+pub KeptRuns-all : (form : Form) (kind : Kept) (m : KeyCounts) (other : List Tree) (runs : List Entries) (entries : Entries) (ts : List Tree) → runs ≡ []
+    → HoldTrees form entries ts → AllByRecursion Fits ts → length ts < 2 ^ 63 → CountsBehind kind m other []
+    → KeptRuns form kind m other runs entries entries (kept_behind kind other [] ts)
+KeptRuns-all form kind m other runs entries ts is h fit few behind = record {
   before = [];
   held = [];
   rest = ts;
   few = omega arith;
   fit = fit;
   behind = behind;
-  holds = rw is (holding_begun form row ts h);
+  holds = rw is (holding_begun form entries ts h);
   joined = refl;
 }
 
-module _ (form : Form) (kind : Kept) (m : KeyCounts) (other : List Tree) (rows : List Entries) (run left : Entries) (whole : List Tree)
-    (h : KeptRuns form kind m other rows run left whole) where
+module _ (form : Form) (kind : Kept) (m : KeyCounts) (other : List Tree) (runs : List Entries) (run left : Entries) (whole : List Tree)
+    (h : KeptRuns form kind m other runs run left whole) where
   pub KeptRuns-left : HoldTrees form left h.rest
   KeptRuns-left = h.holds.left_hold
 
-  -- once the run is pushed, the rows hold all of it
-  pub run_held : (rows' : List Entries)
-      → ((words contents : List ℕ) → run.words.now ≡ words ++ left.words.now → run.contents.now ≡ contents ++ left.contents.now → HasRowMore rows words contents rows')
-      → RowsHold form rows' h.held
-  run_held rows' pushed = holding_pushed form rows rows' run left h.held h.rest h.holds pushed
+  -- once the run is pushed, the runs hold all of it
+  pub run_held : (runs' : List Entries)
+      → ((words contents : List ℕ) → run.words.now ≡ words ++ left.words.now → run.contents.now ≡ contents ++ left.contents.now
+      → HasRunMore runs words contents runs')
+      → RunsHold form runs' h.held
+  run_held runs' pushed = holding_pushed form runs runs' run left h.held h.rest h.holds pushed
 
   pub KeptRuns-done : TakesFirst form left h.rest None → h.held ≡ whole
   KeptRuns-done none = go h.rest h.joined none
@@ -209,14 +211,14 @@ module _ (form : Form) (kind : Kept) (m : KeyCounts) (other : List Tree) (rows :
       go [] j g = sym (append-nil h.held) ∙ j
       go (t ∷ ts) j g = absurd g
 
-module _ (form : Form) (kind : Kept) (m : KeyCounts) (other : List Tree) (rows : List Entries) (run left : Entries) (whole : List Tree)
-    (h : KeptRuns form kind m other rows run left whole) (first : FirstEntry) (mine : TakesFirst form left h.rest (Some first)) where
+module _ (form : Form) (kind : Kept) (m : KeyCounts) (other : List Tree) (runs : List Entries) (run left : Entries) (whole : List Tree)
+    (h : KeptRuns form kind m other runs run left whole) (first : FirstEntry) (mine : TakesFirst form left h.rest (Some first)) where
   -- the element that is next
   pub record Next : Type 0 where
     pub t : Tree
     pub ts : List Tree
     pub first_is : IsFirst form left t ts (kind_number first.kind) first.content.now first.others
-    pub opened : Holding form rows run left h.held (t ∷ ts)
+    pub opened : Holding form runs run left h.held (t ∷ ts)
     pub few : length h.before + length (t ∷ ts) < 2 ^ 63
     pub fit : AllByRecursion Fits (t ∷ ts)
     pub whole_is : h.held ++ kept_behind kind other h.before (t ∷ ts) ≡ whole
@@ -224,7 +226,7 @@ module _ (form : Form) (kind : Kept) (m : KeyCounts) (other : List Tree) (rows :
   pub next_of : Next
   next_of = go h.rest h.holds h.few h.fit h.joined mine
     where
-      go : (ts : List Tree) → Holding form rows run left h.held ts → length h.before + length ts < 2 ^ 63 → AllByRecursion Fits ts
+      go : (ts : List Tree) → Holding form runs run left h.held ts → length h.before + length ts < 2 ^ 63 → AllByRecursion Fits ts
           → h.held ++ kept_behind kind other h.before ts ≡ whole → TakesFirst form left ts (Some first) → Next
       go [] o few fit j g = absurd g
       go (t ∷ ts) o few fit j g = record { t = t; ts = ts; first_is = g; opened = o; few = few; fit = fit; whole_is = j }
@@ -233,7 +235,7 @@ module _ (form : Form) (kind : Kept) (m : KeyCounts) (other : List Tree) (rows :
   next_few n = let few : length h.before + length (n.t ∷ n.ts) < 2 ^ 63 = n.few in omega arith
 
   pub KeptRuns-kept : (n : Next) (after : KeyCounts) → keeps kind other (h.before, n.t) ≡ true → CountsBehind kind after other (n.t ∷ h.before)
-      → KeptRuns form kind after other rows run first.others whole
+      → KeptRuns form kind after other runs run first.others whole
   KeptRuns-kept n after is behind = record {
     before = n.t ∷ h.before;
     held = h.held ++ n.t ∷ [];
@@ -241,20 +243,20 @@ module _ (form : Form) (kind : Kept) (m : KeyCounts) (other : List Tree) (rows :
     few = let few : length h.before + length (n.t ∷ n.ts) < 2 ^ 63 = n.few in omega arith;
     fit = n.fit.1;
     behind = behind;
-    holds = holding_kept form rows run left first.others h.held n.ts n.t (kind_number first.kind) first.content.now n.opened n.first_is;
+    holds = holding_kept form runs run left first.others h.held n.ts n.t (kind_number first.kind) first.content.now n.opened n.first_is;
     joined = append_assoc h.held (n.t ∷ []) (kept_behind kind other (n.t ∷ h.before) n.ts)
         ∙ ap (λ (l : List Tree). h.held ++ l) (sym (kept_in kind other h.before n.t n.ts is)) ∙ n.whole_is;
   }
 
-  pub KeptRuns-dropped : (n : Next) (after : KeyCounts) (rows' : List Entries) → RowsHold form rows' h.held → keeps kind other (h.before, n.t) ≡ false
-      → CountsBehind kind after other (n.t ∷ h.before) → KeptRuns form kind after other rows' first.others first.others whole
-  KeptRuns-dropped n after rows' pushed is behind = record {
+  pub KeptRuns-dropped : (n : Next) (after : KeyCounts) (runs' : List Entries) → RunsHold form runs' h.held → keeps kind other (h.before, n.t) ≡ false
+      → CountsBehind kind after other (n.t ∷ h.before) → KeptRuns form kind after other runs' first.others first.others whole
+  KeptRuns-dropped n after runs' pushed is behind = record {
     before = n.t ∷ h.before;
     held = h.held;
     rest = n.ts;
     few = let few : length h.before + length (n.t ∷ n.ts) < 2 ^ 63 = n.few in omega arith;
     fit = n.fit.1;
     behind = behind;
-    holds = holding_again form rows' first.others h.held n.ts pushed n.first_is.others_hold;
+    holds = holding_again form runs' first.others h.held n.ts pushed n.first_is.others_hold;
     joined = ap (λ (l : List Tree). h.held ++ l) (sym (kept_out kind other h.before n.t n.ts is)) ∙ n.whole_is;
   }

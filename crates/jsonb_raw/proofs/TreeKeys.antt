@@ -12,7 +12,7 @@ use Rattle.jsonb_doc.specs.Depth.{deepest, deepest_of_trees, deepest_of_pairs}
 use Rattle.jsonb_raw.specs.NoExtension.{HasNoExtension, HaveNoExtension, ValuesHaveNoExtension}
 use Rattle.jsonb_doc.specs.Limits.{IsInRange, AreInRange, ValuesAreInRange}
 use Rattle.jsonb_doc.specs.Order.{rank, tree_cmp, trees_cmp, pairs_cmp}
-use Rattle.jsonb_raw.specs.SortableKey.{key, keys_of_trees, keys_of_pairs, depths, item_bytes, text_bytes, number_bytes, IsRest}
+use Rattle.jsonb_raw.specs.SortableKey.{sortable_key, keys_of_trees, keys_of_pairs, depths, item_bytes, text_bytes, number_bytes, IsRest}
 
 -- The parts are in range, and no extension occurs: what sortable keys put in order.
 abbrev pub IsSortable : Tree → Type 0
@@ -87,7 +87,7 @@ rest_above w d k xs r s h (inr f) =
     ∙ ap (λ o. ordering_then o (bytes_cmp (k ∷ xs ++ r) f.1)) (nat_cmp-gt (suc d) f.0 (omega arith))
 
 -- a key is an item
-pub key_is_item : (w : Width) (t : Tree) (d : ℕ) → (xs : List ℕ) × (key w t d ≡ item_bytes w d (rank t) xs)
+pub key_is_item : (w : Width) (t : Tree) (d : ℕ) → (xs : List ℕ) × (sortable_key w t d ≡ item_bytes w d (rank t) xs)
 key_is_item w Tree.null d = ([], refl)
 key_is_item w (Tree.boolean b) d = ([], refl)
 key_is_item w (Tree.number n) d = (number_bytes n.whole n.scale, refl)
@@ -101,14 +101,15 @@ IsRest-trees : (w : Width) (ts : Trees) (d : ℕ) (r : List ℕ) → IsRest w d 
 IsRest-trees w Trees.no_trees d r h = IsRest-deeper w d r h
 IsRest-trees w (Trees.tree t ts) d r h =
     let i = key_is_item w t (suc d) in
-    subst (IsRest w (suc d)) (ap (λ x. x ++ (keys_of_trees w ts (suc d) ++ r)) (sym i.1) ∙ sym (append_assoc (key w t (suc d)) (keys_of_trees w ts (suc d)) r))
+    subst (IsRest w (suc d)) (ap (λ x. x ++ (keys_of_trees w ts (suc d) ++ r)) (sym i.1)
+    ∙ sym (append_assoc (sortable_key w t (suc d)) (keys_of_trees w ts (suc d)) r))
     (IsRest-item w (suc d) (rank t) i.0 (keys_of_trees w ts (suc d) ++ r))
 
 IsRest-pairs : (w : Width) (ps : Pairs) (d : ℕ) (r : List ℕ) → IsRest w d r → IsRest w (suc d) (keys_of_pairs w ps (suc d) ++ r)
 IsRest-pairs w Pairs.no_pairs d r h = IsRest-deeper w d r h
 IsRest-pairs w (Pairs.pair k v ps) d r h =
-    subst (IsRest w (suc d)) (sym (append_assoc (item_bytes w (suc d) 5 (text_bytes k)) (key w v (suc d) ++ keys_of_pairs w ps (suc d)) r))
-    (IsRest-item w (suc d) 5 (text_bytes k) ((key w v (suc d) ++ keys_of_pairs w ps (suc d)) ++ r))
+    subst (IsRest w (suc d)) (sym (append_assoc (item_bytes w (suc d) 5 (text_bytes k)) (sortable_key w v (suc d) ++ keys_of_pairs w ps (suc d)) r))
+    (IsRest-item w (suc d) 5 (text_bytes k) ((sortable_key w v (suc d) ++ keys_of_pairs w ps (suc d)) ++ r))
 
 pub rank_boolean : (b : Bool) → (2 ≤ rank (Tree.boolean b)) × (rank (Tree.boolean b) ≤ 3)
 rank_boolean true = omega arith
@@ -117,7 +118,7 @@ rank_boolean false = omega arith
 mutual
   pub keys_rank : (w : Width) (t u : Tree) (d : ℕ) (r s : List ℕ) → IsSortable t → IsSortable u → d + deepest t < depths w → d + deepest u < depths w
       → IsRest w d r → IsRest w d s
-      → bytes_cmp (key w t d ++ r) (key w u d ++ s) ≡ ordering_then (tree_cmp t u) (bytes_cmp r s)
+      → bytes_cmp (sortable_key w t d ++ r) (sortable_key w u d ++ s) ≡ ordering_then (tree_cmp t u) (bytes_cmp r s)
   keys_rank w Tree.null Tree.null d r s ht hu dt du hr hs = items_rank w d 8 8 [] [] r s (omega arith)
   keys_rank w (Tree.boolean a) (Tree.boolean b) d r s ht hu dt du hr hs = items_rank w d (rank (Tree.boolean a)) (rank (Tree.boolean b)) [] [] r s (omega arith)
   keys_rank w (Tree.number m) (Tree.number n) d r s ht hu dt du hr hs = same_kind w d 4 (number_bytes m.whole m.scale) (number_bytes n.whole n.scale) r s
@@ -139,14 +140,14 @@ mutual
   trees_rank w Trees.no_trees Trees.no_trees d r s ht hu dt du hr hs = refl
   trees_rank w Trees.no_trees (Trees.tree u us) d r s ht hu dt du hr hs =
       let i = key_is_item w u (suc d) in
-      ap (bytes_cmp r) (append_assoc (key w u (suc d)) (keys_of_trees w us (suc d)) s ∙ ap (λ x. x ++ (keys_of_trees w us (suc d) ++ s)) i.1)
+      ap (bytes_cmp r) (append_assoc (sortable_key w u (suc d)) (keys_of_trees w us (suc d)) s ∙ ap (λ x. x ++ (keys_of_trees w us (suc d) ++ s)) i.1)
       ∙ rest_below w d (rank u) i.0 r (keys_of_trees w us (suc d) ++ s) (omega arith) hr
   trees_rank w (Trees.tree t ts) Trees.no_trees d r s ht hu dt du hr hs =
       let i = key_is_item w t (suc d) in
-      ap (λ x. bytes_cmp x s) (append_assoc (key w t (suc d)) (keys_of_trees w ts (suc d)) r ∙ ap (λ x. x ++ (keys_of_trees w ts (suc d) ++ r)) i.1)
+      ap (λ x. bytes_cmp x s) (append_assoc (sortable_key w t (suc d)) (keys_of_trees w ts (suc d)) r ∙ ap (λ x. x ++ (keys_of_trees w ts (suc d) ++ r)) i.1)
       ∙ rest_above w d (rank t) i.0 (keys_of_trees w ts (suc d) ++ r) s (omega arith) hs
   trees_rank w (Trees.tree t ts) (Trees.tree u us) d r s ht hu dt du hr hs =
-      ap₂ bytes_cmp (append_assoc (key w t (suc d)) (keys_of_trees w ts (suc d)) r) (append_assoc (key w u (suc d)) (keys_of_trees w us (suc d)) s)
+      ap₂ bytes_cmp (append_assoc (sortable_key w t (suc d)) (keys_of_trees w ts (suc d)) r) (append_assoc (sortable_key w u (suc d)) (keys_of_trees w us (suc d)) s)
       ∙ keys_rank w t u (suc d) (keys_of_trees w ts (suc d) ++ r) (keys_of_trees w us (suc d) ++ s) (ht.0.0, ht.1.0) (hu.0.0, hu.1.0)
       (omega arith) (omega arith) (IsRest-trees w ts d r hr) (IsRest-trees w us d s hs)
       ∙ ap (ordering_then (tree_cmp t u)) (trees_rank w ts us d r s (ht.0.1, ht.1.1) (hu.0.1, hu.1.1) (omega arith) (omega arith) hr hs)
@@ -157,16 +158,17 @@ mutual
       → bytes_cmp (keys_of_pairs w ps (suc d) ++ r) (keys_of_pairs w qs (suc d) ++ s) ≡ ordering_then (pairs_cmp ps qs) (bytes_cmp r s)
   pairs_rank w Pairs.no_pairs Pairs.no_pairs d r s ht hu dt du hr hs = refl
   pairs_rank w Pairs.no_pairs (Pairs.pair l u qs) d r s ht hu dt du hr hs =
-      ap (bytes_cmp r) (append_assoc (item_bytes w (suc d) 5 (text_bytes l)) (key w u (suc d) ++ keys_of_pairs w qs (suc d)) s)
-      ∙ rest_below w d 5 (text_bytes l) r ((key w u (suc d) ++ keys_of_pairs w qs (suc d)) ++ s) (omega arith) hr
+      ap (bytes_cmp r) (append_assoc (item_bytes w (suc d) 5 (text_bytes l)) (sortable_key w u (suc d) ++ keys_of_pairs w qs (suc d)) s)
+      ∙ rest_below w d 5 (text_bytes l) r ((sortable_key w u (suc d) ++ keys_of_pairs w qs (suc d)) ++ s) (omega arith) hr
   pairs_rank w (Pairs.pair k t ps) Pairs.no_pairs d r s ht hu dt du hr hs =
-      ap (λ x. bytes_cmp x s) (append_assoc (item_bytes w (suc d) 5 (text_bytes k)) (key w t (suc d) ++ keys_of_pairs w ps (suc d)) r)
-      ∙ rest_above w d 5 (text_bytes k) ((key w t (suc d) ++ keys_of_pairs w ps (suc d)) ++ r) s (omega arith) hs
+      ap (λ x. bytes_cmp x s) (append_assoc (item_bytes w (suc d) 5 (text_bytes k)) (sortable_key w t (suc d) ++ keys_of_pairs w ps (suc d)) r)
+      ∙ rest_above w d 5 (text_bytes k) ((sortable_key w t (suc d) ++ keys_of_pairs w ps (suc d)) ++ r) s (omega arith) hs
   pairs_rank w (Pairs.pair k t ps) (Pairs.pair l u qs) d r s ht hu dt du hr hs =
       ap₂ bytes_cmp (apart k t ps r) (apart l u qs s)
-      ∙ same_kind w (suc d) 5 (text_bytes k) (text_bytes l) (key w t (suc d) ++ (keys_of_pairs w ps (suc d) ++ r))
-      (key w u (suc d) ++ (keys_of_pairs w qs (suc d) ++ s)) (bytes_cmp k l) (omega arith)
-      ((Ranks-text_bytes k l).ranks (key w t (suc d) ++ (keys_of_pairs w ps (suc d) ++ r)) (key w u (suc d) ++ (keys_of_pairs w qs (suc d) ++ s)))
+      ∙ same_kind w (suc d) 5 (text_bytes k) (text_bytes l) (sortable_key w t (suc d) ++ (keys_of_pairs w ps (suc d) ++ r))
+      (sortable_key w u (suc d) ++ (keys_of_pairs w qs (suc d) ++ s)) (bytes_cmp k l) (omega arith)
+      ((Ranks-text_bytes k l).ranks (sortable_key w t (suc d) ++ (keys_of_pairs w ps (suc d) ++ r))
+      (sortable_key w u (suc d) ++ (keys_of_pairs w qs (suc d) ++ s)))
       ∙ ap (ordering_then (bytes_cmp k l))
       (keys_rank w t u (suc d) (keys_of_pairs w ps (suc d) ++ r) (keys_of_pairs w qs (suc d) ++ s) (ht.0.0, ht.1.0) (hu.0.0, hu.1.0) (omega arith) (omega arith)
       (IsRest-pairs w ps d r hr) (IsRest-pairs w qs d s hs)
@@ -175,6 +177,7 @@ mutual
       ∙ sym (then_assoc (bytes_cmp k l) (ordering_then (tree_cmp t u) (pairs_cmp ps qs)) (bytes_cmp r s))
     where
       apart : (k : List ℕ) (t : Tree) (ps : Pairs) (r : List ℕ)
-          → keys_of_pairs w (Pairs.pair k t ps) (suc d) ++ r ≡ item_bytes w (suc d) 5 (text_bytes k) ++ (key w t (suc d) ++ (keys_of_pairs w ps (suc d) ++ r))
-      apart k t ps r = append_assoc (item_bytes w (suc d) 5 (text_bytes k)) (key w t (suc d) ++ keys_of_pairs w ps (suc d)) r
-          ∙ ap (λ x. item_bytes w (suc d) 5 (text_bytes k) ++ x) (append_assoc (key w t (suc d)) (keys_of_pairs w ps (suc d)) r)
+          → keys_of_pairs w (Pairs.pair k t ps) (suc d) ++ r
+          ≡ item_bytes w (suc d) 5 (text_bytes k) ++ (sortable_key w t (suc d) ++ (keys_of_pairs w ps (suc d) ++ r))
+      apart k t ps r = append_assoc (item_bytes w (suc d) 5 (text_bytes k)) (sortable_key w t (suc d) ++ keys_of_pairs w ps (suc d)) r
+          ∙ ap (λ x. item_bytes w (suc d) 5 (text_bytes k) ++ x) (append_assoc (sortable_key w t (suc d)) (keys_of_pairs w ps (suc d)) r)

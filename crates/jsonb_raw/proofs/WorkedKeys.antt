@@ -3,40 +3,42 @@ use Rattle.std.proofs.Common.{◌≡◌, [], ◌∷◌, Some, None, pos, negsuc,
 use Rattle.std.specs.Int.{w8, w16}
 use Rattle.jsonb_doc.specs.Number.{Variant}
 use Rattle.jsonb_doc.specs.Tree.{Tree, Trees, Pairs}
-use Rattle.jsonb_raw.specs.SortableKey.{key, magnitude_bytes}
+use Rattle.jsonb_raw.specs.SortableKey.{sortable_key, magnitude_bytes}
 use Rattle.jsonb_raw.specs.EqualityKey.{equality_key}
 use Rattle.jsonb_raw.specs.CompositeKeys.{composite_key}
 
 one : Tree
 one = Tree.number (record { variant = Variant.uint64; whole = pos 1; scale = 0 })
 
-one_row : key w8 one 0 ≡ 0x00 ∷ 0x04 ∷ 0x81 ∷ 0x03 ∷ 0xe9 ∷ 0x02 ∷ 0x00 ∷ []
+one_row : sortable_key w8 one 0 ≡ 0x00 ∷ 0x04 ∷ 0x81 ∷ 0x03 ∷ 0xe9 ∷ 0x02 ∷ 0x00 ∷ []
 unfolding one magnitude_bytes
 one_row = refl
 
-hundred_row : key w8 (Tree.number (record { variant = Variant.uint64; whole = pos 100; scale = 0 })) 0 ≡ 0x00 ∷ 0x04 ∷ 0x81 ∷ 0x03 ∷ 0xeb ∷ 0x02 ∷ 0x00 ∷ []
+hundred_row : sortable_key w8 (Tree.number (record { variant = Variant.uint64; whole = pos 100; scale = 0 })) 0
+    ≡ 0x00 ∷ 0x04 ∷ 0x81 ∷ 0x03 ∷ 0xeb ∷ 0x02 ∷ 0x00 ∷ []
 unfolding magnitude_bytes
 hundred_row = refl
 
-decimal_row : key w8 (Tree.number (record { variant = Variant.decimal64; whole = negsuc 1233; scale = 2 })) 0
+decimal_row : sortable_key w8 (Tree.number (record { variant = Variant.decimal64; whole = negsuc 1233; scale = 2 })) 0
     ≡ 0x00 ∷ 0x04 ∷ 0x7f ∷ 0xfc ∷ 0x15 ∷ 0xfd ∷ 0xfc ∷ 0xfb ∷ 0xfa ∷ 0xff ∷ []
 unfolding magnitude_bytes
 decimal_row = refl
 
-small_row : key w8 (Tree.number (record { variant = Variant.decimal64; whole = pos 1; scale = 255 })) 0 ≡ 0x00 ∷ 0x04 ∷ 0x81 ∷ 0x02 ∷ 0xea ∷ 0x02 ∷ 0x00 ∷ []
+small_row : sortable_key w8 (Tree.number (record { variant = Variant.decimal64; whole = pos 1; scale = 255 })) 0
+    ≡ 0x00 ∷ 0x04 ∷ 0x81 ∷ 0x02 ∷ 0xea ∷ 0x02 ∷ 0x00 ∷ []
 unfolding magnitude_bytes
 small_row = refl
 
-nested_row : key w8 (Tree.array (Trees.tree (Tree.array (Trees.tree one Trees.no_trees)) Trees.no_trees)) 0
+nested_row : sortable_key w8 (Tree.array (Trees.tree (Tree.array (Trees.tree one Trees.no_trees)) Trees.no_trees)) 0
     ≡ 0x00 ∷ 0x07 ∷ 0x01 ∷ 0x07 ∷ 0x02 ∷ 0x04 ∷ 0x81 ∷ 0x03 ∷ 0xe9 ∷ 0x02 ∷ 0x00 ∷ []
 unfolding one magnitude_bytes
 nested_row = refl
 
-pair_row : key w8 (Tree.object (Pairs.pair (107 ∷ []) (Tree.text (118 ∷ [])) Pairs.no_pairs)) 0
+pair_row : sortable_key w8 (Tree.object (Pairs.pair (107 ∷ []) (Tree.text (118 ∷ [])) Pairs.no_pairs)) 0
     ≡ 0x00 ∷ 0x06 ∷ 0x01 ∷ 0x05 ∷ 0x6b ∷ 0x00 ∷ 0x01 ∷ 0x05 ∷ 0x76 ∷ 0x00 ∷ []
 pair_row = refl
 
-wide_row : key w16 (Tree.array (Trees.tree one Trees.no_trees)) 0 ≡ 0 ∷ 0 ∷ 7 ∷ 0 ∷ 1 ∷ 4 ∷ 0x81 ∷ 0x03 ∷ 0xe9 ∷ 0x02 ∷ 0x00 ∷ []
+wide_row : sortable_key w16 (Tree.array (Trees.tree one Trees.no_trees)) 0 ≡ 0 ∷ 0 ∷ 7 ∷ 0 ∷ 1 ∷ 4 ∷ 0x81 ∷ 0x03 ∷ 0xe9 ∷ 0x02 ∷ 0x00 ∷ []
 unfolding one magnitude_bytes
 wide_row = refl
 

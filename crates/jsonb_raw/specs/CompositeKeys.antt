@@ -7,13 +7,13 @@ use Rattle.std.specs.Ordering.{nat_cmp}
 use Rattle.std.specs.Cmp.Lexicographic.{slice_cmp}
 use Rattle.jsonb_doc.specs.Tree.{Tree}
 use Rattle.jsonb_doc.specs.Order.{tree_cmp}
-use Rattle.jsonb_raw.specs.SortableKey.{item_bytes, key}
+use Rattle.jsonb_raw.specs.SortableKey.{item_bytes, sortable_key}
 use Rattle.jsonb_raw.specs.KeyLaws.{HasKey}
 
 -- The key of a value that may be missing. A missing one has the kind 0, which no item has.
 abbrev pub column_key : Width → Option Tree → List ℕ
 column_key w None = item_bytes w 0 0 []
-column_key w (Some t) = key w t 0
+column_key w (Some t) = sortable_key w t 0
 
 abbrev pub composite_key : Width → List (Option Tree) → List ℕ
 composite_key w columns = flat_map (column_key w) columns

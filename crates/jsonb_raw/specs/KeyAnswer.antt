@@ -11,7 +11,7 @@ use Rattle.jsonb_doc.specs.Order.{tree_cmp, IsEqual}
 use Rattle.jsonb_doc.specs.Depth.{deepest}
 use Rattle.jsonb_raw.specs.NoExtension.{HasNoExtension}
 use Rattle.jsonb_raw.specs.KeyLaws.{HasKey}
-use Rattle.jsonb_raw.specs.SortableKey.{key, depths}
+use Rattle.jsonb_raw.specs.SortableKey.{sortable_key, depths}
 
 -- memory was refused, or an item of what was asked for lies too deep
 abbrev pub IsOutOfMemoryOrTooDeep : ℕ → ℕ → Error → Type 0
@@ -24,16 +24,16 @@ GivesKey w tree r IsMade =
 
 -- the sortable key of a document
 abbrev pub MakesKey : Width → Tree → Result (Vec ℕ Global) Error → Type 0
-MakesKey w tree r = GivesKey w tree r (λ v. v.items ≡ key w tree 0)
+MakesKey w tree r = GivesKey w tree r (λ v. v.items ≡ sortable_key w tree 0)
 
 -- the same call, where the key is written into a vector that then has these items
 abbrev pub WritesKey : Width → Tree → Result (Unit {0}) Error → List ℕ → Type 0
-WritesKey w tree r items = GivesKey w tree r (λ _. items ≡ key w tree 0)
+WritesKey w tree r items = GivesKey w tree r (λ _. items ≡ sortable_key w tree 0)
 
 -- The bytes compare with the key of the tree u as the tree t does with u, and are that key where the two are equal.
 pub record RanksWith (w : Width) (t u : Tree) (bytes : List ℕ) : Type 0 where
-  pub order : slice_cmp nat_cmp bytes (key w u 0) ≡ tree_cmp t u
-  pub same : (bytes ≡ key w u 0) ↔ IsEqual t u
+  pub order : slice_cmp nat_cmp bytes (sortable_key w u 0) ≡ tree_cmp t u
+  pub same : (bytes ≡ sortable_key w u 0) ↔ IsEqual t u
 
 -- An answer for a tree without extensions ranks with the key of each tree that has one as the trees rank.
 abbrev pub RanksAsTree : Width → Tree → Result (Vec ℕ Global) Error → Type 0

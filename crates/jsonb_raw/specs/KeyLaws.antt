@@ -9,7 +9,7 @@ use Rattle.jsonb_doc.specs.Tree.{Tree}
 use Rattle.jsonb_doc.specs.Depth.{deepest}
 use Rattle.jsonb_raw.specs.NoExtension.{HasNoExtension}
 use Rattle.jsonb_doc.specs.Order.{tree_cmp, IsEqual}
-use Rattle.jsonb_raw.specs.SortableKey.{significant, key, depths, IsRest}
+use Rattle.jsonb_raw.specs.SortableKey.{significant, sortable_key, depths, IsRest}
 use Rattle.jsonb_doc.specs.Limits.{Fits, IsInRange}
 use Rattle.jsonb_raw.specs.EqualityKey.{equality_key}
 
@@ -23,19 +23,22 @@ pub record HasKey (w : Width) (t : Tree) (depth : ℕ) : Type 0 where
 abbrev pub KeysKeepBelow : Width → Type 0
 KeysKeepBelow w =
     (t u : Tree) (d : ℕ) (r s : List ℕ) → HasKey w t d → HasKey w u d → IsRest w d r → IsRest w d s
-    → tree_cmp t u ≡ Less → slice_cmp nat_cmp (key w t d ++ r) (key w u d ++ s) ≡ Less
+    → tree_cmp t u ≡ Less → slice_cmp nat_cmp (sortable_key w t d ++ r) (sortable_key w u d ++ s) ≡ Less
 
 -- Trees that are equal by value have one key.
 abbrev pub KeysKeepEqual : Width → Type 0
-KeysKeepEqual w = (t u : Tree) (d : ℕ) → HasKey w t d → HasKey w u d → IsEqual t u → key w t d ≡ key w u d
+KeysKeepEqual w =
+    (t u : Tree) (d : ℕ) → HasKey w t d → HasKey w u d → IsEqual t u → sortable_key w t d ≡ sortable_key w u d
 
 -- The byte order of the keys of two documents is the order of the documents.
 abbrev pub KeysOrder : Width → Type 0
-KeysOrder w = (t u : Tree) → HasKey w t 0 → HasKey w u 0 → slice_cmp nat_cmp (key w t 0) (key w u 0) ≡ tree_cmp t u
+KeysOrder w =
+    (t u : Tree) → HasKey w t 0 → HasKey w u 0 → slice_cmp nat_cmp (sortable_key w t 0) (sortable_key w u 0)
+    ≡ tree_cmp t u
 
 -- Two documents have one key exactly where they are equal by value.
 abbrev pub KeysTellApart : Width → Type 0
-KeysTellApart w = (t u : Tree) → HasKey w t 0 → HasKey w u 0 → (key w t 0 ≡ key w u 0) ↔ IsEqual t u
+KeysTellApart w = (t u : Tree) → HasKey w t 0 → HasKey w u 0 → (sortable_key w t 0 ≡ sortable_key w u 0) ↔ IsEqual t u
 
 -- Two trees have one equality key exactly where they are equal by value.
 abbrev pub EqualityKeysTellApart : Type 0

@@ -14,10 +14,10 @@ pub mod KeyParts
 pub mod KeyWidth
 pub mod PairSteps
 pub mod SetCounts
-pub mod Marks
+pub mod Hashes
 pub mod Starts
 pub mod Complements
 pub mod WrittenBefore
 pub mod PackedBytes
-pub mod Rows
+pub mod Entries
 pub mod NamePositions

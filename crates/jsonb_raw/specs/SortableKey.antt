@@ -39,22 +39,23 @@ abbrev pub item_bytes : Width → ℕ → ℕ → List ℕ → List ℕ
 item_bytes w depth kind content = to_be_bytes w depth ++ kind ∷ content
 
 abbrev mutual
-  pub key : Width → Tree → ℕ → List ℕ
-  key w Tree.null d = item_bytes w d 8 []
-  key w (Tree.boolean b) d = item_bytes w d (rank (Tree.boolean b)) []
-  key w (Tree.number n) d = item_bytes w d 4 (number_bytes n.whole n.scale)
-  key w (Tree.text bytes) d = item_bytes w d 5 (text_bytes bytes)
-  key w (Tree.extension x) d = item_bytes w d 1 (extension_payload x ++ 0 ∷ [])
-  key w (Tree.array ts) d = item_bytes w d 7 (keys_of_trees w ts (suc d))
-  key w (Tree.object ps) d = item_bytes w d 6 (keys_of_pairs w ps (suc d))
+  pub sortable_key : Width → Tree → ℕ → List ℕ
+  sortable_key w Tree.null d = item_bytes w d 8 []
+  sortable_key w (Tree.boolean b) d = item_bytes w d (rank (Tree.boolean b)) []
+  sortable_key w (Tree.number n) d = item_bytes w d 4 (number_bytes n.whole n.scale)
+  sortable_key w (Tree.text bytes) d = item_bytes w d 5 (text_bytes bytes)
+  sortable_key w (Tree.extension x) d = item_bytes w d 1 (extension_payload x ++ 0 ∷ [])
+  sortable_key w (Tree.array ts) d = item_bytes w d 7 (keys_of_trees w ts (suc d))
+  sortable_key w (Tree.object ps) d = item_bytes w d 6 (keys_of_pairs w ps (suc d))
 
   pub keys_of_trees : Width → Trees → ℕ → List ℕ
   keys_of_trees w Trees.no_trees d = []
-  keys_of_trees w (Trees.tree t ts) d = key w t d ++ keys_of_trees w ts d
+  keys_of_trees w (Trees.tree t ts) d = sortable_key w t d ++ keys_of_trees w ts d
 
   pub keys_of_pairs : Width → Pairs → ℕ → List ℕ
   keys_of_pairs w Pairs.no_pairs d = []
-  keys_of_pairs w (Pairs.pair k v ps) d = item_bytes w d 5 (text_bytes k) ++ (key w v d ++ keys_of_pairs w ps d)
+  keys_of_pairs w (Pairs.pair k v ps) d = item_bytes w d 5 (text_bytes k)
+      ++ (sortable_key w v d ++ keys_of_pairs w ps d)
 
 -- how many depths the width's bytes tell apart
 abbrev pub depths : Width → ℕ

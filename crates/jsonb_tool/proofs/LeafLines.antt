@@ -1,8 +1,7 @@
 -- From the leaves of a document to the lines that show them.
 use Rattle.std.proofs.Common.{◌≡◌, ◌++◌, ℕ, List, [], ◌∷◌, flat_map, Some, refl, ap, false, codes}
-use Rattle.std.specs.List.{AllZip}
+use Rattle.std.specs.List.{AllByRecursion, AllZip}
 use Rattle.hex.specs.Hex.{encode_lower}
-use Rattle.jsonb.specs.Each.{Each}
 use Rattle.jsonb.specs.KeyPathGrammar.{Key}
 use Rattle.jsonb.specs.KeyPathText.{key_path_text}
 use Rattle.jsonb.specs.KeyPaths.{KeyPaths}
@@ -19,7 +18,7 @@ use Rattle.jsonb_tool.specs.Views.{leaf_line, leaf_lines}
 
 -- each leaf stands at its place in the tree
 abbrev AreInPlace : Tree → List Leaf → Type 0
-AreInPlace t all = Each (λ leaf. tree_at_steps leaf.0 t ≡ Some leaf.1) all
+AreInPlace t all = AllByRecursion (λ leaf. tree_at_steps leaf.0 t ≡ Some leaf.1) all
 
 lines_of : (form : Form) (t : Tree) (found : List (KeyPaths × OwnedJsonb)) (all : List Leaf) → AllZip (IsLeafDocument form) found all → AreInPlace t all
     → AreLeafLines form t all (flat_map leaf_line found)

@@ -60,7 +60,7 @@ ShowsTreeAt (Some steps) document outcome =
 -- The line is the sortable key of the tree in hexadecimal.
 -- The refusal is that an item of the tree lies too deep for a key.
 abbrev pub ShowsKey : Tree → Output → Type 0
-ShowsKey t (Ok lines) = (lines ≡ encode_lower (sortable.key w8 t 0) ++ codes "\n") × (deepest t < depths w8)
+ShowsKey t (Ok lines) = (lines ≡ encode_lower (sortable.sortable_key w8 t 0) ++ codes "\n") × (deepest t < depths w8)
 ShowsKey t (Err e) = (e ≡ TooDeep) × (depths w8 ≤ deepest t)
 
 -- `key`: the sortable key of the document

@@ -5,7 +5,7 @@ use Rattle.jsonb_doc.specs.declared.spot.Spot.{Spot}
 use Rattle.jsonb_doc.specs.declared.spot_iter.SpotIter.{SpotIter}
 use Rattle.jsonb_doc.specs.Tree.{Tree}
 use Rattle.jsonb.specs.PathTree.{Levels}
-use Rattle.jsonb.specs.Preorder.{answer_at, own, preorder}
+use Rattle.jsonb.specs.Preorder.{answer_at, taken_item, preorder}
 use Rattle.std.specs.List.{AllZip}
 use Rattle.jsonb.specs.declared.selector.levels.LevelRange.{LevelRange}
 use Rattle.jsonb.specs.declared.selector.levels.OpenLevel.{OpenLevel}
@@ -16,10 +16,10 @@ HasLeft bytes within ts n = HasSpotsLeft bytes within.children ts × (within.lev
 
 -- what is below an item: its children where they are looked at, else nothing
 abbrev pub AreBelow : List ℕ → Option Levels → ℕ → Tree → Option OpenLevel → Type 0
-AreBelow bytes levels n t None = preorder levels n t ≡ own levels n t
+AreBelow bytes levels n t None = preorder levels n t ≡ taken_item levels n t
 AreBelow bytes levels n t (Some within) =
     (ts : List Tree) × HasLeft bytes within ts (n + 1)
-    × (preorder levels n t ≡ own levels n t ++ flat_map (preorder levels (n + 1)) ts)
+    × (preorder levels n t ≡ taken_item levels n t ++ flat_map (preorder levels (n + 1)) ts)
 
 -- items up to the first that may have children are put behind those before: all, or that item and others come next
 abbrev pub PassesLeaves : List ℕ → Option Levels → ℕ → List Tree → List Tree → List Spot

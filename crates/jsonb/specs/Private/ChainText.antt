@@ -1,13 +1,13 @@
 -- The text of a chain of expressions in parts: what stands in front of it, its innermost expression, and its links from
 -- there on.
 use Rattle.std.specs.Prelude.{ℕ, zero, suc, List, [], ◌++◌, codes, if◌then◌else◌}
-use Rattle.jsonb.specs.PathText.{operator_text, is_joined, side_text, expression_text}
+use Rattle.jsonb.specs.PathText.{operator_text, needs_parentheses, side_text, expression_text}
 use Rattle.jsonb.specs.PathTree.{Expression, binary}
 use Rattle.jsonb.specs.Private.Chain.{left_of}
 
 -- the parenthesis around a side, where it has one
 abbrev pub parenthesis : Expression → List ℕ → List ℕ
-parenthesis e text = if is_joined e then text else []
+parenthesis e text = if needs_parentheses e then text else []
 
 abbrev pub front_text : Expression → List ℕ
 front_text (binary op left right) = parenthesis left (codes "(")

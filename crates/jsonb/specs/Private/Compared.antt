@@ -9,7 +9,7 @@ use Rattle.jsonb.specs.Compare.{Truth, compare}
 use Rattle.jsonb.specs.Values.{values_of_item}
 use Rattle.jsonb.specs.Meaning.{steps_meaning, truth}
 use Rattle.jsonb.specs.Private.Members.{are_members}
-use Rattle.jsonb.specs.Private.Selection.{atom_value}
+use Rattle.jsonb.specs.Private.Selection.{value_view}
 use Rattle.jsonb.specs.Private.Terms.{joining, joining_op}
 use Rattle.jsonb.specs.declared.selector.compared_items.MemberCompared.{MemberCompared}
 use Rattle.jsonb.specs.declared.selector.compared_lists.ListCompared.{ListCompared}
@@ -25,13 +25,13 @@ pub record IsMemberCompared (c : MemberCompared) (e : Expression) : Type 0 where
   pub members : are_members (steps_view c.names.now) ≡ true
   pub compares : (mode : Mode) (top t : Tree) → truth mode e top t
       ≡ and_then (steps_meaning mode (steps_of (steps_view c.names.now)) top (t ∷ []))
-      (λ ts. Ok (compare (operator_view c.op) (flat_map values_of_item ts) (atom_value c.literal ∷ [])))
+      (λ ts. Ok (compare (operator_view c.op) (flat_map values_of_item ts) (value_view c.literal ∷ [])))
 
 -- the truth of the comparison of a member of each item
 abbrev pub items_truth : MemberCompared → Tree → List Tree → Outcome Truth
 items_truth c top items =
     and_then (steps_meaning Lax (steps_of (steps_view c.names.now)) top items)
-    (λ ts. Ok (compare (operator_view c.op) (flat_map values_of_item ts) (atom_value c.literal ∷ [])))
+    (λ ts. Ok (compare (operator_view c.op) (flat_map values_of_item ts) (value_view c.literal ∷ [])))
 
 -- the expression compares members of the items that these steps lead to
 pub record IsListCompared (list : ListCompared) (e : Expression) : Type 0 where

@@ -7,9 +7,9 @@ use Rattle.jsonb.specs.PathGrammar.{spaced, spaced_operand, operator, path_with,
 use Rattle.jsonb.specs.Private.Repeated.{another_atom, another_and}
 use Rattle.jsonb.specs.PathViews.{steps_view, expression_view}
 use Rattle.jsonb.specs.declared.parser.condition.Joined.{Joined}
-use Rattle.jsonb.specs.declared.parser.condition.Level.{Level}
-use Rattle.jsonb.specs.declared.parser.condition.Joining.{Joining}
-use Rattle.jsonb.specs.declared.parser.condition.Joining.TheVariants as joining
+use Rattle.jsonb.specs.declared.parser.condition.PartialExpr.{PartialExpr}
+use Rattle.jsonb.specs.declared.parser.condition.AfterCondition.{AfterCondition}
+use Rattle.jsonb.specs.declared.parser.condition.AfterCondition.TheVariants as after_condition
 use Rattle.jsonb.specs.declared.parser.opening.Opened.{Opened}
 use Rattle.jsonb.specs.declared.parser.opening.Opened.TheVariants as opened
 use Rattle.jsonb.specs.declared.parser.opening.Opening.{Opening}
@@ -44,31 +44,32 @@ joined_behind op another j (Some p) = joined_from op another (Some (joined_view 
 joined_behind op another None None = None
 joined_behind op another (Some j) None = Some (expression_view j.left.value, j.before.now)
 
--- the whole of a level, of what is read as its next condition
-unfoldable pub level_outcome : Level → Parsed Expression → Parsed Expression
-level_outcome l next = joined_behind or_op (another_and expression l.is_in_filter) l.any
+-- the whole of an expression, of what is read as its next condition
+unfoldable pub partial_outcome : PartialExpr → Parsed Expression → Parsed Expression
+partial_outcome l next = joined_behind or_op (another_and expression l.is_in_filter) l.any
     (joined_behind and_op (another_atom expression l.is_in_filter) l.all next)
 
-unfoldable pub joining_outcome : Joining → Parsed Expression
-joining_outcome (joining.Next level after) = level_outcome level (atom_with expression level.is_in_filter after.now)
-joining_outcome (joining.Whole e rest) = Some (expression_view e, rest.now)
+unfoldable pub after_condition_outcome : AfterCondition → Parsed Expression
+after_condition_outcome (after_condition.Next partial after) = partial_outcome partial
+    (atom_with expression partial.is_in_filter after.now)
+after_condition_outcome (after_condition.Whole e rest) = Some (expression_view e, rest.now)
 
-abbrev pub joining_rest : Joining → List ℕ
-joining_rest (joining.Next level after) = after.now
-joining_rest (joining.Whole e rest) = rest.now
+abbrev pub after_condition_rest : AfterCondition → List ℕ
+after_condition_rest (after_condition.Next partial after) = after.now
+after_condition_rest (after_condition.Whole e rest) = rest.now
 
 -- where a list may have ended no parenthesis is closed
 abbrev pub IsUnclosed : List ℕ → Type 0
 IsUnclosed input = spaced (literal ")") input ≡ None
 
-abbrev pub IsLevel : Level → Type 0
-IsLevel l = IfSome l.all (λ j. IsUnclosed j.before.now × (spaced (literal "||") j.before.now ≡ None)) ×
+abbrev pub IsPartial : PartialExpr → Type 0
+IsPartial l = IfSome l.all (λ j. IsUnclosed j.before.now × (spaced (literal "||") j.before.now ≡ None)) ×
     IfSome l.any (λ j. IsUnclosed j.before.now)
 
--- a level that goes on was left well
-abbrev pub IsJoining : Joining → Type 0
-IsJoining (joining.Next level after) = IsLevel level
-IsJoining (joining.Whole e rest) = Unit {0}
+-- an expression that goes on was left well
+abbrev pub IsAfterCondition : AfterCondition → Type 0
+IsAfterCondition (after_condition.Next partial after) = IsPartial partial
+IsAfterCondition (after_condition.Whole e rest) = Unit {0}
 
 -- ---- what is open
 
@@ -141,11 +142,11 @@ IsOpening (opening.Inside o inside) = IsOpened o
 -- the whole expression, of what stands inside all that is open, the outermost first
 unfoldable pub resumed : List Frame → Parsed Expression → Parsed Expression
 resumed [] inside = inside
-resumed (frame ∷ frames) inside = level_outcome frame.level (opened_outcome frame.opened (resumed frames inside))
+resumed (frame ∷ frames) inside = partial_outcome frame.partial (opened_outcome frame.opened (resumed frames inside))
 
 abbrev pub AreFrames : List Frame → Type 0
 AreFrames [] = Unit {0}
-AreFrames (frame ∷ frames) = IsLevel frame.level × IsOpened frame.opened × AreFrames frames
+AreFrames (frame ∷ frames) = IsPartial frame.partial × IsOpened frame.opened × AreFrames frames
 
 -- ---- the front of a path
 
@@ -157,7 +158,7 @@ as_path whole = option_and_then (λ (p : Expression × List ℕ). (do
 
 -- the text is an expression with this front, or no expression but these steps and those behind them
 abbrev pub IsFront : List ℕ → Front → Type 0
-IsFront input (front.Atom first) = IsOpening first × (as_path (level_outcome
+IsFront input (front.Atom first) = IsOpening first × (as_path (partial_outcome
     (record { is_in_filter = false; all = None; any = None }) (opening_outcome false first)) ≡ root_expression input)
 IsFront input (front.Steps steps rest) = (root_expression input ≡ None) ×
     (parsed_map (λ others. steps_view steps.items ++ others) (repeat path_step rest.now) ≡ plain_path input)

@@ -3,7 +3,7 @@ use Rattle.std.specs.Prelude.{◌≡◌, ◌≤◌, Bool, true, false, List, [],
 use Rattle.jsonb_doc.specs.Tree.{Tree}
 use Rattle.jsonb.specs.PathTree.{BinaryOp, and_op, or_op, add, subtract, multiply, divide, modulo, current, step, Expression, paths, binary, exists}
 use Rattle.jsonb.specs.Meaning.{truth, operand_values}
-use Rattle.jsonb.specs.Private.Selection.{atoms_view}
+use Rattle.jsonb.specs.Private.Selection.{values_view}
 use Rattle.jsonb.specs.declared.selector.document.Mode.{Mode}
 use Rattle.jsonb.specs.declared.selector.kept.KeptPart.{KeptPart}
 use Rattle.jsonb.specs.declared.selector.kept.KeptPart.TheVariants as part
@@ -48,8 +48,8 @@ conditions e = []
 abbrev pub IsSame : Mode → Tree → KeptPart → Expression → Type 0
 IsSame mode top part.Nothing e = Unit {0}
 IsSame mode top (part.Truth b) e = (item : Tree) → truth mode e top item ≡ Ok b
-IsSame mode top (part.Left ls) (binary op l r) = (item : Tree) → operand_values mode l top item ≡ Ok (atoms_view ls)
-IsSame mode top (part.Right rs) (binary op l r) = (item : Tree) → operand_values mode r top item ≡ Ok (atoms_view rs)
+IsSame mode top (part.Left ls) (binary op l r) = (item : Tree) → operand_values mode l top item ≡ Ok (values_view ls)
+IsSame mode top (part.Right rs) (binary op l r) = (item : Tree) → operand_values mode r top item ≡ Ok (values_view rs)
 IsSame mode top p e = ⊥
 
 -- the parts are kept of the first of the conditions

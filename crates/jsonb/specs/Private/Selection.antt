@@ -22,10 +22,10 @@ use Rattle.jsonb.specs.declared.selector.document.Mode.{Mode}
 use Rattle.jsonb.specs.declared.selector.document.Mode.TheVariants.{Lax, Strict}
 use Rattle.jsonb.specs.declared.selector.document.Expressions.{Expressions}
 use Rattle.jsonb.specs.declared.selector.document.Expressions.TheVariants as expressions
-use Rattle.jsonb.specs.declared.selector.atom.Atom.{Atom}
-use Rattle.jsonb.specs.declared.selector.atom.Atom.TheVariants as atom
-use Rattle.jsonb.specs.declared.selector.atom.Atoms.{Atoms}
-use Rattle.jsonb.specs.declared.selector.atom.Atoms.TheVariants as atoms
+use Rattle.jsonb.specs.declared.selector.operand_value.OperandValue.{OperandValue}
+use Rattle.jsonb.specs.declared.selector.operand_value.OperandValue.TheVariants as operand_value
+use Rattle.jsonb.specs.declared.selector.operand_value.OperandValues.{OperandValues}
+use Rattle.jsonb.specs.declared.selector.operand_value.OperandValues.TheVariants as operand_values
 use Rattle.jsonb.specs.declared.selector.node_list.NodeList.{NodeList}
 use Rattle.jsonb.specs.declared.selector.node_list.NodeList.TheVariants as node_list
 use Rattle.jsonb.specs.declared.selector.selected.MadeItem.{MadeItem}
@@ -53,20 +53,20 @@ mismatch Lax = Ok tt
 mismatch Strict = Err StrictPath
 
 -- the value that an operand's value is
-abbrev pub atom_value : Atom → val.Value
-atom_value atom.Null = val.null
-atom_value (atom.Boolean b) = val.boolean b
-atom_value (atom.Number n) = val.number (number_view n)
-atom_value (atom.String s) = val.text s.now
-atom_value atom.Raw = val.raw
+abbrev pub value_view : OperandValue → val.Value
+value_view operand_value.Null = val.null
+value_view (operand_value.Boolean b) = val.boolean b
+value_view (operand_value.Number n) = val.number (number_view n)
+value_view (operand_value.String s) = val.text s.now
+value_view operand_value.Container = val.container
 
-abbrev pub option_atoms : Option Atom → List val.Value
-option_atoms (Some o) = atom_value o ∷ []
-option_atoms None = []
+abbrev pub option_values : Option OperandValue → List val.Value
+option_values (Some o) = value_view o ∷ []
+option_values None = []
 
-abbrev pub atoms_view : Atoms → List val.Value
-atoms_view (atoms.One o) = atom_value o ∷ []
-atoms_view (atoms.Many v) = map atom_value v.items
+abbrev pub values_view : OperandValues → List val.Value
+values_view (operand_values.One o) = value_view o ∷ []
+values_view (operand_values.Many v) = map value_view v.items
 
 abbrev pub option_spots : Option Spot → List Spot
 option_spots (Some spot) = spot ∷ []

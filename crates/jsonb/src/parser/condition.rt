@@ -3,7 +3,7 @@
 ghost use Rattle.std.specs.Prelude.{◌≡◌, ◌<◌, ◌≤◌, length, None, Some, IfOk, IfSome};
 ghost use Rattle.jsonb_keypath.specs.Views.{read_as};
 ghost use Rattle.jsonb.specs.PathViews.{operator_view, expression_view};
-ghost use Rattle.jsonb.specs.Private.Frames.{joined_view, level_outcome, joining_outcome, joining_rest, IsLevel, IsJoining};
+ghost use Rattle.jsonb.specs.Private.Frames.{joined_view, partial_outcome, after_condition_outcome, after_condition_rest, IsPartial, IsAfterCondition};
 
 use super::token::separator_at;
 use crate::path::{BinaryOperator, Expr};
@@ -17,26 +17,26 @@ pub(super) struct Joined<'a> {
     before: &'a [u8],
 }
 
-/// One expression between its parentheses while its conditions are read, up to the next one.
+/// An expression of which a part is read: its conditions up to the next one.
 #[derive(Drop)]
-pub(super) struct Level<'a> {
+pub(super) struct PartialExpr<'a> {
     pub is_in_filter: bool,
     all: Option<Joined<'a>>,
     any: Option<Joined<'a>>,
 }
 
-/// What follows a condition: another one in the same level, or the end of the level's list.
-pub(super) enum Joining<'a> {
-    Next(Level<'a>, &'a [u8]),
+/// What follows a condition: another one of the same expression, or the end of its list.
+pub(super) enum AfterCondition<'a> {
+    Next(PartialExpr<'a>, &'a [u8]),
     Whole(Expr<'a>, &'a [u8]),
 }
 
-impl<'a> Level<'a> {
+impl<'a> PartialExpr<'a> {
     /// Before the first condition.
-    pub(super) fn new(is_in_filter: bool) -> Level<'a>
+    pub(super) fn new(is_in_filter: bool) -> PartialExpr<'a>
         ensures { result ≡ record { is_in_filter = is_in_filter; all = None; any = None } }
     {
-        Level {
+        PartialExpr {
             is_in_filter,
             all: None,
             any: None,
@@ -44,12 +44,12 @@ impl<'a> Level<'a> {
     }
 
     /// What is read where no condition follows any more.
-    #[tactic(auto, unfolding(crate::specs::Private::Frames::level_outcome))]
+    #[tactic(auto, unfolding(crate::specs::Private::Frames::partial_outcome))]
     pub(super) fn ended(self) -> Option<(Expr<'a>, &'a [u8])>
-        requires { IsLevel self }
-        ensures { read_as expression_view result ≡ level_outcome self.entry None }
+        requires { IsPartial self }
+        ensures { read_as expression_view result ≡ partial_outcome self.entry None }
     {
-        let Level { all, any, .. } = self;
+        let PartialExpr { all, any, .. } = self;
         match all {
             Some(last) => match any {
                 Some(first) => {
@@ -67,30 +67,30 @@ impl<'a> Level<'a> {
     }
 }
 
-/// The level behind one condition more.
+/// The expression behind one condition more.
 pub(super) fn behind_condition<'a>(
     alloc: Global,
-    level: Level<'a>,
+    partial: PartialExpr<'a>,
     found: Expr<'a>,
     rest: &'a [u8],
-) -> Result<Joining<'a>, AllocError>
-    requires { IsLevel level }
-    ensures value { IfOk result (λ found_next. joining_outcome found_next ≡
-        level_outcome level.entry (Some (expression_view found.entry, rest.now))) }
-    ensures is_level { IfOk result IsJoining }
-    ensures shrinks { IfOk result (λ found_next. length (joining_rest found_next) ≤ length rest.now) }
+) -> Result<AfterCondition<'a>, AllocError>
+    requires { IsPartial partial }
+    ensures value { IfOk result (λ found_next. after_condition_outcome found_next ≡
+        partial_outcome partial.entry (Some (expression_view found.entry, rest.now))) }
+    ensures is_partial { IfOk result IsAfterCondition }
+    ensures shrinks { IfOk result (λ found_next. length (after_condition_rest found_next) ≤ length rest.now) }
 {
-    let Level {
+    let PartialExpr {
         is_in_filter,
         all,
         any,
-    } = level;
+    } = partial;
     let found = join(alloc, BinaryOperator::And, all, found)?;
     if let Some(after) = separator_at(b"&&", rest) {
         let left = Box::new(alloc, found)?;
         let all = Some(Joined { left, before: rest });
-        return Ok(Joining::Next(
-            Level {
+        return Ok(AfterCondition::Next(
+            PartialExpr {
                 is_in_filter,
                 all,
                 any,
@@ -102,8 +102,8 @@ pub(super) fn behind_condition<'a>(
     if let Some(after) = separator_at(b"||", rest) {
         let left = Box::new(alloc, found)?;
         let any = Some(Joined { left, before: rest });
-        return Ok(Joining::Next(
-            Level {
+        return Ok(AfterCondition::Next(
+            PartialExpr {
                 is_in_filter,
                 all: None,
                 any,
@@ -111,7 +111,7 @@ pub(super) fn behind_condition<'a>(
             after,
         ));
     }
-    Ok(Joining::Whole(found, rest))
+    Ok(AfterCondition::Whole(found, rest))
 }
 
 fn join<'a>(

@@ -6,18 +6,18 @@ ghost use Rattle.std.specs.Prelude.{◌≡◌, ◌<◌, false, length, IfOk};
 ghost use Rattle.jsonb.specs.PathGrammar.{expression};
 ghost use Rattle.jsonb_keypath.specs.Views.{read_as, LeavesLess};
 ghost use Rattle.jsonb.specs.PathViews.{expression_view};
-ghost use Rattle.jsonb.specs.Private.Frames.{level_outcome, opening_outcome, resumed, IsLevel, IsOpening, AreFrames};
+ghost use Rattle.jsonb.specs.Private.Frames.{partial_outcome, opening_outcome, resumed, IsPartial, IsOpening, AreFrames};
 
 use super::Reading;
-use super::condition::{Joining, Level, behind_condition};
+use super::condition::{AfterCondition, PartialExpr, behind_condition};
 use super::opening::{Opened, Opening, closed_at, opening_at};
 use crate::path::Expr;
 use std::alloc::{AllocError, Global};
 
-/// A level that waits for what stands inside an open parenthesis.
+/// An expression that waits for what stands inside an open parenthesis.
 #[derive(Drop)]
 struct Frame<'a> {
-    level: Level<'a>,
+    partial: PartialExpr<'a>,
     opened: Opened<'a>,
 }
 
@@ -41,35 +41,35 @@ pub(super) fn expression_from<'a>(
     first: Opening<'a>,
 ) -> Reading<'a, Expr<'a>>
     requires { IsOpening first }
-    ensures { IfOk result (λ found. read_as expression_view found ≡ level_outcome
+    ensures { IfOk result (λ found. read_as expression_view found ≡ partial_outcome
         (record { is_in_filter = is_in_filter; all = None; any = None }) (opening_outcome is_in_filter first.entry)) }
 {
     let mut frames = Vec::new(alloc);
-    let mut level = Level::new(is_in_filter);
+    let mut partial = PartialExpr::new(is_in_filter);
     let mut opening = first;
     loop {
         match opening {
-            Opening::Nothing => return Ok(failed(frames, level)),
+            Opening::Nothing => return Ok(failed(frames, partial)),
             Opening::Inside(opened, inside) => {
-                let is_in_filter = opened.is_in_filter(level.is_in_filter);
-                frames.push(Frame { level, opened })?;
-                level = Level::new(is_in_filter);
+                let is_in_filter = opened.is_in_filter(partial.is_in_filter);
+                frames.push(Frame { partial, opened })?;
+                partial = PartialExpr::new(is_in_filter);
                 opening = opening_at(alloc, is_in_filter, inside)?;
             }
-            Opening::Atom(found, rest) => match behind_condition(alloc, level, found, rest)? {
-                Joining::Next(next, after) => {
+            Opening::Atom(found, rest) => match behind_condition(alloc, partial, found, rest)? {
+                AfterCondition::Next(next, after) => {
                     opening = opening_at(alloc, next.is_in_filter, after)?;
-                    level = next;
+                    partial = next;
                 }
-                Joining::Whole(whole, end) => match frames.pop() {
+                AfterCondition::Whole(whole, end) => match frames.pop() {
                     None => return Ok(Some((whole, end))),
                     Some(
                         Frame {
-                            level: outer,
+                            partial: outer,
                             opened,
                         },
                     ) => {
-                        level = outer;
+                        partial = outer;
                         opening = closed_at(alloc, opened, whole, end)?;
                     }
                 },
@@ -78,14 +78,14 @@ pub(super) fn expression_from<'a>(
     }
 }
 
-/// What the outermost level has so far: behind a separator or an open parenthesis nothing is read that ends well.
-fn failed<'a>(mut frames: Vec<Frame<'a>>, level: Level<'a>) -> Option<(Expr<'a>, &'a [u8])>
-    requires { AreFrames frames.items × IsLevel level }
-    ensures { read_as expression_view result ≡ resumed frames.entry.items (level_outcome level.entry None) }
+/// What the outermost expression has so far: behind a separator or an open parenthesis nothing is read that ends well.
+fn failed<'a>(mut frames: Vec<Frame<'a>>, partial: PartialExpr<'a>) -> Option<(Expr<'a>, &'a [u8])>
+    requires { AreFrames frames.items × IsPartial partial }
+    ensures { read_as expression_view result ≡ resumed frames.entry.items (partial_outcome partial.entry None) }
 {
-    let mut outer = level;
+    let mut outer = partial;
     while let Some(frame) = frames.pop() {
-        outer = frame.level;
+        outer = frame.partial;
     }
     outer.ended()
 }

@@ -7,7 +7,7 @@ ghost use Rattle.jsonb_keypath.specs.Views.{read_as, LeavesLess};
 ghost use Rattle.jsonb.specs.PathViews.{place_view, entry_view};
 
 use super::Reading;
-use super::token::word_at;
+use super::token::keyword_at;
 use crate::path::{ArrayIndex, Index};
 use jsonb_keypath::token::{int32, literal, skip_space};
 use std::alloc::Global;
@@ -27,7 +27,7 @@ fn place_at(input: &[u8]) -> Option<(Index, &[u8])>
     if let Some((i, rest)) = int32(input) {
         return Some((Index::Index(i), rest));
     }
-    let last = word_at(b"last", input)?;
+    let last = keyword_at(b"last", input)?;
     let sign = skip_space(last);
     if let Some(rest) = literal(b"-", sign) {
         if let Some((i, rest)) = int32(skip_space(rest)) {
@@ -48,7 +48,7 @@ fn entry_at(input: &[u8]) -> Option<(ArrayIndex, &[u8])>
     ensures shrinks { LeavesLess input.now result }
 {
     let (first, rest) = place_at(input)?;
-    if let Some(after) = word_at(b"to", skip_space(rest)) {
+    if let Some(after) = keyword_at(b"to", skip_space(rest)) {
         if let Some((last, end)) = place_at(skip_space(after)) {
             return Some((ArrayIndex::Slice((first, last)), end));
         }

@@ -8,7 +8,7 @@ ghost use Rattle.jsonb.specs.PathViews.{levels_view, step_view, steps_view};
 
 use super::Reading;
 use super::index::entries_at;
-use super::token::{field_at, quoted_at, word_at};
+use super::token::{field_at, quoted_at, keyword_at};
 use crate::path::{Path, RecursiveLevel, RecursiveLevelEnd};
 use jsonb_keypath::token::{literal, nat8, skip_space};
 use std::alloc::{AllocError, Global};
@@ -21,7 +21,7 @@ fn levels_at(input: &[u8]) -> Option<(RecursiveLevel, &[u8])>
     let inside = literal(b"{", input)?;
     let (start, rest) = nat8(skip_space(inside))?;
     let rest = skip_space(rest);
-    if let Some(after) = word_at(b"to", rest) {
+    if let Some(after) = keyword_at(b"to", rest) {
         let after = skip_space(after);
         if let Some((end, last)) = nat8(after) {
             if let Some(closed) = literal(b"}", skip_space(last)) {
@@ -29,7 +29,7 @@ fn levels_at(input: &[u8]) -> Option<(RecursiveLevel, &[u8])>
                 return Some((RecursiveLevel { start, end }, closed));
             }
         }
-        if let Some(last) = word_at(b"last", after) {
+        if let Some(last) = keyword_at(b"last", after) {
             if let Some(closed) = literal(b"}", skip_space(last)) {
                 let end = Some(RecursiveLevelEnd::Last);
                 return Some((RecursiveLevel { start, end }, closed));

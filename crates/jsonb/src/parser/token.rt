@@ -46,8 +46,8 @@ pub(super) fn field_at(alloc: Global, input: &[u8]) -> Reading<'_, CowStr<'_, Gl
     }
 }
 
-/// The input behind a word in any case of its letters.
-pub(super) fn word_at<'a>(text: &[u8], input: &'a [u8]) -> Option<&'a [u8]>
+/// The input behind a keyword in any case of its letters.
+pub(super) fn keyword_at<'a>(text: &[u8], input: &'a [u8]) -> Option<&'a [u8]>
     ensures value { option_map (λ rest. (tt, rest.now)) result ≡ in_any_case text.now input.now }
     ensures shrinks { IfSome result (λ rest. length rest.now + length text.now ≡ length input.now) }
 {

@@ -6,7 +6,7 @@ ghost use Rattle.jsonb.specs.PathViews.{literal_view, step_view, steps_view, exp
 ghost use Rattle.jsonb.specs.Private.Copying.{leaf_view, leaf_parts, so_far_view, so_far_parts, copied_view, copied_parts, step_copy_view};
 
 use super::copying::{
-    Copied, Frame, Holder, Leaf, Progress, Reached, StepCopy, StepsSoFar, first_leaf, go_on,
+    Copied, Frame, Holder, Leaf, Progress, ReachedLeaf, StepCopy, StepsSoFar, first_leaf, go_on,
     holding, listed,
 };
 use super::{Expr, JsonPath, Path, PathValue};
@@ -69,7 +69,7 @@ impl<'a> Expr<'a> {
     {
         let mut reached = first_leaf(alloc, self, Vec::new(alloc))?;
         loop {
-            let Reached { leaf, frames } = reached;
+            let ReachedLeaf { leaf, frames } = reached;
             let copied = copied_leaf(leaf, alloc)?;
             match go_on(alloc, copied, frames)? {
                 Progress::Whole(whole) => return Ok(whole),

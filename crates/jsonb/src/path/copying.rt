@@ -100,7 +100,7 @@ pub(super) enum StepCopy<'e, 'a, 'b> {
 
 /// A leaf, and what stands around it.
 #[derive(Drop)]
-pub(super) struct Reached<'e, 'a, 'b> {
+pub(super) struct ReachedLeaf<'e, 'a, 'b> {
     pub leaf: Leaf<'e, 'a, 'b>,
     pub frames: Vec<Frame<'e, 'a, 'b>>,
 }
@@ -109,7 +109,7 @@ pub(super) struct Reached<'e, 'a, 'b> {
 #[derive(Drop)]
 pub(super) enum Progress<'e, 'a, 'b> {
     /// Up to this leaf.
-    Leaf(Reached<'e, 'a, 'b>),
+    Leaf(ReachedLeaf<'e, 'a, 'b>),
     /// To its end.
     Whole(Expr<'b>),
 }
@@ -129,7 +129,7 @@ pub(super) fn first_leaf<'e, 'a, 'b>(
     alloc: Global,
     expression: &'e Expr<'a>,
     mut frames: Vec<Frame<'e, 'a, 'b>>,
-) -> Result<Reached<'e, 'a, 'b>, Error>
+) -> Result<ReachedLeaf<'e, 'a, 'b>, Error>
     ensures whole { IfOk result (λ reached. framed reached.frames.items (leaf_view reached.leaf)
         ≡ framed frames.entry.items (expression_view expression.now)) }
     ensures fewer { IfOk result (λ reached. waiting reached.frames.items + leaf_parts reached.leaf
@@ -152,15 +152,15 @@ pub(super) fn first_leaf<'e, 'a, 'b>(
             }
             Expr::Value(literal) => {
                 let leaf = Leaf::Value(literal);
-                return Ok(Reached { leaf, frames });
+                return Ok(ReachedLeaf { leaf, frames });
             }
             Expr::Paths(steps) => {
                 let leaf = Leaf::Steps(none_copied(alloc, StepsKind::Paths, steps)?);
-                return Ok(Reached { leaf, frames });
+                return Ok(ReachedLeaf { leaf, frames });
             }
             Expr::ExistsFunc(steps) => {
                 let leaf = Leaf::Steps(none_copied(alloc, StepsKind::Exists, steps)?);
-                return Ok(Reached { leaf, frames });
+                return Ok(ReachedLeaf { leaf, frames });
             }
         }
     }
@@ -210,7 +210,7 @@ pub(super) fn go_on<'e, 'a, 'b>(
             Next::Right(right) => Ok(Progress::Leaf(first_leaf(alloc, right, frames)?)),
             Next::Steps(steps) => {
                 let leaf = Leaf::Steps(steps);
-                Ok(Progress::Leaf(Reached { leaf, frames }))
+                Ok(Progress::Leaf(ReachedLeaf { leaf, frames }))
             }
         },
     }

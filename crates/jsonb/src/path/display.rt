@@ -3,7 +3,7 @@
 ghost use Rattle.std.specs.Prelude.{◌≡◌, [], ◌∷◌, ◌++◌, Some, codes, map, flat_map};
 ghost use Rattle.std.specs.Fmt.{WritesOnOk};
 ghost use Rattle.hex.specs.Hex.{encode_lower};
-ghost use Rattle.jsonb.specs.PathText.{offset_text, place_text, entry_text, entries_text, other_entry_text, level_text, operator_text, sign_text, literal_text, is_joined, side_text, step_text, steps_text, expression_text, path_text};
+ghost use Rattle.jsonb.specs.PathText.{offset_text, place_text, entry_text, entries_text, other_entry_text, level_text, operator_text, sign_text, literal_text, needs_parentheses, side_text, step_text, steps_text, expression_text, path_text};
 ghost use Rattle.jsonb.specs.PathTree.{steps_of};
 ghost use Rattle.jsonb.specs.Private.ChainText.{parenthesis, front_text, fronts_text, link_text, links_text};
 ghost use Rattle.jsonb.specs.Private.Last.{down, step_before, steps_before, text_before, between_text, closing};
@@ -126,7 +126,7 @@ fn closing_of(expression: &Expr<'_>) -> &'static str
     ensures { result.now ≡ closing (expression_view expression.now) }
 {
     match expression {
-        Expr::BinaryOp { right, .. } if is_joined(right) => ")",
+        Expr::BinaryOp { right, .. } if needs_parentheses(right) => ")",
         Expr::Paths(steps) if ends_in_filter(steps) => ")",
         Expr::ExistsFunc(steps) if ends_in_filter(steps) => "))",
         Expr::ExistsFunc(_) => ")",
@@ -213,7 +213,7 @@ fn write_front<W: fmt::Write>(pair: &Expr<'_>, f: &mut fmt::Formatter<W>) -> fmt
     ensures { WritesOnOk W.write_str_gives f.old result (front_text (expression_view pair.now)) f.new }
 {
     match pair {
-        Expr::BinaryOp { left, .. } if is_joined(left) => f.write_str("("),
+        Expr::BinaryOp { left, .. } if needs_parentheses(left) => f.write_str("("),
         _ => Ok(()),
     }
 }
@@ -258,7 +258,7 @@ fn write_between<W: fmt::Write>(pair: &Expr<'_>, f: &mut fmt::Formatter<W>) -> f
     let Expr::BinaryOp { op, left, .. } = pair else {
         return Ok(());
     };
-    if is_joined(left) {
+    if needs_parentheses(left) {
         f.write_str(")")?;
     }
     write!(f, " {op} ")
@@ -270,7 +270,7 @@ fn write_side<W: fmt::Write>(side: &Expr<'_>, f: &mut fmt::Formatter<W>) -> fmt:
     ensures { WritesOnOk W.write_str_gives f.old result
         (side_text (expression_view side.now) (expression_text (expression_view side.now))) f.new }
 {
-    if is_joined(side) {
+    if needs_parentheses(side) {
         f.write_str("(")?;
         write_expression(side, f)?;
         f.write_str(")")
@@ -283,7 +283,7 @@ fn write_side<W: fmt::Write>(side: &Expr<'_>, f: &mut fmt::Formatter<W>) -> fmt:
 fn write_opening<W: fmt::Write>(side: &Expr<'_>, f: &mut fmt::Formatter<W>) -> fmt::Result
     ensures { WritesOnOk W.write_str_gives f.old result (parenthesis (expression_view side.now) (codes "(")) f.new }
 {
-    if is_joined(side) {
+    if needs_parentheses(side) {
         f.write_str("(")
     } else {
         Ok(())
@@ -291,8 +291,8 @@ fn write_opening<W: fmt::Write>(side: &Expr<'_>, f: &mut fmt::Formatter<W>) -> f
 }
 
 /// Whether the expression joins conditions: as a side it stands in parentheses.
-fn is_joined(expression: &Expr<'_>) -> bool
-    ensures { result ≡ is_joined (expression_view expression.now) }
+fn needs_parentheses(expression: &Expr<'_>) -> bool
+    ensures { result ≡ needs_parentheses (expression_view expression.now) }
 {
     matches!(
         expression,

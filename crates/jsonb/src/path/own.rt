@@ -8,7 +8,7 @@ ghost use Rattle.jsonb.specs.Private.Copying.{leaf_view, leaf_parts, leaf_has_do
 ghost use Rattle.jsonb.specs.PathViews.{literal_view, step_view, steps_view, expression_view, path_view};
 
 use super::copying::{
-    Copied, Frame, Holder, Leaf, Progress, Reached, StepCopy, StepsSoFar, first_leaf, go_on,
+    Copied, Frame, Holder, Leaf, Progress, ReachedLeaf, StepCopy, StepsSoFar, first_leaf, go_on,
     holding, listed,
 };
 use super::{Expr, JsonPath, Path, PathValue};
@@ -79,7 +79,7 @@ impl Expr<'_> {
     {
         let mut reached = first_leaf(alloc, self, Vec::new(alloc))?;
         loop {
-            let Reached { leaf, frames } = reached;
+            let ReachedLeaf { leaf, frames } = reached;
             let copied = owned_leaf(leaf, alloc)?;
             match go_on(alloc, copied, frames)? {
                 Progress::Whole(whole) => return Ok(whole),

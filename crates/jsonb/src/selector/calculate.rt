@@ -7,11 +7,11 @@ ghost use Rattle.jsonb_doc.specs.View.{number_view};
 ghost use Rattle.jsonb.specs.PathArithmetic.{operation, two_numbers, signed_number, each_signed};
 ghost use Rattle.jsonb.specs.PathViews.{operator_view, sign_view};
 ghost use Rattle.std.specs.List.{AllZip};
-ghost use Rattle.jsonb.specs.Private.Selection.{atom_value, only_number, is_number, are_numbers, signed_value, IsNumberTree, IsNumberItem};
+ghost use Rattle.jsonb.specs.Private.Selection.{value_view, only_number, is_number, are_numbers, signed_value, IsNumberTree, IsNumberItem};
 ghost use Rattle.jsonb.specs.SelectionErrors.{IsPathError, IsSelectionError};
 ghost use Rattle.jsonb.specs.declared.selector.document.Mode.{Mode};
 
-use super::atom::Atom;
+use super::operand_value::OperandValue;
 use crate::path::{BinaryOperator, UnaryOperator};
 use jsonb_doc::{Error, Number};
 use std::alloc::Global;
@@ -47,11 +47,11 @@ fn calculate(op: BinaryOperator, left: Number, right: Number) -> Result<Number, 
 }
 
 /// The one value, where it is a number.
-fn only_number(values: &[Atom<'_>]) -> Option<Number>
-    ensures { option_map number_view result ≡ only_number (map atom_value values.now) }
+fn only_number(values: &[OperandValue<'_>]) -> Option<Number>
+    ensures { option_map number_view result ≡ only_number (map value_view values.now) }
 {
     match values {
-        [Atom::Number(number)] => Some(*number),
+        [OperandValue::Number(number)] => Some(*number),
         _ => None,
     }
 }
@@ -60,11 +60,11 @@ fn only_number(values: &[Atom<'_>]) -> Option<Number>
 /// and else `Arithmetic` for numbers without a result.
 pub(crate) fn binary_number(
     op: BinaryOperator,
-    left: &[Atom<'_>],
-    right: &[Atom<'_>],
+    left: &[OperandValue<'_>],
+    right: &[OperandValue<'_>],
 ) -> Result<Number, Error>
     ensures meant { (o : Operation) → operation (operator_view op) ≡ Some o
-        → Gives IsNumberTree (λ _. ⊥) result (two_numbers o (map atom_value left.now) (map atom_value right.now)) }
+        → Gives IsNumberTree (λ _. ⊥) result (two_numbers o (map value_view left.now) (map value_view right.now)) }
     ensures errors { (mode : Mode) → IfErr result (IsPathError mode) }
 {
     match (only_number(left), only_number(right)) {
@@ -75,8 +75,8 @@ pub(crate) fn binary_number(
 
 /// Whether each value is a number.
 #[inline(always)]
-fn are_numbers(values: &[Atom<'_>]) -> bool
-    ensures { result ≡ are_numbers (map atom_value values.now) }
+fn are_numbers(values: &[OperandValue<'_>]) -> bool
+    ensures { result ≡ are_numbers (map value_view values.now) }
 {
     for value in values {
         if !is_number(value) {
@@ -87,12 +87,12 @@ fn are_numbers(values: &[Atom<'_>]) -> bool
 }
 
 #[inline(always)]
-fn is_number(value: &Atom<'_>) -> bool
-    ensures { result ≡ is_number (atom_value value.now) }
+fn is_number(value: &OperandValue<'_>) -> bool
+    ensures { result ≡ is_number (value_view value.now) }
 {
     match value {
-        Atom::Number(_) => true,
-        Atom::Null | Atom::Boolean(_) | Atom::String(_) | Atom::Raw => false,
+        OperandValue::Number(_) => true,
+        OperandValue::Null | OperandValue::Boolean(_) | OperandValue::String(_) | OperandValue::Container => false,
     }
 }
 
@@ -122,21 +122,21 @@ pub(crate) fn sign_each(op: UnaryOperator, numbers: &mut [Number]) -> Result<(),
 
 /// A value behind a sign. A value that is no number is refused with `InvalidJsonPath`.
 #[inline(always)]
-fn signed_value(op: UnaryOperator, value: &Atom<'_>) -> Result<Number, Error>
-    ensures meant { Gives IsNumberTree (λ _. ⊥) result (signed_value (sign_view op) (atom_value value.now)) }
+fn signed_value(op: UnaryOperator, value: &OperandValue<'_>) -> Result<Number, Error>
+    ensures meant { Gives IsNumberTree (λ _. ⊥) result (signed_value (sign_view op) (value_view value.now)) }
     ensures errors { (mode : Mode) → IfErr result (IsPathError mode) }
 {
     match value {
-        Atom::Number(number) => signed(op, *number),
+        OperandValue::Number(number) => signed(op, *number),
         _ => Err(Error::InvalidJsonPath),
     }
 }
 
 /// Each value behind a sign, from left to right.
 #[inline(always)]
-fn each_signed(alloc: Global, op: UnaryOperator, values: &[Atom<'_>]) -> Result<Vec<Number>, Error>
+fn each_signed(alloc: Global, op: UnaryOperator, values: &[OperandValue<'_>]) -> Result<Vec<Number>, Error>
     ensures meant { Gives (λ v ts. AllZip IsNumberItem v.items ts) IsOutOfMemory result
-        (try_flat_map (signed_value (sign_view op)) (map atom_value values.now)) }
+        (try_flat_map (signed_value (sign_view op)) (map value_view values.now)) }
     ensures errors { (mode : Mode) → IfErr result (IsSelectionError mode) }
 {
     let mut numbers = Vec::with_capacity(alloc, values.len())?;
@@ -151,10 +151,10 @@ fn each_signed(alloc: Global, op: UnaryOperator, values: &[Atom<'_>]) -> Result<
 pub(crate) fn unary_numbers(
     alloc: Global,
     op: UnaryOperator,
-    values: &[Atom<'_>],
+    values: &[OperandValue<'_>],
 ) -> Result<Vec<Number>, Error>
     ensures meant { Gives (λ v ts. AllZip IsNumberItem v.items ts) IsOutOfMemory result
-        (each_signed (sign_view op) (map atom_value values.now)) }
+        (each_signed (sign_view op) (map value_view values.now)) }
     ensures errors { (mode : Mode) → IfErr result (IsSelectionError mode) }
 {
     if are_numbers(values) {

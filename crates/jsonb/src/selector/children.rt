@@ -2,7 +2,7 @@
 
 ghost use Rattle.std.specs.Prelude.{◌≡◌, ℕ, ◌<◌, ◌^◌, ◌++◌, ◌∷◌, [], map, List, Ok, false, IfOk, IfSome, IfErr, OnOk, IsOkAnd, if◌then◌else◌, pos, ⊤, MatchOption, filter_map, slice_get};
 ghost use Rattle.jsonb_doc.specs.Answer.{Gives, SameOption, IsOutOfMemory, ◌or◌, IsDecodingError};
-ghost use Rattle.jsonb_doc.specs.declared.error.Error.TheVariants.{OutOfMemory};
+ghost use Rattle.jsonb_doc.specs.declared.error.Error.TheVariants.{OutOfMemory, StrictPath};
 ghost use Rattle.jsonb_doc.specs.Spots.{Locates, HasSpotsLeft, spots_bound};
 ghost use Rattle.jsonb_doc.specs.Payload.{any};
 ghost use Rattle.jsonb_doc.specs.Item.{StandsFor};
@@ -15,6 +15,7 @@ ghost use Rattle.jsonb.specs.ItemSteps.{values_of, field_step, values_step, elem
 ghost use Rattle.jsonb.specs.Meaning.{step_meaning};
 ghost use Rattle.jsonb.specs.Private.Selection.{PushesStep, is_filter, mismatch};
 ghost use Rattle.jsonb.specs.SelectionErrors.{IsSelectionError};
+ghost use Rattle.jsonb.specs.declared.selector.document.Mode.TheVariants.{Lax, Strict};
 
 use super::document::Mode;
 use super::levels::push_levels;
@@ -134,8 +135,10 @@ pub(crate) fn push_step(
 
 /// A step that does not fit an item: in strict mode it is refused.
 #[inline(always)]
-fn mismatch(mode: Mode) -> Result<(), Error>
+pub(crate) fn mismatch(mode: Mode) -> Result<(), Error>
     ensures answer { result ≡ mismatch mode }
+    ensures lax { OnOk result (mode ≡ Lax) }
+    ensures strict { IfErr result (λ e. (mode ≡ Strict) × (e ≡ StrictPath)) }
     ensures errors { IfErr result (IsSelectionError mode) }
 {
     match mode {
@@ -180,10 +183,10 @@ fn push_elements(bytes: &[u8], mode: Mode, item: Spot, nodes: &mut Vec<Spot>) ->
 {
     match elements(bytes, item)? {
         Some(elements) => push_spots(elements, nodes),
-        None => match mode {
-            Mode::Lax => push_spot(nodes, item),
-            Mode::Strict => Err(Error::StrictPath),
-        },
+        None => {
+            mismatch(mode)?;
+            push_spot(nodes, item)
+        }
     }
 }
 

@@ -13,10 +13,10 @@ ghost use Rattle.jsonb.specs.Values.{values_of_item};
 ghost use Rattle.jsonb.specs.Meaning.{step_meaning, operand_values, truth};
 ghost use Rattle.jsonb.specs.Private.Compared.{IsMemberCompared};
 ghost use Rattle.jsonb.specs.Private.Members.{are_members};
-ghost use Rattle.jsonb.specs.Private.Selection.{node_spots, atom_value};
+ghost use Rattle.jsonb.specs.Private.Selection.{node_spots, value_view};
 ghost use Rattle.jsonb.specs.SelectionErrors.{IsSelectionError};
 
-use super::atom::{Atom, literal_atom, short_number_truth};
+use super::operand_value::{OperandValue, value_of_literal, short_number_truth};
 use super::children::push_if;
 use super::compared_member::compared_truth;
 use super::document::{Mode, TruthResult};
@@ -34,7 +34,7 @@ pub(crate) struct MemberCompared<'s, 'a> {
     pub(crate) op: BinaryOperator,
     /// The steps behind `@`.
     pub(crate) names: &'s [Path<'a>],
-    pub(crate) literal: Atom<'s>,
+    pub(crate) literal: OperandValue<'s>,
 }
 
 /// The comparison that a filter is, if it is one.
@@ -68,12 +68,12 @@ fn names_of<'s, 'a>(operand: &'s Expr<'a>) -> Option<&'s [Path<'a>]>
 }
 
 /// The value of an operand that is a literal.
-pub(crate) fn literal_of<'s>(operand: &'s Expr<'_>) -> Option<Atom<'s>>
+pub(crate) fn literal_of<'s>(operand: &'s Expr<'_>) -> Option<OperandValue<'s>>
     ensures { MatchOption result ⊤ (λ literal. (mode : Mode) (top t : Tree)
-        → operand_values mode (expression_view operand.now) top t ≡ Ok (atom_value literal ∷ [])) }
+        → operand_values mode (expression_view operand.now) top t ≡ Ok (value_view literal ∷ [])) }
 {
     match operand {
-        Expr::Value(literal) => Some(literal_atom(literal)),
+        Expr::Value(literal) => Some(value_of_literal(literal)),
         Expr::Paths(_) | Expr::BinaryOp { .. } | Expr::UnaryOp { .. } | Expr::ExistsFunc(_) => None,
     }
 }
@@ -150,7 +150,7 @@ fn value_truth(
 ) -> TruthResult
     ensures meant { (t : Tree) → Locates bytes.now value t
         → Gives (λ b c. b ≡ c) IsOutOfMemory result (Ok (compare (operator_view comparison.now.op)
-        (values_of_item t) (atom_value comparison.now.literal ∷ []))) }
+        (values_of_item t) (value_view comparison.now.literal ∷ []))) }
     ensures errors { IfErr result (IsDecodingError or OutOfMemory) }
 {
     let MemberCompared { op, literal, .. } = comparison;
@@ -167,11 +167,11 @@ fn other_truth(
     op: BinaryOperator,
     bytes: &[u8],
     item: Spot,
-    literal: &Atom<'_>,
+    literal: &OperandValue<'_>,
 ) -> TruthResult
     ensures meant { (t : Tree) → Locates bytes.now item t
         → Gives (λ b c. b ≡ c) IsOutOfMemory result
-        (Ok (compare (operator_view op) (values_of_item t) (atom_value literal.now ∷ []))) }
+        (Ok (compare (operator_view op) (values_of_item t) (value_view literal.now ∷ []))) }
     ensures errors { IfErr result (IsDecodingError or OutOfMemory) }
 {
     compared_truth(alloc, op, bytes, Some(item), slice::from_ref(literal))

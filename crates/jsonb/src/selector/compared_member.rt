@@ -12,10 +12,10 @@ ghost use Rattle.jsonb.specs.Compare.{compare};
 ghost use Rattle.jsonb.specs.Values.{values_of_item};
 ghost use Rattle.jsonb.specs.Meaning.{operand_values};
 ghost use Rattle.jsonb.specs.Private.Members.{are_members};
-ghost use Rattle.jsonb.specs.Private.Selection.{IsAt, HasTree, option_spots, atom_value};
+ghost use Rattle.jsonb.specs.Private.Selection.{IsAt, HasTree, option_spots, value_view};
 ghost use Rattle.jsonb.specs.SelectionErrors.{IsSelectionError};
 
-use super::atom::{Atom, compare, compare_number, compare_one, item_atom};
+use super::operand_value::{OperandValue, compare, compare_number, compare_one, value_of_item};
 use super::document::{Current, TruthResult};
 use super::members::{member, starting_item};
 use super::node_list::NodeList;
@@ -30,13 +30,13 @@ pub(crate) fn member_truth(
     current: Current<'_, '_>,
     op: BinaryOperator,
     steps: &[Path<'_>],
-    rights: &[Atom<'_>],
+    rights: &[OperandValue<'_>],
 ) -> TruthResult
     ensures meant { (top t : Tree) → are_members (steps_view steps.now) ≡ true
         → HasTree current.entry.context.now.document top → IsAt current.entry.context.now.document current.entry.item t
         → Gives (λ b c. b ≡ c) IsOutOfMemory result
         (and_then (operand_values current.entry.context.now.mode (paths (steps_of (steps_view steps.now))) top t)
-        (λ ls. Ok (compare (operator_view op) ls (map atom_value rights.now)))) }
+        (λ ls. Ok (compare (operator_view op) ls (map value_view rights.now)))) }
     ensures errors { IfErr result (IsSelectionError current.entry.context.now.mode) }
 {
     let Current { context, item } = current;
@@ -52,11 +52,11 @@ pub(crate) fn compared_truth(
     op: BinaryOperator,
     bytes: &[u8],
     member: Option<Spot>,
-    rights: &[Atom<'_>],
+    rights: &[OperandValue<'_>],
 ) -> TruthResult
     ensures meant { (ts : List Tree) → AllZip (Locates bytes.now) (option_spots member) ts
         → Gives (λ b c. b ≡ c) IsOutOfMemory result
-        (Ok (compare (operator_view op) (flat_map values_of_item ts) (map atom_value rights.now))) }
+        (Ok (compare (operator_view op) (flat_map values_of_item ts) (map value_view rights.now))) }
     ensures errors { IfErr result (IsDecodingError or OutOfMemory) }
 {
     let Some(spot) = member else {
@@ -66,7 +66,7 @@ pub(crate) fn compared_truth(
     match item {
         Item::Array(_) => array_truth(alloc, op, bytes, spot, rights),
         Item::Number(number) => Ok(compare_number(op, &number, rights)),
-        _ => match item_atom(item) {
+        _ => match value_of_item(item) {
             Some(value) => Ok(compare_one(op, &value, rights)),
             None => Ok(Some(false)),
         },
@@ -80,11 +80,11 @@ fn array_truth(
     op: BinaryOperator,
     bytes: &[u8],
     item: Spot,
-    rights: &[Atom<'_>],
+    rights: &[OperandValue<'_>],
 ) -> TruthResult
     ensures meant { (ts : List Tree) → AllZip (Locates bytes.now) (item ∷ []) ts
         → Gives (λ b c. b ≡ c) IsOutOfMemory result
-        (Ok (compare (operator_view op) (flat_map values_of_item ts) (map atom_value rights.now))) }
+        (Ok (compare (operator_view op) (flat_map values_of_item ts) (map value_view rights.now))) }
     ensures errors { IfErr result (IsDecodingError or OutOfMemory) }
 {
     let values = found_values(alloc, bytes, NodeList::One(item))?;

@@ -6,11 +6,11 @@ ghost use Rattle.jsonb_doc.specs.Tree.{Tree};
 ghost use Rattle.jsonb.specs.PathTree.{Expression, BinaryOp, binary, exists, steps_of};
 ghost use Rattle.jsonb.specs.PathViews.{expression_view, operator_view, steps_view};
 ghost use Rattle.jsonb.specs.Meaning.{truth, operand_values, filtered};
-ghost use Rattle.jsonb.specs.Private.Selection.{atoms_view, begins_with_current, IsKept};
+ghost use Rattle.jsonb.specs.Private.Selection.{values_view, begins_with_current, IsKept};
 ghost use Rattle.jsonb.specs.Private.Kept.{AreKept, IsSame, kept_part, is_condition, is_comparison, is_fixed};
 ghost use Rattle.jsonb.specs.declared.selector.document.Mode.{Mode};
 
-use super::atom::Atoms;
+use super::operand_value::OperandValues;
 use crate::path::{BinaryOperator, Expr, Path};
 use jsonb_doc::Error;
 use std::alloc::Global;
@@ -20,8 +20,8 @@ use std::alloc::Global;
 pub(crate) enum KeptPart<'a> {
     Nothing,
     Truth(Option<bool>),
-    Left(Atoms<'a>),
-    Right(Atoms<'a>),
+    Left(OperandValues<'a>),
+    Right(OperandValues<'a>),
 }
 
 /// Part after part, in the order in which the comparisons and `exists` of a filter are executed, as far as the
@@ -114,14 +114,14 @@ impl<'a> Kept<'a> {
 pub(crate) fn comparison_part<'a>(
     left: &Expr<'_>,
     right: &Expr<'_>,
-    lefts: Atoms<'a>,
-    rights: Atoms<'a>,
+    lefts: OperandValues<'a>,
+    rights: OperandValues<'a>,
     answer: Option<bool>,
 ) -> KeptPart<'a>
     ensures { (mode : Mode) (top t : Tree) (op : BinaryOp)
         → is_condition (binary op (expression_view left.now) (expression_view right.now)) ≡ true
-        → operand_values mode (expression_view left.now) top t ≡ Ok (atoms_view lefts.entry)
-        → operand_values mode (expression_view right.now) top t ≡ Ok (atoms_view rights.entry)
+        → operand_values mode (expression_view left.now) top t ≡ Ok (values_view lefts.entry)
+        → operand_values mode (expression_view right.now) top t ≡ Ok (values_view rights.entry)
         → truth mode (binary op (expression_view left.now) (expression_view right.now)) top t ≡ Ok answer
         → IsSame mode top result (binary op (expression_view left.now) (expression_view right.now)) }
 {

@@ -8,7 +8,7 @@ ghost use Rattle.jsonb_doc.specs.Tree.{Tree};
 ghost use Rattle.jsonb.specs.PathTree.{Levels};
 ghost use Rattle.jsonb.specs.PathViews.{levels_view};
 ghost use Rattle.std.specs.List.{AllZip};
-ghost use Rattle.jsonb.specs.Preorder.{answer_at, own, preorder};
+ghost use Rattle.jsonb.specs.Preorder.{answer_at, taken_item, preorder};
 ghost use Rattle.jsonb.specs.Private.Below.{AreBelow, KeepsLevel, PassesLeaves, AreLevelsOf};
 
 use super::children::push_if;
@@ -162,7 +162,7 @@ fn push_item<'a>(
 ) -> Result<Option<OpenLevel<'a>>, Error>
     ensures meant { (levels : Option Levels) (t : Tree) (n : ℕ) (before : List Tree) → AreLevelsOf levels range
         → level ≡ min n 256 → Locates bytes.now item t → AllZip (Locates bytes.now) nodes.old.items before
-        → MatchResult result (λ below. AllZip (Locates bytes.now) nodes.new.items (before ++ own levels n t)
+        → MatchResult result (λ below. AllZip (Locates bytes.now) nodes.new.items (before ++ taken_item levels n t)
         × AreBelow bytes.now levels n t below) IsOutOfMemory }
     ensures room { IfOk result (λ below. IfSome below (λ within. spots_room within.children < spot_size item)) }
     ensures bound { IfOk result (λ below. IfSome below (λ within. spots_bound within.children < 2 ^ 64)) }

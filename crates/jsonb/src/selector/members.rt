@@ -15,6 +15,7 @@ ghost use Rattle.jsonb.specs.declared.selector.document.Expressions.{Expressions
 ghost use Rattle.jsonb.specs.declared.selector.document.Mode.{Mode};
 ghost use Rattle.jsonb.specs.SelectionErrors.{IsSelectionError};
 
+use super::children::mismatch;
 use super::document::{Document, Mode};
 use super::kept::begins_with_current;
 use crate::path::{Expr, Path};
@@ -75,10 +76,10 @@ fn field(bytes: &[u8], mode: Mode, name: &str, item: Spot) -> Result<Option<Spot
 {
     match field_spot(bytes, item, name)? {
         Some(value) => Ok(Some(value)),
-        None => match mode {
-            Mode::Lax => Ok(None),
-            Mode::Strict => Err(Error::StrictPath),
-        },
+        None => {
+            mismatch(mode)?;
+            Ok(None)
+        }
     }
 }
 

@@ -9,7 +9,7 @@ ghost use Rattle.jsonb.specs.ItemSteps.{field_step};
 ghost use Rattle.jsonb.specs.PathViews.{step_view, steps_view, expression_view};
 ghost use Rattle.std.specs.List.{AllZip};
 ghost use Rattle.jsonb.specs.Meaning.{step_meaning, steps_meaning, truth, operand_values, is_some_item};
-ghost use Rattle.jsonb.specs.Private.Selection.{IsAt, HasTree, node_spots, atoms_view, taken_step, is_filter, IsPlain};
+ghost use Rattle.jsonb.specs.Private.Selection.{IsAt, HasTree, node_spots, values_view, taken_step, is_filter, IsPlain};
 ghost use Rattle.jsonb.specs.Private.Exists.{is_exists};
 ghost use Rattle.jsonb.specs.Private.Terms.{is_joined, AreTermsOf};
 ghost use Rattle.jsonb.specs.Private.Kept.{conditions, is_condition, IsSame, IsKeptFor, kept_part};
@@ -19,7 +19,7 @@ ghost use Rattle.jsonb.specs.declared.selector.document.Expressions.TheVariants.
 ghost use Rattle.jsonb.specs.declared.path.Path.{size-Path};
 ghost use Rattle.jsonb.specs.SelectionErrors.{IsSelectionError};
 
-use super::atom::{Atoms, compare, literal_atom};
+use super::operand_value::{OperandValues, compare, value_of_literal};
 use super::children::{push_field, push_if, push_step};
 use super::compared_items::{compared_items, member_compared};
 use super::compared_member::member_truth;
@@ -526,10 +526,10 @@ fn leads_to_any<'a>(
 pub(crate) fn operand_values<'a>(
     current: Current<'_, 'a>,
     e: &'a Expr<'_>,
-) -> Result<Atoms<'a>, Error>
+) -> Result<OperandValues<'a>, Error>
     ensures meant { (top t : Tree) → HasTree current.entry.context.now.document top
         → IsAt current.entry.context.now.document current.entry.item t
-        → Gives (λ values vs. atoms_view values ≡ vs) IsOutOfMemory result
+        → Gives (λ values vs. values_view values ≡ vs) IsOutOfMemory result
         (operand_values current.entry.context.now.mode (expression_view e.now) top t) }
     ensures errors { IfErr result (IsSelectionError current.entry.context.now.mode) }
 {
@@ -540,7 +540,7 @@ pub(crate) fn operand_values<'a>(
             let found = select_steps(context, Expressions::AreRefused, steps, first)?;
             found_values(context.alloc, context.document.bytes, found)
         }
-        Expr::Value(literal) => Ok(Atoms::One(literal_atom(literal))),
+        Expr::Value(literal) => Ok(OperandValues::One(value_of_literal(literal))),
         Expr::BinaryOp { .. } | Expr::UnaryOp { .. } | Expr::ExistsFunc(_) => Err(
             Error::InvalidJsonPath,
         ),

@@ -8,7 +8,7 @@ ghost use Rattle.jsonb.specs.declared.path.Expr.{size-Expr};
 ghost use Rattle.jsonb.specs.declared.selector.document.Mode.{Mode};
 ghost use Rattle.jsonb.specs.SelectionErrors.{IsSelectionError};
 
-use super::atom::{and_truth, or_truth};
+use super::operand_value::{and_truth, or_truth};
 use super::kept::Kept;
 use crate::path::{BinaryOperator, Expr};
 use jsonb_doc::Error;

@@ -9,9 +9,9 @@ ghost use Rattle.jsonb_doc.specs.Item.{StandsFor};
 ghost use Rattle.jsonb_doc.specs.Tree.{Tree};
 ghost use Rattle.std.specs.List.{AllZip};
 ghost use Rattle.jsonb.specs.Values.{values_of_item, value_of_item};
-ghost use Rattle.jsonb.specs.Private.Selection.{node_spots, atom_value, atoms_view};
+ghost use Rattle.jsonb.specs.Private.Selection.{node_spots, value_view, values_view};
 
-use super::atom::{Atom, Atoms, item_atom};
+use super::operand_value::{OperandValue, OperandValues, value_of_item};
 use super::children::array_elements;
 use super::node_list::NodeList;
 use jsonb_doc::{Error, Item, Spot, SpotIter, spot_item};
@@ -23,9 +23,9 @@ pub(crate) fn found_values<'a>(
     alloc: Global,
     bytes: &'a [u8],
     items: NodeList,
-) -> Result<Atoms<'a>, Error>
+) -> Result<OperandValues<'a>, Error>
     ensures meant { (ts : List Tree) → AllZip (Locates bytes.now) (node_spots items) ts
-        → Gives (λ values vs. atoms_view values ≡ vs) IsOutOfMemory result (Ok (flat_map values_of_item ts)) }
+        → Gives (λ values vs. values_view values ≡ vs) IsOutOfMemory result (Ok (flat_map values_of_item ts)) }
     ensures errors { IfErr result (IsDecodingError or OutOfMemory) }
 {
     match items {
@@ -35,23 +35,23 @@ pub(crate) fn found_values<'a>(
 }
 
 /// The values of many items.
-fn many_values<'a>(alloc: Global, bytes: &'a [u8], items: &[Spot]) -> Result<Atoms<'a>, Error>
+fn many_values<'a>(alloc: Global, bytes: &'a [u8], items: &[Spot]) -> Result<OperandValues<'a>, Error>
     ensures meant { (ts : List Tree) → AllZip (Locates bytes.now) items.now ts
-        → Gives (λ values vs. atoms_view values ≡ vs) IsOutOfMemory result (Ok (flat_map values_of_item ts)) }
+        → Gives (λ values vs. values_view values ≡ vs) IsOutOfMemory result (Ok (flat_map values_of_item ts)) }
     ensures errors { IfErr result (IsDecodingError or OutOfMemory) }
 {
     let mut values = Vec::with_capacity(alloc, items.len())?;
     for item in items {
         push_values(bytes, *item, &mut values)?;
     }
-    Ok(Atoms::Many(values))
+    Ok(OperandValues::Many(values))
 }
 
 /// The values of one item. One value alone needs no memory.
 #[inline(always)]
-fn item_values<'a>(alloc: Global, bytes: &'a [u8], item: Spot) -> Result<Atoms<'a>, Error>
+fn item_values<'a>(alloc: Global, bytes: &'a [u8], item: Spot) -> Result<OperandValues<'a>, Error>
     ensures meant { (t : Tree) → Locates bytes.now item t
-        → Gives (λ values vs. atoms_view values ≡ vs) IsOutOfMemory result (Ok (values_of_item t)) }
+        → Gives (λ values vs. values_view values ≡ vs) IsOutOfMemory result (Ok (values_of_item t)) }
     ensures errors { IfErr result (IsDecodingError or OutOfMemory) }
 {
     let found = spot_item(bytes, item)?;
@@ -59,20 +59,20 @@ fn item_values<'a>(alloc: Global, bytes: &'a [u8], item: Spot) -> Result<Atoms<'
         Some(elements) => {
             let mut values = Vec::new(alloc);
             push_each(bytes, elements, &mut values)?;
-            Ok(Atoms::Many(values))
+            Ok(OperandValues::Many(values))
         }
         None => {
-            let value = item_atom(found);
-            Ok(Atoms::at_most_one(alloc, value))
+            let value = value_of_item(found);
+            Ok(OperandValues::at_most_one(alloc, value))
         }
     }
 }
 
 /// The values of an item, behind those that there are: an array gives those of its elements.
 #[inline(always)]
-fn push_values<'a>(bytes: &'a [u8], item: Spot, values: &mut Vec<Atom<'a>>) -> Result<(), Error>
+fn push_values<'a>(bytes: &'a [u8], item: Spot, values: &mut Vec<OperandValue<'a>>) -> Result<(), Error>
     ensures meant { (t : Tree) → Locates bytes.now item t
-        → Gives (λ _ vs. map atom_value values.new.items ≡ map atom_value values.old.items ++ vs)
+        → Gives (λ _ vs. map value_view values.new.items ≡ map value_view values.old.items ++ vs)
         IsOutOfMemory result (Ok (values_of_item t)) }
     ensures errors { IfErr result (IsDecodingError or OutOfMemory) }
 {
@@ -87,10 +87,10 @@ fn push_values<'a>(bytes: &'a [u8], item: Spot, values: &mut Vec<Atom<'a>>) -> R
 fn push_each<'a>(
     bytes: &'a [u8],
     elements: SpotIter<'_>,
-    values: &mut Vec<Atom<'a>>,
+    values: &mut Vec<OperandValue<'a>>,
 ) -> Result<(), Error>
     ensures meant { (ts : List Tree) → HasSpotsLeft bytes.now elements.entry ts
-        → Gives (λ _ vs. map atom_value values.new.items ≡ map atom_value values.old.items ++ vs)
+        → Gives (λ _ vs. map value_view values.new.items ≡ map value_view values.old.items ++ vs)
         IsOutOfMemory result (Ok (flat_map value_of_item ts)) }
     ensures errors { IfErr result (IsDecodingError or OutOfMemory) }
 {
@@ -102,9 +102,9 @@ fn push_each<'a>(
 
 /// The value of an item that is no array, and of an element.
 #[inline(always)]
-fn push_value<'a>(bytes: &'a [u8], item: Spot, values: &mut Vec<Atom<'a>>) -> Result<(), Error>
+fn push_value<'a>(bytes: &'a [u8], item: Spot, values: &mut Vec<OperandValue<'a>>) -> Result<(), Error>
     ensures meant { (t : Tree) → Locates bytes.now item t
-        → Gives (λ _ vs. map atom_value values.new.items ≡ map atom_value values.old.items ++ vs)
+        → Gives (λ _ vs. map value_view values.new.items ≡ map value_view values.old.items ++ vs)
         IsOutOfMemory result (Ok (value_of_item t)) }
     ensures errors { IfErr result (IsDecodingError or OutOfMemory) }
 {
@@ -113,21 +113,21 @@ fn push_value<'a>(bytes: &'a [u8], item: Spot, values: &mut Vec<Atom<'a>>) -> Re
 
 /// The same for an item that was read.
 #[inline(always)]
-fn push_item<'a>(item: Item<'a>, values: &mut Vec<Atom<'a>>) -> Result<(), Error>
+fn push_item<'a>(item: Item<'a>, values: &mut Vec<OperandValue<'a>>) -> Result<(), Error>
     ensures meant { (t : Tree) → StandsFor any item.entry t
-        → Gives (λ _ vs. map atom_value values.new.items ≡ map atom_value values.old.items ++ vs)
+        → Gives (λ _ vs. map value_view values.new.items ≡ map value_view values.old.items ++ vs)
         IsOutOfMemory result (Ok (value_of_item t)) }
     ensures errors { IfErr result (IsDecodingError or OutOfMemory) }
 {
-    match item_atom(item) {
-        Some(value) => push_atom(values, value),
+    match value_of_item(item) {
+        Some(value) => push_operand_value(values, value),
         None => Ok(()),
     }
 }
 
 /// One more value.
 #[inline(always)]
-fn push_atom<'a>(values: &mut Vec<Atom<'a>>, value: Atom<'a>) -> Result<(), Error>
+fn push_operand_value<'a>(values: &mut Vec<OperandValue<'a>>, value: OperandValue<'a>) -> Result<(), Error>
     ensures ok { OnOk result (values.new.items ≡ values.old.items ++ value.entry ∷ []) }
     ensures err { IfErr result IsOutOfMemory }
 {

@@ -1,7 +1,7 @@
 //! Escapes, as the characters that they stand for.
 
 ghost use Rattle.std.specs.Prelude.{◌≡◌, ◌<◌, length, option_map, IfSome};
-ghost use Rattle.jsonb_keypath.specs.Tokens.{byte_as, hex_digit, escaped, four_hex, code_unit, numbered, escape};
+ghost use Rattle.jsonb_keypath.specs.Tokens.{byte_as, hex_digit, escaped, four_hex_digits, code_unit, unicode_escape, escape};
 ghost use Rattle.jsonb_keypath.specs.Views.{read_as, LeavesLess};
 
 use super::literal;
@@ -16,9 +16,9 @@ fn hex_digit_at(input: &[u8]) -> Option<(u32, &[u8])>
     Some((digit, rest))
 }
 
-#[tactic(auto, unfolding(crate::specs::Tokens::four_hex))]
-fn four_hex_at(input: &[u8]) -> Option<(u32, &[u8])>
-    ensures value { read_as (λ value. value) result ≡ four_hex input.now }
+#[tactic(auto, unfolding(crate::specs::Tokens::four_hex_digits))]
+fn four_hex_digits_at(input: &[u8]) -> Option<(u32, &[u8])>
+    ensures value { read_as (λ value. value) result ≡ four_hex_digits input.now }
     ensures small { IfSome result (λ found. found.0 < 65536) }
     ensures shrinks { LeavesLess input.now result }
 {
@@ -37,18 +37,18 @@ fn code_unit_at(input: &[u8]) -> Option<(u32, &[u8])>
 {
     let rest = literal(b"\\u", input)?;
     if let Some(inner) = literal(b"{", rest) {
-        if let Some((n, after)) = four_hex_at(inner) {
+        if let Some((n, after)) = four_hex_digits_at(inner) {
             if let Some(end) = literal(b"}", after) {
                 return Some((n, end));
             }
         }
     }
-    four_hex_at(rest)
+    four_hex_digits_at(rest)
 }
 
-#[tactic(auto, unfolding(crate::specs::Tokens::numbered))]
-fn numbered_at(input: &[u8]) -> Option<(char, &[u8])>
-    ensures value { read_as (λ value. value) result ≡ numbered input.now }
+#[tactic(auto, unfolding(crate::specs::Tokens::unicode_escape))]
+fn unicode_escape_at(input: &[u8]) -> Option<(char, &[u8])>
+    ensures value { read_as (λ value. value) result ≡ unicode_escape input.now }
     ensures shrinks { LeavesLess input.now result }
 {
     let (n, rest) = code_unit_at(input)?;
@@ -93,5 +93,5 @@ pub(super) fn escape_at(input: &[u8]) -> Option<(char, &[u8])>
             return Some(found);
         }
     }
-    numbered_at(input)
+    unicode_escape_at(input)
 }

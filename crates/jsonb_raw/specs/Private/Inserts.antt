@@ -11,7 +11,7 @@ use Rattle.jsonb_doc.specs.Kinds.{kind_number}
 use Rattle.jsonb_raw.specs.declared.functions.object.pair_parts.PairPlace.{PairPlace}
 use Rattle.jsonb_raw.specs.declared.functions.parts.Entries.{Entries}
 use Rattle.jsonb_raw.specs.declared.functions.object.pair_parts.KeptEntries.{KeptEntries}
-use Rattle.jsonb_raw.specs.declared.functions.parts.RootEntry.{RootEntry}
+use Rattle.jsonb_doc.specs.declared.entry_iter.StoredEntry.{StoredEntry}
 use Rattle.jsonb_raw.specs.Private.Cuts.{FitEntries}
 
 -- ---- the place of a name
@@ -45,7 +45,7 @@ IsPairPlace name (object ps) None = ⊥
 IsPairPlace name _ (Some place) = ⊥
 IsPairPlace name _ None = ⊤
 
--- ---- entries in a row
+-- ---- entries as bytes
 
 -- the words and the contents are those of these entries, each with its place in the format
 pub record AreBytesOf (entries : Entries) (es : List EntryParts) : Type 0 where
@@ -77,13 +77,13 @@ pub record AreKept (kept : KeptEntries) (before between behind : List EntryParts
 -- ---- the parts of the answer
 
 -- the header and the words of the entries that stay, with those of the new pair
-abbrev pub word_row : KeptEntries → List ℕ → RootEntry → List ℕ
-word_row kept key value =
+abbrev pub inserted_words : KeptEntries → List ℕ → StoredEntry → List ℕ
+inserted_words kept key value =
     header object_header (kept.pairs + 1) ++ (kept.before.words.now ++ (entry_word text_entry (length key)
     ++ (kept.between.words.now
     ++ (entry_word (kind_number value.kind) (length value.content.now) ++ kept.behind.words.now))))
 
 -- the contents of the entries that stay, with those of the new pair
-abbrev pub content_row : KeptEntries → List ℕ → RootEntry → List ℕ
-content_row kept key value =
+abbrev pub inserted_contents : KeptEntries → List ℕ → StoredEntry → List ℕ
+inserted_contents kept key value =
     kept.before.contents.now ++ (key ++ (kept.between.contents.now ++ (value.content.now ++ kept.behind.contents.now)))

@@ -11,13 +11,13 @@ use Rattle.jsonb_raw.specs.KeyAnswer.{GivesKey, IsOutOfMemoryOrTooDeep}
 use Rattle.jsonb_raw.specs.Private.KeyWidth.{width_of}
 use Rattle.jsonb_raw.specs.Private.Levels.{Part, parts, HasPartsLeft}
 use Rattle.jsonb_raw.specs.Private.Starts.{is_container}
-use Rattle.jsonb_raw.specs.SortableKey.{key, item_bytes, text_bytes, depths}
+use Rattle.jsonb_raw.specs.SortableKey.{sortable_key, item_bytes, text_bytes, depths}
 
 -- what stands before the keys of a tree's parts: of a tree without parts the whole key
 abbrev pub start : Width → Tree → ℕ → List ℕ
 start w (spec.array ts) d = item_bytes w d 7 []
 start w (spec.object ps) d = item_bytes w d 6 []
-start w t d = key w t d
+start w t d = sortable_key w t d
 
 -- what stands before the start of a part: its key, where it is a value of an object
 abbrev pub name_start : Width → Option (List ℕ) → ℕ → List ℕ
@@ -29,7 +29,7 @@ part_start w part d = name_start w part.0 d ++ start w part.1 d
 
 -- the sortable key of a document, written behind the bytes `old`
 abbrev pub AppendsKey : Width → Tree → List ℕ → Result (Unit {0}) Error → List ℕ → Type 0
-AppendsKey w tree old r new = GivesKey w tree r (λ _. new ≡ old ++ key w tree 0)
+AppendsKey w tree old r new = GivesKey w tree r (λ _. new ≡ old ++ sortable_key w tree 0)
 
 -- these bytes, written behind the bytes `old` where an item at the depth does not lie too deep
 abbrev pub AppendsBytes : Depth → List ℕ → List ℕ → Result (Unit {0}) Error → List ℕ → Type 0
@@ -45,7 +45,7 @@ AppendsItem depth kind content =
 -- the key of a tree that is no container
 abbrev pub AppendsScalar : Depth → Tree → List ℕ → Result (Unit {0}) Error → List ℕ → Type 0
 AppendsScalar depth t old r new = is_container t ≡ false
-    → AppendsBytes depth (key (width_of depth.width) t depth.value) old r new
+    → AppendsBytes depth (sortable_key (width_of depth.width) t depth.value) old r new
 
 -- what stands before the parts of a container, which are handed out
 abbrev pub AppendsStart : Form → Depth → Tree → List ℕ → Result Level Error → List ℕ → Type 0

@@ -12,17 +12,17 @@ ghost use Rattle.jsonb_doc.specs.Limits.{IsTooLarge};
 ghost use Rattle.jsonb_doc.specs.Answer.{◌or◌, ◌or◌when◌, IsOutOfMemory, IsDecodingError};
 ghost use Rattle.jsonb_doc.specs.declared.error.Error.TheVariants.{OutOfMemory, TooLarge};
 ghost use Rattle.jsonb_raw.specs.Making.{MakesEach};
-ghost use Rattle.jsonb_raw.specs.Private.Rows.{HoldTrees};
+ghost use Rattle.jsonb_raw.specs.Private.Entries.{HoldTrees};
 ghost use Rattle.jsonb_raw.specs.Arrays.{array_length, array_values, array_insert, insert_place};
 
 mod counts;
-pub(crate) mod marks;
+pub(crate) mod hashes;
 mod overlap;
 mod sets;
 
-use crate::functions::entries::{element_entries, entry_count, entry_document, split_row};
+use crate::functions::entries::{element_entries, entry_count, entry_document, split_at_most};
 use crate::functions::joined::array_of;
-use crate::functions::parts::{Elements, Entries, LoneEntry};
+use crate::functions::parts::{Elements, Entries, EntryWithWord};
 use crate::functions::runs::first_entry;
 use crate::owned::OwnedJsonb;
 use crate::raw::RawJsonb;
@@ -65,10 +65,10 @@ impl RawJsonb<'_> {
             → MakesEach form (array_values t) result }
         ensures errors { IfErr result (IsDecodingError or OutOfMemory or TooLarge) }
     {
-        let Some(row) = element_entries(self.as_bytes())? else {
+        let Some(entries) = element_entries(self.as_bytes())? else {
             return Ok(None);
         };
-        Ok(Some(entry_documents(alloc, row)?))
+        Ok(Some(entry_documents(alloc, entries)?))
     }
 
     /// The array with the root of the other document as one element more. It gets the place `pos`, counted from the
@@ -97,14 +97,14 @@ impl RawJsonb<'_> {
 }
 
 /// Each of these entries as a document of its own.
-fn entry_documents(alloc: Global, row: Entries<'_>) -> Result<Vec<OwnedJsonb>, Error>
-    ensures documents { (form : Form) (ts : List Tree) → HoldTrees form row.entry ts
+fn entry_documents(alloc: Global, entries: Entries<'_>) -> Result<Vec<OwnedJsonb>, Error>
+    ensures documents { (form : Form) (ts : List Tree) → HoldTrees form entries.entry ts
         → MatchResult result (λ made. AllZip (Decodes form) made.items ts)
         (IsOutOfMemory or TooLarge when Any (IsTooLarge form) ts) }
     ensures errors { IfErr result (IsDecodingError or OutOfMemory or TooLarge) }
 {
-    let mut documents = Vec::with_capacity(alloc, entry_count(row))?;
-    let mut left = row;
+    let mut documents = Vec::with_capacity(alloc, entry_count(entries))?;
+    let mut left = entries;
     while let Some(entry) = first_entry(left)? {
         documents.push(entry_document(alloc, entry.kind, entry.content)?)?;
         left = entry.others;
@@ -138,24 +138,24 @@ fn array_with_element<'a>(
     ensures errors { IfErr result (IsDecodingError or OutOfMemory or TooLarge) }
 {
     let elements = Elements::of_document(bytes)?;
-    let element = LoneEntry::of_root(value)?;
-    let row = elements.row();
-    let place = insert_place(entry_count(row), pos);
-    array_with_row(alloc, row, place, element.row())
+    let element = EntryWithWord::of_root(value)?;
+    let entries = elements.as_entries();
+    let place = insert_place(entry_count(entries), pos);
+    array_with_entry(alloc, entries, place, element.as_entries())
 }
 
-/// The array of a row's entries, with another's in front of the one at a place or behind the last.
-fn array_with_row<'a>(
+/// The array of these entries, with another one in front of the one at a place or behind the last.
+fn array_with_entry<'a>(
     alloc: Global,
-    row: Entries<'a>,
+    entries: Entries<'a>,
     place: usize,
     element: Entries<'a>,
 ) -> Result<OwnedJsonb, Error>
-    ensures inserted { (form : Form) (ts : List Tree) (t : Tree) → HoldTrees form row.entry ts
+    ensures inserted { (form : Form) (ts : List Tree) (t : Tree) → HoldTrees form entries.entry ts
         → HoldTrees form element.entry (t ∷ [])
         → Makes form (array (trees_of (insert ts place t))) result }
     ensures errors { IfErr result (IsDecodingError or OutOfMemory or TooLarge) }
 {
-    let (front, back) = split_row(row, place)?;
+    let (front, back) = split_at_most(entries, place)?;
     array_of(alloc, &[front, element, back])
 }

@@ -1,4 +1,4 @@
-//! Entries of containers in rows, as they are stored.
+//! Entries of containers in runs, as they are stored.
 
 ghost use Rattle.std.specs.Prelude.{◌≡◌, ◌+◌, List, ◌++◌, length, take, drop, IsSomeAnd, IsOkAnd, IfErr};
 ghost use Rattle.jsonb_doc.specs.Tree.{Tree};
@@ -10,9 +10,9 @@ ghost use Rattle.jsonb_doc.specs.Answer.{IsDecodingError, ◌or◌};
 ghost use Rattle.jsonb_doc.specs.declared.error.Error.TheVariants.{OutOfMemory, TooLarge};
 ghost use Rattle.jsonb_raw.specs.Documents.{Makes};
 ghost use Rattle.jsonb_raw.specs.Private.Inserts.{AreBytesOf};
-ghost use Rattle.jsonb_raw.specs.Private.Rows.{HoldTrees, AreElementsOf};
+ghost use Rattle.jsonb_raw.specs.Private.Entries.{HoldTrees, AreElementsOf};
 
-use crate::functions::parts::{Elements, Entries, LoneEntry, RootEntry};
+use crate::functions::parts::{Elements, Entries, EntryWithWord};
 use crate::owned::OwnedJsonb;
 use jsonb_doc::layout::{EntryKind, MAX_CONTENT, WORD, word_of_entry};
 use jsonb_doc::{Container, Error, StoredEntry, contents_len, read_container, scalar_document};
@@ -58,31 +58,37 @@ pub fn split_entries(entries: Entries<'_>, count: usize) -> Option<(Entries<'_>,
 }
 
 /// The first so many of the entries, or all of them, and the others.
-pub fn split_row(row: Entries<'_>, count: usize) -> Result<(Entries<'_>, Entries<'_>), Error>
-    ensures split { (form : Form) (ts : List Tree) → HoldTrees form row.entry ts
+pub fn split_at_most(
+    entries: Entries<'_>,
+    count: usize,
+) -> Result<(Entries<'_>, Entries<'_>), Error>
+    ensures split { (form : Form) (ts : List Tree) → HoldTrees form entries.entry ts
         → IsOkAnd result (λ parts. HoldTrees form parts.0 (take count ts) × HoldTrees form parts.1 (drop count ts)) }
     ensures errors { IfErr result IsDecodingError }
 {
-    match split_entries(row, count.min(entry_count(row))) {
+    match split_entries(entries, count.min(entry_count(entries))) {
         Some(parts) => Ok(parts),
         None => Err(Error::InvalidJsonb),
     }
 }
 
 /// The entries in front of the one at a position, and those behind it.
-pub fn around_entry(row: Entries<'_>, position: usize) -> Result<(Entries<'_>, Entries<'_>), Error>
-    ensures around { (form : Form) (ts : List Tree) → HoldTrees form row.entry ts
+pub fn around_entry(
+    entries: Entries<'_>,
+    position: usize,
+) -> Result<(Entries<'_>, Entries<'_>), Error>
+    ensures around { (form : Form) (ts : List Tree) → HoldTrees form entries.entry ts
         → IsOkAnd result (λ parts. HoldTrees form parts.0 (take position ts)
         × HoldTrees form parts.1 (drop (position + 1) ts)) }
     ensures errors { IfErr result IsDecodingError }
 {
-    let (front, others) = split_row(row, position)?;
-    let (_, back) = split_row(others, 1)?;
+    let (front, others) = split_at_most(entries, position)?;
+    let (_, back) = split_at_most(others, 1)?;
     Ok((front, back))
 }
 
 /// The entry that the root of a document becomes within another, as it is stored.
-pub fn root_entry(document: &[u8]) -> Result<RootEntry<'_>, Error>
+pub fn root_entry(document: &[u8]) -> Result<StoredEntry<'_>, Error>
     ensures entry { (form : Form) (t : Tree) → Decodes form document.now t
         → IsOkAnd result (λ entry. IsContent (number_reader form) t (kind_number entry.kind) entry.content.now) }
     ensures errors { IfErr result IsDecodingError }
@@ -90,12 +96,9 @@ pub fn root_entry(document: &[u8]) -> Result<RootEntry<'_>, Error>
     match read_container(document)? {
         Container::Scalar(entry) => {
             entry.item()?;
-            Ok(RootEntry {
-                kind: entry.kind,
-                content: entry.content,
-            })
+            Ok(entry)
         }
-        _ => Ok(RootEntry {
+        _ => Ok(StoredEntry {
             kind: EntryKind::Container,
             content: document,
         }),
@@ -123,33 +126,33 @@ pub fn entry_document(alloc: Global, kind: EntryKind, content: &[u8]) -> Result<
     Ok(OwnedJsonb::new(scalar_document(alloc, kind, content)?))
 }
 
-impl<'a> LoneEntry<'a> {
+impl<'a> EntryWithWord<'a> {
     ghost use Rattle.std.specs.Prelude.{[], ◌∷◌, MatchResult};
     ghost use Rattle.jsonb_doc.specs.Tree.{Tree};
     ghost use Rattle.jsonb_doc.specs.Payload.{Form};
     ghost use Rattle.jsonb_doc.specs.Format.{Decodes};
     ghost use Rattle.jsonb_doc.specs.Answer.{IsDecodingError, ◌or◌};
     ghost use Rattle.jsonb_doc.specs.declared.error.Error.TheVariants.{TooLarge};
-    ghost use Rattle.jsonb_raw.specs.Private.Rows.{HoldTrees, HoldsTree, IsTooLongRoot};
+    ghost use Rattle.jsonb_raw.specs.Private.Entries.{HoldTrees, HoldsTree, IsTooLongRoot};
 
     /// The root of a document as an element. Where it is too long for one, it is `TooLarge`.
-    pub fn of_root(document: &'a [u8]) -> Result<LoneEntry<'a>, Error>
+    pub fn of_root(document: &'a [u8]) -> Result<EntryWithWord<'a>, Error>
         ensures root { (form : Form) (t : Tree) → Decodes form document.now t
             → MatchResult result (λ entry. HoldsTree form entry t) (IsTooLongRoot form t) }
         ensures errors { IfErr result (IsDecodingError or TooLarge) }
     {
-        let RootEntry { kind, content } = root_entry(document)?;
+        let StoredEntry { kind, content } = root_entry(document)?;
         if content.len() > MAX_CONTENT {
             return Err(Error::TooLarge);
         }
-        Ok(LoneEntry {
+        Ok(EntryWithWord {
             word: word_of_entry(kind, content.len()),
             content,
         })
     }
 
-    /// The row of this one entry.
-    pub fn row(&self) -> Entries<'_>
+    /// This one entry, as entries.
+    pub fn as_entries(&self) -> Entries<'_>
         ensures { (form : Form) (t : Tree) → HoldsTree form self.now t → HoldTrees form result (t ∷ []) }
     {
         Entries {
@@ -167,7 +170,7 @@ impl<'a> Elements<'a> {
     ghost use Rattle.jsonb_doc.specs.Answer.{IsDecodingError, ◌or◌};
     ghost use Rattle.jsonb_doc.specs.declared.error.Error.TheVariants.{TooLarge};
     ghost use Rattle.jsonb_raw.specs.Arrays.{as_elements};
-    ghost use Rattle.jsonb_raw.specs.Private.Rows.{HoldTrees, HoldElements, IsTooLongElement};
+    ghost use Rattle.jsonb_raw.specs.Private.Entries.{HoldTrees, HoldElements, IsTooLongElement};
 
     /// The elements of a document. Where its root is no array and too long for an element, it is `TooLarge`.
     pub fn of_document(document: &'a [u8]) -> Result<Elements<'a>, Error>
@@ -176,18 +179,18 @@ impl<'a> Elements<'a> {
         ensures errors { IfErr result (IsDecodingError or TooLarge) }
     {
         match element_entries(document)? {
-            Some(row) => Ok(Elements::Row(row)),
-            None => Ok(Elements::Root(LoneEntry::of_root(document)?)),
+            Some(entries) => Ok(Elements::Array(entries)),
+            None => Ok(Elements::Root(EntryWithWord::of_root(document)?)),
         }
     }
 
-    /// The row of these entries.
-    pub fn row(&self) -> Entries<'_>
+    /// These entries.
+    pub fn as_entries(&self) -> Entries<'_>
         ensures { (form : Form) (ts : List Tree) → HoldElements form self.now ts → HoldTrees form result ts }
     {
         match self {
-            Elements::Row(row) => *row,
-            Elements::Root(entry) => entry.row(),
+            Elements::Array(entries) => *entries,
+            Elements::Root(entry) => entry.as_entries(),
         }
     }
 }

@@ -13,7 +13,7 @@ ghost use Rattle.jsonb_doc.specs.Limits.{IsTooLarge};
 ghost use Rattle.jsonb_doc.specs.Answer.{IsOutOfMemory, IsOutOfMemoryOrTooLarge, IsDecodingError, ◌or◌, ◌or◌when◌};
 ghost use Rattle.jsonb_doc.specs.declared.error.Error.TheVariants.{OutOfMemory, TooLarge, InvalidObject, ObjectDuplicateKey};
 ghost use Rattle.jsonb_raw.specs.Documents.{raw_bytes, MakesOption, Makes};
-ghost use Rattle.jsonb_raw.specs.Private.Rows.{HoldPairs};
+ghost use Rattle.jsonb_raw.specs.Private.Entries.{HoldPairs};
 ghost use Rattle.jsonb_raw.specs.Private.PairSteps.{parted};
 ghost use Rattle.jsonb_raw.specs.Making.{MakesPairs, IsPairOf};
 ghost use Rattle.jsonb_raw.specs.Objects.{object_pick, object_delete, object_keys, object_each, object_insert, has_name};
@@ -24,7 +24,7 @@ mod pair_parts;
 use self::insert::{object_with_pair, pair_place};
 use crate::functions::entries::{entry_count, entry_document};
 use crate::functions::joined::array_of;
-use crate::functions::parts::{FirstPair, PairEntries, PairRows};
+use crate::functions::parts::{FirstPair, PairEntries, PairRuns};
 use crate::functions::runs::{first_pair, pair_entries};
 use crate::owned::OwnedJsonb;
 use crate::raw::RawJsonb;
@@ -47,10 +47,10 @@ impl RawJsonb<'_> {
             → MatchOption (object_pick keys.now t) (result ≡ Err InvalidObject) (λ wanted. Makes form wanted result) }
         ensures errors { IfErr result (IsDecodingError or OutOfMemory or TooLarge or InvalidObject) }
     {
-        let Some(row) = pair_entries(self.as_bytes())? else {
+        let Some(pairs) = pair_entries(self.as_bytes())? else {
             return Err(Error::InvalidObject);
         };
-        pairs_by_set(alloc, row, keys, true)
+        pairs_by_set(alloc, pairs, keys, true)
     }
 
     /// The object without the pairs whose keys are in the set. PostgreSQL has `-` with an array of texts.
@@ -67,10 +67,10 @@ impl RawJsonb<'_> {
             → MatchOption (object_delete keys.now t) (result ≡ Err InvalidObject) (λ wanted. Makes form wanted result) }
         ensures errors { IfErr result (IsDecodingError or OutOfMemory or TooLarge or InvalidObject) }
     {
-        let Some(row) = pair_entries(self.as_bytes())? else {
+        let Some(pairs) = pair_entries(self.as_bytes())? else {
             return Err(Error::InvalidObject);
         };
-        pairs_by_set(alloc, row, keys, false)
+        pairs_by_set(alloc, pairs, keys, false)
     }
 
     /// The keys of the object, in order, each with its value as a document of its own, and `None` where the root is
@@ -88,10 +88,10 @@ impl RawJsonb<'_> {
             → MakesPairs form (object_each t) result }
         ensures errors { IfErr result (IsDecodingError or OutOfMemory or TooLarge) }
     {
-        let Some(row) = pair_entries(self.as_bytes())? else {
+        let Some(pairs) = pair_entries(self.as_bytes())? else {
             return Ok(None);
         };
-        Ok(Some(owned_pairs(alloc, row)?))
+        Ok(Some(owned_pairs(alloc, pairs)?))
     }
 
     /// The keys of the object, in order, as an array, and `None` where the root is no object. PostgreSQL has
@@ -111,10 +111,10 @@ impl RawJsonb<'_> {
             → result ≡ Ok None }
         ensures errors { IfErr result (IsDecodingError or OutOfMemory or TooLarge) }
     {
-        let Some(pairs) = pair_entries(self.as_bytes())? else {
+        let Some(object) = pair_entries(self.as_bytes())? else {
             return Ok(None);
         };
-        Ok(Some(array_of(alloc, &[pairs.keys])?))
+        Ok(Some(array_of(alloc, &[object.keys])?))
     }
 
     /// The object with one pair more: this key with the root of the other document. Where the key is there, its value
@@ -158,40 +158,40 @@ impl RawJsonb<'_> {
 /// The object of the pairs whose keys are in the set, or of those whose keys are not.
 fn pairs_by_set<'a>(
     alloc: Global,
-    row: PairEntries<'a>,
+    pairs: PairEntries<'a>,
     names: &BTreeSet<&str>,
     wanted: bool,
 ) -> Result<OwnedJsonb, Error>
-    ensures pairs { (form : Form) (ps : List (List ℕ × Tree)) → HoldPairs form row.entry ps → AreKeys (keys_of ps)
+    ensures pairs { (form : Form) (ps : List (List ℕ × Tree)) → HoldPairs form pairs.entry ps → AreKeys (keys_of ps)
         → Makes form (object (pairs_of (parted wanted names.now ps))) result }
     ensures errors { IfErr result (IsDecodingError or OutOfMemory or TooLarge) }
 {
-    let mut rows = PairRows::new(alloc);
-    let mut run = row;
-    let mut left = row;
+    let mut runs = PairRuns::new(alloc);
+    let mut run = pairs;
+    let mut left = pairs;
     while let Some(pair) = first_pair(left)? {
         let Ok(name) = str::from_utf8(pair.key) else {
             return Err(Error::InvalidJsonb);
         };
         if names.contains(name) != wanted {
-            rows.push_run(run, left)?;
+            runs.push_run(run, left)?;
             run = pair.others;
         }
         left = pair.others;
     }
-    rows.push_run(run, left)?;
-    rows.object(alloc)
+    runs.push_run(run, left)?;
+    runs.object(alloc)
 }
 
 /// The keys of these pairs, each with its value as a document of its own.
-fn owned_pairs(alloc: Global, row: PairEntries<'_>) -> Result<Vec<(String, OwnedJsonb)>, Error>
-    ensures pairs { (form : Form) (ps : List (List ℕ × Tree)) → HoldPairs form row.entry ps
+fn owned_pairs(alloc: Global, pairs: PairEntries<'_>) -> Result<Vec<(String, OwnedJsonb)>, Error>
+    ensures pairs { (form : Form) (ps : List (List ℕ × Tree)) → HoldPairs form pairs.entry ps
         → MatchResult result (λ made. AllZip (IsPairOf form) made.items ps)
         (IsOutOfMemory or TooLarge when Any (IsTooLarge form) (values_of ps)) }
     ensures errors { IfErr result (IsDecodingError or OutOfMemory or TooLarge) }
 {
-    let mut each = Vec::with_capacity(alloc, entry_count(row.keys))?;
-    let mut left = row;
+    let mut each = Vec::with_capacity(alloc, entry_count(pairs.keys))?;
+    let mut left = pairs;
     while let Some(pair) = first_pair(left)? {
         each.push(owned_pair(alloc, pair)?)?;
         left = pair.others;

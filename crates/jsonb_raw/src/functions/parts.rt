@@ -12,16 +12,9 @@ pub struct Entries<'a> {
     ghost short: { length words.now < 2 ^ 32 },
 }
 
-/// The entry that the root of a document is as a part of another.
-#[derive(Clone, Copy)]
-pub struct RootEntry<'a> {
-    pub kind: EntryKind,
-    pub content: &'a [u8],
-}
-
 /// An entry with its word.
 #[derive(Clone, Copy)]
-pub struct LoneEntry<'a> {
+pub struct EntryWithWord<'a> {
     pub word: [u8; WORD],
     pub content: &'a [u8],
 }
@@ -29,8 +22,8 @@ pub struct LoneEntry<'a> {
 /// What a document adds to an array: the elements of an array, or the root of another as one element.
 #[derive(Clone, Copy)]
 pub enum Elements<'a> {
-    Row(Entries<'a>),
-    Root(LoneEntry<'a>),
+    Array(Entries<'a>),
+    Root(EntryWithWord<'a>),
 }
 
 /// The first of some entries, and the others.
@@ -57,9 +50,9 @@ pub struct FirstPair<'a> {
     pub others: PairEntries<'a>,
 }
 
-/// Rows of pairs that an object is made of.
+/// Runs of pairs that an object is made of.
 #[derive(Drop)]
-pub struct PairRows<'a> {
+pub struct PairRuns<'a> {
     pub keys: Vec<Entries<'a>>,
     pub values: Vec<Entries<'a>>,
 }

@@ -7,10 +7,10 @@ ghost use Rattle.jsonb_doc.specs.Payload.{Form};
 ghost use Rattle.jsonb_doc.specs.Format.{Decodes};
 ghost use Rattle.jsonb_doc.specs.Answer.{IsDecodingError, IsOutOfMemory, ◌or◌};
 ghost use Rattle.jsonb_doc.specs.declared.error.Error.TheVariants.{OutOfMemory};
-ghost use Rattle.jsonb_raw.specs.Private.Rows.{HoldTrees, HoldPairs, ArePairsOf, TakesFirst, TakesFirstPair, HasRowMore};
+ghost use Rattle.jsonb_raw.specs.Private.Entries.{HoldTrees, HoldPairs, ArePairsOf, TakesFirst, TakesFirstPair, HasRunMore};
 
 use crate::functions::joined::object_of;
-use crate::functions::parts::{Entries, FirstEntry, FirstPair, PairEntries, PairRows};
+use crate::functions::parts::{Entries, FirstEntry, FirstPair, PairEntries, PairRuns};
 use crate::owned::OwnedJsonb;
 use jsonb_doc::layout::split_entry;
 use jsonb_doc::{Container, Error, read_container};
@@ -40,17 +40,17 @@ pub fn pair_entries(bytes: &[u8]) -> Result<Option<PairEntries<'_>>, Error>
 
 /// The first of the entries, and `None` where there is none. Where its end isn't known it is `InvalidJsonb`.
 #[inline(always)]
-pub fn first_entry(row: Entries<'_>) -> Result<Option<FirstEntry<'_>>, Error>
-    ensures first { (form : Form) (ts : List Tree) → HoldTrees form row.entry ts
-        → IsOkAnd result (TakesFirst form row.entry ts) }
+pub fn first_entry(entries: Entries<'_>) -> Result<Option<FirstEntry<'_>>, Error>
+    ensures first { (form : Form) (ts : List Tree) → HoldTrees form entries.entry ts
+        → IsOkAnd result (TakesFirst form entries.entry ts) }
     ensures fewer { IfOk result
-        (λ found. IfSome found (λ first. length first.others.words.now < length row.entry.words.now)) }
+        (λ found. IfSome found (λ first. length first.others.words.now < length entries.entry.words.now)) }
     ensures errors { IfErr result IsDecodingError }
 {
-    if row.words.is_empty() {
+    if entries.words.is_empty() {
         return Ok(None);
     }
-    match split_entry(row.words, row.contents) {
+    match split_entry(entries.words, entries.contents) {
         Some(entry) => Ok(Some(FirstEntry {
             kind: entry.kind,
             content: entry.content,
@@ -65,17 +65,17 @@ pub fn first_entry(row: Entries<'_>) -> Result<Option<FirstEntry<'_>>, Error>
 
 /// The first of the pairs, and `None` where there is none. Where its end isn't known it is `InvalidJsonb`.
 #[inline(always)]
-pub fn first_pair(row: PairEntries<'_>) -> Result<Option<FirstPair<'_>>, Error>
-    ensures first { (form : Form) (ps : List (List ℕ × Tree)) → HoldPairs form row.entry ps
-        → IsOkAnd result (TakesFirstPair form row.entry ps) }
+pub fn first_pair(pairs: PairEntries<'_>) -> Result<Option<FirstPair<'_>>, Error>
+    ensures first { (form : Form) (ps : List (List ℕ × Tree)) → HoldPairs form pairs.entry ps
+        → IsOkAnd result (TakesFirstPair form pairs.entry ps) }
     ensures fewer { IfOk result
-        (λ found. IfSome found (λ first. length first.others.keys.words.now < length row.entry.keys.words.now)) }
+        (λ found. IfSome found (λ first. length first.others.keys.words.now < length pairs.entry.keys.words.now)) }
     ensures errors { IfErr result IsDecodingError }
 {
-    let Some(key) = first_entry(row.keys)? else {
+    let Some(key) = first_entry(pairs.keys)? else {
         return Ok(None);
     };
-    let Some(value) = first_entry(row.values)? else {
+    let Some(value) = first_entry(pairs.values)? else {
         return Err(Error::InvalidJsonb);
     };
     Ok(Some(FirstPair {
@@ -90,13 +90,13 @@ pub fn first_pair(row: PairEntries<'_>) -> Result<Option<FirstPair<'_>>, Error>
 }
 
 /// The position of the first of the entries, which are texts, that is this name.
-pub fn name_position(row: Entries<'_>, name: &[u8]) -> Result<Option<usize>, Error>
-    ensures position { (form : Form) (ks : List (List ℕ)) → HoldTrees form row.entry (map text ks)
+pub fn name_position(entries: Entries<'_>, name: &[u8]) -> Result<Option<usize>, Error>
+    ensures position { (form : Form) (ks : List (List ℕ)) → HoldTrees form entries.entry (map text ks)
         → IsOkAnd result (λ found. found ≡ first_position (λ key. bytes_eq key name.now) ks) }
     ensures errors { IfErr result IsDecodingError }
 {
     let mut passed = 0;
-    let mut left = row;
+    let mut left = entries;
     while let Some(key) = first_entry(left)? {
         if key.content == name {
             return Ok(Some(passed));
@@ -107,33 +107,33 @@ pub fn name_position(row: Entries<'_>, name: &[u8]) -> Result<Option<usize>, Err
     Ok(None)
 }
 
-/// Puts the entries of a row in front of those that are left of it behind the rows.
+/// Puts the entries of a run in front of those that are left of it behind the other runs.
 pub fn push_run<'a>(
-    rows: &mut Vec<Entries<'a>>,
-    row: Entries<'a>,
+    runs: &mut Vec<Entries<'a>>,
+    run: Entries<'a>,
     left: Entries<'a>,
 ) -> Result<(), Error>
-    ensures pushed { (words contents : List ℕ) → row.entry.words.now ≡ words ++ left.entry.words.now
-        → row.entry.contents.now ≡ contents ++ left.entry.contents.now
-        → MatchResult result (λ _. HasRowMore rows.old.items words contents rows.new.items) IsOutOfMemory }
+    ensures pushed { (words contents : List ℕ) → run.entry.words.now ≡ words ++ left.entry.words.now
+        → run.entry.contents.now ≡ contents ++ left.entry.contents.now
+        → MatchResult result (λ _. HasRunMore runs.old.items words contents runs.new.items) IsOutOfMemory }
     ensures errors { IfErr result (IsDecodingError or OutOfMemory) }
 {
-    let words_len = row.words.len().wrapping_sub(left.words.len());
-    let contents_len = row.contents.len().wrapping_sub(left.contents.len());
+    let words_len = run.words.len().wrapping_sub(left.words.len());
+    let contents_len = run.contents.len().wrapping_sub(left.contents.len());
     if words_len == 0 && contents_len == 0 {
         return Ok(());
     }
-    let Some(words) = row.words.get(..words_len) else {
+    let Some(words) = run.words.get(..words_len) else {
         return Err(Error::InvalidJsonb);
     };
-    let Some(contents) = row.contents.get(..contents_len) else {
+    let Some(contents) = run.contents.get(..contents_len) else {
         return Err(Error::InvalidJsonb);
     };
-    rows.push(Entries { words, contents })?;
+    runs.push(Entries { words, contents })?;
     Ok(())
 }
 
-impl<'a> PairRows<'a> {
+impl<'a> PairRuns<'a> {
     ghost use Rattle.std.specs.Prelude.{◌≡◌, ◌++◌, [], ℕ, List, IfErr, MatchResult};
     ghost use Rattle.std.specs.Map.{keys_of};
     ghost use Rattle.jsonb_doc.specs.Tree.{Tree, object, pairs_of};
@@ -142,20 +142,20 @@ impl<'a> PairRows<'a> {
     ghost use Rattle.jsonb_doc.specs.Answer.{IsDecodingError, IsOutOfMemory, ◌or◌};
     ghost use Rattle.jsonb_doc.specs.declared.error.Error.TheVariants.{OutOfMemory, TooLarge};
     ghost use Rattle.jsonb_raw.specs.Documents.{Makes};
-    ghost use Rattle.jsonb_raw.specs.Private.Rows.{HoldPairs, PairsHeld, PairsOpen};
+    ghost use Rattle.jsonb_raw.specs.Private.Entries.{HoldPairs, PairsHeld, PairsOpen};
 
-    /// No rows. It takes no memory yet.
-    pub fn new(alloc: Global) -> PairRows<'a>
+    /// No runs. It takes no memory yet.
+    pub fn new(alloc: Global) -> PairRuns<'a>
         ensures keys { result.keys.items ≡ [] }
         ensures values { result.values.items ≡ [] }
     {
-        PairRows {
+        PairRuns {
             keys: Vec::new(alloc),
             values: Vec::new(alloc),
         }
     }
 
-    /// Puts the pairs of a row in front of those that are left of it behind the others.
+    /// Puts the pairs of a run in front of those that are left of it behind the others.
     pub fn push_run(&mut self, run: PairEntries<'a>, left: PairEntries<'a>) -> Result<(), Error>
         ensures pushed { (form : Form) (xs ys : List (List ℕ × Tree))
             → PairsOpen form self.old run.entry left.entry xs ys
@@ -168,13 +168,14 @@ impl<'a> PairRows<'a> {
     }
 
     /// Puts pairs behind the others.
-    pub fn push(&mut self, row: PairEntries<'a>) -> Result<(), Error>
+    pub fn push(&mut self, pairs: PairEntries<'a>) -> Result<(), Error>
         ensures pushed { (form : Form) (xs ys : List (List ℕ × Tree)) → PairsHeld form self.old xs
-            → HoldPairs form row.entry ys → MatchResult result (λ _. PairsHeld form self.new (xs ++ ys)) IsOutOfMemory }
+            → HoldPairs form pairs.entry ys
+            → MatchResult result (λ _. PairsHeld form self.new (xs ++ ys)) IsOutOfMemory }
         ensures errors { IfErr result (IsDecodingError or OutOfMemory) }
     {
-        self.keys.push(row.keys)?;
-        self.values.push(row.values)?;
+        self.keys.push(pairs.keys)?;
+        self.values.push(pairs.values)?;
         Ok(())
     }
 

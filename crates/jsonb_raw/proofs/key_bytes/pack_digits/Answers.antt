@@ -4,9 +4,9 @@ use Rattle.jsonb_raw.proofs.PackedDigits.{none_packed, digit_packed}
 use Rattle.jsonb_raw.proofs.key_bytes.pack_digits.Goals as goal
 
 pub loop-left-init : goal.loop-left-init
-loop-left-init c = none_packed _ _ _ _ _ c.requires c.one-packed.ensures.len c.one-packed.ensures.bytes c.spell.ensures
+loop-left-init c = none_packed _ _ _ _ _ c.requires c.one-packed.ensures.len c.one-packed.ensures.bytes c.complement_byte.ensures
 
 pub loop-left-preserved : goal.loop-left-preserved
 loop-left-preserved c =
     digit_packed _ _ _ _ _ c.loop-left.invariant _ _ _ _ (omega arith) refl c.behind-packed.ensures.len
-    (c.spell-in-loop-left.ensures ∙ ap (complement_byte c.args.negative) (omega arith)) c.behind-packed.ensures.bytes
+    (c.complement_byte-in-loop-left.ensures ∙ ap (complement_byte c.args.negative) (omega arith)) c.behind-packed.ensures.bytes

@@ -1,19 +1,22 @@
 use Rattle.std.proofs.Common.{arith, ap, ◌∙◌, ◌≡◌, ◌+◌, ◌-◌, ◌++◌, length, take, drop, length-drop}
 use Rattle.std.specs.Int.Digits.{digits_of}
 use Rattle.std.proofs.lemmas.List.{take_all}
-use Rattle.jsonb_raw.proofs.PushedNumbers.{row_steps}
+use Rattle.jsonb_raw.proofs.PushedNumbers.{buffer_steps}
 use Rattle.jsonb_raw.proofs.key_bytes.push_short_digits.Goals as goal
 
 pub returns : goal.returns
 returns c =
-    let row = c.write_before-start.new.row in
+    let buffer = c.write_before-start.new.buffer in
     let start = c.write_before-start.result in
     let exponent : 23 - c.write_short_digits-first.result + c.short_without_zeros-shorter.result.1 + 1000 - c.from.result ≡ length
     (digits_of 10 c.args.n) + 1000 - c.args.scale =
     omega (arith, c.write_short_digits-first.ensures.first, c.short_without_zeros-shorter.ensures.zeros, c.from.ensures) in
-    let long : length row ≡ 24 = c.write_before-start.ensures.row.1 ∙ c.write_exponent-front.ensures.row.1 ∙ c.write_short_digits-first.ensures.row.1 in
-    let all : take (24 - start) (drop start row) ≡ drop start row = take_all (24 - start) (drop start row) (omega (arith, length-drop start row, long)) in
-    row_steps c.args.negative c.args.out.now.items c.extend_from_slice.new.self.items _ _ _ c.args.sign c.args.n c.args.scale _ c.spell-row.result exponent
-    c.write_before-start.ensures.row.0 c.write_exponent-front.ensures.row.0
-    (rw c.short_without_zeros-shorter.ensures.digits at c.write_short_digits-first.ensures.row.0) c.spell-row.ensures
+    let long : length buffer ≡ 24 = c.write_before-start.ensures.buffer.1 ∙ c.write_exponent-front.ensures.buffer.1
+    ∙ c.write_short_digits-first.ensures.buffer.1 in
+    let all : take (24 - start) (drop start buffer) ≡ drop start buffer = take_all (24 - start) (drop start buffer)
+    (omega (arith, length-drop start buffer, long)) in
+    buffer_steps c.args.negative c.args.out.now.items c.extend_from_slice.new.self.items _ _ _
+    c.args.sign c.args.n c.args.scale _ c.complement_byte-buffer.result exponent
+    c.write_before-start.ensures.buffer.0 c.write_exponent-front.ensures.buffer.0
+    (rw c.short_without_zeros-shorter.ensures.digits at c.write_short_digits-first.ensures.buffer.0) c.complement_byte-buffer.ensures
     (c.in_ok-extend_from_slice.ensures.items ∙ ap (λ x. c.args.out.now.items ++ x) all)

@@ -2,7 +2,7 @@ use Rattle.jsonb_raw.proofs.DigitSteps.{DigitsWritten}
 use Rattle.jsonb_raw.proofs.key_bytes.write_digits.Given as goal
 
 abbrev pub invariant-loop-left : goal.invariant-loop-left
-invariant-loop-left l = DigitsWritten l.fn.negative l.fn.n l.fn.end l.fn.row l.left l.at l.row
+invariant-loop-left l = DigitsWritten l.fn.negative l.fn.n l.fn.end l.fn.buffer l.left l.at l.buffer
 
 abbrev pub decreases-loop-left : goal.decreases-loop-left
 decreases-loop-left l = l.left

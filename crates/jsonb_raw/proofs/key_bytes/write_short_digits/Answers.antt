@@ -12,10 +12,10 @@ write_before-first-requires-clause-some c = room_left _ _ _ _ _ _ _ c.loop-left.
 pub loop-left-preserved : goal.loop-left-preserved
 loop-left-preserved c =
     digit_passed _ _ _ _ _ _ _ c.loop-left.invariant _ _ _ _ c.requires.room (omega arith) refl
-    (c.spell.ensures ∙ ap (complement_byte c.args.negative) (omega arith)) c.write_before-first.ensures.place c.write_before-first.ensures.row
+    (c.complement_byte.ensures ∙ ap (complement_byte c.args.negative) (omega arith)) c.write_before-first.ensures.place c.write_before-first.ensures.buffer
 
 pub returns-clause-first : goal.returns-clause-first
 returns-clause-first c = let none = no_digits c.loop-left.left (omega arith) in omega (arith, ap length none, c.loop-left.invariant.count)
 
-pub returns-clause-row : goal.returns-clause-row
-returns-clause-row c = (all_digits _ _ _ _ _ _ _ c.loop-left.invariant (omega arith), c.loop-left.invariant.len)
+pub returns-clause-buffer : goal.returns-clause-buffer
+returns-clause-buffer c = (all_digits _ _ _ _ _ _ _ c.loop-left.invariant (omega arith), c.loop-left.invariant.len)

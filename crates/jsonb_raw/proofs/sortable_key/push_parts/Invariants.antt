@@ -4,7 +4,7 @@ use Rattle.jsonb_doc.specs.Tree.{Tree}
 use Rattle.jsonb_doc.specs.Payload.{Form, number_reader}
 use Rattle.jsonb_doc.specs.Format.{IsContent}
 use Rattle.jsonb_doc.specs.Depth.{deepest}
-use Rattle.jsonb_raw.specs.SortableKey.{key}
+use Rattle.jsonb_raw.specs.SortableKey.{sortable_key}
 use Rattle.jsonb_raw.specs.Private.KeyWidth.{width_of}
 use Rattle.jsonb_raw.proofs.LevelLemmas.{SomeParts, weight, weights}
 use Rattle.jsonb_raw.proofs.LevelKeys.{IsWithin}
@@ -15,7 +15,7 @@ abbrev pub invariant-walk : goal.invariant-walk
 invariant-walk l = record {
   left : (form : Form) (tree : Tree) → IsContent (number_reader form) tree 5 l.fn.bytes
       → SomeParts form l.level l.around.items
-      (λ here others. IsWithin (width_of l.fn.width) l.out.items (here ∷ others) l.fn.out.items (key (width_of l.fn.width) tree 0) (deepest tree));
+      (λ here others. IsWithin (width_of l.fn.width) l.out.items (here ∷ others) l.fn.out.items (sortable_key (width_of l.fn.width) tree 0) (deepest tree));
 }
 
 abbrev pub decreases-walk : goal.decreases-walk

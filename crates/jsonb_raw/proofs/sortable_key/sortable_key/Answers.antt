@@ -1,6 +1,6 @@
 use Rattle.std.proofs.Common.{◌++◌, ◌∙◌, ap, arith}
 use Rattle.std.proofs.lemmas.Result.{err_from_is_err_and}
-use Rattle.jsonb_raw.specs.SortableKey.{key}
+use Rattle.jsonb_raw.specs.SortableKey.{sortable_key}
 use Rattle.jsonb_raw.specs.Private.KeyWidth.{width_of}
 use Rattle.jsonb_raw.proofs.KeyLawProofs.{decoded_ranks}
 use Rattle.jsonb_raw.proofs.sortable_key.sortable_key.Goals as goal
@@ -14,4 +14,4 @@ pub returns-clause-order : goal.returns-clause-order
 returns-clause-order c = λ form tree d none u k.
     let made = c.in_ok-push_sortable_key.ensures.key form tree d in
     decoded_ranks (width_of c.args.width) form c.args.bytes.now _ tree (λ i. omega (arith, c.type_inv.bytes i)) d
-    (made.0 ∙ ap (λ xs. xs ++ key (width_of c.args.width) tree 0) c.new-out.ensures.items) made.1 none u k
+    (made.0 ∙ ap (λ xs. xs ++ sortable_key (width_of c.args.width) tree 0) c.new-out.ensures.items) made.1 none u k

@@ -1,4 +1,4 @@
-//! Whether two lists of entries share a value, without memory: the marks of some entries of the one tell most entries
+//! Whether two lists of entries share a value, without memory: the hashes of some entries of the one tell most entries
 //! of the other that they equal none of these.
 
 ghost use Rattle.std.specs.Prelude.{◌≡◌, ◌<◌, ◌≤◌, true, false, [], take, drop, IsOkAnd, IfOk, IfErr};
@@ -9,17 +9,17 @@ ghost use Rattle.jsonb_doc.specs.Payload.{Form};
 ghost use Rattle.jsonb_doc.specs.Private.Stored.{HasEntriesLeft, Stores, entries_bound};
 ghost use Rattle.jsonb_doc.specs.Answer.{IsDecodingError};
 ghost use Rattle.jsonb_raw.specs.Sets.{overlap};
-ghost use Rattle.jsonb_raw.specs.Private.Marks.{Covers};
+ghost use Rattle.jsonb_raw.specs.Private.Hashes.{Covers};
 
-use super::marks::Marks;
+use super::hashes::Hashes;
 use crate::equal_items::find_equal_among;
 use jsonb_doc::{EntryIter, Error};
 
-/// How many entries' marks are taken at once. They are so few that most marks are free.
+/// How many entries' hashes are taken at once. They are so few that most hashes are free.
 const BLOCK: usize = 64;
 
-/// Takes the marks of the next entries, of so many at most, and goes on behind them. Whether all entries were taken.
-fn take_marks(marks: &mut Marks, rest: &mut EntryIter<'_>, count: usize) -> Result<bool, Error>
+/// Takes the hashes of the next entries, of so many at most, and goes on behind them. Whether all entries were taken.
+fn take_hashes(hashes: &mut Hashes, rest: &mut EntryIter<'_>, count: usize) -> Result<bool, Error>
     requires { 0 < count }
     ensures passed { (form : Form) (us : Trees) → HasEntriesLeft form rest.old us
         → IsOkAnd result (λ _. (ws : Trees) × HasEntriesLeft form rest.new ws
@@ -27,7 +27,7 @@ fn take_marks(marks: &mut Marks, rest: &mut EntryIter<'_>, count: usize) -> Resu
     ensures ended { (form : Form) (us : Trees) → HasEntriesLeft form rest.old us
         → IfOk result (λ ended. ended ≡ true → drop count (elements_of us) ≡ []) }
     ensures marked { (form : Form) (us : Trees) (t : Tree) → HasEntriesLeft form rest.old us
-        → list_any (is_equal t) (take count (elements_of us)) ≡ true → IfOk result (λ _. Covers marks.new t) }
+        → list_any (is_equal t) (take count (elements_of us)) ≡ true → IfOk result (λ _. Covers hashes.new t) }
     ensures fewer { IfOk result (λ ended. ended ≡ false → entries_bound rest.new < entries_bound rest.old) }
     ensures errors { IfErr result IsDecodingError }
 {
@@ -38,29 +38,29 @@ fn take_marks(marks: &mut Marks, rest: &mut EntryIter<'_>, count: usize) -> Resu
             *rest = left;
             return Ok(true);
         };
-        marks.add(&entry?);
+        hashes.add(&entry?);
         more -= 1;
     }
     *rest = left;
     Ok(false)
 }
 
-/// Whether an entry equals one of the first of the others, whose marks these are.
+/// Whether an entry equals one of the first of the others, whose hashes these are.
 fn block_overlaps(
     found: EntryIter<'_>,
-    marks: &Marks,
+    hashes: &Hashes,
     block: EntryIter<'_>,
     count: usize,
 ) -> Result<bool, Error>
     ensures overlap { (form other_form : Form) (ts us : Trees) → HasEntriesLeft form found.entry ts
         → HasEntriesLeft other_form block.entry us
-        → ((t : Tree) → list_any (is_equal t) (take count (elements_of us)) ≡ true → Covers marks.now t)
+        → ((t : Tree) → list_any (is_equal t) (take count (elements_of us)) ≡ true → Covers hashes.now t)
         → IsOkAnd result (λ b. b ≡ overlap (elements_of ts) (take count (elements_of us))) }
     ensures errors { IfErr result IsDecodingError }
 {
     for entry in found {
         let entry = entry?;
-        if !marks.may_have(&entry) {
+        if !hashes.may_have(&entry) {
             continue;
         }
         if find_equal_among(block, &entry, count)? {
@@ -91,9 +91,9 @@ fn blocks_overlap(found: EntryIter<'_>, others: EntryIter<'_>, count: usize) -> 
     let mut rest = others;
     loop {
         let block = rest;
-        let mut marks = Marks::new();
-        let ended = take_marks(&mut marks, &mut rest, count)?;
-        if block_overlaps(found, &marks, block, count)? {
+        let mut hashes = Hashes::new();
+        let ended = take_hashes(&mut hashes, &mut rest, count)?;
+        if block_overlaps(found, &hashes, block, count)? {
             return Ok(true);
         }
         if ended {

@@ -16,7 +16,7 @@ ghost use Rattle.jsonb_raw.specs.Documents.{raw_bytes, Makes};
 ghost use Rattle.jsonb_raw.specs.EqualityKey.{equality_key};
 ghost use Rattle.jsonb_raw.specs.Arrays.{as_elements};
 ghost use Rattle.jsonb_raw.specs.Sets.{select_occurrences, distinct, intersection_of, difference_of, overlap};
-ghost use Rattle.jsonb_raw.specs.Private.Rows.{HoldTrees};
+ghost use Rattle.jsonb_raw.specs.Private.Entries.{HoldTrees};
 ghost use Rattle.jsonb_raw.specs.Private.SetCounts.{CountsKeys, CountsBehind, keeps, kept_one};
 
 use super::counts::KeyCounts;
@@ -74,32 +74,32 @@ fn stored<'a>(first: &FirstEntry<'a>) -> StoredEntry<'a>
     }
 }
 
-/// The array of the elements of a row that are kept, copied in runs.
+/// The array of those elements that are kept, copied in runs.
 fn kept_elements(
     alloc: Global,
     kind: Kept,
     mut counts: KeyCounts,
-    row: Entries<'_>,
+    entries: Entries<'_>,
 ) -> Result<OwnedJsonb, Error>
-    ensures made { (form : Form) (other ts : List Tree) → HoldTrees form row.entry ts
+    ensures made { (form : Form) (other ts : List Tree) → HoldTrees form entries.entry ts
         → AllByRecursion Fits ts → length ts < 2 ^ 63 → CountsBehind kind counts other []
         → Makes form (array (trees_of (select_occurrences (keeps kind other) ts))) result }
     ensures errors { IfErr result (IsDecodingError or OutOfMemory or TooLarge) }
 {
     let mut key = Vec::new(alloc);
-    let mut rows = Vec::new(alloc);
-    let mut run = row;
-    let mut left = row;
+    let mut runs = Vec::new(alloc);
+    let mut run = entries;
+    let mut left = entries;
     while let Some(first) = first_entry(left)? {
         write_entry_key(alloc, &mut key, &stored(&first))?;
         if !decide(alloc, kind, &mut counts, &key)? {
-            push_run(&mut rows, run, left)?;
+            push_run(&mut runs, run, left)?;
             run = first.others;
         }
         left = first.others;
     }
-    push_run(&mut rows, run, left)?;
-    array_of(alloc, rows.as_slice())
+    push_run(&mut runs, run, left)?;
+    array_of(alloc, runs.as_slice())
 }
 
 /// Adds the item behind the elements that the builder holds, where it is kept. The counts move on behind it.
@@ -158,20 +158,20 @@ fn kept_of_document(
     ensures errors { IfErr result (IsDecodingError or OutOfMemory or TooLarge) }
 {
     match element_entries(bytes)? {
-        Some(row) => kept_elements(alloc, kind, counts, row),
+        Some(entries) => kept_elements(alloc, kind, counts, entries),
         None => kept_item(alloc, kind, counts, &root_item(bytes)?),
     }
 }
 
-/// Counts the keys of the elements of a row.
-fn count_elements(alloc: Global, row: Entries<'_>) -> Result<KeyCounts, Error>
-    ensures counts { (form : Form) (ts : List Tree) → HoldTrees form row.entry ts
+/// Counts the keys of these elements.
+fn count_elements(alloc: Global, entries: Entries<'_>) -> Result<KeyCounts, Error>
+    ensures counts { (form : Form) (ts : List Tree) → HoldTrees form entries.entry ts
         → length ts < 2 ^ 63 → MatchResult result (λ m. CountsKeys m ts) IsOutOfMemory }
     ensures errors { IfErr result (IsDecodingError or OutOfMemory) }
 {
     let mut counts = KeyCounts::new(alloc);
     let mut key = Vec::new(alloc);
-    let mut left = row;
+    let mut left = entries;
     while let Some(first) = first_entry(left)? {
         write_entry_key(alloc, &mut key, &stored(&first))?;
         counts.add(alloc, &key)?;
@@ -199,7 +199,7 @@ fn count_document(alloc: Global, bytes: &[u8]) -> Result<KeyCounts, Error>
     ensures errors { IfErr result (IsDecodingError or OutOfMemory) }
 {
     match element_entries(bytes)? {
-        Some(row) => count_elements(alloc, row),
+        Some(entries) => count_elements(alloc, entries),
         None => count_item(alloc, &root_item(bytes)?),
     }
 }

@@ -9,17 +9,17 @@ ghost use Rattle.jsonb_doc.specs.ObjectBuilder.{insert_pair};
 ghost use Rattle.jsonb_raw.specs.Documents.{Makes};
 ghost use Rattle.jsonb_doc.specs.Answer.{◌or◌, IsDecodingError};
 ghost use Rattle.jsonb_doc.specs.declared.error.Error.TheVariants.{OutOfMemory, TooLarge};
-ghost use Rattle.jsonb_raw.specs.Private.Inserts.{IsPairPlace, IsPlaceAmong, IsCutAt, AreKept, word_row, content_row};
+ghost use Rattle.jsonb_raw.specs.Private.Inserts.{IsPairPlace, IsPlaceAmong, IsCutAt, AreKept, inserted_words, inserted_contents};
 
 use super::pair_parts::{KeptEntries, PairPlace};
 use crate::functions::entries::{root_entry, split_entries};
-use crate::functions::parts::{Entries, RootEntry};
+use crate::functions::parts::Entries;
 use crate::owned::OwnedJsonb;
 use jsonb_doc::layout::{
     EntryKind, HeaderKind, MAX_CONTENT, MAX_ENTRIES, WORD, split_header, word_of_entry,
     word_of_header,
 };
-use jsonb_doc::{Error, keys};
+use jsonb_doc::{Error, StoredEntry, keys};
 use std::alloc::{AllocError, Global};
 use std::cmp::Ordering;
 
@@ -69,12 +69,12 @@ fn push_words(
     document: &mut Vec<u8>,
     kept: &KeptEntries<'_>,
     key: &str,
-    value: &RootEntry<'_>,
+    value: &StoredEntry<'_>,
 ) -> Result<(), AllocError>
     requires pairs { kept.now.pairs + 1 < 2 ^ 29 }
     requires key { length key.now < 2 ^ 28 }
     requires value { length value.now.content.now < 2 ^ 28 }
-    ensures { OnOk result (document.new.items ≡ document.old.items ++ word_row kept.now key.now value.now) }
+    ensures { OnOk result (document.new.items ≡ document.old.items ++ inserted_words kept.now key.now value.now) }
 {
     document.extend_from_slice(&word_of_header(HeaderKind::Object, kept.pairs + 1))?;
     document.extend_from_slice(kept.before.words)?;
@@ -89,9 +89,9 @@ fn push_contents(
     document: &mut Vec<u8>,
     kept: &KeptEntries<'_>,
     key: &str,
-    value: &RootEntry<'_>,
+    value: &StoredEntry<'_>,
 ) -> Result<(), AllocError>
-    ensures { OnOk result (document.new.items ≡ document.old.items ++ content_row kept.now key.now value.now) }
+    ensures { OnOk result (document.new.items ≡ document.old.items ++ inserted_contents kept.now key.now value.now) }
 {
     document.extend_from_slice(kept.before.contents)?;
     document.extend_from_slice(key.as_bytes())?;

@@ -10,10 +10,10 @@ ghost use Rattle.jsonb_doc.specs.declared.error.Error.TheVariants.{OutOfMemory, 
 ghost use Rattle.jsonb_raw.specs.Documents.{raw_bytes, Makes};
 ghost use Rattle.jsonb_raw.specs.Arrays.{as_elements};
 ghost use Rattle.jsonb_raw.specs.Concat.{concat, merged};
-ghost use Rattle.jsonb_raw.specs.Private.Rows.{HoldPairs};
+ghost use Rattle.jsonb_raw.specs.Private.Entries.{HoldPairs};
 
 use crate::functions::joined::array_of_both;
-use crate::functions::parts::{Elements, PairEntries, PairRows};
+use crate::functions::parts::{Elements, PairEntries, PairRuns};
 use crate::functions::runs::{first_pair, pair_entries};
 use crate::owned::OwnedJsonb;
 use crate::raw::RawJsonb;
@@ -76,7 +76,7 @@ fn merged_pairs<'a>(
         → Makes form (object (pairs_of (merged ps qs))) result }
     ensures errors { IfErr result (IsDecodingError or OutOfMemory or TooLarge) }
 {
-    let mut rows = PairRows::new(alloc);
+    let mut runs = PairRuns::new(alloc);
     let mut run = first;
     let mut left = first;
     let mut other = second;
@@ -89,14 +89,14 @@ fn merged_pairs<'a>(
                 other = next.others;
             }
             Ordering::Equal => {
-                rows.push_run(run, left)?;
+                runs.push_run(run, left)?;
                 run = other;
                 left = next.others;
                 other = pair.others;
                 is_second = true;
             }
             Ordering::Greater => {
-                rows.push_run(run, left)?;
+                runs.push_run(run, left)?;
                 run = other;
                 other = left;
                 left = next.others;
@@ -104,10 +104,10 @@ fn merged_pairs<'a>(
             }
         }
     }
-    rows.push_run(run, left)?;
-    rows.push(left)?;
-    rows.push(other)?;
-    rows.object(alloc)
+    runs.push_run(run, left)?;
+    runs.push(left)?;
+    runs.push(other)?;
+    runs.object(alloc)
 }
 
 /// The array of the elements of two documents, where one that is no array is one element.
@@ -118,5 +118,5 @@ fn joined_arrays<'a>(alloc: Global, bytes: &'a [u8], others: &'a [u8]) -> Result
 {
     let first = Elements::of_document(bytes)?;
     let second = Elements::of_document(others)?;
-    array_of_both(alloc, first.row(), second.row())
+    array_of_both(alloc, first.as_entries(), second.as_entries())
 }

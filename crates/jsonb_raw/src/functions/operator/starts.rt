@@ -11,7 +11,7 @@ ghost use Rattle.jsonb_raw.specs.Private.Compared.{PassesOver};
 ghost use Rattle.jsonb_raw.specs.Private.Starts.{AreStarts, scalars_matched};
 
 use crate::equal_items::{find_equal, next_equals};
-use crate::functions::array::marks::{MARKS, mark};
+use crate::functions::array::hashes::{HASHES, entry_hash};
 use jsonb_doc::{EntryIter, Error, StoredEntry};
 
 /// For how many wanted entries a start is looked up at once.
@@ -20,12 +20,12 @@ const BLOCK: usize = 32;
 /// In so few entries no start is looked up.
 const FEW: usize = 16;
 
-/// The next of the wanted entries that are no containers, by their marks.
+/// The next of the wanted entries that are no containers, by their hashes.
 #[derive(Drop)]
 struct Wanted<'a> {
     contents: [&'a [u8]; BLOCK],
-    /// The place among them of one with this mark, or `BLOCK`.
-    places: [u8; MARKS],
+    /// The place among them of one with this hash, or `BLOCK`.
+    places: [u8; HASHES],
 }
 
 impl<'a> Wanted<'a> {
@@ -33,7 +33,7 @@ impl<'a> Wanted<'a> {
     fn of(entries: EntryIter<'a>) -> Wanted<'a> {
         let mut wanted = Wanted {
             contents: [&[]; BLOCK],
-            places: [BLOCK as u8; MARKS],
+            places: [BLOCK as u8; HASHES],
         };
         let mut taken = 0;
         for entry in entries {
@@ -55,8 +55,8 @@ impl<'a> Wanted<'a> {
     fn put(&mut self, place: usize, entry: &StoredEntry<'a>)
         requires { place < 32 }
     {
-        if let Some(mark) = mark(entry) {
-            self.places[mark] = place as u8;
+        if let Some(hash) = entry_hash(entry) {
+            self.places[hash] = place as u8;
             self.contents[place] = entry.content;
         }
     }
@@ -65,7 +65,7 @@ impl<'a> Wanted<'a> {
     fn place_of(&self, entry: &StoredEntry<'_>) -> Option<usize>
         ensures { IfSome result (λ place. place < 32) }
     {
-        let place = self.places[mark(entry)?] as usize;
+        let place = self.places[entry_hash(entry)?] as usize;
         if place < BLOCK && self.contents[place] == entry.content {
             Some(place)
         } else {

@@ -12,7 +12,7 @@ ghost use Rattle.jsonb_doc.specs.Format.{Decodes, AreKeys};
 ghost use Rattle.jsonb_doc.specs.Item.{StandsFor};
 ghost use Rattle.jsonb_doc.specs.Answer.{IsOutOfMemory, IsDecodingError, ◌or◌};
 ghost use Rattle.jsonb_doc.specs.declared.error.Error.TheVariants.{OutOfMemory, TooLarge, InvalidJsonType};
-ghost use Rattle.jsonb_raw.specs.Private.Rows.{HoldTrees, HoldPairs};
+ghost use Rattle.jsonb_raw.specs.Private.Entries.{HoldTrees, HoldPairs};
 ghost use Rattle.jsonb_raw.specs.Documents.{raw_bytes, Makes, MakesOption};
 ghost use Rattle.jsonb_raw.specs.Places.{index_position};
 ghost use Rattle.jsonb_raw.specs.Children.{element_at, named_child, without_index, without_name};
@@ -21,7 +21,7 @@ ghost use Rattle.jsonb_raw.specs.Exists.{is_text};
 
 use super::nth_child;
 use crate::functions::entries::{
-    around_entry, element_entries, entry_count, entry_document, split_row,
+    around_entry, element_entries, entry_count, entry_document, split_at_most,
 };
 use crate::functions::joined::{array_of_both, object_of};
 use crate::functions::parts::{Entries, PairEntries};
@@ -113,11 +113,11 @@ impl RawJsonb<'_> {
         ensures errors { IfErr result (IsDecodingError or OutOfMemory or TooLarge or InvalidJsonType) }
     {
         let bytes = self.as_bytes();
-        let Some(row) = element_entries(bytes)? else {
+        let Some(entries) = element_entries(bytes)? else {
             return Err(Error::InvalidJsonType);
         };
-        match index_position(entry_count(row), index) {
-            Some(position) => array_without_element(alloc, row, position),
+        match index_position(entry_count(entries), index) {
+            Some(position) => array_without_element(alloc, entries, position),
             None => Ok(OwnedJsonb::new(Vec::from_slice(alloc, bytes)?)),
         }
     }
@@ -147,14 +147,14 @@ impl RawJsonb<'_> {
 
 /// The position of the first of the entries, which are texts, that is this name, or else of the first that is it in
 /// some case of ASCII letters.
-fn position_ignoring_case(row: Entries<'_>, name: &[u8]) -> Result<Option<usize>, Error>
-    ensures position { (form : Form) (ks : List (List ℕ)) → HoldTrees form row.entry (map text ks)
+fn position_ignoring_case(entries: Entries<'_>, name: &[u8]) -> Result<Option<usize>, Error>
+    ensures position { (form : Form) (ks : List (List ℕ)) → HoldTrees form entries.entry (map text ks)
         → IsOkAnd result (λ found. found ≡ position_in_some_case name.now ks) }
     ensures errors { IfErr result IsDecodingError }
 {
     let mut passed = 0;
     let mut in_other_case = None;
-    let mut left = row;
+    let mut left = entries;
     while let Some(key) = first_entry(left)? {
         if key.content.eq_ignore_ascii_case(name) {
             if key.content == name {
@@ -176,13 +176,13 @@ fn value_ignoring_case(alloc: Global, bytes: &[u8], name: &str) -> Result<Option
         → result ≡ Ok None }
     ensures errors { IfErr result (IsDecodingError or OutOfMemory or TooLarge) }
 {
-    let Some(row) = pair_entries(bytes)? else {
+    let Some(pairs) = pair_entries(bytes)? else {
         return Ok(None);
     };
-    let Some(position) = position_ignoring_case(row.keys, name.as_bytes())? else {
+    let Some(position) = position_ignoring_case(pairs.keys, name.as_bytes())? else {
         return Ok(None);
     };
-    let (_, values) = split_row(row.values, position)?;
+    let (_, values) = split_at_most(pairs.values, position)?;
     let Some(value) = first_entry(values)? else {
         return Err(Error::InvalidJsonb);
     };
@@ -207,14 +207,14 @@ pub fn index_position(len: usize, index: i32) -> Option<usize>
 /// The array of these entries without the one at a position.
 fn array_without_element(
     alloc: Global,
-    row: Entries<'_>,
+    entries: Entries<'_>,
     position: usize,
 ) -> Result<OwnedJsonb, Error>
-    ensures deleted { (form : Form) (ts : List Tree) → HoldTrees form row.entry ts
+    ensures deleted { (form : Form) (ts : List Tree) → HoldTrees form entries.entry ts
         → Makes form (array (trees_of (remove ts position))) result }
     ensures errors { IfErr result (IsDecodingError or OutOfMemory or TooLarge) }
 {
-    let (front, back) = around_entry(row, position)?;
+    let (front, back) = around_entry(entries, position)?;
     array_of_both(alloc, front, back)
 }
 
@@ -251,26 +251,26 @@ fn object_without_key(alloc: Global, bytes: &[u8], name: &str) -> Result<OwnedJs
         → Makes form (object (pairs_of (filter (λ p. not (bytes_eq p.0 name.now)) (members ps)))) result }
     ensures errors { IfErr result (IsDecodingError or OutOfMemory or TooLarge) }
 {
-    let Some(row) = pair_entries(bytes)? else {
+    let Some(pairs) = pair_entries(bytes)? else {
         return Err(Error::InvalidJsonb);
     };
-    let Some(position) = name_position(row.keys, name.as_bytes())? else {
+    let Some(position) = name_position(pairs.keys, name.as_bytes())? else {
         return Ok(OwnedJsonb::new(Vec::from_slice(alloc, bytes)?));
     };
-    object_without_pair(alloc, row, position)
+    object_without_pair(alloc, pairs, position)
 }
 
 /// The object of these pairs without the one at a position.
 fn object_without_pair(
     alloc: Global,
-    row: PairEntries<'_>,
+    pairs: PairEntries<'_>,
     position: usize,
 ) -> Result<OwnedJsonb, Error>
-    ensures deleted { (form : Form) (ps : List (List ℕ × Tree)) → HoldPairs form row.entry ps
+    ensures deleted { (form : Form) (ps : List (List ℕ × Tree)) → HoldPairs form pairs.entry ps
         → AreKeys (keys_of (remove ps position)) → Makes form (object (pairs_of (remove ps position))) result }
     ensures errors { IfErr result (IsDecodingError or OutOfMemory or TooLarge) }
 {
-    let (keys, other_keys) = around_entry(row.keys, position)?;
-    let (values, other_values) = around_entry(row.values, position)?;
+    let (keys, other_keys) = around_entry(pairs.keys, position)?;
+    let (values, other_values) = around_entry(pairs.values, position)?;
     object_of(alloc, &[keys, other_keys], &[values, other_values])
 }

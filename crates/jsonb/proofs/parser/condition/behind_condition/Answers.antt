@@ -1,25 +1,25 @@
 use Rattle.std.proofs.Common.{◌∙◌, sym, ap, Some}
 use Rattle.jsonb.specs.PathTree.{Expression, or_op}
 use Rattle.jsonb.specs.PathViews.{expression_view}
-use Rattle.jsonb.specs.Private.Frames.{joined_view, joining_outcome}
-use Rattle.jsonb.proofs.FrameLemmas.{and-goes, or-goes, level-ends}
+use Rattle.jsonb.specs.Private.Frames.{joined_view, after_condition_outcome}
+use Rattle.jsonb.proofs.FrameLemmas.{and-goes, or-goes, partial-ends}
 use Rattle.jsonb.proofs.parser.condition.behind_condition.Goals as goal
 
 pub returns-in-Some-clause-value : goal.returns-in-Some-clause-value
-unfolding joining_outcome
+unfolding after_condition_outcome
 returns-in-Some-clause-value c =
-    and-goes c.args.level (expression_view c.args.found) (record { left = c.in_ok-left.left; before = c.args.rest }) c.in-Some.after.now
+    and-goes c.args.partial (expression_view c.args.found) (record { left = c.in_ok-left.left; before = c.args.rest }) c.in-Some.after.now
     (ap expression_view c.in_ok-left.ensures.ok ∙ c.in_ok-found.ensures) (sym c.in-Some.ensures.value)
 
 pub returns-in-Some-separator_at-clause-value : goal.returns-in-Some-separator_at-clause-value
-unfolding joining_outcome
+unfolding after_condition_outcome
 returns-in-Some-separator_at-clause-value c =
-    or-goes c.args.level (expression_view c.args.found) (record { left = c.in_ok-left-2.left; before = c.args.rest }) c.in-Some-separator_at.after.now
-    (ap expression_view c.in_ok-left-2.ensures.ok ∙ c.in_ok-found-2.ensures ∙ ap (joined_view or_op c.args.level.any) c.in_ok-found.ensures)
+    or-goes c.args.partial (expression_view c.args.found) (record { left = c.in_ok-left-2.left; before = c.args.rest }) c.in-Some-separator_at.after.now
+    (ap expression_view c.in_ok-left-2.ensures.ok ∙ c.in_ok-found-2.ensures ∙ ap (joined_view or_op c.args.partial.any) c.in_ok-found.ensures)
     (sym c.in_default.ensures.value) (sym c.in-Some-separator_at.ensures.value)
 
 pub returns-clause-value : goal.returns-clause-value
-unfolding joining_outcome
+unfolding after_condition_outcome
 returns-clause-value c =
-    ap (λ (e : Expression). Some (e, c.args.rest.now)) (c.in_ok-found-2.ensures ∙ ap (joined_view or_op c.args.level.any) c.in_ok-found.ensures)
-    ∙ level-ends c.args.level (expression_view c.args.found) c.args.rest.now (sym c.in_default.ensures.value) (sym c.in_default-separator_at.ensures.value)
+    ap (λ (e : Expression). Some (e, c.args.rest.now)) (c.in_ok-found-2.ensures ∙ ap (joined_view or_op c.args.partial.any) c.in_ok-found.ensures)
+    ∙ partial-ends c.args.partial (expression_view c.args.found) c.args.rest.now (sym c.in_default.ensures.value) (sym c.in_default-separator_at.ensures.value)

@@ -1,14 +1,14 @@
 use Rattle.std.proofs.Common.{◌≡◌, None}
-use Rattle.jsonb.specs.Private.Frames.{level_outcome, opening_outcome, opening_size, resumed, IsLevel, IsOpening, AreFrames}
+use Rattle.jsonb.specs.Private.Frames.{partial_outcome, opening_outcome, opening_size, resumed, IsPartial, IsOpening, AreFrames}
 use Rattle.jsonb.proofs.parser.expression.expression_from.Given as goal
 
--- what is open makes the whole of what its innermost level makes of the atom that is read, or opened
+-- what is open makes the whole of what its innermost expression makes of the atom that is read, or opened
 abbrev pub invariant-loop-opening : goal.invariant-loop-opening
 invariant-loop-opening l = record {
-  read : resumed l.frames.items (level_outcome l.level (opening_outcome l.level.is_in_filter l.opening)) ≡ level_outcome
+  read : resumed l.frames.items (partial_outcome l.partial (opening_outcome l.partial.is_in_filter l.opening)) ≡ partial_outcome
       (record { is_in_filter = l.fn.is_in_filter; all = None; any = None }) (opening_outcome l.fn.is_in_filter l.fn.first);
   frames : AreFrames l.frames.items;
-  level : IsLevel l.level;
+  partial : IsPartial l.partial;
   opening : IsOpening l.opening;
 }
 

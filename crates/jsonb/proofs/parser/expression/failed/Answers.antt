@@ -1,5 +1,5 @@
 use Rattle.std.proofs.Common.{◌∙◌, List, sym, ap, arith, None}
-use Rattle.jsonb.specs.Private.Frames.{level_outcome, resumed}
+use Rattle.jsonb.specs.Private.Frames.{partial_outcome, resumed}
 use Rattle.jsonb.specs.declared.parser.expression.Frame.{Frame}
 use Rattle.jsonb.proofs.FrameLemmas.{failure-passed, none_open}
 use Rattle.jsonb.proofs.parser.expression.failed.Goals as goal
@@ -7,19 +7,19 @@ use Rattle.jsonb.proofs.parser.expression.failed.Goals as goal
 pub loop-frame-preserved-in-Some : goal.loop-frame-preserved-in-Some
 loop-frame-preserved-in-Some c =
     let passed = failure-passed c.loop-frame.frames.items c.pop.new.self.items c.in-Some.frame c.loop-frame.outer c.in-Some.ensures.items
-    c.loop-frame.invariant.level c.loop-frame.invariant.frames in
-    record { read = passed.0 ∙ c.loop-frame.invariant.read; frames = passed.1; level = passed.2 }
+    c.loop-frame.invariant.partial c.loop-frame.invariant.frames in
+    record { read = passed.0 ∙ c.loop-frame.invariant.read; frames = passed.1; partial = passed.2 }
 
 pub loop-frame-preserved : goal.loop-frame-preserved
 loop-frame-preserved c =
     let passed = failure-passed c.loop-frame.frames.items c.pop.new.self.items c.in-Some.frame c.loop-frame.outer c.in-Some.ensures.items
-    c.loop-frame.invariant.level c.loop-frame.invariant.frames in
-    record { read = passed.0 ∙ c.loop-frame.invariant.read; frames = passed.1; level = passed.2 }
+    c.loop-frame.invariant.partial c.loop-frame.invariant.frames in
+    record { read = passed.0 ∙ c.loop-frame.invariant.read; frames = passed.1; partial = passed.2 }
 
 pub returns : goal.returns
 unfolding resumed
 returns c =
     c.ended.ensures
-    ∙ ap (λ (fs : List Frame). resumed fs (level_outcome c.loop-frame.outer None))
+    ∙ ap (λ (fs : List Frame). resumed fs (partial_outcome c.loop-frame.outer None))
     (sym (none_open c.loop-frame.frames.items (omega (arith, c.in_default.ensures.cases.0, c.loop-frame.frames.ok.0))))
     ∙ c.loop-frame.invariant.read

@@ -1,13 +1,13 @@
 use Rattle.std.proofs.Common.{◌≡◌, None, length}
-use Rattle.jsonb.specs.Private.Frames.{level_outcome, resumed, IsLevel, AreFrames}
+use Rattle.jsonb.specs.Private.Frames.{partial_outcome, resumed, IsPartial, AreFrames}
 use Rattle.jsonb.proofs.parser.expression.failed.Given as goal
 
--- the frames that are left make the whole of what their innermost level had
+-- the frames that are left make the whole of what their innermost expression had
 abbrev pub invariant-loop-frame : goal.invariant-loop-frame
 invariant-loop-frame l = record {
-  read : resumed l.frames.items (level_outcome l.outer None) ≡ resumed l.fn.frames.items (level_outcome l.fn.level None);
+  read : resumed l.frames.items (partial_outcome l.outer None) ≡ resumed l.fn.frames.items (partial_outcome l.fn.partial None);
   frames : AreFrames l.frames.items;
-  level : IsLevel l.outer;
+  partial : IsPartial l.outer;
 }
 
 abbrev pub decreases-loop-frame : goal.decreases-loop-frame

@@ -3,7 +3,7 @@ use Rattle.jsonb.specs.PathTree as math
 use Rattle.jsonb.specs.PathTree.{steps_of}
 use Rattle.jsonb.specs.PathViews.{steps_view, expression_view, operator_view}
 use Rattle.jsonb.specs.Meaning.{truth, operand_values}
-use Rattle.jsonb.specs.Private.Selection.{atom_value}
+use Rattle.jsonb.specs.Private.Selection.{value_view}
 use Rattle.jsonb.proofs.PathNodes.{binary_is}
 use Rattle.jsonb.proofs.ComparedLemmas.{compares_member}
 use Rattle.jsonb.proofs.selector.compared_items.member_compared.Goals as goal
@@ -19,7 +19,7 @@ returns-then-is_comparison c =
           ap (λ x. truth mode x top t)
           (binary_is c.args.e.now k.op k.left k.right k.is
           ∙ (λ i. math.binary (operator_view k.op) ((ap expression_view (sym c.deref.ensures) ∙ names.ensures.1) i) (expression_view k.right.value)))
-          ∙ compares_member mode (operator_view k.op) (steps_of (steps_view names.names.now)) (expression_view k.right.value) (atom_value literal.literal) top t
+          ∙ compares_member mode (operator_view k.op) (steps_of (steps_view names.names.now)) (expression_view k.right.value) (value_view literal.literal) top t
           (sym c.is_comparison.ensures ∙ c.if-is_comparison.true)
           (ap (λ x. operand_values mode (expression_view x) top t) (sym c.deref-in-BinaryOp.ensures) ∙ literal.ensures mode top t);
     }

@@ -5,7 +5,7 @@ use Rattle.jsonb.specs.PathTree.{steps_of}
 use Rattle.jsonb.specs.PathViews.{step_view, steps_view, expression_view, operator_view}
 use Rattle.jsonb.specs.Meaning.{truth, operand_values}
 use Rattle.jsonb.specs.Private.Members.{are_members}
-use Rattle.jsonb.specs.Private.Selection.{atom_value}
+use Rattle.jsonb.specs.Private.Selection.{value_view}
 use Rattle.jsonb.specs.declared.selector.document.Mode.TheVariants.{Lax}
 use Rattle.jsonb.proofs.ComparedLemmas.{compares_member}
 use Rattle.jsonb.proofs.ListLemmas.{compares_list}
@@ -27,7 +27,7 @@ returns-else-not-is_comparison c =
       member = record {
         members = ap (λ l. are_members (steps_view l)) c.split_at.ensures.back ∙ c.members_behind.ensures.members;
         compares = λ mode top t.
-            compares_member mode (operator_view k.op) (steps_of names) (expression_view k.right.value) (atom_value literal.literal) top t compares
+            compares_member mode (operator_view k.op) (steps_of names) (expression_view k.right.value) (value_view literal.literal) top t compares
             (ap (λ x. operand_values mode (expression_view x) top t) (sym c.deref-in-BinaryOp.ensures) ∙ literal.ensures mode top t);
       };
       compares = λ top.
@@ -35,6 +35,6 @@ returns-else-not-is_comparison c =
           (binary_is c.args.e.now k.op k.left k.right k.is
           ∙ (λ i. math.binary (operator_view k.op) ((ap expression_view (sym c.deref.ensures) ∙ steps.ensures) i) (expression_view k.right.value)))
           ∙ compares_list (operator_view k.op) (steps_view steps.steps.now) (steps_view c.split_at.result.0.now) names (expression_view k.right.value)
-          (atom_value literal.literal) top split compares
+          (value_view literal.literal) top split compares
           (ap (λ x. operand_values Lax (expression_view x) top top) (sym c.deref-in-BinaryOp.ensures) ∙ literal.ensures Lax top top);
     }

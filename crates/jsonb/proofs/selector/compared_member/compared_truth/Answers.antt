@@ -5,7 +5,7 @@ use Rattle.jsonb_doc.specs.Spots.{Locates}
 use Rattle.jsonb_doc.specs.Tree.{Tree}
 use Rattle.jsonb.specs.Compare.{compare}
 use Rattle.jsonb.specs.PathViews.{operator_view}
-use Rattle.jsonb.specs.Private.Selection.{atom_value}
+use Rattle.jsonb.specs.Private.Selection.{value_view}
 use Rattle.jsonb.specs.Values.{Value, values_of_item}
 use Rattle.jsonb.proofs.ItemKinds.{no_elements, other_values}
 use Rattle.jsonb.proofs.MemberLemmas.{one_member}
@@ -26,20 +26,20 @@ returns-in-Number-clause-meant c = λ ts related.
     let stands = subst (λ x. StandsFor any x one.0) c.in-Number.is (c.in_ok-item.ensures.item one.0 one.2) in
     record {
       ok = c.compare_number.ensures
-          ∙ ap (λ l. compare (operator_view c.args.op) l (map atom_value c.args.rights.now)) (of_one one.0 ts _ one.1 (ap values_of_item stands));
+          ∙ ap (λ l. compare (operator_view c.args.op) l (map value_view c.args.rights.now)) (of_one one.0 ts _ one.1 (ap values_of_item stands));
       err = tt;
     }
 
-pub returns-in-Some-item_atom : goal.returns-in-Some-item_atom
-returns-in-Some-item_atom c = record {
+pub returns-in-Some-value_of_item : goal.returns-in-Some-value_of_item
+returns-in-Some-value_of_item c = record {
   meant = λ ts related.
       let one = one_member (Locates c.args.bytes.now) c.args.member c.in-Some.spot ts c.in-Some.is related in
       let stands = c.in_ok-item.ensures.item one.0 one.2 in
       let values = other_values one.0 (no_elements c.in_ok-item.item one.0 c.in_default-item.not-Array stands) in
       record {
         ok = c.compare_one.ensures
-            ∙ ap (λ l. compare (operator_view c.args.op) l (map atom_value c.args.rights.now))
-            (of_one one.0 ts _ one.1 (values ∙ sym (c.in-Some-item_atom.ensures one.0 stands)));
+            ∙ ap (λ l. compare (operator_view c.args.op) l (map value_view c.args.rights.now))
+            (of_one one.0 ts _ one.1 (values ∙ sym (c.in-Some-value_of_item.ensures one.0 stands)));
         err = tt;
       };
   errors = tt;
@@ -52,7 +52,7 @@ returns-in-None c = record {
       let stands = c.in_ok-item.ensures.item one.0 one.2 in
       let values = other_values one.0 (no_elements c.in_ok-item.item one.0 c.in_default-item.not-Array stands) in
       record {
-        ok = ap (λ l. compare (operator_view c.args.op) l (map atom_value c.args.rights.now))
+        ok = ap (λ l. compare (operator_view c.args.op) l (map value_view c.args.rights.now))
             (of_one one.0 ts [] one.1 (values ∙ sym (c.in-None.ensures one.0 stands)));
         err = tt;
       };

@@ -4,7 +4,7 @@ use Rattle.jsonb_doc.specs.Answer.{Outcome, and_then}
 use Rattle.jsonb_doc.specs.Tree.{Tree}
 use Rattle.jsonb.specs.Compare.{compare}
 use Rattle.jsonb.specs.PathViews.{operator_view}
-use Rattle.jsonb.specs.Private.Selection.{atom_value}
+use Rattle.jsonb.specs.Private.Selection.{value_view}
 use Rattle.jsonb.specs.Values.{Value, values_of_item}
 use Rattle.jsonb.specs.declared.selector.document.Expressions.TheVariants.{AreRefused}
 use Rattle.jsonb.proofs.GivesLemmas.{same_outcome, same_answer, first_refused, followed}
@@ -17,7 +17,7 @@ joined (Err e) f g = refl
 
 pub returns-in_err-member-clause-meant : goal.returns-in_err-member-clause-meant
 returns-in_err-member-clause-meant c = λ top u all r s.
-    let rights = map atom_value c.args.rights.now in
+    let rights = map value_view c.args.rights.now in
     let compares = λ (vs : List Value). Ok (compare (operator_view c.args.op) vs rights) in
     let p = err_from_is_err_and c.from_residual.result c.from_residual.ensures.1 in
     same_answer (p.1 ∙ ap Err p.2) (same_outcome
@@ -29,7 +29,7 @@ returns-in_err-member-clause-meant c = λ top u all r s.
 
 pub returns-clause-meant : goal.returns-clause-meant
 returns-clause-meant c = λ top u all r s.
-    let rights = map atom_value c.args.rights.now in
+    let rights = map value_view c.args.rights.now in
     let compares = λ (vs : List Value). Ok (compare (operator_view c.args.op) vs rights) in
     same_outcome
     (joined _ (flat_map values_of_item) compares

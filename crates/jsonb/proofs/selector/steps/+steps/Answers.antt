@@ -9,7 +9,7 @@ use Rattle.jsonb.specs.PathViews.{step_view, steps_view, expression_view, operat
 use Rattle.std.specs.List.{AllZip}
 use Rattle.jsonb.specs.Values.{values_of_item}
 use Rattle.jsonb.specs.Compare.{compare}
-use Rattle.jsonb.specs.Private.Selection.{IsAt, node_spots, taken_step, atoms_view}
+use Rattle.jsonb.specs.Private.Selection.{IsAt, node_spots, taken_step, values_view}
 use Rattle.jsonb.specs.Private.Exists.{LeadsTo}
 use Rattle.jsonb.specs.Private.Kept.{conditions, is_condition, IsSame, AreKept, IsKeptFor}
 use Rattle.jsonb.specs.Private.Terms.{IsBelow, executed, last_truth, term_conditions, term_view, truths_view}
@@ -413,9 +413,9 @@ first_truth-returns-in_ok-rights-in-BinaryOp-clause-meant t c = λ top u is r s.
     (expression_view (sym c.deref-in-BinaryOp-3.ensures i))) in
     let compares = sym (ap is_condition view) ∙ is in
     let lefts = ap (λ x. operand_values c.args.current.context.now.mode (expression_view x) top u) (c.deref-in-BinaryOp-2.ensures ∙ sym c.deref.ensures)
-    ∙ value_of atoms_view (c.in_ok-lefts-in-BinaryOp.ensures.meant top u r s) in
+    ∙ value_of values_view (c.in_ok-lefts-in-BinaryOp.ensures.meant top u r s) in
     let rights = ap (λ x. operand_values c.args.current.context.now.mode (expression_view x) top u) (c.deref-in-BinaryOp-3.ensures ∙ sym c.deref-in-BinaryOp.ensures)
-    ∙ value_of atoms_view (c.in_ok-rights-in-BinaryOp.ensures.meant top u r s) in
+    ∙ value_of values_view (c.in_ok-rights-in-BinaryOp.ensures.meant top u r s) in
     let told = compared c.args.current.context.now.mode (operator_view c.in-BinaryOp.op) _ _ top u _ _ compares lefts rights
     ∙ ap Ok (sym (c.compare-truth.ensures
     ∙ (λ i. compare (operator_view c.in-BinaryOp.op) (c.as_slice.ensures i) (c.as_slice-in-BinaryOp.ensures i)))) in

@@ -3,7 +3,7 @@ use Rattle.std.proofs.lemmas.Result.{err_from_is_err_and}
 use Rattle.jsonb_doc.proofs.SpotsTaken.{some_spots, no_spots}
 use Rattle.jsonb_raw.specs.Arrays.{array_values}
 use Rattle.jsonb.specs.Values.{value_of_item}
-use Rattle.jsonb.specs.Private.Selection.{atom_value}
+use Rattle.jsonb.specs.Private.Selection.{value_view}
 use Rattle.jsonb.proofs.ItemKinds.{values_of_array, other_values}
 use Rattle.jsonb.proofs.GivesLemmas.{same_outcome, same_answer, only_memory}
 use Rattle.jsonb.proofs.selector.values.item_values.Goals as goal
@@ -28,11 +28,11 @@ returns-in_ok-push_each-in-Some-clause-meant c = λ t m.
     same_outcome (ap Ok (values_of_array t found.0 found.1))
     (record {
       ok = (c.in_ok-push_each-in-Some.ensures.meant found.0 found.2).ok
-          ∙ ap (λ l. map atom_value l ++ flat_map value_of_item found.0) c.new-values.ensures.items;
+          ∙ ap (λ l. map value_view l ++ flat_map value_of_item found.0) c.new-values.ensures.items;
       err = tt;
     })
 
 pub returns-in-None-clause-meant : goal.returns-in-None-clause-meant
 returns-in-None-clause-meant c = λ t m.
     let none = no_spots c.args.bytes.now (array_values t) (rw c.in-None.is at (c.in_ok-elements.ensures.meant t m (c.in_ok-found.ensures.item t m))) in
-    record { ok = c.at_most_one.ensures ∙ c.item_atom-value.ensures t (c.in_ok-found.ensures.item t m) ∙ sym (other_values t none); err = tt }
+    record { ok = c.at_most_one.ensures ∙ c.value_of_item-value.ensures t (c.in_ok-found.ensures.item t m) ∙ sym (other_values t none); err = tt }

@@ -3,11 +3,11 @@ use Rattle.jsonb_doc.specs.Spots.{Locates}
 use Rattle.jsonb_doc.specs.Tree.{Tree}
 use Rattle.std.specs.List.{AllZip}
 use Rattle.jsonb.specs.Values.{values_of_item}
-use Rattle.jsonb.specs.Private.Selection.{atom_value}
+use Rattle.jsonb.specs.Private.Selection.{value_view}
 use Rattle.jsonb.proofs.Progress.{Progress}
 use Rattle.jsonb.proofs.selector.values.many_values.Given as goal
 
 abbrev pub invariant-loop-item : goal.invariant-loop-item
 invariant-loop-item l = (ts : List Tree) → AllZip (Locates l.bytes) l.items ts →
-    Progress (AllZip (Locates l.bytes) (drop l.item-index l.items)) (λ vs. map atom_value l.values.items ≡ vs) (λ t. Ok (values_of_item t))
+    Progress (AllZip (Locates l.bytes) (drop l.item-index l.items)) (λ vs. map value_view l.values.items ≡ vs) (λ t. Ok (values_of_item t))
     (Ok (flat_map values_of_item ts))

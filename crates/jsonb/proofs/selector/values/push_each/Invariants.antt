@@ -2,11 +2,11 @@ use Rattle.std.proofs.Common.{◌≡◌, ◌++◌, Ok, List, map, flat_map}
 use Rattle.jsonb_doc.specs.Spots.{HasSpotsLeft}
 use Rattle.jsonb_doc.specs.Tree.{Tree}
 use Rattle.jsonb.specs.Values.{value_of_item}
-use Rattle.jsonb.specs.Private.Selection.{atom_value}
+use Rattle.jsonb.specs.Private.Selection.{value_view}
 use Rattle.jsonb.proofs.Progress.{Progress}
 use Rattle.jsonb.proofs.selector.values.push_each.Given as goal
 
 abbrev pub invariant-loop-element : goal.invariant-loop-element
 invariant-loop-element l = (ts : List Tree) → HasSpotsLeft l.bytes l.fn.elements ts →
-    Progress (HasSpotsLeft l.bytes l.element-iterator) (λ vs. map atom_value l.values.items ≡ vs) (λ t. Ok (value_of_item t))
-    (Ok (map atom_value l.fn.values.items ++ flat_map value_of_item ts))
+    Progress (HasSpotsLeft l.bytes l.element-iterator) (λ vs. map value_view l.values.items ≡ vs) (λ t. Ok (value_of_item t))
+    (Ok (map value_view l.fn.values.items ++ flat_map value_of_item ts))

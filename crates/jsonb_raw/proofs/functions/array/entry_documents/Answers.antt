@@ -3,7 +3,7 @@ use Rattle.std.proofs.lemmas.Result.{err_from_is_err_and}
 use Rattle.jsonb_doc.specs.Format.{Decodes}
 use Rattle.jsonb_raw.proofs.CollectLoops.{none_made, one_made, all_made}
 use Rattle.jsonb_raw.proofs.ArrayLemmas.{element_refused_in_list}
-use Rattle.jsonb_raw.proofs.RowWalks.{entry_taken, no_entry_left}
+use Rattle.jsonb_raw.proofs.EntryWalks.{entry_taken, no_entry_left}
 use Rattle.jsonb_raw.proofs.functions.array.entry_documents.Goals as goal
 
 pub loop-documents-init : goal.loop-documents-init

@@ -2,13 +2,13 @@ use Rattle.std.proofs.Common.{List, length}
 use Rattle.jsonb_doc.specs.Tree.{Tree}
 use Rattle.jsonb_doc.specs.Payload.{Form}
 use Rattle.jsonb_doc.specs.Format.{Decodes}
-use Rattle.jsonb_raw.specs.Private.Rows.{HoldTrees}
+use Rattle.jsonb_raw.specs.Private.Entries.{HoldTrees}
 use Rattle.jsonb_raw.proofs.CollectLoops.{Made}
 use Rattle.jsonb_raw.proofs.functions.array.entry_documents.Given as goal
 
 -- the documents that were made, followed by the entries that are left, are the whole
 abbrev pub invariant-loop-documents : goal.invariant-loop-documents
-invariant-loop-documents l = (form : Form) (ts : List Tree) → HoldTrees form l.row ts
+invariant-loop-documents l = (form : Form) (ts : List Tree) → HoldTrees form l.entries ts
     → (others : List Tree) × HoldTrees form l.left others × Made (Decodes form) l.documents.items others ts
 
 abbrev pub decreases-loop-documents : goal.decreases-loop-documents

@@ -1,8 +1,9 @@
 use Rattle.std.proofs.Common.{refl}
 use Rattle.jsonb_doc.proofs.Containers.{Decodes-array}
-use Rattle.jsonb_raw.proofs.RowLemmas.{row_of_array}
+use Rattle.jsonb_raw.proofs.JoinedEntries.{entries_of_array}
 use Rattle.jsonb_raw.proofs.functions.entries.element_entries.Goals as goal
 
 pub returns-in-Array-clause-entries : goal.returns-in-Array-clause-entries
 returns-in-Array-clause-entries c = λ form t d.
-    row_of_array form t c.in-Array.parts _ refl refl (Decodes-array form c.args.bytes.now c.in-Array.parts (rw c.in-Array.is at c.in_ok-parts.ensures.cut) t d)
+    entries_of_array form t c.in-Array.parts _ refl refl
+    (Decodes-array form c.args.bytes.now c.in-Array.parts (rw c.in-Array.is at c.in_ok-parts.ensures.cut) t d)

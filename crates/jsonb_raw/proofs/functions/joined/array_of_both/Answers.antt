@@ -1,5 +1,5 @@
-use Rattle.jsonb_raw.proofs.RowLemmas.{two_rows}
+use Rattle.jsonb_raw.proofs.JoinedEntries.{two_runs}
 use Rattle.jsonb_raw.proofs.functions.joined.array_of_both.Goals as goal
 
 pub returns-clause-array : goal.returns-clause-array
-returns-clause-array c = λ form xs ys h g. c.array_of.ensures.array form _ (two_rows form _ _ xs ys h g)
+returns-clause-array c = λ form xs ys h g. c.array_of.ensures.array form _ (two_runs form _ _ xs ys h g)

@@ -1,6 +1,6 @@
 use Rattle.std.proofs.Common.{inr, refl}
 use Rattle.jsonb_doc.specs.Tree.{object, pairs_of}
-use Rattle.jsonb_raw.proofs.RowLemmas.{container_made}
+use Rattle.jsonb_raw.proofs.JoinedEntries.{container_made}
 use Rattle.jsonb_raw.proofs.RunLemmas.{too_many_pairs, pairs_built}
 use Rattle.jsonb_raw.proofs.functions.joined.object_of.Goals as goal
 

@@ -3,7 +3,7 @@ use Rattle.std.proofs.lemmas.Result.{err_from_is_err_and}
 use Rattle.jsonb_raw.specs.Making.{IsPairOf}
 use Rattle.jsonb_raw.proofs.CollectLoops.{none_made, one_made, all_made}
 use Rattle.jsonb_raw.proofs.ObjectLemmas.{pair_refused_in_list}
-use Rattle.jsonb_raw.proofs.RowWalks.{pair_taken, no_pair_left}
+use Rattle.jsonb_raw.proofs.EntryWalks.{pair_taken, no_pair_left}
 use Rattle.jsonb_raw.proofs.functions.object.owned_pairs.Goals as goal
 
 pub loop-each-init : goal.loop-each-init

@@ -2,13 +2,13 @@ use Rattle.std.proofs.Common.{List, ℕ, length}
 use Rattle.jsonb_doc.specs.Tree.{Tree}
 use Rattle.jsonb_doc.specs.Payload.{Form}
 use Rattle.jsonb_raw.specs.Making.{IsPairOf}
-use Rattle.jsonb_raw.specs.Private.Rows.{HoldPairs}
+use Rattle.jsonb_raw.specs.Private.Entries.{HoldPairs}
 use Rattle.jsonb_raw.proofs.CollectLoops.{Made}
 use Rattle.jsonb_raw.proofs.functions.object.owned_pairs.Given as goal
 
 -- the pairs that were made, followed by those that are left, are the whole
 abbrev pub invariant-loop-each : goal.invariant-loop-each
-invariant-loop-each l = (form : Form) (ps : List (List ℕ × Tree)) → HoldPairs form l.row ps
+invariant-loop-each l = (form : Form) (ps : List (List ℕ × Tree)) → HoldPairs form l.pairs ps
     → (others : List (List ℕ × Tree)) × HoldPairs form l.left others × Made (IsPairOf form) l.each.items others ps
 
 abbrev pub decreases-loop-each : goal.decreases-loop-each

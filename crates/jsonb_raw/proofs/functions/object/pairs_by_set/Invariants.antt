@@ -4,16 +4,16 @@ use Rattle.jsonb_doc.specs.Tree.{Tree}
 use Rattle.jsonb_doc.specs.Payload.{Form}
 use Rattle.jsonb_doc.specs.Format.{AreKeys}
 use Rattle.jsonb_raw.specs.Private.PairSteps.{parted}
-use Rattle.jsonb_raw.specs.Private.Rows.{HoldPairs}
+use Rattle.jsonb_raw.specs.Private.Entries.{HoldPairs}
 use Rattle.jsonb_raw.proofs.PartedRuns.{Parting}
 use Rattle.jsonb_raw.proofs.functions.object.pairs_by_set.Given as goal
 
 -- the pairs that are kept, followed by what the set leaves of the others, are the whole
-abbrev pub invariant-loop-rows : goal.invariant-loop-rows
-invariant-loop-rows l = record {
-  left : (form : Form) (ps : List (List ℕ × Tree)) → HoldPairs form l.row ps → AreKeys (keys_of ps)
-      → Parting form l.rows l.run l.left l.wanted l.names (parted l.wanted l.names ps);
+abbrev pub invariant-loop-runs : goal.invariant-loop-runs
+invariant-loop-runs l = record {
+  left : (form : Form) (ps : List (List ℕ × Tree)) → HoldPairs form l.pairs ps → AreKeys (keys_of ps)
+      → Parting form l.runs l.run l.left l.wanted l.names (parted l.wanted l.names ps);
 }
 
-abbrev pub decreases-loop-rows : goal.decreases-loop-rows
-decreases-loop-rows l = length l.left.keys.words.now
+abbrev pub decreases-loop-runs : goal.decreases-loop-runs
+decreases-loop-runs l = length l.left.keys.words.now

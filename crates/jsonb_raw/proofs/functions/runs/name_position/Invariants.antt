@@ -3,15 +3,15 @@ use Rattle.std.specs.Prelude.{position}
 use Rattle.std.specs.Str.{bytes_eq}
 use Rattle.jsonb_doc.specs.Tree.{text}
 use Rattle.jsonb_doc.specs.Payload.{Form}
-use Rattle.jsonb_raw.specs.Private.Rows.{HoldTrees}
+use Rattle.jsonb_raw.specs.Private.Entries.{HoldTrees}
 use Rattle.jsonb_raw.proofs.PositionLemmas.{position_behind}
 use Rattle.jsonb_raw.proofs.functions.runs.name_position.Given as goal
 
 -- the position is that among the keys that are left, behind those that were passed
 abbrev pub invariant-loop-key : goal.invariant-loop-key
 invariant-loop-key l = record {
-  bound : l.passed + length l.left.words.now ≤ length l.row.words.now;
-  left : (form : Form) (ks : List (List ℕ)) → HoldTrees form l.row (map text ks)
+  bound : l.passed + length l.left.words.now ≤ length l.entries.words.now;
+  left : (form : Form) (ks : List (List ℕ)) → HoldTrees form l.entries (map text ks)
       → (others : List (List ℕ)) × HoldTrees form l.left (map text others)
       × (position_behind l.passed l.name others ≡ position (λ key. bytes_eq key l.name) ks);
 }

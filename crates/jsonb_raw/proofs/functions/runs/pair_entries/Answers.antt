@@ -1,6 +1,6 @@
 use Rattle.std.proofs.Common.{refl}
 use Rattle.jsonb_doc.proofs.Containers.{Decodes-object}
-use Rattle.jsonb_raw.proofs.RunLemmas.{rows_of_object, values_skipped}
+use Rattle.jsonb_raw.proofs.RunLemmas.{pairs_of_object, values_skipped}
 use Rattle.jsonb_raw.proofs.functions.runs.pair_entries.Goals as goal
 
 pub returns-in_err-values-clause-entries : goal.returns-in_err-values-clause-entries
@@ -10,5 +10,5 @@ returns-in_err-values-clause-entries c = λ form t d.
 
 pub returns-clause-entries : goal.returns-clause-entries
 returns-clause-entries c = λ form t d.
-    rows_of_object form t c.in-Object.parts _ c.in_ok-values.values.now c.in_ok-values.ensures.contents refl c.split_at.ensures.front refl refl
+    pairs_of_object form t c.in-Object.parts _ c.in_ok-values.values.now c.in_ok-values.ensures.contents refl c.split_at.ensures.front refl refl
     (Decodes-object form c.args.bytes.now c.in-Object.parts (rw c.in-Object.is at c.in_ok-parts.ensures.cut) t d)

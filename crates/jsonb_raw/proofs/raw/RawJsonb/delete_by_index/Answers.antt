@@ -3,17 +3,17 @@ use Rattle.std.proofs.lemmas.Int.{to_z-of_z}
 use Rattle.std.specs.List.{remove}
 use Rattle.jsonb_doc.specs.Tree.{array, elements, trees_of}
 use Rattle.jsonb_doc.specs.Format.{Decodes}
-use Rattle.jsonb_raw.specs.Private.Rows.{HoldTrees}
+use Rattle.jsonb_raw.specs.Private.Entries.{HoldTrees}
 use Rattle.jsonb_raw.specs.Places.{index_position}
 use Rattle.jsonb_raw.specs.Children.{without_index}
-use Rattle.jsonb_raw.proofs.RowLemmas.{array_row}
+use Rattle.jsonb_raw.proofs.JoinedEntries.{array_of_entries}
 use Rattle.jsonb_raw.proofs.ChildAnswers.{without_some, without_none, some_or_none}
 use Rattle.jsonb_raw.proofs.raw.RawJsonb.delete_by_index.Goals as goal
 
 pub returns-in-Some-index_position-clause-deleted : goal.returns-in-Some-index_position-clause-deleted
 returns-in-Some-index_position-clause-deleted c = λ form t d.
     let d' : Decodes form c.as_bytes-bytes.result.now t = rw c.as_bytes-bytes.ensures d in
-    let o = array_row form t _ _ c.in-Some.is (c.in_ok-row.ensures.entries form t d') in
+    let o = array_of_entries form t _ _ c.in-Some.is (c.in_ok-entries.ensures.entries form t d') in
     let found : index_position (length (elements o.0)) c.args.index ≡ Some c.in-Some-index_position.position =
     ap (λ n. index_position n c.args.index) (sym (c.entry_count.ensures form (elements o.0) o.2))
     ∙ ap (index_position c.entry_count.result) (sym (to_z-of_z w32 c.args.index c.ranges.index)) ∙ sym c.index_position.ensures ∙ c.in-Some-index_position.is in
@@ -25,27 +25,27 @@ returns-in-Some-index_position-clause-deleted c = λ form t d.
 pub returns-in_ok-from_slice-in-None-clause-deleted : goal.returns-in_ok-from_slice-in-None-clause-deleted
 returns-in_ok-from_slice-in-None-clause-deleted c = λ form t d.
     let d' : Decodes form c.as_bytes-bytes.result.now t = rw c.as_bytes-bytes.ensures d in
-    let o = array_row form t _ _ c.in-Some.is (c.in_ok-row.ensures.entries form t d') in
+    let o = array_of_entries form t _ _ c.in-Some.is (c.in_ok-entries.ensures.entries form t d') in
     let found : index_position (length (elements o.0)) c.args.index ≡ None =
     ap (λ n. index_position n c.args.index) (sym (c.entry_count.ensures form (elements o.0) o.2))
     ∙ ap (index_position c.entry_count.result) (sym (to_z-of_z w32 c.args.index c.ranges.index)) ∙ sym c.index_position.ensures ∙ c.in-None.is in
     let is : without_index c.args.index t ≡ Some (array o.0) = ap (without_index c.args.index) o.1 ∙ without_none c.args.index o.0 found in
     rw (is, c.new.ensures, c.in_ok-from_slice-in-None.ensures.items) (rw o.1 at d')
 
-pub returns-in_err-row-clause-unchanged : goal.returns-in_err-row-clause-unchanged
-returns-in_err-row-clause-unchanged c = λ form ts d none.
+pub returns-in_err-entries-clause-unchanged : goal.returns-in_err-entries-clause-unchanged
+returns-in_err-entries-clause-unchanged c = λ form ts d none.
     let d' : Decodes form c.as_bytes-bytes.result.now (array ts) = rw c.as_bytes-bytes.ensures d in
-    absurd (c.in_err-row.ensures.entries form (array ts) d')
+    absurd (c.in_err-entries.ensures.entries form (array ts) d')
 
 pub returns-in_default-clause-unchanged : goal.returns-in_default-clause-unchanged
 returns-in_default-clause-unchanged c = λ form ts d none.
     let d' : Decodes form c.as_bytes-bytes.result.now (array ts) = rw c.as_bytes-bytes.ensures d in
-    absurd (rw c.in_default.is at (c.in_ok-row.ensures.entries form (array ts) d'))
+    absurd (rw c.in_default.is at (c.in_ok-entries.ensures.entries form (array ts) d'))
 
 pub returns-in-Some-index_position-clause-unchanged : goal.returns-in-Some-index_position-clause-unchanged
 returns-in-Some-index_position-clause-unchanged c = λ form ts d none.
     let d' : Decodes form c.as_bytes-bytes.result.now (array ts) = rw c.as_bytes-bytes.ensures d in
-    let left : HoldTrees form c.in-Some.row (elements ts) = rw c.in-Some.is at (c.in_ok-row.ensures.entries form (array ts) d') in
+    let left : HoldTrees form c.in-Some.entries (elements ts) = rw c.in-Some.is at (c.in_ok-entries.ensures.entries form (array ts) d') in
     let found : index_position (length (elements ts)) c.args.index ≡ Some c.in-Some-index_position.position =
     ap (λ n. index_position n c.args.index) (sym (c.entry_count.ensures form (elements ts) left))
     ∙ ap (index_position c.entry_count.result) (sym (to_z-of_z w32 c.args.index c.ranges.index)) ∙ sym c.index_position.ensures ∙ c.in-Some-index_position.is in

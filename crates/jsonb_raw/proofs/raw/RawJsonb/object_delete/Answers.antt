@@ -11,11 +11,11 @@ pub returns-in_default-clause-pairs : goal.returns-in_default-clause-pairs
 returns-in_default-clause-pairs c = λ form t d.
     let d' : Decodes form c.as_bytes.result.now t = rw c.as_bytes.ensures d in
     let none : object_delete c.args.keys.now t ≡ None = no_pairs_there form t _ (parted false c.args.keys.now)
-    c.in_default.is (c.in_ok-row.ensures.entries form t d') in
+    c.in_default.is (c.in_ok-pairs.ensures.entries form t d') in
     rw none refl
 
 pub returns-clause-pairs : goal.returns-clause-pairs
 returns-clause-pairs c = λ form t d.
     let d' : Decodes form c.as_bytes.result.now t = rw c.as_bytes.ensures d in
-    let o = pairs_there form t _ _ c.in-Some.is (c.in_ok-row.ensures.entries form t d') in
+    let o = pairs_there form t _ _ c.in-Some.is (c.in_ok-pairs.ensures.entries form t d') in
     rw o.1 (c.pairs_by_set.ensures.pairs form (members o.0) o.2 (decoded_members form _ o.0 (rw o.1 at d')))

@@ -31,7 +31,7 @@ returns-then-branch-clause-overlap c = λ form other_form ts us l d marked.
     ∙ sym (c.in_ok-find_equal_among.ensures.found other_form form us first d stored) ∙ c.if-branch.true in
     rw found at fact)
 
--- its mark is free
+-- its hash is free
 pub loop-entry-preserved-then-not-may_have : goal.loop-entry-preserved-then-not-may_have
 loop-entry-preserved-then-not-may_have c = record {
   can = tt;

@@ -5,7 +5,7 @@ use Rattle.jsonb_doc.specs.Equal.{is_equal}
 use Rattle.jsonb_doc.specs.Payload.{Form}
 use Rattle.jsonb_doc.specs.Private.Stored.{HasEntriesLeft}
 use Rattle.jsonb_raw.specs.Sets.{overlap}
-use Rattle.jsonb_raw.specs.Private.Marks.{Covers}
+use Rattle.jsonb_raw.specs.Private.Hashes.{Covers}
 use Rattle.jsonb_raw.proofs.EntriesLeft.{SomeEntries}
 use Rattle.jsonb_raw.proofs.functions.array.overlap.block_overlaps.Given as goal
 
@@ -15,6 +15,6 @@ invariant-loop-entry l = record {
   can : (goal.iterator-loop-entry).can_next l.entry-iterator;
   finite : (goal.iterator-loop-entry).is_finite l.entry-iterator;
   left : (form other_form : Form) (ts us : Trees) → HasEntriesLeft form l.fn.found ts → HasEntriesLeft other_form l.block us
-      → ((t : Tree) → list_any (is_equal t) (take l.count (elements us)) ≡ true → Covers l.marks t)
+      → ((t : Tree) → list_any (is_equal t) (take l.count (elements us)) ≡ true → Covers l.hashes t)
       → SomeEntries form l.entry-iterator (λ left. overlap (elements left) (take l.count (elements us)) ≡ overlap (elements ts) (take l.count (elements us)));
 }

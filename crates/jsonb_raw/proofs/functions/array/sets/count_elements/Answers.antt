@@ -1,5 +1,5 @@
 use Rattle.std.proofs.lemmas.Result.{err_from_is_err_and}
-use Rattle.jsonb_raw.proofs.RowWalks.{entry_taken, no_entry_left}
+use Rattle.jsonb_raw.proofs.EntryWalks.{entry_taken, no_entry_left}
 use Rattle.jsonb_raw.proofs.SetKept.{stores_next}
 use Rattle.jsonb_raw.proofs.KeysCounted.{CountsLeft-all, CountsLeft-next, CountsLeft-done}
 use Rattle.jsonb_raw.proofs.functions.array.sets.count_elements.Goals as goal

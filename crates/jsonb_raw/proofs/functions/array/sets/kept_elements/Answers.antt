@@ -1,27 +1,27 @@
 use Rattle.std.proofs.Common.{◌∙◌, inl, sym, subst}
 use Rattle.std.proofs.lemmas.Result.{err_from_is_err_and}
 use Rattle.jsonb_raw.specs.Sets.{select_occurrences}
-use Rattle.jsonb_raw.specs.Private.Rows.{RowsHold}
+use Rattle.jsonb_raw.specs.Private.Entries.{RunsHold}
 use Rattle.jsonb_raw.specs.Private.SetCounts.{keeps}
 use Rattle.jsonb_raw.proofs.SetKept.{KeptRuns-all, KeptRuns-left, KeptRuns-done, KeptRuns-kept, KeptRuns-dropped, run_held, stores_next, next_of, next_few}
 use Rattle.jsonb_raw.proofs.functions.array.sets.kept_elements.Goals as goal
 use Rattle.jsonb_raw.proofs.functions.array.sets.kept_elements.Goals.{then-not-branch+in_ok-push_run, else-not-branch}
 
-pub loop-rows-init : goal.loop-rows-init
-loop-rows-init c = record {
+pub loop-runs-init : goal.loop-runs-init
+loop-runs-init c = record {
   left = λ form other ts h fit few b.
-      KeptRuns-all form c.args.kind c.args.counts other c.new-rows.result.items c.args.row ts c.new-rows.ensures.items h fit few b;
+      KeptRuns-all form c.args.kind c.args.counts other c.new-runs.result.items c.args.entries ts c.new-runs.ensures.items h fit few b;
 }
 
 pub returns-in_err-first-clause-made : goal.returns-in_err-first-clause-made
 returns-in_err-first-clause-made c = λ form other ts h fit few b.
-    let m = c.loop-rows.invariant.left form other ts h fit few b in
+    let m = c.loop-runs.invariant.left form other ts h fit few b in
     absurd (c.in_err-first.ensures.first form m.rest (KeptRuns-left form _ _ other _ _ _ _ m))
 
 pub returns-in_err-write_entry_key-clause-made : goal.returns-in_err-write_entry_key-clause-made
 returns-in_err-write_entry_key-clause-made c = λ form other ts h fit few b.
     let p = err_from_is_err_and c.from_residual-in_err-write_entry_key.result c.from_residual-in_err-write_entry_key.ensures.1 in
-    let m = c.loop-rows.invariant.left form other ts h fit few b in
+    let m = c.loop-runs.invariant.left form other ts h fit few b in
     let mine = rw c.in-Some.is at (c.in_ok-first.ensures.first form m.rest (KeptRuns-left form _ _ other _ _ _ _ m)) in
     let n = next_of form _ _ other _ _ _ _ m c.in-Some.first mine in
     rw (p.1, p.2) (inl (c.in_err-write_entry_key.ensures.key form n.t (stores_next form n.t c.stored.result c.in-Some.first c.stored.ensures.kind c.stored.ensures.content n.first_is.part)))
@@ -29,7 +29,7 @@ returns-in_err-write_entry_key-clause-made c = λ form other ts h fit few b.
 pub returns-in_err-decide-clause-made : goal.returns-in_err-decide-clause-made
 returns-in_err-decide-clause-made c = λ form other ts h fit few b.
     let p = err_from_is_err_and c.from_residual-in_err-decide.result c.from_residual-in_err-decide.ensures.1 in
-    let m = c.loop-rows.invariant.left form other ts h fit few b in
+    let m = c.loop-runs.invariant.left form other ts h fit few b in
     let mine = rw c.in-Some.is at (c.in_ok-first.ensures.first form m.rest (KeptRuns-left form _ _ other _ _ _ _ m)) in
     let n = next_of form _ _ other _ _ _ _ m c.in-Some.first mine in
     let key = c.in_ok-write_entry_key.ensures.key form n.t (stores_next form n.t c.stored.result c.in-Some.first c.stored.ensures.kind c.stored.ensures.content n.first_is.part) in
@@ -38,13 +38,13 @@ returns-in_err-decide-clause-made c = λ form other ts h fit few b.
 pub returns-in_err-push_run-clause-made : goal.returns-in_err-push_run-clause-made
 returns-in_err-push_run-clause-made c = λ form other ts h fit few b.
     let p = err_from_is_err_and c.from_residual-in_err-push_run.result c.from_residual-in_err-push_run.ensures.1 in
-    let m = c.loop-rows.invariant.left form other ts h fit few b in
+    let m = c.loop-runs.invariant.left form other ts h fit few b in
     rw (p.1, p.2) (inl (c.in_err-push_run.ensures.pushed m.holds.run_words m.holds.run_contents m.holds.words_joined m.holds.contents_joined))
 
-pub loop-rows-preserved : goal.loop-rows-preserved
-loop-rows-preserved c = record {
+pub loop-runs-preserved : goal.loop-runs-preserved
+loop-runs-preserved c = record {
   left = λ form other ts h fit few b.
-      let m = c.loop-rows.invariant.left form other ts h fit few b in
+      let m = c.loop-runs.invariant.left form other ts h fit few b in
       let mine = rw c.in-Some.is at (c.in_ok-first.ensures.first form m.rest (KeptRuns-left form _ _ other _ _ _ _ m)) in
       let n = next_of form _ _ other _ _ _ _ m c.in-Some.first mine in
       let short = next_few form _ _ other _ _ _ _ m c.in-Some.first mine n in
@@ -53,25 +53,25 @@ loop-rows-preserved c = record {
       let behind = c.in_ok-decide.ensures.behind other m.before n.t m.behind n.fit.0 key short in
       elim c.if-not-branch.branch [
         | then-not-branch+in_ok-push_run w ↦
-            rw (w.rows-is, w.run-is) (KeptRuns-dropped form _ _ other _ _ _ _ m c.in-Some.first mine n _ _
+            rw (w.runs-is, w.run-is) (KeptRuns-dropped form _ _ other _ _ _ _ m c.in-Some.first mine n _ _
             (run_held form _ _ other _ _ _ _ m _ w.in_ok-push_run.ensures.pushed)
             (sym kept ∙ w.if-not-branch.true) behind)
         | else-not-branch w ↦
-            rw (w.rows-is, w.run-is) (KeptRuns-kept form _ _ other _ _ _ _ m c.in-Some.first mine n _ (sym kept ∙ w.if-not-branch.false) behind)
+            rw (w.runs-is, w.run-is) (KeptRuns-kept form _ _ other _ _ _ _ m c.in-Some.first mine n _ (sym kept ∙ w.if-not-branch.false) behind)
       ];
 }
 
 pub returns-in_err-push_run-2-clause-made : goal.returns-in_err-push_run-2-clause-made
 returns-in_err-push_run-2-clause-made c = λ form other ts h fit few b.
     let p = err_from_is_err_and c.from_residual-in_err-push_run-2.result c.from_residual-in_err-push_run-2.ensures.1 in
-    let m = c.loop-rows.invariant.left form other ts h fit few b in
+    let m = c.loop-runs.invariant.left form other ts h fit few b in
     rw (p.1, p.2) (inl (c.in_err-push_run-2.ensures.pushed m.holds.run_words m.holds.run_contents m.holds.words_joined m.holds.contents_joined))
 
 pub returns-clause-made : goal.returns-clause-made
 returns-clause-made c = λ form other ts h fit few b.
-    let m = c.loop-rows.invariant.left form other ts h fit few b in
+    let m = c.loop-runs.invariant.left form other ts h fit few b in
     let none = rw c.in_default.is at (c.in_ok-first.ensures.first form m.rest (KeptRuns-left form _ _ other _ _ _ _ m)) in
     let whole = KeptRuns-done form _ _ other _ _ _ _ m none in
     let held = run_held form _ _ other _ _ _ _ m _ c.in_ok-push_run-2.ensures.pushed in
     c.array_of.ensures.array form (select_occurrences (keeps c.args.kind other) ts)
-    (rw c.as_slice.ensures.value (subst (RowsHold form c.push_run-2.new.rows.items) whole held))
+    (rw c.as_slice.ensures.value (subst (RunsHold form c.push_run-2.new.runs.items) whole held))

@@ -4,17 +4,17 @@ use Rattle.jsonb_doc.specs.Tree.{Tree}
 use Rattle.jsonb_doc.specs.Limits.{Fits}
 use Rattle.jsonb_doc.specs.Payload.{Form}
 use Rattle.jsonb_raw.specs.Sets.{select_occurrences}
-use Rattle.jsonb_raw.specs.Private.Rows.{HoldTrees}
+use Rattle.jsonb_raw.specs.Private.Entries.{HoldTrees}
 use Rattle.jsonb_raw.specs.Private.SetCounts.{keeps, CountsBehind}
 use Rattle.jsonb_raw.proofs.SetKept.{KeptRuns}
 use Rattle.jsonb_raw.proofs.functions.array.sets.kept_elements.Given as goal
 
-abbrev pub invariant-loop-rows : goal.invariant-loop-rows
-invariant-loop-rows l = record {
-  left : (form : Form) (other ts : List Tree) → HoldTrees form l.row ts → AllByRecursion Fits ts → length ts < 2 ^ 63
+abbrev pub invariant-loop-runs : goal.invariant-loop-runs
+invariant-loop-runs l = record {
+  left : (form : Form) (other ts : List Tree) → HoldTrees form l.entries ts → AllByRecursion Fits ts → length ts < 2 ^ 63
       → CountsBehind l.kind l.fn.counts other []
-      → KeptRuns form l.kind l.counts other l.rows.items l.run l.left (select_occurrences (keeps l.kind other) ts);
+      → KeptRuns form l.kind l.counts other l.runs.items l.run l.left (select_occurrences (keeps l.kind other) ts);
 }
 
-abbrev pub decreases-loop-rows : goal.decreases-loop-rows
-decreases-loop-rows l = length l.left.words.now
+abbrev pub decreases-loop-runs : goal.decreases-loop-runs
+decreases-loop-runs l = length l.left.words.now

@@ -1,18 +1,18 @@
 use Rattle.std.proofs.Common.{arith}
 use Rattle.jsonb_doc.specs.Tree.{elements}
 use Rattle.jsonb_doc.proofs.DecodedFits.{decoded_fits}
-use Rattle.jsonb_raw.proofs.RowLemmas.{array_row}
-use Rattle.jsonb_raw.proofs.SetKept.{no_row, elements_fit, elements_few}
+use Rattle.jsonb_raw.proofs.JoinedEntries.{array_of_entries}
+use Rattle.jsonb_raw.proofs.SetKept.{no_array_entries, elements_fit, elements_few}
 use Rattle.jsonb_raw.proofs.functions.array.sets.kept_of_document.Goals as goal
 
 pub returns-in-Some-clause-made : goal.returns-in-Some-clause-made
 returns-in-Some-clause-made c = λ form other t d b.
-    let a = array_row form t _ c.in-Some.row c.in-Some.is (c.in_ok-row.ensures.entries form t d) in
+    let a = array_of_entries form t _ c.in-Some.entries c.in-Some.is (c.in_ok-entries.ensures.entries form t d) in
     let f = rw a.1 at (decoded_fits form c.args.bytes.now t (λ i. omega (arith, c.type_inv.bytes i)) d) in
     rw a.1 (c.kept_elements.ensures.made form other (elements a.0) a.2 (elements_fit a.0 f) (elements_few a.0 f) b)
 
 pub returns-in_ok-root_item-in-None-clause-made : goal.returns-in_ok-root_item-in-None-clause-made
 returns-in_ok-root_item-in-None-clause-made c = λ form other t d b.
-    let one = no_row form t _ c.in-None.is (c.in_ok-row.ensures.entries form t d) in
+    let one = no_array_entries form t _ c.in-None.is (c.in_ok-entries.ensures.entries form t d) in
     let f = decoded_fits form c.args.bytes.now t (λ i. omega (arith, c.type_inv.bytes i)) d in
     rw one (c.kept_item.ensures.made form other t (c.in_ok-root_item-in-None.ensures.decodes form t d) f b)

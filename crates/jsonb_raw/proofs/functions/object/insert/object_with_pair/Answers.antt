@@ -1,5 +1,5 @@
 use Rattle.std.proofs.Common.{◌≡◌, ◌∙◌, ◌++◌, inl, inr, refl, ap, arith}
-use Rattle.jsonb_raw.specs.Private.Inserts.{word_row, content_row}
+use Rattle.jsonb_raw.specs.Private.Inserts.{inserted_words, inserted_contents}
 use Rattle.jsonb_raw.proofs.InsertEntries.{is_cut, made_decodes, made_too_large}
 use Rattle.jsonb_raw.proofs.functions.object.insert.object_with_pair.Goals as goal
 use Rattle.jsonb_raw.proofs.functions.object.insert.object_with_pair.Goals.{then-key-gt-MAX_CONTENT-via-then-key-gt-MAX_CONTENT, then-key-gt-MAX_CONTENT-via-else-key-gt-MAX_CONTENT+then-value-gt-MAX_CONTENT, then-key-gt-MAX_CONTENT-via-else-key-gt-MAX_CONTENT+else-value-gt-MAX_CONTENT+then-kept-ge-MAX_ENTRIES}
@@ -28,8 +28,8 @@ returns-clause-inserted c = λ form ps t d dv at.
     let cut = is_cut form c.args.bytes.now ps d c.args.place c.args.key.now at in
     let kept = c.in-Some.ensures _ _ _ _ _ cut in
     let is = c.in_ok-value.ensures.entry form t dv in
-    let words = word_row c.in-Some.kept c.args.key.now c.in_ok-value.value in
-    let contents = content_row c.in-Some.kept c.args.key.now c.in_ok-value.value in
+    let words = inserted_words c.in-Some.kept c.args.key.now c.in_ok-value.value in
+    let contents = inserted_contents c.in-Some.kept c.args.key.now c.in_ok-value.value in
     let made : c.new.result ≡ words ++ contents = c.new.ensures ∙ c.in_ok-push_contents.ensures
     ∙ ap (λ w. w ++ contents) (c.in_ok-push_words.ensures ∙ ap (λ w. w ++ words) c.in_ok-document.ensures.items) in
     made_decodes form c.args.bytes.now ps d c.args.place c.args.key.now at t c.in-Some.kept kept c.in_ok-value.value is c.new.result made c.utf8.key

@@ -1,6 +1,6 @@
 use Rattle.std.proofs.lemmas.Result.{err_from_is_err_and}
 use Rattle.jsonb_raw.specs.Arrays.{as_elements}
-use Rattle.jsonb_raw.proofs.RowLemmas.{refused_front, refused_back}
+use Rattle.jsonb_raw.proofs.JoinedEntries.{refused_front, refused_back}
 use Rattle.jsonb_raw.proofs.functions.operator.concat.joined_arrays.Goals as goal
 
 pub returns-in_err-first-clause-document : goal.returns-in_err-first-clause-document
@@ -16,5 +16,5 @@ returns-in_err-second-clause-document c = λ form t u d e.
 pub returns-clause-document : goal.returns-clause-document
 returns-clause-document c = λ form t u d e.
     c.array_of_both.ensures.array form (as_elements t) (as_elements u)
-    (c.row.ensures form (as_elements t) (c.in_ok-first.ensures.elements form t d))
-    (c.row-2.ensures form (as_elements u) (c.in_ok-second.ensures.elements form u e))
+    (c.as_entries.ensures form (as_elements t) (c.in_ok-first.ensures.elements form t d))
+    (c.as_entries-2.ensures form (as_elements u) (c.in_ok-second.ensures.elements form u e))

@@ -3,64 +3,64 @@ use Rattle.std.proofs.lemmas.Result.{err_from_is_err_and}
 use Rattle.std.specs.Map.{keys_of}
 use Rattle.jsonb_doc.proofs.BuilderSteps.{keys_rise}
 use Rattle.jsonb_raw.specs.Concat.{merged}
-use Rattle.jsonb_raw.specs.Private.Rows.{PairsHeld}
+use Rattle.jsonb_raw.specs.Private.Entries.{PairsHeld}
 use Rattle.jsonb_raw.specs.declared.functions.parts.FirstPair.{FirstPair}
-use Rattle.jsonb_raw.proofs.RunLemmas.{rows_are_keys}
+use Rattle.jsonb_raw.proofs.RunLemmas.{runs_are_keys}
 use Rattle.jsonb_raw.proofs.MergedLemmas.{there_or_none, merged_rising, merging_begun, left_of, merging_less, merging_equal_second, merging_equal, merging_greater, merging_ended}
 use Rattle.jsonb_raw.proofs.functions.operator.concat.merged_pairs.Goals as goal
 use Rattle.jsonb_raw.proofs.functions.operator.concat.merged_pairs.Goals.{in_default, in_default-2}
 
-pub loop-rows-init : goal.loop-rows-init
-loop-rows-init c = record {
+pub loop-runs-init : goal.loop-runs-init
+loop-runs-init c = record {
   left = λ form ps qs h g a b.
-      merging_begun form c.new-rows.result c.args.first c.args.second ps qs c.new-rows.ensures.keys c.new-rows.ensures.values h g
+      merging_begun form c.new-runs.result c.args.first c.args.second ps qs c.new-runs.ensures.keys c.new-runs.ensures.values h g
       (keys_rise (keys_of ps) a) (keys_rise (keys_of qs) b);
 }
 
 pub returns-in_err-first_pair-clause-merged : goal.returns-in_err-first_pair-clause-merged
 returns-in_err-first_pair-clause-merged c = λ form ps qs h g a b.
-    let m = c.loop-rows.invariant.left form ps qs h g a b in
+    let m = c.loop-runs.invariant.left form ps qs h g a b in
     absurd (c.in_err-first_pair.ensures.first form m.mine (left_of form _ _ _ _ _ _ m))
 
 pub returns-in_err-next-clause-merged : goal.returns-in_err-next-clause-merged
 returns-in_err-next-clause-merged c = λ form ps qs h g a b.
-    let m = c.loop-rows.invariant.left form ps qs h g a b in
+    let m = c.loop-runs.invariant.left form ps qs h g a b in
     absurd (c.in_err-next.ensures.first form m.theirs m.others)
 
 pub returns-in_err-push_run-in-Equal-2-clause-merged : goal.returns-in_err-push_run-in-Equal-2-clause-merged
 returns-in_err-push_run-in-Equal-2-clause-merged c = λ form ps qs h g a b.
-    let m = c.loop-rows.invariant.left form ps qs h g a b in
+    let m = c.loop-runs.invariant.left form ps qs h g a b in
     let p = err_from_is_err_and c.from_residual-in_err-push_run-in-Equal-2.result c.from_residual-in_err-push_run-in-Equal-2.ensures.1 in
     rw (p.1, p.2) (inl (c.in_err-push_run-in-Equal-2.ensures.pushed form m.held m.mine m.pairs))
 
 pub returns-in_err-push_run-in-Greater-clause-merged : goal.returns-in_err-push_run-in-Greater-clause-merged
 returns-in_err-push_run-in-Greater-clause-merged c = λ form ps qs h g a b.
-    let m = c.loop-rows.invariant.left form ps qs h g a b in
+    let m = c.loop-runs.invariant.left form ps qs h g a b in
     let p = err_from_is_err_and c.from_residual-in_err-push_run-in-Greater.result c.from_residual-in_err-push_run-in-Greater.ensures.1 in
     rw (p.1, p.2) (inl (c.in_err-push_run-in-Greater.ensures.pushed form m.held m.mine m.pairs))
 
-pub loop-rows-preserved-in-Less : goal.loop-rows-preserved-in-Less
-loop-rows-preserved-in-Less c = record {
+pub loop-runs-preserved-in-Less : goal.loop-runs-preserved-in-Less
+loop-runs-preserved-in-Less c = record {
   left = λ form ps qs h g a b.
-      let m = c.loop-rows.invariant.left form ps qs h g a b in
+      let m = c.loop-runs.invariant.left form ps qs h g a b in
       let mine = rw c.in-Some-Some.is-0 at (c.in_ok-first_pair.ensures.first form m.mine (left_of form _ _ _ _ _ _ m)) in
       let theirs = rw c.in-Some-Some.is-1 at (c.in_ok-next.ensures.first form m.theirs m.others) in
       merging_less form _ _ _ _ _ _ m c.in-Some-Some.pair c.in-Some-Some.next mine theirs (sym c.cmp.ensures ∙ c.in-Less.is);
 }
 
-pub loop-rows-preserved-in-Equal : goal.loop-rows-preserved-in-Equal
-loop-rows-preserved-in-Equal c = record {
+pub loop-runs-preserved-in-Equal : goal.loop-runs-preserved-in-Equal
+loop-runs-preserved-in-Equal c = record {
   left = λ form ps qs h g a b.
-      let m = c.loop-rows.invariant.left form ps qs h g a b in
+      let m = c.loop-runs.invariant.left form ps qs h g a b in
       let mine = rw c.in-Some-Some.is-0 at (c.in_ok-first_pair.ensures.first form m.mine (left_of form _ _ _ _ _ _ m)) in
       let theirs = rw c.in-Some-Some.is-1 at (c.in_ok-next.ensures.first form m.theirs m.others) in
       merging_equal_second form _ _ _ _ _ _ m c.in-Some-Some.pair c.in-Some-Some.next mine theirs c.if-is_second.true (sym c.cmp.ensures ∙ c.in-Equal.is);
 }
 
-pub loop-rows-preserved-in_ok-push_run-in-Equal-2 : goal.loop-rows-preserved-in_ok-push_run-in-Equal-2
-loop-rows-preserved-in_ok-push_run-in-Equal-2 c = record {
+pub loop-runs-preserved-in_ok-push_run-in-Equal-2 : goal.loop-runs-preserved-in_ok-push_run-in-Equal-2
+loop-runs-preserved-in_ok-push_run-in-Equal-2 c = record {
   left = λ form ps qs h g a b.
-      let m = c.loop-rows.invariant.left form ps qs h g a b in
+      let m = c.loop-runs.invariant.left form ps qs h g a b in
       let mine = rw c.in-Some-Some.is-0 at (c.in_ok-first_pair.ensures.first form m.mine (left_of form _ _ _ _ _ _ m)) in
       let theirs = rw c.in-Some-Some.is-1 at (c.in_ok-next.ensures.first form m.theirs m.others) in
       let pushed = c.in_ok-push_run-in-Equal-2.ensures.pushed form m.held m.mine m.pairs in
@@ -68,10 +68,10 @@ loop-rows-preserved-in_ok-push_run-in-Equal-2 c = record {
       (sym c.cmp.ensures ∙ c.in-Equal-2.is);
 }
 
-pub loop-rows-preserved : goal.loop-rows-preserved
-loop-rows-preserved c = record {
+pub loop-runs-preserved : goal.loop-runs-preserved
+loop-runs-preserved c = record {
   left = λ form ps qs h g a b.
-      let m = c.loop-rows.invariant.left form ps qs h g a b in
+      let m = c.loop-runs.invariant.left form ps qs h g a b in
       let mine = rw c.in-Some-Some.is-0 at (c.in_ok-first_pair.ensures.first form m.mine (left_of form _ _ _ _ _ _ m)) in
       let theirs = rw c.in-Some-Some.is-1 at (c.in_ok-next.ensures.first form m.theirs m.others) in
       let pushed = c.in_ok-push_run-in-Greater.ensures.pushed form m.held m.mine m.pairs in
@@ -81,20 +81,20 @@ loop-rows-preserved c = record {
 
 pub returns-in_err-push_run-clause-merged : goal.returns-in_err-push_run-clause-merged
 returns-in_err-push_run-clause-merged c = λ form ps qs h g a b.
-    let m = c.loop-rows.invariant.left form ps qs h g a b in
+    let m = c.loop-runs.invariant.left form ps qs h g a b in
     let p = err_from_is_err_and c.from_residual-in_err-push_run.result c.from_residual-in_err-push_run.ensures.1 in
     rw (p.1, p.2) (inl (c.in_err-push_run.ensures.pushed form m.held m.mine m.pairs))
 
 pub returns-in_err-push-clause-merged : goal.returns-in_err-push-clause-merged
 returns-in_err-push-clause-merged c = λ form ps qs h g a b.
-    let m = c.loop-rows.invariant.left form ps qs h g a b in
+    let m = c.loop-runs.invariant.left form ps qs h g a b in
     let p = err_from_is_err_and c.from_residual-in_err-push.result c.from_residual-in_err-push.ensures.1 in
     let one = c.in_ok-push_run.ensures.pushed form m.held m.mine m.pairs in
     rw (p.1, p.2) (inl (c.in_err-push.ensures.pushed form m.held m.mine one (left_of form _ _ _ _ _ _ m)))
 
 pub returns-in_err-push-2-clause-merged : goal.returns-in_err-push-2-clause-merged
 returns-in_err-push-2-clause-merged c = λ form ps qs h g a b.
-    let m = c.loop-rows.invariant.left form ps qs h g a b in
+    let m = c.loop-runs.invariant.left form ps qs h g a b in
     let p = err_from_is_err_and c.from_residual-in_err-push-2.result c.from_residual-in_err-push-2.ensures.1 in
     let one = c.in_ok-push_run.ensures.pushed form m.held m.mine m.pairs in
     let two = c.in_ok-push.ensures.pushed form m.held m.mine one (left_of form _ _ _ _ _ _ m) in
@@ -102,7 +102,7 @@ returns-in_err-push-2-clause-merged c = λ form ps qs h g a b.
 
 pub returns-clause-merged : goal.returns-clause-merged
 returns-clause-merged c = λ form ps qs h g a b.
-    let m = c.loop-rows.invariant.left form ps qs h g a b in
+    let m = c.loop-runs.invariant.left form ps qs h g a b in
     let one = c.in_ok-push_run.ensures.pushed form m.held m.mine m.pairs in
     let two = c.in_ok-push.ensures.pushed form m.held m.mine one (left_of form _ _ _ _ _ _ m) in
     let three = c.in_ok-push-2.ensures.pushed form (m.held ++ m.mine) m.theirs two m.others in
@@ -115,4 +115,4 @@ returns-clause-merged c = λ form ps qs h g a b.
     ] in
     let all = subst (PairsHeld form c.push-2.new.self) whole three in
     c.object.ensures.object form (merged ps qs) all
-    (rows_are_keys form c.push-2.new.self.keys.items (keys_of (merged ps qs)) (merged_rising ps qs (keys_rise (keys_of ps) a)) all.names)
+    (runs_are_keys form c.push-2.new.self.keys.items (keys_of (merged ps qs)) (merged_rising ps qs (keys_rise (keys_of ps) a)) all.names)

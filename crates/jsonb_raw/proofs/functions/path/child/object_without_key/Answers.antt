@@ -8,20 +8,20 @@ use Rattle.jsonb_doc.proofs.LimitLemmas.{decoded_members}
 use Rattle.jsonb_raw.proofs.NamedPairs.{AreKeys-filter, all_stay, one_goes}
 use Rattle.jsonb_raw.proofs.functions.path.child.object_without_key.Goals as goal
 
-pub returns-in_err-row-clause-deleted : goal.returns-in_err-row-clause-deleted
-returns-in_err-row-clause-deleted c = λ form ps d. absurd (c.in_err-row.ensures.entries form (object ps) d)
+pub returns-in_err-pairs-clause-deleted : goal.returns-in_err-pairs-clause-deleted
+returns-in_err-pairs-clause-deleted c = λ form ps d. absurd (c.in_err-pairs.ensures.entries form (object ps) d)
 
 pub returns-in_default-clause-deleted : goal.returns-in_default-clause-deleted
-returns-in_default-clause-deleted c = λ form ps d. absurd (rw c.in_default.is at (c.in_ok-row.ensures.entries form (object ps) d))
+returns-in_default-clause-deleted c = λ form ps d. absurd (rw c.in_default.is at (c.in_ok-pairs.ensures.entries form (object ps) d))
 
 pub returns-in_err-position-clause-deleted : goal.returns-in_err-position-clause-deleted
 returns-in_err-position-clause-deleted c = λ form ps d.
-    let h = rw c.in-Some.is at (c.in_ok-row.ensures.entries form (object ps) d) in
+    let h = rw c.in-Some.is at (c.in_ok-pairs.ensures.entries form (object ps) d) in
     absurd (c.in_err-position.ensures.position form (keys_of (members ps)) h.names)
 
 pub returns-clause-deleted : goal.returns-clause-deleted
 returns-clause-deleted c = λ form ps d.
-    let h = rw c.in-Some.is at (c.in_ok-row.ensures.entries form (object ps) d) in
+    let h = rw c.in-Some.is at (c.in_ok-pairs.ensures.entries form (object ps) d) in
     let found : position (λ key. bytes_eq key c.args.name.now) (keys_of (members ps)) ≡ Some c.in-Some-2.position =
     rw (← c.as_bytes.ensures.value) (sym (c.in_ok-position.ensures.position form (keys_of (members ps)) h.names) ∙ c.in-Some-2.is) in
     let are = decoded_members form _ ps d in
@@ -31,7 +31,7 @@ returns-clause-deleted c = λ form ps d.
 
 pub returns-in_default-2-clause-deleted : goal.returns-in_default-2-clause-deleted
 returns-in_default-2-clause-deleted c = λ form ps d.
-    let h = rw c.in-Some.is at (c.in_ok-row.ensures.entries form (object ps) d) in
+    let h = rw c.in-Some.is at (c.in_ok-pairs.ensures.entries form (object ps) d) in
     let found : position (λ key. bytes_eq key c.args.name.now) (keys_of (members ps)) ≡ None =
     rw (← c.as_bytes.ensures.value) (sym (c.in_ok-position.ensures.position form (keys_of (members ps)) h.names) ∙ c.in_default-2.is) in
     rw (c.new.ensures, c.in_ok-from_slice.ensures.items, all_stay c.args.name.now (members ps) found, pairs_of-members ps) d

@@ -1,6 +1,6 @@
 use Rattle.std.proofs.Common.{add-one}
 use Rattle.std.specs.List.{remove}
-use Rattle.jsonb_raw.proofs.RowLemmas.{two_rows}
+use Rattle.jsonb_raw.proofs.JoinedEntries.{two_runs}
 use Rattle.jsonb_raw.proofs.NamedPairs.{names_around, values_around}
 use Rattle.jsonb_raw.proofs.functions.path.child.object_without_pair.Goals as goal
 
@@ -15,5 +15,5 @@ returns-clause-deleted c = λ form ps h are.
     let k = rw add-one at (c.in_ok-keys.ensures.around form _ h.names) in
     let v = rw add-one at (c.in_ok-values.ensures.around form _ h.parts) in
     c.object_of.ensures.object form (remove ps c.args.position) are
-    (rw (names_around c.args.position ps) (two_rows form _ _ _ _ k.0 k.1))
-    (rw (values_around c.args.position ps) (two_rows form _ _ _ _ v.0 v.1))
+    (rw (names_around c.args.position ps) (two_runs form _ _ _ _ k.0 k.1))
+    (rw (values_around c.args.position ps) (two_runs form _ _ _ _ v.0 v.1))

@@ -2,15 +2,15 @@ use Rattle.std.proofs.Common.{◌≡◌, ◌+◌, ◌≤◌, List, ℕ, length, 
 use Rattle.jsonb_doc.specs.Tree.{text}
 use Rattle.jsonb_doc.specs.Payload.{Form}
 use Rattle.jsonb_raw.specs.Private.NamePositions.{position_in_some_case}
-use Rattle.jsonb_raw.specs.Private.Rows.{HoldTrees}
+use Rattle.jsonb_raw.specs.Private.Entries.{HoldTrees}
 use Rattle.jsonb_raw.proofs.NamePlaces.{found_behind_both}
 use Rattle.jsonb_raw.proofs.functions.path.child.position_ignoring_case.Given as goal
 
 -- the position is that among the keys that are left, behind those that were passed
 abbrev pub invariant-loop-key : goal.invariant-loop-key
 invariant-loop-key l = record {
-  bound : l.passed + length l.left.words.now ≤ length l.row.words.now;
-  left : (form : Form) (ks : List (List ℕ)) → HoldTrees form l.row (map text ks)
+  bound : l.passed + length l.left.words.now ≤ length l.entries.words.now;
+  left : (form : Form) (ks : List (List ℕ)) → HoldTrees form l.entries (map text ks)
       → (others : List (List ℕ)) × HoldTrees form l.left (map text others)
       × (found_behind_both l.passed l.in_other_case l.name others ≡ position_in_some_case l.name ks);
 }

@@ -12,7 +12,7 @@ use Rattle.jsonb_raw.proofs.functions.path.child.value_ignoring_case.Goals as go
 
 pub returns-in_default-2-clause-value : goal.returns-in_default-2-clause-value
 returns-in_default-2-clause-value c = λ form t d.
-    let o = pairs_there form t _ _ c.in-Some.is (c.in_ok-row.ensures.entries form t d) in
+    let o = pairs_there form t _ _ c.in-Some.is (c.in_ok-pairs.ensures.entries form t d) in
     let at : position_in_some_case c.args.name.now (keys_of (members o.0)) ≡ None =
     rw (← c.as_bytes.ensures.value) (sym (c.in_ok-position.ensures.position form (keys_of (members o.0)) o.2.names) ∙ c.in_default-2.is) in
     let is : named_child c.args.name.now true t ≡ None = ap (named_child c.args.name.now true) o.1 ∙ named_at_none c.args.name.now o.0 at in
@@ -20,7 +20,7 @@ returns-in_default-2-clause-value c = λ form t d.
 
 pub returns-in_default-3-clause-value : goal.returns-in_default-3-clause-value
 returns-in_default-3-clause-value c = λ form t d.
-    let o = pairs_there form t _ _ c.in-Some.is (c.in_ok-row.ensures.entries form t d) in
+    let o = pairs_there form t _ _ c.in-Some.is (c.in_ok-pairs.ensures.entries form t d) in
     let at : position_in_some_case c.args.name.now (keys_of (members o.0)) ≡ Some c.in-Some-2.position =
     rw (← c.as_bytes.ensures.value) (sym (c.in_ok-position.ensures.position form (keys_of (members o.0)) o.2.names) ∙ c.in-Some-2.is) in
     let s = named_at c.args.name.now o.0 c.in-Some-2.position at in
@@ -30,7 +30,7 @@ returns-in_default-3-clause-value c = λ form t d.
 
 pub returns-in_default-3-clause-none : goal.returns-in_default-3-clause-none
 returns-in_default-3-clause-none c = λ form t d none.
-    let o = pairs_there form t _ _ c.in-Some.is (c.in_ok-row.ensures.entries form t d) in
+    let o = pairs_there form t _ _ c.in-Some.is (c.in_ok-pairs.ensures.entries form t d) in
     let at : position_in_some_case c.args.name.now (keys_of (members o.0)) ≡ Some c.in-Some-2.position =
     rw (← c.as_bytes.ensures.value) (sym (c.in_ok-position.ensures.position form (keys_of (members o.0)) o.2.names) ∙ c.in-Some-2.is) in
     let s = named_at c.args.name.now o.0 c.in-Some-2.position at in
@@ -41,7 +41,7 @@ returns-in_default-3-clause-none c = λ form t d none.
 pub returns-in_err-entry_document-clause-value : goal.returns-in_err-entry_document-clause-value
 returns-in_err-entry_document-clause-value c = λ form t d.
     let p = err_from_is_err_and c.from_residual-in_err-entry_document.result c.from_residual-in_err-entry_document.ensures.1 in
-    let o = pairs_there form t _ _ c.in-Some.is (c.in_ok-row.ensures.entries form t d) in
+    let o = pairs_there form t _ _ c.in-Some.is (c.in_ok-pairs.ensures.entries form t d) in
     let at : position_in_some_case c.args.name.now (keys_of (members o.0)) ≡ Some c.in-Some-2.position =
     rw (← c.as_bytes.ensures.value) (sym (c.in_ok-position.ensures.position form (keys_of (members o.0)) o.2.names) ∙ c.in-Some-2.is) in
     let s = named_at c.args.name.now o.0 c.in-Some-2.position at in
@@ -52,7 +52,7 @@ returns-in_err-entry_document-clause-value c = λ form t d.
 
 pub returns-in_err-entry_document-clause-none : goal.returns-in_err-entry_document-clause-none
 returns-in_err-entry_document-clause-none c = λ form t d none.
-    let o = pairs_there form t _ _ c.in-Some.is (c.in_ok-row.ensures.entries form t d) in
+    let o = pairs_there form t _ _ c.in-Some.is (c.in_ok-pairs.ensures.entries form t d) in
     let at : position_in_some_case c.args.name.now (keys_of (members o.0)) ≡ Some c.in-Some-2.position =
     rw (← c.as_bytes.ensures.value) (sym (c.in_ok-position.ensures.position form (keys_of (members o.0)) o.2.names) ∙ c.in-Some-2.is) in
     let s = named_at c.args.name.now o.0 c.in-Some-2.position at in
@@ -62,7 +62,7 @@ returns-in_err-entry_document-clause-none c = λ form t d none.
 
 pub returns-clause-value : goal.returns-clause-value
 returns-clause-value c = λ form t d.
-    let o = pairs_there form t _ _ c.in-Some.is (c.in_ok-row.ensures.entries form t d) in
+    let o = pairs_there form t _ _ c.in-Some.is (c.in_ok-pairs.ensures.entries form t d) in
     let at : position_in_some_case c.args.name.now (keys_of (members o.0)) ≡ Some c.in-Some-2.position =
     rw (← c.as_bytes.ensures.value) (sym (c.in_ok-position.ensures.position form (keys_of (members o.0)) o.2.names) ∙ c.in-Some-2.is) in
     let s = named_at c.args.name.now o.0 c.in-Some-2.position at in
@@ -73,7 +73,7 @@ returns-clause-value c = λ form t d.
 
 pub returns-clause-none : goal.returns-clause-none
 returns-clause-none c = λ form t d none.
-    let o = pairs_there form t _ _ c.in-Some.is (c.in_ok-row.ensures.entries form t d) in
+    let o = pairs_there form t _ _ c.in-Some.is (c.in_ok-pairs.ensures.entries form t d) in
     let at : position_in_some_case c.args.name.now (keys_of (members o.0)) ≡ Some c.in-Some-2.position =
     rw (← c.as_bytes.ensures.value) (sym (c.in_ok-position.ensures.position form (keys_of (members o.0)) o.2.names) ∙ c.in-Some-2.is) in
     let s = named_at c.args.name.now o.0 c.in-Some-2.position at in

@@ -1,0 +1,34 @@
+use Rattle.std.proofs.Common.{arith, ◌-◌, take, refl}
+use Rattle.std.specs.List.{list_any}
+use Rattle.jsonb_doc.specs.Tree.{elements}
+use Rattle.jsonb_doc.specs.Equal.{is_equal}
+use Rattle.jsonb_raw.proofs.EntriesLeft.{SomeEntries-first, SomeEntries-none}
+use Rattle.jsonb_raw.proofs.TakenEntries.{take_one, drop_one, take_no, take_zero, not_of_none, one_more}
+use Rattle.jsonb_raw.proofs.functions.array.overlap.take_hashes.Goals as goal
+
+pub returns-in_default-clause-marked : goal.returns-in_default-clause-marked
+returns-in_default-clause-marked c = λ form us t h some.
+    not_of_none (rw (take_no c.loop-more.more) at (SomeEntries-none form _ _ _ c.in_default.ensures.steps (c.loop-more.invariant.marked form us t h some)))
+
+pub loop-more-preserved : goal.loop-more-preserved
+loop-more-preserved c = record {
+  fewer = let lower = c.in-Some.ensures.goes.on tt in omega (arith, lower.2);
+  left = λ form us h.
+      SomeEntries-first form _ _ _ _ _ c.in_ok-entry.was c.in-Some.ensures.steps (c.loop-more.invariant.left form us h)
+      (λ first rest left stored fact.
+      record { trees = rest; left = left; fact = rw (drop_one c.loop-more.more first (elements rest) c.loop-more-test.true) at fact });
+  marked = λ form us t h some.
+      SomeEntries-first form _ _ _ _ _ c.in_ok-entry.was c.in-Some.ensures.steps (c.loop-more.invariant.marked form us t h some)
+      (λ first rest left stored fact. record {
+        trees = rest;
+        left = left;
+        fact = one_more (is_equal t first) (list_any (is_equal t) (take (c.loop-more.more - 1) (elements rest))) _
+            (rw (take_one c.loop-more.more first (elements rest) c.loop-more-test.true) refl)
+            (c.add.ensures.kept t) (c.add.ensures.added form t first stored) fact;
+      });
+}
+
+pub returns-clause-marked : goal.returns-clause-marked
+returns-clause-marked c = λ form us t h some.
+    let left = c.loop-more.invariant.marked form us t h some in
+    not_of_none (rw (take_zero c.loop-more.more (elements left.trees) c.loop-more-test.false) at left.fact)

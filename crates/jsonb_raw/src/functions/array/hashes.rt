@@ -1,0 +1,136 @@
+//! Hashes of entries: entries that are equal by value have one hash. So what has a hash that no entry of a list has
+//! equals none of them.
+
+ghost use Rattle.std.specs.Prelude.{◌≡◌, ◌<◌, ◌≤◌, ◌*◌, ◌-◌, ◌^◌, ℕ, pos, neg_ℤ, true, false, IfSome};
+ghost use Rattle.jsonb_doc.specs.Tree.{Tree};
+ghost use Rattle.jsonb_doc.specs.Equal.{is_equal};
+ghost use Rattle.jsonb_doc.specs.Payload.{Form};
+ghost use Rattle.jsonb_doc.specs.Private.Short.{short_value};
+ghost use Rattle.jsonb_doc.specs.Private.Stored.{Stores};
+ghost use Rattle.jsonb_raw.specs.Private.Hashes.{IsHashOf, Covers, value_hash, text_hash};
+
+use jsonb_doc::layout::EntryKind;
+use jsonb_doc::{ShortNumber, StoredEntry};
+use std::hash::{FoldHasher, Hasher};
+
+/// How many hashes there are.
+pub(crate) const HASHES: usize = 4096;
+
+/// `10 ^ (6 - scale)`, where the scale is at most 6.
+fn millionths(scale: u8) -> Option<u64>
+    ensures { IfSome result (λ power. (scale ≤ 6) × (power ≡ 10 ^ (6 - scale)) × (power ≤ 1000000)) }
+{
+    match scale {
+        0 => Some(1_000_000),
+        1 => Some(100_000),
+        2 => Some(10_000),
+        3 => Some(1000),
+        4 => Some(100),
+        5 => Some(10),
+        6 => Some(1),
+        _ => None,
+    }
+}
+
+/// The hash of a whole value, which is a product.
+fn product_hash(magnitude: u64, power: u64, is_negative: bool) -> usize
+    requires { power ≤ 1000000 }
+    ensures above { is_negative ≡ false → result ≡ value_hash (pos (magnitude * power)) }
+    ensures below { is_negative ≡ true → 0 < magnitude → 0 < power
+        → result ≡ value_hash (neg_ℤ (pos (magnitude * power))) }
+    ensures few { result < 4096 }
+{
+    let product = u128::from(magnitude) * u128::from(power);
+    let place = (product / 64 % 2048) as usize * 2;
+    if is_negative { place + 1 } else { place }
+}
+
+/// The hash of a number, and `None` where it has more than six decimals.
+fn number_hash(number: ShortNumber) -> Option<usize>
+    ensures hash { IfSome result (IsHashOf (Tree.number (short_value number))) }
+    ensures few { IfSome result (λ m. m < 4096) }
+{
+    match number {
+        ShortNumber::Unsigned(value) => Some(product_hash(value, 1_000_000, false)),
+        ShortNumber::Signed(value) => Some(product_hash(
+            value.unsigned_abs(),
+            1_000_000,
+            value < 0,
+        )),
+        ShortNumber::Decimal(value, scale) => {
+            let power = millionths(scale)?;
+            Some(product_hash(value.unsigned_abs(), power, value < 0))
+        }
+    }
+}
+
+/// The hash of a text.
+#[tactic(auto, unfolding(crate::specs::Private::Hashes::text_hash))]
+fn text_hash(text: &[u8]) -> usize
+    ensures hash { result ≡ text_hash text.now }
+    ensures few { result < 4096 }
+{
+    let mut hasher = FoldHasher::default();
+    hasher.write(text);
+    (hasher.finish() % 4096) as usize
+}
+
+/// The hash of an entry. A number that is not short, or has more than six decimals, has none.
+pub(crate) fn entry_hash(entry: &StoredEntry<'_>) -> Option<usize>
+    ensures hash { (form : Form) (t : Tree) → Stores form entry.now t → IfSome result (IsHashOf t) }
+    ensures few { IfSome result (λ m. m < 4096) }
+{
+    if entry.is_text() {
+        return Some(text_hash(entry.content));
+    }
+    if let Some(number) = entry.short_number() {
+        return number_hash(number);
+    }
+    match entry.kind {
+        EntryKind::Null => Some(0),
+        EntryKind::False => Some(3),
+        EntryKind::True => Some(4),
+        EntryKind::Container => Some(5),
+        EntryKind::Extension => Some(6),
+        EntryKind::Text | EntryKind::Number | EntryKind::Unknown => None,
+    }
+}
+
+/// Which hashes some entries have.
+#[derive(Drop)]
+pub(super) struct Hashes {
+    taken: [bool; HASHES],
+    /// Whether one of them has none, so that all are taken.
+    all: bool,
+}
+
+impl Hashes {
+    /// No entry has a hash.
+    pub(super) fn new() -> Hashes {
+        Hashes {
+            taken: [false; HASHES],
+            all: false,
+        }
+    }
+
+    /// Takes the hash of an entry. Where it has none, all are taken.
+    pub(super) fn add(&mut self, entry: &StoredEntry<'_>)
+        ensures kept { (t : Tree) → Covers self.old t → Covers self.new t }
+        ensures added { (form : Form) (t u : Tree) → Stores form entry.now u → is_equal t u ≡ true → Covers self.new t }
+    {
+        match entry_hash(entry) {
+            Some(hash) => self.taken[hash] = true,
+            None => self.all = true,
+        }
+    }
+
+    /// Whether the hash of an entry is taken, or it has none.
+    pub(super) fn may_have(&self, entry: &StoredEntry<'_>) -> bool
+        ensures { (form : Form) (t : Tree) → Stores form entry.now t → Covers self.now t → result ≡ true }
+    {
+        match entry_hash(entry) {
+            Some(hash) => self.all || self.taken[hash],
+            None => true,
+        }
+    }
+}
