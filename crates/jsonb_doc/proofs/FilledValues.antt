@@ -29,7 +29,8 @@ innermost : (around : List Open) (o : Open) → reverse (around ++ o ∷ []) ≡
 innermost around o = reverse-append around (o ∷ [])
 
 -- one container more, as the innermost
-pub widest_with : (around around' : List Open) (o : Open) → around' ≡ around ++ o ∷ [] → widest (reverse around') ≡ max (suc (open_room o)) (widest (reverse around))
+pub widest_with : (around around' : List Open) (o : Open) → around' ≡ around ++ o ∷ [] → widest (reverse around') ≡ max (suc (open_room o))
+    (widest (reverse around))
 widest_with around around' o e = ap (λ (os : List Open). widest (reverse os)) e ∙ ap widest (innermost around o)
 
 module _ (seen : Number → spec.Number) where
@@ -47,7 +48,8 @@ module _ (seen : Number → spec.Number) where
   object_goes_on es es' name v ps whole is rising made =
       let all = pairs_of (members_seen seen es ++ (string_bytes name, tree_seen seen v) ∷ members ps) in
       let same : pairs_of (members_seen seen es' ++ members ps) ≡ all =
-      members_go_on seen es es' name v (string_bytes name) (pair (string_bytes name) (tree_seen seen v) ps) ps all (tree_seen seen v) refl refl rising is refl refl in
+      members_go_on seen es es' name v (string_bytes name) (pair (string_bytes name) (tree_seen seen v) ps) ps all (tree_seen seen v) refl refl rising is
+          refl refl in
       (subst (λ (qs : Pairs). AreKeys (keys qs)) (sym same) rising, ap object same ∙ made)
 
   module _ (form : Form) where

@@ -84,7 +84,8 @@ exchanged (e ∷ es) k v w kept found = by (exchanged es k v w) (string_cmp k e.
     by behind Equal kept found = let same : e.1 ≡ v = cc in rw (← same) (omega arith, omega arith)
     by behind Greater kept found = let rest = behind (ap (drop 1) kept) found in (omega (arith, rest.0), omega (arith, rest.1))
 
-pub fewer_exchanged : (members after : BTreeMap (String Global) Value) (k : String Global) (v w : Value) → after.entries ≡ insert_entry string_cmp members.entries k w
+pub fewer_exchanged : (members after : BTreeMap (String Global) Value) (k : String Global) (v w : Value) → after.entries ≡ insert_entry string_cmp
+    members.entries k w
     → keys_of after.entries ≡ keys_of members.entries → lookup (is_at (string_cmp k)) members.entries ≡ Some v
     → remaining (record { next = v; waiting = Some (Object after) }) < to_release (1 + entries_parts members.entries) (parts w)
 fewer_exchanged members after k v w is kept found =

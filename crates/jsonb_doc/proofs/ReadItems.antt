@@ -29,7 +29,8 @@ item_headed content _ h = HasContent-headed (number_reader any) content (h.0, h.
 
 module _ (bytes : List ℕ) where
   -- the entry of a scalar root is no container, so that its item is all of the document
-  scalar_decodes : (e : StoredEntry) → IsCut bytes (Scalar e) → (t : Tree) → IsContent (number_reader any) t (kind_number e.kind) e.content.now → Decodes any bytes t
+  scalar_decodes : (e : StoredEntry) → IsCut bytes (Scalar e) → (t : Tree) → IsContent (number_reader any) t (kind_number e.kind) e.content.now → Decodes
+      any bytes t
   scalar_decodes e cut t h = record { document = (IsCut-same bytes (Scalar e) cut (number_reader any) t).1 (cut.2.scalar, h) }
 
   scalar_root : (e : StoredEntry) → IsCut bytes (Scalar e) → (item : Item) → IsItemOf (kind_number e.kind) e.content.now item → IsRootOf bytes item

@@ -145,7 +145,8 @@ module _ (bytes : List ℕ) (it : SpotIter) where
         omega (arith, fits, length_range bytes it.start it.end h.ordered h.within)
 
     -- the first spot is that of the first tree, and the others are left
-    pub HasSpotsLeft-first : (ts : List Tree) (spot : Spot) (after : SpotIter) → kind_number spot.kind ≡ kind → spot.start ≡ it.start → spot.end ≡ it.start + len
+    pub HasSpotsLeft-first : (ts : List Tree) (spot : Spot) (after : SpotIter) → kind_number spot.kind ≡ kind → spot.start ≡ it.start → spot.end ≡ it.start
+        + len
         → after.words.now ≡ others → after.start ≡ it.start + len → after.end ≡ it.end → HasSpotsLeft bytes it ts → TakesSpot bytes ts (Some (Ok spot)) after
     HasSpotsLeft-first [] spot after k s e words start end h = absurd (omega (arith, ap length (h.entries any h.whole h.decodes).0, ap length w.joined))
     HasSpotsLeft-first (t ∷ ts) spot after k s e words start end h =
@@ -264,7 +265,8 @@ pub PassesSpot-fits : (it : SpotIter) (kind len : ℕ) (others : List ℕ) → S
     → PassesSpot it spot rest → it.start + len ≤ it.end
 PassesSpot-fits it kind len others w spot rest p =
     let known = kind_known spot.kind in
-    let same = word_cancel (kind * 2 ^ 28 + len) (kind_number spot.kind * 2 ^ 28 + (spot.end - spot.start)) others rest.words.now (omega (arith, w.known, w.fits))
+    let same = word_cancel (kind * 2 ^ 28 + len) (kind_number spot.kind * 2 ^ 28 + (spot.end - spot.start)) others rest.words.now
+        (omega (arith, w.known, w.fits))
     (omega (arith, known, p.fits)) (sym w.joined ∙ p.word) in
     omega (arith, same.0, w.known, w.fits, known, p.fits, p.front, p.ordered, p.within)
 

@@ -72,7 +72,8 @@ entries_depth-loop-entry-preserved t c =
           let none = IsApart-one large c.loop-entry.contents_left.now c.args.contents.now content inv.apart (omega (arith, len)) w.if-entry-half.true in
           let known = inv.bound in
           rw (greatest, w.within-is, w.large-is) (record {
-            left = λ form ts h. EntriesLeft-aside form ts _ _ _ _ kind content ws cs b (inv.left form ts h) none (same_kind _ c.in-Some.entry.kind Container c.eq.ensures w.if-eq.true);
+            left = λ form ts h. EntriesLeft-aside form ts _ _ _ _ kind content ws cs b (inv.left form ts h) none
+                (same_kind _ c.in-Some.entry.kind Container c.eq.ensures w.if-eq.true);
             apart = (w.if-entry-half.true, omega (arith, len, within));
             bound = omega arith;
           })
@@ -90,7 +91,8 @@ entries_depth-loop-entry-preserved t c =
           let known = inv.bound in
           rw (greatest, w.within-is, w.large-is) (record {
             left = λ form ts h. EntriesLeft-next form ts _ _ _ _ kind content ws cs b (inv.left form ts h) 0
-                (λ tree k. sym (no_parts tree (scalar_parts (number_reader form) tree kind content (other_kind _ c.in-Some.entry.kind Container c.eq.ensures w.if-eq.false) k)));
+                (λ tree k. sym (no_parts tree (scalar_parts (number_reader form) tree kind content
+                    (other_kind _ c.in-Some.entry.kind Container c.eq.ensures w.if-eq.false) k)));
             apart = IsApart-less large c.loop-entry.contents_left.now cs c.args.contents.now (omega (arith, len)) inv.apart;
             bound = omega arith;
           })

@@ -50,7 +50,8 @@ decreases-container_value-loop-around l = item_size l.within
 -- the value so far leads to what the first one does
 abbrev pub invariant-closed_all-loop-outer : goal.invariant-closed_all-loop-outer
 invariant-closed_all-loop-outer l = record {
-  left : (seen : Number → spec.Number) → KeepsNormal seen → (form : Form) (t : Tree) → LeadsTo seen form (reverse l.fn.around.items) (tree_seen seen l.fn.value) t
+  left : (seen : Number → spec.Number) → KeepsNormal seen → (form : Form) (t : Tree) → LeadsTo seen form (reverse l.fn.around.items)
+      (tree_seen seen l.fn.value) t
       → LeadsTo seen form (reverse l.around.items) (tree_seen seen l.value) t;
   room : widest (reverse l.around.items) ≤ widest (reverse l.fn.around.items);
 }
