@@ -13,7 +13,10 @@ use Rattle.jsonb_doc.proofs.Tables.{AreRows}
 
 -- the steps of the text, where it is a path; `unfolding read` opens all that it takes
 read : List ℕ → Option (List Step)
-unfolding json_path plain_path path_step front_steps first_step root_expression expression nested_or or_with and_with atom_with exists_with group_with path_with filter_with binary_atom unary_atom unary_operator operator arithmetic_operator spaced_operand operand literal_value path_root spaced_inner inner bracket_field named_field wildcard entries spaced_entry field levels entry place name quoted text units unit escape unicode_escape code_unit four_hex_digits natural natural_below sign integer integer_within ws repeat up_to is_utf8 chars encode
+unfolding json_path plain_path path_step front_steps first_step root_expression expression nested_or or_with and_with atom_with exists_with group_with
+    path_with filter_with binary_atom unary_atom unary_operator operator arithmetic_operator spaced_operand operand literal_value path_root spaced_inner
+    inner bracket_field named_field wildcard entries spaced_entry field levels entry place name quoted text units unit escape unicode_escape code_unit
+    four_hex_digits natural natural_below sign integer integer_within ws repeat up_to is_utf8 chars encode
 read input = json_path input
 
 -- what the path prints, where the text is one; `unfolding printed` opens all that it takes

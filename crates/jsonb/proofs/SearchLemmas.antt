@@ -146,7 +146,8 @@ given_one bytes g x us is h = one_member (Locates bytes) (Some x) x us refl (sub
 -- one item at most is all that the steps lead to
 pub found_at_most : (bytes : List ℕ) (found : Option Spot) (us : List Tree) (o : Outcome (List Tree)) → AllZip (Locates bytes) (option_spots found) us
     → o ≡ Ok us → Gives {A = Option Spot} (λ f ts. SameOption (Locates bytes) f (first_item ts)) IsOutOfMemory (Ok found) o
-found_at_most bytes found us o h is = record { ok = subst (λ z. IsOkAnd z (λ ts. SameOption (Locates bytes) found (first_item ts))) (sym is) (go found us h); err = tt }
+found_at_most bytes found us o h is = record { ok = subst (λ z. IsOkAnd z (λ ts. SameOption (Locates bytes) found (first_item ts))) (sym is)
+    (go found us h); err = tt }
   where
     go : (f : Option Spot) (us : List Tree) → AllZip (Locates bytes) (option_spots f) us → SameOption (Locates bytes) f (first_item us)
     go None [] h = tt
@@ -250,7 +251,8 @@ module _ (bytes : List ℕ) (top : Tree) where
 
     pub items_done : (outer : Waiting) (around' : List Waiting) → w.here ≡ [] → around ≡ around' ++ outer ∷ []
         → Searching bytes top (HasItems bytes outer.items) outer.steps.now around' whole
-    items_done outer around' none e = go w.others (subst (λ l. HaveLeft bytes l w.others) (ap reverse e ∙ innermost around' outer) w.left_around) (all_passed none)
+    items_done outer around' none e = go w.others (subst (λ l. HaveLeft bytes l w.others) (ap reverse e ∙ innermost around' outer) w.left_around)
+        (all_passed none)
       where
         go : (ls : List Left) → HaveLeft bytes (outer ∷ reverse around') ls → whole ≡ left_over top ls
             → Searching bytes top (HasItems bytes outer.items) outer.steps.now around' whole
@@ -286,7 +288,8 @@ pub falls_beside : (within within' : Waiting) (around : List Waiting) → within
     → items_bound within'.items < items_bound within.items → weight within' + weights (reverse around) < weight within + weights (reverse around)
 unfolding weight
 falls_beside within within' around same fewer =
-    let equal = ap length same in let light = taken_weighs _ _ (length within.steps.now) (length within'.steps.now) fewer (omega (arith, equal)) in omega (arith, light)
+    let equal = ap length same in let light = taken_weighs _ _ (length within.steps.now) (length within'.steps.now) fewer (omega (arith, equal)) in omega
+        (arith, light)
 
 pub falls_done : (within outer : Waiting) (around around' : List Waiting) → around ≡ around' ++ outer ∷ []
     → weight outer + weights (reverse around') < weight within + weights (reverse around)

@@ -13,7 +13,8 @@ use Rattle.jsonb_doc.proofs.Tables.{AreRows}
 -- ---- reading; `unfolding read` opens all that it takes
 
 read : List ℕ → Option (List Key)
-unfolding key_path some_keys no_keys spaced_key key name quoted units text unit escape unicode_escape code_unit four_hex_digits natural natural_below sign integer integer_within ws repeat up_to is_utf8 chars encode
+unfolding key_path some_keys no_keys spaced_key key name quoted units text unit escape unicode_escape code_unit four_hex_digits natural natural_below sign
+    integer integer_within ws repeat up_to is_utf8 chars encode
 read input = key_path input
 
 paths_read : AreRows read (

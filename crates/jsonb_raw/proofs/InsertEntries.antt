@@ -234,7 +234,8 @@ module _ (form : Form) (bytes : List ℕ) (ps : Pairs) (d : Decodes form bytes (
 
   module _ (t : Tree) (kept : KeptEntries) (kept_are : AreKept kept before between behind) (value : StoredEntry)
       (is : IsContent (number_reader form) t (kind_number value.kind) value.content.now) where
-    entries_are : insert_pair name (kind_number value.kind, value.content.now) held.entries ≡ split.front ++ (name, (kind_number value.kind, value.content.now)) ∷ split.back
+    entries_are : insert_pair name (kind_number value.kind, value.content.now) held.entries ≡ split.front ++
+        (name, (kind_number value.kind, value.content.now)) ∷ split.back
     entries_are = ap (insert_pair name (kind_number value.kind, value.content.now)) split.joined
         ∙ inserted_at name (kind_number value.kind, value.content.now) split.front split.there split.back (rw split.front_are at.below)
         (rw (split.there_are, split.back_are) at.is_place)
@@ -257,7 +258,8 @@ module _ (form : Form) (bytes : List ℕ) (ps : Pairs) (d : Decodes form bytes (
         ≡ values_of split.front ++ (kind_number value.kind, value.content.now) ∷ values_of split.back
     all_values = values-append split.front ((name, (kind_number value.kind, value.content.now)) ∷ split.back)
 
-    all_are_within : length value.content.now < 2 ^ 28 → FitEntries (values_of split.front ++ (kind_number value.kind, value.content.now) ∷ values_of split.back)
+    all_are_within : length value.content.now < 2 ^ 28 → FitEntries (values_of split.front ++ (kind_number value.kind, value.content.now) ∷ values_of
+        split.back)
     all_are_within short =
         let old = subst FitEntries
         (ap values_of split.joined ∙ values-append split.front (split.there ++ split.back)
@@ -283,7 +285,8 @@ module _ (form : Form) (bytes : List ℕ) (ps : Pairs) (d : Decodes form bytes (
         let kc : key_bytes (keys_of es) ≡ contents_of_entries before ++ (name ++ contents_of_entries kb) =
         ap key_bytes keys_are ∙ sym (key-contents (at.front ++ name ∷ at.back)) ∙ ap contents_of_entries (keys-append at.front (name ∷ at.back))
         ∙ contents-append before ((text_entry, name) ∷ kb) in
-        let vw : words_of_entries (values_of es) ≡ words_of_entries vf ++ (entry_word (kind_number value.kind) (length value.content.now) ++ words_of_entries behind) =
+        let vw : words_of_entries (values_of es) ≡ words_of_entries vf ++ (entry_word (kind_number value.kind) (length value.content.now) ++
+            words_of_entries behind) =
         ap words_of_entries all_values ∙ words-append vf (e ∷ behind) in
         let vc : contents_of_entries (values_of es) ≡ contents_of_entries vf ++ (value.content.now ++ contents_of_entries behind) =
         ap contents_of_entries all_values ∙ contents-append vf (e ∷ behind) in

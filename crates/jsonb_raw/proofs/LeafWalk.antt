@@ -125,7 +125,8 @@ pub entry_leaves : (form : Form) (e : StoredEntry) (ignore_array : Bool) (t : Tr
 entry_leaves form e ignore_array t stored entered = parts_leaves ignore_array t (few_stored form e t stored) entered
 
 -- an entry that is no container is a leaf
-pub lone_leaf : (form : Form) (e : StoredEntry) (ignore_array : Bool) (t : Tree) → Stores form e t → (kind_number e.kind == 5) ≡ false → is_leaf ignore_array t ≡ true
+pub lone_leaf : (form : Form) (e : StoredEntry) (ignore_array : Bool) (t : Tree) → Stores form e t → (kind_number e.kind == 5) ≡ false → is_leaf
+    ignore_array t ≡ true
 lone_leaf form e ignore_array (spec.array ts) h k = absurd (true≢false (rw h.content.0 at k))
 lone_leaf form e ignore_array (spec.object ps) h k = absurd (true≢false (rw h.content.0 at k))
 lone_leaf form e ignore_array _ h k = refl

@@ -58,7 +58,8 @@ container_item form item bytes t (inl e) h = let (ts, is, d) = rw e at h in rw i
 container_item form item bytes t (inr e) h = let (ps, is, d) = rw e at h in rw is (object_document (number_reader form) ps bytes.now d.document)
 
 -- any other item stands for a tree that has no parts
-pub scalar_item : (form : Form) (item : Item) (t : Tree) → ((bytes : Bor (List ℕ)) → item ≡ Array bytes → ⊥) → ((bytes : Bor (List ℕ)) → item ≡ Object bytes → ⊥)
+pub scalar_item : (form : Form) (item : Item) (t : Tree) → ((bytes : Bor (List ℕ)) → item ≡ Array bytes → ⊥) →
+    ((bytes : Bor (List ℕ)) → item ≡ Object bytes → ⊥)
     → StandsFor form item t → (is_container t ≡ false) × (deepest t ≡ 0)
 scalar_item form (Array bytes) t array object h = absurd (array bytes refl)
 scalar_item form (Object bytes) t array object h = absurd (object bytes refl)

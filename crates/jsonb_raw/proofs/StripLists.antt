@@ -181,7 +181,8 @@ pub record WordsToPush (out values words whole : List ℕ) : Type 0 where
   pub words_are : words ≡ words_of_entries others
   pub fact : out ++ words_of_entries (beside entries others) ≡ whole
 
-module _ (n len : ℕ) (values value values' : List ℕ) (first : value ≡ take 4 values) (rest : values' ≡ drop 4 values) (long : length values' + 4 ≡ length values)
+module _ (n len : ℕ) (values value values' : List ℕ) (first : value ≡ take 4 values) (rest : values' ≡ drop 4 values)
+    (long : length values' + 4 ≡ length values)
     (read : Tells value n len)
     (words word words' : List ℕ) (word_first : word ≡ take 4 words) (words_rest : words' ≡ drop 4 words) (out out' whole : List ℕ) where
   -- the first of the values goes, and the word beside it
@@ -259,7 +260,8 @@ module _ {G : Type 0} where
       by (e ∷ es) (k ∷ ks) are above many values_are words_are keys_are = go k ks above
           (reads (key_entries (k ∷ ks)) (key-within (k ∷ ks) are) words_are keys_are)
 
-module _ (n len : ℕ) (values value values' : List ℕ) (first : value ≡ take 4 values) (rest : values' ≡ drop 4 values) (long : length values' + 4 ≡ length values)
+module _ (n len : ℕ) (values value values' : List ℕ) (first : value ≡ take 4 values) (rest : values' ≡ drop 4 values)
+    (long : length values' + 4 ≡ length values)
     (read : Tells value n len)
     (words keys : List ℕ) (given : NextEntry)
     (reads : (xs : List EntryParts) → FitEntries xs → words ≡ words_of_entries xs → keys ≡ contents_of_entries xs → ReadsEntry xs (Ok (Some given)))

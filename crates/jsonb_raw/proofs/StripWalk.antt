@@ -208,7 +208,8 @@ module _ (form : Form) (is_object : Bool) (start word : ℕ) (words contents : L
       (λ e es t ts r w.
       still_within es ts out word r.words r.contents (skipped form is_object h.before out start word e es t ts h.target h.most w (rw r.kind at out_of)))
 
-  pub entry_copied : (out' : List ℕ) (word' : ℕ) → leaves_out is_object (kind_number given.kind == null_entry) ≡ false → (kind_number given.kind ≡ container_entry → ⊥)
+  pub entry_copied : (out' : List ℕ) (word' : ℕ) → leaves_out is_object (kind_number given.kind == null_entry) ≡ false →
+      (kind_number given.kind ≡ container_entry → ⊥)
       → length out < 2 ^ 63 → word' ≡ (word + 4) % 2 ^ 64 → out' ≡ out ++ given.content.now
       → IsWithinAll form is_object start word' given.words.now given.contents.now around out' whole
   entry_copied out' word' stays scalar long more pushed =
@@ -231,7 +232,8 @@ module _ (form : Form) (is_object : Bool) (start word : ℕ) (words contents : L
 
   -- a container is begun within
   pub entry_entered : (w' : Writing) (around' : List Writing) (b : Bool) (bs bw : ℕ) (bwords bcontents out' : List ℕ) → w'.is_object ≡ is_object
-      → w'.start ≡ start → w'.word ≡ word → w'.words ≡ given.words → w'.contents ≡ given.contents → around' ≡ around ++ w' ∷ [] → kind_number given.kind ≡ container_entry
+      → w'.start ≡ start → w'.word ≡ word → w'.words ≡ given.words → w'.contents ≡ given.contents → around' ≡ around ++ w' ∷ [] → kind_number given.kind ≡
+          container_entry
       → ((t : Tree) → IsContent (number_reader form) t container_entry given.content.now
       → IsOpen form b out out' bs bw bwords bcontents (strip t) (length given.content.now)) → IsWithinAll form b bs bw bwords bcontents around' out' whole
   entry_entered w' around' b bs bw bwords bcontents out' same_kind same_start same_word same_words same_contents pushed kind begun =

@@ -9,7 +9,8 @@ pub overflow_add-zeros : goal.overflow_add-zeros
 overflow_add-zeros c = let few = c.loop-left.invariant.few in let count = c.loop-left.invariant.count in omega (arith, few, count)
 
 pub loop-left-preserved : goal.loop-left-preserved
-loop-left-preserved c = zero_passed _ c.loop-left.left c.split_last-others.result.0 c.loop-left.zeros _ c.loop-left.invariant (omega arith) c.split_last-others.ensures.others (omega (arith, c.split_last-others.ensures.last))
+loop-left-preserved c = zero_passed _ c.loop-left.left c.split_last-others.result.0 c.loop-left.zeros _ c.loop-left.invariant (omega arith)
+    c.split_last-others.ensures.others (omega (arith, c.split_last-others.ensures.last))
 
 pub returns-then-last-ne0-clause-digits : goal.returns-then-last-ne0-clause-digits
 returns-then-last-ne0-clause-digits c =

@@ -8,7 +8,8 @@ returns-then-not-place g c =
     let refused : c.place.result ≡ false = search (rules, c.if-not-place.true) in
     let said = not_placed _ _ _ _ c.place.result refused c.place.ensures in inr (
       rw said.1 c.loop-index.invariant,
-      inr (lacks_room _ _ _ _ _ _ _ (written_cell c.ask_for_bytes-cell.result c.ask_for_bytes-cell.new.out.items) c.row.ensures c.loop-index.invariant c.ask_for_bytes-cell.ensures
+      inr (lacks_room _ _ _ _ _ _ _ (written_cell c.ask_for_bytes-cell.result c.ask_for_bytes-cell.new.out.items) c.row.ensures c.loop-index.invariant
+          c.ask_for_bytes-cell.ensures
           (ap length (rw c.deref.ensures.value at c.written_bytes-made.ensures)) said.0 c.to_u32.ensures),
     )
 
@@ -19,7 +20,8 @@ loop-index-preserved g c =
     let done : c.place.result ≡ true = search (rules, c.if-not-place.false) in
     let said = placed _ _ _ _ c.place.result done c.place.ensures in
     rw (c.written_status.ensures c.ask_for_bytes-cell.new.out.items)
-    (joined_more _ _ _ _ _ _ _ _ _ (written_cell c.ask_for_bytes-cell.result c.ask_for_bytes-cell.new.out.items) c.row.ensures in_positions in_statuses c.loop-index.invariant
+    (joined_more _ _ _ _ _ _ _ _ _ (written_cell c.ask_for_bytes-cell.result c.ask_for_bytes-cell.new.out.items) c.row.ensures in_positions in_statuses
+        c.loop-index.invariant
     c.ask_for_bytes-cell.ensures (rw c.deref.ensures.value at c.written_bytes-made.ensures) said)
 
 pub returns : goal.returns

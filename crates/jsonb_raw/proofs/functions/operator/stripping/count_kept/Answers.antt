@@ -13,7 +13,8 @@ loop-word-preserved-then-ne c =
     let h = c.in-Some.ensures.cases in
     record {
       few = omega (arith, h.2, c.loop-word.invariant.few);
-      left = λ es within words. count_other _ _ _ _ _ h.0 h.1 h.2 c.read_entry_word.ensures.told _ (length (beside es es)) (differing_kind _ c.read_entry_word.result.0 Null c.ne.ensures c.if-ne.true)
+      left = λ es within words. count_other _ _ _ _ _ h.0 h.1 h.2 c.read_entry_word.ensures.told _ (length (beside es es))
+          (differing_kind _ c.read_entry_word.result.0 Null c.ne.ensures c.if-ne.true)
           (c.loop-word.invariant.left es within words);
     }
 
@@ -22,7 +23,8 @@ loop-word-preserved c =
     let h = c.in-Some.ensures.cases in
     record {
       few = omega (arith, h.2, c.loop-word.invariant.few);
-      left = λ es within words. count_null _ _ _ _ _ h.0 h.1 h.2 c.read_entry_word.ensures.told _ (length (beside es es)) (equal_kind _ c.read_entry_word.result.0 Null c.ne.ensures c.if-ne.false)
+      left = λ es within words. count_null _ _ _ _ _ h.0 h.1 h.2 c.read_entry_word.ensures.told _ (length (beside es es))
+          (equal_kind _ c.read_entry_word.result.0 Null c.ne.ensures c.if-ne.false)
           (c.loop-word.invariant.left es within words);
     }
 

@@ -21,7 +21,8 @@ loop-value-preserved-in_ok-extend_from_slice c =
     let g = c.in-Some-split_first_chunk.ensures.cases in
     record {
       left = λ es xs within many values words.
-          word_pushed _ _ _ _ _ h.0 h.1 h.2 c.read_entry_word.ensures.told _ _ _ g.0 g.1 _ _ _ (differing_kind _ c.read_entry_word.result.0 Null c.ne.ensures c.if-ne.true) c.in_ok-extend_from_slice.ensures.items
+          word_pushed _ _ _ _ _ h.0 h.1 h.2 c.read_entry_word.ensures.told _ _ _ g.0 g.1 _ _ _
+              (differing_kind _ c.read_entry_word.result.0 Null c.ne.ensures c.if-ne.true) c.in_ok-extend_from_slice.ensures.items
           (c.loop-value.invariant.left es xs within many values words);
     }
 
@@ -31,7 +32,8 @@ loop-value-preserved c =
     let g = c.in-Some-split_first_chunk.ensures.cases in
     record {
       left = λ es xs within many values words.
-          word_left_out _ _ _ _ _ h.0 h.1 h.2 c.read_entry_word.ensures.told _ _ _ g.0 g.1 _ _ _ (equal_kind _ c.read_entry_word.result.0 Null c.ne.ensures c.if-ne.false) refl
+          word_left_out _ _ _ _ _ h.0 h.1 h.2 c.read_entry_word.ensures.told _ _ _ g.0 g.1 _ _ _
+              (equal_kind _ c.read_entry_word.result.0 Null c.ne.ensures c.if-ne.false) refl
           (c.loop-value.invariant.left es xs within many values words);
     }
 
