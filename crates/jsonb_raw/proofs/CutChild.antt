@@ -170,10 +170,10 @@ key_words_are bytes head vw vc words contents ks es is words_are contents_are va
     ) refl
 
 -- the same with other contents behind the keys
-entries_of : (ks changed : List (List ℕ)) (front es : List EntryParts) → changed ≡ ks
+entries_by_keys : (ks changed : List (List ℕ)) (front es : List EntryParts) → changed ≡ ks
     → words_of_entries ((key_entries ks ++ front) ++ es) ++ contents_of_entries ((key_entries ks ++ front) ++ es)
     ≡ (key_words changed ++ words_of_entries (front ++ es)) ++ (key_bytes changed ++ contents_of_entries (front ++ es))
-entries_of ks changed front es same =
+entries_by_keys ks changed front es same =
     rw (
       same,
       append_assoc (key_entries ks) front es,
@@ -471,7 +471,7 @@ module _ (number_at : NumberReader) (ps : Pairs) (bytes : List ℕ)
                   joined = content_replaced bytes (header object_header (length (keys ps))) before_value cut_values.back cut_values.entry value
                       (2 * length (keys ps)) value_joined refl value_total value_is content'
                       ∙ both _ _ _ _ (ap (λ ks. header object_header (length ks)) (sym keys_same))
-                      (entries_of (keys ps) (keys (change_value n change ps)) cut_values.front ((container_entry, content') ∷ cut_values.back) keys_same);
+                      (entries_by_keys (keys ps) (keys (change_value n change ps)) cut_values.front ((container_entry, content') ∷ cut_values.back) keys_same);
                 };
                 parts = record {
                   value_words = words_of_entries (cut_values.front ++ (container_entry, content') ∷ cut_values.back);

@@ -186,8 +186,8 @@ module _ (form : Form) (bytes : List ℕ) (ps : Pairs) (d : Decodes form bytes (
   between_count : length between ≡ length at.back + length at.front
   between_count = omega (arith, length-append (key_entries at.back) (values_of split.front), key-count at.back, length-values_of split.front, front_count)
 
-  entries_are : key_entries (keys ps) ++ values_of held.entries ≡ before ++ (key_there ++ (between ++ (value_there ++ behind)))
-  entries_are = rw (
+  entries_parted : key_entries (keys ps) ++ values_of held.entries ≡ before ++ (key_there ++ (between ++ (value_there ++ behind)))
+  entries_parted = rw (
     at.joined,
     split.joined,
     keys-append at.front (at.there ++ at.back),
@@ -223,8 +223,8 @@ module _ (form : Form) (bytes : List ℕ) (ps : Pairs) (d : Decodes form bytes (
       let fits = container.headed.fits in
       let count : length (keys ps) ≡ length key_there + length between = omega (arith, key_count, between_count, key-count at.there) in
       record {
-        within = subst FitEntries entries_are entries_within;
-        joined = cut_bytes _ _ entries_are count;
+        within = subst FitEntries entries_parted entries_within;
+        joined = cut_bytes _ _ entries_parted count;
         fits = omega (arith, fits, count);
         passed = omega (arith, at.passed, key-count at.front);
         keys = omega (arith, at.taken, key-count at.there);

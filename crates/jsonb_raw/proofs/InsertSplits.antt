@@ -33,21 +33,21 @@ module _ (entries : Entries) (front back : List EntryParts) (count : ℕ) (h : A
   pub contents_enough : (len : ℕ) → len ≡ length (contents_of_entries front) → len ≤ length entries.contents.now
   contents_enough len is = omega (arith, is, ap length contents_are, length-append (contents_of_entries front) (contents_of_entries back))
 
-  pub front_are : (entries : Entries) (len : ℕ) → entries.words.now ≡ take (4 * count) entries.words.now → len ≡ length (contents_of_entries front)
-      → entries.contents.now ≡ take len entries.contents.now
-      → AreBytesOf entries front
-  front_are entries len first is taken = record {
+  pub front_are : (part : Entries) (len : ℕ) → part.words.now ≡ take (4 * count) entries.words.now → len ≡ length (contents_of_entries front)
+      → part.contents.now ≡ take len entries.contents.now
+      → AreBytesOf part front
+  front_are part len first is taken = record {
     within = within-front front back h.within;
-    words = front_words entries.words.now first;
+    words = front_words part.words.now first;
     contents = taken ∙ ap (take len) contents_are ∙ take_at (contents_of_entries front) (contents_of_entries back) len (sym is);
   }
 
-  pub back_are : (entries : Entries) (len : ℕ) → entries.words.now ≡ drop (4 * count) entries.words.now → len ≡ length (contents_of_entries front)
-      → entries.contents.now ≡ drop len entries.contents.now
-      → AreBytesOf entries back
-  back_are entries len rest is dropped = record {
+  pub back_are : (part : Entries) (len : ℕ) → part.words.now ≡ drop (4 * count) entries.words.now → len ≡ length (contents_of_entries front)
+      → part.contents.now ≡ drop len entries.contents.now
+      → AreBytesOf part back
+  back_are part len rest is dropped = record {
     within = within-back front back h.within;
-    words = back_words entries.words.now rest;
+    words = back_words part.words.now rest;
     contents = dropped ∙ ap (drop len) contents_are ∙ drop_at (contents_of_entries front) (contents_of_entries back) len (sym is);
   }
 

@@ -18,8 +18,8 @@ returns-in_err-element-clause-inserted c = λ form t u d e.
 
 pub returns-clause-inserted : goal.returns-clause-inserted
 returns-clause-inserted c = λ form t u d e.
-    let entries = c.entries-entries.ensures form (as_elements t) (c.in_ok-elements.ensures.elements form t d) in
+    let entries = c.as_entries-entries.ensures form (as_elements t) (c.in_ok-elements.ensures.elements form t d) in
     let place : c.insert_place-place.result ≡ insert_place (length (as_elements t)) c.args.pos =
     c.insert_place-place.ensures ∙ ap (insert_place c.entry_count.result) (to_z-of_z w32 c.args.pos c.ranges.pos)
     ∙ ap (λ n. insert_place n c.args.pos) (c.entry_count.ensures form (as_elements t) entries) in
-    rw (← place) (c.array_with_entry.ensures.inserted form (as_elements t) u entries (c.entries.ensures form u (c.in_ok-element.ensures.root form u e)))
+    rw (← place) (c.array_with_entry.ensures.inserted form (as_elements t) u entries (c.as_entries.ensures form u (c.in_ok-element.ensures.root form u e)))
