@@ -220,7 +220,7 @@ pub failure-goes : (frames : List Frame) (frame : Frame) (l : PartialExpr) → I
 failure-goes frames frame l is is' =
     resumed-push frames frame (partial_outcome l None)
     ∙ ap (λ (o : Parsed Expression). resumed frames (partial_outcome frame.partial o))
-        (opened-fails frame.opened (partial_outcome l None) is' (partial-unclosed l is))
+    (opened-fails frame.opened (partial_outcome l None) is' (partial-unclosed l is))
 
 -- a frame is taken off, and the failure goes on through the others
 pub failure-passed : (frames others : List Frame) (frame : Frame) (l : PartialExpr) → frames ≡ others ++ frame ∷ [] → IsPartial l → AreFrames frames
@@ -404,7 +404,7 @@ front-is input here o space is =
 pub front-operation : (input rest here : List ℕ) (ss : List Step) (op : BinaryOp) (e : Expression) (after : List ℕ) →
     operand_steps false input ≡ Some (ss, rest) → ws rest ≡ Some (tt, here) → operation false here ≡ Some ((op, e), after) →
     as_path (partial_outcome (record { is_in_filter = false; all = None; any = None }) (Some (binary op (paths (steps_of ss)) e, after)))
-        ≡ root_expression input
+    ≡ root_expression input
 front-operation input rest here ss op e after reads space is = go (dollar input (ss, rest) reads) where
   go : (tail : List ℕ) × (input ≡ 36 ∷ tail) → as_path (partial_outcome (record { is_in_filter = false; all = None; any = None })
       (Some (binary op (paths (steps_of ss)) e, after))) ≡ root_expression input

@@ -24,7 +24,7 @@ module _ (levels : Option Levels) where
   preorder-entered n (object ps) ts h is =
       ap (λ b. taken_item levels n (object ps) ++ (if b then preorder_values levels (n + 1) ps else [])) h
       ∙ ap (λ l. taken_item levels n (object ps) ++ l) (values-is (n + 1) ps ∙ ap (flat_map (preorder levels (n + 1)))
-          (let e : elements (values ps) ≡ ts = cc in e))
+      (let e : elements (values ps) ≡ ts = cc in e))
   preorder-entered n _ ts h is = cc
 
   -- where there are none

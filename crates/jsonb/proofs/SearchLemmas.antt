@@ -146,8 +146,11 @@ given_one bytes g x us is h = one_member (Locates bytes) (Some x) x us refl (sub
 -- one item at most is all that the steps lead to
 pub found_at_most : (bytes : List ℕ) (found : Option Spot) (us : List Tree) (o : Outcome (List Tree)) → AllZip (Locates bytes) (option_spots found) us
     → o ≡ Ok us → Gives {A = Option Spot} (λ f ts. SameOption (Locates bytes) f (first_item ts)) IsOutOfMemory (Ok found) o
-found_at_most bytes found us o h is = record { ok = subst (λ z. IsOkAnd z (λ ts. SameOption (Locates bytes) found (first_item ts))) (sym is)
-    (go found us h); err = tt }
+found_at_most bytes found us o h is = record {
+  ok = subst (λ z. IsOkAnd z (λ ts. SameOption (Locates bytes) found (first_item ts))) (sym is)
+      (go found us h);
+  err = tt;
+}
   where
     go : (f : Option Spot) (us : List Tree) → AllZip (Locates bytes) (option_spots f) us → SameOption (Locates bytes) f (first_item us)
     go None [] h = tt
@@ -289,7 +292,7 @@ pub falls_beside : (within within' : Waiting) (around : List Waiting) → within
 unfolding weight
 falls_beside within within' around same fewer =
     let equal = ap length same in let light = taken_weighs _ _ (length within.steps.now) (length within'.steps.now) fewer (omega (arith, equal)) in omega
-        (arith, light)
+    (arith, light)
 
 pub falls_done : (within outer : Waiting) (around around' : List Waiting) → around ≡ around' ++ outer ∷ []
     → weight outer + weights (reverse around') < weight within + weights (reverse around)

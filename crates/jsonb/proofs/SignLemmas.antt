@@ -101,7 +101,7 @@ module _ (op : UnaryOp) (xs : List CodeNumber) (i : ℕ) (d : CodeNumber) (outco
 
   pub one_refused : {Q : Unit {0} → List Tree → Type 0} {e : Error} → i < length xs
       → Gives {A = CodeNumber} IsNumberTree (λ _. ⊥) (Err e) (signed_number op (number_view (get_or xs i d))) → Gives {A = Unit {0}} Q IsOutOfMemory
-          (Err e) outcome
+      (Err e) outcome
   one_refused {Q} {e} short is =
       refused_in (signed_number op) Q (AllZip (Is number_view) (drop i xs)) (AllZip (Is number_view) (drop (i + 1) xs))
       (AllZip IsNumberItem (take i xs)) (AllZip IsNumberItem (take i xs)) (Is number_view (get_or xs i d)) e outcome done

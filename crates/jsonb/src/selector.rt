@@ -17,7 +17,6 @@ ghost use Rattle.jsonb.specs.Private.Selection.{AreSelected, IsSelectionOf, HasT
 ghost use Rattle.jsonb_raw.specs.Documents.{raw_bytes};
 ghost use Rattle.jsonb.specs.declared.selector.document.Document.{Document};
 
-mod operand_value;
 mod by_path;
 mod calculate;
 mod children;
@@ -32,6 +31,7 @@ mod kept;
 mod levels;
 mod members;
 mod node_list;
+mod operand_value;
 mod search;
 mod selected;
 mod signed_items;

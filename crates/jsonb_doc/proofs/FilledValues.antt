@@ -49,7 +49,7 @@ module _ (seen : Number → spec.Number) where
       let all = pairs_of (members_seen seen es ++ (string_bytes name, tree_seen seen v) ∷ members ps) in
       let same : pairs_of (members_seen seen es' ++ members ps) ≡ all =
       members_go_on seen es es' name v (string_bytes name) (pair (string_bytes name) (tree_seen seen v) ps) ps all (tree_seen seen v) refl refl rising is
-          refl refl in
+      refl refl in
       (subst (λ (qs : Pairs). AreKeys (keys qs)) (sym same) rising, ap object same ∙ made)
 
   module _ (form : Form) where

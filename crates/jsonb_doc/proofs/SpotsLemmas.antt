@@ -266,7 +266,7 @@ pub PassesSpot-fits : (it : SpotIter) (kind len : ℕ) (others : List ℕ) → S
 PassesSpot-fits it kind len others w spot rest p =
     let known = kind_known spot.kind in
     let same = word_cancel (kind * 2 ^ 28 + len) (kind_number spot.kind * 2 ^ 28 + (spot.end - spot.start)) others rest.words.now
-        (omega (arith, w.known, w.fits))
+    (omega (arith, w.known, w.fits))
     (omega (arith, known, p.fits)) (sym w.joined ∙ p.word) in
     omega (arith, same.0, w.known, w.fits, known, p.fits, p.front, p.ordered, p.within)
 

@@ -8,7 +8,7 @@ ghost use Rattle.jsonb.specs.PathViews.{levels_view, step_view, steps_view};
 
 use super::Reading;
 use super::index::entries_at;
-use super::token::{field_at, quoted_at, keyword_at};
+use super::token::{field_at, keyword_at, quoted_at};
 use crate::path::{Path, RecursiveLevel, RecursiveLevelEnd};
 use jsonb_keypath::token::{literal, nat8, skip_space};
 use std::alloc::{AllocError, Global};

@@ -92,7 +92,10 @@ fn is_number(value: &OperandValue<'_>) -> bool
 {
     match value {
         OperandValue::Number(_) => true,
-        OperandValue::Null | OperandValue::Boolean(_) | OperandValue::String(_) | OperandValue::Container => false,
+        OperandValue::Null
+        | OperandValue::Boolean(_)
+        | OperandValue::String(_)
+        | OperandValue::Container => false,
     }
 }
 
@@ -134,7 +137,11 @@ fn signed_value(op: UnaryOperator, value: &OperandValue<'_>) -> Result<Number, E
 
 /// Each value behind a sign, from left to right.
 #[inline(always)]
-fn each_signed(alloc: Global, op: UnaryOperator, values: &[OperandValue<'_>]) -> Result<Vec<Number>, Error>
+fn each_signed(
+    alloc: Global,
+    op: UnaryOperator,
+    values: &[OperandValue<'_>],
+) -> Result<Vec<Number>, Error>
     ensures meant { Gives (λ v ts. AllZip IsNumberItem v.items ts) IsOutOfMemory result
         (try_flat_map (signed_value (sign_view op)) (map value_view values.now)) }
     ensures errors { (mode : Mode) → IfErr result (IsSelectionError mode) }

@@ -16,13 +16,13 @@ ghost use Rattle.jsonb.specs.Private.Members.{are_members};
 ghost use Rattle.jsonb.specs.Private.Selection.{node_spots, value_view};
 ghost use Rattle.jsonb.specs.SelectionErrors.{IsSelectionError};
 
-use super::operand_value::{OperandValue, value_of_literal, short_number_truth};
 use super::children::push_if;
 use super::compared_member::compared_truth;
 use super::document::{Mode, TruthResult};
 use super::kept::{is_comparison, is_kept};
 use super::members::{member, member_steps};
 use super::node_list::NodeList;
+use super::operand_value::{OperandValue, short_number_truth, value_of_literal};
 use crate::path::{BinaryOperator, Expr, Path};
 use jsonb_doc::{Error, Spot, spot_number};
 use std::alloc::Global;

@@ -15,10 +15,10 @@ ghost use Rattle.jsonb.specs.Private.Members.{are_members};
 ghost use Rattle.jsonb.specs.Private.Selection.{IsAt, HasTree, option_spots, value_view};
 ghost use Rattle.jsonb.specs.SelectionErrors.{IsSelectionError};
 
-use super::operand_value::{OperandValue, compare, compare_number, compare_one, value_of_item};
 use super::document::{Current, TruthResult};
 use super::members::{member, starting_item};
 use super::node_list::NodeList;
+use super::operand_value::{OperandValue, compare, compare_number, compare_one, value_of_item};
 use super::values::found_values;
 use crate::path::{BinaryOperator, Path};
 use jsonb_doc::{Item, Spot, spot_item};

@@ -105,7 +105,11 @@ pub(crate) fn or_truth(a: Option<bool>, b: Option<bool>) -> Option<bool>
 }
 
 /// All pairs, for each left value all right values: the first that is true or unknown decides.
-pub(crate) fn compare(op: BinaryOperator, ls: &[OperandValue<'_>], rs: &[OperandValue<'_>]) -> Option<bool>
+pub(crate) fn compare(
+    op: BinaryOperator,
+    ls: &[OperandValue<'_>],
+    rs: &[OperandValue<'_>],
+) -> Option<bool>
     ensures { result ≡ compare (operator_view op) (map value_view ls.now) (map value_view rs.now) }
 {
     for l in ls {
@@ -121,7 +125,11 @@ pub(crate) fn compare(op: BinaryOperator, ls: &[OperandValue<'_>], rs: &[Operand
 
 /// One left value with all right values.
 #[inline(always)]
-pub(crate) fn compare_one(op: BinaryOperator, l: &OperandValue<'_>, rs: &[OperandValue<'_>]) -> Option<bool>
+pub(crate) fn compare_one(
+    op: BinaryOperator,
+    l: &OperandValue<'_>,
+    rs: &[OperandValue<'_>],
+) -> Option<bool>
     ensures { result ≡ compare (operator_view op) (value_view l.now ∷ []) (map value_view rs.now) }
 {
     match rs {
@@ -132,7 +140,11 @@ pub(crate) fn compare_one(op: BinaryOperator, l: &OperandValue<'_>, rs: &[Operan
 
 /// One number with all right values.
 #[inline(always)]
-pub(crate) fn compare_number(op: BinaryOperator, l: &Number, rs: &[OperandValue<'_>]) -> Option<bool>
+pub(crate) fn compare_number(
+    op: BinaryOperator,
+    l: &Number,
+    rs: &[OperandValue<'_>],
+) -> Option<bool>
     ensures { result ≡ compare (operator_view op) (number (number_view l.now) ∷ []) (map value_view rs.now) }
 {
     match rs {
@@ -143,7 +155,11 @@ pub(crate) fn compare_number(op: BinaryOperator, l: &Number, rs: &[OperandValue<
 
 /// A number that is stored in at most 64 bits, with a right value.
 #[inline(always)]
-pub(crate) fn short_number_truth(op: BinaryOperator, l: ShortNumber, r: &OperandValue<'_>) -> Option<bool>
+pub(crate) fn short_number_truth(
+    op: BinaryOperator,
+    l: ShortNumber,
+    r: &OperandValue<'_>,
+) -> Option<bool>
     ensures { result ≡ pair_truth (operator_view op) (number (short_value l)) (value_view r.now) }
 {
     match (op, r) {
@@ -184,7 +200,9 @@ fn starts_with_truth(l: &OperandValue<'_>, r: &OperandValue<'_>) -> Option<bool>
     ensures { result ≡ starts_with_truth (value_view l.now) (value_view r.now) }
 {
     match (l, r) {
-        (OperandValue::String(l), OperandValue::String(r)) => Some(l.as_bytes().starts_with(r.as_bytes())),
+        (OperandValue::String(l), OperandValue::String(r)) => Some(
+            l.as_bytes().starts_with(r.as_bytes()),
+        ),
         _ => None,
     }
 }

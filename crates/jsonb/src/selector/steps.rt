@@ -19,7 +19,6 @@ ghost use Rattle.jsonb.specs.declared.selector.document.Expressions.TheVariants.
 ghost use Rattle.jsonb.specs.declared.path.Path.{size-Path};
 ghost use Rattle.jsonb.specs.SelectionErrors.{IsSelectionError};
 
-use super::operand_value::{OperandValues, compare, value_of_literal};
 use super::children::{push_field, push_if, push_step};
 use super::compared_items::{compared_items, member_compared};
 use super::compared_member::member_truth;
@@ -31,6 +30,7 @@ use super::members::{
     are_members, is_member, member, member_name, member_of, member_steps, starting_item,
 };
 use super::node_list::NodeList;
+use super::operand_value::{OperandValues, compare, value_of_literal};
 use super::search::search;
 use super::terms::{Run, Term, Truths, is_joined, terms_of};
 use super::values::found_values;

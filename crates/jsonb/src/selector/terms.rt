@@ -8,8 +8,8 @@ ghost use Rattle.jsonb.specs.declared.path.Expr.{size-Expr};
 ghost use Rattle.jsonb.specs.declared.selector.document.Mode.{Mode};
 ghost use Rattle.jsonb.specs.SelectionErrors.{IsSelectionError};
 
-use super::operand_value::{and_truth, or_truth};
 use super::kept::Kept;
+use super::operand_value::{and_truth, or_truth};
 use crate::path::{BinaryOperator, Expr};
 use jsonb_doc::Error;
 use std::alloc::Global;

@@ -11,9 +11,9 @@ ghost use Rattle.std.specs.List.{AllZip};
 ghost use Rattle.jsonb.specs.Values.{values_of_item, value_of_item};
 ghost use Rattle.jsonb.specs.Private.Selection.{node_spots, value_view, values_view};
 
-use super::operand_value::{OperandValue, OperandValues, value_of_item};
 use super::children::array_elements;
 use super::node_list::NodeList;
+use super::operand_value::{OperandValue, OperandValues, value_of_item};
 use jsonb_doc::{Error, Item, Spot, SpotIter, spot_item};
 use std::alloc::Global;
 
@@ -35,7 +35,11 @@ pub(crate) fn found_values<'a>(
 }
 
 /// The values of many items.
-fn many_values<'a>(alloc: Global, bytes: &'a [u8], items: &[Spot]) -> Result<OperandValues<'a>, Error>
+fn many_values<'a>(
+    alloc: Global,
+    bytes: &'a [u8],
+    items: &[Spot],
+) -> Result<OperandValues<'a>, Error>
     ensures meant { (ts : List Tree) → AllZip (Locates bytes.now) items.now ts
         → Gives (λ values vs. values_view values ≡ vs) IsOutOfMemory result (Ok (flat_map values_of_item ts)) }
     ensures errors { IfErr result (IsDecodingError or OutOfMemory) }
@@ -70,7 +74,11 @@ fn item_values<'a>(alloc: Global, bytes: &'a [u8], item: Spot) -> Result<Operand
 
 /// The values of an item, behind those that there are: an array gives those of its elements.
 #[inline(always)]
-fn push_values<'a>(bytes: &'a [u8], item: Spot, values: &mut Vec<OperandValue<'a>>) -> Result<(), Error>
+fn push_values<'a>(
+    bytes: &'a [u8],
+    item: Spot,
+    values: &mut Vec<OperandValue<'a>>,
+) -> Result<(), Error>
     ensures meant { (t : Tree) → Locates bytes.now item t
         → Gives (λ _ vs. map value_view values.new.items ≡ map value_view values.old.items ++ vs)
         IsOutOfMemory result (Ok (values_of_item t)) }
@@ -102,7 +110,11 @@ fn push_each<'a>(
 
 /// The value of an item that is no array, and of an element.
 #[inline(always)]
-fn push_value<'a>(bytes: &'a [u8], item: Spot, values: &mut Vec<OperandValue<'a>>) -> Result<(), Error>
+fn push_value<'a>(
+    bytes: &'a [u8],
+    item: Spot,
+    values: &mut Vec<OperandValue<'a>>,
+) -> Result<(), Error>
     ensures meant { (t : Tree) → Locates bytes.now item t
         → Gives (λ _ vs. map value_view values.new.items ≡ map value_view values.old.items ++ vs)
         IsOutOfMemory result (Ok (value_of_item t)) }
@@ -127,7 +139,10 @@ fn push_item<'a>(item: Item<'a>, values: &mut Vec<OperandValue<'a>>) -> Result<(
 
 /// One more value.
 #[inline(always)]
-fn push_operand_value<'a>(values: &mut Vec<OperandValue<'a>>, value: OperandValue<'a>) -> Result<(), Error>
+fn push_operand_value<'a>(
+    values: &mut Vec<OperandValue<'a>>,
+    value: OperandValue<'a>,
+) -> Result<(), Error>
     ensures ok { OnOk result (values.new.items ≡ values.old.items ++ value.entry ∷ []) }
     ensures err { IfErr result IsOutOfMemory }
 {

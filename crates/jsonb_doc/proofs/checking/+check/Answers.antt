@@ -63,9 +63,11 @@ check_entries-check_content-requires t c = elim c.else-eq.branch [
   | check_entries-else-eq-via-then-eq+else-entry-half w ↦
       let fewer = halvings-fewer (length c.in-Some.entry.content.now) (length c.args.contents.now + 4) (omega arith) (omega (arith, w.if-entry-half.false)) in
       rw (same_kind _ c.in-Some.entry.kind Container c.eq.ensures w.if-eq.true) (omega (arith, fewer, c.decreases), tt)
-  | check_entries-else-eq-via-else-eq w ↦
-      (other_below (kind_number c.in-Some.entry.kind) _ t (other_kind _ c.in-Some.entry.kind Container c.eq.ensures w.if-eq.false)
-          (omega (arith, c.decreases)), tt)
+  | check_entries-else-eq-via-else-eq w ↦ (
+    other_below (kind_number c.in-Some.entry.kind) _ t (other_kind _ c.in-Some.entry.kind Container c.eq.ensures w.if-eq.false)
+        (omega (arith, c.decreases)),
+    tt,
+  )
 ]
 
 pub check_entries-returns-in_default-error : goal.check_entries-returns-in_default-error

@@ -92,7 +92,7 @@ entries_depth-loop-entry-preserved t c =
           rw (greatest, w.within-is, w.large-is) (record {
             left = λ form ts h. EntriesLeft-next form ts _ _ _ _ kind content ws cs b (inv.left form ts h) 0
                 (λ tree k. sym (no_parts tree (scalar_parts (number_reader form) tree kind content
-                    (other_kind _ c.in-Some.entry.kind Container c.eq.ensures w.if-eq.false) k)));
+                (other_kind _ c.in-Some.entry.kind Container c.eq.ensures w.if-eq.false) k)));
             apart = IsApart-less large c.loop-entry.contents_left.now cs c.args.contents.now (omega (arith, len)) inv.apart;
             bound = omega arith;
           })

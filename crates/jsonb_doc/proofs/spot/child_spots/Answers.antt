@@ -16,24 +16,24 @@ returns-in_err-read_container-clause-spots c = λ t m.
 pub returns-in-Scalar-clause-spots : goal.returns-in-Scalar-clause-spots
 returns-in-Scalar-clause-spots c = λ t m.
     Locates-no-scalar c.args.bytes.now c.args.spot t m _ c.in_ok-content.ensures.2 (equal_kind _ c.args.spot.kind Container c.ne.ensures c.if-ne.false)
-        c.in-Scalar.field-0
+    c.in-Scalar.field-0
     (rw c.in-Scalar.is at c.in_ok-read_container.ensures.cut)
 
 pub returns-in-Array-clause-spots : goal.returns-in-Array-clause-spots
 returns-in-Array-clause-spots c = λ t m.
     array_children c.args.bytes.now c.args.spot t m _ c.in_ok-content.ensures.2 (equal_kind _ c.args.spot.kind Container c.ne.ensures c.if-ne.false)
-        c.in-Array.parts
+    c.in-Array.parts
     (rw c.in-Array.is at c.in_ok-read_container.ensures.cut) c.new.result c.new.ensures.words c.new.ensures.start c.new.ensures.end
 
 pub returns-in_err-start-in-Object-clause-spots : goal.returns-in_err-start-in-Object-clause-spots
 returns-in_err-start-in-Object-clause-spots c = λ t m.
     absurd (object_skipped c.args.bytes.now c.args.spot t m _ c.in_ok-content.ensures.2
-        (equal_kind _ c.args.spot.kind Container c.ne.ensures c.if-ne.false) c.in-Object.parts
+    (equal_kind _ c.args.spot.kind Container c.ne.ensures c.if-ne.false) c.in-Object.parts
     (rw c.in-Object.is at c.in_ok-read_container.ensures.cut) c.in_err-start-in-Object.ensures.contents)
 
 pub returns-in_ok-start-in-Object-clause-spots : goal.returns-in_ok-start-in-Object-clause-spots
 returns-in_ok-start-in-Object-clause-spots c = λ t m.
     object_children c.args.bytes.now c.args.spot t m _ c.in_ok-content.ensures.2 (equal_kind _ c.args.spot.kind Container c.ne.ensures c.if-ne.false)
-        c.in-Object.parts
+    c.in-Object.parts
     (rw c.in-Object.is at c.in_ok-read_container.ensures.cut) c.new-in-Object.result _ c.in_ok-start-in-Object.ensures.contents
     c.new-in-Object.ensures.words c.new-in-Object.ensures.start c.new-in-Object.ensures.end

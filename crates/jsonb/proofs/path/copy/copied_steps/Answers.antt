@@ -36,7 +36,7 @@ returns-in-Holding-clause-fewer c =
     let same : held c.in-Holding.holder (expression_view c.in-Holding.inner.now) ≡ step_view c.in-Some.step.now
     = sym (ap step_copy_view c.in-Holding.is) ∙ c.in_ok-copy.ensures in
     let all = step_held-parts (iter_rest c.loop-step.steps.rest) (iter_rest c.next.new.self) c.in-Some.step.now c.in-Holding.holder _ same
-        c.in-Some.ensures.steps in
+    c.in-Some.ensures.steps in
     omega (arith, all, c.loop-step.invariant.fewer)
 
 pub returns-clause-whole : goal.returns-clause-whole

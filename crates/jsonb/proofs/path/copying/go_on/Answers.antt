@@ -6,7 +6,7 @@ use Rattle.jsonb.proofs.path.copying.go_on.Goals as goal
 pub returns-in-Within-clause-whole : goal.returns-in-Within-clause-whole
 returns-in-Within-clause-whole c =
     c.in_ok-first_leaf-in-Within.ensures.whole ∙ framed-more c.args.frames.items c.push.new.self.items c.in-Within.frame _ _
-        c.in_ok-push-in-Within.ensures.items refl
+    c.in_ok-push-in-Within.ensures.items refl
     ∙ ap (λ x. framed c.args.frames.items (copied_view x)) (sym c.in-Within.is)
 
 pub returns-in-Within-clause-fewer : goal.returns-in-Within-clause-fewer

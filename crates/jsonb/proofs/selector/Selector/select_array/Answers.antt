@@ -10,7 +10,7 @@ pub returns-in_err-document-clause-array : goal.returns-in_err-document-clause-a
 returns-in_err-document-clause-array c = λ form top outcome d m.
     let p = err_from_is_err_and c.from_residual.result c.from_residual.ensures.1 in
     handed_error (λ made ts. Decodes form made (array_of ts)) (λ ts. IsTooLarge form (array_of ts)) (p.1 ∙ ap Err p.2)
-        (c.in_err-document.ensures.meant form top outcome d m)
+    (c.in_err-document.ensures.meant form top outcome d m)
 
 pub returns-clause-array : goal.returns-clause-array
 returns-clause-array c = λ form top outcome d m.

@@ -11,8 +11,11 @@ use Rattle.jsonb.proofs.selector.levels.push_levels.Goals as goal
 pub returns-in_err-below-clause-meant : goal.returns-in_err-below-clause-meant
 returns-in_err-below-clause-meant c = λ u n before l m a.
     let p = err_from_is_err_and c.from_residual.result c.from_residual.ensures.1 in
-    same_answer (p.1 ∙ ap Err p.2) (record { ok = tt; err = inl (c.in_err-below.ensures.meant (option_map levels_view c.args.levels) u n before
-        c.of_step-range.ensures l m a) })
+    same_answer (p.1 ∙ ap Err p.2) (record {
+      ok = tt;
+      err = inl (c.in_err-below.ensures.meant (option_map levels_view c.args.levels) u n before
+          c.of_step-range.ensures l m a);
+    })
 
 pub returns-in_default-clause-meant : goal.returns-in_default-clause-meant
 returns-in_default-clause-meant c = λ u n before l m a.
@@ -69,7 +72,7 @@ walk-preserved-in-Some-below c = record {
       (range_taken (option_map levels_view c.args.levels) _ _ w.level _ c.of_step-range.ensures w.deep c.contains-is_taken.ensures) w.left w.done)) in
       item_entered c.args.bytes.now (option_map levels_view c.args.levels) _ _ _ _ _ _ _ v
       (told_first v.left (λ t marks given done. rw c.in-Some-below.is at (c.in_ok-below-in-Some-2.ensures.meant (option_map levels_view c.args.levels) t
-          v.level given
+      v.level given
       c.of_step-range.ensures v.deep marks done)))
       refl c.in_ok-keep_level-in-Some-2.ensures.kept;
 }
@@ -87,7 +90,7 @@ walk-preserved-in_default-below c = record {
       (range_taken (option_map levels_view c.args.levels) _ _ w.level _ c.of_step-range.ensures w.deep c.contains-is_taken.ensures) w.left w.done)) in
       item_passed c.args.bytes.now (option_map levels_view c.args.levels) _ _ _ _ _ v
       (told_first v.left (λ t marks given done. rw c.in_default-below.is at (c.in_ok-below-in-Some-2.ensures.meant (option_map levels_view c.args.levels) t
-          v.level given
+      v.level given
       c.of_step-range.ensures v.deep marks done)))
       refl;
 }

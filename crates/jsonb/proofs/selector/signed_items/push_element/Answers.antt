@@ -12,7 +12,7 @@ pub returns-in-Some-clause-meant : goal.returns-in-Some-clause-meant
 returns-in-Some-clause-meant c = λ t l.
     same_outcome (ap (λ x. all_numbers (value_of_item x)) (rw c.in-Some.is at (c.in_ok-number.ensures.meant t l)))
     (number_pushed c.push_number.result c.args.numbers.now.items c.push_number.new.numbers.items c.in-Some.number c.push_number.ensures.ok
-        c.push_number.ensures.err)
+    c.push_number.ensures.err)
 
 pub returns-in_err-spot_item-in-None-clause-meant : goal.returns-in_err-spot_item-in-None-clause-meant
 returns-in_err-spot_item-in-None-clause-meant c = λ t l. absurd (c.in_err-spot_item-in-None.ensures.item t l)

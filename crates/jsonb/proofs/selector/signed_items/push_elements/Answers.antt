@@ -38,7 +38,7 @@ returns-in_err-push_element-clause-meant c = λ ts h.
 pub loop-element-preserved : goal.loop-element-preserved
 loop-element-preserved c = λ ts h.
     one_more (λ t. all_numbers (value_of_item t)) (HasSpotsLeft c.args.bytes.now c.loop-element.element-iterator)
-        (HasSpotsLeft c.args.bytes.now c.next.new.self)
+    (HasSpotsLeft c.args.bytes.now c.next.new.self)
     (Behind c.args.numbers.now.items c.loop-element.numbers.items) (Behind c.args.numbers.now.items c.push_element.new.numbers.items)
     (Locates c.args.bytes.now c.in_ok-element.field-0)
     (try_flat_map (λ t. all_numbers (value_of_item t)) ts) (c.loop-element.invariant ts h)

@@ -10,7 +10,7 @@ pub returns-in-Number-clause-meant : goal.returns-in-Number-clause-meant
 returns-in-Number-clause-meant c = λ t s.
     same_outcome (ap (λ x. all_numbers (value_of_item x)) (rw c.in-Number.is at s))
     (number_pushed c.push_number.result c.args.numbers.now.items c.push_number.new.numbers.items c.in-Number.number c.push_number.ensures.ok
-        c.push_number.ensures.err)
+    c.push_number.ensures.err)
 
 pub returns-in-Extension-clause-meant : goal.returns-in-Extension-clause-meant
 returns-in-Extension-clause-meant c = λ t s.

@@ -131,7 +131,7 @@ step_list-returns-in-Root-clause-meant t c = λ top ts r a.
 pub step_list-returns-in-One-clause-meant : goal.step_list-returns-in-One-clause-meant
 step_list-returns-in-One-clause-meant t c = λ top ts r a.
     let one = only_one (IsAt c.args.context.now.document) c.in-One.item ts (subst (λ f. AllZip (IsAt c.args.context.now.document) (node_spots f) ts)
-        c.in-One.is a) in
+    c.in-One.is a) in
     same_outcome (ap (try_flat_map (step_meaning c.args.context.now.mode (taken_step c.args.expressions (step_view c.args.step.now)) top)) one.1
     ∙ joined_one (step_meaning c.args.context.now.mode (taken_step c.args.expressions (step_view c.args.step.now)) top) one.0)
     (c.step_item.ensures.meant top one.0 r one.2)
@@ -186,7 +186,7 @@ select_steps-returns-in_err-items-clause-meant t c = λ top u r s.
     (same_outcome
     (inv.2
     ∙ steps_at c.args.context.now.mode c.args.expressions c.args.steps.now c.loop-step.step-index c.step-item.result top inv.0 c.loop-step-test.true
-        c.step-item.is)
+    c.step-item.is)
     (first_refused (steps_meaning c.args.context.now.mode
     (steps_of (map (taken_step c.args.expressions) (steps_view (drop (c.loop-step.step-index + 1) c.args.steps.now)))) top)
     (c.in_err-items.ensures.meant top inv.0 r inv.1)))
@@ -197,13 +197,13 @@ select_steps-loop-step-preserved t c = λ top u r s.
     let next = continued (λ us. AllZip (IsAt c.args.context.now.document) (node_spots c.in_ok-items.items) us)
     (try_flat_map (step_meaning c.args.context.now.mode (taken_step c.args.expressions (step_view c.step-item.result)) top) inv.0)
     (steps_meaning c.args.context.now.mode (steps_of (map (taken_step c.args.expressions)
-        (steps_view (drop (c.loop-step.step-index + 1) c.args.steps.now)))) top)
+    (steps_view (drop (c.loop-step.step-index + 1) c.args.steps.now)))) top)
     ((c.in_ok-items.ensures.meant top inv.0 r inv.1).ok) in (
       next.0,
       next.1,
       inv.2
           ∙ steps_at c.args.context.now.mode c.args.expressions c.args.steps.now c.loop-step.step-index c.step-item.result top inv.0 c.loop-step-test.true
-              c.step-item.is
+          c.step-item.is
           ∙ next.2,
     )
 
@@ -219,16 +219,16 @@ select_steps-returns-clause-meant t c = λ top u r s.
 pub operand_values-returns-in_err-found-in-Paths-clause-meant : goal.operand_values-returns-in_err-found-in-Paths-clause-meant
 operand_values-returns-in_err-found-in-Paths-clause-meant t c = λ top u r s. let p = err_from_is_err_and c.from_residual.result c.from_residual.ensures.1 in
     same_answer (p.1 ∙ ap Err p.2) (same_outcome (ap (λ x. operand_values c.args.current.context.now.mode x top u)
-        (paths_is c.args.e.now c.in-Paths.steps c.in-Paths.is)
+    (paths_is c.args.e.now c.in-Paths.steps c.in-Paths.is)
     ∙ ap (λ o. and_then o (λ ts. Ok (flat_map values_of_item ts))) (from_start c.args.current.context.now.mode _ _ _ top u c.deref-in-Paths.ensures.value
-        c.deref.ensures.value))
+    c.deref.ensures.value))
     (first_refused (λ ts. Ok (flat_map values_of_item ts)) (c.in_err-found-in-Paths.ensures.meant top _ r (c.starting_item-first.ensures top u r s))))
 
 pub operand_values-returns-in_ok-found-in-Paths-clause-meant : goal.operand_values-returns-in_ok-found-in-Paths-clause-meant
 operand_values-returns-in_ok-found-in-Paths-clause-meant t c = λ top u r s.
     same_outcome (ap (λ x. operand_values c.args.current.context.now.mode x top u) (paths_is c.args.e.now c.in-Paths.steps c.in-Paths.is)
     ∙ ap (λ o. and_then o (λ ts. Ok (flat_map values_of_item ts))) (from_start c.args.current.context.now.mode _ _ _ top u c.deref-in-Paths.ensures.value
-        c.deref.ensures.value))
+    c.deref.ensures.value))
     (followed (λ ts. Ok (flat_map values_of_item ts)) (c.in_ok-found-in-Paths.ensures.meant top _ r (c.starting_item-first.ensures top u r s))
     (λ ts related. c.found_values.ensures.meant ts related))
 
@@ -263,13 +263,13 @@ pub single_truth-returns-in-ExistsFunc-clause-meant : goal.single_truth-returns-
 single_truth-returns-in-ExistsFunc-clause-meant t c = λ alone top u all more r s k.
     let one = one_exists c.args.e.now c.in-ExistsFunc.field-0 c.in-ExistsFunc.is in
     c.condition-in-ExistsFunc.ensures.meant one.0 top u all more r s (subst (λ l. AreKept c.args.current.context.now.mode top c.args.kept.now all
-        (l ++ more)) one.1 k)
+    (l ++ more)) one.1 k)
 
 pub single_truth-returns-in-ExistsFunc-clause-kept : goal.single_truth-returns-in-ExistsFunc-clause-kept
 single_truth-returns-in-ExistsFunc-clause-kept t c = λ alone top u all more r s k.
     let one = one_exists c.args.e.now c.in-ExistsFunc.field-0 c.in-ExistsFunc.is in
     c.condition-in-ExistsFunc.ensures.kept one.0 top u all more r s (subst (λ l. AreKept c.args.current.context.now.mode top c.args.kept.now all
-        (l ++ more)) one.1 k)
+    (l ++ more)) one.1 k)
 
 -- term after term
 
@@ -334,7 +334,7 @@ joined_truth-loop-term-preserved t c = λ top u all more r s k.
           rw (w.truths-is, w.kept-is) (
             inv.0 ∙ ap (λ l. and_then (executed c.args.current.context.now.mode top u l truths) last_truth) here
                 ∙ ap (λ o. and_then (and_then o (executed c.args.current.context.now.mode top u next)) last_truth)
-                    (value_is w.in_ok-join-in-Join.ensures.meant.ok),
+                (value_is w.in_ok-join-in-Join.ensures.meant.ok),
             subst (λ l. AreKept c.args.current.context.now.mode top c.loop-term.kept all (flat_map term_conditions l ++ more)) here inv.1,
           )
     ]
@@ -389,7 +389,7 @@ first_kept-returns-clause-kept t c = λ is none top u all more r s k.
 pub later_truth-returns-in-Some-clause-meant : goal.later_truth-returns-in-Some-clause-meant
 later_truth-returns-in-Some-clause-meant t c = λ is top u r s same.
     same_outcome (by_right c.args.current.context.now.mode top u c.args.e.now c.in-Right-BinaryOp.op c.in-Right-BinaryOp.left _ c.args.part.now
-        c.in-Right-BinaryOp.rights
+    c.in-Right-BinaryOp.rights
     c.deref.result.now _ c.in-Right-BinaryOp.is-1 c.in-Right-BinaryOp.is-0 c.deref.ensures c.in-Some.ensures.1 is same
     ∙ ap (λ rs. and_then (operand_values c.args.current.context.now.mode (math.paths (steps_of (steps_view c.in-Some.steps.now))) top u)
     (λ ls. Ok (compare (operator_view c.in-Right-BinaryOp.op) ls rs))) (sym c.as_slice.ensures))
@@ -428,20 +428,23 @@ first_truth-returns-in_ok-rights-in-BinaryOp-clause-meant t c = λ top u is r s.
     let lefts = ap (λ x. operand_values c.args.current.context.now.mode (expression_view x) top u) (c.deref-in-BinaryOp-2.ensures ∙ sym c.deref.ensures)
     ∙ value_of values_view (c.in_ok-lefts-in-BinaryOp.ensures.meant top u r s) in
     let rights = ap (λ x. operand_values c.args.current.context.now.mode (expression_view x) top u)
-        (c.deref-in-BinaryOp-3.ensures ∙ sym c.deref-in-BinaryOp.ensures)
+    (c.deref-in-BinaryOp-3.ensures ∙ sym c.deref-in-BinaryOp.ensures)
     ∙ value_of values_view (c.in_ok-rights-in-BinaryOp.ensures.meant top u r s) in
     let told = compared c.args.current.context.now.mode (operator_view c.in-BinaryOp.op) _ _ top u _ _ compares lefts rights
     ∙ ap Ok (sym (c.compare-truth.ensures
     ∙ (λ i. compare (operator_view c.in-BinaryOp.op) (c.as_slice.ensures i) (c.as_slice-in-BinaryOp.ensures i)))) in
     let same = c.comparison_part.ensures c.args.current.context.now.mode top u (operator_view c.in-BinaryOp.op) compares lefts rights told in
-    known (ap (λ x. truth c.args.current.context.now.mode x top u) view ∙ told) (refl, subst
-        (λ x. IsSame c.args.current.context.now.mode top c.comparison_part.result x) (sym view) same)
+    known (ap (λ x. truth c.args.current.context.now.mode x top u) view ∙ told) (
+      refl,
+      subst
+          (λ x. IsSame c.args.current.context.now.mode top c.comparison_part.result x) (sym view) same,
+    )
 
 -- `exists` takes the items that the path of the innermost one meets
 pub exists_truth-returns-in_err-is_found-in-ExistsFunc-clause-meant : goal.exists_truth-returns-in_err-is_found-in-ExistsFunc-clause-meant
 exists_truth-returns-in_err-is_found-in-ExistsFunc-clause-meant t c = λ is top u r s.
     let asked = subst (λ found. LeadsTo c.args.current.context.now.mode c.args.current.context.now.document top (Ok found)
-        (truth c.args.current.context.now.mode (expression_view c.args.e.now) top u)) c.in-Some.is
+    (truth c.args.current.context.now.mode (expression_view c.args.e.now) top u)) c.in-Some.is
     (c.in_ok-asked.ensures.meant top u is r s) in
     let p = err_from_is_err_and c.from_residual-in_err-is_found-in-ExistsFunc.result c.from_residual-in_err-is_found-in-ExistsFunc.ensures.1 in
     same_answer (p.1 ∙ ap Err p.2) (same_outcome (asked.2
@@ -454,12 +457,12 @@ exists_truth-returns-in_err-is_found-in-ExistsFunc-clause-meant t c = λ is top 
 pub exists_truth-returns-in_ok-is_found-in-ExistsFunc-clause-meant : goal.exists_truth-returns-in_ok-is_found-in-ExistsFunc-clause-meant
 exists_truth-returns-in_ok-is_found-in-ExistsFunc-clause-meant t c = λ is top u r s.
     let asked = subst (λ found. LeadsTo c.args.current.context.now.mode c.args.current.context.now.document top (Ok found)
-        (truth c.args.current.context.now.mode (expression_view c.args.e.now) top u)) c.in-Some.is
+    (truth c.args.current.context.now.mode (expression_view c.args.e.now) top u)) c.in-Some.is
     (c.in_ok-asked.ensures.meant top u is r s) in
     let met = one_ok {S = λ (b : Option Bool) d. b ≡ d} {z = Some c.in_ok-is_found-in-ExistsFunc.is_found} (λ ts. Ok (Some (is_some_item ts)))
     (c.in_ok-is_found-in-ExistsFunc.ensures.meant top _ r (c.starting_item-first.ensures top asked.0 r asked.1)) (λ ts same. ap Some same) in
     known (asked.2 ∙ ap (λ x. truth c.args.current.context.now.mode x top asked.0)
-        (exists_is c.in-Some.asked.exists.now c.in-ExistsFunc.steps c.in-ExistsFunc.is)
+    (exists_is c.in-Some.asked.exists.now c.in-ExistsFunc.steps c.in-ExistsFunc.is)
     ∙ ap (λ o. and_then o (λ ts. Ok (Some (is_some_item ts))))
     (from_start c.args.current.context.now.mode _ _ _ top asked.0 c.deref-in-ExistsFunc.ensures.value c.deref.ensures.value) ∙ value_is met.ok) refl
 
@@ -471,7 +474,7 @@ leads_to_any-returns-in_err-found-clause-meant t c = λ top u r s.
 pub leads_to_any-returns-in-Some-clause-meant : goal.leads_to_any-returns-in-Some-clause-meant
 leads_to_any-returns-in-Some-clause-meant t c = λ top u r s.
     found_any (IsAt c.args.context.now.document) c.in-Some.found c.is_some.result _ c.is_some.ensures
-        (rw c.in-Some.is at (c.in_ok-found.ensures.meant top u r s))
+    (rw c.in-Some.is at (c.in_ok-found.ensures.meant top u r s))
 
 pub leads_to_any-returns-in_err-found-in-None-clause-meant : goal.leads_to_any-returns-in_err-found-in-None-clause-meant
 leads_to_any-returns-in_err-found-in-None-clause-meant t c = λ top u r s.

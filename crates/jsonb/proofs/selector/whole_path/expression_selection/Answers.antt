@@ -17,7 +17,7 @@ pub returns-in-Value-clause-meant : goal.returns-in-Value-clause-meant
 returns-in-Value-clause-meant c = λ form top outcome r h.
     c.literal_selection.ensures.meant form c.args.context.now.document c.args.context.now.mode top outcome
     (meant form c.args.context.now.mode top outcome _ _ (literal_is c.args.e.now c.in-Value.value c.in-Value.is ∙ ap (λ v. value (literal_view v))
-        (sym c.deref.ensures)) h)
+    (sym c.deref.ensures)) h)
 
 pub returns-in_err-numbers-in-UnaryOp-clause-meant : goal.returns-in_err-numbers-in-UnaryOp-clause-meant
 returns-in_err-numbers-in-UnaryOp-clause-meant c = λ form top outcome r h.
@@ -25,14 +25,14 @@ returns-in_err-numbers-in-UnaryOp-clause-meant c = λ form top outcome r h.
     same_answer (p.1 ∙ ap Err p.2)
     (same_outcome (meant form c.args.context.now.mode top outcome _ _ (unary_is c.args.e.now c.in-UnaryOp.op c.in-UnaryOp.operand c.in-UnaryOp.is) h
     ∙ ap (λ x. and_then (operand_values c.args.context.now.mode (expression_view x) top top) (each_signed (sign_view c.in-UnaryOp.op)))
-        (sym c.deref-in-UnaryOp.ensures))
+    (sym c.deref-in-UnaryOp.ensures))
     (refused_as (c.in_err-numbers-in-UnaryOp.ensures.meant top r)))
 
 pub returns-in_ok-numbers-in-UnaryOp-clause-meant : goal.returns-in_ok-numbers-in-UnaryOp-clause-meant
 returns-in_ok-numbers-in-UnaryOp-clause-meant c = λ form top outcome r h.
     same_outcome (meant form c.args.context.now.mode top outcome _ _ (unary_is c.args.e.now c.in-UnaryOp.op c.in-UnaryOp.operand c.in-UnaryOp.is) h
     ∙ ap (λ x. and_then (operand_values c.args.context.now.mode (expression_view x) top top) (each_signed (sign_view c.in-UnaryOp.op)))
-        (sym c.deref-in-UnaryOp.ensures))
+    (sym c.deref-in-UnaryOp.ensures))
     (record { ok = (c.in_ok-numbers-in-UnaryOp.ensures.meant top r).ok; err = tt })
 
 pub returns-in_err-number-in-BinaryOp-clause-meant : goal.returns-in_err-number-in-BinaryOp-clause-meant
@@ -52,7 +52,7 @@ pub returns-in_ok-number-in-BinaryOp-clause-meant : goal.returns-in_ok-number-in
 returns-in_ok-number-in-BinaryOp-clause-meant c = λ form top outcome r h.
     let o = some_of (operation (operator_view c.in-BinaryOp.op)) (sym c.is_arithmetic.ensures ∙ c.if-is_arithmetic.true) in
     same_outcome (meant form c.args.context.now.mode top outcome _ _ (binary_is c.args.e.now c.in-BinaryOp.op c.in-BinaryOp.left c.in-BinaryOp.right
-        c.in-BinaryOp.is) h
+    c.in-BinaryOp.is) h
     ∙ ap (λ x. binary_meaning c.args.context.now.mode x (operator_view c.in-BinaryOp.op) (expression_view c.in-BinaryOp.left.value)
     (expression_view c.in-BinaryOp.right.value) top) o.1
     ∙ (λ i. calculation o.0 (operand_values c.args.context.now.mode (expression_view (sym c.deref-then-is_arithmetic.ensures i)) top top)

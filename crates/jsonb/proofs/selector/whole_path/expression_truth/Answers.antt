@@ -19,7 +19,7 @@ returns-in_err-_numbers-in-UnaryOp-clause-meant c = λ top r.
     (same_outcome (ap (λ x. expression_predicate c.args.context.now.mode x top) (unary_is c.args.e.now c.in-UnaryOp.op c.in-UnaryOp.operand c.in-UnaryOp.is)
     ∙ predicate_by_cases c.args.context.now.mode (math.unary (sign_view c.in-UnaryOp.op) (expression_view c.in-UnaryOp.operand.value)) top
     ∙ ap (λ x. and_then (and_then (operand_values c.args.context.now.mode (expression_view x) top top) (each_signed (sign_view c.in-UnaryOp.op)))
-        (λ ts. Ok None))
+    (λ ts. Ok None))
     (sym c.deref.ensures))
     (first_refused (λ ts. Ok None) (c.in_err-_numbers-in-UnaryOp.ensures.meant top r)))
 
@@ -28,7 +28,7 @@ returns-in_ok-_numbers-in-UnaryOp-clause-meant c = λ top r.
     same_outcome (ap (λ x. expression_predicate c.args.context.now.mode x top) (unary_is c.args.e.now c.in-UnaryOp.op c.in-UnaryOp.operand c.in-UnaryOp.is)
     ∙ predicate_by_cases c.args.context.now.mode (math.unary (sign_view c.in-UnaryOp.op) (expression_view c.in-UnaryOp.operand.value)) top
     ∙ ap (λ x. and_then (and_then (operand_values c.args.context.now.mode (expression_view x) top top) (each_signed (sign_view c.in-UnaryOp.op)))
-        (λ ts. Ok None))
+    (λ ts. Ok None))
     (sym c.deref.ensures))
     (one_ok (λ ts. Ok None) (c.in_ok-_numbers-in-UnaryOp.ensures.meant top r) (λ ts h. refl))
 

@@ -59,7 +59,7 @@ pub closed_all-loop-outer-preserved : goal.closed_all-loop-outer-preserved
 closed_all-loop-outer-preserved t c = record {
   left = λ seen keeps form whole leads.
       let (inner, makes, rest) = LeadsTo-popped seen form c.loop-outer.around.items c.pop.new.self.items c.in-Some.outer
-          (tree_seen seen c.loop-outer.value) whole
+      (tree_seen seen c.loop-outer.value) whole
       c.in-Some.ensures.items (c.loop-outer.invariant.left seen keeps form whole leads) in
       subst (λ (x : Tree). LeadsTo seen form (reverse c.pop.new.self.items) x whole) (sym (c.in_ok-value.ensures.decodes seen keeps form inner makes)) rest;
   room =
@@ -187,7 +187,7 @@ fill_object-returns-then-is_longer-clause-decodes t c = λ seen keeps form ps h 
     let sees = sees_normal_member seen keeps c.in-Some.pair _ c.in_ok-key.was c.in-Some.ensures.steps.normal in
     let before = members_seen seen c.loop-pair.members.entries in
     let next : pairs_of (before ++ (string_bytes c.in_ok-name.name, now.value) ∷ members now.others) ≡ pairs_of
-        (members_seen seen c.args.members.entries ++ members ps) =
+    (members_seen seen c.args.members.entries ++ members ps) =
     ap (λ (key : List ℕ). pairs_of (before ++ (key, now.value) ∷ members now.others)) c.in_ok-name.ensures.ok
     ∙ ap (λ (qs : Pairs). pairs_of (before ++ members qs)) (sym now.whole) ∙ joined in
     (now.value, now.stands, sees, (now.others, now.left, subst (λ (qs : Pairs). AreKeys (keys qs)) (sym next) rising, ap object next))
