@@ -115,7 +115,7 @@ module _ (number_at : NumberReader) (bytes : List ℕ) (kind total : ℕ) (rest 
 
     pub value_missing : (passed : ℕ) → passed ≡ total + n
         → ((front back : List EntryParts) (e : EntryParts) → HoldEntries bytes (front ++ e ∷ back) → entries ≡ length (front ++ e ∷ back) → passed ≡ length
-            front
+        front
         → ⊥) → ⊥
     value_missing passed passed_is missing =
         missing _ _ _ (value_held number_at o.pairs bytes o.container n child o.at) (twice ∙ value_total number_at o.pairs bytes o.container n child o.at)
@@ -125,7 +125,7 @@ module _ (number_at : NumberReader) (bytes : List ℕ) (kind total : ℕ) (rest 
         → ((front back : List EntryParts) (e : EntryParts) → HoldEntries bytes (front ++ e ∷ back) → entries ≡ length (front ++ e ∷ back) → n ≡ length front
         → IsPlaceOf key entries front e)
         → ((front back : List EntryParts) (e : EntryParts) → HoldEntries bytes (front ++ e ∷ back) → entries ≡ length (front ++ e ∷ back) → passed ≡ length
-            front
+        front
         → IsPlaceOf value entries front e)
         → AreOfChild number_at bytes t n child (record { header = less; key = Some key; value = value })
     member_entries less passed key value less_is passed_is key_found value_found =

@@ -286,7 +286,7 @@ module _ (form : Form) (bytes : List ℕ) (ps : Pairs) (d : Decodes form bytes (
         ap key_bytes keys_are ∙ sym (key-contents (at.front ++ name ∷ at.back)) ∙ ap contents_of_entries (keys-append at.front (name ∷ at.back))
         ∙ contents-append before ((text_entry, name) ∷ kb) in
         let vw : words_of_entries (values_of es) ≡ words_of_entries vf ++ (entry_word (kind_number value.kind) (length value.content.now) ++
-            words_of_entries behind) =
+        words_of_entries behind) =
         ap words_of_entries all_values ∙ words-append vf (e ∷ behind) in
         let vc : contents_of_entries (values_of es) ≡ contents_of_entries vf ++ (value.content.now ++ contents_of_entries behind) =
         ap contents_of_entries all_values ∙ contents-append vf (e ∷ behind) in

@@ -233,7 +233,7 @@ module _ (form : Form) (is_object : Bool) (start word : ℕ) (words contents : L
   -- a container is begun within
   pub entry_entered : (w' : Writing) (around' : List Writing) (b : Bool) (bs bw : ℕ) (bwords bcontents out' : List ℕ) → w'.is_object ≡ is_object
       → w'.start ≡ start → w'.word ≡ word → w'.words ≡ given.words → w'.contents ≡ given.contents → around' ≡ around ++ w' ∷ [] → kind_number given.kind ≡
-          container_entry
+      container_entry
       → ((t : Tree) → IsContent (number_reader form) t container_entry given.content.now
       → IsOpen form b out out' bs bw bwords bcontents (strip t) (length given.content.now)) → IsWithinAll form b bs bw bwords bcontents around' out' whole
   entry_entered w' around' b bs bw bwords bcontents out' same_kind same_start same_word same_words same_contents pushed kind begun =

@@ -148,7 +148,7 @@ mutual
       ∙ rest_above w d (rank t) i.0 (keys_of_trees w ts (suc d) ++ r) s (omega arith) hs
   trees_rank w (Trees.tree t ts) (Trees.tree u us) d r s ht hu dt du hr hs =
       ap₂ bytes_cmp (append_assoc (sortable_key w t (suc d)) (keys_of_trees w ts (suc d)) r)
-          (append_assoc (sortable_key w u (suc d)) (keys_of_trees w us (suc d)) s)
+      (append_assoc (sortable_key w u (suc d)) (keys_of_trees w us (suc d)) s)
       ∙ keys_rank w t u (suc d) (keys_of_trees w ts (suc d) ++ r) (keys_of_trees w us (suc d) ++ s) (ht.0.0, ht.1.0) (hu.0.0, hu.1.0)
       (omega arith) (omega arith) (IsRest-trees w ts d r hr) (IsRest-trees w us d s hs)
       ∙ ap (ordering_then (tree_cmp t u)) (trees_rank w ts us d r s (ht.0.1, ht.1.1) (hu.0.1, hu.1.1) (omega arith) (omega arith) hr hs)

@@ -21,7 +21,7 @@ loop-index-preserved g c =
     let said = placed _ _ _ _ c.place.result done c.place.ensures in
     rw (c.written_status.ensures c.ask_for_bytes-cell.new.out.items)
     (joined_more _ _ _ _ _ _ _ _ _ (written_cell c.ask_for_bytes-cell.result c.ask_for_bytes-cell.new.out.items) c.row.ensures in_positions in_statuses
-        c.loop-index.invariant
+    c.loop-index.invariant
     c.ask_for_bytes-cell.ensures (rw c.deref.ensures.value at c.written_bytes-made.ensures) said)
 
 pub returns : goal.returns

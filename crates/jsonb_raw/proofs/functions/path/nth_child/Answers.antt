@@ -32,4 +32,4 @@ returns-clause-child c = λ t m.
     let left = c.in-Some-behind.ensures.left _ (children t) all in
     let f = first_left _ _ _ _ (c.in-Some-next.ensures.steps.takes _ _ left) in
     rw (here (drop c.args.position (children t)) 0 f.first f.rest _ f.split refl (first_behind (children t) c.args.position))
-        (first_marked f _ c.in_ok-child.was)
+    (first_marked f _ c.in_ok-child.was)

@@ -11,12 +11,12 @@ returns-in_default-clause-level c = λ form t content. headed form t c.args.byte
 pub returns-in_err-array_entries-in-Array-clause-level : goal.returns-in_err-array_entries-in-Array-clause-level
 returns-in_err-array_entries-in-Array-clause-level c = λ form t content.
     absurd (no_array form t c.args.bytes.now content _ _ _ c.in-Some.ensures (ap header_number c.in-Array.is)
-        (c.in_err-array_entries-in-Array.ensures.decodes form))
+    (c.in_err-array_entries-in-Array.ensures.decodes form))
 
 pub returns-in_err-object_entries-in-Object-clause-level : goal.returns-in_err-object_entries-in-Object-clause-level
 returns-in_err-object_entries-in-Object-clause-level c = λ form t content.
     absurd (no_object form t c.args.bytes.now content _ _ _ c.in-Some.ensures (ap header_number c.in-Object.is)
-        (c.in_err-object_entries-in-Object.ensures.decodes form))
+    (c.in_err-object_entries-in-Object.ensures.decodes form))
 
 pub returns-in-Scalar-clause-level : goal.returns-in-Scalar-clause-level
 returns-in-Scalar-clause-level c = λ form t content.

@@ -13,9 +13,12 @@ loop-key-preserved c = record {
       let i = c.loop-key.invariant.left form ts h few in
       let f = entry_taken form _ i.0 _ _ c.in-Some.is (c.in_ok-first.ensures.first form _ i.1) in
       let key = c.in_ok-write_entry_key.ensures.key form f.t (stores_next form f.t c.stored.result c.in-Some.first c.stored.ensures.kind
-          c.stored.ensures.content f.part) in
-      (f.rest, f.others, CountsLeft-next c.loop-key.counts c.add.new.self c.write_entry_key.new.out f.t f.rest ts (rw f.split at i.2) key few
-          c.in_ok-add.ensures.more);
+      c.stored.ensures.content f.part) in (
+        f.rest,
+        f.others,
+        CountsLeft-next c.loop-key.counts c.add.new.self c.write_entry_key.new.out f.t f.rest ts (rw f.split at i.2) key few
+            c.in_ok-add.ensures.more,
+      );
 }
 
 pub returns-in_err-write_entry_key-clause-counts : goal.returns-in_err-write_entry_key-clause-counts

@@ -25,7 +25,7 @@ returns-in_err-write_entry_key-clause-made c = λ form other ts h fit few b.
     let mine = rw c.in-Some.is at (c.in_ok-first.ensures.first form m.rest (KeptRuns-left form _ _ other _ _ _ _ m)) in
     let n = next_of form _ _ other _ _ _ _ m c.in-Some.first mine in
     rw (p.1, p.2) (inl (c.in_err-write_entry_key.ensures.key form n.t (stores_next form n.t c.stored.result c.in-Some.first c.stored.ensures.kind
-        c.stored.ensures.content n.first_is.part)))
+    c.stored.ensures.content n.first_is.part)))
 
 pub returns-in_err-decide-clause-made : goal.returns-in_err-decide-clause-made
 returns-in_err-decide-clause-made c = λ form other ts h fit few b.
@@ -34,7 +34,7 @@ returns-in_err-decide-clause-made c = λ form other ts h fit few b.
     let mine = rw c.in-Some.is at (c.in_ok-first.ensures.first form m.rest (KeptRuns-left form _ _ other _ _ _ _ m)) in
     let n = next_of form _ _ other _ _ _ _ m c.in-Some.first mine in
     let key = c.in_ok-write_entry_key.ensures.key form n.t (stores_next form n.t c.stored.result c.in-Some.first c.stored.ensures.kind
-        c.stored.ensures.content n.first_is.part) in
+    c.stored.ensures.content n.first_is.part) in
     rw (p.1, p.2) (inl (c.in_err-decide.ensures.kept other m.before n.t m.behind n.fit.0 key (next_few form _ _ other _ _ _ _ m c.in-Some.first mine n)))
 
 pub returns-in_err-push_run-clause-made : goal.returns-in_err-push_run-clause-made
@@ -51,7 +51,7 @@ loop-runs-preserved c = record {
       let n = next_of form _ _ other _ _ _ _ m c.in-Some.first mine in
       let short = next_few form _ _ other _ _ _ _ m c.in-Some.first mine n in
       let key = c.in_ok-write_entry_key.ensures.key form n.t (stores_next form n.t c.stored.result c.in-Some.first c.stored.ensures.kind
-          c.stored.ensures.content n.first_is.part) in
+      c.stored.ensures.content n.first_is.part) in
       let kept = c.in_ok-decide.ensures.kept other m.before n.t m.behind n.fit.0 key short in
       let behind = c.in_ok-decide.ensures.behind other m.before n.t m.behind n.fit.0 key short in
       elim c.if-not-branch.branch [

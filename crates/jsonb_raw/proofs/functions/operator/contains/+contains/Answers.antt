@@ -355,7 +355,7 @@ entry_matches-returns-then-not-is_container-clause-answer t c = λ form other_fo
 pub entry_matches-returns-then-eq-clause-answer : goal.entry_matches-returns-then-eq-clause-answer
 entry_matches-returns-then-eq-clause-answer t c = λ form other_form x y h k.
     let one : x ≡ y = same_tree form other_form _ _ x y h k (equal_kind _ c.args.entry.now.kind c.args.wanted.now.kind c.ne.ensures c.if-ne.false)
-        ((bytes_eq-Decides _ _).0 (sym c.eq.ensures ∙ c.if-eq.true)) in
+    ((bytes_eq-Decides _ _).0 (sym c.eq.ensures ∙ c.if-eq.true)) in
     rw one (sym (matched_refl y))
 
 -- ---- objects

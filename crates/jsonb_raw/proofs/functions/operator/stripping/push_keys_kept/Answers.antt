@@ -48,7 +48,7 @@ loop-value-preserved-in-Continue-branch-3 c =
           key_pushed _ _ _ _ _ h.0 h.1 h.2 c.read_entry_word.ensures.told _ _ _
           (λ xs w a b. rw c.in-Some-2.is at
           (c.in_ok-key.ensures.reads xs w a b)) _ _ _ _ (differing_kind _ c.read_entry_word.result.0 Null c.ne.ensures c.if-ne.true)
-              c.in_ok-extend_from_slice.ensures.items
+          c.in_ok-extend_from_slice.ensures.items
           (c.loop-value.invariant.left es ks within are many values words keys);
     }
 
@@ -59,7 +59,7 @@ loop-value-preserved c =
       left = λ es ks within are many values words keys.
           key_left_out _ _ _ _ _ h.0 h.1 h.2 c.read_entry_word.ensures.told _ _ _
           (λ xs w a b. rw c.in-Some-2.is at (c.in_ok-key.ensures.reads xs w a b)) _ _ _ _
-              (equal_kind _ c.read_entry_word.result.0 Null c.ne.ensures c.if-ne.false) refl
+          (equal_kind _ c.read_entry_word.result.0 Null c.ne.ensures c.if-ne.false) refl
           (c.loop-value.invariant.left es ks within are many values words keys);
     }
 

@@ -22,7 +22,7 @@ loop-value-preserved-in_ok-extend_from_slice c =
     record {
       left = λ es xs within many values words.
           word_pushed _ _ _ _ _ h.0 h.1 h.2 c.read_entry_word.ensures.told _ _ _ g.0 g.1 _ _ _
-              (differing_kind _ c.read_entry_word.result.0 Null c.ne.ensures c.if-ne.true) c.in_ok-extend_from_slice.ensures.items
+          (differing_kind _ c.read_entry_word.result.0 Null c.ne.ensures c.if-ne.true) c.in_ok-extend_from_slice.ensures.items
           (c.loop-value.invariant.left es xs within many values words);
     }
 
@@ -33,7 +33,7 @@ loop-value-preserved c =
     record {
       left = λ es xs within many values words.
           word_left_out _ _ _ _ _ h.0 h.1 h.2 c.read_entry_word.ensures.told _ _ _ g.0 g.1 _ _ _
-              (equal_kind _ c.read_entry_word.result.0 Null c.ne.ensures c.if-ne.false) refl
+          (equal_kind _ c.read_entry_word.result.0 Null c.ne.ensures c.if-ne.false) refl
           (c.loop-value.invariant.left es xs within many values words);
     }
 

@@ -53,7 +53,7 @@ walk-preserved-in_default c = record {
         | in_default-via-in_default w ↦
             entry_copied form _ _ _ _ _ _ _ _ c.in-Some.entry (λ es u a b. rw c.in-Some.is at (c.in_ok-entry.ensures.reads es u a b))
             (c.walk.invariant.left form t is) _ _ (other_stays c.walk.inner.is_object (kind_number c.in-Some.entry.kind)
-                (λ z. w.in_default.not-Null (one_kind _ Null z)))
+            (λ z. w.in_default.not-Null (one_kind _ Null z)))
             (λ k. w.in_default.not-Container (one_kind _ Container k))
             (omega (arith, c.walk.out.ok.0)) refl
             c.in_ok-extend_from_slice-in_default.ensures.items

@@ -37,7 +37,7 @@ part_tells-returns-in-String-clause-told g t c = λ form tree stands.
     let told : FnReturnsAt g.F.Fn c.args.func.now c.in-String.text.now c.func.result = record
     { shown = c.as_bytes.result; shows = c.as_bytes.ensures.value; says = record { met = c.func.ensures } } in
     rw (is, c.of.ensures.answer, c.of.ensures.all) (leaves_told g.F.Fn c.args.func.now form [] (c.in-String.text.now ∷ []) c.func.result
-        (told_alone g.F.Fn c.args.func.now _ c.func.result told))
+    (told_alone g.F.Fn c.args.func.now _ c.func.result told))
 
 pub part_tells-returns-in-Array-clause-told : goal.part_tells-returns-in-Array-clause-told
 part_tells-returns-in-Array-clause-told g t c = λ form tree stands.

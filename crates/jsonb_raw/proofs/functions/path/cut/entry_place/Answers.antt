@@ -15,8 +15,14 @@ pub overflow_add-start-2 : goal.overflow_add-start-2
 overflow_add-start-2 c = omega (arith, c.in_ok-before.ensures.cases.3, c.contents_len.ensures.bound, c.requires.total, c.requires.passed)
 
 pub overflow_add-result-2 : goal.overflow_add-result-2
-overflow_add-result-2 c = omega (arith, c.read_entry_word.ensures.bound, c.in_ok-before.ensures.cases.3, c.contents_len.ensures.bound, c.requires.total,
-    c.requires.passed)
+overflow_add-result-2 c = omega (
+  arith,
+  c.read_entry_word.ensures.bound,
+  c.in_ok-before.ensures.cases.3,
+  c.contents_len.ensures.bound,
+  c.requires.total,
+  c.requires.passed,
+)
 
 pub returns : goal.returns
 returns c = λ front back e h total passed.
