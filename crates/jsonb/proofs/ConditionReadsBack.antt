@@ -239,23 +239,11 @@ sides_read : (op : BinaryOp) (left right : Expression) → AtomReads left → At
 sides_read op left right l r n f rest is_left is_right h short =
     let between = behind_left op right rest in
     let short' : length (side left ++ between) < suc n = rw (binary-shown op left right rest) at short in
-<<<<<<< HEAD
-    let second = r n f rest is_right (behind_close rest h) (omega (
-      arith,
-      length-append (side left) between,
-      length-append (operator_text op)
-          (32 ∷ side right ++ rest),
-    )) in (
-      l n f between is_left (behind_operator op (32 ∷ side right ++ rest)).0 (omega arith),
-      rw (past-space (side right ++ rest) (no_space-side f right rest is_right)) second,
-    )
-=======
     let whole = length-append (side left) between in
     let behind = length-append (operator_text op) (32 ∷ side right ++ rest) in
     let first = l n f between is_left (behind_operator op (32 ∷ side right ++ rest)).0 (omega arith) in
     let second = r n f rest is_right (behind_close rest h) (omega (arith, whole, behind)) in
     (first, rw (past-space (side right ++ rest) (no_space-side f right rest is_right)) second)
->>>>>>> 2e0816e (The two sides of a condition are read by one lemma)
 
 and-condition : (left right : Expression) → AtomReads left → AtomReads right → ConditionReads (binary and_op left right)
 unfolding nested_or
