@@ -183,10 +183,10 @@ fn push_elements(bytes: &[u8], mode: Mode, item: Spot, nodes: &mut Vec<Spot>) ->
 {
     match elements(bytes, item)? {
         Some(elements) => push_spots(elements, nodes),
-        None => {
-            mismatch(mode)?;
-            push_spot(nodes, item)
-        }
+        None => match mode {
+            Mode::Lax => push_spot(nodes, item),
+            Mode::Strict => Err(Error::StrictPath),
+        },
     }
 }
 

@@ -13,14 +13,10 @@ returns-in-Some-clause-meant c = λ t before m a.
     (rw c.in-Some.is at (c.in_ok-elements.ensures.meant t m))
     (λ us h. c.push_spots.ensures.meant c.args.bytes.now us before h a)
 
-pub returns-in_err-mismatch-clause-meant : goal.returns-in_err-mismatch-clause-meant
-returns-in_err-mismatch-clause-meant c = λ t before m a.
-    unlisted c.args.mode (t ∷ []) (HasSpotsLeft c.args.bytes.now) (array_values t) (rw c.in-None.is at (c.in_ok-elements.ensures.meant t m)) _
-
-pub returns-in_ok-mismatch-clause-meant : goal.returns-in_ok-mismatch-clause-meant
-returns-in_ok-mismatch-clause-meant c = λ t before m a.
+pub returns-in-Lax-clause-meant : goal.returns-in-Lax-clause-meant
+returns-in-Lax-clause-meant c = λ t before m a.
     unlisted c.args.mode (t ∷ []) (HasSpotsLeft c.args.bytes.now) (array_values t) (rw c.in-None.is at (c.in_ok-elements.ensures.meant t m))
-    (rw c.in_ok-mismatch.ensures.lax
+    (rw c.in-Lax.is
     (pushed
     (Locates c.args.bytes.now) c.push_spot.result c.args.nodes.now.items c.push_spot.new.nodes.items c.args.item
     before t c.push_spot.ensures.ok c.push_spot.ensures.err a m))
