@@ -6,6 +6,7 @@ ghost use Rattle.jsonb_doc.specs.Tree.{Tree};
 ghost use Rattle.jsonb_doc.specs.Payload.{Form, number_reader};
 ghost use Rattle.jsonb_doc.specs.Format.{Decodes, IsContent, container_entry};
 ghost use Rattle.jsonb_doc.specs.Item.{StandsFor};
+ghost use Rattle.jsonb_doc.specs.Kinds.{kind_number};
 ghost use Rattle.jsonb_doc.specs.Private.Stored.{Stores};
 ghost use Rattle.jsonb_raw.specs.SortableKey.{text_bytes, number_bytes, depths};
 ghost use Rattle.jsonb_raw.specs.Private.PackedBytes.{packed_bytes};
@@ -23,6 +24,7 @@ use crate::key_bytes::{
 use crate::key_kind;
 use crate::level::Level;
 use crate::packed::{Packed, ROOM};
+use jsonb_doc::layout::EntryKind;
 use jsonb_doc::{Error, Item, ShortNumber, StoredEntry, push_extension_payload, root_item};
 use std::alloc::Global;
 
@@ -156,14 +158,20 @@ fn push_scalar_item(out: &mut Vec<u8>, item: &Item<'_>, depth: Depth) -> Result<
     Ok(())
 }
 
-/// Appends the key of an entry that is no container, by its item. It stands apart, so that a walk over the commonest
-/// entries has no room for items.
+/// Appends the key of an entry of this kind that is no container, by its item. It stands apart, so that a walk over the
+/// commonest entries has no room for items, and takes the entry's parts, so that the walk keeps no entry in memory.
 #[inline(never)]
-fn push_stored_item(out: &mut Vec<u8>, entry: &StoredEntry<'_>, depth: Depth) -> Result<(), Error>
-    ensures key { (form : Form) (tree : Tree) → Stores form entry.now tree
+fn push_stored_item(
+    out: &mut Vec<u8>,
+    kind: EntryKind,
+    content: &[u8],
+    depth: Depth,
+) -> Result<(), Error>
+    ensures key { (form : Form) (tree : Tree) → IsContent (number_reader form) tree (kind_number kind) content.now
         → AppendsScalar depth tree out.old.items result out.new.items }
     ensures errors { IfErr result (IsDecodingError or OutOfMemory or TooDeep) }
 {
+    let entry = StoredEntry { kind, content };
     push_scalar_item(out, &entry.item()?, depth)
 }
 
@@ -182,7 +190,7 @@ fn push_scalar(out: &mut Vec<u8>, entry: &StoredEntry<'_>, depth: Depth) -> Resu
     }
     match key_kind::of_literal(entry) {
         Some(kind) => push_front(out, depth, kind),
-        None => push_stored_item(out, entry, depth),
+        None => push_stored_item(out, entry.kind, entry.content, depth),
     }
 }
 

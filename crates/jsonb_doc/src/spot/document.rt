@@ -2,16 +2,17 @@
 
 ghost use Rattle.std.specs.Prelude.{◌≡◌, ◌++◌, ◌^◌, ◌<◌, length, IfOk, IfErr, MatchResult};
 ghost use Rattle.jsonb_doc.specs.Tree.{Tree};
-ghost use Rattle.jsonb_doc.specs.Payload.{Form};
-ghost use Rattle.jsonb_doc.specs.Format.{Decodes, header, entry_word, scalar_header};
+ghost use Rattle.jsonb_doc.specs.Payload.{Form, number_reader};
+ghost use Rattle.jsonb_doc.specs.Format.{Decodes, IsContent, header, entry_word, scalar_header};
 ghost use Rattle.jsonb_doc.specs.Kinds.{kind_number};
 ghost use Rattle.jsonb_doc.specs.Answer.{IsDecodingError, IsOutOfMemoryOrTooLarge, ◌or◌};
 ghost use Rattle.jsonb_doc.specs.Spots.{Locates};
 ghost use Rattle.jsonb_doc.specs.declared.error.Error.TheVariants.{OutOfMemory, TooLarge};
 
-use super::{Spot, spot_item};
+use super::Spot;
 use crate::encoding::encode_item;
 use crate::error::Error;
+use crate::item::Item;
 use crate::layout::{EntryKind, HeaderKind, MAX_CONTENT, WORD, word_of_entry, word_of_header};
 use std::alloc::{AllocError, Global};
 
@@ -38,18 +39,18 @@ pub fn spot_document(alloc: Global, bytes: &[u8], spot: Spot) -> Result<Vec<u8>,
     if content.len() <= MAX_CONTENT {
         return Ok(scalar_document(alloc, spot.kind, content)?);
     }
-    item_document(alloc, bytes, spot)
+    item_document(alloc, spot.kind, content)
 }
 
 /// The same where the item is too long for an entry.
 #[cold]
 #[inline(never)]
-fn item_document(alloc: Global, bytes: &[u8], spot: Spot) -> Result<Vec<u8>, Error>
-    ensures decodes { (form : Form) (top t : Tree) → Decodes form bytes.now top → Locates bytes.now spot t
+fn item_document(alloc: Global, kind: EntryKind, content: &[u8]) -> Result<Vec<u8>, Error>
+    ensures decodes { (form : Form) (t : Tree) → IsContent (number_reader form) t (kind_number kind) content.now
         → MatchResult result (λ v. Decodes form v.items t) (IsOutOfMemoryOrTooLarge form t) }
     ensures errors { IfErr result (IsDecodingError or OutOfMemory or TooLarge) }
 {
-    let item = spot_item(bytes, spot)?;
+    let item = Item::from_content(kind, content)?;
     encode_item(alloc, &item)
 }
 

@@ -6,6 +6,7 @@ ghost use Rattle.jsonb_doc.specs.Tree.{Tree, text};
 ghost use Rattle.jsonb_doc.specs.Payload.{Form, number_reader};
 ghost use Rattle.jsonb_doc.specs.Format.{Decodes, IsContent, container_entry, text_entry};
 ghost use Rattle.jsonb_doc.specs.Item.{StandsFor, IsNormal};
+ghost use Rattle.jsonb_doc.specs.Kinds.{kind_number};
 ghost use Rattle.jsonb_doc.specs.Private.Stored.{Stores};
 ghost use Rattle.jsonb_doc.specs.Answer.{IsOutOfMemory, ◌or◌, IsDecodingError};
 ghost use Rattle.jsonb_doc.specs.declared.error.Error.TheVariants.{OutOfMemory};
@@ -190,7 +191,8 @@ fn push_part<'a, P: Drop>(
 ) -> Result<(), Error>
     ensures { MatchResult result (λ _. found.new.items ≡ found.old.items ++ (path.entry, part) ∷ []) IsOutOfMemory }
 {
-    found.push((path, part))?;
+    found.reserve(1)?;
+    found.push_reserved((path, part));
     Ok(())
 }
 
@@ -220,17 +222,21 @@ fn push_text<'a>(
     }
 }
 
-/// The value of a leaf of another kind, behind those that were found.
+/// The value of a leaf of another kind, behind those that were found. It takes the entry's parts, so that the walk keeps
+/// no entry in memory.
+#[inline(never)]
 fn push_value<'a>(
     alloc: Global,
-    entry: &StoredEntry<'a>,
+    kind: EntryKind,
+    content: &'a [u8],
     path: KeyPaths<'a>,
     found: &mut Vec<(KeyPaths<'a>, Value<'a>)>,
 ) -> Result<(), Error>
-    ensures leaf { (form : Form) (t : Tree) → Stores form entry.now t
+    ensures leaf { (form : Form) (t : Tree) → IsContent (number_reader form) t (kind_number kind) content.now
         → MatchResult result (λ _. IsOneMore (IsValueOf t) path.entry found.old.items found.new.items) IsOutOfMemory }
     ensures errors { IfErr result (IsDecodingError or OutOfMemory) }
 {
+    let entry = StoredEntry { kind, content };
     match entry.item() {
         Ok(Item::Number(number)) => push_part(path, Value::Number(number), found),
         Ok(item) => push_part(path, to_value(alloc, &item)?, found),
@@ -260,7 +266,7 @@ impl<'a> LeafPart<'a> for Value<'a> {
         match entry.kind {
             EntryKind::Text => push_text(entry.content, path, found),
             EntryKind::Null if entry.content.is_empty() => push_part(path, Value::Null, found),
-            _ => push_value(alloc, entry, path, found),
+            _ => push_value(alloc, entry.kind, entry.content, path, found),
         }
     }
 }

@@ -29,6 +29,7 @@ impl<'a> LeafPart<'a> for OwnedJsonb {
 
     ghost Refusals = { IsDecodingError or OutOfMemory or TooLarge };
 
+    #[inline(always)]
     fn push_leaf(
         alloc: Global,
         entry: &StoredEntry<'a>,
