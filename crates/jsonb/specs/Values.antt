@@ -41,7 +41,7 @@ literal_item (path.decimal128 whole scale) = Some (tree.number (number_from form
 literal_item (path.string bytes) = Some (tree.text bytes)
 literal_item (path.raw document) = None
 
--- a literal has one value
+-- A literal has one value. With a document, whatever it holds, nothing is compared, as with a container.
 abbrev pub values_of_literal : Option Tree → List Value
 values_of_literal (Some item) = value_of_item item
 values_of_literal None = container ∷ []

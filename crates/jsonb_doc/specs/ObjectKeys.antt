@@ -66,8 +66,8 @@ IsKeysOf _ found = IfSome found (λ it. ⊥)
 abbrev pub HasValuesLeft : Form → ValueIter → Trees → Type 0
 HasValuesLeft form it ts = HasElementsLeft form it.elements ts
 
--- the bytes are the header of an object, and all words and all contents of the iterator, with the words of keys before
--- the ones, and the keys before the others
+-- the bytes are the header of an object, the words of its keys, all words of the iterator, the keys, and all contents
+-- of the iterator
 abbrev pub HasAllValues : List ℕ → ValueIter → Type 0
 HasAllValues bytes it =
     (n : ℕ) × (key_words keys : List ℕ) × HeadedBy bytes object_header n

@@ -99,7 +99,7 @@ pub fn array_of(alloc: Global, runs: &[Entries<'_>]) -> Result<OwnedJsonb, Error
     container_of(alloc, HeaderKind::Array, len / WORD, runs, &[])
 }
 
-/// The object whose keys are the entries of the one runs, and its values those of the others.
+/// The object whose keys are the entries of some runs, and whose values are those of others.
 pub fn object_of(
     alloc: Global,
     keys: &[Entries<'_>],

@@ -222,8 +222,8 @@ fn push_text<'a>(
     }
 }
 
-/// The value of a leaf of another kind, behind those that were found. It takes the entry's parts, so that the walk keeps
-/// no entry in memory.
+/// The value of a leaf of another kind, behind those that were found. It takes the entry's parts, so that the walk
+/// keeps no entry in memory.
 #[inline(never)]
 fn push_value<'a>(
     alloc: Global,
