@@ -55,8 +55,8 @@ def in_lanes(tasks):
 
     A key begins with a crate's name and the kind of the task. A task is what it waits for, its work in lines, its memory,
     and a call that takes what was given so far and how many jobs it may use. Of those that are ready, the first goes
-    first. Proofs that can be made at one time share all lanes as jobs, or half of them where another task is there to
-    use the rest, since each job more takes more of the processor; any other task has one.
+    first. Proofs that can be made at one time share all lanes as jobs, or all but one where another task is there to use
+    that one; any other task has one.
     """
     lanes, running, given = lanes_here(), {}, {}
     left = sorted(tasks, key=lambda it: (KINDS.index(it[1]), -tasks[it][1]))
@@ -64,7 +64,7 @@ def in_lanes(tasks):
         while left or running:
             ready = [it for it in left if all(below in given for below in tasks[it][0])]
             proofs = sum(it[1] == "proof" for it in [*ready, *running.values()])
-            shared = lanes if proofs == len(ready) + len(running) else lanes // 2
+            shared = lanes if proofs == len(ready) + len(running) else lanes - 1
             for key in ready[: lanes - len(running)]:
                 left.remove(key)
                 jobs = max(1, shared // proofs) if key[1] == "proof" else 1
