@@ -1,12 +1,13 @@
 -- From what a walk keeps of leaves to the answers of the calls.
-use Rattle.std.proofs.Common.{◌≡◌, ◌⊎◌, List, [], ◌∷◌, Result, Ok, Err, Vec, MatchResult, refl, ap, ◌∙◌, inl, inr}
+use Rattle.std.proofs.Common.{◌≡◌, ◌⊎◌, ℕ, Some, sym, List, [], ◌∷◌, Result, Ok, Err, Vec, MatchResult, refl, ap, ◌∙◌, inl, inr}
 use Rattle.std.specs.List.{Any, AllZip}
 use Rattle.std.specs.declared.alloc.Global.{Global}
 use Rattle.jsonb_doc.specs.declared.error.Error.{Error}
 use Rattle.jsonb_doc.specs.declared.value.Value.{Value}
-use Rattle.jsonb_doc.specs.Tree.{Tree}
-use Rattle.jsonb_doc.specs.Payload.{Form}
-use Rattle.jsonb_doc.specs.Format.{Decodes}
+use Rattle.jsonb_doc.specs.Tree.{Tree, number}
+use Rattle.jsonb_doc.specs.Number.{Number}
+use Rattle.jsonb_doc.specs.Payload.{Form, number_reader, number_of}
+use Rattle.jsonb_doc.specs.Format.{Decodes, IsContent}
 use Rattle.jsonb_doc.specs.Answer.{IsOutOfMemory, IsOutOfMemoryOrTooLarge}
 use Rattle.jsonb_doc.specs.Value.{value_tree, value_parts}
 use Rattle.jsonb_keypath.specs.declared.key_path.KeyPaths.{KeyPaths}
@@ -16,6 +17,15 @@ use Rattle.jsonb_raw.specs.Leaves.{Leaf}
 use Rattle.jsonb_raw.specs.LeafViews.{leaves_seen}
 use Rattle.jsonb_raw.specs.LeafDocuments.{MakesLeaves}
 use Rattle.jsonb_raw.specs.Private.LeafSteps.{IsKept}
+use Rattle.jsonb_doc.proofs.Entries.{reads_number}
+use Rattle.jsonb_doc.proofs.ScalarLemmas.{number_content, some_injective}
+
+-- a payload that is read as a number stores that number
+pub number_stored : (form : Form) (t : Tree) (kind : ℕ) (bytes : List ℕ) (n : Number) → kind ≡ 2 → number_of bytes ≡ Some n
+    → IsContent (number_reader form) t kind bytes → number n ≡ t
+number_stored form t kind bytes n is read content =
+    let (m, same, stored) = number_content (number_reader form) kind bytes t is content in
+    ap number (some_injective (sym read ∙ reads_number form bytes m stored)) ∙ sym same
 
 -- the value was decoded from the tree, and its numbers have the tree's parts
 abbrev IsValueOf : Tree → Value → Type 0

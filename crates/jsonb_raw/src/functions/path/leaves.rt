@@ -2,12 +2,14 @@
 
 ghost use Rattle.std.specs.Prelude.{◌≡◌, ◌⊎◌, ◌+◌, ◌%◌, ◌^◌, ◌<◌, ◌&&◌, ◌++◌, [], ◌∷◌, ℕ, List, Option, length, vec_len, vec_capacity, IsOkAnd, IfOk, IfErr, MatchResult};
 ghost use Rattle.std.specs.List.{Any, AllZip};
-ghost use Rattle.jsonb_doc.specs.Tree.{Tree, text};
+ghost use Rattle.jsonb_doc.specs.Tree.{Tree, text, number};
 ghost use Rattle.jsonb_doc.specs.Payload.{Form, number_reader};
 ghost use Rattle.jsonb_doc.specs.Format.{Decodes, IsContent, container_entry, text_entry};
 ghost use Rattle.jsonb_doc.specs.Item.{StandsFor, IsNormal};
 ghost use Rattle.jsonb_doc.specs.Kinds.{kind_number};
 ghost use Rattle.jsonb_doc.specs.Private.Stored.{Stores};
+ghost use Rattle.jsonb_doc.specs.Private.Short.{short_value};
+ghost use Rattle.jsonb_doc.specs.View.{number_parts};
 ghost use Rattle.jsonb_doc.specs.Answer.{IsOutOfMemory, ◌or◌, IsDecodingError};
 ghost use Rattle.jsonb_doc.specs.declared.error.Error.TheVariants.{OutOfMemory};
 ghost use Rattle.jsonb_doc.specs.Value.{value_tree, value_parts};
@@ -26,7 +28,9 @@ mod documents;
 use crate::level::{Level, is_array};
 use crate::raw::RawJsonb;
 use jsonb_doc::layout::EntryKind;
-use jsonb_doc::{Error, Item, StoredEntry, Value, root_item, to_value};
+use jsonb_doc::{
+    Decimal64, Error, Item, Number, ShortNumber, StoredEntry, Value, root_item, to_value,
+};
 use jsonb_keypath::{KeyPath, KeyPaths};
 use std::alloc::Global;
 use std::borrow::CowStr;
@@ -222,8 +226,30 @@ fn push_text<'a>(
     }
 }
 
+/// A number as it is kept, where each zero is the same one.
+#[inline(always)]
+fn number_of_short(short: ShortNumber) -> Number
+    ensures { number_parts result ≡ short_value short }
+{
+    match short {
+        ShortNumber::Unsigned(value) => Number::UInt64(value),
+        ShortNumber::Signed(0) | ShortNumber::Decimal(0, _) => Number::ZERO,
+        ShortNumber::Signed(value) => Number::Int64(value),
+        ShortNumber::Decimal(value, scale) => Number::Decimal64(Decimal64 { scale, value }),
+    }
+}
+
+/// A number as a value.
+#[inline(always)]
+fn number_value<'a>(short: ShortNumber) -> Value<'a>
+    ensures tree { value_tree result ≡ number (short_value short) }
+    ensures parts { value_parts result ≡ number (short_value short) }
+{
+    Value::Number(number_of_short(short))
+}
+
 /// The value of a leaf of another kind, behind those that were found. It takes the entry's parts, so that the walk
-/// keeps no entry in memory.
+/// keeps no entry in memory. Of a number of 64 bits no item is made.
 #[inline(never)]
 fn push_value<'a>(
     alloc: Global,
@@ -237,8 +263,10 @@ fn push_value<'a>(
     ensures errors { IfErr result (IsDecodingError or OutOfMemory) }
 {
     let entry = StoredEntry { kind, content };
+    if let Some(short) = entry.short_number() {
+        return push_part(path, number_value(short), found);
+    }
     match entry.item() {
-        Ok(Item::Number(number)) => push_part(path, Value::Number(number), found),
         Ok(item) => push_part(path, to_value(alloc, &item)?, found),
         Err(error) => Err(error),
     }
