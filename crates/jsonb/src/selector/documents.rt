@@ -154,7 +154,7 @@ fn node_documents(alloc: Global, bytes: &[u8], spots: &[Spot]) -> Result<Vec<Own
     let mut documents = Vec::with_capacity(alloc, spots.len())?;
     for spot in spots {
         let document = spot_document(alloc, bytes, *spot)?;
-        documents.push(OwnedJsonb::new(document))?;
+        documents.push_reserved(OwnedJsonb::new(document));
     }
     Ok(documents)
 }

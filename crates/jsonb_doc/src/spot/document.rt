@@ -39,7 +39,8 @@ pub fn spot_document(alloc: Global, bytes: &[u8], spot: Spot) -> Result<Vec<u8>,
     if content.len() <= MAX_CONTENT {
         return Ok(scalar_document(alloc, spot.kind, content)?);
     }
-    item_document(alloc, spot.kind, content)
+    let document = item_document(alloc, spot.kind, content)?;
+    Ok(document)
 }
 
 /// The same where the item is too long for an entry.

@@ -1,5 +1,5 @@
 -- node_documents
-use Rattle.std.proofs.Common.{◌<◌, ◌≤◌, length, arith, inl}
+use Rattle.std.proofs.Common.{◌<◌, ◌≤◌, ◌∙◌, length, arith, inl}
 use Rattle.std.proofs.lemmas.List.{take_more, take_all}
 use Rattle.std.proofs.lemmas.Result.{err_from_is_err_and}
 use Rattle.jsonb_doc.specs.Format.{Decodes}
@@ -21,15 +21,20 @@ returns-in_err-document-clause-documents c = λ form top ts decodes h.
     })
 
 pub loop-spot-preserved : goal.loop-spot-preserved
-loop-spot-preserved c = λ form top ts decodes h.
-    let long = related_length (Locates c.args.bytes.now) c.args.spots.now ts h in
-    let at = related_at (Locates c.args.bytes.now) c.args.spots.now ts c.loop-spot.spot-index no_spot null c.loop-spot-test.true h in
-    let short : c.loop-spot.spot-index < length ts = omega (arith, long, c.loop-spot-test.true) in
-    rw (take_more ts c.loop-spot.spot-index null short, c.in_ok-push.ensures.items, c.new.ensures)
-    (related_more (Decodes form) _ _ _ _ (c.loop-spot.invariant form top ts decodes h) (c.in_ok-document.ensures.decodes form top _ decodes at))
+loop-spot-preserved c = record {
+  documents = λ form top ts decodes h.
+      let long = related_length (Locates c.args.bytes.now) c.args.spots.now ts h in
+      let at = related_at (Locates c.args.bytes.now) c.args.spots.now ts c.loop-spot.spot-index no_spot null c.loop-spot-test.true h in
+      let short : c.loop-spot.spot-index < length ts = omega (arith, long, c.loop-spot-test.true) in
+      rw (take_more ts c.loop-spot.spot-index null short, c.push_reserved.ensures.items, c.new.ensures)
+      (related_more (Decodes form) _ _ _ _ (c.loop-spot.invariant.documents form top ts decodes h)
+      (c.in_ok-document.ensures.decodes form top _ decodes at));
+  len = omega (arith, c.push_reserved.ensures.len, c.loop-spot.invariant.len);
+  room = c.push_reserved.ensures.capacity ∙ c.loop-spot.invariant.room;
+}
 
 pub returns-clause-documents : goal.returns-clause-documents
 returns-clause-documents c = λ form top ts decodes h.
     let same = related_length (Locates c.args.bytes.now) c.args.spots.now ts h in
     let long : length ts ≤ c.loop-spot.spot-index = omega (arith, same, c.loop-spot-test.false) in
-    record { ok = rw (take_all c.loop-spot.spot-index ts long) at (c.loop-spot.invariant form top ts decodes h); err = tt }
+    record { ok = rw (take_all c.loop-spot.spot-index ts long) at (c.loop-spot.invariant.documents form top ts decodes h); err = tt }

@@ -1,11 +1,17 @@
-use Rattle.std.proofs.Common.{List, take}
+use Rattle.std.proofs.Common.{◌≡◌, ◌≤◌, List, take, length, vec_len}
 use Rattle.std.specs.List.{AllZip}
+use Rattle.std.specs.Vec.{vec_capacity}
 use Rattle.jsonb_doc.specs.Format.{Decodes}
 use Rattle.jsonb_doc.specs.Payload.{Form}
 use Rattle.jsonb_doc.specs.Spots.{Locates}
 use Rattle.jsonb_doc.specs.Tree.{Tree}
 use Rattle.jsonb.proofs.selector.documents.node_documents.Given as goal
 
+-- the documents of the places so far, with room for the others
 abbrev pub invariant-loop-spot : goal.invariant-loop-spot
-invariant-loop-spot l = (form : Form) (top : Tree) (ts : List Tree) → Decodes form l.bytes top → AllZip (Locates l.bytes) l.spots ts
-    → AllZip (Decodes form) l.documents.items (take l.spot-index ts)
+invariant-loop-spot l = record {
+  documents : (form : Form) (top : Tree) (ts : List Tree) → Decodes form l.bytes top → AllZip (Locates l.bytes) l.spots ts
+      → AllZip (Decodes form) l.documents.items (take l.spot-index ts);
+  len : vec_len l.documents ≤ l.spot-index;
+  room : vec_capacity l.documents ≡ length l.spots;
+}
