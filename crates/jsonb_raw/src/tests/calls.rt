@@ -37,9 +37,7 @@ struct Asked<'d, 'o, 't> {
 fn names<'a>(alloc: Global, text: &'a str) -> Result<Vec<&'a str>, AllocError> {
     let mut names = Vec::new(alloc);
     if !text.is_empty() {
-        for name in text.split(',') {
-            names.push(name)?;
-        }
+        names.extend(text.split(','))?;
     }
     Ok(names)
 }
@@ -48,9 +46,7 @@ fn names<'a>(alloc: Global, text: &'a str) -> Result<Vec<&'a str>, AllocError> {
 fn name_set<'a>(alloc: Global, text: &'a str) -> Result<BTreeSet<&'a str>, AllocError> {
     let mut set = BTreeSet::new(alloc);
     if !text.is_empty() {
-        for name in text.split(',') {
-            set.insert(name)?;
-        }
+        set.extend(text.split(','))?;
     }
     Ok(set)
 }
@@ -251,6 +247,6 @@ fn holds(alloc: Global, row: &str) -> Result<bool, Error> {
 #[test]
 fn answers_are_as_the_tables_say(rt: HostRuntime) {
     for row in ROWS.lines().skip(1) {
-        assert_eq!(rt; holds(rt.alloc(), row), Ok(true), "{row}");
+        assert!(rt; matches!(holds(rt.alloc(), row), Ok(true)), "{row}");
     }
 }

@@ -141,9 +141,9 @@ fn has_leaves(
 fn leaves_come_in_stored_order(rt: HostRuntime) {
     for (document, leaves, ignoring_arrays) in &LEAVES {
         let is_so = has_leaves(rt.alloc(), document, false, leaves);
-        assert_eq!(rt; is_so, Ok(true), "{document:?}");
+        assert!(rt; matches!(is_so, Ok(true)), "{document:?}");
         let is_so = has_leaves(rt.alloc(), document, true, ignoring_arrays);
-        assert_eq!(rt; is_so, Ok(true), "{document:?}");
+        assert!(rt; matches!(is_so, Ok(true)), "{document:?}");
     }
 }
 
@@ -167,7 +167,7 @@ fn has_borrowed_leaf(alloc: Global, document: &[u8]) -> Result<bool, Error> {
 
 #[test]
 fn names_are_borrowed(rt: HostRuntime) {
-    assert_eq!(rt; has_borrowed_leaf(rt.alloc(), MIXED_ARRAY), Ok(true));
+    assert!(rt; matches!(has_borrowed_leaf(rt.alloc(), MIXED_ARRAY), Ok(true)));
 }
 
 #[test]
@@ -177,6 +177,6 @@ fn damage_has_no_leaves(rt: HostRuntime) {
         (FLOAT, Error::UnsupportedNumber),
     ] {
         let found = RawJsonb::new(document).extract_scalar_key_values(rt.alloc(), false);
-        assert_eq!(rt; found.err(), Some(refusal));
+        assert!(rt; found.err() == Some(refusal));
     }
 }

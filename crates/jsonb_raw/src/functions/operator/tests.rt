@@ -22,17 +22,20 @@ fn refusal(alloc: Global, innermost: &[u8], arrays: u32) -> Result<Option<Error>
     Ok(RawJsonb::new(&document).convert_to_comparable(alloc).err())
 }
 
+/// Containers, in how many arrays, and the refusal.
+static REFUSALS: [(&[u8], u32, Option<Error>); 4] = [
+    (EMPTY_ARRAY, 255, None),
+    (EMPTY_ARRAY, 256, Some(Error::TooDeep)),
+    (EMPTY_OBJECT, 255, None),
+    (NULL_PAIR, 255, Some(Error::TooDeep)),
+];
+
 #[test]
-fn keys_by_depth(rt: HostRuntime) -> Result<(), AllocError> {
-    for (innermost, arrays, wanted) in [
-        (EMPTY_ARRAY, 255, None),
-        (EMPTY_ARRAY, 256, Some(Error::TooDeep)),
-        (EMPTY_OBJECT, 255, None),
-        (NULL_PAIR, 255, Some(Error::TooDeep)),
-    ] {
-        assert_eq!(rt; refusal(rt.alloc(), innermost, arrays)?, wanted);
+fn keys_by_depth(rt: HostRuntime) {
+    for (innermost, arrays, wanted) in &REFUSALS {
+        let is_so = refusal(rt.alloc(), innermost, *arrays) == Ok(*wanted);
+        assert!(rt; is_so, "{innermost:?} in {arrays}");
     }
-    Ok(())
 }
 
 /// Whether the wide key of a document is so long and ends so.
@@ -45,7 +48,7 @@ fn has_wide_key(alloc: Global, document: &[u8], len: usize, end: &[u8]) -> Resul
 fn a_wide_key_goes_deeper(rt: HostRuntime) -> Result<(), AllocError> {
     let document = nested(rt.alloc(), &[ALONE], 256, EMPTY_ARRAY)?;
     let found = has_wide_key(rt.alloc(), &document, 771, b"\x01\0\x07");
-    assert_eq!(rt; found, Ok(true));
+    assert!(rt; matches!(found, Ok(true)));
     Ok(())
 }
 
@@ -64,10 +67,10 @@ fn keys_in_a_vector_that_is_used_again(rt: HostRuntime) {
     let mut key = Vec::new(rt.alloc());
     for document in [ONE_ELEMENT, NULL, NULLS, DATE] {
         let is_same = has_same_keys(rt.alloc(), RawJsonb::new(document), &mut key);
-        assert_eq!(rt; is_same, Ok(true), "{document:?}");
+        assert!(rt; matches!(is_same, Ok(true)), "{document:?}");
     }
     let float = RawJsonb::new(FLOAT).convert_to_comparable_into(rt.alloc(), &mut key);
-    assert_eq!(rt; float, Err(Error::UnsupportedNumber));
+    assert!(rt; float == Err(Error::UnsupportedNumber));
     assert!(rt; key.is_empty());
 }
 
@@ -80,5 +83,5 @@ fn is_below(alloc: Global, one: &[u8], other: &[u8]) -> Result<bool, Error> {
 
 #[test]
 fn a_shorter_array_is_below(rt: HostRuntime) {
-    assert_eq!(rt; is_below(rt.alloc(), ONE_THEN_TWO, ONE_AND_TWO), Ok(true));
+    assert!(rt; matches!(is_below(rt.alloc(), ONE_THEN_TWO, ONE_AND_TWO), Ok(true)));
 }
