@@ -6,8 +6,8 @@ use Rattle.jsonb_doc.specs.Payload.{NumberReader, Form, number_reader}
 use Rattle.jsonb_doc.specs.Format.{IsContent, AreEntries, entry_word, header, array_header, Decodes}
 use Rattle.jsonb_doc.specs.Limits.{HasShortElements, content_size, IsTooLarge}
 use Rattle.jsonb_doc.specs.Item.{StandsFor}
-use Rattle.jsonb_doc.specs.Encoding.{EntryParts, item_kind, item_content, entry_of}
-use Rattle.jsonb_doc.specs.Private.Writing.{FitsItem}
+use Rattle.jsonb_doc.specs.Encoding.{EntryParts, item_content, entry_of}
+use Rattle.jsonb_doc.specs.Private.Writing.{item_kind, FitsItem}
 use Rattle.jsonb_doc.specs.ArrayBuilder.{Parts, entry_count, HoldsElements, IsTooLargeElement}
 use Rattle.jsonb_doc.specs.declared.item.Item.{Item}
 use Rattle.jsonb_doc.proofs.Entries.{kind_below}

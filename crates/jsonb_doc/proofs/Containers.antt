@@ -3,10 +3,10 @@ use Rattle.std.proofs.Common.{◌≡◌, ◌≢◌, ℕ, suc, ◌+◌, ◌*◌, 
 use Rattle.std.proofs.lemmas.List.{length-append, take_at, drop_at, append-nil}
 use Rattle.jsonb_doc.specs.Tree.{Tree, boolean, array, object, Trees, no_trees, tree, Pairs, no_pairs, pair, count, keys, values}
 use Rattle.jsonb_doc.specs.Payload.{NumberReader, Form, number_reader}
-use Rattle.jsonb_doc.specs.Private.Containers.{Holds, HasPairParts}
-use Rattle.jsonb_doc.specs.Readable.{IsLoneEntry, IsCut}
+use Rattle.jsonb_doc.specs.Private.Containers.{Holds, HasPairParts, IsLoneEntry, IsCut}
 use Rattle.jsonb_doc.specs.Private.Lengths.{HoldKeys}
-use Rattle.jsonb_doc.specs.Kinds.{kind_number, header_number}
+use Rattle.jsonb_doc.specs.Kinds.{kind_number}
+use Rattle.jsonb_doc.specs.Private.Headers.{header_number}
 use Rattle.jsonb_doc.specs.declared.layout.HeaderKind.{HeaderKind}
 use Rattle.jsonb_doc.specs.declared.layout.HeaderKind.TheVariants as header
 use Rattle.jsonb_doc.specs.declared.entry_iter.StoredEntry.{StoredEntry}

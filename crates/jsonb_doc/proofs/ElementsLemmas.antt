@@ -1,15 +1,19 @@
 -- The iterator over elements and its first item.
-use Rattle.std.proofs.Common.{◌≡◌, ◌≢◌, ℕ, List, Some}
-use Rattle.jsonb_doc.specs.Tree.{Tree, Trees, array}
+use Rattle.std.proofs.Common.{◌≡◌, ◌≢◌, ℕ, List, Option, Some}
+use Rattle.jsonb_doc.specs.Tree.{Tree, Trees, array, trees_in}
 use Rattle.jsonb_doc.specs.Payload.{Form, number_reader}
 use Rattle.jsonb_doc.specs.Format.{Decodes}
-use Rattle.jsonb_doc.specs.Readable.{IsCut}
-use Rattle.jsonb_doc.specs.Elements.{IsElementsOf}
-use Rattle.jsonb_doc.specs.Private.Containers.{Holds}
+use Rattle.jsonb_doc.specs.Elements.{HasElementsLeft}
+use Rattle.jsonb_doc.specs.Answer.{SameOption}
+use Rattle.jsonb_doc.specs.Private.Containers.{IsCut, Holds}
 use Rattle.jsonb_doc.specs.declared.container.ArrayParts.{ArrayParts}
 use Rattle.jsonb_doc.specs.declared.container.Container.TheVariants.{Array}
 use Rattle.jsonb_doc.specs.declared.element_iter.ElementIter.{ElementIter}
 use Rattle.jsonb_doc.proofs.Containers.{Decodes-array, Holds-elements}
+
+-- the iterator of a tree's elements
+abbrev pub IsElementsOf : Form → Tree → Option ElementIter → Type 0
+IsElementsOf form t found = SameOption (HasElementsLeft form) found (trees_in t)
 
 -- the iterator of an array's parts
 pub IsElementsOf-some : (form : Form) (t : Tree) (it : ElementIter) (p : ArrayParts) → it.entries.words.now ≡ p.words.now

@@ -1,9 +1,10 @@
 -- Entries are taken apart and put together at their first one.
+use Rattle.std.specs.Option.{option_and_then}
 use Rattle.std.proofs.Common.{◌≡◌, ℕ, ◌+◌, ◌*◌, ◌^◌, ◌<◌, ◌≤◌, List, [], length, refl, sym, ap, ◌∙◌, arith, Option, Some, None, Bool, true, false, if◌then◌else◌, ◌↔◌, inl, inr}
 use Rattle.std.proofs.lemmas.List.{length-append}
 use Rattle.jsonb_doc.specs.Number.{Number}
 use Rattle.jsonb_doc.specs.Tree.{Tree, null, boolean, number, text, extension, array, object, Trees, no_trees, tree, Pairs, no_pairs, pair, count, keys}
-use Rattle.jsonb_doc.specs.Payload.{NumberReader, Form, any, canonical, number_reader, if_written, number_payload, number_of, number_or_unsupported}
+use Rattle.jsonb_doc.specs.Payload.{NumberReader, Form, any, canonical, number_reader, number_payload, number_of, number_or_unsupported}
 use Rattle.std.specs.Str.{bytes_eq}
 use Rattle.jsonb_doc.proofs.WordLemmas.{bytes_eq-true, bytes_eq-same}
 use Rattle.jsonb_doc.specs.Format.{BeginWith, HasFirstEntry, IsContainer, AreMembers, array_header, object_header, scalar_header, IsDocument, IsContent, AreEntries, AreValues}
@@ -158,6 +159,10 @@ has_content_lenient kind bytes h =
     (h.0, content_map number_of number_or_unsupported number_lenient h.0 kind bytes h.1)
 
 -- ---- forms
+
+-- the number, where the payload is the one that is written for it
+abbrev if_written : List ℕ → Option Number → Option Number
+if_written payload found = option_and_then (λ n. if bytes_eq payload (number_payload n) then Some n else None) found
 
 if_written-some : (payload : List ℕ) (found : Option Number) (n : Number) → if_written payload found ≡ Some n → (found ≡ Some n) × (payload ≡ number_payload n)
 if_written-some payload None n e = absurd (cc)

@@ -6,7 +6,7 @@ use Rattle.std.specs.Bool.{Decides}
 use Rattle.jsonb_doc.specs.Tree.{Tree, object, Pairs, no_pairs, pair, keys, value_under, field_of}
 use Rattle.jsonb_doc.specs.Payload.{NumberReader, Form, any, number_reader}
 use Rattle.jsonb_doc.specs.Format.{Decodes, header, entry_word, BeginWith, AreValues, IsContent, key_words, key_bytes}
-use Rattle.jsonb_doc.specs.Lengths.{StandBefore}
+use Rattle.jsonb_doc.specs.Private.Lengths.{StandBefore}
 use Rattle.jsonb_doc.specs.Private.Lengths.{HoldKeys, IsNoneOf, FoundKey}
 use Rattle.jsonb_doc.specs.Answer.{SameOption}
 use Rattle.jsonb_doc.specs.Spots.{Locates, spot_content}
@@ -18,8 +18,7 @@ use Rattle.jsonb_doc.proofs.KeysRead.{begin_key}
 use Rattle.jsonb_doc.proofs.ScalarLemmas.{some_injective}
 use Rattle.jsonb_doc.proofs.Containers.{length-key_words, HoldsPairs-keys}
 use Rattle.jsonb_doc.proofs.LengthsLemmas.{StandBefore-joined, HoldKeys-before}
-use Rattle.jsonb_doc.specs.Private.Containers.{Holds}
-use Rattle.jsonb_doc.specs.Readable.{IsCut}
+use Rattle.jsonb_doc.specs.Private.Containers.{Holds, IsCut}
 use Rattle.jsonb_doc.specs.declared.container.ObjectParts.{ObjectParts}
 use Rattle.jsonb_doc.specs.declared.container.Container.TheVariants.{Object}
 use Rattle.jsonb_doc.proofs.SpotsLemmas.{Locates-part, some_field, object_held, object_joined}

@@ -4,7 +4,8 @@ use Rattle.std.specs.Prelude.{◌==◌, not, MatchOption, unwrap_or}
 use Rattle.std.proofs.lemmas.Bool.Decides.{nat_tests}
 use denote.Enum.Declared.{tag_of}
 use denote.Enum.Bare.{tag_one}
-use Rattle.jsonb_doc.specs.Kinds.{kind_number, header_number}
+use Rattle.jsonb_doc.specs.Kinds.{kind_number}
+use Rattle.jsonb_doc.specs.Private.Headers.{header_number}
 use Rattle.jsonb_doc.specs.declared.layout.EntryKind.{EntryKind}
 use Rattle.jsonb_doc.specs.declared.layout.EntryKind.TheVariants.{Null, Unknown}
 use Rattle.jsonb_doc.specs.declared.layout.HeaderKind.{HeaderKind}

@@ -1,22 +1,33 @@
 -- The iterator over pairs and its first item.
-use Rattle.std.proofs.Common.{◌≡◌, ◌≢◌, ℕ, ◌<◌, List, [], ◌∷◌, ◌++◌, length, Some, ap, ◌∙◌, arith, refl}
+use Rattle.std.proofs.Common.{◌≡◌, ◌≢◌, ℕ, ◌<◌, List, [], ◌∷◌, ◌++◌, length, Option, Some, ap, ◌∙◌, arith, refl}
 use Rattle.std.specs.Prelude.{IsUtf8}
-use Rattle.jsonb_doc.specs.Tree.{Tree, object, Pairs, no_pairs, pair, keys}
+use Rattle.jsonb_doc.specs.Tree.{Tree, object, Pairs, no_pairs, pair, keys, values, pairs_in}
 use Rattle.jsonb_doc.specs.Payload.{NumberReader, Form, number_reader}
 use Rattle.jsonb_doc.specs.Format.{Decodes, AreValues, AreKeys, key_words, key_bytes, BeginWith, HasFirstEntry, IsContent}
-use Rattle.jsonb_doc.specs.ObjectPairs.{HasPairsLeft, IsPairsOf}
-use Rattle.jsonb_doc.specs.ObjectKeys.{HasKeysLeft, HasAllValues, IsKeysOf, IsValuesOf}
+use Rattle.jsonb_doc.specs.ObjectPairs.{HasPairsLeft}
+use Rattle.jsonb_doc.specs.ObjectKeys.{HasKeysLeft, HasAllValues}
+use Rattle.jsonb_doc.specs.Elements.{HasElementsLeft}
+use Rattle.jsonb_doc.specs.Answer.{SameOption}
 use Rattle.jsonb_doc.specs.declared.key_iter.KeyIter.{KeyIter}
 use Rattle.jsonb_doc.specs.declared.value_iter.ValueIter.{ValueIter}
 use Rattle.jsonb_doc.specs.declared.pair_iter.PairIter.{PairIter}
-use Rattle.jsonb_doc.specs.Lengths.{StandBefore}
-use Rattle.jsonb_doc.specs.Readable.{IsCut}
-use Rattle.jsonb_doc.specs.Private.Containers.{Holds, HasPairParts}
+use Rattle.jsonb_doc.specs.Private.Lengths.{StandBefore}
+use Rattle.jsonb_doc.specs.Private.Containers.{IsCut, Holds, HasPairParts}
 use Rattle.jsonb_doc.specs.declared.container.ObjectParts.{ObjectParts}
 use Rattle.jsonb_doc.specs.declared.container.Container.TheVariants.{Object}
 use Rattle.jsonb_doc.proofs.KeysRead.{begin_key}
 use Rattle.jsonb_doc.proofs.LengthsLemmas.{HoldKeys-before}
 use Rattle.jsonb_doc.proofs.Containers.{entries_of, HoldsPairs-keys, Decodes-object, Holds-pairs}
+
+-- the iterators of a tree's pairs, of its keys and of its values
+abbrev pub IsPairsOf : Form → Tree → Option PairIter → Type 0
+IsPairsOf form t found = SameOption (HasPairsLeft form) found (pairs_in t)
+
+abbrev pub IsKeysOf : Tree → Option KeyIter → Type 0
+IsKeysOf t found = SameOption (λ it ps. HasKeysLeft it (keys ps)) found (pairs_in t)
+
+abbrev pub IsValuesOf : Form → Tree → Option ValueIter → Type 0
+IsValuesOf form t found = SameOption (λ it ps. HasElementsLeft form it.elements (values ps)) found (pairs_in t)
 
 -- these bytes are what follows the keys of an object
 abbrev pub SkipsKeys : ObjectParts → List ℕ → Type 0
@@ -112,7 +123,7 @@ only_object form bytes p cut t h other =
 pub IsCut-values : (bytes : List ℕ) (it : ValueIter) (p : ObjectParts) → it.elements.entries.words.now ≡ p.value_words.now
     → (front : List ℕ) × (p.contents.now ≡ front ++ it.elements.entries.contents.now) → IsCut bytes (Object p) → HasAllValues bytes it
 IsCut-values bytes it p words end cut =
-    (cut.0, p.key_words.now, end.0, rw (words, ← end.1) cut.1, cut.2, rw words cut.3)
+    (p.key_words.now, end.0, (cut.0, rw (words, ← end.1) cut.1, cut.2, rw words cut.3))
 
 -- the first of the keys, as the bytes hold it
 pub record FirstKey (it : KeyIter) (ks : List (List ℕ)) : Type 0 where

@@ -1,18 +1,21 @@
 -- Items that are read of any bytes.
-use Rattle.std.proofs.Common.{ℕ, List, ◌++◌, arith, Result, Ok, Err}
+use Rattle.std.proofs.Common.{ℕ, List, [], ◌++◌, length, arith, Result, Ok, Err, inl, inr, refl, sym, subst}
 use Rattle.std.specs.Prelude.{MatchResult, IfOk}
-use Rattle.std.proofs.lemmas.List.{length-append}
+use Rattle.std.proofs.lemmas.List.{length-append, append-nil}
 use Rattle.jsonb_doc.specs.Payload.{any, number_reader}
-use Rattle.jsonb_doc.specs.Format.{HeadedBy, HasItsWords}
+use Rattle.jsonb_doc.specs.Format.{HeadedBy, HasItsWords, entry_word}
 use Rattle.jsonb_doc.specs.Item.{IsItemOf, IsRootOf}
 use Rattle.jsonb_doc.specs.Tree.{Tree}
 use Rattle.jsonb_doc.specs.Format.{IsContent, Decodes}
-use Rattle.jsonb_doc.specs.Readable.{IsCut}
-use Rattle.jsonb_doc.specs.Kinds.{kind_number, header_number}
+use Rattle.jsonb_doc.specs.Readable.{HasReadableRoot}
+use Rattle.jsonb_doc.specs.Private.Containers.{IsCut}
+use Rattle.jsonb_doc.specs.Kinds.{kind_number}
+use Rattle.jsonb_doc.specs.Private.Headers.{header_number}
 use Rattle.jsonb_doc.specs.declared.layout.HeaderKind.{HeaderKind}
 use Rattle.jsonb_doc.specs.declared.layout.HeaderKind.TheVariants as header
 use Rattle.jsonb_doc.specs.declared.container.ArrayParts.{ArrayParts}
 use Rattle.jsonb_doc.specs.declared.container.ObjectParts.{ObjectParts}
+use Rattle.jsonb_doc.specs.declared.container.Container.{Container}
 use Rattle.jsonb_doc.specs.declared.container.Container.TheVariants.{Scalar, Array as ArrayOf, Object as ObjectOf}
 use Rattle.jsonb_doc.specs.declared.entry_iter.StoredEntry.{StoredEntry}
 use Rattle.jsonb_doc.specs.declared.error.Error.{Error}
@@ -50,3 +53,29 @@ module _ (bytes : List ℕ) where
   object_root p (n, h, len, value_len) =
       let words = p.key_words.now ++ p.value_words.now in
       (n, words ++ p.contents.now, h, omega (arith, len, value_len, length-append words p.contents.now, length-append p.key_words.now p.value_words.now))
+
+  -- a root that is cut into its parts can be read
+  pub readable_root : (root : Container) → IsCut bytes root → HasReadableRoot bytes
+  readable_root (ArrayOf p) cut = inl (array_root p cut)
+  readable_root (ObjectOf p) cut = inr (inl (object_root p cut))
+  readable_root (Scalar e) (rest, headed, lone) =
+      let word = entry_word (kind_number e.kind) (length e.content.now) in
+      inr (inr (record {
+        words = word;
+        contents = e.content.now;
+        headed = subst (HeadedBy bytes 1 0) lone.start.joined headed;
+        parts = record {
+          kind = kind_number e.kind;
+          content = e.content.now;
+          other_words = [];
+          other_contents = [];
+          begin = record {
+            known = lone.start.known;
+            fits = lone.start.fits;
+            words_joined = sym (append-nil word);
+            contents_joined = sym (append-nil e.content.now);
+          };
+          part = lone.scalar;
+          others = (refl, refl);
+        };
+      }))

@@ -8,8 +8,8 @@ use Rattle.jsonb_doc.specs.Tree.{Tree, null, boolean, number, text, extension, a
 use Rattle.jsonb_doc.specs.Payload.{NumberReader, Form, any, number_reader, number_of}
 use Rattle.jsonb_doc.specs.Format.{Decodes, header, entry_word, BeginWith, IsContent, IsDocument, AreEntries, key_bytes}
 use Rattle.jsonb_doc.specs.Answer.{SameOption}
-use Rattle.jsonb_doc.specs.Lengths.{StandBefore}
-use Rattle.jsonb_doc.specs.Readable.{StartWith, IsCut}
+use Rattle.jsonb_doc.specs.Private.Lengths.{StandBefore}
+use Rattle.jsonb_doc.specs.Private.Containers.{StartWith, IsCut, Holds}
 use Rattle.jsonb_doc.specs.Spots.{Locates, HasSpotsLeft, TakesSpot, PassesSpot, spot_content}
 use Rattle.jsonb_doc.specs.Kinds.{kind_number}
 use Rattle.jsonb_doc.specs.declared.spot.Spot.{Spot}
@@ -20,7 +20,6 @@ use Rattle.jsonb_doc.proofs.Entries.{BeginWith-long, BeginWith-room, BeginWith-u
 use Rattle.jsonb_doc.proofs.LengthsLemmas.{StandBefore-joined}
 use Rattle.jsonb_doc.proofs.Containers.{IsCut-same, IsCut-scalar, entries_of}
 use Rattle.jsonb_doc.proofs.PairsLemmas.{SkipsKeys, HoldsPairs-values, Holds-skipped}
-use Rattle.jsonb_doc.specs.Private.Containers.{Holds}
 use Rattle.jsonb_doc.specs.declared.entry_iter.StoredEntry.{StoredEntry}
 use Rattle.jsonb_doc.specs.declared.container.ArrayParts.{ArrayParts}
 use Rattle.jsonb_doc.specs.declared.container.ObjectParts.{ObjectParts}

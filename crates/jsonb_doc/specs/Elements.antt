@@ -1,8 +1,8 @@
 -- The iterator over the elements of an array.
-use Rattle.std.specs.Prelude.{◌≡◌, ◌⊎◌, ℕ, ◌+◌, ◌*◌, ◌/◌, ◌≤◌, List, [], ◌++◌, length, Option, Some, None, Result, Ok, Err, IsSomeAnd, IfSome, IfNone, IfOk, IfErr}
-use Rattle.jsonb_doc.specs.Tree.{Tree, array, Trees, no_trees, tree}
+use Rattle.std.specs.Prelude.{◌≡◌, ◌⊎◌, ℕ, ◌≤◌, List, [], length, Option, Some, None, Result, Ok, Err, IfSome, IfNone, IfOk, IfErr}
+use Rattle.jsonb_doc.specs.Tree.{Trees, no_trees, tree}
 use Rattle.jsonb_doc.specs.Payload.{Form, number_reader}
-use Rattle.jsonb_doc.specs.Format.{HeadedBy, array_header, BeginWith, BeginWithNone, AreEntries}
+use Rattle.jsonb_doc.specs.Format.{AreArrayParts, BeginWith, BeginWithNone, words_left, AreEntries}
 use Rattle.jsonb_doc.specs.Item.{StandsFor, IsNormal, IsItemOf, HasItem, item_size}
 use Rattle.jsonb_doc.specs.Answer.{IsDecodingError}
 use Rattle.jsonb_doc.specs.declared.item.Item.{Item}
@@ -15,17 +15,7 @@ pub record HasElementsLeft (form : Form) (it : ElementIter) (ts : Trees) : Type 
 
 -- the bytes are the header of an array, and all that is left in the iterator
 abbrev pub HasWholeArray : List ℕ → ElementIter → Type 0
-HasWholeArray bytes it =
-    (n : ℕ) × HeadedBy bytes array_header n (it.entries.words.now ++ it.entries.contents.now)
-    × (length it.entries.words.now ≡ 4 * n)
-
--- at most how many items the iterator gives, on any bytes
-abbrev pub elements_bound : ElementIter → ℕ
-elements_bound it = (length it.entries.words.now + 3) / 4
-
--- at most how many bytes an item of the iterator has, on any bytes
-abbrev pub elements_room : ElementIter → ℕ
-elements_room it = length it.entries.contents.now
+HasWholeArray bytes it = AreArrayParts bytes it.entries.words.now it.entries.contents.now
 
 -- the answer is the first of the trees, and the others are left
 abbrev pub TakesElement : Form → Trees → Option (Result Item Error) → ElementIter → Type 0
@@ -55,11 +45,6 @@ pub record GivesElement (before : ElementIter) (r : Option (Result Item Error)) 
   pub takes : (form : Form) (ts : Trees) → HasElementsLeft form before ts → TakesElement form ts r after
   pub normal : IfSome r (λ x. IfOk x IsNormal)
   pub errors : IfSome r (λ x. IfErr x IsDecodingError)
-  pub ended : IfNone r (elements_bound after ≡ 0)
-  pub size : IfSome r (λ x. IfOk x (λ item. item_size item ≤ elements_room before))
-  pub room : elements_room after ≤ elements_room before
-
--- the iterator of a tree's elements
-abbrev pub IsElementsOf : Form → Tree → Option ElementIter → Type 0
-IsElementsOf form (array ts) found = IsSomeAnd found (λ it. HasElementsLeft form it ts)
-IsElementsOf form _ found = IfSome found (λ it. ⊥)
+  pub ended : IfNone r (words_left after.entries.words.now ≡ 0)
+  pub size : IfSome r (λ x. IfOk x (λ item. item_size item ≤ length before.entries.contents.now))
+  pub room : length after.entries.contents.now ≤ length before.entries.contents.now

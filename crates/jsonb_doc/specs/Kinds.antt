@@ -1,16 +1,8 @@
--- The kinds of headers and of entries, and their numbers in words.
+-- The kinds of entries, and their numbers in words.
 use Rattle.std.specs.Prelude.{ℕ}
-use Rattle.jsonb_doc.specs.Format.{scalar_header, object_header, array_header, null_entry, text_entry, number_entry, false_entry, true_entry, container_entry, extension_entry}
-use Rattle.jsonb_doc.specs.declared.layout.HeaderKind.{HeaderKind}
-use Rattle.jsonb_doc.specs.declared.layout.HeaderKind.TheVariants.{Scalar, Object, Array}
+use Rattle.jsonb_doc.specs.Format.{null_entry, text_entry, number_entry, false_entry, true_entry, container_entry, extension_entry}
 use Rattle.jsonb_doc.specs.declared.layout.EntryKind.{EntryKind}
 use Rattle.jsonb_doc.specs.declared.layout.EntryKind.TheVariants.{Null, Text, Number, False, True, Container, Extension, Unknown}
-
--- the number of a header's kind
-abbrev pub header_number : HeaderKind → ℕ
-header_number Scalar = scalar_header
-header_number Object = object_header
-header_number Array = array_header
 
 -- The number of an entry's kind. No document has an entry of the last.
 abbrev pub kind_number : EntryKind → ℕ

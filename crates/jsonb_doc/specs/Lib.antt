@@ -9,7 +9,6 @@ pub mod Depth
 pub mod Payload
 pub mod Format
 pub mod Kinds
-pub mod Lengths
 pub mod View
 pub mod Item
 pub mod Encoding

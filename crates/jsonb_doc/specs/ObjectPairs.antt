@@ -1,9 +1,9 @@
 -- The iterator over the pairs of an object.
-use Rattle.std.specs.Prelude.{◌≡◌, ◌⊎◌, ℕ, ◌+◌, ◌*◌, ◌/◌, ◌≤◌, List, [], ◌++◌, length, IsUtf8, Option, Some, None, Result, Ok, Err, IsSomeAnd, IfSome, IfNone, IfOk, IfErr}
+use Rattle.std.specs.Prelude.{◌≡◌, ◌⊎◌, ℕ, ◌≤◌, List, [], ◌++◌, length, IsUtf8, Option, Some, None, Result, Ok, Err, IfSome, IfNone, IfOk, IfErr}
 use Rattle.std.specs.Borrow.{Bor}
-use Rattle.jsonb_doc.specs.Tree.{Tree, object, Pairs, no_pairs, pair, keys}
+use Rattle.jsonb_doc.specs.Tree.{Pairs, no_pairs, pair, keys}
 use Rattle.jsonb_doc.specs.Payload.{Form, number_reader}
-use Rattle.jsonb_doc.specs.Format.{HeadedBy, object_header, BeginWith, BeginWithNone, AreKeys, AreValues, key_words, key_bytes}
+use Rattle.jsonb_doc.specs.Format.{AreObjectParts, BeginWith, BeginWithNone, words_left, AreKeys, AreValues, key_words, key_bytes}
 use Rattle.jsonb_doc.specs.Item.{StandsFor, IsNormal, IsItemOf, HasItem, item_size}
 use Rattle.jsonb_doc.specs.Answer.{IsDecodingError}
 use Rattle.jsonb_doc.specs.declared.item.Item.{Item}
@@ -22,17 +22,8 @@ pub record HasPairsLeft (form : Form) (it : PairIter) (ps : Pairs) : Type 0 wher
 -- contents of values end where the bytes do.
 abbrev pub HasWholeObject : List ℕ → PairIter → Type 0
 HasWholeObject bytes it =
-    (n : ℕ) × HeadedBy bytes object_header n ((it.key_words.now ++ it.value_words.now) ++ it.key_bytes.now)
-    × (length it.key_words.now ≡ 4 * n) × (length it.value_words.now ≡ 4 * n)
-    × (keys : List ℕ) × (it.key_bytes.now ≡ keys ++ it.value_contents.now)
-
--- at most how many pairs the iterator gives, on any bytes
-abbrev pub pairs_bound : PairIter → ℕ
-pairs_bound it = (length it.key_words.now + 3) / 4
-
--- at most how many bytes an item of the iterator has, on any bytes
-abbrev pub pairs_room : PairIter → ℕ
-pairs_room it = length it.value_contents.now
+    AreObjectParts bytes it.key_words.now it.value_words.now it.key_bytes.now
+    × ((keys : List ℕ) × (it.key_bytes.now ≡ keys ++ it.value_contents.now))
 
 -- the answer is the first of the pairs, and the others are left
 abbrev pub TakesPair : Form → Pairs → Option (Result (Bor (List ℕ) × Item) Error) → PairIter → Type 0
@@ -69,11 +60,6 @@ pub record GivesPair (before : PairIter) (r : Option (Result (Bor (List ℕ) × 
   pub takes : (form : Form) (ps : Pairs) → HasPairsLeft form before ps → TakesPair form ps r after
   pub normal : IfSome r (λ x. IfOk x (λ given. IsNormal given.1))
   pub errors : IfSome r (λ x. IfErr x IsDecodingError)
-  pub ended : IfNone r (pairs_bound after ≡ 0)
-  pub size : IfSome r (λ x. IfOk x (λ given. item_size given.1 ≤ pairs_room before))
-  pub room : pairs_room after ≤ pairs_room before
-
--- the iterator of a tree's pairs
-abbrev pub IsPairsOf : Form → Tree → Option PairIter → Type 0
-IsPairsOf form (object ps) found = IsSomeAnd found (λ it. HasPairsLeft form it ps)
-IsPairsOf form _ found = IfSome found (λ it. ⊥)
+  pub ended : IfNone r (words_left after.key_words.now ≡ 0)
+  pub size : IfSome r (λ x. IfOk x (λ given. item_size given.1 ≤ length before.value_contents.now))
+  pub room : length after.value_contents.now ≤ length before.value_contents.now

@@ -1,6 +1,7 @@
 -- What contracts say of private functions, and of calls that serve the crates above. `jsonb` hands on no call whose
 -- clause cites these.
 pub mod Builders
+pub mod Headers
 pub mod Lengths
 pub mod Stored
 pub mod Checking

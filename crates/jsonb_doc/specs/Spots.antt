@@ -1,8 +1,8 @@
 -- Places of trees within the bytes of a document.
-use Rattle.std.specs.Prelude.{◌≡◌, ℕ, ◌+◌, ◌-◌, ◌/◌, ◌^◌, ◌<◌, ◌≤◌, List, [], ◌∷◌, ◌++◌, length, slice_range, Option, Some, None, Result, Ok, Err, IfSome, IfNone, IfOk, IfErr}
+use Rattle.std.specs.Prelude.{◌≡◌, ℕ, ◌-◌, ◌^◌, ◌<◌, ◌≤◌, List, [], ◌∷◌, ◌++◌, length, slice_range, Option, Some, None, Result, Ok, Err, IfSome, IfNone, IfOk, IfErr}
 use Rattle.jsonb_doc.specs.Tree.{Tree, trees_of}
 use Rattle.jsonb_doc.specs.Payload.{Form, any, number_reader}
-use Rattle.jsonb_doc.specs.Format.{Decodes, IsContent, AreEntries, entry_word}
+use Rattle.jsonb_doc.specs.Format.{Decodes, IsContent, AreEntries, entry_word, words_left}
 use Rattle.jsonb_doc.specs.Kinds.{kind_number}
 use Rattle.jsonb_doc.specs.Answer.{IsDecodingError}
 use Rattle.jsonb_doc.specs.declared.error.Error.{Error}
@@ -38,7 +38,7 @@ pub record HasSpotsLeft (bytes : List ℕ) (it : SpotIter) (ts : List Tree) : Ty
 
 -- at most how many spots the iterator gives, on any bytes
 abbrev pub spots_bound : SpotIter → ℕ
-spots_bound it = (length it.words.now + 3) / 4
+spots_bound it = words_left it.words.now
 
 -- at most how many bytes a child has, on any bytes
 abbrev pub spots_room : SpotIter → ℕ

@@ -56,6 +56,16 @@ pairs_of (p ∷ ps) = pair p.0 p.1 (pairs_of ps)
 
 -- ---- the parts of a container
 
+-- the elements of an array
+abbrev pub trees_in : Tree → Option Trees
+trees_in (array ts) = Some ts
+trees_in _ = None
+
+-- the pairs of an object
+abbrev pub pairs_in : Tree → Option Pairs
+pairs_in (object ps) = Some ps
+pairs_in _ = None
+
 -- an array's elements, or an object's values, in stored order
 abbrev pub children_of : Tree → Option (List Tree)
 children_of (array ts) = Some (elements ts)

@@ -1,7 +1,6 @@
 -- Which tree a value is.
-use Rattle.std.specs.Prelude.{ℕ, List, map, String, string_bytes}
+use Rattle.std.specs.Prelude.{map, string_bytes}
 use Rattle.std.specs.Cow.{cow_str_bytes}
-use Rattle.std.specs.declared.alloc.Global.{Global}
 use Rattle.jsonb_doc.specs.Number as spec
 use Rattle.jsonb_doc.specs.Extension.{binary, date, timestamp, timestamp_tz, interval}
 use Rattle.jsonb_doc.specs.Tree.{Tree, null, boolean, number, text, extension, array, object, trees_of, pairs_of}
@@ -9,10 +8,6 @@ use Rattle.jsonb_doc.specs.View.{number_parts, number_view}
 use Rattle.jsonb_doc.specs.declared.number.Number.{Number}
 use Rattle.jsonb_doc.specs.declared.value.Value.{Value, fold-Value}
 use Rattle.jsonb_doc.specs.declared.value.Value.TheOpen.{Value-F}
-
--- the keys as their bytes
-abbrev pub keyed : List (String Global × Tree) → List (List ℕ × Tree)
-keyed es = map (λ e. (string_bytes e.0, e.1)) es
 
 -- one level, with each value inside already as its tree
 abbrev pub value_layer : (Number → spec.Number) → Value-F Tree → Tree
@@ -26,7 +21,7 @@ value_layer seen (Value-F.Timestamp t) = extension (timestamp t.value)
 value_layer seen (Value-F.TimestampTz t) = extension (timestamp_tz t.offset t.value)
 value_layer seen (Value-F.Interval i) = extension (interval i.months i.days i.micros)
 value_layer seen (Value-F.Array v) = array (trees_of v.items)
-value_layer seen (Value-F.Object m) = object (pairs_of (keyed m.entries))
+value_layer seen (Value-F.Object m) = object (pairs_of (map (λ e. (string_bytes e.0, e.1)) m.entries))
 
 -- the tree of a value, where each number is seen so
 abbrev pub tree_seen : (Number → spec.Number) → Value → Tree

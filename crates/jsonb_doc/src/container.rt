@@ -5,8 +5,7 @@ ghost use Rattle.jsonb_doc.specs.Tree.{Tree};
 ghost use Rattle.jsonb_doc.specs.Payload.{NumberReader};
 ghost use Rattle.jsonb_doc.specs.Format.{HeadedBy, IsDocument};
 ghost use Rattle.jsonb_doc.specs.Kinds.{kind_number};
-ghost use Rattle.jsonb_doc.specs.Private.Containers.{container_words, container_room};
-ghost use Rattle.jsonb_doc.specs.Readable.{IsLoneEntry, IsCut};
+ghost use Rattle.jsonb_doc.specs.Private.Containers.{container_words, container_room, IsLoneEntry, IsCut};
 
 use crate::entry_iter::StoredEntry;
 use crate::error::Error;
@@ -35,7 +34,7 @@ pub struct ObjectParts<'a> {
 
 impl<'a> ObjectParts<'a> {
     ghost use Rattle.std.specs.Prelude.{◌≡◌, ◌^◌, ◌<◌, ◌≤◌, List, ◌++◌, ℕ, length, IfErr, IfOk, IsOkAnd};
-    ghost use Rattle.jsonb_doc.specs.Lengths.{StandBefore};
+    ghost use Rattle.jsonb_doc.specs.Private.Lengths.{StandBefore};
     ghost use Rattle.jsonb_doc.specs.Answer.{IsDecodingError};
 
     /// The contents of the values, which are behind those of the keys.

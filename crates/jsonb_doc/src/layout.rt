@@ -7,9 +7,10 @@ ghost use Rattle.std.specs.Prelude.{◌≡◌, ◌≢◌, ℕ, ◌+◌, ◌%◌,
 ghost use Rattle.std.specs.Int.{w32, from_be_bytes};
 ghost use Rattle.byteorder.specs.Endian.{big_number};
 ghost use Rattle.jsonb_doc.specs.Format.{BeginWith, HeadedBy, header, entry_word};
-ghost use Rattle.jsonb_doc.specs.Kinds.{header_number, kind_number};
-ghost use Rattle.jsonb_doc.specs.Lengths.{Tells};
-ghost use Rattle.jsonb_doc.specs.Readable.{StartWith};
+ghost use Rattle.jsonb_doc.specs.Kinds.{kind_number};
+ghost use Rattle.jsonb_doc.specs.Private.Headers.{header_number};
+ghost use Rattle.jsonb_doc.specs.Private.Lengths.{Tells};
+ghost use Rattle.jsonb_doc.specs.Private.Containers.{StartWith};
 
 use byteorder::{BigEndian, ByteOrder};
 

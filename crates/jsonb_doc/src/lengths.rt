@@ -3,7 +3,7 @@
 ghost use Rattle.std.specs.Prelude.{◌≡◌, ℕ, ◌+◌, ◌*◌, ◌^◌, ◌<◌, ◌≤◌, List, ◌++◌, MatchOption, IsSomeAnd, IfSome, length, take, drop};
 ghost use Rattle.jsonb_doc.specs.Format.{BeginWith};
 ghost use Rattle.jsonb_doc.specs.Kinds.{kind_number};
-ghost use Rattle.jsonb_doc.specs.Lengths.{StandBefore};
+ghost use Rattle.jsonb_doc.specs.Private.Lengths.{StandBefore};
 
 use crate::layout::{Entry, WORD, entry_len, split_entry};
 

@@ -3,11 +3,12 @@ use Rattle.std.proofs.Common.{◌≡◌, ℕ, ◌<◌, List, [], ◌∷◌, ◌+
 use Rattle.std.specs.Prelude.{nat_eq, ◌==◌, ◌+◌, ◌*◌, not, Option, encode_utf8}
 use Rattle.std.specs.List.{concat, starts_with}
 use Rattle.std.specs.Str.{is_utf8}
+use Rattle.std.specs.Char.Utf16.{is_high_surrogate, is_low_surrogate, surrogate_pair_char}
 use Rattle.std.proofs.lemmas.List.{length-drop}
 use Rattle.std.proofs.lemmas.Bool.Decides.{nat_tests}
 use Rattle.jsonb_keypath.specs.Rules.{Parsed, Rule, give, ◌>>◌, only_if, literal, bytes, repeat}
-use Rattle.jsonb_keypath.specs.Tokens.{unit, units, text, name, quoted, escape, escaped, unicode_escape, code_unit, four_hex_digits, hex_digit, byte_as, unescaped, is_stop, is_quote, is_high_surrogate, is_low_surrogate, surrogate_pair, ahead}
-use Rattle.jsonb_keypath.specs.TokenLaws.{ReadsSome, IsRepeated, IsRun, IsText, is_at, IsName, IsQuoted}
+use Rattle.jsonb_keypath.specs.Tokens.{unit, units, text, name, quoted, escape, escaped, unicode_escape, code_unit, four_hex_digits, hex_digit, byte_as, is_unescaped, is_stop, is_quote, ahead}
+use Rattle.jsonb_keypath.specs.TokenLaws.{ReadsSome, IsRun, IsText}
 use Rattle.jsonb_keypath.proofs.TextLemmas.{unit-byte, unit-end}
 use Rattle.jsonb_keypath.proofs.ReadsLemmas.{NeverGrows, parts, given, passed, some-no_more, grows-give, grows-then, some-then, some-choice, grows-choice, grows-only_if, repeat-repeated, repeated-repeat}
 
@@ -59,7 +60,7 @@ unfolding unicode_escape
 some-unicode_escape =
     some-then code_unit _ some-code_unit (λ n. grows-if (is_high_surrogate n) _ _
     (grows-then code_unit _ (some-no_more code_unit some-code_unit)
-    (λ low. grows-then (only_if (is_low_surrogate low)) _ (grows-only_if (is_low_surrogate low)) (λ _. grows-give (surrogate_pair n low))))
+    (λ low. grows-then (only_if (is_low_surrogate low)) _ (grows-only_if (is_low_surrogate low)) (λ _. grows-give (surrogate_pair_char n low))))
     (grows-then (only_if (not (is_low_surrogate n))) _ (grows-only_if (not (is_low_surrogate n))) (λ _. grows-give n)))
 
 some-escape : ReadsSome escape
@@ -70,18 +71,10 @@ some-escape =
 
 pub some-unit : (e : ℕ → Bool) → ReadsSome (unit e)
 unfolding unit
-some-unit e = some-choice _ (byte_as (unescaped e)) (some-then escape _ some-escape (λ c. grows-give (encode_utf8 c))) (some-byte_as (unescaped e))
+some-unit e = some-choice _ _ (some-then escape _ some-escape (λ c. grows-give (encode_utf8 c)))
+    (some-byte_as (λ b. cond (is_unescaped e b) (Some (b ∷ [])) None))
 
 -- ---- runs of units
-
-run : (e : ℕ → Bool) (input : List ℕ) (texts : List (List ℕ)) (rest : List ℕ) → IsRepeated (unit e) input texts rest → IsRun e input texts rest
-run e input [] rest h = h.0
-run e input (t ∷ texts) rest h = (h.0, h.1, run e h.0 texts rest h.2)
-
-repeated : (e : ℕ → Bool) (input : List ℕ) (texts : List (List ℕ)) (rest : List ℕ) → IsRun e input texts rest → unit e rest ≡ None
-    → IsRepeated (unit e) input texts rest
-repeated e input [] rest h ends = (h, ends)
-repeated e input (t ∷ texts) rest h ends = (h.0, h.1, repeated e h.0 texts rest h.2 ends)
 
 -- the longest run is a cut
 text-cut : (e : ℕ → Bool) (input found rest : List ℕ) → text e input ≡ Some (found, rest) → IsText e input found rest
@@ -93,11 +86,10 @@ text-cut e input found rest h =
     let first = parts (unit e) _ input whole.0 whole.1 whole.2 in
     let others = parts (repeat (unit e)) _ first.1 whole.0 whole.1 first.3 in
     let joined_up = given (first.0 ++ concat others.0) whole.0 others.1 whole.1 others.3 in
-    let ran : IsRun e first.1 others.0 others.1 = run e first.1 others.0 others.1
-    (repeated-repeat (unit e) (some-unit e) first.1 others.0 others.1 others.2) in (
+    let ran : IsRun (unit e) first.1 others.0 others.1 = (repeated-repeat (unit e) (some-unit e) first.1 others.0 others.1 others.2).0 in (
       first.0 ∷ others.0,
       omega arith,
-      (first.1, first.2, subst (IsRun e first.1 others.0) (joined_up.1 ∙ same.1) ran),
+      (first.1, first.2, subst (IsRun (unit e) first.1 others.0) (joined_up.1 ∙ same.1) ran),
       joined_up.0 ∙ same.0,
       rw same.0 at valid.0,
     )
@@ -106,15 +98,24 @@ text-cut e input found rest h =
 cut-text : (e : ℕ → Bool) (input found rest : List ℕ) → IsText e input found rest → unit e rest ≡ None → text e input ≡ Some (found, rest)
 unfolding text units
 cut-text e input found rest cut ends = go cut.0 cut.1 cut.2 cut.3 where
-  go : (texts : List (List ℕ)) → 0 < length texts → IsRun e input texts rest → concat texts ≡ found → text e input ≡ Some (found, rest)
+  go : (texts : List (List ℕ)) → 0 < length texts → IsRun (unit e) input texts rest → concat texts ≡ found → text e input ≡ Some (found, rest)
   go [] some ran same = absurd (omega arith)
   go (t ∷ texts) some ran same =
       let others : repeat (unit e) ran.0
-      ≡ Some (texts, rest) = repeat-repeated (unit e) (some-unit e) ran.0 texts rest (repeated e ran.0 texts rest ran.2 ends) in
+      ≡ Some (texts, rest) = repeat-repeated (unit e) (some-unit e) ran.0 texts rest (ran.2, ends) in
       let valid : is_utf8 (t ++ concat texts) ≡ true = rw same cut.4 in
       rw (ran.1, others, valid) (ap (λ (found : List ℕ). Some (found, rest)) same)
 
 -- ---- names
+
+-- empty, or beginning with a byte that passes the test
+abbrev is_at : (ℕ → Bool) → List ℕ → Bool
+is_at test [] = true
+is_at test (b ∷ rest) = test b
+
+-- a name: units, and then the end or a stop byte
+abbrev pub IsNameCut : List ℕ → List ℕ → List ℕ → Type 0
+IsNameCut input text rest = IsText is_stop input text rest × (ahead is_stop rest ≡ Some (tt, rest))
 
 stop_is_no_backslash : (b : ℕ) → is_stop b ≡ true → (b == 92) ≡ false
 stop_is_no_backslash b h = grind (arith, nat_tests)
@@ -135,7 +136,7 @@ is_at-ahead : (test : ℕ → Bool) (rest : List ℕ) → is_at test rest ≡ tr
 is_at-ahead test [] h = refl
 is_at-ahead test (b ∷ rest) h = rw h refl
 
-pub name-cut : (input found rest : List ℕ) → name input ≡ Some (found, rest) → IsName input found rest
+pub name-cut : (input found rest : List ℕ) → name input ≡ Some (found, rest) → IsNameCut input found rest
 unfolding name
 name-cut input found rest h =
     let whole = parts (text is_stop) _ input found rest h in
@@ -144,15 +145,19 @@ name-cut input found rest h =
     let same = given whole.0 found end.1 rest end.3 in
     let cut = text-cut is_stop input whole.0 whole.1 whole.2 in (
       subst (λ (f : List ℕ). IsText is_stop input f rest) same.0 (subst (IsText is_stop input whole.0) (at.1 ∙ same.1) cut),
-      subst
-          (λ (r : List ℕ). is_at is_stop r ≡ true) (at.1 ∙ same.1) at.0,
+      is_at-ahead is_stop rest (subst (λ (r : List ℕ). is_at is_stop r ≡ true) (at.1 ∙ same.1) at.0),
     )
 
-pub cut-name : (input found rest : List ℕ) → IsName input found rest → name input ≡ Some (found, rest)
+pub cut-name : (input found rest : List ℕ) → IsNameCut input found rest → name input ≡ Some (found, rest)
 unfolding name
-cut-name input found rest cut = rw (cut-text is_stop input found rest cut.0 (unit-at_stop rest cut.1), is_at-ahead is_stop rest cut.1) refl
+cut-name input found rest cut =
+    rw (cut-text is_stop input found rest cut.0 (unit-at_stop rest (ahead-is_at is_stop rest tt rest cut.1).0), cut.1) refl
 
 -- ---- quoted texts
+
+-- a quoted text: a quote, units, a quote, and then the rest
+abbrev pub IsQuotedCut : List ℕ → List ℕ → List ℕ → Type 0
+IsQuotedCut input text rest = (inside : List ℕ) × (input ≡ 34 ∷ inside) × IsText is_quote inside text (34 ∷ rest)
 
 quote-inside : (input : List ℕ) (u : Unit {0}) (rest : List ℕ) → literal "\"" input ≡ Some (u, rest) → input ≡ 34 ∷ rest
 quote-inside [] u rest e = cc
@@ -161,7 +166,7 @@ quote-inside (b ∷ input) u rest e = go (34 == b) refl where
   go true at = let same : b ≡ 34 = grind (arith, nat_tests) in rw (same, (given tt u input rest (rw at at e)).1) refl
   go false at = absurd (nothing u rest (rw at at e))
 
-pub quoted-cut : (input found rest : List ℕ) → quoted input ≡ Some (found, rest) → IsQuoted input found rest
+pub quoted-cut : (input found rest : List ℕ) → quoted input ≡ Some (found, rest) → IsQuotedCut input found rest
 unfolding quoted
 quoted-cut input found rest h =
     let opened = parts (literal "\"") _ input found rest h in
@@ -176,7 +181,7 @@ quoted-cut input found rest h =
           (subst (IsText is_quote opened.1 inside.0) at cut),
     )
 
-pub cut-quoted : (input found rest : List ℕ) → IsQuoted input found rest → quoted input ≡ Some (found, rest)
+pub cut-quoted : (input found rest : List ℕ) → IsQuotedCut input found rest → quoted input ≡ Some (found, rest)
 unfolding quoted
 cut-quoted input found rest cut =
     let inside = cut-text is_quote cut.0 found (34 ∷ rest) cut.2 (unit-byte is_quote 34 rest refl) in

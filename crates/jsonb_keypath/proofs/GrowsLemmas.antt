@@ -7,8 +7,9 @@ use Rattle.std.specs.Char.{is_ascii_digit}
 use Rattle.std.specs.Str.Parse.{digits_value}
 use Rattle.std.proofs.lemmas.Bool.Decides.{nat_tests}
 use Rattle.std.proofs.lemmas.List.{length-drop}
-use Rattle.jsonb_keypath.specs.Rules.{only_if, literal}
-use Rattle.jsonb_keypath.specs.Tokens.{past, is_space, ws, sign, with_sign, natural, natural_below, integer, integer_within, is_within, int32, name, quoted, is_stop, is_quote}
+use Rattle.jsonb_doc.specs.Rounding.{with_sign}
+use Rattle.jsonb_keypath.specs.Rules.{Rule, only_if, literal}
+use Rattle.jsonb_keypath.specs.Tokens.{past, is_space, ws, sign, natural, natural_below, integer, integer_within, is_within, int32, name, quoted, is_stop, is_quote, unit}
 use Rattle.jsonb_keypath.specs.KeyPathGrammar.{key, index, quoted_name, unquoted_name, spaced_key, another_key}
 use Rattle.jsonb_keypath.specs.TokenLaws.{ReadsSome, IsRun}
 use Rattle.jsonb_keypath.proofs.ReadsLemmas.{NeverGrows, given, some-no_more, grows-give, grows-then, some-then, then-some, grows-choice, some-choice, grows-only_if}
@@ -37,15 +38,21 @@ grows-sign =
 shorter : (n : ℕ) (input : List ℕ) → 0 < n → n ≤ length input → length (drop n input) < length input
 shorter n input some fits = rw (length-drop n input) (omega arith)
 
-run-no_more : (e : ℕ → Bool) (input : List ℕ) (texts : List (List ℕ)) (rest : List ℕ) → IsRun e input texts rest → length rest ≤ length input
-run-no_more e input [] rest h = rw h (omega arith)
-run-no_more e input (t ∷ texts) rest h = let first = some-unit e input t h.0 h.1 in let others = run-no_more e h.0 texts rest h.2 in omega
-    (arith, first, others)
+pub run-no_more : {A : Type 0} (rule : Rule A) → ReadsSome rule → (input : List ℕ) (values : List A) (rest : List ℕ)
+    → IsRun rule input values rest → length rest ≤ length input
+run-no_more rule reads input [] rest h = rw h (omega arith)
+run-no_more rule reads input (a ∷ values) rest h =
+    let first = reads input a h.0 h.1 in
+    let others = run-no_more rule reads h.0 values rest h.2 in
+    omega (arith, first, others)
 
-run-some : (e : ℕ → Bool) (input : List ℕ) (texts : List (List ℕ)) (rest : List ℕ) → 0 < length texts → IsRun e input texts rest → length rest < length input
+run-some : (e : ℕ → Bool) (input : List ℕ) (texts : List (List ℕ)) (rest : List ℕ) → 0 < length texts → IsRun (unit e) input texts rest
+    → length rest < length input
 run-some e input [] rest some h = absurd (omega arith)
-run-some e input (t ∷ texts) rest some h = let first = some-unit e input t h.0 h.1 in let others = run-no_more e h.0 texts rest h.2 in omega
-    (arith, first, others)
+run-some e input (t ∷ texts) rest some h =
+    let first = some-unit e input t h.0 h.1 in
+    let others = run-no_more (unit e) (some-unit e) h.0 texts rest h.2 in
+    omega (arith, first, others)
 
 pub some-name : ReadsSome name
 some-name input found rest e = let cut = name-cut input found rest e in run-some is_stop input cut.0.0 rest cut.0.1 cut.0.2

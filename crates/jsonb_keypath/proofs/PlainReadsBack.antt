@@ -7,8 +7,7 @@ use Rattle.std.specs.Str.{is_utf8, IsAscii}
 use Rattle.std.proofs.lemmas.Bool.Decides.{nat_tests}
 use Rattle.std.proofs.lemmas.Str.{is_utf8-from_IsUtf8, IsUtf8-from_ascii}
 use Rattle.jsonb_keypath.specs.KeyPathGrammar.{Key, index, quoted_name, unquoted_name, key_path}
-use Rattle.jsonb_keypath.specs.KeyPathText.{is_word_byte, is_plain_name, key_path_text}
-use Rattle.jsonb_keypath.specs.KeyPathLaws.{IsPlainKey}
+use Rattle.jsonb_keypath.specs.KeyPathText.{is_word_byte, is_plain_name, key_path_text, IsPlainKey}
 use Rattle.jsonb_keypath.proofs.ReadBackLemmas.{both}
 use Rattle.jsonb_keypath.proofs.KeyPathReadsBack.{IsReadable, reread, key_path-text}
 

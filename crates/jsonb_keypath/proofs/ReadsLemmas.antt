@@ -1,11 +1,11 @@
 -- How much of its input a rule reads.
 use Rattle.std.proofs.Common.{◌≡◌, ℕ, zero, suc, ◌<◌, ◌≤◌, List, [], ◌∷◌, length, Bool, true, false, Some, None, refl, sym, ap, ◌∙◌, subst, arith}
 use Rattle.std.specs.Prelude.{nat_lt}
-use Rattle.std.specs.Option.{option_and_then}
+use Rattle.std.specs.Option.{option_and_then, option_or}
 use Rattle.std.proofs.lemmas.Option.{same_Some}
 use Rattle.std.proofs.lemmas.Bool.Decides.{Decides-ltb}
-use Rattle.jsonb_keypath.specs.Rules.{Parsed, Rule, give, ◌>>=◌, ◌>>◌, ◌</>◌, parsed_map, or_else_parsed, only_if, turn, up_to, repeat}
-use Rattle.jsonb_keypath.specs.TokenLaws.{ReadsSome, IsRepeated}
+use Rattle.jsonb_keypath.specs.Rules.{Parsed, Rule, give, ◌>>=◌, ◌>>◌, ◌</>◌, parsed_map, only_if, turn, up_to, repeat}
+use Rattle.jsonb_keypath.specs.TokenLaws.{ReadsSome, IsRun}
 use Rattle.jsonb_keypath.proofs.RepeatLemmas.{enough, repeat-goes, repeat-ends}
 
 -- the rest is no longer than the input
@@ -61,13 +61,13 @@ then-some rule next h k input b rest e =
 
 pub grows-choice : {A : Type 0} (first second : Rule A) → NeverGrows first → NeverGrows second → NeverGrows (first </> second)
 grows-choice {A} first second h k input a rest e = go (first input) refl e where
-  go : (o : Parsed A) → first input ≡ o → or_else_parsed o (second input) ≡ Some (a, rest) → length rest ≤ length input
+  go : (o : Parsed A) → first input ≡ o → option_or o (second input) ≡ Some (a, rest) → length rest ≤ length input
   go None at e' = k input a rest e'
   go (Some p) at e' = h input a rest (at ∙ e')
 
 pub some-choice : {A : Type 0} (first second : Rule A) → ReadsSome first → ReadsSome second → ReadsSome (first </> second)
 some-choice {A} first second h k input a rest e = go (first input) refl e where
-  go : (o : Parsed A) → first input ≡ o → or_else_parsed o (second input) ≡ Some (a, rest) → length rest < length input
+  go : (o : Parsed A) → first input ≡ o → option_or o (second input) ≡ Some (a, rest) → length rest < length input
   go None at e' = k input a rest e'
   go (Some p) at e' = h input a rest (at ∙ e')
 
@@ -75,7 +75,11 @@ pub grows-only_if : (test : Bool) → NeverGrows (only_if test)
 grows-only_if true input a rest e = rw (given tt a input rest e).1 (omega arith)
 grows-only_if false input a rest e = cc
 
--- ---- the paper's repetition
+-- ---- repetitions
+
+-- the rule again and again, with these values, until it fails before the rest
+abbrev pub IsRepeated : {A : Type 0} → Rule A → List ℕ → List A → List ℕ → Type 0
+IsRepeated rule input values rest = IsRun rule input values rest × (rule rest ≡ None)
 
 repeated-up_to : {A : Type 0} (rule : Rule A) (n : ℕ) (input : List ℕ) (values : List A) (rest : List ℕ) → ReadsSome rule → length input < n
     → up_to n rule input ≡ Some (values, rest) → IsRepeated rule input values rest
@@ -92,7 +96,8 @@ repeated-up_to {A} rule (suc n) input values rest reads lt e = go (λ middle q r
       others again a middle at None e' e'' = cc
       others again a middle at (Some q) e' e'' =
           let same = same_Some (a ∷ q.0, q.1) (values, rest) e'' in
-          subst (λ (p : List A × List ℕ). IsRepeated rule input p.0 p.1) same (middle, at, again middle q.0 q.1 (reads input a middle at) e')
+          let behind = again middle q.0 q.1 (reads input a middle at) e' in
+          subst (λ (p : List A × List ℕ). IsRepeated rule input p.0 p.1) same ((middle, at, behind.0), behind.1)
 
       go : Again → (o : Parsed A) → rule input ≡ o → turn (up_to n rule) input o ≡ Some (values, rest) → IsRepeated rule input values rest
       go again None at e' = subst (λ (p : List A × List ℕ). IsRepeated rule input p.0 p.1) (same_Some ([], input) (values, rest) e') (refl, at)
@@ -104,8 +109,8 @@ pub repeat-repeated : {A : Type 0} (rule : Rule A) → ReadsSome rule → (input
     → repeat rule input ≡ Some (values, rest)
 repeat-repeated {A} rule reads input [] rest h = subst (λ (i : List ℕ). repeat rule i ≡ Some ([], rest)) (sym h.0) (repeat-ends rule rest h.1)
 repeat-repeated {A} rule reads input (a ∷ values) rest h =
-    repeat-goes rule input a h.0 h.1 (reads input a h.0 h.1)
-    ∙ ap (parsed_map (λ (others : List A). a ∷ others)) (repeat-repeated rule reads h.0 values rest h.2)
+    repeat-goes rule input a h.0.0 h.0.1 (reads input a h.0.0 h.0.1)
+    ∙ ap (parsed_map (λ (others : List A). a ∷ others)) (repeat-repeated rule reads h.0.0 values rest (h.0.2, h.1))
 
 pub repeated-repeat : {A : Type 0} (rule : Rule A) → ReadsSome rule → (input : List ℕ) (values : List A) (rest : List ℕ)
     → repeat rule input ≡ Some (values, rest) → IsRepeated rule input values rest

@@ -18,11 +18,7 @@ key =
 
 -- a step with white space around it
 unfoldable pub spaced_key : Rule Key
-spaced_key = do
-  ws
-  k ← key
-  ws
-  give k
+spaced_key = do ws; k ← key; ws; give k
 
 -- a comma, and the step behind it
 abbrev pub another_key : Rule Key
@@ -34,23 +30,11 @@ key_list = list_of spaced_key (literal ",")
 
 -- braces around one step or more
 unfoldable pub some_keys : Rule (List Key)
-some_keys = do
-  ws
-  literal "{"
-  keys ← key_list
-  literal "}"
-  ws
-  give keys
+some_keys = do ws; literal "{"; keys ← key_list; literal "}"; ws; give keys
 
 -- braces around nothing
 unfoldable pub no_keys : Rule (List Key)
-no_keys = do
-  ws
-  literal "{"
-  ws
-  literal "}"
-  ws
-  give []
+no_keys = do ws; literal "{"; ws; literal "}"; ws; give []
 
 -- the steps of the key path that a text is, where it is one
 unfoldable pub key_path : List ℕ → Option (List Key)

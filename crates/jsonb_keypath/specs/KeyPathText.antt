@@ -1,8 +1,10 @@
 -- The text of a key path, from which it reads back.
-use Rattle.std.specs.Prelude.{ℕ, Bool, false, not, ◌&&◌, ◌||◌, ◌==◌, List, [], ◌∷◌, ◌++◌, flat_map, codes, if◌then◌else◌}
+use Rattle.std.specs.Prelude.{◌≡◌, ℕ, ◌<◌, ◌^◌, Bool, true, false, not, ◌&&◌, ◌||◌, ◌==◌, List, [], ◌∷◌, ◌++◌, length, flat_map, codes, if◌then◌else◌}
 use Rattle.std.specs.List.{list_all}
 use Rattle.std.specs.Char.{is_ascii_digit, is_ascii_alphanumeric}
+use Rattle.std.specs.Str.{is_utf8}
 use Rattle.std.specs.Fmt.{signed_decimal}
+use Rattle.jsonb_keypath.specs.Tokens.{is_within}
 use Rattle.jsonb_keypath.specs.KeyPathGrammar.{Key, index, quoted_name, unquoted_name}
 
 -- a letter or digit of ASCII, or an underscore
@@ -48,3 +50,15 @@ keys_text (first ∷ rest) = key_text first ++ flat_map other_key_text rest
 -- the steps between braces
 abbrev pub key_path_text : List Key → List ℕ
 key_path_text keys = codes "{" ++ keys_text keys ++ codes "}"
+
+-- the step without its quotes, which leads to the same place from everywhere
+abbrev pub without_quotes : Key → Key
+without_quotes (quoted_name text) = unquoted_name text
+without_quotes key = key
+
+-- a step that prints as it would be written by hand: an index of 32 bits, a plain name,
+-- or a text between quotes without quotes and backslashes
+abbrev pub IsPlainKey : Key → Type 0
+IsPlainKey (index i) = is_within (2 ^ 31) i ≡ true
+IsPlainKey (quoted_name text) = (0 < length text) × (is_utf8 text ≡ true) × (list_all needs_no_escape text ≡ true)
+IsPlainKey (unquoted_name text) = is_plain_name text ≡ true

@@ -27,8 +27,5 @@ owned_key_view (owned.Index i) = index i
 owned_key_view (owned.QuotedName text) = quoted_name (string_bytes text)
 owned_key_view (owned.Name text) = unquoted_name (string_bytes text)
 
-abbrev pub owned_keys_view : List OwnedKeyPath → List Key
-owned_keys_view keys = map owned_key_view keys
-
 abbrev pub owned_key_paths_view : OwnedKeyPaths → List Key
-owned_key_paths_view k = owned_keys_view k.paths.items
+owned_key_paths_view k = map owned_key_view k.paths.items

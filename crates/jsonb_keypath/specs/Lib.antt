@@ -5,5 +5,4 @@ pub mod KeyPathText
 pub mod Views
 pub mod KeyPathViews
 pub mod TokenLaws
-pub mod KeyPathLaws
 pub mod Private

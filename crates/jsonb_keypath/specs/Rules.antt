@@ -1,6 +1,7 @@
 -- The rules of an ordered grammar. A rule reads a front of its input, or fails.
 use Rattle.std.specs.Prelude.{ℕ, zero, suc, Bool, List, [], ◌∷◌, length, drop, nat_eq, nat_lt, Option, Some, None, option_map, option_and_then, codes, if◌then◌else◌}
 use Rattle.std.specs.List.{starts_with}
+use Rattle.std.specs.Option.{option_or}
 use Prim.Native.String.{String}
 
 -- what a rule makes of an input: a value and the rest, or that it fails
@@ -31,15 +32,10 @@ infixl 10 ◌>>◌
 abbrev pub ◌>>◌ : {A B : Type 0} → Rule A → Rule B → Rule B
 rule >> next = rule >>= λ _. next
 
--- the first outcome, where it is no failure
-abbrev pub or_else_parsed : {A : Type 0} → Parsed A → Parsed A → Parsed A
-or_else_parsed (Some found) other = Some found
-or_else_parsed None other = other
-
 -- an ordered choice: the second rule counts only where the first fails
 infixr 8 ◌</>◌
 abbrev pub ◌</>◌ : {A : Type 0} → Rule A → Rule A → Rule A
-first </> second = λ input. or_else_parsed (first input) (second input)
+first </> second = λ input. option_or (first input) (second input)
 
 -- the rule, or nothing where it fails
 abbrev pub optional : {A : Type 0} → Rule A → Rule (Option A)
@@ -51,8 +47,7 @@ only_if test = λ input. if test then Some (tt, input) else None
 
 -- these very bytes
 abbrev pub bytes : List ℕ → Rule (Unit {0})
-bytes text =
-    λ input. if starts_with nat_eq input text then Some (tt, drop (length text) input) else None
+bytes text = λ input. if starts_with nat_eq input text then Some (tt, drop (length text) input) else None
 
 -- the characters of the text
 abbrev pub literal : String → Rule (Unit {0})
@@ -62,8 +57,7 @@ literal text = bytes (codes text)
 abbrev pub turn : {A : Type 0} → Rule (List A) → List ℕ → Parsed A → Parsed (List A)
 turn more input None = Some ([], input)
 turn more input (Some (a, rest)) =
-    if nat_lt (length rest) (length input)
-    then parsed_map (λ others. a ∷ others) (more rest) else Some ([], input)
+    if nat_lt (length rest) (length input) then parsed_map (λ others. a ∷ others) (more rest) else Some ([], input)
 
 -- the rule at most so many times
 unfoldable pub up_to : {A : Type 0} → ℕ → Rule A → Rule (List A)
@@ -78,13 +72,9 @@ repeat rule input = up_to (length input) rule input
 -- a list of at least one, with a separator in between; where the rule fails behind a separator, the
 -- list ends before that separator
 abbrev pub list_of : {A S : Type 0} → Rule A → Rule S → Rule (List A)
-list_of rule separator = do
-  first ← rule
-  others ← repeat (separator >> rule)
-  give (first ∷ others)
+list_of rule separator = do first ← rule; others ← repeat (separator >> rule); give (first ∷ others)
 
 -- the value where the rule reads the whole input
 abbrev pub all_consuming : {A : Type 0} → Parsed A → Option A
-all_consuming None = None
 all_consuming (Some (a, [])) = Some a
-all_consuming (Some (a, b ∷ rest)) = None
+all_consuming _ = None

@@ -1,9 +1,11 @@
 -- The tokens that key paths and JSON paths share.
-use Rattle.std.specs.Prelude.{ℕ, ◌+◌, ◌-◌, ◌*◌, ◌^◌, Bool, true, false, not, ◌&&◌, ◌==◌, nat_lt, nat_le, List, [], ◌∷◌, ◌++◌, drop, take_while, Option, Some, None, ℤ, pos, negsuc, neg_ℤ, codes, if◌then◌else◌, encode_utf8}
+use Rattle.std.specs.Prelude.{ℕ, ◌+◌, ◌*◌, ◌^◌, Bool, true, false, not, ◌&&◌, ◌==◌, nat_lt, List, [], ◌∷◌, ◌++◌, drop, take_while, Option, Some, None, option_map, ℤ, pos, negsuc, codes, if◌then◌else◌, encode_utf8}
 use Rattle.std.specs.List.{list_any, prefix_len, concat}
 use Rattle.std.specs.Char.{is_ascii_digit, digit_value}
+use Rattle.std.specs.Char.Utf16.{is_high_surrogate, is_low_surrogate, surrogate_pair_char}
 use Rattle.std.specs.Str.{is_utf8}
 use Rattle.std.specs.Str.Parse.{digits_value}
+use Rattle.jsonb_doc.specs.Rounding.{with_sign}
 use Rattle.jsonb_keypath.specs.Rules.{Rule, give, ◌>>=◌, ◌>>◌, ◌</>◌, only_if, literal, repeat}
 
 -- ---- white space and numbers
@@ -28,10 +30,7 @@ natural input =
 
 -- one that is below the bound
 unfoldable pub natural_below : ℕ → Rule ℕ
-natural_below bound = do
-  n ← natural
-  only_if (nat_lt n bound)
-  give n
+natural_below bound = do n ← natural; only_if (nat_lt n bound); give n
 
 abbrev pub nat8 : Rule ℕ
 nat8 = natural_below (2 ^ 8)
@@ -43,15 +42,9 @@ nat64 = natural_below (2 ^ 64)
 unfoldable pub sign : Rule Bool
 sign = (literal "-" >> give true) </> (literal "+" >> give false) </> give false
 
-abbrev pub with_sign : Bool → ℕ → ℤ
-with_sign negative n = if negative then neg_ℤ (pos n) else pos n
-
 -- a number with or without a sign
 unfoldable pub integer : Rule ℤ
-integer = do
-  negative ← sign
-  n ← natural
-  give (with_sign negative n)
+integer = do negative ← sign; n ← natural; give (with_sign negative n)
 
 -- from minus the bound on, and below the bound
 abbrev pub is_within : ℕ → ℤ → Bool
@@ -59,10 +52,7 @@ is_within bound (pos n) = nat_lt n bound
 is_within bound (negsuc n) = nat_lt n bound
 
 unfoldable pub integer_within : ℕ → Rule ℤ
-integer_within bound = do
-  z ← integer
-  only_if (is_within bound z)
-  give z
+integer_within bound = do z ← integer; only_if (is_within bound z); give z
 
 abbrev pub int32 : Rule ℤ
 int32 = integer_within (2 ^ 31)
@@ -72,24 +62,17 @@ int64 = integer_within (2 ^ 63)
 
 -- ---- escapes
 
--- the byte that the one behind a backslash stands for
+-- the byte that the one behind a backslash stands for: itself, or for `b`, `f`, `n`, `r` and `t` a control character
 abbrev pub escaped : ℕ → Option ℕ
 escaped b =
     if list_any (λ c. c == b) (codes "\"\\/") then Some b
-    else if b == 98 then Some 8
-    else if b == 102 then Some 12
-    else if b == 110 then Some 10
-    else if b == 114 then Some 13
-    else if b == 116 then Some 9
-    else None
+    else if b == 98 then Some 8 else if b == 102 then Some 12 else if b == 110 then Some 10
+    else if b == 114 then Some 13 else if b == 116 then Some 9 else None
 
 -- the value of one byte
 abbrev pub byte_as : {A : Type 0} → (ℕ → Option A) → Rule A
 byte_as value [] = None
-byte_as value (b ∷ rest) = with_rest (value b) rest where
-  with_rest : {A : Type 0} → Option A → Rule A
-  with_rest None rest = None
-  with_rest (Some a) rest = Some (a, rest)
+byte_as value (b ∷ rest) = option_map (λ a. (a, rest)) (value b)
 
 abbrev pub hex_digit : ℕ → Option ℕ
 hex_digit b = if nat_lt (digit_value b) 16 then Some (digit_value b) else None
@@ -105,35 +88,15 @@ four_hex_digits = do
 
 -- a UTF-16 code unit: four hexadecimal digits behind `\u`, in braces or without
 unfoldable pub code_unit : Rule ℕ
-code_unit = do
-  literal "\\u"
-  (do
-    literal "{"
-    n ← four_hex_digits
-    literal "}"
-    give n) </> four_hex_digits
-
-abbrev pub is_high_surrogate : ℕ → Bool
-is_high_surrogate n = nat_le 0xD800 n && nat_lt n 0xDC00
-
-abbrev pub is_low_surrogate : ℕ → Bool
-is_low_surrogate n = nat_le 0xDC00 n && nat_lt n 0xE000
-
--- the character beyond U+FFFF that two surrogates stand for
-abbrev pub surrogate_pair : ℕ → ℕ → ℕ
-surrogate_pair high low = 0x10000 + (high - 0xD800) * 0x400 + (low - 0xDC00)
+code_unit = literal "\\u" >> ((do literal "{"; n ← four_hex_digits; literal "}"; give n) </> four_hex_digits)
 
 -- a character by its code units; a high surrogate and a low one behind it are one character, and else a
 -- surrogate fails
 unfoldable pub unicode_escape : Rule ℕ
 unicode_escape = do
   n ← code_unit
-  if is_high_surrogate n then (do
-    low ← code_unit
-    only_if (is_low_surrogate low)
-    give (surrogate_pair n low)) else (do
-      only_if (not (is_low_surrogate n))
-      give n)
+  if is_high_surrogate n then (do low ← code_unit; only_if (is_low_surrogate low); give (surrogate_pair_char n low))
+      else (do only_if (not (is_low_surrogate n)); give n)
 
 -- one escape, as the character that it stands for
 unfoldable pub escape : Rule ℕ
@@ -145,33 +108,23 @@ escape = (literal "\\" >> byte_as escaped) </> unicode_escape
 abbrev pub is_unescaped : (ℕ → Bool) → ℕ → Bool
 is_unescaped is_excluded b = not (b == 92) && not (is_excluded b)
 
-abbrev pub unescaped : (ℕ → Bool) → ℕ → Option (List ℕ)
-unescaped is_excluded b = if is_unescaped is_excluded b then Some (b ∷ []) else None
-
 -- one unit, as the bytes that it stands for: an escape, or a byte that stands for itself
 unfoldable pub unit : (ℕ → Bool) → Rule (List ℕ)
-unit is_excluded = (escape >>= λ c. give (encode_utf8 c)) </> byte_as (unescaped is_excluded)
+unit is_excluded =
+    (escape >>= λ c. give (encode_utf8 c))
+    </> byte_as (λ b. if is_unescaped is_excluded b then Some (b ∷ []) else None)
 
 -- the longest run of units, one at least, as the bytes that it stands for
 unfoldable pub units : (ℕ → Bool) → Rule (List ℕ)
-units is_excluded = do
-  first ← unit is_excluded
-  others ← repeat (unit is_excluded)
-  give (first ++ concat others)
+units is_excluded = do first ← unit is_excluded; others ← repeat (unit is_excluded); give (first ++ concat others)
 
 -- the same where it stands for UTF-8
 unfoldable pub text : (ℕ → Bool) → Rule (List ℕ)
-text is_excluded = do
-  found ← units is_excluded
-  only_if (is_utf8 found)
-  give found
+text is_excluded = do found ← units is_excluded; only_if (is_utf8 found); give found
 
--- the bytes that end a name
-abbrev pub stop_bytes : List ℕ
-stop_bytes = codes " ,.:{}[]()?@$|<>!=+-*/%\"'"
-
+-- a byte that ends a name
 abbrev pub is_stop : ℕ → Bool
-is_stop b = list_any (λ c. c == b) stop_bytes
+is_stop b = list_any (λ c. c == b) (codes " ,.:{}[]()?@$|<>!=+-*/%\"'")
 
 abbrev pub is_quote : ℕ → Bool
 is_quote b = b == 34
@@ -183,15 +136,8 @@ ahead test (b ∷ rest) = if test b then Some (tt, b ∷ rest) else None
 
 -- a name: units up to the end or to a stop byte
 unfoldable pub name : Rule (List ℕ)
-name = do
-  found ← text is_stop
-  ahead is_stop
-  give found
+name = do found ← text is_stop; ahead is_stop; give found
 
 -- units between quotes
 unfoldable pub quoted : Rule (List ℕ)
-quoted = do
-  literal "\""
-  found ← text is_quote
-  literal "\""
-  give found
+quoted = do literal "\""; found ← text is_quote; literal "\""; give found

@@ -2,10 +2,10 @@
 //! read back. An index is decimal; a quoted name stands between quotes, and so does a name that is
 //! not plain; within quotes a quote and a backslash have a backslash in front.
 
-ghost use Rattle.std.specs.Prelude.{Some, flat_map};
+ghost use Rattle.std.specs.Prelude.{Some, flat_map, map};
 ghost use Rattle.std.specs.Fmt.{WritesOnOk};
 ghost use Rattle.jsonb_keypath.specs.KeyPathText.{key_text, other_key_text, key_path_text};
-ghost use Rattle.jsonb_keypath.specs.KeyPathViews.{key_view, keys_view, key_paths_view, owned_key_view, owned_keys_view, owned_key_paths_view};
+ghost use Rattle.jsonb_keypath.specs.KeyPathViews.{key_view, keys_view, key_paths_view, owned_key_view, owned_key_paths_view};
 
 use crate::key_path::{KeyPath, KeyPaths};
 use crate::owned::{OwnedKeyPath, OwnedKeyPaths};
@@ -73,7 +73,7 @@ impl fmt::Display for OwnedKeyPaths {
 /// Writes each step behind a comma.
 fn write_more_owned<W: fmt::Write>(steps: &[OwnedKeyPath], f: &mut fmt::Formatter<W>) -> fmt::Result
     ensures { WritesOnOk W.write_str_gives f.old result
-        (flat_map other_key_text (owned_keys_view steps.now)) f.new }
+        (flat_map other_key_text (map owned_key_view steps.now)) f.new }
 {
     for step in steps {
         write!(f, ",{step}")?;

@@ -4,13 +4,14 @@
 //! A rule of the grammar is a function from the input to its outcome, a value and the rest or a
 //! failure, so each rule has exactly one outcome on each input.
 
-ghost use Rattle.std.specs.Prelude.{◌≡◌, ◌↔◌, ℕ, Bool, true, List, Some, IfSome};
+ghost use Rattle.std.specs.Prelude.{◌≡◌, ◌↔◌, ℕ, Bool, true, List, ◌∷◌, map, Some, None, IfSome};
+ghost use Rattle.std.specs.List.{AllByRecursion};
 ghost use Rattle.jsonb_keypath.specs.KeyPathGrammar.{Key, another_key, key_path};
-ghost use Rattle.jsonb_keypath.specs.KeyPathLaws.{ReadsBack, PlainKeyPathsReadBack};
+ghost use Rattle.jsonb_keypath.specs.KeyPathText.{key_path_text, without_quotes, IsPlainKey};
 ghost use Rattle.jsonb_keypath.specs.KeyPathViews.{key_view, key_paths_view, owned_key_view, owned_key_paths_view};
 ghost use Rattle.jsonb_keypath.specs.Rules.{Rule, repeat};
-ghost use Rattle.jsonb_keypath.specs.TokenLaws.{ReadsSome, IsRepeated, IsName, IsQuoted};
-ghost use Rattle.jsonb_keypath.specs.Tokens.{name, quoted, unit};
+ghost use Rattle.jsonb_keypath.specs.TokenLaws.{ReadsSome, IsRun, IsText};
+ghost use Rattle.jsonb_keypath.specs.Tokens.{name, quoted, unit, is_stop, is_quote, ahead};
 ghost use Rattle.jsonb_keypath.specs.contracts.key_path.KeyPathPartialEq.TheImpl.{eq-value as key_equal};
 ghost use Rattle.jsonb_keypath.specs.contracts.key_path.KeyPathsPartialEq.TheImpl.{eq-value as key_paths_equal};
 ghost use Rattle.jsonb_keypath.specs.contracts.owned.OwnedKeyPathPartialEq.TheImpl.{eq-value as owned_key_equal};
@@ -22,14 +23,14 @@ use crate::owned::{OwnedKeyPath, OwnedKeyPaths};
 /// A name is one or more units, and then the end or a stop byte; there is no other way to cut the
 /// input so.
 pub fn name_is_a_cut(input: &[u8])
-    ensures { (text rest : List ℕ) →
-        (name input.now ≡ Some (text, rest)) ↔ IsName input.now text rest }
+    ensures { (text rest : List ℕ) → (name input.now ≡ Some (text, rest)) ↔
+        (IsText is_stop input.now text rest × (ahead is_stop rest ≡ Some (tt, rest))) }
 {}
 
 /// A quoted text is one or more units between quotes; there is no other way to cut the input so.
 pub fn quoted_is_a_cut(input: &[u8])
-    ensures { (text rest : List ℕ) →
-        (quoted input.now ≡ Some (text, rest)) ↔ IsQuoted input.now text rest }
+    ensures { (text rest : List ℕ) → (quoted input.now ≡ Some (text, rest)) ↔
+        ((inside : List ℕ) × (input.now ≡ 34 ∷ inside) × IsText is_quote inside text (34 ∷ rest)) }
 {}
 
 /// A unit reads a byte at least, whatever bytes are excluded.
@@ -45,19 +46,20 @@ pub fn another_key_reads_some()
 /// A rule that reads a byte at least is repeated until it fails.
 pub fn repetition_ends_where_the_rule_fails(input: &[u8])
     ensures { (rule : Rule Key) → ReadsSome rule → (keys : List Key) → (rest : List ℕ) →
-        (repeat rule input.now ≡ Some (keys, rest)) ↔ IsRepeated rule input.now keys rest }
+        (repeat rule input.now ≡ Some (keys, rest)) ↔ (IsRun rule input.now keys rest × (rule rest ≡ None)) }
 {}
 
 /// A key path that the grammar accepts prints to a text that reads as a key path with the same
 /// places: an index as the same index, a name, quoted or not, as a name of the same text.
 pub fn printed_key_path_reads_back(text: &[u8])
-    ensures { IfSome (key_path text.now) ReadsBack }
+    ensures { IfSome (key_path text.now) (λ keys. (found : List Key)
+        × (key_path (key_path_text keys) ≡ Some found) × (map without_quotes keys ≡ map without_quotes found)) }
 {}
 
 /// A key path whose names are plain, and whose quoted names are nonempty and have no quote and no
 /// backslash, prints to a text that reads as the same key path.
 pub fn plain_key_paths_read_back()
-    ensures { PlainKeyPathsReadBack }
+    ensures { (keys : List Key) → AllByRecursion IsPlainKey keys → key_path (key_path_text keys) ≡ Some keys }
 {}
 
 /// Steps are equal by `==` exactly where they are of one kind with the same index or text, whatever

@@ -1,12 +1,30 @@
 -- What documents and containers are, cut by their headers into words and contents.
-use Rattle.std.specs.Prelude.{◌≡◌, ℕ, List, ◌++◌, length}
+use Rattle.std.specs.Prelude.{◌≡◌, ◌≢◌, ◌<◌, ◌^◌, ℕ, List, ◌++◌, length}
 use Rattle.jsonb_doc.specs.Tree.{Tree, array, object, Pairs, keys}
 use Rattle.jsonb_doc.specs.Payload.{NumberReader}
-use Rattle.jsonb_doc.specs.Format.{AreKeys, key_words, key_bytes, AreEntries, AreValues, IsScalar}
+use Rattle.jsonb_doc.specs.Format.{scalar_header, container_entry, entry_word, AreKeys, key_words, key_bytes, HeadedBy, AreArrayParts, AreObjectParts, AreEntries, AreValues, IsScalar}
 use Rattle.jsonb_doc.specs.Kinds.{kind_number}
 use Rattle.jsonb_doc.specs.declared.container.ObjectParts.{ObjectParts}
 use Rattle.jsonb_doc.specs.declared.container.Container.{Container}
 use Rattle.jsonb_doc.specs.declared.container.Container.TheVariants.{Scalar, Array, Object}
+
+-- The words begin with one of this kind and length, and these others follow.
+pub record StartWith (words : List ℕ) (kind len : ℕ) (others : List ℕ) : Type 0 where
+  pub known : kind < 8
+  pub fits : len < 2 ^ 28
+  pub joined : words ≡ entry_word kind len ++ others
+
+-- the bytes are an entry that is no container: its word, and its content
+pub record IsLoneEntry (bytes : List ℕ) (kind : ℕ) (content : List ℕ) : Type 0 where
+  pub start : StartWith bytes kind (length content) content
+  pub scalar : kind ≢ container_entry
+
+-- the bytes are a header and these parts, as many as it counts
+abbrev pub IsCut : List ℕ → Container → Type 0
+IsCut bytes (Scalar e) =
+    (rest : List ℕ) × HeadedBy bytes scalar_header 0 rest × IsLoneEntry rest (kind_number e.kind) e.content.now
+IsCut bytes (Array p) = AreArrayParts bytes p.words.now p.contents.now
+IsCut bytes (Object p) = AreObjectParts bytes p.key_words.now p.value_words.now p.contents.now
 
 -- these are the words and the contents of an object's pairs
 pub record HasPairParts (number_at : NumberReader) (ps : Pairs) (p : ObjectParts) : Type 0 where

@@ -1,12 +1,12 @@
 -- Values of containers that are filled part by part.
-use Rattle.std.specs.Prelude.{◌≡◌, ◌<◌, ℕ, List, [], ◌∷◌, ◌++◌, string_bytes, ⊤}
+use Rattle.std.specs.Prelude.{◌≡◌, ◌<◌, ℕ, List, [], ◌∷◌, ◌++◌, length, string_bytes, ⊤}
 use Rattle.jsonb_doc.specs.Number as spec
 use Rattle.jsonb_doc.specs.Tree.{Tree, Trees, Pairs, array, object, elements, members, keys, trees_of, pairs_of}
 use Rattle.jsonb_doc.specs.Payload.{Form}
 use Rattle.jsonb_doc.specs.Format.{AreKeys}
 use Rattle.jsonb_doc.specs.Item.{StandsFor, item_size}
-use Rattle.jsonb_doc.specs.Elements.{HasElementsLeft, elements_room}
-use Rattle.jsonb_doc.specs.ObjectPairs.{HasPairsLeft, pairs_room}
+use Rattle.jsonb_doc.specs.Elements.{HasElementsLeft}
+use Rattle.jsonb_doc.specs.ObjectPairs.{HasPairsLeft}
 use Rattle.jsonb_doc.specs.Value.{tree_seen}
 use Rattle.jsonb_doc.specs.Private.Values.{trees_seen, members_seen, SeesItem}
 use Rattle.jsonb_doc.specs.declared.item.Item.{Item}
@@ -30,8 +30,8 @@ IsWhole (Within o part) = ⊥
 
 -- at most how many bytes a part that is left has, on any bytes
 abbrev pub open_room : Open → ℕ
-open_room (open_at.Array values left) = elements_room left
-open_room (open_at.Object made name left) = pairs_room left
+open_room (open_at.Array values left) = length left.entries.contents.now
+open_room (open_at.Object made name left) = length left.value_contents.now
 
 -- the part that is left out, where there is one, and those behind it have fewer bytes
 abbrev pub IsShorter : ℕ → Filled → Type 0

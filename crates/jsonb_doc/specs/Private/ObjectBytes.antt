@@ -1,8 +1,29 @@
--- The bytes that an object's builder makes.
-use Rattle.std.specs.Prelude.{ℕ, List, ◌++◌, length, flat_map}
+-- The entries that an object's builder keeps, and the bytes that it makes of them.
+use Rattle.std.specs.Prelude.{ℕ, ◌<◌, ◌^◌, List, ◌++◌, length, flat_map, string_bytes}
 use Rattle.std.specs.Map.{keys_of, values_of}
+use Rattle.std.specs.declared.alloc.Global.{Global}
+use Rattle.std.specs.declared.string.String.{String}
 use Rattle.jsonb_doc.specs.Format.{header, object_header, entry_word, key_words, key_bytes}
+use Rattle.jsonb_doc.specs.Kinds.{kind_number}
 use Rattle.jsonb_doc.specs.Encoding.{EntryParts}
+use Rattle.jsonb_doc.specs.declared.kept_entry.KeptEntry.{KeptEntry}
+
+abbrev pub entry_parts : KeptEntry → EntryParts
+entry_parts e = (kind_number e.kind, e.content.items)
+
+-- the entry has its place in the format
+abbrev pub FitsEntry : EntryParts → Type 0
+FitsEntry e = (e.0 < 8) × (length e.1 < 2 ^ 28)
+
+-- the pair that an entry of a map is
+abbrev pub member : String Global × KeptEntry → List ℕ × EntryParts
+member e = (string_bytes e.0, entry_parts e.1)
+
+-- the key and the entry have their place in the format
+abbrev pub FitsMember : String Global × KeptEntry → Type 0
+FitsMember e = (length (string_bytes e.0) < 2 ^ 28) × FitsEntry (entry_parts e.1)
+
+-- ---- bytes
 
 abbrev pub words_of_entries : List EntryParts → List ℕ
 words_of_entries es = flat_map (λ e. entry_word e.0 (length e.1)) es

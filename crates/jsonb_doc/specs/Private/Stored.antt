@@ -1,9 +1,9 @@
 -- The iterator over the stored entries of a container.
-use Rattle.std.specs.Prelude.{◌≡◌, ℕ, ◌+◌, ◌/◌, ◌≤◌, List, [], ◌∷◌, length, Option, Some, None, Result, Ok, Err, IfSome, IfNone, IfOk, IfErr}
+use Rattle.std.specs.Prelude.{◌≡◌, ℕ, ◌≤◌, List, [], ◌∷◌, length, Option, Some, None, Result, Ok, Err, IfSome, IfNone, IfOk, IfErr}
 use Rattle.std.specs.Borrow.{Bor}
 use Rattle.jsonb_doc.specs.Tree.{Tree, text, Trees, no_trees, tree, Pairs, no_pairs, pair, keys, values}
 use Rattle.jsonb_doc.specs.Payload.{Form, number_reader}
-use Rattle.jsonb_doc.specs.Format.{BeginWith, BeginWithNone, IsContent, AreEntries, AreKeys}
+use Rattle.jsonb_doc.specs.Format.{BeginWith, BeginWithNone, words_left, IsContent, AreEntries, AreKeys}
 use Rattle.jsonb_doc.specs.Kinds.{kind_number}
 use Rattle.jsonb_doc.specs.Answer.{IsDecodingError}
 use Rattle.jsonb_doc.specs.declared.entry_iter.EntryIter.{EntryIter}
@@ -21,7 +21,7 @@ pub record Stores (form : Form) (e : StoredEntry) (t : Tree) : Type 0 where
 
 -- at most how many entries the iterator gives, on any bytes
 abbrev pub entries_bound : EntryIter → ℕ
-entries_bound it = (length it.words.now + 3) / 4
+entries_bound it = words_left it.words.now
 
 -- at most how many bytes an entry of the iterator has, on any bytes
 abbrev pub entries_room : EntryIter → ℕ

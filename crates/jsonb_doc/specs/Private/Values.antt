@@ -1,5 +1,5 @@
 -- Values in the making, as trees.
-use Rattle.std.specs.Prelude.{◌≡◌, ⊤, ℕ, List, map, String}
+use Rattle.std.specs.Prelude.{◌≡◌, ⊤, ℕ, List, map, String, string_bytes}
 use Rattle.std.specs.declared.alloc.Global.{Global}
 use Rattle.jsonb_doc.specs.Number as spec
 use Rattle.jsonb_doc.specs.Tree.{Tree}
@@ -8,7 +8,11 @@ use Rattle.jsonb_doc.specs.declared.item.Item.{Item}
 use Rattle.jsonb_doc.specs.declared.item.Item.TheVariants as item
 use Rattle.jsonb_doc.specs.declared.number.Number.{Number}
 use Rattle.jsonb_doc.specs.declared.value.Value.{Value}
-use Rattle.jsonb_doc.specs.Value.{keyed, tree_seen}
+use Rattle.jsonb_doc.specs.Value.{tree_seen}
+
+-- the keys as their bytes
+abbrev pub keyed : List (String Global × Tree) → List (List ℕ × Tree)
+keyed es = map (λ e. (string_bytes e.0, e.1)) es
 
 -- the same for the values of an array
 abbrev pub trees_seen : (Number → spec.Number) → List Value → List Tree

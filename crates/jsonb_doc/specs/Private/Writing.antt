@@ -6,7 +6,11 @@ use Rattle.jsonb_doc.specs.Format.{header, entry_word, scalar_header, number_ent
 use Rattle.jsonb_doc.specs.View.{number_view, extension_view}
 use Rattle.jsonb_doc.specs.declared.item.Item.{Item}
 use Rattle.jsonb_doc.specs.declared.item.Item.TheVariants.{Number, String, Extension}
-use Rattle.jsonb_doc.specs.Encoding.{item_content, item_word}
+use Rattle.jsonb_doc.specs.Encoding.{entry_of, item_content, item_word}
+
+-- the kind of the item's entry
+abbrev pub item_kind : Item → ℕ
+item_kind item = (entry_of item).0
 
 -- the document of the item's entry alone
 abbrev pub scalar_bytes : Item → List ℕ

@@ -1,13 +1,13 @@
 //! Documents as decoded values.
 
-ghost use Rattle.std.specs.Prelude.{◌≡◌, ◌⊎◌, ◌<◌, ◌++◌, ℕ, IfOk, IfErr, IsOkAnd, MatchOption, MatchResult, None, false, reverse};
+ghost use Rattle.std.specs.Prelude.{◌≡◌, ◌⊎◌, ◌<◌, ◌++◌, ℕ, IfOk, IfErr, IsOkAnd, MatchOption, MatchResult, None, false, length, reverse};
 ghost use Rattle.jsonb_doc.specs.Number as spec;
 ghost use Rattle.jsonb_doc.specs.Tree.{Tree, Trees, Pairs, extension, array, object, elements, members as pair_members, keys, trees_of, pairs_of};
 ghost use Rattle.jsonb_doc.specs.Payload.{Form};
 ghost use Rattle.jsonb_doc.specs.Format.{AreKeys};
 ghost use Rattle.jsonb_doc.specs.Item.{StandsFor, IsNormal, item_size};
-ghost use Rattle.jsonb_doc.specs.Elements.{HasElementsLeft, elements_room};
-ghost use Rattle.jsonb_doc.specs.ObjectPairs.{HasPairsLeft, pairs_room};
+ghost use Rattle.jsonb_doc.specs.Elements.{HasElementsLeft};
+ghost use Rattle.jsonb_doc.specs.ObjectPairs.{HasPairsLeft};
 ghost use Rattle.jsonb_doc.specs.Private.Filling.{IsContainerItem, IsWhole, IsShorter, FillsTo, MakesWhole, LeadsTo};
 ghost use Rattle.jsonb_doc.specs.View.{extension_view};
 ghost use Rattle.jsonb_doc.specs.Answer.{IsOutOfMemory, ◌or◌, IsDecodingError};
@@ -177,7 +177,7 @@ fn fill_array<'a>(
         → MatchResult result (FillsTo seen form (array (trees_of (trees_seen seen values.entry.items ++ elements ts))))
         IsOutOfMemory }
     ensures whole { longest ≡ None → IfOk result IsWhole }
-    ensures size { (n : ℕ) → elements_room left.entry < n → IfOk result (IsShorter n) }
+    ensures size { (n : ℕ) → length left.entry.entries.contents.now < n → IfOk result (IsShorter n) }
     ensures errors { IfErr result (IsDecodingError or OutOfMemory) }
 {
     while let Some(item) = left.next() {
@@ -205,7 +205,7 @@ fn fill_object<'a>(
         AreKeys (keys (pairs_of whole))
         → MatchResult result (FillsTo seen form (object (pairs_of whole))) IsOutOfMemory }
     ensures whole { longest ≡ None → IfOk result IsWhole }
-    ensures size { (n : ℕ) → pairs_room left.entry < n → IfOk result (IsShorter n) }
+    ensures size { (n : ℕ) → length left.entry.value_contents.now < n → IfOk result (IsShorter n) }
     ensures errors { IfErr result (IsDecodingError or OutOfMemory) }
 {
     while let Some(pair) = left.next() {

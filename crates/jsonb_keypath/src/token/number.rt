@@ -4,7 +4,8 @@ ghost use Rattle.std.specs.Prelude.{◌≡◌, ◌+◌, ◌^◌, ◌<◌, ◌≤
 ghost use Rattle.std.specs.Int.{w64};
 ghost use Rattle.std.specs.Char.{is_ascii_digit};
 ghost use Rattle.std.specs.List.{prefix_len};
-ghost use Rattle.jsonb_keypath.specs.Tokens.{past, natural_below, sign, with_sign, integer_within};
+ghost use Rattle.jsonb_doc.specs.Rounding.{with_sign};
+ghost use Rattle.jsonb_keypath.specs.Tokens.{past, natural_below, sign, integer_within};
 ghost use Rattle.jsonb_keypath.specs.Views.{read_as, LeavesLess};
 
 use super::literal;

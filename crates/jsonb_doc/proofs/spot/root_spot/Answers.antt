@@ -3,6 +3,8 @@ use Rattle.std.proofs.lemmas.List.{append-nil}
 use Rattle.jsonb_doc.specs.Payload.{number_reader}
 use Rattle.jsonb_doc.specs.Kinds.{kind_number}
 use Rattle.jsonb_doc.proofs.Containers.{Decodes-scalar, IsCut-container}
+use Rattle.jsonb_doc.proofs.ReadItems.{readable_root}
+use Rattle.jsonb_doc.specs.declared.container.Container.TheVariants.{Scalar}
 use Rattle.jsonb_doc.proofs.SpotsLemmas.{Locates-root, scalar_end}
 use Rattle.jsonb_doc.proofs.spot.root_spot.Goals as goal
 
@@ -14,6 +16,9 @@ returns-in-Scalar-clause-marks c = λ t h.
     Locates-root c.args.bytes.now _ t (kind_number e.kind) front e.content.now [] joined refl (omega arith) (omega arith) h
     (λ form top d. Decodes-scalar form c.args.bytes.now e cut top d)
 
+pub returns-in-Scalar-clause-readable : goal.returns-in-Scalar-clause-readable
+returns-in-Scalar-clause-readable c = readable_root c.args.bytes.now (Scalar c.in-Scalar.entry) (rw c.in-Scalar.is at c.in_ok-entry.ensures.cut)
+
 pub returns-in_default : goal.returns-in_default
 returns-in_default c = record {
   marks = λ t h.
@@ -21,6 +26,6 @@ returns-in_default c = record {
       (λ form top d. IsCut-container
       (number_reader form) c.args.bytes.now c.in_ok-entry.field-0 c.in_ok-entry.ensures.cut c.in_default.not-Scalar top d.document);
   size = omega arith;
-  readable = (c.in_ok-entry.field-0, c.in_ok-entry.ensures.cut);
+  readable = readable_root c.args.bytes.now c.in_ok-entry.field-0 c.in_ok-entry.ensures.cut;
   errors = tt;
 }

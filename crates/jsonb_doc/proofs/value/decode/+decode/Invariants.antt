@@ -5,8 +5,8 @@ use Rattle.jsonb_doc.specs.Tree.{Tree, Trees, Pairs, elements, members, keys, tr
 use Rattle.jsonb_doc.specs.Payload.{Form}
 use Rattle.jsonb_doc.specs.Format.{AreKeys}
 use Rattle.jsonb_doc.specs.Item.{StandsFor, item_size}
-use Rattle.jsonb_doc.specs.Elements.{HasElementsLeft, elements_room}
-use Rattle.jsonb_doc.specs.ObjectPairs.{HasPairsLeft, pairs_room}
+use Rattle.jsonb_doc.specs.Elements.{HasElementsLeft}
+use Rattle.jsonb_doc.specs.ObjectPairs.{HasPairsLeft}
 use Rattle.jsonb_doc.specs.Value.{tree_seen}
 use Rattle.jsonb_doc.specs.Private.Values.{trees_seen, members_seen, KeepsNormal, SeesItem}
 use Rattle.jsonb_doc.specs.Private.Filling.{LeadsTo, open_room}
@@ -30,10 +30,10 @@ abbrev pub decreases-closed : goal.decreases-closed
 decreases-closed l = 5 * open_room l.outer + 6
 
 abbrev pub decreases-fill_array : goal.decreases-fill_array
-decreases-fill_array l = 5 * elements_room l.left + 5
+decreases-fill_array l = 5 * length l.left.entries.contents.now + 5
 
 abbrev pub decreases-fill_object : goal.decreases-fill_object
-decreases-fill_object l = 5 * pairs_room l.left + 5
+decreases-fill_object l = 5 * length l.left.value_contents.now + 5
 
 -- the tree is that of the part that is being made, with the containers around it
 abbrev pub invariant-container_value-loop-around : goal.invariant-container_value-loop-around
@@ -64,7 +64,7 @@ abbrev pub invariant-fill_array-loop-item : goal.invariant-fill_array-loop-item
 invariant-fill_array-loop-item l = record {
   can : (goal.iterator-fill_array-loop-item).can_next l.left;
   finite : (goal.iterator-fill_array-loop-item).is_finite l.left;
-  room : elements_room l.left ≤ elements_room l.fn.left;
+  room : length l.left.entries.contents.now ≤ length l.fn.left.entries.contents.now;
   left : (seen : Number → spec.Number) → KeepsNormal seen → (form : Form) (ts : Trees) → HasElementsLeft form l.fn.left ts
       → (rest : Trees) × HasElementsLeft form l.left rest
       × (trees_of (trees_seen seen l.values.items ++ elements rest) ≡ trees_of (trees_seen seen l.fn.values.items ++ elements ts));
@@ -75,7 +75,7 @@ abbrev pub invariant-fill_object-loop-pair : goal.invariant-fill_object-loop-pai
 invariant-fill_object-loop-pair l = record {
   can : (goal.iterator-fill_object-loop-pair).can_next l.left;
   finite : (goal.iterator-fill_object-loop-pair).is_finite l.left;
-  room : pairs_room l.left ≤ pairs_room l.fn.left;
+  room : length l.left.value_contents.now ≤ length l.fn.left.value_contents.now;
   left : (seen : Number → spec.Number) → KeepsNormal seen → (form : Form) (ps : Pairs) → HasPairsLeft form l.fn.left ps
       → AreKeys (keys (pairs_of (members_seen seen l.fn.members.entries ++ members ps)))
       → (rest : Pairs) × HasPairsLeft form l.left rest

@@ -3,7 +3,7 @@ use Rattle.std.specs.Int.{w64}
 use mir.Val.{to_z, of_z}
 use Rattle.std.proofs.lemmas.Int.{to_z-of_z}
 use Rattle.jsonb_keypath.specs.Rules.{parsed_map}
-use Rattle.jsonb_keypath.specs.Tokens.{with_sign}
+use Rattle.jsonb_doc.specs.Rounding.{with_sign}
 use Rattle.jsonb_keypath.proofs.NumberLemmas.{int64_read, is_within-decides, when_passes, when_not, when_none, not_true}
 use Rattle.jsonb_keypath.proofs.token.number.int64.Goals as goal
 
