@@ -7,12 +7,11 @@ use Rattle.std.proofs.lemmas.Cmp.{nat_list_cmp_total}
 use Rattle.std.proofs.lemmas.Map.Text.{is_eq-slice_cmp}
 use Rattle.jsonb_doc.specs.Tree.{Tree, null, boolean, number, text, extension, array, object, Trees, no_trees, tree, Pairs, no_pairs, pair, elements, keys, values}
 use Rattle.jsonb_doc.specs.Format.{IsBelowFirst, AreKeys}
-use Rattle.jsonb_doc.specs.Limits.{IsInRange, AreInRange, ValuesAreInRange}
+use Rattle.jsonb_doc.specs.Limits.{IsInRange, AreInRange, ValuesAreInRange, Fits}
 use Rattle.jsonb_doc.proofs.WordLemmas.{bytes_eq-true}
 use Rattle.jsonb_keypath.specs.KeyPathGrammar.{Key, index, quoted_name, unquoted_name}
 use Rattle.jsonb_raw.specs.Places.{children, asked_key, child_position, location, tree_at_steps, index_position}
-use Rattle.jsonb_raw.specs.Deletes.{change_tree, change_value, change_child, remove_at}
-use Rattle.jsonb_raw.specs.DeletesLaws.{PairsAreGone}
+use Rattle.jsonb_raw.specs.Deletes.{change_tree, change_value, change_child, remove_at, without}
 use Rattle.jsonb_raw.proofs.PlaceLemmas.{position-cons, step_by_step}
 use Rattle.jsonb_raw.proofs.PositionLemmas.{position_in_object}
 
@@ -222,7 +221,8 @@ gone (step ∷ front) last t ps ns fits parent met t' out =
     let here = goes_on step (front ++ last ∷ []) _ _ f.at meets there rest in
     subst (λ (u : Tree). location (step ∷ (front ++ last ∷ [])) u ≡ None) (taken_first f.at ns f.others t t' f.split out) here
 
-pub pairs_are_gone : PairsAreGone
+pub pairs_are_gone : (t : Tree) → Fits t → (front : List Key) (last : Key) (ps : Pairs) → tree_at_steps front t ≡ Some (object ps)
+    → location (front ++ last ∷ []) (without (front ++ last ∷ []) t) ≡ None
 pairs_are_gone t fits front last ps parent = by (location (front ++ last ∷ []) t) refl
   where
     left : (o : Option Tree) (ns : List ℕ) → remove_at ns t ≡ o → location (front ++ last ∷ []) t ≡ Some ns

@@ -10,8 +10,7 @@ use Rattle.jsonb_doc.specs.Tree.{Tree}
 use Rattle.jsonb_doc.specs.Order.{tree_cmp, IsEqual}
 use Rattle.jsonb_doc.specs.Depth.{deepest}
 use Rattle.jsonb_raw.specs.NoExtension.{HasNoExtension}
-use Rattle.jsonb_raw.specs.KeyLaws.{HasKey}
-use Rattle.jsonb_raw.specs.SortableKey.{sortable_key, depths}
+use Rattle.jsonb_raw.specs.SortableKey.{sortable_key, depths, HasKey}
 
 -- memory was refused, or an item of what was asked for lies too deep
 abbrev pub IsOutOfMemoryOrTooDeep : ℕ → ℕ → Error → Type 0
