@@ -15,7 +15,6 @@ use Rattle.jsonb_doc.proofs.DecodedFits.{decoded_fits}
 use Rattle.jsonb_doc.specs.Depth.{deepest}
 use Rattle.jsonb_doc.specs.Limits.{Fits}
 use Rattle.jsonb_raw.specs.NoExtension.{HasNoExtension}
-use Rattle.jsonb_raw.specs.KeyAnswer.{RanksWith}
 use Rattle.jsonb_doc.specs.Order.{tree_cmp, IsEqual}
 use Rattle.jsonb_raw.specs.SortableKey.{sortable_key, depths, HasKey, IsRest}
 use Rattle.jsonb_raw.specs.EqualityKey.{equality_key}
@@ -53,8 +52,12 @@ equality_keys_tell_apart t u h k = (
       (keyable t h) (keyable u k) e,
 )
 
+-- the bytes rank with the key of the tree u as the tree t does
+abbrev RanksWith : Width → Tree → Tree → List ℕ → Type 0
+RanksWith w t u bytes = (bytes_cmp bytes (sortable_key w u 0) ≡ tree_cmp t u) × ((bytes ≡ sortable_key w u 0) ↔ IsEqual t u)
+
 ranks_with : (w : Width) (t u : Tree) (made : List ℕ) → HasKey w t 0 → HasKey w u 0 → made ≡ sortable_key w t 0 → RanksWith w t u made
-ranks_with w t u made h k e = rw e (record { order = keys_order w t u h k; same = keys_tell_apart w t u h k })
+ranks_with w t u made h k e = rw e (keys_order w t u h k, keys_tell_apart w t u h k)
 
 -- the key of a document ranks as its tree, which is in range since it was decoded
 pub decoded_ranks : (w : Width) (form : Form) (bytes made : List ℕ) (t : Tree) → AreBytes bytes → Decodes form bytes t → made ≡ sortable_key w t 0

@@ -43,13 +43,12 @@ item_bytes w depth kind content = to_be_bytes w depth ++ kind ∷ content
 
 abbrev mutual
   pub sortable_key : Width → Tree → ℕ → List ℕ
-  sortable_key w Tree.null d = item_bytes w d 8 []
-  sortable_key w (Tree.boolean b) d = item_bytes w d (rank (Tree.boolean b)) []
   sortable_key w (Tree.number n) d = item_bytes w d 4 (number_bytes n.whole n.scale)
   sortable_key w (Tree.text bytes) d = item_bytes w d 5 (text_bytes bytes)
   sortable_key w (Tree.extension x) d = item_bytes w d 1 (extension_payload x ++ 0 ∷ [])
   sortable_key w (Tree.array ts) d = item_bytes w d 7 (keys_of_trees w ts (suc d))
   sortable_key w (Tree.object ps) d = item_bytes w d 6 (keys_of_pairs w ps (suc d))
+  sortable_key w t d = item_bytes w d (rank t) []
 
   pub keys_of_trees : Width → Trees → ℕ → List ℕ
   keys_of_trees w Trees.no_trees d = []
