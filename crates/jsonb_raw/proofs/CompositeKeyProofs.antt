@@ -1,18 +1,21 @@
 -- Keys of several values, one behind the other, from the keys of each with what follows it.
-use Rattle.std.proofs.Common.{◌≡◌, ℕ, ◌<◌, List, [], ◌∷◌, ◌++◌, Option, None, Some, IfSome, true, Less, Greater, inl, refl, sym, ap, subst, ◌∙◌, arith, append_assoc}
+use Rattle.std.proofs.Common.{◌≡◌, ℕ, ◌<◌, List, [], ◌∷◌, ◌++◌, flat_map, Option, None, Some, IfSome, true, Less, Greater, inl, refl, sym, ap, subst, ◌∙◌, arith, append_assoc}
 use Rattle.std.specs.Ordering.{ordering_then}
+use Rattle.std.specs.Cmp.Lexicographic.{slice_cmp}
 use Rattle.std.specs.Option.{option_cmp}
 use Rattle.std.specs.Int.{Width, to_be_bytes, byte_len}
 use native.Mathlib.Nat.{one-le-pow}
 use Rattle.jsonb_doc.specs.Proofs.Orderings.{nat_cmp-lt, nat_cmp-gt}
 use Rattle.jsonb_doc.specs.Tree.{Tree}
 use Rattle.jsonb_doc.specs.Order.{rank, tree_cmp}
-use Rattle.jsonb_raw.specs.SortableKey.{sortable_key, depths, item_bytes, IsRest}
-use Rattle.jsonb_raw.specs.KeyLaws.{HasKey}
-use Rattle.jsonb_raw.specs.CompositeKeys.{column_key, composite_key, CompositeKeysOrder}
+use Rattle.jsonb_raw.specs.SortableKey.{sortable_key, depths, item_bytes, HasKey, IsRest}
+use Rattle.jsonb_raw.specs.CompositeKeys.{column_key, HaveKeys}
 use Rattle.jsonb_raw.proofs.Ranking.{bytes_cmp}
 use Rattle.jsonb_raw.proofs.KeyLawProofs.{ranked}
 use Rattle.jsonb_raw.proofs.TreeKeys.{items_rank, key_is_item, IsRest-item, nothing_below_depth, nothing_above_depth}
+
+abbrev composite_key : Width → List (Option Tree) → List ℕ
+composite_key w columns = flat_map (column_key w) columns
 
 some_depth : (w : Width) → 0 < depths w
 some_depth w = one-le-pow (byte_len w) 256 (omega arith)
@@ -65,7 +68,8 @@ columns_rank w None (Some u) r s ht hu hr hs = missing_below w u r s
 columns_rank w (Some t) None r s ht hu hr hs = above_missing w t r s
 columns_rank w (Some t) (Some u) r s ht hu hr hs = ranked w t u 0 r s ht hu hr hs
 
-pub composite_keys_order : (w : Width) → CompositeKeysOrder w
+pub composite_keys_order : (w : Width) (ts us : List (Option Tree)) → HaveKeys w ts → HaveKeys w us
+    → bytes_cmp (composite_key w ts) (composite_key w us) ≡ slice_cmp (option_cmp tree_cmp) ts us
 composite_keys_order w [] [] ht hu = refl
 composite_keys_order w [] (u ∷ us) ht hu = below_column w u (composite_key w us)
 composite_keys_order w (t ∷ ts) [] ht hu = above_nothing w t (composite_key w ts)

@@ -9,9 +9,8 @@ use Rattle.jsonb_doc.specs.Encoding.{EntryParts}
 use Rattle.jsonb_doc.specs.Private.ObjectBytes.{words_of_entries, contents_of_entries}
 use Rattle.jsonb_doc.proofs.Containers.{entries_of, count-values}
 use Rattle.jsonb_raw.specs.declared.functions.path.entry_place.EntryPlace.{EntryPlace}
-use Rattle.jsonb_raw.specs.Deletes.{change_tree, change_value}
 use Rattle.jsonb_raw.specs.Private.Cuts.{FitEntries, HoldEntries, IsPlaceOf, AreInOrder, AreOfChild, around}
-use Rattle.jsonb_raw.proofs.EntryLists.{Listed, Split, SplitKeys, listed, joined, joined_values, count_are, split, split_keys, values_changed, key_entries, key-words, key-contents, key-within, key-count, keys-append, words-append, contents-append, length-kept_words, within-front, within-back, within-both}
+use Rattle.jsonb_raw.proofs.EntryLists.{changed_trees, changed_pairs, Listed, Split, SplitKeys, listed, joined, joined_values, count_are, split, split_keys, values_changed, key_entries, key-words, key-contents, key-within, key-count, keys-append, words-append, contents-append, length-kept_words, within-front, within-back, within-both}
 use Rattle.jsonb_raw.proofs.CutLemmas.{content_there, content_replaced, entry_within, entry_in_order, entry_left_out, replaced_no_longer, left_out_shorter, both_left_out, both_in_order, both_shorter}
 
 -- ---- headers
@@ -75,8 +74,8 @@ module _ (number_at : NumberReader) (ts : Trees) (bytes : List ℕ) (h : IsConta
             (count ts) whole refl element_total is;
         cut = λ change gone.
             let are = cut_entries.without change gone in
-            let left = count_are number_at (change_tree n change ts) (cut_entries.front ++ cut_entries.back) are in
-            let more : count ts ≡ suc (count (change_tree n change ts)) = omega (
+            let left = count_are number_at (changed_trees n change ts) (cut_entries.front ++ cut_entries.back) are in
+            let more : count ts ≡ suc (count (changed_trees n change ts)) = omega (
               arith,
               element_total,
               left,
@@ -91,11 +90,11 @@ module _ (number_at : NumberReader) (ts : Trees) (bytes : List ℕ) (h : IsConta
                 headed = record {
                   known = omega arith;
                   fits = omega (arith, h.headed.fits, more);
-                  joined = both _ _ _ _ (header_less array_header (count ts) (count (change_tree n change ts)) less less_is more)
+                  joined = both _ _ _ _ (header_less array_header (count ts) (count (changed_trees n change ts)) less less_is more)
                       (entry_left_out bytes (header array_header (count ts)) cut_entries.front cut_entries.back cut_entries.entry place
                       (count ts) whole refl element_total is);
                 };
-                parts = joined number_at (change_tree n change ts) (cut_entries.front ++ cut_entries.back)
+                parts = joined number_at (changed_trees n change ts) (cut_entries.front ++ cut_entries.back)
                     (within-both cut_entries.front cut_entries.back within_front within_back.1) are;
               },
             );
@@ -106,8 +105,8 @@ module _ (number_at : NumberReader) (ts : Trees) (bytes : List ℕ) (h : IsConta
         ));
         changed = λ change child' content' made is' no_longer.
             let are = cut_entries.changed change child' (container_entry, content') made is' in
-            let left = count_are number_at (change_tree n change ts) (cut_entries.front ++ (container_entry, content') ∷ cut_entries.back) are in
-            let same : count (change_tree n change ts)
+            let left = count_are number_at (changed_trees n change ts) (cut_entries.front ++ (container_entry, content') ∷ cut_entries.back) are in
+            let same : count (changed_trees n change ts)
             ≡ count ts = omega (
               arith,
               element_total,
@@ -130,7 +129,7 @@ module _ (number_at : NumberReader) (ts : Trees) (bytes : List ℕ) (h : IsConta
                         (count ts) whole refl element_total is content',
                   ) refl;
                 };
-                parts = joined number_at (change_tree n change ts) (cut_entries.front ++ (container_entry, content') ∷ cut_entries.back)
+                parts = joined number_at (changed_trees n change ts) (cut_entries.front ++ (container_entry, content') ∷ cut_entries.back)
                     (within-both cut_entries.front ((container_entry, content') ∷ cut_entries.back) within_front ((omega arith, short), within_back.1)) are;
               },
             );
@@ -418,7 +417,7 @@ module _ (number_at : NumberReader) (ps : Pairs) (bytes : List ℕ)
         cut = λ change gone.
             let are = rw (← values_changed ps n change) at (cut_values.without change gone) in
             let keys_left = cut_keys.without change gone in
-            let more : length (keys ps) ≡ suc (length (keys (change_value n change ps))) =
+            let more : length (keys ps) ≡ suc (length (keys (changed_pairs n change ps))) =
             omega (
               arith,
               ap length keys_left,
@@ -429,15 +428,15 @@ module _ (number_at : NumberReader) (ps : Pairs) (bytes : List ℕ)
             ) in (
               refl,
               record {
-                words = key_words (keys (change_value n change ps)) ++ words_of_entries (cut_values.front ++ cut_values.back);
-                contents = key_bytes (keys (change_value n change ps)) ++ contents_of_entries (cut_values.front ++ cut_values.back);
+                words = key_words (keys (changed_pairs n change ps)) ++ words_of_entries (cut_values.front ++ cut_values.back);
+                contents = key_bytes (keys (changed_pairs n change ps)) ++ contents_of_entries (cut_values.front ++ cut_values.back);
                 headed = record {
                   known = omega arith;
                   fits = omega (arith, h.headed.fits, more);
-                  joined = both _ _ _ _ (header_less object_header (length (keys ps)) (length (keys (change_value n change ps))) less less_is more)
+                  joined = both _ _ _ _ (header_less object_header (length (keys ps)) (length (keys (changed_pairs n change ps))) less less_is more)
                       (pair_left_out bytes (header object_header (length (keys ps))) cut_keys.front cut_keys.back
                       (keys ps) cut_keys.key cut_values.front cut_values.back cut_values.entry key value
-                      (2 * length (keys ps)) cut_keys.whole refl both_joined both_total key_is value_is (keys (change_value n change ps)) keys_left);
+                      (2 * length (keys ps)) cut_keys.whole refl both_joined both_total key_is value_is (keys (changed_pairs n change ps)) keys_left);
                 };
                 parts = record {
                   value_words = words_of_entries (cut_values.front ++ cut_values.back);
@@ -445,7 +444,7 @@ module _ (number_at : NumberReader) (ps : Pairs) (bytes : List ℕ)
                   words_joined = refl;
                   contents_joined = refl;
                   are_keys = rw keys_left (keys_without cut_keys.front cut_keys.key cut_keys.back (rw cut_keys.whole at h.parts.are_keys));
-                  values = joined_values number_at (change_value n change ps) (cut_values.front ++ cut_values.back)
+                  values = joined_values number_at (changed_pairs n change ps) (cut_values.front ++ cut_values.back)
                       (within-both cut_values.front cut_values.back within_front within_back.1) are;
                 };
               },
@@ -462,8 +461,8 @@ module _ (number_at : NumberReader) (ps : Pairs) (bytes : List ℕ)
             let short : length content' < 2 ^ 28 = omega (arith, within_back.0.1, no_longer, ap length there) in (
               refl,
               record {
-                words = key_words (keys (change_value n change ps)) ++ words_of_entries (cut_values.front ++ (container_entry, content') ∷ cut_values.back);
-                contents = key_bytes (keys (change_value n change ps))
+                words = key_words (keys (changed_pairs n change ps)) ++ words_of_entries (cut_values.front ++ (container_entry, content') ∷ cut_values.back);
+                contents = key_bytes (keys (changed_pairs n change ps))
                     ++ contents_of_entries (cut_values.front ++ (container_entry, content') ∷ cut_values.back);
                 headed = record {
                   known = omega arith;
@@ -471,7 +470,7 @@ module _ (number_at : NumberReader) (ps : Pairs) (bytes : List ℕ)
                   joined = content_replaced bytes (header object_header (length (keys ps))) before_value cut_values.back cut_values.entry value
                       (2 * length (keys ps)) value_joined refl value_total value_is content'
                       ∙ both _ _ _ _ (ap (λ ks. header object_header (length ks)) (sym keys_same))
-                      (entries_by_keys (keys ps) (keys (change_value n change ps)) cut_values.front ((container_entry, content') ∷ cut_values.back) keys_same);
+                      (entries_by_keys (keys ps) (keys (changed_pairs n change ps)) cut_values.front ((container_entry, content') ∷ cut_values.back) keys_same);
                 };
                 parts = record {
                   value_words = words_of_entries (cut_values.front ++ (container_entry, content') ∷ cut_values.back);
@@ -479,7 +478,7 @@ module _ (number_at : NumberReader) (ps : Pairs) (bytes : List ℕ)
                   words_joined = refl;
                   contents_joined = refl;
                   are_keys = rw keys_same h.parts.are_keys;
-                  values = joined_values number_at (change_value n change ps) (cut_values.front ++ (container_entry, content') ∷ cut_values.back)
+                  values = joined_values number_at (changed_pairs n change ps) (cut_values.front ++ (container_entry, content') ∷ cut_values.back)
                       (within-both cut_values.front ((container_entry, content') ∷ cut_values.back) within_front ((omega arith, short), within_back.1)) are;
                 };
               },

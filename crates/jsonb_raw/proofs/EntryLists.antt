@@ -1,15 +1,27 @@
 -- Trees and their entries, as lists.
 use Rattle.std.proofs.Common.{◌≡◌, ℕ, zero, suc, ◌+◌, ◌*◌, List, [], ◌∷◌, ◌++◌, length, map, Option, Some, None, refl, sym, ap, subst, ◌∙◌, arith, append_assoc, slice_get}
-use Rattle.std.specs.Prelude.{⊤}
-use Rattle.jsonb_doc.specs.Tree.{Tree, Trees, no_trees, tree, Pairs, no_pairs, pair, elements, count, keys, values}
+use Rattle.std.specs.Prelude.{⊤, option_map}
+use Rattle.std.specs.Option.{option_to_list}
+use Rattle.jsonb_doc.specs.Tree.{Tree, Trees, no_trees, tree, Pairs, no_pairs, pair, elements, count, keys, values, trees_of, members, pairs_of}
 use Rattle.jsonb_doc.specs.Payload.{NumberReader}
 use Rattle.jsonb_doc.specs.Format.{entry_word, text_entry, key_words, key_bytes, AreKeys, IsContent, AreEntries, AreValues}
 use Rattle.jsonb_doc.specs.Encoding.{EntryParts}
+use Rattle.jsonb_doc.proofs.TreeLists.{trees_of-elements, pairs_of-members}
 use Rattle.jsonb_doc.specs.Lengths.{StandBefore}
 use Rattle.jsonb_doc.specs.Private.ObjectBytes.{words_of_entries, contents_of_entries}
-use Rattle.jsonb_raw.specs.Deletes.{put_tree, put_pair, change_tree, change_value}
+use Rattle.jsonb_raw.specs.Deletes.{change_at, change_value}
 use Rattle.jsonb_raw.specs.Private.Cuts.{FitEntries}
 pub use Rattle.jsonb_raw.specs.Private.Stripping.{key_entries}
+
+-- ---- children that are changed
+
+-- the trees with what is made of the one at a position
+abbrev pub changed_trees : ℕ → (Tree → Option Tree) → Trees → Trees
+changed_trees n change ts = trees_of (change_at n change (elements ts))
+
+-- the pairs with what is made of the value of the one at a position
+abbrev pub changed_pairs : ℕ → (Tree → Option Tree) → Pairs → Pairs
+changed_pairs n change ps = pairs_of (change_at n (change_value change) (members ps))
 
 -- ---- entries
 
@@ -154,9 +166,9 @@ module _ (number_at : NumberReader) where
     pub whole : es ≡ front ++ entry ∷ back
     pub passed : n ≡ length front
     pub is : IsContent number_at child entry.0 entry.1
-    pub without : (change : Tree → Option Tree) → change child ≡ None → AreOf (change_tree n change ts) (front ++ back)
+    pub without : (change : Tree → Option Tree) → change child ≡ None → AreOf (changed_trees n change ts) (front ++ back)
     pub changed : (change : Tree → Option Tree) (child' : Tree) (e : EntryParts) → change child ≡ Some child' → IsContent number_at child' e.0 e.1
-        → AreOf (change_tree n change ts) (front ++ e ∷ back)
+        → AreOf (changed_trees n change ts) (front ++ e ∷ back)
 
   pub split : (ts : Trees) (es : List EntryParts) (n : ℕ) (child : Tree) → AreOf ts es → slice_get (elements ts) n ≡ Some child → Split ts es n child
   split no_trees es n child h at = let bad : None ≡ Some child = at in absurd (cc)
@@ -170,8 +182,8 @@ module _ (number_at : NumberReader) where
         whole = refl;
         passed = refl;
         is = subst (λ (u : Tree). IsContent number_at u e.0 e.1) same h.0;
-        without = λ change gone. let g : change t ≡ None = ap change same ∙ gone in rw g h.1;
-        changed = λ change child' e' made is. let g : change t ≡ Some child' = ap change same ∙ made in rw g (is, h.1);
+        without = λ change gone. let g : change t ≡ None = ap change same ∙ gone in rw (g, trees_of-elements ts) h.1;
+        changed = λ change child' e' made is. let g : change t ≡ Some child' = ap change same ∙ made in rw (g, trees_of-elements ts) (is, h.1);
       }
   split (tree t ts) (e ∷ es) (suc n) child h at =
       let s = split ts es n child h.1 at in
@@ -195,8 +207,8 @@ pub record SplitKeys (ps : Pairs) (n : ℕ) (child : Tree) : Type 0 where
   pub back : List (List ℕ)
   pub whole : keys ps ≡ front ++ key ∷ back
   pub passed : n ≡ length front
-  pub without : (change : Tree → Option Tree) → change child ≡ None → keys (change_value n change ps) ≡ front ++ back
-  pub changed : (change : Tree → Option Tree) (child' : Tree) → change child ≡ Some child' → keys (change_value n change ps) ≡ keys ps
+  pub without : (change : Tree → Option Tree) → change child ≡ None → keys (changed_pairs n change ps) ≡ front ++ back
+  pub changed : (change : Tree → Option Tree) (child' : Tree) → change child ≡ Some child' → keys (changed_pairs n change ps) ≡ keys ps
 
 pub split_keys : (ps : Pairs) (n : ℕ) (child : Tree) → slice_get (elements (values ps)) n ≡ Some child → SplitKeys ps n child
 split_keys no_pairs n child at = let bad : None ≡ Some child = at in absurd (cc)
@@ -208,8 +220,8 @@ split_keys (pair key t ps) zero child at =
       back = keys ps;
       whole = refl;
       passed = refl;
-      without = λ change gone. let g : change t ≡ None = ap change same ∙ gone in rw g refl;
-      changed = λ change child' made. let g : change t ≡ Some child' = ap change same ∙ made in rw g refl;
+      without = λ change gone. let g : change t ≡ None = ap change same ∙ gone in rw (g, pairs_of-members ps) refl;
+      changed = λ change child' made. let g : change t ≡ Some child' = ap change same ∙ made in rw (g, pairs_of-members ps) refl;
     }
 split_keys (pair key t ps) (suc n) child at =
     let s = split_keys ps n child at in
@@ -224,11 +236,12 @@ split_keys (pair key t ps) (suc n) child at =
     }
 
 -- the values of changed pairs are the changed values
-pub values_changed : (ps : Pairs) (n : ℕ) (change : Tree → Option Tree) → values (change_value n change ps) ≡ change_tree n change (values ps)
+pub values_changed : (ps : Pairs) (n : ℕ) (change : Tree → Option Tree) → values (changed_pairs n change ps) ≡ changed_trees n change (values ps)
 values_changed no_pairs n change = refl
 values_changed (pair key t ps) zero change = by (change t)
   where
-    by : (o : Option Tree) → values (put_pair key o ps) ≡ put_tree o (values ps)
-    by None = refl
-    by (Some u) = refl
+    by : (o : Option Tree) → values (pairs_of (option_to_list (option_map (λ u. (key, u)) o) ++ members ps))
+        ≡ trees_of (option_to_list o ++ elements (values ps))
+    by None = rw (pairs_of-members ps, trees_of-elements (values ps)) refl
+    by (Some u) = rw (pairs_of-members ps, trees_of-elements (values ps)) refl
 values_changed (pair key t ps) (suc n) change = ap (tree t) (values_changed ps n change)

@@ -7,12 +7,13 @@ use Rattle.std.proofs.lemmas.Cmp.{nat_list_cmp_total}
 use Rattle.std.proofs.lemmas.Map.Text.{is_eq-slice_cmp}
 use Rattle.jsonb_doc.specs.Tree.{Tree, null, boolean, number, text, extension, array, object, Trees, no_trees, tree, Pairs, no_pairs, pair, elements, keys, values}
 use Rattle.jsonb_doc.specs.Format.{IsBelowFirst, AreKeys}
-use Rattle.jsonb_doc.specs.Limits.{IsInRange, AreInRange, ValuesAreInRange}
+use Rattle.jsonb_doc.specs.Limits.{IsInRange, AreInRange, ValuesAreInRange, Fits}
 use Rattle.jsonb_doc.proofs.WordLemmas.{bytes_eq-true}
 use Rattle.jsonb_keypath.specs.KeyPathGrammar.{Key, index, quoted_name, unquoted_name}
 use Rattle.jsonb_raw.specs.Places.{children, asked_key, child_position, location, tree_at_steps, index_position}
-use Rattle.jsonb_raw.specs.Deletes.{change_tree, change_value, change_child, remove_at}
-use Rattle.jsonb_raw.specs.DeletesLaws.{PairsAreGone}
+use Rattle.jsonb_raw.specs.Deletes.{change_child, remove_at, without}
+use Rattle.jsonb_doc.proofs.TreeLists.{trees_of-elements, pairs_of-members}
+use Rattle.jsonb_raw.proofs.EntryLists.{changed_trees, changed_pairs}
 use Rattle.jsonb_raw.proofs.PlaceLemmas.{position-cons, step_by_step}
 use Rattle.jsonb_raw.proofs.PositionLemmas.{position_in_object}
 
@@ -38,49 +39,49 @@ below_all name (key ∷ ks) below rising =
 
 -- where the pair of a key is taken out, no key is that key
 key_gone : (name : List ℕ) (ps : Pairs) (n : ℕ) → AreKeys (keys ps) → position (λ k. bytes_eq k name) (keys ps) ≡ Some n
-    → position (λ k. bytes_eq k name) (keys (change_value n (remove_at []) ps)) ≡ None
+    → position (λ k. bytes_eq k name) (keys (changed_pairs n (remove_at []) ps)) ≡ None
 key_gone name no_pairs n rising at = let bad : None ≡ Some n = at in absurd (cc)
 key_gone name (pair key t ps) n rising at = by (λ m e. key_gone name ps m rising.2 e) (bytes_eq key name) refl
   where
     others_gone : Type 0
     others_gone = (m : ℕ) → position (λ k. bytes_eq k name) (keys ps) ≡ Some m
-        → position (λ k. bytes_eq k name) (keys (change_value m (remove_at []) ps)) ≡ None
+        → position (λ k. bytes_eq k name) (keys (changed_pairs m (remove_at []) ps)) ≡ None
 
     behind : others_gone → (o : Option ℕ) → position (λ k. bytes_eq k name) (keys ps) ≡ o → bytes_eq key name ≡ false → option_map suc o ≡ Some n
-        → position (λ k. bytes_eq k name) (keys (change_value n (remove_at []) (pair key t ps))) ≡ None
+        → position (λ k. bytes_eq k name) (keys (changed_pairs n (remove_at []) (pair key t ps))) ≡ None
     behind rest None is other e = let bad : None ≡ Some n = e in absurd (cc)
     behind rest (Some m) is other e =
         let e' : suc m ≡ n = cc e in
-        rw (← e') (none_in_front name key (keys (change_value m (remove_at []) ps)) other (rest m is))
+        rw (← e') (none_in_front name key (keys (changed_pairs m (remove_at []) ps)) other (rest m is))
 
-    by : others_gone → (b : Bool) → bytes_eq key name ≡ b → position (λ k. bytes_eq k name) (keys (change_value n (remove_at []) (pair key t ps))) ≡ None
+    by : others_gone → (b : Bool) → bytes_eq key name ≡ b → position (λ k. bytes_eq k name) (keys (changed_pairs n (remove_at []) (pair key t ps))) ≡ None
     by rest true same =
         let first : 0 ≡ n = cc (sym (position-cons (λ k. bytes_eq k name) key (keys ps) true same) ∙ at) in
         let is : key ≡ name = bytes_eq-true key name same in
-        rw (← first, ← is) (below_all key (keys ps) rising.1 rising.2)
+        rw (← first, ← is, pairs_of-members ps) (below_all key (keys ps) rising.1 rising.2)
     by rest false other = behind rest (position (λ k. bytes_eq k name) (keys ps)) refl other
         (sym (position-cons (λ k. bytes_eq k name) key (keys ps) false other) ∙ at)
 
 -- ---- a child that is changed, and not taken out
 
 module _ (change : Tree → Option Tree) (child child' : Tree) (changed : change child ≡ Some child') where
-  same_count : (ts : Trees) (n : ℕ) → slice_get (elements ts) n ≡ Some child → length (elements (change_tree n change ts)) ≡ length (elements ts)
+  same_count : (ts : Trees) (n : ℕ) → slice_get (elements ts) n ≡ Some child → length (elements (changed_trees n change ts)) ≡ length (elements ts)
   same_count no_trees n at = refl
-  same_count (tree t ts) zero at = let e : t ≡ child = cc at in rw (e, changed) refl
+  same_count (tree t ts) zero at = let e : t ≡ child = cc at in rw (e, changed, trees_of-elements ts) refl
   same_count (tree t ts) (suc n) at = ap suc (same_count ts n at)
 
-  same_keys : (ps : Pairs) (n : ℕ) → slice_get (elements (values ps)) n ≡ Some child → keys (change_value n change ps) ≡ keys ps
+  same_keys : (ps : Pairs) (n : ℕ) → slice_get (elements (values ps)) n ≡ Some child → keys (changed_pairs n change ps) ≡ keys ps
   same_keys no_pairs n at = refl
-  same_keys (pair key t ps) zero at = let e : t ≡ child = cc at in rw (e, changed) refl
+  same_keys (pair key t ps) zero at = let e : t ≡ child = cc at in rw (e, changed, pairs_of-members ps) refl
   same_keys (pair key t ps) (suc n) at = ap (λ ks. key ∷ ks) (same_keys ps n at)
 
-  element_there : (ts : Trees) (n : ℕ) → slice_get (elements ts) n ≡ Some child → slice_get (elements (change_tree n change ts)) n ≡ Some child'
+  element_there : (ts : Trees) (n : ℕ) → slice_get (elements ts) n ≡ Some child → slice_get (elements (changed_trees n change ts)) n ≡ Some child'
   element_there no_trees n at = let bad : None ≡ Some child = at in absurd (cc)
   element_there (tree t ts) zero at = let e : t ≡ child = cc at in rw (e, changed) refl
   element_there (tree t ts) (suc n) at = element_there ts n at
 
   value_there : (ps : Pairs) (n : ℕ) → slice_get (elements (values ps)) n ≡ Some child
-      → slice_get (elements (values (change_value n change ps))) n ≡ Some child'
+      → slice_get (elements (values (changed_pairs n change ps))) n ≡ Some child'
   value_there no_pairs n at = let bad : None ≡ Some child = at in absurd (cc)
   value_there (pair key t ps) zero at = let e : t ≡ child = cc at in rw (e, changed) refl
   value_there (pair key t ps) (suc n) at = value_there ps n at
@@ -101,7 +102,7 @@ module _ (change : Tree → Option Tree) (child child' : Tree) (changed : change
   same_position (quoted_name name) (array ts) n at = refl
   same_position (unquoted_name name) (array ts) n at = refl
   same_position step (object ps) n at =
-      position_in_object step (change_value n change ps) ∙ ap (position (λ key. bytes_eq key (asked_key step))) (same_keys ps n at)
+      position_in_object step (changed_pairs n change ps) ∙ ap (position (λ key. bytes_eq key (asked_key step))) (same_keys ps n at)
       ∙ sym (position_in_object step ps)
   same_position step null n at = refl
   same_position step _ n at = refl
@@ -173,7 +174,7 @@ in_object : (last : Key) (t : Tree) (ps : Pairs) (n : ℕ) → t ≡ object ps �
     → position (λ key. bytes_eq key (asked_key last)) (keys ps) ≡ Some n
 in_object last t ps n is at = sym (position_in_object last ps) ∙ rw is at at
 
-object_left : (t t' : Tree) (ps : Pairs) (n : ℕ) → t ≡ object ps → change_child n (remove_at []) t ≡ t' → object (change_value n (remove_at []) ps) ≡ t'
+object_left : (t t' : Tree) (ps : Pairs) (n : ℕ) → t ≡ object ps → change_child n (remove_at []) t ≡ t' → object (changed_pairs n (remove_at []) ps) ≡ t'
 object_left t t' ps n is left = rw is at left
 
 inner_parent : (step : Key) (steps : List Key) (t child : Tree) (n : ℕ) (wanted : Option Tree) → child_position step t ≡ Some n
@@ -194,8 +195,8 @@ last_gone last t ps ns rising is met t' out =
     let end : [] ≡ f.others = cc f.placed in
     let left = object_left t t' ps f.at is (taken_last f.at ns f.others t t' f.split end out) in
     let gone = key_gone (asked_key last) ps f.at rising (in_object last t ps f.at is f.meets) in
-    let none = position_in_object last (change_value f.at (remove_at []) ps) ∙ gone in
-    subst (λ (u : Tree). location (last ∷ []) u ≡ None) left (no_child (object (change_value f.at (remove_at []) ps)) none)
+    let none = position_in_object last (changed_pairs f.at (remove_at []) ps) ∙ gone in
+    subst (λ (u : Tree). location (last ∷ []) u ≡ None) left (no_child (object (changed_pairs f.at (remove_at []) ps)) none)
   where
     no_child : (u : Tree) → child_position last u ≡ None → location (last ∷ []) u ≡ None
     no_child u none = rw none refl
@@ -222,7 +223,8 @@ gone (step ∷ front) last t ps ns fits parent met t' out =
     let here = goes_on step (front ++ last ∷ []) _ _ f.at meets there rest in
     subst (λ (u : Tree). location (step ∷ (front ++ last ∷ [])) u ≡ None) (taken_first f.at ns f.others t t' f.split out) here
 
-pub pairs_are_gone : PairsAreGone
+pub pairs_are_gone : (t : Tree) → Fits t → (front : List Key) (last : Key) (ps : Pairs) → tree_at_steps front t ≡ Some (object ps)
+    → location (front ++ last ∷ []) (without (front ++ last ∷ []) t) ≡ None
 pairs_are_gone t fits front last ps parent = by (location (front ++ last ∷ []) t) refl
   where
     left : (o : Option Tree) (ns : List ℕ) → remove_at ns t ≡ o → location (front ++ last ∷ []) t ≡ Some ns

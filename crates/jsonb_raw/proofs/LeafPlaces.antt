@@ -7,11 +7,10 @@ use Rattle.std.proofs.lemmas.Cmp.{nat_list_cmp_total}
 use Rattle.std.specs.List.{AllByRecursion}
 use Rattle.jsonb_doc.specs.Tree.{Tree, null, boolean, number, text, extension, array, object, Trees, no_trees, tree, Pairs, no_pairs, pair, elements, keys, value_under}
 use Rattle.jsonb_doc.specs.Format.{AreKeys, IsBelowFirst}
-use Rattle.jsonb_doc.specs.Limits.{IsInRange, AreInRange, ValuesAreInRange}
+use Rattle.jsonb_doc.specs.Limits.{IsInRange, AreInRange, ValuesAreInRange, Fits}
 use Rattle.jsonb_doc.proofs.WordLemmas.{bytes_eq-true, bytes_eq-same}
 use Rattle.jsonb_keypath.specs.KeyPathGrammar.{Key, index, unquoted_name}
 use Rattle.jsonb_raw.specs.Leaves.{Leaf, behind, is_leaf, leaves_at, leaves, leaves_of_trees, leaves_of_pairs}
-use Rattle.jsonb_raw.specs.LeavesLaws.{LeavesAreInPlace}
 use Rattle.jsonb_raw.specs.Places.{tree_at_steps}
 use Rattle.jsonb_raw.specs.Private.Steps.{child_met}
 use Rattle.jsonb_raw.proofs.ChildLemmas.{split_at, from_front}
@@ -114,5 +113,6 @@ of_AllByRecursion P [] x h c = absurd (omega (arith, c.1))
 of_AllByRecursion P (y ∷ ys) x h (zero, within, is) = rw is at h.0
 of_AllByRecursion P (y ∷ ys) x h (suc k, within, is) = of_AllByRecursion P ys x h.1 (k, omega arith, is)
 
-pub leaves_are_in_place : LeavesAreInPlace
+pub leaves_are_in_place : (ignore_array : Bool) (t : Tree) → Fits t → (leaf : Leaf) → Contains (leaves ignore_array t) leaf
+    → tree_at_steps leaf.0 t ≡ Some leaf.1
 leaves_are_in_place ignore_array t fits leaf among = of_AllByRecursion (IsInPlace t) (leaves ignore_array t) leaf (each_in_place ignore_array t fits.0) among

@@ -1,10 +1,9 @@
 -- Two filters that pass the opposite deal a list out.
-use Rattle.std.proofs.Common.{Bool, true, false, not, List, [], ◌∷◌, filter, cond, inl, inr, refl}
-use Rattle.jsonb_doc.specs.Tree.{Pairs, members, pairs_of}
+use Rattle.std.proofs.Common.{◌≡◌, Bool, true, false, not, List, [], ◌∷◌, filter, cond, Some, inl, inr, refl}
+use Rattle.jsonb_doc.specs.Tree.{Pairs, object, members, pairs_of}
 use Rattle.jsonb_doc.proofs.TreeLists.{members-pairs_of}
-use Rattle.jsonb_raw.specs.Objects.{TextSet, is_in}
+use Rattle.jsonb_raw.specs.Objects.{TextSet, is_in, object_pick, object_delete}
 use Rattle.jsonb_raw.specs.Partition.{IsPartitionedInto}
-use Rattle.jsonb_raw.specs.ObjectsLaws.{IsParted}
 
 filters_deal : {A : Type 0} (test : A → Bool) (zs : List A) → IsPartitionedInto zs (filter test zs) (filter (λ z. not (test z)) zs)
 filters_deal test [] = (refl, refl)
@@ -16,14 +15,15 @@ filters_deal {A} test (z ∷ zs) = go (test z) (filters_deal test zs)
     go true dealt = inl (filter test zs, refl, dealt)
     go false dealt = inr (filter (λ z. not (test z)) zs, refl, dealt)
 
-pub parted : (set : TextSet) (ps : Pairs) → IsParted set ps
+pub parted : (set : TextSet) (ps : Pairs) → (picked : Pairs) × (others : Pairs)
+    × (object_pick set (object ps) ≡ Some (object picked)) × (object_delete set (object ps) ≡ Some (object others))
+    × IsPartitionedInto (members ps) (members picked) (members others)
 parted set ps =
     let inside = filter (λ p. is_in set p.0) (members ps) in
-    let outside = filter (λ p. not (is_in set p.0)) (members ps) in
-    record {
-      picked = pairs_of inside;
-      others = pairs_of outside;
-      pick = refl;
-      delete = refl;
-      dealt = rw (members-pairs_of inside, members-pairs_of outside) (filters_deal (λ p. is_in set p.0) (members ps));
-    }
+    let outside = filter (λ p. not (is_in set p.0)) (members ps) in (
+      pairs_of inside,
+      pairs_of outside,
+      refl,
+      refl,
+      rw (members-pairs_of inside, members-pairs_of outside) (filters_deal (λ p. is_in set p.0) (members ps)),
+    )

@@ -3,10 +3,10 @@ use Rattle.std.proofs.Common.{◌≡◌, ℕ, List, [], ◌∷◌, Option, Some,
 use Rattle.std.specs.Prelude.{option_and_then, option_map}
 use Rattle.std.specs.List.{AllZip}
 use Rattle.jsonb_doc.specs.Tree.{Tree, null}
-use Rattle.jsonb_keypath.specs.KeyPathGrammar.{Key, index, quoted_name, unquoted_name}
+use Rattle.jsonb_keypath.specs.KeyPathGrammar.{Key, index, quoted_name, unquoted_name, key_path}
+use Rattle.jsonb_keypath.specs.KeyPathText.{key_path_text}
 use Rattle.jsonb_keypath.specs.KeyPathLaws.{SamePlace, ReadsBack}
 use Rattle.jsonb_raw.specs.Places.{children, child_position, location}
-use Rattle.jsonb_raw.specs.PlacesLaws.{PrintsToItsPlace}
 
 without_quotes : (name : List ℕ) (t : Tree) → child_position (quoted_name name) t ≡ child_position (unquoted_name name) t
 without_quotes name null = refl
@@ -39,6 +39,10 @@ same_place (step ∷ steps) (other ∷ others) h t = rw (same_child step other h
         ≡ option_and_then (λ n. option_map (λ ns. n ∷ ns) (option_and_then (location steps) (slice_get (children t) n))) o
     by same None = refl
     by same (Some n) = ap (option_map (λ ns. n ∷ ns)) (at_child same (slice_get (children t) n))
+
+-- the printed text reads as a key path that has the same place on every tree
+abbrev pub PrintsToItsPlace : List Key → Type 0
+PrintsToItsPlace steps = (found : List Key) × (key_path (key_path_text steps) ≡ Some found) × ((t : Tree) → location found t ≡ location steps t)
 
 -- a text that reads back with the same steps, but for quotes, has the same place on every tree
 pub prints_to_its_place : (o : Option (List Key)) → IfSome o ReadsBack → IfSome o PrintsToItsPlace

@@ -1,5 +1,5 @@
 -- The laws of arrays as sets: what is kept, counted by value.
-use Rattle.std.proofs.Common.{◌≡◌, ◌≢◌, ◌+◌, ◌<◌, ◌≤◌, ℕ, min, Bool, true, false, not, ◌||◌, cond, List, [], ◌∷◌, map, filter, nat_lt, nat_eq, inl, inr, refl, sym, ap, ap₂, ◌∙◌, arith}
+use Rattle.std.proofs.Common.{◌≡◌, ◌≢◌, ◌↔◌, ◌+◌, ◌-◌, ◌<◌, ◌≤◌, ℕ, min, Bool, true, false, not, ◌||◌, cond, List, [], ◌∷◌, map, filter, nat_lt, nat_eq, IsTrue, inl, inr, refl, sym, ap, ap₂, ◌∙◌, arith}
 use Rattle.std.specs.Cmp.{IsPartialEquivalence, partial_equiv_from_equiv}
 use Rattle.std.specs.List.{list_any}
 use Rattle.std.proofs.lemmas.Bool.Decides.{nat_tests}
@@ -7,9 +7,8 @@ use Rattle.std.proofs.lemmas.List.Sums.{sum_by-cons}
 use Rattle.jsonb_doc.specs.Tree.{Tree}
 use Rattle.jsonb_doc.specs.Equal.{is_equal}
 use Rattle.jsonb_doc.specs.Proofs.Equality.{is_equal_equiv}
-use Rattle.jsonb_raw.specs.Sets.{count_of, Occurrence, occurrences, is_first, is_shared, intersection_of, difference_of, overlap}
+use Rattle.jsonb_raw.specs.Sets.{count_of, Occurrence, occurrences, is_first, is_shared, distinct, intersection_of, difference_of, overlap}
 use Rattle.jsonb_raw.specs.Partition.{IsPartitionedInto}
-use Rattle.jsonb_raw.specs.SetLaws.{SplitDeals, SplitCounts, DistinctCounts, OverlapIsShared}
 
 -- ---- a test and its opposite deal
 
@@ -32,7 +31,7 @@ tests_deal test before (t ∷ ts) = by (test (before, t)) (tests_deal test (t �
     by true h = inl (map (λ o. o.1) yes, refl, h)
     by false h = inr (map (λ o. o.1) no, refl, h)
 
-pub split_deals : SplitDeals
+pub split_deals : (ts other : List Tree) → IsPartitionedInto ts (intersection_of ts other) (difference_of ts other)
 split_deals ts other = tests_deal (is_shared other) [] ts
 
 -- ---- counts by value
@@ -106,18 +105,18 @@ module _ (test : Occurrence → Bool) (limit : Tree → ℕ)
       front true = count-cons t x (map (λ o. o.1) others)
       front false = refl
 
-shared_counts : (ts other : List Tree) (t : Tree) → count_of t (intersection_of ts other) ≡ min (count_of t ts) (count_of t other)
+pub shared_counts : (ts other : List Tree) (t : Tree) → count_of t (intersection_of ts other) ≡ min (count_of t ts) (count_of t other)
 shared_counts ts other t =
     let h = kept_counts (is_shared other) (λ x. count_of x other) (λ before x. refl) (λ x v e. same_counts x v other e) t [] ts in
     omega (arith, h)
 
-pub split_counts : SplitCounts
-split_counts ts other t =
+pub difference_counts : (ts other : List Tree) (t : Tree) → count_of t (difference_of ts other) ≡ count_of t ts - count_of t other
+difference_counts ts other t =
     let both = shared_counts ts other t in
     let all = dealt_counts t ts (intersection_of ts other) (difference_of ts other) (split_deals ts other) in
-    (both, omega arith)
+    omega arith
 
-pub distinct_counts : DistinctCounts
+pub distinct_counts : (ts : List Tree) (t : Tree) → count_of t (distinct ts) ≡ min (count_of t ts) 1
 distinct_counts ts t =
     let h = kept_counts is_first (λ x. 1) (λ before x. none (count_of x before)) (λ x v e. refl) t [] ts in
     omega (arith, h)
@@ -185,7 +184,7 @@ value_overlaps (x ∷ ts) other t h k = by (is_equal x t) refl (λ h'. value_ove
         ap (λ b. b || overlap ts other) here
     by false e rest = ap (λ b. list_any (λ u. is_equal x u) other || b) (rest (behind_another t x ts e h)) ∙ or_true (list_any (λ u. is_equal x u) other)
 
-pub overlap_is_shared : OverlapIsShared
+pub overlap_is_shared : (ts other : List Tree) → IsTrue (overlap ts other) ↔ (intersection_of ts other ≢ [])
 overlap_is_shared ts other = (
   λ h none. let v = overlap_value ts other h in
       let c : count_of v.value (intersection_of ts other) ≡ min (count_of v.value ts) (count_of v.value other) = shared_counts ts other v.value in

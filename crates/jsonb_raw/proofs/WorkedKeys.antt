@@ -1,11 +1,11 @@
 -- Keys of some documents, computed from the definitions.
-use Rattle.std.proofs.Common.{◌≡◌, [], ◌∷◌, Some, None, pos, negsuc, refl}
+use Rattle.std.proofs.Common.{◌≡◌, [], ◌∷◌, flat_map, Some, None, pos, negsuc, refl}
 use Rattle.std.specs.Int.{w8, w16}
 use Rattle.jsonb_doc.specs.Number.{Variant}
 use Rattle.jsonb_doc.specs.Tree.{Tree, Trees, Pairs}
 use Rattle.jsonb_raw.specs.SortableKey.{sortable_key, magnitude_bytes}
 use Rattle.jsonb_raw.specs.EqualityKey.{equality_key}
-use Rattle.jsonb_raw.specs.CompositeKeys.{composite_key}
+use Rattle.jsonb_raw.specs.CompositeKeys.{column_key}
 
 one : Tree
 one = Tree.number (record { variant = Variant.uint64; whole = pos 1; scale = 0 })
@@ -48,5 +48,5 @@ equality_row : equality_key
 equality_row = refl
 
 -- a text, a missing value and null, as three columns
-composite_row : composite_key w8 (Some (Tree.text (118 ∷ [])) ∷ None ∷ Some Tree.null ∷ []) ≡ 0 ∷ 5 ∷ 118 ∷ 0 ∷ 0 ∷ 0 ∷ 0 ∷ 8 ∷ []
+composite_row : flat_map (column_key w8) (Some (Tree.text (118 ∷ [])) ∷ None ∷ Some Tree.null ∷ []) ≡ 0 ∷ 5 ∷ 118 ∷ 0 ∷ 0 ∷ 0 ∷ 0 ∷ 8 ∷ []
 composite_row = refl

@@ -6,7 +6,6 @@ use Rattle.std.proofs.lemmas.Bool.{cases_Bool, ne_eqb, and_cases, eqb-false}
 use Rattle.std.proofs.lemmas.Int.Digits.{number_digits_of, first_digits_of}
 use Rattle.jsonb_raw.proofs.DecimalDigits.{value, value-cons, all_zero}
 use Rattle.jsonb_raw.specs.SortableKey.{significant}
-use Rattle.jsonb_raw.specs.KeyLaws.{DigitsWrite}
 
 significant_value : (ds : List ℕ) → value ds * 10 ^ length (significant ds) ≡ value (significant ds) * 10 ^ length ds
 significant_value [] = refl
@@ -50,16 +49,16 @@ significant_last (d ∷ ds) = by_rest (cases_Bool (list_all (λ d. d == 0) (d �
         (λ (e : list_all (λ d. d == 0) ds ≡ false). absurd (true≢false (sym k ∙ e))) (and_cases (d == 0) (list_all (λ d. d == 0) ds) h)
     by_rest (inr h) (inr k) = inr (d ∷ k.0, k.1, rw h (ap (λ x. d ∷ x) k.2), k.3)
 
-pub digits_write : DigitsWrite
-digits_write n h = (
-  record { first = significant_first (digits_of 10 n) (first_digits_of 10 n (omega arith) h); last = kept },
-  ap
-      (λ v. v * 10 ^ length (significant (digits_of 10 n))) (sym (number_digits_of 10 n (omega arith))) ∙ significant_value (digits_of 10 n),
-)
-  where
-    kept : (es : List ℕ) × (c : ℕ) × (significant (digits_of 10 n) ≡ es ++ c ∷ []) × (c ≢ 0)
-    kept = ⊎_elim
-        (λ (e : list_all (λ d. d == 0) (digits_of 10 n) ≡ true). absurd
-        (let z : n ≡ 0 = sym (number_digits_of 10 n (omega arith)) ∙ all_zero (digits_of 10 n) e in omega arith))
-        (λ (k : (es : List ℕ) × (c : ℕ) × (significant (digits_of 10 n) ≡ es ++ c ∷ []) × (c ≢ 0)). k)
-        (significant_last (digits_of 10 n))
+pub first_digit : (n : ℕ) → 0 < n → (c : ℕ) × (es : List ℕ) × (significant (digits_of 10 n) ≡ c ∷ es) × (c ≢ 0)
+first_digit n h = significant_first (digits_of 10 n) (first_digits_of 10 n (omega arith) h)
+
+pub last_digit : (n : ℕ) → 0 < n → (es : List ℕ) × (c : ℕ) × (significant (digits_of 10 n) ≡ es ++ c ∷ []) × (c ≢ 0)
+last_digit n h = ⊎_elim
+    (λ (e : list_all (λ d. d == 0) (digits_of 10 n) ≡ true). absurd
+    (let z : n ≡ 0 = sym (number_digits_of 10 n (omega arith)) ∙ all_zero (digits_of 10 n) e in omega arith))
+    (λ (k : (es : List ℕ) × (c : ℕ) × (significant (digits_of 10 n) ≡ es ++ c ∷ []) × (c ≢ 0)). k)
+    (significant_last (digits_of 10 n))
+
+pub written_value : (n : ℕ) → n * 10 ^ length (significant (digits_of 10 n)) ≡ value (significant (digits_of 10 n)) * 10 ^ length (digits_of 10 n)
+written_value n =
+    ap (λ v. v * 10 ^ length (significant (digits_of 10 n))) (sym (number_digits_of 10 n (omega arith))) ∙ significant_value (digits_of 10 n)

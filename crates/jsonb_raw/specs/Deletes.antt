@@ -1,35 +1,24 @@
 -- The tree without the place that the steps of a key path meet.
-use Rattle.std.specs.Prelude.{◌≡◌, ◌⊎◌, ℕ, zero, suc, List, [], ◌∷◌, Option, Some, None, unwrap_or, option_and_then}
-use Rattle.jsonb_doc.specs.Tree.{Tree, array, object, Trees, no_trees, tree, Pairs, no_pairs, pair}
+use Rattle.std.specs.Prelude.{◌≡◌, ◌⊎◌, ℕ, zero, suc, List, [], ◌∷◌, ◌++◌, Option, Some, None, unwrap_or, option_map, option_and_then}
+use Rattle.std.specs.Option.{option_to_list}
+use Rattle.jsonb_doc.specs.Tree.{Tree, array, object, elements, members, trees_of, pairs_of}
 use Rattle.jsonb_keypath.specs.KeyPathGrammar.{Key}
 use Rattle.jsonb_raw.specs.Places.{location}
 
--- the tree in front of the others, where there is one
-abbrev pub put_tree : Option Tree → Trees → Trees
-put_tree (Some t) ts = tree t ts
-put_tree None ts = ts
+-- the list with what is made of the element at a position, which may be nothing
+abbrev pub change_at : {A : Type 0} → ℕ → (A → Option A) → List A → List A
+change_at n change [] = []
+change_at zero change (x ∷ xs) = option_to_list (change x) ++ xs
+change_at (suc n) change (x ∷ xs) = x ∷ change_at n change xs
 
--- the pair in front of the others, where there is a value
-abbrev pub put_pair : List ℕ → Option Tree → Pairs → Pairs
-put_pair key (Some t) ps = pair key t ps
-put_pair key None ps = ps
+-- what is made of a pair by its value: where nothing is made of it, the pair is gone
+abbrev pub change_value : (Tree → Option Tree) → List ℕ × Tree → Option (List ℕ × Tree)
+change_value change p = option_map (λ t. (p.0, t)) (change p.1)
 
--- the trees with what is made of the one at a position, which may be nothing
-abbrev pub change_tree : ℕ → (Tree → Option Tree) → Trees → Trees
-change_tree n change no_trees = no_trees
-change_tree zero change (tree t ts) = put_tree (change t) ts
-change_tree (suc n) change (tree t ts) = tree t (change_tree n change ts)
-
--- the same for the value of the pair at a position: where nothing is made of it, the pair is gone
-abbrev pub change_value : ℕ → (Tree → Option Tree) → Pairs → Pairs
-change_value n change no_pairs = no_pairs
-change_value zero change (pair key t ps) = put_pair key (change t) ps
-change_value (suc n) change (pair key t ps) = pair key t (change_value n change ps)
-
--- the same for the child at a position
+-- the tree with what is made of its child at a position
 abbrev pub change_child : ℕ → (Tree → Option Tree) → Tree → Tree
-change_child n change (array ts) = array (change_tree n change ts)
-change_child n change (object ps) = object (change_value n change ps)
+change_child n change (array ts) = array (trees_of (change_at n change (elements ts)))
+change_child n change (object ps) = object (pairs_of (change_at n (change_value change) (members ps)))
 change_child n change t = t
 
 -- what is left of the tree without a place: without the whole, nothing

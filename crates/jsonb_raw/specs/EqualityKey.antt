@@ -9,13 +9,12 @@ use Rattle.jsonb_raw.specs.SortableKey.{number_bytes, text_bytes}
 -- a kind byte and the content: counts in four bytes, the length of an extension's payload in eight
 abbrev mutual
   pub equality_key : Tree → List ℕ
-  equality_key Tree.null = 8 ∷ []
-  equality_key (Tree.boolean b) = rank (Tree.boolean b) ∷ []
   equality_key (Tree.number n) = 4 ∷ number_bytes n.whole n.scale
   equality_key (Tree.text bytes) = 5 ∷ text_bytes bytes
   equality_key (Tree.extension x) = 1 ∷ to_be_bytes w64 (length (extension_payload x)) ++ extension_payload x
   equality_key (Tree.array ts) = 7 ∷ to_be_bytes w32 (count ts) ++ equality_keys_of_trees ts
   equality_key (Tree.object ps) = 6 ∷ to_be_bytes w32 (length (keys ps)) ++ equality_keys_of_pairs ps
+  equality_key t = rank t ∷ []
 
   pub equality_keys_of_trees : Trees → List ℕ
   equality_keys_of_trees Trees.no_trees = []

@@ -10,8 +10,7 @@ use Rattle.jsonb_doc.specs.Tree.{Tree}
 use Rattle.jsonb_doc.specs.Order.{tree_cmp, IsEqual}
 use Rattle.jsonb_doc.specs.Depth.{deepest}
 use Rattle.jsonb_raw.specs.NoExtension.{HasNoExtension}
-use Rattle.jsonb_raw.specs.KeyLaws.{HasKey}
-use Rattle.jsonb_raw.specs.SortableKey.{sortable_key, depths}
+use Rattle.jsonb_raw.specs.SortableKey.{sortable_key, depths, HasKey}
 
 -- memory was refused, or an item of what was asked for lies too deep
 abbrev pub IsOutOfMemoryOrTooDeep : ℕ → ℕ → Error → Type 0
@@ -30,12 +29,8 @@ MakesKey w tree r = GivesKey w tree r (λ v. v.items ≡ sortable_key w tree 0)
 abbrev pub WritesKey : Width → Tree → Result (Unit {0}) Error → List ℕ → Type 0
 WritesKey w tree r items = GivesKey w tree r (λ _. items ≡ sortable_key w tree 0)
 
--- The bytes compare with the key of the tree u as the tree t does with u, and are that key where the two are equal.
-pub record RanksWith (w : Width) (t u : Tree) (bytes : List ℕ) : Type 0 where
-  pub order : slice_cmp nat_cmp bytes (sortable_key w u 0) ≡ tree_cmp t u
-  pub same : (bytes ≡ sortable_key w u 0) ↔ IsEqual t u
-
--- An answer for a tree without extensions ranks with the key of each tree that has one as the trees rank.
+-- An answer for a tree without extensions compares with the key of each tree that has one as the trees do, and is that
+-- key where the two are equal by value.
 abbrev pub RanksAsTree : Width → Tree → Result (Vec ℕ Global) Error → Type 0
-RanksAsTree w t r =
-    HasNoExtension t → (u : Tree) → HasKey w u 0 → IfOk r (λ v. RanksWith w t u v.items)
+RanksAsTree w t r = HasNoExtension t → (u : Tree) → HasKey w u 0 → IfOk r (λ v.
+    (slice_cmp nat_cmp v.items (sortable_key w u 0) ≡ tree_cmp t u) × ((v.items ≡ sortable_key w u 0) ↔ IsEqual t u))

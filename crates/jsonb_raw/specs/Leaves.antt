@@ -13,9 +13,7 @@ behind steps within = map (λ leaf. (steps ++ leaf.0, leaf.1)) within
 
 -- whether a part is a leaf: a scalar, an empty container, and where arrays are ignored each array
 abbrev pub is_leaf : Bool → Tree → Bool
-is_leaf ignore_array (array no_trees) = true
 is_leaf ignore_array (array (tree t ts)) = ignore_array
-is_leaf ignore_array (object no_pairs) = true
 is_leaf ignore_array (object (pair key t ps)) = false
 is_leaf ignore_array _ = true
 

@@ -1,11 +1,14 @@
 -- The sortable key of a tree: bytes whose order is the order of the trees.
-use Rattle.std.specs.Prelude.{ℕ, zero, suc, ◌+◌, ◌-◌, ◌^◌, ◌≤◌, ◌==◌, ◌≡◌, ◌⊎◌, if◌then◌else◌, List, [], ◌∷◌, ◌++◌, map, length, ℤ, pos, negsuc}
+use Rattle.std.specs.Prelude.{ℕ, zero, suc, ◌+◌, ◌-◌, ◌^◌, ◌<◌, ◌≤◌, ◌==◌, ◌≡◌, ◌⊎◌, if◌then◌else◌, List, [], ◌∷◌, ◌++◌, map, length, ℤ, pos, negsuc}
 use Rattle.std.specs.Int.{Width, to_be_bytes, byte_len, w16}
 use Rattle.std.specs.Int.Digits.{digits_of}
 use Rattle.std.specs.List.{list_all}
 use Rattle.jsonb_doc.specs.Tree.{Tree, Trees, Pairs}
+use Rattle.jsonb_doc.specs.Depth.{deepest}
+use Rattle.jsonb_doc.specs.Limits.{IsInRange}
 use Rattle.jsonb_doc.specs.Order.{rank}
 use Rattle.jsonb_doc.specs.Payload.{extension_payload}
+use Rattle.jsonb_raw.specs.NoExtension.{HasNoExtension}
 
 -- the digits up to the last that is not 0
 abbrev pub significant : List ℕ → List ℕ
@@ -40,13 +43,12 @@ item_bytes w depth kind content = to_be_bytes w depth ++ kind ∷ content
 
 abbrev mutual
   pub sortable_key : Width → Tree → ℕ → List ℕ
-  sortable_key w Tree.null d = item_bytes w d 8 []
-  sortable_key w (Tree.boolean b) d = item_bytes w d (rank (Tree.boolean b)) []
   sortable_key w (Tree.number n) d = item_bytes w d 4 (number_bytes n.whole n.scale)
   sortable_key w (Tree.text bytes) d = item_bytes w d 5 (text_bytes bytes)
   sortable_key w (Tree.extension x) d = item_bytes w d 1 (extension_payload x ++ 0 ∷ [])
   sortable_key w (Tree.array ts) d = item_bytes w d 7 (keys_of_trees w ts (suc d))
   sortable_key w (Tree.object ps) d = item_bytes w d 6 (keys_of_pairs w ps (suc d))
+  sortable_key w t d = item_bytes w d (rank t) []
 
   pub keys_of_trees : Width → Trees → ℕ → List ℕ
   keys_of_trees w Trees.no_trees d = []
@@ -60,6 +62,12 @@ abbrev mutual
 -- how many depths the width's bytes tell apart
 abbrev pub depths : Width → ℕ
 depths w = 256 ^ byte_len w
+
+-- a tree at a depth has a key in the width, whose order is promised
+pub record HasKey (w : Width) (t : Tree) (depth : ℕ) : Type 0 where
+  pub in_range : IsInRange t
+  pub no_extension : HasNoExtension t
+  pub deep : depth + deepest t < depths w
 
 -- what may stand behind the key of an item at a depth: nothing, or an item that lies no deeper
 abbrev pub IsRest : Width → ℕ → List ℕ → Type 0

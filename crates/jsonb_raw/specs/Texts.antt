@@ -2,18 +2,15 @@
 use Rattle.std.specs.Prelude.{ℕ, Bool, true, false, List, [], ◌∷◌, ◌++◌, All, Any, MatchBool}
 use Rattle.std.specs.Borrow.{Bor}
 use Rattle.std.specs.Fn.{Shared, FnReturnsAt}
-use Rattle.jsonb_doc.specs.Tree.{Tree, null, boolean, number, text, extension, array, object, Trees, no_trees, tree, Pairs, no_pairs, pair}
+use Rattle.jsonb_doc.specs.Tree.{Tree, text, array, object, Trees, no_trees, tree, Pairs, no_pairs, pair}
 
 -- the strings at every depth, a root string among them, and the keys of objects
 abbrev mutual
   pub texts : Tree → List (List ℕ)
-  texts null = []
-  texts (boolean b) = []
-  texts (number n) = []
   texts (text s) = s ∷ []
-  texts (extension x) = []
   texts (array ts) = texts_of_trees ts
   texts (object ps) = texts_of_pairs ps
+  texts _ = []
 
   pub texts_of_trees : Trees → List (List ℕ)
   texts_of_trees no_trees = []

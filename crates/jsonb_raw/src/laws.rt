@@ -1,120 +1,156 @@
 //! What is true of the definitions, whatever the calls do. The functions answer nothing.
 
-ghost use Rattle.std.specs.Prelude.{IfSome};
-ghost use Rattle.jsonb_keypath.specs.KeyPathGrammar.{key_path};
-ghost use Rattle.std.specs.Int.{w8, w16};
-ghost use Rattle.jsonb_raw.specs.KeyLaws.{KeysKeepBelow, KeysKeepEqual, KeysOrder, KeysTellApart, EqualityKeysTellApart, DigitsWrite};
-ghost use Rattle.jsonb_raw.specs.CompositeKeys.{CompositeKeysOrder};
-ghost use Rattle.jsonb_raw.specs.SetLaws.{SplitDeals, SplitCounts, DistinctCounts, OverlapIsShared};
-ghost use Rattle.jsonb_raw.specs.PlacesLaws.{NoStepsMeetTheWhole, PrintsToItsPlace};
-ghost use Rattle.jsonb_raw.specs.LeavesLaws.{LeavesAreInPlace};
-ghost use Rattle.jsonb_raw.specs.ExistsLaws.{AllOfNoneAndAnyOfNone};
-ghost use Rattle.jsonb_raw.specs.DeletesLaws.{PairsAreGone};
-ghost use Rattle.jsonb_raw.specs.ObjectsLaws.{PickAndDeletePartObjects};
-ghost use Rattle.jsonb_raw.specs.OperatorLaws.{StripTwiceIsStrip, ContainsIsReflexive, ContainsIsTransitive};
-ghost use Rattle.jsonb_raw.specs.OperatorLaws.{ConcatOfArraysIsAssociative, ConcatOfObjectsIsAssociative};
+ghost use Rattle.std.specs.Prelude.{◌≡◌, ◌≢◌, ◌↔◌, ◌+◌, ◌-◌, ◌*◌, ◌^◌, ◌<◌, min, ℕ, Bool, true, false, not, IsTrue};
+ghost use Rattle.std.specs.Prelude.{List, [], ◌∷◌, ◌++◌, length, flat_map, Contains, Option, Some, None, IfSome};
+ghost use Rattle.std.specs.Int.{Width};
+ghost use Rattle.std.specs.Int.Digits.{digits_of, number_from_digits};
+ghost use Rattle.std.specs.Option.{option_cmp};
+ghost use Rattle.std.specs.Ordering.{nat_cmp};
+ghost use Rattle.std.specs.Cmp.Lexicographic.{slice_cmp};
 ghost use Rattle.std.specs.Slice.Iter.{iter_rest, iter_steps};
+ghost use Rattle.std.specs.declared.cmp.Ordering.TheVariants.{Less};
+ghost use Rattle.jsonb_doc.specs.Tree.{Tree, Trees, Pairs, array, object, members};
+ghost use Rattle.jsonb_doc.specs.Limits.{Fits};
+ghost use Rattle.jsonb_doc.specs.Order.{tree_cmp, IsEqual};
+ghost use Rattle.jsonb_keypath.specs.KeyPathGrammar.{Key, key_path};
+ghost use Rattle.jsonb_keypath.specs.KeyPathText.{key_path_text};
+ghost use Rattle.jsonb_raw.specs.Places.{location, tree_at_steps};
+ghost use Rattle.jsonb_raw.specs.SortableKey.{sortable_key, significant, HasKey, IsRest};
+ghost use Rattle.jsonb_raw.specs.CompositeKeys.{column_key, HaveKeys};
+ghost use Rattle.jsonb_raw.specs.EqualityKey.{equality_key};
+ghost use Rattle.jsonb_raw.specs.Partition.{IsPartitionedInto};
+ghost use Rattle.jsonb_raw.specs.Sets.{count_of, distinct, intersection_of, difference_of, overlap};
+ghost use Rattle.jsonb_raw.specs.Leaves.{Leaf, leaves};
+ghost use Rattle.jsonb_raw.specs.Exists.{has_all, has_any};
+ghost use Rattle.jsonb_raw.specs.Deletes.{without};
+ghost use Rattle.jsonb_raw.specs.Objects.{TextSet, object_pick, object_delete};
+ghost use Rattle.jsonb_raw.specs.Scalars.{is_extension_value};
+ghost use Rattle.jsonb_raw.specs.Strip.{strip};
+ghost use Rattle.jsonb_raw.specs.Contains.{contains};
+ghost use Rattle.jsonb_raw.specs.Concat.{concat};
 ghost use Rattle.jsonb_raw.specs.Iterators.{YieldsItemsLeft};
 
 /// The place of no steps is the whole tree.
 pub fn no_steps_meet_the_whole()
-    ensures { NoStepsMeetTheWhole }
+    ensures place { (t : Tree) → location [] t ≡ Some [] }
+    ensures tree { (t : Tree) → tree_at_steps [] t ≡ Some t }
 {}
 
 /// Each text that is a key path prints to a text that reads as a key path with the same place on every tree.
 pub fn printed_key_paths_keep_their_place(text: &[u8])
-    ensures { IfSome (key_path text.now) PrintsToItsPlace }
+    ensures { IfSome (key_path text.now) (λ steps. (found : List Key)
+        × (key_path (key_path_text steps) ≡ Some found) × ((t : Tree) → location found t ≡ location steps t)) }
 {}
 
-/// Sortable keys of trees without extensions, with depths in one byte, are in order as the trees are.
+/// Sortable keys of trees without extensions are in order as the trees are, with depths in one byte, and in the two of
+/// wide keys. A tree below another has the lower key, whatever may follow each of the two, and trees that are equal by
+/// value have one key. So the byte order of the keys of two documents is the order of the documents, and they have one
+/// key exactly where they are equal by value.
 pub fn sortable_keys()
-    ensures below { KeysKeepBelow w8 }
-    ensures equal { KeysKeepEqual w8 }
-    ensures order { KeysOrder w8 }
-    ensures apart { KeysTellApart w8 }
-{}
-
-/// The same of wide sortable keys, with depths in two bytes.
-pub fn wide_sortable_keys()
-    ensures below { KeysKeepBelow w16 }
-    ensures equal { KeysKeepEqual w16 }
-    ensures order { KeysOrder w16 }
-    ensures apart { KeysTellApart w16 }
+    ensures below { (w : Width) (t u : Tree) (d : ℕ) (r s : List ℕ)
+        → HasKey w t d → HasKey w u d → IsRest w d r → IsRest w d s → tree_cmp t u ≡ Less
+        → slice_cmp nat_cmp (sortable_key w t d ++ r) (sortable_key w u d ++ s) ≡ Less }
+    ensures equal { (w : Width) (t u : Tree) (d : ℕ)
+        → HasKey w t d → HasKey w u d → IsEqual t u → sortable_key w t d ≡ sortable_key w u d }
+    ensures order { (w : Width) (t u : Tree) → HasKey w t 0 → HasKey w u 0
+        → slice_cmp nat_cmp (sortable_key w t 0) (sortable_key w u 0) ≡ tree_cmp t u }
+    ensures apart { (w : Width) (t u : Tree)
+        → HasKey w t 0 → HasKey w u 0 → (sortable_key w t 0 ≡ sortable_key w u 0) ↔ IsEqual t u }
 {}
 
 /// Sortable keys of several values, one behind the other, are in order as the lists of values are: the key of an index
 /// on several columns. A missing value is written as an item of kind 0, and comes before all others.
 pub fn composite_keys()
-    ensures narrow { CompositeKeysOrder w8 }
-    ensures wide { CompositeKeysOrder w16 }
+    ensures { (w : Width) (ts us : List (Option Tree)) → HaveKeys w ts → HaveKeys w us
+        → slice_cmp nat_cmp (flat_map (column_key w) ts) (flat_map (column_key w) us)
+        ≡ slice_cmp (option_cmp tree_cmp) ts us }
 {}
 
-/// Equality keys stand for equality by value, at every depth, also where extensions occur.
+/// Two trees have one equality key exactly where they are equal by value, at every depth, also where extensions occur.
 pub fn equality_keys()
-    ensures { EqualityKeysTellApart }
+    ensures { (t u : Tree) → Fits t → Fits u → (equality_key t ≡ equality_key u) ↔ IsEqual t u }
 {}
 
-/// The digits of a number's key write its absolute value, with no zero at either end.
+/// The digits c1..ck of a number's key have no zero at either end. They write its absolute value, which is 0.c1..ck
+/// times ten to the count of its digits.
 pub fn number_digits()
-    ensures { DigitsWrite }
+    ensures first { (n : ℕ) → 0 < n
+        → (c : ℕ) × (cs : List ℕ) × (significant (digits_of 10 n) ≡ c ∷ cs) × (c ≢ 0) }
+    ensures last { (n : ℕ) → 0 < n
+        → (cs : List ℕ) × (c : ℕ) × (significant (digits_of 10 n) ≡ cs ++ c ∷ []) × (c ≢ 0) }
+    ensures value { (n : ℕ) → 0 < n → let cs = significant (digits_of 10 n) in
+        n * 10 ^ length cs ≡ number_from_digits 10 cs * 10 ^ length (digits_of 10 n) }
 {}
 
 /// Intersection and difference by another list: each occurrence goes to exactly one of them, in order. Counted by
 /// value, the intersection has what both lists have, and the difference what the first has more often.
 pub fn split_lists()
-    ensures dealt { SplitDeals }
-    ensures counts { SplitCounts }
+    ensures dealt { (ts other : List Tree)
+        → IsPartitionedInto ts (intersection_of ts other) (difference_of ts other) }
+    ensures shared { (ts other : List Tree) (t : Tree)
+        → count_of t (intersection_of ts other) ≡ min (count_of t ts) (count_of t other) }
+    ensures others { (ts other : List Tree) (t : Tree)
+        → count_of t (difference_of ts other) ≡ count_of t ts - count_of t other }
 {}
 
 /// Of each group of elements that are equal by value one stays.
 pub fn distinct_elements()
-    ensures { DistinctCounts }
+    ensures { (ts : List Tree) (t : Tree) → count_of t (distinct ts) ≡ min (count_of t ts) 1 }
 {}
 
 /// Two lists overlap exactly where their intersection is not empty.
 pub fn overlap()
-    ensures { OverlapIsShared }
+    ensures { (ts other : List Tree) → IsTrue (overlap ts other) ↔ (intersection_of ts other ≢ []) }
 {}
 
 /// At the place of each leaf's key path stands the leaf, also where arrays are ignored.
 pub fn leaves_are_in_place()
-    ensures { LeavesAreInPlace }
+    ensures { (ignore_array : Bool) (t : Tree) → Fits t → (leaf : Leaf)
+        → Contains (leaves ignore_array t) leaf → tree_at_steps leaf.0 t ≡ Some leaf.1 }
 {}
 
 /// A document has all of no texts, and none of no texts.
 pub fn all_of_no_texts_and_any_of_no_texts()
-    ensures { AllOfNoneAndAnyOfNone }
+    ensures all { (t : Tree) → has_all [] t ≡ true }
+    ensures any { (t : Tree) → has_any [] t ≡ false }
 {}
 
-/// Where a place that is a pair of an object is taken out, its steps meet nothing any more.
+/// Where a place that is a pair of an object is taken out, its steps meet nothing any more. They may meet a pair where
+/// those before the last meet an object.
 pub fn pairs_that_are_taken_out_are_gone()
-    ensures { PairsAreGone }
+    ensures { (t : Tree) → Fits t → (front : List Key) (last : Key) (ps : Pairs)
+        → tree_at_steps front t ≡ Some (object ps)
+        → location (front ++ last ∷ []) (without (front ++ last ∷ []) t) ≡ None }
 {}
 
 /// Each pair of an object is either picked by a set of keys or left when the same keys are deleted, in order.
 pub fn pick_and_delete_part_objects()
-    ensures { PickAndDeletePartObjects }
+    ensures { (set : TextSet) (ps : Pairs) → (picked : Pairs) × (others : Pairs)
+        × (object_pick set (object ps) ≡ Some (object picked)) × (object_delete set (object ps) ≡ Some (object others))
+        × IsPartitionedInto (members ps) (members picked) (members others) }
 {}
 
 /// What is stripped has nothing to strip.
 pub fn strip_twice_is_strip()
-    ensures { StripTwiceIsStrip }
+    ensures { (t : Tree) → strip (strip t) ≡ strip t }
 {}
 
 /// A document whose root is no extension contains itself.
 pub fn contains_is_reflexive()
-    ensures { ContainsIsReflexive }
+    ensures { (t : Tree) → IsTrue (not (is_extension_value t)) → IsTrue (contains t t) }
 {}
 
 /// A document contains what the documents that it contains do.
 pub fn contains_is_transitive()
-    ensures { ContainsIsTransitive }
+    ensures { (t u v : Tree) → IsTrue (contains t u) → IsTrue (contains u v) → IsTrue (contains t v) }
 {}
 
 /// Which two of three arrays, or of three objects, are put together first does not matter.
 pub fn concat_is_associative()
-    ensures arrays { ConcatOfArraysIsAssociative }
-    ensures objects { ConcatOfObjectsIsAssociative }
+    ensures arrays { (ts us vs : Trees)
+        → concat (concat (array ts) (array us)) (array vs) ≡ concat (array ts) (concat (array us) (array vs)) }
+    ensures objects { (ps qs rs : Pairs) → Fits (object ps) → Fits (object qs) → Fits (object rs)
+        → concat (concat (object ps) (object qs)) (object rs) ≡ concat (object ps) (concat (object qs) (object rs)) }
 {}
 
 /// `iter()` of a slice or a `Vec` yields its items in order, as the calls that take an iterator ask of it.

@@ -2,19 +2,19 @@
 //!
 //! On bytes that don't decode each call returns; which answer or refusal it gives is not fixed. Only the root is read.
 
-ghost use Rattle.std.specs.Prelude.{◌≡◌, ◌↔◌, ◌^◌, ◌<◌, ℕ, ℤ, pos, FitsSigned, IfErr, IsOkAnd, IsTrue, MatchOption, is_some};
+ghost use Rattle.std.specs.Prelude.{◌≡◌, ◌↔◌, ◌^◌, ◌<◌, ℕ, ℤ, pos, FitsSigned, IfErr, IsOkAnd, IsSome, IsTrue, MatchOption, MatchResult, is_some};
 ghost use Rattle.std.specs.Int.{w64};
-ghost use Rattle.jsonb_doc.specs.Tree.{Tree};
+ghost use Rattle.jsonb_doc.specs.Tree.{Tree, extension};
 ghost use Rattle.jsonb_doc.specs.Payload.{Form};
 ghost use Rattle.jsonb_doc.specs.Format.{Decodes};
-ghost use Rattle.jsonb_doc.specs.Answer.{SameOption, ◌or◌, IsDecodingError};
+ghost use Rattle.jsonb_doc.specs.Answer.{SameOption, ◌or◌, IsDecodingError, IsOutOfMemory};
 ghost use Rattle.jsonb_doc.specs.View.{number_parts, extension_view};
 ghost use Rattle.jsonb_raw.specs.Documents.{raw_bytes};
 ghost use Rattle.jsonb_doc.specs.declared.error.Error.TheVariants.{OutOfMemory};
 ghost use Rattle.jsonb_raw.specs.Scalars.{boolean_in, number_in, text_in, extension_in};
 ghost use Rattle.jsonb_raw.specs.Scalars.{binary_in, date_in, timestamp_in, timestamp_tz_in, interval_in};
 ghost use Rattle.jsonb_raw.specs.Scalars.{is_null, is_array, is_object, is_extension_value};
-ghost use Rattle.jsonb_raw.specs.Scalars.{type_name, number_type, extension_type, IsWholeNumber, BorrowsText, CopiesBytes, IsDate, IsTimestamp, IsTimestampTz, IsInterval};
+ghost use Rattle.jsonb_raw.specs.Scalars.{type_name, number_type, IsWholeNumber, BorrowsText};
 
 #[cfg(test)]
 mod tests;
@@ -418,7 +418,7 @@ impl<'a> RawJsonb<'a> {
     /// Constant, but a text is read whole. No memory.
     pub fn as_date(&self) -> Result<Option<Date>, Error>
         ensures value { (form : Form) (tree : Tree) → Decodes form (raw_bytes self.now) tree
-            → IsOkAnd result (λ found. SameOption IsDate found (date_in tree)) }
+            → IsOkAnd result (λ found. SameOption (λ day value. day.value ≡ value) found (date_in tree)) }
         ensures errors { IfErr result IsDecodingError }
     {
         match root_item(self.as_bytes())? {
@@ -438,7 +438,7 @@ impl<'a> RawJsonb<'a> {
     /// Constant, but a text is read whole. No memory.
     pub fn as_timestamp(&self) -> Result<Option<Timestamp>, Error>
         ensures value { (form : Form) (tree : Tree) → Decodes form (raw_bytes self.now) tree
-            → IsOkAnd result (λ found. SameOption IsTimestamp found (timestamp_in tree)) }
+            → IsOkAnd result (λ found. SameOption (λ time value. time.value ≡ value) found (timestamp_in tree)) }
         ensures errors { IfErr result IsDecodingError }
     {
         match root_item(self.as_bytes())? {
@@ -458,7 +458,8 @@ impl<'a> RawJsonb<'a> {
     /// Constant, but a text is read whole. No memory.
     pub fn as_timestamp_tz(&self) -> Result<Option<TimestampTz>, Error>
         ensures value { (form : Form) (tree : Tree) → Decodes form (raw_bytes self.now) tree
-            → IsOkAnd result (λ found. SameOption IsTimestampTz found (timestamp_tz_in tree)) }
+            → IsOkAnd result (λ found.
+            SameOption (λ time parts. (time.offset, time.value) ≡ parts) found (timestamp_tz_in tree)) }
         ensures errors { IfErr result IsDecodingError }
     {
         match root_item(self.as_bytes())? {
@@ -478,7 +479,8 @@ impl<'a> RawJsonb<'a> {
     /// Constant, but a text is read whole. No memory.
     pub fn as_interval(&self) -> Result<Option<Interval>, Error>
         ensures value { (form : Form) (tree : Tree) → Decodes form (raw_bytes self.now) tree
-            → IsOkAnd result (λ found. SameOption IsInterval found (interval_in tree)) }
+            → IsOkAnd result (λ found.
+            SameOption (λ time parts. (time.months, time.days, time.micros) ≡ parts) found (interval_in tree)) }
         ensures errors { IfErr result IsDecodingError }
     {
         match root_item(self.as_bytes())? {
@@ -498,7 +500,8 @@ impl<'a> RawJsonb<'a> {
     /// Linear in the bytes, which are copied. Takes memory.
     pub fn as_binary(&self, alloc: Global) -> Result<Option<Vec<u8>>, Error>
         ensures value { (form : Form) (tree : Tree) → Decodes form (raw_bytes self.now) tree
-            → CopiesBytes (binary_in tree) result }
+            → MatchResult result (λ found. SameOption (λ copy bytes. copy.items ≡ bytes) found (binary_in tree))
+            (λ e. IsOutOfMemory e × IsSome (binary_in tree)) }
         ensures errors { IfErr result (IsDecodingError or OutOfMemory) }
     {
         match root_item(self.as_bytes())? {
@@ -566,7 +569,7 @@ fn number_type(number: &Number) -> &'static str
 }
 
 fn extension_type(value: &ExtensionValue<'_>) -> &'static str
-    ensures { result.now ≡ extension_type (extension_view value.now) }
+    ensures { result.now ≡ type_name (extension (extension_view value.now)) }
 {
     match value {
         ExtensionValue::Binary(_) => "BINARY",

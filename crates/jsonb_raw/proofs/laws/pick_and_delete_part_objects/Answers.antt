@@ -2,4 +2,4 @@ use Rattle.jsonb_raw.proofs.PartitionLemmas.{parted}
 use Rattle.jsonb_raw.proofs.laws.pick_and_delete_part_objects.Goals as goal
 
 pub returns : goal.returns
-returns c = λ set ps. parted set ps
+returns c = parted

@@ -1,8 +1,11 @@
-use Rattle.jsonb_raw.proofs.SetLawProofs.{split_deals, split_counts}
+use Rattle.jsonb_raw.proofs.SetLawProofs.{split_deals, shared_counts, difference_counts}
 use Rattle.jsonb_raw.proofs.laws.split_lists.Goals as goal
 
 pub returns-clause-dealt : goal.returns-clause-dealt
 returns-clause-dealt c = split_deals
 
-pub returns-clause-counts : goal.returns-clause-counts
-returns-clause-counts c = split_counts
+pub returns-clause-shared : goal.returns-clause-shared
+returns-clause-shared c = shared_counts
+
+pub returns-clause-others : goal.returns-clause-others
+returns-clause-others c = difference_counts
