@@ -6,7 +6,8 @@ use Rattle.jsonb_doc.specs.Payload.{Form}
 use Rattle.jsonb_doc.specs.Format.{Decodes}
 use Rattle.jsonb_doc.specs.Answer.{IsOutOfMemoryOrTooLarge}
 use Rattle.jsonb_doc.specs.Limits.{IsTooLarge}
-use Rattle.jsonb_doc.specs.Elements.{HasElementsLeft, IsElementsOf}
+use Rattle.jsonb_doc.specs.Elements.{HasElementsLeft}
+use Rattle.jsonb_doc.proofs.ElementsLemmas.{IsElementsOf}
 use Rattle.jsonb_doc.specs.declared.error.Error.{Error}
 use Rattle.jsonb_doc.specs.declared.error.Error.TheVariants.{OutOfMemory, TooLarge}
 use Rattle.jsonb_doc.specs.declared.element_iter.ElementIter.{ElementIter}

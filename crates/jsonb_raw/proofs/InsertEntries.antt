@@ -11,7 +11,8 @@ use Rattle.jsonb_doc.specs.Payload.{Form, number_reader}
 use Rattle.jsonb_doc.specs.Format.{Decodes, IsContent, AreValues, AreKeys, IsContainer, AreMembers, header, object_header, text_entry, entry_word, key_words, key_bytes}
 use Rattle.jsonb_doc.specs.Limits.{IsShort, AreShortKeys, HasShortValues, IsTooLarge}
 use Rattle.jsonb_doc.specs.Encoding.{EntryParts}
-use Rattle.jsonb_doc.specs.ObjectBuilder.{FitsEntry, HoldsPairs, insert_pair}
+use Rattle.jsonb_doc.specs.ObjectBuilder.{HoldsPairs, insert_pair}
+use Rattle.jsonb_doc.specs.Private.ObjectBytes.{FitsEntry}
 use Rattle.jsonb_doc.specs.Private.ObjectBytes.{words_of_entries, contents_of_entries, object_bytes}
 use Rattle.jsonb_doc.specs.Kinds.{kind_number}
 use Rattle.jsonb_doc.proofs.Containers.{object_document}

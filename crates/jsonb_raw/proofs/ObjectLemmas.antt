@@ -8,9 +8,10 @@ use Rattle.jsonb_doc.specs.Payload.{Form}
 use Rattle.jsonb_doc.specs.Answer.{IsOutOfMemoryOrTooLarge}
 use Rattle.jsonb_doc.specs.Limits.{IsTooLarge}
 use Rattle.jsonb_doc.specs.declared.error.Error.TheVariants.{OutOfMemory, TooLarge}
-use Rattle.jsonb_doc.specs.ObjectKeys.{HasKeysLeft, TakesKey, IsKeysOf}
+use Rattle.jsonb_doc.specs.ObjectKeys.{HasKeysLeft, TakesKey}
+use Rattle.jsonb_doc.proofs.PairsLemmas.{IsKeysOf}
 use Rattle.jsonb_doc.specs.declared.key_iter.KeyIter.{KeyIter}
-use Rattle.jsonb_doc.specs.ObjectPairs.{IsPairsOf}
+use Rattle.jsonb_doc.proofs.PairsLemmas.{IsPairsOf}
 use Rattle.jsonb_doc.specs.declared.error.Error.{Error}
 use Rattle.jsonb_doc.specs.declared.pair_iter.PairIter.{PairIter}
 use Rattle.jsonb_raw.specs.declared.owned.OwnedJsonb.{OwnedJsonb}

@@ -8,7 +8,8 @@ use Rattle.jsonb_doc.specs.Tree.{Tree, array, Trees, tree, trees_of}
 use Rattle.jsonb_doc.specs.Payload.{Form}
 use Rattle.jsonb_doc.specs.Item.{StandsFor}
 use Rattle.jsonb_doc.specs.Answer.{IsOutOfMemoryOrTooLarge}
-use Rattle.jsonb_doc.specs.Elements.{GivesElement, IsElementsOf}
+use Rattle.jsonb_doc.specs.Elements.{GivesElement}
+use Rattle.jsonb_doc.proofs.ElementsLemmas.{IsElementsOf}
 use Rattle.jsonb_doc.specs.ArrayBuilder.{Parts, no_parts, HoldsElements}
 use Rattle.jsonb_doc.proofs.BuilderSteps.{front_empty, front_pushed, front_refused}
 use Rattle.jsonb_doc.specs.Private.Builders.{HoldsFront}

@@ -14,7 +14,7 @@ use Rattle.jsonb_doc.proofs.TreeLists.{keys_of-members}
 use Rattle.jsonb_doc.proofs.KeyEntries.{front_of}
 use Rattle.jsonb_doc.proofs.PairsLemmas.{HoldsPairs-skipped, HoldsPairs-values}
 use Rattle.jsonb_doc.specs.Private.Containers.{Holds}
-use Rattle.jsonb_doc.specs.Lengths.{StandBefore}
+use Rattle.jsonb_doc.specs.Private.Lengths.{StandBefore}
 use Rattle.jsonb_doc.specs.declared.container.ObjectParts.{ObjectParts}
 use Rattle.jsonb_doc.specs.declared.container.Container.TheVariants.{Object}
 use Rattle.jsonb_raw.specs.declared.functions.parts.Entries.{Entries}

@@ -8,7 +8,7 @@ use Rattle.jsonb_doc.specs.Tree.{Tree, boolean, array, object, Trees, no_trees, 
 use Rattle.jsonb_doc.specs.Payload.{Form, number_reader}
 use Rattle.jsonb_doc.specs.Format.{IsContent, container_entry, null_entry, text_entry, entry_word, key_bytes, AreKeys}
 use Rattle.jsonb_doc.specs.Encoding.{EntryParts}
-use Rattle.jsonb_doc.specs.Lengths.{Tells}
+use Rattle.jsonb_doc.specs.Private.Lengths.{Tells}
 use Rattle.jsonb_doc.specs.Private.ObjectBytes.{words_of_entries, contents_of_entries}
 use Rattle.jsonb_doc.proofs.BuilderSteps.{keys_rise}
 use Rattle.jsonb_doc.specs.declared.error.Error.{Error}

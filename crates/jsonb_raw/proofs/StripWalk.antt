@@ -12,7 +12,7 @@ use Rattle.jsonb_doc.specs.Format.{key_words as key_words_of}
 use Rattle.jsonb_doc.proofs.Containers.{HeadedBy-unique, entries_of, count-values}
 use Rattle.jsonb_doc.specs.Answer.{IsOutOfMemory, IsOutOfMemoryOrTooLarge}
 use Rattle.jsonb_doc.specs.Encoding.{EntryParts}
-use Rattle.jsonb_doc.specs.ObjectBuilder.{FitsEntry}
+use Rattle.jsonb_doc.specs.Private.ObjectBytes.{FitsEntry}
 use Rattle.jsonb_doc.specs.Private.ObjectBytes.{words_of_entries, contents_of_entries}
 use Rattle.jsonb_raw.specs.declared.functions.operator.stripping.Writing.{Writing}
 use Rattle.jsonb_raw.specs.declared.functions.operator.stripping.NextEntry.{NextEntry}

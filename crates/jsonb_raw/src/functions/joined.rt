@@ -5,7 +5,7 @@ ghost use Rattle.std.specs.Map.{keys_of, values_of};
 ghost use Rattle.jsonb_doc.specs.Tree.{Tree, text, array, object, trees_of, pairs_of};
 ghost use Rattle.jsonb_doc.specs.Payload.{Form};
 ghost use Rattle.jsonb_doc.specs.Format.{AreKeys, header};
-ghost use Rattle.jsonb_doc.specs.Kinds.{header_number};
+ghost use Rattle.jsonb_doc.specs.Private.Headers.{header_number};
 ghost use Rattle.jsonb_doc.specs.Answer.{IsOutOfMemory, ◌or◌};
 ghost use Rattle.jsonb_doc.specs.declared.error.Error.TheVariants.{TooLarge};
 ghost use Rattle.jsonb_raw.specs.Documents.{Makes};

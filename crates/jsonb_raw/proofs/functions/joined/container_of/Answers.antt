@@ -1,6 +1,6 @@
 use Rattle.std.proofs.Common.{◌≡◌, ◌∙◌, ◌++◌, ap}
 use Rattle.jsonb_doc.specs.Format.{header}
-use Rattle.jsonb_doc.specs.Kinds.{header_number}
+use Rattle.jsonb_doc.specs.Private.Headers.{header_number}
 use Rattle.jsonb_raw.proofs.JoinedEntries.{four_parts}
 use Rattle.jsonb_raw.proofs.functions.joined.container_of.Goals as goal
 

@@ -1,6 +1,6 @@
 use Rattle.std.proofs.Common.{arith, inl, inr, ap}
 use Rattle.jsonb_doc.specs.Payload.{number_reader}
-use Rattle.jsonb_doc.specs.Kinds.{header_number}
+use Rattle.jsonb_doc.specs.Private.Headers.{header_number}
 use Rattle.jsonb_doc.proofs.Containers.{HasContent-kind}
 use Rattle.jsonb_raw.proofs.LevelStarts.{headed, no_array, no_object}
 use Rattle.jsonb_raw.proofs.level.Level.of_container.Goals as goal

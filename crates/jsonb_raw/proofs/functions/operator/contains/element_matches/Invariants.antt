@@ -4,7 +4,6 @@ use Rattle.jsonb_doc.specs.Tree.{Tree, Trees, array, elements}
 use Rattle.jsonb_doc.specs.Payload.{Form}
 use Rattle.jsonb_doc.specs.Format.{Decodes}
 use Rattle.jsonb_doc.specs.Item.{StandsFor}
-use Rattle.jsonb_doc.specs.Elements.{elements_room}
 use Rattle.jsonb_raw.specs.Contains.{is_part_of}
 use Rattle.jsonb_raw.proofs.IteratorItems.{SomeElements}
 use Rattle.jsonb_raw.proofs.functions.operator.contains.element_matches.Given as goal
@@ -14,7 +13,7 @@ abbrev pub invariant-loop-item : goal.invariant-loop-item
 invariant-loop-item l = record {
   can : (goal.iterator-loop-item).can_next l.item-iterator;
   finite : (goal.iterator-loop-item).is_finite l.item-iterator;
-  room : elements_room l.item-iterator < length l.fn.bytes;
+  room : length l.item-iterator.entries.contents.now < length l.fn.bytes;
   left : (form other_form : Form) (xs : Trees) (y : Tree) → Decodes form l.fn.bytes (array xs) → StandsFor other_form l.fn.wanted y
       → SomeElements form l.item-iterator (λ left. list_any (is_part_of y) (elements left) ≡ list_any (is_part_of y) (elements xs));
 }

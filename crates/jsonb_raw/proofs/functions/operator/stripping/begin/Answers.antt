@@ -1,5 +1,5 @@
 use Rattle.std.proofs.Common.{arith, inl, inr, ap}
-use Rattle.jsonb_doc.specs.Kinds.{header_number}
+use Rattle.jsonb_doc.specs.Private.Headers.{header_number}
 use Rattle.jsonb_raw.proofs.LevelStarts.{headed}
 use Rattle.jsonb_raw.proofs.StripWalk.{container_case}
 use Rattle.jsonb_raw.proofs.functions.operator.stripping.begin.Goals as goal

@@ -1,6 +1,6 @@
 use Rattle.std.proofs.Common.{refl, ap}
 use Rattle.jsonb_doc.specs.Payload.{number_reader}
-use Rattle.jsonb_doc.specs.Kinds.{header_number}
+use Rattle.jsonb_doc.specs.Private.Headers.{header_number}
 use Rattle.jsonb_raw.proofs.LevelStarts.{headed}
 use Rattle.jsonb_raw.proofs.CutCases.{not_outside, not_scalar, element_missing, element_entries, key_missing, value_missing, member_entries}
 use Rattle.jsonb_raw.proofs.functions.path.cut.child_entries.Goals as goal
