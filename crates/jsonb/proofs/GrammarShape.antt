@@ -1,13 +1,14 @@
 -- What the grammar makes is a path as `IsPath` says.
 use Rattle.std.proofs.Common.{◌≡◌, ℕ, zero, suc, ◌+◌, ◌<◌, ◌^◌, List, [], ◌∷◌, ◌++◌, length, Bool, true, false, Some, None, refl, sym, ◌∙◌, ap, subst, arith, ◌⊎◌, inl, inr}
 use Rattle.std.specs.Prelude.{ℤ, pos, neg_ℤ, nat_lt, ◌==◌, ◌||◌, fold, if◌then◌else◌}
-use Rattle.std.specs.Option.{option_and_then}
+use Rattle.std.specs.Option.{option_and_then, option_or}
 use Rattle.std.specs.Char.{is_ascii_digit}
 use Rattle.std.proofs.lemmas.Option.{same_Some}
 use Rattle.std.proofs.lemmas.Bool.Decides.{nat_tests, Decides-ltb, Decides-eqb}
 use Rattle.std.specs.List.{AllByRecursion}
-use Rattle.jsonb_keypath.specs.Rules.{Parsed, Rule, give, ◌>>=◌, ◌>>◌, ◌</>◌, or_else_parsed, optional, only_if, literal, repeat, list_of}
-use Rattle.jsonb_keypath.specs.Tokens.{ws, past, is_space, is_within, int32, int64, nat8, nat64, sign, natural, natural_below, integer, integer_within, with_sign, name, quoted}
+use Rattle.jsonb_doc.specs.Rounding.{with_sign}
+use Rattle.jsonb_keypath.specs.Rules.{Parsed, Rule, give, ◌>>=◌, ◌>>◌, ◌</>◌, optional, only_if, literal, repeat, list_of}
+use Rattle.jsonb_keypath.specs.Tokens.{ws, past, is_space, is_within, int32, int64, nat8, nat64, sign, natural, natural_below, integer, integer_within, name, quoted}
 use Rattle.jsonb_keypath.proofs.ReadBackLemmas.{begins, begins-excludes, stops-from_begins, is_sign, sign-none, natural-none}
 use Rattle.jsonb_keypath.proofs.YieldsLemmas.{Yields, IsName, yields-give, yields-then, yields-behind, yields-choice, yields-repeat, yields-list_of, yields-integer_within, yields-natural_below, yields-name, yields-quoted}
 use Rattle.jsonb.specs.PathTree.{from_front, from_last, Entry, single, slice, level, last_level, Levels, Literal, null, boolean, unsigned, signed, string, BinaryOp, and_op, or_op, eq, not_eq, lt, lte, gt, gte, starts_with_op, add, subtract, multiply, divide, modulo, Step, root, current, dot_wildcard, recursive_dot_wildcard, bracket_wildcard, dot_field, colon_field, object_field, array_indices, filter, whole_expression, Expression, paths, value, binary, unary, exists, steps_of}
@@ -228,7 +229,7 @@ inside_choice : {A : Type 0} (Q : Type 0) (first second : Rule A) (input : List 
     (first </> second) input ≡ Some (a, rest) →
     (first input ≡ Some (a, rest) → Q) → (first input ≡ None → second input ≡ Some (a, rest) → Q) → Q
 inside_choice {A} Q first second input a rest e k l = go (first input) refl e where
-  go : (o : Parsed A) → first input ≡ o → or_else_parsed o (second input) ≡ Some (a, rest) → Q
+  go : (o : Parsed A) → first input ≡ o → option_or o (second input) ≡ Some (a, rest) → Q
   go None at e' = l at e'
   go (Some p) at e' = k (at ∙ e')
 

@@ -3,23 +3,17 @@ use Rattle.std.proofs.Common.{ℕ, ◌^◌, ◌≤◌, List, [], ◌∷◌, leng
 use Rattle.std.specs.Prelude.{codes}
 use Rattle.jsonb_keypath.specs.Rules.{Rule, give, ◌>>=◌, ◌>>◌, optional, literal, repeat}
 use Rattle.jsonb_keypath.specs.Tokens.{ws, nat8, name, quoted}
-use Rattle.jsonb_keypath.specs.TokenLaws.{ReadsSome, IsRepeated}
+use Rattle.jsonb_keypath.specs.TokenLaws.{ReadsSome}
 use Rattle.jsonb_keypath.proofs.ReadsLemmas.{NeverGrows, some-no_more, grows-give, grows-then, some-then, grows-choice, some-choice, repeated-repeat}
 use Rattle.jsonb_keypath.proofs.CutLemmas.{some-literal}
-use Rattle.jsonb_keypath.proofs.GrowsLemmas.{grows-ws, some-name, some-quoted, some-natural_below}
+use Rattle.jsonb_keypath.proofs.GrowsLemmas.{run-no_more, grows-ws, some-name, some-quoted, some-natural_below}
 use Rattle.jsonb.specs.PathTree.{colon_field, dot_field, object_field, array_indices}
 use Rattle.jsonb.specs.PathGrammar.{keyword, spaced, levels, wildcard, field, named_field, entry, spaced_entry, entries, bracket_field, inner, spaced_inner}
 use Rattle.jsonb.specs.Private.Repeated.{another_entry, entry_list}
 use Rattle.jsonb.proofs.EntryReadsSome.{some-keyword, some-spaced, some-entry, some-another_entry}
 
-repeated-no_more : {A : Type 0} (rule : Rule A) → ReadsSome rule → (input : List ℕ) (values : List A) (rest : List ℕ) →
-    IsRepeated rule input values rest → length rest ≤ length input
-repeated-no_more rule reads input [] rest h = rw h.0 (omega arith)
-repeated-no_more rule reads input (a ∷ values) rest h = let first = reads input a h.0 h.1 in
-    let others = repeated-no_more rule reads h.0 values rest h.2 in omega (arith, first, others)
-
 pub grows-repeat : {A : Type 0} (rule : Rule A) → ReadsSome rule → NeverGrows (repeat rule)
-grows-repeat rule reads input values rest e = repeated-no_more rule reads input values rest (repeated-repeat rule reads input values rest e)
+grows-repeat rule reads input values rest e = run-no_more rule reads input values rest (repeated-repeat rule reads input values rest e).0
 
 some-nat8 : ReadsSome nat8
 some-nat8 = some-natural_below (2 ^ 8)
