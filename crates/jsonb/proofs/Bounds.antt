@@ -11,7 +11,6 @@ use Rattle.jsonb_keypath.proofs.CutLemmas.{some-literal}
 use Rattle.jsonb_keypath.proofs.GrowsLemmas.{grows-ws}
 use Rattle.jsonb.specs.PathTree.{filter, Expression}
 use Rattle.jsonb.specs.PathGrammar.{spaced, spaced_inner, path_root, unary_atom, binary_atom, filter_with, path_with, group_with, exists_steps, exists_with, atom_with, and_with, or_with, nested_or, expression, path_step}
-use Rattle.jsonb.specs.PathLaws.{RulesHold}
 use Rattle.jsonb.proofs.ExpressionReadsSome.{some-path_root, some-and_separator, some-or_separator, some-atom, some-and, grows-nested_or}
 
 -- the rules do the same on inputs that are shorter than this
@@ -153,16 +152,13 @@ expression-once : (f : Bool) (input : List ℕ) → expression f input ≡ or_wi
 unfolding expression nested_or
 expression-once f input = rw add-one refl
 
-expression-rule : (f : Bool) (input : List ℕ) → expression f input ≡ or_with expression f input
+pub expression-rule : (f : Bool) (input : List ℕ) → expression f input ≡ or_with expression f input
 expression-rule f input =
     expression-once f input ∙ agree-or (length input) (nested_or (length input)) expression (grows-nested_or (length input))
     (nested_is_expression (length input)) f input (omega arith)
 
-path_step-rule : (input : List ℕ) → path_step input ≡ path_with expression input
+pub path_step-rule : (input : List ℕ) → path_step input ≡ path_with expression input
 unfolding path_step
 path_step-rule input =
     agree-path (length input) (nested_or (length input + 1)) expression (grows-nested_or (length input + 1))
     (λ f i short. nested_is_expression (length input + 1) f i (omega arith)) input (omega arith)
-
-pub rules_hold : (input : List ℕ) → RulesHold input
-rules_hold input = (λ f. expression-rule f input, path_step-rule input)

@@ -23,7 +23,7 @@ use Rattle.jsonb.specs.declared.parser.opening.Opened.TheVariants as opened
 use Rattle.jsonb.specs.declared.parser.expression.Frame.{Frame}
 use Rattle.jsonb.specs.declared.parser.opening.Opening.{Opening}
 use Rattle.jsonb.proofs.ExpressionReadsSome.{some-atom, some-and, some-path, some-and_separator, some-or_separator, grows-nested_or, some-nested_or}
-use Rattle.jsonb.proofs.Bounds.{rules_hold}
+use Rattle.jsonb.proofs.Bounds.{expression-rule, path_step-rule}
 
 grows-expression : (f : Bool) → NeverGrows (expression f)
 unfolding expression
@@ -96,7 +96,7 @@ unfolding partial_outcome
 partial-begins f input =
     behind-none or_op (another_and expression f) (joined_behind and_op (another_atom expression f) None (atom_with expression f input))
     ∙ ap (joined_from or_op (another_and expression f)) (behind-none and_op (another_atom expression f) (atom_with expression f input) ∙ and-is f input)
-    ∙ or-is f input ∙ sym ((rules_hold input).0 f)
+    ∙ or-is f input ∙ sym (expression-rule f input)
 
 -- an expression whose conditions joined by `&&` are these
 abbrev pub with_all : PartialExpr → Joined → PartialExpr
@@ -246,7 +246,7 @@ filter-closes steps new before e input here end rest space reads space' same = r
 -- ---- steps
 
 path_step-is : path_step ≡ path_with expression
-path_step-is = λ i input. (rules_hold input).1 i
+path_step-is = λ i input. path_step-rule input i
 
 -- the same of steps with no bound on parentheses
 pub without_bound : (front front' : List Step) (input input' : List ℕ) →

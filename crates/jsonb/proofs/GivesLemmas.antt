@@ -6,7 +6,7 @@ use Rattle.jsonb_doc.specs.declared.error.Error.{Error}
 use Rattle.jsonb_doc.specs.Tree.{Tree}
 use Rattle.std.specs.List.{AllZip}
 use Rattle.jsonb.specs.Meaning.{is_some_item}
-use Rattle.jsonb.specs.ItemSteps.{list_or, on_mismatch}
+use Rattle.jsonb.specs.ItemSteps.{list_or}
 use Rattle.jsonb.specs.Private.Selection.{mismatch}
 use Rattle.jsonb.specs.declared.selector.document.Mode.{Mode}
 use Rattle.jsonb.specs.declared.selector.document.Mode.TheVariants.{Lax, Strict}
@@ -67,7 +67,7 @@ unchanged R xs before a = record { ok = subst (λ l. AllZip R xs l) (sym (append
 
 -- a step that doesn't fit gives nothing, or is refused
 pub mismatches : {A : Type 0} (mode : Mode) (R : A → Tree → Type 0) (xs : List A) (before : List Tree) → AllZip R xs before →
-    Gives (λ _ ts. AllZip R xs (before ++ ts)) IsOutOfMemory (mismatch mode) (on_mismatch mode [])
+    Gives (λ _ ts. AllZip R xs (before ++ ts)) IsOutOfMemory (mismatch mode) (list_or mode [] None)
 mismatches Lax R xs before a = unchanged R xs before a
 mismatches Strict R xs before a = record { ok = tt; err = inr refl }
 
@@ -172,6 +172,6 @@ found_one mode otherwise R g v None h go = absurd h
 -- nothing that was found
 pub none_found : {A V T : Type 0} {S : A → List Tree → Type 0} {r : Outcome A} (mode : Mode) (otherwise : List Tree) (R : V → T → Type 0)
     (g : T → List Tree) (o : Option T) →
-    SameOption R None o → Gives S IsOutOfMemory r (on_mismatch mode otherwise) → Gives S IsOutOfMemory r (list_or mode otherwise (option_map g o))
+    SameOption R None o → Gives S IsOutOfMemory r (list_or mode otherwise None) → Gives S IsOutOfMemory r (list_or mode otherwise (option_map g o))
 none_found mode otherwise R g (Some u) h given = absurd h
 none_found mode otherwise R g None h given = given

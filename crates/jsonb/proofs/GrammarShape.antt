@@ -11,10 +11,10 @@ use Rattle.jsonb_keypath.specs.Rules.{Parsed, Rule, give, ◌>>=◌, ◌>>◌, �
 use Rattle.jsonb_keypath.specs.Tokens.{ws, past, is_space, is_within, int32, int64, nat8, nat64, sign, natural, natural_below, integer, integer_within, name, quoted}
 use Rattle.jsonb_keypath.proofs.ReadBackLemmas.{begins, begins-excludes, stops-from_begins, is_sign, sign-none, natural-none}
 use Rattle.jsonb_keypath.proofs.YieldsLemmas.{Yields, IsName, yields-give, yields-then, yields-behind, yields-choice, yields-repeat, yields-list_of, yields-integer_within, yields-natural_below, yields-name, yields-quoted}
-use Rattle.jsonb.specs.PathTree.{from_front, from_last, Entry, single, slice, level, last_level, Levels, Literal, null, boolean, unsigned, signed, string, BinaryOp, and_op, or_op, eq, not_eq, lt, lte, gt, gte, starts_with_op, add, subtract, multiply, divide, modulo, Step, root, current, dot_wildcard, recursive_dot_wildcard, bracket_wildcard, dot_field, colon_field, object_field, array_indices, filter, whole_expression, Expression, paths, value, binary, unary, exists, steps_of}
-use Rattle.jsonb.specs.PathGrammar.{keyword, spaced, negated, last_and, place, entry, levels, field, spaced_entry, entries, wildcard, named_field, bracket_field, inner, spaced_inner, path_root, literal_value, operand_steps, operand, spaced_operand, operator, arithmetic_operator, unary_operator, unary_atom, binary_atom, joined_by, filter_with, path_with, group_with, exists_steps, exists_with, atom_with, and_with, or_with, nested_or, expression, root_expression, first_step, front_steps, path_step, plain_path, json_path}
+use Rattle.jsonb.specs.PathTree.{LevelEnd, from_front, from_last, Entry, single, slice, level, last_level, Levels, Literal, null, boolean, unsigned, signed, string, BinaryOp, and_op, or_op, eq, not_eq, lt, lte, gt, gte, starts_with_op, add, subtract, multiply, divide, modulo, Step, root, current, dot_wildcard, recursive_dot_wildcard, bracket_wildcard, dot_field, colon_field, object_field, array_indices, filter, whole_expression, Expression, paths, value, binary, unary, exists, steps_of}
+use Rattle.jsonb.specs.PathGrammar.{keyword, spaced, negated, last_and, place, entry, level_end, levels, field, spaced_entry, entries, wildcard, named_field, bracket_field, inner, spaced_inner, path_root, literal_value, operand_steps, operand, spaced_operand, operator, arithmetic_operator, unary_operator, unary_atom, binary_atom, joined_by, filter_with, path_with, group_with, exists_steps, exists_with, atom_with, and_with, or_with, nested_or, expression, root_expression, first_step, front_steps, path_step, plain_path, json_path}
 use Rattle.jsonb.specs.PathText.{joins}
-use Rattle.jsonb.proofs.PathShape.{IsIndex, IsPlace, IsEntry, AreLevels, IsLiteral, IsInner, AreInner, IsBeginning, IsOperand, is_signed, is_signed_literal, IsPathStep, ArePathSteps, IsExistsPath, IsCondition, IsPath}
+use Rattle.jsonb.proofs.PathShape.{IsLevelEnd, IsIndex, IsPlace, IsEntry, AreLevels, IsLiteral, IsInner, AreInner, IsBeginning, IsOperand, is_signed, is_signed_literal, IsPathStep, ArePathSteps, IsExistsPath, IsCondition, IsPath}
 use Rattle.jsonb_keypath.proofs.KeyPathReadsBack.{whole-some}
 use Prim.Native.String.{String}
 use Rattle.jsonb.proofs.InnerReadsBack.{past-stops, past-none, spaced-reads}
@@ -65,27 +65,26 @@ IsByte n = nat_lt n (2 ^ 8) ≡ true
 abbrev IsLevels : Levels → Type 0
 IsLevels l = AreLevels (Some l)
 
+abbrev IsEnd : LevelEnd → Type 0
+IsEnd end = IsLevelEnd (Some end)
+
+level_end_is_end : Yields IsEnd level_end
+level_end_is_end =
+    yields-behind IsEnd ws _ (λ _. yields-behind IsEnd (keyword "to") _ (λ _. yields-behind IsEnd ws _
+    (λ _. yields-choice IsEnd _ _
+    (yields-then IsByte IsEnd nat8 _ (yields-natural_below (2 ^ 8)) (λ n is. yields-give IsEnd (level n) is))
+    (yields-behind IsEnd (keyword "last") _ (λ _. yields-give IsEnd last_level tt)))))
+
 levels_are_levels : Yields IsLevels levels
 unfolding levels
 levels_are_levels =
-    yields-choice IsLevels _ _
-    (yields-behind IsLevels (literal "{") _ (λ _. yields-behind IsLevels ws _
-    (λ _. yields-then IsByte IsLevels nat8 _ (yields-natural_below (2 ^ 8)) (λ start is.
-    yields-behind IsLevels ws _ (λ _. yields-behind IsLevels (keyword "to") _ (λ _. yields-behind IsLevels ws _
-    (λ _. yields-then IsByte IsLevels nat8 _ (yields-natural_below (2 ^ 8)) (λ end is'.
-    yields-behind IsLevels ws _ (λ _. yields-behind IsLevels (literal "}") _
-    (λ _. yields-give IsLevels (record { start = start; end = Some (level end) }) (is, is')))))))))))
-    (yields-choice IsLevels _ _
-    (yields-behind IsLevels (literal "{") _ (λ _. yields-behind IsLevels ws _
-    (λ _. yields-then IsByte IsLevels nat8 _ (yields-natural_below (2 ^ 8)) (λ start is.
-    yields-behind IsLevels ws _ (λ _. yields-behind IsLevels (keyword "to") _ (λ _. yields-behind IsLevels ws _
-    (λ _. yields-behind IsLevels (keyword "last") _ (λ _.
-    yields-behind IsLevels ws _ (λ _. yields-behind IsLevels (literal "}") _
-    (λ _. yields-give IsLevels (record { start = start; end = Some last_level }) (is, tt)))))))))))
-    (yields-behind IsLevels (literal "{") _ (λ _. yields-behind IsLevels ws _
-    (λ _. yields-then IsByte IsLevels nat8 _ (yields-natural_below (2 ^ 8)) (λ start is.
-    yields-behind IsLevels ws _ (λ _. yields-behind IsLevels (literal "}") _
-    (λ _. yields-give IsLevels (record { start = start; end = None }) (is, tt))))))))
+    yields-behind IsLevels (literal "{") _ (λ _. yields-behind IsLevels ws _
+    (λ _. yields-then IsByte IsLevels nat8 _ (yields-natural_below (2 ^ 8)) (λ n is.
+    yields-then IsLevelEnd IsLevels (optional level_end) _
+    (yields-choice IsLevelEnd _ _ (yields-then IsEnd IsLevelEnd level_end _ level_end_is_end
+    (λ end is_end. yields-give IsLevelEnd (Some end) is_end)) (yields-give IsLevelEnd None tt))
+    (λ end is_end. yields-behind IsLevels ws _ (λ _. yields-behind IsLevels (literal "}") _
+    (λ _. yields-give IsLevels (record { start = n; end = end }) (is, is_end)))))))
 
 field_is_name : Yields IsName field
 unfolding field

@@ -8,7 +8,7 @@ use Rattle.jsonb_keypath.proofs.ReadsLemmas.{NeverGrows, some-no_more, grows-giv
 use Rattle.jsonb_keypath.proofs.CutLemmas.{some-literal}
 use Rattle.jsonb_keypath.proofs.GrowsLemmas.{run-no_more, grows-ws, some-name, some-quoted, some-natural_below}
 use Rattle.jsonb.specs.PathTree.{colon_field, dot_field, object_field, array_indices}
-use Rattle.jsonb.specs.PathGrammar.{keyword, spaced, levels, wildcard, field, named_field, entry, spaced_entry, entries, bracket_field, inner, spaced_inner}
+use Rattle.jsonb.specs.PathGrammar.{keyword, spaced, level_end, levels, wildcard, field, named_field, entry, spaced_entry, entries, bracket_field, inner, spaced_inner}
 use Rattle.jsonb.specs.Private.Repeated.{another_entry, entry_list}
 use Rattle.jsonb.proofs.EntryReadsSome.{some-keyword, some-spaced, some-entry, some-another_entry}
 
@@ -22,22 +22,22 @@ grows-closing : {A : Type 0} (a : A) → NeverGrows (ws >>= λ _. literal "}" >>
 grows-closing a = grows-then ws _ grows-ws (λ _. grows-then (literal "}") _ (some-no_more (literal "}") (some-literal 125 []))
     (λ _. grows-give a))
 
+grows-optional : {A : Type 0} (rule : Rule A) → NeverGrows rule → NeverGrows (optional rule)
+grows-optional rule h = grows-choice _ _ (grows-then rule _ h (λ a. grows-give (Some a))) (grows-give None)
+
+grows-level_end : NeverGrows level_end
+grows-level_end =
+    grows-then ws _ grows-ws
+    (λ _. grows-then (keyword "to") _ (some-no_more (keyword "to") (some-keyword 116 (codes "o"))) (λ _. grows-then ws _ grows-ws
+    (λ _. grows-choice _ _ (grows-then nat8 _ (some-no_more nat8 some-nat8) (λ n. grows-give _))
+    (grows-then (keyword "last") _ (some-no_more (keyword "last") (some-keyword 108 (codes "ast"))) (λ _. grows-give _)))))
+
 some-levels : ReadsSome levels
 unfolding levels
 some-levels =
-    some-choice _ _ (some-then (literal "{") _ (some-literal 123 []) (λ _. grows-then ws _ grows-ws
-    (λ _. grows-then nat8 _ (some-no_more nat8 some-nat8) (λ start. grows-then ws _ grows-ws
-    (λ _. grows-then (keyword "to") _ (some-no_more (keyword "to") (some-keyword 116 (codes "o"))) (λ _. grows-then ws _ grows-ws
-    (λ _. grows-then nat8 _ (some-no_more nat8 some-nat8) (λ end. grows-closing _))))))))
-    (some-choice _ _ (some-then (literal "{") _ (some-literal 123 []) (λ _. grows-then ws _ grows-ws
-    (λ _. grows-then nat8 _ (some-no_more nat8 some-nat8) (λ start. grows-then ws _ grows-ws
-    (λ _. grows-then (keyword "to") _ (some-no_more (keyword "to") (some-keyword 116 (codes "o"))) (λ _. grows-then ws _ grows-ws
-    (λ _. grows-then (keyword "last") _ (some-no_more (keyword "last") (some-keyword 108 (codes "ast"))) (λ _. grows-closing _))))))))
-    (some-then (literal "{") _ (some-literal 123 []) (λ _. grows-then ws _ grows-ws (λ _. grows-then nat8 _ (some-no_more nat8 some-nat8)
-    (λ start. grows-closing _)))))
-
-grows-optional : {A : Type 0} (rule : Rule A) → NeverGrows rule → NeverGrows (optional rule)
-grows-optional rule h = grows-choice _ _ (grows-then rule _ h (λ a. grows-give (Some a))) (grows-give None)
+    some-then (literal "{") _ (some-literal 123 []) (λ _. grows-then ws _ grows-ws
+    (λ _. grows-then nat8 _ (some-no_more nat8 some-nat8)
+    (λ n. grows-then (optional level_end) _ (grows-optional level_end grows-level_end) (λ end. grows-closing _))))
 
 some-wildcard : ReadsSome wildcard
 unfolding wildcard

@@ -1,9 +1,10 @@
 -- Each JSON path that the grammar reads prints to a text that reads as the same path but for variants.
 use Rattle.std.proofs.Common.{◌≡◌, ℕ, List, [], ◌∷◌, Option, Some, None, refl}
-use Rattle.std.specs.Prelude.{IfSome, pos, map}
+use Rattle.std.specs.Prelude.{IfSome, IsSomeAnd, pos, map}
 use Rattle.jsonb.specs.PathTree.{Literal, signed, Step, filter, whole_expression, Steps, no_steps, step, Expression, paths, value, binary, unary, exists}
 use Rattle.jsonb.specs.PathGrammar.{json_path}
-use Rattle.jsonb.specs.PathLaws.{settled_literal, settled_step, settled_steps, settled, ReadsBack}
+use Rattle.jsonb.specs.PathText.{path_text}
+use Rattle.jsonb.specs.PathLaws.{settled_literal, settled_step, settled_steps, settled, SameButVariants}
 use Rattle.jsonb.proofs.PathReadsBack.{path-text}
 use Rattle.jsonb.proofs.GrammarShape.{json_path_is_path}
 
@@ -33,8 +34,12 @@ settled_path-twice : (p : List Step) → map settled_step p ≡ map settled_step
 settled_path-twice [] = refl
 settled_path-twice (s ∷ p) = rw (settled_step-twice s, ← settled_path-twice p) refl
 
+-- the printed text reads, as a path that is the same but for variants
+abbrev pub ReadsBack : List Step → Type 0
+ReadsBack p = IsSomeAnd (json_path (path_text p)) (SameButVariants p)
+
 pub reads_back : (text : List ℕ) (p : List Step) → json_path text ≡ Some p → ReadsBack p
-reads_back text p e = (map settled_step p, path-text p (json_path_is_path text p e), settled_path-twice p)
+reads_back text p e = rw (path-text p (json_path_is_path text p e)) (settled_path-twice p)
 
 pub reads_back_if_read : (text : List ℕ) → IfSome (json_path text) ReadsBack
 reads_back_if_read text = go (json_path text) refl where

@@ -1,6 +1,6 @@
 -- Which variant holds a whole literal changes no truth, no step and no value.
 use Rattle.std.proofs.Common.{◌≡◌, ℕ, zero, List, [], ◌∷◌, Option, Some, None, refl, sym, ◌∙◌, ap, subst, map, flat_map, Ok, Err}
-use Rattle.std.specs.Prelude.{ℤ, pos, negsuc, IfSome}
+use Rattle.std.specs.Prelude.{ℤ, pos, negsuc, IfSome, IsSomeAnd}
 use Rattle.std.specs.declared.cmp.Ordering.TheVariants.{Equal}
 use Rattle.std.proofs.lemmas.Cmp.{tied_itself}
 use Rattle.jsonb_doc.specs.Proofs.NumberOrder.{number_cmp_total}
@@ -12,14 +12,14 @@ use Rattle.jsonb_doc.specs.Tree as tree
 use Rattle.jsonb_doc.specs.Tree.{Tree, Trees, Pairs}
 use Rattle.jsonb.specs.PathTree as path
 use Rattle.jsonb.specs.PathTree.{Literal, BinaryOp, and_op, or_op, eq, not_eq, lt, lte, gt, gte, starts_with_op, add, subtract, multiply, divide, modulo, UnaryOp, plus, minus, Step, root, current, dot_wildcard, recursive_dot_wildcard, bracket_wildcard, dot_field, colon_field, object_field, array_indices, filter, whole_expression, Steps, no_steps, step, Expression, paths, value, binary, unary, exists, steps_of}
-use Rattle.jsonb.specs.PathLaws.{settled_literal, settled_step, settled_steps, settled, ReadsBack}
+use Rattle.jsonb.specs.PathLaws.{settled_literal, settled_step, settled_steps, settled, SameButVariants, SameByValue, MeanTheSame}
 use Rattle.jsonb.specs.PathGrammar.{json_path}
+use Rattle.jsonb.specs.PathText.{path_text}
 use Rattle.std.specs.List.{AllZip}
 use Rattle.jsonb.specs.Values.{Value, null, boolean, number, text, container, literal_item, values_of_literal}
 use Rattle.jsonb.specs.Compare.{Truth, value_order, starts_with_truth, is_container, pair_truth, first_decisive, compare}
 use Rattle.jsonb.specs.PathArithmetic.{operation, all_numbers, two_numbers, signed_number, each_signed}
-use Rattle.jsonb.specs.Meaning.{start, step_meaning, steps_meaning, operand_values, truth, calculation, binary_meaning, literal_list, expression_meaning, as_filter, meaning, truth_list, item_truth, list_truth, expression_predicate, predicate}
-use Rattle.jsonb.specs.SelectorLaws.{SameByValue, VariantsChangeNoMeaning, PrintsWithMeaning}
+use Rattle.jsonb.specs.Meaning.{start, step_meaning, steps_meaning, operand_values, truth, calculation, binary_meaning, literal_list, expression_meaning, as_filter, meaning, truth_list, list_truth, expression_predicate, predicate}
 use Rattle.jsonb.specs.declared.selector.document.Mode.{Mode}
 
 -- ---- numbers whose whole values are unsigned where they are not negative
@@ -371,13 +371,11 @@ same_by_value _ _ e = cc
 
 -- ---- predicates
 
-item_truth-settled : (t : Tree) → item_truth (settled_tree t) ≡ item_truth t
-item_truth-settled tree.null = refl
-item_truth-settled _ = refl
-
 list_truth-settled : (ts : List Tree) → list_truth (map settled_tree ts) ≡ list_truth ts
 list_truth-settled [] = refl
-list_truth-settled (t ∷ []) = item_truth-settled t
+list_truth-settled (tree.null ∷ []) = refl
+list_truth-settled (tree.null ∷ u ∷ ts) = refl
+list_truth-settled (t ∷ []) = refl
 list_truth-settled (t ∷ u ∷ ts) = refl
 
 same_truth : (o o' : Outcome (List Tree)) → settled_outcome o ≡ settled_outcome o'
@@ -414,7 +412,7 @@ predicate-settled (object_field name ∷ p) mode top = refl
 predicate-settled (array_indices entries ∷ p) mode top = refl
 predicate-settled (filter e ∷ p) mode top = refl
 
-pub variants_change_no_meaning : VariantsChangeNoMeaning
+pub variants_change_no_meaning : (p q : List Step) → SameButVariants p q → MeanTheSame p q
 variants_change_no_meaning p q same mode top = (
   same_by_value (meaning mode p top) (meaning mode q top)
       (sym (meaning-settled p mode top) ∙ ap (λ (path : List Step). settled_outcome (meaning mode path top)) same ∙ meaning-settled q mode top),
@@ -424,9 +422,17 @@ variants_change_no_meaning p q same mode top = (
 -- ---- printed paths
 
 -- what is read back is the same path but for variants
-meant_back : (o : Option (List Step)) → IfSome o ReadsBack → IfSome o PrintsWithMeaning
-meant_back (Some p) h = (h.0, h.1, variants_change_no_meaning p h.0 h.2)
-meant_back None h = tt
+meant_back : (p : List Step) (o : Option (List Step)) → IsSomeAnd o (SameButVariants p) → IsSomeAnd o (MeanTheSame p)
+meant_back p (Some q) h = variants_change_no_meaning p q h
+meant_back p None h = absurd h
 
-pub prints_with_meaning : (text : List ℕ) → IfSome (json_path text) ReadsBack → IfSome (json_path text) PrintsWithMeaning
-prints_with_meaning input h = meant_back (json_path input) h
+-- the printed text reads, as a path of which this holds
+abbrev pub PrintsAs : (List Step → List Step → Type 0) → List Step → Type 0
+PrintsAs Same p = IsSomeAnd (json_path (path_text p)) (Same p)
+
+pub prints_with_meaning : (text : List ℕ) → IfSome (json_path text) (PrintsAs SameButVariants)
+    → IfSome (json_path text) (PrintsAs MeanTheSame)
+prints_with_meaning input h = go (json_path input) h where
+  go : (o : Option (List Step)) → IfSome o (PrintsAs SameButVariants) → IfSome o (PrintsAs MeanTheSame)
+  go (Some p) h = meant_back p (json_path (path_text p)) h
+  go None h = tt

@@ -17,15 +17,11 @@ abbrev pub values_of : Tree → Option (List Tree)
 values_of (object ps) = Some (tree.elements (tree.values ps))
 values_of _ = None
 
--- what a step gives of an item that it doesn't fit
-abbrev pub on_mismatch : Mode → List Tree → Outcome (List Tree)
-on_mismatch Lax otherwise = Ok otherwise
-on_mismatch Strict otherwise = Err StrictPath
-
--- the list, or a mismatch where there is none
+-- the list; where there is none the step doesn't fit the item, which strict mode refuses
 abbrev pub list_or : Mode → List Tree → Option (List Tree) → Outcome (List Tree)
 list_or mode otherwise (Some ts) = Ok ts
-list_or mode otherwise None = on_mismatch mode otherwise
+list_or Lax otherwise None = Ok otherwise
+list_or Strict otherwise None = Err StrictPath
 
 -- the value under the key of an object
 abbrev pub field_step : Mode → List ℕ → Tree → Outcome (List Tree)
@@ -44,13 +40,9 @@ abbrev pub is_meant : ℕ → Entry → ℕ → Bool
 is_meant length (single place) k = int_eq (pos k) (position length place)
 is_meant length (slice first last) k = int_le (position length first) (pos k) && int_le (pos k) (position length last)
 
--- the positions of an entry, ascending
-abbrev pub positions : ℕ → Entry → List ℕ
-positions length entry = filter (is_meant length entry) (range_with_len 0 length)
-
--- the elements at the positions of an entry, and of one entry after the other
+-- the elements at the positions that an entry means, ascending, and at those of one entry after the other
 abbrev pub picked_by : Entry → List Tree → List Tree
-picked_by entry ts = filter_map (slice_get ts) (positions (length ts) entry)
+picked_by entry ts = filter_map (slice_get ts) (filter (is_meant (length ts) entry) (range_with_len 0 (length ts)))
 
 abbrev pub picked : List Entry → List Tree → List Tree
 picked entries ts = flat_map (λ entry. picked_by entry ts) entries

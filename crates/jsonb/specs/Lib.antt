@@ -5,7 +5,6 @@ pub mod PathText
 pub mod PathOrder
 pub mod Positions
 pub mod LevelTable
-pub mod PathLaws
 pub mod Values
 pub mod Compare
 pub mod Preorder
@@ -14,8 +13,7 @@ pub mod PathArithmetic
 pub mod Meaning
 pub mod SelectionErrors
 pub mod SelectorAnswers
-pub mod SelectorLaws
-pub mod PathEquality
+pub mod PathLaws
 pub mod SamePath
 pub mod PathDocuments
 -- what clauses cite of the crates below, for the crates above

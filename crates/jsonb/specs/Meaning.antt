@@ -1,5 +1,5 @@
 -- What a path means on a tree: a list of items, or the first refusal.
-use Rattle.std.specs.Prelude.{◌≡◌, Bool, true, false, List, [], ◌∷◌, map, flat_map, Option, Some, None, Ok, Err}
+use Rattle.std.specs.Prelude.{◌≡◌, Bool, true, false, List, [], ◌∷◌, map, flat_map, Option, Some, None, is_some, Ok, Err, if◌then◌else◌}
 use Rattle.jsonb_doc.specs.Answer.{Outcome, and_then, try_flat_map}
 use Rattle.jsonb_doc.specs.Arithmetic.{Operation}
 use Rattle.jsonb_doc.specs.declared.error.Error.TheVariants.{InvalidJsonPath}
@@ -7,7 +7,7 @@ use Rattle.jsonb_doc.specs.Payload.{Form}
 use Rattle.jsonb_doc.specs.Format.{Decodes}
 use Rattle.jsonb_doc.specs.Tree as tree
 use Rattle.jsonb_doc.specs.Tree.{Tree}
-use Rattle.jsonb.specs.PathTree.{raw, BinaryOp, and_op, or_op, add, subtract, multiply, divide, modulo, Step, root, current, dot_wildcard, recursive_dot_wildcard, bracket_wildcard, dot_field, colon_field, object_field, array_indices, filter, whole_expression, Steps, no_steps, step, Expression, paths, value, binary, unary, exists, steps_of}
+use Rattle.jsonb.specs.PathTree.{raw, BinaryOp, and_op, or_op, Step, root, current, dot_wildcard, recursive_dot_wildcard, bracket_wildcard, dot_field, colon_field, object_field, array_indices, filter, whole_expression, Steps, no_steps, step, Expression, paths, value, binary, unary, exists, steps_of}
 use Rattle.jsonb.specs.Values.{Value, values_of_item, literal_item, values_of_literal}
 use Rattle.jsonb.specs.Compare.{Truth, compare, and_truth, or_truth}
 use Rattle.jsonb.specs.PathArithmetic.{operation, two_numbers, each_signed}
@@ -63,15 +63,9 @@ abbrev mutual
       and_then (truth mode l top item) (λ a. and_then (truth mode r top item) (λ b. Ok (and_truth a b)))
   truth mode (binary or_op l r) top item =
       and_then (truth mode l top item) (λ a. and_then (truth mode r top item) (λ b. Ok (or_truth a b)))
-  -- arithmetic is unknown, its operands not looked at
-  truth mode (binary add l r) top item = Ok None
-  truth mode (binary subtract l r) top item = Ok None
-  truth mode (binary multiply l r) top item = Ok None
-  truth mode (binary divide l r) top item = Ok None
-  truth mode (binary modulo l r) top item = Ok None
-  -- a comparison takes the values of both operands first
+  -- arithmetic is unknown, its operands not looked at; a comparison takes the values of both operands first
   truth mode (binary op l r) top item =
-      and_then (operand_values mode l top item)
+      if is_some (operation op) then Ok None else and_then (operand_values mode l top item)
       (λ ls. and_then (operand_values mode r top item) (λ rs. Ok (compare op ls rs)))
   truth mode (exists steps) top item =
       and_then (steps_meaning mode steps top (start steps top item ∷ [])) (λ ts. Ok (Some (is_some_item ts)))
@@ -130,13 +124,9 @@ Means form mode path top outcome = outcome ≡ meaning mode path top
 
 -- ---- what a path says as a predicate
 
--- the truth that an item is, and that a list of one item is
-abbrev pub item_truth : Tree → Truth
-item_truth (tree.boolean b) = Some b
-item_truth _ = None
-
+-- the truth that a list of one item is
 abbrev pub list_truth : List Tree → Truth
-list_truth (t ∷ []) = item_truth t
+list_truth (tree.boolean b ∷ []) = Some b
 list_truth _ = None
 
 -- the truth that its list is; a literal says nothing

@@ -4,12 +4,11 @@ use Rattle.std.specs.Str.{str_eq_ignore_ascii_case}
 use Prim.Native.String.{String}
 use Rattle.jsonb_keypath.specs.Rules.{Rule, give, fail, ◌>>=◌, ◌>>◌, ◌</>◌, optional, only_if, literal, repeat, list_of, all_consuming}
 use Rattle.jsonb_keypath.specs.Tokens.{ws, nat8, nat64, int32, int64, is_within, name, quoted}
-use Rattle.jsonb.specs.PathTree.{Place, from_front, from_last, Entry, single, slice, level, last_level, Levels, Literal, null, boolean, unsigned, signed, string, BinaryOp, and_op, or_op, eq, not_eq, lt, lte, gt, gte, starts_with_op, add, subtract, multiply, divide, modulo, UnaryOp, plus, minus, Step, root, current, dot_wildcard, recursive_dot_wildcard, bracket_wildcard, dot_field, colon_field, object_field, array_indices, filter, whole_expression, Expression, paths, value, binary, unary, exists, steps_of}
+use Rattle.jsonb.specs.PathTree.{Place, from_front, from_last, Entry, single, slice, level, last_level, LevelEnd, Levels, Literal, null, boolean, unsigned, signed, string, BinaryOp, and_op, or_op, eq, not_eq, lt, lte, gt, gte, starts_with_op, add, subtract, multiply, divide, modulo, UnaryOp, plus, minus, Step, root, current, dot_wildcard, recursive_dot_wildcard, bracket_wildcard, dot_field, colon_field, object_field, array_indices, filter, whole_expression, Expression, paths, value, binary, unary, exists, steps_of}
 
 -- these letters, each in any case
 abbrev pub in_any_case : List ℕ → Rule (Unit {0})
-in_any_case text =
-    λ input.
+in_any_case text input =
     if str_eq_ignore_ascii_case (take (length text) input) text then Some (tt, drop (length text) input) else None
 
 abbrev pub keyword : String → Rule (Unit {0})
@@ -17,11 +16,7 @@ keyword text = in_any_case (codes text)
 
 -- white space around the rule
 abbrev pub spaced : {A : Type 0} → Rule A → Rule A
-spaced rule = do
-  ws
-  a ← rule
-  ws
-  give a
+spaced rule = do ws; a ← rule; ws; give a
 
 -- ---- steps without expressions
 
@@ -31,62 +26,26 @@ negated z = if is_within (2 ^ 31) (neg_ℤ z) then neg_ℤ z else pos (214748364
 
 -- `last`, this sign, and a number
 abbrev pub last_and : String → Rule ℤ
-last_and sign = do
-  keyword "last"
-  ws
-  literal sign
-  ws
-  int32
+last_and sign = do keyword "last"; ws; literal sign; ws; int32
 
 unfoldable pub place : Rule Place
 place =
     (int32 >>= λ i. give (from_front i))
-    </> (last_and "-" >>= λ i. give (from_last (negated i)))
-    </> (last_and "+" >>= λ i. give (from_last i))
+    </> (last_and "-" >>= λ i. give (from_last (negated i))) </> (last_and "+" >>= λ i. give (from_last i))
     </> (keyword "last" >> give (from_last (pos 0)))
 
 unfoldable pub entry : Rule Entry
 entry =
-    (do
-      first ← place
-      ws
-      keyword "to"
-      ws
-      last ← place
-      give (slice first last))
+    (do first ← place; ws; keyword "to"; ws; last ← place; give (slice first last))
     </> (place >>= λ p. give (single p))
+
+-- `to`, and the level that the levels end at
+abbrev pub level_end : Rule LevelEnd
+level_end = do ws; keyword "to"; ws; (nat8 >>= λ n. give (level n)) </> (keyword "last" >> give last_level)
 
 unfoldable pub levels : Rule Levels
 levels =
-    (do
-      literal "{"
-      ws
-      start ← nat8
-      ws
-      keyword "to"
-      ws
-      end ← nat8
-      ws
-      literal "}"
-      give (record { start = start; end = Some (level end) }))
-    </> (do
-      literal "{"
-      ws
-      start ← nat8
-      ws
-      keyword "to"
-      ws
-      keyword "last"
-      ws
-      literal "}"
-      give (record { start = start; end = Some last_level }))
-    </> (do
-      literal "{"
-      ws
-      start ← nat8
-      ws
-      literal "}"
-      give (record { start = start; end = None }))
+    do literal "{"; ws; n ← nat8; end ← optional level_end; ws; literal "}"; give (record { start = n; end = end })
 
 unfoldable pub field : Rule (List ℕ)
 field = quoted </> name
@@ -95,26 +54,13 @@ unfoldable pub spaced_entry : Rule Entry
 spaced_entry = spaced entry
 
 unfoldable pub entries : Rule (List Entry)
-entries = do
-  literal "["
-  found ← list_of spaced_entry (literal ",")
-  literal "]"
-  give found
+entries = do literal "["; found ← list_of spaced_entry (literal ","); literal "]"; give found
 
 unfoldable pub wildcard : Rule Step
 wildcard =
-    (do
-      literal ".**"
-      found ← optional levels
-      give (recursive_dot_wildcard found))
+    (do literal ".**"; found ← optional levels; give (recursive_dot_wildcard found))
     </> (literal ".*" >> give dot_wildcard)
-    </> (do
-      literal "["
-      ws
-      literal "*"
-      ws
-      literal "]"
-      give bracket_wildcard)
+    </> (do literal "["; ws; literal "*"; ws; literal "]"; give bracket_wildcard)
 
 unfoldable pub named_field : Rule Step
 named_field =
@@ -122,13 +68,7 @@ named_field =
     </> (literal "." >> field >>= λ text. give (dot_field text))
 
 unfoldable pub bracket_field : Rule Step
-bracket_field = do
-  literal "["
-  ws
-  text ← quoted
-  ws
-  literal "]"
-  give (object_field text)
+bracket_field = do literal "["; ws; text ← quoted; ws; literal "]"; give (object_field text)
 
 unfoldable pub inner : Rule Step
 inner = wildcard </> named_field </> (entries >>= λ found. give (array_indices found)) </> bracket_field
@@ -144,18 +84,13 @@ path_root is_in_filter = (literal "$" >> give root) </> (only_if is_in_filter >>
 unfoldable pub literal_value : Rule Literal
 literal_value =
     (literal "null" >> give null)
-    </> (literal "true" >> give (boolean true))
-    </> (literal "false" >> give (boolean false))
-    </> (nat64 >>= λ n. give (unsigned n))
-    </> (int64 >>= λ z. give (signed z))
+    </> (literal "true" >> give (boolean true)) </> (literal "false" >> give (boolean false))
+    </> (nat64 >>= λ n. give (unsigned n)) </> (int64 >>= λ z. give (signed z))
     </> (quoted >>= λ text. give (string text))
 
 -- the root of a path, and the steps behind it
 abbrev pub operand_steps : Bool → Rule (List Step)
-operand_steps is_in_filter = do
-  first ← path_root is_in_filter
-  others ← repeat spaced_inner
-  give (first ∷ others)
+operand_steps is_in_filter = do first ← path_root is_in_filter; others ← repeat spaced_inner; give (first ∷ others)
 
 unfoldable pub operand : Bool → Rule Expression
 operand is_in_filter =
@@ -166,39 +101,25 @@ spaced_operand is_in_filter = spaced (operand is_in_filter)
 
 unfoldable pub arithmetic_operator : Rule BinaryOp
 arithmetic_operator =
-    (literal "+" >> give add)
-    </> (literal "-" >> give subtract)
-    </> (literal "*" >> give multiply)
-    </> (literal "/" >> give divide)
-    </> (literal "%" >> give modulo)
+    (literal "+" >> give add) </> (literal "-" >> give subtract)
+    </> (literal "*" >> give multiply) </> (literal "/" >> give divide) </> (literal "%" >> give modulo)
 
 unfoldable pub operator : Rule BinaryOp
 operator =
-    (literal "==" >> give eq)
-    </> (literal "!=" >> give not_eq)
-    </> (literal "<>" >> give not_eq)
-    </> (literal "<=" >> give lte)
-    </> (literal "<" >> give lt)
-    </> (literal ">=" >> give gte)
-    </> (literal ">" >> give gt)
-    </> (literal "starts with" >> give starts_with_op)
-    </> arithmetic_operator
+    (literal "==" >> give eq) </> (literal "!=" >> give not_eq) </> (literal "<>" >> give not_eq)
+    </> (literal "<=" >> give lte) </> (literal "<" >> give lt)
+    </> (literal ">=" >> give gte) </> (literal ">" >> give gt)
+    </> (literal "starts with" >> give starts_with_op) </> arithmetic_operator
 
 unfoldable pub unary_operator : Rule UnaryOp
 unary_operator = (literal "+" >> give plus) </> (literal "-" >> give minus)
 
 unfoldable pub unary_atom : Bool → Rule Expression
-unary_atom is_in_filter = do
-  op ← unary_operator
-  e ← spaced_operand is_in_filter
-  give (unary op e)
+unary_atom is_in_filter = do op ← unary_operator; e ← spaced_operand is_in_filter; give (unary op e)
 
 unfoldable pub binary_atom : Bool → Rule Expression
-binary_atom is_in_filter = do
-  left ← spaced_operand is_in_filter
-  op ← operator
-  right ← spaced_operand is_in_filter
-  give (binary op left right)
+binary_atom is_in_filter =
+    do l ← spaced_operand is_in_filter; op ← operator; r ← spaced_operand is_in_filter; give (binary op l r)
 
 -- ---- expressions
 
@@ -211,46 +132,22 @@ joined_by op (first ∷ others) = fold (λ left right. binary op left right) fir
 module _ (nested : Bool → Rule Expression) where
   -- `?( .. )`
   unfoldable pub filter_with : Rule Expression
-  filter_with = do
-    literal "?"
-    ws
-    literal "("
-    ws
-    e ← nested true
-    ws
-    literal ")"
-    give e
+  filter_with = do literal "?"; ws; literal "("; ws; e ← nested true; ws; literal ")"; give e
 
   unfoldable pub path_with : Rule Step
   path_with = spaced_inner </> spaced (filter_with >>= λ e. give (filter e))
 
   -- `( .. )`
   unfoldable pub group_with : Bool → Rule Expression
-  group_with is_in_filter = do
-    literal "("
-    ws
-    e ← nested is_in_filter
-    ws
-    literal ")"
-    give e
+  group_with is_in_filter = do literal "("; ws; e ← nested is_in_filter; ws; literal ")"; give e
 
   -- the root of a path in `exists`, and the steps behind it
   abbrev pub exists_steps : Rule (List Step)
-  exists_steps = do
-    first ← path_root true
-    others ← repeat path_with
-    give (first ∷ others)
+  exists_steps = do first ← path_root true; others ← repeat path_with; give (first ∷ others)
 
   unfoldable pub exists_with : Rule Expression
-  exists_with = do
-    literal "exists"
-    ws
-    literal "("
-    ws
-    steps ← exists_steps
-    ws
-    literal ")"
-    give (exists (steps_of steps))
+  exists_with =
+      do literal "exists"; ws; literal "("; ws; steps ← exists_steps; ws; literal ")"; give (exists (steps_of steps))
 
   unfoldable pub atom_with : Bool → Rule Expression
   atom_with is_in_filter =
@@ -289,10 +186,7 @@ unfoldable pub path_step : Rule Step
 path_step input = path_with (nested_or (length input + 1)) input
 
 unfoldable pub plain_path : Rule (List Step)
-plain_path = do
-  front ← front_steps
-  others ← repeat path_step
-  give (front ++ others)
+plain_path = do front ← front_steps; others ← repeat path_step; give (front ++ others)
 
 -- the steps of the path that a text is, where it is one
 unfoldable pub json_path : List ℕ → Option (List Step)

@@ -1,9 +1,12 @@
--- What is promised of a JSON path that is printed and read again.
-use Rattle.std.specs.Prelude.{◌≡◌, ℕ, Bool, pos, List, map, Some}
-use Rattle.jsonb_keypath.specs.Rules.{Rule, ◌>>◌}
+-- Paths that differ at most in which variant holds a whole number, and paths that mean the same.
+use Rattle.std.specs.Prelude.{◌≡◌, pos, List, map, Ok, Err}
+use Rattle.std.specs.List.{AllZip}
+use Rattle.jsonb_doc.specs.Answer.{Outcome}
+use Rattle.jsonb_doc.specs.Order.{IsEqual}
+use Rattle.jsonb_doc.specs.Tree.{Tree}
+use Rattle.jsonb.specs.Meaning.{meaning, predicate}
 use Rattle.jsonb.specs.PathTree.{Literal, unsigned, signed, Step, filter, whole_expression, Steps, no_steps, step, Expression, paths, value, binary, unary, exists}
-use Rattle.jsonb.specs.PathGrammar.{or_with, path_with, expression, path_step, json_path}
-use Rattle.jsonb.specs.PathText.{path_text}
+use Rattle.jsonb.specs.declared.selector.document.Mode.{Mode}
 
 -- the literal, as an unsigned number where it is a whole number that is not negative
 abbrev pub settled_literal : Literal → Literal
@@ -32,16 +35,14 @@ abbrev mutual
 abbrev pub SameButVariants : List Step → List Step → Type 0
 SameButVariants p q = map settled_step p ≡ map settled_step q
 
--- the printed text reads, as a path that is the same but for variants
-abbrev pub ReadsBack : List Step → Type 0
-ReadsBack p = (q : List Step) × (json_path (path_text p) ≡ Some q) × SameButVariants p q
+-- the same refusal, or lists that are equal by value member by member
+abbrev pub SameByValue : Outcome (List Tree) → Outcome (List Tree) → Type 0
+SameByValue (Ok ts) (Ok us) = AllZip IsEqual ts us
+SameByValue (Err e) (Err f) = e ≡ f
+SameByValue _ _ = ⊥
 
--- a separator, and the part behind it
-abbrev pub behind : {S A : Type 0} → Rule S → Rule A → Rule A
-behind separator part = separator >> part
-
--- The rules for expressions and for steps hold with no bound on parentheses: what stands inside them is read by the
--- same rules.
-abbrev pub RulesHold : List ℕ → Type 0
-RulesHold input = ((is_in_filter : Bool) → expression is_in_filter input ≡ or_with expression is_in_filter input) ×
-    (path_step input ≡ path_with expression input)
+-- the paths mean the same on every tree, and say the same as predicates
+abbrev pub MeanTheSame : List Step → List Step → Type 0
+MeanTheSame p q =
+    (mode : Mode) (top : Tree) → SameByValue (meaning mode p top) (meaning mode q top)
+    × (predicate mode p top ≡ predicate mode q top)

@@ -8,20 +8,15 @@ use Rattle.std.specs.Cmp.Lexicographic.{slice_cmp}
 use Rattle.std.specs.Cow.{cow_str_bytes}
 use Rattle.jsonb_doc.specs.Number.{number_cmp}
 use Rattle.jsonb_doc.specs.View.{number_parts}
-use Rattle.jsonb_doc.specs.declared.number.Number.{Number}
 use Rattle.jsonb.specs.declared.path.PathValue.{PathValue}
 use Rattle.jsonb.specs.declared.path.PathValue.TheVariants.{Null, Boolean, String}
 use Rattle.jsonb.specs.declared.path.PathValue.TheVariants as PathValue'
 
--- by exact value
-abbrev pub number_order : Number → Number → Ordering
-number_order m n = number_cmp (number_parts m) (number_parts n)
-
--- false is below true, and texts compare by their bytes
+-- false is below true, numbers compare by exact value, and texts by their bytes
 abbrev pub path_value_order : PathValue → PathValue → Option Ordering
 path_value_order Null Null = Some Equal
 path_value_order (Boolean b) (Boolean c) = Some (bool_cmp b c)
-path_value_order (PathValue'.Number m) (PathValue'.Number n) = Some (number_order m n)
+path_value_order (PathValue'.Number m) (PathValue'.Number n) = Some (number_cmp (number_parts m) (number_parts n))
 path_value_order (String s) (String t) = Some (slice_cmp nat_cmp (cow_str_bytes s) (cow_str_bytes t))
 path_value_order _ _ = None
 

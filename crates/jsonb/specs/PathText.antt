@@ -20,13 +20,9 @@ abbrev pub entry_text : Entry → List ℕ
 entry_text (single place) = place_text place
 entry_text (slice first last) = place_text first ++ codes " to " ++ place_text last
 
--- an entry behind another one
-abbrev pub other_entry_text : Entry → List ℕ
-other_entry_text entry = codes ", " ++ entry_text entry
-
 abbrev pub entries_text : List Entry → List ℕ
 entries_text [] = []
-entries_text (first ∷ rest) = entry_text first ++ flat_map other_entry_text rest
+entries_text (first ∷ rest) = entry_text first ++ flat_map (λ entry. codes ", " ++ entry_text entry) rest
 
 abbrev pub level_end_text : Option LevelEnd → List ℕ
 level_end_text None = []

@@ -1,4 +1,5 @@
 -- What the contracts of private functions say beyond the words of the others. No public clause cites these.
+pub mod Positions
 pub mod Selection
 pub mod Selected
 pub mod Kept
@@ -9,6 +10,7 @@ pub mod Parts
 pub mod Chain
 pub mod Copying
 pub mod ChainText
+pub mod EntriesText
 pub mod Last
 pub mod Members
 pub mod Compared

@@ -15,15 +15,14 @@ pub data Value : Type 0 where
   text : List ℕ → Value
   container : Value
 
--- the value of an item that is no array, and of an element; an extension gives none
+-- the value of an item that is no array, and of an element; an extension gives none, and a container is one
 abbrev pub value_of_item : Tree → List Value
 value_of_item tree.null = null ∷ []
 value_of_item (tree.boolean b) = boolean b ∷ []
 value_of_item (tree.number n) = number n ∷ []
 value_of_item (tree.text bytes) = text bytes ∷ []
 value_of_item (tree.extension x) = []
-value_of_item (tree.array ts) = container ∷ []
-value_of_item (tree.object ps) = container ∷ []
+value_of_item _ = container ∷ []
 
 -- the values of an item: an array gives those of its elements
 abbrev pub values_of_item : Tree → List Value

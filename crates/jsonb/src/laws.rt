@@ -3,14 +3,16 @@
 //! Those of the crates below are here too: of documents and numbers in `documents`, of tokens and key paths in
 //! `key_paths`, and of what is asked of documents in `functions`.
 
-ghost use Rattle.std.specs.Prelude.{◌≡◌, ◌↔◌, ℕ, Bool, true, false, List, IfSome};
+ghost use Rattle.std.specs.Prelude.{◌≡◌, ◌↔◌, ℕ, ◌<◌, Bool, true, false, IsTrue, List, Ok, IfSome, IsSomeAnd};
 ghost use Rattle.jsonb.specs.PathDocuments.{has_document};
-ghost use Rattle.jsonb.specs.PathEquality.{SameLiteral, SameStep, SameExpression, SamePath, PrintsAsEqual};
-ghost use Rattle.jsonb.specs.PathGrammar.{json_path, spaced, spaced_entry, spaced_inner, path_with, path_step, atom_with, and_with, nested_or};
-ghost use Rattle.jsonb.specs.PathLaws.{behind, ReadsBack, RulesHold};
-ghost use Rattle.jsonb.specs.PathTree.{Literal, Step, raw};
+ghost use Rattle.jsonb.specs.PathGrammar.{json_path, spaced, spaced_entry, spaced_inner, path_with, path_step, atom_with, and_with, or_with, nested_or, expression};
+ghost use Rattle.jsonb.specs.ItemSteps.{is_meant};
+ghost use Rattle.jsonb.specs.Meaning.{Means};
+ghost use Rattle.jsonb.specs.PathLaws.{SameButVariants, MeanTheSame};
+ghost use Rattle.jsonb.specs.PathText.{path_text};
+ghost use Rattle.jsonb.specs.PathTree.{Literal, Step, Entry, raw};
 ghost use Rattle.jsonb.specs.PathViews.{place_view, entry_view, end_view, levels_view, literal_view, operator_view, sign_view, step_view, expression_view, path_view};
-ghost use Rattle.jsonb.specs.SelectorLaws.{StrictImpliesLax, VariantsChangeNoMeaning, PrintsWithMeaning, PositionsAreMeant};
+ghost use Rattle.jsonb.specs.Positions.{IsPosition};
 ghost use Rattle.jsonb.specs.contracts.path.ArrayIndexPartialEq.TheImpl.{eq-value as entries_equal};
 ghost use Rattle.jsonb.specs.contracts.path.BinaryOperatorPartialEq.TheImpl.{eq-value as operators_equal};
 ghost use Rattle.jsonb.specs.contracts.path.compare.ExprPartialEq.TheImpl.{eq-value as expressions_equal};
@@ -21,7 +23,11 @@ ghost use Rattle.jsonb.specs.contracts.path.RecursiveLevelEndPartialEq.TheImpl.{
 ghost use Rattle.jsonb.specs.contracts.path.RecursiveLevelPartialEq.TheImpl.{eq-value as levels_equal};
 ghost use Rattle.jsonb.specs.contracts.path.UnaryOperatorPartialEq.TheImpl.{eq-value as signs_equal};
 ghost use Rattle.jsonb.specs.contracts.path.compare.PathValuePartialEq.TheImpl.{eq-value as literals_equal};
-ghost use Rattle.jsonb_keypath.specs.Rules.{literal};
+ghost use Rattle.jsonb.specs.SamePath.{is_same_literal, is_same_step, is_same_expression, is_same_path};
+ghost use Rattle.jsonb.specs.declared.selector.document.Mode.TheVariants.{Lax, Strict};
+ghost use Rattle.jsonb_doc.specs.Payload.{Form};
+ghost use Rattle.jsonb_doc.specs.Tree.{Tree};
+ghost use Rattle.jsonb_keypath.specs.Rules.{literal, ◌>>◌ as behind};
 ghost use Rattle.jsonb_keypath.specs.TokenLaws.{ReadsSome};
 
 use crate::path::{
@@ -36,13 +42,15 @@ pub use jsonb_raw::laws::printed_key_paths_keep_their_place;
 /// A JSON path that was read prints to a text that reads as the same path, but for which variant
 /// holds a whole number.
 pub fn printed_json_path_reads_back(text: &[u8])
-    ensures { IfSome (json_path text.now) ReadsBack }
+    ensures { IfSome (json_path text.now) (λ p. IsSomeAnd (json_path (path_text p)) (SameButVariants p)) }
 {}
 
 /// The rules of the grammar hold without a bound on parentheses: what stands inside them is read
 /// by the same rules.
 pub fn rules_hold_without_bounds(text: &[u8])
-    ensures { RulesHold text.now }
+    ensures expressions { (is_in_filter : Bool)
+        → expression is_in_filter text.now ≡ or_with expression is_in_filter text.now }
+    ensures steps { path_step text.now ≡ path_with expression text.now }
 {}
 
 /// Each rule that the grammar repeats reads a byte at least, inside parentheses too. So a repetition goes on
@@ -60,46 +68,47 @@ pub fn repeated_rules_read_some()
 
 /// Where the strict meaning of a path is a list, its lax meaning is the same list.
 pub fn strict_implies_lax()
-    ensures { StrictImpliesLax }
+    ensures { (form : Form) (path : List Step) (top : Tree) (ts : List Tree)
+        → Means form Strict path top (Ok ts) → Means form Lax path top (Ok ts) }
 {}
 
 /// Paths that differ at most in which variant holds a whole number mean the same on every tree: they have
 /// the same refusal, or lists that are equal by value, and the same answer as predicates.
 pub fn variants_change_no_meaning()
-    ensures { VariantsChangeNoMeaning }
+    ensures { (p q : List Step) → SameButVariants p q → MeanTheSame p q }
 {}
 
 /// A JSON path that was read prints to a text that reads as a path of the same meaning.
 pub fn printed_json_path_keeps_its_meaning(text: &[u8])
-    ensures { IfSome (json_path text.now) PrintsWithMeaning }
+    ensures { IfSome (json_path text.now) (λ p. IsSomeAnd (json_path (path_text p)) (MeanTheSame p)) }
 {}
 
 /// An index entry selects exactly the positions that `to_indices` holds.
 pub fn selected_positions_are_meant()
-    ensures { PositionsAreMeant }
+    ensures { (entry : Entry) (length k : ℕ) → k < length
+        → (is_meant length entry k ≡ true) ↔ IsPosition entry length k }
 {}
 
 /// JSON paths are equal by `==` exactly where they have the same steps, part by part.
 pub fn json_paths_are_equal_by_steps(left: &JsonPath, right: &JsonPath)
-    ensures { (json_paths_equal.it left.now right.now ≡ true) ↔ SamePath (path_view left.now) (path_view right.now) }
+    ensures { json_paths_equal.it left.now right.now ≡ is_same_path (path_view left.now) (path_view right.now) }
 {}
 
 /// Steps are equal by `==` exactly where they are of one kind with the same parts, whatever holds
 /// the texts.
 pub fn steps_are_equal_by_parts(left: &Path, right: &Path)
-    ensures { (steps_equal.it left.now right.now ≡ true) ↔ SameStep (step_view left.now) (step_view right.now) }
+    ensures { steps_equal.it left.now right.now ≡ is_same_step (step_view left.now) (step_view right.now) }
 {}
 
 /// Expressions are equal by `==` exactly where they are of one kind with the same parts.
 pub fn expressions_are_equal_by_parts(left: &Expr, right: &Expr)
-    ensures { (expressions_equal.it left.now right.now ≡ true) ↔
-        SameExpression (expression_view left.now) (expression_view right.now) }
+    ensures { expressions_equal.it left.now right.now
+        ≡ is_same_expression (expression_view left.now) (expression_view right.now) }
 {}
 
 /// Literals are equal by `==` exactly where they are equal by value.
 pub fn literals_are_equal_by_value(left: &PathValue, right: &PathValue)
-    ensures { (literals_equal.it left.now right.now ≡ true) ↔
-        SameLiteral (literal_view left.now) (literal_view right.now) }
+    ensures { literals_equal.it left.now right.now ≡ is_same_literal (literal_view left.now) (literal_view right.now) }
 {}
 
 /// Places in an array are equal by `==` exactly where they are counted from the same end, equally far.
@@ -135,15 +144,17 @@ pub fn unary_operators_are_equal_by_kind(left: &UnaryOperator, right: &UnaryOper
 /// Having the same parts is symmetric and transitive. It is not reflexive: a document as a literal
 /// equals no literal, not even itself.
 pub fn same_paths()
-    ensures symmetric { (p q : List Step) → SamePath p q → SamePath q p }
-    ensures transitive { (p q r : List Step) → SamePath p q → SamePath q r → SamePath p r }
-    ensures documents { (document : List ℕ) (l : Literal) → ¬ SameLiteral (raw document) l }
+    ensures symmetric { (p q : List Step) → IsTrue (is_same_path p q) → IsTrue (is_same_path q p) }
+    ensures transitive { (p q r : List Step)
+        → IsTrue (is_same_path p q) → IsTrue (is_same_path q r) → IsTrue (is_same_path p r) }
+    ensures documents { (document : List ℕ) (l : Literal) → is_same_literal (raw document) l ≡ false }
 {}
 
 /// A JSON path that was read equals itself, and prints to a text that reads as an equal path.
 pub fn read_json_path_equals_what_it_prints(text: &[u8])
-    ensures itself { IfSome (json_path text.now) (λ p. SamePath p p) }
-    ensures printed { IfSome (json_path text.now) PrintsAsEqual }
+    ensures itself { IfSome (json_path text.now) (λ p. IsTrue (is_same_path p p)) }
+    ensures printed { IfSome (json_path text.now)
+        (λ p. IsSomeAnd (json_path (path_text p)) (λ q. IsTrue (is_same_path p q))) }
 {}
 
 /// A JSON path that was read has no document among its literals.

@@ -10,12 +10,18 @@ use Rattle.std.specs.Cmp.{IsPartialEquivalence, IsPartialOrder, IsTotalOrder, Eq
 use Rattle.std.specs.Cmp.Lexicographic.{slice_cmp, nat_list_cmp_total}
 use Rattle.std.specs.Cow.{cow_str_bytes}
 use Rattle.jsonb_doc.specs.Proofs.NumberOrder.{number_cmp_total}
+use Rattle.jsonb_doc.specs.Number.{number_cmp}
 use Rattle.jsonb_doc.specs.View.{number_parts}
+use Rattle.jsonb_doc.specs.declared.number.Number.{Number}
 use Rattle.jsonb_raw.specs.declared.raw.RawJsonb.{RawJsonb}
 use Rattle.jsonb.specs.declared.path.PathValue.{PathValue}
 use Rattle.jsonb.specs.declared.path.PathValue.TheVariants.{Null, Boolean, String, Raw}
 use Rattle.jsonb.specs.declared.path.PathValue.TheVariants as PathValue'
-use Rattle.jsonb.specs.PathOrder.{number_order, path_value_order, path_value_equal}
+use Rattle.jsonb.specs.PathOrder.{path_value_order, path_value_equal}
+
+-- by exact value
+abbrev pub number_order : Number → Number → Ordering
+number_order m n = number_cmp (number_parts m) (number_parts n)
 
 numbers : IsTotalOrder number_order
 numbers = on_total number_parts number_cmp_total

@@ -2,9 +2,9 @@
 
 ghost use Rattle.std.specs.Prelude.{◌≡◌, ◌≤◌, ◌++◌, length, Some, None, IfOk};
 ghost use Rattle.jsonb_keypath.specs.Rules.{parsed_map, repeat};
-ghost use Rattle.jsonb.specs.PathGrammar.{levels, wildcard, named_field, bracket_field, inner, spaced_inner, path_step};
+ghost use Rattle.jsonb.specs.PathGrammar.{level_end, levels, wildcard, named_field, bracket_field, inner, spaced_inner, path_step};
 ghost use Rattle.jsonb_keypath.specs.Views.{read_as, LeavesLess};
-ghost use Rattle.jsonb.specs.PathViews.{levels_view, step_view, steps_view};
+ghost use Rattle.jsonb.specs.PathViews.{end_view, levels_view, step_view, steps_view};
 
 use super::Reading;
 use super::index::entries_at;
@@ -19,25 +19,25 @@ fn levels_at(input: &[u8]) -> Option<(RecursiveLevel, &[u8])>
     ensures shrinks { LeavesLess input.now result }
 {
     let inside = literal(b"{", input)?;
-    let (start, rest) = nat8(skip_space(inside))?;
-    let rest = skip_space(rest);
-    if let Some(after) = keyword_at(b"to", rest) {
-        let after = skip_space(after);
-        if let Some((end, last)) = nat8(after) {
-            if let Some(closed) = literal(b"}", skip_space(last)) {
-                let end = Some(RecursiveLevelEnd::Index(end));
-                return Some((RecursiveLevel { start, end }, closed));
-            }
-        }
-        if let Some(last) = keyword_at(b"last", after) {
-            if let Some(closed) = literal(b"}", skip_space(last)) {
-                let end = Some(RecursiveLevelEnd::Last);
-                return Some((RecursiveLevel { start, end }, closed));
-            }
-        }
+    let (start, behind) = nat8(skip_space(inside))?;
+    let (end, rest) = match level_end_at(behind) {
+        Some((end, rest)) => (Some(end), rest),
+        None => (None, behind),
+    };
+    let closed = literal(b"}", skip_space(rest))?;
+    Some((RecursiveLevel { start, end }, closed))
+}
+
+fn level_end_at(input: &[u8]) -> Option<(RecursiveLevelEnd, &[u8])>
+    ensures value { read_as end_view result ≡ level_end input.now }
+    ensures shrinks { LeavesLess input.now result }
+{
+    let after = skip_space(keyword_at(b"to", skip_space(input))?);
+    if let Some((level, rest)) = nat8(after) {
+        return Some((RecursiveLevelEnd::Index(level), rest));
     }
-    let closed = literal(b"}", rest)?;
-    Some((RecursiveLevel { start, end: None }, closed))
+    let rest = keyword_at(b"last", after)?;
+    Some((RecursiveLevelEnd::Last, rest))
 }
 
 #[tactic(auto, unfolding(crate::specs::PathGrammar::wildcard))]

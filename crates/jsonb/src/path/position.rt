@@ -4,7 +4,8 @@ ghost use Rattle.std.specs.Prelude.{◌≡◌, ◌<◌, ◌≤◌, ◌↔◌, �
 ghost use Rattle.std.specs.HashSet.{contains};
 ghost use Rattle.jsonb_doc.specs.Answer.{IsOutOfMemory};
 ghost use Rattle.jsonb.specs.PathViews.{place_view, entry_view};
-ghost use Rattle.jsonb.specs.Positions.{position, IsBetween, IsPosition};
+ghost use Rattle.jsonb.specs.Positions.{position, IsPosition};
+ghost use Rattle.jsonb.specs.Private.Positions.{IsBetween};
 
 use super::{ArrayIndex, Index};
 use jsonb_doc::Error;

@@ -4,7 +4,7 @@ use Rattle.jsonb_keypath.specs.Views.{read_as}
 use Rattle.jsonb.specs.PathTree.{Step}
 use Rattle.jsonb.specs.PathGrammar.{spaced_inner}
 use Rattle.jsonb.specs.PathViews.{step_view}
-use Rattle.jsonb.proofs.Bounds.{rules_hold}
+use Rattle.jsonb.proofs.Bounds.{path_step-rule}
 use Rattle.jsonb.proofs.ExpressionLemmas.{inner-is_step}
 use Rattle.jsonb.proofs.FrameLemmas.{step-is_filter, no_step}
 use Rattle.jsonb.proofs.parser.path_step_at.Goals as goal
@@ -17,11 +17,11 @@ pub returns-in-Some-filter_inside-clause-value : goal.returns-in-Some-filter_ins
 returns-in-Some-filter_inside-clause-value c =
     let none : spaced_inner c.args.input.now ≡ None = sym (rw c.in-None.is at c.in_ok-found.ensures.value) in
     subst (λ (o : Parsed Step). IfOk c.filter_at.result (λ found. read_as step_view found ≡ o))
-    (sym ((rules_hold c.args.input.now).1
+    (sym (path_step-rule c.args.input.now
     ∙ step-is_filter c.args.input.now c.in-Some-filter_inside.inside.now none (sym c.in-Some-filter_inside.ensures.value)))
     c.filter_at.ensures.value
 
 pub returns-in-None-filter_inside-clause-value : goal.returns-in-None-filter_inside-clause-value
 returns-in-None-filter_inside-clause-value c =
     let none : spaced_inner c.args.input.now ≡ None = sym (rw c.in-None.is at c.in_ok-found.ensures.value) in
-    sym ((rules_hold c.args.input.now).1 ∙ no_step c.args.input.now none (sym c.in-None-filter_inside.ensures.value))
+    sym (path_step-rule c.args.input.now ∙ no_step c.args.input.now none (sym c.in-None-filter_inside.ensures.value))

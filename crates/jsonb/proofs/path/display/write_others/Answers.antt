@@ -1,6 +1,6 @@
 use Rattle.std.proofs.Common.{pos, refl, arith}
 use Rattle.std.proofs.Output.{has_written_append, has_written_of_eq}
-use Rattle.jsonb.specs.PathText.{other_entry_text}
+use Rattle.jsonb.specs.Private.EntriesText.{other_entry_text}
 use Rattle.jsonb.specs.declared.path.ArrayIndex.TheVariants as ArrayIndex
 use Rattle.jsonb.specs.declared.path.Index.TheVariants as Index
 use Rattle.jsonb.specs.PathViews.{entry_view}

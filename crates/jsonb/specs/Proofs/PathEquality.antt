@@ -1,9 +1,7 @@
--- Which paths are equal: those of the same parts, with literals that are equal by value.
+-- Having the same parts as a relation, which the test of `SamePath` decides.
 use Rattle.std.specs.Prelude.{◌≡◌, List, Option, Some}
 use Rattle.jsonb_doc.specs.Order.{IsEqual}
 use Rattle.jsonb_doc.specs.Tree.{Tree}
-use Rattle.jsonb.specs.PathGrammar.{json_path}
-use Rattle.jsonb.specs.PathText.{path_text}
 use Rattle.jsonb.specs.PathTree.{Literal, Step, filter, whole_expression, Steps, no_steps, step, Expression, paths, value, binary, unary, exists, steps_of}
 use Rattle.jsonb.specs.Values.{literal_item}
 
@@ -38,9 +36,5 @@ abbrev mutual
   SameExpression (exists ss) (exists ts) = SameSteps ss ts
   SameExpression _ _ = ⊥
 
-abbrev pub SamePath : List Step → List Step → Type 0
-SamePath p q = SameSteps (steps_of p) (steps_of q)
-
--- the printed text reads, as a path of the same parts
-abbrev pub PrintsAsEqual : List Step → Type 0
-PrintsAsEqual p = (q : List Step) × (json_path (path_text p) ≡ Some q) × SamePath p q
+abbrev pub HaveSameParts : List Step → List Step → Type 0
+HaveSameParts p q = SameSteps (steps_of p) (steps_of q)
