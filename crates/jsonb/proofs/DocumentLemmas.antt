@@ -1,18 +1,16 @@
 -- Which paths have documents among their literals.
 use Rattle.std.proofs.Common.{◌≡◌, ℕ, ◌+◌, ◌<◌, Bool, true, false, List, [], ◌∷◌, ◌++◌, length, take, drop, get_or, suc, Option, Some, None, refl, sym, ap, ◌∙◌, inl, inr}
-use Rattle.std.specs.Prelude.{◌||◌, IsTrue, IfSome, map}
+use Rattle.std.specs.Prelude.{◌||◌, IfSome, map}
 use Rattle.std.proofs.Math.Seq.{drop-cons}
 use Rattle.std.proofs.lemmas.List.{take_more, take-append-drop, map-append}
 use Rattle.jsonb_doc.specs.declared.error.Error.{Error}
 use Rattle.jsonb.specs.PathDocuments.{is_document, step_has_document, steps_have_document, expression_has_document, has_document, IsOwningError}
-use Rattle.jsonb.specs.Proofs.PathEquality.{SameLiteral, SameStep, SameSteps, SameExpression}
+use Rattle.jsonb.specs.PathEquality.{SameLiteral, SameStep, SameSteps, SameExpression, SamePath}
 use Rattle.jsonb.specs.PathGrammar.{json_path}
 use Rattle.jsonb.specs.PathTree.{Literal, raw, Step, filter, whole_expression, Steps, no_steps, step, Expression, paths, value, binary, unary, exists, steps_of}
 use Rattle.jsonb.specs.PathViews.{step_view, steps_view}
 use Rattle.jsonb.specs.declared.path.Path.{Path}
 use Rattle.jsonb.proofs.EqualPrinted.{read_equals_itself}
-use Rattle.jsonb.specs.Proofs.SamePath.{steps-same}
-use Rattle.jsonb.specs.SamePath.{is_same_path}
 
 -- ---- what equals itself has none
 
@@ -37,8 +35,8 @@ mutual
   expression_none (unary op e) h = expression_none e h.1
   expression_none (exists ss) h = steps_none ss h
 
-none_of : (o : Option (List Step)) → IfSome o (λ p. IsTrue (is_same_path p p)) → IfSome o (λ p. has_document p ≡ false)
-none_of (Some p) h = steps_none (steps_of p) ((steps-same (steps_of p) (steps_of p)).0 h)
+none_of : (o : Option (List Step)) → IfSome o (λ p. SamePath p p) → IfSome o (λ p. has_document p ≡ false)
+none_of (Some p) h = steps_none (steps_of p) h
 none_of None h = tt
 
 pub read_has_none : (text : List ℕ) → IfSome (json_path text) (λ p. has_document p ≡ false)

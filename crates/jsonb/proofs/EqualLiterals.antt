@@ -13,7 +13,7 @@ use Rattle.jsonb_doc.specs.View.{number_view}
 use Rattle.jsonb_doc.specs.declared.number.Number.{Number}
 use Rattle.jsonb_doc.specs.declared.number.Number.TheVariants.{Int64, UInt64, Decimal64, Decimal128}
 use Rattle.jsonb_doc.proofs.EqualValues.{number_cmp-number_view}
-use Rattle.jsonb.specs.Proofs.PathEquality.{SameLiteral}
+use Rattle.jsonb.specs.PathEquality.{SameLiteral}
 use Rattle.jsonb.specs.PathOrder.{path_value_equal}
 use Rattle.jsonb.specs.Proofs.PathOrder.{number_order}
 use Rattle.jsonb.specs.PathViews.{number_literal, literal_view}

@@ -2,19 +2,17 @@
 use Rattle.std.proofs.Common.{◌≡◌, ℕ, List, [], ◌∷◌, Bool, true, false, Option, Some, None, pos, negsuc, zero, suc, refl, inl, inr, map, Equal}
 use Rattle.std.specs.Prelude.{IfSome, IsSomeAnd, MatchBool}
 use Rattle.std.proofs.lemmas.Cmp.{tied_itself}
-use Rattle.std.specs.Bool.{IsTrue}
 use Rattle.std.specs.List.{AllByRecursion}
 use Rattle.jsonb_doc.specs.Number.{Number, int64, uint64, number_from, number_cmp}
 use Rattle.jsonb_doc.specs.Proofs.NumberOrder.{number_cmp_total}
-use Rattle.jsonb.specs.Proofs.PathEquality.{SameLiteral, SameStep, SameSteps, SameExpression, HaveSameParts}
+use Rattle.jsonb.specs.PathEquality.{SameLiteral, SameStep, SameSteps, SameExpression, SamePath}
 use Rattle.jsonb.specs.PathGrammar.{json_path}
 use Rattle.jsonb.specs.PathLaws.{settled_literal, settled_step, settled_steps, settled}
 use Rattle.jsonb.specs.PathText.{joins, path_text}
-use Rattle.jsonb.specs.PathTree.{Literal, null, boolean, unsigned, signed, decimal64, decimal128, string, raw, Step, filter, whole_expression, Steps, no_steps, step, Expression, paths, value, binary, unary, exists, steps_of}
+use Rattle.jsonb.specs.PathTree.{Literal, null, boolean, unsigned, signed, decimal64, decimal128, string, raw, Step, filter, whole_expression, Steps, no_steps, step, Expression, paths, value, binary, unary, exists}
 use Rattle.jsonb.proofs.GrammarShape.{json_path_is_path}
 use Rattle.jsonb.proofs.PathReadsBack.{path-text}
-use Rattle.jsonb.specs.Proofs.SamePath.{steps-same, path-symmetric, path-transitive}
-use Rattle.jsonb.specs.SamePath.{is_same_path}
+use Rattle.jsonb.specs.Proofs.SameParts.{path-symmetric, path-transitive}
 use Rattle.jsonb.proofs.PathShape.{IsLiteral, IsInner, AreInner, IsBeginning, IsOperand, is_signed, IsPathStep, ArePathSteps, IsExistsPath, IsCondition, IsPath}
 
 number_itself : (n : Number) → number_cmp n n ≡ Equal
@@ -78,21 +76,18 @@ mutual
   condition-settled f (exists ss) h = exists-settled ss h
   condition-settled f e h = absurd h
 
-each-settled : (p : List Step) → AllByRecursion IsPathStep p → HaveSameParts p (map settled_step p)
+each-settled : (p : List Step) → AllByRecursion IsPathStep p → SamePath p (map settled_step p)
 each-settled [] h = tt
 each-settled (s ∷ p) h = (step-settled s h.0, each-settled p h.1)
 
-parts-settled : (p : List Step) → IsPath p → HaveSameParts p (map settled_step p)
-parts-settled p (inl (e, is, condition)) = rw is (condition-settled false e condition, tt)
-parts-settled p (inr (inl (ss, is, each))) = rw is (refl, each-settled ss each)
-parts-settled p (inr (inr each)) = each-settled p each
+path-settled : (p : List Step) → IsPath p → SamePath p (map settled_step p)
+path-settled p (inl (e, is, condition)) = rw is (condition-settled false e condition, tt)
+path-settled p (inr (inl (ss, is, each))) = rw is (refl, each-settled ss each)
+path-settled p (inr (inr each)) = each-settled p each
 
-path-settled : (p : List Step) → IsPath p → IsTrue (is_same_path p (map settled_step p))
-path-settled p h = (steps-same (steps_of p) (steps_of (map settled_step p))).1 (parts-settled p h)
-
-pub read_equals_itself : (text : List ℕ) → IfSome (json_path text) (λ p. IsTrue (is_same_path p p))
+pub read_equals_itself : (text : List ℕ) → IfSome (json_path text) (λ p. SamePath p p)
 read_equals_itself text = go (json_path text) refl where
-  go : (o : Option (List Step)) → json_path text ≡ o → IfSome o (λ p. IsTrue (is_same_path p p))
+  go : (o : Option (List Step)) → json_path text ≡ o → IfSome o (λ p. SamePath p p)
   go None e = tt
   go (Some p) e =
       let same = path-settled p (json_path_is_path text p e) in
@@ -100,7 +95,7 @@ read_equals_itself text = go (json_path text) refl where
 
 -- the printed text reads, as a path of the same parts
 abbrev pub PrintsAsEqual : List Step → Type 0
-PrintsAsEqual p = IsSomeAnd (json_path (path_text p)) (λ q. IsTrue (is_same_path p q))
+PrintsAsEqual p = IsSomeAnd (json_path (path_text p)) (SamePath p)
 
 pub read_prints_as_equal : (text : List ℕ) → IfSome (json_path text) PrintsAsEqual
 read_prints_as_equal text = go (json_path text) refl where

@@ -14,6 +14,7 @@ pub mod Meaning
 pub mod SelectionErrors
 pub mod SelectorAnswers
 pub mod PathLaws
+pub mod PathEquality
 pub mod SamePath
 pub mod PathDocuments
 -- what clauses cite of the crates below, for the crates above

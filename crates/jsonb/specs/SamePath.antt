@@ -1,12 +1,12 @@
--- Which paths are equal: those of the same parts, whatever holds the texts, with literals that are equal by value.
-use Rattle.std.specs.Prelude.{Bool, true, false, ◌&&◌, nat_eq, List, Option, Some}
+-- Whether two paths have the same parts, as a test.
+use Rattle.std.specs.Prelude.{Bool, true, false, ◌&&◌, nat_eq, Option, Some}
 use Rattle.std.specs.Cmp.Lexicographic.{pointwise}
 use Rattle.std.specs.Option.{option_eq}
 use Rattle.std.specs.Ordering.{int_eq}
 use Rattle.jsonb_doc.specs.Equal.{is_equal}
 use Rattle.jsonb_doc.specs.Tree.{Tree}
 use Rattle.jsonb.specs.PathText.{operator_text, sign_text}
-use Rattle.jsonb.specs.PathTree.{Place, from_front, from_last, Entry, single, slice, LevelEnd, level, last_level, Levels, Literal, BinaryOp, UnaryOp, Step, root, current, dot_wildcard, recursive_dot_wildcard, bracket_wildcard, dot_field, colon_field, object_field, array_indices, filter, whole_expression, Steps, no_steps, step, Expression, paths, value, binary, unary, exists, steps_of}
+use Rattle.jsonb.specs.PathTree.{Place, from_front, from_last, Entry, single, slice, LevelEnd, level, last_level, Levels, Literal, BinaryOp, UnaryOp, Step, root, current, dot_wildcard, recursive_dot_wildcard, bracket_wildcard, dot_field, colon_field, object_field, array_indices, filter, whole_expression, Steps, no_steps, step, Expression, paths, value, binary, unary, exists}
 use Rattle.jsonb.specs.Values.{literal_item}
 
 abbrev pub is_same_place : Place → Place → Bool
@@ -34,17 +34,13 @@ is_same_operator a b = pointwise nat_eq (operator_text a) (operator_text b)
 abbrev pub is_same_sign : UnaryOp → UnaryOp → Bool
 is_same_sign a b = pointwise nat_eq (sign_text a) (sign_text b)
 
--- two items, of equal value
 abbrev pub are_equal_items : Option Tree → Option Tree → Bool
 are_equal_items (Some t) (Some u) = is_equal t u
 are_equal_items _ _ = false
 
--- Literals go by the items that they are: null, truth values, numbers by exact value, and texts by bytes. A document
--- equals none, not even itself.
 abbrev pub is_same_literal : Literal → Literal → Bool
 is_same_literal l m = are_equal_items (literal_item l) (literal_item m)
 
--- one kind of step with the same names, index entries and levels; the expressions inside go part by part
 abbrev mutual
   pub is_same_step : Step → Step → Bool
   is_same_step root root = true
@@ -74,6 +70,3 @@ abbrev mutual
   is_same_expression (unary op e) (unary op' f) = is_same_sign op op' && is_same_expression e f
   is_same_expression (exists ss) (exists ts) = are_same_steps ss ts
   is_same_expression _ _ = false
-
-abbrev pub is_same_path : List Step → List Step → Bool
-is_same_path p q = are_same_steps (steps_of p) (steps_of q)

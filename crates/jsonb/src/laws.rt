@@ -3,8 +3,9 @@
 //! Those of the crates below are here too: of documents and numbers in `documents`, of tokens and key paths in
 //! `key_paths`, and of what is asked of documents in `functions`.
 
-ghost use Rattle.std.specs.Prelude.{◌≡◌, ◌↔◌, ℕ, ◌<◌, Bool, true, false, IsTrue, List, Ok, IfSome, IsSomeAnd};
+ghost use Rattle.std.specs.Prelude.{◌≡◌, ◌↔◌, ℕ, ◌<◌, Bool, true, false, List, Ok, IfSome, IsSomeAnd};
 ghost use Rattle.jsonb.specs.PathDocuments.{has_document};
+ghost use Rattle.jsonb.specs.PathEquality.{SameLiteral, SameStep, SameExpression, SamePath};
 ghost use Rattle.jsonb.specs.PathGrammar.{json_path, spaced, spaced_entry, spaced_inner, path_with, path_step, atom_with, and_with, or_with, nested_or, expression};
 ghost use Rattle.jsonb.specs.ItemSteps.{is_meant};
 ghost use Rattle.jsonb.specs.Meaning.{Means};
@@ -23,7 +24,6 @@ ghost use Rattle.jsonb.specs.contracts.path.RecursiveLevelEndPartialEq.TheImpl.{
 ghost use Rattle.jsonb.specs.contracts.path.RecursiveLevelPartialEq.TheImpl.{eq-value as levels_equal};
 ghost use Rattle.jsonb.specs.contracts.path.UnaryOperatorPartialEq.TheImpl.{eq-value as signs_equal};
 ghost use Rattle.jsonb.specs.contracts.path.compare.PathValuePartialEq.TheImpl.{eq-value as literals_equal};
-ghost use Rattle.jsonb.specs.SamePath.{is_same_literal, is_same_step, is_same_expression, is_same_path};
 ghost use Rattle.jsonb.specs.declared.selector.document.Mode.TheVariants.{Lax, Strict};
 ghost use Rattle.jsonb_doc.specs.Payload.{Form};
 ghost use Rattle.jsonb_doc.specs.Tree.{Tree};
@@ -91,24 +91,25 @@ pub fn selected_positions_are_meant()
 
 /// JSON paths are equal by `==` exactly where they have the same steps, part by part.
 pub fn json_paths_are_equal_by_steps(left: &JsonPath, right: &JsonPath)
-    ensures { json_paths_equal.it left.now right.now ≡ is_same_path (path_view left.now) (path_view right.now) }
+    ensures { (json_paths_equal.it left.now right.now ≡ true) ↔ SamePath (path_view left.now) (path_view right.now) }
 {}
 
 /// Steps are equal by `==` exactly where they are of one kind with the same parts, whatever holds
 /// the texts.
 pub fn steps_are_equal_by_parts(left: &Path, right: &Path)
-    ensures { steps_equal.it left.now right.now ≡ is_same_step (step_view left.now) (step_view right.now) }
+    ensures { (steps_equal.it left.now right.now ≡ true) ↔ SameStep (step_view left.now) (step_view right.now) }
 {}
 
 /// Expressions are equal by `==` exactly where they are of one kind with the same parts.
 pub fn expressions_are_equal_by_parts(left: &Expr, right: &Expr)
-    ensures { expressions_equal.it left.now right.now
-        ≡ is_same_expression (expression_view left.now) (expression_view right.now) }
+    ensures { (expressions_equal.it left.now right.now ≡ true) ↔
+        SameExpression (expression_view left.now) (expression_view right.now) }
 {}
 
 /// Literals are equal by `==` exactly where they are equal by value.
 pub fn literals_are_equal_by_value(left: &PathValue, right: &PathValue)
-    ensures { literals_equal.it left.now right.now ≡ is_same_literal (literal_view left.now) (literal_view right.now) }
+    ensures { (literals_equal.it left.now right.now ≡ true) ↔
+        SameLiteral (literal_view left.now) (literal_view right.now) }
 {}
 
 /// Places in an array are equal by `==` exactly where they are counted from the same end, equally far.
@@ -144,17 +145,15 @@ pub fn unary_operators_are_equal_by_kind(left: &UnaryOperator, right: &UnaryOper
 /// Having the same parts is symmetric and transitive. It is not reflexive: a document as a literal
 /// equals no literal, not even itself.
 pub fn same_paths()
-    ensures symmetric { (p q : List Step) → IsTrue (is_same_path p q) → IsTrue (is_same_path q p) }
-    ensures transitive { (p q r : List Step)
-        → IsTrue (is_same_path p q) → IsTrue (is_same_path q r) → IsTrue (is_same_path p r) }
-    ensures documents { (document : List ℕ) (l : Literal) → is_same_literal (raw document) l ≡ false }
+    ensures symmetric { (p q : List Step) → SamePath p q → SamePath q p }
+    ensures transitive { (p q r : List Step) → SamePath p q → SamePath q r → SamePath p r }
+    ensures documents { (document : List ℕ) (l : Literal) → ¬ SameLiteral (raw document) l }
 {}
 
 /// A JSON path that was read equals itself, and prints to a text that reads as an equal path.
 pub fn read_json_path_equals_what_it_prints(text: &[u8])
-    ensures itself { IfSome (json_path text.now) (λ p. IsTrue (is_same_path p p)) }
-    ensures printed { IfSome (json_path text.now)
-        (λ p. IsSomeAnd (json_path (path_text p)) (λ q. IsTrue (is_same_path p q))) }
+    ensures itself { IfSome (json_path text.now) (λ p. SamePath p p) }
+    ensures printed { IfSome (json_path text.now) (λ p. IsSomeAnd (json_path (path_text p)) (SamePath p)) }
 {}
 
 /// A JSON path that was read has no document among its literals.

@@ -3,7 +3,7 @@ use Rattle.std.proofs.Common.{List, Option, Some, None, refl, sym, ◌∙◌, su
 use Rattle.jsonb_doc.specs.Proofs.Equality.{is_equal_equiv, is_equal-IsEqual}
 use Rattle.jsonb_doc.specs.Order.{IsEqual}
 use Rattle.jsonb_doc.specs.Tree.{Tree}
-use Rattle.jsonb.specs.Proofs.PathEquality.{AreEqualItems, SameLiteral, SameStep, SameSteps, SameExpression}
+use Rattle.jsonb.specs.PathEquality.{AreEqualItems, SameLiteral, SameStep, SameSteps, SameExpression, SamePath}
 use Rattle.jsonb.specs.PathTree.{Literal, Step, filter, whole_expression, Steps, no_steps, step, Expression, paths, value, binary, unary, exists, steps_of}
 use Rattle.jsonb.specs.Values.{literal_item}
 
@@ -42,7 +42,7 @@ mutual
   step-symmetric (whole_expression e) t h = sym h
   step-symmetric s t h = subst (λ x. SameStep x s) h refl
 
-  pub steps-symmetric : (ss ts : Steps) → SameSteps ss ts → SameSteps ts ss
+  steps-symmetric : (ss ts : Steps) → SameSteps ss ts → SameSteps ts ss
   steps-symmetric no_steps no_steps h = tt
   steps-symmetric (step s ss) (step t ts) h = (step-symmetric s t h.0, steps-symmetric ss ts h.1)
   steps-symmetric ss ts h = absurd h
@@ -66,7 +66,7 @@ mutual
   step-transitive (whole_expression e) t u h k = absurd (cc)
   step-transitive s t u h k = subst (λ x. SameStep x u) (sym h) k
 
-  pub steps-transitive : (ss ts us : Steps) → SameSteps ss ts → SameSteps ts us → SameSteps ss us
+  steps-transitive : (ss ts us : Steps) → SameSteps ss ts → SameSteps ts us → SameSteps ss us
   steps-transitive no_steps no_steps us h k = k
   steps-transitive (step s ss) (step t ts) (step u us) h k = (step-transitive s t u h.0 k.0, steps-transitive ss ts us h.1 k.1)
   steps-transitive (step s ss) (step t ts) no_steps h k = absurd k
@@ -85,3 +85,9 @@ mutual
   expression-transitive (exists ss) (exists ts) (exists us) h k = steps-transitive ss ts us h k
   expression-transitive (exists ss) (exists ts) g h k = absurd k
   expression-transitive e f g h k = absurd h
+
+pub path-symmetric : (p q : List Step) → SamePath p q → SamePath q p
+path-symmetric p q h = steps-symmetric (steps_of p) (steps_of q) h
+
+pub path-transitive : (p q r : List Step) → SamePath p q → SamePath q r → SamePath p r
+path-transitive p q r h k = steps-transitive (steps_of p) (steps_of q) (steps_of r) h k

@@ -1,6 +1,6 @@
 -- The test of same parts agrees with the relation, and so is symmetric and transitive.
 use Rattle.std.specs.Prelude.{◌≡◌, ℕ, List, [], ◌∷◌, if◌then◌else◌, Bool, true, false, ◌&&◌, nat_eq, Option, Some, None}
-use Rattle.std.specs.Bool.{IsTrue, Decides, one_answer}
+use Rattle.std.specs.Bool.{Decides, one_answer}
 use Rattle.std.specs.Cmp.{IsPartialEquivalence}
 use Rattle.std.specs.Cmp.Lexicographic.{pointwise}
 use Rattle.std.specs.Option.{option_eq}
@@ -10,11 +10,11 @@ use Rattle.std.proofs.lemmas.Option.{same_Some}
 use Rattle.std.proofs.lemmas.Slice.Eq.{slice_eq-Decides}
 use Rattle.jsonb_doc.specs.Proofs.Equality.{is_equal-IsEqual}
 use Rattle.jsonb_doc.specs.Tree.{Tree}
-use Rattle.jsonb.specs.Proofs.PathEquality.{AreEqualItems, SameLiteral, SameStep, SameSteps, SameExpression}
+use Rattle.jsonb.specs.PathEquality.{AreEqualItems, SameLiteral, SameStep, SameSteps, SameExpression}
 use Rattle.jsonb.specs.PathText.{operator_text}
-use Rattle.jsonb.specs.PathTree.{Place, from_front, from_last, Entry, single, slice, LevelEnd, level, last_level, Levels, Literal, BinaryOp, and_op, or_op, eq, not_eq, lt, lte, gt, gte, starts_with_op, add, subtract, multiply, divide, modulo, UnaryOp, plus, minus, Step, root, current, dot_wildcard, recursive_dot_wildcard, bracket_wildcard, dot_field, colon_field, object_field, array_indices, filter, whole_expression, Steps, no_steps, step, Expression, paths, value, binary, unary, exists, steps_of}
-use Rattle.jsonb.specs.Proofs.SameParts.{step-symmetric, steps-symmetric, expression-symmetric, step-transitive, steps-transitive, expression-transitive}
-use Rattle.jsonb.specs.SamePath.{is_same_place, is_same_entry, is_same_end, is_same_level, is_same_operator, is_same_sign, are_equal_items, is_same_literal, is_same_step, are_same_steps, is_same_expression, is_same_path}
+use Rattle.jsonb.specs.PathTree.{Place, from_front, from_last, Entry, single, slice, LevelEnd, level, last_level, Levels, Literal, BinaryOp, and_op, or_op, eq, not_eq, lt, lte, gt, gte, starts_with_op, add, subtract, multiply, divide, modulo, UnaryOp, plus, minus, Step, root, current, dot_wildcard, recursive_dot_wildcard, bracket_wildcard, dot_field, colon_field, object_field, array_indices, filter, whole_expression, Steps, no_steps, step, Expression, paths, value, binary, unary, exists}
+use Rattle.jsonb.specs.Proofs.SameParts.{step-symmetric, expression-symmetric, step-transitive, expression-transitive}
+use Rattle.jsonb.specs.SamePath.{is_same_place, is_same_entry, is_same_end, is_same_level, is_same_operator, is_same_sign, are_equal_items, is_same_literal, is_same_step, are_same_steps, is_same_expression}
 use Rattle.jsonb.specs.Values.{literal_item}
 
 -- a constructor around both sides
@@ -170,12 +170,3 @@ is_same_step_laws = laws is_same_step SameStep step-same step-symmetric step-tra
 
 pub is_same_expression_laws : IsPartialEquivalence is_same_expression
 is_same_expression_laws = laws is_same_expression SameExpression expression-same expression-symmetric expression-transitive
-
-are_same_steps_laws : IsPartialEquivalence are_same_steps
-are_same_steps_laws = laws are_same_steps SameSteps steps-same steps-symmetric steps-transitive
-
-pub path-symmetric : (p q : List Step) → IsTrue (is_same_path p q) → IsTrue (is_same_path q p)
-path-symmetric p q h = are_same_steps_laws.symm (steps_of q) (steps_of p) ∙ h
-
-pub path-transitive : (p q r : List Step) → IsTrue (is_same_path p q) → IsTrue (is_same_path q r) → IsTrue (is_same_path p r)
-path-transitive p q r h k = are_same_steps_laws.trans (steps_of p) (steps_of q) (steps_of r) h k

@@ -1,4 +1,4 @@
--- Having the same parts as a relation, which the test of `SamePath` decides.
+-- Which paths are equal: those of the same parts, with literals that are equal by value.
 use Rattle.std.specs.Prelude.{◌≡◌, List, Option, Some}
 use Rattle.jsonb_doc.specs.Order.{IsEqual}
 use Rattle.jsonb_doc.specs.Tree.{Tree}
@@ -36,5 +36,5 @@ abbrev mutual
   SameExpression (exists ss) (exists ts) = SameSteps ss ts
   SameExpression _ _ = ⊥
 
-abbrev pub HaveSameParts : List Step → List Step → Type 0
-HaveSameParts p q = SameSteps (steps_of p) (steps_of q)
+abbrev pub SamePath : List Step → List Step → Type 0
+SamePath p q = SameSteps (steps_of p) (steps_of q)
