@@ -54,12 +54,6 @@ pub pushed : {A B : Type 0} (R : A → B → Type 0) (r : Result (Unit {0}) Erro
     Gives (λ _ ts. AllZip R new (before ++ ts)) IsOutOfMemory r (Ok (u ∷ []))
 pushed R r old new x before u is none a h = pushed_all R r old new (x ∷ []) before (u ∷ []) is none a (h, tt)
 
--- what was found goes behind what there is
-pub found_behind : {A B : Type 0} (R : A → B → Type 0) (old new more : List A) (before : List B) (o : Outcome (List B)) → new ≡ old ++ more
-    → AllZip R old before → IsOkAnd o (AllZip R more) → IsOkAnd o (λ us. AllZip R new (before ++ us))
-found_behind R old new more before (Ok us) is a h = subst (λ l. AllZip R l (before ++ us)) (sym is) (AllZip-append R old more before us a h)
-found_behind R old new more before (Err e) is a h = absurd h
-
 -- nothing
 pub unchanged : {A B : Type 0} (R : A → B → Type 0) (xs : List A) (before : List B) → AllZip R xs before →
     Gives {A = Unit {0}} (λ _ ts. AllZip R xs (before ++ ts)) IsOutOfMemory (Ok tt) (Ok [])

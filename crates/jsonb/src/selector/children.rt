@@ -149,7 +149,7 @@ pub(crate) fn mismatch(mode: Mode) -> Result<(), Error>
 
 /// The value under a key of an object, behind the nodes that there are.
 #[inline(always)]
-fn push_field(
+pub(crate) fn push_field(
     bytes: &[u8],
     mode: Mode,
     name: &str,

@@ -68,7 +68,7 @@ pub(crate) fn is_member(step: &Path<'_>) -> bool
 
 /// The value under a key of an object.
 #[inline(always)]
-pub(crate) fn field(bytes: &[u8], mode: Mode, name: &str, item: Spot) -> Result<Option<Spot>, Error>
+fn field(bytes: &[u8], mode: Mode, name: &str, item: Spot) -> Result<Option<Spot>, Error>
     ensures meant { (t : Tree) → Locates bytes.now item t
         → Gives (λ found us. AllZip (Locates bytes.now) (option_spots found) us) IsOutOfMemory result
         (field_step mode name.now t) }

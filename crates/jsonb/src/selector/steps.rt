@@ -1,6 +1,6 @@
 //! The steps of a path, one after the other, and the filters in them.
 
-ghost use Rattle.std.specs.Prelude.{◌≡◌, ◌+◌, ◌<◌, ◌≤◌, ◌++◌, ◌∷◌, [], List, map, vec_len, vec_capacity, None, true, false, ⊤, IfErr, OnOk, MatchOption};
+ghost use Rattle.std.specs.Prelude.{◌≡◌, ◌<◌, ◌++◌, ◌∷◌, [], List, map, None, true, false, ⊤, IfErr, OnOk, MatchOption};
 ghost use Rattle.jsonb_doc.specs.Answer.{Gives, try_flat_map, IsOutOfMemory};
 ghost use Rattle.jsonb_doc.specs.Spots.{Locates};
 ghost use Rattle.jsonb_doc.specs.Tree.{Tree};
@@ -9,7 +9,7 @@ ghost use Rattle.jsonb.specs.ItemSteps.{field_step};
 ghost use Rattle.jsonb.specs.PathViews.{step_view, steps_view, expression_view};
 ghost use Rattle.std.specs.List.{AllZip};
 ghost use Rattle.jsonb.specs.Meaning.{step_meaning, steps_meaning, truth, operand_values, is_some_item};
-ghost use Rattle.jsonb.specs.Private.Selection.{IsAt, HasTree, node_spots, option_spots, values_view, taken_step, is_filter, IsPlain};
+ghost use Rattle.jsonb.specs.Private.Selection.{IsAt, HasTree, node_spots, values_view, taken_step, is_filter, IsPlain};
 ghost use Rattle.jsonb.specs.Private.Exists.{is_exists};
 ghost use Rattle.jsonb.specs.Private.Terms.{is_joined, AreTermsOf};
 ghost use Rattle.jsonb.specs.Private.Kept.{conditions, is_condition, IsSame, IsKeptFor, kept_part};
@@ -19,7 +19,7 @@ ghost use Rattle.jsonb.specs.declared.selector.document.Expressions.TheVariants.
 ghost use Rattle.jsonb.specs.declared.path.Path.{size-Path};
 ghost use Rattle.jsonb.specs.SelectionErrors.{IsSelectionError};
 
-use super::children::{push_if, push_step};
+use super::children::{push_field, push_if, push_step};
 use super::compared_items::{compared_items, member_compared};
 use super::compared_member::member_truth;
 use super::comparisons::joined_filter;
@@ -27,7 +27,7 @@ use super::document::{Context, Current, Expressions, Mode, TruthResult};
 use super::exists::innermost;
 use super::kept::{Kept, KeptPart, comparison_part, exists_part, is_comparison, is_kept};
 use super::members::{
-    are_members, field, is_member, member, member_name, member_of, member_steps, starting_item,
+    are_members, is_member, member, member_name, member_of, member_steps, starting_item,
 };
 use super::node_list::NodeList;
 use super::operand_value::{OperandValues, compare, value_of_literal};
@@ -85,19 +85,6 @@ fn plain_steps(
     Ok(NodeList::Many(nodes))
 }
 
-/// A place that was found, behind the others, with room for it.
-#[inline(always)]
-fn push_found(found: Option<Spot>, nodes: &mut Vec<Spot>)
-    requires room { vec_len nodes.old < vec_capacity nodes.old }
-    ensures items { nodes.new.items ≡ nodes.old.items ++ option_spots found }
-    ensures len { vec_len nodes.new ≤ vec_len nodes.old + 1 }
-    ensures capacity { vec_capacity nodes.new ≡ vec_capacity nodes.old }
-{
-    if let Some(spot) = found {
-        nodes.push_reserved(spot);
-    }
-}
-
 /// The values under a name of each of many items, in order.
 #[inline(never)]
 fn named_values(
@@ -114,8 +101,7 @@ fn named_values(
 {
     let mut nodes = Vec::with_capacity(alloc, items.len())?;
     for item in items {
-        let found = field(bytes, mode, name, *item)?;
-        push_found(found, &mut nodes);
+        push_field(bytes, mode, name, *item, &mut nodes)?;
     }
     Ok(NodeList::Many(nodes))
 }

@@ -1,4 +1,4 @@
--- What entry words tell, contents that are passed over by the lengths in their words, and keys that are searched for a name.
+-- What entry words tell, contents that are passed over by their lengths, and keys that are searched for a name.
 use Rattle.std.specs.Prelude.{◌≡◌, ◌≢◌, ℕ, ◌^◌, ◌<◌, List, [], ◌∷◌, ◌++◌, Option, Some, None, ⊤}
 use Rattle.std.specs.Borrow.{Bor}
 use Rattle.jsonb_doc.specs.Format.{HasFirstEntry, entry_word, AreKeys, key_words, key_bytes}

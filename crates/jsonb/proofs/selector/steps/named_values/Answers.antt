@@ -1,44 +1,38 @@
-use Rattle.std.proofs.Common.{◌+◌, Err, drop, ap, ◌∙◌, arith}
+use Rattle.std.proofs.Common.{◌+◌, Err, drop, ap, ◌∙◌}
 use Rattle.std.proofs.lemmas.Result.{err_from_is_err_and}
 use Rattle.jsonb_doc.specs.Spots.{Locates}
 use Rattle.std.specs.List.{AllZip}
 use Rattle.jsonb.specs.ItemSteps.{field_step}
-use Rattle.jsonb.specs.Private.Selection.{option_spots}
-use Rattle.jsonb.proofs.GivesLemmas.{same_answer, refused_as, found_behind}
+use Rattle.jsonb.proofs.GivesLemmas.{same_answer}
 use Rattle.jsonb.proofs.Progress.{no_spot, one_more, refused_in, at_end, list_first, list_end}
 use Rattle.jsonb.proofs.selector.steps.named_values.Goals as goal
 
-pub returns-in_err-found-clause-meant : goal.returns-in_err-found-clause-meant
-returns-in_err-found-clause-meant c = λ ts a.
-    let p = err_from_is_err_and c.from_residual-in_err-found.result c.from_residual-in_err-found.ensures.1 in
+pub returns-in_err-push_field-clause-meant : goal.returns-in_err-push_field-clause-meant
+returns-in_err-push_field-clause-meant c = λ ts a.
+    let p = err_from_is_err_and c.from_residual-in_err-push_field.result c.from_residual-in_err-push_field.ensures.1 in
     same_answer (p.1 ∙ ap Err p.2) (refused_in (field_step c.args.mode c.args.name.now) _
     (AllZip (Locates c.args.bytes.now) (drop c.loop-item.item-index c.args.items.now))
     (AllZip (Locates c.args.bytes.now) (drop (c.loop-item.item-index + 1) c.args.items.now))
-    (AllZip (Locates c.args.bytes.now) c.loop-item.nodes.items) (AllZip (Locates c.args.bytes.now) c.loop-item.nodes.items) _ _ _
-    (c.loop-item.invariant.values ts a)
+    (AllZip (Locates c.args.bytes.now) c.loop-item.nodes.items) (AllZip (Locates c.args.bytes.now) c.push_field.new.nodes.items) _ _ _
+    (c.loop-item.invariant ts a)
     (list_first (Locates c.args.bytes.now) c.args.items.now c.loop-item.item-index no_spot c.loop-item-test.true)
-    (λ u before s b. refused_as (c.in_err-found.ensures.meant u s)))
+    (λ u before s b. c.in_err-push_field.ensures.meant u before s b))
 
 pub loop-item-preserved : goal.loop-item-preserved
-loop-item-preserved c = record {
-  values = λ ts a.
-      one_more (field_step c.args.mode c.args.name.now)
-      (AllZip (Locates c.args.bytes.now) (drop c.loop-item.item-index c.args.items.now))
-      (AllZip (Locates c.args.bytes.now) (drop (c.loop-item.item-index + 1) c.args.items.now))
-      (AllZip (Locates c.args.bytes.now) c.loop-item.nodes.items) (AllZip (Locates c.args.bytes.now) c.push_found.new.nodes.items) _ _
-      (c.loop-item.invariant.values ts a)
-      (list_first (Locates c.args.bytes.now) c.args.items.now c.loop-item.item-index no_spot c.loop-item-test.true)
-      (λ u before s b. found_behind (Locates c.args.bytes.now) c.loop-item.nodes.items c.push_found.new.nodes.items (option_spots c.in_ok-found.found)
-      before (field_step c.args.mode c.args.name.now u) c.push_found.ensures.items b ((c.in_ok-found.ensures.meant u s).ok));
-  len = omega (arith, c.push_found.ensures.len, c.loop-item.invariant.len);
-  room = c.push_found.ensures.capacity ∙ c.loop-item.invariant.room;
-}
+loop-item-preserved c = λ ts a.
+    one_more (field_step c.args.mode c.args.name.now)
+    (AllZip (Locates c.args.bytes.now) (drop c.loop-item.item-index c.args.items.now))
+    (AllZip (Locates c.args.bytes.now) (drop (c.loop-item.item-index + 1) c.args.items.now))
+    (AllZip (Locates c.args.bytes.now) c.loop-item.nodes.items) (AllZip (Locates c.args.bytes.now) c.push_field.new.nodes.items) _ _
+    (c.loop-item.invariant ts a)
+    (list_first (Locates c.args.bytes.now) c.args.items.now c.loop-item.item-index no_spot c.loop-item-test.true)
+    (λ u before s b. (c.in_ok-push_field.ensures.meant u before s b).ok)
 
 pub returns-clause-meant : goal.returns-clause-meant
 returns-clause-meant c = λ ts a. record {
   ok = at_end (field_step c.args.mode c.args.name.now)
       (AllZip (Locates c.args.bytes.now) (drop c.loop-item.item-index c.args.items.now))
-      (AllZip (Locates c.args.bytes.now) c.loop-item.nodes.items) _ (c.loop-item.invariant.values ts a)
+      (AllZip (Locates c.args.bytes.now) c.loop-item.nodes.items) _ (c.loop-item.invariant ts a)
       (list_end (Locates c.args.bytes.now) c.args.items.now c.loop-item.item-index c.loop-item-test.false);
   err = tt;
 }

@@ -1,5 +1,4 @@
-use Rattle.std.proofs.Common.{◌≡◌, ◌≤◌, List, drop, length, vec_len}
-use Rattle.std.specs.Vec.{vec_capacity}
+use Rattle.std.proofs.Common.{List, drop}
 use Rattle.jsonb_doc.specs.Answer.{try_flat_map}
 use Rattle.jsonb_doc.specs.Spots.{Locates}
 use Rattle.jsonb_doc.specs.Tree.{Tree}
@@ -8,13 +7,9 @@ use Rattle.jsonb.specs.ItemSteps.{field_step}
 use Rattle.jsonb.proofs.Progress.{Progress}
 use Rattle.jsonb.proofs.selector.steps.named_values.Given as goal
 
--- the values of the items so far, with room for those of the others
 abbrev pub invariant-loop-item : goal.invariant-loop-item
-invariant-loop-item l = record {
-  values : (ts : List Tree) → AllZip (Locates l.bytes) l.items ts →
-      Progress (AllZip (Locates l.bytes) (drop l.item-index l.items)) (AllZip (Locates l.bytes) l.nodes.items)
-      (field_step l.mode l.name)
-      (try_flat_map (field_step l.mode l.name) ts);
-  len : vec_len l.nodes ≤ l.item-index;
-  room : vec_capacity l.nodes ≡ length l.items;
-}
+invariant-loop-item l =
+    (ts : List Tree) → AllZip (Locates l.bytes) l.items ts →
+    Progress (AllZip (Locates l.bytes) (drop l.item-index l.items)) (AllZip (Locates l.bytes) l.nodes.items)
+    (field_step l.mode l.name)
+    (try_flat_map (field_step l.mode l.name) ts)
