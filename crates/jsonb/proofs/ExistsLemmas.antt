@@ -4,7 +4,7 @@ use Rattle.jsonb_doc.specs.Answer.{Outcome, and_then, try_flat_map}
 use Rattle.jsonb_doc.specs.Tree.{Tree}
 use Rattle.jsonb.specs.PathTree as math
 use Rattle.jsonb.specs.PathViews.{expression_view, steps_view}
-use Rattle.jsonb.specs.PathTree.{Step, Steps, Expression, exists, filter, steps_of}
+use Rattle.jsonb.specs.PathTree.{Step, Expression, exists, filter, steps_of}
 use Rattle.jsonb.specs.Compare.{Truth}
 use Rattle.jsonb.specs.Meaning.{step_meaning, steps_meaning, truth, start, filtered, is_some_item}
 use Rattle.jsonb.specs.Private.Exists.{is_exists, IsNested}

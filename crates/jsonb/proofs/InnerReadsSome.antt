@@ -1,5 +1,5 @@
 -- A step without an expression reads a byte at least.
-use Rattle.std.proofs.Common.{ℕ, ◌^◌, ◌≤◌, List, [], ◌∷◌, length, Some, None, arith}
+use Rattle.std.proofs.Common.{◌^◌, [], ◌∷◌, Some, None}
 use Rattle.std.specs.Prelude.{codes}
 use Rattle.jsonb_keypath.specs.Rules.{Rule, give, ◌>>=◌, ◌>>◌, optional, literal, repeat}
 use Rattle.jsonb_keypath.specs.Tokens.{ws, nat8, name, quoted}

@@ -11,7 +11,7 @@ use Rattle.jsonb_doc.specs.Order.{IsEqual, AreEqual, PairsAreEqual}
 use Rattle.jsonb_doc.specs.Tree as tree
 use Rattle.jsonb_doc.specs.Tree.{Tree, Trees, Pairs}
 use Rattle.jsonb.specs.PathTree as path
-use Rattle.jsonb.specs.PathTree.{Literal, BinaryOp, and_op, or_op, eq, not_eq, lt, lte, gt, gte, starts_with_op, add, subtract, multiply, divide, modulo, UnaryOp, plus, minus, Step, root, current, dot_wildcard, recursive_dot_wildcard, bracket_wildcard, dot_field, colon_field, object_field, array_indices, filter, whole_expression, Steps, no_steps, step, Expression, paths, value, binary, unary, exists, steps_of}
+use Rattle.jsonb.specs.PathTree.{Literal, BinaryOp, and_op, or_op, eq, not_eq, lt, lte, gt, gte, starts_with_op, UnaryOp, plus, minus, Step, root, current, dot_wildcard, recursive_dot_wildcard, bracket_wildcard, dot_field, colon_field, object_field, array_indices, filter, whole_expression, Steps, no_steps, step, Expression, paths, value, binary, unary, exists, steps_of}
 use Rattle.jsonb.specs.PathLaws.{settled_literal, settled_step, settled_steps, settled, SameButVariants, SameByValue, MeanTheSame}
 use Rattle.jsonb.specs.PathGrammar.{json_path}
 use Rattle.jsonb.specs.PathText.{path_text}

@@ -17,7 +17,7 @@ abbrev pub values_of : Tree → Option (List Tree)
 values_of (object ps) = Some (tree.elements (tree.values ps))
 values_of _ = None
 
--- the list; where there is none the step doesn't fit the item, which strict mode refuses
+-- the list; where there is none the step doesn't fit the item: lax mode gives the other list, and strict mode refuses
 abbrev pub list_or : Mode → List Tree → Option (List Tree) → Outcome (List Tree)
 list_or mode otherwise (Some ts) = Ok ts
 list_or Lax otherwise None = Ok otherwise

@@ -15,7 +15,8 @@ pub data Value : Type 0 where
   text : List ℕ → Value
   container : Value
 
--- the value of an item that is no array, and of an element; an extension gives none, and a container is one
+-- the value of an item that is no array, and of an element; an extension gives none, and arrays and objects are the
+-- value `container`
 abbrev pub value_of_item : Tree → List Value
 value_of_item tree.null = null ∷ []
 value_of_item (tree.boolean b) = boolean b ∷ []

@@ -20,11 +20,11 @@ entry_of (Extension x) = (extension_entry, extension_payload (extension_view x))
 entry_of (Array bytes) = (container_entry, bytes.now)
 entry_of (Object bytes) = (container_entry, bytes.now)
 
--- the bytes behind its entry word
+-- the bytes behind the item's entry word
 abbrev pub item_content : Item → List ℕ
 item_content item = (entry_of item).1
 
--- the word of the item's entry
+-- its entry word
 abbrev pub item_word : Item → List ℕ
 item_word item = entry_word (entry_of item).0 (length (item_content item))
 

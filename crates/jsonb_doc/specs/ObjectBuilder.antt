@@ -26,7 +26,7 @@ insert_pair key x (p ∷ ps) =
 
 -- ---- entries
 
--- the builder holds the pairs, in the order of their keys: each key with an entry of its tree
+-- the builder holds the pairs, in the order of their keys: each key with the kind and content of an entry of its tree
 abbrev pub HoldsPairs : Form → List (List ℕ × EntryParts) → List (List ℕ × Tree) → Type 0
 HoldsPairs form es ps = AllZip (λ e p. (e.0 ≡ p.0) × IsContent (number_reader form) p.1 e.1.0 e.1.1) es ps
 

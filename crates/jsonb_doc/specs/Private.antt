@@ -1,5 +1,5 @@
--- What contracts say of private functions, and of calls that serve the crates above. `jsonb` hands on no call whose
--- clause cites these.
+-- What contracts say of private functions, of the fields of builders, and of calls that serve the crates above.
+-- `jsonb` hands on no call whose clause cites these.
 pub mod Builders
 pub mod Headers
 pub mod Lengths

@@ -2,8 +2,8 @@
 use Rattle.std.specs.Prelude.{ℕ, List, ◌≢◌, ◌⊎◌}
 use Rattle.jsonb_doc.specs.Format.{HasItsWords, IsContainer, HasFirstEntry, AreNone, scalar_header, object_header, array_header, container_entry}
 
--- The root can be read: behind the header of an array or of an object stand as many entry words as it counts, and
--- behind that of a scalar one entry, which is no container.
+-- The root can be read: behind the header of an array stands a word for each element, behind that of an object two for
+-- each pair, and behind that of a scalar one entry, which is no container.
 abbrev pub HasReadableRoot : List ℕ → Type 0
 HasReadableRoot bytes =
     HasItsWords array_header 4 bytes ⊎ HasItsWords object_header 8 bytes

@@ -30,7 +30,7 @@ abbrev pub WritesKey : Width → Tree → Result (Unit {0}) Error → List ℕ �
 WritesKey w tree r items = GivesKey w tree r (λ _. items ≡ sortable_key w tree 0)
 
 -- An answer for a tree without extensions compares with the key of each tree that has one as the trees do, and is that
--- key where the two are equal by value.
+-- key exactly where the two are equal by value.
 abbrev pub RanksAsTree : Width → Tree → Result (Vec ℕ Global) Error → Type 0
 RanksAsTree w t r = HasNoExtension t → (u : Tree) → HasKey w u 0 → IfOk r (λ v.
     (slice_cmp nat_cmp v.items (sortable_key w u 0) ≡ tree_cmp t u) × ((v.items ≡ sortable_key w u 0) ↔ IsEqual t u))

@@ -42,10 +42,10 @@ pub fn printed_key_paths_keep_their_place(text: &[u8])
         × (key_path (key_path_text steps) ≡ Some found) × ((t : Tree) → location found t ≡ location steps t)) }
 {}
 
-/// Sortable keys of trees without extensions are in order as the trees are, with depths in one byte, and in the two of
-/// wide keys. A tree below another has the lower key, whatever may follow each of the two, and trees that are equal by
-/// value have one key. So the byte order of the keys of two documents is the order of the documents, and they have one
-/// key exactly where they are equal by value.
+/// Sortable keys of trees without extensions are in order as the trees are, in every width of depths. A tree below
+/// another has the lower key, whatever may follow each of the two, and trees that are equal by value have one key. So
+/// the byte order of the keys of two documents is the order of the documents, and they have one key exactly where they
+/// are equal by value.
 pub fn sortable_keys()
     ensures below { (w : Width) (t u : Tree) (d : ℕ) (r s : List ℕ)
         → HasKey w t d → HasKey w u d → IsRest w d r → IsRest w d s → tree_cmp t u ≡ Less
@@ -115,8 +115,8 @@ pub fn all_of_no_texts_and_any_of_no_texts()
     ensures any { (t : Tree) → has_any [] t ≡ false }
 {}
 
-/// Where a place that is a pair of an object is taken out, its steps meet nothing any more. They may meet a pair where
-/// those before the last meet an object.
+/// Where the steps before the last meet an object, so that the last may meet a pair, the steps meet nothing in the tree
+/// without their place.
 pub fn pairs_that_are_taken_out_are_gone()
     ensures { (t : Tree) → Fits t → (front : List Key) (last : Key) (ps : Pairs)
         → tree_at_steps front t ≡ Some (object ps)

@@ -14,11 +14,11 @@ use Rattle.jsonb_doc.specs.Value.{tree_seen}
 abbrev pub keyed : List (String Global × Tree) → List (List ℕ × Tree)
 keyed es = map (λ e. (string_bytes e.0, e.1)) es
 
--- the same for the values of an array
+-- the trees of an array's values
 abbrev pub trees_seen : (Number → spec.Number) → List Value → List Tree
 trees_seen seen vs = map (tree_seen seen) vs
 
--- the same for the entries of an object, in the byte order of their keys
+-- the trees of an object's entries, in the byte order of their keys
 abbrev pub members_seen : (Number → spec.Number) → List (String Global × Value) → List (List ℕ × Tree)
 members_seen seen es = keyed (map (λ e. (e.0, tree_seen seen e.1)) es)
 
