@@ -55,7 +55,7 @@ impl Packed {
         }
     }
 
-    /// Appends them. For a moment both words stand there whole.
+    /// Appends them. For a moment whole words stand there, the second where the bytes reach into it.
     #[inline(always)]
     pub fn push(self, out: &mut Vec<u8>) -> Result<(), AllocError>
         requires { self.len ≤ 16 }
@@ -63,7 +63,9 @@ impl Packed {
     {
         let start = out.len();
         out.extend_from_slice(&self.first.to_le_bytes())?;
-        out.extend_from_slice(&self.second.to_le_bytes())?;
+        if self.len > 8 {
+            out.extend_from_slice(&self.second.to_le_bytes())?;
+        }
         out.truncate(start + self.len);
         Ok(())
     }
