@@ -8,6 +8,8 @@ import sys
 import threading
 from dataclasses import dataclass
 
+import older_rt
+
 # What these programs call of rt, and of the module rtlib that it loads.
 CALLED = {
     "rt": "ci edits_alone must_fail checked seeded linked in_lanes ending edits_of read_edit processors free Crate Kept SEEDS REFUSED MISSED rtlib",
@@ -39,6 +41,7 @@ def load_rt():
     loader = importlib.machinery.SourceFileLoader("rt_of_kit", os.path.realpath(file))
     made = importlib.util.module_from_spec(importlib.util.spec_from_loader("rt_of_kit", loader))
     loader.exec_module(made)
+    older_rt.complete(made)
     for module, names in CALLED.items():
         owner = made if module == "rt" else made.rtlib
         for name in names.split():

@@ -1,8 +1,8 @@
 #!/usr/bin/env python3
 """The Rust crate `jsonb` 0.5.6 and this library, timed in turn, on the cases below.
 
-  measure_speed.py [--rounds N] [--only WORD] [--write]   times, and instructions where valgrind is there; --write puts the
-                                                          table into docs/PERFORMANCE.md
+  measure_speed.py [--rounds N] [--only WORD] [--write]   times, requests for memory, and instructions where valgrind is there;
+                                                          --write puts the table into docs/PERFORMANCE.md
   measure_speed.py --crate FOLDER ..                      the same with the Rust crate of a folder, where none can be fetched
 
 Needs `rt`, `cargo` and `cc`. The crates are proved first where they are not (the library is built as `rt lib` does). The work lies in
@@ -185,6 +185,13 @@ def document_cases(people, few):
     yield Case("look at each text of 1,000 objects", "traverse_check_string", people)
 
 
+def single_cases():
+    one = document({**person(0), "note": word(118)})
+    yield Case("a filter on one document of 200 bytes", "exists", one, "$.age?(@ > 200)")
+    yield Case("a predicate on one document of 200 bytes", "match", one, "$.age > 200")
+    yield Case("a field of one document of 200 bytes", "select_first", one, "$.name")
+
+
 def cases():
     people = [person(i) for i in range(1000)]
     all_people, few = document(people), document(people[:100])
@@ -195,6 +202,7 @@ def cases():
         *list_cases(all_people, few),
         *object_cases(),
         *document_cases(all_people, few),
+        *single_cases(),
     ]
 
 
@@ -254,6 +262,7 @@ class Row:
     rust: float
     ours: float
     alone: float  # (infinite where the answer is neither documents nor bytes)
+    requests: tuple[int, int]  # (for memory, of the Rust crate and of this library)
     instructions: float | None
 
     @property
@@ -290,9 +299,30 @@ def instruction_ratio(program, path, name):
     return instructions(program, path, name, "rattle") / instructions(program, path, name, "rust")
 
 
+def counting_heap():
+    """The library that counts requests for memory, which the sweep refuses them with."""
+    library = os.path.join(OUT, "refuse_growth.so")
+    run(["cc", "-O2", "-shared", "-fPIC", "-o", library, "refuse_growth.c"], os.path.join(TOP, "tools"))
+    return {"LD_PRELOAD": library, "REFUSE_ALL": "1"}
+
+
+def requests_in(program, path, name, side, calls, heap):
+    counts = os.path.join(OUT, "requests")
+    words = ["sh", "-c", 'exec "$@" 3> "$0"', counts, program, path, name, side, str(calls)]
+    run(words, OUT, env={**KEEPING_HEAP, **heap}, stdout=subprocess.DEVNULL)
+    return int(open(counts).read().split()[0])
+
+
+def requests(program, path, name, heap):
+    """Of one call of each side: how often it asks for memory, as the difference between runs of few calls and of more."""
+    counted = lambda side, calls: requests_in(program, path, name, side, calls, heap)
+    return tuple((counted(side, 6) - counted(side, 2)) // 4 for side in ("rust", "rattle"))
+
+
 def measured(program, path, rounds):
+    heap = counting_heap()
     for name, sides in times(program, path, rounds).items():
-        row = Row(name, *sides, instruction_ratio(program, path, name))
+        row = Row(name, *sides, requests(program, path, name, heap), instruction_ratio(program, path, name))
         print(f"{row.ratio:6.2f} {row.instructions or 0:6.2f}  {name}", file=sys.stderr)
         yield row
 
@@ -308,12 +338,13 @@ def line_of(cells):
 
 def table(rows):
     has_counts = any(row.instructions is not None for row in rows)
-    lines = [line_of(["Case", "Rust", "This", "Time, this by Rust", "Answers alone"] + ["Instructions"] * has_counts)]
-    lines.append("|" + "---|" * (5 + has_counts))
+    heads = ["Case", "Rust", "This", "Time, this by Rust", "Answers alone", "Requests", *["Instructions"] * has_counts]
+    lines = [line_of(heads), "|" + "---|" * len(heads)]
     for row in rows:
         alone = "" if math.isinf(row.alone) else f"{row.alone / row.rust:.2f}"
         counts = [] if not has_counts else ["" if row.instructions is None else f"{row.instructions:.2f}"]
-        cells = [row.name, nanoseconds(row.rust), nanoseconds(row.ours), f"{row.ratio:.2f}", alone, *counts]
+        asked = "{:,}, {:,}".format(*row.requests)
+        cells = [row.name, nanoseconds(row.rust), nanoseconds(row.ours), f"{row.ratio:.2f}", alone, asked, *counts]
         lines.append(line_of(cells))
     mean = statistics.geometric_mean(row.ratio for row in rows)
     slower = sum(row.ratio > 1 for row in rows)
