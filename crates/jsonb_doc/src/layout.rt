@@ -9,7 +9,7 @@ ghost use Rattle.byteorder.specs.Endian.{big_number};
 ghost use Rattle.jsonb_doc.specs.Format.{BeginWith, HeadedBy, header, entry_word};
 ghost use Rattle.jsonb_doc.specs.Kinds.{kind_number};
 ghost use Rattle.jsonb_doc.specs.Private.Headers.{header_number};
-ghost use Rattle.jsonb_doc.specs.Private.Lengths.{Tells};
+ghost use Rattle.jsonb_doc.specs.Private.Lengths.{TellsKindAndLength};
 ghost use Rattle.jsonb_doc.specs.Private.Containers.{StartWith};
 
 use byteorder::{BigEndian, ByteOrder};
@@ -251,7 +251,7 @@ pub fn entry_len(word: &[u8; WORD]) -> usize
 /// Constant, without memory.
 #[inline(always)]
 pub fn read_entry_word(word: &[u8; WORD]) -> (EntryKind, usize)
-    ensures told { Tells word.now (kind_number result.0) result.1 }
+    ensures told { TellsKindAndLength word.now (kind_number result.0) result.1 }
     ensures bound { result.1 < 2 ^ 28 }
 {
     let kind = EntryKind::from_u32(u32::from_be_bytes(*word) / LENGTHS);
