@@ -4,7 +4,6 @@ ghost use Rattle.std.specs.Prelude.{◌≡◌, ◌++◌, ◌∷◌, [], List, On
 ghost use Rattle.jsonb_doc.specs.Answer.{Gives, IsOutOfMemory, IsDecodingError};
 ghost use Rattle.jsonb_doc.specs.Item.{StandsFor};
 ghost use Rattle.jsonb_doc.specs.Payload.{any};
-ghost use Rattle.jsonb_doc.specs.Private.Short.{short_value};
 ghost use Rattle.jsonb_doc.specs.Spots.{Locates, HasSpotsLeft};
 ghost use Rattle.jsonb_doc.specs.Tree.{Tree};
 ghost use Rattle.jsonb_doc.specs.View.{number_view};
@@ -19,9 +18,7 @@ ghost use Rattle.jsonb.specs.declared.selector.document.Mode.{Mode};
 use super::calculate::sign_each;
 use super::children::array_elements;
 use crate::path::UnaryOperator;
-use jsonb_doc::{
-    Decimal64, Error, Item, Number, ShortNumber, Spot, SpotIter, spot_item, spot_number,
-};
+use jsonb_doc::{Error, Item, Number, Spot, SpotIter, spot_item, spot_number};
 use std::alloc::Global;
 
 /// The numbers of items, each behind a sign. First all have to be numbers: `InvalidJsonPath` is for another value,
@@ -139,20 +136,8 @@ fn number_at(bytes: &[u8], item: Spot) -> Result<Option<Number>, Error>
     ensures errors { IfErr result IsDecodingError }
 {
     match spot_number(bytes, item)? {
-        Some(number) => Ok(Some(number_of(number))),
+        Some(number) => Ok(Some(number.to_number())),
         None => Ok(None),
-    }
-}
-
-/// The number that a short one is.
-#[inline(always)]
-fn number_of(number: ShortNumber) -> Number
-    ensures { number_view result ≡ short_value number }
-{
-    match number {
-        ShortNumber::Unsigned(value) => Number::UInt64(value),
-        ShortNumber::Signed(value) => Number::Int64(value),
-        ShortNumber::Decimal(value, scale) => Number::Decimal64(Decimal64 { scale, value }),
     }
 }
 
