@@ -9,7 +9,7 @@ ghost use Rattle.byteorder.specs.Endian.{big_number};
 ghost use Rattle.jsonb_doc.specs.Format.{BeginWith, HeadedBy, header, entry_word};
 ghost use Rattle.jsonb_doc.specs.Kinds.{kind_number};
 ghost use Rattle.jsonb_doc.specs.Private.Headers.{header_number};
-ghost use Rattle.jsonb_doc.specs.Private.Lengths.{Tells};
+ghost use Rattle.jsonb_doc.specs.Private.Lengths.{TellsKindAndLength};
 ghost use Rattle.jsonb_doc.specs.Private.Containers.{StartWith};
 
 use byteorder::{BigEndian, ByteOrder};
@@ -29,31 +29,18 @@ pub const MAX_ENTRIES: usize = 0x1fff_ffff;
 /// How many bytes the content of an entry may have.
 pub const MAX_CONTENT: usize = 0x0fff_ffff;
 
-/// The kinds of a header.
+/// The kinds of a header, with their numbers in header words.
 #[derive(Clone, Copy, Debug, PartialEq, Eq)]
 pub enum HeaderKind {
     /// A header whose one entry is a scalar. Its count is 0.
-    Scalar,
+    Scalar = 1,
     /// The header of an object. Its count is that of the pairs.
-    Object,
+    Object = 2,
     /// The header of an array. Its count is that of the elements.
-    Array,
+    Array = 4,
 }
 
 impl HeaderKind {
-    /// Its number in a header word.
-    #[inline(always)]
-    fn to_u32(self) -> u32
-        ensures number { result ≡ header_number self }
-        ensures bound { result < 8 }
-    {
-        match self {
-            HeaderKind::Scalar => 1,
-            HeaderKind::Object => 2,
-            HeaderKind::Array => 4,
-        }
-    }
-
     /// The kind with this number, and `None` where there is none.
     #[inline(always)]
     fn from_u32(number: u32) -> Option<HeaderKind>
@@ -69,46 +56,28 @@ impl HeaderKind {
     }
 }
 
-/// The kinds of an entry.
+/// The kinds of an entry, with their numbers in entry words.
 #[derive(Clone, Copy, Debug, PartialEq, Eq)]
 pub enum EntryKind {
     /// Null. No content.
-    Null,
+    Null = 0,
     /// A text or a key, in UTF-8.
-    Text,
+    Text = 1,
     /// A number: a tag, and what follows it.
-    Number,
+    Number = 2,
     /// False. No content.
-    False,
+    False = 3,
     /// True. No content.
-    True,
+    True = 4,
     /// An array or an object, with a header of its own.
-    Container,
+    Container = 5,
     /// A value that JSON itself lacks: a tag, and what follows it.
-    Extension,
+    Extension = 6,
     /// The kind that no item has. Its content has an end, so that it can be passed over.
-    Unknown,
+    Unknown = 7,
 }
 
 impl EntryKind {
-    /// Its number in an entry word.
-    #[inline(always)]
-    fn to_u32(self) -> u32
-        ensures number { result ≡ kind_number self }
-        ensures bound { result < 8 }
-    {
-        match self {
-            EntryKind::Null => 0,
-            EntryKind::Text => 1,
-            EntryKind::Number => 2,
-            EntryKind::False => 3,
-            EntryKind::True => 4,
-            EntryKind::Container => 5,
-            EntryKind::Extension => 6,
-            EntryKind::Unknown => 7,
-        }
-    }
-
     /// The kind with this number, and `None` where there is none.
     #[inline(always)]
     fn from_u32(number: u32) -> Option<EntryKind>
@@ -216,7 +185,7 @@ pub fn word_of_entry(kind: EntryKind, len: usize) -> [u8; WORD]
     requires { len < 2 ^ 28 }
     ensures { result ≡ entry_word (kind_number kind) len }
 {
-    (kind.to_u32() * LENGTHS + len as u32).to_be_bytes()
+    (kind as u32 * LENGTHS + len as u32).to_be_bytes()
 }
 
 /// The word of a header of this kind and count.
@@ -229,7 +198,7 @@ pub fn word_of_header(kind: HeaderKind, count: usize) -> [u8; WORD]
     requires { count < 2 ^ 29 }
     ensures { result ≡ header (header_number kind) count }
 {
-    (kind.to_u32() * COUNTS + count as u32).to_be_bytes()
+    (kind as u32 * COUNTS + count as u32).to_be_bytes()
 }
 
 /// The length that an entry word tells.
@@ -251,7 +220,7 @@ pub fn entry_len(word: &[u8; WORD]) -> usize
 /// Constant, without memory.
 #[inline(always)]
 pub fn read_entry_word(word: &[u8; WORD]) -> (EntryKind, usize)
-    ensures told { Tells word.now (kind_number result.0) result.1 }
+    ensures told { TellsKindAndLength word.now (kind_number result.0) result.1 }
     ensures bound { result.1 < 2 ^ 28 }
 {
     let kind = EntryKind::from_u32(u32::from_be_bytes(*word) / LENGTHS);

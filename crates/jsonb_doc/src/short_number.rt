@@ -5,10 +5,10 @@ ghost use Rattle.std.specs.Ordering.{eq_by_cmp};
 ghost use Rattle.jsonb_doc.specs.Number.{number_cmp, number_from, decimal64};
 ghost use Rattle.jsonb_doc.specs.Payload.{number_of};
 ghost use Rattle.jsonb_doc.specs.Private.Short.{short_value, short_parts};
-ghost use Rattle.jsonb_doc.specs.View.{number_view};
+ghost use Rattle.jsonb_doc.specs.View.{number_parts, number_view};
 
 use crate::layout::DECIMAL64_LEN;
-use crate::number::Number;
+use crate::number::{Decimal64, Number};
 use crate::number_order::exact_cmp;
 use byteorder::{BigEndian, ByteOrder};
 use std::cmp::Ordering;
@@ -52,6 +52,24 @@ impl ShortNumber {
         match self {
             ShortNumber::Unsigned(_) | ShortNumber::Signed(_) => 0,
             ShortNumber::Decimal(_, scale) => scale,
+        }
+    }
+
+    /// The number that it is. A zero is `UInt64(0)`, whatever variant it is stored as.
+    ///
+    /// # Cost
+    ///
+    /// Constant, without memory.
+    #[inline(always)]
+    pub fn to_number(self) -> Number
+        ensures parts { number_parts result ≡ short_value self }
+        ensures view { number_view result ≡ short_value self }
+    {
+        match self {
+            ShortNumber::Unsigned(value) => Number::UInt64(value),
+            ShortNumber::Signed(0) | ShortNumber::Decimal(0, _) => Number::ZERO,
+            ShortNumber::Signed(value) => Number::Int64(value),
+            ShortNumber::Decimal(value, scale) => Number::Decimal64(Decimal64 { scale, value }),
         }
     }
 }

@@ -8,7 +8,7 @@ use Rattle.jsonb_doc.specs.Tree.{Tree, boolean, array, object, Trees, no_trees, 
 use Rattle.jsonb_doc.specs.Payload.{Form, number_reader}
 use Rattle.jsonb_doc.specs.Format.{IsContent, container_entry, null_entry, text_entry, entry_word, key_bytes, AreKeys}
 use Rattle.jsonb_doc.specs.Encoding.{EntryParts}
-use Rattle.jsonb_doc.specs.Private.Lengths.{Tells}
+use Rattle.jsonb_doc.specs.Private.Lengths.{TellsKindAndLength}
 use Rattle.jsonb_doc.specs.Private.ObjectBytes.{words_of_entries, contents_of_entries}
 use Rattle.jsonb_doc.proofs.BuilderSteps.{keys_rise}
 use Rattle.jsonb_doc.specs.declared.error.Error.{Error}
@@ -143,7 +143,7 @@ pub record CountLeft (count : ℕ) (left : List ℕ) (total : ℕ) : Type 0 wher
   pub sum : count + length (beside entries entries) ≡ total
 
 module _ (n len : ℕ) (left word others : List ℕ) (first : word ≡ take 4 left) (rest : others ≡ drop 4 left) (long : length others + 4 ≡ length left)
-    (read : Tells word n len) where
+    (read : TellsKindAndLength word n len) where
   pub count_null : (count total : ℕ) → n ≡ 0 → CountLeft count left total → CountLeft count others total
   count_null count total none c = go c.entries c.within c.words c.sum
     where
@@ -183,7 +183,7 @@ pub record WordsToPush (out values words whole : List ℕ) : Type 0 where
 
 module _ (n len : ℕ) (values value values' : List ℕ) (first : value ≡ take 4 values) (rest : values' ≡ drop 4 values)
     (long : length values' + 4 ≡ length values)
-    (read : Tells value n len)
+    (read : TellsKindAndLength value n len)
     (words word words' : List ℕ) (word_first : word ≡ take 4 words) (words_rest : words' ≡ drop 4 words) (out out' whole : List ℕ) where
   -- the first of the values goes, and the word beside it
   first_word_gone : ((e x : EntryParts) (es xs : List EntryParts) → n ≡ e.0 → word ≡ entry_word x.0 (length x.1)
@@ -262,7 +262,7 @@ module _ {G : Type 0} where
 
 module _ (n len : ℕ) (values value values' : List ℕ) (first : value ≡ take 4 values) (rest : values' ≡ drop 4 values)
     (long : length values' + 4 ≡ length values)
-    (read : Tells value n len)
+    (read : TellsKindAndLength value n len)
     (words keys : List ℕ) (given : NextEntry)
     (reads : (xs : List EntryParts) → FitEntries xs → words ≡ words_of_entries xs → keys ≡ contents_of_entries xs → ReadsEntry xs (Ok (Some given)))
     (last : Option (Bor (List ℕ))) (out out' whole : List ℕ) where

@@ -4,7 +4,6 @@ ghost use Rattle.std.specs.Prelude.{◌≡◌, ◌++◌, ◌∷◌, [], List, On
 ghost use Rattle.jsonb_doc.specs.Answer.{Gives, IsOutOfMemory, IsDecodingError};
 ghost use Rattle.jsonb_doc.specs.Item.{StandsFor};
 ghost use Rattle.jsonb_doc.specs.Payload.{any};
-ghost use Rattle.jsonb_doc.specs.Private.Short.{short_value};
 ghost use Rattle.jsonb_doc.specs.Spots.{Locates, HasSpotsLeft};
 ghost use Rattle.jsonb_doc.specs.Tree.{Tree};
 ghost use Rattle.jsonb_doc.specs.View.{number_view};
@@ -12,6 +11,7 @@ ghost use Rattle.jsonb.specs.PathArithmetic.{all_numbers, each_signed};
 ghost use Rattle.jsonb.specs.PathViews.{sign_view};
 ghost use Rattle.std.specs.List.{AllZip};
 ghost use Rattle.jsonb.specs.Values.{value_of_item, values_of_item};
+ghost use Rattle.jsonb.specs.Private.Appends.{Appends};
 ghost use Rattle.jsonb.specs.Private.Selection.{IsNumberItem};
 ghost use Rattle.jsonb.specs.SelectionErrors.{IsSelectionError};
 ghost use Rattle.jsonb.specs.declared.selector.document.Mode.{Mode};
@@ -19,9 +19,7 @@ ghost use Rattle.jsonb.specs.declared.selector.document.Mode.{Mode};
 use super::calculate::sign_each;
 use super::children::array_elements;
 use crate::path::UnaryOperator;
-use jsonb_doc::{
-    Decimal64, Error, Item, Number, ShortNumber, Spot, SpotIter, spot_item, spot_number,
-};
+use jsonb_doc::{Error, Item, Number, Spot, SpotIter, spot_item, spot_number};
 use std::alloc::Global;
 
 /// The numbers of items, each behind a sign. First all have to be numbers: `InvalidJsonPath` is for another value,
@@ -60,8 +58,7 @@ fn item_numbers(alloc: Global, bytes: &[u8], items: &[Spot]) -> Result<Vec<Numbe
 #[inline(always)]
 fn push_item(bytes: &[u8], item: &Spot, numbers: &mut Vec<Number>) -> Result<(), Error>
     ensures meant { (t : Tree) → Locates bytes.now item.now t
-        → Gives (λ _ ns. map number_view numbers.new.items ≡ map number_view numbers.old.items ++ ns)
-        IsOutOfMemory result (all_numbers (values_of_item t)) }
+        → Appends number_view numbers.old.items numbers.new.items result (all_numbers (values_of_item t)) }
     ensures errors { (mode : Mode) → IfErr result (IsSelectionError mode) }
 {
     match number_at(bytes, *item)? {
@@ -74,8 +71,7 @@ fn push_item(bytes: &[u8], item: &Spot, numbers: &mut Vec<Number>) -> Result<(),
 #[inline(never)]
 fn push_other(bytes: &[u8], item: Spot, numbers: &mut Vec<Number>) -> Result<(), Error>
     ensures meant { (t : Tree) → Locates bytes.now item t
-        → Gives (λ _ ns. map number_view numbers.new.items ≡ map number_view numbers.old.items ++ ns)
-        IsOutOfMemory result (all_numbers (values_of_item t)) }
+        → Appends number_view numbers.old.items numbers.new.items result (all_numbers (values_of_item t)) }
     ensures errors { (mode : Mode) → IfErr result (IsSelectionError mode) }
 {
     let found = spot_item(bytes, item)?;
@@ -92,8 +88,7 @@ fn push_elements(
     numbers: &mut Vec<Number>,
 ) -> Result<(), Error>
     ensures meant { (ts : List Tree) → HasSpotsLeft bytes.now elements.entry ts
-        → Gives (λ _ ns. map number_view numbers.new.items ≡ map number_view numbers.old.items ++ ns)
-        IsOutOfMemory result (all_numbers (flat_map value_of_item ts)) }
+        → Appends number_view numbers.old.items numbers.new.items result (all_numbers (flat_map value_of_item ts)) }
     ensures errors { (mode : Mode) → IfErr result (IsSelectionError mode) }
 {
     numbers.reserve(elements.len())?;
@@ -107,8 +102,7 @@ fn push_elements(
 #[inline(always)]
 fn push_element(bytes: &[u8], item: Spot, numbers: &mut Vec<Number>) -> Result<(), Error>
     ensures meant { (t : Tree) → Locates bytes.now item t
-        → Gives (λ _ ns. map number_view numbers.new.items ≡ map number_view numbers.old.items ++ ns)
-        IsOutOfMemory result (all_numbers (value_of_item t)) }
+        → Appends number_view numbers.old.items numbers.new.items result (all_numbers (value_of_item t)) }
     ensures errors { (mode : Mode) → IfErr result (IsSelectionError mode) }
 {
     match number_at(bytes, item)? {
@@ -120,8 +114,7 @@ fn push_element(bytes: &[u8], item: Spot, numbers: &mut Vec<Number>) -> Result<(
 /// The same of an item that was read.
 fn push_found(item: &Item<'_>, numbers: &mut Vec<Number>) -> Result<(), Error>
     ensures meant { (t : Tree) → StandsFor any item.now t
-        → Gives (λ _ ns. map number_view numbers.new.items ≡ map number_view numbers.old.items ++ ns)
-        IsOutOfMemory result (all_numbers (value_of_item t)) }
+        → Appends number_view numbers.old.items numbers.new.items result (all_numbers (value_of_item t)) }
     ensures errors { (mode : Mode) → IfErr result (IsSelectionError mode) }
 {
     match item {
@@ -139,20 +132,8 @@ fn number_at(bytes: &[u8], item: Spot) -> Result<Option<Number>, Error>
     ensures errors { IfErr result IsDecodingError }
 {
     match spot_number(bytes, item)? {
-        Some(number) => Ok(Some(number_of(number))),
+        Some(number) => Ok(Some(number.to_number())),
         None => Ok(None),
-    }
-}
-
-/// The number that a short one is.
-#[inline(always)]
-fn number_of(number: ShortNumber) -> Number
-    ensures { number_view result ≡ short_value number }
-{
-    match number {
-        ShortNumber::Unsigned(value) => Number::UInt64(value),
-        ShortNumber::Signed(value) => Number::Int64(value),
-        ShortNumber::Decimal(value, scale) => Number::Decimal64(Decimal64 { scale, value }),
     }
 }
 

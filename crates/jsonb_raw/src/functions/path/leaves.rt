@@ -9,7 +9,6 @@ ghost use Rattle.jsonb_doc.specs.Item.{StandsFor, IsNormal};
 ghost use Rattle.jsonb_doc.specs.Kinds.{kind_number};
 ghost use Rattle.jsonb_doc.specs.Private.Stored.{Stores};
 ghost use Rattle.jsonb_doc.specs.Private.Short.{short_value};
-ghost use Rattle.jsonb_doc.specs.View.{number_parts};
 ghost use Rattle.jsonb_doc.specs.Answer.{IsOutOfMemory, ◌or◌, IsDecodingError};
 ghost use Rattle.jsonb_doc.specs.declared.error.Error.TheVariants.{OutOfMemory};
 ghost use Rattle.jsonb_doc.specs.Value.{value_tree, value_parts};
@@ -28,9 +27,7 @@ mod documents;
 use crate::level::{Level, is_array};
 use crate::raw::RawJsonb;
 use jsonb_doc::layout::EntryKind;
-use jsonb_doc::{
-    Decimal64, Error, Item, Number, ShortNumber, StoredEntry, Value, root_item, to_value,
-};
+use jsonb_doc::{Error, Item, ShortNumber, StoredEntry, Value, root_item, to_value};
 use jsonb_keypath::{KeyPath, KeyPaths};
 use std::alloc::Global;
 use std::borrow::CowStr;
@@ -226,26 +223,13 @@ fn push_text<'a>(
     }
 }
 
-/// A number as it is kept, where each zero is the same one.
-#[inline(always)]
-fn number_of_short(short: ShortNumber) -> Number
-    ensures { number_parts result ≡ short_value short }
-{
-    match short {
-        ShortNumber::Unsigned(value) => Number::UInt64(value),
-        ShortNumber::Signed(0) | ShortNumber::Decimal(0, _) => Number::ZERO,
-        ShortNumber::Signed(value) => Number::Int64(value),
-        ShortNumber::Decimal(value, scale) => Number::Decimal64(Decimal64 { scale, value }),
-    }
-}
-
 /// A number as a value.
 #[inline(always)]
 fn number_value<'a>(short: ShortNumber) -> Value<'a>
     ensures tree { value_tree result ≡ number (short_value short) }
     ensures parts { value_parts result ≡ number (short_value short) }
 {
-    Value::Number(number_of_short(short))
+    Value::Number(short.to_number())
 }
 
 /// The value of a leaf of another kind, behind those that were found. It takes the entry's parts, so that the walk
