@@ -213,7 +213,7 @@ def main(arguments: Optional[List[str]] = None) -> int:
     except (InvalidJsonPath, InvalidKeyPath) as fault:
         print(f"{type(fault).__name__}: {fault}", file=sys.stderr)
         return NO_PATH
-    except ValueError as fault:
+    except REFUSALS as fault:
         print(f"{asked.other}: {fault}", file=sys.stderr)
         return USAGE
     try:

@@ -65,13 +65,13 @@ def _integer(value: int) -> Entry:
             return _NUMBER, b"\x40" + value.to_bytes(width, "big", signed=True)
         if 0 < value < 1 << 8 * width:
             return _NUMBER, b"\x50" + value.to_bytes(width, "big")
-    return _parts(value, 0, value)
+    return _parts(value, 0)
 
 
-def _parts(whole: int, scale: int, value: object) -> Entry:
+def _parts(whole: int, scale: int) -> Entry:
     """The decimal whole / 10**scale."""
     if not (-(2**127) <= whole < 2**127 and 0 <= scale <= 255):
-        raise UnsupportedNumber(f"{value} has more than 128 bits, or more than 255 digits behind the point")
+        raise UnsupportedNumber(f"{whole.bit_length() + 1} bits and {scale} digits behind the point")
     if whole == 0:
         return _NUMBER, b"\x00"
     width = 8 if -(2**63) <= whole < 2**63 else 16
@@ -84,10 +84,10 @@ def _decimal(value: Decimal) -> Entry:
         raise UnsupportedNumber(f"{value}")
     if not any(digits):
         return _NUMBER, b"\x00"
-    if exponent > 40:
-        raise UnsupportedNumber(f"{value} has more than 128 bits")
+    if exponent > 40 or len(digits) > 40:
+        raise UnsupportedNumber(f"{value:.3e} in full has more than 128 bits")
     whole = int("".join(map(str, digits))) * 10 ** max(exponent, 0)
-    return _parts(-whole if sign else whole, max(-exponent, 0), value)
+    return _parts(-whole if sign else whole, max(-exponent, 0))
 
 
 def _float(value: float) -> Entry:

@@ -96,7 +96,7 @@ class Commands(unittest.TestCase):
 
     def test_wrong_words(self):
         for words, status in [([], 2), (["other"], 2), (["select"], 2), (["select", "$["], 3), (["get", "{"], 3), (["contains", "{"], 2),
-                              (["select", "\udcff"], 3)]:
+                              (["contains", '{"a":1,"a":2}'], 2), (["contains", "[" * 2000 + "]" * 2000], 2), (["select", "\udcff"], 3)]:
             got = run(*words)
             self.assertEqual((got[0], got[1]), (status, ""), words)
             self.assertTrue(got[2])

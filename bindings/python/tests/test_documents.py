@@ -67,7 +67,7 @@ class Values(unittest.TestCase):
             self.assertEqual(loads(dumps(value)), Decimal(value))
         self.assertEqual(loads(dumps(Decimal("1E+3"))), 1000)
         self.assertEqual(str(loads(dumps(Decimal("1.50")))), "1.50")
-        for value in (2**127, Decimal("1E+39"), Decimal("1E-256"), Decimal("NaN"), Decimal("Infinity"), 1.5, float("nan")):
+        for value in (2**127, 10**5000, Decimal("1" * 5000), Decimal("1E+39"), Decimal("1E-256"), Decimal("NaN"), Decimal("Infinity"), 1.5, float("nan")):
             with self.assertRaises(errors.UnsupportedNumber):
                 dumps(value)
 
