@@ -2,6 +2,7 @@
 pub mod Positions
 pub mod Selection
 pub mod Selected
+pub mod Appends
 pub mod Kept
 pub mod Terms
 pub mod Below

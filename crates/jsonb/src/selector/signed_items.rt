@@ -11,6 +11,7 @@ ghost use Rattle.jsonb.specs.PathArithmetic.{all_numbers, each_signed};
 ghost use Rattle.jsonb.specs.PathViews.{sign_view};
 ghost use Rattle.std.specs.List.{AllZip};
 ghost use Rattle.jsonb.specs.Values.{value_of_item, values_of_item};
+ghost use Rattle.jsonb.specs.Private.Appends.{Appends};
 ghost use Rattle.jsonb.specs.Private.Selection.{IsNumberItem};
 ghost use Rattle.jsonb.specs.SelectionErrors.{IsSelectionError};
 ghost use Rattle.jsonb.specs.declared.selector.document.Mode.{Mode};
@@ -57,8 +58,7 @@ fn item_numbers(alloc: Global, bytes: &[u8], items: &[Spot]) -> Result<Vec<Numbe
 #[inline(always)]
 fn push_item(bytes: &[u8], item: &Spot, numbers: &mut Vec<Number>) -> Result<(), Error>
     ensures meant { (t : Tree) → Locates bytes.now item.now t
-        → Gives (λ _ ns. map number_view numbers.new.items ≡ map number_view numbers.old.items ++ ns)
-        IsOutOfMemory result (all_numbers (values_of_item t)) }
+        → Appends number_view numbers.old.items numbers.new.items result (all_numbers (values_of_item t)) }
     ensures errors { (mode : Mode) → IfErr result (IsSelectionError mode) }
 {
     match number_at(bytes, *item)? {
@@ -71,8 +71,7 @@ fn push_item(bytes: &[u8], item: &Spot, numbers: &mut Vec<Number>) -> Result<(),
 #[inline(never)]
 fn push_other(bytes: &[u8], item: Spot, numbers: &mut Vec<Number>) -> Result<(), Error>
     ensures meant { (t : Tree) → Locates bytes.now item t
-        → Gives (λ _ ns. map number_view numbers.new.items ≡ map number_view numbers.old.items ++ ns)
-        IsOutOfMemory result (all_numbers (values_of_item t)) }
+        → Appends number_view numbers.old.items numbers.new.items result (all_numbers (values_of_item t)) }
     ensures errors { (mode : Mode) → IfErr result (IsSelectionError mode) }
 {
     let found = spot_item(bytes, item)?;
@@ -89,8 +88,7 @@ fn push_elements(
     numbers: &mut Vec<Number>,
 ) -> Result<(), Error>
     ensures meant { (ts : List Tree) → HasSpotsLeft bytes.now elements.entry ts
-        → Gives (λ _ ns. map number_view numbers.new.items ≡ map number_view numbers.old.items ++ ns)
-        IsOutOfMemory result (all_numbers (flat_map value_of_item ts)) }
+        → Appends number_view numbers.old.items numbers.new.items result (all_numbers (flat_map value_of_item ts)) }
     ensures errors { (mode : Mode) → IfErr result (IsSelectionError mode) }
 {
     numbers.reserve(elements.len())?;
@@ -104,8 +102,7 @@ fn push_elements(
 #[inline(always)]
 fn push_element(bytes: &[u8], item: Spot, numbers: &mut Vec<Number>) -> Result<(), Error>
     ensures meant { (t : Tree) → Locates bytes.now item t
-        → Gives (λ _ ns. map number_view numbers.new.items ≡ map number_view numbers.old.items ++ ns)
-        IsOutOfMemory result (all_numbers (value_of_item t)) }
+        → Appends number_view numbers.old.items numbers.new.items result (all_numbers (value_of_item t)) }
     ensures errors { (mode : Mode) → IfErr result (IsSelectionError mode) }
 {
     match number_at(bytes, item)? {
@@ -117,8 +114,7 @@ fn push_element(bytes: &[u8], item: Spot, numbers: &mut Vec<Number>) -> Result<(
 /// The same of an item that was read.
 fn push_found(item: &Item<'_>, numbers: &mut Vec<Number>) -> Result<(), Error>
     ensures meant { (t : Tree) → StandsFor any item.now t
-        → Gives (λ _ ns. map number_view numbers.new.items ≡ map number_view numbers.old.items ++ ns)
-        IsOutOfMemory result (all_numbers (value_of_item t)) }
+        → Appends number_view numbers.old.items numbers.new.items result (all_numbers (value_of_item t)) }
     ensures errors { (mode : Mode) → IfErr result (IsSelectionError mode) }
 {
     match item {

@@ -1,6 +1,6 @@
 //! The values of items.
 
-ghost use Rattle.std.specs.Prelude.{◌≡◌, ◌++◌, ◌∷◌, [], List, Ok, OnOk, IfErr, map, flat_map};
+ghost use Rattle.std.specs.Prelude.{◌≡◌, ◌++◌, ◌∷◌, [], List, Ok, OnOk, IfErr, flat_map};
 ghost use Rattle.jsonb_doc.specs.Answer.{Gives, IsOutOfMemory, IsDecodingError, ◌or◌};
 ghost use Rattle.jsonb_doc.specs.declared.error.Error.TheVariants.{OutOfMemory};
 ghost use Rattle.jsonb_doc.specs.Spots.{Locates, HasSpotsLeft};
@@ -9,6 +9,7 @@ ghost use Rattle.jsonb_doc.specs.Item.{StandsFor};
 ghost use Rattle.jsonb_doc.specs.Tree.{Tree};
 ghost use Rattle.std.specs.List.{AllZip};
 ghost use Rattle.jsonb.specs.Values.{values_of_item, value_of_item};
+ghost use Rattle.jsonb.specs.Private.Appends.{Appends};
 ghost use Rattle.jsonb.specs.Private.Selection.{node_spots, value_view, values_view};
 
 use super::children::array_elements;
@@ -80,8 +81,7 @@ fn push_values<'a>(
     values: &mut Vec<OperandValue<'a>>,
 ) -> Result<(), Error>
     ensures meant { (t : Tree) → Locates bytes.now item t
-        → Gives (λ _ vs. map value_view values.new.items ≡ map value_view values.old.items ++ vs)
-        IsOutOfMemory result (Ok (values_of_item t)) }
+        → Appends value_view values.old.items values.new.items result (Ok (values_of_item t)) }
     ensures errors { IfErr result (IsDecodingError or OutOfMemory) }
 {
     let found = spot_item(bytes, item)?;
@@ -98,37 +98,20 @@ fn push_each<'a>(
     values: &mut Vec<OperandValue<'a>>,
 ) -> Result<(), Error>
     ensures meant { (ts : List Tree) → HasSpotsLeft bytes.now elements.entry ts
-        → Gives (λ _ vs. map value_view values.new.items ≡ map value_view values.old.items ++ vs)
-        IsOutOfMemory result (Ok (flat_map value_of_item ts)) }
+        → Appends value_view values.old.items values.new.items result (Ok (flat_map value_of_item ts)) }
     ensures errors { IfErr result (IsDecodingError or OutOfMemory) }
 {
     for element in elements {
-        push_value(bytes, element?, values)?;
+        push_item(spot_item(bytes, element?)?, values)?;
     }
     Ok(())
 }
 
-/// The value of an item that is no array, and of an element.
-#[inline(always)]
-fn push_value<'a>(
-    bytes: &'a [u8],
-    item: Spot,
-    values: &mut Vec<OperandValue<'a>>,
-) -> Result<(), Error>
-    ensures meant { (t : Tree) → Locates bytes.now item t
-        → Gives (λ _ vs. map value_view values.new.items ≡ map value_view values.old.items ++ vs)
-        IsOutOfMemory result (Ok (value_of_item t)) }
-    ensures errors { IfErr result (IsDecodingError or OutOfMemory) }
-{
-    push_item(spot_item(bytes, item)?, values)
-}
-
-/// The same for an item that was read.
+/// The value of an item that is no array, or of an element.
 #[inline(always)]
 fn push_item<'a>(item: Item<'a>, values: &mut Vec<OperandValue<'a>>) -> Result<(), Error>
     ensures meant { (t : Tree) → StandsFor any item.entry t
-        → Gives (λ _ vs. map value_view values.new.items ≡ map value_view values.old.items ++ vs)
-        IsOutOfMemory result (Ok (value_of_item t)) }
+        → Appends value_view values.old.items values.new.items result (Ok (value_of_item t)) }
     ensures errors { IfErr result (IsDecodingError or OutOfMemory) }
 {
     match value_of_item(item) {
