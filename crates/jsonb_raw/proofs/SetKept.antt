@@ -24,7 +24,7 @@ use Rattle.jsonb_raw.specs.Private.Entries.{HoldTrees, AreElementsOf, RunsHold, 
 use Rattle.jsonb_raw.specs.declared.functions.parts.Entries.{Entries}
 use Rattle.jsonb_raw.specs.declared.functions.parts.FirstEntry.{FirstEntry}
 use Rattle.jsonb_raw.specs.declared.functions.array.counts.KeyCounts.{KeyCounts}
-use Rattle.jsonb_raw.specs.declared.functions.array.sets.Kept.{Kept}
+use Rattle.jsonb_raw.specs.declared.functions.array.sets.Occurrences.{Occurrences}
 use Rattle.jsonb_raw.proofs.RunLemmas.{holding_begun, holding_kept, holding_again, holding_pushed}
 
 -- ---- the elements of a document
@@ -85,10 +85,10 @@ overlap_one (t ∷ ts) u = ap₂ (λ a b. a || b) (or_false (is_equal t u) ∙ i
 -- ---- what is kept
 
 -- those elements of what is left that are kept, behind the elements `before`
-abbrev pub kept_behind : Kept → List Tree → List Tree → List Tree → List Tree
+abbrev pub kept_behind : Occurrences → List Tree → List Tree → List Tree → List Tree
 kept_behind kind other before left = map (λ o. o.1) (filter (keeps kind other) (occurrences before left))
 
-kept_next : (kind : Kept) (other before : List Tree) (t : Tree) (left : List Tree)
+kept_next : (kind : Occurrences) (other before : List Tree) (t : Tree) (left : List Tree)
     → kept_one kind other (before, t) ++ kept_behind kind other (t ∷ before) left ≡ kept_behind kind other before (t ∷ left)
 kept_next kind other before t left = by (keeps kind other (before, t))
   where
@@ -100,7 +100,7 @@ kept_next kind other before t left = by (keeps kind other (before, t))
     by false = refl
 
 -- What is held, followed by what is kept of the elements that are left, is the whole.
-pub record KeptLeft (form : Form) (kind : Kept) (m : KeyCounts) (other : List Tree) (parts : Parts) (left whole : List Tree) : Type 0 where
+pub record KeptLeft (form : Form) (kind : Occurrences) (m : KeyCounts) (other : List Tree) (parts : Parts) (left whole : List Tree) : Type 0 where
   pub before : List Tree
   pub held : List Tree
   pub few : length before + length left < 2 ^ 63
@@ -109,17 +109,17 @@ pub record KeptLeft (form : Form) (kind : Kept) (m : KeyCounts) (other : List Tr
   pub holds : HoldsElements form parts held
   pub joined : held ++ kept_behind kind other before left ≡ whole
 
-pub KeptLeft-all : (form : Form) (kind : Kept) (m : KeyCounts) (other : List Tree) (parts : Parts) (ts : List Tree) → parts ≡ no_parts → length ts < 2 ^ 63
+pub KeptLeft-all : (form : Form) (kind : Occurrences) (m : KeyCounts) (other : List Tree) (parts : Parts) (ts : List Tree) → parts ≡ no_parts → length ts < 2 ^ 63
     → AllByRecursion Fits ts → CountsBehind kind m other []
     → KeptLeft form kind m other parts ts (kept_behind kind other [] ts)
 KeptLeft-all form kind m other parts ts is few fit behind =
     record { before = []; held = []; few = omega arith; fit = fit; behind = behind; holds = rw is (refl, refl); joined = refl }
 
-pub KeptLeft-done : (form : Form) (kind : Kept) (m : KeyCounts) (other : List Tree) (parts : Parts) (whole : List Tree)
+pub KeptLeft-done : (form : Form) (kind : Occurrences) (m : KeyCounts) (other : List Tree) (parts : Parts) (whole : List Tree)
     → KeptLeft form kind m other parts [] whole → HoldsElements form parts whole
 KeptLeft-done form kind m other parts whole h = subst (HoldsElements form parts) (sym (append-nil h.held) ∙ h.joined) h.holds
 
-module _ (form : Form) (kind : Kept) (m : KeyCounts) (other : List Tree) (parts : Parts) (first : Tree) (rest whole : List Tree)
+module _ (form : Form) (kind : Occurrences) (m : KeyCounts) (other : List Tree) (parts : Parts) (first : Tree) (rest whole : List Tree)
     (h : KeptLeft form kind m other parts (first ∷ rest) whole) where
   joined_next : (h.held ++ kept_one kind other (h.before, first)) ++ kept_behind kind other (first ∷ h.before) rest ≡ whole
   joined_next =
@@ -158,17 +158,17 @@ pub stores_next : (form : Form) (t : Tree) (entry : StoredEntry) (first : FirstE
     → IsContent (number_reader form) t (kind_number first.kind) first.content.now → Stores form entry t
 stores_next form t entry first kind content part = record { content = rw (kind, content) part }
 
-kept_in : (kind : Kept) (other before : List Tree) (t : Tree) (left : List Tree) → keeps kind other (before, t) ≡ true
+kept_in : (kind : Occurrences) (other before : List Tree) (t : Tree) (left : List Tree) → keeps kind other (before, t) ≡ true
     → kept_behind kind other before (t ∷ left) ≡ t ∷ kept_behind kind other (t ∷ before) left
 kept_in kind other before t left is = rw is refl
 
-kept_out : (kind : Kept) (other before : List Tree) (t : Tree) (left : List Tree) → keeps kind other (before, t) ≡ false
+kept_out : (kind : Occurrences) (other before : List Tree) (t : Tree) (left : List Tree) → keeps kind other (before, t) ≡ false
     → kept_behind kind other before (t ∷ left) ≡ kept_behind kind other (t ∷ before) left
 kept_out kind other before t left is = rw is refl
 
 -- The runs, and the run that is open, hold what is kept so far; followed by what is kept of the elements that are left, it is
 -- the whole.
-pub record KeptRuns (form : Form) (kind : Kept) (m : KeyCounts) (other : List Tree) (runs : List Entries) (run left : Entries)
+pub record KeptRuns (form : Form) (kind : Occurrences) (m : KeyCounts) (other : List Tree) (runs : List Entries) (run left : Entries)
     (whole : List Tree) : Type 0 where
   pub before : List Tree
   pub held : List Tree
@@ -179,7 +179,7 @@ pub record KeptRuns (form : Form) (kind : Kept) (m : KeyCounts) (other : List Tr
   pub holds : Holding form runs run left held rest
   pub joined : held ++ kept_behind kind other before rest ≡ whole
 
-pub KeptRuns-all : (form : Form) (kind : Kept) (m : KeyCounts) (other : List Tree) (runs : List Entries) (entries : Entries) (ts : List Tree) → runs ≡ []
+pub KeptRuns-all : (form : Form) (kind : Occurrences) (m : KeyCounts) (other : List Tree) (runs : List Entries) (entries : Entries) (ts : List Tree) → runs ≡ []
     → HoldTrees form entries ts → AllByRecursion Fits ts → length ts < 2 ^ 63 → CountsBehind kind m other []
     → KeptRuns form kind m other runs entries entries (kept_behind kind other [] ts)
 KeptRuns-all form kind m other runs entries ts is h fit few behind = record {
@@ -193,7 +193,7 @@ KeptRuns-all form kind m other runs entries ts is h fit few behind = record {
   joined = refl;
 }
 
-module _ (form : Form) (kind : Kept) (m : KeyCounts) (other : List Tree) (runs : List Entries) (run left : Entries) (whole : List Tree)
+module _ (form : Form) (kind : Occurrences) (m : KeyCounts) (other : List Tree) (runs : List Entries) (run left : Entries) (whole : List Tree)
     (h : KeptRuns form kind m other runs run left whole) where
   pub KeptRuns-left : HoldTrees form left h.rest
   KeptRuns-left = h.holds.left_hold
@@ -212,7 +212,7 @@ module _ (form : Form) (kind : Kept) (m : KeyCounts) (other : List Tree) (runs :
       go [] j g = sym (append-nil h.held) ∙ j
       go (t ∷ ts) j g = absurd g
 
-module _ (form : Form) (kind : Kept) (m : KeyCounts) (other : List Tree) (runs : List Entries) (run left : Entries) (whole : List Tree)
+module _ (form : Form) (kind : Occurrences) (m : KeyCounts) (other : List Tree) (runs : List Entries) (run left : Entries) (whole : List Tree)
     (h : KeptRuns form kind m other runs run left whole) (first : FirstEntry) (mine : TakesFirst form left h.rest (Some first)) where
   -- the element that is next
   pub record Next : Type 0 where

@@ -7,8 +7,8 @@ use Rattle.jsonb_raw.specs.Objects.{TextSet, is_in}
 use Rattle.jsonb_doc.specs.Tree.{Tree}
 use Rattle.jsonb_raw.specs.Exists.{has_all, has_any}
 use Rattle.jsonb_c.specs.Names.{dropped_names, name_of, picked_names}
-use Rattle.jsonb_c.specs.declared.document.names.Kept.{Kept}
-use Rattle.jsonb_c.specs.declared.document.names.Kept.TheVariants.{Named, Others}
+use Rattle.jsonb_c.specs.declared.document.names.Chosen.{Chosen}
+use Rattle.jsonb_c.specs.declared.document.names.Chosen.TheVariants.{Named, Rest}
 use Rattle.jsonb_c.specs.declared.document.names.Quantity.{Quantity}
 use Rattle.jsonb_c.specs.declared.document.names.Quantity.TheVariants.{All, Any}
 use Rattle.jsonb_c.specs.declared.status.Status.{Status}
@@ -26,7 +26,7 @@ abbrev pub has_keys : Quantity → List (List ℕ) → Tree → Bool
 has_keys All = has_all
 has_keys Any = has_any
 
--- the object of the pairs that are kept
-abbrev pub kept_pairs : Kept → List (List ℕ) → Tree → Option Tree
-kept_pairs Named = picked_names
-kept_pairs Others = dropped_names
+-- the object of the pairs that are chosen
+abbrev pub chosen_pairs : Chosen → List (List ℕ) → Tree → Option Tree
+chosen_pairs Named = picked_names
+chosen_pairs Rest = dropped_names

@@ -8,7 +8,7 @@ ghost use Rattle.jsonb_c.specs.Answers.{OfDocument};
 ghost use Rattle.jsonb_c.specs.Calls.{MakesOr};
 ghost use Rattle.jsonb_c.specs.Columns.{rows};
 ghost use Rattle.jsonb_c.specs.Names.{DeliversPairs, ShowsKeys, dropped_names, names_of, picked_names};
-ghost use Rattle.jsonb_c.specs.Private.NameColumns.{HasNames, IsNameOf, has_keys, kept_pairs};
+ghost use Rattle.jsonb_c.specs.Private.NameColumns.{HasNames, IsNameOf, has_keys, chosen_pairs};
 ghost use Rattle.jsonb_c.specs.declared.status.Status.TheVariants.{Refused};
 
 use crate::column::Column;
@@ -98,7 +98,7 @@ pub extern "C" fn jsonb_object_pick(
     ensures { DeliversPairs picked_names document.now (names_of (rows names.now offsets.now))
         out.old out.new out_len.new result }
 {
-    deliver_pairs(alloc, document, names, offsets, Kept::Named, out, out_len)
+    deliver_pairs(alloc, document, names, offsets, Chosen::Named, out, out_len)
 }
 
 /// The object without the pairs whose keys are among the names.
@@ -114,51 +114,51 @@ pub extern "C" fn jsonb_object_delete(
     ensures { DeliversPairs dropped_names document.now (names_of (rows names.now offsets.now))
         out.old out.new out_len.new result }
 {
-    deliver_pairs(alloc, document, names, offsets, Kept::Others, out, out_len)
+    deliver_pairs(alloc, document, names, offsets, Chosen::Rest, out, out_len)
 }
 
-/// Which pairs of an object are kept.
+/// Which pairs of an object are chosen.
 #[derive(Clone, Copy)]
-enum Kept {
+enum Chosen {
     /// Those whose keys are among the names.
     Named,
-    /// The others.
-    Others,
+    /// The rest.
+    Rest,
 }
 
-/// Hands over the object of the pairs that are kept.
+/// Hands over the object of the pairs that are chosen.
 fn deliver_pairs(
     alloc: Global,
     document: &[u8],
     names: &[u8],
     offsets: &[u64],
-    kept: Kept,
+    chosen: Chosen,
     out: &mut [u8],
     out_len: &mut usize,
 ) -> u32
-    ensures { DeliversPairs (kept_pairs kept) document.now (names_of (rows names.now offsets.now))
+    ensures { DeliversPairs (chosen_pairs chosen) document.now (names_of (rows names.now offsets.now))
         out.old out.new out_len.new result }
 {
     match read_set(alloc, &Column::new(names, offsets)) {
-        Ok(keys) => deliver_made(object_of_kept(alloc, document, &keys, kept), out, out_len),
+        Ok(keys) => deliver_made(chosen_object(alloc, document, &keys, chosen), out, out_len),
         Err(cause) => deliver_nothing(cause, out_len),
     }
 }
 
-fn object_of_kept(
+fn chosen_object(
     alloc: Global,
     document: &[u8],
     keys: &BTreeSet<&str>,
-    kept: Kept,
+    chosen: Chosen,
 ) -> Result<OwnedJsonb, Error>
     ensures object { (names : List (List ℕ)) → HasNames keys.now names
-        → OfDocument document.now (λ form t. MakesOr InvalidObject form (kept_pairs kept names t)) result }
+        → OfDocument document.now (λ form t. MakesOr InvalidObject form (chosen_pairs chosen names t)) result }
     ensures errors { IfErr result (IsDecodingError or OutOfMemory or TooLarge or InvalidObject) }
 {
     let document = RawJsonb::new(document);
-    match kept {
-        Kept::Named => document.object_pick(alloc, keys),
-        Kept::Others => document.object_delete(alloc, keys),
+    match chosen {
+        Chosen::Named => document.object_pick(alloc, keys),
+        Chosen::Rest => document.object_delete(alloc, keys),
     }
 }
 

@@ -34,9 +34,9 @@ use jsonb_doc::{
 };
 use std::alloc::Global;
 
-/// Which elements of an array are kept.
+/// Which occurrences of elements of an array are kept.
 #[derive(Clone, Copy)]
-enum Kept {
+enum Occurrences {
     /// The first of each group of equal ones. Those that were met are counted.
     First,
     /// Those that another array holds too, as often as it does. What is left of the other one is counted.
@@ -46,7 +46,12 @@ enum Kept {
 }
 
 /// Decides whether an element with this key is kept. The counts move on behind it.
-fn decide(alloc: Global, kind: Kept, counts: &mut KeyCounts, key: &Vec<u8>) -> Result<bool, Error>
+fn decide(
+    alloc: Global,
+    kind: Occurrences,
+    counts: &mut KeyCounts,
+    key: &Vec<u8>,
+) -> Result<bool, Error>
     ensures kept { (other before : List Tree) (t : Tree) → CountsBehind kind counts.old other before
         → Fits t → key.now.items ≡ equality_key t → length before < 2 ^ 63
         → MatchResult result (λ b. b ≡ keeps kind other (before, t)) IsOutOfMemory }
@@ -56,9 +61,9 @@ fn decide(alloc: Global, kind: Kept, counts: &mut KeyCounts, key: &Vec<u8>) -> R
     ensures errors { IfErr result IsOutOfMemory }
 {
     match kind {
-        Kept::First => Ok(counts.add(alloc, key)? == 0),
-        Kept::Shared => Ok(counts.take(key)),
-        Kept::Unshared => Ok(!counts.take(key)),
+        Occurrences::First => Ok(counts.add(alloc, key)? == 0),
+        Occurrences::Shared => Ok(counts.take(key)),
+        Occurrences::Unshared => Ok(!counts.take(key)),
     }
 }
 
@@ -77,7 +82,7 @@ fn stored<'a>(first: &FirstEntry<'a>) -> StoredEntry<'a>
 /// The array of those elements that are kept, copied in runs.
 fn kept_elements(
     alloc: Global,
-    kind: Kept,
+    kind: Occurrences,
     mut counts: KeyCounts,
     entries: Entries<'_>,
 ) -> Result<OwnedJsonb, Error>
@@ -105,7 +110,7 @@ fn kept_elements(
 /// Adds the item behind the elements that the builder holds, where it is kept. The counts move on behind it.
 fn push_kept(
     alloc: Global,
-    kind: Kept,
+    kind: Occurrences,
     counts: &mut KeyCounts,
     builder: &mut ArrayBuilder,
     item: &Item<'_>,
@@ -131,7 +136,7 @@ fn push_kept(
 /// The array of an item that counts as one element, or no element where it is not kept.
 fn kept_item(
     alloc: Global,
-    kind: Kept,
+    kind: Occurrences,
     mut counts: KeyCounts,
     item: &Item<'_>,
 ) -> Result<OwnedJsonb, Error>
@@ -148,7 +153,7 @@ fn kept_item(
 /// The same of a document, where a root that is no array counts as one element.
 fn kept_of_document(
     alloc: Global,
-    kind: Kept,
+    kind: Occurrences,
     counts: KeyCounts,
     bytes: &[u8],
 ) -> Result<OwnedJsonb, Error>
@@ -248,7 +253,12 @@ impl RawJsonb<'_> {
             → Makes form (array (trees_of (distinct (as_elements t)))) result }
         ensures errors { IfErr result (IsDecodingError or OutOfMemory or TooLarge) }
     {
-        kept_of_document(alloc, Kept::First, KeyCounts::new(alloc), self.as_bytes())
+        kept_of_document(
+            alloc,
+            Occurrences::First,
+            KeyCounts::new(alloc),
+            self.as_bytes(),
+        )
     }
 
     /// The array of the elements that the other document holds too: an element stays while fewer elements before it
@@ -272,7 +282,7 @@ impl RawJsonb<'_> {
         ensures errors { IfErr result (IsDecodingError or OutOfMemory or TooLarge) }
     {
         let counts = count_document(alloc, other.as_bytes())?;
-        kept_of_document(alloc, Kept::Shared, counts, self.as_bytes())
+        kept_of_document(alloc, Occurrences::Shared, counts, self.as_bytes())
     }
 
     /// The array of the elements that `array_intersection` drops, in order.
@@ -291,7 +301,7 @@ impl RawJsonb<'_> {
         ensures errors { IfErr result (IsDecodingError or OutOfMemory or TooLarge) }
     {
         let counts = count_document(alloc, other.as_bytes())?;
-        kept_of_document(alloc, Kept::Unshared, counts, self.as_bytes())
+        kept_of_document(alloc, Occurrences::Unshared, counts, self.as_bytes())
     }
 
     /// Whether an element equals one of the other document by value, where a document that is no array counts as one

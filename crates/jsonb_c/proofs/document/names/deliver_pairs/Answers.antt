@@ -3,8 +3,8 @@ use Rattle.jsonb_c.proofs.document.names.deliver_pairs.Goals as goal
 
 pub returns-in-Ok : goal.returns-in-Ok
 returns-in-Ok c = answered_by_set _ c.in-Ok.keys _ _ (rw c.new.ensures at c.in-Ok.ensures) (λ names has. (
-  c.object_of_kept.result,
-  c.object_of_kept.ensures.object names has,
-  c.object_of_kept.ensures.errors,
+  c.chosen_object.result,
+  c.chosen_object.ensures.object names has,
+  c.chosen_object.ensures.errors,
   c.deliver_made.ensures,
 ))
