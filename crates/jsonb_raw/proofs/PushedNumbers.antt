@@ -1,8 +1,8 @@
--- What pushes of the parts of a number's bytes leave.
-use Rattle.std.proofs.Common.{◌≡◌, ◌≢◌, ◌⊎◌, inl, inr, subst, ℕ, zero, suc, ◌+◌, ◌-◌, ◌<◌, Bool, true, false, List, [], ◌∷◌, ◌++◌, map, length, take, drop, replicate, length-drop, ℤ, pos, negsuc, nat_abs, int_lt, refl, sym, ap, ap₂, ◌∙◌, arith, append_assoc, true≢false, w16}
+-- What a push of a number's bytes leaves.
+use Rattle.std.proofs.Common.{◌≡◌, ◌≢◌, ◌⊎◌, inl, inr, subst, ℕ, zero, suc, ◌+◌, ◌-◌, ◌<◌, Bool, true, false, List, [], ◌∷◌, ◌++◌, map, length, ℤ, pos, negsuc, nat_abs, int_lt, refl, sym, ap, ap₂, ◌∙◌, arith, append_assoc, true≢false, w16}
 use Rattle.std.specs.Int.{to_be_bytes}
 use Rattle.std.specs.Int.Digits.{digits_of}
-use Rattle.std.proofs.lemmas.List.{map-append, take_all}
+use Rattle.std.proofs.lemmas.List.{map-append}
 use Rattle.std.proofs.lemmas.Bool.{ltb-true}
 use Rattle.jsonb_raw.specs.SortableKey.{significant, magnitude_bytes, number_bytes}
 use Rattle.jsonb_raw.specs.Private.Complements.{complement_byte, complement_bytes}
@@ -46,20 +46,6 @@ positive_pushed old (pos (suc n)) scale h ne = append_assoc old (0x81 ∷ []) (c
     ∙ ap (λ x. old ++ 0x81 ∷ x) (same_bytes (magnitude_bytes (suc n) scale))
 positive_pushed old (negsuc n) scale h ne = absurd (true≢false h)
 
--- what a buffer of digits holds from a place on
-pub buffer_from : (first : ℕ) (buffer ds : List ℕ) (byte : ℕ) → drop first buffer ≡ ds ++ drop 39 (replicate 40 byte) → length buffer ≡ 40
-    → take (40 - first) (drop first buffer) ≡ ds ++ byte ∷ []
-buffer_from first buffer ds byte e long = take_all (40 - first) (drop first buffer) (omega (arith, length-drop first buffer, long)) ∙ e
-
--- the same, push by push
-pub magnitude_steps : (negative : Bool) (old first second last : List ℕ) (n scale e byte : ℕ) → e ≡ length (digits_of 10 n) + 1000 - scale
-    → first ≡ old ++ complement_bytes negative (to_be_bytes w16 e) → second ≡ first ++ complement_bytes negative (map suc (significant (digits_of 10 n)))
-    → byte ≡ complement_byte negative 0 → last ≡ second ++ byte ∷ []
-    → last ≡ old ++ complement_bytes negative (magnitude_bytes n scale)
-magnitude_steps negative old first second last n scale e byte h f g k l =
-    l ∙ ap₂ (λ xs b. xs ++ b ∷ []) (g ∙ ap (λ xs. xs ++ complement_bytes negative (map suc (significant (digits_of 10 n)))) f) k
-    ∙ magnitude_pushed negative old n scale e h
-
 -- a sign byte and a magnitude make a number, where v is the whole value as it was read
 pub number_steps : (old first : List ℕ) (sign m : ℕ) (z v : ℤ) (scale : ℕ) → v ≡ z → z ≢ pos 0 → m ≡ nat_abs v → first ≡ old ++ sign ∷ []
     → ((int_lt v (pos 0) ≡ true) × (sign ≡ 0x7f)) ⊎ ((int_lt v (pos 0) ≡ false) × (sign ≡ 0x81))
@@ -73,7 +59,7 @@ number_steps old first sign m z v scale e ne a f (inr h) =
     ∙ ap (λ b. (old ++ 0x81 ∷ []) ++ complement_bytes b (magnitude_bytes (nat_abs z) scale)) h.0
     ∙ positive_pushed old z scale (subst (λ x. int_lt x (pos 0) ≡ false) e h.0) ne
 
--- the same of a buffer that holds the sign byte, the exponent, the digits and the end byte
+-- a buffer that holds the sign byte, the exponent, the digits and the end byte is appended
 pub buffer_steps : (negative : Bool) (old last whole front tail : List ℕ) (sign n scale e byte : ℕ) → e ≡ length (digits_of 10 n) + 1000 - scale
     → whole ≡ sign ∷ front → front ≡ complement_bytes negative (to_be_bytes w16 e) ++ tail
     → tail ≡ complement_bytes negative (map suc (significant (digits_of 10 n))) ++ byte ∷ [] → byte ≡ complement_byte negative 0 → last ≡ old ++ whole
@@ -93,10 +79,3 @@ buffer_steps negative old last whole front tail sign n scale e byte h w f t b l 
 
     end : List ℕ
     end = complement_byte negative 0 ∷ []
-
--- a whole number without a sign
-pub unsigned_pushed : (old : List ℕ) (n scale : ℕ) → n ≢ 0
-    → (old ++ 0x81 ∷ []) ++ complement_bytes false (magnitude_bytes n scale) ≡ old ++ number_bytes (pos n) scale
-unsigned_pushed old zero scale ne = absurd (ne refl)
-unsigned_pushed old (suc n) scale ne = append_assoc old (0x81 ∷ []) (complement_bytes false (magnitude_bytes (suc n) scale))
-    ∙ ap (λ x. old ++ 0x81 ∷ x) (same_bytes (magnitude_bytes (suc n) scale))

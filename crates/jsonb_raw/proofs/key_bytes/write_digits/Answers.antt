@@ -1,29 +1,27 @@
-use Rattle.std.proofs.Common.{arith, refl, ap, ◌∙◌}
+use Rattle.std.proofs.Common.{arith, refl, ap, ◌∙◌, length}
 use Rattle.jsonb_raw.specs.Private.Complements.{complement_byte}
-use Rattle.jsonb_raw.proofs.DigitSteps.{room_left, digit_passed}
+use Rattle.jsonb_raw.proofs.DigitSteps.{room_left, digit_passed, all_digits, no_digits}
 use Rattle.jsonb_raw.proofs.key_bytes.write_digits.Goals as goal
 
-pub loop-left-init : goal.loop-left-init
-loop-left-init c = record { count = refl; within = c.requires.within; written = refl; len = refl }
+pub write_before-first-requires-clause-some : goal.write_before-first-requires-clause-some
+write_before-first-requires-clause-some c = room_left _ _ _ _ _ _ _ c.loop-long.invariant c.requires.room (omega arith)
 
-pub write_before-at-requires-clause-some : goal.write_before-at-requires-clause-some
-write_before-at-requires-clause-some c = room_left _ _ _ _ _ _ _ c.loop-left.invariant c.requires.room (omega arith)
+pub loop-long-preserved : goal.loop-long-preserved
+loop-long-preserved c =
+    digit_passed _ _ _ _ _ _ _ c.loop-long.invariant _ _ _ _ c.requires.room (omega arith) refl
+    (c.complement_byte.ensures ∙ ap (complement_byte c.args.negative) (omega arith)) c.write_before-first.ensures.place c.write_before-first.ensures.buffer
+
+pub write_before-first-requires-in-loop-left-clause-some : goal.write_before-first-requires-in-loop-left-clause-some
+write_before-first-requires-in-loop-left-clause-some c = room_left _ _ _ _ _ _ _ c.loop-left.invariant c.requires.room (omega arith)
 
 pub loop-left-preserved : goal.loop-left-preserved
 loop-left-preserved c =
-    digit_passed _ _ _ _ _ _ _ c.loop-left.invariant c.split_last-others.result.0 _ _ _ c.requires.room (omega arith) c.split_last-others.ensures.others
-    (c.complement_byte.ensures ∙ ap (complement_byte c.args.negative) (omega (arith, c.split_last-others.ensures.last)))
-    c.write_before-at.ensures.place c.write_before-at.ensures.buffer
-
-pub write_short_digits-requires-clause-room : goal.write_short_digits-requires-clause-room
-write_short_digits-requires-clause-room c = omega (arith, c.loop-left.invariant.count, c.requires.room)
+    digit_passed _ _ _ _ _ _ _ c.loop-left.invariant _ _ _ _ c.requires.room (omega arith) refl
+    (c.complement_byte-in-loop-left.ensures ∙ ap (complement_byte c.args.negative) (omega arith))
+    c.write_before-first-in-loop-left.ensures.place c.write_before-first-in-loop-left.ensures.buffer
 
 pub returns-clause-first : goal.returns-clause-first
-returns-clause-first c = omega (arith, c.write_short_digits.ensures.first, c.loop-left.invariant.count)
+returns-clause-first c = let none = no_digits c.loop-left.left (omega arith) in omega (arith, ap length none, c.loop-left.invariant.count)
 
 pub returns-clause-buffer : goal.returns-clause-buffer
-returns-clause-buffer c = (
-  c.write_short_digits.ensures.buffer.0 ∙ c.loop-left.invariant.written,
-  c.write_short_digits.ensures.buffer.1
-      ∙ c.loop-left.invariant.len,
-)
+returns-clause-buffer c = (all_digits _ _ _ _ _ _ _ c.loop-left.invariant (omega arith), c.loop-left.invariant.len)

@@ -1,8 +1,0 @@
-use Rattle.jsonb_raw.proofs.DigitSteps.{DigitsWritten}
-use Rattle.jsonb_raw.proofs.key_bytes.write_short_digits.Given as goal
-
-abbrev pub invariant-loop-left : goal.invariant-loop-left
-invariant-loop-left l = DigitsWritten l.fn.negative l.fn.n l.fn.end l.fn.buffer l.left l.first l.buffer
-
-abbrev pub decreases-loop-left : goal.decreases-loop-left
-decreases-loop-left l = l.left
