@@ -1,4 +1,5 @@
 pub mod Documents
+pub mod Computes
 pub mod Iterators
 pub mod Places
 pub mod NoExtension

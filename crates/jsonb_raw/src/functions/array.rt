@@ -7,6 +7,7 @@ ghost use Rattle.std.specs.List.{insert, Any, AllZip};
 ghost use Rattle.jsonb_doc.specs.Tree.{Tree, array, trees_of};
 ghost use Rattle.jsonb_doc.specs.Payload.{Form};
 ghost use Rattle.jsonb_doc.specs.Format.{Decodes};
+ghost use Rattle.jsonb_raw.specs.Computes.{Computes};
 ghost use Rattle.jsonb_raw.specs.Documents.{raw_bytes, Makes};
 ghost use Rattle.jsonb_doc.specs.Limits.{IsTooLarge};
 ghost use Rattle.jsonb_doc.specs.Answer.{◌or◌, ◌or◌when◌, IsOutOfMemory, IsDecodingError};
@@ -40,8 +41,7 @@ impl RawJsonb<'_> {
     ///
     /// Constant, without memory.
     pub fn array_length(&self) -> Result<Option<usize>, Error>
-        ensures length { (form : Form) (t : Tree) → Decodes form (raw_bytes self.now) t
-            → IsOkAnd result (λ found. found ≡ array_length t) }
+        ensures length { Computes array_length (raw_bytes self.now) result }
         ensures errors { IfErr result IsDecodingError }
     {
         let Some(elements) = elements(self.as_bytes())? else {

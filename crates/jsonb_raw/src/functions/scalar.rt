@@ -9,6 +9,7 @@ ghost use Rattle.jsonb_doc.specs.Payload.{Form};
 ghost use Rattle.jsonb_doc.specs.Format.{Decodes};
 ghost use Rattle.jsonb_doc.specs.Answer.{SameOption, ◌or◌, IsDecodingError, IsOutOfMemory};
 ghost use Rattle.jsonb_doc.specs.View.{number_parts, extension_view};
+ghost use Rattle.jsonb_raw.specs.Computes.{Computes};
 ghost use Rattle.jsonb_raw.specs.Documents.{raw_bytes};
 ghost use Rattle.jsonb_doc.specs.declared.error.Error.TheVariants.{OutOfMemory};
 ghost use Rattle.jsonb_raw.specs.Scalars.{boolean_in, number_in, text_in, extension_in};
@@ -64,8 +65,7 @@ impl<'a> RawJsonb<'a> {
     ///
     /// Constant, but a text is read whole. No memory.
     pub fn is_null(&self) -> Result<bool, Error>
-        ensures kind { (form : Form) (tree : Tree) → Decodes form (raw_bytes self.now) tree
-            → IsOkAnd result (λ b. b ≡ is_null tree) }
+        ensures kind { Computes is_null (raw_bytes self.now) result }
         ensures errors { IfErr result IsDecodingError }
     {
         Ok(matches!(root_item(self.as_bytes())?, Item::Null))
@@ -81,8 +81,7 @@ impl<'a> RawJsonb<'a> {
     ///
     /// Constant, but a text is read whole. No memory.
     pub fn is_boolean(&self) -> Result<bool, Error>
-        ensures kind { (form : Form) (tree : Tree) → Decodes form (raw_bytes self.now) tree
-            → IsOkAnd result (λ b. b ≡ is_some (boolean_in tree)) }
+        ensures kind { Computes (λ tree. is_some (boolean_in tree)) (raw_bytes self.now) result }
         ensures errors { IfErr result IsDecodingError }
     {
         Ok(matches!(root_item(self.as_bytes())?, Item::Boolean(_)))
@@ -98,8 +97,7 @@ impl<'a> RawJsonb<'a> {
     ///
     /// Constant, but a text is read whole. No memory.
     pub fn is_number(&self) -> Result<bool, Error>
-        ensures kind { (form : Form) (tree : Tree) → Decodes form (raw_bytes self.now) tree
-            → IsOkAnd result (λ b. b ≡ is_some (number_in tree)) }
+        ensures kind { Computes (λ tree. is_some (number_in tree)) (raw_bytes self.now) result }
         ensures errors { IfErr result IsDecodingError }
     {
         Ok(matches!(root_item(self.as_bytes())?, Item::Number(_)))
@@ -115,8 +113,7 @@ impl<'a> RawJsonb<'a> {
     ///
     /// Constant, but a text is read whole. No memory.
     pub fn is_string(&self) -> Result<bool, Error>
-        ensures kind { (form : Form) (tree : Tree) → Decodes form (raw_bytes self.now) tree
-            → IsOkAnd result (λ b. b ≡ is_some (text_in tree)) }
+        ensures kind { Computes (λ tree. is_some (text_in tree)) (raw_bytes self.now) result }
         ensures errors { IfErr result IsDecodingError }
     {
         Ok(matches!(root_item(self.as_bytes())?, Item::String(_)))
@@ -132,8 +129,7 @@ impl<'a> RawJsonb<'a> {
     ///
     /// Constant, but a text is read whole. No memory.
     pub fn is_array(&self) -> Result<bool, Error>
-        ensures kind { (form : Form) (tree : Tree) → Decodes form (raw_bytes self.now) tree
-            → IsOkAnd result (λ b. b ≡ is_array tree) }
+        ensures kind { Computes is_array (raw_bytes self.now) result }
         ensures errors { IfErr result IsDecodingError }
     {
         Ok(matches!(root_item(self.as_bytes())?, Item::Array(_)))
@@ -149,8 +145,7 @@ impl<'a> RawJsonb<'a> {
     ///
     /// Constant, but a text is read whole. No memory.
     pub fn is_object(&self) -> Result<bool, Error>
-        ensures kind { (form : Form) (tree : Tree) → Decodes form (raw_bytes self.now) tree
-            → IsOkAnd result (λ b. b ≡ is_object tree) }
+        ensures kind { Computes is_object (raw_bytes self.now) result }
         ensures errors { IfErr result IsDecodingError }
     {
         Ok(matches!(root_item(self.as_bytes())?, Item::Object(_)))
@@ -166,8 +161,7 @@ impl<'a> RawJsonb<'a> {
     ///
     /// Constant, but a text is read whole. No memory.
     pub fn is_extension_value(&self) -> Result<bool, Error>
-        ensures kind { (form : Form) (tree : Tree) → Decodes form (raw_bytes self.now) tree
-            → IsOkAnd result (λ b. b ≡ is_extension_value tree) }
+        ensures kind { Computes is_extension_value (raw_bytes self.now) result }
         ensures errors { IfErr result IsDecodingError }
     {
         Ok(matches!(root_item(self.as_bytes())?, Item::Extension(_)))
@@ -183,8 +177,7 @@ impl<'a> RawJsonb<'a> {
     ///
     /// Constant, but a text is read whole. No memory.
     pub fn is_binary(&self) -> Result<bool, Error>
-        ensures kind { (form : Form) (tree : Tree) → Decodes form (raw_bytes self.now) tree
-            → IsOkAnd result (λ b. b ≡ is_some (binary_in tree)) }
+        ensures kind { Computes (λ tree. is_some (binary_in tree)) (raw_bytes self.now) result }
         ensures errors { IfErr result IsDecodingError }
     {
         Ok(matches!(
@@ -203,8 +196,7 @@ impl<'a> RawJsonb<'a> {
     ///
     /// Constant, but a text is read whole. No memory.
     pub fn is_date(&self) -> Result<bool, Error>
-        ensures kind { (form : Form) (tree : Tree) → Decodes form (raw_bytes self.now) tree
-            → IsOkAnd result (λ b. b ≡ is_some (date_in tree)) }
+        ensures kind { Computes (λ tree. is_some (date_in tree)) (raw_bytes self.now) result }
         ensures errors { IfErr result IsDecodingError }
     {
         Ok(matches!(
@@ -223,8 +215,7 @@ impl<'a> RawJsonb<'a> {
     ///
     /// Constant, but a text is read whole. No memory.
     pub fn is_timestamp(&self) -> Result<bool, Error>
-        ensures kind { (form : Form) (tree : Tree) → Decodes form (raw_bytes self.now) tree
-            → IsOkAnd result (λ b. b ≡ is_some (timestamp_in tree)) }
+        ensures kind { Computes (λ tree. is_some (timestamp_in tree)) (raw_bytes self.now) result }
         ensures errors { IfErr result IsDecodingError }
     {
         Ok(matches!(
@@ -243,8 +234,7 @@ impl<'a> RawJsonb<'a> {
     ///
     /// Constant, but a text is read whole. No memory.
     pub fn is_timestamp_tz(&self) -> Result<bool, Error>
-        ensures kind { (form : Form) (tree : Tree) → Decodes form (raw_bytes self.now) tree
-            → IsOkAnd result (λ b. b ≡ is_some (timestamp_tz_in tree)) }
+        ensures kind { Computes (λ tree. is_some (timestamp_tz_in tree)) (raw_bytes self.now) result }
         ensures errors { IfErr result IsDecodingError }
     {
         Ok(matches!(
@@ -263,8 +253,7 @@ impl<'a> RawJsonb<'a> {
     ///
     /// Constant, but a text is read whole. No memory.
     pub fn is_interval(&self) -> Result<bool, Error>
-        ensures kind { (form : Form) (tree : Tree) → Decodes form (raw_bytes self.now) tree
-            → IsOkAnd result (λ b. b ≡ is_some (interval_in tree)) }
+        ensures kind { Computes (λ tree. is_some (interval_in tree)) (raw_bytes self.now) result }
         ensures errors { IfErr result IsDecodingError }
     {
         Ok(matches!(
@@ -337,8 +326,7 @@ impl<'a> RawJsonb<'a> {
     ///
     /// Constant, but a text is read whole. No memory.
     pub fn as_bool(&self) -> Result<Option<bool>, Error>
-        ensures value { (form : Form) (tree : Tree) → Decodes form (raw_bytes self.now) tree
-            → IsOkAnd result (λ found. found ≡ boolean_in tree) }
+        ensures value { Computes boolean_in (raw_bytes self.now) result }
         ensures errors { IfErr result IsDecodingError }
     {
         match root_item(self.as_bytes())? {

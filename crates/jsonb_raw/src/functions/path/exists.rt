@@ -9,6 +9,7 @@ ghost use Rattle.jsonb_doc.specs.Payload.{Form};
 ghost use Rattle.jsonb_doc.specs.Format.{Decodes, AreKeys};
 ghost use Rattle.jsonb_doc.specs.Private.Stored.{HasEntriesLeft, key_trees};
 ghost use Rattle.jsonb_doc.specs.Answer.{IsDecodingError};
+ghost use Rattle.jsonb_raw.specs.Computes.{Computes};
 ghost use Rattle.jsonb_raw.specs.Documents.{raw_bytes};
 ghost use Rattle.jsonb_raw.specs.Exists.{is_text, has_text, has_all, has_any};
 ghost use Rattle.jsonb_raw.specs.Private.Cursors.{IsCursorOf, IsSearchOf, IsPassed, HoldsTexts, has_by};
@@ -228,8 +229,7 @@ fn first_decides<'k, I: Iterator<Item = &'k str> + Drop>(
     requires can { I.can_next names }
     requires ends { IsFinite (I.remaining names) }
     ensures has { (left : I → List (List ℕ)) → YieldsItemsLeft I.next_gives left
-        → (form : Form) (t : Tree) → Decodes form bytes.now t
-        → IsOkAnd result (λ b. b ≡ has_by found (left names) t) }
+        → Computes (has_by found (left names)) bytes.now result }
     ensures errors { IfErr result IsDecodingError }
 {
     let mut texts = document_texts(bytes)?;
@@ -260,8 +260,7 @@ impl RawJsonb<'_> {
         requires can { I.can_next names }
         requires ends { IsFinite (I.remaining names) }
         ensures all { (left : I → List (List ℕ)) → YieldsItemsLeft I.next_gives left
-            → (form : Form) (t : Tree) → Decodes form (raw_bytes self.now) t
-            → IsOkAnd result (λ b. b ≡ has_all (left names) t) }
+            → Computes (has_all (left names)) (raw_bytes self.now) result }
         ensures errors { IfErr result IsDecodingError }
     {
         first_decides(self.as_bytes(), names, false)
@@ -284,8 +283,7 @@ impl RawJsonb<'_> {
         requires can { I.can_next names }
         requires ends { IsFinite (I.remaining names) }
         ensures any { (left : I → List (List ℕ)) → YieldsItemsLeft I.next_gives left
-            → (form : Form) (t : Tree) → Decodes form (raw_bytes self.now) t
-            → IsOkAnd result (λ b. b ≡ has_any (left names) t) }
+            → Computes (has_any (left names)) (raw_bytes self.now) result }
         ensures errors { IfErr result IsDecodingError }
     {
         first_decides(self.as_bytes(), names, true)
