@@ -55,8 +55,8 @@ impl RawJsonb<'_> {
     {
         match root_item(self.as_bytes())? {
             Item::Boolean(value) => Ok(i64::from(value)),
-            Item::Number(number) => i64_from_number(&number),
-            Item::String(text) => i64_from_text(text),
+            Item::Number(number) => number.to_i64().ok_or(Error::InvalidCast),
+            Item::String(text) => text.parse().or(Err(Error::InvalidCast)),
             _ => Err(Error::InvalidCast),
         }
     }
@@ -77,8 +77,8 @@ impl RawJsonb<'_> {
     {
         match root_item(self.as_bytes())? {
             Item::Boolean(value) => Ok(u64::from(value)),
-            Item::Number(number) => u64_from_number(&number),
-            Item::String(text) => u64_from_text(text),
+            Item::Number(number) => number.to_u64().ok_or(Error::InvalidCast),
+            Item::String(text) => text.parse().or(Err(Error::InvalidCast)),
             _ => Err(Error::InvalidCast),
         }
     }
@@ -123,42 +123,6 @@ fn bool_text(value: bool) -> &'static str
     ensures { result.now ≡ bool_text value }
 {
     if value { "true" } else { "false" }
-}
-
-fn i64_from_text(text: &str) -> Result<i64, Error>
-    ensures { CastsToI64 (spec.text text.now) result }
-{
-    match text.parse::<i64>() {
-        Ok(value) => Ok(value),
-        Err(_) => Err(Error::InvalidCast),
-    }
-}
-
-fn u64_from_text(text: &str) -> Result<u64, Error>
-    ensures { CastsToU64 (spec.text text.now) result }
-{
-    match text.parse::<u64>() {
-        Ok(value) => Ok(value),
-        Err(_) => Err(Error::InvalidCast),
-    }
-}
-
-fn i64_from_number(number: &Number) -> Result<i64, Error>
-    ensures { CastsToI64 (spec.number (number_parts number.now)) result }
-{
-    match number.to_i64() {
-        Some(value) => Ok(value),
-        None => Err(Error::InvalidCast),
-    }
-}
-
-fn u64_from_number(number: &Number) -> Result<u64, Error>
-    ensures { CastsToU64 (spec.number (number_parts number.now)) result }
-{
-    match number.to_u64() {
-        Some(value) => Ok(value),
-        None => Err(Error::InvalidCast),
-    }
 }
 
 fn text_from_number(alloc: Global, number: &Number) -> Result<String, Error>
