@@ -1,6 +1,6 @@
 //! Items by their places in the bytes of a document.
 
-ghost use Rattle.std.specs.Prelude.{◌≡◌, ℕ, ◌+◌, ◌*◌, ◌^◌, ◌<◌, ◌≤◌, List, length, slice_range, is_some, IsOkAnd, IfOk, IfErr, IfSome, MatchResult, OnOk};
+ghost use Rattle.std.specs.Prelude.{◌≡◌, ◌↔◌, IsTrue, ℕ, ◌+◌, ◌*◌, ◌^◌, ◌<◌, ◌≤◌, List, length, slice_range, is_some, IsOkAnd, IfOk, IfErr, IfSome, MatchResult, OnOk};
 ghost use Rattle.jsonb_doc.specs.Tree.{Tree, number, children_of, field_of};
 ghost use Rattle.jsonb_doc.specs.Payload.{Form, any, number_reader};
 ghost use Rattle.jsonb_doc.specs.Format.{Decodes, IsContent, HeadedBy};
@@ -222,6 +222,22 @@ pub fn field_spot(bytes: &[u8], spot: Spot, name: &str) -> Result<Option<Spot>, 
     Ok(Some(Spot { kind, start, end }))
 }
 
+/// Whether a key is the name. Keys stand in order, so that those side by side differ at their ends more often than
+/// where they begin: where there are some bytes, the last ones are looked at first.
+#[inline(always)]
+fn is_name(key: &[u8], name: &[u8]) -> bool
+    ensures { IsTrue result ↔ (key.now ≡ name.now) }
+{
+    let len = key.len();
+    if len != name.len() {
+        return false;
+    }
+    if len >= WORD && key[len - 1] != name[len - 1] {
+        return false;
+    }
+    key == name
+}
+
 /// What follows the key that is this name, of the keys with these words and bytes.
 fn find_key<'w, 'k>(
     words: &'w [u8],
@@ -239,7 +255,7 @@ fn find_key<'w, 'k>(
     while let Some(key) = split_entry(words_left, bytes_left) {
         words_left = key.other_words;
         bytes_left = key.other_contents;
-        if key.content == name {
+        if is_name(key.content, name) {
             return Ok(Some((words_left, bytes_left)));
         }
     }

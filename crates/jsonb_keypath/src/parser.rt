@@ -51,6 +51,7 @@ pub fn parse_key_paths(alloc: Global, input: &[u8]) -> Result<KeyPaths<'_>, Erro
 
 /// One step at the front, and what follows it.
 #[tactic(auto, unfolding(crate::specs::KeyPathGrammar::key))]
+#[inline(always)]
 fn key_at(alloc: Global, input: &[u8]) -> Result<Option<(KeyPath<'_>, &[u8])>, AllocError>
     ensures value { IfOk result (λ found. read_as key_view found ≡ key input.now) }
     ensures shrinks { IfOk result (LeavesLess input.now) }
@@ -69,6 +70,7 @@ fn key_at(alloc: Global, input: &[u8]) -> Result<Option<(KeyPath<'_>, &[u8])>, A
 
 /// The same with white space around it.
 #[tactic(auto, unfolding(crate::specs::KeyPathGrammar::spaced_key))]
+#[inline(always)]
 fn spaced_key_at(alloc: Global, input: &[u8]) -> Result<Option<(KeyPath<'_>, &[u8])>, AllocError>
     ensures value { IfOk result (λ found. read_as key_view found ≡ spaced_key input.now) }
     ensures shrinks { IfOk result (LeavesLess input.now) }
@@ -80,6 +82,7 @@ fn spaced_key_at(alloc: Global, input: &[u8]) -> Result<Option<(KeyPath<'_>, &[u
 }
 
 /// A comma and the step behind it.
+#[inline(always)]
 fn another_key_at(alloc: Global, input: &[u8]) -> Result<Option<(KeyPath<'_>, &[u8])>, AllocError>
     ensures value { IfOk result (λ found. read_as key_view found ≡ another_key input.now) }
     ensures shrinks { IfOk result (LeavesLess input.now) }
@@ -91,6 +94,7 @@ fn another_key_at(alloc: Global, input: &[u8]) -> Result<Option<(KeyPath<'_>, &[
 }
 
 /// One step or more, with commas in between. Where no step follows a comma, they end before it.
+#[inline(never)]
 fn keys_at(alloc: Global, input: &[u8]) -> Result<Option<(Vec<KeyPath<'_>>, &[u8])>, AllocError>
     ensures { IfOk result (λ found.
         read_as (λ keys. keys_view keys.items) found ≡ key_list input.now) }

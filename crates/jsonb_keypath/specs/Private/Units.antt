@@ -4,7 +4,8 @@ use Rattle.jsonb_keypath.specs.declared.token.text.Ending.{Ending}
 use Rattle.jsonb_keypath.specs.declared.token.text.Ending.TheVariants.{Stop, Quote}
 use Rattle.jsonb_keypath.specs.declared.token.text.Unit.{Unit as TextUnit}
 use Rattle.jsonb_keypath.specs.declared.token.text.Unit.TheVariants.{Byte, Escape}
-use Rattle.jsonb_keypath.specs.Tokens.{is_stop, is_quote}
+use Rattle.jsonb_keypath.specs.Rules.{Rule, ◌>>=◌, ◌>>◌, give, literal}
+use Rattle.jsonb_keypath.specs.Tokens.{is_stop, is_quote, text}
 
 -- the bytes that may not stand in the text
 abbrev pub excluded : Ending → ℕ → Bool
@@ -15,3 +16,7 @@ excluded Quote = is_quote
 abbrev pub unit_bytes : TextUnit → List ℕ
 unit_bytes (Byte b) = b ∷ []
 unit_bytes (Escape c) = encode_utf8 c
+
+-- units and the quote behind them
+abbrev pub closed : Rule (List ℕ)
+closed = do found ← text is_quote; literal "\""; give found

@@ -46,6 +46,7 @@ fn digits_at(input: &[u8]) -> (&str, &[u8])
 /// # Cost
 ///
 /// Linear in the digits, without memory.
+#[inline(always)]
 pub fn nat64(input: &[u8]) -> Option<(u64, &[u8])>
     ensures value { read_as (λ value. value) result ≡ natural_below (2 ^ 64) input.now }
     ensures shrinks { LeavesLess input.now result }
@@ -53,6 +54,15 @@ pub fn nat64(input: &[u8]) -> Option<(u64, &[u8])>
     if !begins_with_digit(input) {
         return None;
     }
+    digits64(input)
+}
+
+/// The same by the digits, which may be none.
+#[inline(never)]
+fn digits64(input: &[u8]) -> Option<(u64, &[u8])>
+    ensures value { read_as (λ value. value) result ≡ natural_below (2 ^ 64) input.now }
+    ensures shrinks { LeavesLess input.now result }
+{
     let (digits, rest) = digits_at(input);
     match digits.parse::<u64>() {
         Ok(n) => Some((n, rest)),
@@ -79,6 +89,7 @@ pub fn nat8(input: &[u8]) -> Option<(u8, &[u8])>
 
 /// Whether a minus stands there, and what follows the sign, if there is one.
 #[tactic(auto, unfolding(crate::specs::Tokens::sign))]
+#[inline(always)]
 fn read_sign(input: &[u8]) -> (bool, &[u8])
     ensures value { sign input.now ≡ Some (result.0, result.1.now) }
     ensures shrinks { length result.1.now ≤ length input.now }
@@ -108,6 +119,7 @@ fn signed(negative: bool, n: u64) -> Option<i64>
 /// # Cost
 ///
 /// Linear in the digits, without memory.
+#[inline(always)]
 pub fn int64(input: &[u8]) -> Option<(i64, &[u8])>
     ensures value { read_as (λ value. value) result ≡ integer_within (2 ^ 63) input.now }
     ensures shrinks { LeavesLess input.now result }
@@ -126,6 +138,7 @@ pub fn int64(input: &[u8]) -> Option<(i64, &[u8])>
 /// # Cost
 ///
 /// Linear in the digits, without memory.
+#[inline(always)]
 pub fn int32(input: &[u8]) -> Option<(i32, &[u8])>
     ensures value { read_as (λ value. value) result ≡ integer_within (2 ^ 31) input.now }
     ensures shrinks { LeavesLess input.now result }

@@ -6,7 +6,7 @@ ghost use Rattle.std.specs.Cow.{cow_str_bytes};
 ghost use Rattle.jsonb_doc.specs.declared.error.Error.TheVariants.{OutOfMemory};
 ghost use Rattle.jsonb_keypath.specs.Tokens.{is_unescaped, is_stop as spec_is_stop, unit, units, text, name, quoted};
 ghost use Rattle.jsonb_keypath.specs.Views.{read_as, LeavesLess};
-ghost use Rattle.jsonb_keypath.specs.Private.Units.{excluded, unit_bytes};
+ghost use Rattle.jsonb_keypath.specs.Private.Units.{closed, excluded, unit_bytes};
 ghost use Rattle.jsonb_doc.specs.Answer.{IsOutOfMemory};
 
 use super::escape::escape_at;
@@ -67,6 +67,7 @@ pub fn read_quoted(
 
 /// A name, where memory alone can fail.
 #[tactic(auto, unfolding(crate::specs::Tokens::name))]
+#[inline(always)]
 pub(crate) fn name_at(
     alloc: Global,
     input: &[u8],
@@ -87,6 +88,7 @@ pub(crate) fn name_at(
 
 /// A text between quotes, where memory alone can fail.
 #[tactic(auto, unfolding(crate::specs::Tokens::quoted))]
+#[inline(always)]
 pub(crate) fn quoted_at(
     alloc: Global,
     input: &[u8],
@@ -94,10 +96,19 @@ pub(crate) fn quoted_at(
     ensures value { IfOk result (λ found. read_as cow_str_bytes found ≡ quoted input.now) }
     ensures shrinks { IfOk result (LeavesLess input.now) }
 {
-    let Some(inside) = literal(b"\"", input) else {
-        return Ok(None);
-    };
-    let Some((found, rest)) = text_at(alloc, Ending::Quote, inside)? else {
+    match literal(b"\"", input) {
+        Some(inside) => closed_at(alloc, inside),
+        None => Ok(None),
+    }
+}
+
+/// The same behind the first quote.
+#[inline(never)]
+fn closed_at(alloc: Global, input: &[u8]) -> Result<Option<(CowStr<'_, Global>, &[u8])>, AllocError>
+    ensures value { IfOk result (λ found. read_as cow_str_bytes found ≡ closed input.now) }
+    ensures shrinks { IfOk result (LeavesLess input.now) }
+{
+    let Some((found, rest)) = text_at(alloc, Ending::Quote, input)? else {
         return Ok(None);
     };
     match literal(b"\"", rest) {
@@ -159,6 +170,7 @@ fn is_stop(b: u8) -> bool
 }
 
 /// A text up to where its run of units ends. A text without escapes is not copied.
+#[inline(always)]
 fn text_at(
     alloc: Global,
     ending: Ending,
@@ -185,6 +197,7 @@ fn text_at(
     }
 }
 
+#[inline(always)]
 fn plain_count(ending: Ending, input: &[u8]) -> usize
     ensures { result ≡ prefix_len (is_unescaped (excluded ending)) input.now }
 {
@@ -195,6 +208,7 @@ fn plain_count(ending: Ending, input: &[u8]) -> usize
 }
 
 /// The same text, in memory of its own.
+#[inline(never)]
 fn owned_text_at(
     alloc: Global,
     ending: Ending,

@@ -2,10 +2,11 @@
 //!
 //! On bytes that don't decode each call returns; which answer or refusal it gives is not fixed.
 
-ghost use Rattle.std.specs.Prelude.{◌≡◌, ℕ, List, not, true, None, Ok, filter, map, length, IfErr, IsOkAnd, MatchResult, MatchOption, Err};
+ghost use Rattle.std.specs.Prelude.{◌≡◌, ◌↔◌, ℕ, List, not, true, None, Ok, filter, map, length, IsTrue, IfErr, IsOkAnd, MatchResult, MatchOption, Err};
 ghost use Rattle.std.specs.List.{remove};
 ghost use Rattle.std.specs.Map.{keys_of};
 ghost use Rattle.std.specs.Str.{bytes_eq};
+ghost use Rattle.std.specs.Char.{to_ascii_lowercase};
 ghost use Rattle.jsonb_doc.specs.Tree.{Tree, Trees, Pairs, array, object, text, elements as element_list, members, trees_of, pairs_of};
 ghost use Rattle.jsonb_doc.specs.Payload.{Form};
 ghost use Rattle.jsonb_doc.specs.Format.{Decodes, AreKeys};
@@ -145,6 +146,29 @@ impl RawJsonb<'_> {
     }
 }
 
+/// Whether there are as many bytes, and the last ones are the same in some case of ASCII letters. Keys stand in order,
+/// so that those side by side differ at their ends more often than where they begin.
+#[inline(always)]
+fn ends_alike(key: &[u8], name: &[u8]) -> bool
+    ensures { map to_ascii_lowercase key.now ≡ map to_ascii_lowercase name.now → IsTrue result }
+{
+    if key.len() != name.len() {
+        return false;
+    }
+    match key.len().checked_sub(1) {
+        Some(end) => key[end].eq_ignore_ascii_case(&name[end]),
+        None => true,
+    }
+}
+
+/// Whether a key is the name in some case of ASCII letters.
+#[inline(always)]
+fn is_in_some_case(key: &[u8], name: &[u8]) -> bool
+    ensures test { IsTrue result ↔ (map to_ascii_lowercase key.now ≡ map to_ascii_lowercase name.now) }
+{
+    ends_alike(key, name) && key.eq_ignore_ascii_case(name)
+}
+
 /// The position of the first of the entries, which are texts, that is this name, or else of the first that is it in
 /// some case of ASCII letters.
 fn position_ignoring_case(entries: Entries<'_>, name: &[u8]) -> Result<Option<usize>, Error>
@@ -156,7 +180,7 @@ fn position_ignoring_case(entries: Entries<'_>, name: &[u8]) -> Result<Option<us
     let mut in_other_case = None;
     let mut left = entries;
     while let Some(key) = first_entry(left)? {
-        if key.content.eq_ignore_ascii_case(name) {
+        if is_in_some_case(key.content, name) {
             if key.content == name {
                 return Ok(Some(passed));
             }

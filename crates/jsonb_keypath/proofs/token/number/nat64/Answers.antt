@@ -1,22 +1,7 @@
 use Rattle.std.proofs.Common.{sym, ◌∙◌}
-use Rattle.std.specs.Prelude.{take_while}
-use Rattle.std.specs.Char.{is_ascii_digit}
-use Rattle.std.specs.Str.Parse.{ParsesUnsigned}
-use Rattle.jsonb_keypath.proofs.NumberLemmas.{nat64_read, no_digit}
+use Rattle.jsonb_keypath.proofs.NumberLemmas.{no_digit}
 use Rattle.jsonb_keypath.proofs.token.number.nat64.Goals as goal
 
 pub returns-then-not-begins_with_digit-clause-value : goal.returns-then-not-begins_with_digit-clause-value
 returns-then-not-begins_with_digit-clause-value c =
     sym (no_digit 18446744073709551616 c.args.input.now (sym c.begins_with_digit.ensures ∙ c.if-not-begins_with_digit.true))
-
-pub returns-in-Ok-clause-value : goal.returns-in-Ok-clause-value
-returns-in-Ok-clause-value c =
-    let parsed : ParsesUnsigned 64 10 (take_while is_ascii_digit c.args.input.now) c.parse.result = rw (← c.digits_at.ensures.digits) c.parse.ensures.value.0 in
-    let read = nat64_read c.args.input.now c.parse.result parsed in
-    rw c.digits_at.ensures.rest (sym (rw c.in-Ok.is at read))
-
-pub returns-in-Err-clause-value : goal.returns-in-Err-clause-value
-returns-in-Err-clause-value c =
-    let parsed : ParsesUnsigned 64 10 (take_while is_ascii_digit c.args.input.now) c.parse.result = rw (← c.digits_at.ensures.digits) c.parse.ensures.value.0 in
-    let read = nat64_read c.args.input.now c.parse.result parsed in
-    sym (rw c.in-Err.is at read)
