@@ -22,6 +22,7 @@ pub mod LevelKeys
 pub mod EqualityWalk
 pub mod ScalarLemmas
 pub mod TextChunks
+pub mod WordTexts
 pub mod HashLemmas
 pub mod TakenEntries
 pub mod StartLemmas

@@ -3,7 +3,7 @@ use Rattle.std.proofs.Common.{◌≡◌, ℕ, zero, suc, ◌+◌, ◌-◌, ◌/�
 use Rattle.std.specs.Int.{to_be_bytes}
 use Rattle.std.specs.Int.Digits.{digits_of}
 use Rattle.std.specs.List.{flat_map}
-use Rattle.std.proofs.lemmas.List.{map-append, take-take, take-append-le, length-append}
+use Rattle.std.proofs.lemmas.List.{map-append, take-take, length-append}
 use Rattle.std.proofs.lemmas.Grind.{flat_map-append}
 use Rattle.std.proofs.Math.Seq.{take-append-add}
 use Rattle.std.proofs.lemmas.Int.Digits.{length-digits_of-le}
@@ -18,17 +18,9 @@ packed_behind len byte now before room is =
     let next : len + 1 ≡ suc len = omega arith in
     ap₂ take next is ∙ ap (λ xs. byte ∷ xs) (take-take len 15 before (omega arith))
 
--- two words are appended, and as many of their bytes stay
-pub packed_pushed : (old one two three first second : List ℕ) (len at : ℕ) → at ≡ length old + len → one ≡ old ++ first → two ≡ one ++ second
-    → three ≡ take at two → three ≡ old ++ take len (first ++ second)
-packed_pushed old one two three first second len at place begun more cut =
-    cut ∙ ap₂ take place (more ∙ ap (λ xs. xs ++ second) begun ∙ append_assoc old first second) ∙ take-append-add old (first ++ second) len
-
--- one word is appended where the bytes are no more than it has
-pub packed_within : (old one three first second : List ℕ) (len at : ℕ) → at ≡ length old + len → len ≤ length first → one ≡ old ++ first
-    → three ≡ take at one → three ≡ old ++ take len (first ++ second)
-packed_within old one three first second len at place few begun cut =
-    cut ∙ ap₂ take place begun ∙ take-append-add old first len ∙ ap (λ xs. old ++ xs) (sym (take-append-le len first second few))
+-- both words are appended, and as many of their bytes stay
+pub packed_pushed : (old one two bytes : List ℕ) (len at : ℕ) → at ≡ length old + len → one ≡ old ++ bytes → two ≡ take at one → two ≡ old ++ take len bytes
+packed_pushed old one two bytes len at place pushed cut = cut ∙ ap₂ take place pushed ∙ take-append-add old bytes len
 
 -- the digits that are left, and the bytes that are packed: together the number's digits and the end byte
 pub record DigitsPacked (negative : Bool) (n left len : ℕ) (bytes : List ℕ) : Type 0 where

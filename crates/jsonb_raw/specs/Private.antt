@@ -19,5 +19,6 @@ pub mod Starts
 pub mod Complements
 pub mod WrittenBefore
 pub mod PackedBytes
+pub mod PlainWords
 pub mod Entries
 pub mod NamePositions

@@ -7,8 +7,11 @@ ghost use Rattle.jsonb_raw.specs.Private.PackedBytes.{packed_bytes};
 
 use std::alloc::AllocError;
 
+/// How many bytes a word has.
+const WORD: usize = 8;
+
 /// How many bytes there can be.
-pub const ROOM: usize = 16;
+pub const ROOM: usize = 2 * WORD;
 
 /// Some bytes: so many of those of two words, the lowest of each first.
 #[derive(Clone, Copy)]
@@ -40,6 +43,19 @@ impl Packed {
         }
     }
 
+    /// So many bytes of a word, and zeros behind it.
+    #[inline(always)]
+    pub fn of_word(word: u64, len: usize) -> Packed
+        ensures bytes { packed_bytes result ≡ take len (to_le_bytes w64 word ++ to_le_bytes w64 0) }
+        ensures len { result.len ≡ len }
+    {
+        Packed {
+            first: word,
+            second: 0,
+            len,
+        }
+    }
+
     /// The same bytes behind another.
     #[inline(always)]
     pub fn behind(self, byte: u8) -> Packed
@@ -55,17 +71,25 @@ impl Packed {
         }
     }
 
-    /// Appends them. For a moment whole words stand there, the second where the bytes reach into it.
+    /// The bytes of both words.
+    #[inline(always)]
+    fn to_words(self) -> [u8; ROOM]
+        ensures { result ≡ to_le_bytes w64 self.first ++ to_le_bytes w64 self.second }
+    {
+        let mut bytes = [0; ROOM];
+        bytes[..WORD].copy_from_slice(&self.first.to_le_bytes());
+        bytes[WORD..].copy_from_slice(&self.second.to_le_bytes());
+        bytes
+    }
+
+    /// Appends them. For a moment both words stand there, so that room is asked for once.
     #[inline(always)]
     pub fn push(self, out: &mut Vec<u8>) -> Result<(), AllocError>
         requires { self.len ≤ 16 }
         ensures { OnOk result (out.new.items ≡ out.old.items ++ packed_bytes self) }
     {
         let start = out.len();
-        out.extend_from_slice(&self.first.to_le_bytes())?;
-        if self.len > 8 {
-            out.extend_from_slice(&self.second.to_le_bytes())?;
-        }
+        out.extend_from_slice(&self.to_words())?;
         out.truncate(start + self.len);
         Ok(())
     }

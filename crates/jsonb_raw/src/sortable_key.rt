@@ -4,7 +4,7 @@ ghost use Rattle.std.specs.Prelude.{◌≡◌, ◌≤◌, ◌<◌, ◌++◌, ℕ
 ghost use Rattle.std.specs.Int.{to_be_bytes};
 ghost use Rattle.jsonb_doc.specs.Tree.{Tree};
 ghost use Rattle.jsonb_doc.specs.Payload.{Form, number_reader};
-ghost use Rattle.jsonb_doc.specs.Format.{Decodes, IsContent, container_entry};
+ghost use Rattle.jsonb_doc.specs.Format.{Decodes, IsContent, container_entry, number_entry};
 ghost use Rattle.jsonb_doc.specs.Item.{StandsFor};
 ghost use Rattle.jsonb_doc.specs.Kinds.{kind_number};
 ghost use Rattle.jsonb_doc.specs.Private.Stored.{Stores};
@@ -175,6 +175,21 @@ fn push_stored_item(
     push_scalar_item(out, &entry.item()?, depth)
 }
 
+/// Appends the key of a number, as it is stored. It stands apart, so that what a number is packed into takes no room of
+/// the walk over texts.
+#[inline(never)]
+fn push_stored_number(out: &mut Vec<u8>, content: &[u8], depth: Depth) -> Result<(), Error>
+    ensures key { (form : Form) (tree : Tree) → IsContent (number_reader form) tree number_entry content.now
+        → AppendsScalar depth tree out.old.items result out.new.items }
+    ensures errors { IfErr result (IsDecodingError or OutOfMemory or TooDeep) }
+{
+    let kind = EntryKind::Number;
+    match (StoredEntry { kind, content }).short_number() {
+        Some(number) => push_short(out, number, depth),
+        None => push_stored_item(out, kind, content, depth),
+    }
+}
+
 /// Appends the key of an entry that is no container. Only of an extension value and of a long decimal is an item made.
 #[inline(always)]
 fn push_scalar(out: &mut Vec<u8>, entry: &StoredEntry<'_>, depth: Depth) -> Result<(), Error>
@@ -185,8 +200,8 @@ fn push_scalar(out: &mut Vec<u8>, entry: &StoredEntry<'_>, depth: Depth) -> Resu
     if entry.is_text() {
         return push_string(out, entry.content, depth);
     }
-    if let Some(number) = entry.short_number() {
-        return push_short(out, number, depth);
+    if entry.kind == EntryKind::Number {
+        return push_stored_number(out, entry.content, depth);
     }
     match key_kind::of_literal(entry) {
         Some(kind) => push_front(out, depth, kind),

@@ -1,5 +1,6 @@
-use Rattle.jsonb_raw.proofs.PackedDigits.{text_begun}
+use Rattle.std.proofs.Common.{refl}
+use Rattle.jsonb_raw.proofs.WordTexts.{word_packed}
 use Rattle.jsonb_raw.proofs.key_bytes.pack_text.Goals as goal
 
-pub loop-left-init : goal.loop-left-init
-loop-left-init c = text_begun c.args.text.now _ _ c.one-packed.ensures.len c.one-packed.ensures.bytes
+pub returns-clause-bytes : goal.returns-clause-bytes
+returns-clause-bytes c = word_packed c.args.text.now _ _ _ c.in_ok-word.ensures refl c.of_word.ensures.bytes
