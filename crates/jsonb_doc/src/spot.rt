@@ -223,7 +223,7 @@ pub fn field_spot(bytes: &[u8], spot: Spot, name: &str) -> Result<Option<Spot>, 
 }
 
 /// Whether a key is the name. Keys stand in order, so that those side by side differ at their ends more often than
-/// where they begin: where there are some bytes, the last ones are looked at first.
+/// where they begin: of more bytes than a word has, the last ones are looked at first.
 #[inline(always)]
 fn is_name(key: &[u8], name: &[u8]) -> bool
     ensures { IsTrue result ↔ (key.now ≡ name.now) }
@@ -232,7 +232,7 @@ fn is_name(key: &[u8], name: &[u8]) -> bool
     if len != name.len() {
         return false;
     }
-    if len >= WORD && key[len - 1] != name[len - 1] {
+    if len > WORD && key[len - 1] != name[len - 1] {
         return false;
     }
     key == name
