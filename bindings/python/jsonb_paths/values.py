@@ -71,7 +71,8 @@ def _integer(value: int) -> Entry:
 def _parts(whole: int, scale: int) -> Entry:
     """The decimal whole / 10**scale."""
     if not (-(2**127) <= whole < 2**127 and 0 <= scale <= 255):
-        raise UnsupportedNumber(f"{whole.bit_length() + 1} bits and {scale} digits behind the point")
+        size = f"{whole.bit_length() + 1} bits and {scale} digits behind the point"
+        raise UnsupportedNumber(f"a number of {size}: at most 128 bits and 255 digits are stored")
     if whole == 0:
         return _NUMBER, b"\x00"
     width = 8 if -(2**63) <= whole < 2**63 else 16
