@@ -1,8 +1,8 @@
 -- Steps that name one member at most.
-use Rattle.std.proofs.Common.{◌≡◌, ℕ, ◌+◌, ◌<◌, List, [], ◌∷◌, length, drop, get_or, suc, add-one, map, Bool, true, false, Option, Some, None, Ok, refl, sym, ap, ◌∙◌}
+use Rattle.std.proofs.Common.{◌≡◌, ℕ, ◌+◌, ◌<◌, List, [], ◌∷◌, length, drop, get_or, suc, add-one, map, Bool, true, false, Option, Some, None, Ok, Err, refl, sym, ap, ◌∙◌}
 use Rattle.std.specs.Prelude.{◌&&◌}
 use Rattle.std.proofs.Math.Seq.{drop-cons}
-use Rattle.jsonb_doc.specs.Answer.{and_then}
+use Rattle.jsonb_doc.specs.Answer.{Outcome, and_then}
 use Rattle.jsonb_doc.specs.Tree.{Tree}
 use Rattle.jsonb_doc.specs.declared.spot.Spot.{Spot}
 use Rattle.jsonb.specs.PathTree as math
@@ -25,6 +25,11 @@ member_taken expressions _ h = refl
 pub none_left : (mode : Mode) (ss : Steps) (top : Tree) → steps_meaning mode ss top [] ≡ Ok []
 none_left mode no_steps top = refl
 none_left mode (math.step s rest) top = none_left mode rest top
+
+-- what a step gives is what it gives with none behind it
+pub nothing_behind : (mode : Mode) (top : Tree) (given : Outcome (List Tree)) → and_then given (steps_meaning mode no_steps top) ≡ given
+nothing_behind mode top (Ok ts) = refl
+nothing_behind mode top (Err e) = refl
 
 -- what was found stands for one tree, or for none
 pub no_member : (R : Spot → Tree → Type 0) (found : Option Spot) (ts : List Tree) → found ≡ None → AllZip R (option_spots found) ts → ts ≡ []

@@ -1,5 +1,7 @@
 -- Entries as documents of their own.
-use Rattle.std.proofs.Common.{◌≢◌, ℕ, ◌<◌, ◌^◌, List, [], ◌++◌, length, refl, sym, arith, append-nil, inr}
+use Rattle.std.proofs.Common.{◌≡◌, ◌≢◌, ℕ, zero, suc, ◌-◌, ◌<◌, ◌≤◌, ◌^◌, List, [], ◌∷◌, ◌++◌, length, take, drop, refl, sym, ap, ◌∙◌, arith, append-nil, inr}
+use Rattle.std.specs.Prelude.{slice_range}
+use Rattle.std.proofs.lemmas.List.{take-take, take_rest}
 use Rattle.jsonb_doc.specs.Tree.{Tree}
 use Rattle.jsonb_doc.specs.Payload.{NumberReader}
 use Rattle.jsonb_doc.specs.Format.{IsContent, IsDocument, header, scalar_header, entry_word}
@@ -21,3 +23,15 @@ entry_decodes number_at t kind content known scalar short part = inr (record {
     others = (refl, refl);
   };
 })
+
+take_own : (m : ℕ) (xs : List ℕ) → take (length (take m xs)) xs ≡ take m xs
+take_own zero xs = refl
+take_own (suc m) [] = refl
+take_own (suc m) (x ∷ xs) = ap (λ (l : List ℕ). x ∷ l) (take_own m xs)
+
+-- the front of the bytes that begin with a content is that content
+pub front_is_content : (bytes content front : List ℕ) (start end n : ℕ) → content ≡ slice_range bytes start end
+    → front ≡ take n (slice_range bytes start (length bytes)) → length content ≤ n → take (length content) front ≡ content
+front_is_content bytes content front start end n is first few =
+    ap (take (length content)) (first ∙ ap (take n) (take_rest bytes start)) ∙ take-take (length content) n (drop start bytes) few
+    ∙ ap (λ (k : List ℕ). take (length k) (drop start bytes)) is ∙ take_own (end - start) (drop start bytes) ∙ sym is

@@ -1,8 +1,10 @@
 -- The search for a key, and the value under it.
-use Rattle.std.proofs.Common.{◌≡◌, ◌≢◌, ℕ, suc, ◌-◌, ◌*◌, ◌<◌, ◌≤◌, List, [], ◌∷◌, ◌++◌, length, take, drop, refl, sym, ap, ◌∙◌, arith, Some, None, Bool, true, false, append_assoc}
-use Rattle.std.proofs.lemmas.List.{length-append, append-nil}
+use Rattle.std.proofs.Common.{◌≡◌, ◌≢◌, ℕ, zero, suc, ◌+◌, ◌-◌, ◌*◌, ◌<◌, ◌≤◌, List, [], ◌∷◌, ◌++◌, length, length-drop, take, drop, slice_index_or, refl, sym, ap, ◌∙◌, arith, Some, None, Bool, true, false, append_assoc}
+use Rattle.std.proofs.lemmas.List.{length-append, append-nil, drop-drop, drop_at, take_at, length-take-le}
+use Rattle.std.specs.Simd.{first_chunks}
 use Rattle.std.specs.Str.{bytes_eq}
 use Rattle.std.specs.Bool.{Decides}
+use Rattle.std.specs.Prelude.{slice_range}
 use Rattle.jsonb_doc.specs.Tree.{Tree, object, Pairs, no_pairs, pair, keys, value_under, field_of}
 use Rattle.jsonb_doc.specs.Payload.{NumberReader, Form, any, number_reader}
 use Rattle.jsonb_doc.specs.Format.{Decodes, header, entry_word, BeginWith, AreValues, IsContent, key_words, key_bytes}
@@ -17,7 +19,7 @@ use Rattle.jsonb_doc.proofs.Entries.{BeginWith-long, BeginWith-unique}
 use Rattle.jsonb_doc.proofs.KeysRead.{begin_key}
 use Rattle.jsonb_doc.proofs.ScalarLemmas.{some_injective}
 use Rattle.jsonb_doc.proofs.Containers.{length-key_words, HoldsPairs-keys}
-use Rattle.jsonb_doc.proofs.LengthsLemmas.{StandBefore-joined, HoldKeys-before}
+use Rattle.jsonb_doc.proofs.LengthsLemmas.{told, told_length, StandBefore-joined, HoldKeys-before}
 use Rattle.jsonb_doc.specs.Private.Containers.{Holds, IsCut}
 use Rattle.jsonb_doc.specs.declared.container.ObjectParts.{ObjectParts}
 use Rattle.jsonb_doc.specs.declared.container.Container.TheVariants.{Object}
@@ -40,15 +42,7 @@ IsNoneOf-append name key (k ∷ front) h other = (h.0, IsNoneOf-append name key 
 pub KeysLeft-start : (name : List ℕ) (ks : List (List ℕ)) (rest words bytes : List ℕ) → HoldKeys ks words bytes rest → KeysLeft name ks rest words bytes
 KeysLeft-start name ks rest words bytes h = record { front = []; back = ks; joined = refl; first = tt; behind = h }
 
-pub KeysLeft-stop : (name : List ℕ) (ks : List (List ℕ)) (rest words bytes : List ℕ) → 0 < length words
-    → ((kind : ℕ) (content ws cs : List ℕ) → BeginWith words bytes kind content ws cs → ⊥) → KeysLeft name ks rest words bytes → ⊥
-KeysLeft-stop name ks rest words bytes some none l = go l.back l.behind
-  where
-    go : (back : List (List ℕ)) → HoldKeys back words bytes rest → ⊥
-    go [] h = omega (arith, ap length h.words_joined)
-    go (key ∷ back) h = none 1 key (key_words back) (key_bytes back ++ rest) (begin_key words bytes rest key back h.are_keys.0.1 h.words_joined h.bytes_joined)
-
-pub KeysLeft-end : (name : List ℕ) (ks : List (List ℕ)) (rest words bytes : List ℕ) → length words ≡ 0 → KeysLeft name ks rest words bytes → IsNoneOf name ks
+pub KeysLeft-end : (name : List ℕ) (ks : List (List ℕ)) (rest words bytes : List ℕ) → length words < 4 → KeysLeft name ks rest words bytes → IsNoneOf name ks
 KeysLeft-end name ks rest words bytes none l = go l.back l.joined l.behind
   where
     go : (back : List (List ℕ)) → ks ≡ l.front ++ back → HoldKeys back words bytes rest → IsNoneOf name ks
@@ -86,11 +80,79 @@ module _ (words bytes : List ℕ) (kind : ℕ) (key ws bs : List ℕ) (b : Begin
         behind = holds;
       }
 
-pub BeginWith-shorter : (words contents : List ℕ) (kind : ℕ) (content ws cs : List ℕ) → BeginWith words contents kind content ws cs → length ws ≤ length words
-BeginWith-shorter words contents kind content ws cs b = omega (arith, ap length b.words_joined)
-
 pub is_other : {r : Bool} {P : Type 0} → Decides r P → r ≡ false → P → ⊥
 is_other decides differ p = let same = decides.1 p in cc (same, differ)
+
+-- the word at a place of all words
+pub chunk_at : (k i : ℕ) (words : List ℕ) → i < k → slice_index_or (first_chunks 4 k words) i [] ≡ take 4 (drop (4 * i) words)
+chunk_at zero i words h = absurd (omega (arith, h))
+chunk_at (suc k) zero words h = refl
+chunk_at (suc k) (suc i) words h =
+    chunk_at k i (drop 4 words) (omega (arith, h)) ∙ ap (take 4) (drop-drop (4 * i) 4 words ∙ ap (λ (n : ℕ). drop n words) (omega arith))
+
+-- a key that was cut from all bytes
+pub key_cut : (bytes key : List ℕ) (end len : ℕ) → key ≡ slice_range bytes end (end + len) → key ≡ take len (drop end bytes)
+key_cut bytes key end len e = e ∙ ap (λ (n : ℕ). take n (drop end bytes)) (omega arith)
+
+-- the first of the keys that are left, by its word
+record FirstKey (words bytes : List ℕ) : Type 0 where
+  pub key : List ℕ
+  pub begin : BeginWith words bytes 1 key (drop 4 words) (drop (length key) bytes)
+  pub is : take (length key) bytes ≡ key
+  pub long : told (take 4 words) ≡ length key
+  pub within : length key ≤ length bytes
+
+first_of : (name : List ℕ) (ks : List (List ℕ)) (rest words bytes : List ℕ) → KeysLeft name ks rest words bytes → 4 ≤ length words → FirstKey words bytes
+first_of name ks rest words bytes l some = go l.back l.behind
+  where
+    go : (back : List (List ℕ)) → HoldKeys back words bytes rest → FirstKey words bytes
+    go [] h = absurd (omega (arith, some, ap length h.words_joined))
+    go (key ∷ others) h =
+        let b = begin_key words bytes rest key others h.are_keys.0.1 h.words_joined h.bytes_joined in
+        let behind : drop 4 words ≡ key_words others = ap (drop 4) b.words_joined in
+        let left : drop (length key) bytes ≡ key_bytes others ++ rest =
+        ap (drop (length key)) b.contents_joined ∙ drop_at key (key_bytes others ++ rest) (length key) refl in
+        record {
+          key = key;
+          begin = rw (behind, left) b;
+          is = ap (take (length key)) b.contents_joined ∙ take_at key (key_bytes others ++ rest) (length key) refl;
+          long = told_length words bytes 1 key _ _ b;
+          within = omega (arith, ap length b.contents_joined, length-append key (key_bytes others ++ rest));
+        }
+
+module _ (name : List ℕ) (ks : List (List ℕ)) (rest words bytes : List ℕ) (at end len : ℕ)
+    (l : KeysLeft name ks rest (drop (4 * at) words) (drop end bytes)) (some : 4 * at + 4 ≤ length words) (before : end ≤ length bytes)
+    (is : len ≡ told (take 4 (drop (4 * at) words))) where
+  first : FirstKey (drop (4 * at) words) (drop end bytes)
+  first = first_of name ks rest (drop (4 * at) words) (drop end bytes) l (omega (arith, some, length-drop (4 * at) words))
+
+  same_len : len ≡ length first.key
+  same_len = is ∙ first.long
+
+  same_key : take len (drop end bytes) ≡ first.key
+  same_key = ap (λ (n : ℕ). take n (drop end bytes)) same_len ∙ first.is
+
+  words_behind : drop 4 (drop (4 * at) words) ≡ drop (4 * (at + 1)) words
+  words_behind = drop-drop 4 (4 * at) words ∙ ap (λ (n : ℕ). drop n words) (omega arith)
+
+  bytes_behind : drop (length first.key) (drop end bytes) ≡ drop (end + len) bytes
+  bytes_behind = drop-drop (length first.key) end bytes ∙ ap (λ (n : ℕ). drop (end + n) bytes) (sym same_len)
+
+  pub key_within : end + len ≤ length bytes
+  key_within = omega (arith, first.within, same_len, length-drop end bytes, before)
+
+  pub key_differs : len ≢ length name → take len (drop end bytes) ≢ name
+  key_differs other e =
+      other (sym (length-take-le len (drop end bytes) (omega (arith, key_within, length-drop end bytes))) ∙ ap length e)
+
+  pub key_passed : take len (drop end bytes) ≢ name → KeysLeft name ks rest (drop (4 * (at + 1)) words) (drop (end + len) bytes)
+  key_passed other =
+      rw (← words_behind, ← bytes_behind)
+      (KeysLeft-step _ _ _ _ _ _ first.begin name ks rest (λ (e : first.key ≡ name). other (same_key ∙ e)) l)
+
+  pub key_found : take len (drop end bytes) ≡ name → FoundKey name ks rest (drop (4 * (at + 1)) words) (drop (end + len) bytes)
+  key_found e =
+      rw (← words_behind, ← bytes_behind) (KeysLeft-found _ _ _ _ _ _ first.begin name ks rest (sym same_key ∙ e) l)
 
 -- ---- the value
 

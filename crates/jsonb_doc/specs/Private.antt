@@ -17,3 +17,4 @@ pub mod Writing
 pub mod ObjectBytes
 pub mod Values
 pub mod Payloads
+pub mod EqualBytes

@@ -12,8 +12,6 @@ ghost use Rattle.jsonb_doc.specs.Private.Headers.{header_number};
 ghost use Rattle.jsonb_doc.specs.Private.Lengths.{TellsKindAndLength};
 ghost use Rattle.jsonb_doc.specs.Private.Containers.{StartWith};
 
-use byteorder::{BigEndian, ByteOrder};
-
 /// How many bytes a word has.
 pub const WORD: usize = 4;
 
@@ -233,10 +231,8 @@ fn split_word(bytes: &[u8]) -> Option<(u32, &[u8])>
     ensures { MatchOption result (length bytes.now < 4) (λ r.
         (4 ≤ length bytes.now) × (r.0 ≡ big_number 4 bytes.now) × (r.1.now ≡ drop 4 bytes.now)) }
 {
-    if bytes.len() < WORD {
-        return None;
-    }
-    Some((BigEndian::read_u32(bytes), &bytes[WORD..]))
+    let word = bytes.first_chunk::<WORD>()?;
+    Some((u32::from_be_bytes(*word), &bytes[WORD..]))
 }
 
 /// The header's kind and count, and the bytes after it; `None` where they begin with no header.

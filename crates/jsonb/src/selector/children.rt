@@ -70,7 +70,7 @@ pub(crate) fn push_spot(nodes: &mut Vec<Spot>, spot: Spot) -> Result<(), Error>
     ensures ok { OnOk result (nodes.new.items ≡ nodes.old.items ++ spot ∷ []) }
     ensures err { IfErr result IsOutOfMemory }
 {
-    nodes.push(spot)?;
+    nodes.push(spot.by_parts())?;
     Ok(())
 }
 

@@ -20,7 +20,7 @@ use super::children::push_if;
 use super::compared_member::compared_truth;
 use super::document::{Mode, TruthResult};
 use super::kept::{is_comparison, is_kept};
-use super::members::{member, member_steps};
+use super::members::{member_steps, near_member};
 use super::node_list::NodeList;
 use super::operand_value::{OperandValue, short_number_truth, value_of_literal};
 use crate::path::{BinaryOperator, Expr, Path};
@@ -134,7 +134,7 @@ pub(crate) fn item_truth(
         → Gives (λ b c. b ≡ c) IsOutOfMemory result (truth mode e top t) }
     ensures errors { IfErr result (IsSelectionError mode) }
 {
-    match member(mode, comparison.names, bytes, item)? {
+    match near_member(mode, comparison.names, bytes, item)? {
         Some(found) => value_truth(alloc, comparison, bytes, found),
         None => Ok(Some(false)),
     }
@@ -156,7 +156,7 @@ fn value_truth(
     let MemberCompared { op, literal, .. } = comparison;
     match spot_number(bytes, value)? {
         Some(number) => Ok(short_number_truth(*op, number, literal)),
-        None => other_truth(alloc, *op, bytes, value, literal),
+        None => other_truth(alloc, *op, bytes, value.by_parts(), literal),
     }
 }
 

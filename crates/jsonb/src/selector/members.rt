@@ -126,6 +126,26 @@ pub(crate) fn member_of(
     }
 }
 
+/// The member that these steps name, from an item on. One name alone is looked up without a call.
+#[inline(always)]
+pub(crate) fn near_member(
+    mode: Mode,
+    steps: &[Path<'_>],
+    bytes: &[u8],
+    first: Spot,
+) -> Result<Option<Spot>, Error>
+    ensures meant { (expressions : Expressions) (top t : Tree) → are_members (steps_view steps.now) ≡ true
+        → Locates bytes.now first t
+        → Gives (λ found us. AllZip (Locates bytes.now) (option_spots found) us) IsOutOfMemory result
+        (steps_meaning mode (steps_of (map (taken_step expressions) (steps_view steps.now))) top (t ∷ [])) }
+    ensures errors { IfErr result (IsSelectionError mode) }
+{
+    match steps {
+        [step] => member_of(mode, step, bytes, first),
+        _ => member(mode, steps, bytes, first.by_parts()),
+    }
+}
+
 /// The member that these steps name, from an item on.
 #[inline(never)]
 pub(crate) fn member(
@@ -143,11 +163,11 @@ pub(crate) fn member(
     let mut item = first;
     for step in steps {
         match member_of(mode, step, bytes, item)? {
-            Some(next) => item = next,
+            Some(next) => item = next.by_parts(),
             None => return Ok(None),
         }
     }
-    Ok(Some(item))
+    Ok(Some(item.by_parts()))
 }
 
 /// The steps of an operand that names one member at most.

@@ -260,7 +260,7 @@ fn reach<'t, 's, 'p, 'a>(
     let mut item = first;
     for (at, step) in steps.iter().enumerate() {
         match step_items(alloc, step, bytes, item)? {
-            Given::AtMostOne(Some(next)) => item = next,
+            Given::AtMostOne(Some(next)) => item = next.by_parts(),
             Given::AtMostOne(None) => return Ok(Reached::AtMostOne(None)),
             Given::Many(items) => {
                 let steps = &steps[at + 1..];
@@ -319,7 +319,7 @@ fn kept<'a>(truth: Option<bool>, item: Spot) -> Given<'a>
     ensures kept { (bytes : List ℕ) (t : Tree) → Locates bytes item t → AreGiven bytes result (filtered t truth) }
     ensures few { given_bound result < 2 ^ 64 }
 {
-    Given::AtMostOne(is_kept(truth).then_some(item))
+    Given::AtMostOne(is_kept(truth).then_some(item.by_parts()))
 }
 
 /// The places of a list.

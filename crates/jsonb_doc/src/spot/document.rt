@@ -1,6 +1,6 @@
 //! Items as documents of their own, copied as they are stored.
 
-ghost use Rattle.std.specs.Prelude.{◌≡◌, ◌++◌, ◌^◌, ◌<◌, length, IfOk, IfErr, MatchResult};
+ghost use Rattle.std.specs.Prelude.{◌≡◌, ◌++◌, ◌^◌, ◌<◌, length, take, IfOk, IfErr, MatchResult, ◌≤◌};
 ghost use Rattle.jsonb_doc.specs.Tree.{Tree};
 ghost use Rattle.jsonb_doc.specs.Payload.{Form, number_reader};
 ghost use Rattle.jsonb_doc.specs.Format.{Decodes, IsContent, header, entry_word, scalar_header};
@@ -16,7 +16,11 @@ use crate::item::Item;
 use crate::layout::{EntryKind, HeaderKind, MAX_CONTENT, WORD, word_of_entry, word_of_header};
 use std::alloc::{AllocError, Global};
 
-/// The item at a spot of these bytes as a document of its own, copied as it is stored, in memory of its exact size.
+/// How many bytes the content of a short document has at most.
+const SHORT: usize = 16;
+
+/// The item at a spot of these bytes as a document of its own, copied as it is stored, in memory of its exact size, or
+/// of 24 bytes where it is shorter: allocators hand out no less.
 ///
 /// # Errors
 ///
@@ -36,10 +40,38 @@ pub fn spot_document(alloc: Global, bytes: &[u8], spot: Spot) -> Result<Vec<u8>,
     if spot.kind == EntryKind::Container {
         return Ok(Vec::from_slice(alloc, content)?);
     }
+    if content.len() <= SHORT {
+        if let Some(front) = bytes[spot.start..].first_chunk() {
+            return Ok(short_document(alloc, spot.kind, content.len(), front)?);
+        }
+    }
     if content.len() <= MAX_CONTENT {
         return Ok(scalar_document(alloc, spot.kind, content)?);
     }
     let document = item_document(alloc, spot.kind, content)?;
+    Ok(document)
+}
+
+/// The document of an entry whose content is the front of these bytes. All of them are copied at once, and those behind
+/// the content are let go of.
+#[inline(always)]
+fn short_document(
+    alloc: Global,
+    kind: EntryKind,
+    len: usize,
+    bytes: &[u8; SHORT],
+) -> Result<Vec<u8>, AllocError>
+    requires { len ≤ 16 }
+    ensures { IfOk result
+        (λ v. v.items ≡ header scalar_header 0 ++ (entry_word (kind_number kind) len ++ take len bytes.now)) }
+{
+    let mut words = [0; 2 * WORD + SHORT];
+    words[..WORD].copy_from_slice(&word_of_header(HeaderKind::Scalar, 0));
+    words[WORD..2 * WORD].copy_from_slice(&word_of_entry(kind, len));
+    words[2 * WORD..].copy_from_slice(bytes);
+    let mut document = Vec::with_capacity(alloc, 2 * WORD + SHORT)?;
+    document.extend_from_slice(&words)?;
+    document.truncate(2 * WORD + len);
     Ok(document)
 }
 

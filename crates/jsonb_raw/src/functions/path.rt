@@ -44,7 +44,7 @@ fn nth_child(bytes: &[u8], spot: Spot, position: usize) -> Result<Option<Spot>, 
     let Some(child) = left.next() else {
         return Ok(None);
     };
-    Ok(Some(child?))
+    Ok(Some(child?.by_parts()))
 }
 
 /// The child that so many others follow.
@@ -110,7 +110,7 @@ fn child_at_step(
     ensures errors { IfErr result (IsDecodingError or OutOfMemory) }
 {
     match step {
-        KeyPath::Index(index) => indexed_child(alloc, bytes, spot, *index),
+        KeyPath::Index(index) => indexed_child(alloc, bytes, spot.by_parts(), *index),
         KeyPath::QuotedName(name) => field_spot(bytes, spot, name.as_str()),
         KeyPath::Name(name) => field_spot(bytes, spot, name.as_str()),
     }
@@ -147,7 +147,7 @@ impl RawJsonb<'_> {
             let Some(child) = child_at_step(alloc, bytes, spot, step)? else {
                 return Ok(None);
             };
-            spot = child;
+            spot = child.by_parts();
         }
         Ok(Some(OwnedJsonb::from_spot(alloc, bytes, spot)?))
     }

@@ -1,32 +1,63 @@
-use Rattle.std.proofs.Common.{arith}
-use Rattle.std.proofs.lemmas.Grind.{common_steps}
-use Rattle.jsonb_doc.proofs.Entries.{BeginWith-room}
-use Rattle.jsonb_doc.proofs.FieldLemmas.{KeysLeft-start, KeysLeft-stop, KeysLeft-end, KeysLeft-step, KeysLeft-found, is_other, BeginWith-shorter}
+use Rattle.std.proofs.Common.{◌≡◌, ◌≢◌, ◌≤◌, ◌+◌, ◌*◌, ◌/◌, ◌<◌, List, ℕ, [], length, length-drop, take, drop, slice_index_or, refl, sym, ap, ◌∙◌, arith, inl, inr}
+use Rattle.std.proofs.lemmas.List.{take_rest}
+use Rattle.std.specs.Simd.{first_chunks}
+use Rattle.jsonb_doc.proofs.LengthsLemmas.{told}
+use Rattle.jsonb_doc.proofs.FieldLemmas.{KeysLeft-start, KeysLeft-end, chunk_at, key_cut, key_within, key_differs, key_passed, key_found, is_other}
 use Rattle.jsonb_doc.proofs.spot.find_key.Goals as goal
+use Rattle.jsonb_doc.proofs.spot.find_key.Goals.{then-len-name+in-Some+else-bytes_equal, else-len-name}
 
-pub loop-key-init : goal.loop-key-init
-loop-key-init c = record { words = omega arith; bytes = omega arith; left = λ ks rest h. KeysLeft-start _ ks rest _ _ h }
+-- the length that was read is that of the word at this place
+read : (cs : List (List ℕ)) (k at len : ℕ) (words : List ℕ) → cs ≡ first_chunks 4 k words → at < k → len ≡ told (slice_index_or cs at [])
+    → len ≡ told (take 4 (drop (4 * at) words))
+read cs k at len words are h e = e ∙ ap told (ap (λ (l : List (List ℕ)). slice_index_or l at []) are ∙ chunk_at k at words h)
 
-pub loop-key-preserved : goal.loop-key-preserved
-loop-key-preserved c =
-    let b = c.in-Some.ensures in
-    let room = BeginWith-room _ _ _ _ _ _ b in
-    record {
-      words = omega (arith, BeginWith-shorter _ _ _ _ _ _ b, c.loop-key.invariant.words);
-      bytes = omega (arith, room.1, c.loop-key.invariant.bytes);
-      left = λ ks rest h. KeysLeft-step _ _ _ _ _ _ b c.args.name.now ks rest (is_other c.is_name.ensures c.if-is_name.false) (c.loop-key.invariant.left ks rest h);
-    }
+pub loop-at-init : goal.loop-at-init
+loop-at-init c = record { bound = omega arith; left = λ ks rest h. (KeysLeft-start _ ks rest _ _ h, omega arith) }
 
-pub returns-then-not-is_empty-clause-found : goal.returns-then-not-is_empty-clause-found
-returns-then-not-is_empty-clause-found c = λ ks rest h.
-    KeysLeft-stop c.args.name.now ks rest c.loop-key.words_left.now c.loop-key.bytes_left.now (grind (arith, common_steps)) c.in_default.ensures
-    (c.loop-key.invariant.left ks rest h)
+pub overflow_add-end : goal.overflow_add-end
+overflow_add-end c =
+    omega (arith, c.loop-at.invariant.bound, c.entry_len-len.ensures, c.as_chunks.ensures.front_len, c.requires, c.loop-at-test.true)
 
-pub returns-then-is_name-clause-found : goal.returns-then-is_name-clause-found
-returns-then-is_name-clause-found c = λ ks rest h.
-    KeysLeft-found _ _ _ _ _ _ c.in-Some.ensures c.args.name.now ks rest (c.is_name.ensures.0 c.if-is_name.true) (c.loop-key.invariant.left ks rest h)
+pub returns-in_default-clause-found : goal.returns-in_default-clause-found
+returns-in_default-clause-found c = λ ks rest h.
+    let inv = c.loop-at.invariant.left ks rest h in
+    let some : 4 * c.loop-at.at + 4 ≤ length c.args.words.now = omega (arith, c.as_chunks.ensures.front_len, c.loop-at-test.true) in
+    let len = read _ _ _ _ c.args.words.now c.as_chunks.ensures.front (omega (arith, some)) c.entry_len-len.ensures in
+    let within = key_within c.args.name.now ks rest c.args.words.now c.args.bytes.now c.loop-at.at c.loop-at.end c.entry_len-len.result inv.0 some inv.1 len in
+    elim c.in_default.ensures.lookup.0 [ | inl less ↦ omega (arith, less) | inr beyond ↦ omega (arith, beyond, within) ]
+
+pub returns-then-bytes_equal-clause-found : goal.returns-then-bytes_equal-clause-found
+returns-then-bytes_equal-clause-found c = λ ks rest h.
+    let inv = c.loop-at.invariant.left ks rest h in
+    let some : 4 * c.loop-at.at + 4 ≤ length c.args.words.now = omega (arith, c.as_chunks.ensures.front_len, c.loop-at-test.true) in
+    let len = read _ _ _ _ c.args.words.now c.as_chunks.ensures.front (omega (arith, some)) c.entry_len-len.ensures in
+    let key = key_cut c.args.bytes.now _ c.loop-at.end c.entry_len-len.result c.in-Some.ensures.lookup.0.2 in
+    rw (take_rest c.args.words.now (4 * (c.loop-at.at + 1)), take_rest c.args.bytes.now (c.loop-at.end + c.entry_len-len.result))
+    (key_found c.args.name.now ks rest c.args.words.now c.args.bytes.now c.loop-at.at c.loop-at.end c.entry_len-len.result inv.0 some inv.1 len
+    (sym key ∙ c.bytes_equal.ensures.0 c.if-bytes_equal.true))
+
+pub loop-at-preserved : goal.loop-at-preserved
+loop-at-preserved c = record {
+  bound = omega (arith, c.loop-at.invariant.bound, c.entry_len-len.ensures);
+  left = λ ks rest h.
+    let inv = c.loop-at.invariant.left ks rest h in
+    let some : 4 * c.loop-at.at + 4 ≤ length c.args.words.now = omega (arith, c.as_chunks.ensures.front_len, c.loop-at-test.true) in
+    let len = read _ _ _ _ c.args.words.now c.as_chunks.ensures.front (omega (arith, some)) c.entry_len-len.ensures in
+    let other : take c.entry_len-len.result (drop c.loop-at.end c.args.bytes.now) ≢ c.args.name.now = elim c.if-len-name.branch [
+      | then-len-name+in-Some+else-bytes_equal w ↦ λ e.
+        is_other w.bytes_equal.ensures w.if-bytes_equal.false
+        (key_cut c.args.bytes.now _ c.loop-at.end c.entry_len-len.result w.in-Some.ensures.lookup.0.2 ∙ e)
+      | else-len-name w ↦
+        key_differs c.args.name.now ks rest c.args.words.now c.args.bytes.now c.loop-at.at c.loop-at.end c.entry_len-len.result inv.0 some inv.1 len
+        w.if-len-name.false
+    ] in (
+      key_passed c.args.name.now ks rest c.args.words.now c.args.bytes.now c.loop-at.at c.loop-at.end c.entry_len-len.result inv.0 some inv.1 len other,
+      key_within c.args.name.now ks rest c.args.words.now c.args.bytes.now c.loop-at.at c.loop-at.end c.entry_len-len.result inv.0 some inv.1 len,
+    );
+}
 
 pub returns-clause-found : goal.returns-clause-found
 returns-clause-found c = λ ks rest h.
-    KeysLeft-end c.args.name.now ks rest c.loop-key.words_left.now c.loop-key.bytes_left.now (grind (arith, common_steps))
-    (c.loop-key.invariant.left ks rest h)
+    KeysLeft-end c.args.name.now ks rest _ _
+    (omega (arith, length-drop (4 * c.loop-at.at) c.args.words.now, c.loop-at-test.false, c.as_chunks.ensures.front_len))
+    (c.loop-at.invariant.left ks rest h).0

@@ -1,7 +1,8 @@
-use Rattle.std.proofs.Common.{arith}
+use Rattle.std.proofs.Common.{Err, ap, ◌∙◌, arith}
+use Rattle.std.proofs.lemmas.Result.{err_from_is_err_and}
 use Rattle.jsonb_doc.specs.Payload.{number_reader}
 use Rattle.jsonb_doc.specs.Kinds.{kind_number}
-use Rattle.jsonb_doc.proofs.EntryDocuments.{entry_decodes}
+use Rattle.jsonb_doc.proofs.EntryDocuments.{entry_decodes, front_is_content}
 use Rattle.jsonb_doc.specs.declared.layout.EntryKind.TheVariants.{Container}
 use Rattle.jsonb_doc.proofs.KindLemmas.{kind_known, other_kind}
 use Rattle.jsonb_doc.proofs.spot.document.spot_document.Goals as goal
@@ -13,3 +14,20 @@ returns-then-content-le-MAX_CONTENT-clause-decodes c = λ form top t decodes loc
           (other_kind _ c.args.spot.kind Container c.eq.ensures c.if-eq.false)
           (omega arith) (rw c.in_ok-content.ensures.2 (located.content form top decodes));
     })
+
+pub returns-in-Some-clause-decodes : goal.returns-in-Some-clause-decodes
+returns-in-Some-clause-decodes c = λ form top t decodes located.
+    let content = c.in_ok-content.content.now in
+    let front = front_is_content c.args.bytes.now content c.in-Some.front.now c.args.spot.start c.args.spot.end 16 c.in_ok-content.ensures.2
+    c.in-Some.ensures.cases.same (omega (arith, c.if-content-le-SHORT.true)) in
+    rw (c.in_ok-short_document.ensures, front) (record {
+      document = entry_decodes (number_reader form) t (kind_number c.args.spot.kind) content (kind_known c.args.spot.kind)
+          (other_kind _ c.args.spot.kind Container c.eq.ensures c.if-eq.false)
+          (omega (arith, c.if-content-le-SHORT.true)) (rw c.in_ok-content.ensures.2 (located.content form top decodes));
+    })
+
+pub returns-in_err-document-clause-decodes : goal.returns-in_err-document-clause-decodes
+returns-in_err-document-clause-decodes c = λ form top t decodes located.
+    let refused = err_from_is_err_and c.from_residual-in_err-document.result c.from_residual-in_err-document.ensures.1 in
+    rw (refused.1 ∙ ap Err refused.2)
+    (c.in_err-document.ensures.decodes form t (rw c.in_ok-content.ensures.2 (located.content form top decodes)))

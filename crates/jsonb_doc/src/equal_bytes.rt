@@ -1,0 +1,77 @@
+//! Whether short slices of bytes are equal, told by words.
+
+ghost use Rattle.std.specs.Prelude.{◌≡◌, ◌↔◌, IsTrue, ℕ, ◌-◌, ◌<◌, ◌≤◌, List, length, take, drop, MatchOption};
+ghost use Rattle.std.specs.Int.{Width, w32, w64, from_be_bytes};
+ghost use Rattle.jsonb_doc.specs.Private.EqualBytes.{IsFront, IsBack};
+
+/// Whether two slices hold the same bytes. Up to 16 are compared by two words, of more the last ones first: keys in order
+/// differ at their ends more often than where they begin.
+///
+/// # Cost
+///
+/// Constant up to 16 bytes, and else linear. No memory.
+#[inline(always)]
+pub(crate) fn bytes_equal(bytes: &[u8], other: &[u8]) -> bool
+    ensures { IsTrue result ↔ (bytes.now ≡ other.now) }
+{
+    let len = bytes.len();
+    if len != other.len() {
+        return false;
+    }
+    if len < 4 {
+        return few_equal(bytes, other);
+    }
+    if len <= 8 {
+        return front(bytes) == front(other) && back(bytes) == back(other);
+    }
+    if len <= 16 {
+        return long_front(bytes) == long_front(other) && long_back(bytes) == long_back(other);
+    }
+    bytes[len - 1] == other[len - 1] && bytes == other
+}
+
+/// The same of fewer than 4 bytes, of which there are as many on both sides.
+#[inline(always)]
+fn few_equal(bytes: &[u8], other: &[u8]) -> bool
+    requires alike { length bytes.now ≡ length other.now }
+    requires few { length bytes.now < 4 }
+    ensures { IsTrue result ↔ (bytes.now ≡ other.now) }
+{
+    let len = bytes.len();
+    len == 0
+        || bytes[0] == other[0]
+            && bytes[len / 2] == other[len / 2]
+            && bytes[len - 1] == other[len - 1]
+}
+
+/// The first 4 bytes as a number.
+#[inline(always)]
+fn front(bytes: &[u8]) -> Option<u32>
+    ensures { IsFront w32 4 bytes.now result }
+{
+    Some(u32::from_be_bytes(*bytes.first_chunk()?))
+}
+
+/// The last 4 bytes as a number.
+#[inline(always)]
+fn back(bytes: &[u8]) -> Option<u32>
+    ensures { IsBack w32 4 bytes.now result }
+{
+    Some(u32::from_be_bytes(*bytes.last_chunk()?))
+}
+
+/// The first 8 bytes as a number.
+#[inline(always)]
+fn long_front(bytes: &[u8]) -> Option<u64>
+    ensures { IsFront w64 8 bytes.now result }
+{
+    Some(u64::from_be_bytes(*bytes.first_chunk()?))
+}
+
+/// The last 8 bytes as a number.
+#[inline(always)]
+fn long_back(bytes: &[u8]) -> Option<u64>
+    ensures { IsBack w64 8 bytes.now result }
+{
+    Some(u64::from_be_bytes(*bytes.last_chunk()?))
+}
