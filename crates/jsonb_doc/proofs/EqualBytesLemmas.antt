@@ -1,28 +1,61 @@
 -- Bytes are equal where the words at both their ends are, which overlap.
-use Rattle.std.proofs.Common.{◌≡◌, ℕ, zero, suc, ◌-◌, ◌*◌, ◌<◌, ◌≤◌, List, [], ◌∷◌, ◌++◌, length, length-drop, take, drop, get_or, sym, ap, ◌∙◌, arith, Option, Some, None, Bool, true, nat_eq, IsTrue}
-use Rattle.std.specs.Int.{Width, w64, from_be_bytes, to_be_bytes}
-use Rattle.std.proofs.lemmas.Nat.{be_bytes_8}
+use Rattle.std.proofs.Common.{◌≡◌, ℕ, zero, suc, ◌-◌, ◌*◌, ◌<◌, ◌≤◌, List, [], ◌∷◌, ◌++◌, length, length-drop, take, drop, get_or, refl, sym, ap, ◌∙◌, arith, Option, Some, None, Bool, true, false, nat_eq, IsTrue}
+use Rattle.std.specs.Prelude.{◌&&◌}
+use Rattle.std.specs.Int.{Width, w32, w64, from_be_bytes, to_be_bytes}
 use Rattle.std.specs.Option.{option_eq}
 use Rattle.std.proofs.lemmas.Bool.{eqb-true, eq-eqb}
-use Rattle.std.proofs.lemmas.List.{take-take, take-append-drop}
-use Rattle.jsonb_doc.specs.Private.EqualBytes.{IsWordOf, IsFront, IsBack}
+use Rattle.std.proofs.lemmas.List.{take-take, take-append-drop, length-take-le}
+use Rattle.std.proofs.lemmas.Nat.{be_bytes_4, be_bytes_8}
+use Rattle.jsonb_doc.specs.Private.EqualBytes.{IsWordOf, AreEnds}
+
+-- ---- the words at the ends
 
 -- each is a byte
 abbrev pub AreSmall : List ℕ → Type 0
 AreSmall xs = (i : ℕ) → get_or xs i 0 < 256
+
+none_small : AreSmall []
+none_small zero = omega arith
+none_small (suc i) = omega arith
+
+take_small : (n : ℕ) (xs : List ℕ) → AreSmall xs → AreSmall (take n xs)
+take_small zero xs h i = none_small i
+take_small (suc n) [] h i = h i
+take_small (suc n) (x ∷ xs) h zero = h zero
+take_small (suc n) (x ∷ xs) h (suc i) = take_small n xs (λ j. h (suc j)) i
 
 drop_small : (n : ℕ) (xs : List ℕ) → AreSmall xs → AreSmall (drop n xs)
 drop_small zero xs h = h
 drop_small (suc n) [] h = h
 drop_small (suc n) (x ∷ xs) h = drop_small n xs (λ j. h (suc j))
 
--- the last 8 bytes are those of their number
-pub long_end : (xs : List ℕ) (x : ℕ) → AreSmall xs → 8 ≤ length xs → x ≡ from_be_bytes w64 (drop (length xs - 8) xs)
-    → IsWordOf w64 (drop (length xs - 8) xs) x
-long_end xs x small enough e = (
-  e,
-  sym (be_bytes_8 (drop (length xs - 8) xs) x (omega (arith, length-drop (length xs - 8) xs, enough)) (drop_small (length xs - 8) xs small) e),
+-- so many bytes are those of their number
+abbrev pub HasWords : Width → ℕ → Type 0
+HasWords w n = (xs : List ℕ) → length xs ≡ n → AreSmall xs → to_be_bytes w (from_be_bytes w xs) ≡ xs
+
+pub short_words : HasWords w32 4
+short_words xs long small = be_bytes_4 xs (from_be_bytes w32 xs) long small refl
+
+pub long_words : HasWords w64 8
+long_words xs long small = be_bytes_8 xs (from_be_bytes w64 xs) long small refl
+
+word_of : (w : Width) (n : ℕ) → HasWords w n → (xs part : List ℕ) (x : ℕ) → length xs ≡ n → AreSmall xs → part ≡ xs → x ≡ from_be_bytes w part → IsWordOf w xs x
+word_of w n words xs part x long small is told =
+    let number : x ≡ from_be_bytes w xs = told ∙ ap (from_be_bytes w) is in
+    (number, sym (words xs long small) ∙ ap (to_be_bytes w) (sym number))
+
+-- the numbers of the first bytes and of the last
+pub ends_are : (w : Width) (n : ℕ) → HasWords w n → (bytes first last : List ℕ) (x y : ℕ) → n ≤ length bytes → AreSmall bytes
+    → first ≡ take n bytes → last ≡ drop (length bytes - n) bytes → x ≡ from_be_bytes w first → y ≡ from_be_bytes w last
+    → AreEnds w n bytes (Some (x, y))
+ends_are w n words bytes first last x y enough small front back e f = (
+  enough,
+  word_of w n words (take n bytes) first x (length-take-le n bytes enough) (take_small n bytes small) front e,
+  word_of w n words (drop (length bytes - n) bytes) last y (omega (arith, length-drop (length bytes - n) bytes, enough))
+      (drop_small (length bytes - n) bytes small) back f,
 )
+
+-- ---- what they tell
 
 -- lists are equal where both their ends are
 ends_joined : (n : ℕ) (xs ys : List ℕ) → length xs ≡ length ys → length xs ≤ 2 * n → take n xs ≡ take n ys
@@ -35,34 +68,32 @@ ends_joined n xs ys same few front back =
     let last : drop k xs ≡ drop k ys = back ∙ ap (λ (m : ℕ). drop m ys) other in
     sym (take-append-drop k xs) ∙ ap (λ (l : List ℕ). l ++ drop k xs) first ∙ ap (λ (l : List ℕ). take k ys ++ l) last ∙ take-append-drop k ys
 
+abbrev pub pairs_equal : ℕ × ℕ → ℕ × ℕ → Bool
+pairs_equal a b = nat_eq a.0 b.0 && nat_eq a.1 b.1
+
+both : (a b : Bool) → true ≡ a && b → (a ≡ true) × (b ≡ true)
+both true b h = (refl, sym h)
+both false b h = cc
+
 module _ (w : Width) where
   -- one number, one word
-  one_word : (xs ys : List ℕ) (x y : ℕ) → IsWordOf w xs x → IsWordOf w ys y → true ≡ nat_eq x y → xs ≡ ys
-  one_word xs ys x y a b e = a.1 ∙ ap (to_be_bytes w) (eqb-true x y (sym e)) ∙ sym b.1
+  one_word : (xs ys : List ℕ) (x y : ℕ) → IsWordOf w xs x → IsWordOf w ys y → nat_eq x y ≡ true → xs ≡ ys
+  one_word xs ys x y a b e = a.1 ∙ ap (to_be_bytes w) (eqb-true x y e) ∙ sym b.1
 
-  module _ (n : ℕ) (xs ys : List ℕ) (same : length xs ≡ length ys) (enough : n ≤ length xs) where
-    fronts : (f g : Option ℕ) → IsFront w n xs f → IsFront w n ys g → true ≡ option_eq nat_eq f g → take n xs ≡ take n ys
-    fronts None g a b e = absurd (omega (arith, a, enough))
-    fronts (Some x) None a b e = absurd (omega (arith, b, enough, same))
-    fronts (Some x) (Some y) a b e = one_word _ _ x y a.1 b.1 e
+  -- equal words have one number
+  one_number : (xs ys : List ℕ) (x y : ℕ) → IsWordOf w xs x → IsWordOf w ys y → xs ≡ ys → nat_eq x y ≡ true
+  one_number xs ys x y a b e = eq-eqb x y (a.0 ∙ ap (from_be_bytes w) e ∙ sym b.0)
 
-    backs : (f g : Option ℕ) → IsBack w n xs f → IsBack w n ys g → true ≡ option_eq nat_eq f g
-        → drop (length xs - n) xs ≡ drop (length ys - n) ys
-    backs None g a b e = absurd (omega (arith, a, enough))
-    backs (Some x) None a b e = absurd (omega (arith, b, enough, same))
-    backs (Some x) (Some y) a b e = one_word _ _ x y a.1 b.1 e
-
-    backs_alike : (f g : Option ℕ) → IsBack w n xs f → IsBack w n ys g → xs ≡ ys → option_eq nat_eq f g ≡ true
-    backs_alike None g a b e = absurd (omega (arith, a, enough))
-    backs_alike (Some x) None a b e = absurd (omega (arith, b, enough, same))
-    backs_alike (Some x) (Some y) a b e =
-        eq-eqb x y (a.1.0 ∙ ap (λ (l : List ℕ). from_be_bytes w (drop (length l - n) l)) e ∙ sym b.1.0)
-
-    -- where the words in front are equal, those at the back tell it
-    pub ends_tell : (f g h k : Option ℕ) (said : Bool) → IsFront w n xs f → IsFront w n ys g → IsBack w n xs h → IsBack w n ys k
-        → length xs ≤ 2 * n → true ≡ option_eq nat_eq f g → said ≡ option_eq nat_eq h k
-        → (IsTrue said → xs ≡ ys) × (xs ≡ ys → IsTrue said)
-    ends_tell f g h k said a b c d few front is = (
-      (λ yes. ends_joined n xs ys same few (fronts f g a b front) (backs h k c d (sym yes ∙ is))),
-      (λ e. is ∙ backs_alike h k c d e),
-    )
+  -- slices of one length are equal where their ends are
+  pub ends_tell : (n : ℕ) (xs ys : List ℕ) (f g : Option (ℕ × ℕ)) (said : Bool) → length xs ≡ length ys → n ≤ length xs → length xs ≤ 2 * n
+      → AreEnds w n xs f → AreEnds w n ys g → said ≡ option_eq pairs_equal f g → (IsTrue said → xs ≡ ys) × (xs ≡ ys → IsTrue said)
+  ends_tell n xs ys None g said same enough few a b is = absurd (omega (arith, a, enough))
+  ends_tell n xs ys (Some x) None said same enough few a b is = absurd (omega (arith, b, enough, same))
+  ends_tell n xs ys (Some x) (Some y) said same enough few a b is = (
+    (λ yes.
+        let ends = both (nat_eq x.0 y.0) (nat_eq x.1 y.1) (sym yes ∙ is) in
+        ends_joined n xs ys same few (one_word _ _ x.0 y.0 a.1 b.1 ends.0) (one_word _ _ x.1 y.1 a.2 b.2 ends.1)),
+    (λ e.
+        is ∙ ap (λ (t : Bool). t && nat_eq x.1 y.1) (one_number _ _ x.0 y.0 a.1 b.1 (ap (take n) e))
+        ∙ one_number _ _ x.1 y.1 a.2 b.2 (ap (λ (l : List ℕ). drop (length l - n) l) e)),
+  )

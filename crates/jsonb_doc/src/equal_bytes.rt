@@ -1,8 +1,8 @@
 //! Whether short slices of bytes are equal, told by words.
 
-ghost use Rattle.std.specs.Prelude.{◌≡◌, ◌↔◌, IsTrue, ℕ, ◌-◌, ◌<◌, ◌≤◌, List, length, take, drop, MatchOption};
-ghost use Rattle.std.specs.Int.{Width, w32, w64, from_be_bytes};
-ghost use Rattle.jsonb_doc.specs.Private.EqualBytes.{IsFront, IsBack};
+ghost use Rattle.std.specs.Prelude.{◌≡◌, ◌↔◌, IsTrue, ◌<◌, length};
+ghost use Rattle.std.specs.Int.{w32, w64};
+ghost use Rattle.jsonb_doc.specs.Private.EqualBytes.{AreEnds};
 
 /// Whether two slices hold the same bytes. Up to 16 are compared by two words, of more the last ones first: keys in order
 /// differ at their ends more often than where they begin.
@@ -22,10 +22,10 @@ pub(crate) fn bytes_equal(bytes: &[u8], other: &[u8]) -> bool
         return few_equal(bytes, other);
     }
     if len <= 8 {
-        return front(bytes) == front(other) && back(bytes) == back(other);
+        return ends(bytes) == ends(other);
     }
     if len <= 16 {
-        return long_front(bytes) == long_front(other) && long_back(bytes) == long_back(other);
+        return long_ends(bytes) == long_ends(other);
     }
     bytes[len - 1] == other[len - 1] && bytes == other
 }
@@ -44,34 +44,24 @@ fn few_equal(bytes: &[u8], other: &[u8]) -> bool
             && bytes[len - 1] == other[len - 1]
 }
 
-/// The first 4 bytes as a number.
+/// The first 4 bytes and the last 4, as numbers.
 #[inline(always)]
-fn front(bytes: &[u8]) -> Option<u32>
-    ensures { IsFront w32 4 bytes.now result }
+fn ends(bytes: &[u8]) -> Option<(u32, u32)>
+    ensures { AreEnds w32 4 bytes.now result }
 {
-    Some(u32::from_be_bytes(*bytes.first_chunk()?))
+    Some((
+        u32::from_be_bytes(*bytes.first_chunk()?),
+        u32::from_be_bytes(*bytes.last_chunk()?),
+    ))
 }
 
-/// The last 4 bytes as a number.
+/// The first 8 bytes and the last 8, as numbers.
 #[inline(always)]
-fn back(bytes: &[u8]) -> Option<u32>
-    ensures { IsBack w32 4 bytes.now result }
+fn long_ends(bytes: &[u8]) -> Option<(u64, u64)>
+    ensures { AreEnds w64 8 bytes.now result }
 {
-    Some(u32::from_be_bytes(*bytes.last_chunk()?))
-}
-
-/// The first 8 bytes as a number.
-#[inline(always)]
-fn long_front(bytes: &[u8]) -> Option<u64>
-    ensures { IsFront w64 8 bytes.now result }
-{
-    Some(u64::from_be_bytes(*bytes.first_chunk()?))
-}
-
-/// The last 8 bytes as a number.
-#[inline(always)]
-fn long_back(bytes: &[u8]) -> Option<u64>
-    ensures { IsBack w64 8 bytes.now result }
-{
-    Some(u64::from_be_bytes(*bytes.last_chunk()?))
+    Some((
+        u64::from_be_bytes(*bytes.first_chunk()?),
+        u64::from_be_bytes(*bytes.last_chunk()?),
+    ))
 }

@@ -1,6 +1,6 @@
 //! Filters that compare a member of the item with a literal, over a list of items.
 
-ghost use Rattle.std.specs.Prelude.{◌≡◌, ◌++◌, ◌∷◌, [], List, Ok, true, MatchOption, ⊤, IfErr};
+ghost use Rattle.std.specs.Prelude.{◌≡◌, ◌++◌, ◌∷◌, [], List, Ok, map, true, MatchOption, ⊤, IfErr};
 ghost use Rattle.jsonb_doc.specs.Answer.{Gives, try_flat_map, IsOutOfMemory, IsDecodingError, ◌or◌};
 ghost use Rattle.jsonb_doc.specs.declared.error.Error.TheVariants.{OutOfMemory};
 ghost use Rattle.jsonb_doc.specs.Spots.{Locates};
@@ -10,17 +10,18 @@ ghost use Rattle.jsonb.specs.PathViews.{steps_view, expression_view, operator_vi
 ghost use Rattle.std.specs.List.{AllZip};
 ghost use Rattle.jsonb.specs.Compare.{compare};
 ghost use Rattle.jsonb.specs.Values.{values_of_item};
-ghost use Rattle.jsonb.specs.Meaning.{step_meaning, operand_values, truth};
+ghost use Rattle.jsonb.specs.Meaning.{step_meaning, steps_meaning, operand_values, truth};
 ghost use Rattle.jsonb.specs.Private.Compared.{IsMemberCompared};
 ghost use Rattle.jsonb.specs.Private.Members.{are_members};
-ghost use Rattle.jsonb.specs.Private.Selection.{node_spots, value_view};
+ghost use Rattle.jsonb.specs.Private.Selection.{node_spots, option_spots, taken_step, value_view};
+ghost use Rattle.jsonb.specs.declared.selector.document.Expressions.TheVariants.{AreRefused};
 ghost use Rattle.jsonb.specs.SelectionErrors.{IsSelectionError};
 
 use super::children::push_if;
 use super::compared_member::compared_truth;
 use super::document::{Mode, TruthResult};
 use super::kept::{is_comparison, is_kept};
-use super::members::{member_steps, near_member};
+use super::members::{member, member_of, member_steps};
 use super::node_list::NodeList;
 use super::operand_value::{OperandValue, short_number_truth, value_of_literal};
 use crate::path::{BinaryOperator, Expr, Path};
@@ -120,6 +121,26 @@ fn push_compared(
     push_if(keeps, item, nodes)
 }
 
+/// The member that a comparison is of. One name alone is looked up without a call.
+#[inline(always)]
+fn compared_member(
+    mode: Mode,
+    comparison: &MemberCompared<'_, '_>,
+    bytes: &[u8],
+    item: Spot,
+) -> Result<Option<Spot>, Error>
+    ensures meant { (top t : Tree) → are_members (steps_view comparison.now.names.now) ≡ true
+        → Locates bytes.now item t
+        → Gives (λ found us. AllZip (Locates bytes.now) (option_spots found) us) IsOutOfMemory result
+        (steps_meaning mode (steps_of (map (taken_step AreRefused) (steps_view comparison.now.names.now))) top (t ∷ [])) }
+    ensures errors { IfErr result (IsSelectionError mode) }
+{
+    match comparison.names {
+        [name] => member_of(mode, name, bytes, item),
+        names => member(mode, names, bytes, item.by_parts()),
+    }
+}
+
 /// Whether the comparison is true of an item.
 #[inline(always)]
 pub(crate) fn item_truth(
@@ -134,7 +155,7 @@ pub(crate) fn item_truth(
         → Gives (λ b c. b ≡ c) IsOutOfMemory result (truth mode e top t) }
     ensures errors { IfErr result (IsSelectionError mode) }
 {
-    match near_member(mode, comparison.names, bytes, item)? {
+    match compared_member(mode, comparison, bytes, item)? {
         Some(found) => value_truth(alloc, comparison, bytes, found),
         None => Ok(Some(false)),
     }

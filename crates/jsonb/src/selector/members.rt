@@ -126,26 +126,6 @@ pub(crate) fn member_of(
     }
 }
 
-/// The member that these steps name, from an item on. One name alone is looked up without a call.
-#[inline(always)]
-pub(crate) fn near_member(
-    mode: Mode,
-    steps: &[Path<'_>],
-    bytes: &[u8],
-    first: Spot,
-) -> Result<Option<Spot>, Error>
-    ensures meant { (expressions : Expressions) (top t : Tree) → are_members (steps_view steps.now) ≡ true
-        → Locates bytes.now first t
-        → Gives (λ found us. AllZip (Locates bytes.now) (option_spots found) us) IsOutOfMemory result
-        (steps_meaning mode (steps_of (map (taken_step expressions) (steps_view steps.now))) top (t ∷ [])) }
-    ensures errors { IfErr result (IsSelectionError mode) }
-{
-    match steps {
-        [step] => member_of(mode, step, bytes, first),
-        _ => member(mode, steps, bytes, first.by_parts()),
-    }
-}
-
 /// The member that these steps name, from an item on.
 #[inline(never)]
 pub(crate) fn member(

@@ -6,11 +6,7 @@ use Rattle.std.specs.Int.{Width, from_be_bytes, to_be_bytes}
 abbrev pub IsWordOf : Width → List ℕ → ℕ → Type 0
 IsWordOf w bytes x = (x ≡ from_be_bytes w bytes) × (bytes ≡ to_be_bytes w x)
 
--- the first so many bytes as a number, where there are as many
-abbrev pub IsFront : Width → ℕ → List ℕ → Option ℕ → Type 0
-IsFront w n bytes found = MatchOption found (length bytes < n) (λ x. (n ≤ length bytes) × IsWordOf w (take n bytes) x)
-
--- the last so many bytes as a number, where there are as many
-abbrev pub IsBack : Width → ℕ → List ℕ → Option ℕ → Type 0
-IsBack w n bytes found = MatchOption found (length bytes < n)
-    (λ x. (n ≤ length bytes) × IsWordOf w (drop (length bytes - n) bytes) x)
+-- the first and the last so many bytes as numbers, where there are as many
+abbrev pub AreEnds : Width → ℕ → List ℕ → Option (ℕ × ℕ) → Type 0
+AreEnds w n bytes found = MatchOption found (length bytes < n)
+    (λ x. (n ≤ length bytes) × IsWordOf w (take n bytes) x.0 × IsWordOf w (drop (length bytes - n) bytes) x.1)

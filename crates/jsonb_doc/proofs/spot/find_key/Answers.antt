@@ -1,4 +1,4 @@
-use Rattle.std.proofs.Common.{◌≡◌, ◌≢◌, ◌≤◌, ◌+◌, ◌*◌, ◌/◌, ◌<◌, List, ℕ, [], length, length-drop, take, drop, slice_index_or, refl, sym, ap, ◌∙◌, arith, inl, inr}
+use Rattle.std.proofs.Common.{◌≡◌, ◌≢◌, ◌≤◌, ◌+◌, ◌*◌, ◌<◌, List, ℕ, [], length, length-drop, take, drop, slice_index_or, sym, ap, ◌∙◌, arith, inl, inr}
 use Rattle.std.proofs.lemmas.List.{take_rest}
 use Rattle.std.specs.Simd.{first_chunks}
 use Rattle.jsonb_doc.proofs.LengthsLemmas.{told}
@@ -24,7 +24,7 @@ returns-in_default-clause-found c = λ ks rest h.
     let some : 4 * c.loop-at.at + 4 ≤ length c.args.words.now = omega (arith, c.as_chunks.ensures.front_len, c.loop-at-test.true) in
     let len = read _ _ _ _ c.args.words.now c.as_chunks.ensures.front (omega (arith, some)) c.entry_len-len.ensures in
     let within = key_within c.args.name.now ks rest c.args.words.now c.args.bytes.now c.loop-at.at c.loop-at.end c.entry_len-len.result inv.0 some inv.1 len in
-    elim c.in_default.ensures.lookup.0 [ | inl less ↦ omega (arith, less) | inr beyond ↦ omega (arith, beyond, within) ]
+    elim c.in_default.ensures.lookup.0 [ inl less ↦ omega (arith, less) | inr beyond ↦ omega (arith, beyond, within) ]
 
 pub returns-then-bytes_equal-clause-found : goal.returns-then-bytes_equal-clause-found
 returns-then-bytes_equal-clause-found c = λ ks rest h.
@@ -40,20 +40,20 @@ pub loop-at-preserved : goal.loop-at-preserved
 loop-at-preserved c = record {
   bound = omega (arith, c.loop-at.invariant.bound, c.entry_len-len.ensures);
   left = λ ks rest h.
-    let inv = c.loop-at.invariant.left ks rest h in
-    let some : 4 * c.loop-at.at + 4 ≤ length c.args.words.now = omega (arith, c.as_chunks.ensures.front_len, c.loop-at-test.true) in
-    let len = read _ _ _ _ c.args.words.now c.as_chunks.ensures.front (omega (arith, some)) c.entry_len-len.ensures in
-    let other : take c.entry_len-len.result (drop c.loop-at.end c.args.bytes.now) ≢ c.args.name.now = elim c.if-len-name.branch [
-      | then-len-name+in-Some+else-bytes_equal w ↦ λ e.
-        is_other w.bytes_equal.ensures w.if-bytes_equal.false
-        (key_cut c.args.bytes.now _ c.loop-at.end c.entry_len-len.result w.in-Some.ensures.lookup.0.2 ∙ e)
-      | else-len-name w ↦
-        key_differs c.args.name.now ks rest c.args.words.now c.args.bytes.now c.loop-at.at c.loop-at.end c.entry_len-len.result inv.0 some inv.1 len
-        w.if-len-name.false
-    ] in (
-      key_passed c.args.name.now ks rest c.args.words.now c.args.bytes.now c.loop-at.at c.loop-at.end c.entry_len-len.result inv.0 some inv.1 len other,
-      key_within c.args.name.now ks rest c.args.words.now c.args.bytes.now c.loop-at.at c.loop-at.end c.entry_len-len.result inv.0 some inv.1 len,
-    );
+      let inv = c.loop-at.invariant.left ks rest h in
+      let some : 4 * c.loop-at.at + 4 ≤ length c.args.words.now = omega (arith, c.as_chunks.ensures.front_len, c.loop-at-test.true) in
+      let len = read _ _ _ _ c.args.words.now c.as_chunks.ensures.front (omega (arith, some)) c.entry_len-len.ensures in
+      let other : take c.entry_len-len.result (drop c.loop-at.end c.args.bytes.now) ≢ c.args.name.now = elim c.if-len-name.branch [
+        | then-len-name+in-Some+else-bytes_equal w ↦ λ e.
+            is_other w.bytes_equal.ensures w.if-bytes_equal.false
+            (key_cut c.args.bytes.now _ c.loop-at.end c.entry_len-len.result w.in-Some.ensures.lookup.0.2 ∙ e)
+        | else-len-name w ↦
+            key_differs c.args.name.now ks rest c.args.words.now c.args.bytes.now c.loop-at.at c.loop-at.end c.entry_len-len.result inv.0 some inv.1 len
+            w.if-len-name.false
+      ] in (
+        key_passed c.args.name.now ks rest c.args.words.now c.args.bytes.now c.loop-at.at c.loop-at.end c.entry_len-len.result inv.0 some inv.1 len other,
+        key_within c.args.name.now ks rest c.args.words.now c.args.bytes.now c.loop-at.at c.loop-at.end c.entry_len-len.result inv.0 some inv.1 len,
+      );
 }
 
 pub returns-clause-found : goal.returns-clause-found
