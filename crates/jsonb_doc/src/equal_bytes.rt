@@ -4,8 +4,8 @@ ghost use Rattle.std.specs.Prelude.{◌≡◌, ◌↔◌, IsTrue, ◌<◌, lengt
 ghost use Rattle.std.specs.Int.{w32, w64};
 ghost use Rattle.jsonb_doc.specs.Private.EqualBytes.{AreEnds};
 
-/// Whether two slices hold the same bytes. Up to 16 are compared by two words, of more the last ones first: keys in order
-/// differ at their ends more often than where they begin.
+/// Whether two slices hold the same bytes. The last ones are looked at first: keys in order differ at their ends more
+/// often than where they begin. Then up to 16 bytes are compared by two words.
 ///
 /// # Cost
 ///
@@ -21,13 +21,16 @@ pub(crate) fn bytes_equal(bytes: &[u8], other: &[u8]) -> bool
     if len < 4 {
         return few_equal(bytes, other);
     }
+    if bytes[len - 1] != other[len - 1] {
+        return false;
+    }
     if len <= 8 {
         return ends(bytes) == ends(other);
     }
     if len <= 16 {
         return long_ends(bytes) == long_ends(other);
     }
-    bytes[len - 1] == other[len - 1] && bytes == other
+    bytes == other
 }
 
 /// The same of fewer than 4 bytes, of which there are as many on both sides.
