@@ -20,7 +20,8 @@ abbrev pub told : List ℕ → ℕ
 told word = from_be_bytes w32 word % 2 ^ 28
 
 -- the word of an entry tells how long its content is
-pub told_length : (words contents : List ℕ) (kind : ℕ) (content ws cs : List ℕ) → BeginWith words contents kind content ws cs → told (take 4 words) ≡ length content
+pub told_length : (words contents : List ℕ) (kind : ℕ) (content ws cs : List ℕ) → BeginWith words contents kind content ws cs
+    → told (take 4 words) ≡ length content
 told_length words contents kind content ws cs b =
     let known = b.known in
     let fits = b.fits in

@@ -132,7 +132,8 @@ fn compared_member(
     ensures meant { (top t : Tree) → are_members (steps_view comparison.now.names.now) ≡ true
         → Locates bytes.now item t
         → Gives (λ found us. AllZip (Locates bytes.now) (option_spots found) us) IsOutOfMemory result
-        (steps_meaning mode (steps_of (map (taken_step AreRefused) (steps_view comparison.now.names.now))) top (t ∷ [])) }
+        (steps_meaning mode (steps_of (map (taken_step AreRefused) (steps_view comparison.now.names.now)))
+        top (t ∷ [])) }
     ensures errors { IfErr result (IsSelectionError mode) }
 {
     match comparison.names {

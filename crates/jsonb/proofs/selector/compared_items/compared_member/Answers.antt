@@ -17,7 +17,8 @@ returns-in-len1-clause-meant c = λ top t all m.
     let few : length c.args.comparison.now.names.now ≤ 1 = omega (arith, c.in-len1.len_below) in
     let none : drop 1 c.args.comparison.now.names.now ≡ [] = drop_of_length-le c.args.comparison.now.names.now few in
     same_outcome
-    (member_next c.args.comparison.now.names.now 0 c.name-item.result (omega (arith, c.in-len1.len_at_least)) c.name-item.is c.args.mode AreRefused top t first.0
+    (member_next c.args.comparison.now.names.now 0 c.name-item.result (omega (arith, c.in-len1.len_at_least))
+    c.name-item.is c.args.mode AreRefused top t first.0
     ∙ ap (λ l. and_then given (steps_meaning c.args.mode (steps_of (map (taken_step AreRefused) (steps_view l))) top)) none
     ∙ nothing_behind c.args.mode top given)
     (c.member_of.ensures.meant top t first.0 m)
