@@ -64,6 +64,12 @@ lengths_added len chunks left words contents rest none sum_is are count all =
     all_added : (n a b r s : ℕ) → n + 0 ≡ a → b ≡ a → b + r ≡ s → n + r ≡ s
     all_added n a b r s e f g = omega (arith, e, f, g)
 
+-- without words nothing stands before the rest
+pub nothing_before : (parts : List (List ℕ)) (words contents rest : List ℕ) → length words ≡ 0 → StandBefore parts words contents rest → contents ≡ rest
+nothing_before [] words contents rest none h = h.1
+nothing_before (part ∷ parts) words contents rest none e =
+    absurd (omega (arith, none, BeginWith-long words contents e.kind e.content e.other_words e.other_contents e.begin))
+
 -- the rest is the end of the contents
 pub StandBefore-joined : (parts : List (List ℕ)) (words contents rest : List ℕ) → StandBefore parts words contents rest
     → (front : List ℕ) × (contents ≡ front ++ rest)

@@ -29,6 +29,7 @@ pub fn contents_len(words: &[u8]) -> usize
 }
 
 /// What follows the contents of these entry words, where there are as many bytes.
+#[inline(always)]
 pub fn skip_contents<'a>(words: &[u8], contents: &'a [u8]) -> Option<&'a [u8]>
     requires { length words.now < 2 ^ 32 }
     ensures rest { (parts : List (List ℕ)) (rest : List ℕ) → StandBefore parts words.now contents.now rest
@@ -36,6 +37,9 @@ pub fn skip_contents<'a>(words: &[u8], contents: &'a [u8]) -> Option<&'a [u8]>
     ensures end { IfSome result (λ r. (front : List ℕ) × (contents.now ≡ front ++ r.now)) }
     ensures size { IfSome result (λ r. length r.now ≤ length contents.now) }
 {
+    if words.is_empty() {
+        return Some(contents);
+    }
     contents.get(contents_len(words)..)
 }
 

@@ -1,4 +1,6 @@
-use Rattle.jsonb_doc.proofs.LengthsLemmas.{StandBefore-joined, IsPart-some, IsPart-end, IsPart-size}
+use Rattle.std.proofs.Common.{arith}
+use Rattle.std.proofs.lemmas.Grind.{common_steps}
+use Rattle.jsonb_doc.proofs.LengthsLemmas.{nothing_before, StandBefore-joined, IsPart-some, IsPart-end, IsPart-size}
 use Rattle.jsonb_doc.proofs.lengths.skip_contents.Goals as goal
 
 pub returns-clause-rest : goal.returns-clause-rest
@@ -12,3 +14,6 @@ returns-clause-size c = IsPart-size _ _ c.get.result c.get.ensures.lookup
 
 pub returns-clause-end : goal.returns-clause-end
 returns-clause-end c = IsPart-end _ _ c.get.result c.get.ensures.lookup
+
+pub returns-then-is_empty-clause-rest : goal.returns-then-is_empty-clause-rest
+returns-then-is_empty-clause-rest c = λ parts rest h. nothing_before parts c.args.words.now c.args.contents.now rest (grind (arith, common_steps)) h
