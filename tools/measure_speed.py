@@ -11,6 +11,7 @@ one allocator that gives nothing back to the system. Both are built for x86-64-v
 alone are timed beside them, where they are documents or bytes: copies of those in vectors of their own, and nothing else.
 """
 import argparse
+import hashlib
 import math
 import os
 import random
@@ -236,7 +237,9 @@ def our_library():
 def driver(rust_crate):
     library = our_library()
     heap = os.path.join(os.path.dirname(subprocess.check_output(["rt", "doc"], text=True).strip()), "c", "liblibc_c.a")
-    flags = f"-C target-cpu=x86-64-v2 -C link-arg={library} -C link-arg={heap}"
+    # The sum has cargo link again where the library is another one.
+    linked = hashlib.sha256(open(library, "rb").read()).hexdigest()
+    flags = f"-C target-cpu=x86-64-v2 -C link-arg={library} -C link-arg={heap} --cfg made_with_{linked}"
     words = ["cargo", "build", "--release", "--target-dir", os.path.join(OUT, "cargo")]
     if rust_crate:
         words += ["--offline", "--config", f'patch.crates-io.jsonb.path="{os.path.abspath(rust_crate)}"']
