@@ -20,7 +20,7 @@ use std::alloc::{AllocError, Global};
 const SHORT: usize = 16;
 
 /// The item at a spot of these bytes as a document of its own, copied as it is stored, in memory of its exact size, or
-/// of 24 bytes where it is shorter: allocators hand out no less.
+/// of 24 bytes where it is shorter: the GNU C library's allocator hands out no less.
 ///
 /// # Errors
 ///
