@@ -1,12 +1,13 @@
 #!/usr/bin/env python3
-"""Tells which public items lack a part of their doc comment, which files docs/PROOFS.md names that are not there or have other
-lines than it says, and which types docs/API.md gives that calls don't have.
+"""Lists the public items that lack a part of their doc comment, the files that docs/PROOFS.md names and that do not exist, and
+the types in docs/API.md that no call of that name returns.
 
     tools/check_docs.py [CRATE..]     of these crates, or of the four that users name; the last line is 'N passed, M failed'
 
-Public are the names that src/lib.rt hands out, all in its `pub mod` files, and the public functions of such types. Each item, each
-variant and each public field has a comment. A function's comment has a heading `# Cost`, and `# Errors` where it answers a Result
-and nowhere else. A law, in laws.rt, says its fact alone.
+Public are the names that src/lib.rt re-exports, all in its `pub mod` files, and the public functions of such types. Each item, each
+variant and each public field has a comment. A function's comment has a heading `# Complexity` (or its older name `# Cost`), and
+`# Errors` if and only if it returns a Result. One that users call has `# Examples` with quoted code or rows: a function that `jsonb`
+re-exports, and each public function of a type or trait that it re-exports. A law, in laws.rt, states only its theorem.
 """
 
 import re
@@ -16,6 +17,7 @@ from pathlib import Path
 
 ROOT = Path(__file__).resolve().parent.parent
 CRATES = ["jsonb_doc", "jsonb_keypath", "jsonb_raw", "jsonb"]
+USED = "jsonb"
 
 ITEM = re.compile(r"pub (?:const )?(fn|struct|enum|trait|const) (\w+)")
 METHOD = re.compile(r"    (?:pub )?(?:const )?(fn|const) (\w+)")
@@ -35,12 +37,23 @@ class Item:
 
 
 def exported(crate):
-    """The names and the modules that a crate's lib.rt hands out."""
+    """The names and the modules that a crate's lib.rt re-exports."""
     text = (crate / "src/lib.rt").read_text()
     names = set()
     for listed in re.findall(r"pub use [\w:]+::(\{[^}]*\}|\w+);", text):
         names.update(re.findall(r"\w+", listed))
     return names, set(re.findall(r"pub mod (\w+);", text))
+
+
+def is_called_by_users(item):
+    """Whether a function, or the type of a method, is among the names that `jsonb` re-exports."""
+    return item.kind == "fn" and item.name.split("::")[0] in exported(ROOT / "crates" / USED)[0]
+
+
+def has_example(comment):
+    """Whether quoted code or a table of rows follows the heading."""
+    examples = comment[comment.index("# Examples"):] if "# Examples" in comment else []
+    return any(line.startswith(("```rust ", "<!-- rows: ")) for line in examples)
 
 
 def sources(crate):
@@ -52,7 +65,7 @@ def sources(crate):
 
 
 def comment_above(lines, at):
-    """The doc comment above a line, behind the attributes between them."""
+    """The doc comment above a line, before the attributes between them."""
     at -= 1
     while at >= 0 and not lines[at].startswith(("    ///", "///")) and lines[at].strip():
         at -= 1
@@ -64,7 +77,7 @@ def comment_above(lines, at):
 
 
 def answers_result(lines, at):
-    """Whether the function at a line answers a Result: its head ends before the first clause."""
+    """Whether the function at a line returns a Result: its head ends before the first clause."""
     head = re.split(r"\n\s+(?:requires|ensures)|\{", "\n".join(lines[at:at + 12]))[0]
     return re.search(r"-> (fmt::)?Result", head) is not None
 
@@ -89,7 +102,7 @@ def members(lines, at):
 
 
 def items(path, is_public):
-    """The public items of a file; `is_public` tells which names are."""
+    """The public items of a file; `is_public` decides which names are."""
     lines = path.read_text().split("\n#[cfg(test)]\nmod tests {")[0].splitlines()
 
     def item(at, name, kind):
@@ -119,12 +132,14 @@ def lacks(item):
         yield "a comment"
     if item.kind != "fn" or "/laws.rt" in item.place:
         return
-    if "# Cost" not in item.comment:
-        yield "# Cost"
+    if "# Complexity" not in item.comment and "# Cost" not in item.comment:
+        yield "# Complexity"
     if item.answers_result and "# Errors" not in item.comment:
         yield "# Errors"
     if not item.answers_result and "# Errors" in item.comment:
         yield "a Result for its # Errors"
+    if is_called_by_users(item) and not has_example(item.comment):
+        yield "# Examples"
 
 
 def named_places():
@@ -137,24 +152,8 @@ def named_places():
             yield f"docs/PROOFS.md:{at + 1}", ROOT / "crates" / (owner or crate) / place
 
 
-def lines_to_believe(place):
-    """How many lines a file of specs/, or all that has to be believed there, has without comments and imports."""
-    if place.is_dir():
-        return sum(map(lines_to_believe, place.glob("*.antt")))
-    lines = (line.strip() for line in place.read_text().splitlines()) if place.is_file() else ()
-    return sum(bool(line) and not line.startswith(("--", "use ", "pub use ", "pub mod ")) for line in lines)
-
-
-def counted_places():
-    """The places in specs/ that docs/PROOFS.md gives with their lines: where, the place, and the lines."""
-    for at, line in enumerate((ROOT / "docs/PROOFS.md").read_text().splitlines()):
-        for crate, name, lines in re.findall(r"^\| (?:all of )?`(\w+)/specs(/\w+)?` \| (\d+) \|", line):
-            place = ROOT / "crates" / crate / "specs"
-            yield f"docs/PROOFS.md:{at + 1}", place / f"{name[1:]}.antt" if name else place, int(lines)
-
-
 def answered_types():
-    """For each public function's name, alone and behind its type and `::`, the types that functions of that name answer."""
+    """For each public function's name, alone and after its type and `::`, the types that functions of that name return."""
     found = {}
     for name in CRATES:
         for path, _ in sources(ROOT / "crates" / name):
@@ -168,21 +167,21 @@ def answered_types():
 
 
 def plain_type(text):
-    """A type without lifetimes and `Global`: what is in a `Result`, and another type with API.md's words behind it."""
+    """A type without lifetimes and `Global`: what is in a `Result`, and another type followed by API.md's words."""
     text = LIFETIME.sub("", " ".join(text.split()))
     inner = re.fullmatch(r"Result<(.*), \w+>", text)
     return inner[1] if inner else f"{text}, no Result"
 
 
 def given_types():
-    """The calls of docs/API.md in tables that have a column `Gives`, each with its line and that type."""
+    """The calls of docs/API.md in tables whose second column is `Returns`, each with its line and that type."""
     is_given = False
     for at, line in enumerate((ROOT / "docs/API.md").read_text().splitlines()):
         cells = [cell.strip() for cell in re.split(r"(?<!\\)\|", line)]
         if not line.startswith("|"):
             is_given = False
-        elif "Gives" in cells:
-            is_given = cells.index("Gives") == 2
+        elif "Returns" in cells:
+            is_given = cells.index("Returns") == 2
         elif is_given and "`" in cells[2]:
             for call in re.findall(r"`(\w+(?:::\w+)?)\(", cells[1]):
                 yield f"docs/API.md:{at + 1}", call, cells[2].replace("`", "")
@@ -197,9 +196,6 @@ def faults(crates):
     for line, place in named_places():
         is_there = place.is_dir() or place.with_suffix(".antt").is_file()
         yield "" if is_there else f"{line} names {place.relative_to(ROOT)}, which is not there"
-    for line, place, lines in counted_places():
-        counted = lines_to_believe(place)
-        yield "" if lines == counted else f"{line} gives {place.relative_to(ROOT)} {lines} lines, it has {counted}"
     types = answered_types()
     for line, call, given in given_types():
         has = types.get(call, set())

@@ -1,19 +1,19 @@
 #!/usr/bin/env python3
-"""Tries the must-fail edits: the prover must refuse each wrong body for itself.
+"""Tries the must-fail edits: the prover must reject each mutant on its own.
 
   check_edits.py [NAME..]            the edits of these crates, or of all, over the proofs that rt check kept in out/
-  check_edits.py --anew [NAME..]     also those that were tried before, over proofs made from nothing
+  check_edits.py --anew [NAME..]     also those that were tried before, over proofs made from scratch
   check_edits.py --list [NAME..]     prints the function that each edit changes, and tries nothing
 
 An edit file may hold several edits: pairs of `old:` and `new:` in the bodies of different functions, with lines of
-words that begin with `#` between them. Each of those functions must be refused for itself: by a goal of its own that
-the search does not prove, or by an error in its own proof; not because it calls another that is refused. A body changes
-no contract, so that one pair can't be what refuses another's function. Hence two edits of one function or of one cycle
-of calls, and a pair outside any body, stand in files of their own; pairs in one function are one edit.
+words that begin with `#` between them. Each of those functions must fail on its own: by a goal of its own that
+automatic search does not prove, or by an error in its own proof; not because it calls another that fails. A body changes
+no contract, so one pair cannot make another's function fail. Hence two edits of one function or of one cycle of calls,
+and a pair outside any body, are in separate files; pairs in one function are one edit.
 
 This is rt must-fail, and what gate.py tries of edits is rt ci's own: how an edit is read, checked and kept, and what it
 begins with, is what rt says. Two things are changed: of the crate only the functions that the edit changes are checked,
-with what they call; and a file counts as refused only where each of its functions is refused for itself.
+with what they call; and a file counts as rejected only if each of its functions fails on its own.
 """
 import argparse
 import hashlib
@@ -32,11 +32,11 @@ from edits import rt, say
 
 # What the prover says of a proof that names something which the edit took away: that says nothing of the contract.
 NAMES_WHAT_IS_GONE = re.compile(r"has no field|is not in scope(?! here, so what is shown)|has no `|was not admitted")
-# Where it says that a goal without a written proof is open.
+# What it says of an open goal without a written proof.
 OPEN_GOAL = re.compile(r"^note: (src/\S+?):(\d+):\d+: it is not proved that", re.M)
 
 this_thread = threading.local()
-# What the prover said of each crate as it stands, by its name.
+# What the prover said of each unchanged crate, by its name.
 proofs = {}
 checked_by_rt, must_fail_by_rt, seeded_by_rt, of_edit_by_rt = rt.checked, rt.must_fail, rt.seeded, rt.Kept.of_edit
 
@@ -45,10 +45,10 @@ checked_by_rt, must_fail_by_rt, seeded_by_rt, of_edit_by_rt = rt.checked, rt.mus
 
 
 def remember_check(crate, texts, flags, kept):
-    """Stands in the place of rt's checked, so that the prover's output can be read once rt has judged it.
+    """Replaces rt's checked, so that the prover's output can be read once rt has judged it.
 
-    A check of a few functions gives no verdict, but says how many of them are proved. What rt asks of a verdict's line is
-    said where those are not all.
+    A check of a few functions gives no verdict, but says how many of them are proved. If they are not all, it gets
+    the line that rt expects of a verdict.
     """
     ran = this_thread.check = checked_by_rt(crate, texts, flags, kept)
     if not texts and not ran.returncode:
@@ -60,9 +60,9 @@ def remember_check(crate, texts, flags, kept):
 
 
 def fault_of_refusal(crate, function, said, texts):
-    """Returns why the prover's output does not refuse the function for itself, or None where it does.
+    """Returns why the prover's output does not reject the function on its own, or None if it does.
 
-    The texts are those of the files that the edit changes, by their path.
+    `texts` holds the contents of the files that the edit changes, by their path.
     """
     lines = function.lines(crate, said)
     names = {name for name, _ in lines if "fn::" not in name}
@@ -79,7 +79,7 @@ def fault_of_refusal(crate, function, said, texts):
     refused = [name.split("::") for name, verdict in lines if not verdict.startswith("proved")]
     folders = ["/".join(map(re.escape, it[:-1])) + rf"{'/' if it[1:] else ''}\+?{re.escape(it[-1])}" for it in refused]
     folders += [rf"(?:[\w/]+/)?\+{function.cycle}"] if function.cycle else []
-    # (What an error says goes on in the rows below it, which stand further right.)
+    # (What an error says goes on in the rows below it, which are further right.)
     errors = re.findall(rf"^\./proofs/(?:{'|'.join(folders)})/.*: error: .*(?:\n  .*)*", said, re.M)
     if any(not NAMES_WHAT_IS_GONE.search(it) for it in errors):
         return None
@@ -89,14 +89,14 @@ def fault_of_refusal(crate, function, said, texts):
 
 
 def only(crate, functions):
-    """Returns the words that have these functions checked alone, none where the crate's proof does not name each once."""
+    """Returns the words that have only these functions checked, none if the crate's proof does not name each once."""
     said = proofs.get(crate, "")
     named = [{path for path, _ in it.lines(crate, said) if "fn::" not in path} if it else () for it in functions]
     return [word for it in named for word in ("--only", *it)] if all(len(it) == 1 for it in named) else []
 
 
 def must_fail(crate, edit, flags, kept=None):
-    """Stands in the place of rt's must_fail: an edit is missed, too, where a function of it is not refused for itself."""
+    """Replaces rt's must_fail: an edit is missed, too, if one of its functions does not fail on its own."""
     name = f"must-fail {crate.name}/{os.path.basename(edit)}"
     functions, fault = edits.read(edit, crate.folder)
     if fault:

@@ -1,11 +1,11 @@
 #!/usr/bin/env python3
-"""Documents from JSON texts, for people and for the tables of docs/.
+"""Documents from JSON text, for people and for the rows in docs/rows/.
 
     tools/documents.py '[false, 10, {"k":"v"}]'     prints the document in hexadecimal
     tools/documents.py --text 80000001200000025001  prints the JSON text of a canonical document
 
-It is written from docs/FORMAT.md alone and shares nothing with the crates. Whole numbers of 64 bits and numbers with a
-point, as 12.34, are read; numbers with an exponent are not. No text stands for an extension.
+It is written from docs/FORMAT.md alone and shares nothing with the crates. 64-bit integers and numbers
+with a point, such as 12.34, are read; numbers with an exponent are not. Extension values have no JSON text.
 """
 
 import json
@@ -23,7 +23,7 @@ def word(value):
 
 
 def integer(value):
-    """The payload of a whole number, in its fewest bytes."""
+    """The payload of an integer, in its fewest bytes."""
     if value == 0:
         return b"\x00"
     tag, signed = (b"\x50", False) if value > 0 else (b"\x40", True)

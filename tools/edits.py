@@ -1,4 +1,4 @@
-"""The must-fail edits of the crates: where they stand, and which functions they change."""
+"""The must-fail edits of the crates: their positions, and the functions they change."""
 import importlib.machinery
 import importlib.util
 import os
@@ -75,10 +75,10 @@ def indent(row):
 
 
 def header_above(rows):
-    """Returns the index of the header of the function whose body the last row is in, or None where it is in none.
+    """Returns the index of the header of the function whose body contains the last row, or None.
 
-    In rt fmt's layout a header stands further left than its body, which begins behind a row of the header's column that
-    ends in `{`, and ends at a row `}` of that column.
+    In rt fmt's layout a header is further left than its body, which begins after a row of the header's column that ends in
+    `{`, and ends at a row `}` of that column.
     """
     for at in reversed(range(len(rows) - 1)):
         if FUNCTION.match(rows[at]) and indent(rows[at]) < indent(rows[-1]):
@@ -98,7 +98,7 @@ def cycle_of(rows, header):
 
 
 def function_below(path, rows, header):
-    """Returns the function with this header in a file's rows, or None where it is a method of no known type."""
+    """Returns the function with this header in a file's rows, or None if it is a method of no known type."""
     name, cycle = FUNCTION.match(rows[header])[2], cycle_of(rows, header)
     if not indent(rows[header]):
         module = path.removeprefix("src/").removesuffix(".rt").replace("/", "::")
@@ -107,8 +107,8 @@ def function_below(path, rows, header):
     impl = next((it for it in impls if it), None)
     if not impl:
         return None
-    # A method stands under its type, whose module need not be the file's. One of a trait stands as in
-    # NumberPartialEq::eq, and of a trait with an argument as in ErrorFromAllocError::from, or ExistsRowCallU8::answer.
+    # A method is named by its type, whose module need not be the file's. One of a trait is named like
+    # NumberPartialEq::eq, and of a trait with an argument like ErrorFromAllocError::from, or `ExistsRowCallU8::answer`.
     _, trait, argument, owner = impl.groups()
     argument = argument[0].upper() + argument[1:] if argument else ""
     owner += rf"{trait}{argument}\w*" if trait else ""
@@ -116,7 +116,7 @@ def function_below(path, rows, header):
 
 
 def function_of(path, text, old, new):
-    """Returns the function whose body a pair changes in a file's text, or None where it changes no body alone."""
+    """Returns the function whose body a pair changes in a file's text, or None if it does not change one body only."""
     end = text.find("\n", text.index(old) + indent(old))
     rows = text[: end if end >= 0 else len(text)].split("\n")
     begins_body = FUNCTION.match(rows[-1]) and old.endswith("{") and new.startswith(old)
@@ -170,10 +170,10 @@ def read(edit, folder):
 def edits_below(top, names):
     """Returns the crates below a folder, the lowest first, each with the edits that can be tried; and the faults.
 
-    Where names are given, the edits of other crates are left out.
+    If names are given, the edits of other crates are left out.
     """
     crates, faults = [], []
-    # (What a measurement copied lies in a folder out, and is no crate of the repository.)
+    # (The copies that a measurement made are in a folder out, and not crates of the repository.)
     for crate in [it for it in rt.rtlib.crates_below(top) if "/out/" not in os.path.relpath(it.folder, top)]:
         good, bad = rt.edits_of(crate) if not names or crate.name in names else ([], [])
         why = {it: read(it, crate.folder)[1] for it in good}

@@ -4,14 +4,14 @@
   gate.py            what CI runs. What passes is kept on this machine, by the sums of all that it read, as rt ci keeps it: a
                      later run proves and tries only what changed and the crates above it, and runs every test and program
   gate.py NAME..     the same for these crates and those below them alone: not the gate, but what passes is kept for it
-  gate.py --anew     proves and tries all
+  gate.py --anew     proves and tries everything
 
 rt ci by itself proves a crate three times from nothing: once, once with its tests, and once for its edits. This runs rt's
 own program on a copy of the repository, with three things changed:
 
   - what the proof of a crate made, which begins from nothing, stays until the run ends;
   - the crate's tests, its program and its static library are checked over that work, and so are the crates above it;
-  - its edits are tried over it too, as check_edits.py says, beside all that is still to be proved.
+  - its edits are tried over it too, as check_edits.py says, in parallel with what is still to be proved.
 
 So the prover says `incremental=trusted` of each crate: it trusts the files that this run wrote in its own folder. rt ci
 by itself, which trusts none, takes the repository as well, and nothing that is kept here. The work tree gets the programs
@@ -69,7 +69,7 @@ class ProvedOnce(rt.Crate):
         return status or self.link(f"{to}.o", to) or self.compile_by("rattle", words, to)
 
     def build_library(self, flags):
-        """Builds the static library over the crate's proof, and puts it where rt keeps what a crate's proof made."""
+        """Builds the static library over the crate's proof, and puts it with what a crate's proof made."""
         status, folder = self.build_static(flags), f"{self.folder}/out/rlib/{self.name}.rlib"
         if not status:
             os.makedirs(folder, exist_ok=True)
@@ -116,7 +116,7 @@ def in_lanes(tasks):
 
 
 def as_if_given(more, call):
-    """Returns the call of a task that takes this as given, beside what was given so far."""
+    """Returns the call of a task that takes this as given, in addition to what was given so far."""
     return lambda given, jobs: call(ChainMap(given, more), jobs)
 
 

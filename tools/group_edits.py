@@ -3,8 +3,8 @@
 
   group_edits.py [--most N] [NAME..]   in these crates, or in all
 
-Whoever writes an edit puts it alone into a file whose name says in words what the wrong body is. This program reads all
-edit files, takes groups apart, and writes them anew: edits of one source file go together, then those of its folder.
+Each new edit is alone in a file whose name says in words what the mutant does. This program reads all edit files, takes
+groups apart, and writes them again: edits of one source file go together, then those of its folder.
 The words become a comment line before each edit of a group. Edits of one function or of one cycle of calls go into
 different files; what lies outside any body, or in more bodies than one, stays alone.
 """
@@ -52,7 +52,7 @@ def text_of(together):
 
 
 def read_edits(file, folder):
-    """Returns the edits of a file, each with the words before it, or the file's name as words where it has none."""
+    """Returns the edits of a file, each with the words before it, or the file's name as words if there are none."""
     found, words, rows = [], "", []
     with open(file, encoding="utf-8") as it:
         given = it.read().splitlines()

@@ -29,13 +29,13 @@ def minutes(since):
 
 
 def be_nice(by):
-    """Has what this thread starts wait for the processor behind what is less nice."""
+    """Lets what this thread starts wait for processes that are less nice."""
     with contextlib.suppress(OSError):
         os.setpriority(os.PRIO_PROCESS, threading.get_native_id(), by)
 
 
 def do_task(key, call, *given):
-    """Does a task, says how long it took and at once where an edit is not refused, and returns what it gave.
+    """Does a task, reports how long it took, and at once any edit that was proved, and returns its result.
 
     Other tasks wait for a proof, so what it does goes before what they do.
     """
@@ -51,11 +51,11 @@ def do_task(key, call, *given):
 
 
 def in_lanes(tasks):
-    """Does tasks side by side, so many at once, and returns what each gave, by its key.
+    """Does tasks in parallel, up to the number of lanes, and returns the result of each by its key.
 
     A key begins with a crate's name and the kind of the task. A task is what it waits for, its work in lines, its memory,
     and a call that takes what was given so far and how many jobs it may use. Of those that are ready, the first goes
-    first. Proofs that can be made at one time share all lanes as jobs, or all but one where another task is there to use
+    first. Proofs that can be made at one time share all lanes as jobs, or all but one if another task can use
     that one; any other task has one.
     """
     lanes, running, given = lanes_here(), {}, {}

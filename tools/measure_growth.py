@@ -1,12 +1,13 @@
 #!/usr/bin/env python3
-"""How the cost of each call grows with its document or path, and how fast `check` is.
+"""Measures how the cost of each call grows with its document or path, and how fast `check` is.
 
-  measure_growth.py [--only WORD] [--write]   prints the tables; --write puts them into docs/PERFORMANCE.md
-  measure_growth.py --times ..                by time (best of five) where instructions would be counted
+  measure_growth.py [--only WORD]   prints the figures
+  measure_growth.py --write         writes docs/measured/growth.csv and check.csv, and the tables of docs/PERFORMANCE.md
+  measure_growth.py --times ..      takes times (best of five) instead of counting instructions
 
-Needs `rt` and `cc`, and `valgrind` with its headers to count instructions, else times are taken. The crates are proved first where
-they are not. The work lies in tools/speed/out, and the repository is left as it is. A series ends where its next call would
-take longer than a tenth of a second.
+Needs `rt` and `cc`, and `valgrind` with its headers to count instructions; otherwise it takes times. Proves the crates first if
+necessary. Works in tools/speed/out and leaves the repository unchanged. A series ends if its next call would take longer than a tenth
+of a second.
 """
 import argparse
 import hashlib
@@ -25,8 +26,9 @@ sys.dont_write_bytecode = True
 TOP = os.path.dirname(os.path.dirname(os.path.abspath(__file__)))
 sys.path.insert(0, os.path.join(TOP, "tools"))
 import measure_speed
+import measured
 from documents import encode as document
-from measure_speed import HERE, OUT, write_between
+from measure_speed import HERE, OUT
 from nested import nested
 
 SIZES = [100, 1_000, 10_000, 100_000]
@@ -57,7 +59,7 @@ class Series:
     sizes: list[int]
 
 
-# ---- documents and texts
+# ---- documents and inputs
 
 
 def numbers(count: int, first: int = 0) -> bytes:
@@ -104,11 +106,11 @@ def of_arrays() -> Iterator[Series]:
     yield of("`concat` of two", "concat", lambda n: Made(numbers(n), other=numbers(n)))
     yield of("`array_intersection`", "array_intersection", lambda n: Made(numbers(n), other=shuffled(n)))
     yield of("`array_except`", "array_except", lambda n: Made(numbers(n), other=shuffled(n)))
-    yield of("`contains`, in the same order", "contains", lambda n: Made(numbers(n), other=numbers(n)))
-    yield of("`contains`, in no order", "contains", lambda n: Made(numbers(n), other=shuffled(n)))
+    yield of("`contains`, same order", "contains", lambda n: Made(numbers(n), other=numbers(n)))
+    yield of("`contains`, shuffled", "contains", lambda n: Made(numbers(n), other=shuffled(n)))
     yield of("`contains`, objects in the same order", "contains", lambda n: Made(boxes(range(n)), other=boxes(range(n))))
-    yield of("`contains`, objects in no order", "contains", lambda n: Made(boxes(range(n)), other=boxes(order(n))))
-    yield of("`array_overlap`, nothing shared", "array_overlap", lambda n: Made(numbers(n), other=numbers(n, n)))
+    yield of("`contains`, shuffled objects", "contains", lambda n: Made(boxes(range(n)), other=boxes(order(n))))
+    yield of("`array_overlap`, disjoint", "array_overlap", lambda n: Made(numbers(n), other=numbers(n, n)))
 
 
 def of_objects() -> Iterator[Series]:
@@ -124,8 +126,8 @@ def of_objects() -> Iterator[Series]:
     yield of("`get_by_name_ignore_case`, the last", "get_by_name_ignore_case", lambda n: Made(wide(n), f"K{n - 1:06}".encode()))
     yield of("`object_insert`, in the middle", "object_insert", lambda n: Made(wide(n), f"k{n // 2:06}x".encode(), document(7)))
     yield of("`delete_by_keypath`", "delete_by_keypath", lambda n: Made(wide(n), b"{" + names(range(n - 1, n)) + b"}"))
-    yield of("`exists_all_keys`, n rising names", "exists_all_keys", lambda n: Made(wide(n), names(range(n))))
-    yield of("`exists_all_keys`, n falling names", "exists_all_keys", lambda n: Made(wide(n), names(range(n - 1, -1, -1))))
+    yield of("`exists_all_keys`, n sorted names", "exists_all_keys", lambda n: Made(wide(n), names(range(n))))
+    yield of("`exists_all_keys`, n names in reverse order", "exists_all_keys", lambda n: Made(wide(n), names(range(n - 1, -1, -1))))
     yield of("`exists_any_keys`, n missing names", "exists_any_keys", lambda n: Made(wide(n), names(range(n, 2 * n))))
     yield of("`object_pick`, n names", "object_pick", lambda n: Made(wide(n), names(range(n))))
     yield of("`object_delete`, n / 2 names", "object_delete", lambda n: Made(wide(n), names(range(0, n, 2))))
@@ -164,12 +166,12 @@ def of_texts() -> Iterator[Series]:
 
     texts = [("n fields", fields), ("n conditions", conditions), ("n parentheses", parentheses)]
     for name, text in texts:
-        yield of(f"read a path of {name}", "parse_path", text)
-    yield of("read a key path of n steps", "parse_keypath", lambda n: "{" + ",".join(["k"] * n) + "}")
-    for call, what in (("path_clone", "copy"), ("path_to_owned", "own"), ("path_equal", "compare"), ("path_print", "print")):
-        yield of(f"read and {what} a path of n fields", call, fields)
-        yield of(f"read and {what} a path of n conditions", call, conditions)
-    yield of("read, and run on two elements: n conditions", "exists", conditions, document([0, 1]))
+        yield of(f"parse a path of {name}", "parse_path", text)
+    yield of("parse a key path of n steps", "parse_keypath", lambda n: "{" + ",".join(["k"] * n) + "}")
+    for call, what in (("path_clone", "clone"), ("path_to_owned", "own"), ("path_equal", "compare"), ("path_print", "print")):
+        yield of(f"parse and {what} a path of n fields", call, fields)
+        yield of(f"parse and {what} a path of n conditions", call, conditions)
+    yield of("parse, and evaluate on two elements: n conditions", "exists", conditions, document([0, 1]))
 
 
 def of_depth() -> Iterator[Series]:
@@ -203,20 +205,22 @@ def of_nesting() -> Iterator[Series]:
 
     lists = numbers(100)
     for text in (exists, compared):
-        yield Series(f"`{text(2)}`, so deep", "select", lambda n, t=text: Made(lists, t(n).encode()), NESTINGS)
-    yield Series("`$.**.**`, so often, at depth 10", "select", lambda n: Made(nested("only", 10), below(n).encode()), [1, 2, 4])
+        yield Series(f"`{text(2)}`, nested n deep", "select", lambda n, t=text: Made(lists, t(n).encode()), NESTINGS)
+    yield Series("`$.**.**`, n times, at depth 10", "select", lambda n: Made(nested("only", 10), below(n).encode()), [1, 2, 4])
 
 
 def of_checks() -> Iterator[Series]:
-    """Series of one size each, which is what a call reads: bytes of text, or entries."""
-    ascii_text = document("plain text. " * 100_000)
-    other_text = document("größer als ∅ " * 100_000)
-    for call in ("check", "memcpy"):
-        yield Series(f"`{call}`, a text of 1.2 MB, ASCII", call, lambda n: Made(ascii_text), [len(ascii_text)])
-        yield Series(f"`{call}`, a text of 1.8 MB, not ASCII", call, lambda n: Made(other_text), [len(other_text)])
-        yield Series(f"`{call}`, 100,000 whole numbers", call, lambda n: Made(numbers(100_000)), [100_000])
-        yield Series(f"`{call}`, 100,000 pairs", call, lambda n: Made(wide(100_000)), [100_000])
-        yield Series(f"`{call}`, 100,000 objects of 4 pairs", call, lambda n: Made(people(100_000)), [400_000])
+    """Series of one size each, for `check` and a copy of the same document."""
+    documents = [
+        ("a string of 1.2 MB, ASCII", document("plain text. " * 100_000)),
+        ("a string of 1.7 MB, not ASCII", document("größer als ∅ " * 100_000)),
+        ("100,000 integers", numbers(100_000)),
+        ("100,000 members", wide(100_000)),
+        ("100,000 objects of 4 members", people(100_000)),
+    ]
+    for name, value in documents:
+        for call in ("check", "memcpy"):
+            yield Series(f"`{call}`, {name}", call, lambda n, v=value: Made(v), [len(value)])
 
 
 # ---- building
@@ -302,11 +306,11 @@ def costs(program: str, chosen: list[Series], by_time: bool) -> Costs:
     return counts(program, [line for line in lines if (line.split("\t")[0], int(line.split("\t")[1])) in timed])
 
 
-# ---- tables
+# ---- figures
 
 
 def exponent(series: Series, found: Costs) -> str:
-    """Of the last step that was measured: 1 is linear."""
+    """The exponent of the last step that was measured: 1 is linear."""
     sizes = [n for n in series.sizes if (series.name, n) in found]
     if len(sizes) < 2:
         return ""
@@ -314,57 +318,44 @@ def exponent(series: Series, found: Costs) -> str:
     return f"{math.log(found[series.name, many] / found[series.name, few]) / math.log(many / few):.2f}"
 
 
-def figure(cost: float | None) -> str:
-    if cost is None:
-        return ""
-    return f"{cost:,.0f}" if cost >= 10 else f"{cost:.1f}"
+def figures(unit: str, series: Series, found: Costs, per: bool) -> dict[str, str]:
+    """The row of docs/measured/growth.csv: the cost of each unit, or of the whole call."""
+    row = {"unit": unit, "call": series.name, "exponent": exponent(series, found)}
+    for n in series.sizes:
+        if (cost := found.get((series.name, n))) is not None:
+            figure = cost / n if per else cost
+            row[str(n)] = f"{figure:.0f}" if figure >= 10 else f"{figure:.1f}"
+    return row
 
 
-def escaped(name: str) -> str:
-    return name.replace("|", "\\|")
-
-
-def table(head: str, chosen: list[Series], found: Costs, per: bool = True) -> str:
-    sizes = sorted({n for series in chosen for n in series.sizes})
-    rows = [f"| {head} | " + " | ".join(f"{n:,}" for n in sizes) + " | Exponent |", "|---" * (len(sizes) + 2) + "|"]
-    for series in chosen:
-        shown = [found.get((series.name, n)) for n in sizes]
-        cells = [figure(c / n if c is not None and per else c) for c, n in zip(shown, sizes)]
-        rows.append(f"| {escaped(series.name)} | " + " | ".join(cells) + f" | {exponent(series, found)} |")
-    return "\n".join(rows)
-
-
-def check_table(program: str, chosen: list[Series]) -> str:
+def check_figures(program: str) -> Iterator[dict[str, str]]:
+    """The rows of docs/measured/check.csv: a document, read by `check` and copied."""
+    chosen = list(of_checks())
     lines = [line_of(series, series.sizes[0]) for series in chosen]
     found = times(program, lines)
-    rows = ["| Call | ns | Bytes a ns | ns an entry |", "|---|---|---|---|"]
-    for series, line in zip(chosen, lines):
-        size = series.sizes[0]
-        took, read = found[series.name, size], os.path.getsize(line.split("\t")[5])
-        entry = "" if "text" in series.name else f"{took / size:.2f}"
-        rows.append(f"| {series.name} | {took:,.0f} | {read / took:.2f} | {entry} |")
-    return "\n".join(rows)
+    for check, copy, line in zip(chosen[::2], chosen[1::2], lines[::2]):
+        took = [f"{found[it.name, it.sizes[0]]:.0f}" for it in (check, copy)]
+        size = os.path.getsize(line.split("\t")[5])
+        yield dict(zip(measured.COLUMNS["check"], [check.name.split(", ", 1)[1], *took, size]))
 
 
 PARTS = [
-    ("Elements of an array", of_arrays, True),
-    ("Pairs of an object", of_objects, True),
-    ("Elements or pairs, by path", of_selections, True),
-    ("Steps, conditions or parentheses of a path", of_texts, True),
-    ("Levels of a document", of_depth, True),
-    ("Filters or steps within one another", of_nesting, False),
+    ("elements of an array", of_arrays, True),
+    ("members of an object", of_objects, True),
+    ("elements or members, by path", of_selections, True),
+    ("steps, conditions or parentheses of a path", of_texts, True),
+    ("levels of a document", of_depth, True),
+    ("nested filters or steps", of_nesting, False),
 ]
 
 
-def page(program: str, only: str, by_time: bool) -> Iterator[str]:
-    for head, part, per in PARTS:
+def growth_figures(program: str, only: str, by_time: bool) -> Iterator[dict[str, str]]:
+    for unit, part, per in PARTS:
         chosen = [series for series in part() if only in series.name]
         if chosen:
-            print(f"{len(chosen)} series: {head}", file=sys.stderr)
-            yield table(head, chosen, costs(program, chosen, by_time), per)
-    checks = [series for series in of_checks() if only in series.name]
-    if checks:
-        yield check_table(program, checks)
+            print(f"{len(chosen)} series: {unit}", file=sys.stderr)
+            found = costs(program, chosen, by_time)
+            yield from (figures(unit, series, found, per) for series in chosen)
 
 
 def main() -> None:
@@ -373,10 +364,15 @@ def main() -> None:
     words.add_argument("--times", action="store_true")
     words.add_argument("--write", action="store_true")
     asked = words.parse_args()
+    if asked.only and asked.write:
+        words.error("--write takes all cases")
     shutil.rmtree(os.path.join(OUT, "files"), ignore_errors=True)
     os.makedirs(os.path.join(OUT, "files"))
-    text = "\n\n".join(page(driver(), asked.only, asked.times or not shutil.which("valgrind")))
-    write_between("growth", text) if asked.write else print(text)
+    program = driver()
+    growth = list(growth_figures(program, asked.only, asked.times or not shutil.which("valgrind")))
+    found = {"growth": growth, "check": [] if asked.only else list(check_figures(program))}
+    for name, rows in found.items():
+        measured.save(name, rows) if asked.write else print(measured.as_csv(name, rows))
     shutil.rmtree(os.path.join(OUT, "files"))
 
 

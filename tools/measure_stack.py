@@ -1,14 +1,15 @@
 #!/usr/bin/env python3
-"""How much of the machine's stack the calls take, on documents and paths nested a million deep.
+"""Measures the stack that calls use, on documents and paths nested a million deep.
 
-  measure_stack.py            each call under a stack of 256 KiB: it must end with the answer of a model, or be known to need
-                              more (NEEDS_MORE). The last line is 'N passed, M failed'
-  measure_stack.py --table    the least stack that each call ends in, as the table of docs/STACK.md
-  measure_stack.py --more     the same test of the calls that C lacks, which the gate does not run; with --table their table
+  measure_stack.py            runs each call in 256 KiB: it must return the result of a model, or be listed in NEEDS_MORE. The last
+                              line is 'N passed, M failed'
+  measure_stack.py --table    prints the least stack that each call returns in; with --write, writes docs/measured/stack.csv
+  measure_stack.py --more     runs the calls that C lacks, which the gate does not; with --table, their least stacks, and with
+                              --write docs/measured/stack_more.csv
 
-With --write a table goes into docs/STACK.md. bindings/c/deep.c makes the documents and the calls; this script builds it with the
-library of bindings/c (`make -C bindings/c`). For --more, tools/speed/calls.c makes the calls and tools/nested.py the documents; the
-library is built as tools/measure_growth.py builds it, and the work lies in tools/speed/out.
+--write also writes the tables of docs/STACK.md. bindings/c/deep.c builds the documents and makes the calls, with the library of
+bindings/c (`make -C bindings/c`). For --more, tools/speed/calls.c makes the calls and tools/nested.py the documents, with the library
+that tools/measure_growth.py builds, in tools/speed/out.
 """
 import os
 import resource
@@ -21,13 +22,16 @@ sys.dont_write_bytecode = True
 TOP = os.path.dirname(os.path.dirname(os.path.abspath(__file__)))
 sys.path.insert(0, os.path.join(TOP, "tools"))
 import measure_growth
-from measure_speed import write_between
+import measured
 from nested import SHAPES, TURNS, nested
 
 DEEP = os.path.join(TOP, "bindings", "c", "out", "deep")
 SPEED = os.path.join(TOP, "tools", "speed", "out")
+SWEEP = os.path.join(TOP, "crates", "jsonb_sweep", "out", "jsonb_sweep")
 TEXT = 1 << 20
 MILLION = 1_000_000
+# How deep values and paths are that jsonb_sweep decodes: each level is some hundred bytes of memory.
+DECODED = 200_000
 # The greatest level that a wide sortable key has room for.
 WIDE = 65_535
 
@@ -37,14 +41,14 @@ class Run:
     call: str
     shape: str
     levels: int
-    answer: str | None  # what deep prints, or None where only the end is asked for
+    answer: str | None  # what deep prints, or None if any result will do
 
 
 # ---- the model
 
 
 def turns(shape, levels):
-    """How often each simple shape stands in a document."""
+    """The number of levels of each simple shape in a document."""
     if shape != "alternating":
         return {shape: levels}
     return {s: (levels + 3 - i) // 4 for i, s in enumerate(TURNS)}
@@ -68,7 +72,7 @@ def wide_key_len(shape, levels):
 
 
 def distinct_len(shape, length):
-    """An object becomes an array of it. Of the two numbers beside a child in the middle one is left."""
+    """An object becomes an array of itself. One of the two numbers around a middle child is left."""
     return length + {"pair": 8, "middle": -6}.get(shape, 0)
 
 
@@ -80,43 +84,43 @@ def joined_len(shape, length):
 def document_runs(shape):
     length = document_len(shape, MILLION)
     numbers_at_root = shape in ("last", "first", "middle", "alternating")
-    yield Run("check", shape, MILLION, "JSONB_OK 0 0")
-    yield Run("contains", shape, MILLION, "JSONB_OK 0 0")
-    yield Run("array_overlap", shape, MILLION, f"JSONB_OK 0 {int(numbers_at_root)}")
-    yield Run("equality_key", shape, MILLION, f"JSONB_OK {equality_key_len(shape, MILLION)} 0")
-    yield Run("sort_key", shape, MILLION, "JSONB_TOO_DEEP 0 0")
-    yield Run("sort_key_wide", shape, MILLION, "JSONB_TOO_DEEP 0 0")
-    yield Run("sort_key_wide", shape, WIDE - 1, f"JSONB_OK {wide_key_len(shape, WIDE - 1)} 0")
-    yield Run("sort_key_wide", shape, WIDE, "JSONB_TOO_DEEP 0 0")
-    yield Run("strip_nulls", shape, MILLION, f"JSONB_OK {length} 0")
-    yield Run("array_distinct", shape, MILLION, f"JSONB_OK {distinct_len(shape, length)} 0")
-    yield Run("concat", shape, MILLION, f"JSONB_OK {joined_len(shape, length)} 0")
-    yield Run("select_below", shape, MILLION, "JSONB_OK 0 1")
+    yield Run("check", shape, MILLION, "JDOC_OK 0 0")
+    yield Run("contains", shape, MILLION, "JDOC_OK 0 0")
+    yield Run("array_overlap", shape, MILLION, f"JDOC_OK 0 {int(numbers_at_root)}")
+    yield Run("equality_key", shape, MILLION, f"JDOC_OK {equality_key_len(shape, MILLION)} 0")
+    yield Run("sort_key", shape, MILLION, "JDOC_TOO_DEEP 0 0")
+    yield Run("sort_key_wide", shape, MILLION, "JDOC_TOO_DEEP 0 0")
+    yield Run("sort_key_wide", shape, WIDE - 1, f"JDOC_OK {wide_key_len(shape, WIDE - 1)} 0")
+    yield Run("sort_key_wide", shape, WIDE, "JDOC_TOO_DEEP 0 0")
+    yield Run("strip_nulls", shape, MILLION, f"JDOC_OK {length} 0")
+    yield Run("array_distinct", shape, MILLION, f"JDOC_OK {distinct_len(shape, length)} 0")
+    yield Run("concat", shape, MILLION, f"JDOC_OK {joined_len(shape, length)} 0")
+    yield Run("select_below", shape, MILLION, "JDOC_OK 0 1")
     by_zeros = shape in ("only", "first")
-    yield Run("get_by_keypath", shape, MILLION, f"JSONB_OK {8 + TEXT} 0" if by_zeros else "JSONB_NONE 0 0")
-    yield Run("delete_by_keypath", shape, MILLION, f"JSONB_OK {length - (4 + TEXT if by_zeros else 0)} 0")
+    yield Run("get_by_keypath", shape, MILLION, f"JDOC_OK {8 + TEXT} 0" if by_zeros else "JDOC_NONE 0 0")
+    yield Run("delete_by_keypath", shape, MILLION, f"JDOC_OK {length - (4 + TEXT if by_zeros else 0)} 0")
 
 
 def path_runs():
     for shape in ("open_parentheses", "unfinished_filters"):
-        yield Run("exists", shape, MILLION, "JSONB_INVALID_JSON_PATH 0 0")
+        yield Run("exists", shape, MILLION, "JDOC_INVALID_JSON_PATH 0 0")
     truths = {"parentheses": 0, "filters": 1, "filters_of_elements": 1, "and_chain": 1, "or_chain": 0}
     for shape, truth in {**truths, "right_sides": 1, "fields": 0}.items():
-        yield Run("exists", shape, MILLION, f"JSONB_OK 0 {truth}")
+        yield Run("exists", shape, MILLION, f"JDOC_OK 0 {truth}")
 
 
 # ---- running
 
 
 def ends(run, stack):
-    """What a run prints under a stack of so many bytes, or None where it was killed."""
+    """What a run prints with a stack of that many bytes, or None if it was killed."""
     return printed([DEEP, run.call, run.shape, str(run.levels)], stack)
 
 
-def printed(words, stack):
+def printed(words, stack, content=b""):
     limit = lambda: resource.setrlimit(resource.RLIMIT_STACK, (stack, resource.getrlimit(resource.RLIMIT_STACK)[1]))
-    made = subprocess.run(words, preexec_fn=limit, capture_output=True, text=True)
-    return made.stdout.strip() if made.returncode == 0 else None
+    made = subprocess.run(words, preexec_fn=limit, input=content, capture_output=True)
+    return made.stdout.decode().strip() if made.returncode == 0 else None
 
 
 # ---- the test
@@ -124,7 +128,7 @@ def printed(words, stack):
 
 SMALL_STACK = 256 << 10
 
-# Calls that need a stack that grows with the path (docs/DECISIONS.md says why). They are run all the same: one that no longer
+# Calls that need a stack that grows with the path (docs/STACK.md says why). They are run all the same: one that no longer
 # needs it is a failure, so that this list stays true.
 NEEDS_MORE = {
     ("exists", "filters_of_elements"),
@@ -132,7 +136,7 @@ NEEDS_MORE = {
 
 
 def judged(run):
-    """What is wrong with a run, or None."""
+    """The fault of a run, or None."""
     said = ends(run, SMALL_STACK)
     if (run.call, run.shape) in NEEDS_MORE:
         return None if said is None else "needs no large stack any more"
@@ -143,23 +147,36 @@ def judged(run):
     return None
 
 
+def decoded():
+    """Values and paths for jsonb_sweep, which decodes or parses one, clones, compares, prints and drops it: kind, shape, input."""
+    joined = f"$?({'(' * (DECODED - 1)}1 == 1{' && 1 == 1)' * (DECODED - 1)} && 1 == 1)".encode()
+    yield from (("document", shape, nested(shape, DECODED)) for shape in SHAPES)
+    yield from (("path", shape, path_text(PATHS[shape], DECODED)) for shape in ("filters", "filters_of_elements", "fields"))
+    yield "path", "and_chain", joined
+
+
+def decoded_fault(kind, content):
+    """What is wrong with jsonb_sweep on a value or a path, or None."""
+    said = printed([SWEEP, kind], SMALL_STACK, content)
+    return {"right": None, None: "was killed"}.get(said, f"printed {said}")
+
+
 def test():
     runs = [run for shape in SHAPES for run in document_runs(shape)] + list(path_runs())
-    failed = 0
-    for run in runs:
-        fault = judged(run)
-        if fault:
-            failed += 1
-            print(f"{run.call} on {run.shape}, {run.levels} levels: {fault}")
-    print(f"{len(runs) - failed} passed, {failed} failed")
-    return failed
+    faults = [f"{run.call} on {run.shape}, {run.levels} levels: {fault}" for run in runs if (fault := judged(run))]
+    values = [*decoded()]
+    faults += [f"{kind} {shape}, decoded: {fault}" for kind, shape, content in values if (fault := decoded_fault(kind, content))]
+    for it in faults:
+        print(it)
+    print(f"{len(runs) + len(values) - len(faults)} passed, {len(faults)} failed")
+    return len(faults)
 
 
 # ---- the table
 
 
 def least_stack(ends_in):
-    """The least stack that a run ends in, to 4 KiB, or None where 1 GiB does not do."""
+    """The least stack that a run returns in, to 4 KiB, or None if 1 GiB does not suffice."""
     low, high = 8 << 10, 16 << 10
     while ends_in(high) is None:
         if high == 1 << 30:
@@ -179,21 +196,26 @@ def least_of(run):
 
 
 def kibibytes(stack):
-    return "over 1 GiB" if stack is None else f"{stack >> 10:,} KiB"
+    return "over 1 GiB" if stack is None else str(stack >> 10)
+
+
+def figures(call, shape, few, many):
+    """A row of docs/measured/stack.csv or stack_more.csv."""
+    row = dict(zip(measured.COLUMNS["stack"], [call, shape, kibibytes(few), kibibytes(many)]))
+    print(*row.values(), file=sys.stderr)
+    return row
 
 
 def table():
-    """A row a call: its least stack on the shape that takes most, at 10,000 and at 100,000 levels. A path has so many steps."""
-    rows = ["| Call | Worst shape | 10,000 levels | 100,000 levels |", "|---|---|---|---|"]
+    """A row for each call: its least stack on the shape that needs most, at 10,000 and at 100,000 levels. `exists` has one for
+    each shape of a path."""
+    rows = []
     calls = dict.fromkeys(run.call for run in document_runs("only"))
-    asked = [(call, SHAPES) for call in calls] + [("exists", [run.shape]) for run in path_runs()]
-    for call, shapes in asked:
+    for call, shapes in [(call, SHAPES) for call in calls] + [("exists", [run.shape]) for run in path_runs()]:
         stacks = {s: least_of(Run(call, s, 100_000, None)) for s in shapes}
         worst = max(stacks, key=lambda s: stacks[s] or 1 << 40)
-        few = least_of(Run(call, worst, 10_000, None))
-        rows.append(f"| `{call}` | {worst} | {kibibytes(few)} | {kibibytes(stacks[worst])} |")
-        print(rows[-1], file=sys.stderr)
-    return "\n".join(rows)
+        rows.append(figures(f"`{call}`", worst, least_of(Run(call, worst, 10_000, None)), stacks[worst]))
+    return rows
 
 
 # ---- the calls that C lacks
@@ -205,24 +227,24 @@ MORE_ON_DOCUMENTS = {
     "check_depth": "`check_depth`",
     "traverse_check_string": "`traverse_check_string`",
     "leaves": "leaves",
-    "to_value": "`to_value`, and letting the value go",
-    "value_clone": "the same and `clone`",
-    "value_equal": "the same and `==`",
+    "to_value": "`to_value` and drop",
+    "value_clone": "`clone` of a value",
+    "value_equal": "`==` of a value",
 }
 MORE_ON_PATHS = {
-    "parse_path": "read a path, and let it go",
-    "path_clone": "the same and `clone`",
-    "path_to_owned": "the same and `to_owned`",
-    "path_equal": "the same and `==`",
-    "path_print": "the same and print",
+    "parse_path": "parse and drop a path",
+    "path_clone": "`clone` of a path",
+    "path_to_owned": "`to_owned` of a path",
+    "path_equal": "`==` of a path",
+    "path_print": "print a path",
 }
 MORE_ON_KEY_PATHS = {
-    "parse_keypath": "read a key path, and let it go",
-    "keypath_clone": "the same and `clone`",
-    "keypath_to_owned": "the same and `to_owned`",
-    "keypath_print": "the same and print",
+    "parse_keypath": "parse and drop a key path",
+    "keypath_clone": "`clone` of a key path",
+    "keypath_to_owned": "`to_owned` of a key path",
+    "keypath_print": "print a key path",
 }
-# As bindings/c/deep.c has them: what stands before, so many times, behind, and so many times at the end.
+# As in bindings/c/deep.c: the start, what is repeated, the middle, and what is repeated at the end.
 PATHS = {
     "parentheses": ("$?", "(", "@ == 1", ")"),
     "filters": ("$", "?(exists(@", "", "))"),
@@ -233,7 +255,7 @@ PATHS = {
     "fields": ("$", ".k", "", ""),
 }
 KEY_PATH = ("{0", ",0", "}", "")
-# A refusal would be an answer too: it is none here.
+# A limit that no document here exceeds.
 LIMIT = str(2 * MILLION)
 
 
@@ -263,7 +285,7 @@ def more_ends(program, call, shape, levels, stack):
 
 
 def printed_len(shape, times):
-    """How long the text is that a path prints: joined conditions that are sides stand in parentheses, and no others."""
+    """The length of a printed path: joined conditions are in parentheses if they are operands, and only then."""
     if shape == "parentheses":
         return len("$?(@ == 1)")
     if shape in ("and_chain", "or_chain", "right_sides"):
@@ -272,7 +294,7 @@ def printed_len(shape, times):
 
 
 def more_answer(call, shape, levels):
-    """What a run prints, or None where only the end is asked for. The innermost text lies in an array of its own."""
+    """What a run prints, or None if any result will do. The innermost string is in another array."""
     answers = {
         "contains": 1,
         "depth": levels + 1,
@@ -290,8 +312,8 @@ def more_answer(call, shape, levels):
 
 
 def more_asked():
-    """Each call with its name in the table and its shapes: together those of documents, and each of a path alone."""
-    # A leaf has a step for each level above it: where each level has a leaf, they take the square of the levels together.
+    """Each call, its name in the table, and its shapes: all those of documents together, each of a path alone."""
+    # A leaf has a step for each level above it: if each level has a leaf, all of them take quadratic space.
     shapes_of = lambda call: ["only", "pair"] if call == "leaves" else SHAPES
     yield from ((call, name, shapes_of(call)) for call, name in MORE_ON_DOCUMENTS.items())
     yield from ((call, name, [shape]) for shape in PATHS for call, name in MORE_ON_PATHS.items())
@@ -299,7 +321,7 @@ def more_asked():
 
 
 def more_fault(program, call, shape):
-    """What is wrong with a call at a million levels under the small stack, or None."""
+    """The fault of a call at a million levels in the small stack, or None."""
     said, answer = more_ends(program, call, shape, MILLION, SMALL_STACK), more_answer(call, shape, MILLION)
     if said is None:
         return "was killed"
@@ -320,14 +342,13 @@ def more_test(program):
 
 
 def more_table(program):
-    rows = ["| Call | Worst shape | 10,000 levels | 100,000 levels |", "|---|---|---|---|"]
+    rows = []
     for call, name, shapes in more_asked():
         least = lambda shape, levels: least_stack(lambda stack: more_ends(program, call, shape, levels, stack))
         stacks = {shape: least(shape, 100_000) for shape in shapes}
         worst = max(stacks, key=lambda shape: stacks[shape] or 1 << 40)
-        rows.append(f"| {name} | {worst} | {kibibytes(least(worst, 10_000))} | {kibibytes(stacks[worst])} |")
-        print(rows[-1], file=sys.stderr)
-    return "\n".join(rows)
+        rows.append(figures(name, worst, least(worst, 10_000), stacks[worst]))
+    return rows
 
 
 def more(wants_table):
@@ -347,20 +368,20 @@ def build():
     subprocess.run(["make", "-s", "-C", os.path.join(TOP, "bindings", "c"), "deep"], check=True)
 
 
-def show(mark, text, is_written):
-    write_between(mark, text, "STACK.md") if is_written else print(text)
+def show(name, rows, is_written):
+    measured.save(name, rows) if is_written else print(measured.as_csv(name, rows), end="")
     return 0
 
 
 def main(words):
     wanted, is_written = [word for word in words if word != "--write"], "--write" in words
     if wanted == ["--more", "--table"]:
-        return show("more", more(True), is_written)
+        return show("stack_more", more(True), is_written)
     if wanted == ["--more"] and not is_written:
         return 1 if more(False) else 0
     build()
     if wanted == ["--table"]:
-        return show("measured", table(), is_written)
+        return show("stack", table(), is_written)
     if words:
         print(__doc__)
         return 2

@@ -9,7 +9,7 @@ SEVEN = b"\x50\x07"
 
 
 def level(shape, child):
-    """What stands before and behind a child of so many bytes."""
+    """What precedes and follows a child of that many bytes."""
     entry = word(KINDS["container"] + child)
     if shape == "pair":
         return word(HEADERS["object"] + 1) + word(KINDS["string"] + 1) + entry + b"k", b""
@@ -19,7 +19,7 @@ def level(shape, child):
 
 
 def nested(shape, levels, text=1):
-    """An array of one text of so many bytes, within so many levels. 'alternating' takes turns, counted from the root."""
+    """An array of one string of `text` bytes, nested in `levels` levels. 'alternating' takes turns, counted from the root."""
     core = word(HEADERS["array"] + 1) + word(KINDS["string"] + text) + b"a" * text
     length, fronts, backs = len(core), [], []
     for i in reversed(range(levels)):

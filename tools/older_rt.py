@@ -1,8 +1,8 @@
 """What the gate's programs call of rt and an older kit's rt lacks.
 
 A later rt keeps what passed on the machine and tries each edit file as a task of its own. An older one, as that of
-rattle-kit-13b, keeps nothing, tries a crate's edits in turn, and judges one by a truth value. The gate's programs are
-written for the later one; with what stands here they run over the older one too, where every run proves and tries all.
+rattle-kit-13b, keeps nothing, tries a crate's edits in turn, and judges one by a Boolean. The gate's programs are
+written for the later one; with this module they run over the older one too, and every run proves and tries all.
 """
 import contextlib
 import os
@@ -25,12 +25,12 @@ def link_or_copy(file, to):
 
 
 def linked(folder, to):
-    """Gives another folder what a folder of kept work holds."""
+    """Copies the contents of a folder of kept work to another folder."""
     shutil.copytree(folder, to, copy_function=link_or_copy, dirs_exist_ok=True)
 
 
 def complete(rt):
-    """Gives the module rt of an older kit what it lacks of a later one."""
+    """Adds to the module rt of an older kit what it lacks of a later one."""
     if not hasattr(rt, "Kept"):
         OlderRt(rt).complete()
 
@@ -40,7 +40,7 @@ class OlderRt:
 
     def __init__(self, rt):
         self.rt, self.ci_by_rt, self.must_fail_by_rt = rt, rt.ci, rt.must_fail
-        # Where the work is that a crate's edits begin with, by its name, if that is not what its proof in out/ made.
+        # The folder of the work that a crate's edits begin with, by its name, if it is not that of its proof in out/.
         self.seeds = {}
 
     def complete(self):
@@ -96,7 +96,7 @@ class OlderRt:
         return {self.key_of(crate.name, it): (waits, lines, memory, lambda given, jobs, it=it: call(given, jobs, it)) for it in files}
 
     def try_edit(self, crate, edit, is_proved):
-        """Tries an edit file over links to what the crate's proof made, a second time where it is not refused."""
+        """Tries an edit file over links to what the crate's proof made, a second time if it was proved."""
         result = self.rt.MISSED, f"{crate.name}/{os.path.basename(edit)}: not tried, as the crate is not proved"
         # (A check may have been killed for memory.)
         for _ in range(2 if is_proved else 0):

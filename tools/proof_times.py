@@ -1,7 +1,7 @@
 #!/usr/bin/env python3
 """Which functions a check spent its time on, by when it wrote what it keeps of each.
 
-  proof_times.py NAME [COUNT]   the dearest functions of a crate (20), of its last check that began with nothing of them kept
+  proof_times.py NAME [COUNT]   the slowest functions of a crate (20), of its last check that began with nothing of them kept
 
 A check with one job (rt check --jobs 1) ends with one function after the other, and writes the modules of each to the
 crate's out/incremental, so that the time between two modules is what the second took. Several jobs write side by side,

@@ -1,10 +1,10 @@
-// Preloaded before the C library. Growths (malloc, and realloc) are counted, and refused, between the marks `[` and `]` that
-// jsonb_sweep writes, and nowhere else. Set in the environment:
-//   REFUSE=N        refuses the Nth growth behind each `[`; 0 refuses none
-//   REFUSE_BEHIND   refuses each growth behind that one too
-//   REFUSE_ALL      takes the whole run as marked, for a program that writes no marks
-// For each line that the program writes, a line goes to descriptor 3: the growths between its marks, how many of them were
-// refused, and how many blocks are held.
+// Preloaded before the C library. Allocations (malloc, and realloc) are counted, and fail, between the marks `[` and `]` that
+// jsonb_sweep writes, and nowhere else. Environment variables:
+//   `REFUSE=N`        fails the Nth allocation after each `[`; 0 fails none
+//   `REFUSE_BEHIND`   fails each allocation after that one too
+//   `REFUSE_ALL`      takes the whole run as marked, for a program that writes no marks
+// For each line that the program writes, a line goes to descriptor 3: the allocations between its marks, how many of them
+// failed, and how many blocks are held.
 #define _GNU_SOURCE
 #include <errno.h>
 #include <stdio.h>

@@ -1,14 +1,14 @@
 #!/usr/bin/env bash
-# Refuses growths inside each call that the program jsonb_sweep makes: the first, then the second, and so on until a run
-# meets no refusal; once each alone, and once with all behind it. Then the same over the program jsonb_tool, whole, and
-# its standard output broken in three ways. Its last line is 'N passed, M failed'.
+# Fails allocations in each call of the program jsonb_sweep: the first, then the second, and so on until a run has no
+# failure; once each alone, and once with all that follow. Then the same for the whole program jsonb_tool, and with its
+# standard output broken in three ways. The last line is 'N passed, M failed'.
 #
-#   tools/sweep_memory.sh            compares the growths of each call with crates/jsonb_sweep/growths
-#   tools/sweep_memory.sh --write    writes that file anew: read what changed before it is committed
+#   tools/sweep_memory.sh            compares the allocations of each call with crates/jsonb_sweep/growths
+#   tools/sweep_memory.sh --write    writes that file again: read the changes before committing it
 #
-# It needs cc and rt. It sweeps the proved programs in crates/NAME/out/NAME, as rt ci and rt run leave them. Where one is
-# missing, or older than a source, rt run makes it: over kept proofs that is seconds, and from nothing every crate below
-# is proved first, half an hour of one processor. The sweep itself takes seconds.
+# Needs cc and rt. It sweeps the proved programs in crates/NAME/out/NAME, as rt ci and rt run leave them. If one is missing,
+# or older than a source, rt run builds it: in seconds over kept proofs; from scratch every crate below is proved first, in
+# half an hour on one core. The sweep itself takes seconds.
 set -u
 top=$(cd "$(dirname "${BASH_SOURCE[0]}")/.." && pwd)
 stated=$top/crates/jsonb_sweep/growths
@@ -26,7 +26,7 @@ finish() {
     exit
 }
 
-# build NAME WORDS..: makes the program of a crate, where it is not as new as the sources. The words are those of a run.
+# build NAME WORDS..: builds the program of a crate if it is older than the sources. The words are those of a run.
 build() {
     local name=$1
     local program=$top/crates/$name/out/$name
@@ -43,10 +43,10 @@ command -v cc > /dev/null || { fault "there is no cc on this machine"; finish; }
 command -v rt > /dev/null || { fault "there is no rt on this machine"; finish; }
 build jsonb_sweep
 build jsonb_tool get '{}' 20000000200000025001
-cc -O2 -Wall -shared -fPIC -o "$work/shim.so" "$top/tools/refuse_growth.c" || { fault "cc refused the shim"; finish; }
+cc -O2 -Wall -shared -fPIC -o "$work/shim.so" "$top/tools/refuse_growth.c" || { fault "cc failed on the shim"; finish; }
 
-# run NUMBER [BEHIND]: a run in which that growth of each call is refused. Each line of $work/run is that of a case:
-# growths refused held [] word name..
+# run NUMBER [ALL]: a run in which that allocation of each call fails. Each line of $work/run is that of a case:
+# its allocations, the failed ones, the blocks held, [], a word, and its name.
 run() {
     local status
     env REFUSE="$1" ${2:+REFUSE_BEHIND=1} LD_PRELOAD="$work/shim.so" "$sweep" 3> "$work/counts" > "$work/lines"
@@ -55,18 +55,17 @@ run() {
     [ "$status" = 0 ] && [ "$(wc -l < "$work/counts")" = "$(wc -l < "$work/lines")" ]
 }
 
-# faults_of LABEL NUMBER: tells each line of the run that is not as it has to be, and adds the name of its case to
-# $work/faulty. A case is right, or refused at that growth, which then ended the call; and it gives back what it held.
-# $work/met has the number of refusals.
+# faults_of LABEL NUMBER: reports each wrong line of the run, and adds the name of its case to $work/faulty. A case is right,
+# or it failed at that allocation, which then ended the call; and it frees what it held. $work/met has the number of failures.
 faults_of() {
     awk -v label="$1" -v number="$2" -v faulty="$work/faulty" -v met="$work/met" '
         function name(   i, text) { for (i = 6; i <= NF; i++) text = text (i > 6 ? " " : "") $i; return text }
         {
             why = ""
             wanted = $2 > 0 ? "refused" : "right"
-            if ($5 != wanted) why = $5 " where " $2 " of " $1 " growths were refused"
-            else if ($2 > 0 && $1 != number) why = "it went on after a refusal: " $1 " growths, " $2 " refused"
-            else if ($3 != held) why = $3 - held " blocks kept"
+            if ($5 != wanted) why = $5 " although " $2 " of " $1 " allocations failed"
+            else if ($2 > 0 && $1 != number) why = "it continued after a failure: " $1 " allocations, " $2 " failed"
+            else if ($3 != held) why = $3 - held " blocks leaked"
             held = $3
             if (why != "") { print "sweep: " label ": " name() ": " why; print name() >> faulty }
             if ($2 > 0) refusals++
@@ -79,13 +78,13 @@ run 0 || fault "the run with memory broke off"
 faults_of "with memory" 0
 cut -d ' ' -f 1,6- "$work/run" > "$work/growths"
 [ "${1:-}" = --write ] && cp "$work/growths" "$stated"
-diff -u "$stated" "$work/growths" || fault "the growths are not those that $stated states"
+diff -u "$stated" "$work/growths" || fault "the allocations are not those in $stated"
 
 refusals=0
 for behind in '' yes; do
     number=1
     while :; do
-        label="growth $number${behind:+ and all behind}"
+        label="allocation $number${behind:+ and all after it}"
         run "$number" $behind || { fault "$label: the run broke off"; break; }
         faults_of "$label" "$number"
         met=$(cat "$work/met")
@@ -97,11 +96,11 @@ cases=$(wc -l < "$work/growths")
 wrong=$(sort -u "$work/faulty" | wc -l)
 passed=$((passed + cases - wrong)) failed=$((failed + wrong))
 growths=$(awk '{ sum += $1 } END { print sum + 0 }' "$work/growths")
-# A shim that is not reached sees no growth, and would find nothing wrong.
-[ "$growths" -gt 0 ] && [ "$refusals" = $((2 * growths)) ] || fault "$growths growths, but $refusals refusals"
-echo "sweep: $cases cases, $growths growths, each refused alone and with all behind it"
+# A shim that is not reached sees no allocation, and would find nothing wrong.
+[ "$growths" -gt 0 ] && [ "$refusals" = $((2 * growths)) ] || fault "$growths allocations, but $refusals failures"
+echo "sweep: $cases cases, $growths allocations, each failed alone and with all after it"
 
-# With memory, and each call on what is large too.
+# Without failures, each call on something large.
 env LD_PRELOAD="$work/shim.so" "$sweep" large 3> /dev/null > "$work/lines" || fault "the run on what is large broke off"
 tail -n +"$((cases + 1))" "$work/lines" > "$work/large"
 while read -r _ word name; do
@@ -110,8 +109,8 @@ done < "$work/large"
 [ -s "$work/large" ] || fault "nothing large was asked"
 echo "sweep: $(wc -l < "$work/large") cases on what is large"
 
-# run_tool NUMBER BEHIND WORDS..: a run of jsonb_tool in which that growth is refused. Sets its status, what it wrote, and
-# the growths, the refusals and the blocks held.
+# run_tool NUMBER ALL WORDS..: a run of jsonb_tool in which that allocation fails. Sets its status, its output, and the
+# numbers of allocations, failures and blocks held.
 run_tool() {
     local number=$1 behind=$2
     shift 2
@@ -121,8 +120,8 @@ run_tool() {
     read -r grown refused held < <(tail -n 1 "$work/counts")
 }
 
-# sweep_tool LINES WORDS..: a run writes its lines where nothing was refused. Else it writes the one line of a refusal with
-# status 1, or ends with status 3 where the words themselves could not be read. It gives back what it held.
+# sweep_tool LINES WORDS..: a run writes its lines if no allocation failed. Otherwise it writes the one line of the error with
+# status 1, or ends with status 3 if the arguments themselves could not be read. It frees what it held.
 sweep_tool() {
     local lines=$1 behind number
     shift
@@ -130,18 +129,18 @@ sweep_tool() {
         number=0
         while :; do
             run_tool "$number" "$behind" "$@"
-            [ "$held" = 0 ] || { fault "jsonb_tool $1: growth $number: $held blocks kept"; return; }
+            [ "$held" = 0 ] || { fault "jsonb_tool $1: allocation $number: $held blocks leaked"; return; }
             case $((refused > 0))/$status/$wrote in
             0/0/"$lines") [ "$number" = 0 ] || break ;;
             1/1/'refused: OutOfMemory' | 1/3/) ;;
-            *) fault "jsonb_tool $1: growth $number: status $status, $refused refused, '$wrote'"; return ;;
+            *) fault "jsonb_tool $1: allocation $number: status $status, $refused failed, '$wrote'"; return ;;
             esac
             number=$((number + 1))
         done
-        [ "$number" -gt 1 ] || { fault "jsonb_tool $1: no growth was seen"; return; }
+        [ "$number" -gt 1 ] || { fault "jsonb_tool $1: no allocation was seen"; return; }
     done
     passed=$((passed + 1))
-    echo "sweep: jsonb_tool $1: $grown growths, each refused alone and with all behind it"
+    echo "sweep: jsonb_tool $1: $grown allocations, each failed alone and with all after it"
 }
 
 mixed=8000000330000000200000025000000e500a4000000110000001100000016b76
@@ -152,14 +151,14 @@ sweep_tool "$(printf '%s\n' 2000000020000002501e 2000000020000002500a)" select '
 sweep_tool true match '$[*] > 25' "$tens"
 sweep_tool 00048103e90200 key 20000000200000025001
 
-# large_tool LINES WORDS..: a run with memory on a large argument writes its lines.
+# large_tool LINES WORDS..: a run on a large argument writes its lines.
 large_tool() {
     local lines=$1
     shift
     if [ "$("$tool" "$@")" = "$lines" ]; then passed=$((passed + 1)); else fault "jsonb_tool $1 on what is large"; fi
 }
 
-# A text of 60,000 bytes, by itself and in an array: an argument has at most 131,071 digits.
+# A string of 60,000 bytes, by itself and in an array: an argument has at most 131,071 digits.
 text=$(printf '61%.0s' {1..60000})
 array=800000011000ea60$text
 document=200000001000ea60$text

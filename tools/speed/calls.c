@@ -1,13 +1,13 @@
 /* The calls of jsonb_speed.rt.txt, for tools/measure_growth.py and tools/measure_stack.py --more.
 
-   calls once CALL ARGUMENT OTHER DOCUMENT   makes one call and prints what it answers. The last three are files
-   calls times CASES LIMIT                   prints a line a case: series, size, nanoseconds of the processor. A series ends where its next
-                                             call would take more nanoseconds than LIMIT, by how the time has grown
+   calls once CALL ARGUMENT OTHER DOCUMENT   makes one call and prints its result. The last three are files
+   calls times CASES LIMIT                   prints a line a case: series, size, nanoseconds of the processor. A series ends if its next
+                                             call would take more nanoseconds than LIMIT, extrapolated
    calls few CASES LIMIT                     the same, the best of three calls each and not of many
    calls counts CASES                        the same calls once each, for callgrind: a dump a case, by its line's number
 
-   A line of CASES has a series, a size, a call and three files, with tabs between; `-` is no file. The cases of a series stand one
-   behind the other, by size. */
+   A line of CASES has a series, a size, a call and three files, with tabs between; `-` is a missing file. The cases of a series are
+   consecutive, by size. */
 #include <stdbool.h>
 #include <stdint.h>
 #include <stdio.h>
@@ -63,7 +63,7 @@ static void let_go(Buffer buffer)
     if (buffer.len) free(buffer.bytes);
 }
 
-/* The two that are no calls of the library stand beside `check`: how fast memory is read and written. */
+/* Two more, to compare `check` with: how fast memory is read and written. */
 static uint64_t copies(const Case *c, size_t times)
 {
     uint8_t *to = malloc(c->document.len);
@@ -93,7 +93,7 @@ static double nanoseconds(const Case *c, size_t times)
     return (double)(after.tv_sec - before.tv_sec) * 1e9 + (double)(after.tv_nsec - before.tv_nsec);
 }
 
-/* The best time of a call, of five batches; of one call where it is long. */
+/* The best time of a call, of five batches; of one call if it is long. */
 static double best(const Case *c)
 {
     size_t times = 1;

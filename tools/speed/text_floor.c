@@ -1,9 +1,9 @@
-/* What a sortable key of a long text costs at least: each byte is copied, and looked at for 0 and 1, which a key writes as two.
+/* The least cost of a sortable key of a long string: each byte is copied, and compared with 0 and 1, which a key writes as two.
 
      cc -O3 -march=x86-64-v2 text_floor.c -o text_floor && ./text_floor
 
-   Prints three lines, by the words of 16 bytes that x86-64-v2 has: the copy alone, each text looked at and then copied, and both
-   in one loop. Each with its nanoseconds for eight texts of 16 KB, the best of 300 rounds in turn, and by the copy alone. */
+   Prints three lines, by the words of 16 bytes that x86-64-v2 has: the copy alone, each string inspected and then copied, and both
+   in one loop. Each with its nanoseconds for eight strings of 16 KB, the best of 300 rounds in turn, and by the copy alone. */
 #include <emmintrin.h>
 #include <stdio.h>
 #include <stdlib.h>
@@ -27,7 +27,7 @@ static int is_plain(__m128i least) {
     return _mm_movemask_epi8(_mm_cmpeq_epi8(_mm_min_epu8(least, one), least)) == 0;
 }
 
-/* Whether no byte of a text is 0 or 1; copies it too where there is a place for it. */
+/* Return whether no byte of a string is 0 or 1; copy it too if there is a destination. */
 static int look(unsigned char *to, const unsigned char *text) {
     __m128i least = _mm_set1_epi8(-1);
     for (size_t at = 0; at < LENGTH; at += BLOCK)
@@ -45,7 +45,7 @@ static int looked_at(unsigned char *to, const unsigned char *text) { return look
 
 static int in_one_loop(unsigned char *to, const unsigned char *text) { return look(to, text); }
 
-/* A key of all texts, with a byte before and behind each. */
+/* A key of all strings, with a byte before and after each. */
 static int key(int (*way)(unsigned char *, const unsigned char *)) {
     unsigned char *made = malloc(TEXTS * (LENGTH + 2)), *to = made;
     if (!made) exit(1);

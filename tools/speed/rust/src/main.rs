@@ -1,8 +1,8 @@
 //! Times the Rust crate `jsonb` and this repository's library in turn, in one process.
 //!
-//! `speed CASES ROUNDS` prints a line a case: its name, and the nanoseconds of a call of both, and of its answers alone,
-//! best of so many rounds; `inf` where an answer is neither documents nor bytes.
-//! `speed CASES NAME SIDE TIMES` makes so many calls of one side, for a counter of instructions.
+//! `speed CASES ROUNDS` prints a line a case: its name, and the nanoseconds of a call of both, and of copying its results,
+//! best of that many rounds; `inf` if a result is neither documents nor bytes.
+//! `speed CASES counts` makes few calls of each side, Rust's first, for callgrind: see `counted`.
 //! A line of CASES has the name of a case, of its call, its argument, another document and the document, in hexadecimal,
 //! with tabs between.
 
@@ -20,14 +20,17 @@ pub struct Case {
     pub argument: Vec<u8>,
     pub other: Vec<u8>,
     pub document: Vec<u8>,
-    /// What it answers, where that is documents or bytes.
+    /// Its result, if that is documents or bytes.
     pub answer: Option<Handed>,
 }
 
 type Side = fn(&Case, usize) -> u64;
 
 /// How long a batch of calls takes at least, in nanoseconds.
-const BATCH: u128 = 3_000_000;
+const BATCH: u128 = 500_000;
+/// How many calls are counted: one that finds the allocator in its first state, then one and two, whose difference leaves out what
+/// is done once for all calls.
+const COUNTED: [usize; 3] = [1, 1, 2];
 
 fn unhex(digits: &str) -> Vec<u8> {
     (0..digits.len() / 2).map(|i| u8::from_str_radix(&digits[2 * i..2 * i + 2], 16).expect("hexadecimal")).collect()
@@ -72,7 +75,7 @@ fn best<const N: usize>(sides: [Side; N], case: &Case, rounds: usize) -> [f64; N
     best
 }
 
-/// The best time of a call of the Rust crate and of this library, and of the answers alone.
+/// The best time of a call of the Rust crate and of this library, and of copying the results.
 fn times(case: &Case, rounds: usize) -> [f64; 3] {
     if case.answer.is_some() {
         return best([theirs::calls, ours::calls, answers::copies], case, rounds);
@@ -81,21 +84,39 @@ fn times(case: &Case, rounds: usize) -> [f64; 3] {
     [rust, rattle, f64::INFINITY]
 }
 
+/// Makes calls, whose cost callgrind dumps when this returns.
+#[no_mangle]
+#[inline(never)]
+fn counted(side: Side, case: &Case, times: usize) -> u64 {
+    side(case, times)
+}
+
+/// Panics unless both sides return the same lengths or counts. They write different sortable keys.
+fn check(case: &Case) {
+    let is_same = case.call == "sort_key" || theirs::calls(case, 1) == ours::calls(case, 1);
+    assert!(is_same, "{}: the two sides return different lengths or counts", case.name);
+}
+
+fn count(case: &Case) {
+    check(case);
+    for side in [theirs::calls as Side, ours::calls] {
+        for times in COUNTED {
+            std::hint::black_box(counted(side, case, times));
+        }
+    }
+}
+
 fn main() {
     let words: Vec<String> = std::env::args().skip(1).collect();
     let text = std::fs::read_to_string(&words[0]).expect("a file of cases");
     let cases: Vec<Case> = text.lines().map(case).collect();
-    if let [_, name, side, times] = words.as_slice() {
-        let case = cases.iter().find(|case| case.name == *name).expect("a case of this name");
-        let side: Side = if side == "rust" { theirs::calls } else { ours::calls };
-        println!("{}", side(case, times.parse().expect("a number")));
+    if words[1] == "counts" {
+        cases.iter().for_each(count);
         return;
     }
     let rounds = words[1].parse().expect("a number of rounds");
     for mut case in cases {
-        // The two write sortable keys in bytes of their own.
-        let is_same = case.call == "sort_key" || theirs::calls(&case, 1) == ours::calls(&case, 1);
-        assert!(is_same, "{}: the two sides answer with other lengths or counts", case.name);
+        check(&case);
         case.answer = theirs::answer(&case);
         let [rust, rattle, alone] = times(&case, rounds);
         println!("{}\t{rust:.1}\t{rattle:.1}\t{alone:.1}", case.name);

@@ -19,9 +19,9 @@ extern "C" {
     ) -> u64;
 }
 
-/// So many calls of a case: the sum of what they answer.
+/// Makes that many calls of a case, and returns the sum of their results.
 pub fn calls(case: &Case, times: usize) -> u64 {
-    // SAFETY: each pointer is that of a slice of the length behind it.
+    // SAFETY: each pointer is that of a slice of the length after it.
     unsafe {
         jsonb_speed(
             case.call.as_ptr(),

@@ -8,9 +8,9 @@ use jsonb::{OwnedJsonb, RawJsonb};
 use std::collections::BTreeSet;
 use std::hint::black_box;
 
-/// What a call answers.
+/// The result of a call.
 trait Answer {
-    /// What the sum of all answers is made of: a length, a count, or 1 for true.
+    /// What is added up: a length, a count, or 1 for true.
     fn number(self) -> usize;
 
     /// The documents or bytes that it is, if any.
@@ -85,7 +85,7 @@ trait Task {
     fn run<A: Answer>(self, case: &Case, call: impl Fn(RawJsonb<'_>) -> A) -> Self::Done;
 }
 
-/// It is made so many times, and the answers are summed up.
+/// It is made that many times, and the results are added up.
 struct Sum {
     times: usize,
 }
@@ -99,7 +99,7 @@ impl Task for Sum {
     }
 }
 
-/// It is made once, and the answer is kept.
+/// It is made once, and the result is kept.
 struct Keep;
 
 impl Task for Keep {
@@ -110,14 +110,27 @@ impl Task for Keep {
     }
 }
 
-/// So many calls of a case: the sum of what they answer.
+/// Makes that many calls of a case, and returns the sum of their results.
 pub fn calls(case: &Case, times: usize) -> u64 {
     with_call(case, Sum { times })
 }
 
-/// What a case answers, where that is documents or bytes.
+/// The result of a case, if that is documents or bytes.
 pub fn answer(case: &Case) -> Option<Handed> {
     with_call(case, Keep)
+}
+
+/// Does a task with the call of a case if it is one of those listed, which take a document alone: counts its result.
+macro_rules! one_of {
+    ($case:expr, $task:expr, |$result:ident| $count:expr, $($call:ident)+) => {
+        match $case.call.as_str() {
+            $(stringify!($call) => $task.run($case, |d| {
+                let $result = d.$call();
+                $count as usize
+            }),)+
+            other => panic!("no call has the name {other}"),
+        }
+    };
 }
 
 /// Does a task with the call of a case.
@@ -134,10 +147,18 @@ fn with_call<T: Task>(case: &Case, task: T) -> T::Done {
         "parse_keypath" => {
             task.run(case, |_| parse_key_paths(black_box(&case.document)).expect("a key path").paths.len())
         }
-        "select" | "select_first" | "exists" | "match" => {
+        "path_print" => {
+            task.run(case, |_| parse_json_path(black_box(&case.document)).expect("a path").to_string().len())
+        }
+        "keypath_print" => {
+            task.run(case, |_| parse_key_paths(black_box(&case.document)).expect("a key path").to_string().len())
+        }
+        "select" | "select_array" | "select_value" | "select_first" | "exists" | "match" => {
             let path = parse_json_path(&case.argument).expect("a path");
             match case.call.as_str() {
                 "select" => task.run(case, |d| d.select_by_path(&path).unwrap()),
+                "select_array" => task.run(case, |d| d.select_array_by_path(&path).unwrap()),
+                "select_value" => task.run(case, |d| d.select_value_by_path(&path).unwrap()),
                 "select_first" => task.run(case, |d| d.select_first_by_path(&path).unwrap()),
                 "exists" => task.run(case, |d| d.path_exists(&path).unwrap() as usize),
                 _ => task.run(case, |d| (d.path_match(&path).unwrap() == Some(true)) as usize),
@@ -154,6 +175,7 @@ fn with_call<T: Task>(case: &Case, task: T) -> T::Done {
         "get_by_name_ignore_case" => task.run(case, |d| d.get_by_name(text, true).unwrap()),
         "delete_by_name" => task.run(case, |d| d.delete_by_name(text).unwrap()),
         "object_insert" => task.run(case, |d| d.object_insert(text, &other, false).unwrap()),
+        "object_update" => task.run(case, |d| d.object_insert(text, &other, true).unwrap()),
         "get_by_index" => task.run(case, |d| d.get_by_index(position() as usize).unwrap()),
         "delete_by_index" => task.run(case, |d| d.delete_by_index(position()).unwrap()),
         "array_insert" => task.run(case, |d| d.array_insert(position(), &other).unwrap()),
@@ -169,6 +191,7 @@ fn with_call<T: Task>(case: &Case, task: T) -> T::Done {
         "array_distinct" => task.run(case, |d| d.array_distinct().unwrap()),
         "strip_nulls" => task.run(case, |d| d.strip_nulls().unwrap()),
         "sort_key" => task.run(case, |d| d.convert_to_comparable()),
+        "leaves_outside_arrays" => task.run(case, |d| d.extract_scalar_key_values(true).unwrap().len()),
         "leaves" => task.run(case, |d| d.extract_scalar_key_values(false).unwrap().len()),
         "array_values" => task.run(case, |d| d.array_values().unwrap()),
         "object_keys" => task.run(case, |d| d.object_keys().unwrap()),
@@ -176,6 +199,15 @@ fn with_call<T: Task>(case: &Case, task: T) -> T::Done {
         "traverse_check_string" => {
             task.run(case, |d| d.traverse_check_string(|text| text.is_empty()).unwrap() as usize)
         }
-        other => panic!("no call has the name {other}"),
+        "nothing" => task.run(case, |_| 0),
+        "type_of" => task.run(case, |d| d.type_of().unwrap().len()),
+        "array_length" => task.run(case, |d| d.array_length().unwrap().unwrap_or(0)),
+        name if name.starts_with("is_") => one_of!(case, task, |result| result.unwrap(),
+            is_null is_boolean is_number is_i64 is_u64 is_string is_array is_object
+            is_extension_value is_binary is_date is_timestamp is_timestamp_tz is_interval),
+        name if name.starts_with("as_") => one_of!(case, task, |result| result.unwrap().is_some(),
+            as_null as_bool as_number as_i64 as_u64 as_str
+            as_extension_value as_binary as_date as_timestamp as_timestamp_tz as_interval),
+        _ => one_of!(case, task, |result| result.is_ok(), to_bool to_i64 to_u64 to_str),
     }
 }

@@ -1,0 +1,288 @@
+#!/usr/bin/env python3
+"""Compares the numbers of mutants, tests, rows and other cases with tools/counts.toml, and finds public calls that a check lacks.
+
+    tools/check_counts.py            compares; the last line is 'N passed, M failed'
+    tools/check_counts.py --write    writes the commands, the numbers and the missing calls to tools/counts.toml, and keeps the reasons
+                                     given there
+
+A mutant, a test module or a row that is deleted leaves the gate green with a smaller number. So each number is in
+tools/counts.toml, and a change that lowers one has to say so there. Each public call has to be named in docs/API.md, in a row of
+docs/rows/, in a test, in the allocation-failure sweep, among the calls on damaged documents, in a mutant and in the C library.
+tools/counts.toml gives a reason for each exception, which may be a pattern such as `Number::*`.
+
+Only what runs is counted: source files that a `mod` line includes, and of the sweep and the damaged documents what `main` and the
+tests reach.
+"""
+
+import os
+import re
+import subprocess
+import sys
+import tomllib
+from fnmatch import fnmatchcase
+from pathlib import Path
+
+sys.dont_write_bytecode = True
+import check_docs
+import edits
+import measure_stack
+import rows
+
+ROOT = Path(__file__).resolve().parent.parent
+CRATES = ROOT / "crates"
+STATED = ROOT / "tools/counts.toml"
+NO_REASON = "no reason yet"
+CALL = re.compile(r"\b(\w+)(?:::<[^>]*>)?\(")
+MODULE = re.compile(r"^ *(?:pub(?:\([^)]*\))? )?mod (\w+);", re.M)
+TEST = re.compile(r"^ *#\[test\]\n(?: *#\[.*\n)* *fn (\w+)", re.M)
+# The beginning of a function, a table or a macro.
+PART = re.compile(r"^(?= *(?:pub(?:\([^)]*\))? )?(?:fn|static|const|macro_rules!) (\w+))", re.M)
+
+
+def text_of(*places):
+    """Returns the text of these files, and of all files below these folders."""
+    paths = [it for place in places for it in (sorted(place.rglob("*")) if place.is_dir() else [place])]
+    return "\n".join(it.read_text(errors="replace") for it in paths if it.is_file() and it.suffix != ".pyc")
+
+
+def crate_names():
+    lines = (ROOT / "crates.txt").read_text().splitlines()
+    return [line.split(":")[0].split()[0] for line in lines if line and not line.startswith("#")]
+
+
+def sources(crate):
+    """Returns the text of each source file of a crate that `mod` lines include, by its path below src/."""
+    folder, found = CRATES / crate / "src", {}
+    left = [Path("lib.rt"), Path("main.rt")]
+    for path in left:
+        if (folder / path).is_file():
+            found[str(path)] = (folder / path).read_text()
+            inside = Path() if str(path) in ("lib.rt", "main.rt") else path.with_suffix("")
+            left += [inside / f"{name}.rt" for name in MODULE.findall(found[str(path)])]
+    return found
+
+
+def source(crate):
+    return "\n".join(sources(crate).values())
+
+
+def mutants(crate):
+    """Returns the functions that the edits of a crate change, one for each mutant."""
+    files = sorted((CRATES / crate / "must-fail").glob("*.edit"))
+    return [it for file in files for it in edits.functions_of(file.read_text(), str(CRATES / crate))]
+
+
+# ---- numbers
+
+
+def public_clauses(text):
+    """Returns how many clauses the public functions and traits of a source text have.
+
+    The head of a function with clauses ends at a row `{`.
+    """
+    heads = re.findall(r"^( *)pub (?:const |unsafe |extern \"C\" )*fn .*\n((?:\1[ )].*\n)*)\1\{$", text, re.M)
+    traits = re.findall(r"^pub trait .*?^\}$", text, re.M | re.S)
+    return len(re.findall(r"^ *ensures ", "".join([*(head for _, head in heads), *traits]), re.M))
+
+
+def numbers_of_crate(crate):
+    text = source(crate)
+    yield "public clauses", public_clauses(text)
+    yield "mutants", len(mutants(crate))
+    yield "tests", len(TEST.findall(text))
+    yield "assertions", len(re.findall(r"\bassert\w*!\(", text))
+    # (The type of a table says how many entries it has.)
+    yield "table entries", sum(map(int, re.findall(r"^(?:pub )?static \w+: \[.*; (\d+)\] =", text, re.M)))
+    yield "laws", len(re.findall(r"^pub fn ", sources(crate).get("laws.rt", ""), re.M))
+
+
+def numbers_of_sweep():
+    yield "cases of the sweep", len(text_of(CRATES / "jsonb_sweep/stdout").splitlines())
+    allocations = [it.split()[0] for it in text_of(CRATES / "jsonb_sweep/growths").splitlines()]
+    yield "allocations of the sweep", sum(int(it) for it in allocations if it.isdigit())
+    yield "runs of jsonb_tool in the sweep", len(re.findall(r"^(?:sweep|large)_tool ", text_of(ROOT / "tools/sweep_memory.sh"), re.M))
+    yield "lines of jsonb_lines", len(text_of(CRATES / "jsonb_lines/stdout").splitlines())
+
+
+def lines_written(program):
+    """Returns how many lines a Python program writes."""
+    return len(subprocess.run([sys.executable, ROOT / program], capture_output=True, text=True, check=True).stdout.splitlines())
+
+
+def numbers_of_bindings():
+    folder = ROOT / "bindings"
+    for name in ("python", "sqlite", "postgres"):
+        yield f"tests of {name}", len(re.findall(r"^ *def test_", text_of(folder / name / "tests"), re.M))
+        yield f"statements of {name}", len(re.findall(r";$", text_of(*folder.glob(f"{name}/**/*.sql")), re.M))
+    yield "tests of rust", len(re.findall(r"^ *#\[test\]$", text_of(folder / "rust/tests", folder / "rust/src"), re.M))
+    yield "checks of C", len(re.findall(r"\b(?:judge|expect|EXPECT)\(", text_of(folder / "c/tests", folder / "text/tests")))
+    yield "lines of the C interface", len(text_of(folder / "c/abi.txt").splitlines())
+    yield "rows of C", lines_written("bindings/tests/rows.py")
+    yield "rows of JSON text", lines_written("bindings/text/tests/rows.py")
+    yield "commands of the tests", len(re.findall(r"^ *(?:\[.*\] \|\| )?count \"", text_of(*folder.rglob("*.sh")), re.M))
+
+
+def numbers_of_tools():
+    runs = [it for shape in measure_stack.SHAPES for it in measure_stack.document_runs(shape)]
+    yield "runs in a small stack", len([*runs, *measure_stack.path_runs()])
+    yield "comparisons of the fuzzer", len(re.findall(r"\.(?:compare|makes|truth|value|bytes)\(", text_of(ROOT / "tools/fuzz.py")))
+
+
+def numbers():
+    """Returns each number by its name; a zero is left out."""
+    found = {"crates": len(crate_names())}
+    for crate in crate_names():
+        found |= {f"{what} of {crate}": count for what, count in numbers_of_crate(crate)}
+    for file in sorted(CRATES.rglob("rows.rt")):
+        if "out" not in file.parts:
+            found[f"rows of {file.relative_to(CRATES)}"] = file.read_text().count("\n")
+    found |= dict([*numbers_of_sweep(), *numbers_of_bindings(), *numbers_of_tools()])
+    return {name: count for name, count in found.items() if count}
+
+
+def commands():
+    """Returns the commands that the gate counts, with their arguments."""
+    return re.findall(r"^count (.*)", (ROOT / ".ci/run").read_text(), re.M)
+
+
+# ---- public calls
+
+
+def public_calls():
+    """Returns the public functions that `jsonb` exports and those of the types that it exports, except laws."""
+    exported, _ = check_docs.exported(CRATES / "jsonb")
+    for crate in check_docs.CRATES:
+        for it in check_docs.public_items(CRATES / crate):
+            is_exported = crate == "jsonb" or it.name.partition("::")[0] in exported
+            if it.kind == "fn" and is_exported and "/laws.rt" not in it.place:
+                yield it.name
+
+
+def names_in_page(page):
+    return {word for code in re.findall(r"`([^`\n]+)`", page.read_text()) for word in re.findall(r"\w+", code)}
+
+
+def names_in_rows():
+    """Returns the calls of docs/rows/: those of calls.tsv, and what the tests of the other rows call."""
+    return {*(row["function"] for row in rows.read("calls")), *CALL.findall(sources("jsonb_examples").get("tables.rt", ""))}
+
+
+def tested_names():
+    """Returns the functions that tests of the four libraries call, and the calls of their worked rows."""
+    found = names_in_rows()
+    for path, text in (it for crate in check_docs.CRATES for it in sources(crate).items()):
+        found.update(CALL.findall(text if "tests" in path.removesuffix(".rt").split("/") else text.partition("#[cfg(test)]\n")[2]))
+    return found
+
+
+def parts_of(crate):
+    """Returns the text of each function, table and macro of a crate, by its name."""
+    parts = {}
+    for text in sources(crate).values():
+        begins = [*PART.finditer(text)]
+        for it, following in zip(begins, [*begins[1:], None]):
+            parts[it[1]] = parts.get(it[1], "") + text[it.start() : following and following.start()]
+    return parts
+
+
+def reached_names(crate, starts):
+    """Returns what is called by the functions of a crate that these functions reach, by the names in them."""
+    parts = parts_of(crate)
+    found, left = set(), {*starts} & {*parts}
+    while left:
+        found |= left
+        left = {word for name in left for word in re.findall(r"\w+", parts[name]) if word in parts} - found
+    return {name for it in found for name in CALL.findall(parts[it])}
+
+
+def mutated_names():
+    return {it.name.rpartition("::")[2] for crate in check_docs.CRATES for it in mutants(crate) if it}
+
+
+def c_names():
+    return re.findall(r" \**jdoc_(\w+)\(", (ROOT / "bindings/c/abi.txt").read_text())
+
+
+def missing():
+    """Returns each place in which a public call has to be named, with the calls that are not."""
+    places = {
+        "docs/API.md": names_in_page(ROOT / "docs/API.md"),
+        "docs/rows": names_in_rows(),
+        "a test": tested_names(),
+        "the sweep": reached_names("jsonb_sweep", ["main"]),
+        "damaged documents": reached_names("jsonb_vectors", TEST.findall(source("jsonb_vectors"))),
+        "a mutant": mutated_names(),
+        "the C library": {*c_names()},
+    }
+    calls = [*public_calls()]
+    return {place: [it for it in calls if it.rpartition("::")[2] not in names] for place, names in places.items()}
+
+
+# ---- the file
+
+
+def stated():
+    """Returns what tools/counts.toml states: the gate's commands, the numbers, and the reasons by place and by call or pattern."""
+    found = tomllib.loads(STATED.read_text()) if STATED.is_file() else {}
+    return found.get("commands", []), found.get("counts", {}), found.get("missing", {})
+
+
+def unexplained(names, reasons):
+    """Returns the calls of these that have no reason."""
+    given = [pattern for pattern, reason in reasons.items() if reason != NO_REASON]
+    return [name for name in names if not any(fnmatchcase(name, it) for it in given)]
+
+
+def unused(names, reasons):
+    """Returns the calls and patterns with a reason that is of no use, since no such call is missing."""
+    return [pattern for pattern in reasons if not any(fnmatchcase(name, pattern) for name in names)]
+
+
+def write(run, counts, calls):
+    *_, reasons = stated()
+    lines = ["# Written by tools/check_counts.py --write; the reasons are written by hand.", ""]
+    lines += ["commands = [", *(f"    {it!r}," for it in run), "]", "", "[counts]"]
+    lines += [f'"{name}" = {count}' for name, count in counts.items()]
+    for place, names in calls.items():
+        given = reasons.get(place, {})
+        kept = {it: reason for it, reason in given.items() if it not in unused(names, given)}
+        kept |= {it: NO_REASON for it in unexplained(names, given)}
+        lines += ["", f'[missing."{place}"]'] if kept else []
+        lines += [f'"{it}" = "{reason}"' for it, reason in kept.items()]
+    STATED.write_text("\n".join(lines) + "\n")
+
+
+def faults(run, counts, calls):
+    """Yields what differs from tools/counts.toml, and an empty text for each command, number and call that does not."""
+    run_stated, numbers_stated, reasons = stated()
+    for it in dict.fromkeys([*run_stated, *run]):
+        same = it in run and it in run_stated
+        yield "" if same else f"{it} is counted only by {'.ci/run' if it in run else 'tools/counts.toml'}"
+    for name in {**numbers_stated, **counts}:
+        now, then = counts.get(name, 0), numbers_stated.get(name, 0)
+        yield "" if now == then else f"{name}: {now}, and {then} in tools/counts.toml"
+    every = len([*public_calls()])
+    for place, names in calls.items():
+        given = reasons.get(place, {})
+        lacking = unexplained(names, given)
+        yield from (f"{it} is not in {place}, and tools/counts.toml gives no reason" for it in lacking)
+        yield from (f"{it} is in {place}: remove its reason from tools/counts.toml" for it in unused(names, given))
+        yield from [""] * (every - len(lacking))
+
+
+def main(arguments):
+    os.chdir(ROOT)
+    given = commands(), numbers(), missing()
+    if arguments == ["--write"]:
+        write(*given)
+        return 0
+    found = [*faults(*given)]
+    for it in filter(None, found):
+        print(it)
+    failed = sum(map(bool, found))
+    print(f"{len(found) - failed} passed, {failed} failed")
+    return 1 if failed else 0
+
+
+if __name__ == "__main__":
+    sys.exit(main(sys.argv[1:]))

@@ -1,0 +1,357 @@
+#!/usr/bin/env python3
+"""Compares the C library and the program with a model that shares no code with them, on random documents and paths.
+
+    fuzz.py [--seconds N] [--seed N] [--library FILE] [--tool FILE]
+
+The seed is the day's date if none is given, so that each day tries other cases. A difference prints the call, its arguments and both
+results; the seed gives it again. The last line is 'N passed, M failed'.
+"""
+
+import argparse
+import datetime
+import random
+import subprocess
+import sys
+import time
+from pathlib import Path
+
+sys.dont_write_bytecode = True
+TOP = Path(__file__).resolve().parent.parent
+sys.path.insert(0, str(TOP / "tools/fuzz"))
+import meaning
+from grammar import JsonPath, KeyPath
+from library import Library, c_bool, c_int32, c_int64, c_size_t, c_uint64, names_of
+from meaning import Fails, Path as Meaning
+from random_cases import Cases
+from trees import Invalid, decode, encode
+
+SHOWN = 20
+
+
+def outcome(call):
+    """Returns the status and the value that a function of the model stands for: None as a value is the status NONE."""
+    try:
+        value = call()
+    except Fails as error:
+        return str(error), None
+    return ("NONE", None) if value is None else ("OK", value)
+
+
+def fail_if(condition, error):
+    if condition:
+        meaning.fails(error)
+
+
+class Comparison:
+    """One document, another one and one text of each path language, on which each call is compared."""
+
+    def __init__(self, library, cases, report):
+        self.library, self.cases, self.report = library, cases, report
+        self.tree, self.other = cases.tree(), cases.tree()
+        self.document, first = cases.document(self.tree)
+        self.other_document, second = cases.document(self.other)
+        self.is_canonical = first and second
+
+    def compare(self, name, arguments, expected, got):
+        self.report(name, [self.document, *arguments], expected, got)
+
+    def makes(self, name, arguments, call, given=None):
+        """Compares a call that makes a document with a function of the model that makes a tree."""
+        status, tree = outcome(call)
+        got = self.library.bytes_of(name, self.document, *(arguments if given is None else given))
+        if status == got[0] == "OK" and not self.is_canonical:
+            # Only the tree of the result is stated.
+            self.compare(name, arguments, (status, meaning.equality_key(tree[0])), (got[0], equality_key_of(got[1])))
+        else:
+            self.compare(name, arguments, (status, tree and encode(tree[0])), got)
+
+    def truth(self, name, arguments, call, given=None):
+        """Compares a call that returns a small number: a Boolean, 2 for unknown, or a type."""
+        status, value = outcome(lambda: [call()])
+        number = None if value is None else 2 if value[0] is meaning.UNKNOWN else int(value[0])
+        self.compare(name, arguments, (status, number), self.library.truth_of(name, self.document, *(given or arguments)))
+
+    def value(self, kind, name, call):
+        self.compare(name, [], outcome(call), self.library.value_of(kind, name, self.document))
+
+    def bytes(self, name, arguments, call):
+        self.compare(name, arguments, outcome(call), self.library.bytes_of(name, self.document, *arguments))
+
+    def all(self):
+        self.paths()
+        self.key_paths()
+        self.scalars()
+        self.edits()
+        self.names()
+        self.comparisons()
+
+    # ---- groups of calls
+
+    def paths(self):
+        text = self.cases.json_path()
+        steps = JsonPath(text).read()
+
+        def path(strict):
+            fail_if(steps is None, "INVALID_JSON_PATH")
+            return Meaning(self.tree, strict)
+
+        for strict in (False, True):
+            given = [text, c_bool(strict)]
+            items = lambda: path(strict).items(steps)
+            self.makes("select_array", given, lambda: [items()])
+            self.makes("select_first", given, lambda: items()[:1] or None)
+            self.makes("select_value", given, lambda: single_or_array(items()))
+            self.truth("exists", given, lambda: bool(items()))
+            self.truth("match", given, lambda: path(strict).match(steps))
+
+    def key_paths(self):
+        text = self.cases.key_path()
+        keys = KeyPath(text).read()
+
+        def places():
+            fail_if(keys is None, "INVALID_KEY_PATH")
+            return meaning.located(keys, self.tree)
+
+        def found():
+            at = places()
+            return None if at is None else [meaning.at_places(at, self.tree)]
+
+        def deleted():
+            at = places()
+            fail_if(meaning.is_plain(self.tree), "INVALID_JSON_TYPE")
+            return [meaning.without(at, self.tree) if at else self.tree]
+
+        self.makes("get_by_keypath", [text], found)
+        self.makes("delete_by_keypath", [text], deleted)
+
+    def scalars(self):
+        tree = self.tree
+        self.compare("check", [], "OK", self.library.check(self.document))
+        self.value(c_uint64, "as_u64", lambda: meaning.whole(tree, 0, 2**64 - 1))
+        self.value(c_int64, "as_i64", lambda: meaning.whole(tree, -(2**63), 2**63 - 1))
+        self.value(c_int64, "to_i64", lambda: meaning.to_integer(tree, -(2**63), 2**63 - 1))
+        self.value(c_uint64, "to_u64", lambda: meaning.to_integer(tree, 0, 2**64 - 1))
+        self.truth("to_bool", [], lambda: meaning.to_bool(tree))
+        self.truth("type", [], lambda: meaning.type_of(tree))
+        self.compare("as_bool", [], outcome(lambda: int(tree) if isinstance(tree, bool) else None), self.library.truth_of("as_bool", self.document))
+        self.bytes("as_str", [], lambda: tree.encode() if isinstance(tree, str) else None)
+        self.bytes("to_str", [], lambda: meaning.to_str(tree).encode())
+        self.bytes("sort_key", [c_bool(False)], lambda: meaning.sort_key(tree, 1))
+        self.bytes("sort_key", [c_bool(True)], lambda: meaning.sort_key(tree, 2))
+        self.bytes("equality_key", [], lambda: meaning.equality_key(tree))
+        self.value(c_size_t, "len", lambda: len(tree) if isinstance(tree, (list, dict)) else None)
+
+    def edits(self):
+        tree, value = self.tree, self.other
+        at = self.cases.random.choice([0, 1, 2, 3, -1, -2, -5, 2**31 - 1, -(2**31)])
+        name = self.cases.random.choice(self.cases.names() or ["a"])
+        self.makes("strip_nulls", [], lambda: [meaning.strip_nulls(tree)])
+        self.makes("array_distinct", [], lambda: [meaning.distinct(tree)])
+        self.makes("array_insert", [self.other_document, c_int32(at)], lambda: [meaning.inserted(tree, at, value)])
+        self.makes("delete_by_index", [c_int32(at)], lambda: [self.without_element(at)])
+        self.makes("delete_by_name", [name.encode()], lambda: [self.without_name(name)])
+        index = abs(at)
+        self.makes("get_by_index", [c_size_t(index)], lambda: [tree[index]] if isinstance(tree, list) and index < len(tree) else None)
+        for flag in (False, True):
+            self.makes("get_by_name", [name.encode(), c_bool(flag)], lambda: meaning.by_name(tree, name, flag) or None)
+            self.makes("object_insert", [self.other_document, name.encode(), c_bool(flag)], lambda: [self.with_pair(name, flag)])
+
+    def without_element(self, at):
+        fail_if(not isinstance(self.tree, list), "INVALID_JSON_TYPE")
+        place = at if at >= 0 else len(self.tree) + at
+        return [it for n, it in enumerate(self.tree) if n != place]
+
+    def without_name(self, name):
+        fail_if(not isinstance(self.tree, (list, dict)), "INVALID_JSON_TYPE")
+        if isinstance(self.tree, list):
+            return [it for it in self.tree if it != name]
+        return {key: it for key, it in self.tree.items() if key != name}
+
+    def with_pair(self, name, update):
+        fail_if(not isinstance(self.tree, dict), "INVALID_OBJECT")
+        fail_if(name in self.tree and not update, "OBJECT_DUPLICATE_KEY")
+        return dict(sorted({**self.tree, name: self.other}.items(), key=lambda pair: pair[0].encode()))
+
+    def names(self):
+        names = self.cases.names()
+        given = names_of(names)
+        self.truth("exists_all_keys", [names], lambda: all(meaning.has_key(self.tree, it) for it in names), given)
+        self.truth("exists_any_keys", [names], lambda: any(meaning.has_key(self.tree, it) for it in names), given)
+        for call, is_kept in (("object_pick", True), ("object_delete", False)):
+            self.makes(call, [names], lambda: [self.picked(names, is_kept)], given)
+
+    def picked(self, names, is_kept):
+        fail_if(not isinstance(self.tree, dict), "INVALID_OBJECT")
+        return {key: it for key, it in self.tree.items() if (key in names) is is_kept}
+
+    def comparisons(self):
+        tree, other = self.tree, self.other
+        if self.cases.random.random() < 0.3:
+            self.other_document, other = self.document, tree
+        given = [self.other_document]
+        self.truth("contains", given, lambda: meaning.contains(tree, other))
+        self.truth("array_overlap", given, lambda: bool(meaning.split(tree, other)[0]))
+        self.makes("array_intersection", given, lambda: [meaning.split(tree, other)[0]])
+        self.makes("array_except", given, lambda: [meaning.split(tree, other)[1]])
+        self.makes("concat", given, lambda: [self.joined(other)])
+
+    def joined(self, other):
+        if isinstance(self.tree, dict) and isinstance(other, dict):
+            return dict(sorted({**self.tree, **other}.items(), key=lambda pair: pair[0].encode()))
+        return meaning.listed(self.tree) + meaning.listed(other)
+
+
+def single_or_array(items):
+    """Returns a list of the one item or of the array of several, or None."""
+    return [items[0] if len(items) == 1 else items] if items else None
+
+
+def equality_key_of(document):
+    return meaning.equality_key(decode(document))
+
+
+def damaged_case(library, cases, report):
+    """Compares `check` on damaged bytes, on which each other call has to return."""
+    document = cases.damaged(encode(cases.tree()))
+    try:
+        decode(document)
+        expected = "OK"
+    except Invalid as error:
+        expected = "UNSUPPORTED_NUMBER" if error.unsupported else "INVALID_JSONB"
+    report("check", [document], expected, library.check(document))
+    if expected != "OK":
+        for name in ("strip_nulls", "array_distinct", "equality_key", "to_str"):
+            library.bytes_of(name, document)
+        library.bytes_of("select_array", document, cases.json_path(), c_bool(False))
+        library.bytes_of("delete_by_keypath", document, cases.key_path())
+        library.truth_of("contains", document, document)
+
+
+# ---- the program
+
+COMMANDS = ("get", "leaves", "select", "match", "key")
+
+
+def leaves(tree, keys=()):
+    """Yields the key path and the tree of each leaf below a tree."""
+    children = enumerate(tree) if isinstance(tree, list) else tree.items() if isinstance(tree, dict) else ()
+    for key, child in children:
+        if isinstance(child, (list, dict)) and child:
+            yield from leaves(child, (*keys, key))
+        else:
+            yield (*keys, key), child
+
+
+def printed_key(key):
+    if isinstance(key, int):
+        return str(key)
+    if key.isascii() and key.isidentifier():
+        return key
+    escaped = key.replace("\\", "\\\\").replace('"', '\\"')
+    return f'"{escaped}"'
+
+
+def error_text(status):
+    words = "".join(it.capitalize() for it in status.split("_"))
+    return f"Arithmetic({words})" if status in ("OVERFLOW", "ZERO_DIVISOR", "INEXACT", "DECIMAL_OPERAND") else words
+
+
+def lines_of(command, text, tree):
+    """Returns the lines that the program prints, and its exit status."""
+    documents = lambda found: [encode(it).hex() for it in found]
+    read = {"get": KeyPath, "select": JsonPath, "match": JsonPath}.get(command)
+    path = read(text).read() if read else ()
+    try:
+        fail_if(path is None, "INVALID_KEY_PATH" if command == "get" else "INVALID_JSON_PATH")
+        if command == "get":
+            places = meaning.located(path, tree)
+            lines = documents([] if places is None else [meaning.at_places(places, tree)])
+        elif command == "leaves":
+            lines = [f"{encode(it).hex()} {{{','.join(map(printed_key, keys))}}}" for keys, it in leaves(tree)]
+        elif command == "select":
+            lines = documents(Meaning(tree, False).items(path))
+        elif command == "match":
+            lines = [{True: "true", False: "false", None: "unknown"}[Meaning(tree, False).match(path)]]
+        else:
+            lines = [meaning.sort_key(tree, 1).hex()]
+    except Fails as error:
+        return [f"refused: {error_text(str(error))}"], 1
+    return lines or ["none"], 0
+
+
+def is_utf8(word):
+    """Returns whether the program can read an argument: it takes UTF-8 alone, otherwise it ends with status 3."""
+    try:
+        return isinstance(word, str) or word.decode() is not None
+    except UnicodeDecodeError:
+        return False
+
+
+def program_case(tool, cases, report):
+    command = cases.random.choice(COMMANDS)
+    tree = cases.tree()
+    text = cases.key_path() if command == "get" else cases.json_path()
+    if b"\0" in text:
+        return
+    words = [command, *([text] if command in ("get", "select", "match") else []), encode(tree).hex()]
+    made = subprocess.run([tool, *words], capture_output=True, check=False)
+    lines, status = lines_of(command, text, tree) if all(map(is_utf8, words)) else ([], 3)
+    report(f"jsonb_tool {command}", words[1:], (status, lines), (made.returncode, made.stdout.decode().splitlines()))
+
+
+# ---- running
+
+
+class Report:
+    def __init__(self):
+        self.passed = self.failed = 0
+
+    def __call__(self, name, arguments, expected, got):
+        if expected == got:
+            self.passed += 1
+            return
+        self.failed += 1
+        if self.failed <= SHOWN:
+            shown = [it.hex() if n == 0 and isinstance(it, bytes) else getattr(it, "value", it) for n, it in enumerate(arguments)]
+            print(f"{name} {shown}\n  model:   {readable(expected)}\n  library: {readable(got)}", flush=True)
+
+
+def readable(outcome):
+    return [it.hex() if isinstance(it, bytes) else it for it in outcome] if isinstance(outcome, tuple) else outcome
+
+
+def words():
+    today = int(datetime.date.today().strftime("%Y%m%d"))
+    parser = argparse.ArgumentParser(description=__doc__, formatter_class=argparse.RawDescriptionHelpFormatter)
+    parser.add_argument("--seconds", type=float, default=60)
+    parser.add_argument("--seed", type=int, default=today)
+    parser.add_argument("--library", type=Path, help="default: bindings/c/out/libjdoc.so, made first")
+    parser.add_argument("--header", type=Path, default=TOP / "bindings/c/jdoc.h")
+    parser.add_argument("--tool", type=Path, default=TOP / "crates/jsonb_tool/out/jsonb_tool")
+    return parser.parse_args()
+
+
+def made_library():
+    subprocess.run(["make", "-s", "-C", TOP / "bindings/c"], check=True)
+    return TOP / "bindings/c/out/libjdoc.so"
+
+
+def main():
+    given, report = words(), Report()
+    library = Library(given.library or made_library(), given.header)
+    cases = Cases(random.Random(given.seed))
+    print(f"fuzz: seed {given.seed}", flush=True)
+    end, number = time.monotonic() + given.seconds, 0
+    while time.monotonic() < end:
+        Comparison(library, cases, report).all()
+        damaged_case(library, cases, report)
+        if number % 50 == 0 and given.tool.is_file():
+            program_case(given.tool, cases, report)
+        number += 1
+    print(f"fuzz: {number} documents")
+    print(f"{report.passed} passed, {report.failed} failed")
+    return 1 if report.failed else 0
+
+
+if __name__ == "__main__":
+    sys.exit(main())

@@ -1,0 +1,199 @@
+#!/usr/bin/env python3
+"""The figures in docs/measured/, and the tables that pages show of them.
+
+    tools/measured.py --write    writes the tables of the pages again, without measuring
+
+tools/measure_speed.py, measure_growth.py and measure_stack.py write the figures. tools/check_quotes.py compares the tables.
+"""
+import csv
+import io
+import math
+import os
+import re
+import statistics
+import sys
+
+TOP = os.path.dirname(os.path.dirname(os.path.abspath(__file__)))
+FIGURES = os.path.join(TOP, "docs", "measured")
+
+# The columns of each file of figures. A column of growth.csv is a size; a cell is empty if its call was not measured.
+SIZES = [1, 2, 4, 8, 10, 100, 1_000, 10_000, 100_000, 200_000]
+COLUMNS = {
+    "speed": ["class", "case", "rust_instructions", "this_instructions", "rust_ns", "this_ns", "result_copy_ns", "rust_allocations",
+              "this_allocations"],
+    "growth": ["unit", "call", *map(str, SIZES), "exponent"],
+    "check": ["document", "check_ns", "copy_ns", "bytes"],
+    "stack": ["call", "shape", "kib_10000", "kib_100000"],
+    "stack_more": ["call", "shape", "kib_10000", "kib_100000"],
+}
+
+# The classes of the cases of speed.csv.
+CLASSES = ["scalar calls", "up to 60 bytes", "up to 1,000 bytes", "above 1,000 bytes"]
+# The cases that README.md shows, and those that docs/PERFORMANCE.md shows.
+README_CASES = ["get the last of 1,000 keys", "`$[*]?(@.age < 50)` of 1,000 objects", "contains 1,000 integers",
+                "sortable key of 1,000 objects", "sortable key of long strings"]
+MORE_CASES = ["parse a long path", "get at depth 200", "delete by key path, of 1,000 keys", "`$[*].name` of 1,000 objects",
+              "intersection of 1,000", "concatenate objects", "strip nulls of 1,000 objects", "leaves of 100 objects",
+              "a filter on one document of 200 bytes"]
+# An exponent up to this one counts as linear: sorting, and hashing with it, adds a logarithm.
+LINEAR = 1.2
+
+
+def read(name):
+    with open(os.path.join(FIGURES, f"{name}.csv"), newline="") as file:
+        return list(csv.DictReader(file))
+
+
+def as_csv(name, rows):
+    text = io.StringIO()
+    writer = csv.DictWriter(text, COLUMNS[name], lineterminator="\n")
+    writer.writeheader()
+    writer.writerows(rows)
+    return text.getvalue()
+
+
+def save(name, rows):
+    """Writes a file of figures, and the pages that show it."""
+    with open(os.path.join(FIGURES, f"{name}.csv"), "w") as file:
+        file.write(as_csv(name, rows))
+    write_pages()
+
+
+# ---- tables
+
+
+def table(heads, rows):
+    line = lambda cells: "| " + " | ".join(cell.replace("|", "\\|") for cell in cells) + " |"
+    return "\n".join([line(heads), "|" + "---|" * len(heads), *map(line, rows)])
+
+
+def time(nanoseconds):
+    value = float(nanoseconds)
+    return f"{value:,.0f} ns" if value < 10_000 else f"{value / 1000:,.0f} us"
+
+
+def ratio(row):
+    """Of the instructions."""
+    return max(1, float(row["this_instructions"])) / float(row["rust_instructions"])
+
+
+def mean_ratio(rows):
+    return statistics.geometric_mean(map(ratio, rows))
+
+
+def above_one(rows):
+    """The cases that take more instructions than in the Rust crate, the worst first."""
+    return sorted((row for row in rows if ratio(row) > 1), key=ratio, reverse=True)
+
+
+def by_class(rows):
+    found = {name: [row for row in rows if row["class"] == name] for name in CLASSES}
+    return {name: rows for name, rows in found.items() if rows}
+
+
+def speed_report(rows):
+    """What tools/measure_speed.py prints after the figures."""
+    lines = []
+    for name, cases in by_class(rows).items():
+        above = above_one(cases)
+        lines.append(f"{name}: geometric mean {mean_ratio(cases):.2f} of {len(cases):,} cases, above 1: {len(above)}")
+        lines += [f"  {ratio(row):5.2f}  {row['case']}" for row in above]
+    return "\n".join(lines)
+
+
+def speed(names):
+    rows = {row["case"]: row for row in read("speed")}
+    cells = [[name, time(rows[name]["rust_ns"]), time(rows[name]["this_ns"]), f"{ratio(rows[name]):.2f}"] for name in names]
+    return table(["Case", "Rust crate", "This crate", "Instruction ratio"], cells)
+
+
+def classes():
+    rows = []
+    for name, cases in by_class(read("speed")).items():
+        above = f"{len(above_one(cases))} of {len(cases):,}"
+        rows.append([name, f"{mean_ratio(cases):.2f}", f"{max(map(ratio, cases)):.2f}", above])
+    return table(["Class", "Mean", "Greatest", "Above 1"], rows)
+
+
+def means():
+    rows = read("speed")
+    shown = [f"{name} {mean_ratio(cases):.2f}" for name, cases in by_class(rows).items()]
+    worst = max(rows, key=ratio)
+    return f"Mean instruction ratios: {', '.join(shown)}. Greatest: {ratio(worst):.2f} ({worst['case']})."
+
+
+def slower():
+    rows = [[row["class"], row["case"], row["rust_instructions"], row["this_instructions"], f"{ratio(row):.2f}"]
+            for cases in by_class(read("speed")).values() for row in above_one(cases)]
+    return table(["Class", "Case", "Rust crate", "This crate", "Ratio"], rows)
+
+
+def per_unit(row, size):
+    """Instructions for each unit, which are those of the whole call where the unit is a nesting."""
+    cost = row[str(size)]
+    if not cost:
+        return ""
+    value = float(cost)
+    return f"{value:,.0f}" if value >= 10 else f"{value:.1f}"
+
+
+def growth():
+    rows = read("growth")
+    not_linear = [row for row in rows if row["exponent"] and float(row["exponent"]) > LINEAR]
+    shown = [100, 1_000, 10_000, 100_000]
+    cells = [[row["call"], *(per_unit(row, size) for size in shown), row["exponent"]] for row in not_linear if row["100"]]
+    head = ["Call", *(f"n = {size:,}" for size in shown), "Exponent"]
+    return table(head, cells) + f"\n\nLinear (an exponent of at most {LINEAR}): the other {len(rows) - len(not_linear)} of {len(rows)} series."
+
+
+def check():
+    rate = lambda row, column: f"{float(row['bytes']) / float(row[column]):.2f}"
+    rows = [[row["document"], rate(row, "check_ns"), rate(row, "copy_ns")] for row in read("check")]
+    return table(["Document", "`check`, bytes per ns", "`memcpy`, bytes per ns"], rows)
+
+
+def kibibytes(row):
+    return [math.inf if row[it] == "over 1 GiB" else int(row[it]) for it in ("kib_10000", "kib_100000")]
+
+
+def stack(name):
+    """A row for each greatest stack, with the calls that need it on some shape, and no more on any."""
+    greatest = {}
+    for row in read(name):
+        greatest[row["call"]] = max(greatest.get(row["call"], 0), *kibibytes(row))
+    groups = {}
+    for call, most in greatest.items():
+        groups.setdefault(most, []).append(call)
+    show = lambda most: "over 1 GiB" if math.isinf(most) else f"{most} KiB"
+    return table(["Stack", "Calls"], [[show(most), ", ".join(groups[most])] for most in sorted(groups)])
+
+
+# The tables of each page, by the marks around them.
+PAGES = {
+    "README.md": {"speed": lambda: f"{speed(README_CASES)}\n\n{means()}"},
+    "docs/PERFORMANCE.md": {"classes": classes, "speed": lambda: speed(MORE_CASES), "growth": growth, "check": check},
+    "docs/measured/slower.md": {"slower": slower},
+    "docs/STACK.md": {"stack": lambda: stack("stack"), "stack, more": lambda: stack("stack_more")},
+}
+
+
+def with_tables(page):
+    """The text of a page with its tables as the figures have them."""
+    text = open(os.path.join(TOP, page)).read()
+    for mark, made in PAGES[page].items():
+        before, rest = text.split(f"<!-- measured: {mark} -->\n")
+        text = f"{before}<!-- measured: {mark} -->\n\n{made()}\n\n<!-- end -->{rest.split('<!-- end -->', 1)[1]}"
+    return text
+
+
+def write_pages():
+    for page in PAGES:
+        text = with_tables(page)
+        with open(os.path.join(TOP, page), "w") as file:
+            file.write(text)
+
+
+if __name__ == "__main__":
+    if sys.argv[1:] != ["--write"]:
+        sys.exit(__doc__)
+    write_pages()
