@@ -20,7 +20,7 @@ pub held_count : (form : Form) (parts : Parts) (ts : List Tree) → HoldsElement
 held_count form parts ts holds =
     omega (arith, length-words (number_reader form) (trees_of ts) parts.words parts.contents holds, count-trees_of ts)
 
--- entries with one more behind them
+-- entries with one more after them
 AreEntries-added : (number_at : NumberReader) (ts : List Tree) (t : Tree) (ws cs : List ℕ) (kind : ℕ) (content : List ℕ) → length content < 2 ^ 28
     → IsContent number_at t kind content
     → AreEntries number_at (trees_of ts) ws cs → AreEntries number_at (trees_of (ts ++ t ∷ [])) (ws ++ entry_word kind (length content)) (cs ++ content)
@@ -54,24 +54,30 @@ AreEntries-added number_at (u ∷ us) t ws cs kind content short part e = record
   others = AreEntries-added number_at us t e.other_words e.other_contents kind content short part e.others;
 }
 
--- the parts with one more entry behind the others
+-- the parts with one more entry after the others
 abbrev pub with_entry : Parts → EntryParts → Parts
 with_entry parts entry =
     record { words = parts.words ++ entry_word entry.0 (length entry.1); contents = parts.contents ++ entry.1 }
 
--- with the entry of an item behind the others its tree is held
+-- with a stored entry after the others its tree is held
+pub stored_held : (form : Form) (before after : Parts) (ts : List Tree) (kind : ℕ) (content : List ℕ) (t : Tree) → HoldsElements form before ts
+    → IsContent (number_reader form) t kind content
+    → length content < 2 ^ 28 → after ≡ with_entry before (kind, content) → HoldsElements form after (ts ++ t ∷ [])
+stored_held form before after ts kind content t holds part short is =
+    rw is (AreEntries-added (number_reader form) ts t before.words before.contents kind content short part holds)
+
+-- with the entry of an item after the others its tree is held
 pub element_held : (form : Form) (before after : Parts) (ts : List Tree) (item : Item) (t : Tree) → HoldsElements form before ts → StandsFor form item t
     → FitsItem item
     → length (item_content item) < 2 ^ 28 → after ≡ with_entry before (entry_of item) → HoldsElements form after (ts ++ t ∷ [])
 element_held form before after ts item t holds stands fits short is =
-    rw is (AreEntries-added (number_reader form) ts t before.words before.contents (item_kind item) (item_content item) short
-    (content_stands form item t stands fits) holds)
+    stored_held form before after ts (item_kind item) (item_content item) t holds (content_stands form item t stands fits) short is
 
 last_is_short : (form : Form) (ts : List Tree) (t : Tree) → HasShortElements form (trees_of (ts ++ t ∷ [])) → content_size form t < 2 ^ 28
 last_is_short form [] t h = h.0
 last_is_short form (u ∷ us) t h = last_is_short form us t h.2
 
--- where one more element passes the limits, an array with it does
+-- if one more element exceeds the limits, an array with it does
 pub element_too_large : (form : Form) (parts : Parts) (ts : List Tree) (item : Item) (t : Tree) → HoldsElements form parts ts → StandsFor form item t
     → IsTooLargeElement parts item
     → IsTooLarge form (array (trees_of (ts ++ t ∷ [])))

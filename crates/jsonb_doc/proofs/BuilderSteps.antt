@@ -13,7 +13,7 @@ use Rattle.jsonb_doc.specs.declared.error.Error.{Error}
 use Rattle.jsonb_doc.proofs.LimitLemmas.{array_too_large-more}
 use Rattle.jsonb_doc.specs.Private.Builders.{HoldsFront}
 
--- an answer that is right, or memory was refused, is one of a call that makes a document
+-- a right result, or a failed allocation, is one of a function that builds a document
 pub answered : {A : Type 0} (form : Form) (t : Tree) (P : A → Type 0) (r : Result A Error) → MatchResult r P IsOutOfMemory
     → MatchResult r P (IsOutOfMemoryOrTooLarge form t)
 answered form t P (Ok x) h = h
@@ -35,19 +35,19 @@ module _ (form : Form) (before : Parts) (t : Tree) (left whole : List Tree) (h :
   joined_next : (h.held ++ t ∷ []) ++ left ≡ whole
   joined_next = append_assoc h.held (t ∷ []) left ∙ h.joined
 
-  -- with the next tree behind the others the rest is left
+  -- with the next tree after the others the rest is left
   pub front_pushed : (after : Parts) → HoldsElements form after (h.held ++ t ∷ []) → HoldsFront form after left whole
   front_pushed after holds =
       record { held = h.held ++ t ∷ []; holds = holds; joined = joined_next }
 
-  -- a refusal of a front is one of the whole
+  -- an error of a prefix is one of the whole
   pub front_refused : (e : Error) → IsOutOfMemoryOrTooLarge form (array (trees_of (h.held ++ t ∷ []))) e
       → IsOutOfMemoryOrTooLarge form (array (trees_of whole)) e
   front_refused e (inl memory) = inl memory
   front_refused e (inr (is, large)) =
       inr (is, subst (λ (ts : List Tree). IsTooLarge form (array (trees_of ts))) joined_next (array_too_large-more form (h.held ++ t ∷ []) left large))
 
-  -- what a push of the next tree answers
+  -- what a push of the next tree returns
   pub front_step : {A : Type 0} (after : Parts) (r : Result A Error)
       → ((ts : List Tree) → HoldsElements form before ts
       → MatchResult r (λ _. HoldsElements form after (ts ++ t ∷ [])) (IsOutOfMemoryOrTooLarge form (array (trees_of (ts ++ t ∷ [])))))
@@ -55,14 +55,14 @@ module _ (form : Form) (before : Parts) (t : Tree) (left whole : List Tree) (h :
   front_step after (Ok x) pushed = front_pushed after (pushed h.held h.holds)
   front_step after (Err e) pushed = front_refused e (pushed h.held h.holds)
 
--- what `build` answers in the end
+-- what `build` returns in the end
 pub front_built : {A : Type 0} (form : Form) (parts : Parts) (whole : List Tree) (items : A → List ℕ) (r : Result A Error) → HoldsFront form parts [] whole
     → ((ts : List Tree) → HoldsElements form parts ts → MatchResult r (λ v. Decodes form (items v) (array (trees_of ts))) IsOutOfMemory)
     → MatchResult r (λ v. Decodes form (items v) (array (trees_of whole))) (IsOutOfMemoryOrTooLarge form (array (trees_of whole)))
 front_built form parts whole items r h decodes =
     answered form (array (trees_of whole)) (λ v. Decodes form (items v) (array (trees_of whole))) r (decodes whole (front_whole form parts whole h))
 
--- ---- rising keys
+-- ---- sorted keys
 
 -- each key is below the next
 abbrev pub AreRising : List (List ℕ) → Type 0
@@ -73,7 +73,7 @@ pub keys_rise : (ks : List (List ℕ)) → AreKeys ks → AreRising ks
 keys_rise [] are = tt
 keys_rise (key ∷ ks) are = (are.1, keys_rise ks are.2)
 
--- the keys of some of the pairs rise where those of all do
+-- the keys of some of the pairs are sorted if those of all are
 below_kept : {A : Type 0} (low : List ℕ) (test : List ℕ × A → Bool) (ps : List (List ℕ × A)) → IsBelowFirst low (keys_of ps) → AreRising (keys_of ps)
     → IsBelowFirst low (keys_of (filter test ps))
 below_kept {A = A} low test [] below rising = tt

@@ -5,7 +5,7 @@ use Rattle.jsonb_doc.specs.Private.Checking.{IsValidationError, ReducesTo, HasCo
 use Rattle.jsonb_doc.specs.declared.error.Error.{Error}
 use Rattle.jsonb_doc.specs.declared.error.Error.TheVariants.{InvalidJsonb, UnsupportedNumber}
 
--- a part is looked at, and the others are left
+-- one child is checked, and the others are left
 module _ (supported : Bool) (Whole Left Part Others : NumberReader → Type 0) (l : ReducesTo supported Whole Left)
     (split : (number_at : NumberReader) → Left number_at ↔ (Part number_at × Others number_at)) where
   pub Leaves-good : Part number_of → Part number_or_unsupported → ReducesTo supported Whole Others
@@ -20,7 +20,7 @@ module _ (supported : Bool) (Whole Left Part Others : NumberReader → Type 0) (
     strict = (λ h. absurd (bad ((split number_of).0 (l.strict.0 h).1).0), λ h. absurd (cc (h.0)));
   }
 
--- what is left leaves less in turn
+-- a reduction of what is left is a reduction of the whole
 and_true : (a b : Bool) → ((a && b) ≡ true) ↔ ((a ≡ true) × (b ≡ true))
 and_true true b = (λ e. (refl, e), λ h. h.1)
 and_true false b = (λ e. absurd (cc), λ h. absurd (cc (h.0)))
@@ -36,7 +36,7 @@ Leaves-then first second Whole Left Less l m = record {
   );
 }
 
--- what is left may be said in another way
+-- what is left may be replaced by what is equivalent
 pub Leaves-along : (supported : Bool) (Whole Left Other : NumberReader → Type 0) → ((number_at : NumberReader) → Left number_at ↔ Other number_at)
     → ReducesTo supported Whole Left → ReducesTo supported Whole Other
 Leaves-along supported Whole Left Other same l = record {
@@ -52,13 +52,13 @@ Leaves-entries first second bytes container words contents large l parts m =
     Leaves-then first second (HasContent 5 bytes) (HasEntries words contents) (HasLarge large)
     (Leaves-along first (HasContent 5 bytes) (HasContent 5 container) (HasEntries words contents) parts.same l) m
 
--- a refusal that is not of an unsupported number
+-- an error that is not of an unsupported number
 pub IsValidationError-other : (Holds : NumberReader → Type 0) (e : Error) → e ≢ UnsupportedNumber → IsValidationError Holds e → Holds number_or_unsupported → ⊥
 IsValidationError-other Holds UnsupportedNumber other h = absurd (other refl)
 IsValidationError-other Holds InvalidJsonb other h = h
 IsValidationError-other Holds _ other h = absurd h
 
--- The large part, where there is one, is longer than half of the whole, and what is left lies beside it.
+-- The large part, if there is one, is longer than half of the whole, and what is left is next to it.
 abbrev pub IsApart : Option (List ℕ) → List ℕ → List ℕ → Type 0
 IsApart None left whole = length left ≤ length whole
 IsApart (Some large) left whole = (length whole / 2 < length large) × (length large + length left ≤ length whole)

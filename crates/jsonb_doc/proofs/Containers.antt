@@ -31,7 +31,7 @@ HeadedBy-unique bytes k k' n n' rest rest' h h' =
     let both = word_cancel (k * 2 ^ 29 + n) (k' * 2 ^ 29 + n') rest rest' (omega arith) (omega arith) (sym h.joined ∙ h'.joined) in
     (omega (arith, both.0), omega (arith, both.0), both.1)
 
--- the words are as long as their count says
+-- the words are as long as their count states
 module _ (number_at : NumberReader) where
   pub length-words : (ts : Trees) (words contents : List ℕ) → AreEntries number_at ts words contents → length words ≡ 4 * count ts
   length-words no_trees words contents h = ap length h.0
@@ -81,7 +81,7 @@ pub length-key_words : (ks : List (List ℕ)) → length (key_words ks) ≡ 4 * 
 length-key_words [] = refl
 length-key_words (key ∷ ks) = omega (arith, length-key_words ks)
 
--- what follows the keys lies within
+-- what follows the keys is within
 pub HasKeys-room : (words bytes rest : List ℕ) → HasKeys words bytes rest → length rest ≤ length bytes
 HasKeys-room words bytes rest (ks, are, is, joined) = omega (arith, ap length joined, length-append (key_bytes ks) rest)
 
@@ -365,7 +365,7 @@ object_to number_at p n len value_len t o =
     let cut = append_cancel p.key_words.now p.value_words.now (key_words (keys o.ps)) o.value_words (omega (arith, len, o.keys_counted)) both.0 in
     rw o.is (record { rest = o.value_contents; are_keys = o.are_keys; words = cut.0; bytes = both.1; values = rw cut.1 o.values })
 
--- the bytes are a document of a tree where their parts say so
+-- the bytes are a document of a tree if their parts are those of the tree
 pub IsCut-same : (bytes : List ℕ) (found : Container) → IsCut bytes found → (number_at : NumberReader) (t : Tree)
     → IsDocument number_at t bytes ↔ Holds number_at t found
 IsCut-same bytes (Scalar e) (rest, h, lone) number_at t = (
@@ -418,7 +418,7 @@ module _ (number_at : NumberReader) (bytes : List ℕ) (n : ℕ) (rest : List �
         o.values_counted,
       )
 
--- ---- what the parts tell of a tree
+-- ---- trees by their parts
 
 module _ (number_at : NumberReader) (bytes : List ℕ) where
   -- the document of a tree that is cut into the parts of an array or an object is a container's
@@ -428,7 +428,7 @@ module _ (number_at : NumberReader) (bytes : List ℕ) where
   IsCut-container (Array p) (n, h, len) other t d = container_document number_at bytes 4 n _ h (omega arith) t d
   IsCut-container (Object p) (n, h, len, value_len) other t d = container_document number_at bytes 2 n _ h (omega arith) t d
 
-  -- the content of an entry of a container is no scalar document
+  -- the content of an entry of a container is not a scalar document
   pub IsCut-scalar : (e : StoredEntry) → IsCut bytes (Scalar e) → (t : Tree) → IsContent number_at t 5 bytes → ⊥
   IsCut-scalar e cut t c =
       let held = (IsCut-same bytes (Scalar e) cut number_at t).0 (inl c) in
@@ -465,7 +465,7 @@ HoldsPairs-keys number_at ps p h = record { are_keys = h.are_keys; words_joined 
 -- ---- what decodes at all
 
 module _ (bytes : List ℕ) where
-  -- a document decodes where its one entry does, or where it is the content of a container
+  -- a document decodes if its one entry does, or if it is the content of a container
   pub HasDocument-scalar : (e : StoredEntry) → IsCut bytes (Scalar e) → (number_at : NumberReader)
       → HasContent (kind_number e.kind) e.content.now number_at ↔ HasDocument bytes number_at
   HasDocument-scalar e cut number_at = (
@@ -478,7 +478,7 @@ module _ (bytes : List ℕ) where
   HasDocument-container found cut other number_at =
       (λ h. (h.0, inl h.1), λ d. (d.0, IsCut-container number_at bytes found cut other d.0 d.1))
 
-  -- an array's content decodes where its entries do
+  -- an array's content decodes if its entries do
   pub HasContent-array : (p : ArrayParts) → IsCut bytes (Array p) → (number_at : NumberReader)
       → HasContent 5 bytes number_at ↔ HasEntries p.words.now p.contents.now number_at
   HasContent-array p cut number_at = (
@@ -491,7 +491,7 @@ module _ (bytes : List ℕ) where
       held _ h = absurd h
 
   module _ (p : ObjectParts) (cut : IsCut bytes (Object p)) where
-    -- an object's content decodes where its keys do, and the entries behind them
+    -- an object's content decodes if its keys do, and the entries after them
     HoldsPairs-found : (number_at : NumberReader) (t : Tree) → Holds number_at t (Object p)
         → (rest : List ℕ) × HasKeys p.key_words.now p.contents.now rest × HasEntries p.value_words.now rest number_at
     HoldsPairs-found number_at (object ps) h =

@@ -49,7 +49,7 @@ module _ (seen : Number → spec.Number) where
       → string_bytes name ≡ key → tree_seen seen v ≡ t → members_seen seen es' ≡ insert_pair key t (members_seen seen es)
   member_copied es es' name v key t is named same = ap (members_seen seen) is ∙ members_seen-insert_entry seen es name v ∙ rw (named, same) refl
 
-  -- members in order go in order
+  -- members in order are inserted in order
   pub copied_in_order : (done left : List Entry) → IsStrictlySortedBy string_cmp (keys_of (done ++ left))
       → insert_pairs (members_seen seen left) (members_seen seen done) ≡ members_seen seen (done ++ left)
   copied_in_order done [] rising = ap (members_seen seen) (sym (append-nil done))

@@ -22,7 +22,7 @@ headed_bytes bytes kind n ws cs h all =
     AreBytes-right ws cs (joined_bytes bytes (header kind n) (ws ++ cs) h.joined all).1
 
 mutual
-  -- what is read lies in the ranges of its types
+  -- what is read is within the ranges of its types
   content_in_range : (t : Tree) (kind : ℕ) (bytes : List ℕ) → AreBytes bytes → IsContent number_of t kind bytes → IsInRange t
   content_in_range null kind bytes all h = tt
   content_in_range (boolean b) kind bytes all h = tt

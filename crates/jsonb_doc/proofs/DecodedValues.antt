@@ -1,4 +1,4 @@
--- Iterators of a document beside the values that are made of what they gave.
+-- Iterators of a document, and the values decoded from what they yielded.
 use Rattle.std.proofs.Common.{◌≡◌, ℕ, List, [], ◌∷◌, ◌++◌, Some, None, Result, Ok, Err, String, Global, Less, Greater, string_bytes, string_cmp, nat_cmp, refl, sym, ap, subst, ◌∙◌, append_assoc}
 use Rattle.std.specs.Prelude.{IfOk}
 use Rattle.std.specs.Borrow.{Bor}
@@ -29,9 +29,9 @@ use Rattle.jsonb_doc.specs.declared.number.Number.{Number}
 use Rattle.jsonb_doc.specs.declared.value.Value.{Value}
 use Rattle.jsonb_doc.proofs.ValueTrees.{Entry, members_seen-insert_entry}
 
--- ---- what an iterator gives
+-- ---- what an iterator yields
 
--- the item stands for the first of what was left
+-- the item stands for the first of the remaining elements
 pub record FirstElement (form : Form) (before : Trees) (x : Item) (after : ElementIter) : Type 0 where
   pub first : Tree
   pub others : Trees
@@ -59,7 +59,7 @@ pub no_element : (form : Form) (before : Trees) (after : ElementIter) → TakesE
 no_element form no_trees after h = refl
 no_element form (tree t ts) after h = absurd h
 
--- the key and the item stand for the first of what was left
+-- the key and the item stand for the first of the remaining members
 pub record FirstMember (form : Form) (before : Pairs) (x : Bor (List ℕ) × Item) (after : PairIter) : Type 0 where
   pub value : Tree
   pub others : Pairs
@@ -87,7 +87,7 @@ pub no_member : (form : Form) (before : Pairs) (after : PairIter) → TakesPair 
 no_member form no_pairs after h = refl
 no_member form (pair key t ps) after h = absurd h
 
--- ---- how the numbers of items are seen
+-- ---- the views of the numbers of items
 
 pub sees_normal : (seen : Number → spec.Number) → KeepsNormal seen → (r : Result Item Error) (x : Item) → r ≡ Ok x → IfOk r IsNormal → SeesItem seen x
 sees_normal seen keeps r x is h = go x (rw is at h)
@@ -108,7 +108,7 @@ pub ok_of_Answers : {A : Type 0} (P : A → Type 0) (r : Result A Error) → Mat
 ok_of_Answers P (Ok x) h = h
 ok_of_Answers P (Err e) h = tt
 
--- ---- what is made
+-- ---- decoded values
 
 pub trees_of-elements : (ts : Trees) → trees_of (elements ts) ≡ ts
 trees_of-elements no_trees = refl
@@ -119,11 +119,11 @@ pairs_of-members no_pairs = refl
 pairs_of-members (pair key t ps) = ap (pair key t) (pairs_of-members ps)
 
 module _ (seen : Number → spec.Number) where
-  -- at first nothing is made
+  -- at first nothing is decoded
   pub elements_begin : (vs : List Value) (ts : Trees) → vs ≡ [] → trees_of (trees_seen seen vs ++ elements ts) ≡ ts
   elements_begin vs ts none = rw none (trees_of-elements ts)
 
-  -- one more element is made
+  -- one more element is decoded
   pub elements_go_on : (vs vs' : List Value) (v : Value) (left others ts : Trees) (t : Tree) → trees_of (trees_seen seen vs ++ elements left) ≡ ts
       → left ≡ tree t others → vs' ≡ vs ++ v ∷ [] → tree_seen seen v ≡ t
       → trees_of (trees_seen seen vs' ++ elements others) ≡ ts
@@ -135,7 +135,7 @@ module _ (seen : Number → spec.Number) where
       ∙ ap (λ us. trees_seen seen vs ++ elements us) (sym whole))
       ∙ joined
 
-  -- at last all is made
+  -- at last all elements are decoded
   pub elements_end : (vs : List Value) (left ts : Trees) → trees_of (trees_seen seen vs ++ elements left) ≡ ts → left ≡ no_trees
       → trees_of (trees_seen seen vs) ≡ ts
   elements_end vs left ts joined none =
@@ -155,7 +155,7 @@ module _ (seen : Number → spec.Number) where
   below_key low [] key t more h rising = h
   below_key low (p ∷ done) key t more h rising = nat_list_cmp_total.trans low p.0 key h (below_key p.0 done key t more rising.1 rising.2)
 
-  -- a key that is above those before it goes last
+  -- a key above the others is inserted last
   insert_behind : (done : List (List ℕ × Tree)) (key : List ℕ) (t : Tree) (more : List (List ℕ × Tree)) → AreKeys (keys (pairs_of (done ++ (key, t) ∷ more)))
       → insert_pair key t done ≡ done ++ (key, t) ∷ []
   insert_behind [] key t more rising = refl

@@ -1,4 +1,4 @@
--- How deep the items of a document lie, by its parts.
+-- The depth of the items of a document, by its parts.
 use Rattle.std.proofs.Common.{◌≡◌, ◌≢◌, ℕ, ◌+◌, suc, max, List, Option, Some, None, refl, rules, arith, inl, ap}
 use Rattle.std.specs.Ordering.{ord_max, nat_cmp}
 use Rattle.jsonb_doc.specs.Tree.{Tree, array, object, Trees, no_trees, tree, Pairs, no_pairs, pair, values}
@@ -21,7 +21,7 @@ max_of greatest a b is = search rules
 -- ---- the parts of a document that is cut
 
 module _ (number_at : NumberReader) where
-  -- what is no container has no parts
+  -- what is not a container has no parts
   pub scalar_parts : (t : Tree) (kind : ℕ) (bytes : List ℕ) → kind ≢ 5 → IsContent number_at t kind bytes → parts_of t ≡ no_trees
   scalar_parts (array ts) kind bytes other h = absurd (other h.0)
   scalar_parts (object ps) kind bytes other h = absurd (other h.0)
@@ -48,7 +48,7 @@ deepest_parts (array ts) = refl
 deepest_parts (object ps) = deepest_values ps
 deepest_parts _ = refl
 
--- the deepest item of a tree lies in the container that is left, or as deep as is known
+-- the deepest item of a tree is in the container that is left, or has the known depth
 pub AreDeep-large : (form : Form) (t : Tree) (known : ℕ) (left : Option (List ℕ)) (large : List ℕ) → left ≡ Some large → AreDeep form (parts_of t) known left
     → (inner : Tree) × Decodes form large inner × (deepest t ≡ max known (suc (deepest inner)))
 AreDeep-large form t known left large is h =
@@ -77,7 +77,7 @@ no_parts t none = rw (deepest_parts t, none) refl
 pub container_decodes : (form : Form) (t : Tree) (kind : ℕ) (bytes : List ℕ) → kind ≡ 5 → IsContent (number_reader form) t kind bytes → Decodes form bytes t
 container_decodes form t kind bytes container h = record { document = inl (rw container at h) }
 
--- The trees lie so deep, but for those in the container that is left, and for these entries.
+-- The trees are so deep, except for those in the container that is left, and for these entries.
 pub record EntriesLeft (form : Form) (ts : Trees) (known : ℕ) (large : Option (List ℕ)) (words contents : List ℕ) : Type 0 where
   pub others : Trees
   pub below : ℕ
@@ -98,7 +98,7 @@ EntriesLeft-none form ts known large words contents none l = record { below = l.
 
 module _ (form : Form) (ts : Trees) (known : ℕ) (large : Option (List ℕ)) (words contents : List ℕ)
     (kind : ℕ) (content ws cs : List ℕ) (b : BeginWith words contents kind content ws cs) (l : EntriesLeft form ts known large words contents) where
-  -- the first entry lies so deep
+  -- the first entry has this depth
   pub EntriesLeft-next : (within : ℕ) → ((t : Tree) → IsContent (number_reader form) t kind content → within ≡ deepest t)
       → EntriesLeft form ts (max known (1 + within)) large ws cs
   EntriesLeft-next within same =

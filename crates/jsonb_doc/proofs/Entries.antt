@@ -1,4 +1,4 @@
--- Entries are taken apart and put together at their first one.
+-- Entries are split into the first one and the others, and joined again.
 use Rattle.std.specs.Option.{option_and_then}
 use Rattle.std.proofs.Common.{◌≡◌, ℕ, ◌+◌, ◌*◌, ◌^◌, ◌<◌, ◌≤◌, List, [], length, refl, sym, ap, ◌∙◌, arith, Option, Some, None, Bool, true, false, if◌then◌else◌, ◌↔◌, inl, inr}
 use Rattle.std.proofs.lemmas.List.{length-append}
@@ -14,7 +14,7 @@ use Rattle.jsonb_doc.proofs.WordLemmas.{word_cancel, append_cancel}
 pub BeginWith-long : (words contents : List ℕ) (kind : ℕ) (content ws cs : List ℕ) → BeginWith words contents kind content ws cs → 4 ≤ length words
 BeginWith-long words contents kind content ws cs b = omega (arith, ap length b.words_joined)
 
--- the first entry and the others lie within the contents
+-- the first entry and the others are within the contents
 pub BeginWith-room : (words contents : List ℕ) (kind : ℕ) (content ws cs : List ℕ) → BeginWith words contents kind content ws cs
     → (length content ≤ length contents) × (length cs ≤ length contents)
 BeginWith-room words contents kind content ws cs b =
@@ -60,7 +60,7 @@ module _ (number_at : NumberReader) where
   HasEntries-empty words contents e (tree t ts, n) =
       absurd (omega (arith, BeginWith-long words contents n.kind n.content n.other_words n.other_contents n.begin, ap length e))
 
-  -- entries that aren't empty begin with an entry
+  -- entries that are not empty begin with an entry
   pub HasEntries-stop : (words contents : List ℕ) → 0 < length words → ((kind : ℕ) (content ws cs : List ℕ) → BeginWith words contents kind content ws cs → ⊥)
       → HasEntries words contents number_at → ⊥
   HasEntries-stop words contents some none (no_trees, h) = omega (arith, ap length h.0)
@@ -91,7 +91,7 @@ module _ (number_at : NumberReader) where
       let parts = Entry-split {P = IsContent number_at t} {Q = AreEntries number_at ts} words contents kind content ws cs b e in
       (t, ts, refl, parts.0, parts.1)
 
--- what is said of entries may be replaced by what follows from it
+-- a property of entries may be replaced by what follows from it
 Entry-map : {P P' : ℕ → List ℕ → Type 0} {Q Q' : List ℕ → List ℕ → Type 0} → ((kind : ℕ) (content : List ℕ) → P kind content → P' kind content)
     → ((words contents : List ℕ) → Q words contents → Q' words contents) → (words contents : List ℕ) → HasFirstEntry P Q words contents
     → HasFirstEntry P' Q' words contents
@@ -121,7 +121,7 @@ Members-map ks g words contents o = record {
   values = g o.value_words o.value_contents o.values;
 }
 
--- what decodes where numbers are read in one way decodes so where they are read in another, which reads as many
+-- what decodes if numbers are read in one way decodes so if they are read in another, which reads as many
 module _ (strict lenient : NumberReader) (more : (bytes : List ℕ) (n : Number) → strict bytes ≡ Some n → lenient bytes ≡ Some n) where
   mutual
     pub content_map : (t : Tree) (kind : ℕ) (bytes : List ℕ) → IsContent strict t kind bytes → IsContent lenient t kind bytes
@@ -160,7 +160,7 @@ has_content_lenient kind bytes h =
 
 -- ---- forms
 
--- the number, where the payload is the one that is written for it
+-- the number, if the payload is the one that is written for it
 abbrev if_written : List ℕ → Option Number → Option Number
 if_written payload found = option_and_then (λ n. if bytes_eq payload (number_payload n) then Some n else None) found
 

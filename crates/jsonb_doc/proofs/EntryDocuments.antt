@@ -1,4 +1,4 @@
--- Entries as documents of their own.
+-- Entries as new documents.
 use Rattle.std.proofs.Common.{◌≡◌, ◌≢◌, ℕ, zero, suc, ◌-◌, ◌<◌, ◌≤◌, ◌^◌, List, [], ◌∷◌, ◌++◌, length, take, drop, refl, sym, ap, ◌∙◌, arith, append-nil, inr}
 use Rattle.std.specs.Prelude.{slice_range}
 use Rattle.std.proofs.lemmas.List.{take-take, take_rest}
@@ -6,7 +6,7 @@ use Rattle.jsonb_doc.specs.Tree.{Tree}
 use Rattle.jsonb_doc.specs.Payload.{NumberReader}
 use Rattle.jsonb_doc.specs.Format.{IsContent, IsDocument, header, scalar_header, entry_word}
 
--- an entry that is no container, as a document
+-- an entry that is not a container, as a document
 pub entry_decodes : (number_at : NumberReader) (t : Tree) (kind : ℕ) (content : List ℕ) → kind < 8 → kind ≢ 5 → length content < 2 ^ 28
     → IsContent number_at t kind content → IsDocument number_at t (header scalar_header 0 ++ (entry_word kind (length content) ++ content))
 entry_decodes number_at t kind content known scalar short part = inr (record {
@@ -29,7 +29,7 @@ take_own zero xs = refl
 take_own (suc m) [] = refl
 take_own (suc m) (x ∷ xs) = ap (λ (l : List ℕ). x ∷ l) (take_own m xs)
 
--- the front of the bytes that begin with a content is that content
+-- the prefix of bytes that begin with a content is that content
 pub front_is_content : (bytes content front : List ℕ) (start end n : ℕ) → content ≡ slice_range bytes start end
     → front ≡ take n (slice_range bytes start (length bytes)) → length content ≤ n → take (length content) front ≡ content
 front_is_content bytes content front start end n is first few =

@@ -1,4 +1,4 @@
--- Bytes are equal where the words at both their ends are, which overlap.
+-- Bytes are equal if the words at both their ends are, which overlap.
 use Rattle.std.proofs.Common.{◌≡◌, ℕ, zero, suc, ◌-◌, ◌*◌, ◌<◌, ◌≤◌, List, [], ◌∷◌, ◌++◌, length, length-drop, take, drop, get_or, refl, sym, ap, ◌∙◌, arith, Option, Some, None, Bool, true, false, nat_eq, IsTrue}
 use Rattle.std.specs.Prelude.{◌&&◌}
 use Rattle.std.specs.Int.{Width, w32, w64, from_be_bytes, to_be_bytes}
@@ -29,7 +29,7 @@ drop_small zero xs h = h
 drop_small (suc n) [] h = h
 drop_small (suc n) (x ∷ xs) h = drop_small n xs (λ j. h (suc j))
 
--- so many bytes are those of their number
+-- that many bytes are those of their number
 abbrev pub HasWords : Width → ℕ → Type 0
 HasWords w n = (xs : List ℕ) → length xs ≡ n → AreSmall xs → to_be_bytes w (from_be_bytes w xs) ≡ xs
 
@@ -55,9 +55,9 @@ ends_are w n words bytes first last x y enough small front back e f = (
       (drop_small (length bytes - n) bytes small) back f,
 )
 
--- ---- what they tell
+-- ---- what they determine
 
--- lists are equal where both their ends are
+-- lists are equal if both their ends are
 ends_joined : (n : ℕ) (xs ys : List ℕ) → length xs ≡ length ys → length xs ≤ 2 * n → take n xs ≡ take n ys
     → drop (length xs - n) xs ≡ drop (length ys - n) ys → xs ≡ ys
 ends_joined n xs ys same few front back =
@@ -84,7 +84,7 @@ module _ (w : Width) where
   one_number : (xs ys : List ℕ) (x y : ℕ) → IsWordOf w xs x → IsWordOf w ys y → xs ≡ ys → nat_eq x y ≡ true
   one_number xs ys x y a b e = eq-eqb x y (a.0 ∙ ap (from_be_bytes w) e ∙ sym b.0)
 
-  -- slices of one length are equal where their ends are
+  -- slices of one length are equal if their ends are
   pub ends_tell : (n : ℕ) (xs ys : List ℕ) (f g : Option (ℕ × ℕ)) (said : Bool) → length xs ≡ length ys → n ≤ length xs → length xs ≤ 2 * n
       → AreEnds w n xs f → AreEnds w n ys g → said ≡ option_eq pairs_equal f g → (IsTrue said → xs ≡ ys) × (xs ≡ ys → IsTrue said)
   ends_tell n xs ys None g said same enough few a b is = absurd (omega (arith, a, enough))

@@ -12,7 +12,7 @@ use Rattle.jsonb_doc.specs.declared.number.Number.{Number}
 use Rattle.jsonb_doc.specs.declared.short_number.ShortNumber.{ShortNumber}
 use Rattle.jsonb_doc.specs.declared.short_number.ShortNumber.TheVariants.{Unsigned, Signed, Decimal}
 
--- a number of these parts has their value, whichever zero it is
+-- a number of these parts has their value, for each variant of zero
 same_value : (variant : Variant) (whole : ℤ) (scale : ℕ)
     → number_cmp (number_from variant whole scale) (record { variant = variant; whole = whole; scale = scale }) ≡ Equal
 same_value variant (pos zero) scale = by (0 * 10 ^ scale) (0 * 10 ^ 0) (omega arith) (omega arith)

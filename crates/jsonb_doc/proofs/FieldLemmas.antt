@@ -9,7 +9,7 @@ use Rattle.jsonb_doc.specs.Tree.{Tree, object, Pairs, no_pairs, pair, keys, valu
 use Rattle.jsonb_doc.specs.Payload.{NumberReader, Form, any, number_reader}
 use Rattle.jsonb_doc.specs.Format.{Decodes, header, entry_word, BeginWith, AreValues, IsContent, key_words, key_bytes}
 use Rattle.jsonb_doc.specs.Private.Lengths.{StandBefore}
-use Rattle.jsonb_doc.specs.Private.Lengths.{HoldKeys, IsNoneOf, FoundKey}
+use Rattle.jsonb_doc.specs.Private.Lengths.{HoldKeys, IsNoneOf, FoundKey, KeysLeft}
 use Rattle.jsonb_doc.specs.Answer.{SameOption}
 use Rattle.jsonb_doc.specs.Spots.{Locates, spot_content}
 use Rattle.jsonb_doc.specs.Kinds.{kind_number}
@@ -27,14 +27,6 @@ use Rattle.jsonb_doc.proofs.SpotsLemmas.{Locates-part, some_field, object_held, 
 
 -- ---- the search
 
--- the keys that are left, where the name is none of those before them
-pub record KeysLeft (name : List ℕ) (ks : List (List ℕ)) (rest words bytes : List ℕ) : Type 0 where
-  pub front : List (List ℕ)
-  pub back : List (List ℕ)
-  pub joined : ks ≡ front ++ back
-  pub first : IsNoneOf name front
-  pub behind : HoldKeys back words bytes rest
-
 IsNoneOf-append : (name key : List ℕ) (front : List (List ℕ)) → IsNoneOf name front → key ≢ name → IsNoneOf name (front ++ key ∷ [])
 IsNoneOf-append name key [] h other = (other, tt)
 IsNoneOf-append name key (k ∷ front) h other = (h.0, IsNoneOf-append name key front h.1 other)
@@ -51,7 +43,7 @@ KeysLeft-end name ks rest words bytes none l = go l.back l.joined l.behind
 
 module _ (words bytes : List ℕ) (kind : ℕ) (key ws bs : List ℕ) (b : BeginWith words bytes kind key ws bs) where
   -- the first of the keys is the first entry
-  first_key : (back : List (List ℕ)) (rest : List ℕ) → HoldKeys back words bytes rest
+  pub first_key : (back : List (List ℕ)) (rest : List ℕ) → HoldKeys back words bytes rest
       → (others : List (List ℕ)) × (back ≡ key ∷ others) × HoldKeys others ws bs rest
   first_key [] rest h = absurd (omega (arith, BeginWith-long words bytes kind key ws bs b, ap length h.words_joined))
   first_key (first ∷ others) rest h =
@@ -83,7 +75,7 @@ module _ (words bytes : List ℕ) (kind : ℕ) (key ws bs : List ℕ) (b : Begin
 pub is_other : {r : Bool} {P : Type 0} → Decides r P → r ≡ false → P → ⊥
 is_other decides differ p = let same = decides.1 p in cc (same, differ)
 
--- the word at a place of all words
+-- the word at a position of all words
 pub chunk_at : (k i : ℕ) (words : List ℕ) → i < k → slice_index_or (first_chunks 4 k words) i [] ≡ take 4 (drop (4 * i) words)
 chunk_at zero i words h = absurd (omega (arith, h))
 chunk_at (suc k) zero words h = refl
@@ -156,7 +148,7 @@ module _ (name : List ℕ) (ks : List (List ℕ)) (rest words bytes : List ℕ) 
 
 -- ---- the value
 
--- where a value stands behind this many bytes of words
+-- a value that follows this many bytes of words
 pub record ValueAt (number_at : NumberReader) (value : Tree) (passed : ℕ) (words contents : List ℕ) : Type 0 where
   pub parts : List (List ℕ)
   pub left : List ℕ
@@ -206,7 +198,7 @@ pub no_value : (name : List ℕ) (ps : Pairs) → IsNoneOf name (keys ps) → va
 no_value name no_pairs none = refl
 no_value name (pair key t ps) none = rw (bytes_eq-other key name none.0) (no_value name ps none.1)
 
--- the value under the name is behind as many others as its key
+-- the value under the name is after as many others as its key
 pub value_at : (number_at : NumberReader) (name : List ℕ) (ps : Pairs) (front back : List (List ℕ)) → keys ps ≡ front ++ name ∷ back → IsNoneOf name front
     → (words contents : List ℕ) → AreValues number_at ps words contents
     → (value : Tree) × (value_under name ps ≡ Some value) × ValueAt number_at value (4 * length front) words contents
@@ -270,7 +262,7 @@ module _ (bytes : List ℕ) (parent : Spot) (t : Tree) (m : Locates bytes parent
 
   module _ (behind bytes_behind : List ℕ)
       (finds : (ks : List (List ℕ)) (found : List ℕ) → HoldKeys ks p.key_words.now p.contents.now found → FoundKey name ks found behind bytes_behind) where
-    -- keys stand behind the one that was found
+    -- keys follow the one that was found
     pub field_keys : (form : Form) (top : Tree) → Decodes form bytes top
         → (back : List (List ℕ)) × (found : List ℕ) × StandBefore back behind bytes_behind found
     field_keys form top d = go t (object_held bytes parent t m content is container p cut form top d)

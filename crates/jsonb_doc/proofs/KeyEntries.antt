@@ -1,4 +1,4 @@
--- The keys of an object as entries of texts.
+-- The keys of an object as entries of strings.
 use Rattle.std.proofs.Common.{◌≡◌, ℕ, ◌-◌, List, [], ◌∷◌, ◌++◌, length, take, refl, ap, ◌∙◌, arith}
 use Rattle.std.proofs.lemmas.List.{length-append, take_at}
 use Rattle.jsonb_doc.specs.Payload.{NumberReader}
@@ -17,7 +17,7 @@ key_entries number_at (key ∷ ks) are = record {
   others = key_entries number_at ks are.2;
 }
 
--- what stands before the rest
+-- what precedes the rest
 pub front_of : (contents front rest : List ℕ) → contents ≡ front ++ rest → take (length contents - length rest) contents ≡ front
 front_of contents front rest joined =
     ap (take (length contents - length rest)) joined

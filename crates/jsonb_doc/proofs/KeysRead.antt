@@ -5,7 +5,7 @@ use Rattle.jsonb_doc.proofs.Entries.{BeginWith-long, BeginWith-unique}
 use Rattle.jsonb_doc.specs.Format.{BeginWith, AreKeys, IsBelowFirst, key_words, key_bytes, entry_word}
 use Rattle.jsonb_doc.specs.Private.Checking.{HasKeys, IsAbove, IsNextKey}
 
--- the first of these keys may follow this key, where there are both
+-- the first of these keys may follow this key, if there are both
 abbrev pub Follow : Option (List ℕ) → List (List ℕ) → Type 0
 Follow None ks = ⊤
 Follow (Some key) ks = IsBelowFirst key ks
@@ -47,7 +47,7 @@ pub begin_key : (words bytes rest key : List ℕ) (ks : List (List ℕ)) → len
 begin_key words bytes rest key ks fits e f =
     record { known = omega arith; fits = fits; words_joined = e; contents_joined = f ∙ append_assoc key (key_bytes ks) rest }
 
--- keys that aren't none begin with an entry
+-- keys that are not empty begin with an entry
 pub KeysAfter-stop : (last : Option (List ℕ)) (words bytes rest : List ℕ) → 0 < length words
     → ((kind : ℕ) (content ws cs : List ℕ) → BeginWith words bytes kind content ws cs → ⊥) → KeysAfter last words bytes rest → ⊥
 KeysAfter-stop last words bytes rest some none k = go k.ks k.are_keys k.words_joined k.bytes_joined

@@ -1,4 +1,4 @@
--- Kinds of entries and of headers, and what tests of them tell of their numbers.
+-- Types of entries and of headers, and what tests of them state about their numbers.
 use Rattle.std.proofs.Common.{◌≡◌, ◌≢◌, ℕ, ◌<◌, ◌≤◌, Bool, true, false, Option, Some, None, refl, sym, ◌∙◌, ap, ap₂, arith, nat_eq}
 use Rattle.std.specs.Prelude.{◌==◌, not, MatchOption, unwrap_or}
 use Rattle.std.proofs.lemmas.Bool.Decides.{nat_tests}
@@ -35,7 +35,7 @@ number_is _ = refl
 pub one_kind : (a b : EntryKind) → kind_number a ≡ kind_number b → a ≡ b
 one_kind a b same = tag_one the_type tt a b (number_is a ∙ same ∙ sym (number_is b))
 
--- a test tells whether their numbers are one
+-- a test decides whether their numbers are one
 pub kinds_told : (a b : EntryKind) → kind_equal.it a b ≡ (kind_number a == kind_number b)
 kinds_told a b = ap₂ nat_eq (number_is a) (number_is b)
 
@@ -65,7 +65,7 @@ equal_kind r a b is fails = same_kind _ a b refl (turned r (kind_equal.it a b) i
 
 -- ---- headers
 
--- a header is an array's where its number is
+-- a header is an array's if its number is
 pub array_told : (kind : HeaderKind) → header_equal.it kind Array ≡ (header_number kind == 4)
 array_told Scalar = refl
 array_told _ = refl

@@ -15,11 +15,11 @@ use Rattle.jsonb_doc.specs.Private.Lengths.{HoldKeys}
 use Rattle.jsonb_doc.proofs.Entries.{BeginWith-long}
 use Rattle.jsonb_doc.proofs.KeysRead.{begin_key}
 
--- how many bytes a word tells of
+-- the length in a word
 abbrev pub told : List ℕ → ℕ
 told word = from_be_bytes w32 word % 2 ^ 28
 
--- the word of an entry tells how long its content is
+-- the word of an entry determines how long its content is
 pub told_length : (words contents : List ℕ) (kind : ℕ) (content ws cs : List ℕ) → BeginWith words contents kind content ws cs
     → told (take 4 words) ≡ length content
 told_length words contents kind content ws cs b =
@@ -33,7 +33,7 @@ both_lengths : (all first behind rest content others contents : ℕ) → all ≡
     → contents ≡ content + others → all + rest ≡ contents
 both_lengths all first behind rest content others contents e f g h = omega (arith, e, f, g, h)
 
--- words tell how long the contents are that stand before the rest
+-- words determine how long the contents are that precede the rest
 pub told_lengths : (parts : List (List ℕ)) (words contents rest : List ℕ) (k : ℕ) → k ≡ length words / 4 → StandBefore parts words contents rest
     → sum (map told (first_chunks 4 k words)) + length rest ≡ length contents
 told_lengths [] words contents rest zero count h = omega (arith, ap length h.1)
@@ -64,7 +64,7 @@ lengths_added len chunks left words contents rest none sum_is are count all =
     all_added : (n a b r s : ℕ) → n + 0 ≡ a → b ≡ a → b + r ≡ s → n + r ≡ s
     all_added n a b r s e f g = omega (arith, e, f, g)
 
--- without words nothing stands before the rest
+-- without words nothing precedes the rest
 pub nothing_before : (parts : List (List ℕ)) (words contents rest : List ℕ) → length words ≡ 0 → StandBefore parts words contents rest → contents ≡ rest
 nothing_before [] words contents rest none h = h.1
 nothing_before (part ∷ parts) words contents rest none e =
@@ -80,7 +80,7 @@ StandBefore-joined (part ∷ parts) words contents rest e =
       e.begin.contents_joined ∙ ap (λ (w : List ℕ). e.content ++ w) others.1 ∙ sym (append_assoc e.content others.0 rest),
     )
 
--- what is left of the contents behind the front is the rest
+-- what follows the prefix of the contents is the rest
 pub rest_of : (contents front rest : List ℕ) (n : ℕ) → contents ≡ front ++ rest → n + length rest ≡ length contents
     → slice_range contents n (length contents) ≡ rest
 rest_of contents front rest n joined sum =
@@ -105,7 +105,7 @@ IsPart-end contents n (Some x) h =
     let is : x.now ≡ drop n contents = h.0.2 ∙ between_to_end contents n (length contents) (omega arith) in
     (take n contents, sym (take-append-drop n contents) ∙ ap (λ (back : List ℕ). take n contents ++ back) (sym is))
 
--- keys stand before what follows them
+-- keys precede what follows them
 pub keys_before : (ks : List (List ℕ)) (words bytes rest : List ℕ) → AreKeys ks → words ≡ key_words ks → bytes ≡ key_bytes ks ++ rest
     → StandBefore ks words bytes rest
 keys_before [] words bytes rest are e f = (e, f)

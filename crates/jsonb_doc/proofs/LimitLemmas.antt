@@ -1,4 +1,4 @@
--- Which trees pass the limits where a part or a front of them does; keys of documents.
+-- The trees that exceed the limits if a child or a prefix of them does; keys of documents.
 use Rattle.std.specs.Prelude.{ℕ, ◌≤◌, List, [], ◌∷◌, ◌++◌}
 use Rattle.std.proofs.Common.{arith, true}
 use Rattle.jsonb_doc.specs.Tree.{Tree, boolean, array, object, Pairs, count, keys, members, trees_of}
@@ -17,12 +17,12 @@ short_front : (form : Form) (ts us : List Tree) → HasShortElements form (trees
 short_front form [] us h = tt
 short_front form (t ∷ ts) us h = (h.0, h.1, short_front form ts us h.2)
 
--- an array that passes the limits still does with more elements
+-- an array that exceeds the limits still does with more elements
 pub array_too_large-more : (form : Form) (ts us : List Tree) → IsTooLarge form (array (trees_of ts)) → IsTooLarge form (array (trees_of (ts ++ us)))
 array_too_large-more form ts us large =
     λ short. large (omega (arith, short.0, fewer_trees ts us), short_front form ts us short.1)
 
--- a tree that has its place in a container is within the limits
+-- a tree that fits in a container is within the limits
 short_part : (form : Form) (t : Tree) → IsShort form t → HasShortParts form t → IsWithinLimits form t
 short_part form (boolean true) short parts = short
 short_part form (array ts) short parts = parts
@@ -33,11 +33,11 @@ short_middle : (form : Form) (ts us : List Tree) (t : Tree) → HasShortElements
 short_middle form [] us t h = short_part form t h.0 h.1
 short_middle form (v ∷ ts) us t h = short_middle form ts us t h.2
 
--- an array passes the limits where an element does
+-- an array exceeds the limits if an element does
 pub array_too_large-element : (form : Form) (ts us : List Tree) (t : Tree) → IsTooLarge form t → IsTooLarge form (array (trees_of (ts ++ t ∷ us)))
 array_too_large-element form ts us t large = λ short. large (short_middle form ts us t short.1)
 
--- the keys of an object that bytes decode to rise
+-- the keys of an object that bytes decode to are sorted
 pub decoded_keys : (form : Form) (bytes : List ℕ) (ps : Pairs) → Decodes form bytes (object ps) → AreKeys (keys ps)
 decoded_keys form bytes ps d = (object_document (number_reader form) ps bytes d.document).1.parts.are_keys
 

@@ -58,7 +58,7 @@ mutual
             ∙ ap₂ (λ bytes cs. bytes ++ cs) first.1 others.1,
       )
 
--- the document of a tree that is no container
+-- the document of a tree that is not a container
 document_of_scalar : (t : Tree) (kind : ℕ) (bytes : List ℕ) → (kind ≡ 5 → ⊥) → IsContent (number_reader canonical) t kind bytes → scalar_document t ≡ document t
 document_of_scalar (array ts) kind bytes other h = absurd (other h.0)
 document_of_scalar (object ps) kind bytes other h = absurd (other h.0)

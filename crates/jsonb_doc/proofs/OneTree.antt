@@ -9,7 +9,7 @@ use Rattle.jsonb_doc.proofs.Entries.{BeginWith-unique, BeginWith-long}
 use Rattle.jsonb_doc.proofs.ScalarLemmas.{null_content, false_content, true_content, text_content, number_content, extension_content, some_injective}
 use Rattle.jsonb_doc.proofs.Containers.{HeadedBy-unique, length-words, entries_of, count-values, length-key_words, scalar_document}
 
--- keys behind as many keys in the same bytes are the same
+-- keys after as many keys in the same bytes are the same
 keys_unique : (ks ls : List (List ℕ)) (v v' x x' words bytes : List ℕ) → AreKeys ks → AreKeys ls → length ks ≡ length ls
     → words ≡ key_words ks ++ v → words ≡ key_words ls ++ v' → bytes ≡ key_bytes ks ++ x → bytes ≡ key_bytes ls ++ x'
     → (ks ≡ ls) × (v ≡ v') × (x ≡ x')

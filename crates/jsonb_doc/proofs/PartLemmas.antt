@@ -1,4 +1,4 @@
--- The parts of a value, as it is let go of them one by one.
+-- The nodes of a value, as they are dropped one by one.
 use Rattle.std.proofs.Common.{◌≡◌, ℕ, ◌+◌, ◌*◌, ◌<◌, ◌≤◌, List, [], ◌∷◌, ◌++◌, Option, None, Some, IfSome, length, drop, String, Vec, BTreeMap, Global, Ordering, Less, Equal, Greater, string_cmp, sym, ap, ◌∙◌, arith}
 use Rattle.std.specs.Prelude.{cond}
 use Rattle.std.specs.BTreeMap.{insert_entry, is_at}
@@ -68,7 +68,7 @@ pub waiting_parts-container : (waiting : Option Value) (v : Value) → IfSome wa
 waiting_parts-container None v is = omega arith
 waiting_parts-container (Some inner) v is = let same = ap parts is in omega arith
 
--- the value w in the place of v
+-- the value w in place of v
 abbrev Exchanges : List Entry → List Entry → Value → Value → Type 0
 Exchanges es fs v w = (entries_parts fs + parts v ≡ entries_parts es + parts w) × (parts v ≤ entries_parts es)
 

@@ -81,7 +81,7 @@ bytes_again n xs len bytes =
 
 -- ---- fields of fixed width
 
--- the field in front is written as it is read
+-- the first field is written as it is read
 field_again : (w : Width) (xs : List ℕ) → cast_unsigned w (cast_signed w (big_number (byte_len w) xs)) ≡ big_number (byte_len w) xs → byte_len w ≤ length xs
     → AreBytes xs
     → fixed_bytes w (fixed w xs) ++ drop (byte_len w) xs ≡ xs

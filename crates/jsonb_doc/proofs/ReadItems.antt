@@ -1,12 +1,15 @@
 -- Items that are read of any bytes.
-use Rattle.std.proofs.Common.{ℕ, List, [], ◌++◌, length, arith, Result, Ok, Err, inl, inr, refl, sym, subst}
+use Rattle.std.proofs.Common.{◌≡◌, ◌≢◌, ℕ, List, [], ◌++◌, length, arith, Result, Ok, Err, inl, inr, refl, sym, subst}
 use Rattle.std.specs.Prelude.{MatchResult, IfOk}
 use Rattle.std.proofs.lemmas.List.{length-append, append-nil}
 use Rattle.jsonb_doc.specs.Payload.{any, number_reader}
 use Rattle.jsonb_doc.specs.Format.{HeadedBy, HasItsWords, entry_word}
 use Rattle.jsonb_doc.specs.Item.{IsItemOf, IsRootOf}
 use Rattle.jsonb_doc.specs.Tree.{Tree}
-use Rattle.jsonb_doc.specs.Format.{IsContent, Decodes}
+use Rattle.jsonb_doc.specs.Format.{IsContent, Decodes, IsContainer, HasFirstEntry, AreNone}
+use Rattle.jsonb_doc.specs.Shapes.{IsShapeOf, IsRootShape}
+use Rattle.jsonb_doc.specs.declared.shape.Shape.{Shape}
+use Rattle.jsonb_doc.specs.declared.shape.Shape.TheVariants as shapes
 use Rattle.jsonb_doc.specs.Readable.{HasReadableRoot}
 use Rattle.jsonb_doc.specs.Private.Containers.{IsCut}
 use Rattle.jsonb_doc.specs.Kinds.{kind_number}
@@ -31,7 +34,7 @@ item_headed content (Object bytes) h = (header.Object, h.2.0, h.2.1, h.2.2)
 item_headed content _ h = HasContent-headed (number_reader any) content (h.0, h.1)
 
 module _ (bytes : List ℕ) where
-  -- the entry of a scalar root is no container, so that its item is all of the document
+  -- the entry of a scalar root is not a container, so that its item is all of the document
   scalar_decodes : (e : StoredEntry) → IsCut bytes (Scalar e) → (t : Tree) → IsContent (number_reader any) t (kind_number e.kind) e.content.now → Decodes
       any bytes t
   scalar_decodes e cut t h = record { document = (IsCut-same bytes (Scalar e) cut (number_reader any) t).1 (cut.2.scalar, h) }
@@ -54,13 +57,12 @@ module _ (bytes : List ℕ) where
       let words = p.key_words.now ++ p.value_words.now in
       (n, words ++ p.contents.now, h, omega (arith, len, value_len, length-append words p.contents.now, length-append p.key_words.now p.value_words.now))
 
-  -- a root that is cut into its parts can be read
-  pub readable_root : (root : Container) → IsCut bytes root → HasReadableRoot bytes
-  readable_root (ArrayOf p) cut = inl (array_root p cut)
-  readable_root (ObjectOf p) cut = inr (inl (object_root p cut))
-  readable_root (Scalar e) (rest, headed, lone) =
+  -- one entry that is not a container
+  lone_root : (e : StoredEntry) → IsCut bytes (Scalar e) → (IsPart : ℕ → List ℕ → Type 0) → IsPart (kind_number e.kind) e.content.now
+      → IsContainer 1 0 (HasFirstEntry IsPart AreNone) bytes
+  lone_root e (rest, headed, lone) IsPart part =
       let word = entry_word (kind_number e.kind) (length e.content.now) in
-      inr (inr (record {
+      record {
         words = word;
         contents = e.content.now;
         headed = subst (HeadedBy bytes 1 0) lone.start.joined headed;
@@ -75,7 +77,25 @@ module _ (bytes : List ℕ) where
             words_joined = sym (append-nil word);
             contents_joined = sym (append-nil e.content.now);
           };
-          part = lone.scalar;
+          part = part;
           others = (refl, refl);
         };
-      }))
+      }
+
+  -- a root that is cut into its parts can be read
+  pub readable_root : (root : Container) → IsCut bytes root → HasReadableRoot bytes
+  readable_root (ArrayOf p) cut = inl (array_root p cut)
+  readable_root (ObjectOf p) cut = inr (inl (object_root p cut))
+  readable_root (Scalar e) cut = inr (inr (lone_root e cut (λ kind content. kind ≢ 5) cut.2.scalar))
+
+  scalar_shape : (e : StoredEntry) → IsCut bytes (Scalar e) → (shape : Shape) → IsShapeOf (kind_number e.kind) e.content.now shape
+      → IsRootShape bytes shape
+  scalar_shape e cut (shapes.Text s) h = lone_root e cut (λ kind content. (kind ≡ 1) × (content ≡ s.now)) (h.0, sym h.1)
+  scalar_shape e cut shapes.Array h = absurd h
+  scalar_shape e cut shapes.Object h = absurd h
+  scalar_shape e cut _ h = (h.0, scalar_decodes e cut h.0 h.1, h.2)
+
+  pub shape_root : (e : StoredEntry) → IsCut bytes (Scalar e) → (r : Result Shape Error) → IfOk r (IsShapeOf (kind_number e.kind) e.content.now)
+      → IfOk r (IsRootShape bytes)
+  shape_root e cut (Ok shape) h = scalar_shape e cut shape h
+  shape_root e cut (Err x) h = tt

@@ -1,4 +1,4 @@
--- Whole numbers at and near a number.
+-- Integers at and near a number.
 use Rattle.std.proofs.Common.{◌≡◌, ◌≢◌, ℕ, zero, suc, ◌+◌, ◌-◌, ◌*◌, ◌/◌, ◌%◌, ◌^◌, ◌<◌, ◌≤◌, ℤ, pos, negsuc, ◌*ℤ◌, int_lt, false, inl, inr, refl, sym, ap, ◌∙◌, arith, Option, Some, None, FitsSigned, MatchOption, div-add-mod', mul-pos}
 use Rattle.std.specs.Prelude.{neg_ℤ, unsigned_abs}
 use Rattle.std.specs.Int.{w64}
@@ -67,7 +67,7 @@ size_times (negsuc k) p = size_negated (suc k * p)
 pub size_of : (z y : ℤ) (p : ℕ) → z ≡ y *ℤ pos p → unsigned_abs z ≡ unsigned_abs y * p
 size_of z y p e = ap unsigned_abs e ∙ size_times y p
 
--- the whole number of the sign and the quotient
+-- the integer of the sign and the quotient
 whole_is : (z : ℤ) (p q : ℕ) → unsigned_abs z ≡ q * p → z ≡ with_sign (int_lt z (pos 0)) q *ℤ pos p
 whole_is (pos m) p q e = rw (nonnegative m) (ap pos e)
 whole_is (negsuc m) p zero e = absurd (let z : 0 * p ≡ 0 = omega arith in omega (arith, e, z))
@@ -89,7 +89,7 @@ whole_only (negsuc m) (negsuc k) p q some e f =
     let same : q ≡ suc k = eq_of_mul-eq-mul_right p some q (suc k) (sym e ∙ size_of (negsuc m) (negsuc k) p f) in
     ap (λ (x : ℕ). neg_ℤ (pos x)) same
 
--- what a conversion of the sign and the quotient answers
+-- the result of a conversion of the sign and the quotient
 pub as_signed : (z : ℤ) (p q : ℕ) (r : Option ℤ) → 0 < p → unsigned_abs z ≡ q * p
     → MatchOption r (FitsSigned w64 (with_sign (int_lt z (pos 0)) q) → ⊥) (λ y. with_sign (int_lt z (pos 0)) q ≡ y)
     → MatchOption r ((y : ℤ) → z ≡ y *ℤ pos p → FitsSigned w64 y → ⊥) (λ y. z ≡ y *ℤ pos p)

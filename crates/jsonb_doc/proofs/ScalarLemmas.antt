@@ -1,4 +1,4 @@
--- What is the content of an entry that is no container, kind by kind.
+-- What is the content of an entry that is not a container, kind by kind.
 use Rattle.std.proofs.Common.{◌≡◌, ◌≢◌, ℕ, ◌≤◌, List, [], length, ◌⊎◌, inl, inr, arith, Some, None, true, false, sym, ◌∙◌, ap, ◌↔◌, Result, Ok, Err, refl, rules}
 use Rattle.std.specs.Prelude.{IsUtf8, MatchResult, IsOk, IsErrOf}
 use Rattle.jsonb_doc.specs.Number as spec
@@ -23,7 +23,7 @@ module _ (number_at : NumberReader) (kind : ℕ) (bytes : List ℕ) where
   empty_only p q r s (array ts, h) = absurd (r h.0)
   empty_only p q r s (object ps, h) = absurd (r h.0)
 
-  -- null and truth values have no content
+  -- null and Booleans have no content
   pub constant_empty : (t : Tree) → IsContent number_at t kind bytes → (kind ≡ 0) ⊎ ((kind ≡ 3) ⊎ (kind ≡ 4)) → length bytes ≡ 0
   constant_empty t h constant =
       ap length (elim constant [
@@ -117,7 +117,7 @@ number_fails bytes UnsupportedNumber fails = fails.0
 number_fails bytes InvalidJsonb fails = fails.0
 number_fails bytes _ fails = absurd fails
 
--- what a judgement of a document says of each answer
+-- what the check of a document states for each result
 pub Validates-exact : {A : Type 0} (bytes : List ℕ) (r : Result A Error) → Validates (HasDocument bytes) r
     → (IsOk r ↔ ((t : Tree) × Decodes any bytes t))
     × (IsErrOf r UnsupportedNumber ↔ (((t : Tree) → Decodes any bytes t → ⊥) × ((t : Tree) × WouldDecode bytes t)))

@@ -54,7 +54,7 @@ range_part bytes s e a b front part back ordered within joined ends begins =
     let wide : b - a ≡ length part = omega (arith, whole, sum, both) in
     (omega arith, omega arith, ap (λ (n : ℕ). take n (drop a bytes)) wide ∙ sym cut.0)
 
--- the front and the rest of a range
+-- the prefix and the rest of a range
 pub range_front : (bytes : List ℕ) (s e n : ℕ) → s + n ≤ e → e ≤ length bytes → slice_range bytes s (s + n) ≡ take n (slice_range bytes s e)
 range_front bytes s e n fits within =
     let whole = length_range bytes s e (omega arith) within in
@@ -87,7 +87,7 @@ trees_of-elements (tree t ts) = ap (tree t) (trees_of-elements ts)
 
 -- ---- an iterator and its first spot
 
--- the first entry, by its word, where the contents are long enough
+-- the first entry, by its word, if the contents are long enough
 pub StartWith-begin : (words contents others : List ℕ) (kind len : ℕ) → StartWith words kind len others → len ≤ length contents
     → BeginWith words contents kind (take len contents) others (drop len contents)
 StartWith-begin words contents others kind len w fits =
@@ -99,7 +99,7 @@ StartWith-begin words contents others kind len w fits =
       contents_joined = sym (take-append-drop len contents);
     }
 
--- the word of the first entry tells how long it is
+-- the word of the first entry determines how long it is
 pub StartWith-length : (words contents others : List ℕ) (kind len : ℕ) (k : ℕ) (content ws cs : List ℕ) → StartWith words kind len others
     → BeginWith words contents k content ws cs → len ≤ length contents
 StartWith-length words contents others kind len k content ws cs w b =
@@ -125,7 +125,7 @@ module _ (bytes : List ℕ) (it : SpotIter) where
       let e = h.entries any h.whole h.decodes in
       absurd (omega (arith, BeginWith-long _ _ e.kind e.content e.other_words e.other_contents e.begin))
 
-  -- words that aren't none begin with one
+  -- words that are not empty begin with one
   pub HasSpotsLeft-word : (ts : List Tree) → 0 < length it.words.now → ((kind len : ℕ) (others : List ℕ) → StartWith it.words.now kind len others → ⊥)
       → HasSpotsLeft bytes it ts → ⊥
   HasSpotsLeft-word [] some none h = omega (arith, ap length (h.entries any h.whole h.decodes).0)
@@ -171,9 +171,9 @@ module _ (bytes : List ℕ) (it : SpotIter) where
           },
         )
 
--- ---- an iterator behind so many of its spots
+-- ---- an iterator after that many of its spots
 
--- entries behind so many others, whose contents are passed over
+-- entries after that many others, whose contents are passed over
 record EntriesBehind (number_at : NumberReader) (count : ℕ) (ts : List Tree) (words contents : List ℕ) : Type 0 where
   pub parts : List (List ℕ)
   pub rest : List ℕ
@@ -213,7 +213,7 @@ words_counted number_at [] words contents e = omega (arith, ap length e.0)
 words_counted number_at (t ∷ ts) words contents e =
     omega (arith, ap length e.begin.words_joined, words_counted number_at ts e.other_words e.other_contents e.others)
 
--- what stands behind contents that are passed over
+-- what follows contents that are passed over
 rest_behind : (parts : List (List ℕ)) (words contents rest : List ℕ) (len : ℕ) → StandBefore parts words contents rest → len + length rest ≡ length contents
     → drop len contents ≡ rest
 rest_behind parts words contents rest len before sum =
@@ -259,7 +259,7 @@ module _ (bytes : List ℕ) (it : SpotIter) (ts : List Tree) (h : HasSpotsLeft b
               rw (words, start, end, range_rest bytes it.start it.end len fits h.within, rest) e.behind;
         }
 
--- the content that the first word tells of is that of the first spot, where there is one
+-- the content of the first word is that of the first spot, if there is one
 pub PassesSpot-fits : (it : SpotIter) (kind len : ℕ) (others : List ℕ) → StartWith it.words.now kind len others → (spot : Spot) (rest : SpotIter)
     → PassesSpot it spot rest → it.start + len ≤ it.end
 PassesSpot-fits it kind len others w spot rest p =
@@ -332,7 +332,7 @@ module _ (bytes : List ℕ) (parent : Spot) (t : Tree) (m : Locates bytes parent
       go (object ps) h = absurd (scalar h.0)
       go _ h = (refl, λ name. refl)
 
--- an item is a container where it has children
+-- an item is a container if it has children
 pub Locates-has_children : (bytes : List ℕ) (spot : Spot) (t : Tree) → Locates bytes spot t → (kind_number spot.kind == 5) ≡ is_some (children_of t)
 Locates-has_children bytes spot t m = go t (m.content any m.whole m.decodes)
   where
@@ -376,7 +376,7 @@ module _ (bytes : List ℕ) (parent : Spot) (t : Tree) (m : Locates bytes parent
   Locates-no-scalar e cut = IsCut-scalar (number_reader any) content e cut t (Locates-container any m.whole m.decodes)
 
   module _ (p : ArrayParts) (cut : IsCut content (Array p)) where
-    array_held : (form : Form) (top : Tree) → Decodes form bytes top → Holds (number_reader form) t (Array p)
+    pub array_held : (form : Form) (top : Tree) → Decodes form bytes top → Holds (number_reader form) t (Array p)
     array_held form top d = (IsCut-same content (Array p) cut (number_reader form) t).0 (inl (Locates-container form top d))
 
     -- an array has children and no fields
@@ -404,7 +404,7 @@ module _ (bytes : List ℕ) (parent : Spot) (t : Tree) (m : Locates bytes parent
     pub object_held : (form : Form) (top : Tree) → Decodes form bytes top → Holds (number_reader form) t (Object p)
     object_held form top d = (IsCut-same content (Object p) cut (number_reader form) t).0 (inl (Locates-container form top d))
 
-    -- the words and the contents stand behind the header
+    -- the words and the contents follow the header
     pub object_joined : content ≡ (header 2 cut.0 ++ (p.key_words.now ++ p.value_words.now)) ++ p.contents.now
     object_joined = cut.1.joined ∙ sym (append_assoc (header 2 cut.0) (p.key_words.now ++ p.value_words.now) p.contents.now)
 

@@ -10,11 +10,11 @@ use Rattle.jsonb_doc.specs.declared.spot_iter.SpotIter.{SpotIter}
 use Rattle.jsonb_doc.specs.declared.error.Error.{Error}
 use Rattle.jsonb_doc.proofs.CanonicalLemmas.{in_any}
 
--- bytes of either form decode, as `root_spot` asks
+-- bytes of either form decode, as `root_spot` needs
 pub decodes_any : (form : Form) (bytes : List ℕ) (top : Tree) → Decodes form bytes top → Decodes any bytes top
 decodes_any form bytes top d = in_any form top bytes d
 
--- a spot that an iterator gave
+-- a spot that an iterator yielded
 pub record TakenSpot (bytes : List ℕ) (ts : List Tree) (spot : Spot) (after : SpotIter) : Type 0 where
   pub first : Tree
   pub others : List Tree
@@ -30,7 +30,7 @@ taken_spot bytes ts r spot after is h = go ts (rw is at h)
     go [] k = absurd k
     go (t ∷ us) k = record { first = t; others = us; whole = refl; marks = k.0; left = k.1 }
 
--- an iterator of bytes that decode refuses nothing
+-- an iterator of bytes that decode never fails
 pub no_refusal : (bytes : List ℕ) (ts : List Tree) (r : Result Spot Error) (e : Error) (after : SpotIter) → r ≡ Err e → TakesSpot bytes ts (Some r) after → ⊥
 no_refusal bytes ts r e after is h = go ts (rw is at h)
   where

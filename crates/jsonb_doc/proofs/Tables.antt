@@ -1,6 +1,6 @@
 -- Tables of worked rows, which a definition computes.
 use Rattle.std.proofs.Common.{◌≡◌, List, map}
 
--- the function answers each row's first with its second
+-- the function returns the second of each row for its first
 abbrev pub AreRows : {A B : Type 0} → (A → B) → List (A × B) → Type 0
 AreRows answer rows = map (λ row. answer row.0) rows ≡ map (λ row. row.1) rows

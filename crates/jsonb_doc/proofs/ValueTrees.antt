@@ -1,4 +1,4 @@
--- The trees of values, level by level, and a map's entries beside the pairs that they stand for.
+-- The trees of values, level by level, and a map's entries next to the pairs that they are for.
 use Rattle.std.proofs.Common.{◌≡◌, List, [], ◌∷◌, ◌++◌, String, Vec, BTreeMap, Global, Ordering, Less, Equal, Greater, string_bytes, string_cmp, nat_cmp, refl, ap, ◌∙◌, rules}
 use Rattle.std.proofs.lemmas.Cmp.{nat_list_cmp_total}
 use Rattle.std.specs.Cmp.Lexicographic.{slice_cmp}
@@ -36,7 +36,7 @@ module _ (seen : Number → spec.Number) where
   members_seen-insert_entry [] k v = refl
   members_seen-insert_entry (e ∷ es) k v = through (string_cmp k e.0) _ _ _ ∙ rw (members_seen-insert_entry es k v)
 
-  -- a key that is above those before it goes last
+  -- a key above the others is inserted last
   pub insert_last : (done : List Entry) (e : Entry) (more : List Entry) → IsStrictlySortedBy string_cmp (keys_of (done ++ e ∷ more))
       → insert_pair (string_bytes e.0) (tree_seen seen e.1) (members_seen seen done) ≡ members_seen seen (done ++ e ∷ [])
   unfolding IsStrictlySortedBy

@@ -1,4 +1,4 @@
--- How walks over nested containers end: a level outweighs all that can lie within one of its items.
+-- How walks over nested containers end: a level outweighs all that can be within one of its items.
 use Rattle.std.proofs.Common.{◌≡◌, ℕ, ◌+◌, ◌*◌, ◌^◌, ◌<◌, ◌≤◌, List, [], ◌∷◌, ◌++◌, ap, ◌∙◌, arith}
 use Rattle.std.specs.Prelude.{reverse}
 use Rattle.std.proofs.lemmas.List.{reverse-append}
@@ -6,7 +6,7 @@ use Rattle.std.proofs.Math.Nat.{one-le-pow, pow-le-pow_right, mul-le-mul_right}
 use Rattle.std.proofs.lemmas.Nat.{mul-le}
 use Rattle.std.proofs.lemmas.Grind.{pow_more}
 
--- more by two than any level gives
+-- greater by two than the number that any level yields
 unfoldable pub base : ℕ
 base = 2 ^ 65
 
@@ -34,7 +34,7 @@ shrunk m b c i r s j pos fewer less inner few =
     summed : (x y z m i b c : ℕ) → (c + 1) * y ≤ b * z → (i + 2) * x ≤ m * x → x * m ≤ z → 1 ≤ x → (i + 1) * x + (c + 1) * y < (b + 1) * z
     summed x y z m i b c left more up one = grind (arith, left, more, up, one)
 
--- a level that gives at most `bound` items, each smaller than `room`
+-- a level that yields at most `bound` items, each smaller than `room`
 unfoldable pub weight_of : (bound room : ℕ) → ℕ
 weight_of bound room = (bound + 1) * base ^ room
 
@@ -71,12 +71,12 @@ module _ {A : Type 0} (weight : A → ℕ) where
       → weight_of_all weight (reverse around') ≡ weight x + weight_of_all weight (reverse around)
   around_pushed around around' x e = ap (λ xs. weight_of_all weight (reverse xs)) e ∙ ap (weight_of_all weight) (reverse-append around (x ∷ []))
 
-  -- the measure of a walk falls where a level is left for what is within one of its items
+  -- the measure of a walk falls if a level is left for what is within one of its items
   pub falls_inward : (level level' inner : A) (around around' : List A) → weight inner + weight level' < weight level → around' ≡ around ++ level' ∷ []
       → weight inner + weight_of_all weight (reverse around') < weight level + weight_of_all weight (reverse around)
   falls_inward level level' inner around around' less e = let is = around_pushed around around' level' e in omega (arith, is, less)
 
-  -- it falls where a level is done
+  -- it decreases if a level is done
   pub falls_outward : (level outer : A) (around around' : List A) → 0 < weight level → around ≡ around' ++ outer ∷ []
       → weight outer + weight_of_all weight (reverse around') < weight level + weight_of_all weight (reverse around)
   falls_outward level outer around around' pos e = let is = around_pushed around' around outer e in omega (arith, is, pos)

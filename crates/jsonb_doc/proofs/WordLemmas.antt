@@ -1,4 +1,4 @@
--- Words in front of bytes, and bytes cut in two.
+-- Words before bytes, and bytes cut in two.
 use Rattle.std.proofs.Common.{◌≡◌, ℕ, ◌^◌, ◌<◌, List, ◌++◌, length, take, drop, refl, sym, ap, ◌∙◌, true}
 use Rattle.std.specs.Str.{bytes_eq}
 use Rattle.std.proofs.lemmas.Slice.Eq.{bytes_eq-Decides}
@@ -10,7 +10,7 @@ use Rattle.byteorder.specs.Numbers.{big_number-reads_back}
 pub word_read : (n : ℕ) (rest : List ℕ) → n < 2 ^ 32 → big_number 4 (big_bytes 4 n ++ rest) ≡ n
 word_read n rest h = big_number-reads_back 4 n rest h
 
--- two cuts of one list after as many places are one cut
+-- two cuts of a list at the same position are the same cut
 pub append_cancel : (a b c d : List ℕ) → length a ≡ length c → a ++ b ≡ c ++ d → (a ≡ c) × (b ≡ d)
 append_cancel a b c d same e = (
   sym (take_at a b (length a) refl) ∙ ap (take (length a)) e ∙ take_at c d (length a) (sym same),
@@ -18,7 +18,7 @@ append_cancel a b c d same e = (
       ∙ drop_at c d (length a) (sym same),
 )
 
--- two words in front of bytes are one word
+-- two words before bytes are one word
 pub word_cancel : (m n : ℕ) (xs ys : List ℕ) → m < 2 ^ 32 → n < 2 ^ 32 → big_bytes 4 m ++ xs ≡ big_bytes 4 n ++ ys → (m ≡ n) × (xs ≡ ys)
 word_cancel m n xs ys hm hn e =
     (sym (word_read m xs hm) ∙ ap (big_number 4) e ∙ word_read n ys hn, ap (drop 4) e)

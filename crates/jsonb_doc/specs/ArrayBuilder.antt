@@ -8,7 +8,7 @@ use Rattle.jsonb_doc.specs.Format.{AreEntries}
 use Rattle.jsonb_doc.specs.Encoding.{IsTooLong, item_word, item_content}
 use Rattle.jsonb_doc.specs.declared.item.Item.{Item}
 
--- entry words, and the contents behind them
+-- Entry words, and the contents after them.
 pub record Parts : Type 0 where
   pub words : List ℕ
   pub contents : List ℕ
@@ -16,24 +16,25 @@ pub record Parts : Type 0 where
 abbrev pub no_parts : Parts
 no_parts = record { words = []; contents = [] }
 
--- how many entries there are
+-- The number of entries.
 abbrev pub entry_count : Parts → ℕ
 entry_count parts = length parts.words / 4
 
--- the parts with one more entry behind the others, that of the item
+-- The parts with one more entry after the others, that of the item.
 abbrev pub add_entry : Parts → Item → Parts
 add_entry parts item = record { words = parts.words ++ item_word item; contents = parts.contents ++ item_content item }
 
--- the builder holds the trees, in order
+-- Holds if the builder holds the trees, in order.
 abbrev pub HoldsElements : Form → Parts → List Tree → Type 0
 HoldsElements form parts ts = AreEntries (number_reader form) (trees_of ts) parts.words parts.contents
 
--- The tree is pushed behind these: the builder then holds it too, or memory was refused, or the array is too large.
+-- Holds if the tree is appended to these: the builder then holds it too, or an allocation failed, or the array is too
+-- large.
 abbrev pub PushesElement : Form → List Tree → Tree → Result (Unit {0}) Error → Parts → Type 0
 PushesElement form ts t answer after =
     MatchResult answer (λ _. HoldsElements form after (ts ++ t ∷ []))
     (IsOutOfMemoryOrTooLarge form (array (trees_of (ts ++ t ∷ []))))
 
--- one more entry for the item passes the limits
+-- Holds if one more entry for the item exceeds the limits.
 abbrev pub IsTooLargeElement : Parts → Item → Type 0
 IsTooLargeElement parts item = IsTooLong (item_content item) ⊎ (2 ^ 29 ≤ entry_count parts + 1)

@@ -1,8 +1,8 @@
--- How deep the items of a tree lie.
+-- The depth of the items of a tree.
 use Rattle.std.specs.Prelude.{ℕ, suc, max}
 use Rattle.jsonb_doc.specs.Tree.{Tree, array, object, Trees, no_trees, tree, Pairs, no_pairs, pair}
 
--- The depth of the deepest item, where the root is at 0. An object's keys lie as deep as its values.
+-- The depth of the deepest item. The root has depth 0, and an object's keys have the depth of its values.
 abbrev mutual
   pub deepest : Tree → ℕ
   deepest (array ts) = deepest_of_trees ts

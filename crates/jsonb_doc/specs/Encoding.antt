@@ -6,11 +6,11 @@ use Rattle.jsonb_doc.specs.View.{number_view, extension_view}
 use Rattle.jsonb_doc.specs.declared.item.Item.{Item}
 use Rattle.jsonb_doc.specs.declared.item.Item.TheVariants.{Null, Boolean, Number, String, Extension, Array, Object}
 
--- an entry: its kind and its content
+-- An entry: its kind and its content.
 abbrev pub EntryParts : Type 0
 EntryParts = ℕ × List ℕ
 
--- the entry of an item; a number is written in its shortest form
+-- The entry of an item. A number is written in its shortest form.
 abbrev pub entry_of : Item → EntryParts
 entry_of Null = (null_entry, [])
 entry_of (Boolean b) = (if b then true_entry else false_entry, [])
@@ -20,19 +20,19 @@ entry_of (Extension x) = (extension_entry, extension_payload (extension_view x))
 entry_of (Array bytes) = (container_entry, bytes.now)
 entry_of (Object bytes) = (container_entry, bytes.now)
 
--- the bytes behind the item's entry word
+-- The bytes after the item's entry word.
 abbrev pub item_content : Item → List ℕ
 item_content item = (entry_of item).1
 
--- its entry word
+-- The item's entry word.
 abbrev pub item_word : Item → List ℕ
 item_word item = entry_word (entry_of item).0 (length (item_content item))
 
--- the content is too long for an entry
+-- Holds if the content is too long for an entry.
 abbrev pub IsTooLong : List ℕ → Type 0
 IsTooLong content = 2 ^ 28 ≤ length content
 
--- A document of the item passes the limits. The root of a container may be longer than an entry's content.
+-- Holds if a document of the item exceeds the limits. The root of a container may be longer than an entry's content.
 abbrev pub IsTooLargeItem : Item → Type 0
 IsTooLargeItem (Array bytes) = ⊥
 IsTooLargeItem (Object bytes) = ⊥

@@ -1,4 +1,4 @@
--- Whether trees are equal by value, as a test.
+-- The test of whether trees are equal by value.
 use Rattle.std.specs.Prelude.{Bool, true, false, ◌&&◌}
 use Rattle.std.specs.Ordering.{eq_by_cmp, int_eq}
 use Rattle.std.specs.Str.{bytes_eq}
@@ -6,7 +6,7 @@ use Rattle.jsonb_doc.specs.Number.{number_cmp}
 use Rattle.jsonb_doc.specs.Extension.{Extension, binary, date, timestamp, timestamp_tz, interval}
 use Rattle.jsonb_doc.specs.Tree.{Tree, null, boolean, number, text, extension, array, object, Trees, no_trees, tree, Pairs, no_pairs, pair}
 
--- one kind of extension, with the same fields
+-- Whether both are of one type, with the same fields.
 abbrev pub is_same_extension : Extension → Extension → Bool
 is_same_extension (binary a) (binary b) = bytes_eq a b
 is_same_extension (date x) (date y) = int_eq x y
@@ -15,7 +15,7 @@ is_same_extension (timestamp_tz o x) (timestamp_tz p y) = int_eq o p && int_eq x
 is_same_extension (interval m d x) (interval n e y) = int_eq m n && int_eq d e && int_eq x y
 is_same_extension _ _ = false
 
--- the same shape, with numbers of one exact value and extensions of the same fields
+-- Whether both have the same shape, with numbers of one exact value and extension values of the same fields.
 abbrev mutual
   pub is_equal : Tree → Tree → Bool
   is_equal null null = true

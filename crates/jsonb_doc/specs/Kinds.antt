@@ -4,7 +4,7 @@ use Rattle.jsonb_doc.specs.Format.{null_entry, text_entry, number_entry, false_e
 use Rattle.jsonb_doc.specs.declared.layout.EntryKind.{EntryKind}
 use Rattle.jsonb_doc.specs.declared.layout.EntryKind.TheVariants.{Null, Text, Number, False, True, Container, Extension, Unknown}
 
--- The number of an entry's kind. No document has an entry of the last.
+-- The number of an entry's kind. No document has an entry of the last kind.
 abbrev pub kind_number : EntryKind → ℕ
 kind_number Null = null_entry
 kind_number Text = text_entry

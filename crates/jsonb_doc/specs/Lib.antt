@@ -9,6 +9,7 @@ pub mod Depth
 pub mod Payload
 pub mod Format
 pub mod Kinds
+pub mod Shapes
 pub mod View
 pub mod Item
 pub mod Encoding
@@ -23,6 +24,7 @@ pub mod Arithmetic
 pub mod ArrayBuilder
 pub mod ObjectBuilder
 pub mod Spots
+pub mod StoredValue
 pub mod Value
 pub mod Equal
 pub mod Private

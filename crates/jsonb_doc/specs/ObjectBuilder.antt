@@ -1,4 +1,4 @@
--- What an object's builder holds, and which bytes it builds.
+-- What an object's builder holds, and the bytes that it builds.
 use Rattle.std.specs.Prelude.{◌≡◌, ◌⊎◌, ℕ, ◌+◌, ◌^◌, ◌≤◌, Bool, List, [], ◌∷◌, length, Result, MatchResult}
 use Rattle.std.specs.List.{list_any, AllZip}
 use Rattle.std.specs.Ordering.{nat_cmp, match_ordering}
@@ -14,11 +14,11 @@ use Rattle.jsonb_doc.specs.declared.item.Item.{Item}
 
 -- ---- pairs by their keys
 
--- the key is there
+-- Whether the key exists.
 abbrev pub has_key : {A : Type 0} → List ℕ → List (List ℕ × A) → Bool
 has_key key ps = list_any (λ p. bytes_eq key p.0) ps
 
--- the pairs with one more, in the byte order of the keys; a pair with the same key gets the value
+-- The pairs with one more, in the byte order of the keys. A pair with the same key gets the value.
 abbrev pub insert_pair : {A : Type 0} → List ℕ → A → List (List ℕ × A) → List (List ℕ × A)
 insert_pair key x [] = (key, x) ∷ []
 insert_pair key x (p ∷ ps) =
@@ -26,18 +26,19 @@ insert_pair key x (p ∷ ps) =
 
 -- ---- entries
 
--- the builder holds the pairs, in the order of their keys: each key with the kind and content of an entry of its tree
+-- Holds if the builder holds the pairs, in the order of their keys: each key with the kind and content of an entry of
+-- its tree.
 abbrev pub HoldsPairs : Form → List (List ℕ × EntryParts) → List (List ℕ × Tree) → Type 0
 HoldsPairs form es ps = AllZip (λ e p. (e.0 ≡ p.0) × IsContent (number_reader form) p.1 e.1.0 e.1.1) es ps
 
--- The tree is pushed under the key: the builder then holds the pair too, or memory was refused, or the object is too
--- large.
+-- Holds if the tree is added with the key: the builder then holds the member too, or an allocation failed, or the
+-- object is too large.
 abbrev pub PushesPair :
     Form → List (List ℕ × Tree) → List ℕ → Tree → Result (Unit {0}) Error → List (List ℕ × EntryParts) → Type 0
 PushesPair form ps key t answer after =
     MatchResult answer (λ _. HoldsPairs form after (insert_pair key t ps))
     (IsOutOfMemoryOrTooLarge form (object (pairs_of (insert_pair key t ps))))
 
--- one more pair of the key and the item passes the limits
+-- Holds if one more member of the key and the item exceeds the limits.
 abbrev pub IsTooLargePair : List (List ℕ × EntryParts) → List ℕ → Item → Type 0
 IsTooLargePair es key item = IsTooLong key ⊎ (IsTooLong (item_content item) ⊎ (2 ^ 29 ≤ length es + 1))

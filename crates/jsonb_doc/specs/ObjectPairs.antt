@@ -10,7 +10,7 @@ use Rattle.jsonb_doc.specs.declared.item.Item.{Item}
 use Rattle.jsonb_doc.specs.declared.pair_iter.PairIter.{PairIter}
 use Rattle.jsonb_doc.specs.declared.error.Error.{Error}
 
--- These pairs are left in the iterator. Other bytes may follow the keys.
+-- Holds if these pairs are left in the iterator. Other bytes may follow the keys.
 pub record HasPairsLeft (form : Form) (it : PairIter) (ps : Pairs) : Type 0 where
   pub rest : List ℕ
   pub are_keys : AreKeys (keys ps)
@@ -18,29 +18,31 @@ pub record HasPairsLeft (form : Form) (it : PairIter) (ps : Pairs) : Type 0 wher
   pub bytes : it.key_bytes.now ≡ key_bytes (keys ps) ++ rest
   pub values : AreValues (number_reader form) ps it.value_words.now it.value_contents.now
 
--- The bytes are the header of an object, and all words and contents of the iterator, the keys before the values. The
--- contents of values end where the bytes do.
+-- Holds if the bytes are the header of an object, and all words and contents of the iterator, the keys before the
+-- values. The contents of values end with the bytes.
 abbrev pub HasWholeObject : List ℕ → PairIter → Type 0
 HasWholeObject bytes it =
     AreObjectParts bytes it.key_words.now it.value_words.now it.key_bytes.now
     × ((keys : List ℕ) × (it.key_bytes.now ≡ keys ++ it.value_contents.now))
 
--- the answer is the first of the pairs, and the others are left
+-- Holds if the result is the first of the members, and the others remain.
 abbrev pub TakesPair : Form → Pairs → Option (Result (Bor (List ℕ) × Item) Error) → PairIter → Type 0
 TakesPair form no_pairs None after = HasPairsLeft form after no_pairs
 TakesPair form (pair key t ps) (Some (Ok given)) after =
     (given.0.now ≡ key) × StandsFor form given.1 t × HasPairsLeft form after ps
 TakesPair form _ _ after = ⊥
 
--- The first key that is left has these bytes, the first value is of this kind and content, and the others are left.
+-- Holds if the first key that is left has these bytes, the first value is of this kind and content, and the others are
+-- left.
 pub record PassesPair (before : PairIter) (key : List ℕ) (kind : ℕ) (content : List ℕ) (after : PairIter) : Type 0 where
   pub key_kind : ℕ
   pub name : BeginWith before.key_words.now before.key_bytes.now key_kind key after.key_words.now after.key_bytes.now
   pub value : BeginWith before.value_words.now before.value_contents.now kind content
       after.value_words.now after.value_contents.now
 
--- What is read, on any bytes. While words of keys are left there is an answer: the first key and the item of its value,
--- or an error where the key is no text or the value has no item. Behind a pair whose end isn't known nothing is left.
+-- Holds if the result is what is read, on any bytes. While words of keys remain there is a result: the first key and
+-- the item of its value, or an error if the key is not a string or the value has no item. After a member whose end is
+-- not known nothing remains.
 abbrev pub ReadsPair : PairIter → Option (Result (Bor (List ℕ) × Item) Error) → PairIter → Type 0
 ReadsPair before None after = before.key_words.now ≡ []
 ReadsPair before (Some (Ok given)) after =
@@ -53,7 +55,8 @@ ReadsPair before (Some (Err e)) after =
     ⊎ ((key : List ℕ) × (kind : ℕ) × (content : List ℕ) × PassesPair before key kind content after
     × (IsUtf8 key → HasItem kind content → ⊥))
 
--- What a call of `next` does. On any bytes it gives a pair, an error or `None`, and after `None` nothing more.
+-- Holds if this is what a call of `next` does. On any bytes it yields a member, an error or `None`, and after `None`
+-- nothing more.
 pub record GivesPair (before : PairIter) (r : Option (Result (Bor (List ℕ) × Item) Error))
     (after : PairIter) : Type 0 where
   pub reads : ReadsPair before r after

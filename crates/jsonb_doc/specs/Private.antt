@@ -1,5 +1,5 @@
--- What contracts say of private functions, of the fields of builders, and of calls that serve the crates above.
--- `jsonb` hands on no call whose clause cites these.
+-- Definitions for contracts of private functions, of the fields of builders, and of functions that serve the crates
+-- above. `jsonb` re-exports no function whose clause cites these.
 pub mod Builders
 pub mod Headers
 pub mod Lengths
@@ -18,3 +18,5 @@ pub mod ObjectBytes
 pub mod Values
 pub mod Payloads
 pub mod EqualBytes
+pub mod Cursor
+pub mod Writer

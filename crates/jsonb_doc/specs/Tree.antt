@@ -1,4 +1,4 @@
--- A JSON document as a mathematical value. A text is its UTF-8 bytes.
+-- A JSON document as a mathematical value. A string is its UTF-8 bytes.
 use Rattle.std.specs.Prelude.{ℕ, suc, Bool, List, [], ◌∷◌, Option, Some, None, if◌then◌else◌}
 use Rattle.std.specs.Str.{bytes_eq}
 use Rattle.jsonb_doc.specs.Number.{Number}
@@ -14,12 +14,12 @@ mutual
     array : Trees → Tree
     object : Pairs → Tree
 
-  -- the elements of an array, in order
+  -- The elements of an array, in order.
   pub data Trees : Type 0 where
     no_trees : Trees
     tree : Tree → Trees → Trees
 
-  -- the keys of an object with their values, in stored order
+  -- The keys of an object with their values, in stored order.
   pub data Pairs : Type 0 where
     no_pairs : Pairs
     pair : List ℕ → Tree → Pairs → Pairs
@@ -56,28 +56,28 @@ pairs_of (p ∷ ps) = pair p.0 p.1 (pairs_of ps)
 
 -- ---- the parts of a container
 
--- the elements of an array
+-- The elements of an array.
 abbrev pub trees_in : Tree → Option Trees
 trees_in (array ts) = Some ts
 trees_in _ = None
 
--- the pairs of an object
+-- The pairs of an object.
 abbrev pub pairs_in : Tree → Option Pairs
 pairs_in (object ps) = Some ps
 pairs_in _ = None
 
--- an array's elements, or an object's values, in stored order
+-- An array's elements, or an object's values, in stored order.
 abbrev pub children_of : Tree → Option (List Tree)
 children_of (array ts) = Some (elements ts)
 children_of (object ps) = Some (elements (values ps))
 children_of _ = None
 
--- the value under a key
+-- The value of a key.
 abbrev pub value_under : List ℕ → Pairs → Option Tree
 value_under name no_pairs = None
 value_under name (pair key value ps) = if bytes_eq key name then Some value else value_under name ps
 
--- the value under a key of an object
+-- The value of a key of an object.
 abbrev pub field_of : List ℕ → Tree → Option Tree
 field_of name (object ps) = value_under name ps
 field_of name _ = None

@@ -1,4 +1,4 @@
--- Which tree a value is.
+-- The tree of a value.
 use Rattle.std.specs.Prelude.{map, string_bytes}
 use Rattle.std.specs.Cow.{cow_str_bytes}
 use Rattle.jsonb_doc.specs.Number as spec
@@ -9,7 +9,7 @@ use Rattle.jsonb_doc.specs.declared.number.Number.{Number}
 use Rattle.jsonb_doc.specs.declared.value.Value.{Value, fold-Value}
 use Rattle.jsonb_doc.specs.declared.value.Value.TheOpen.{Value-F}
 
--- one level, with each value inside already as its tree
+-- The tree of one level, given the trees of its children.
 abbrev pub value_layer : (Number → spec.Number) → Value-F Tree → Tree
 value_layer seen Value-F.Null = null
 value_layer seen (Value-F.Bool b) = boolean b
@@ -23,14 +23,14 @@ value_layer seen (Value-F.Interval i) = extension (interval i.months i.days i.mi
 value_layer seen (Value-F.Array v) = array (trees_of v.items)
 value_layer seen (Value-F.Object m) = object (pairs_of (map (λ e. (string_bytes e.0, e.1)) m.entries))
 
--- the tree of a value, where each number is seen so
+-- The tree of a value, with this view of each number.
 abbrev pub tree_seen : (Number → spec.Number) → Value → Tree
 tree_seen seen = fold-Value Tree (value_layer seen)
 
--- the tree of a value, where every zero is one number
+-- The tree of a value. Every zero is the same number.
 abbrev pub value_tree : Value → Tree
 value_tree = tree_seen number_view
 
--- The tree of a value, where each number keeps its parts. Zeros of other variants and scales are other numbers.
+-- The tree of a value, with the parts of each number. Zeros of other variants and scales are other numbers.
 abbrev pub value_parts : Value → Tree
 value_parts = tree_seen number_parts

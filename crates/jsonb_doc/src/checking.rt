@@ -1,4 +1,4 @@
-//! Whether bytes decode, told without a tree.
+//! The check that bytes decode, made without a tree.
 
 ghost use Rattle.std.specs.Prelude.{◌≡◌, ◌≢◌, ◌↔◌, IsOk, IsErrOf, ℕ, List, [], MatchOption, MatchResult, option_copied};
 ghost use Rattle.jsonb_doc.specs.Tree.{Tree};
@@ -14,17 +14,26 @@ use crate::layout::{EntryKind, split_entry};
 use crate::number::Number;
 use std::cmp::Ordering;
 
-/// Reads a whole document, and answers whether the bytes decode. What decodes is said by the README of the format and
-/// by this project's profile, both in docs/FORMAT.md.
+/// Returns `Ok` if and only if the bytes decode. docs/FORMAT.md describes what decodes.
 ///
 /// # Errors
 ///
-/// Exactly where the bytes don't decode: `UnsupportedNumber` where they would decode if each float and each decimal
-/// of 256 bits were a number, and else `InvalidJsonb`.
+/// `UnsupportedNumber` if and only if the bytes do not decode, but would if each float and each 256-bit decimal were a
+/// number. `InvalidJsonb` if and only if they do not decode for another reason.
 ///
-/// # Cost
+/// # Complexity
 ///
-/// Linear in the bytes, without memory. Calls nest no deeper than the length can be halved.
+/// O(n) for n bytes. Does not allocate. The recursion depth is O(log n).
+///
+/// # Examples
+///
+/// ```rust crates/jsonb_examples/src/parts.rt
+/// match check(bytes) {
+///     Ok(()) => "a document",
+///     Err(Error::UnsupportedNumber) => "a document with a float",
+///     Err(_) => "damaged",
+/// }
+/// ```
 pub fn check(bytes: &[u8]) -> Result<(), Error>
     ensures ok { IsOk result ↔ ((t : Tree) × Decodes any bytes.now t) }
     ensures unsupported { IsErrOf result Error.UnsupportedNumber ↔ IsUnsupportedDocument bytes.now }
@@ -87,10 +96,10 @@ fn check_empty(content: &[u8]) -> Result<(), Error>
     }
 }
 
-/// The content of a container decodes.
+/// Returns `Ok` if and only if the content of a container decodes.
 ///
-/// It goes into a part that is longer than half of all by this loop, and into the others by a call. So calls nest no
-/// deeper than the length can be halved.
+/// The loop enters a child that is longer than half of its container, and calls enter the others. So the recursion
+/// depth is logarithmic in the length.
 #[cycle(check)]
 fn check_container(bytes: &[u8]) -> Result<(), Error>
     ensures { Validates (HasContent 5 bytes.now) result }
@@ -117,7 +126,7 @@ fn check_container(bytes: &[u8]) -> Result<(), Error>
     }
 }
 
-/// The entry words and the contents of an array's elements or of an object's values.
+/// Returns the entry words and the contents of an array's elements or of an object's values.
 fn split_container(bytes: &[u8]) -> Option<(&[u8], &[u8])>
     ensures { MatchOption result (HasContent 5 bytes.now number_or_unsupported → ⊥)
         (λ r. HasParts bytes.now r.0.now r.1.now) }
@@ -135,16 +144,16 @@ fn split_container(bytes: &[u8]) -> Option<(&[u8], &[u8])>
     }
 }
 
-/// What is known of entries, but for a container among them.
+/// What is known of entries, except for one container among them.
 #[derive(Clone, Copy)]
 struct Entries<'a> {
-    /// No unsupported number was met.
+    /// No unsupported number was found.
     is_supported: bool,
     /// The container that is longer than half of the contents.
     large: Option<&'a [u8]>,
 }
 
-/// The contents behind these entry words decode where the large container does that is handed out.
+/// Checks the contents of these entry words, except for a large container, which is returned.
 #[cycle(check)]
 fn check_entries<'a>(words: &[u8], contents: &'a [u8]) -> Option<Entries<'a>>
     ensures { MatchOption result (HasEntries words.now contents.now number_or_unsupported → ⊥)
@@ -183,7 +192,7 @@ fn check_entries<'a>(words: &[u8], contents: &'a [u8]) -> Option<Entries<'a>>
     })
 }
 
-/// The bytes behind the keys that these entry words tell.
+/// Returns the bytes after the keys of these entry words.
 pub fn skip_keys<'a>(words: &[u8], bytes: &'a [u8]) -> Option<&'a [u8]>
     ensures { MatchOption result ((rest : List ℕ) → HasKeys words.now bytes.now rest → ⊥)
         (λ rest. HasKeys words.now bytes.now rest.now) }
@@ -208,7 +217,7 @@ pub fn skip_keys<'a>(words: &[u8], bytes: &'a [u8]) -> Option<&'a [u8]>
     Some(bytes_left)
 }
 
-/// The bytes as a key, where they are one that may follow the last.
+/// Returns the bytes as a key, if they are one that may follow the last.
 fn next_key<'a>(last: Option<&str>, bytes: &'a [u8]) -> Option<&'a str>
     ensures { MatchOption result (IsNextKey (option_copied last.entry) bytes.now → ⊥)
         (λ key. (key.now ≡ bytes.now) × IsNextKey (option_copied last.entry) bytes.now) }

@@ -17,7 +17,7 @@ use crate::lengths::skip_contents;
 pub struct ArrayParts<'a> {
     /// The entry words of the elements.
     pub words: &'a [u8],
-    /// The contents of the elements, one behind the other.
+    /// The contents of the elements, one after the other.
     pub contents: &'a [u8],
 }
 
@@ -28,7 +28,7 @@ pub struct ObjectParts<'a> {
     pub key_words: &'a [u8],
     /// The entry words of the values.
     pub value_words: &'a [u8],
-    /// The keys, one behind the other, and then the contents of the values.
+    /// The keys, one after the other, and then the contents of the values.
     pub contents: &'a [u8],
 }
 
@@ -37,15 +37,15 @@ impl<'a> ObjectParts<'a> {
     ghost use Rattle.jsonb_doc.specs.Private.Lengths.{StandBefore};
     ghost use Rattle.jsonb_doc.specs.Answer.{IsDecodingError};
 
-    /// The contents of the values, which are behind those of the keys.
+    /// Returns the contents of the values, which follow those of the keys.
     ///
     /// # Errors
     ///
-    /// `InvalidJsonb` or `UnsupportedNumber`, only where the key words tell more bytes than there are.
+    /// `InvalidJsonb` or `UnsupportedNumber`, only if the keys are longer than the bytes.
     ///
-    /// # Cost
+    /// # Complexity
     ///
-    /// Linear in the count of keys, without memory.
+    /// O(k) for k keys. Does not allocate.
     pub fn value_contents(&self) -> Result<&'a [u8], Error>
         requires { length self.now.key_words.now < 2 ^ 32 }
         ensures contents { (parts : List (List ℕ)) (rest : List ℕ)
@@ -64,7 +64,7 @@ impl<'a> ObjectParts<'a> {
 /// A document or a container, cut by its header.
 #[derive(Clone, Copy)]
 pub enum Container<'a> {
-    /// The one entry of a root that is no container.
+    /// The one entry of a scalar root.
     Scalar(StoredEntry<'a>),
     /// An array.
     Array(ArrayParts<'a>),
@@ -72,15 +72,15 @@ pub enum Container<'a> {
     Object(ObjectParts<'a>),
 }
 
-/// The parts of a document or a container.
+/// Splits a document or a container into its parts.
 ///
 /// # Errors
 ///
-/// `InvalidJsonb` for bytes that no header and its count fit.
+/// `InvalidJsonb` for bytes that do not begin with a header and as many words as it counts.
 ///
-/// # Cost
+/// # Complexity
 ///
-/// Constant, without memory.
+/// O(1). Does not allocate.
 #[inline(always)]
 pub fn read_container(bytes: &[u8]) -> Result<Container<'_>, Error>
     ensures cut { MatchResult result (IsCut bytes.now)
@@ -116,7 +116,7 @@ pub fn read_container(bytes: &[u8]) -> Result<Container<'_>, Error>
     }
 }
 
-/// The entry that is all of these bytes, its word and its content, where it is no container.
+/// Returns the entry that these bytes consist of, its word and its content, if it is a scalar.
 #[inline(always)]
 fn lone_entry(bytes: &[u8]) -> Option<StoredEntry<'_>>
     ensures { MatchOption result

@@ -1,15 +1,15 @@
-//! Whether short slices of bytes are equal, told by words.
+//! Equality of slices of bytes, short ones compared by words.
 
 ghost use Rattle.std.specs.Prelude.{◌≡◌, ◌↔◌, IsTrue, ◌<◌, length};
 ghost use Rattle.std.specs.Int.{w32, w64};
 ghost use Rattle.jsonb_doc.specs.Private.EqualBytes.{AreEnds};
 
-/// Whether two slices hold the same bytes. The last ones are looked at first: keys in order differ at their ends more
-/// often than where they begin. Then up to 16 bytes are compared by two words.
+/// Returns `true` if two slices hold the same bytes. Compares the last bytes first: sorted keys differ at their ends
+/// more often than at their beginnings. Then compares up to 16 bytes as two words.
 ///
-/// # Cost
+/// # Complexity
 ///
-/// Constant up to 16 bytes, and else linear. No memory.
+/// O(1) for up to 16 bytes, otherwise O(n) for n bytes. Does not allocate.
 #[inline(always)]
 pub(crate) fn bytes_equal(bytes: &[u8], other: &[u8]) -> bool
     ensures { IsTrue result ↔ (bytes.now ≡ other.now) }
@@ -33,7 +33,7 @@ pub(crate) fn bytes_equal(bytes: &[u8], other: &[u8]) -> bool
     bytes == other
 }
 
-/// The same of fewer than 4 bytes, of which there are as many on both sides.
+/// Returns `true` if two slices of the same length, below 4 bytes, are equal.
 #[inline(always)]
 fn few_equal(bytes: &[u8], other: &[u8]) -> bool
     requires alike { length bytes.now ≡ length other.now }
@@ -47,7 +47,7 @@ fn few_equal(bytes: &[u8], other: &[u8]) -> bool
             && bytes[len - 1] == other[len - 1]
 }
 
-/// The first 4 bytes and the last 4, as numbers.
+/// Returns the first 4 bytes and the last 4, as numbers.
 #[inline(always)]
 fn ends(bytes: &[u8]) -> Option<(u32, u32)>
     ensures { AreEnds w32 4 bytes.now result }
@@ -58,7 +58,7 @@ fn ends(bytes: &[u8]) -> Option<(u32, u32)>
     ))
 }
 
-/// The first 8 bytes and the last 8, as numbers.
+/// Returns the first 8 bytes and the last 8, as numbers.
 #[inline(always)]
 fn long_ends(bytes: &[u8]) -> Option<(u64, u64)>
     ensures { AreEnds w64 8 bytes.now result }

@@ -14,13 +14,13 @@ pub enum ArithmeticFault {
     Overflow,
     /// A division by zero, or a remainder by it.
     ZeroDivisor,
-    /// A quotient that is no whole number.
+    /// A quotient that is not an integer.
     Inexact,
     /// An operand is a decimal other than zero.
     DecimalOperand,
 }
 
-/// Why a call has no answer. Its text is its name, with the fault of an `Arithmetic` in parentheses:
+/// The cause of a failed call. It prints as its name, with the fault of an `Arithmetic` in parentheses:
 /// `Arithmetic(Overflow)`.
 #[derive(Clone, Copy, Debug, PartialEq, Eq)]
 pub enum Error {
@@ -34,7 +34,7 @@ pub enum Error {
     InvalidKeyPath,
     /// The value has no such form.
     InvalidCast,
-    /// The root is no object, and the call needs one.
+    /// The root is not an object, and the call needs one.
     InvalidObject,
     /// The root has no parts of the kind that is to be deleted.
     InvalidJsonType,
@@ -42,13 +42,13 @@ pub enum Error {
     ObjectDuplicateKey,
     /// An operation on numbers has no result.
     Arithmetic(ArithmeticFault),
-    /// A count or a length passes the limits of the format: 2^29 - 1 elements or pairs, 2^28 - 1 bytes.
+    /// A count or a length exceeds the limits of the format: 2^29 - 1 elements or members, 2^28 - 1 bytes.
     TooLarge,
-    /// An item lies too deep for a sortable key, or past the limit of `check_depth`.
+    /// An item is nested too deep for a sortable key, or deeper than the limit of `check_depth`.
     TooDeep,
-    /// A growth was refused: there is no memory for it.
+    /// An allocation failed.
     OutOfMemory,
-    /// A path in strict mode asks for what isn't there.
+    /// A step of a path in strict mode does not apply to an item.
     StrictPath,
 }
 

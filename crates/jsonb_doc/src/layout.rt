@@ -1,7 +1,7 @@
 //! The words of the binary format, and its numbers.
 //!
-//! A container is a header word, entry words, and the contents that they tell of. A header word is a kind and a count
-//! of entries, an entry word a kind and the length of its content. All words have 32 bits, the highest byte first.
+//! A container is a header word, entry words, and their contents. A header word is a type and a number of entries, an
+//! entry word a type and the length of its content. All words have 32 bits, big-endian.
 
 ghost use Rattle.std.specs.Prelude.{◌≡◌, ◌≢◌, ℕ, ◌+◌, ◌%◌, ◌^◌, ◌<◌, ◌≤◌, List, IfSome, MatchOption, length, drop};
 ghost use Rattle.std.specs.Int.{w32, from_be_bytes};
@@ -39,7 +39,7 @@ pub enum HeaderKind {
 }
 
 impl HeaderKind {
-    /// The kind with this number, and `None` where there is none.
+    /// Returns the type with this number, or `None` if there is none.
     #[inline(always)]
     fn from_u32(number: u32) -> Option<HeaderKind>
         ensures { MatchOption result ((number ≢ 1) × (number ≢ 2) × (number ≢ 4))
@@ -59,7 +59,7 @@ impl HeaderKind {
 pub enum EntryKind {
     /// Null. No content.
     Null = 0,
-    /// A text or a key, in UTF-8.
+    /// A string or a key, in UTF-8.
     Text = 1,
     /// A number: a tag, and what follows it.
     Number = 2,
@@ -67,7 +67,7 @@ pub enum EntryKind {
     False = 3,
     /// True. No content.
     True = 4,
-    /// An array or an object, with a header of its own.
+    /// An array or an object, with its own header.
     Container = 5,
     /// A value that JSON itself lacks: a tag, and what follows it.
     Extension = 6,
@@ -76,7 +76,7 @@ pub enum EntryKind {
 }
 
 impl EntryKind {
-    /// The kind with this number, and `None` where there is none.
+    /// Returns the type with this number, or `None` if there is none.
     #[inline(always)]
     fn from_u32(number: u32) -> Option<EntryKind>
         ensures { MatchOption result (8 ≤ number) (λ kind. kind_number kind ≡ number) }
@@ -119,7 +119,7 @@ pub const DECIMAL128_LEN: usize = 17;
 /// How many bytes of a decimal of 256 bits follow. It is not supported.
 pub const DECIMAL256_LEN: usize = 33;
 
-/// The tag of the float that is no number. It is not supported.
+/// The tag of the float NaN. It is not supported.
 pub const NAN: u8 = 0x10;
 
 /// The tag of the float that is infinite. It is not supported.
@@ -173,11 +173,11 @@ pub struct Entry<'w, 'c> {
     pub other_contents: &'c [u8],
 }
 
-/// The word of an entry of this kind, with a content of this length.
+/// Returns the word of an entry of this type, with a content of this length.
 ///
-/// # Cost
+/// # Complexity
 ///
-/// Constant, without memory.
+/// O(1). Does not allocate.
 #[inline(always)]
 pub fn word_of_entry(kind: EntryKind, len: usize) -> [u8; WORD]
     requires { len < 2 ^ 28 }
@@ -186,11 +186,11 @@ pub fn word_of_entry(kind: EntryKind, len: usize) -> [u8; WORD]
     (kind as u32 * LENGTHS + len as u32).to_be_bytes()
 }
 
-/// The word of a header of this kind and count.
+/// Returns the word of a header of this type and count.
 ///
-/// # Cost
+/// # Complexity
 ///
-/// Constant, without memory.
+/// O(1). Does not allocate.
 #[inline(always)]
 pub fn word_of_header(kind: HeaderKind, count: usize) -> [u8; WORD]
     requires { count < 2 ^ 29 }
@@ -199,11 +199,11 @@ pub fn word_of_header(kind: HeaderKind, count: usize) -> [u8; WORD]
     (kind as u32 * COUNTS + count as u32).to_be_bytes()
 }
 
-/// The length that an entry word tells.
+/// Returns the length in an entry word.
 ///
-/// # Cost
+/// # Complexity
 ///
-/// Constant, without memory.
+/// O(1). Does not allocate.
 #[inline(always)]
 pub fn entry_len(word: &[u8; WORD]) -> usize
     ensures { result ≡ from_be_bytes w32 word.now % 2 ^ 28 }
@@ -211,11 +211,11 @@ pub fn entry_len(word: &[u8; WORD]) -> usize
     (u32::from_be_bytes(*word) % LENGTHS) as usize
 }
 
-/// The kind and the length that an entry word tells. A word whose top bit is set is of the kind that no item has.
+/// Returns the type and the length in an entry word. A word whose top bit is set is of the type that no item has.
 ///
-/// # Cost
+/// # Complexity
 ///
-/// Constant, without memory.
+/// O(1). Does not allocate.
 #[inline(always)]
 pub fn read_entry_word(word: &[u8; WORD]) -> (EntryKind, usize)
     ensures told { TellsKindAndLength word.now (kind_number result.0) result.1 }
@@ -225,7 +225,7 @@ pub fn read_entry_word(word: &[u8; WORD]) -> (EntryKind, usize)
     (kind.unwrap_or(EntryKind::Unknown), entry_len(word))
 }
 
-/// The word at the front, and the bytes after it; `None` where there are fewer than four bytes.
+/// Returns the first word, and the bytes after it, or `None` if there are fewer than four bytes.
 #[inline(always)]
 fn split_word(bytes: &[u8]) -> Option<(u32, &[u8])>
     ensures { MatchOption result (length bytes.now < 4) (λ r.
@@ -235,11 +235,11 @@ fn split_word(bytes: &[u8]) -> Option<(u32, &[u8])>
     Some((u32::from_be_bytes(*word), &bytes[WORD..]))
 }
 
-/// The header's kind and count, and the bytes after it; `None` where they begin with no header.
+/// Returns the header's type and count, and the bytes after it, or `None` if they do not begin with a header.
 ///
-/// # Cost
+/// # Complexity
 ///
-/// Constant, without memory.
+/// O(1). Does not allocate.
 #[inline(always)]
 pub fn split_header(bytes: &[u8]) -> Option<(HeaderKind, usize, &[u8])>
     ensures { MatchOption result
@@ -251,12 +251,11 @@ pub fn split_header(bytes: &[u8]) -> Option<(HeaderKind, usize, &[u8])>
     Some((kind, (header % COUNTS) as usize, rest))
 }
 
-/// The kind and the length that the first entry word tells, and the words after it; `None` where they don't begin with
-/// one.
+/// Returns the type and the length in the first entry word, and the words after it, or `None` if there is none.
 ///
-/// # Cost
+/// # Complexity
 ///
-/// Constant, without memory.
+/// O(1). Does not allocate.
 #[inline(always)]
 pub fn split_entry_word(words: &[u8]) -> Option<(EntryKind, usize, &[u8])>
     ensures word { MatchOption result
@@ -269,11 +268,11 @@ pub fn split_entry_word(words: &[u8]) -> Option<(EntryKind, usize, &[u8])>
     Some((kind, (word % LENGTHS) as usize, others))
 }
 
-/// The first of the entries with these words and contents; `None` where they don't begin with one.
+/// Returns the first of the entries with these words and contents, or `None` if they do not begin with one.
 ///
-/// # Cost
+/// # Complexity
 ///
-/// Constant, without memory.
+/// O(1). Does not allocate.
 #[inline(always)]
 pub fn split_entry<'w, 'c>(words: &'w [u8], contents: &'c [u8]) -> Option<Entry<'w, 'c>>
     ensures { MatchOption result

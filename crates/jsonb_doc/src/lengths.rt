@@ -1,4 +1,4 @@
-//! Contents that are passed over by the lengths in their entry words.
+//! Skipping contents by the lengths in their entry words.
 
 ghost use Rattle.std.specs.Prelude.{◌≡◌, ℕ, ◌+◌, ◌*◌, ◌^◌, ◌<◌, ◌≤◌, List, ◌++◌, MatchOption, IsSomeAnd, IfSome, length, take, drop};
 ghost use Rattle.jsonb_doc.specs.Format.{BeginWith};
@@ -7,14 +7,25 @@ ghost use Rattle.jsonb_doc.specs.Private.Lengths.{StandBefore};
 
 use crate::layout::{Entry, WORD, entry_len, split_entry};
 
-/// How long the contents of these entry words are, all together. The words are a list of their own, so that many are
-/// added at once.
+/// Returns the total length of the contents of these entry words. The words are a slice, so that many are added at
+/// once.
 ///
-/// # Cost
+/// # Complexity
 ///
-/// Linear in the words, without memory.
+/// O(k) for k words. Does not allocate.
 #[inline(never)]
 pub fn contents_len(words: &[u8]) -> usize
+    requires { length words.now < 2 ^ 32 }
+    ensures contents { (parts : List (List ℕ)) (contents rest : List ℕ) → StandBefore parts words.now contents rest
+        → result + length rest ≡ length contents }
+    ensures bound { result ≤ 2 ^ 26 * length words.now }
+{
+    sum_lengths(words)
+}
+
+/// Returns the sum of the lengths in these entry words. Inlined, for callers that know how many there are.
+#[inline(always)]
+pub(crate) fn sum_lengths(words: &[u8]) -> usize
     requires { length words.now < 2 ^ 32 }
     ensures contents { (parts : List (List ℕ)) (contents rest : List ℕ) → StandBefore parts words.now contents rest
         → result + length rest ≡ length contents }
@@ -28,7 +39,7 @@ pub fn contents_len(words: &[u8]) -> usize
     len
 }
 
-/// What follows the contents of these entry words, where there are as many bytes.
+/// Returns the bytes after the contents of these entry words, or `None` if there are fewer bytes.
 #[inline(always)]
 pub fn skip_contents<'a>(words: &[u8], contents: &'a [u8]) -> Option<&'a [u8]>
     requires { length words.now < 2 ^ 32 }
@@ -43,7 +54,7 @@ pub fn skip_contents<'a>(words: &[u8], contents: &'a [u8]) -> Option<&'a [u8]>
     contents.get(contents_len(words)..)
 }
 
-/// The first entry behind this many bytes of entry words.
+/// Returns the first entry after this many bytes of entry words.
 #[inline(always)]
 pub fn entry_behind<'w, 'c>(
     words: &'w [u8],

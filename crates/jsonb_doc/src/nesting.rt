@@ -1,4 +1,4 @@
-//! How deep documents are nested, told without a tree.
+//! The depth of documents, computed without a tree.
 
 ghost use Rattle.std.specs.Prelude.{◌≡◌, ◌↔◌, ◌≤◌, ◌<◌, ◌+◌, IsOk, IsErrOf, IfSome, length, option_copied, MatchOption, Ok};
 ghost use Rattle.jsonb_doc.specs.Tree.{Tree, Trees, no_trees};
@@ -13,17 +13,25 @@ use crate::container::{Container, read_container};
 use crate::error::Error;
 use crate::layout::{EntryKind, split_entry};
 
-/// How deep the deepest item of a document lies, where the root lies at 0 and the elements and values of a container
-/// one deeper than it. So a scalar and an empty container have depth 0, `[1]` and `{"a":[]}` have 1.
+/// Returns the depth of the deepest item of a document.
+///
+/// The root has depth 0, and the elements and values of a container have one more than it. So a scalar and an empty
+/// container have depth 0, `[1]` and `{"a":[]}` have 1.
 ///
 /// # Errors
 ///
-/// Those of `check`, exactly where the bytes don't decode.
+/// An error of `check`, if and only if the bytes do not decode.
 ///
-/// # Cost
+/// # Complexity
 ///
-/// That of `check` and a second look at the entry words: linear in the bytes, without memory. Calls nest no deeper
-/// than the length can be halved.
+/// O(n) for n bytes: that of `check`, and a second visit of the entry words. Does not allocate. The recursion depth is
+/// O(log n).
+///
+/// # Examples
+///
+/// ```rust crates/jsonb_examples/src/parts.rt
+/// Ok(depth(document)? <= 1)
+/// ```
 pub fn depth(bytes: &[u8]) -> Result<usize, Error>
     ensures depth { (form : Form) (t : Tree) → Decodes form bytes.now t → result ≡ Ok (deepest t) }
     ensures ok { IsOk result ↔ ((t : Tree) × Decodes any bytes.now t) }
@@ -34,16 +42,23 @@ pub fn depth(bytes: &[u8]) -> Result<usize, Error>
     Ok(document_depth(bytes))
 }
 
-/// Whether the bytes decode and no item lies deeper than the limit, as `depth` counts.
+/// Returns `Ok` if and only if the bytes decode and their `depth` is at most the limit.
 ///
 /// # Errors
 ///
-/// Those of `check`, exactly where the bytes don't decode, and `TooDeep` exactly where they do and an item lies
-/// deeper.
+/// An error of `check`, if and only if the bytes do not decode; otherwise `TooDeep` if and only if an item is deeper.
 ///
-/// # Cost
+/// # Complexity
 ///
-/// That of `depth`.
+/// O(n) for n bytes. Does not allocate. The recursion depth is O(log n).
+///
+/// # Examples
+///
+/// ```rust crates/jsonb_examples/src/parts.rt
+/// check_depth(bytes, limit)?;
+/// let root = root_item(bytes)?;
+/// to_value(alloc, &root)
+/// ```
 pub fn check_depth(bytes: &[u8], limit: usize) -> Result<(), Error>
     ensures ok { IsOk result ↔ ((t : Tree) × Decodes any bytes.now t × (deepest t ≤ limit)) }
     ensures too_deep { IsErrOf result Error.TooDeep ↔ ((t : Tree) × Decodes any bytes.now t × (limit < deepest t)) }
@@ -57,10 +72,10 @@ pub fn check_depth(bytes: &[u8], limit: usize) -> Result<(), Error>
     }
 }
 
-/// The same of a document. Other bytes have any depth.
+/// Returns the depth of a document. Other bytes have any depth.
 ///
-/// It goes into a container that is longer than half of its own by this loop, and into the others by a call. So calls
-/// nest no deeper than the length can be halved.
+/// The loop enters a container that is longer than half of its parent, and calls enter the others. So the recursion
+/// depth is logarithmic in the length.
 #[cycle(depth)]
 fn document_depth(bytes: &[u8]) -> usize
     ensures depth { (form : Form) (t : Tree) → Decodes form bytes.now t → result ≡ deepest t }
@@ -81,7 +96,7 @@ fn document_depth(bytes: &[u8]) -> usize
     deepest.max(level)
 }
 
-/// The entry words and the contents of an array's elements or of an object's values.
+/// Returns the entry words and the contents of an array's elements or of an object's values.
 fn split_parts(bytes: &[u8]) -> Option<(&[u8], &[u8])>
     ensures parts { (form : Form) (t : Tree) → Decodes form bytes.now t
         → MatchOption result (parts_of t ≡ no_trees)
@@ -104,13 +119,13 @@ fn split_parts(bytes: &[u8]) -> Option<(&[u8], &[u8])>
 /// What is known of the depth of entries, seen from their container.
 #[derive(Clone, Copy)]
 struct Depths<'a> {
-    /// How deep the items lie, but for those in the large container.
+    /// The depth of the items, except for those in the large container.
     known: usize,
     /// The container that is longer than half of the contents.
     large: Option<&'a [u8]>,
 }
 
-/// How deep the items of these entries lie, but for those in a container that is longer than half of all.
+/// Returns the depth of the items of these entries, except for those in a container that is longer than half of all.
 #[cycle(depth)]
 fn entries_depth<'a>(words: &[u8], contents: &'a [u8]) -> Depths<'a>
     ensures depth { (form : Form) (ts : Trees) → AreEntries (number_reader form) ts words.now contents.now

@@ -17,7 +17,7 @@ use crate::layout::{
 use crate::number::Number;
 use std::alloc::AllocError;
 
-/// In how many bytes an unsigned number is stored.
+/// Returns the number of bytes in which an unsigned number is stored.
 #[inline(always)]
 pub fn unsigned_width_of(n: u64) -> usize
     ensures { result ≡ unsigned_width n }
@@ -33,7 +33,7 @@ pub fn unsigned_width_of(n: u64) -> usize
     }
 }
 
-/// An unsigned number that needs as many bytes as this signed one does.
+/// Returns an unsigned number that needs as many bytes as this signed one does.
 #[inline(always)]
 fn signed_size_of(value: i64) -> u64
     ensures { result ≡ signed_size value }
@@ -45,7 +45,7 @@ fn signed_size_of(value: i64) -> u64
     }
 }
 
-/// In how many bytes a signed number is stored.
+/// Returns the number of bytes in which a signed number is stored.
 #[inline(always)]
 pub fn signed_width_of(value: i64) -> usize
     ensures { result ≡ unsigned_width (signed_size value) }
@@ -53,7 +53,7 @@ pub fn signed_width_of(value: i64) -> usize
     unsigned_width_of(signed_size_of(value))
 }
 
-/// How many bytes the payload of a number has.
+/// Returns the length of the payload of a number, in bytes.
 #[inline(always)]
 pub fn number_len(number: Number) -> usize
     ensures { result ≡ length (number_payload (number_view number)) }
@@ -69,7 +69,7 @@ pub fn number_len(number: Number) -> usize
     }
 }
 
-/// Puts the lowest bytes of the number at the end, the highest of them first.
+/// Appends the lowest bytes of the number, big-endian.
 fn push_low_bytes(out: &mut Vec<u8>, n: u64, width: usize) -> Result<(), AllocError>
     requires { width ≤ 8 }
     ensures pushed { OnOk result (out.new.items ≡ out.old.items ++ big_bytes width n) }
@@ -78,7 +78,7 @@ fn push_low_bytes(out: &mut Vec<u8>, n: u64, width: usize) -> Result<(), AllocEr
     out.extend_from_slice(&n.to_be_bytes()[8 - width..])
 }
 
-/// Puts the bytes of the number at the end, the highest first.
+/// Appends the bytes of the number, big-endian.
 fn push_i32(out: &mut Vec<u8>, value: i32) -> Result<(), AllocError>
     ensures pushed { OnOk result (out.new.items ≡ out.old.items ++ fixed_bytes w32 value) }
     ensures unchanged { OnErr result (out.new.items ≡ out.old.items) }
@@ -109,7 +109,7 @@ fn push_uint64(out: &mut Vec<u8>, value: u64) -> Result<(), AllocError>
     push_low_bytes(out, value, unsigned_width_of(value))
 }
 
-/// Puts a decimal at the end: the bytes of its value, and its scale.
+/// Appends a decimal: the bytes of its value, and its scale.
 fn push_decimal(out: &mut Vec<u8>, value: &[u8], scale: u8) -> Result<(), AllocError>
     ensures pushed { OnOk result (out.new.items ≡ out.old.items ++ (0x70 ∷ value.now ++ scale ∷ [])) }
     ensures kept { OnErr result (StaysInFront out.old.items out.new.items) }
@@ -120,7 +120,7 @@ fn push_decimal(out: &mut Vec<u8>, value: &[u8], scale: u8) -> Result<(), AllocE
     Ok(())
 }
 
-/// Puts the payload of a number at the end, each zero as one byte.
+/// Appends the payload of a number, each zero as one byte.
 pub fn push_number_payload(out: &mut Vec<u8>, number: Number) -> Result<(), AllocError>
     ensures pushed { OnOk result (out.new.items ≡ out.old.items ++ number_payload (number_view number)) }
     ensures kept { OnErr result (StaysInFront out.old.items out.new.items) }
@@ -142,7 +142,7 @@ pub fn push_number_payload(out: &mut Vec<u8>, number: Number) -> Result<(), Allo
     }
 }
 
-/// How many bytes the payload of an extension value has.
+/// Returns the length of the payload of an extension value, in bytes.
 pub fn extension_len(value: &ExtensionValue<'_>) -> usize
     ensures { result ≡ length (extension_payload (extension_view value.now)) }
 {
@@ -203,15 +203,15 @@ fn push_interval(out: &mut Vec<u8>, months: i32, days: i32, micros: i64) -> Resu
     push_i64(out, micros)
 }
 
-/// Puts the payload of an extension value at the end, as docs/FORMAT.md lays it out.
+/// Appends the payload of an extension value, in the layout of docs/FORMAT.md.
 ///
 /// # Errors
 ///
-/// `AllocError` where memory is refused. Then `out` may have a part of the payload behind what it held.
+/// `AllocError` if an allocation fails. Then `out` may end with part of the payload.
 ///
-/// # Cost
+/// # Complexity
 ///
-/// Linear in the payload. Takes memory where `out` has to grow.
+/// Amortized O(n) for a payload of n bytes. Allocates if `out` has to grow.
 pub fn push_extension_payload(
     out: &mut Vec<u8>,
     value: &ExtensionValue<'_>,

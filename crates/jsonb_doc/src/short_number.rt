@@ -13,18 +13,18 @@ use crate::number_order::exact_cmp;
 use byteorder::{BigEndian, ByteOrder};
 use std::cmp::Ordering;
 
-/// A number as it is stored, where its digits take at most 64 bits.
+/// A number as it is stored, if its digits fit in 64 bits.
 #[derive(Clone, Copy, Debug)]
 pub enum ShortNumber {
-    /// A whole number that is not negative.
+    /// An unsigned integer.
     Unsigned(u64),
-    /// A whole number with a sign.
+    /// A signed integer.
     Signed(i64),
-    /// A decimal: its digits, and how many of them stand behind the point.
+    /// A decimal: its digits, and how many of them are after the point.
     Decimal(i64, u8),
 }
 
-/// Whether two decimals of this scale are equal by value.
+/// Returns `true` if two decimals of this scale are equal by value.
 #[inline(always)]
 #[tactic(auto, using(crate::proofs::EqualValues::decimals_tied))]
 fn decimals_equal(a: i64, b: i64, scale: u8) -> bool
@@ -34,7 +34,7 @@ fn decimals_equal(a: i64, b: i64, scale: u8) -> bool
 }
 
 impl ShortNumber {
-    /// The digits as a whole number, which is to be divided by `10 ^ scale`.
+    /// Returns the digits as an integer, to be divided by `10 ^ scale`.
     fn whole(self) -> i128
         ensures { result ≡ (short_parts self).whole }
     {
@@ -45,7 +45,7 @@ impl ShortNumber {
         }
     }
 
-    /// How many of the digits stand behind the point.
+    /// Returns the number of digits after the point.
     fn scale(self) -> u8
         ensures { result ≡ (short_parts self).scale }
     {
@@ -55,11 +55,11 @@ impl ShortNumber {
         }
     }
 
-    /// The number that it is. A zero is `UInt64(0)`, whatever variant it is stored as.
+    /// Returns the number. A zero of any stored variant is `UInt64(0)`.
     ///
-    /// # Cost
+    /// # Complexity
     ///
-    /// Constant, without memory.
+    /// O(1). Does not allocate.
     #[inline(always)]
     pub fn to_number(self) -> Number
         ensures parts { number_parts result ≡ short_value self }
@@ -74,7 +74,7 @@ impl ShortNumber {
     }
 }
 
-/// Whether two numbers that are not stored alike are equal by value.
+/// Returns `true` if two numbers that are not stored alike are equal by value.
 #[inline(never)]
 fn parts_equal(number: ShortNumber, other: ShortNumber) -> bool
     ensures { result ≡ eq_by_cmp number_cmp (short_value number) (short_value other) }
@@ -82,11 +82,11 @@ fn parts_equal(number: ShortNumber, other: ShortNumber) -> bool
     exact_cmp(number.whole(), number.scale(), other.whole(), other.scale()).is_eq()
 }
 
-/// Whether two numbers are equal by value. Where they are stored alike their digits tell it.
+/// Returns `true` if two numbers are equal by value. Compares the digits alone if both are stored in the same way.
 ///
-/// # Cost
+/// # Complexity
 ///
-/// Constant, without memory.
+/// O(1). Does not allocate.
 #[inline(always)]
 pub fn short_equal(number: ShortNumber, other: ShortNumber) -> bool
     ensures { result ≡ eq_by_cmp number_cmp (short_value number) (short_value other) }
@@ -105,7 +105,7 @@ pub fn short_equal(number: ShortNumber, other: ShortNumber) -> bool
     }
 }
 
-/// The order of two numbers that are not stored alike.
+/// Returns the order of two numbers that are not stored alike.
 #[inline(never)]
 fn parts_cmp(number: ShortNumber, other: &Number) -> Ordering
     ensures { result ≡ number_cmp (short_value number) (number_view other.now) }
@@ -113,11 +113,11 @@ fn parts_cmp(number: ShortNumber, other: &Number) -> Ordering
     exact_cmp(number.whole(), number.scale(), other.whole(), other.scale())
 }
 
-/// The order of two numbers by value. Where they are stored alike their digits tell it.
+/// Returns the order of two numbers by value. Compares the digits alone if both are stored in the same way.
 ///
-/// # Cost
+/// # Complexity
 ///
-/// Constant, without memory.
+/// O(1). Does not allocate.
 #[inline(always)]
 pub fn short_cmp(number: ShortNumber, other: &Number) -> Ordering
     ensures { result ≡ number_cmp (short_value number) (number_view other.now) }
@@ -136,7 +136,7 @@ pub fn short_cmp(number: ShortNumber, other: &Number) -> Ordering
     }
 }
 
-/// The number whose payload has these bytes behind the tag of zero.
+/// Returns the number of a payload with these bytes after the tag of zero.
 #[inline(always)]
 #[tactic(auto, unfolding(crate::specs::Payload::number_of))]
 pub(crate) fn read_zero(rest: &[u8]) -> Option<ShortNumber>
@@ -148,7 +148,7 @@ pub(crate) fn read_zero(rest: &[u8]) -> Option<ShortNumber>
     }
 }
 
-/// The number whose payload has these bytes behind the tag of a whole number that is not negative.
+/// Returns the number of a payload with these bytes after the tag of an unsigned integer.
 #[inline(always)]
 #[tactic(auto, unfolding(crate::specs::Payload::number_of))]
 pub(crate) fn read_unsigned(rest: &[u8]) -> Option<ShortNumber>
@@ -163,7 +163,7 @@ pub(crate) fn read_unsigned(rest: &[u8]) -> Option<ShortNumber>
     }
 }
 
-/// The same behind the tag of a whole number with a sign.
+/// Returns the number of a payload with these bytes after the tag of a signed integer.
 #[inline(always)]
 #[tactic(auto, unfolding(crate::specs::Payload::number_of))]
 pub(crate) fn read_signed(rest: &[u8]) -> Option<ShortNumber>
@@ -175,7 +175,7 @@ pub(crate) fn read_signed(rest: &[u8]) -> Option<ShortNumber>
     }
 }
 
-/// The same behind the tag of a decimal.
+/// Returns the number of a payload with these bytes after the tag of a decimal.
 #[inline(always)]
 #[tactic(auto, unfolding(crate::specs::Payload::number_of))]
 pub(crate) fn read_decimal(rest: &[u8]) -> Option<ShortNumber>

@@ -1,4 +1,4 @@
-//! Items by their places in the bytes of a document.
+//! Items by their positions in the bytes of a document.
 
 ghost use Rattle.std.specs.Prelude.{◌≡◌, ℕ, ◌+◌, ◌*◌, ◌^◌, ◌<◌, ◌≤◌, List, length, slice_range, is_some, IsOkAnd, IfOk, IfErr, IfSome, MatchResult, OnOk};
 ghost use Rattle.jsonb_doc.specs.Tree.{Tree, number, children_of, field_of};
@@ -8,28 +8,29 @@ ghost use Rattle.jsonb_doc.specs.Kinds.{kind_number};
 ghost use Rattle.jsonb_doc.specs.Item.{StandsFor, IsNormal, item_size};
 ghost use Rattle.jsonb_doc.specs.Answer.{SameOption, IsDecodingError};
 ghost use Rattle.jsonb_doc.specs.Readable.{HasReadableRoot};
-ghost use Rattle.jsonb_doc.specs.Private.Lengths.{HoldKeys, FindsKey};
 ghost use Rattle.jsonb_doc.specs.Private.Short.{short_value};
 ghost use Rattle.jsonb_doc.specs.Spots.{Locates, HasSpotsLeft, spot_size, spot_content, spots_bound, spots_room};
 
 use crate::container::{Container, read_container};
 use crate::entry_iter::StoredEntry;
-use crate::equal_bytes::bytes_equal;
 use crate::error::Error;
 use crate::item::Item;
-use crate::layout::{EntryKind, WORD, entry_len};
+use crate::key_search::find_key;
+use crate::layout::{EntryKind, WORD};
 use crate::lengths::{entry_behind, skip_contents};
 use crate::short_number::ShortNumber;
 use crate::spot_iter::SpotIter;
 
+mod content;
 mod document;
 
+pub use self::content::{StoredValue, element_spots, spot_value, value_spots};
 pub use self::document::{scalar_document, spot_document};
 
-/// One item of a document: its kind, and where its content stands in the bytes.
+/// One item of a document: its type, and the position of its content in the bytes.
 ///
-/// A spot belongs to the bytes that gave it. With other bytes a call gives some answer, or refuses as for bytes that
-/// don't decode.
+/// A spot is valid for the bytes it came from. With other bytes a call returns any result, or fails as for bytes that
+/// do not decode.
 #[derive(Clone, Copy, Debug)]
 pub struct Spot {
     pub(crate) kind: EntryKind,
@@ -38,11 +39,19 @@ pub struct Spot {
 }
 
 impl Spot {
-    /// Whether it is an array or an object.
+    /// Returns `true` if it is an array or an object.
     ///
-    /// # Cost
+    /// # Complexity
     ///
-    /// Constant, without memory.
+    /// O(1). Does not allocate.
+    ///
+    /// # Examples
+    ///
+    /// ```rust crates/jsonb_examples/src/parts.rt
+    /// if !child.is_container() {
+    ///     scalars.push_spot(document, child)?;
+    /// }
+    /// ```
     #[inline(always)]
     pub fn is_container(self) -> bool
         ensures { (bytes : List ℕ) (t : Tree) → Locates bytes self t → result ≡ is_some (children_of t) }
@@ -50,12 +59,20 @@ impl Spot {
         self.kind == EntryKind::Container
     }
 
-    /// The same spot, put together from its parts. Where a spot is stored, or handed to a call that is not inlined, this
-    /// spares the copy of the seven bytes behind its kind, which the machine can't forward from one move to the next.
+    /// Returns the spot itself, built from its parts.
     ///
-    /// # Cost
+    /// If a spot is stored, or passed to a call that is not inlined, this avoids a copy of the seven bytes after its
+    /// type, which the machine cannot forward from one move to the next.
     ///
-    /// Constant, without memory.
+    /// # Complexity
+    ///
+    /// O(1). Does not allocate.
+    ///
+    /// # Examples
+    ///
+    /// ```rust crates/jsonb/src/selector/children.rt
+    /// nodes.push(spot.by_parts())?;
+    /// ```
     #[inline(always)]
     pub fn by_parts(self) -> Spot
         ensures { result ≡ self }
@@ -64,7 +81,7 @@ impl Spot {
         Spot { kind, start, end }
     }
 
-    /// Its content within these bytes. Bytes in which it has no place are `InvalidJsonb`.
+    /// Returns its content within these bytes. Fails with `InvalidJsonb` if it exceeds them.
     fn content<'a>(self, bytes: &'a [u8]) -> Result<&'a [u8], Error>
         ensures { MatchResult result
             (λ content. (self.start ≤ self.end) × (self.end ≤ length bytes.now)
@@ -78,15 +95,24 @@ impl Spot {
     }
 }
 
-/// The spot of a document's root.
+/// Returns the spot of a document's root.
 ///
 /// # Errors
 ///
-/// `InvalidJsonb` or `UnsupportedNumber`, only for bytes that don't decode, and not for all of those.
+/// `InvalidJsonb` or `UnsupportedNumber`, only for bytes that do not decode. Only the root is read, so damage in its
+/// content is not found.
 ///
-/// # Cost
+/// # Complexity
 ///
-/// Constant, without memory.
+/// O(1). Does not allocate.
+///
+/// # Examples
+///
+/// ```rust crates/jsonb_sweep/src/reads.rt
+/// let Ok(root) = root_spot(PHONES) else {
+///     return false;
+/// };
+/// ```
 pub fn root_spot(bytes: &[u8]) -> Result<Spot, Error>
     ensures marks { (t : Tree) → Decodes any bytes.now t → IsOkAnd result (λ spot. Locates bytes.now spot t) }
     ensures size { IfOk result (λ spot. spot_size spot ≤ length bytes.now) }
@@ -101,15 +127,21 @@ pub fn root_spot(bytes: &[u8]) -> Result<Spot, Error>
     Ok(Spot { kind, start, end })
 }
 
-/// The item at a spot of these bytes, its slices borrowed from them.
+/// Returns the item at a spot of these bytes, its slices borrowed from them.
 ///
 /// # Errors
 ///
-/// `InvalidJsonb` or `UnsupportedNumber`, only where the bytes don't decode or the spot is of other bytes.
+/// `InvalidJsonb` or `UnsupportedNumber`, only if the bytes do not decode or the spot is of other bytes.
 ///
-/// # Cost
+/// # Complexity
 ///
-/// Constant, but a text is read whole. No memory.
+/// O(1), or O(n) for a string of n bytes. Does not allocate.
+///
+/// # Examples
+///
+/// ```rust crates/jsonb_sweep/src/reads.rt
+/// children.count() == 2 && spot_item(PHONES, name).is_ok()
+/// ```
 pub fn spot_item<'a>(bytes: &'a [u8], spot: Spot) -> Result<Item<'a>, Error>
     ensures item { (t : Tree) → Locates bytes.now spot t → IsOkAnd result (λ item. StandsFor any item t) }
     ensures in_form { (form : Form) (top t : Tree) → Decodes form bytes.now top → Locates bytes.now spot t
@@ -121,15 +153,15 @@ pub fn spot_item<'a>(bytes: &'a [u8], spot: Spot) -> Result<Item<'a>, Error>
     Item::from_content(spot.kind, spot.content(bytes)?)
 }
 
-/// The entry at a spot of these bytes, as it is stored.
+/// Returns the entry at a spot of these bytes, as it is stored.
 ///
 /// # Errors
 ///
-/// `InvalidJsonb` or `UnsupportedNumber`, only where the bytes don't decode or the spot is of other bytes.
+/// `InvalidJsonb` or `UnsupportedNumber`, only if the bytes do not decode or the spot is of other bytes.
 ///
-/// # Cost
+/// # Complexity
 ///
-/// Constant, without memory.
+/// O(1). Does not allocate.
 pub fn spot_entry<'a>(bytes: &'a [u8], spot: Spot) -> Result<StoredEntry<'a>, Error>
     ensures entry { (form : Form) (top t : Tree) → Decodes form bytes.now top → Locates bytes.now spot t
         → IsOkAnd result (λ entry. IsContent (number_reader form) t (kind_number entry.kind) entry.content.now) }
@@ -141,15 +173,16 @@ pub fn spot_entry<'a>(bytes: &'a [u8], spot: Spot) -> Result<StoredEntry<'a>, Er
     })
 }
 
-/// The number at a spot of these bytes, where its digits are found in at most 64 bits. `None` says nothing of the item.
+/// Returns the number at a spot of these bytes, if its digits are stored in at most 64 bits. `None` says nothing about
+/// the item.
 ///
 /// # Errors
 ///
-/// `InvalidJsonb` or `UnsupportedNumber`, only where the bytes don't decode or the spot is of other bytes.
+/// `InvalidJsonb` or `UnsupportedNumber`, only if the bytes do not decode or the spot is of other bytes.
 ///
-/// # Cost
+/// # Complexity
 ///
-/// Constant, without memory.
+/// O(1). Does not allocate.
 #[inline(always)]
 pub fn spot_number(bytes: &[u8], spot: Spot) -> Result<Option<ShortNumber>, Error>
     ensures number { (t : Tree) → Locates bytes.now spot t
@@ -159,15 +192,23 @@ pub fn spot_number(bytes: &[u8], spot: Spot) -> Result<Option<ShortNumber>, Erro
     Ok(spot_entry(bytes, spot)?.short_number())
 }
 
-/// The spots of an array's elements or of an object's values, in stored order. `None` is for a scalar.
+/// Returns the spots of an array's elements or of an object's values, in stored order, or `None` for a scalar.
 ///
 /// # Errors
 ///
-/// `InvalidJsonb` or `UnsupportedNumber`, only where the bytes don't decode or the spot is of other bytes.
+/// `InvalidJsonb` or `UnsupportedNumber`, only if the bytes do not decode or the spot is of other bytes.
 ///
-/// # Cost
+/// # Complexity
 ///
-/// Constant for an array, linear in the count of pairs for an object. No memory.
+/// O(1) for an array, O(k) for an object of k members. Does not allocate.
+///
+/// # Examples
+///
+/// ```rust crates/jsonb_sweep/src/reads.rt
+/// let Ok(Some(children)) = child_spots(PHONES, root) else {
+///     return false;
+/// };
+/// ```
 #[inline(always)]
 pub fn child_spots<'a>(bytes: &'a [u8], spot: Spot) -> Result<Option<SpotIter<'a>>, Error>
     ensures spots { (t : Tree) → Locates bytes.now spot t
@@ -195,15 +236,24 @@ pub fn child_spots<'a>(bytes: &'a [u8], spot: Spot) -> Result<Option<SpotIter<'a
     }
 }
 
-/// The spot of the value under this key. `None` is for an object without the key, and for another item.
+/// Returns the spot of the value of this key, or `None` for an object without the key and for any other item.
 ///
 /// # Errors
 ///
-/// `InvalidJsonb` or `UnsupportedNumber`, only where the bytes don't decode or the spot is of other bytes.
+/// `InvalidJsonb` or `UnsupportedNumber`, only if the bytes do not decode or the spot is of other bytes.
 ///
-/// # Cost
+/// # Complexity
 ///
-/// Linear in the count of pairs, without memory.
+/// O(k) for k keys: the lengths of all are added up, one key in 32 is compared, then those of one block of 32. Does not
+/// allocate.
+///
+/// # Examples
+///
+/// ```rust crates/jsonb_sweep/src/reads.rt
+/// let Ok(Some(name)) = field_spot(PHONES, root, "name") else {
+///     return false;
+/// };
+/// ```
 #[inline(always)]
 pub fn field_spot(bytes: &[u8], spot: Spot, name: &str) -> Result<Option<Spot>, Error>
     ensures field { (t : Tree) → Locates bytes.now spot t
@@ -235,38 +285,6 @@ pub fn field_spot(bytes: &[u8], spot: Spot, name: &str) -> Result<Option<Spot>, 
     let end = spot.end - value.other_contents.len();
     let start = end - value.content.len();
     Ok(Some(Spot { kind, start, end }))
-}
-
-/// What follows the key that is this name, of the keys with these words and bytes.
-#[inline(always)]
-fn find_key<'w, 'k>(
-    words: &'w [u8],
-    bytes: &'k [u8],
-    name: &[u8],
-) -> Result<Option<(&'w [u8], &'k [u8])>, Error>
-    requires { length words.now < 2 ^ 32 }
-    ensures found { (ks : List (List ℕ)) (rest : List ℕ) → HoldKeys ks words.now bytes.now rest
-        → IsOkAnd result (λ found. FindsKey name.now ks rest found) }
-    ensures size { IfOk result
-        (λ found. IfSome found (λ r. (length r.0.now + 4 ≤ length words.now) × (length r.1.now ≤ length bytes.now))) }
-    ensures errors { IfErr result IsDecodingError }
-{
-    let (key_words, _) = words.as_chunks::<WORD>();
-    let mut end = 0;
-    for (at, word) in key_words.iter().enumerate() {
-        let start = end;
-        let len = entry_len(word);
-        end += len;
-        if len == name.len() {
-            let Some(key) = bytes.get(start..end) else {
-                return Err(Error::InvalidJsonb);
-            };
-            if bytes_equal(key, name) {
-                return Ok(Some((&words[WORD * (at + 1)..], &bytes[end..])));
-            }
-        }
-    }
-    Ok(None)
 }
 
 #[cfg(test)]

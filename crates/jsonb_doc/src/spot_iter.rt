@@ -1,16 +1,18 @@
-//! The iterator over the places of a container's children.
+//! The iterator over the positions of a container's children.
 
 use crate::error::Error;
 use crate::layout::{MAX_ENTRIES, WORD, split_entry_word};
 use crate::lengths::contents_len;
 use crate::spot::Spot;
 
-/// The spots of a container's children that are left, in stored order. It ends behind one that has no place, which is
+/// An iterator over the spots of a container's remaining children, in stored order, as `child_spots` returns it.
+///
+/// Yields the spot of each child and then `None`. It ends after a child whose end is not known, which is
 /// `InvalidJsonb`.
 ///
-/// # Cost
+/// # Complexity
 ///
-/// A step is constant, without memory.
+/// A step is O(1). Does not allocate.
 #[derive(Clone, Copy)]
 pub struct SpotIter<'a> {
     words: &'a [u8],
@@ -31,11 +33,19 @@ impl<'a> SpotIter<'a> {
         SpotIter { words, start, end }
     }
 
-    /// How many spots are left.
+    /// Returns the number of remaining spots.
     ///
-    /// # Cost
+    /// # Complexity
     ///
-    /// Constant, without memory.
+    /// O(1). Does not allocate.
+    ///
+    /// # Examples
+    ///
+    /// ```rust crates/jsonb_examples/src/parts.rt
+    /// if scalars.len() == children.len() {
+    ///     return Ok(None);
+    /// }
+    /// ```
     #[inline(always)]
     pub fn len(&self) -> usize
         ensures { (bytes : List ℕ) (ts : List Tree) → HasSpotsLeft bytes self.now ts → result ≡ length ts }
@@ -43,11 +53,21 @@ impl<'a> SpotIter<'a> {
         self.words.len() / WORD
     }
 
-    /// The spots behind so many of those that are left, and `None` where fewer are left.
+    /// Returns the iterator without its first `count` spots, or `None` if fewer remain.
     ///
-    /// # Cost
+    /// # Complexity
     ///
-    /// Linear in the count, without memory.
+    /// O(`count`). Does not allocate.
+    ///
+    /// # Examples
+    ///
+    /// ```rust crates/jsonb_examples/src/parts.rt
+    /// if let Some(rest) = children.behind(first) {
+    ///     for child in rest {
+    ///         page.push_spot(list, child?)?;
+    ///     }
+    /// }
+    /// ```
     pub fn behind(&self, count: usize) -> Option<SpotIter<'a>>
         ensures left { (bytes : List ℕ) (ts : List Tree) → HasSpotsLeft bytes self.now ts
             → MatchOption result (length ts < count) (λ rest. HasSpotsLeft bytes rest (drop count ts)) }

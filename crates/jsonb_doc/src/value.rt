@@ -20,20 +20,20 @@ pub use decode::to_value;
 
 /// A decoded value.
 ///
-/// Two values are equal where they have the same shape, numbers by exact value (`1` is `1.0`) and extension values by
-/// their fields.
+/// Two values are equal if they have the same shape, numbers by exact value (`1` equals `1.0`) and extension values
+/// by their fields.
 ///
-/// Comparing values and letting one go take no memory; docs/STACK.md says how much of the machine's stack they take.
+/// Comparing and dropping values does not allocate; docs/STACK.md gives their use of the stack.
 pub enum Value<'a> {
-    /// null.
+    /// The value null.
     Null,
-    /// A truth value.
+    /// A Boolean.
     Bool(bool),
-    /// A text, borrowed from the document or owned.
+    /// A string, borrowed from the document or owned.
     String(CowStr<'a, Global>),
     /// A number.
     Number(Number),
-    /// Bytes that JSON itself has no kind for.
+    /// Bytes, a value that JSON itself lacks.
     Binary(&'a [u8]),
     /// A day.
     Date(Date),
@@ -54,15 +54,24 @@ impl<'a> Value<'a> {
     ghost use Rattle.jsonb_doc.specs.Answer.{IsOutOfMemory};
     ghost use Rattle.jsonb_doc.specs.Value.{value_tree, value_parts};
 
-    /// The same value, with its own copy of each text, list and map that it owns. What it borrows, the copy borrows.
+    /// Returns a copy of the value, with copies of the strings, lists and maps that it owns. Borrowed strings and
+    /// binaries remain borrowed.
     ///
     /// # Errors
     ///
-    /// `OutOfMemory` where memory is refused.
+    /// `OutOfMemory` if an allocation fails.
     ///
-    /// # Cost
+    /// # Complexity
     ///
-    /// Linear in the value. Takes memory; docs/STACK.md says how much of the machine's stack.
+    /// O(n) for n values and bytes of owned strings. Allocates. docs/STACK.md gives its use of the stack.
+    ///
+    /// # Examples
+    ///
+    /// ```rust crates/jsonb_examples/src/parts.rt
+    /// if let Some(found) = members.get(key) {
+    ///     return found.clone(alloc);
+    /// }
+    /// ```
     pub fn clone(&self, alloc: Global) -> Result<Value<'a>, Error>
         ensures tree { MatchResult result (λ copy. value_tree copy ≡ value_tree self.now) IsOutOfMemory }
         ensures parts { IfOk result (λ copy. value_parts copy ≡ value_parts self.now) }
@@ -71,7 +80,7 @@ impl<'a> Value<'a> {
     }
 }
 
-/// A document may be as deep as it is long: a container is let go in a loop.
+/// Drops containers in a loop, since a document may be as deep as it is long.
 impl Drop for Value<'_> {
     fn drop(self) {
         if let Some(container) = self.container() {

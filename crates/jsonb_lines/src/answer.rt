@@ -1,10 +1,10 @@
-//! What a document answers to a question: the lines of `jsonb_tool`.
+//! The result of a command on a document: the lines of `jsonb_tool`.
 
 use crate::question::Question;
 use jsonb::{Error, OwnedJsonb, RawJsonb, SelectByPath};
 use std::alloc::Global;
 
-/// The lines that answer a question, each with its line feed.
+/// Returns the lines of a command, each with its line feed.
 pub fn answer(alloc: Global, question: &Question<'_>, bytes: &[u8]) -> Result<String, Error> {
     let document = RawJsonb::new(bytes);
     document.check()?;

@@ -1,4 +1,4 @@
-//! The engine: from lines of documents to lines of answers and an exit status.
+//! The engine: from lines of documents to lines of results and an exit status.
 
 use crate::answer::answer;
 use crate::question::Question;
@@ -8,20 +8,20 @@ use std::alloc::Global;
 use std::io;
 use std::io::{BufRead, Write};
 
-/// Each document was answered.
+/// Each document had a result.
 const SUCCESS: u8 = 0;
 
-/// A path or a document was refused.
+/// A path or a document was rejected.
 const REFUSED: u8 = 1;
 
-/// The words are no question, or a line isn't hexadecimal.
+/// The arguments are not a command, or a line is not hexadecimal.
 const USAGE: u8 = 2;
 
-/// Writes the answer to each document, and gives the greatest status of all lines.
+/// Writes the result for each document, and returns the greatest status of all lines.
 ///
-/// A document that is refused has one line, `refused: ` with the error's text, or `usage` where it isn't hexadecimal,
-/// and the next one is looked at. Words that are no question, and a path that is refused, end the run with their line
-/// before a document is read. The error is that of the reader or the writer.
+/// A document that fails has one line, `refused: ` with the error's text, or `usage` if it is not hexadecimal, and
+/// the next one is read. Arguments that are not a command, and a path that does not parse, end the run with their
+/// line before a document is read. The error is that of the reader or the writer.
 pub fn answer_lines<I: BufRead + Drop, W: Write>(
     alloc: Global,
     words: &[String],
@@ -46,7 +46,7 @@ pub fn answer_lines<I: BufRead + Drop, W: Write>(
     Ok(status)
 }
 
-/// Writes the answer to one document, and gives its status.
+/// Writes the result for one document, and returns its status.
 fn answer_line<W: Write>(
     alloc: Global,
     question: &Question<'_>,
@@ -70,7 +70,7 @@ fn answer_line<W: Write>(
     }
 }
 
-/// Writes the line of a refusal.
+/// Writes the line of an error.
 fn refuse<W: Write>(error: Error, out: &mut W) -> io::Result<u8> {
     writeln!(out, "refused: {error}")?;
     Ok(REFUSED)

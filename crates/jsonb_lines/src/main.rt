@@ -10,7 +10,7 @@ use std::io::{BufReader, BufWriter, Write};
 use std::process::ExitCode;
 use std::{env, io};
 
-/// The status where reading or writing failed, or where memory was refused outside an answer.
+/// The status if reading or writing failed, or an allocation outside a command.
 const FAULT: u8 = 3;
 
 fn main(rt: HostRuntime) -> ExitCode {
@@ -20,7 +20,7 @@ fn main(rt: HostRuntime) -> ExitCode {
     }
 }
 
-/// Answers standard input line by line.
+/// Runs the command on each line of standard input.
 fn run<R: Env + Input + Print + AllocGlobal>(rt: &R) -> io::Result<u8> {
     let alloc = rt.alloc();
     let words = words(rt)?;

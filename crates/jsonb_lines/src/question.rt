@@ -17,8 +17,8 @@ pub enum Question<'w> {
 }
 
 impl<'w> Question<'w> {
-    /// The question that the words are; none where they are none. `InvalidKeyPath` and `InvalidJsonPath` where the
-    /// text of a path is refused.
+    /// Returns the command of the arguments, or `None`. Fails with `InvalidKeyPath` or `InvalidJsonPath` if its path
+    /// does not parse.
     pub fn read(alloc: Global, words: &'w [String]) -> Result<Option<Question<'w>>, Error> {
         match words {
             [name, path] if name.as_str() == "get" => {

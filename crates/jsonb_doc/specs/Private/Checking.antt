@@ -1,4 +1,4 @@
--- What a check answers.
+-- Results of a check.
 use Rattle.std.specs.Prelude.{◌≡◌, ℕ, List, Result, Ok, Err, Bool, true, ◌↔◌, ◌+◌, ◌≤◌, length, ◌++◌, Option, Some, None, ⊤, IsUtf8}
 use Rattle.std.specs.Ordering.{nat_cmp}
 use Rattle.std.specs.Cmp.Lexicographic.{slice_cmp}
@@ -9,7 +9,7 @@ use Rattle.jsonb_doc.specs.Format.{IsContent, AreEntries, IsDocument, AreKeys, k
 use Rattle.jsonb_doc.specs.declared.error.Error.{Error}
 use Rattle.jsonb_doc.specs.declared.error.Error.TheVariants.{InvalidJsonb, UnsupportedNumber}
 
--- The answer tells whether a fact holds, and else whether it would with unsupported payloads as numbers.
+-- The result decides whether a fact holds, and otherwise whether it would with unsupported payloads as numbers.
 abbrev pub IsValidationError : (NumberReader → Type 0) → Error → Type 0
 IsValidationError Holds UnsupportedNumber = ¬ Holds number_of × Holds number_or_unsupported
 IsValidationError Holds InvalidJsonb = ¬ Holds number_or_unsupported
@@ -29,12 +29,12 @@ HasEntries words contents number_at = (ts : Trees) × AreEntries number_at ts wo
 abbrev pub HasDocument : List ℕ → NumberReader → Type 0
 HasDocument bytes number_at = (t : Tree) × IsDocument number_at t bytes
 
--- the key may follow this one, where there is one
+-- the key may follow this one, if there is one
 abbrev pub IsAbove : Option (List ℕ) → List ℕ → Type 0
 IsAbove None key = ⊤
 IsAbove (Some last) key = slice_cmp nat_cmp last key ≡ Less
 
--- a text that may follow this key, where there is one
+-- a string that may follow this key, if there is one
 abbrev pub IsNextKey : Option (List ℕ) → List ℕ → Type 0
 IsNextKey last bytes = IsUtf8 bytes × IsAbove last bytes
 
@@ -42,12 +42,12 @@ IsNextKey last bytes = IsUtf8 bytes × IsAbove last bytes
 abbrev pub HasKeys : List ℕ → List ℕ → List ℕ → Type 0
 HasKeys words bytes rest = (ks : List (List ℕ)) × AreKeys ks × (words ≡ key_words ks) × (bytes ≡ key_bytes ks ++ rest)
 
--- The bytes are the content of a container where these are the words and the contents of its entries.
+-- The bytes are the content of a container whose entries have these words and contents.
 pub record HasParts (bytes words contents : List ℕ) : Type 0 where
   pub shorter : 4 + length contents ≤ length bytes
   pub same : (number_at : NumberReader) → HasContent 5 bytes number_at ↔ HasEntries words contents number_at
 
--- the container that is left, where there is one, has its content
+-- the container that is left, if there is one, has its content
 abbrev pub HasLarge : Option (List ℕ) → NumberReader → Type 0
 HasLarge None number_at = ⊤
 HasLarge (Some bytes) number_at = HasContent 5 bytes number_at
@@ -57,7 +57,7 @@ abbrev pub IsNoLonger : Option (List ℕ) → List ℕ → Type 0
 IsNoLonger None whole = ⊤
 IsNoLonger (Some bytes) whole = length bytes ≤ length whole
 
--- What is left decides the whole: it holds where the rest does and, without unsupported numbers, where none was met.
+-- The rest decides the whole: it holds if the rest does and, without unsupported numbers, if none was read.
 pub record ReducesTo (is_supported : Bool) (Whole Left : NumberReader → Type 0) : Type 0 where
   pub lenient : Whole number_or_unsupported ↔ Left number_or_unsupported
   pub strict : Whole number_of ↔ ((is_supported ≡ true) × Left number_of)

@@ -1,4 +1,4 @@
--- Values that are compared part by part.
+-- Values that are compared child by child.
 use Rattle.std.specs.Prelude.{ℕ, Bool, List, String, ⊤}
 use Rattle.std.specs.declared.alloc.Global.{Global}
 use Rattle.jsonb_doc.specs.Tree.{trees_of, pairs_of}
@@ -15,16 +15,16 @@ use Rattle.jsonb_doc.specs.declared.value.equal.Compared.TheVariants.{Told, As}
 abbrev pub values_same : List Value → List Value → Bool
 values_same vs ws = are_equal (trees_of (trees_seen number_view vs)) (trees_of (trees_seen number_view ws))
 
--- the same for the members of two objects
+-- the members of two objects are equal, one by one
 abbrev pub entries_same : List (String Global × Value) → List (String Global × Value) → Bool
 entries_same es fs = pairs_are_equal (pairs_of (members_seen number_view es)) (pairs_of (members_seen number_view fs))
 
--- whether the values are equal
+-- the values are equal
 abbrev pub told : Compared → Bool
 told (Told answer) = answer
 told (As v w) = is_equal (value_tree v.now) (value_tree w.now)
 
--- how many parts of the first one are left to be compared
+-- the number of values in the first one that remain to be compared
 abbrev pub told_parts : Compared → ℕ
 told_parts (Told answer) = 0
 told_parts (As v w) = parts v.now

@@ -1,4 +1,4 @@
--- What documents and containers are, cut by their headers into words and contents.
+-- Documents and containers, split by their headers into words and contents.
 use Rattle.std.specs.Prelude.{◌≡◌, ◌≢◌, ◌<◌, ◌^◌, ℕ, List, ◌++◌, length}
 use Rattle.jsonb_doc.specs.Tree.{Tree, array, object, Pairs, keys}
 use Rattle.jsonb_doc.specs.Payload.{NumberReader}
@@ -14,7 +14,7 @@ pub record StartWith (words : List ℕ) (kind len : ℕ) (others : List ℕ) : T
   pub fits : len < 2 ^ 28
   pub joined : words ≡ entry_word kind len ++ others
 
--- the bytes are an entry that is no container: its word, and its content
+-- the bytes are a scalar entry: its word, and its content
 pub record IsLoneEntry (bytes : List ℕ) (kind : ℕ) (content : List ℕ) : Type 0 where
   pub start : StartWith bytes kind (length content) content
   pub scalar : kind ≢ container_entry
@@ -41,13 +41,13 @@ Holds number_at (array ts) (Array p) = AreEntries number_at ts p.words.now p.con
 Holds number_at (object ps) (Object p) = HasPairParts number_at ps p
 Holds number_at _ _ = ⊥
 
--- how many bytes of words an entry of each element or pair has
+-- the number of bytes of the words of one entry per element or pair
 abbrev pub container_words : Container → ℕ
 container_words (Scalar e) = 0
 container_words (Array p) = length p.words.now
 container_words (Object p) = length p.key_words.now
 
--- how many bytes the contents have
+-- the length of the contents, in bytes
 abbrev pub container_room : Container → ℕ
 container_room (Scalar e) = length e.content.now
 container_room (Array p) = length p.contents.now

@@ -24,7 +24,7 @@ insert_pairs [] qs = qs
 insert_pairs (p ∷ ps) qs = insert_pairs ps (insert_pair p.0 p.1 qs)
 
 module _ (seen : Number → spec.Number) where
-  -- the array of these copies, and of the trees behind them
+  -- the array of these copies, and of the trees after them
   abbrev pub array_seen : List Value → List Tree → Tree
   array_seen copies left = array (trees_of (trees_seen seen copies ++ left))
 
@@ -44,12 +44,12 @@ module _ (seen : Number → spec.Number) where
       object (pairs_of (insert_pairs (members_seen seen left)
       (insert_pair (string_bytes key.now) t (members_seen seen copies.entries))))
 
-  -- what is filled, once the part is copied
+  -- the tree of what is filled, once the part is copied
   abbrev pub filled_tree : Filled → Tree
   filled_tree (Whole v) = tree_seen seen v
   filled_tree (Within outer p) = with_part outer (part_tree p)
 
--- how many parts are left to be copied
+-- the number of parts that remain to be copied
 abbrev pub part_parts : Part → ℕ
 part_parts p = tree_parts (part_tree number_view p)
 

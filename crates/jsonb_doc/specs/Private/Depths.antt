@@ -1,4 +1,4 @@
--- Depths of which a part isn't known yet.
+-- Depths that are known in part.
 use Rattle.std.specs.Prelude.{◌≡◌, ℕ, suc, max, List, Option, Some, None}
 use Rattle.jsonb_doc.specs.Tree.{Tree, array, object, Trees, no_trees, values}
 use Rattle.jsonb_doc.specs.Payload.{Form}
@@ -11,12 +11,12 @@ parts_of (array ts) = ts
 parts_of (object ps) = values ps
 parts_of _ = no_trees
 
--- the items of the container that is left, where there is one, lie so deep, as seen from what holds it
+-- if a container is left, its items have this depth, counted from its parent
 abbrev pub LiesBelow : Form → Option (List ℕ) → ℕ → Type 0
 LiesBelow form None below = below ≡ 0
 LiesBelow form (Some bytes) below = (t : Tree) × Decodes form bytes t × (below ≡ suc (deepest t))
 
--- The items of these trees lie so deep, but for those of the container that is left.
+-- The items of these trees are this deep, except for those of the container that is left.
 pub record AreDeep (form : Form) (ts : Trees) (known : ℕ) (left : Option (List ℕ)) : Type 0 where
   pub below : ℕ
   pub lies : LiesBelow form left below

@@ -28,12 +28,12 @@ abbrev pub IsWhole : Filled → Type 0
 IsWhole (Whole v) = ⊤
 IsWhole (Within o part) = ⊥
 
--- at most how many bytes a part that is left has, on any bytes
+-- an upper bound of the length of a remaining child, on any bytes
 abbrev pub open_room : Open → ℕ
 open_room (open_at.Array values left) = length left.entries.contents.now
 open_room (open_at.Object made name left) = length left.value_contents.now
 
--- the part that is left out, where there is one, and those behind it have fewer bytes
+-- the child that is left out, if there is one, and those after it have fewer bytes
 abbrev pub IsShorter : ℕ → Filled → Type 0
 IsShorter n (Whole v) = ⊤
 IsShorter n (Within o part) = (item_size part < n) × (open_room o < n)

@@ -1,7 +1,7 @@
--- Integers that arithmetic makes.
+-- Integers that arithmetic computes.
 use Rattle.std.specs.Prelude.{◌^◌, ◌<◌, ℤ, pos, negsuc}
 
--- an integer of the variants that aren't decimals
+-- an integer of the variants that are not decimals
 abbrev pub FitsInteger : ℤ → Type 0
 FitsInteger (pos n) = n < 2 ^ 64
 FitsInteger (negsuc n) = n < 2 ^ 63

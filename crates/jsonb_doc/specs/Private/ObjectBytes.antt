@@ -1,4 +1,4 @@
--- The entries that an object's builder keeps, and the bytes that it makes of them.
+-- The entries in an object's builder, and the bytes that it builds from them.
 use Rattle.std.specs.Prelude.{ℕ, ◌<◌, ◌^◌, List, ◌++◌, length, flat_map, string_bytes}
 use Rattle.std.specs.Map.{keys_of, values_of}
 use Rattle.std.specs.declared.alloc.Global.{Global}
@@ -11,15 +11,15 @@ use Rattle.jsonb_doc.specs.declared.kept_entry.KeptEntry.{KeptEntry}
 abbrev pub entry_parts : KeptEntry → EntryParts
 entry_parts e = (kind_number e.kind, e.content.items)
 
--- the entry has its place in the format
+-- the entry is within the limits of the format
 abbrev pub FitsEntry : EntryParts → Type 0
 FitsEntry e = (e.0 < 8) × (length e.1 < 2 ^ 28)
 
--- the pair that an entry of a map is
+-- the pair of an entry of a map
 abbrev pub member : String Global × KeptEntry → List ℕ × EntryParts
 member e = (string_bytes e.0, entry_parts e.1)
 
--- the key and the entry have their place in the format
+-- the key and the entry are within the limits of the format
 abbrev pub FitsMember : String Global × KeptEntry → Type 0
 FitsMember e = (length (string_bytes e.0) < 2 ^ 28) × FitsEntry (entry_parts e.1)
 

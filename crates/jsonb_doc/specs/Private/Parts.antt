@@ -1,5 +1,5 @@
--- How many parts a value has: each value within it, at every depth, and itself. How many steps letting go of it still
--- takes.
+-- The number of nodes of a value: each value within it, at every depth, and itself. The number of steps that dropping
+-- it still takes.
 use Rattle.std.specs.Prelude.{◌≡◌, ℕ, ◌+◌, ◌*◌, List, String, Option, None, Some}
 use Rattle.std.specs.declared.alloc.Global.{Global}
 use Rattle.jsonb_doc.specs.Tree.{Tree, array, object, Trees, no_trees, tree, Pairs, no_pairs, pair, trees_of, pairs_of}
@@ -35,7 +35,7 @@ values_parts vs = trees_parts (trees_of (trees_seen number_view vs))
 abbrev pub entries_parts : List (String Global × Value) → ℕ
 entries_parts es = pairs_parts (pairs_of (members_seen number_view es))
 
--- what lies right within the value
+-- the children of the value
 abbrev pub IsHeldBy : Held → Value → Type 0
 IsHeldBy (Values vs) v = v ≡ Array vs
 IsHeldBy (Members ms) v = v ≡ Object ms
@@ -45,7 +45,8 @@ abbrev pub waiting_parts : Option Value → ℕ
 waiting_parts None = 0
 waiting_parts (Some v) = parts v
 
--- with so many parts in the value and so many that wait: it falls with their sum, and where that stays, with the first
+-- a measure of the nodes of the value and of those that wait: it decreases with their sum, and if that stays, with
+-- the first
 unfoldable pub to_release : ℕ → ℕ → ℕ
 to_release next waiting = (next + waiting) * (next + waiting) + next
 

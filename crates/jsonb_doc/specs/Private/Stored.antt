@@ -19,21 +19,21 @@ pub record HasEntriesLeft (form : Form) (it : EntryIter) (ts : Trees) : Type 0 w
 pub record Stores (form : Form) (e : StoredEntry) (t : Tree) : Type 0 where
   pub content : IsContent (number_reader form) t (kind_number e.kind) e.content.now
 
--- at most how many entries the iterator gives, on any bytes
+-- an upper bound of the number of entries that the iterator yields, on any bytes
 abbrev pub entries_bound : EntryIter → ℕ
 entries_bound it = words_left it.words.now
 
--- at most how many bytes an entry of the iterator has, on any bytes
+-- an upper bound of the length of an entry of the iterator, on any bytes
 abbrev pub entries_room : EntryIter → ℕ
 entries_room it = length it.contents.now
 
--- the answer is the entry of the first of the trees, and the others are left
+-- the result is the entry of the first of the trees, and the others remain
 abbrev pub TakesEntry : Form → Trees → Option (Result StoredEntry Error) → EntryIter → Type 0
 TakesEntry form no_trees None after = HasEntriesLeft form after no_trees
 TakesEntry form (tree t ts) (Some (Ok entry)) after = Stores form entry t × HasEntriesLeft form after ts
 TakesEntry form _ _ after = ⊥
 
--- What is read, on any bytes: the first of the entries that are left, or an error where they begin with none.
+-- What is read, on any bytes: the first of the remaining entries, or an error if they do not begin with one.
 abbrev pub ReadsEntry : EntryIter → Option (Result StoredEntry Error) → EntryIter → Type 0
 ReadsEntry before None after = before.words.now ≡ []
 ReadsEntry before (Some (Ok e)) after =
@@ -41,7 +41,7 @@ ReadsEntry before (Some (Ok e)) after =
     after.words.now after.contents.now
 ReadsEntry before (Some (Err e)) after = BeginWithNone before.words.now before.contents.now × (after.words.now ≡ [])
 
--- What a call of `next` does. On any bytes it gives an entry, an error or `None`, and after `None` nothing more.
+-- What a call of `next` does. On any bytes it yields an entry, an error or `None`, and after `None` nothing more.
 pub record GivesEntry (before : EntryIter) (r : Option (Result StoredEntry Error)) (after : EntryIter) : Type 0 where
   pub reads : ReadsEntry before r after
   pub takes : (form : Form) (ts : Trees) → HasEntriesLeft form before ts → TakesEntry form ts r after
@@ -52,7 +52,7 @@ pub record GivesEntry (before : EntryIter) (r : Option (Result StoredEntry Error
 
 -- ---- pairs
 
--- keys as texts
+-- keys as strings
 abbrev pub key_trees : List (List ℕ) → Trees
 key_trees [] = no_trees
 key_trees (key ∷ ks) = tree (text key) (key_trees ks)
@@ -63,14 +63,14 @@ pub record HasPairEntriesLeft (form : Form) (it : PairEntryIter) (ps : Pairs) : 
   pub names : HasEntriesLeft form it.keys (key_trees (keys ps))
   pub parts : HasEntriesLeft form it.values (values ps)
 
--- the answer is the key and the entry of the first of the pairs, and the others are left
+-- the result is the key and the entry of the first of the members, and the others remain
 abbrev pub TakesPairEntry : Form → Pairs → Option (Result (Bor (List ℕ) × StoredEntry) Error) → PairEntryIter → Type 0
 TakesPairEntry form no_pairs None after = HasPairEntriesLeft form after no_pairs
 TakesPairEntry form (pair key t ps) (Some (Ok given)) after =
     (given.0.now ≡ key) × Stores form given.1 t × HasPairEntriesLeft form after ps
 TakesPairEntry form _ _ after = ⊥
 
--- What a call of `next` does. On any bytes it gives a pair, an error or `None`, and after `None` nothing more.
+-- What a call of `next` does. On any bytes it yields a member, an error or `None`, and after `None` nothing more.
 pub record GivesPairEntry (before : PairEntryIter) (r : Option (Result (Bor (List ℕ) × StoredEntry) Error))
     (after : PairEntryIter) : Type 0 where
   pub takes : (form : Form) (ps : Pairs) → HasPairEntriesLeft form before ps → TakesPairEntry form ps r after

@@ -1,4 +1,4 @@
--- Values in the making, as trees.
+-- Values that are being decoded, as trees.
 use Rattle.std.specs.Prelude.{◌≡◌, ⊤, ℕ, List, map, String, string_bytes}
 use Rattle.std.specs.declared.alloc.Global.{Global}
 use Rattle.jsonb_doc.specs.Number as spec
@@ -22,11 +22,11 @@ trees_seen seen vs = map (tree_seen seen) vs
 abbrev pub members_seen : (Number → spec.Number) → List (String Global × Value) → List (List ℕ × Tree)
 members_seen seen es = keyed (map (λ e. (e.0, tree_seen seen e.1)) es)
 
--- each number whose zero, if it is one, is the unsigned one is seen as it is
+-- a number that is not zero, or is the unsigned zero, is seen unchanged
 abbrev pub KeepsNormal : (Number → spec.Number) → Type 0
 KeepsNormal seen = (n : Number) → number_parts n ≡ number_view n → seen n ≡ number_view n
 
--- where the item is a number, that is seen as in the item's tree
+-- if the item is a number, it is seen as in the item's tree
 abbrev pub SeesItem : (Number → spec.Number) → Item → Type 0
 SeesItem seen (item.Number n) = seen n ≡ number_view n
 SeesItem seen _ = ⊤

@@ -1,4 +1,4 @@
--- Items that are written behind other bytes.
+-- Items that are appended to other bytes.
 use Rattle.std.specs.Prelude.{◌≡◌, ℕ, List, ◌++◌, take, length, ⊤, IsUtf8}
 use Rattle.jsonb_doc.specs.Number.{FitsNumber}
 use Rattle.jsonb_doc.specs.Extension.{FitsExtension}
@@ -20,13 +20,13 @@ scalar_bytes item = header scalar_header 0 ++ (item_word item ++ item_content it
 abbrev pub number_bytes : List ℕ → List ℕ
 number_bytes payload = header scalar_header 0 ++ (entry_word number_entry (length payload) ++ payload)
 
--- the numbers and fields of the item lie in the ranges of their types, and its text is UTF-8
+-- the numbers and fields of the item are within the ranges of their types, and its string is UTF-8
 abbrev pub FitsItem : Item → Type 0
 FitsItem (Number n) = FitsNumber (number_view n)
 FitsItem (String s) = IsUtf8 s.now
 FitsItem (Extension x) = FitsExtension (extension_view x)
 FitsItem _ = ⊤
 
--- what was there stays in front
+-- the earlier bytes stay first
 abbrev pub StaysInFront : List ℕ → List ℕ → Type 0
 StaysInFront old new = take (length old) new ≡ old

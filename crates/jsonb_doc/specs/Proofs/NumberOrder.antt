@@ -42,7 +42,7 @@ int_cmp_scaled (negsuc m) (negsuc n) k h =
     int_cmp-negative (suc m * k) (suc n * k) (mul-pos (omega arith) h) (mul-pos (omega arith) h)
     ∙ ap ordering_reverse (nat_cmp_scaled k (suc m) (suc n) h) ∙ sym (int_cmp-negative (suc m) (suc n) (omega arith) (omega arith))
 
--- a whole value times two factors in turn
+-- an integer times one factor and then another
 int_times : (z : ℤ) (a b : ℕ) → z *ℤ pos a *ℤ pos b ≡ z *ℤ pos (a * b)
 int_times (pos m) a b = ap pos (mul_assoc m a b)
 int_times (negsuc m) a b = negated (suc m * a) ∙ ap (λ x. neg_ℤ (pos x)) (mul_assoc (suc m) a b)

@@ -1,4 +1,4 @@
-//! What is refused, and as what.
+//! Bytes that do not decode, and their errors.
 
 use super::check;
 use crate::error::Error;
@@ -36,16 +36,16 @@ const INVALID: [&[u8]; 31] = [
     b"\x20\0\0\x01\0\0\0\0",
     // a scalar header without an entry
     b"\x20\0\0\0",
-    // a container behind a scalar header
+    // a container after a scalar header
     b"\x20\0\0\0\x50\0\0\x04\x80\0\0\0",
     // a count without entries
     b"\x80\0\0\x01",
-    // more bytes behind the document
+    // more bytes after the document
     b"\x80\0\0\0\0",
     b"\x20\0\0\0\0\0\0\0\0",
     // a content that is cut off
     b"\x80\0\0\x01\x10\0\0\x02a",
-    // a container within, with more bytes behind it
+    // a nested container, with more bytes after it
     b"\x80\0\0\x01\x50\0\0\x05\x80\0\0\0\0",
     // the top bit is set
     b"\x80\0\0\x01\x80\0\0\0",
@@ -55,7 +55,7 @@ const INVALID: [&[u8]; 31] = [
     b"\x80\0\0\x01\0\0\0\x01a",
     b"\x80\0\0\x01\x30\0\0\x01a",
     b"\x80\0\0\x01\x40\0\0\x01a",
-    // a text that isn't UTF-8
+    // a string that is not UTF-8
     b"\x80\0\0\x01\x10\0\0\x01\xff",
     // a number without a payload
     b"\x80\0\0\x01\x20\0\0\0",
@@ -72,9 +72,9 @@ const INVALID: [&[u8]; 31] = [
     b"\x40\0\0\x02\x10\0\0\x01\x10\0\0\x01\0\0\0\0\0\0\0\0ba",
     // {"ab":null,"a":null}
     b"\x40\0\0\x02\x10\0\0\x02\x10\0\0\x01\0\0\0\0\0\0\0\0aba",
-    // a key that isn't a text
+    // a key that is not a string
     b"\x40\0\0\x01\0\0\0\0\0\0\0\0",
-    // a key that isn't UTF-8
+    // a key that is not UTF-8
     b"\x40\0\0\x01\x10\0\0\x01\0\0\0\0\xff",
     // [float, a content of the kind 7]
     b"\x80\0\0\x02\x20\0\0\x01\x70\0\0\0\x60",
@@ -97,14 +97,14 @@ const UNSUPPORTED: [&[u8]; 5] = [
     b"\x40\0\0\x01\x10\0\0\x01\x50\0\0\x09a\x80\0\0\x01\x20\0\0\x01\x30",
 ];
 
-/// Bytes, and what a check of each of them answers.
+/// Bytes, and the result of checking each of them.
 static CHECKED: [(&[&[u8]], Result<(), Error>); 3] = [
     (&DOCUMENTS, Ok(())),
     (&INVALID, Err(Error::InvalidJsonb)),
     (&UNSUPPORTED, Err(Error::UnsupportedNumber)),
 ];
 
-/// The first of the rows of which a check answers something else.
+/// Returns the first of the rows with another result.
 fn first_other<'a>(rows: &[&'a [u8]], wanted: Result<(), Error>) -> Option<&'a [u8]> {
     for bytes in rows {
         if check(bytes) != wanted {

@@ -3,7 +3,7 @@
 use super::{Date, ExtensionValue, Interval, Timestamp, TimestampTz};
 use crate::error::Error;
 
-/// Payloads, and the value of each or its refusal.
+/// Payloads, and the value or the error of each.
 static PAYLOADS: [(&[u8], Result<ExtensionValue<'static>, Error>); 13] = rows! {
     b"\0", Ok(ExtensionValue::Binary(b""));
     b"\0\xff\x7f", Ok(ExtensionValue::Binary(b"\xff\x7f"));

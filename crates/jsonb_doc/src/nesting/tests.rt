@@ -1,4 +1,4 @@
-//! Depths of documents, and what is refused.
+//! Depths of documents, and errors.
 
 use super::{check_depth, depth};
 use crate::checking::check;
@@ -6,7 +6,7 @@ use crate::error::Error;
 use std::alloc::{AllocError, Global};
 use std::test::Fail;
 
-/// Documents and other bytes, and their depth or refusal.
+/// Documents and other bytes, and their depth or error.
 static DEPTHS: [(&[u8], Result<usize, Error>); 13] = rows! {
     // null
     b"\x20\0\0\0\0\0\0\0", Ok(0);
@@ -36,7 +36,8 @@ static DEPTHS: [(&[u8], Result<usize, Error>); 13] = rows! {
     b"\x80\0\0\x01\x50\0\0\x09\x80\0\0\x01\x20\0\0\x01\x10", Err(Error::UnsupportedNumber);
 };
 
-/// Whether this is the depth of the bytes, which a check takes for a limit, but not one less; or both are refused so.
+/// Returns `true` if this is the depth of the bytes, which a check accepts as a limit, but not one less; or if both
+/// fail with this error.
 fn has_depth(bytes: &[u8], wanted: Result<usize, Error>) -> bool {
     let levels = wanted.unwrap_or(0);
     depth(bytes) == wanted
@@ -51,8 +52,8 @@ fn depths_of_documents_and_refusals(rt: HostRuntime) {
     }
 }
 
-/// So many arrays within arrays, the innermost empty: 8 bytes a level and 4. A null before or behind each inner array
-/// takes 4 more.
+/// Returns nested arrays, the innermost empty, of 8 bytes per level and 4. A null before or after each inner array adds
+/// 4.
 fn nested(alloc: Global, levels: u32, before: bool, behind: bool) -> Result<Vec<u8>, AllocError> {
     let beside = u32::from(before).wrapping_add(u32::from(behind));
     let mut out = Vec::new(alloc);
@@ -71,7 +72,7 @@ fn nested(alloc: Global, levels: u32, before: bool, behind: bool) -> Result<Vec<
     Ok(out)
 }
 
-/// How many levels are nested, and whether a null stands before and behind each.
+/// The number of nested levels, and whether a null precedes and follows each.
 static NESTED: [(u32, bool, bool); 4] = rows! {
     100_000, false, false;
     10_000, true, false;

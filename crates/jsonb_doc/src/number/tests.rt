@@ -20,7 +20,7 @@ const LEAST: Number = Number::Decimal128(Decimal128 {
     value: i128::MIN,
 });
 
-/// Payloads, and the number of each or its refusal.
+/// Payloads, and the number or the error of each.
 static PAYLOADS: [(&[u8], Result<Number, Error>); 32] = rows! {
     b"\0", Ok(Number::UInt64(0));
     b"\x40\x9c", Ok(Number::Int64(-100));

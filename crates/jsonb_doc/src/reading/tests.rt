@@ -1,4 +1,4 @@
-//! Items of documents that decode and of bytes that don't.
+//! Items of documents that decode and of bytes that do not.
 
 use super::{elements, keys, pairs, root_item, values};
 use crate::error::Error;
@@ -55,7 +55,7 @@ const SPAN: ExtensionValue<'static> = ExtensionValue::Interval(Interval {
     micros: 3,
 });
 
-/// Documents of one value or of parts, and their item or refusal.
+/// Documents of one value or of children, and their item or error.
 static ROOTS: [(&[u8], Result<Item<'static>, Error>); 14] = rows! {
     b"\x20\0\0\0\x20\0\0\x02\x40\x9c", Ok(Item::Number(Number::Int64(-100)));
     b"\x20\0\0\0\x20\0\0\x0a\x70\0\0\0\0\0\0\x04\xd2\x02", Ok(Item::Number(PRICE));
@@ -104,7 +104,7 @@ static CONTAINERS: [(&[u8], Read); 12] = rows! {
     TEN, Read::Pairs(None);
 };
 
-/// Whether both print the same. Their texts tell a number's variant, where `==` compares values.
+/// Returns `true` if both print the same text. The text shows a number's variant, while `==` compares values.
 pub(crate) fn are_alike<T: Debug + Copy>(
     alloc: Global,
     found: T,
@@ -124,7 +124,7 @@ fn reads_roots_and_refuses_floats(rt: HostRuntime) -> Result<(), Fail> {
     Ok(())
 }
 
-/// Whether `next` answers these parts and then twice `None`, or there are no such parts.
+/// Returns `true` if `next` yields these children and then twice `None`, or there are no such children.
 macro_rules! are_parts {
     ($alloc:ident, $parts:expr, $wanted:ident) => {
         match ($parts, $wanted) {

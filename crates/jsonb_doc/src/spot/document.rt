@@ -1,4 +1,4 @@
-//! Items as documents of their own, copied as they are stored.
+//! Items as new documents, copied as they are stored.
 
 ghost use Rattle.std.specs.Prelude.{◌≡◌, ◌++◌, ◌^◌, ◌<◌, length, take, IfOk, IfErr, MatchResult, ◌≤◌};
 ghost use Rattle.jsonb_doc.specs.Tree.{Tree};
@@ -16,20 +16,31 @@ use crate::item::Item;
 use crate::layout::{EntryKind, HeaderKind, MAX_CONTENT, WORD, word_of_entry, word_of_header};
 use std::alloc::{AllocError, Global};
 
-/// How many bytes the content of a short document has at most.
+/// The greatest length of the content of a short document, in bytes.
 const SHORT: usize = 16;
 
-/// The item at a spot of these bytes as a document of its own, copied as it is stored, in memory of its exact size, or
-/// of 24 bytes where it is shorter: the GNU C library's allocator hands out no less.
+/// Returns the item at a spot of these bytes as a new document, copied as it is stored.
+///
+/// It is allocated with its exact size, or with 24 bytes if it is shorter, the least that the GNU C library's allocator
+/// returns.
 ///
 /// # Errors
 ///
-/// `InvalidJsonb` or `UnsupportedNumber`, only where the bytes don't decode or the spot is of other bytes; `TooLarge`
-/// only where the item passes the limits of a document; else `OutOfMemory` where memory is refused.
+/// `InvalidJsonb` or `UnsupportedNumber`, only if the bytes do not decode or the spot is of other bytes; `TooLarge`
+/// only if the item exceeds the limits of a document; otherwise `OutOfMemory` if an allocation fails.
 ///
-/// # Cost
+/// # Complexity
 ///
-/// Linear in the item's bytes, which are copied. Takes memory once.
+/// O(n) for an item of n bytes, which are copied. Allocates once.
+///
+/// # Examples
+///
+/// ```rust crates/jsonb_examples/src/parts.rt
+/// match field_spot(document, root, key)? {
+///     Some(value) => Ok(Some(spot_document(alloc, document, value)?)),
+///     None => Ok(None),
+/// }
+/// ```
 #[inline(always)]
 pub fn spot_document(alloc: Global, bytes: &[u8], spot: Spot) -> Result<Vec<u8>, Error>
     ensures decodes { (form : Form) (top t : Tree) → Decodes form bytes.now top → Locates bytes.now spot t
@@ -52,8 +63,8 @@ pub fn spot_document(alloc: Global, bytes: &[u8], spot: Spot) -> Result<Vec<u8>,
     Ok(document)
 }
 
-/// The document of an entry whose content is the front of these bytes. All of them are copied at once, and those behind
-/// the content are let go of.
+/// Returns the document of an entry whose content is a prefix of these bytes. All of them are copied at once, and
+/// those after the content are dropped.
 #[inline(always)]
 fn short_document(
     alloc: Global,
@@ -75,7 +86,7 @@ fn short_document(
     Ok(document)
 }
 
-/// The same where the item is too long for an entry.
+/// Returns the document of an item that is too long for `short_document`.
 #[cold]
 #[inline(never)]
 fn item_document(alloc: Global, kind: EntryKind, content: &[u8]) -> Result<Vec<u8>, Error>
@@ -87,15 +98,15 @@ fn item_document(alloc: Global, kind: EntryKind, content: &[u8]) -> Result<Vec<u
     encode_item(alloc, &item)
 }
 
-/// The document of one entry of this kind, which is no container, as it is stored.
+/// Returns the document of one scalar entry of this type, as it is stored.
 ///
 /// # Errors
 ///
-/// None but that memory is refused.
+/// `AllocError`, only if an allocation fails.
 ///
-/// # Cost
+/// # Complexity
 ///
-/// Linear in the content, which is copied. Takes memory once, of the document's exact size.
+/// O(n) for a content of n bytes, which is copied. Allocates once, with the document's exact size.
 #[inline(always)]
 pub fn scalar_document(
     alloc: Global,

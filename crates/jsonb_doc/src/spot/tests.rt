@@ -1,4 +1,4 @@
-//! Spots of documents that decode and of bytes that don't.
+//! Spots of documents that decode and of bytes that do not.
 
 use crate::error::Error;
 use crate::extension::{Date, ExtensionValue};
@@ -79,7 +79,7 @@ fn spot_at(bytes: &[u8], steps: &[Step]) -> Result<Option<Spot>, Error> {
     Ok(Some(spot))
 }
 
-/// Whether the part at these steps has this item and this document, or there is none.
+/// Returns `true` if the child at these steps has this item and this document, or there is none.
 fn has_part<'a>(
     alloc: Global,
     bytes: &'a [u8],

@@ -16,7 +16,7 @@ use std::borrow::CowStr;
 use std::collections::{BTreeMap, btree_map};
 use std::slice;
 
-/// The same text. One that is borrowed stays so.
+/// Returns a copy of a string. A borrowed one remains borrowed.
 fn copy_text<'a>(text: &CowStr<'a, Global>) -> Result<CowStr<'a, Global>, AllocError>
     ensures { IfOk result (λ t. cow_str_bytes t ≡ cow_str_bytes text.now) }
 {
@@ -34,7 +34,7 @@ enum Part<'v, 'a> {
     Object(&'v BTreeMap<String, Value<'a>>),
 }
 
-/// A container of which a part is being copied: the copies of the parts before it, and those that are left behind it.
+/// A container of which a child is being copied: the copies of the children before it, and the children after it.
 #[derive(Drop)]
 enum Open<'v, 'a> {
     Array(Vec<Value<'a>>, slice::Iter<'v, Value<'a>>),
@@ -51,7 +51,7 @@ enum Filled<'v, 'a> {
     Within(Open<'v, 'a>, Part<'v, 'a>),
 }
 
-/// The same value, however its numbers are seen.
+/// Returns a copy of a value, equal under every view of its numbers.
 pub fn copy<'a>(alloc: Global, value: &Value<'a>) -> Result<Value<'a>, AllocError>
     ensures { (seen : Number → spec.Number)
         → IfOk result (λ v. tree_seen seen v ≡ tree_seen seen value.now) }
@@ -72,7 +72,7 @@ pub fn copy<'a>(alloc: Global, value: &Value<'a>) -> Result<Value<'a>, AllocErro
     }
 }
 
-/// The copy of a value that is no container, or the container.
+/// Returns the copy of a scalar, or the container.
 #[inline(always)]
 fn part_of<'v, 'a>(value: &'v Value<'a>) -> Result<Part<'v, 'a>, AllocError>
     ensures { (seen : Number → spec.Number)
@@ -93,7 +93,7 @@ fn part_of<'v, 'a>(value: &'v Value<'a>) -> Result<Part<'v, 'a>, AllocError>
     })
 }
 
-/// The copy of a part, up to a container within it.
+/// Returns the copy of a part, up to a container within it.
 fn filled_from<'v, 'a>(alloc: Global, part: Part<'v, 'a>) -> Result<Filled<'v, 'a>, AllocError>
     ensures copies { (seen : Number → spec.Number)
         → IfOk result (λ filled. filled_tree seen filled ≡ part_tree seen part.entry) }
@@ -108,7 +108,7 @@ fn filled_from<'v, 'a>(alloc: Global, part: Part<'v, 'a>) -> Result<Filled<'v, '
     }
 }
 
-/// The array of these copies, and of those of the values that are left.
+/// Returns the array of these copies and the copies of the remaining values, up to a container among them.
 fn fill_array<'v, 'a>(
     mut copies: Vec<Value<'a>>,
     mut left: slice::Iter<'v, Value<'a>>,
@@ -127,7 +127,7 @@ fn fill_array<'v, 'a>(
     Ok(Filled::Whole(Value::Array(copies)))
 }
 
-/// The object of these copies, and of those of the members that are left.
+/// Returns the object of these copies and the copies of the remaining members, up to a container among them.
 fn fill_object<'v, 'a>(
     mut copies: BTreeMap<String, Value<'a>>,
     mut left: btree_map::Iter<'v, String, Value<'a>>,
@@ -145,7 +145,7 @@ fn fill_object<'v, 'a>(
     Ok(Filled::Whole(Value::Object(copies)))
 }
 
-/// The container with this copy of the part that was missing, and with those of the parts behind it.
+/// Returns the container with this copy of the missing child, and copies of the children after it.
 fn filled_behind<'v, 'a>(outer: Open<'v, 'a>, copy: Value<'a>) -> Result<Filled<'v, 'a>, AllocError>
     ensures copies { (seen : Number → spec.Number)
         → IfOk result (λ filled. filled_tree seen filled ≡ with_part seen outer.entry (tree_seen seen copy.entry)) }

@@ -1,10 +1,10 @@
-//! Values as a failed assertion prints them.
+//! Values as failed assertions print them.
 
 use super::Value;
 use std::fmt;
 
-/// The kind and what it holds, of an array or an object how many. So the deepest value is printed in the stack of a
-/// flat one.
+/// Prints the type and the value of a scalar, and the type and the number of children of a container, so that a deep
+/// value needs no more stack than a flat one.
 impl fmt::Debug for Value<'_> {
     fn fmt<W: fmt::Write>(&self, f: &mut fmt::Formatter<W>) -> fmt::Result {
         match self {

@@ -27,18 +27,26 @@ use std::alloc::Global;
 use std::borrow::CowStr;
 use std::collections::BTreeMap;
 
-/// The value that an item stands for, at every depth. Its texts and binaries are slices of the item's bytes, its keys
-/// are copies.
+/// Returns the value of an item, decoded at every depth.
+///
+/// Its strings and binaries are slices of the item's bytes, its keys are copies.
 ///
 /// # Errors
 ///
-/// `OutOfMemory` where memory is refused. For an item whose bytes don't decode, also `InvalidJsonb` or
-/// `UnsupportedNumber`.
+/// `OutOfMemory` if an allocation fails; `InvalidJsonb` or `UnsupportedNumber`, only if the item's bytes do not
+/// decode.
 ///
-/// # Cost
+/// # Complexity
 ///
-/// Linear in the item's bytes, and for each object of k pairs k times log k comparisons of keys. Takes memory. Calls
-/// nest no deeper than the length can be halved.
+/// O(n) for an item of n bytes, and O(k log k) comparisons of keys for each object of k members. Allocates. The
+/// recursion depth is O(log n).
+///
+/// # Examples
+///
+/// ```rust crates/jsonb_sweep/src/values.rt
+/// let item = root_item(document)?;
+/// let value = to_value(rt.alloc(), &item)?;
+/// ```
 pub fn to_value<'a>(alloc: Global, item: &Item<'a>) -> Result<Value<'a>, Error>
     ensures decodes { (form : Form) (t : Tree) → StandsFor form item.now t
         → MatchResult result (λ v. value_tree v ≡ t) IsOutOfMemory }
@@ -51,7 +59,7 @@ pub fn to_value<'a>(alloc: Global, item: &Item<'a>) -> Result<Value<'a>, Error>
     item_value(alloc, item)
 }
 
-/// The value of an item, however its numbers are seen.
+/// Returns the value of an item, under every view of its numbers.
 #[cycle(decode)]
 #[inline(always)]
 fn item_value<'a>(alloc: Global, item: &Item<'a>) -> Result<Value<'a>, Error>
@@ -66,7 +74,7 @@ fn item_value<'a>(alloc: Global, item: &Item<'a>) -> Result<Value<'a>, Error>
     }
 }
 
-/// The value of an item that is no container.
+/// Returns the value of a scalar item.
 #[inline(always)]
 fn scalar_value<'a>(item: &Item<'a>) -> Option<Value<'a>>
     ensures { MatchOption result (IsContainerItem item.now)
@@ -84,7 +92,7 @@ fn scalar_value<'a>(item: &Item<'a>) -> Option<Value<'a>>
     }
 }
 
-/// The value of an extension.
+/// Returns the value of an extension value.
 fn extension_value(value: ExtensionValue<'_>) -> Value<'_>
     ensures { (seen : Number → spec.Number) → tree_seen seen result ≡ extension (extension_view value.entry) }
 {
@@ -97,27 +105,27 @@ fn extension_value(value: ExtensionValue<'_>) -> Value<'_>
     }
 }
 
-/// A container of which a part is being made: what is made of the parts before it, and those that are left behind it.
+/// A container of which a child is being decoded: the children before it, and those that remain.
 #[derive(Drop)]
 enum Open<'a> {
     Array(Vec<Value<'a>>, ElementIter<'a>),
-    /// The name is that of the member that is being made.
+    /// The key is that of the member that is being decoded.
     Object(BTreeMap<String, Value<'a>>, String, PairIter<'a>),
 }
 
-/// What a container is filled to.
+/// How far a container is decoded.
 #[derive(Drop)]
 enum Filled<'a> {
     /// All of it.
     Whole(Value<'a>),
-    /// What stands before a long part and behind it, and that part.
+    /// A long child, and what precedes and follows it.
     Within(Open<'a>, Item<'a>),
 }
 
-/// The value of a container.
+/// Returns the value of a container.
 ///
-/// A part that is longer than half of its container is made by this loop, and the containers around it are kept. The
-/// others are made by calls. So calls nest no deeper than the length can be halved.
+/// The loop decodes a child that is longer than half of its container, and the containers around it are kept. Calls
+/// decode the others. So the recursion depth is logarithmic in the length.
 #[cycle(decode)]
 fn container_value<'a>(alloc: Global, item: &Item<'a>) -> Result<Value<'a>, Error>
     ensures decodes { (seen : Number → spec.Number) → KeepsNormal seen → SeesItem seen item.now
@@ -138,7 +146,7 @@ fn container_value<'a>(alloc: Global, item: &Item<'a>) -> Result<Value<'a>, Erro
     }
 }
 
-/// The item's value, or what is made of it up to a part that is longer than half of it.
+/// Returns the item's value, or the part of it before a child that is longer than half of it.
 #[cycle(decode)]
 #[inline(always)]
 fn opened<'a>(alloc: Global, item: &Item<'a>) -> Result<Filled<'a>, Error>
@@ -164,7 +172,7 @@ fn opened<'a>(alloc: Global, item: &Item<'a>) -> Result<Filled<'a>, Error>
     }
 }
 
-/// The array of these values and of the elements that are left, up to one that is longer than this many bytes.
+/// Returns the array of these values and the remaining elements, up to one that is longer than this many bytes.
 #[cycle(decode)]
 fn fill_array<'a>(
     alloc: Global,
@@ -190,7 +198,7 @@ fn fill_array<'a>(
     Ok(Filled::Whole(Value::Array(values)))
 }
 
-/// The object of these members and of the pairs that are left, up to one with a value that is longer than this many
+/// Returns the object of these members and the remaining ones, up to one with a value that is longer than this many
 /// bytes.
 #[cycle(decode)]
 fn fill_object<'a>(
@@ -220,7 +228,7 @@ fn fill_object<'a>(
     Ok(Filled::Whole(Value::Object(members)))
 }
 
-/// Whether the item is a container that is longer than this many bytes.
+/// Returns `true` if the item is a container that is longer than this many bytes.
 #[inline(always)]
 fn is_longer(item: &Item<'_>, longest: Option<usize>) -> bool
     ensures { longest ≡ None → result ≡ false }
@@ -234,7 +242,7 @@ fn is_longer(item: &Item<'_>, longest: Option<usize>) -> bool
     }
 }
 
-/// The value with all containers around it, the last of these being the innermost.
+/// Returns the value with all containers around it, the last of which is the innermost.
 #[cycle(decode)]
 #[inline(always)]
 fn closed_all<'a>(
@@ -253,7 +261,7 @@ fn closed_all<'a>(
     Ok(value)
 }
 
-/// The container with this value as the part that was missing, and with all that is left behind it.
+/// Returns the container with this value as the missing child, and all that remains after it.
 #[cycle(decode)]
 fn closed<'a>(alloc: Global, outer: Open<'a>, value: Value<'a>) -> Result<Value<'a>, Error>
     ensures decodes { (seen : Number → spec.Number) → KeepsNormal seen → (form : Form) (t : Tree)
@@ -273,7 +281,7 @@ fn closed<'a>(alloc: Global, outer: Open<'a>, value: Value<'a>) -> Result<Value<
     }
 }
 
-/// The value of a container that is filled.
+/// Returns the value of a container that is filled.
 #[inline(always)]
 fn whole(filled: Filled<'_>) -> Result<Value<'_>, Error>
     ensures whole { IsWhole filled.entry → IsOkAnd result (λ v. filled.entry ≡ Filled.Whole v) }

@@ -1,5 +1,6 @@
-//! Equality of decoded values, without memory. Calls nest 48 deep at most for up to 10^10 parts: what they leave open
-//! is gone into by a loop.
+//! Equality of decoded values, without allocating.
+//!
+//! The recursion depth is at most 48 for up to 10^10 values: a loop compares the values that a call leaves open.
 
 ghost use Rattle.std.specs.Prelude.{◌≡◌, ◌+◌, ◌<◌, ◌≤◌, ◌&&◌, true, IfSome, MatchOption};
 ghost use Rattle.std.specs.Cmp.{on_equiv, partial_equiv_from_equiv};
@@ -19,12 +20,13 @@ use crate::value::Value;
 use std::collections::btree_map;
 use std::slice;
 
-/// How deep calls nest for parts within parts. What is open with 48 calls left has two open parts with 47 left, those
-/// have four with 46 and so on to 2^24 with 24 left, each of hundreds of parts: more parts than memory holds.
+/// The greatest recursion depth for children within children. A value that is open with 48 calls left has two open
+/// children with 47 left, those have four with 46 and so on to 2^24 with 24 left, each of hundreds of children: more
+/// than memory holds.
 const MOST_CALLS: u32 = 48;
 
-/// With more calls left each part gets all of them but one, which suits what is not deep. With so many or fewer a part
-/// gets none at first, and more only where two are open, so that a deep part is tried in vain for little.
+/// With more calls left than this, each child gets one fewer, which suits shallow values. Otherwise a child gets none
+/// at first, and more only if two are open, so that a deep child is tried in vain at little cost.
 const FEW_CALLS: u32 = 24;
 
 impl PartialEq for Value<'_> {
@@ -41,15 +43,15 @@ impl Eq for Value<'_> {
     ghost laws = { on_equiv value_tree is_equal_equiv };
 }
 
-/// What is told of two values.
+/// The result of comparing two values.
 #[derive(Clone, Copy)]
 enum Compared<'v, 'a, 'w, 'b> {
     Told(bool),
-    /// They are equal where these are, which are within them.
+    /// The values are equal if these are, which are within them.
     As(&'v Value<'a>, &'w Value<'b>),
 }
 
-/// Whether two values are equal.
+/// Returns `true` if two values are equal.
 #[cycle(equal)]
 fn equal(value: &Value<'_>, other: &Value<'_>) -> bool
     ensures { result ≡ is_equal (value_tree value.now) (value_tree other.now) }
@@ -61,7 +63,7 @@ fn equal(value: &Value<'_>, other: &Value<'_>) -> bool
     }
 }
 
-/// Two values, compared as far as the calls that are left tell. With none a container is left open.
+/// Compares two values as far as the remaining calls allow. With none left, a container remains open.
 #[cycle(equal)]
 fn reduced<'v, 'a, 'w, 'b>(
     value: &'v Value<'a>,
@@ -87,7 +89,7 @@ fn reduced<'v, 'a, 'w, 'b>(
     }
 }
 
-/// Two values, where at most one of their parts is open.
+/// Compares two values of which at most one pair of children is open.
 #[cycle(equal)]
 fn parts_compared<'v, 'a, 'w, 'b>(
     value: &'v Value<'a>,
@@ -116,7 +118,7 @@ fn parts_compared<'v, 'a, 'w, 'b>(
     }))
 }
 
-/// Whether two numbers have one exact value.
+/// Returns `true` if two numbers have the same exact value.
 #[tactic(auto, using(crate::proofs::EqualValues::equal_in_trees))]
 fn numbers_equal(number: &Number, other: &Number) -> bool
     ensures { result ≡ eq_by_cmp number_cmp (number_view number.now) (number_view other.now) }
@@ -124,7 +126,7 @@ fn numbers_equal(number: &Number, other: &Number) -> bool
     number == other
 }
 
-/// The values that are left, one by one.
+/// Compares the remaining values, one by one.
 #[cycle(equal)]
 fn values_compared<'v, 'a, 'w, 'b>(
     mut values: slice::Iter<'v, Value<'a>>,
@@ -147,7 +149,7 @@ fn values_compared<'v, 'a, 'w, 'b>(
     Some(joined.ended(others.next().is_none()))
 }
 
-/// The members that are left, one by one.
+/// Compares the remaining members, one by one.
 #[cycle(equal)]
 fn members_compared<'v, 'a, 'w, 'b>(
     mut members: btree_map::Iter<'v, String, Value<'a>>,
@@ -173,7 +175,8 @@ fn members_compared<'v, 'a, 'w, 'b>(
     Some(joined.ended(others.next().is_none()))
 }
 
-/// What is told of parts, at most one of which is open, and how many calls the next one gets.
+/// The result for some pairs of children, at most one of which is open, and the number of calls that the next pair
+/// gets.
 #[derive(Clone, Copy)]
 struct Joined<'v, 'a, 'w, 'b> {
     left: Compared<'v, 'a, 'w, 'b>,
@@ -181,7 +184,7 @@ struct Joined<'v, 'a, 'w, 'b> {
 }
 
 impl<'v, 'a, 'w, 'b> Joined<'v, 'a, 'w, 'b> {
-    /// What is told of no parts: that they are equal.
+    /// Returns the result for no children: equal.
     fn none(calls: u32) -> Joined<'v, 'a, 'w, 'b>
         ensures { result.left ≡ Told true }
     {
@@ -191,7 +194,7 @@ impl<'v, 'a, 'w, 'b> Joined<'v, 'a, 'w, 'b> {
         }
     }
 
-    /// Whether two parts more may be equal. What they leave open is joined to it.
+    /// Returns `true` if another pair of children may be equal, and adds the values that it leaves open.
     #[cycle(equal)]
     #[inline(always)]
     fn goes_on(&mut self, value: &'v Value<'a>, other: &'w Value<'b>, calls: u32) -> Option<bool>
@@ -208,7 +211,7 @@ impl<'v, 'a, 'w, 'b> Joined<'v, 'a, 'w, 'b> {
         }
     }
 
-    /// What is told where no more parts follow, or where parts of one of the two do.
+    /// Returns the result if no children follow, or only children of one side.
     fn ended(self, no_more: bool) -> Compared<'v, 'a, 'w, 'b>
         ensures same { told result ≡ (told self.entry.left && no_more) }
         ensures fewer { told_parts result ≤ told_parts self.entry.left }
@@ -221,7 +224,7 @@ impl<'v, 'a, 'w, 'b> Joined<'v, 'a, 'w, 'b> {
     }
 }
 
-/// What is told of parts and of one more. Of two open ones each is tried with more calls until one is told.
+/// Adds a pair of children to a result. If two are open, each is tried with more calls until one is decided.
 #[cycle(equal)]
 fn with_open<'v, 'a, 'w, 'b>(
     joined: Joined<'v, 'a, 'w, 'b>,
@@ -252,7 +255,7 @@ fn is_open(compared: Compared<'_, '_, '_, '_>) -> bool {
     matches!(compared, Compared::As(_, _))
 }
 
-/// What is open, for which so many calls may nest.
+/// Compares an open pair with this many nested calls.
 #[cycle(equal)]
 fn compared_again<'v, 'a, 'w, 'b>(
     left: Compared<'v, 'a, 'w, 'b>,
@@ -267,8 +270,8 @@ fn compared_again<'v, 'a, 'w, 'b>(
     }
 }
 
-/// What is told of two, not both of which are to be open. Two open ones are left to the calls around, which may nest
-/// more; where there are none, one is compared anew.
+/// Combines the results of two pairs, not both of which may remain open. Two open ones are left to the caller, which
+/// may nest more calls; if it cannot, one is compared again.
 #[cycle(equal)]
 fn both<'v, 'a, 'w, 'b>(
     first: Compared<'v, 'a, 'w, 'b>,

@@ -1,6 +1,6 @@
-//! Letting go of a value, part by part in a loop, without memory.
+//! Dropping a value in a loop over its children, without allocating.
 //!
-//! What waits for its turn lies in the room that a part before it has left in its container.
+//! A value that waits is stored in the space that an earlier child has left in its container.
 
 ghost use Rattle.std.specs.Prelude.{◌≡◌, ℕ, ◌+◌, ◌<◌, IfSome, vec_len, vec_capacity};
 ghost use Rattle.jsonb_doc.specs.Private.Parts.{IsHeldBy, parts, values_parts, entries_parts, waiting_parts, to_release, remaining};
@@ -9,13 +9,13 @@ use crate::value::Value;
 use std::collections::BTreeMap;
 use std::mem::replace;
 
-/// A value that is next to be let go, and one that waits behind it.
+/// A value to be dropped next, and one that waits after it.
 struct Remaining<'a> {
     next: Value<'a>,
     waiting: Option<Value<'a>>,
 }
 
-/// The values that lie right within a value.
+/// The children of a value.
 enum Held<'a> {
     /// Those of an array.
     Values(Vec<Value<'a>>),
@@ -26,7 +26,7 @@ enum Held<'a> {
 }
 
 impl<'a> Value<'a> {
-    /// Lets go of all parts.
+    /// Drops all children.
     pub(super) fn release(self) {
         let mut remaining = Some(Remaining {
             next: self,
@@ -37,7 +37,7 @@ impl<'a> Value<'a> {
         }
     }
 
-    /// One step of letting go: what remains of the value and of what waits.
+    /// Drops one value. Returns the rest of it and the value that waits.
     fn without_a_part(self, waiting: Option<Value<'a>>) -> Option<Remaining<'a>>
         ensures { IfSome result (λ left. remaining left < to_release (parts self.entry) (waiting_parts waiting.entry)) }
     {
@@ -48,7 +48,7 @@ impl<'a> Value<'a> {
         }
     }
 
-    /// The value, if it is a container.
+    /// Returns the value if it is a container.
     #[inline(always)]
     pub(super) fn container(self) -> Option<Value<'a>>
         ensures { IfSome result (λ inner. inner ≡ self.entry) }
@@ -60,7 +60,7 @@ impl<'a> Value<'a> {
         }
     }
 
-    /// The values right within this one.
+    /// Returns the children of this value.
     #[inline(always)]
     fn held(self) -> Held<'a>
         ensures { IsHeldBy result self.entry }
@@ -81,7 +81,7 @@ impl<'a> Value<'a> {
     }
 }
 
-/// Nothing is left in front of what waits.
+/// Returns the value that waits as the next one.
 fn without_next(waiting: Option<Value<'_>>) -> Option<Remaining<'_>>
     ensures { IfSome result (λ left. (n : ℕ) → 0 < n → remaining left < to_release n (waiting_parts waiting.entry)) }
 {
@@ -94,7 +94,7 @@ fn without_next(waiting: Option<Value<'_>>) -> Option<Remaining<'_>>
     }
 }
 
-/// The values without the last container among them, and without those behind it.
+/// Returns the values before the last container among them.
 fn without_value<'a>(
     mut values: Vec<Value<'a>>,
     waiting: Option<Value<'a>>,
@@ -111,7 +111,7 @@ fn without_value<'a>(
     without_next(waiting)
 }
 
-/// The values and the container that stood behind them. Where something waits already, it takes the room of that
+/// Returns the values, and the container after them. If something already waits, it is stored in the place of that
 /// container.
 fn without_inner<'a>(
     mut values: Vec<Value<'a>>,
@@ -137,7 +137,7 @@ fn without_inner<'a>(
     }
 }
 
-/// The members without the last one. Where something waits already, it takes the place of its value.
+/// Returns the members without the last one. If something already waits, it is stored in the place of its value.
 fn without_member<'a>(
     mut members: BTreeMap<String, Value<'a>>,
     waiting: Option<Value<'a>>,
@@ -160,7 +160,8 @@ fn without_member<'a>(
     }
 }
 
-/// The value of the last member, with the others and what waits in its place. Without members, what waits.
+/// Returns the value of the last member, and the other members with the waiting value in its place. Without members,
+/// returns the waiting value.
 fn with_behind<'a>(mut members: BTreeMap<String, Value<'a>>, behind: Value<'a>) -> Remaining<'a>
     ensures { remaining result < to_release (1 + entries_parts members.entry.entries) (parts behind.entry) }
 {

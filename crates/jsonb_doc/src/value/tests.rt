@@ -29,7 +29,7 @@ enum Held {
     Binary(&'static [u8]),
     Date(i32),
     Interval(Interval),
-    /// So many elements.
+    /// An array of this many elements.
     Array(usize),
     /// Members under these keys.
     Object(&'static [&'static str]),
@@ -58,7 +58,7 @@ impl Held {
     }
 }
 
-/// Adds the parts of a container.
+/// Appends the children of a container.
 fn push_parts<'v, 'a>(
     parts: &mut Vec<&'v Value<'a>>,
     value: &'v Value<'a>,
@@ -70,7 +70,7 @@ fn push_parts<'v, 'a>(
     }
 }
 
-/// Whether the value and its parts, level by level, are these.
+/// Returns `true` if the value and its descendants, level by level, are these.
 fn holds(alloc: Global, value: &Value<'_>, wanted: &[Held]) -> Result<bool, AllocError> {
     let mut parts = Vec::new(alloc);
     parts.push(value)?;
@@ -109,7 +109,7 @@ fn decodes_as(alloc: Global, bytes: &[u8], wanted: &[Held]) -> Result<bool, Erro
     Ok(holds(alloc, &value, wanted)?)
 }
 
-/// Bytes that don't decode.
+/// Bytes that do not decode.
 static REFUSED: [(&[u8], Error); 2] = rows! {
     // an entry word without its content
     b"\x80\0\0\x01\x20\0\0\x02", Error::InvalidJsonb;
@@ -222,7 +222,7 @@ fn insert<'a>(
     Ok(())
 }
 
-/// A decimal of scale 1.
+/// Returns a decimal of scale 1.
 fn tenths(value: i64) -> Value<'static> {
     Value::Number(Number::Decimal64(Decimal64 { scale: 1, value }))
 }
@@ -231,7 +231,7 @@ fn text(text: &str) -> Value<'_> {
     Value::String(CowStr::Borrowed(text))
 }
 
-/// `{"values":[1.0,"Fred"]}`, with a text of its own.
+/// Returns `{"values":[1.0,"Fred"]}`, with an owned string.
 fn with_own_text(alloc: Global) -> Result<Value<'static>, AllocError> {
     let owned = Value::String(CowStr::Owned(String::from_str(alloc, "Fred")?));
     let values = vec![in alloc; tenths(10), owned]?;
@@ -240,13 +240,13 @@ fn with_own_text(alloc: Global) -> Result<Value<'static>, AllocError> {
     Ok(Value::Object(members))
 }
 
-/// Whether a clone is equal and holds this, level by level.
+/// Returns `true` if a clone is equal and holds this, level by level.
 fn is_cloned(alloc: Global, value: &Value<'_>, wanted: &[Held]) -> Result<bool, Error> {
     let copy = value.clone(alloc)?;
     Ok(copy == *value && holds(alloc, &copy, wanted)?)
 }
 
-/// What the value with an own text holds.
+/// What the value with an owned string holds.
 static WITH_OWN_TEXT: [Held; 4] = [
     Held::Object(&["values"]),
     Held::Array(2),
@@ -263,7 +263,8 @@ fn clones_hold_the_same(rt: HostRuntime) -> Result<(), Fail> {
     Ok(())
 }
 
-/// A container of this value alone, or with something before it or behind it: an empty array, or the null of a member.
+/// Returns a container of this value alone, or with something before or after it: an empty array, or the null of a
+/// member.
 fn around<'a>(
     alloc: Global,
     value: Value<'a>,
@@ -292,19 +293,19 @@ fn around<'a>(
     Ok(Value::Array(values))
 }
 
-/// Where the part that goes on lies in its container.
+/// The position of a nested container among the children of its parent.
 #[derive(Clone, Copy, Debug)]
 enum Place {
     Only,
     First,
     Middle,
     Last,
-    /// By turns.
+    /// Alternately.
     Any,
 }
 
 impl Place {
-    /// Whether something stands before it and behind it, so many levels above the innermost.
+    /// Returns whether something precedes and follows the child at this many levels above the innermost.
     fn neighbours(self, level: u32) -> (bool, bool) {
         match self {
             Place::Only => (false, false),
@@ -319,7 +320,7 @@ impl Place {
 /// How many levels, and whether of objects.
 type Size = (u32, bool);
 
-/// A text in so many containers, with something else beside it in each.
+/// Returns a string in nested containers, with something else next to it in each.
 fn nested<'a>(
     alloc: Global,
     innermost: &'a str,
@@ -343,7 +344,8 @@ static PLACES: [Place; 5] = [
 
 static SIZES: [Size; 4] = [(100, false), (100, true), (10_000, false), (2_000, true)];
 
-/// Whether a clone is equal, and what has one level more or another text innermost is not. All are let go.
+/// Returns `true` if a clone is equal, and a value with one more level or another innermost string is not. Drops them
+/// all.
 fn is_told_apart(alloc: Global, place: Place, size: Size) -> Result<bool, Error> {
     let value = nested(alloc, "x", place, size)?;
     let copy = value.clone(alloc)?;
@@ -366,7 +368,7 @@ fn deep_values(rt: HostRuntime) -> Result<(), Fail> {
 
 static LARGE_SIZES: [Size; 2] = [(100_000, false), (20_000, true)];
 
-/// Whether a clone is equal.
+/// Returns `true` if a clone is equal.
 fn equals_its_clone(alloc: Global, place: Place, size: Size) -> Result<bool, Error> {
     let value = nested(alloc, "x", place, size)?;
     Ok(value.clone(alloc)? == value)

@@ -54,7 +54,7 @@ check_entries-returns-in_default t c = λ h.
     HasEntries-stop number_or_unsupported c.loop-words_left.words_left.now c.loop-words_left.contents_left.now
     (grind (arith, common_steps)) c.in_default.ensures (c.loop-words_left.invariant.left.lenient.0 h).1
 
--- what is no container asks for no more calls
+-- what is not a container makes no more calls
 other_below : (kind calls t : ℕ) → kind ≢ 5 → 0 < t → (if nat_eq kind 5 then calls else 0) < t
 other_below kind calls t other some = grind (arith, nat_tests)
 

@@ -16,7 +16,7 @@ decreases-check_content l = if nat_eq (kind_number l.kind) 5 then 3 * halvings (
 abbrev pub decreases-check_entries : goal.decreases-check_entries
 decreases-check_entries l = 3 * halvings (length l.contents.now + 4) + 1
 
--- the container decodes where the one that is left does
+-- the container decodes if the one that is left does
 abbrev pub invariant-check_container-loop-words : goal.invariant-check_container-loop-words
 invariant-check_container-loop-words l = record {
   shorter : length l.container ≤ length l.fn.bytes;
@@ -26,7 +26,7 @@ invariant-check_container-loop-words l = record {
 abbrev pub decreases-check_container-loop-words : goal.decreases-check_container-loop-words
 decreases-check_container-loop-words l = length l.container
 
--- the entries decode where the large container and those that are left do
+-- the entries decode if the large container and those that are left do
 abbrev pub invariant-check_entries-loop-words_left : goal.invariant-check_entries-loop-words_left
 invariant-check_entries-loop-words_left l = record {
   apart : IsApart (option_copied l.large) l.contents_left l.fn.contents;

@@ -16,7 +16,7 @@ decreases-document_depth l = 2 * halvings (length l.bytes.now) + 1
 abbrev pub decreases-entries_depth : goal.decreases-entries_depth
 decreases-entries_depth l = 2 * halvings (length l.contents.now + 4)
 
--- what is left lies at this level, and the deepest item is one that was seen or within it
+-- what is left is at this level, and the deepest item is one that was seen or within it
 abbrev pub invariant-document_depth-loop-words : goal.invariant-document_depth-loop-words
 invariant-document_depth-loop-words l = record {
   left : (form : Form) (t : Tree) → Decodes form l.fn.bytes t → (u : Tree) × Decodes form l.container u × (deepest t ≡ max l.deepest (l.level + deepest u));

@@ -102,7 +102,7 @@ container_value-loop-around-preserved t c =
           omega (arith, wide, inv.shorter, inv.room, size.1);
     }
 
--- ---- the front of a container
+-- ---- the beginning of a container
 
 pub opened-returns-in_err-left-in-Array-clause-decodes : goal.opened-returns-in_err-left-in-Array-clause-decodes
 opened-returns-in_err-left-in-Array-clause-decodes t c = λ seen keeps sees form u stands.

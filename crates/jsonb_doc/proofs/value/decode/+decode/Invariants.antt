@@ -35,7 +35,7 @@ decreases-fill_array l = 5 * length l.left.entries.contents.now + 5
 abbrev pub decreases-fill_object : goal.decreases-fill_object
 decreases-fill_object l = 5 * length l.left.value_contents.now + 5
 
--- the tree is that of the part that is being made, with the containers around it
+-- the tree is that of the child that is being decoded, with the containers around it
 abbrev pub invariant-container_value-loop-around : goal.invariant-container_value-loop-around
 invariant-container_value-loop-around l = record {
   left : (seen : Number → spec.Number) → KeepsNormal seen → SeesItem seen l.fn.item → (form : Form) (t : Tree) → StandsFor form l.fn.item t

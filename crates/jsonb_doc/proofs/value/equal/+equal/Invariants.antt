@@ -6,7 +6,7 @@ use Rattle.jsonb_doc.specs.Private.Parts.{parts, values_parts, entries_parts}
 use Rattle.jsonb_doc.specs.Private.Comparing.{values_same, entries_same, told, told_parts}
 use Rattle.jsonb_doc.proofs.value.equal.+equal.Given as goal
 
--- so many parts, and then the functions in turn
+-- that many parts, and then the functions in turn
 abbrev pub decreases-parts_compared : goal.decreases-parts_compared
 decreases-parts_compared l = 8 * parts l.value.now
 
@@ -57,7 +57,7 @@ invariant-members_compared-loop-key l = record {
   fewer : told_parts l.joined.left + entries_parts l.members ≤ entries_parts l.fn.members;
 }
 
--- both are as they were
+-- both are unchanged
 abbrev pub invariant-with_open-loop-within : goal.invariant-with_open-loop-within
 invariant-with_open-loop-within l = record {
   same : (told l.first && told l.second) ≡ (told l.fn.joined.left && told l.fn.part);

@@ -1,7 +1,6 @@
 use Rattle.std.proofs.Common.{ℕ, ◌*◌, ◌^◌, ◌≤◌, List, length, drop}
-use Rattle.jsonb_doc.specs.Private.Lengths.{HoldKeys}
-use Rattle.jsonb_doc.proofs.FieldLemmas.{KeysLeft}
-use Rattle.jsonb_doc.proofs.spot.find_key.Given as goal
+use Rattle.jsonb_doc.specs.Private.Lengths.{HoldKeys, KeysLeft}
+use Rattle.jsonb_doc.proofs.key_search.find_in_block.Given as goal
 
 -- the name is none of the keys so far
 abbrev pub invariant-loop-at : goal.invariant-loop-at

@@ -1,6 +1,6 @@
 use Rattle.std.proofs.lemmas.List.{drop_all}
 use Rattle.jsonb_doc.proofs.LengthsLemmas.{told_lengths, lengths_added}
-use Rattle.jsonb_doc.proofs.lengths.contents_len.Goals as goal
+use Rattle.jsonb_doc.proofs.lengths.sum_lengths.Goals as goal
 
 pub returns-clause-contents : goal.returns-clause-contents
 returns-clause-contents c = λ parts contents rest h.

@@ -1,6 +1,6 @@
 use Rattle.std.proofs.Common.{◌≡◌, ◌+◌, ◌*◌, ◌^◌, ◌≤◌, map, sum, drop}
 use Rattle.jsonb_doc.proofs.LengthsLemmas.{told}
-use Rattle.jsonb_doc.proofs.lengths.contents_len.Given as goal
+use Rattle.jsonb_doc.proofs.lengths.sum_lengths.Given as goal
 
 -- the length so far and those that are left make up all lengths
 abbrev pub invariant-loop-word : goal.invariant-loop-word

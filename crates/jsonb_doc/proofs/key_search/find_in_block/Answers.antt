@@ -3,10 +3,11 @@ use Rattle.std.proofs.lemmas.List.{take_rest}
 use Rattle.std.specs.Simd.{first_chunks}
 use Rattle.jsonb_doc.proofs.LengthsLemmas.{told}
 use Rattle.jsonb_doc.proofs.FieldLemmas.{KeysLeft-start, KeysLeft-end, chunk_at, key_cut, key_within, key_differs, key_passed, key_found, is_other}
-use Rattle.jsonb_doc.proofs.spot.find_key.Goals as goal
-use Rattle.jsonb_doc.proofs.spot.find_key.Goals.{then-len-name+in-Some+else-bytes_equal, else-len-name}
+use Rattle.jsonb_doc.proofs.KeyBlocks.{block_searched}
+use Rattle.jsonb_doc.proofs.key_search.find_in_block.Goals as goal
+use Rattle.jsonb_doc.proofs.key_search.find_in_block.Goals.{then-len-name+in-Some+else-bytes_equal, else-len-name}
 
--- the length that was read is that of the word at this place
+-- the length that was read is that of the word at this position
 read : (cs : List (List ℕ)) (k at len : ℕ) (words : List ℕ) → cs ≡ first_chunks 4 k words → at < k → len ≡ told (slice_index_or cs at [])
     → len ≡ told (take 4 (drop (4 * at) words))
 read cs k at len words are h e = e ∙ ap told (ap (λ (l : List (List ℕ)). slice_index_or l at []) are ∙ chunk_at k at words h)
@@ -19,7 +20,7 @@ overflow_add-end c =
     omega (arith, c.loop-at.invariant.bound, c.entry_len-len.ensures, c.as_chunks.ensures.front_len, c.requires, c.loop-at-test.true)
 
 pub returns-in_default-clause-found : goal.returns-in_default-clause-found
-returns-in_default-clause-found c = λ ks rest h.
+returns-in_default-clause-found c = λ ks rest h others.
     let inv = c.loop-at.invariant.left ks rest h in
     let some : 4 * c.loop-at.at + 4 ≤ length c.args.words.now = omega (arith, c.as_chunks.ensures.front_len, c.loop-at-test.true) in
     let len = read _ _ _ _ c.args.words.now c.as_chunks.ensures.front (omega (arith, some)) c.entry_len-len.ensures in
@@ -27,7 +28,7 @@ returns-in_default-clause-found c = λ ks rest h.
     elim c.in_default.ensures.lookup.0 [ inl less ↦ omega (arith, less) | inr beyond ↦ omega (arith, beyond, within) ]
 
 pub returns-then-bytes_equal-clause-found : goal.returns-then-bytes_equal-clause-found
-returns-then-bytes_equal-clause-found c = λ ks rest h.
+returns-then-bytes_equal-clause-found c = λ ks rest h others.
     let inv = c.loop-at.invariant.left ks rest h in
     let some : 4 * c.loop-at.at + 4 ≤ length c.args.words.now = omega (arith, c.as_chunks.ensures.front_len, c.loop-at-test.true) in
     let len = read _ _ _ _ c.args.words.now c.as_chunks.ensures.front (omega (arith, some)) c.entry_len-len.ensures in
@@ -35,6 +36,11 @@ returns-then-bytes_equal-clause-found c = λ ks rest h.
     rw (take_rest c.args.words.now (4 * (c.loop-at.at + 1)), take_rest c.args.bytes.now (c.loop-at.end + c.entry_len-len.result))
     (key_found c.args.name.now ks rest c.args.words.now c.args.bytes.now c.loop-at.at c.loop-at.end c.entry_len-len.result inv.0 some inv.1 len
     (sym key ∙ c.bytes_equal.ensures.0 c.if-bytes_equal.true))
+
+pub returns-then-at-eq-BLOCK-clause-found : goal.returns-then-at-eq-BLOCK-clause-found
+returns-then-at-eq-BLOCK-clause-found c = λ ks rest h others.
+    block_searched c.args.name.now 32 c.loop-at.at ks c.args.words.now c.args.bytes.now rest _ h (c.loop-at.invariant.left ks rest h).0 others
+    (λ more. omega (arith, c.if-at-eq-BLOCK.true))
 
 pub loop-at-preserved : goal.loop-at-preserved
 loop-at-preserved c = record {
@@ -57,7 +63,7 @@ loop-at-preserved c = record {
 }
 
 pub returns-clause-found : goal.returns-clause-found
-returns-clause-found c = λ ks rest h.
+returns-clause-found c = λ ks rest h others.
     KeysLeft-end c.args.name.now ks rest _ _
     (omega (arith, length-drop (4 * c.loop-at.at) c.args.words.now, c.loop-at-test.false, c.as_chunks.ensures.front_len))
     (c.loop-at.invariant.left ks rest h).0

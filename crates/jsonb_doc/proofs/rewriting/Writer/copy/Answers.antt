@@ -1,0 +1,26 @@
+use Rattle.std.proofs.Common.{arith, sym, ap, length, ◌∙◌}
+use Rattle.std.proofs.lemmas.List.{length-append}
+use Rattle.jsonb_doc.proofs.WriterLemmas.{room_there, filled, room_moved}
+use Rattle.jsonb_doc.proofs.rewriting.Writer.copy.Goals as goal
+
+pub returns-clause-copied : goal.returns-clause-copied
+returns-clause-copied c = λ form ts coming around whole h w.
+    let pushed = c.in_ok-extend_from_slice.ensures.items in
+    let set = c.set_words.ensures.set (room_there form w.before _ _ ts coming w.t w.is_open _ _ h.entries _ pushed) in
+    record {
+      before = w.before;
+      t = w.t;
+      is_open = filled form w.before _ _ ts coming w.t w.is_open _ _ h.entries _ _ _ pushed c.set_words.ensures.start set.1 set.2;
+      are_around = w.are_around;
+      within = set.0 ∙ w.within;
+    }
+
+pub returns-clause-room : goal.returns-clause-room
+returns-clause-room c = λ coming around h.
+    room_moved _ _ _ _ around (sym c.set_words.ensures.start)
+    (omega (
+      arith,
+      c.set_words.ensures.size,
+      length-append c.args.self.now.out.items c.args.run.contents.now,
+      ap length c.in_ok-extend_from_slice.ensures.items,
+    )) h

@@ -1,0 +1,124 @@
+//! The search for a key among the sorted keys of an object.
+
+ghost use Rattle.std.specs.Prelude.{ℕ, ◌+◌, ◌^◌, ◌<◌, ◌≤◌, List, length, drop, IsOkAnd, IfOk, IfErr, IfSome};
+ghost use Rattle.jsonb_doc.specs.Answer.{IsDecodingError};
+ghost use Rattle.jsonb_doc.specs.Private.Lengths.{HoldKeys, IsNoneOf, FindsKey, IsBlockOf, SkipsBlock};
+
+use crate::byte_order::bytes_cmp;
+use crate::equal_bytes::bytes_equal;
+use crate::error::Error;
+use crate::layout::{WORD, entry_len, split_entry};
+use crate::lengths::sum_lengths;
+use std::cmp::Ordering;
+
+/// The number of keys that are skipped at once.
+const BLOCK: usize = 32;
+
+/// Returns what follows the key that is this name, among the keys with these words and bytes.
+///
+/// Skips blocks of keys before the one that the name would be in, then compares the keys of that block.
+#[inline(always)]
+pub(crate) fn find_key<'w, 'k>(
+    words: &'w [u8],
+    bytes: &'k [u8],
+    name: &[u8],
+) -> Result<Option<(&'w [u8], &'k [u8])>, Error>
+    requires { length words.now < 2 ^ 32 }
+    ensures found { (ks : List (List ℕ)) (rest : List ℕ) → HoldKeys ks words.now bytes.now rest
+        → IsOkAnd result (λ found. FindsKey name.now ks rest found) }
+    ensures size { IfOk result
+        (λ found. IfSome found (λ r. (length r.0.now + 4 ≤ length words.now) × (length r.1.now ≤ length bytes.now))) }
+    ensures errors { IfErr result IsDecodingError }
+{
+    let (block_words, block_bytes) = skip_blocks(words, bytes, name)?;
+    find_in_block(block_words, block_bytes, name)
+}
+
+/// Returns the keys from the block on that the name would be in.
+#[inline(always)]
+fn skip_blocks<'w, 'k>(
+    words: &'w [u8],
+    bytes: &'k [u8],
+    name: &[u8],
+) -> Result<(&'w [u8], &'k [u8]), Error>
+    requires { length words.now < 2 ^ 32 }
+    ensures block { (ks : List (List ℕ)) (rest : List ℕ) → HoldKeys ks words.now bytes.now rest
+        → IsOkAnd result (λ r. IsBlockOf name.now ks rest r.0.now r.1.now) }
+    ensures size { IfOk result (λ r. (length r.0.now ≤ length words.now) × (length r.1.now ≤ length bytes.now)) }
+    ensures errors { IfErr result IsDecodingError }
+{
+    let mut words = words;
+    let mut bytes = bytes;
+    loop {
+        match skip_block(words, bytes, name)? {
+            Some((other_words, other_bytes)) => {
+                words = other_words;
+                bytes = other_bytes;
+            }
+            None => return Ok((words, bytes)),
+        }
+    }
+}
+
+/// Returns the keys after the first block, or `None` if the name is not among those.
+#[inline(always)]
+fn skip_block<'w, 'k>(
+    words: &'w [u8],
+    bytes: &'k [u8],
+    name: &[u8],
+) -> Result<Option<(&'w [u8], &'k [u8])>, Error>
+    ensures skips { (ks : List (List ℕ)) (rest : List ℕ) → HoldKeys ks words.now bytes.now rest
+        → IsOkAnd result (λ found. SkipsBlock name.now ks rest found) }
+    ensures size { IfOk result
+        (λ found. IfSome found (λ r. (length r.0.now < length words.now) × (length r.1.now ≤ length bytes.now))) }
+    ensures errors { IfErr result IsDecodingError }
+{
+    let Some((block, other_words)) = words.split_first_chunk::<128>() else {
+        return Ok(None);
+    };
+    let Some(other_bytes) = bytes.get(sum_lengths(block)..) else {
+        return Err(Error::InvalidJsonb);
+    };
+    let Some(next) = split_entry(other_words, other_bytes) else {
+        return Ok(None);
+    };
+    match bytes_cmp(name, next.content) {
+        Ordering::Less => Ok(None),
+        Ordering::Equal | Ordering::Greater => Ok(Some((other_words, other_bytes))),
+    }
+}
+
+/// Returns what follows the key that is this name, if it is one of the first block of keys.
+#[inline(always)]
+fn find_in_block<'w, 'k>(
+    words: &'w [u8],
+    bytes: &'k [u8],
+    name: &[u8],
+) -> Result<Option<(&'w [u8], &'k [u8])>, Error>
+    requires { length words.now < 2 ^ 32 }
+    ensures found { (ks : List (List ℕ)) (rest : List ℕ) → HoldKeys ks words.now bytes.now rest
+        → IsNoneOf name.now (drop 32 ks) → IsOkAnd result (λ found. FindsKey name.now ks rest found) }
+    ensures size { IfOk result
+        (λ found. IfSome found (λ r. (length r.0.now + 4 ≤ length words.now) × (length r.1.now ≤ length bytes.now))) }
+    ensures errors { IfErr result IsDecodingError }
+{
+    let (key_words, _) = words.as_chunks::<WORD>();
+    let mut end = 0;
+    for (at, word) in key_words.iter().enumerate() {
+        if at == BLOCK {
+            return Ok(None);
+        }
+        let start = end;
+        let len = entry_len(word);
+        end += len;
+        if len == name.len() {
+            let Some(key) = bytes.get(start..end) else {
+                return Err(Error::InvalidJsonb);
+            };
+            if bytes_equal(key, name) {
+                return Ok(Some((&words[WORD * (at + 1)..], &bytes[end..])));
+            }
+        }
+    }
+    Ok(None)
+}

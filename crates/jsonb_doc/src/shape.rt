@@ -1,0 +1,86 @@
+//! The type of a document's root, and the value of a scalar that is not a string.
+
+ghost use Rattle.std.specs.Prelude.{◌≡◌, ◌≢◌, IsOkAnd, IfOk, IfErr};
+ghost use Rattle.jsonb_doc.specs.Tree.{Tree};
+ghost use Rattle.jsonb_doc.specs.Payload.{Form, number_reader};
+ghost use Rattle.jsonb_doc.specs.Format.{Decodes, IsContent};
+ghost use Rattle.jsonb_doc.specs.Kinds.{kind_number};
+ghost use Rattle.jsonb_doc.specs.Shapes.{HasShape, IsShapeOf, IsRootShape};
+ghost use Rattle.jsonb_doc.specs.Answer.{IsDecodingError};
+
+use crate::container::{Container, read_container};
+use crate::entry_iter::StoredEntry;
+use crate::error::Error;
+use crate::extension::ExtensionValue;
+use crate::layout::EntryKind;
+use crate::number::Number;
+
+/// The root of a document: an item whose string or entries are not read.
+#[derive(Debug, Clone, Copy)]
+pub enum Shape<'a> {
+    /// The value null.
+    Null,
+    /// A Boolean.
+    Boolean(bool),
+    /// A number. A zero is `UInt64(0)`, whatever variant it is stored as.
+    Number(Number),
+    /// A string. Its bytes may not be UTF-8.
+    Text(&'a [u8]),
+    /// A value that JSON itself lacks.
+    Extension(ExtensionValue<'a>),
+    /// An array.
+    Array,
+    /// An object.
+    Object,
+}
+
+/// Returns the type of a document's root, and the value of a scalar that is not a string.
+///
+/// Inlined, so that a caller pays only for what it uses.
+///
+/// # Errors
+///
+/// `InvalidJsonb` or `UnsupportedNumber`, only if the bytes do not decode. Only the root is read.
+///
+/// # Complexity
+///
+/// O(1). Does not allocate.
+#[inline(always)]
+pub fn root_shape(bytes: &[u8]) -> Result<Shape<'_>, Error>
+    ensures shape { (form : Form) (t : Tree) → Decodes form bytes.now t → IsOkAnd result (λ shape. HasShape shape t) }
+    ensures readable { IfOk result (IsRootShape bytes.now) }
+    ensures errors { IfErr result IsDecodingError }
+{
+    match read_container(bytes)? {
+        Container::Scalar(entry) => scalar_shape(entry),
+        Container::Array(_) => Ok(Shape::Array),
+        Container::Object(_) => Ok(Shape::Object),
+    }
+}
+
+/// Returns the shape of an entry that is not a container.
+#[inline(always)]
+fn scalar_shape<'a>(entry: StoredEntry<'a>) -> Result<Shape<'a>, Error>
+    ensures shape { (form : Form) (t : Tree)
+        → IsContent (number_reader form) t (kind_number entry.entry.kind) entry.entry.content.now
+        → kind_number entry.entry.kind ≢ 5 → IsOkAnd result (λ shape. HasShape shape t) }
+    ensures reads { IfOk result (IsShapeOf (kind_number entry.entry.kind) entry.entry.content.now) }
+    ensures errors { IfErr result IsDecodingError }
+{
+    match entry.kind {
+        EntryKind::Null if entry.content.is_empty() => Ok(Shape::Null),
+        EntryKind::False if entry.content.is_empty() => Ok(Shape::Boolean(false)),
+        EntryKind::True if entry.content.is_empty() => Ok(Shape::Boolean(true)),
+        EntryKind::Text => Ok(Shape::Text(entry.content)),
+        EntryKind::Number => match Number::from_payload(entry.content) {
+            Ok(number) => Ok(Shape::Number(number)),
+            Err(error) => Err(error),
+        },
+        EntryKind::Extension => match ExtensionValue::from_payload(entry.content) {
+            Ok(value) => Ok(Shape::Extension(value)),
+            Err(error) => Err(error),
+        },
+        EntryKind::Null | EntryKind::False | EntryKind::True => Err(Error::InvalidJsonb),
+        EntryKind::Container | EntryKind::Unknown => Err(Error::InvalidJsonb),
+    }
+}
