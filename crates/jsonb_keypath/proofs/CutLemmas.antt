@@ -94,7 +94,7 @@ text-cut e input found rest h =
       rw same.0 at valid.0,
     )
 
--- a cut before which no unit stands is the longest run
+-- a cut before which there is no unit is the longest run
 cut-text : (e : ℕ → Bool) (input found rest : List ℕ) → IsText e input found rest → unit e rest ≡ None → text e input ≡ Some (found, rest)
 unfolding text units
 cut-text e input found rest cut ends = go cut.0 cut.1 cut.2 cut.3 where
@@ -153,7 +153,7 @@ unfolding name
 cut-name input found rest cut =
     rw (cut-text is_stop input found rest cut.0 (unit-at_stop rest (ahead-is_at is_stop rest tt rest cut.1).0), cut.1) refl
 
--- ---- quoted texts
+-- ---- quoted strings
 
 -- a quoted text: a quote, units, a quote, and then the rest
 abbrev pub IsQuotedCut : List ℕ → List ℕ → List ℕ → Type 0

@@ -1,4 +1,4 @@
--- Equality of key paths is equality of their steps and texts.
+-- Equality of key paths is equality of their steps and strings.
 use Rattle.std.proofs.Common.{◌≡◌, ℕ, List, [], ◌∷◌, map, Bool, true, false, Some, None, Option, refl, ap}
 use Rattle.std.specs.Prelude.{◌&&◌, nat_eq, ℤ, string_bytes}
 use Rattle.std.specs.Bool.{Decides}
@@ -20,7 +20,7 @@ use Rattle.jsonb_keypath.specs.contracts.key_path.KeyPathsPartialEq.TheImpl.{eq-
 use Rattle.jsonb_keypath.specs.contracts.owned.OwnedKeyPathPartialEq.TheImpl.{eq-value as owned_key_equal}
 use Rattle.jsonb_keypath.specs.contracts.owned.OwnedKeyPathsPartialEq.TheImpl.{eq-value as owned_key_paths_equal}
 
--- ---- texts, indices and their steps
+-- ---- strings, indices and their steps
 
 texts : (s t : List ℕ) → Decides (pointwise nat_eq s t) (s ≡ t)
 texts s t = slice_eq-Decides Decides-eqb s t (pointwise nat_eq s t) refl
@@ -100,7 +100,7 @@ same_tail : (k l : Key) (ks ls : List Key) → k ∷ ks ≡ l ∷ ls → ks ≡ 
 unfolding tail_of
 same_tail k l ks ls e = ap tail_of e
 
--- lists are equal where their members are, one by one
+-- lists are equal if their members are, one by one
 members : {A : Type 0} (view : A → Key) (E : A → A → Bool) → ((a b : A) → Decides (E a b) (view a ≡ view b)) → (xs ys : List A)
     → Decides (pointwise E xs ys) (map view xs ≡ map view ys)
 members view E d [] [] = (λ h. refl, λ e. refl)

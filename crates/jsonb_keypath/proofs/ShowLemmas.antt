@@ -1,4 +1,4 @@
--- Texts that grow by one part, and characters between quotes.
+-- Text that a part is appended to, and characters between quotes.
 use Rattle.std.proofs.Common.{◌≡◌, ℕ, ◌+◌, ◌/◌, ◌<◌, ◌≤◌, List, [], ◌∷◌, ◌++◌, length, get_or, take, map, Bool, true, false, cond, refl, sym, ap, ◌∙◌, arith}
 use Rattle.std.specs.Prelude.{◌==◌, ◌||◌, nat_lt, flat_map, encode_utf8, encode_utf8_all}
 use Rattle.std.specs.List.{list_all}
@@ -16,7 +16,7 @@ pub text_of_one_more : {X Y : Type 0} (text : Y → List ℕ) (view : X → Y) (
 text_of_one_more text view xs i d h =
     flat_map_more text [] (map view (take i xs)) (view (get_or xs i d)) ∙ ap (flat_map text) (sym (map_more view xs i d h))
 
--- a text without quotes and backslashes stands between quotes as it is
+-- a string without quotes and backslashes is unchanged between quotes
 pub no_escapes : (text : List ℕ) → list_all needs_no_escape text ≡ true → flat_map quoted_byte text ≡ text
 no_escapes [] h = refl
 no_escapes (b ∷ text) h =
@@ -26,7 +26,7 @@ no_escapes (b ∷ text) h =
 quoted_high_byte : (b : ℕ) → 128 ≤ b → quoted_byte b ≡ b ∷ []
 quoted_high_byte b h = let other : (b == 34 || b == 92) ≡ false = grind (arith, nat_tests) in rw other refl
 
--- a character that is no quote and no backslash stands as it is
+-- a character that is neither a quote nor a backslash is unchanged
 pub quoted_char : (c : ℕ) → (c == 34) ≡ false → (c == 92) ≡ false → flat_map quoted_byte (encode_utf8 c) ≡ encode_utf8 c
 unfolding encode
 quoted_char c p q = go (nat_lt c 128) (nat_lt c 2048) (nat_lt c 65536) where

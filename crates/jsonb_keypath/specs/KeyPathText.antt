@@ -7,57 +7,56 @@ use Rattle.std.specs.Fmt.{signed_decimal}
 use Rattle.jsonb_keypath.specs.Tokens.{is_within}
 use Rattle.jsonb_keypath.specs.KeyPathGrammar.{Key, index, quoted_name, unquoted_name}
 
--- a letter or digit of ASCII, or an underscore
+-- Whether the byte is an ASCII letter, an ASCII digit or an underscore.
 abbrev pub is_word_byte : ℕ → Bool
 is_word_byte b = is_ascii_alphanumeric b || b == 95
 
--- a name that stands without quotes: word bytes, the first of them no digit
+-- Whether the name is plain: it has word bytes alone, and the first is not a digit.
 abbrev pub is_plain_name : List ℕ → Bool
 is_plain_name [] = false
 is_plain_name (b ∷ rest) = not (is_ascii_digit b) && list_all is_word_byte (b ∷ rest)
 
--- a byte between quotes: a quote and a backslash stand behind a backslash
+-- The text of a byte between quotes: a backslash precedes a quote and a backslash.
 abbrev pub quoted_byte : ℕ → List ℕ
 quoted_byte b = if b == 34 || b == 92 then codes "\\" ++ b ∷ [] else b ∷ []
 
--- a byte that stands alone between quotes
+-- Whether the byte appears between quotes without a backslash.
 abbrev pub needs_no_escape : ℕ → Bool
 needs_no_escape b = not (b == 34 || b == 92)
 
--- a text between quotes
+-- The text of a quoted string.
 abbrev pub quoted_text : List ℕ → List ℕ
 quoted_text text = codes "\"" ++ flat_map quoted_byte text ++ codes "\""
 
--- a name as it is where it is plain, and else between quotes
+-- The text of a name: unchanged if it is plain, otherwise quoted.
 abbrev pub name_text : List ℕ → List ℕ
 name_text text = if is_plain_name text then text else quoted_text text
 
--- an index in decimal, a quoted name between quotes, a name between quotes where it is not plain
+-- The text of a step: an index in decimal, a quoted name between quotes, a name between quotes unless it is plain.
 abbrev pub key_text : Key → List ℕ
 key_text (index i) = signed_decimal i
 key_text (quoted_name text) = quoted_text text
 key_text (unquoted_name text) = name_text text
 
--- a step behind another one
+-- The text of a step after another one.
 abbrev pub other_key_text : Key → List ℕ
 other_key_text key = codes "," ++ key_text key
 
--- steps with commas in between
+-- The text of steps, separated by commas.
 abbrev pub keys_text : List Key → List ℕ
 keys_text [] = []
 keys_text (first ∷ rest) = key_text first ++ flat_map other_key_text rest
 
--- the steps between braces
+-- The text of a key path: its steps between braces.
 abbrev pub key_path_text : List Key → List ℕ
 key_path_text keys = codes "{" ++ keys_text keys ++ codes "}"
 
--- the step without its quotes, which leads to the same place from everywhere
+-- The step without its quotes, which locates the same value in every document.
 abbrev pub without_quotes : Key → Key
 without_quotes (quoted_name text) = unquoted_name text
 without_quotes key = key
 
--- a step that prints as it would be written by hand: an index of 32 bits, a plain name,
--- or a text between quotes without quotes and backslashes
+-- Holds if the step is a 32-bit index, a plain name, or a quoted name without quotes and backslashes.
 abbrev pub IsPlainKey : Key → Type 0
 IsPlainKey (index i) = is_within (2 ^ 31) i ≡ true
 IsPlainKey (quoted_name text) = (0 < length text) × (is_utf8 text ≡ true) × (list_all needs_no_escape text ≡ true)

@@ -9,7 +9,7 @@ use Rattle.jsonb_keypath.specs.declared.owned.OwnedKeyPath.TheVariants as owned
 use Rattle.jsonb_keypath.specs.declared.owned.OwnedKeyPaths.{OwnedKeyPaths}
 use Rattle.jsonb_keypath.specs.KeyPathGrammar.{Key, index, quoted_name, unquoted_name}
 
--- a step; a text is its bytes, borrowed or not
+-- The step of the grammar. A string is its bytes, borrowed or not.
 abbrev pub key_view : KeyPath → Key
 key_view (Index i) = index i
 key_view (QuotedName text) = quoted_name (cow_str_bytes text)
@@ -18,7 +18,7 @@ key_view (Name text) = unquoted_name (cow_str_bytes text)
 abbrev pub keys_view : List KeyPath → List Key
 keys_view keys = map key_view keys
 
--- the steps of a key path
+-- The steps of a key path.
 abbrev pub key_paths_view : KeyPaths → List Key
 key_paths_view k = keys_view k.paths.items
 

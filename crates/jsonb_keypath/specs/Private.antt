@@ -1,2 +1,2 @@
--- What the contracts of private functions say beyond the words of the others. No public clause cites these.
+-- Definitions for contracts of private functions. No public clause cites these.
 pub mod Units

@@ -10,25 +10,25 @@ use Rattle.jsonb_keypath.specs.Rules.{Rule, give, ◌>>=◌, ◌>>◌, ◌</>◌
 
 -- ---- white space and numbers
 
--- space, tab, line feed or carriage return
+-- Whether the byte is a space, a tab, a line feed or a carriage return.
 abbrev pub is_space : ℕ → Bool
 is_space b = list_any (λ c. c == b) (32 ∷ 9 ∷ 10 ∷ 13 ∷ [])
 
--- the input behind the bytes at its front that pass the test
+-- The input after the longest prefix of bytes that satisfy the test.
 abbrev pub past : (ℕ → Bool) → List ℕ → List ℕ
 past test input = drop (prefix_len test input) input
 
--- a run of white space, which may be empty
+-- Reads a run of white space, possibly empty.
 unfoldable pub ws : Rule (Unit {0})
 ws input = Some (tt, past is_space input)
 
--- the longest run of digits, one at least, as the number that they write
+-- Reads the longest run of one or more digits, as a number.
 unfoldable pub natural : Rule ℕ
 natural input =
     if nat_lt 0 (prefix_len is_ascii_digit input)
     then Some (digits_value 10 (take_while is_ascii_digit input), past is_ascii_digit input) else None
 
--- one that is below the bound
+-- Reads a natural number, and fails unless it is below the bound.
 unfoldable pub natural_below : ℕ → Rule ℕ
 natural_below bound = do n ← natural; only_if (nat_lt n bound); give n
 
@@ -38,15 +38,15 @@ nat8 = natural_below (2 ^ 8)
 abbrev pub nat64 : Rule ℕ
 nat64 = natural_below (2 ^ 64)
 
--- whether a minus stands there; a plus may stand there too
+-- Reads a minus, a plus or no sign. The value is `true` for a minus.
 unfoldable pub sign : Rule Bool
 sign = (literal "-" >> give true) </> (literal "+" >> give false) </> give false
 
--- a number with or without a sign
+-- Reads a number with or without a sign.
 unfoldable pub integer : Rule ℤ
 integer = do negative ← sign; n ← natural; give (with_sign negative n)
 
--- from minus the bound on, and below the bound
+-- Whether the integer is at least minus the bound, and below the bound.
 abbrev pub is_within : ℕ → ℤ → Bool
 is_within bound (pos n) = nat_lt n bound
 is_within bound (negsuc n) = nat_lt n bound
@@ -62,14 +62,14 @@ int64 = integer_within (2 ^ 63)
 
 -- ---- escapes
 
--- the byte that the one behind a backslash stands for: itself, or for `b`, `f`, `n`, `r` and `t` a control character
+-- The byte that an escape of this byte denotes: itself, or for `b`, `f`, `n`, `r` and `t` a control character.
 abbrev pub escaped : ℕ → Option ℕ
 escaped b =
     if list_any (λ c. c == b) (codes "\"\\/") then Some b
     else if b == 98 then Some 8 else if b == 102 then Some 12 else if b == 110 then Some 10
     else if b == 114 then Some 13 else if b == 116 then Some 9 else None
 
--- the value of one byte
+-- Reads one byte that has a value.
 abbrev pub byte_as : {A : Type 0} → (ℕ → Option A) → Rule A
 byte_as value [] = None
 byte_as value (b ∷ rest) = option_map (λ a. (a, rest)) (value b)
@@ -77,7 +77,7 @@ byte_as value (b ∷ rest) = option_map (λ a. (a, rest)) (value b)
 abbrev pub hex_digit : ℕ → Option ℕ
 hex_digit b = if nat_lt (digit_value b) 16 then Some (digit_value b) else None
 
--- four hexadecimal digits
+-- Reads four hexadecimal digits.
 unfoldable pub four_hex_digits : Rule ℕ
 four_hex_digits = do
   a ← byte_as hex_digit
@@ -86,58 +86,58 @@ four_hex_digits = do
   d ← byte_as hex_digit
   give (((a * 16 + b) * 16 + c) * 16 + d)
 
--- a UTF-16 code unit: four hexadecimal digits behind `\u`, in braces or without
+-- Reads a UTF-16 code unit: four hexadecimal digits after `\u`, in braces or without.
 unfoldable pub code_unit : Rule ℕ
 code_unit = literal "\\u" >> ((do literal "{"; n ← four_hex_digits; literal "}"; give n) </> four_hex_digits)
 
--- a character by its code units; a high surrogate and a low one behind it are one character, and else a
--- surrogate fails
+-- Reads a character by its code units. A high surrogate and a low one after it are one character; any other surrogate
+-- fails.
 unfoldable pub unicode_escape : Rule ℕ
 unicode_escape = do
   n ← code_unit
   if is_high_surrogate n then (do low ← code_unit; only_if (is_low_surrogate low); give (surrogate_pair_char n low))
       else (do only_if (not (is_low_surrogate n)); give n)
 
--- one escape, as the character that it stands for
+-- Reads an escape, as the character that it denotes.
 unfoldable pub escape : Rule ℕ
 escape = (literal "\\" >> byte_as escaped) </> unicode_escape
 
--- ---- texts
+-- ---- names and quoted strings
 
--- the byte stands for itself: it is no backslash, and not excluded
+-- Whether the byte denotes itself: it is neither a backslash nor excluded.
 abbrev pub is_unescaped : (ℕ → Bool) → ℕ → Bool
 is_unescaped is_excluded b = not (b == 92) && not (is_excluded b)
 
--- one unit, as the bytes that it stands for: an escape, or a byte that stands for itself
+-- Reads a unit, as the bytes that it denotes: an escape, or a byte that denotes itself.
 unfoldable pub unit : (ℕ → Bool) → Rule (List ℕ)
 unit is_excluded =
     (escape >>= λ c. give (encode_utf8 c))
     </> byte_as (λ b. if is_unescaped is_excluded b then Some (b ∷ []) else None)
 
--- the longest run of units, one at least, as the bytes that it stands for
+-- Reads the longest run of one or more units, as the bytes that it denotes.
 unfoldable pub units : (ℕ → Bool) → Rule (List ℕ)
 units is_excluded = do first ← unit is_excluded; others ← repeat (unit is_excluded); give (first ++ concat others)
 
--- the same where it stands for UTF-8
+-- Reads the longest run of one or more units, and fails unless its bytes are UTF-8.
 unfoldable pub text : (ℕ → Bool) → Rule (List ℕ)
 text is_excluded = do found ← units is_excluded; only_if (is_utf8 found); give found
 
--- a byte that ends a name
+-- Whether the byte ends a name.
 abbrev pub is_stop : ℕ → Bool
 is_stop b = list_any (λ c. c == b) (codes " ,.:{}[]()?@$|<>!=+-*/%\"'")
 
 abbrev pub is_quote : ℕ → Bool
 is_quote b = b == 34
 
--- reads nothing: here the input ends, or a byte that passes the test stands
+-- Reads nothing, and fails unless the input is empty or its first byte satisfies the test.
 abbrev pub ahead : (ℕ → Bool) → Rule (Unit {0})
 ahead test [] = Some (tt, [])
 ahead test (b ∷ rest) = if test b then Some (tt, b ∷ rest) else None
 
--- a name: units up to the end or to a stop byte
+-- Reads a name: units up to the end of the input or a stop byte.
 unfoldable pub name : Rule (List ℕ)
 name = do found ← text is_stop; ahead is_stop; give found
 
--- units between quotes
+-- Reads units between quotes.
 unfoldable pub quoted : Rule (List ℕ)
 quoted = do literal "\""; found ← text is_quote; literal "\""; give found

@@ -3,10 +3,10 @@ use Rattle.std.specs.Prelude.{ℕ, ◌<◌, List, length, Option, option_map, If
 use Rattle.std.specs.Borrow.{Bor}
 use Rattle.jsonb_keypath.specs.Rules.{Parsed}
 
--- what a reader found, as an outcome: its value, seen by `view`, and the rest
+-- The outcome of a reader: its value, seen by `view`, and the rest.
 abbrev pub read_as : {A B : Type 0} → (A → B) → Option (A × Bor (List ℕ)) → Parsed B
 read_as view found = option_map (λ p. (view p.0, p.1.now)) found
 
--- what a reader left of the input, where it found something, is shorter
+-- Holds if the rest of the input is shorter, or the reader found nothing.
 abbrev pub LeavesLess : {A : Type 0} → List ℕ → Option (A × Bor (List ℕ)) → Type 0
 LeavesLess input found = IfSome found (λ p. length p.1.now < length input)

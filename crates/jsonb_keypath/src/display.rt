@@ -1,6 +1,7 @@
-//! How key paths print: the steps between braces with commas in between, as a text from which they
-//! read back. An index is decimal; a quoted name stands between quotes, and so does a name that is
-//! not plain; within quotes a quote and a backslash have a backslash in front.
+//! Printing key paths: the steps between braces, separated by commas, as text that parses back.
+//!
+//! An index is decimal. A quoted name is between quotes, and so is a name that is not plain. Between quotes, a quote
+//! and a backslash are preceded by a backslash.
 
 ghost use Rattle.std.specs.Prelude.{Some, flat_map, map};
 ghost use Rattle.std.specs.Fmt.{WritesOnOk};
@@ -37,7 +38,7 @@ impl fmt::Display for KeyPaths<'_> {
     }
 }
 
-/// Writes each step behind a comma.
+/// Writes each step after a comma.
 fn write_others<W: fmt::Write>(steps: &[KeyPath<'_>], f: &mut fmt::Formatter<W>) -> fmt::Result
     ensures { WritesOnOk W.write_str_gives f.old result
         (flat_map other_key_text (keys_view steps.now)) f.new }
@@ -70,7 +71,7 @@ impl fmt::Display for OwnedKeyPaths {
     }
 }
 
-/// Writes each step behind a comma.
+/// Writes each step after a comma.
 fn write_more_owned<W: fmt::Write>(steps: &[OwnedKeyPath], f: &mut fmt::Formatter<W>) -> fmt::Result
     ensures { WritesOnOk W.write_str_gives f.old result
         (flat_map other_key_text (map owned_key_view steps.now)) f.new }

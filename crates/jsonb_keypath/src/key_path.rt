@@ -1,4 +1,4 @@
-//! Key paths and their steps, with texts borrowed where that is possible.
+//! Key paths and their steps, with strings borrowed if possible.
 
 ghost use Rattle.std.specs.Prelude.{◌≡◌, MatchResult};
 ghost use Rattle.jsonb_doc.specs.Answer.{IsOutOfMemory};
@@ -9,11 +9,11 @@ use jsonb_doc::Error;
 use std::alloc::Global;
 use std::borrow::CowStr;
 
-/// A path by keys and positions to a place in a document, as PostgreSQL's text arrays of steps are: `{a,1,"b c"}`.
+/// A path of keys and positions to a location in a document, like PostgreSQL's text arrays of steps: `{a,1,"b c"}`.
 ///
-/// It prints so that it reads back: an index in decimal, a quoted name between quotes, and a name as it is where it
-/// is plain, and else between quotes. Two key paths are equal, and hash alike, where they have the same steps. No
-/// steps lead to the document itself.
+/// It prints as text that parses back: an index in decimal, a quoted name between quotes, a name unchanged if it is
+/// plain and otherwise between quotes. Two key paths are equal, and have equal hashes, if they have the same steps.
+/// Without steps it locates the document itself.
 #[derive(Debug, PartialEq, Eq, Hash, Drop)]
 pub struct KeyPaths<'a> {
     /// The steps, from the root on.
@@ -22,12 +22,12 @@ pub struct KeyPaths<'a> {
 
 /// One step of a key path.
 ///
-/// Two steps are equal, and hash alike, where they are of one kind and have the same index or the
-/// same text, borrowed or not.
+/// Two steps are equal, and have equal hashes, if they are of one variant and have the same index or the same string,
+/// borrowed or not.
 #[derive(Debug, PartialEq, Eq, Hash, Drop)]
 pub enum KeyPath<'a> {
-    /// An element of an array, counted from 0, or from the end where it is negative; at an object
-    /// the key that is its decimal text.
+    /// An element of an array, counted from 0, or from the end if negative; on an object, the key that is its decimal
+    /// text.
     Index(i32),
     /// A key of an object, written between quotes.
     QuotedName(CowStr<'a, Global>),
@@ -36,15 +36,23 @@ pub enum KeyPath<'a> {
 }
 
 impl<'a> KeyPaths<'a> {
-    /// The same steps with the same texts; borrowed texts stay borrowed.
+    /// Returns a copy of the key path. Borrowed strings remain borrowed.
     ///
     /// # Errors
     ///
-    /// `OutOfMemory` where memory is refused.
+    /// `OutOfMemory` if an allocation fails.
     ///
-    /// # Cost
+    /// # Complexity
     ///
-    /// Linear in the steps and the texts that do not borrow. Takes memory.
+    /// O(n) for n steps and bytes of owned strings. Allocates.
+    ///
+    /// # Examples
+    ///
+    /// ```rust crates/jsonb_examples/src/steps.rt
+    /// let step = KeyPath::QuotedName(CowStr::Borrowed(key));
+    /// let mut longer = path.clone(alloc)?;
+    /// longer.paths.push(step)?;
+    /// ```
     pub fn clone(&self, alloc: Global) -> Result<KeyPaths<'a>, Error>
         ensures { MatchResult result (λ copy. key_paths_view copy ≡ key_paths_view self.now) IsOutOfMemory }
     {
@@ -55,15 +63,22 @@ impl<'a> KeyPaths<'a> {
         Ok(KeyPaths { paths })
     }
 
-    /// The same steps, with copies of the texts.
+    /// Returns the key path with copies of its strings, so that it borrows nothing.
     ///
     /// # Errors
     ///
-    /// `OutOfMemory` where memory is refused.
+    /// `OutOfMemory` if an allocation fails.
     ///
-    /// # Cost
+    /// # Complexity
     ///
-    /// Linear in the steps and their texts. Takes memory.
+    /// O(n) for n steps and bytes of their strings. Allocates.
+    ///
+    /// # Examples
+    ///
+    /// ```rust crates/jsonb_examples/src/steps.rt
+    /// let path = parse_key_paths(alloc, text.as_bytes())?;
+    /// path.to_owned(alloc)
+    /// ```
     pub fn to_owned(&self, alloc: Global) -> Result<OwnedKeyPaths, Error>
         ensures { MatchResult result (λ copy. owned_key_paths_view copy ≡ key_paths_view self.now) IsOutOfMemory }
     {
@@ -76,15 +91,23 @@ impl<'a> KeyPaths<'a> {
 }
 
 impl<'a> KeyPath<'a> {
-    /// The same step with the same text. A borrowed text stays borrowed.
+    /// Returns a copy of the step. A borrowed string remains borrowed.
     ///
     /// # Errors
     ///
-    /// `OutOfMemory` where memory is refused.
+    /// `OutOfMemory` if an allocation fails.
     ///
-    /// # Cost
+    /// # Complexity
     ///
-    /// Constant, without memory; a text that does not borrow is copied.
+    /// O(n) for an owned string of n bytes, which is copied, otherwise O(1). Allocates only for an owned string.
+    ///
+    /// # Examples
+    ///
+    /// ```rust crates/jsonb_examples/src/steps.rt
+    /// for step in steps {
+    ///     kept.push(step.clone(alloc)?)?;
+    /// }
+    /// ```
     pub fn clone(&self, _alloc: Global) -> Result<KeyPath<'a>, Error>
         ensures { MatchResult result (λ copy. key_view copy ≡ key_view self.now) IsOutOfMemory }
     {
@@ -95,15 +118,22 @@ impl<'a> KeyPath<'a> {
         }
     }
 
-    /// The same step, with a copy of its text.
+    /// Returns the step with a copy of its string.
     ///
     /// # Errors
     ///
-    /// `OutOfMemory` where memory is refused.
+    /// `OutOfMemory` if an allocation fails.
     ///
-    /// # Cost
+    /// # Complexity
     ///
-    /// Linear in the text. Takes memory for a name, and none for an index.
+    /// O(n) for a string of n bytes. Allocates, except for an index.
+    ///
+    /// # Examples
+    ///
+    /// ```rust crates/jsonb_examples/src/steps.rt
+    /// let step = step.to_owned(alloc)?;
+    /// path.paths.push(step)?;
+    /// ```
     pub fn to_owned(&self, alloc: Global) -> Result<OwnedKeyPath, Error>
         ensures { MatchResult result (λ copy. owned_key_view copy ≡ key_view self.now) IsOutOfMemory }
     {

@@ -1,8 +1,7 @@
-//! What is true of tokens and key paths, whatever reads or prints them. The functions answer
-//! nothing; their contracts are the laws.
+//! Theorems about tokens and key paths. The functions do nothing; their contracts are the theorems.
 //!
-//! A rule of the grammar is a function from the input to its outcome, a value and the rest or a
-//! failure, so each rule has exactly one outcome on each input.
+//! A rule of the grammar is a function from the input to its outcome, a value and the rest or a failure, so each rule
+//! has exactly one outcome on each input.
 
 ghost use Rattle.std.specs.Prelude.{◌≡◌, ◌↔◌, ℕ, Bool, true, List, ◌∷◌, map, Some, None, IfSome};
 ghost use Rattle.std.specs.List.{AllByRecursion};
@@ -38,7 +37,7 @@ pub fn unit_reads_some()
     ensures { (is_excluded : ℕ → Bool) → ReadsSome (unit is_excluded) }
 {}
 
-/// A comma with a step behind it reads a byte at least.
+/// A comma with a step after it reads at least one byte.
 pub fn another_key_reads_some()
     ensures { ReadsSome another_key }
 {}
@@ -49,38 +48,37 @@ pub fn repetition_ends_where_the_rule_fails(input: &[u8])
         (repeat rule input.now ≡ Some (keys, rest)) ↔ (IsRun rule input.now keys rest × (rule rest ≡ None)) }
 {}
 
-/// A key path that the grammar accepts prints to a text that reads as a key path with the same
-/// places: an index as the same index, a name, quoted or not, as a name of the same text.
+/// A key path that the grammar accepts prints to text that parses as a key path with the same locations: an index as
+/// the same index, a name, quoted or not, as a name of the same string.
 pub fn printed_key_path_reads_back(text: &[u8])
     ensures { IfSome (key_path text.now) (λ keys. (found : List Key)
         × (key_path (key_path_text keys) ≡ Some found) × (map without_quotes keys ≡ map without_quotes found)) }
 {}
 
-/// A key path whose names are plain, and whose quoted names are nonempty and have no quote and no
-/// backslash, prints to a text that reads as the same key path.
+/// A key path whose names are plain, and whose quoted names are not empty and have no quote and no backslash, prints
+/// to text that parses as the same key path.
 pub fn plain_key_paths_read_back()
     ensures { (keys : List Key) → AllByRecursion IsPlainKey keys → key_path (key_path_text keys) ≡ Some keys }
 {}
 
-/// Steps are equal by `==` exactly where they are of one kind with the same index or text, whatever
-/// holds the text.
+/// Steps are equal by `==` if and only if they are of one variant with the same index or string, borrowed or not.
 pub fn steps_are_equal_by_texts(left: &KeyPath, right: &KeyPath)
     ensures { (key_equal.it left.now right.now ≡ true) ↔ (key_view left.now ≡ key_view right.now) }
 {}
 
-/// Key paths are equal by `==` exactly where they have the same steps.
+/// Key paths are equal by `==` if and only if they have the same steps.
 pub fn key_paths_are_equal_by_steps(left: &KeyPaths, right: &KeyPaths)
     ensures { (key_paths_equal.it left.now right.now ≡ true) ↔
         (key_paths_view left.now ≡ key_paths_view right.now) }
 {}
 
-/// Owned steps are equal by `==` exactly where they are of one kind with the same index or text.
+/// Owned steps are equal by `==` if and only if they are of one variant with the same index or string.
 pub fn owned_steps_are_equal_by_texts(left: &OwnedKeyPath, right: &OwnedKeyPath)
     ensures { (owned_key_equal.it left.now right.now ≡ true) ↔
         (owned_key_view left.now ≡ owned_key_view right.now) }
 {}
 
-/// Owned key paths are equal by `==` exactly where they have the same steps.
+/// Owned key paths are equal by `==` if and only if they have the same steps.
 pub fn owned_key_paths_are_equal_by_steps(left: &OwnedKeyPaths, right: &OwnedKeyPaths)
     ensures { (owned_key_paths_equal.it left.now right.now ≡ true) ↔
         (owned_key_paths_view left.now ≡ owned_key_paths_view right.now) }

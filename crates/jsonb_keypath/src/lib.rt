@@ -1,4 +1,4 @@
-//! Key paths: texts such as `{a,1,"b c"}` that lead to a place in a document.
+//! Key paths: text such as `{a,1,"b c"}` that locates a value in a document.
 #![tactic(auto)]
 
 mod display;

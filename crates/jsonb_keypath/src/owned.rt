@@ -1,4 +1,4 @@
-//! Key paths with texts of their own.
+//! Key paths that own their strings.
 
 ghost use Rattle.std.specs.Prelude.{◌≡◌, MatchResult};
 ghost use Rattle.jsonb_doc.specs.Answer.{IsOutOfMemory};
@@ -9,23 +9,22 @@ use jsonb_doc::Error;
 use std::alloc::Global;
 use std::borrow::CowStr;
 
-/// A key path with texts of its own, which outlives the text that it was read from.
+/// A key path that owns its strings, and outlives the text it was parsed from.
 ///
-/// Two of them are equal, and hash alike, where they have the same steps.
+/// Two owned key paths are equal, and have equal hashes, if they have the same steps.
 #[derive(Debug, PartialEq, Eq, Hash, Drop)]
 pub struct OwnedKeyPaths {
     /// The steps, from the root on.
     pub paths: Vec<OwnedKeyPath>,
 }
 
-/// One step of a key path, with a text of its own.
+/// One step of an owned key path.
 ///
-/// Two of them are equal, and hash alike, where they are of one kind and have the same index or the
-/// same text.
+/// Two steps are equal, and have equal hashes, if they are of one variant and have the same index or the same string.
 #[derive(Debug, PartialEq, Eq, Hash, Drop)]
 pub enum OwnedKeyPath {
-    /// An element of an array, counted from 0, or from the end where it is negative; at an object
-    /// the key that is its decimal text.
+    /// An element of an array, counted from 0, or from the end if negative; on an object, the key that is its decimal
+    /// text.
     Index(i32),
     /// A key of an object, written between quotes.
     QuotedName(String),
@@ -34,15 +33,25 @@ pub enum OwnedKeyPath {
 }
 
 impl OwnedKeyPaths {
-    /// The same steps with the same texts.
+    /// Returns a copy of the key path.
     ///
     /// # Errors
     ///
-    /// `OutOfMemory` where memory is refused.
+    /// `OutOfMemory` if an allocation fails.
     ///
-    /// # Cost
+    /// # Complexity
     ///
-    /// Linear in the steps and their texts. Takes memory.
+    /// O(n) for n steps and bytes of their strings. Allocates.
+    ///
+    /// # Examples
+    ///
+    /// ```rust crates/jsonb_examples/src/steps.rt
+    /// let mut joined = path.clone(alloc)?;
+    /// for step in &rest.paths {
+    ///     let step = step.clone(alloc)?;
+    ///     joined.paths.push(step)?;
+    /// }
+    /// ```
     pub fn clone(&self, alloc: Global) -> Result<OwnedKeyPaths, Error>
         ensures { MatchResult result (λ copy. owned_key_paths_view copy ≡ owned_key_paths_view self.now) IsOutOfMemory }
     {
@@ -53,15 +62,22 @@ impl OwnedKeyPaths {
         Ok(OwnedKeyPaths { paths })
     }
 
-    /// The same steps, with the texts borrowed from here.
+    /// Returns the key path with its strings borrowed from this one.
     ///
     /// # Errors
     ///
-    /// `OutOfMemory` where memory is refused.
+    /// `OutOfMemory` if an allocation fails.
     ///
-    /// # Cost
+    /// # Complexity
     ///
-    /// Linear in the count of steps. Takes memory once.
+    /// O(n) for n steps. Allocates once.
+    ///
+    /// # Examples
+    ///
+    /// ```rust crates/jsonb_examples/src/steps.rt
+    /// let steps = path.as_key_paths(alloc)?;
+    /// document.get_by_keypath(alloc, steps.paths.iter())
+    /// ```
     pub fn as_key_paths(&self, alloc: Global) -> Result<KeyPaths<'_>, Error>
         ensures { MatchResult result (λ same. key_paths_view same ≡ owned_key_paths_view self.now) IsOutOfMemory }
     {
@@ -74,26 +90,43 @@ impl OwnedKeyPaths {
 }
 
 impl OwnedKeyPath {
-    /// The same step with the same text.
+    /// Returns a copy of the step.
     ///
     /// # Errors
     ///
-    /// `OutOfMemory` where memory is refused.
+    /// `OutOfMemory` if an allocation fails.
     ///
-    /// # Cost
+    /// # Complexity
     ///
-    /// Linear in the text. Takes memory for a name, and none for an index.
+    /// O(n) for a string of n bytes. Allocates, except for an index.
+    ///
+    /// # Examples
+    ///
+    /// ```rust crates/jsonb_examples/src/steps.rt
+    /// let mut joined = path.clone(alloc)?;
+    /// for step in &rest.paths {
+    ///     let step = step.clone(alloc)?;
+    ///     joined.paths.push(step)?;
+    /// }
+    /// ```
     pub fn clone(&self, alloc: Global) -> Result<OwnedKeyPath, Error>
         ensures { MatchResult result (λ copy. owned_key_view copy ≡ owned_key_view self.now) IsOutOfMemory }
     {
         self.as_key_path().to_owned(alloc)
     }
 
-    /// The same step, with its text borrowed from here.
+    /// Returns the step with its string borrowed from this one.
     ///
-    /// # Cost
+    /// # Complexity
     ///
-    /// Constant, without memory.
+    /// O(1). Does not allocate.
+    ///
+    /// # Examples
+    ///
+    /// ```rust crates/jsonb_examples/src/steps.rt
+    /// let steps = [step.as_key_path()];
+    /// document.get_by_keypath(alloc, steps.iter())
+    /// ```
     pub fn as_key_path(&self) -> KeyPath<'_>
         ensures { key_view result ≡ owned_key_view self.now }
     {

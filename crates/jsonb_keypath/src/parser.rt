@@ -1,7 +1,7 @@
-//! Reading a text as a key path.
+//! The parser of key paths.
 //!
-//! The functions below stand one for each rule of the grammar: a step, a step with white space
-//! around it, a list of steps with commas in between, and the braces around the list.
+//! There is a function for each rule of the grammar: a step, a step with white space around it, a list of steps
+//! separated by commas, and the braces around the list.
 
 ghost use Rattle.std.specs.Prelude.{◌≡◌, [], ◌⊎◌, Option, None, Some, option_map, IfOk, MatchResult};
 ghost use Rattle.jsonb_doc.specs.declared.error.Error.TheVariants.{OutOfMemory, InvalidKeyPath};
@@ -15,20 +15,27 @@ use crate::token::{int32, literal, name_at, quoted_at, skip_space};
 use jsonb_doc::Error;
 use std::alloc::{AllocError, Global};
 
-/// Reads a whole text, of any bytes, as a key path: steps in braces, with commas in between and white space around
-/// each, as in ` { 1, a, "b c" } `. docs/PATHS.md has the grammar.
+/// Parses a key path: steps in braces, separated by commas, with white space around each, such as
+/// ` { 1, a, "b c" } `. The input may be any bytes. docs/PATHS.md has the grammar.
 ///
-/// A step is an index of 32 bits, or else a quoted name, or else a name; what isn't an index but can stand as a name
-/// is one, so `99999999999` is a name. `{}` has no steps. A text without escapes is borrowed from the input.
+/// A step is a 32-bit index, otherwise a quoted name, otherwise a name, so `99999999999` is a name. `{}` has no
+/// steps. A string without escapes is borrowed from the input.
 ///
 /// # Errors
 ///
-/// `InvalidKeyPath` exactly where the grammar doesn't read the whole text, else `OutOfMemory` where memory is
-/// refused.
+/// `InvalidKeyPath` if and only if the grammar does not accept the whole input, unless an allocation fails; then
+/// `OutOfMemory`.
 ///
-/// # Cost
+/// # Complexity
 ///
-/// Linear in the text. Takes memory for the list of steps and for texts with escapes.
+/// O(n) for an input of n bytes. Allocates the list of steps, and strings with escapes.
+///
+/// # Examples
+///
+/// ```rust crates/jsonb_examples/src/configuration.rt
+/// let steps = parse_key_paths(alloc, path.as_bytes())?;
+/// configuration.get_by_keypath(alloc, steps.paths.iter())
+/// ```
 #[tactic(auto, unfolding(crate::specs::KeyPathGrammar::key_path))]
 pub fn parse_key_paths(alloc: Global, input: &[u8]) -> Result<KeyPaths<'_>, Error>
     ensures { MatchResult result
@@ -49,7 +56,7 @@ pub fn parse_key_paths(alloc: Global, input: &[u8]) -> Result<KeyPaths<'_>, Erro
     }
 }
 
-/// One step at the front, and what follows it.
+/// Reads a step. Returns it and the bytes after it.
 #[tactic(auto, unfolding(crate::specs::KeyPathGrammar::key))]
 #[inline(always)]
 fn key_at(alloc: Global, input: &[u8]) -> Result<Option<(KeyPath<'_>, &[u8])>, AllocError>
@@ -68,7 +75,7 @@ fn key_at(alloc: Global, input: &[u8]) -> Result<Option<(KeyPath<'_>, &[u8])>, A
     }
 }
 
-/// The same with white space around it.
+/// Reads a step with white space around it.
 #[tactic(auto, unfolding(crate::specs::KeyPathGrammar::spaced_key))]
 #[inline(always)]
 fn spaced_key_at(alloc: Global, input: &[u8]) -> Result<Option<(KeyPath<'_>, &[u8])>, AllocError>
@@ -81,7 +88,7 @@ fn spaced_key_at(alloc: Global, input: &[u8]) -> Result<Option<(KeyPath<'_>, &[u
     }
 }
 
-/// A comma and the step behind it.
+/// Reads a comma and the step after it.
 #[inline(always)]
 fn another_key_at(alloc: Global, input: &[u8]) -> Result<Option<(KeyPath<'_>, &[u8])>, AllocError>
     ensures value { IfOk result (λ found. read_as key_view found ≡ another_key input.now) }
@@ -93,7 +100,7 @@ fn another_key_at(alloc: Global, input: &[u8]) -> Result<Option<(KeyPath<'_>, &[
     }
 }
 
-/// One step or more, with commas in between. Where no step follows a comma, they end before it.
+/// Reads one or more steps, separated by commas. If no step follows a comma, they end before it.
 #[inline(never)]
 fn keys_at(alloc: Global, input: &[u8]) -> Result<Option<(Vec<KeyPath<'_>>, &[u8])>, AllocError>
     ensures { IfOk result (λ found.
@@ -111,7 +118,7 @@ fn keys_at(alloc: Global, input: &[u8]) -> Result<Option<(Vec<KeyPath<'_>>, &[u8
     Ok(Some((keys, rest)))
 }
 
-/// The braces around one step or more, with white space around them.
+/// Reads one or more steps in braces, with white space around the braces.
 #[tactic(auto, unfolding(crate::specs::KeyPathGrammar::some_keys))]
 fn some_keys_at(
     alloc: Global,
@@ -132,7 +139,7 @@ fn some_keys_at(
     }
 }
 
-/// What follows a pair of braces with nothing in it.
+/// Returns the bytes after a pair of empty braces.
 #[tactic(auto, unfolding(crate::specs::KeyPathGrammar::no_keys))]
 fn no_keys_at(input: &[u8]) -> Option<&[u8]>
     ensures { option_map (λ rest. ([], rest.now)) result ≡ no_keys input.now }

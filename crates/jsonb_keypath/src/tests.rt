@@ -1,4 +1,4 @@
-//! Worked rows of key paths: what is read, refused and printed.
+//! Example rows of key paths: what is parsed, rejected and printed.
 
 use super::*;
 use jsonb_doc::Error;
@@ -8,7 +8,7 @@ use std::fmt;
 use std::hash::{DefaultHasher, Hash, Hasher};
 use std::test::Fail;
 
-/// A step: its kind and what it has. A text that had to be copied is its own.
+/// Returns the variant and the content of a step. A string that had to be copied is owned.
 fn described(alloc: Global, step: &KeyPath<'_>) -> Result<String, AllocError> {
     match step {
         KeyPath::Index(index) => format!(in alloc; "index {index}"),
@@ -19,7 +19,7 @@ fn described(alloc: Global, step: &KeyPath<'_>) -> Result<String, AllocError> {
     }
 }
 
-/// The steps of a key path's text with semicolons behind them, or the refusal.
+/// Returns the steps of a key path with semicolons after them, or the error.
 fn steps_of(alloc: Global, text: &[u8]) -> Result<String, AllocError> {
     let path = match parse_key_paths(alloc, text) {
         Ok(path) => path,
@@ -33,7 +33,7 @@ fn steps_of(alloc: Global, text: &[u8]) -> Result<String, AllocError> {
     Ok(steps)
 }
 
-/// A line for each text: the text, a space and an equals sign, and its steps or the refusal.
+/// A line for each input: the input, a space and an equals sign, and its steps or the error.
 static READ: &str = "
 {} =
  { }  =
@@ -59,7 +59,7 @@ ab =InvalidKeyPath
 {\\ude00} =InvalidKeyPath
 {\"\\ud83d\\u0061\"} =InvalidKeyPath";
 
-/// The same of texts that no line can hold.
+/// Inputs that no line can hold, and the steps of each.
 static READ_AS_BYTES: [(&[u8], &str); 3] = [
     (b" {\t1, a ,\r\n\"b c\"} ", "index 1;name a;quoted b c;"),
     (b"{a\xff}", "InvalidKeyPath"),
@@ -80,10 +80,10 @@ fn texts_are_read_or_refused(rt: HostRuntime) -> Result<(), Fail> {
     Ok(())
 }
 
-/// A name or a quoted text that stands in front, what stands behind it, and whether its text had to be copied.
+/// A name or a quoted string, the text after it, and whether it had to be copied.
 type Front = (&'static str, &'static [u8], bool);
 
-/// Whether a reader found this.
+/// Returns `true` if a reader found this.
 fn is_read(found: &Option<(CowStr<'_>, &[u8])>, wanted: Option<Front>) -> bool {
     match (found, wanted) {
         (Some((name, behind)), Some((text, rest, is_own))) => {
@@ -94,7 +94,7 @@ fn is_read(found: &Option<(CowStr<'_>, &[u8])>, wanted: Option<Front>) -> bool {
     }
 }
 
-/// Texts, and the names in front.
+/// Inputs, and the names that they begin with.
 static NAMES: [(&[u8], Option<Front>); 7] = [
     (b"ab.c", Some(("ab", b".c", false))),
     (b"\\u{0061}b.c", Some(("ab", b".c", true))),
@@ -105,7 +105,7 @@ static NAMES: [(&[u8], Option<Front>); 7] = [
     (b"\xc3.", None),
 ];
 
-/// Texts, and the quoted texts in front.
+/// Inputs, and the quoted strings that they begin with.
 static QUOTED: [(&[u8], Option<Front>); 5] = [
     (b"\"a b\".c", Some(("a b", b".c", false))),
     (
@@ -152,7 +152,7 @@ fn tokens_and_their_rests(rt: HostRuntime) {
     assert!(rt; token::literal(b"to", b"t").is_none());
 }
 
-/// Whether a key path of a text prints so, and one with texts of its own too.
+/// Returns `true` if the key path of an input, and the owned one, print this text.
 fn prints(alloc: Global, text: &str, wanted: &str) -> Result<bool, Fail> {
     let found = parse_key_paths(alloc, text.as_bytes())?;
     let owned = found.to_owned(alloc)?;
@@ -180,7 +180,7 @@ fn prints_key_paths(rt: HostRuntime) -> Result<(), Fail> {
     Ok(())
 }
 
-/// A name and a quoted text, as the writers of tokens write them.
+/// A string that prints as a name and as a quoted string, by the writers of tokens.
 #[derive(Drop)]
 struct Written<'a>(&'a str);
 
@@ -214,13 +214,13 @@ fn prints_steps(rt: HostRuntime) -> Result<(), Fail> {
     Ok(())
 }
 
-/// Whether a path with texts of its own equals its copy, and a copy of what is seen of it.
+/// Returns `true` if an owned path equals its copy, and a copy of the path that borrows from it.
 fn equals_its_copies(alloc: Global, path: &OwnedKeyPaths) -> Result<bool, Error> {
     let is_copied = path.clone(alloc)? == *path;
     Ok(is_copied && path.as_key_paths(alloc)?.to_owned(alloc)? == *path)
 }
 
-/// Whether the path of a text equals its copy, and the one with texts of its own its copies.
+/// Returns `true` if a parsed path equals its copy, and the owned one its copies.
 fn copies_are_equal(alloc: Global, text: &[u8]) -> Result<bool, Error> {
     let found = parse_key_paths(alloc, text)?;
     let is_copied = found.clone(alloc)? == found;
@@ -233,12 +233,13 @@ fn copied_paths_are_equal(rt: HostRuntime) {
     assert_eq!(rt; found, Ok(true));
 }
 
-/// Whether a step is a name that is borrowed, the text `a`.
+/// Returns `true` if a step is the borrowed name `a`.
 fn borrows_a(step: &KeyPath<'_>) -> bool {
     matches!(step, KeyPath::Name(CowStr::Borrowed("a")))
 }
 
-/// Whether a copy of this name borrows it; so does what is seen of one with a text of its own, which equals its copy.
+/// Returns `true` if a copy of this name borrows it, and so does one borrowed from an owned name, which equals its
+/// copy.
 fn is_copied(alloc: Global, step: &KeyPath<'_>) -> Result<bool, Error> {
     let owned = step.to_owned(alloc)?;
     let is_same = owned.clone(alloc)? == owned && borrows_a(&owned.as_key_path());
@@ -257,14 +258,14 @@ fn hash_of<T: Hash>(value: &T) -> u64 {
     state.finish()
 }
 
-/// Whether two paths are equal and have equal hashes, and so have they with texts of their own.
+/// Returns `true` if two paths are equal and have equal hashes, and the owned ones too.
 fn are_same(alloc: Global, one: &KeyPaths<'_>, other: &KeyPaths<'_>) -> Result<bool, Error> {
     let is_same = *one == *other && hash_of(one) == hash_of(other);
     let (one, other) = (one.to_owned(alloc)?, other.to_owned(alloc)?);
     Ok(is_same && one == other && hash_of(&one) == hash_of(&other))
 }
 
-/// Whether so are the paths of two texts.
+/// Returns `true` if the paths of two inputs are equal and have equal hashes.
 fn are_read_as_same(alloc: Global, one: &[u8], other: &[u8]) -> Result<bool, Error> {
     let one = parse_key_paths(alloc, one)?;
     let other = parse_key_paths(alloc, other)?;
@@ -278,7 +279,7 @@ fn paths_are_equal_by_texts(rt: HostRuntime) {
     assert_eq!(rt; is_same, Ok(true));
 }
 
-/// Whether two steps differ, and so do they with texts of their own.
+/// Returns `true` if two steps differ, and the owned ones too.
 fn differ(alloc: Global, one: &KeyPath<'_>, other: &KeyPath<'_>) -> Result<bool, Error> {
     Ok(*one != *other && one.to_owned(alloc)? != other.to_owned(alloc)?)
 }

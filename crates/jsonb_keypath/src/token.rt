@@ -1,8 +1,7 @@
-//! Tokens: what key paths and JSON paths share.
+//! Tokens that key paths and JSON paths share.
 //!
-//! A reader looks at the front of its input alone. It gives what it reads there and the rest of the
-//! input, or None where there is no such token, and it takes no memory but for a text with escapes.
-//! A writer prints a name or a text so that it reads back.
+//! A reader returns a token at the beginning of its input and the rest of the input, or `None` if there is no such
+//! token. It allocates only for a string with escapes. A writer prints a name or a string so that it parses back.
 
 ghost use Rattle.std.specs.Prelude.{◌≡◌, ◌+◌, ◌≤◌, length, Some, option_map, IfSome};
 ghost use Rattle.std.specs.List.{prefix_len};
@@ -19,11 +18,11 @@ pub use self::quoting::{is_plain_name, write_name, write_quoted};
 pub(crate) use self::text::{name_at, quoted_at};
 pub use self::text::{read_name, read_quoted};
 
-/// The input behind a run of white space, which may be empty: spaces, tabs, carriage returns and line feeds.
+/// Returns the input after a run of white space, possibly empty: spaces, tabs, carriage returns and line feeds.
 ///
-/// # Cost
+/// # Complexity
 ///
-/// Linear in the run, without memory.
+/// O(n) for a run of n bytes. Does not allocate.
 #[tactic(auto, unfolding(crate::specs::Tokens::ws))]
 pub fn skip_space(input: &[u8]) -> &[u8]
     ensures value { ws input.now ≡ Some (tt, result.now) }
@@ -41,11 +40,11 @@ fn space_count(input: &[u8]) -> usize
         .count()
 }
 
-/// The input behind these bytes, or `None` where it doesn't begin with them.
+/// Returns the input after these bytes, or `None` if it does not begin with them.
 ///
-/// # Cost
+/// # Complexity
 ///
-/// Linear in the bytes, without memory.
+/// O(n) for n bytes. Does not allocate.
 pub fn literal<'a>(text: &[u8], input: &'a [u8]) -> Option<&'a [u8]>
     ensures value { option_map (λ rest. (tt, rest.now)) result ≡ bytes text.now input.now }
     ensures shrinks { IfSome result (λ rest. length rest.now + length text.now ≡ length input.now) }

@@ -1,4 +1,4 @@
--- The units of texts, as the code has them.
+-- The units of tokens, as the code has them.
 use Rattle.std.specs.Prelude.{ℕ, Bool, List, [], ◌∷◌, encode_utf8}
 use Rattle.jsonb_keypath.specs.declared.token.text.Ending.{Ending}
 use Rattle.jsonb_keypath.specs.declared.token.text.Ending.TheVariants.{Stop, Quote}
@@ -7,7 +7,7 @@ use Rattle.jsonb_keypath.specs.declared.token.text.Unit.TheVariants.{Byte, Escap
 use Rattle.jsonb_keypath.specs.Rules.{Rule, ◌>>=◌, ◌>>◌, give, literal}
 use Rattle.jsonb_keypath.specs.Tokens.{is_stop, is_quote, text}
 
--- the bytes that may not stand in the text
+-- the bytes that may not occur in the token
 abbrev pub excluded : Ending → ℕ → Bool
 excluded Stop = is_stop
 excluded Quote = is_quote
@@ -17,6 +17,6 @@ abbrev pub unit_bytes : TextUnit → List ℕ
 unit_bytes (Byte b) = b ∷ []
 unit_bytes (Escape c) = encode_utf8 c
 
--- units and the quote behind them
+-- units and the quote after them
 abbrev pub closed : Rule (List ℕ)
 closed = do found ← text is_quote; literal "\""; give found

@@ -1,4 +1,4 @@
-//! Whole numbers, with a sign and without.
+//! Integers, signed and unsigned.
 
 ghost use Rattle.std.specs.Prelude.{◌≡◌, ◌+◌, ◌^◌, ◌<◌, ◌≤◌, length, Some, option_map, nat_lt, IfSome, SomeIff, take_while, FitsSigned};
 ghost use Rattle.std.specs.Int.{w64};
@@ -16,7 +16,7 @@ fn digit_count(input: &[u8]) -> usize
     input.iter().take_while(|b| b.is_ascii_digit()).count()
 }
 
-/// Whether a digit stands at the front.
+/// Returns `true` if the input begins with a digit.
 #[inline(always)]
 fn begins_with_digit(input: &[u8]) -> bool
     ensures { result ≡ nat_lt 0 (prefix_len is_ascii_digit input.now) }
@@ -27,7 +27,7 @@ fn begins_with_digit(input: &[u8]) -> bool
     }
 }
 
-/// The digits at the front, which may be none, and what follows them.
+/// Returns the digits at the beginning, possibly none, and the bytes after them.
 fn digits_at(input: &[u8]) -> (&str, &[u8])
     ensures digits { result.0.now ≡ take_while is_ascii_digit input.now }
     ensures rest { result.1.now ≡ past is_ascii_digit input.now }
@@ -40,12 +40,12 @@ fn digits_at(input: &[u8]) -> (&str, &[u8])
     }
 }
 
-/// A number without a sign, of 64 bits, and what follows it: the longest run of digits, one at least. `None` where no
-/// digit stands there, or where the number passes 64 bits. Zeros may stand in front.
+/// Reads an unsigned 64-bit integer: the longest run of one or more digits, with leading zeros allowed. Returns
+/// `None` if the input does not begin with a digit or the number exceeds 64 bits.
 ///
-/// # Cost
+/// # Complexity
 ///
-/// Linear in the digits, without memory.
+/// O(n) for n digits. Does not allocate.
 #[inline(always)]
 pub fn nat64(input: &[u8]) -> Option<(u64, &[u8])>
     ensures value { read_as (λ value. value) result ≡ natural_below (2 ^ 64) input.now }
@@ -57,7 +57,7 @@ pub fn nat64(input: &[u8]) -> Option<(u64, &[u8])>
     digits64(input)
 }
 
-/// The same by the digits, which may be none.
+/// Returns the 64-bit integer of these digits, which may be none.
 #[inline(never)]
 fn digits64(input: &[u8]) -> Option<(u64, &[u8])>
     ensures value { read_as (λ value. value) result ≡ natural_below (2 ^ 64) input.now }
@@ -70,12 +70,12 @@ fn digits64(input: &[u8]) -> Option<(u64, &[u8])>
     }
 }
 
-/// A number without a sign, of 8 bits, and what follows it: the longest run of digits, one at least. `None` where no
-/// digit stands there, or where the number passes 8 bits. Zeros may stand in front.
+/// Reads an unsigned 8-bit integer: the longest run of one or more digits, with leading zeros allowed. Returns `None`
+/// if the input does not begin with a digit or the number exceeds 8 bits.
 ///
-/// # Cost
+/// # Complexity
 ///
-/// Linear in the digits, without memory.
+/// O(n) for n digits. Does not allocate.
 pub fn nat8(input: &[u8]) -> Option<(u8, &[u8])>
     ensures value { read_as (λ value. value) result ≡ natural_below (2 ^ 8) input.now }
     ensures shrinks { LeavesLess input.now result }
@@ -87,7 +87,7 @@ pub fn nat8(input: &[u8]) -> Option<(u8, &[u8])>
     }
 }
 
-/// Whether a minus stands there, and what follows the sign, if there is one.
+/// Returns `true` if the input begins with a minus, and the bytes after the sign, if there is one.
 #[tactic(auto, unfolding(crate::specs::Tokens::sign))]
 #[inline(always)]
 fn read_sign(input: &[u8]) -> (bool, &[u8])
@@ -113,12 +113,12 @@ fn signed(negative: bool, n: u64) -> Option<i64>
     }
 }
 
-/// A number of 64 bits, with a `+`, a `-` or no sign in front of its digits, and what follows it. `None` where no
-/// digit stands there, or where the number passes 64 bits. Zeros may stand in front.
+/// Reads a 64-bit integer with a `+`, a `-` or no sign before its digits; leading zeros are allowed. Returns `None`
+/// if there is no digit or the number exceeds 64 bits.
 ///
-/// # Cost
+/// # Complexity
 ///
-/// Linear in the digits, without memory.
+/// O(n) for n digits. Does not allocate.
 #[inline(always)]
 pub fn int64(input: &[u8]) -> Option<(i64, &[u8])>
     ensures value { read_as (λ value. value) result ≡ integer_within (2 ^ 63) input.now }
@@ -132,12 +132,12 @@ pub fn int64(input: &[u8]) -> Option<(i64, &[u8])>
     }
 }
 
-/// A number of 32 bits, with a `+`, a `-` or no sign in front of its digits, and what follows it. `None` where no
-/// digit stands there, or where the number passes 32 bits. Zeros may stand in front.
+/// Reads a 32-bit integer with a `+`, a `-` or no sign before its digits; leading zeros are allowed. Returns `None`
+/// if there is no digit or the number exceeds 32 bits.
 ///
-/// # Cost
+/// # Complexity
 ///
-/// Linear in the digits, without memory.
+/// O(n) for n digits. Does not allocate.
 #[inline(always)]
 pub fn int32(input: &[u8]) -> Option<(i32, &[u8])>
     ensures value { read_as (λ value. value) result ≡ integer_within (2 ^ 31) input.now }

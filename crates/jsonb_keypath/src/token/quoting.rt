@@ -1,4 +1,4 @@
-//! How names and texts are written: between quotes where that is needed to read them back.
+//! Writing names and strings, between quotes if they do not parse back otherwise.
 
 ghost use Rattle.std.specs.Prelude.{◌≡◌, flat_map, encode_utf8};
 ghost use Rattle.std.specs.List.{list_all};
@@ -7,12 +7,12 @@ ghost use Rattle.jsonb_keypath.specs.KeyPathText.{is_word_byte, is_plain_name as
 
 use std::fmt;
 
-/// Whether a name can be written without quotes: it is nonempty, of ASCII letters, digits and underscores, and
-/// doesn't begin with a digit.
+/// Returns `true` if a name is plain: it is not empty, has only ASCII letters, digits and underscores, and does not
+/// begin with a digit.
 ///
-/// # Cost
+/// # Complexity
 ///
-/// Linear in the text, without memory.
+/// O(n) for a name of n bytes. Does not allocate.
 pub fn is_plain_name(text: &str) -> bool
     ensures { result ≡ spec_is_plain_name text.now }
 {
@@ -22,23 +22,34 @@ pub fn is_plain_name(text: &str) -> bool
     }
 }
 
+/// Returns `true` if all bytes are letters, digits or underscores. Examines them without a branch, several at once:
+/// most names are plain, so that an early end would cost more.
 fn are_word_bytes(bytes: &[u8]) -> bool
     ensures { result ≡ list_all is_word_byte bytes.now }
 {
-    bytes
-        .iter()
-        .all(|b| b.is_ascii_alphanumeric() || *b == b'_')
+    let mut are_words = true;
+    for b in bytes {
+        are_words = are_words & is_word_byte(*b);
+    }
+    are_words
 }
 
-/// Writes a name as it is where it is plain, and else between quotes.
+#[inline(always)]
+fn is_word_byte(b: u8) -> bool
+    ensures { result ≡ is_word_byte b }
+{
+    b.is_ascii_alphanumeric() | (b == b'_')
+}
+
+/// Writes a name, unchanged if it is plain, otherwise between quotes.
 ///
 /// # Errors
 ///
-/// The formatter's, only where it refuses.
+/// The error of the formatter, only if it fails.
 ///
-/// # Cost
+/// # Complexity
 ///
-/// Linear in the text, without memory.
+/// O(n) for a name of n bytes. Does not allocate.
 pub fn write_name<W: fmt::Write>(text: &str, f: &mut fmt::Formatter<W>) -> fmt::Result
     ensures { WritesOnOk W.write_str_gives f.old result (name_text text.now) f.new }
 {
@@ -49,16 +60,16 @@ pub fn write_name<W: fmt::Write>(text: &str, f: &mut fmt::Formatter<W>) -> fmt::
     }
 }
 
-/// Writes a text between quotes, with a backslash before each quote and each backslash in it; all other characters
-/// stand as they are.
+/// Writes a string between quotes, with a backslash before each quote and each backslash in it; all other characters
+/// are unchanged.
 ///
 /// # Errors
 ///
-/// The formatter's, only where it refuses.
+/// The error of the formatter, only if it fails.
 ///
-/// # Cost
+/// # Complexity
 ///
-/// Linear in the text, without memory.
+/// O(n) for a string of n bytes. Does not allocate.
 pub fn write_quoted<W: fmt::Write>(text: &str, f: &mut fmt::Formatter<W>) -> fmt::Result
     ensures { WritesOnOk W.write_str_gives f.old result (quoted_text text.now) f.new }
 {
@@ -67,7 +78,7 @@ pub fn write_quoted<W: fmt::Write>(text: &str, f: &mut fmt::Formatter<W>) -> fmt
     f.write_str("\"")
 }
 
-/// Writes what stands between the quotes.
+/// Writes the content between the quotes.
 fn write_inside<W: fmt::Write>(text: &str, f: &mut fmt::Formatter<W>) -> fmt::Result
     ensures { WritesOnOk W.write_str_gives f.old result (flat_map quoted_byte text.now) f.new }
 {

@@ -1,4 +1,4 @@
-//! Names, and texts between quotes.
+//! Names and quoted strings.
 
 ghost use Rattle.std.specs.Prelude.{◌≡◌, ◌++◌, string_bytes, IfOk, IfErr, OnOk};
 ghost use Rattle.std.specs.List.{prefix_len};
@@ -15,21 +15,31 @@ use jsonb_doc::Error;
 use std::alloc::{AllocError, Global};
 use std::borrow::CowStr;
 
-/// Reads a name at the front of the input: the longest run of one or more units, a unit being an escape or a byte
-/// that is neither a backslash nor a stop byte, and then the end of the input or a stop byte.
+/// Reads a name, and returns it with its escapes replaced, and the bytes after it.
 ///
-/// The stop bytes are space and `, . : { } [ ] ( ) ? @ $ | < > ! = + - * / % " '`. A tab, a line end and `&` are
-/// none. A malformed escape in the run, a lone surrogate, or bytes that are no UTF-8 fail the whole name: `None`.
+/// A name is the longest run of one or more units, a unit being an escape or a byte that is neither a backslash nor a
+/// stop byte, followed by the end of the input or a stop byte. The stop bytes are space and
+/// `, . : { } [ ] ( ) ? @ $ | < > ! = + - * / % " '`, but not tab, line end and `&`.
 ///
-/// The name is given with its escapes replaced, and what follows it. Without escapes it is borrowed from the input.
+/// Returns `None` if there is no such run, or if it has a malformed escape, a lone surrogate, or invalid UTF-8. A name
+/// without escapes is borrowed from the input.
 ///
 /// # Errors
 ///
-/// `OutOfMemory` where memory is refused, only where there are escapes.
+/// `OutOfMemory` if an allocation fails. Only a name with escapes allocates.
 ///
-/// # Cost
+/// # Complexity
 ///
-/// Linear in the name. Takes memory only where there are escapes.
+/// O(n) for a name of n bytes. Allocates only for a name with escapes.
+///
+/// # Examples
+///
+/// ```rust crates/jsonb_examples/src/steps.rt
+/// let found = match read_quoted(alloc, text)? {
+///     Some(quoted) => Some(quoted),
+///     None => read_name(alloc, text)?,
+/// };
+/// ```
 pub fn read_name(alloc: Global, input: &[u8]) -> Result<Option<(CowStr<'_, Global>, &[u8])>, Error>
     ensures value { IfOk result (λ found. read_as cow_str_bytes found ≡ name input.now) }
     ensures shrinks { IfOk result (LeavesLess input.now) }
@@ -38,22 +48,30 @@ pub fn read_name(alloc: Global, input: &[u8]) -> Result<Option<(CowStr<'_, Globa
     Ok(name_at(alloc, input)?)
 }
 
-/// Reads a text between quotes at the front of the input: a quote, one or more units, a unit being an escape or a
-/// byte that is neither a backslash nor a quote, and a quote.
+/// Reads a quoted string, and returns it without its quotes and with its escapes replaced, and the bytes after it.
 ///
-/// Empty quotes, a missing end, a malformed escape, a lone surrogate, or bytes that are no UTF-8 fail the text:
-/// `None`.
+/// A quoted string is a quote, one or more units, a unit being an escape or a byte that is neither a backslash nor a
+/// quote, and a quote.
 ///
-/// The text is given without its quotes and with its escapes replaced, and what follows it. Without escapes it is
-/// borrowed from the input.
+/// Returns `None` for empty quotes, a missing end, a malformed escape, a lone surrogate, or invalid UTF-8. A string
+/// without escapes is borrowed from the input.
 ///
 /// # Errors
 ///
-/// `OutOfMemory` where memory is refused, only where there are escapes.
+/// `OutOfMemory` if an allocation fails. Only a string with escapes allocates.
 ///
-/// # Cost
+/// # Complexity
 ///
-/// Linear in the text. Takes memory only where there are escapes.
+/// O(n) for a string of n bytes. Allocates only for a string with escapes.
+///
+/// # Examples
+///
+/// ```rust crates/jsonb_examples/src/steps.rt
+/// let found = match read_quoted(alloc, text)? {
+///     Some(quoted) => Some(quoted),
+///     None => read_name(alloc, text)?,
+/// };
+/// ```
 pub fn read_quoted(
     alloc: Global,
     input: &[u8],
@@ -65,7 +83,7 @@ pub fn read_quoted(
     Ok(quoted_at(alloc, input)?)
 }
 
-/// A name, where memory alone can fail.
+/// Reads a name; fails only if an allocation fails.
 #[tactic(auto, unfolding(crate::specs::Tokens::name))]
 #[inline(always)]
 pub(crate) fn name_at(
@@ -86,7 +104,7 @@ pub(crate) fn name_at(
     Ok(Some((found, rest)))
 }
 
-/// A text between quotes, where memory alone can fail.
+/// Reads a quoted string; fails only if an allocation fails.
 #[tactic(auto, unfolding(crate::specs::Tokens::quoted))]
 #[inline(always)]
 pub(crate) fn quoted_at(
@@ -102,7 +120,7 @@ pub(crate) fn quoted_at(
     }
 }
 
-/// The same behind the first quote.
+/// Reads a quoted string after its first quote.
 #[inline(never)]
 fn closed_at(alloc: Global, input: &[u8]) -> Result<Option<(CowStr<'_, Global>, &[u8])>, AllocError>
     ensures value { IfOk result (λ found. read_as cow_str_bytes found ≡ closed input.now) }
@@ -117,7 +135,7 @@ fn closed_at(alloc: Global, input: &[u8]) -> Result<Option<(CowStr<'_, Global>, 
     }
 }
 
-/// Which bytes a text can't hold but by an escape.
+/// The bytes that a token can contain only by an escape.
 #[derive(Clone, Copy)]
 pub(crate) enum Ending {
     /// The stop bytes, which end a name.
@@ -169,7 +187,7 @@ fn is_stop(b: u8) -> bool
     )
 }
 
-/// A text up to where its run of units ends. A text without escapes is not copied.
+/// Reads a token up to the end of its run of units. Without escapes it is not copied.
 #[inline(always)]
 fn text_at(
     alloc: Global,
@@ -207,7 +225,7 @@ fn plain_count(ending: Ending, input: &[u8]) -> usize
         .count()
 }
 
-/// The same text, in memory of its own.
+/// Reads a token into a new string.
 #[inline(never)]
 fn owned_text_at(
     alloc: Global,
@@ -227,7 +245,7 @@ fn owned_text_at(
     }
 }
 
-/// The longest run of units, one at least, as the bytes that it stands for.
+/// Reads the longest run of one or more units. Returns the bytes that they denote, and the bytes after the run.
 #[tactic(auto, unfolding(crate::specs::Tokens::units))]
 fn units_at(
     alloc: Global,
@@ -250,7 +268,7 @@ fn units_at(
     Ok(Some((found, rest)))
 }
 
-/// A part of a text: a byte that stands for itself, or the character of an escape.
+/// A unit of a token: a byte that denotes itself, or the character of an escape.
 #[derive(Clone, Copy)]
 pub(crate) enum Unit {
     Byte(u8),

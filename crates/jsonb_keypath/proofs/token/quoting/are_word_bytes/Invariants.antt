@@ -1,0 +1,8 @@
+use Rattle.std.proofs.Common.{◌≡◌, take}
+use Rattle.std.specs.List.{list_all}
+use Rattle.jsonb_keypath.specs.KeyPathText.{is_word_byte}
+use Rattle.jsonb_keypath.proofs.token.quoting.are_word_bytes.Given as goal
+
+-- the bytes so far
+abbrev pub invariant-loop-b : goal.invariant-loop-b
+invariant-loop-b l = l.are_words ≡ list_all is_word_byte (take l.b-index l.bytes)
