@@ -1,4 +1,4 @@
--- From one word of answers to another.
+-- From one word of results to another.
 use Rattle.std.proofs.Common.{◌≡◌, Option, Some, None, Result, Ok, Err, IsOkAnd, IfOk, inl, MatchResult}
 use Rattle.jsonb_doc.specs.declared.error.Error.{Error}
 use Rattle.jsonb_doc.specs.declared.error.Error.TheVariants.{OutOfMemory}
@@ -15,11 +15,11 @@ pub if_answered : {A : Type 0} (P : A → Type 0) (r : Result A Error) → Match
 if_answered P (Ok x) h = h
 if_answered P (Err e) h = tt
 
--- want of memory is an answer for every tree
+-- a failed allocation is a result for every tree
 pub no_memory : (form : Form) (wanted : Option Tree) (e : Error) → e ≡ OutOfMemory → MakesOption form wanted (Err e)
 no_memory form None e h = h
 no_memory form (Some t) e h = inl h
 
--- so is a refusal of the tree that is wanted
+-- so is an error of the tree that is given
 pub no_room : (form : Form) (t : Tree) (wanted : Option Tree) (e : Error) → Some t ≡ wanted → IsOutOfMemoryOrTooLarge form t e → MakesOption form wanted (Err e)
 no_room form t wanted e is h = rw (← is) h

@@ -24,7 +24,7 @@ pub length-elements : (ts : Trees) → count ts ≡ length (elements ts)
 length-elements no_trees = refl
 length-elements (tree t ts) = ap suc (length-elements ts)
 
--- where a document of the next element is refused, those of all elements are
+-- if a document of the next element fails, those of all elements are
 pub element_refused_in_list : (form : Form) (made : List OwnedJsonb) (t : Tree) (left whole : List Tree) (e : Error)
     → Made (Decodes form) made (t ∷ left) whole → IsOutOfMemoryOrTooLarge form t e → (e ≡ OutOfMemory) ⊎ ((e ≡ TooLarge) × Any (IsTooLarge form) whole)
 element_refused_in_list form made t left whole e m (inl memory) = inl memory

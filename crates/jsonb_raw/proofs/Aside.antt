@@ -1,4 +1,4 @@
--- A pair of parts that is put aside in a walk, and the answer that it leaves open.
+-- A pair of parts that is put aside in a walk, and the result that it leaves open.
 use Rattle.std.proofs.Common.{◌≡◌, ℕ, ◌+◌, ◌≤◌, Bool, true, false, ◌&&◌, ◌||◌, not, Option, Some, None, Result, Ok, Err, arith, refl, ◌∙◌, subst}
 use Rattle.std.specs.Prelude.{is_some, IfOk}
 use Rattle.jsonb_doc.specs.Tree.{Tree, Trees, no_trees, tree}
@@ -12,10 +12,10 @@ use Rattle.jsonb_doc.specs.declared.entry_iter.EntryIter.{EntryIter}
 use Rattle.jsonb_doc.specs.declared.entry_iter.StoredEntry.{StoredEntry}
 use Rattle.jsonb_raw.specs.Private.Compared.{Decides, IsShorter}
 use Rattle.jsonb_raw.specs.declared.compared.Compared.{Compared}
-use Rattle.jsonb_raw.specs.declared.compared.Compared.TheVariants.{Known, AsOf}
+use Rattle.jsonb_raw.specs.declared.compared.Compared.TheVariants.{Known, Deferred}
 use Rattle.jsonb_raw.proofs.EntriesLeft.{SomeEntries}
 
--- the answer of the test for the entries that were put aside, and true where there are none
+-- the result of the test for the entries that were put aside, and true if there are none
 abbrev pub IsAnswer : (Tree → Tree → Bool) → Form → Form → Option (StoredEntry × StoredEntry) → Bool → Type 0
 IsAnswer test form other_form None b = b ≡ true
 IsAnswer test form other_form (Some p) b = (t : Tree) × (u : Tree) × Stores form p.0 t × Stores other_form p.1 u × (test t u ≡ b)
@@ -44,7 +44,7 @@ turned false false = refl
 pub none_aside : (Large : Bool → Type 0) (rest : Bool) → Large true → Aside Large rest rest
 none_aside Large rest is = record { answer = true; is = is; fact = and_true rest }
 
--- a part is put aside where none was
+-- a part is put aside if none was
 pub put_aside : (Large Larger : Bool → Type 0) (part rest whole : Bool) → ((b : Bool) → Large b → b ≡ true) → Larger part → Aside Large (part && rest) whole
     → Aside Larger rest whole
 put_aside Large Larger part rest whole none is a = record {
@@ -80,7 +80,7 @@ none_left form it' None b (tree u us) e h = absurd h
 none_left form it' (Some r) true (tree u us) e h = cc
 none_left form it' (Some r) false (tree u us) e h = refl
 
--- where the first of two walks in step has ended, they are equal exactly where the second gives none
+-- if the first of two walks in step has ended, they are equal if and only if the second yields none
 pub entries_ended : (form : Form) (it it' : EntryIter) (r : Option (Result StoredEntry Error)) (b : Bool) (Q : Bool → Type 0) → is_some r ≡ not b
     → GivesEntry it r it'
     → SomeEntries form it (λ right. Q (are_equal no_trees right)) → Q b
@@ -89,15 +89,15 @@ entries_ended form it it' r b Q e n s = subst Q (none_left form it' r b s.trees 
 -- how long the first part is that is left to compare, and one more
 abbrev pub first_left : Compared → ℕ
 first_left (Known b) = 0
-first_left (AsOf x y) = 1 + item_size x
+first_left (Deferred x y) = 1 + item_size x
 
 pub first_falls : (told : Compared) (n : ℕ) → IsShorter told n → first_left told ≤ n
 first_falls (Known b) n h = omega arith
-first_falls (AsOf x y) n h = omega arith
+first_falls (Deferred x y) n h = omega arith
 
 -- the parts that are left in the place of two others
 pub decided_along : (test : Tree → Tree → Bool) (form other_form : Form) (told : Compared) (x y : Item) (whole : Bool)
-    → Decides test form other_form (AsOf x y) whole
+    → Decides test form other_form (Deferred x y) whole
     → ((t u : Tree) → StandsFor form x t → StandsFor other_form y u → Decides test form other_form told (test t u))
     → Decides test form other_form told whole
 decided_along test form other_form told x y whole l decides =
@@ -107,7 +107,7 @@ decided_along test form other_form told x y whole l decides =
 pub shorter_than : (r : Result Compared Error) (m n : ℕ) → m ≤ n → IfOk r (λ told. IsShorter told m) → IfOk r (λ told. IsShorter told n)
 shorter_than (Err e) m n le h = h
 shorter_than (Ok (Known b)) m n le h = h
-shorter_than (Ok (AsOf x y)) m n le h = omega arith
+shorter_than (Ok (Deferred x y)) m n le h = omega arith
 
 -- ---- one of several
 

@@ -1,4 +1,4 @@
--- What the calls on arrays, objects and children answer for some documents, computed.
+-- Results of the functions on arrays, objects and children for some documents, computed.
 use Rattle.std.specs.Prelude.{◌≡◌, pos, negsuc, true, false, List, [], ◌∷◌, Some, None, refl, codes}
 use Rattle.jsonb_doc.specs.Number.{number_from, uint64}
 use Rattle.jsonb_doc.specs.Tree.{Tree, null, number, text, array, object, trees_of, pairs_of}

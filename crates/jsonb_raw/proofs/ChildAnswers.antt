@@ -1,4 +1,4 @@
--- What the calls on children answer, by the item or the spot that was found.
+-- What the calls on children return, by the item or the spot that was found.
 use Rattle.std.proofs.Common.{◌≡◌, ◌↔◌, ℕ, suc, zero, ℤ, Bool, true, false, IsTrue, List, [], ◌∷◌, map, length, drop, slice_get, Option, Some, None, Bor, refl, sym, ap, ◌∙◌}
 use Rattle.std.specs.List.{remove}
 use Rattle.std.specs.Char.{to_ascii_lowercase}
@@ -7,6 +7,9 @@ use Rattle.std.specs.Str.{str_eq_ignore_ascii_case}
 use Rattle.jsonb_doc.specs.Tree.{Tree, array, object, Trees, Pairs, elements, trees_of, field_of}
 use Rattle.jsonb_doc.specs.Payload.{Form}
 use Rattle.jsonb_doc.specs.Format.{Decodes}
+use Rattle.jsonb_doc.specs.Shapes.{HasShape}
+use Rattle.jsonb_doc.specs.declared.shape.Shape.{Shape}
+use Rattle.jsonb_doc.specs.declared.shape.Shape.TheVariants as shapes
 use Rattle.jsonb_doc.specs.Item.{StandsFor}
 use Rattle.jsonb_doc.specs.declared.item.Item.{Item}
 use Rattle.jsonb_doc.specs.declared.item.Item.TheVariants as item
@@ -24,7 +27,7 @@ pub object_item : (form : Form) (x : Item) (b : Bor (List ℕ)) (t : Tree) → x
     → (ps : Pairs) × (t ≡ object ps) × Decodes form b.now (object ps)
 object_item form x b t is stands = rw is at stands
 
--- an item that is no container has no children with a name
+-- an item that is not a container has no children with a name
 pub no_names : (form : Form) (x : Item) (t : Tree) (name : List ℕ) → StandsFor form x t → ((b : Bor (List ℕ)) → x ≡ item.Array b → ⊥)
     → ((b : Bor (List ℕ)) → x ≡ item.Object b → ⊥) → without_name name t ≡ None
 no_names form (item.Array b) t name stands not_array not_object = absurd (not_array b refl)
@@ -32,9 +35,8 @@ no_names form (item.Object b) t name stands not_array not_object = absurd (not_o
 no_names form _ t name stands not_array not_object = rw stands refl
 
 -- the child at a position of an array is its element
-pub child_is_element : (form : Form) (x : Item) (b : Bor (List ℕ)) (t : Tree) (i : ℕ) → x ≡ item.Array b → StandsFor form x t
-    → slice_get (children t) i ≡ element_at i t
-child_is_element form x b t i is stands = let s = array_item form x b t is stands in rw s.1 refl
+pub child_is_element : (x : Shape) (t : Tree) (i : ℕ) → x ≡ shapes.Array → HasShape x t → slice_get (children t) i ≡ element_at i t
+child_is_element x t i is shape = let s : (ts : Trees) × (t ≡ array ts) = rw is at shape in rw s.1 refl
 
 -- ---- an element less
 
@@ -60,7 +62,7 @@ named_there name ignore t u is = rw is refl
 pub named_nowhere : (name : List ℕ) (t : Tree) → field_of name t ≡ None → named_child name false t ≡ None
 named_nowhere name t is = rw is refl
 
--- a test of the code decides whether texts are the same
+-- a test of the code decides whether strings are the same
 pub decided : (a b : List ℕ) (r : Bool) → (IsTrue r ↔ (map to_ascii_lowercase a ≡ map to_ascii_lowercase b)) → str_eq_ignore_ascii_case a b ≡ r
 decided a b true test = (bytes_eq-Decides (map to_ascii_lowercase a) (map to_ascii_lowercase b)).1 (test.0 refl)
 decided a b false test = go (str_eq_ignore_ascii_case a b) refl
@@ -69,7 +71,7 @@ decided a b false test = go (str_eq_ignore_ascii_case a b) refl
     go false e = refl
     go true e = sym (test.1 ((bytes_eq-Decides (map to_ascii_lowercase a) (map to_ascii_lowercase b)).0 e))
 
--- ---- what `!=` answers
+-- ---- what `!=` returns
 
 -- ---- positions
 

@@ -43,13 +43,13 @@ here ts n first rest wanted split now same = sym (rw (split, now) at same)
 pub nowhere : (ts : List Tree) (n : ℕ) (wanted : Option Tree) → ts ≡ [] → slice_get ts n ≡ wanted → wanted ≡ None
 nowhere ts n wanted none same = sym (rw none at same)
 
--- the first behind so many is the one at that position
+-- the first after that many is the one at that position
 pub first_behind : (ts : List Tree) (n : ℕ) → slice_get (drop n ts) 0 ≡ slice_get ts n
 first_behind ts zero = refl
 first_behind [] (suc n) = refl
 first_behind (t ∷ ts) (suc n) = first_behind ts n
 
--- the element in front of what is left of a list
+-- the element before what is left of a list
 pub record SplitAt (all : List Tree) (k : ℕ) (first : Tree) (rest : List Tree) : Type 0 where
   pub inside : k < length all
   pub at : slice_get all k ≡ Some first
@@ -73,7 +73,7 @@ pub first_marked : {bytes : List ℕ} {ts : List Tree} {r : Result Spot Error} {
     → r ≡ Ok spot → Locates bytes spot f.first
 first_marked {bytes} {ts} {r} {after} f spot e = marks_of bytes f.first r spot e f.marks
 
--- where a tree is left, its spot is given
+-- if a tree is left, its spot is given
 pub first_given : {bytes : List ℕ} {ts : List Tree} {r : Result Spot Error} {after : SpotIter} (f : FirstLeft bytes ts r after) (error : Error)
     → r ≡ Err error → ⊥
 first_given {bytes} {ts} {r} {after} f error e = no_marks bytes f.first r error e f.marks
@@ -94,7 +94,7 @@ from_front ts n = by (nat_lt n (length ts)) refl
     by true e = rw e refl
     by false e = let h : length ts ≤ n = grind (arith, nat_tests, e) in rw (e, beyond ts n h) refl
 
--- the child that so many others follow, of so many in all
+-- the child that that many others follow, of that many in all
 abbrev pub from_end : List Tree → ℕ → ℕ → Option Tree
 from_end ts len after = option_and_then (λ n. slice_get ts n) (index_position len (negsuc after))
 

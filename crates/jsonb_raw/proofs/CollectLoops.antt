@@ -2,7 +2,7 @@
 use Rattle.std.proofs.Common.{◌≡◌, List, [], ◌∷◌, ◌++◌, suc, arith, refl, sym, subst, ◌∙◌, append_assoc, append-nil}
 use Rattle.std.specs.List.{Any, AllZip}
 
--- R holds of what was made and the parts in front
+-- R holds of what was made and the parts at the front
 pub record Made {A B : Type 0} (R : A → B → Type 0) (made : List A) (left whole : List B) : Type 0 where
   pub front : List B
   pub each : AllZip R made front

@@ -1,4 +1,4 @@
--- Keys of several values, one behind the other, from the keys of each with what follows it.
+-- Keys of several values, one after the other, from the keys of each with what follows it.
 use Rattle.std.proofs.Common.{◌≡◌, ℕ, ◌<◌, List, [], ◌∷◌, ◌++◌, flat_map, Option, None, Some, IfSome, true, Less, Greater, inl, refl, sym, ap, subst, ◌∙◌, arith, append_assoc}
 use Rattle.std.specs.Ordering.{ordering_then}
 use Rattle.std.specs.Cmp.Lexicographic.{slice_cmp}
@@ -46,7 +46,7 @@ above_nothing w column r =
     let i = column_is_item w column in
     ap (λ x. bytes_cmp (x ++ r) []) i.2 ∙ ap (λ x. bytes_cmp x []) (append_assoc (to_be_bytes w 0) (i.0 ∷ i.1) r) ∙ nothing_above_depth w 0 (i.0 ∷ i.1 ++ r)
 
--- a missing value beside one that is there
+-- a missing value next to one that is there
 missing_below : (w : Width) (u : Tree) (r s : List ℕ) → bytes_cmp (column_key w None ++ r) (sortable_key w u 0 ++ s) ≡ Less
 missing_below w u r s =
     let i = key_is_item w u 0 in

@@ -17,7 +17,7 @@ pub contains-extension : (t : Tree) (x : Extension) → contains t (extension x)
 contains-extension null x = refl
 contains-extension _ x = refl
 
--- a container is contained where it is matched
+-- a container is contained if it is matched
 pub contains-array : (t : Tree) (ys : Trees) → contains t (array ys) ≡ is_part_of (array ys) t
 contains-array (boolean true) ys = refl
 contains-array _ ys = refl
@@ -26,7 +26,7 @@ pub contains-object : (t : Tree) (qs : Pairs) → contains t (object qs) ≡ is_
 contains-object (boolean true) qs = refl
 contains-object _ qs = refl
 
--- an item that is no extension and no container
+-- an item that is not an extension and no container
 pub plain_item : (form : Form) (y : Item) (u : Tree) → StandsFor form y u → ((x : ExtensionValue) → y ≡ item.Extension x → ⊥)
     → ((b : Bor (List ℕ)) → y ≡ item.Array b → ⊥) → ((b : Bor (List ℕ)) → y ≡ item.Object b → ⊥) → is_json_scalar u ≡ true
 plain_item form (item.Extension x) u h e a o = absurd (e x refl)

@@ -83,7 +83,7 @@ mutual
   matched_refl (array ts) = each_refl ts (elements ts) [] refl
   matched_refl (object ps) = each_pair_refl ps (members ps) [] refl
 
-  -- each of the elements that are left stands in the whole list
+  -- each of the elements that are left is in the whole list
   each_refl : (ts : Trees) (whole before : List Tree) → whole ≡ before ++ elements ts → each_is_matched ts whole ≡ true
   each_refl no_trees whole before e = refl
   each_refl (tree t ts) whole before e = both _ _
@@ -112,7 +112,7 @@ not_container (array ts) = false
 not_container (object ps) = false
 not_container _ = true
 
--- what equals a tree that is no container is none
+-- what equals a tree that is not a container is none
 like : (u y : Tree) → is_equal u y ≡ true → not_container y ≡ true → not_container u ≡ true
 like null y h e = refl
 like (boolean b) y h e = refl

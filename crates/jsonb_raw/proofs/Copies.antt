@@ -1,4 +1,4 @@
--- An iterator of copies tells what is left in it where the iterator below does.
+-- An iterator of copies determines what is left in it if the iterator below does.
 use Rattle.std.proofs.Common.{List, map, Option, Some, None, ap}
 use Rattle.std.specs.Iterator.{YieldsFirstRef}
 use Rattle.std.specs.Iterator.Adapters.{copied_steps, copied_source}

@@ -34,7 +34,7 @@ passed_before (Some key) k name ks before less = nat_list_cmp_total.trans key.no
 
 module _ (form : Form) (ks : List (List ℕ)) (c : KeyCursor) (ahead' : EntryIter) (h : IsCursorOf form c ks) where
   module _ (r : Result StoredEntry Error) (x : StoredEntry) (e : r ≡ Ok x) (n : GivesEntry c.left (Some r) ahead') where
-    -- the key that was given is the first of those behind the cursor
+    -- the key that was given is the first of those after the cursor
     pub record FirstKey : Type 0 where
       pub others : List (List ℕ)
       pub whole : h.behind ≡ x.content.now ∷ others
@@ -72,7 +72,7 @@ module _ (form : Form) (ks : List (List ℕ)) (c : KeyCursor) (ahead' : EntryIte
         let f = first_key in
         rw (f.whole, test_of_order x.content.now name Equal same) at (h.decides name passed)
 
-    -- the key is above the name, and so are those behind it
+    -- the key is above the name, and so are those after it
     pub cursor_misses : (name : List ℕ) → IsPassed c.passed name → slice_cmp nat_cmp x.content.now name ≡ Greater
         → false ≡ list_any (λ key. bytes_eq key name) ks
     cursor_misses name passed above =
@@ -82,7 +82,7 @@ module _ (form : Form) (ks : List (List ℕ)) (c : KeyCursor) (ahead' : EntryIte
         ≡ false = none_below name (x.content.now ∷ f.others) (below_key x.content.now name above) rising in
         sym none ∙ (rw f.whole at (h.decides name passed))
 
-  -- no key is behind the cursor
+  -- no key is after the cursor
   pub cursor_ends : GivesEntry c.left None ahead' → (name : List ℕ) → IsPassed c.passed name → false ≡ list_any (λ key. bytes_eq key name) ks
   cursor_ends n name passed = go h.behind (n.takes form (key_trees h.behind) h.left) (h.decides name passed)
     where
@@ -101,7 +101,7 @@ module _ (form : Form) (ks : List (List ℕ)) (c : KeyCursor) (ahead' : EntryIte
       no_error error h.behind (subst (λ (y : Result StoredEntry Error). TakesEntry form (key_trees h.behind) (Some y) ahead') e
       (n.takes form (key_trees h.behind) h.left))
 
--- the texts are those of the same tree after a search
+-- the strings are those of the same tree after a search
 pub still_texts : (form : Form) (t : Tree) (ps : Pairs) (s : KeySearch) (r : Result Bool Error) → t ≡ object ps
     → IfOk r (λ b. IsSearchOf form s (keys ps)) → IfOk r (λ b. HoldsTexts form (Keys s) t)
 still_texts form t ps s (Ok b) is h = (ps, is, h)

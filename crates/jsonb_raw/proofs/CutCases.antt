@@ -64,7 +64,7 @@ module _ (number_at : NumberReader) (bytes : List ℕ) (kind total : ℕ) (rest 
     | inr o ↦ omega (arith, outside, o.inside, o.counted)
   ]
 
-  -- a scalar's header is no container's
+  -- a scalar's header is not a container's
   pub not_scalar : (t : Tree) → kind ≡ 1 → IsContent number_at t container_entry bytes → slice_get (children t) n ≡ Some child → ⊥
   not_scalar t scalar h at = elim (container_case t h at) [ inl a ↦ omega (arith, scalar, a.kind_is) | inr o ↦ omega (arith, scalar, o.kind_is) ]
 

@@ -168,7 +168,7 @@ key_words_are bytes head vw vc words contents ks es is words_are contents_are va
       key-contents ks,
     ) refl
 
--- the same with other contents behind the keys
+-- the same with other contents after the keys
 entries_by_keys : (ks changed : List (List ℕ)) (front es : List EntryParts) → changed ≡ ks
     → words_of_entries ((key_entries ks ++ front) ++ es) ++ contents_of_entries ((key_entries ks ++ front) ++ es)
     ≡ (key_words changed ++ words_of_entries (front ++ es)) ++ (key_bytes changed ++ contents_of_entries (front ++ es))
@@ -308,7 +308,7 @@ module _ (number_at : NumberReader) (ps : Pairs) (bytes : List ℕ)
   pub cut_keys : SplitKeys ps n child
   cut_keys = split_keys ps n child at
 
-  -- the entries before the value's, and those behind the key's
+  -- the entries before the value's, and those after the key's
   abbrev pub before_value : List EntryParts
   before_value = key_entries (keys ps) ++ cut_values.front
 

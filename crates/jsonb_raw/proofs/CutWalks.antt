@@ -1,5 +1,5 @@
 -- A container without a place deep within it: the walk down to that place, and what is written of the way.
-use Rattle.std.proofs.Common.{◌≡◌, ℕ, zero, suc, ◌+◌, ◌-◌, ◌^◌, ◌<◌, ◌≤◌, List, [], ◌∷◌, ◌++◌, length, drop, Option, Some, None, refl, sym, ap, subst, ◌∙◌, arith, append_assoc, append-nil, add-one, drop-cons, get_or, slice_get, Result, Ok, Err, MatchResult}
+use Rattle.std.proofs.Common.{◌≡◌, ℕ, ◌+◌, ◌-◌, ◌^◌, ◌<◌, ◌≤◌, List, [], ◌∷◌, ◌++◌, length, drop, Option, Some, None, refl, sym, ap, subst, ◌∙◌, arith, append_assoc, append-nil, add-one, drop-cons, get_or, slice_get, Result, Ok, Err, MatchResult}
 use Rattle.std.specs.Prelude.{slice_range, option_and_then}
 use Rattle.std.proofs.lemmas.List.{length-append, drop-drop, drop-append-le}
 use Rattle.std.proofs.lemmas.List.Edits.{length-between}
@@ -14,25 +14,17 @@ use Rattle.jsonb_raw.specs.declared.functions.path.entry_place.ChildEntries.{Chi
 use Rattle.jsonb_raw.specs.Places.{children, tree_at}
 use Rattle.jsonb_raw.specs.Deletes.{change_child, remove_at}
 use Rattle.jsonb_raw.specs.Private.Cuts.{AreOfChild, AreInOrder, LiesWithin, LeadTo, LeadInto, content_at, with_content, without_child, entries_size, front_of, fronts, starts, IsPushed}
+use Rattle.jsonb_raw.proofs.Lists.{none_behind}
 use Rattle.jsonb_raw.proofs.PushSteps.{as_container, front}
 
 -- ---- lists
 
-pub drop_first : {A : Type 0} (xs : List A) (i : ℕ) (x : A) → i < length xs → x ≡ get_or xs i x → drop i xs ≡ x ∷ drop (i + 1) xs
-drop_first xs i x inside is = rw add-one (drop-cons xs i x inside ∙ ap (λ y. y ∷ drop (suc i) xs) (sym is))
-
 pub drop_number : (xs : List ℕ) (i : ℕ) → i < length xs → drop i xs ≡ get_or xs i 0 ∷ drop (i + 1) xs
 drop_number xs i inside = rw add-one (drop-cons xs i 0 inside)
 
-pub none_behind : {A : Type 0} (xs : List A) (i : ℕ) → length xs ≤ i → drop i xs ≡ []
-none_behind [] zero h = refl
-none_behind [] (suc i) h = refl
-none_behind (x ∷ xs) zero h = absurd (omega arith)
-none_behind (x ∷ xs) (suc i) h = none_behind xs i (omega arith)
-
 -- ---- the walk down
 
--- places that lead on from here lead, behind those so far, from the whole
+-- ranges that lead on from here lead from the whole, after those so far
 pub record WalkedInto (number_at : NumberReader) (bytes : List ℕ) (t : Tree) (positions : List ℕ) (places : List EntryPlace) (inner : List ℕ)
     (left : List ℕ) (end : Tree) (last : ℕ) : Type 0 where
   pub u : Tree
@@ -123,7 +115,7 @@ pub record NextFront (number_at : NumberReader) (bytes : List ℕ) (p : EntryPla
   pub joined : out ++ (front_of bytes p removed ++ fronts (content_at bytes p) ps removed) ≡ wanted
   pub start_is : start + (p.start + starts ps) ≡ start_wanted
 
--- the innermost content lies where the places say
+-- the innermost content is within the bytes, in the ranges
 pub inner_within : (number_at : NumberReader) (bytes : List ℕ) (t : Tree) (ns : List ℕ) (ps : List EntryPlace) (inner : List ℕ) (u : Tree)
     → LeadTo number_at bytes t ns ps inner u → starts ps + length inner ≤ length bytes
 inner_within number_at bytes t [] [] inner u h = omega (arith, ap length h.0)
@@ -179,7 +171,7 @@ fronts_on number_at bytes content p ps inner u removed start start' out out' sta
 
 -- ---- what is made of it all
 
--- what a container becomes where its part at these positions, in its child at the last of them, is left out
+-- A container without the value at these positions, the last of which is in a child.
 abbrev pub cut_at : List ℕ → ℕ → Tree → Tree
 cut_at [] last t = change_child last (remove_at []) t
 cut_at (n ∷ ns) last t = change_child n (remove_at (ns ++ last ∷ [])) t
@@ -188,7 +180,7 @@ pub cut_is : (ns : List ℕ) (last : ℕ) (t : Tree) → remove_at (ns ++ last �
 cut_is [] last t = refl
 cut_is (n ∷ ns) last t = refl
 
--- the content of this tree, so many bytes shorter than those
+-- Holds if the bytes are the content of this tree, `removed` bytes shorter than the others.
 pub record IsCut (number_at : NumberReader) (left : Tree) (bytes : List ℕ) (removed : ℕ) (made : List ℕ) : Type 0 where
   pub content : IsContent number_at left container_entry made
   pub size : length made + removed ≡ length bytes

@@ -33,7 +33,7 @@ value-cons d ds = ap (λ m. number_from_digits_after 10 m ds) (zero-add d) ∙ v
 abbrev pub marked : List ℕ → List ℕ
 marked ds = map suc (significant ds) ++ 0 ∷ []
 
--- a digit list writes 0 and leaves the end byte alone, or its first digit stays
+-- Holds if a list of digits is 0 and only its end marker is left, or its first digit stays.
 abbrev View : ℕ → List ℕ → Type 0
 View d ds = ((value (d ∷ ds) ≡ 0) × (marked (d ∷ ds) ≡ 0 ∷ [])) ⊎ ((0 < value (d ∷ ds)) × (marked (d ∷ ds) ≡ suc d ∷ marked ds))
 
@@ -81,7 +81,7 @@ no_product v p e = rw e (omega arith)
 scaled_pos : (v k : ℕ) → 0 < v → 0 < v * 10 ^ k
 scaled_pos v k h = mul-pos h (one-le-pow k 10 (omega arith))
 
--- the first digits decide, and else the other digits, here with the fractions' common scale
+-- the first digits decide, and otherwise the other digits, here with the fractions' common scale
 first_digits : (x y v w p q : ℕ) → v < p → w < q
     → nat_cmp ((x * p + v) * (q * 10)) ((y * q + w) * (p * 10)) ≡ ordering_then (nat_cmp (suc x) (suc y)) (nat_cmp (v * q) (w * p))
 first_digits x y v w p q hv hw =
@@ -93,7 +93,7 @@ first_digits x y v w p q hv hw =
     regroup : (x v p q : ℕ) → (x * p + v) * (q * 10) ≡ (x * (p * q) + v * q) * 10
     regroup x v p q = omega arith
 
--- Two fractions, of the digits behind a point, in one scale.
+-- Two fractions, of the digits after a point, in one scale.
 pub Ranks-marked : (xs ys : List ℕ) → AllBelowBase 10 xs → AllBelowBase 10 ys
     → Ranks (marked xs) (marked ys) (nat_cmp (value xs * 10 ^ length ys) (value ys * 10 ^ length xs))
 Ranks-marked [] [] hx hy = Ranks-same_head 0 [] [] Equal Ranks-nil

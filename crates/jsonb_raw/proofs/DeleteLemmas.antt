@@ -1,4 +1,4 @@
--- A document without the place that steps meet, or the same document.
+-- A document without the place that steps select, or the same document.
 use Rattle.std.proofs.Common.{◌≡◌, inl, inr, ℕ, List, [], ◌∷◌, ◌++◌, Option, Some, None, Result, Ok, Err, refl, sym, ap, subst, ◌∙◌, slice_get, Vec, Global, MatchResult}
 use Rattle.jsonb_doc.specs.declared.error.Error.{Error}
 use Rattle.jsonb_doc.specs.Tree.{Tree, null, boolean, number, text, extension, array, object}
@@ -35,7 +35,7 @@ without_none steps t e = rw e refl
 pub without_whole : (steps : List Key) (t : Tree) (ns : List ℕ) → ns ≡ [] → location steps t ≡ Some ns → without steps t ≡ t
 without_whole steps t ns empty e = rw (e, empty) refl
 
--- steps that meet a part don't meet none
+-- steps that select a part don't select none
 pub part_met : (steps : List Key) (t : Tree) (ns : List ℕ) → (ns ≡ [] → ⊥) → location steps t ≡ Some ns → MeetNoPart steps t → ⊥
 part_met steps t ns some e (inl none) = let bad : Some ns ≡ None = sym e ∙ none in absurd (cc)
 part_met steps t ns some e (inr no_steps) = some (whole steps no_steps e)
@@ -44,7 +44,7 @@ part_met steps t ns some e (inr no_steps) = some (whole steps no_steps e)
     whole [] is h = cc h
     whole (k ∷ keys) is h = absurd (cc)
 
--- ---- a document of its own
+-- ---- a document
 
 -- something is at the place of steps
 pub place_there : (steps : List Key) (t : Tree) (ns : List ℕ) → location steps t ≡ Some ns → (end : Tree) × (tree_at ns t ≡ Some end)

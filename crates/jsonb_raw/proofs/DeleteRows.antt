@@ -1,4 +1,4 @@
--- `[false, 10, {"k": "v"}]` without some places, and the texts that some trees have, computed.
+-- `[false, 10, {"k": "v"}]` without some places, and the strings that some trees have, computed.
 use Rattle.std.specs.Prelude.{◌≡◌, ℕ, pos, negsuc, true, false, List, [], ◌∷◌, refl}
 use Rattle.jsonb_doc.specs.Number.{number_from, uint64}
 use Rattle.jsonb_doc.specs.Tree.{Tree, boolean, number, text, array, object, trees_of, pairs_of}
@@ -39,7 +39,7 @@ nothing_in_a_scalar = refl
 no_steps : without [] row ≡ row
 no_steps = refl
 
--- a key is a text of an object, its value is none
+-- a key is a string of an object, its value is none
 has_the_key : has_all (k ∷ []) pair ≡ true
 has_the_key = refl
 

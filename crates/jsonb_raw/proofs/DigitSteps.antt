@@ -28,7 +28,7 @@ digits_pushed negative old n h =
     ∙ ap (map (complement_byte negative))
     (sym (map-append suc (digits_of 10 (n / 10)) (n % 10 ∷ [])) ∙ ap (map suc) (sym (digits_of_step 10 n (omega arith) h))))
 
--- one digit more is written in front of a place
+-- one digit more is written before a place
 pub digit_written : (negative : Bool) (n m : ℕ) (behind before whole : List ℕ) (byte : ℕ) → 0 < n → m ≡ n / 10
     → byte ≡ complement_byte negative (suc (n % 10)) → before ≡ byte ∷ behind
     → complement_bytes negative (map suc (digits_of 10 n)) ++ behind ≡ whole
@@ -83,7 +83,7 @@ no_digits (suc n) e = absurd (omega arith)
 
 -- ---- a number taken apart from its last digit on
 
--- zeros were passed over: behind the digits that are left they are all digits, of which there are so many at most
+-- zeros were passed over: after the digits that are left they are all digits, of which there are that many at most
 pub record ZerosPassed (n left zeros most : ℕ) : Type 0 where
   pub same : significant (digits_of 10 left) ≡ significant (digits_of 10 n)
   pub count : length (digits_of 10 n) ≡ length (digits_of 10 left) + zeros
@@ -100,7 +100,7 @@ zero_passed n left others zeros most h some is zero_last =
       few = h.few;
     }
 
--- digits are written up to a place of the buffer: behind those that are left they are all digits
+-- digits are written up to a place of the buffer: after those that are left they are all digits
 pub record DigitsWritten (negative : Bool) (n end : ℕ) (buffer : List ℕ) (left at : ℕ) (now : List ℕ) : Type 0 where
   pub count : at + length (digits_of 10 n) ≡ end + length (digits_of 10 left)
   pub within : at ≤ length now

@@ -1,4 +1,4 @@
--- Entries as documents of their own, as they are stored.
+-- Entries as documents, as they are stored.
 use Rattle.std.proofs.Common.{◌≢◌, ℕ, ◌^◌, ◌<◌, ◌≤◌, List, ◌++◌, length}
 use Rattle.jsonb_doc.specs.Tree.{Tree, null, boolean, number, text, extension, array, object}
 use Rattle.jsonb_doc.specs.Payload.{Form, number_reader}
@@ -7,7 +7,7 @@ use Rattle.jsonb_doc.specs.Limits.{IsTooLarge}
 use Rattle.jsonb_doc.proofs.EntryDocuments.{entry_decodes}
 use Rattle.jsonb_raw.proofs.JoinedEntries.{too_long}
 
--- another entry behind a header is a document
+-- another entry after a header is a document
 pub entry_is_document : (form : Form) (t : Tree) (kind : ℕ) (content : List ℕ) → IsContent (number_reader form) t kind content → kind ≢ 5 → kind < 8
     → length content < 2 ^ 28 → Decodes form (header scalar_header 0 ++ (entry_word kind (length content) ++ content)) t
 entry_is_document form t kind content is scalar known short = record {

@@ -11,7 +11,6 @@ use Rattle.jsonb_doc.specs.Private.Lengths.{StandBefore}
 use Rattle.jsonb_doc.specs.Private.ObjectBytes.{words_of_entries, contents_of_entries}
 use Rattle.jsonb_raw.specs.Deletes.{change_at, change_value}
 use Rattle.jsonb_raw.specs.Private.Cuts.{FitEntries}
-pub use Rattle.jsonb_raw.specs.Private.Stripping.{key_entries}
 
 -- ---- children that are changed
 
@@ -50,7 +49,7 @@ pub within-both : (xs ys : List EntryParts) → FitEntries xs → FitEntries ys 
 within-both [] ys h g = g
 within-both (e ∷ xs) ys h g = (h.0, within-both xs ys h.1 g)
 
--- entries stand before what follows their contents
+-- entries precede what follows their contents
 entries_before : (es : List EntryParts) (words : List ℕ) → FitEntries es → words ≡ words_of_entries es
     → StandBefore (map (λ e. e.1) es) words (contents_of_entries es) []
 entries_before [] words within is = (is, refl)
@@ -64,7 +63,7 @@ entries_before (e ∷ es) words within is = record {
   others = entries_before es (words_of_entries es) within.1 refl;
 }
 
--- what is told of contents that stand before others holds of the contents of entries
+-- what holds of contents before others holds of the contents of entries
 pub contents_counted : (len : ℕ) (words : List ℕ)
     → ((parts : List (List ℕ)) (contents rest : List ℕ) → StandBefore parts words contents rest → len + length rest ≡ length contents)
     → (es : List EntryParts) → FitEntries es → words ≡ words_of_entries es → len ≡ length (contents_of_entries es)
@@ -73,6 +72,11 @@ contents_counted len words told es within is =
     omega (arith, sum)
 
 -- ---- keys as entries
+
+-- keys as entries
+abbrev pub key_entries : List (List ℕ) → List EntryParts
+key_entries [] = []
+key_entries (key ∷ ks) = (text_entry, key) ∷ key_entries ks
 
 pub key-words : (ks : List (List ℕ)) → words_of_entries (key_entries ks) ≡ key_words ks
 key-words [] = refl
@@ -158,7 +162,7 @@ module _ (number_at : NumberReader) where
   count_are (tree t ts) [] h = absurd h
   count_are (tree t ts) (e ∷ es) h = ap suc (count_are ts es h.1)
 
-  -- the entry of the tree at a position, those before it and those behind it; and the entries when that tree is changed
+  -- The entry of the tree at a position, those before it and those after it; and the entries when that tree is changed.
   pub record Split (ts : Trees) (es : List EntryParts) (n : ℕ) (child : Tree) : Type 0 where
     pub front : List EntryParts
     pub entry : EntryParts
@@ -200,7 +204,7 @@ module _ (number_at : NumberReader) where
 
 -- ---- the pair at a position
 
--- the keys before the one at a position and behind it; and the keys when its value is changed
+-- The keys before the one at a position and after it; and the keys when its value is changed.
 pub record SplitKeys (ps : Pairs) (n : ℕ) (child : Tree) : Type 0 where
   pub front : List (List ℕ)
   pub key : List ℕ

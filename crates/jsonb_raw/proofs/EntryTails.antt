@@ -16,7 +16,7 @@ use Rattle.jsonb_raw.proofs.TakenEntries.{any_split}
 pub tail_none : (it : EntryIter) → IsTailOf it it
 tail_none it = record { room = omega arith; last = λ form ts h. (ts, h, ([], refl)) }
 
--- an entry that was given is in front of the others
+-- an entry that was given is before the others
 pub tail_next : (all it it' : EntryIter) (r : Result StoredEntry Error) (x : StoredEntry) → r ≡ Ok x → GivesEntry it (Some r) it' → IsTailOf all it
     → IsTailOf all it'
 tail_next all it it' r x e n p = record {
@@ -62,7 +62,7 @@ module _ (test : Tree → Bool) (ts us : Trees) (front : List Tree) (same : elem
       let all : n ≡ length (elements us) = left ∙ length-elements us in
       or_false (list_any test (take n (elements us))) ∙ ap (list_any test) (ap (λ (k : ℕ). take k (elements us)) all ∙ take_all (elements us))
 
-  -- one of all is one in front of those that are left, or one of these
+  -- one of all is one before those that are left, or one of these
   pub tail_whole : (list_any test (take m (elements ts)) || (list_any test (take n (elements us)) || false)) ≡ list_any test (elements ts)
   tail_whole =
       let long : m ≡ length front = omega (arith, before, length-elements ts, length-elements us, ap length same, length-append front (elements us)) in

@@ -1,12 +1,12 @@
--- The first of the entries or pairs that are left, where a walk takes one after the other.
+-- The first of the entries or members that are left, in a walk that takes one after the other.
 use Rattle.std.proofs.Common.{◌≡◌, ℕ, List, [], ◌∷◌, Option, Some, None, refl}
 use Rattle.std.specs.Prelude.{IsUtf8}
 use Rattle.jsonb_doc.specs.Tree.{Tree}
 use Rattle.jsonb_doc.specs.Payload.{Form, number_reader}
 use Rattle.jsonb_doc.specs.Format.{IsContent}
 use Rattle.jsonb_doc.specs.Kinds.{kind_number}
-use Rattle.jsonb_raw.specs.declared.functions.parts.Entries.{Entries}
-use Rattle.jsonb_raw.specs.declared.functions.parts.FirstEntry.{FirstEntry}
+use Rattle.jsonb_doc.specs.declared.cursor.Entries.{Entries}
+use Rattle.jsonb_doc.specs.declared.entry_iter.StoredEntry.{StoredEntry}
 use Rattle.jsonb_raw.specs.declared.functions.parts.PairEntries.{PairEntries}
 use Rattle.jsonb_raw.specs.declared.functions.parts.FirstPair.{FirstPair}
 use Rattle.jsonb_raw.specs.Private.Entries.{HoldTrees, HoldPairs, TakesFirst, TakesFirstPair}
@@ -15,21 +15,22 @@ use Rattle.jsonb_raw.proofs.RunLemmas.{others_hold}
 abbrev Member : Type 0
 Member = List ℕ × Tree
 
-pub record EntryTaken (form : Form) (ts : List Tree) (first : FirstEntry) : Type 0 where
+pub record EntryTaken (form : Form) (ts : List Tree) (entry : StoredEntry) (others : Entries) : Type 0 where
   pub t : Tree
   pub rest : List Tree
   pub split : ts ≡ t ∷ rest
-  pub part : IsContent (number_reader form) t (kind_number first.kind) first.content.now
-  pub others : HoldTrees form first.others rest
+  pub part : IsContent (number_reader form) t (kind_number entry.kind) entry.content.now
+  pub others_hold : HoldTrees form others rest
 
-pub entry_taken : (form : Form) (entries : Entries) (ts : List Tree) (found : Option FirstEntry) (first : FirstEntry) → found ≡ Some first
-    → TakesFirst form entries ts found → EntryTaken form ts first
-entry_taken form entries [] found first is h = absurd (rw is at h)
-entry_taken form entries (t ∷ ts) found first is h =
-    let taken : TakesFirst form entries (t ∷ ts) (Some first) = rw is at h in
-    record { t = t; rest = ts; split = refl; part = taken.part; others = taken.others_hold }
+pub entry_taken : (form : Form) (entries : Entries) (ts : List Tree) (found : Option (StoredEntry × Entries)) (entry : StoredEntry) (others : Entries)
+    → found ≡ Some (entry, others) → TakesFirst form entries ts found → EntryTaken form ts entry others
+entry_taken form entries [] found entry others is h = absurd (rw is at h)
+entry_taken form entries (t ∷ ts) found entry others is h =
+    let taken : TakesFirst form entries (t ∷ ts) (Some (entry, others)) = rw is at h in
+    record { t = t; rest = ts; split = refl; part = taken.part; others_hold = taken.others_hold }
 
-pub no_entry_left : (form : Form) (entries : Entries) (ts : List Tree) (found : Option FirstEntry) → found ≡ None → TakesFirst form entries ts found → ts ≡ []
+pub no_entry_left : (form : Form) (entries : Entries) (ts : List Tree) (found : Option (StoredEntry × Entries)) → found ≡ None
+    → TakesFirst form entries ts found → ts ≡ []
 no_entry_left form entries [] found is h = refl
 no_entry_left form entries (t ∷ ts) found is h = absurd (rw is at h)
 

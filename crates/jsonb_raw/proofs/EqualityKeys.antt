@@ -1,4 +1,4 @@
--- Two trees share an equality key exactly where they are equal by value.
+-- Two trees share an equality key if and only if they are equal by value.
 use Rattle.std.proofs.Common.{◌≡◌, ℕ, suc, ◌%◌, ◌^◌, ◌<◌, List, [], ◌∷◌, ◌++◌, length, refl, sym, ap, ap₂, ◌∙◌, arith, nat_cmp, Bool, true, false, Ordering, Less, Equal, Greater, append_assoc, mod-eq_of_lt}
 use Rattle.std.specs.Int.{bytes_high_first}
 use Rattle.std.specs.Ordering.{ordering_then}
@@ -73,7 +73,7 @@ same_rank_boolean true false e = absurd (omega arith)
 same_rank_boolean false true e = absurd (omega arith)
 same_rank_boolean false false e = refl
 
--- where lists that rank so are the fronts of one list, they rank as equal and the rests are equal
+-- if lists that rank so are the fronts of one list, they rank as equal and the rests are equal
 ranks_apart : (xs ys r s : List ℕ) (o : Ordering) → Ranks xs ys o → xs ++ r ≡ ys ++ s → (o ≡ Equal) × (r ≡ s)
 ranks_apart xs ys r s o h e =
     let b = both_equal o (bytes_cmp r s) (sym (h.ranks r s) ∙ ap (λ x. bytes_cmp x (ys ++ s)) e ∙ bytes_cmp_refl (ys ++ s)) in
@@ -82,7 +82,7 @@ ranks_apart xs ys r s o h e =
 heads : (k l : ℕ) (xs ys : List ℕ) → k ∷ xs ≡ l ∷ ys → (k ≡ l) × (xs ≡ ys)
 heads k l xs ys e = (cc, cc)
 
--- numbers in as many bytes in front
+-- numbers in as many bytes at the front
 same_count : (k m n : ℕ) (r s : List ℕ) → m < 256 ^ k → n < 256 ^ k → (bytes_high_first k m ++ r) ≡ (bytes_high_first k n ++ s) → (m ≡ n) × (r ≡ s)
 same_count k m n r s hm hn e =
     let h = ranks_apart (bytes_high_first k m) (bytes_high_first k n) r s (nat_cmp (m % 256 ^ k) (n % 256 ^ k)) (Ranks-bytes_high_first k m n) e in

@@ -1,5 +1,5 @@
--- A walk over levels that spells equality keys: what is written, and then the keys of what each level has left, the innermost
--- first, is the whole.
+-- A walk over levels that spells equality keys: what is written, and then the keys of what each level has left, the
+-- innermost first, is the whole.
 use Rattle.std.proofs.Common.{◌≡◌, ◌++◌, ℕ, List, [], ◌∷◌, Some, None, refl, sym, ap, ◌∙◌, append_assoc, append-nil, length, arith}
 use Rattle.std.specs.Prelude.{reverse}
 use Rattle.std.specs.Int.{w32, to_be_bytes}
@@ -8,17 +8,17 @@ use Rattle.jsonb_doc.specs.Payload.{Form}
 use Rattle.jsonb_raw.specs.SortableKey.{text_bytes}
 use Rattle.jsonb_raw.specs.EqualityKey.{equality_key, equality_keys_of_trees, equality_keys_of_pairs}
 use Rattle.jsonb_raw.specs.Private.EqualityParts.{equality_start, equality_part_start}
-use Rattle.jsonb_raw.specs.Private.Levels.{Part, parts, parts_of_trees, parts_of_pairs}
-use Rattle.jsonb_raw.specs.declared.level.Level.{Level}
+use Rattle.jsonb_raw.specs.Private.Levels.{EntryPrefix, parts, parts_of_trees, parts_of_pairs}
+use Rattle.jsonb_raw.specs.declared.level.ChildCursor.{ChildCursor}
 use Rattle.jsonb_raw.proofs.LevelLemmas.{HavePartsLeft, as_many_around}
 
 -- ---- the key of a tree by its parts
 
-abbrev pub part_key : Part → List ℕ
+abbrev pub part_key : EntryPrefix → List ℕ
 part_key (None, t) = equality_key t
 part_key (Some k, t) = (5 ∷ text_bytes k) ++ equality_key t
 
-abbrev pub keys_of_parts : List Part → List ℕ
+abbrev pub keys_of_parts : List EntryPrefix → List ℕ
 keys_of_parts [] = []
 keys_of_parts (p ∷ ps) = part_key p ++ keys_of_parts ps
 
@@ -40,14 +40,14 @@ key_split (Tree.extension x) = sym (append-nil (equality_key (Tree.extension x))
 key_split (Tree.array ts) = ap (λ x. (7 ∷ to_be_bytes w32 (count ts)) ++ x) (sym (trees_keys ts))
 key_split (Tree.object ps) = ap (λ x. (6 ∷ to_be_bytes w32 (length (keys ps))) ++ x) (sym (pairs_keys ps))
 
-part_split : (p : Part) → part_key p ≡ equality_part_start p ++ keys_of_parts (parts p.1)
+part_split : (p : EntryPrefix) → part_key p ≡ equality_part_start p ++ keys_of_parts (parts p.1)
 part_split (None, t) = key_split t
 part_split (Some k, t) =
     ap (λ x. (5 ∷ text_bytes k) ++ x) (key_split t) ∙ sym (append_assoc (5 ∷ text_bytes k) (equality_start t) (keys_of_parts (parts t)))
 
 -- ---- what is left at levels, the innermost first
 
-abbrev pub keys_of_levels : List (List Part) → List ℕ
+abbrev pub keys_of_levels : List (List EntryPrefix) → List ℕ
 keys_of_levels [] = []
 keys_of_levels (ps ∷ ls) = keys_of_parts ps ++ keys_of_levels ls
 
@@ -57,7 +57,7 @@ walk_begun t old out e =
     ∙ append_assoc old (equality_start t) (keys_of_parts (parts t)) ∙ ap (λ x. old ++ x) (sym (key_split t))
 
 -- a part's start is written, and its own parts are left within
-pub part_begun : (p : Part) (ps : List Part) (ls : List (List Part)) (out out' whole : List ℕ) → out ++ keys_of_levels ((p ∷ ps) ∷ ls) ≡ whole
+pub part_begun : (p : EntryPrefix) (ps : List EntryPrefix) (ls : List (List EntryPrefix)) (out out' whole : List ℕ) → out ++ keys_of_levels ((p ∷ ps) ∷ ls) ≡ whole
     → out' ≡ out ++ equality_part_start p
     → out' ++ keys_of_levels (parts p.1 ∷ ps ∷ ls) ≡ whole
 part_begun p ps ls out out' whole h e =
@@ -70,7 +70,7 @@ part_begun p ps ls out out' whole h e =
     ∙ h
 
 -- a part without parts
-pub part_done : (p : Part) (ps : List Part) (ls : List (List Part)) (out out' whole : List ℕ) → parts p.1 ≡ [] → out ++ keys_of_levels ((p ∷ ps) ∷ ls) ≡ whole
+pub part_done : (p : EntryPrefix) (ps : List EntryPrefix) (ls : List (List EntryPrefix)) (out out' whole : List ℕ) → parts p.1 ≡ [] → out ++ keys_of_levels ((p ∷ ps) ∷ ls) ≡ whole
     → out' ≡ out ++ equality_part_start p → out' ++ keys_of_levels (ps ∷ ls) ≡ whole
 part_done p ps ls out out' whole none h e = rw none at (part_begun p ps ls out out' whole h e)
 
@@ -78,11 +78,11 @@ part_done p ps ls out out' whole none h e = rw none at (part_begun p ps ls out o
 pub walk_done : (out whole : List ℕ) → out ++ keys_of_levels ([] ∷ []) ≡ whole → out ≡ whole
 walk_done out whole h = sym (append-nil out) ∙ h
 
-pub all_written : (form : Form) (around : List Level) (others : List (List Part)) (out whole : List ℕ) → length around ≡ 0
+pub all_written : (form : Form) (around : List ChildCursor) (others : List (List EntryPrefix)) (out whole : List ℕ) → length around ≡ 0
     → HavePartsLeft form (reverse around) others → out ++ keys_of_levels ([] ∷ others) ≡ whole → out ≡ whole
 all_written form around others out whole none h fact = by others (omega (arith, as_many_around form around others h, none)) fact
   where
-    by : (ls : List (List Part)) → length ls ≡ 0 → out ++ keys_of_levels ([] ∷ ls) ≡ whole → out ≡ whole
+    by : (ls : List (List EntryPrefix)) → length ls ≡ 0 → out ++ keys_of_levels ([] ∷ ls) ≡ whole → out ≡ whole
     by [] e f = walk_done out whole f
     by (l ∷ ls) e f = absurd (omega (arith, e))
 

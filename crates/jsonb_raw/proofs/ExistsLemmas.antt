@@ -1,4 +1,4 @@
--- What the texts that are left of a walk say of all of them.
+-- What the strings that are left of a walk say of all of them.
 use Rattle.std.proofs.Common.{◌≡◌, ℕ, Bool, true, false, not, List, [], ◌∷◌, refl, sym}
 use Rattle.std.specs.Bool.{beq}
 use Rattle.std.specs.List.{list_any, list_all}

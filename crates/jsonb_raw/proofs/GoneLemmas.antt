@@ -19,12 +19,12 @@ use Rattle.jsonb_raw.proofs.PositionLemmas.{position_in_object}
 
 -- ---- keys
 
--- a key in front that is another one changes nothing
+-- a key at the front that is another one changes nothing
 none_in_front : (name key : List ℕ) (ks : List (List ℕ)) → bytes_eq key name ≡ false → position (λ k. bytes_eq k name) ks ≡ None
     → position (λ k. bytes_eq k name) (key ∷ ks) ≡ None
 none_in_front name key ks other none = rw (position-cons (λ k. bytes_eq k name) key ks false other, none) refl
 
--- a text below the first of rising keys is none of them
+-- a string below the first of sorted keys is none of them
 pub below_all : (name : List ℕ) (ks : List (List ℕ)) → IsBelowFirst name ks → AreKeys ks → position (λ k. bytes_eq k name) ks ≡ None
 below_all name [] below rising = refl
 below_all name (key ∷ ks) below rising =
@@ -37,7 +37,7 @@ below_all name (key ∷ ks) below rising =
     lower [] above = tt
     lower (l ∷ ls) above = nat_list_cmp_total.trans name key l below above
 
--- where the pair of a key is taken out, no key is that key
+-- if the pair of a key is taken out, no key is that key
 key_gone : (name : List ℕ) (ps : Pairs) (n : ℕ) → AreKeys (keys ps) → position (λ k. bytes_eq k name) (keys ps) ≡ Some n
     → position (λ k. bytes_eq k name) (keys (changed_pairs n (remove_at []) ps)) ≡ None
 key_gone name no_pairs n rising at = let bad : None ≡ Some n = at in absurd (cc)
@@ -95,7 +95,7 @@ module _ (change : Tree → Option Tree) (child child' : Tree) (changed : change
   child_there (text s) n at = let bad : None ≡ Some child = at in absurd (cc)
   child_there (extension x) n at = let bad : None ≡ Some child = at in absurd (cc)
 
-  -- a step meets the child at the position that it met before
+  -- a step selects the child at the position that it met before
   same_position : (step : Key) (t : Tree) (n : ℕ) → slice_get (children t) n ≡ Some child
       → child_position step (change_child n change t) ≡ child_position step t
   same_position (index i) (array ts) n at = ap (λ len. index_position len i) (same_count ts n at)
@@ -130,7 +130,7 @@ child_in_range (extension x) n child fits at = let bad : None ≡ Some child = a
 
 -- ---- the first step of a place
 
--- the first step meets a child, and the other steps have a place in it
+-- the first step selects a child, and the other steps have a place in it
 pub record FirstMet (step : Key) (steps : List Key) (t : Tree) (ns : List ℕ) : Type 0 where
   pub at : ℕ
   pub child : Tree
@@ -187,7 +187,7 @@ goes_on : (step : Key) (steps : List Key) (t child : Tree) (n : ℕ) → child_p
     → location (step ∷ steps) t ≡ None
 goes_on step steps t child n meets is none = rw (meets, is, none) refl
 
--- the last step meets no key of the object any more
+-- the last step selects no key of the object any more
 last_gone : (last : Key) (t : Tree) (ps : Pairs) (ns : List ℕ) → AreKeys (keys ps) → t ≡ object ps → location (last ∷ []) t ≡ Some ns → (t' : Tree)
     → remove_at ns t ≡ Some t' → location (last ∷ []) t' ≡ None
 last_gone last t ps ns rising is met t' out =

@@ -61,7 +61,7 @@ one_hash (array ts) (array us) a b e p q = p ∙ sym q
 one_hash (object ps) (object qs) a b e p q = p ∙ sym q
 one_hash t u a b e p q = absurd (true≢false (sym e))
 
--- where the hash of one is taken, that of the other is
+-- if the hash of one is taken, that of the other is
 pub hash_taken : (taken : List Bool) (k : ℕ) (t u : Tree) → k < length taken → IsHashOf u k → is_equal t u ≡ true
     → (m : ℕ) → IsHashOf t m → slice_index_or (slice_set taken k true) m false ≡ true
 hash_taken taken k t u within q e m p =

@@ -1,4 +1,4 @@
--- What an index meets, by the item that a spot has.
+-- What an index selects, by the item that a spot has.
 use Rattle.std.proofs.Common.{◌≡◌, ℤ, ℕ, List, Option, Result, IsOkAnd, length, slice_get, Bor, MatchResult}
 use Rattle.std.specs.Prelude.{option_and_then}
 use Rattle.std.specs.Fmt.{signed_decimal}

@@ -10,7 +10,7 @@ use Rattle.std.proofs.lemmas.Map.Text.{is_eq-slice_cmp}
 use Rattle.std.proofs.lemmas.Slice.Eq.{bytes_eq-Decides}
 use Rattle.jsonb_doc.specs.Tree.{Tree, object, Pairs, no_pairs, pair, keys, value_under}
 use Rattle.jsonb_doc.specs.Payload.{Form}
-use Rattle.jsonb_doc.specs.Format.{Decodes, IsKey, IsBelowFirst, AreKeys}
+use Rattle.jsonb_doc.specs.Format.{Decodes, IsBelowFirst, AreKeys}
 use Rattle.jsonb_doc.specs.ObjectBuilder.{insert_pair}
 use Rattle.jsonb_doc.specs.ObjectKeys.{HasKeysLeft}
 use Rattle.jsonb_doc.specs.declared.key_iter.KeyIter.{KeyIter}
@@ -31,7 +31,7 @@ same_key key name e = (Equal-is (slice_cmp nat_cmp name key)).0 (is_eq-slice_cmp
 
 -- ---- a pair at its place
 
--- a pair goes behind those with lower keys, in place of the one with its key
+-- a member is inserted after those with lower keys, in place of the one with its key
 pub inserted_at : {A : Type 0} (name : List ℕ) (x : A) (front there back : List (List ℕ × A)) → AreBelow name (keys_of front)
     → IsInPlace name (keys_of there) (keys_of back)
     → insert_pair name x (front ++ (there ++ back)) ≡ front ++ (name, x) ∷ back
@@ -42,17 +42,6 @@ inserted_at name x [] [] (p ∷ back) below at = rw at refl
 inserted_at name x [] (p ∷ []) back below at =
     rw (same_key p.0 name at) (ap (λ (k : List ℕ). (k, x) ∷ back) at)
 inserted_at name x [] (p ∷ q ∷ there) back below at = absurd at
-
--- rising keys with the name at its place rise
-pub keys_at : (name : List ℕ) (front there back : List (List ℕ)) → AreKeys (front ++ (there ++ back)) → IsKey name → AreBelow name front
-    → IsInPlace name there back → AreKeys (front ++ name ∷ back)
-keys_at name [] [] back are is below at = (is, at, are)
-keys_at name [] (key ∷ []) back are is below at = subst (λ (k : List ℕ). AreKeys (k ∷ back)) at are
-keys_at name [] (key ∷ next ∷ there) back are is below at = absurd at
-keys_at name (low ∷ []) there back are is below at =
-    (are.0, below.0, keys_at name [] there back are.2 is below.1 at)
-keys_at name (low ∷ next ∷ front) there back are is below at =
-    (are.0, are.1, keys_at name (next ∷ front) there back are.2 is below.1 at)
 
 -- ---- whether the name is there
 
@@ -82,7 +71,7 @@ module _ (place : PairPlace) (name : List ℕ) (ps : Pairs) (are : AreKeys (keys
   found : (at.there ≡ [] → value_under name ps ≡ None) × (length at.there ≡ 1 → is_some (value_under name ps) ≡ true)
   found = value_behind name ps at.front at.there at.back are at.joined at.below at.is_place
 
-  -- the place takes nothing where the name is not there
+  -- the place replaces nothing if there is no such key
   pub not_there : place.taken ≡ 0 → is_some (value_under name ps) ≡ false
   not_there none = go at.there (at.taken) found.0
     where
@@ -90,7 +79,7 @@ module _ (place : PairPlace) (name : List ℕ) (ps : Pairs) (are : AreKeys (keys
       go [] is found = ap is_some (found refl)
       go (key ∷ there) is found = absurd (omega (arith, none, is))
 
-  -- and a pair where it is
+  -- and a member if there is one
   pub is_there : 0 < place.taken → is_some (value_under name ps) ≡ true
   is_there some = go at.there (at.taken) at.is_place found.1
     where
@@ -176,7 +165,7 @@ pub in_object : (name : List ℕ) (t : Tree) (ps : Pairs) (place : PairPlace) �
     → IsPairPlace name t (Some place)
 in_object name t ps place is at = rw is at
 
--- ---- the answer on a name
+-- ---- the result for a name
 
 object_at : (name : List ℕ) (t : Tree) (place : PairPlace) → IsPairPlace name t (Some place)
     → (ps : Pairs) × (t ≡ object ps) × IsPlaceAmong place name (keys ps)

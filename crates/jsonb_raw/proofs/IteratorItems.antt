@@ -85,7 +85,7 @@ no_more_trees : (form : Form) (it' : ElementIter) (Q : Trees → Type 0) (ts : T
 no_more_trees form it' Q no_trees h q = q
 no_more_trees form it' Q (tree t ts) h q = absurd h
 
--- where `next` gave none, none was left
+-- if `next` gave none, none was left
 pub SomeElements-none : (form : Form) (it it' : ElementIter) (Q : Trees → Type 0) → GivesElement it None it' → SomeElements form it Q → Q no_trees
 SomeElements-none form it it' Q n s = no_more_trees form it' Q s.trees (n.takes form s.trees s.left) s.fact
 

@@ -1,4 +1,4 @@
--- Iterators of std tell what is left in them.
+-- Iterators of std determine what is left in them.
 use Rattle.std.proofs.Common.{arith, ◌≡◌, List, [], ◌∷◌, length, Some, None, ap, refl, ◌∙◌}
 use Rattle.std.specs.Slice.Iter.{iter_rest, iter_steps}
 use Rattle.jsonb_raw.specs.Iterators.{YieldsItemsLeft}

@@ -1,4 +1,4 @@
--- How the counts of equality keys change, and what a count tells of equal elements.
+-- How the counts of equality keys change, and what a count says of equal elements.
 use Rattle.std.proofs.Common.{◌≡◌, ◌+◌, ◌-◌, ◌<◌, ◌≤◌, ◌^◌, ℕ, Bool, true, false, not, List, [], ◌∷◌, refl, sym, ap, ap₂, ◌∙◌, cond, Vec, arith, length, Option, Some, unwrap_or, nat_lt, nat_eq}
 use Rattle.std.specs.Ordering.{nat_cmp, is_eq}
 use Rattle.std.specs.List.{AllByRecursion}
@@ -17,8 +17,8 @@ use Rattle.jsonb_raw.specs.EqualityKey.{equality_key}
 use Rattle.jsonb_raw.specs.Sets.{count_of, is_shared}
 use Rattle.jsonb_raw.specs.Private.SetCounts.{key_cmp, counted, one_at, with_key, CountsKeys, keeps, CountsBehind}
 use Rattle.jsonb_raw.specs.declared.functions.array.counts.KeyCounts.{KeyCounts}
-use Rattle.jsonb_raw.specs.declared.functions.array.sets.Occurrences.{Occurrences}
-use Rattle.jsonb_raw.specs.declared.functions.array.sets.Occurrences.TheVariants.{First, Shared, Unshared}
+use Rattle.jsonb_raw.specs.declared.functions.array.sets.SetOperation.{SetOperation}
+use Rattle.jsonb_raw.specs.declared.functions.array.sets.SetOperation.TheVariants.{First, Shared, Unshared}
 use Rattle.std.proofs.lemmas.Bool.Decides.{nat_tests}
 use Rattle.jsonb_raw.proofs.KeyLawProofs.{equality_keys_tell_apart}
 
@@ -108,13 +108,13 @@ module _ (m : KeyCounts) (other before : List Tree) (t : Tree) (key : Vec ℕ Gl
       ap (nat_lt 0) (left ∙ ap₂ (λ a b. a - b) (with_key-equality_key t other key f all e) (with_key-equality_key t before key f all_before e))
       ∙ more_left (count_of t other) (count_of t before)
 
-  pub test_first : (kind : Occurrences) → kind ≡ First → CountsBehind kind m other before → nat_eq (counted m key) 0 ≡ keeps kind other (before, t)
+  pub test_first : (kind : SetOperation) → kind ≡ First → CountsBehind kind m other before → nat_eq (counted m key) 0 ≡ keeps kind other (before, t)
   test_first kind is = rw is first_test
 
-  pub test_shared : (kind : Occurrences) → kind ≡ Shared → CountsBehind kind m other before → nat_lt 0 (counted m key) ≡ keeps kind other (before, t)
+  pub test_shared : (kind : SetOperation) → kind ≡ Shared → CountsBehind kind m other before → nat_lt 0 (counted m key) ≡ keeps kind other (before, t)
   test_shared kind is = rw is (λ (h : CountsBehind Shared m other before). left_test (h.counts key) h.fit_other h.fit_before)
 
-  pub test_unshared : (kind : Occurrences) → kind ≡ Unshared → CountsBehind kind m other before → not (nat_lt 0 (counted m key)) ≡ keeps kind other (before, t)
+  pub test_unshared : (kind : SetOperation) → kind ≡ Unshared → CountsBehind kind m other before → not (nat_lt 0 (counted m key)) ≡ keeps kind other (before, t)
   test_unshared kind is = rw is (λ (h : CountsBehind Unshared m other before). ap not (left_test (h.counts key) h.fit_other h.fit_before))
 
 -- ---- counting

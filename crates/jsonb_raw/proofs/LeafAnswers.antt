@@ -1,4 +1,4 @@
--- From what a walk keeps of leaves to the answers of the calls.
+-- From what a walk keeps of leaves to the results of the functions.
 use Rattle.std.proofs.Common.{◌≡◌, ◌⊎◌, ℕ, Some, sym, List, [], ◌∷◌, Result, Ok, Err, Vec, MatchResult, refl, ap, ◌∙◌, inl, inr}
 use Rattle.std.specs.List.{Any, AllZip}
 use Rattle.std.specs.declared.alloc.Global.{Global}

@@ -1,4 +1,4 @@
--- No leaf is too large for a document of its own.
+-- No leaf is too large for a document.
 use Rattle.std.proofs.Common.{◌≡◌, ◌≤◌, ◌<◌, ℕ, zero, suc, pos, negsuc, ℤ, Bool, true, false, List, [], ◌∷◌, length, arith, inl, inr, lit<, if◌then◌else◌, refl}
 use Rattle.std.specs.Prelude.{slice_index_or}
 use Rattle.std.specs.List.{AllByRecursion, Any}
@@ -85,7 +85,7 @@ none_of P Q both [] each k x inside is q = absurd (omega arith)
 none_of P Q both (y ∷ xs) each zero x inside is q = both x (rw is at each.0) q
 none_of P Q both (y ∷ xs) each (suc k) x inside is q = none_of P Q both xs each.1 k x (omega arith) is q
 
--- so what is refused of the leaves of a tree that fits is memory
+-- so what fails of the leaves of a tree that fits is memory
 pub leaves_refused : (form : Form) (t : Tree) (e : Error) → Fits t
     → (IsOutOfMemory or TooLarge when Any (λ leaf. IsTooLarge form leaf.1) (leaves false t)) e → IsOutOfMemory e
 leaves_refused form t e fits (inl memory) = memory

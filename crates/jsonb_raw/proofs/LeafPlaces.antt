@@ -16,7 +16,7 @@ use Rattle.jsonb_raw.specs.Private.Steps.{child_met}
 use Rattle.jsonb_raw.proofs.ChildLemmas.{split_at, from_front}
 use Rattle.jsonb_raw.proofs.PlaceLemmas.{field_met, step_by_step}
 
--- the leaf stands at its place in the tree
+-- the leaf is at its place in the tree
 abbrev pub IsInPlace : Tree → Leaf → Type 0
 IsInPlace t leaf = tree_at_steps leaf.0 t ≡ Some leaf.1
 
@@ -66,7 +66,7 @@ other_key key name below = go (bytes_eq key name) refl
     go true same = let e = bytes_eq-true key name same in absurd (not_below_itself key (rw (sym e) at below))
     go false same = refl
 
--- under the keys of the back of an object stands what stands there under them
+-- under the keys of the back of an object is what is there under them
 abbrev IsBack : Pairs → Pairs → Type 0
 IsBack ps back = (name : List ℕ) → IsAmong name (keys back) → value_under name ps ≡ value_under name back
 

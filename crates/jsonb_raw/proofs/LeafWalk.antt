@@ -1,5 +1,5 @@
--- A walk over levels that finds leaves: what is found, and then the leaves of what each level has left, the innermost first, are
--- all.
+-- A walk over levels that finds leaves: what is found, and then the leaves of what each level has left, the innermost
+-- first, are all.
 use Rattle.std.proofs.Common.{◌≡◌, ◌==◌, ◌+◌, ◌%◌, ◌<◌, ◌^◌, ◌++◌, ℕ, suc, pos, Bool, true, false, ◌&&◌, List, [], ◌∷◌, Option, Some, None, length, refl, sym, ap, ◌∙◌, arith, append_assoc, append-nil, true≢false}
 use Rattle.std.specs.Prelude.{reverse}
 use Rattle.std.specs.Borrow.{Bor}
@@ -19,9 +19,9 @@ use Rattle.jsonb_doc.specs.declared.item.Item.TheVariants as item
 use Rattle.jsonb_doc.proofs.Containers.{array_document, object_document}
 use Rattle.jsonb_keypath.specs.KeyPathGrammar.{Key, index, unquoted_name}
 use Rattle.jsonb_raw.specs.declared.functions.path.leaves.Step.{Step}
-use Rattle.jsonb_raw.specs.declared.level.Level.{Level}
+use Rattle.jsonb_raw.specs.declared.level.ChildCursor.{ChildCursor}
 use Rattle.jsonb_raw.specs.Scalars.{is_array}
-use Rattle.jsonb_raw.specs.Private.Levels.{Part, parts, parts_of_trees, parts_of_pairs, IsKeyOf, HasAllLeft}
+use Rattle.jsonb_raw.specs.Private.Levels.{EntryPrefix, parts, parts_of_trees, parts_of_pairs, IsKeyOf, HasAllLeft}
 use Rattle.jsonb_raw.specs.Leaves.{Leaf, behind, is_leaf, leaves_at, leaves, leaves_of_trees, leaves_of_pairs}
 use Rattle.jsonb_raw.specs.Private.LeafSteps.{step_at, step_key, step_keys}
 use Rattle.jsonb_raw.proofs.CollectLoops.{Made, none_made, one_made, all_made, one_of_whole}
@@ -35,7 +35,7 @@ empty_leaf ignore_array (spec.array (tree t ts)) n is none = absurd (omega (arit
 empty_leaf ignore_array (spec.object (pair k t ps)) n is none = absurd (omega (arith, is, none))
 empty_leaf ignore_array _ n is none = refl
 
-pub full_container : (form : Form) (ignore_array : Bool) (t : Tree) (level : Level) (n : ℕ) → HasAllLeft form t level → n ≡ length (parts t) → (n ≡ 0 → ⊥)
+pub full_container : (form : Form) (ignore_array : Bool) (t : Tree) (level : ChildCursor) (n : ℕ) → HasAllLeft form t level → n ≡ length (parts t) → (n ≡ 0 → ⊥)
     → (ignore_array && is_array t) ≡ false → is_leaf ignore_array t ≡ false
 full_container form ignore_array (spec.array no_trees) level n h is some whole = absurd (some is)
 full_container form true (spec.array (tree t ts)) level n h is some whole = whole
@@ -61,7 +61,7 @@ abbrev pub part_step : Option (List ℕ) → ℕ → Key
 part_step None n = index (cast_signed w32 n)
 part_step (Some k) n = unquoted_name k
 
-abbrev pub leaves_of_parts : Bool → ℕ → List Part → List Leaf
+abbrev pub leaves_of_parts : Bool → ℕ → List EntryPrefix → List Leaf
 leaves_of_parts ignore_array n [] = []
 leaves_of_parts ignore_array n (p ∷ ps) = leaves_at ignore_array (part_step p.0 n) p.1 (leaves ignore_array p.1) ++ leaves_of_parts ignore_array (next n) ps
 
@@ -124,7 +124,7 @@ pub entry_leaves : (form : Form) (e : StoredEntry) (ignore_array : Bool) (t : Tr
     → leaves ignore_array t ≡ leaves_of_parts ignore_array 0 (parts t)
 entry_leaves form e ignore_array t stored entered = parts_leaves ignore_array t (few_stored form e t stored) entered
 
--- an entry that is no container is a leaf
+-- an entry that is not a container is a leaf
 pub lone_leaf : (form : Form) (e : StoredEntry) (ignore_array : Bool) (t : Tree) → Stores form e t → (kind_number e.kind == 5) ≡ false → is_leaf
     ignore_array t ≡ true
 lone_leaf form e ignore_array (spec.array ts) h k = absurd (true≢false (rw h.content.0 at k))
@@ -154,13 +154,13 @@ behind-none [] = refl
 behind-none (leaf ∷ found) = ap (λ (ls : List Leaf). leaf ∷ ls) (behind-none found)
 
 -- the leaves of what the containers around have left, the innermost first
-abbrev pub leaves_around : Bool → List Step → List (List Part) → List Leaf
+abbrev pub leaves_around : Bool → List Step → List (List EntryPrefix) → List Leaf
 leaves_around ignore_array (e ∷ es) (ps ∷ ls) = behind (step_keys (reverse es)) (leaves_of_parts ignore_array (next e.index) ps)
     ++ leaves_around ignore_array es ls
 leaves_around ignore_array _ _ = []
 
 -- the leaves that a walk has left: those of what each level has left, the innermost first
-abbrev pub leaves_left : Bool → List Step → ℕ → List Part → List (List Part) → List Leaf
+abbrev pub leaves_left : Bool → List Step → ℕ → List EntryPrefix → List (List EntryPrefix) → List Leaf
 leaves_left ignore_array around n here others = behind (step_keys around) (leaves_of_parts ignore_array n here)
     ++ leaves_around ignore_array (reverse around) others
 
@@ -171,7 +171,7 @@ all_left ignore_array around t root is =
     rw root (append-nil (behind [] (leaves_of_parts ignore_array 0 (parts t))) ∙ behind-none (leaves_of_parts ignore_array 0 (parts t)) ∙ sym is)
 
 -- a part that is a leaf is the first that is left
-leaf_left : (ignore_array : Bool) (around : List Step) (n : ℕ) (key : Option (Bor (List ℕ))) (p : Part) (ps : List Part) (others : List (List Part))
+leaf_left : (ignore_array : Bool) (around : List Step) (n : ℕ) (key : Option (Bor (List ℕ))) (p : EntryPrefix) (ps : List EntryPrefix) (others : List (List EntryPrefix))
     → is_leaf ignore_array p.1 ≡ true → IsKeyOf key p.0
     → leaves_left ignore_array around n (p ∷ ps) others
     ≡ (step_keys around ++ step_at key n ∷ [], p.1) ∷ leaves_left ignore_array around (next n) ps others
@@ -185,8 +185,8 @@ leaf_left ignore_array around n key p ps others leaf keyed =
     at_leaf : (step : Key) (t : Tree) (within : List Leaf) → is_leaf ignore_array t ≡ true → leaves_at ignore_array step t within ≡ (step ∷ [], t) ∷ []
     at_leaf step t within leaf = rw leaf refl
 
--- in the place of a part that is no leaf stand those within it
-part_left : (ignore_array : Bool) (around around' : List Step) (e : Step) (p : Part) (ps : List Part) (others : List (List Part))
+-- in the place of a part that is not a leaf are those within it
+part_left : (ignore_array : Bool) (around around' : List Step) (e : Step) (p : EntryPrefix) (ps : List EntryPrefix) (others : List (List EntryPrefix))
     → is_leaf ignore_array p.1 ≡ false → IsKeyOf e.key p.0 → leaves ignore_array p.1 ≡ leaves_of_parts ignore_array 0 (parts p.1)
     → around' ≡ around ++ e ∷ []
     → leaves_left ignore_array around' 0 (parts p.1) (ps ∷ others) ≡ leaves_left ignore_array around e.index (p ∷ ps) others
@@ -210,8 +210,8 @@ part_left ignore_array around around' e p ps others entered keyed within pushed 
     at_part : (step : Key) (t : Tree) (inside : List Leaf) → is_leaf ignore_array t ≡ false → leaves_at ignore_array step t inside ≡ behind (step ∷ []) inside
     at_part step t inside entered = rw entered refl
 
--- in the place of a level without parts stands the one around it
-outside_left : (ignore_array : Bool) (around around' : List Step) (outer : Step) (n : ℕ) (here : List Part) (others more : List (List Part))
+-- in the place of a level without parts is the one around it
+outside_left : (ignore_array : Bool) (around around' : List Step) (outer : Step) (n : ℕ) (here : List EntryPrefix) (others more : List (List EntryPrefix))
     → others ≡ here ∷ more → around ≡ around' ++ outer ∷ []
     → leaves_left ignore_array around' (next outer.index) here more ≡ leaves_left ignore_array around n [] others
 outside_left ignore_array around around' outer n here others more same popped =
@@ -220,12 +220,12 @@ outside_left ignore_array around around' outer n here others more same popped =
     ap (λ (es : List Step). behind (step_keys es) left ++ outside) (sym (reverse-reverse around'))
     ∙ ap (λ (es : List Step). leaves_around ignore_array es (here ∷ more)) (sym (innermost around' outer))
     ∙ ap (λ (es : List Step). leaves_around ignore_array (reverse es) (here ∷ more)) (sym popped)
-    ∙ ap (λ (ls : List (List Part)). leaves_around ignore_array (reverse around) ls) (sym same)
+    ∙ ap (λ (ls : List (List EntryPrefix)). leaves_around ignore_array (reverse around) ls) (sym same)
 
 -- ---- what is found
 
--- R holds of what is found and the leaves so far, behind which stand those that are left
-abbrev pub LeavesToward : {A : Type 0} → (A → Leaf → Type 0) → Bool → List A → List Step → ℕ → List Part → List (List Part) → List Leaf → Type 0
+-- R holds of what is found and the leaves so far, after which are those that are left
+abbrev pub LeavesToward : {A : Type 0} → (A → Leaf → Type 0) → Bool → List A → List Step → ℕ → List EntryPrefix → List (List EntryPrefix) → List Leaf → Type 0
 LeavesToward R ignore_array found around n here others whole = Made R found (leaves_left ignore_array around n here others) whole
 
 module _ {A : Type 0} (R : A → Leaf → Type 0) (ignore_array : Bool) where
@@ -234,9 +234,9 @@ module _ {A : Type 0} (R : A → Leaf → Type 0) (ignore_array : Bool) where
       → LeavesToward R ignore_array found around 0 (parts t) [] (leaves ignore_array t)
   walk_begun found around t none root is = rw (all_left ignore_array around t root is) (none_made R found (leaves ignore_array t) none)
 
-  -- the leaf that stands first is found
-  pub leaf_found : (found found' : List A) (around : List Step) (n : ℕ) (key : Option (Bor (List ℕ))) (p : Part) (ps : List Part)
-      (others : List (List Part)) (whole : List Leaf) (x : A)
+  -- the leaf that is first is found
+  pub leaf_found : (found found' : List A) (around : List Step) (n : ℕ) (key : Option (Bor (List ℕ))) (p : EntryPrefix) (ps : List EntryPrefix)
+      (others : List (List EntryPrefix)) (whole : List Leaf) (x : A)
       → LeavesToward R ignore_array found around n (p ∷ ps) others whole → is_leaf ignore_array p.1 ≡ true → IsKeyOf key p.0
       → R x (step_keys around ++ step_at key n ∷ [], p.1) → found' ≡ found ++ x ∷ []
       → LeavesToward R ignore_array found' around (next n) ps others whole
@@ -244,15 +244,15 @@ module _ {A : Type 0} (R : A → Leaf → Type 0) (ignore_array : Bool) where
       one_made R found found' x _ _ whole pushed kept (rw (leaf_left ignore_array around n key p ps others leaf keyed) at h)
 
   -- what holds of it holds of one of all
-  pub leaf_of_whole : (P : Leaf → Type 0) (found : List A) (around : List Step) (n : ℕ) (key : Option (Bor (List ℕ))) (p : Part) (ps : List Part)
-      (others : List (List Part)) (whole : List Leaf)
+  pub leaf_of_whole : (P : Leaf → Type 0) (found : List A) (around : List Step) (n : ℕ) (key : Option (Bor (List ℕ))) (p : EntryPrefix) (ps : List EntryPrefix)
+      (others : List (List EntryPrefix)) (whole : List Leaf)
       → LeavesToward R ignore_array found around n (p ∷ ps) others whole → is_leaf ignore_array p.1 ≡ true → IsKeyOf key p.0
       → P (step_keys around ++ step_at key n ∷ [], p.1) → Any P whole
   leaf_of_whole P found around n key p ps others whole h leaf keyed holds =
       one_of_whole R P found _ _ whole holds (rw (leaf_left ignore_array around n key p ps others leaf keyed) at h)
 
-  -- a part that is no leaf is entered
-  pub part_entered : (found : List A) (around around' : List Step) (e : Step) (p : Part) (ps : List Part) (others : List (List Part))
+  -- a part that is not a leaf is entered
+  pub part_entered : (found : List A) (around around' : List Step) (e : Step) (p : EntryPrefix) (ps : List EntryPrefix) (others : List (List EntryPrefix))
       (whole : List Leaf)
       → LeavesToward R ignore_array found around e.index (p ∷ ps) others whole → is_leaf ignore_array p.1 ≡ false → IsKeyOf e.key p.0
       → leaves ignore_array p.1 ≡ leaves_of_parts ignore_array 0 (parts p.1) → around' ≡ around ++ e ∷ []
@@ -261,7 +261,7 @@ module _ {A : Type 0} (R : A → Leaf → Type 0) (ignore_array : Bool) where
       rw (part_left ignore_array around around' e p ps others entered keyed within pushed) h
 
   -- nothing is left at the innermost level
-  pub level_done : (found : List A) (around around' : List Step) (outer : Step) (n : ℕ) (here : List Part) (others more : List (List Part))
+  pub level_done : (found : List A) (around around' : List Step) (outer : Step) (n : ℕ) (here : List EntryPrefix) (others more : List (List EntryPrefix))
       (whole : List Leaf)
       → others ≡ here ∷ more → around ≡ around' ++ outer ∷ [] → LeavesToward R ignore_array found around n [] others whole
       → LeavesToward R ignore_array found around' (next outer.index) here more whole
@@ -269,7 +269,7 @@ module _ {A : Type 0} (R : A → Leaf → Type 0) (ignore_array : Bool) where
       rw (outside_left ignore_array around around' outer n here others more same popped) h
 
   -- nothing is left at any level
-  pub walk_done : (found : List A) (around : List Step) (n : ℕ) (others : List (List Part)) (whole : List Leaf) → around ≡ []
+  pub walk_done : (found : List A) (around : List Step) (n : ℕ) (others : List (List EntryPrefix)) (whole : List Leaf) → around ≡ []
       → LeavesToward R ignore_array found around n [] others whole → AllZip R found whole
   walk_done found around n others whole root h = all_made R found whole (rw root at h)
 
@@ -277,7 +277,7 @@ pub no_items : {A : Type 0} (xs : List A) → length xs ≡ 0 → xs ≡ []
 no_items [] none = refl
 no_items (x ∷ xs) none = absurd (omega (arith, none))
 
--- the last of a list, and what stands in front of it
+-- the last of a list, and what precedes it
 pub record HasLast {A : Type 0} (xs : List A) : Type 0 where
   pub front : List A
   pub last : A

@@ -1,5 +1,5 @@
--- A walk over levels that spells sortable keys: what is written, and then the keys of what each level has left, the innermost
--- first, is the whole.
+-- A walk over levels that spells sortable keys: what is written, and then the keys of what each level has left, the
+-- innermost first, is the whole.
 use Rattle.std.proofs.Common.{◌≡◌, ◌+◌, ◌<◌, ◌≤◌, ◌++◌, ℕ, List, [], ◌∷◌, Option, Some, None, Ok, refl, sym, ap, ◌∙◌, arith, append_assoc, inl, inr, suc, max, append-nil, length, false}
 use Rattle.std.specs.Borrow.{Bor}
 use Rattle.std.specs.Int.{Width, to_be_bytes}
@@ -11,21 +11,22 @@ use Rattle.jsonb_doc.specs.Tree.{Tree, Trees, Pairs}
 use Rattle.jsonb_doc.specs.Depth.{deepest, deepest_of_trees, deepest_of_pairs}
 use Rattle.jsonb_raw.specs.SortableKey.{sortable_key, keys_of_trees, keys_of_pairs, item_bytes, text_bytes, depths}
 use Rattle.jsonb_raw.specs.KeyAnswer.{IsOutOfMemoryOrTooDeep}
-use Rattle.jsonb_raw.specs.declared.level.Level.{Level}
-use Rattle.jsonb_raw.specs.Private.Levels.{Part, parts, parts_of_trees, parts_of_pairs, HasPartsLeft, TakesPart, IsKeyOf}
+use Rattle.jsonb_raw.specs.declared.level.ChildCursor.{ChildCursor}
+use Rattle.jsonb_raw.specs.Private.Levels.{EntryPrefix, parts, parts_of_trees, parts_of_pairs, HasPartsLeft, TakesPart, IsKeyOf}
 use Rattle.jsonb_raw.specs.Private.KeyParts.{start, name_start, part_start}
-use Rattle.jsonb_raw.specs.Private.Starts.{is_container}
+use Rattle.jsonb_raw.specs.Private.StartHints.{is_container}
 use Rattle.jsonb_raw.proofs.LevelLemmas.{SomeParts, SomeParts-first, as_many_around}
 
 -- ---- bytes that are written in a row, and the depths of what they are for
 
--- What is written and the bytes of what is left are the whole; what is left lies as deep as `left_deep`, the whole as `deep`.
+-- What is written and the bytes of what is left are the whole; what is left has the depth `left_deep`, the whole
+-- `deep`.
 pub record IsToward (limit : ℕ) (out left : List ℕ) (left_deep : ℕ) (old whole : List ℕ) (deep : ℕ) : Type 0 where
   pub written : out ++ left ≡ old ++ whole
   pub shallow : left_deep < limit → deep < limit
   pub deeper : left_deep ≤ deep
 
--- a part that is refused refuses the whole
+-- a part that fails fails for the whole
 pub IsToward-refused : (limit : ℕ) (out left : List ℕ) (part_deep both_deep : ℕ) (old whole : List ℕ) (deep : ℕ) (e : Error)
     → IsToward limit out left both_deep old whole deep → part_deep ≤ both_deep → IsOutOfMemoryOrTooDeep part_deep limit e → IsOutOfMemoryOrTooDeep deep limit e
 IsToward-refused limit out left part_deep both_deep old whole deep e h l (inl m) = inl m
@@ -34,15 +35,15 @@ IsToward-refused limit out left part_deep both_deep old whole deep e h l (inr d)
 
 -- ---- the key of a tree by its parts
 
-abbrev pub part_key : Width → Part → ℕ → List ℕ
+abbrev pub part_key : Width → EntryPrefix → ℕ → List ℕ
 part_key w (None, t) d = sortable_key w t d
 part_key w (Some k, t) d = item_bytes w d 5 (text_bytes k) ++ sortable_key w t d
 
-abbrev pub keys_of_parts : Width → List Part → ℕ → List ℕ
+abbrev pub keys_of_parts : Width → List EntryPrefix → ℕ → List ℕ
 keys_of_parts w [] d = []
 keys_of_parts w (p ∷ ps) d = part_key w p d ++ keys_of_parts w ps d
 
-abbrev pub deep_of_parts : List Part → ℕ
+abbrev pub deep_of_parts : List EntryPrefix → ℕ
 deep_of_parts [] = 0
 deep_of_parts (p ∷ ps) = max (suc (deepest p.1)) (deep_of_parts ps)
 
@@ -80,14 +81,14 @@ key_split w (Tree.array ts) d =
 key_split w (Tree.object ps) d =
     ap (λ x. item_bytes w d 6 x) (sym (pairs_keys w ps (suc d))) ∙ sym (append_assoc (to_be_bytes w d) (6 ∷ []) (keys_of_parts w (parts_of_pairs ps) (suc d)))
 
-part_split : (w : Width) (p : Part) (d : ℕ) → part_key w p d ≡ part_start w p d ++ keys_of_parts w (parts p.1) (suc d)
+part_split : (w : Width) (p : EntryPrefix) (d : ℕ) → part_key w p d ≡ part_start w p d ++ keys_of_parts w (parts p.1) (suc d)
 part_split w (None, t) d = key_split w t d
 part_split w (Some k, t) d =
     ap (λ x. item_bytes w d 5 (text_bytes k) ++ x) (key_split w t d)
     ∙ sym (append_assoc (item_bytes w d 5 (text_bytes k)) (start w t d) (keys_of_parts w (parts t) (suc d)))
 
--- a part's key is written, where it has one, and then its start
-pub part_written : (w : Width) (p : Part) (d : ℕ) (out named out' : List ℕ) → named ≡ out ++ name_start w p.0 d → out' ≡ named ++ start w p.1 d
+-- a part's key is written, if it has one, and then its start
+pub part_written : (w : Width) (p : EntryPrefix) (d : ℕ) (out named out' : List ℕ) → named ≡ out ++ name_start w p.0 d → out' ≡ named ++ start w p.1 d
     → out' ≡ out ++ part_start w p d
 part_written w p d out named out' is written =
     written ∙ ap (λ x. x ++ start w p.1 d) is ∙ append_assoc out (name_start w p.0 d) (start w p.1 d)
@@ -103,18 +104,18 @@ scalar_parts (Tree.array ts) h = cc
 scalar_parts (Tree.object ps) h = cc
 scalar_parts _ h = refl
 
--- ---- what is left at levels, the innermost first: each lies one deeper than the next
+-- ---- what is left at levels, the innermost first: each is one deeper than the next
 
-abbrev pub keys_of_levels : Width → List (List Part) → List ℕ
+abbrev pub keys_of_levels : Width → List (List EntryPrefix) → List ℕ
 keys_of_levels w [] = []
 keys_of_levels w (ps ∷ ls) = keys_of_parts w ps (suc (length ls)) ++ keys_of_levels w ls
 
-abbrev pub deep_of_levels : List (List Part) → ℕ
+abbrev pub deep_of_levels : List (List EntryPrefix) → ℕ
 deep_of_levels [] = 0
 deep_of_levels (ps ∷ ls) = max (length ls + deep_of_parts ps) (deep_of_levels ls)
 
 -- the walk is within these levels, none of which is too deep
-pub record IsWithin (w : Width) (out : List ℕ) (levels : List (List Part)) (old whole : List ℕ) (deep : ℕ) : Type 0 where
+pub record IsWithin (w : Width) (out : List ℕ) (levels : List (List EntryPrefix)) (old whole : List ℕ) (deep : ℕ) : Type 0 where
   pub toward : IsToward (depths w) out (keys_of_levels w levels) (deep_of_levels levels) old whole deep
   pub low : length levels ≤ depths w
 
@@ -133,7 +134,7 @@ walk_begun w t old out p =
     }
 
 -- a part's start is written, and its own parts are left within
-pub part_begun : (w : Width) (p : Part) (ps : List Part) (ls : List (List Part)) (out out' old whole : List ℕ) (deep : ℕ)
+pub part_begun : (w : Width) (p : EntryPrefix) (ps : List EntryPrefix) (ls : List (List EntryPrefix)) (out out' old whole : List ℕ) (deep : ℕ)
     → IsWithin w out ((p ∷ ps) ∷ ls) old whole deep
     → (out' ≡ out ++ part_start w p (length ls + 1)) × (length ls + 1 < depths w) → IsWithin w out' (parts p.1 ∷ ps ∷ ls) old whole deep
 part_begun w p ps ls out out' old whole deep h e =
@@ -165,7 +166,7 @@ part_begun w p ps ls out out' old whole deep h e =
     within_deeper n t q b c deep is h = omega arith
 
 -- a part is refused
-pub part_refused : (w : Width) (p : Part) (ps : List Part) (ls : List (List Part)) (out old whole : List ℕ) (deep : ℕ) (e : Error)
+pub part_refused : (w : Width) (p : EntryPrefix) (ps : List EntryPrefix) (ls : List (List EntryPrefix)) (out old whole : List ℕ) (deep : ℕ) (e : Error)
     → IsWithin w out ((p ∷ ps) ∷ ls) old whole deep
     → IsOutOfMemoryOrTooDeep (length ls + 1) (depths w) e → IsOutOfMemoryOrTooDeep deep (depths w) e
 part_refused w p ps ls out old whole deep e h r =
@@ -176,7 +177,7 @@ part_refused w p ps ls out old whole deep e h r =
     part_deep n t b c = omega arith
 
 -- nothing is left at the innermost level
-pub level_done : (w : Width) (ls : List (List Part)) (out old whole : List ℕ) (deep : ℕ) → IsWithin w out ([] ∷ ls) old whole deep
+pub level_done : (w : Width) (ls : List (List EntryPrefix)) (out old whole : List ℕ) (deep : ℕ) → IsWithin w out ([] ∷ ls) old whole deep
     → IsWithin w out ls old whole deep
 level_done w ls out old whole deep h =
     let shallow = h.toward.shallow in
@@ -198,27 +199,27 @@ level_done w ls out old whole deep h =
     done_deeper n c deep h = omega arith
 
 -- a part without parts
-pub part_done : (w : Width) (p : Part) (ps : List Part) (ls : List (List Part)) (out old whole : List ℕ) (deep : ℕ) → parts p.1 ≡ []
+pub part_done : (w : Width) (p : EntryPrefix) (ps : List EntryPrefix) (ls : List (List EntryPrefix)) (out old whole : List ℕ) (deep : ℕ) → parts p.1 ≡ []
     → IsWithin w out (parts p.1 ∷ ps ∷ ls) old whole deep → IsWithin w out (ps ∷ ls) old whole deep
 part_done w p ps ls out old whole deep none h = level_done w (ps ∷ ls) out old whole deep (rw none at h)
 
 -- the same, with the depth as a walk has it
-pub part_begun_at : (w : Width) (p : Part) (ps : List Part) (ls : List (List Part)) (d : ℕ) (out out' old whole : List ℕ) (deep : ℕ) → d ≡ length ls
+pub part_begun_at : (w : Width) (p : EntryPrefix) (ps : List EntryPrefix) (ls : List (List EntryPrefix)) (d : ℕ) (out out' old whole : List ℕ) (deep : ℕ) → d ≡ length ls
     → IsWithin w out ((p ∷ ps) ∷ ls) old whole deep
     → (out' ≡ out ++ part_start w p (d + 1)) × (d + 1 < depths w) → IsWithin w out' (parts p.1 ∷ ps ∷ ls) old whole deep
 part_begun_at w p ps ls d out out' old whole deep is h e = part_begun w p ps ls out out' old whole deep h (rw is at e)
 
-part_refused_at : (w : Width) (p : Part) (ps : List Part) (ls : List (List Part)) (d : ℕ) (out old whole : List ℕ) (deep : ℕ) (e : Error) → d ≡ length ls
+part_refused_at : (w : Width) (p : EntryPrefix) (ps : List EntryPrefix) (ls : List (List EntryPrefix)) (d : ℕ) (out old whole : List ℕ) (deep : ℕ) (e : Error) → d ≡ length ls
     → IsWithin w out ((p ∷ ps) ∷ ls) old whole deep
     → IsOutOfMemoryOrTooDeep (d + 1) (depths w) e → IsOutOfMemoryOrTooDeep deep (depths w) e
 part_refused_at w p ps ls d out old whole deep e is h r = part_refused w p ps ls out old whole deep e h (rw is at r)
 
--- what refuses the first part that is left refuses the whole
-pub first_refused : (form : Form) (w : Width) (level level' : Level) (around : List Level) (name : Option (Bor (List ℕ))) (entry : StoredEntry) (d : ℕ)
+-- what fails for the first part that is left fails for the whole
+pub first_refused : (form : Form) (w : Width) (level level' : ChildCursor) (around : List ChildCursor) (name : Option (Bor (List ℕ))) (entry : StoredEntry) (d : ℕ)
     (out old whole : List ℕ) (deep : ℕ) (e : Error)
-    → ((ps : List Part) → HasPartsLeft form level ps → TakesPart form ps (Ok (Some (name, entry))) level')
+    → ((ps : List EntryPrefix) → HasPartsLeft form level ps → TakesPart form ps (Ok (Some (name, entry))) level')
     → SomeParts form level around (λ here others. IsWithin w out (here ∷ others) old whole deep) → d ≡ length around
-    → ((p : Part) → IsKeyOf name p.0 → Stores form entry p.1 → IsOutOfMemoryOrTooDeep (d + 1) (depths w) e)
+    → ((p : EntryPrefix) → IsKeyOf name p.0 → Stores form entry p.1 → IsOutOfMemoryOrTooDeep (d + 1) (depths w) e)
     → IsOutOfMemoryOrTooDeep deep (depths w) e
 first_refused form w level level' around name entry d out old whole deep e takes left is refused =
     SomeParts-first form level level' around name entry _ takes left

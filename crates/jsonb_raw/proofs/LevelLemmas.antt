@@ -12,23 +12,23 @@ use Rattle.jsonb_doc.specs.Payload.{Form}
 use Rattle.jsonb_doc.specs.Format.{AreKeys}
 use Rattle.jsonb_doc.specs.Private.Stored.{Stores, TakesPairEntry, key_trees}
 use Rattle.jsonb_doc.proofs.Weights.{weight_of, weight-pos, inner_weighs, taken_weighs, weight_of_all, falls_inward, falls_outward}
-use Rattle.jsonb_raw.specs.declared.level.Level.{Level}
-use Rattle.jsonb_raw.specs.declared.level.Level.TheVariants.{Pairs}
-use Rattle.jsonb_raw.specs.Private.Levels.{Part, parts_of_trees, parts_of_pairs, HasPartsLeft, TakesPart, IsKeyOf, IsSmaller, IsLevelWithin, level_room, level_bound}
+use Rattle.jsonb_raw.specs.declared.level.ChildCursor.{ChildCursor}
+use Rattle.jsonb_raw.specs.declared.level.ChildCursor.TheVariants.{Pairs}
+use Rattle.jsonb_raw.specs.Private.Levels.{EntryPrefix, parts_of_trees, parts_of_pairs, HasPartsLeft, TakesPart, IsKeyOf, IsSmaller, IsLevelWithin, level_room, level_bound}
 
 -- ---- the first part
 
-part_is : (form : Form) (level : Level) (r : Result (Option (Option (Bor (List ℕ)) × StoredEntry)) Error)
-    (ps qs : List Part) → ps ≡ qs → TakesPart form qs r level
+part_is : (form : Form) (level : ChildCursor) (r : Result (Option (Option (Bor (List ℕ)) × StoredEntry)) Error)
+    (ps qs : List EntryPrefix) → ps ≡ qs → TakesPart form qs r level
     → TakesPart form ps r level
-part_is form level r ps qs e h = subst (λ (xs : List Part). TakesPart form xs r level) (sym e) h
+part_is form level r ps qs e h = subst (λ (xs : List EntryPrefix). TakesPart form xs r level) (sym e) h
 
-pub pair_none : (form : Form) (it : PairEntryIter) (ps : List Part) (qs : spec.Pairs) → ps ≡ parts_of_pairs qs → TakesPairEntry form qs None it
+pub pair_none : (form : Form) (it : PairEntryIter) (ps : List EntryPrefix) (qs : spec.Pairs) → ps ≡ parts_of_pairs qs → TakesPairEntry form qs None it
     → TakesPart form ps (Ok None) (Pairs it)
 pair_none form it ps spec.no_pairs e h = part_is form (Pairs it) (Ok None) ps [] e tt
 pair_none form it ps (spec.pair k t qs) e h = absurd h
 
-pub pair_some : (form : Form) (it : PairEntryIter) (x : Bor (List ℕ) × StoredEntry) (ps : List Part) (qs : spec.Pairs) → ps ≡ parts_of_pairs qs
+pub pair_some : (form : Form) (it : PairEntryIter) (x : Bor (List ℕ) × StoredEntry) (ps : List EntryPrefix) (qs : spec.Pairs) → ps ≡ parts_of_pairs qs
     → AreKeys (keys qs) → TakesPairEntry form qs (Some (Ok x)) it → TakesPart form ps (Ok (Some (Some x.0, x.1))) (Pairs it)
 pair_some form it x ps spec.no_pairs e are h = absurd h
 pair_some form it x ps (spec.pair k t qs) e are h = part_is form (Pairs it) (Ok (Some (Some x.0, x.1))) ps ((Some k, t) ∷ parts_of_pairs qs) e
@@ -53,24 +53,24 @@ count_of_keys (key ∷ ks) = ap suc (count_of_keys ks)
 
 -- ---- the levels that a walk is within, the innermost first
 
-abbrev pub HavePartsLeft : Form → List Level → List (List Part) → Type 0
+abbrev pub HavePartsLeft : Form → List ChildCursor → List (List EntryPrefix) → Type 0
 HavePartsLeft form [] [] = Unit {0}
 HavePartsLeft form (l ∷ ls) (p ∷ ps) = HasPartsLeft form l p × HavePartsLeft form ls ps
 HavePartsLeft form _ _ = ⊥
 
 -- what is left at the level and at those around it, which a `Vec` holds with the innermost last, has the property Q
-pub record SomeParts (form : Form) (level : Level) (around : List Level) (Q : List Part → List (List Part) → Type 0) : Type 0 where
-  pub here : List Part
-  pub others : List (List Part)
+pub record SomeParts (form : Form) (level : ChildCursor) (around : List ChildCursor) (Q : List EntryPrefix → List (List EntryPrefix) → Type 0) : Type 0 where
+  pub here : List EntryPrefix
+  pub others : List (List EntryPrefix)
   pub left : HasPartsLeft form level here
   pub left_around : HavePartsLeft form (reverse around) others
   pub fact : Q here others
 
-pub parts_left : (form : Form) (level : Level) (around : List Level) (Q : List Part → List (List Part) → Type 0) (here : List Part) (others : List (List Part))
+pub parts_left : (form : Form) (level : ChildCursor) (around : List ChildCursor) (Q : List EntryPrefix → List (List EntryPrefix) → Type 0) (here : List EntryPrefix) (others : List (List EntryPrefix))
     → HasPartsLeft form level here → HavePartsLeft form (reverse around) others → Q here others → SomeParts form level around Q
 parts_left form level around Q here others left outside fact = record { here = here; others = others; left = left; left_around = outside; fact = fact }
 
-pub as_many : (form : Form) (ls : List Level) (ps : List (List Part)) → HavePartsLeft form ls ps → length ls ≡ length ps
+pub as_many : (form : Form) (ls : List ChildCursor) (ps : List (List EntryPrefix)) → HavePartsLeft form ls ps → length ls ≡ length ps
 as_many form [] [] h = refl
 as_many form [] (p ∷ ps) h = absurd h
 as_many form (l ∷ ls) [] h = absurd h
@@ -80,69 +80,69 @@ pub innermost : {A : Type 0} (around : List A) (l : A) → reverse (around ++ l 
 innermost around l = reverse-append around (l ∷ [])
 
 -- there are as many parts left around as levels
-pub as_many_around : (form : Form) (around : List Level) (others : List (List Part)) → HavePartsLeft form (reverse around) others
+pub as_many_around : (form : Form) (around : List ChildCursor) (others : List (List EntryPrefix)) → HavePartsLeft form (reverse around) others
     → length around ≡ length others
 as_many_around form around others h = sym (length-reverse around) ∙ as_many form (reverse around) others h
 
 -- a level is left for one of its parts
-pub pushed_around : (form : Form) (around around' : List Level) (l : Level) (rest : List Part) (others : List (List Part)) → around' ≡ around ++ l ∷ []
+pub pushed_around : (form : Form) (around around' : List ChildCursor) (l : ChildCursor) (rest : List EntryPrefix) (others : List (List EntryPrefix)) → around' ≡ around ++ l ∷ []
     → HasPartsLeft form l rest → HavePartsLeft form (reverse around) others → HavePartsLeft form (reverse around') (rest ∷ others)
 pushed_around form around around' l rest others e left h =
-    subst (λ (ls : List Level). HavePartsLeft form ls (rest ∷ others)) (sym (ap reverse e ∙ innermost around l)) (left, h)
+    subst (λ (ls : List ChildCursor). HavePartsLeft form ls (rest ∷ others)) (sym (ap reverse e ∙ innermost around l)) (left, h)
 
 module _ {G : Type 0} where
   -- the part that `take` gave is the first of what was left
-  pub SomeParts-first : (form : Form) (level level' : Level) (around : List Level) (key : Option (Bor (List ℕ))) (entry : StoredEntry)
-      (Q : List Part → List (List Part) → Type 0)
-      → ((ps : List Part) → HasPartsLeft form level ps → TakesPart form ps (Ok (Some (key, entry))) level') → SomeParts form level around Q
-      → ((p : Part) (rest : List Part) (others : List (List Part)) → IsKeyOf key p.0 → Stores form entry p.1 → HasPartsLeft form level' rest
+  pub SomeParts-first : (form : Form) (level level' : ChildCursor) (around : List ChildCursor) (key : Option (Bor (List ℕ))) (entry : StoredEntry)
+      (Q : List EntryPrefix → List (List EntryPrefix) → Type 0)
+      → ((ps : List EntryPrefix) → HasPartsLeft form level ps → TakesPart form ps (Ok (Some (key, entry))) level') → SomeParts form level around Q
+      → ((p : EntryPrefix) (rest : List EntryPrefix) (others : List (List EntryPrefix)) → IsKeyOf key p.0 → Stores form entry p.1 → HasPartsLeft form level' rest
       → HavePartsLeft form (reverse around) others → Q (p ∷ rest) others → G) → G
   SomeParts-first form level level' around key entry Q takes s go = first s.here (takes s.here s.left) s.fact
     where
-      first : (ps : List Part) → TakesPart form ps (Ok (Some (key, entry))) level' → Q ps s.others → G
+      first : (ps : List EntryPrefix) → TakesPart form ps (Ok (Some (key, entry))) level' → Q ps s.others → G
       first [] t q = absurd t
       first (p ∷ ps) t q = go p ps s.others t.0 t.1 t.2 s.left_around q
 
-  -- where `take` gave none, none was left
-  pub SomeParts-none : (form : Form) (level level' : Level) (around : List Level) (Q : List Part → List (List Part) → Type 0)
-      → ((ps : List Part) → HasPartsLeft form level ps → TakesPart form ps (Ok None) level') → SomeParts form level around Q
-      → ((others : List (List Part)) → HavePartsLeft form (reverse around) others → Q [] others → G) → G
+  -- if `take` gave none, none was left
+  pub SomeParts-none : (form : Form) (level level' : ChildCursor) (around : List ChildCursor) (Q : List EntryPrefix → List (List EntryPrefix) → Type 0)
+      → ((ps : List EntryPrefix) → HasPartsLeft form level ps → TakesPart form ps (Ok None) level') → SomeParts form level around Q
+      → ((others : List (List EntryPrefix)) → HavePartsLeft form (reverse around) others → Q [] others → G) → G
   SomeParts-none form level level' around Q takes s go = none s.here (takes s.here s.left) s.fact
     where
-      none : (ps : List Part) → TakesPart form ps (Ok None) level' → Q ps s.others → G
+      none : (ps : List EntryPrefix) → TakesPart form ps (Ok None) level' → Q ps s.others → G
       none [] t q = go s.others s.left_around q
       none (p ∷ ps) t q = absurd t
 
   -- `take` gives no error while it is known what is left
-  pub SomeParts-error : (form : Form) (level level' : Level) (around : List Level) (e : Error) (Q : List Part → List (List Part) → Type 0)
-      → ((ps : List Part) → HasPartsLeft form level ps → TakesPart form ps (Err e) level') → SomeParts form level around Q → G
+  pub SomeParts-error : (form : Form) (level level' : ChildCursor) (around : List ChildCursor) (e : Error) (Q : List EntryPrefix → List (List EntryPrefix) → Type 0)
+      → ((ps : List EntryPrefix) → HasPartsLeft form level ps → TakesPart form ps (Err e) level') → SomeParts form level around Q → G
   SomeParts-error form level level' around e Q takes s = error s.here (takes s.here s.left)
     where
-      error : (ps : List Part) → TakesPart form ps (Err e) level' → G
+      error : (ps : List EntryPrefix) → TakesPart form ps (Err e) level' → G
       error [] t = absurd t
       error (p ∷ ps) t = absurd t
 
   -- the innermost of the levels around
-  pub popped_around : (form : Form) (around around' : List Level) (outer : Level) (others : List (List Part)) → around ≡ around' ++ outer ∷ []
+  pub popped_around : (form : Form) (around around' : List ChildCursor) (outer : ChildCursor) (others : List (List EntryPrefix)) → around ≡ around' ++ outer ∷ []
       → HavePartsLeft form (reverse around) others
-      → ((here : List Part) (more : List (List Part)) → others ≡ here ∷ more → HasPartsLeft form outer here → HavePartsLeft form (reverse around') more → G) → G
+      → ((here : List EntryPrefix) (more : List (List EntryPrefix)) → others ≡ here ∷ more → HasPartsLeft form outer here → HavePartsLeft form (reverse around') more → G) → G
   popped_around form around around' outer others e h go = pop others
-      (subst (λ (ls : List Level). HavePartsLeft form ls others) (ap reverse e ∙ innermost around' outer) h) refl
+      (subst (λ (ls : List ChildCursor). HavePartsLeft form ls others) (ap reverse e ∙ innermost around' outer) h) refl
     where
-      pop : (ls : List (List Part)) → HavePartsLeft form (outer ∷ reverse around') ls → others ≡ ls → G
+      pop : (ls : List (List EntryPrefix)) → HavePartsLeft form (outer ∷ reverse around') ls → others ≡ ls → G
       pop [] t is = absurd t
       pop (l ∷ ls) t is = go l ls is t.0 t.1
 
 -- ---- how they shrink
 
-unfoldable pub weight : Level → ℕ
+unfoldable pub weight : ChildCursor → ℕ
 weight l = weight_of (level_bound l) (level_room l)
 
-abbrev pub weights : List Level → ℕ
+abbrev pub weights : List ChildCursor → ℕ
 weights ls = weight_of_all weight ls
 
--- the measure of a walk falls where a level is left for a part of it, where a part has no level, and where a level is done
-pub falls_within : (level level' inner : Level) (around around' : List Level) (entry : StoredEntry) → IsSmaller level
+-- the measure of a walk falls if a level is left for a part of it, if a part has no level, and where a level is done
+pub falls_within : (level level' inner : ChildCursor) (around around' : List ChildCursor) (entry : StoredEntry) → IsSmaller level
     entry level' → IsLevelWithin (length entry.content.now) (Some inner) → around' ≡ around ++ level' ∷ []
     → weight inner + weights (reverse around') < weight level + weights (reverse around)
 unfolding weight
@@ -150,12 +150,12 @@ falls_within level level' inner around around' entry s within e =
     let size = s.size in
     falls_inward weight level level' inner around around' (inner_weighs _ _ _ _ _ _ s.bound s.room (omega (arith, size, within.0)) within.1) e
 
-pub falls_beside : (level level' : Level) (around : List Level) (entry : StoredEntry) → IsSmaller level entry level'
+pub falls_beside : (level level' : ChildCursor) (around : List ChildCursor) (entry : StoredEntry) → IsSmaller level entry level'
     → weight level' + weights (reverse around) < weight level + weights (reverse around)
 unfolding weight
 falls_beside level level' around entry s = let less = taken_weighs _ _ _ _ s.bound s.room in omega (arith, less)
 
-pub falls_done : (level outer : Level) (around around' : List Level) → around ≡ around' ++ outer ∷ []
+pub falls_done : (level outer : ChildCursor) (around around' : List ChildCursor) → around ≡ around' ++ outer ∷ []
     → weight outer + weights (reverse around') < weight level + weights (reverse around)
 unfolding weight
 falls_done level outer around around' e = falls_outward weight level outer around around' (weight-pos (level_bound level) (level_room level)) e

@@ -18,14 +18,14 @@ use Rattle.jsonb_doc.specs.declared.item.Item.{Item}
 use Rattle.jsonb_doc.specs.declared.item.Item.TheVariants.{Array, Object}
 use Rattle.jsonb_doc.proofs.Containers.{HasContent-headed, HasContent-kind, array_content, object_content, array_document, object_document}
 use Rattle.jsonb_raw.specs.Scalars.{is_array}
-use Rattle.jsonb_raw.specs.declared.level.Level.{Level}
-use Rattle.jsonb_raw.specs.declared.level.Level.TheVariants.{Elements, Pairs}
+use Rattle.jsonb_raw.specs.declared.level.ChildCursor.{ChildCursor}
+use Rattle.jsonb_raw.specs.declared.level.ChildCursor.TheVariants.{Elements, Pairs}
 use Rattle.jsonb_raw.specs.Private.Levels.{parts, HasPartsLeft, HasAllLeft}
-use Rattle.jsonb_raw.specs.Private.Starts.{is_container}
+use Rattle.jsonb_raw.specs.Private.StartHints.{is_container}
 use Rattle.jsonb_raw.specs.Private.EqualityParts.{equality_start}
 use Rattle.jsonb_raw.proofs.LevelLemmas.{count_of_trees, count_of_pairs}
 
-pub all_left : (form : Form) (t : Tree) (level : Level) → HasAllLeft form t level → HasPartsLeft form level (parts t)
+pub all_left : (form : Form) (t : Tree) (level : ChildCursor) → HasAllLeft form t level → HasPartsLeft form level (parts t)
 all_left form (spec.array ts) (Elements it) h = (ts, h, refl)
 all_left form (spec.array ts) (Pairs it) h = absurd h
 all_left form (spec.object ps) (Elements it) h = absurd h
@@ -72,7 +72,7 @@ stored_container form e t h k = let is : kind_number e.kind ≡ 5 = grind (arith
 
 -- ---- starts of keys
 
-pub container_equality_start : (form : Form) (t : Tree) (level : Level) (kind n : ℕ) → HasAllLeft form t level → kind ≡ rank t → n ≡ length (parts t)
+pub container_equality_start : (form : Form) (t : Tree) (level : ChildCursor) (kind n : ℕ) → HasAllLeft form t level → kind ≡ rank t → n ≡ length (parts t)
     → kind ∷ to_be_bytes w32 n ≡ equality_start t
 container_equality_start form (spec.array ts) level kind n h is counted =
     ap (λ k. k ∷ to_be_bytes w32 n) is ∙ ap (λ m. 7 ∷ to_be_bytes w32 m) (counted ∙ sym (count_of_trees ts))

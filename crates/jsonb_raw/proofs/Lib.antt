@@ -17,6 +17,7 @@ pub mod PackedDigits
 pub mod PushedNumbers
 pub mod WrittenDigits
 pub mod LevelLemmas
+pub mod Lists
 pub mod LevelStarts
 pub mod LevelKeys
 pub mod EqualityWalk
@@ -30,7 +31,6 @@ pub mod StripLists
 pub mod StripWalk
 pub mod InsertPlaces
 pub mod InsertEntries
-pub mod InsertSplits
 pub mod InStep
 pub mod KeysCounted
 pub mod SetKept
@@ -66,6 +66,7 @@ pub mod DeleteLemmas
 pub mod MergedLemmas
 pub mod StripLaws
 pub mod ContainsLaws
+pub mod ConcatEntries
 pub mod ConcatLaws
 mod DeleteRows
 pub mod Copies

@@ -38,7 +38,7 @@ module _ (key : List ℕ) (m : Tree → Bool) where
   abbrev passes : List ℕ × Tree → Bool
   passes p = bytes_eq p.0 key && m p.1
 
-  -- where keys rise, the pair with the key is the one that is asked
+  -- if keys are sorted, the pair with the key is the one that is asked
   pub any_by_value : (ps : Pairs) → AreRising (keys ps) → list_any (λ p. bytes_eq p.0 key && m p.1) (members ps) ≡ option_map_or m (value_under key ps) false
   any_by_value no_pairs rising = refl
   any_by_value (pair k t ps) rising = by (bytes_eq k key) refl (any_by_value ps rising.1)
@@ -67,7 +67,7 @@ module _ (key : List ℕ) (m : Tree → Bool) where
       by Equal e rest = rw e (other (nat_list_cmp_total.congr k low key e ∙ below) rest)
       by Greater e rest = rw e (ap (λ b. passes (k, t) || b) rest)
 
--- what is above the first wanted key suffices for the wanted pairs behind it
+-- what is above the first given key suffices for the given pairs after it
 each_above : (low : List ℕ) (qs ps : Pairs) → IsBelowFirst low (keys qs) → AreRising (keys qs)
     → each_pair_is_matched qs (members ps) ≡ each_pair_is_matched qs (members (pairs_above low ps))
 each_above low no_pairs ps below rising = refl
@@ -90,7 +90,7 @@ module _ (key : List ℕ) (y : Tree) (qs ps : Pairs) (rising : AreRising (keys p
 no_container : (kind : ℕ) → (kind == 5) ≡ false → kind ≡ 5 → ⊥
 no_container kind other is = grind (arith, nat_tests)
 
--- what the search for a key answers
+-- what the search for a key returns
 pub no_entry_found : (form : Form) (o : Option Tree) → SameOption (Stores form) None o → o ≡ None
 no_entry_found form None h = refl
 no_entry_found form (Some t) h = absurd h
@@ -99,7 +99,7 @@ pub entry_found : (form : Form) (e : StoredEntry) (o : Option Tree) → SameOpti
 entry_found form e None h = absurd h
 entry_found form e (Some t) h = (t, refl, h)
 
--- what is no container matches where it is equal
+-- what is not a container matches if it is equal
 pub scalar_match : (form : Form) (e : StoredEntry) (y : Tree) → Stores form e y → (kind_number e.kind == 5) ≡ false → (x : Tree) → is_equal x y ≡ is_part_of y x
 scalar_match form e (array ys) h k x = absurd (no_container (kind_number e.kind) k h.content.0)
 scalar_match form e (object qs) h k x = absurd (no_container (kind_number e.kind) k h.content.0)
@@ -115,7 +115,7 @@ scalar_matches form e y h k (x ∷ xs) = ap₂ (λ a b. a || b) (scalar_match fo
 pub no_object : (x : Item) (b d : Bor (List ℕ)) → x ≡ item.Array b → x ≡ item.Object d → ⊥
 no_object x b d h k = cc
 
--- items that are not two arrays nor two objects match where they are equal
+-- items that are not two arrays nor two objects match if they are equal
 pub matches_if_equal : (form other_form : Form) (x y : Item) (t u : Tree) → StandsFor form x t → StandsFor other_form y u
     → ((b d : Bor (List ℕ)) → x ≡ item.Array b → y ≡ item.Array d → ⊥)
     → ((b d : Bor (List ℕ)) → x ≡ item.Object b → y ≡ item.Object d → ⊥)

@@ -66,7 +66,7 @@ merged_rising ps (q ∷ qs) rising = merged_rising (insert_pair q.0 q.1 ps) qs (
 
 -- ---- a loop over both in step
 
--- what is left of both, where it is said whether those in front are the second's
+-- What is left of both, given whether the first of them are those of the second.
 abbrev pub both : Bool → List Member → List Member → List Member
 both false cs os = merged cs os
 both true cs os = merged os cs
@@ -259,7 +259,7 @@ module _ (form : Form) (runs : PairRuns) (run left other : PairEntries) (b : Boo
       none (inl h) = inl (none_left left m.mine h)
       none (inr h) = inr (none_left other m.theirs h)
 
-  -- where not both have a first pair, one has none
+  -- if not both have a first pair, one has none
   pub merging_ended : (r s : Option FirstPair) → TakesFirstPair form left m.mine r → TakesFirstPair form other m.theirs s
       → ((x y : FirstPair) → r ≡ Some x → s ≡ Some y → ⊥) → (m.held ++ m.mine) ++ m.theirs ≡ whole
   merging_ended None s h g none = merging_done (inl h)

@@ -1,4 +1,4 @@
--- A walk along steps that keeps the positions of the children that they meet.
+-- A walk along steps that keeps the positions of the children that they select.
 use Rattle.std.proofs.Common.{◌≡◌, ◌++◌, ℕ, List, [], ◌∷◌, Option, Some, None, refl, sym, ap, ◌∙◌, append_assoc, slice_get}
 use Rattle.std.specs.Prelude.{option_map}
 use Rattle.jsonb_doc.specs.Tree.{Tree}
@@ -8,7 +8,7 @@ use Rattle.jsonb_doc.specs.declared.spot.Spot.{Spot}
 use Rattle.jsonb_keypath.specs.KeyPathGrammar.{Key}
 use Rattle.jsonb_raw.specs.Places.{children, child_position, location}
 
--- The spot marks a tree. What the steps that are left meet there is, behind the positions so far, what is wanted.
+-- The spot marks a tree. What the steps that are left select there is, after the positions so far, what is given.
 pub record Walked (bytes : List ℕ) (passed : List ℕ) (spot : Spot) (steps : List Key) (wanted : Option (List ℕ)) : Type 0 where
   pub here : Tree
   pub marks : Locates bytes spot here

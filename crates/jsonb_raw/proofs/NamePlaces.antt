@@ -15,13 +15,13 @@ use Rattle.jsonb_raw.proofs.PlaceLemmas.{position-cons}
 abbrev Member : Type 0
 Member = List ℕ × Tree
 
--- ---- the position among the keys that are left, behind those that were passed
+-- ---- the position among the keys that are left, after those that were passed
 
--- a position behind those that were passed
+-- a position after those that were passed
 abbrev pub behind : ℕ → Option ℕ → Option ℕ
 behind passed o = option_map (λ n. passed + n) o
 
--- where the first of those that were passed in another case stands, is known
+-- the position of the first visited key that differs in case only is known
 abbrev pub found_behind_both : ℕ → Option ℕ → List ℕ → List (List ℕ) → Option ℕ
 found_behind_both passed first name ks =
     option_or (behind passed (position (λ key. bytes_eq key name) ks))
@@ -76,7 +76,7 @@ both_nowhere passed first name ks wanted none e = by first ∙ rw none at e
 
 -- ---- the value there
 
--- a pair that passes stands at this position
+-- a pair that passes is at this position
 pub record StandsAt (test : List ℕ → Bool) (ps : List Member) (n : ℕ) : Type 0 where
   pub value : Tree
   pub rest : List Tree

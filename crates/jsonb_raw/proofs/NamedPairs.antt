@@ -1,16 +1,17 @@
--- Texts gone through one by one, and pairs without the one of a key.
-use Rattle.std.proofs.Common.{◌≡◌, ℕ, zero, suc, Bool, true, false, not, List, [], ◌∷◌, map, filter, cond, Option, Some, None, refl, sym, ap, ◌∙◌}
+-- Strings that are visited one by one, and members without the one of a key.
+use Rattle.std.proofs.Common.{◌≡◌, ℕ, zero, suc, Bool, true, false, not, List, [], ◌∷◌, map, filter, cond, Option, Some, None, refl, sym, ap, subst, ◌∙◌}
 use Rattle.std.specs.Prelude.{position, option_map}
 use Rattle.std.specs.List.{remove}
 use Rattle.std.specs.Map.{keys_of, values_of}
 use Rattle.std.specs.Str.{bytes_eq}
 use Rattle.jsonb_doc.specs.Tree.{Tree, text}
-use Rattle.jsonb_doc.specs.Payload.{Form}
-use Rattle.jsonb_doc.specs.Format.{AreKeys}
+use Rattle.jsonb_doc.specs.Payload.{Form, number_reader}
+use Rattle.jsonb_doc.specs.Kinds.{kind_number}
+use Rattle.jsonb_doc.specs.Format.{AreKeys, IsContent}
 use Rattle.jsonb_doc.proofs.BuilderSteps.{AreRising, keys_rise, AreRising-filter}
 use Rattle.jsonb_doc.proofs.WordLemmas.{bytes_eq-true}
-use Rattle.jsonb_raw.specs.declared.functions.parts.Entries.{Entries}
-use Rattle.jsonb_raw.specs.declared.functions.parts.FirstEntry.{FirstEntry}
+use Rattle.jsonb_doc.specs.declared.cursor.Entries.{Entries}
+use Rattle.jsonb_doc.specs.declared.entry_iter.StoredEntry.{StoredEntry}
 use Rattle.jsonb_raw.specs.Private.Entries.{HoldTrees, TakesFirst}
 use Rattle.jsonb_raw.proofs.PlaceLemmas.{position-cons}
 use Rattle.jsonb_raw.proofs.GoneLemmas.{below_all}
@@ -18,23 +19,29 @@ use Rattle.jsonb_raw.proofs.GoneLemmas.{below_all}
 abbrev Member : Type 0
 Member = List ℕ × Tree
 
--- ---- texts
+-- ---- strings
 
--- the first of the texts is this entry's content
-pub record TextFirst (form : Form) (ks : List (List ℕ)) (first : FirstEntry) : Type 0 where
+-- Holds if the first of the strings is this entry's content.
+pub record TextFirst (form : Form) (ks : List (List ℕ)) (entry : StoredEntry) (others : Entries) : Type 0 where
   pub rest : List (List ℕ)
-  pub split : ks ≡ first.content.now ∷ rest
-  pub others : HoldTrees form first.others (map text rest)
+  pub split : ks ≡ entry.content.now ∷ rest
+  pub part : IsContent (number_reader form) (text entry.content.now) (kind_number entry.kind) entry.content.now
+  pub others_hold : HoldTrees form others (map text rest)
 
-pub text_first : (form : Form) (entries : Entries) (ks : List (List ℕ)) (found : Option FirstEntry) (first : FirstEntry) → found ≡ Some first
-    → TakesFirst form entries (map text ks) found → TextFirst form ks first
-text_first form entries ks found first is h = by ks (rw is at h)
+pub text_first : (form : Form) (entries : Entries) (ks : List (List ℕ)) (found : Option (StoredEntry × Entries)) (entry : StoredEntry) (others : Entries)
+    → found ≡ Some (entry, others) → TakesFirst form entries (map text ks) found → TextFirst form ks entry others
+text_first form entries ks found entry others is h = by ks (rw is at h)
   where
-    by : (ls : List (List ℕ)) → TakesFirst form entries (map text ls) (Some first) → TextFirst form ls first
+    by : (ls : List (List ℕ)) → TakesFirst form entries (map text ls) (Some (entry, others)) → TextFirst form ls entry others
     by [] g = absurd g
-    by (l ∷ ls) g = record { rest = ls; split = ap (λ (k : List ℕ). k ∷ ls) (sym g.part.1); others = g.others_hold }
+    by (l ∷ ls) g = record {
+      rest = ls;
+      split = ap (λ (k : List ℕ). k ∷ ls) (sym g.part.1);
+      part = subst (λ (k : List ℕ). IsContent (number_reader form) (text k) (kind_number entry.kind) entry.content.now) (sym g.part.1) g.part;
+      others_hold = g.others_hold;
+    }
 
-pub no_text_left : (form : Form) (entries : Entries) (ks : List (List ℕ)) (found : Option FirstEntry) → found ≡ None
+pub no_text_left : (form : Form) (entries : Entries) (ks : List (List ℕ)) (found : Option (StoredEntry × Entries)) → found ≡ None
     → TakesFirst form entries (map text ks) found → ks ≡ []
 no_text_left form entries [] found is h = refl
 no_text_left form entries (k ∷ ks) found is h = absurd (rw is at h)
@@ -58,7 +65,7 @@ without_key name ps = filter (λ p. not (bytes_eq p.0 name)) ps
 not_none : (n : ℕ) → Some n ≡ None → ⊥
 not_none n e = cc
 
--- where no key is the name, all pairs stay
+-- if no key is the name, all members stay
 pub all_stay : (name : List ℕ) (ps : List Member) → position (λ k. bytes_eq k name) (keys_of ps) ≡ None → without_key name ps ≡ ps
 all_stay name [] none = refl
 all_stay name (p ∷ ps) none = by (λ others. all_stay name ps others) (bytes_eq p.0 name) refl
@@ -75,7 +82,7 @@ all_stay name (p ∷ ps) none = by (λ others. all_stay name ps others) (bytes_e
             absurd (not_none (suc m) (ap (option_map suc) (sym is)
             ∙ sym (position-cons (λ k. bytes_eq k name) p.0 (keys_of ps) false other) ∙ none))
 
--- where the first key that is the name has this position, the pair there is all that goes
+-- if the first key that is the name has this position, only the member there is left out
 pub one_goes : (name : List ℕ) (ps : List Member) (n : ℕ) → AreKeys (keys_of ps) → position (λ k. bytes_eq k name) (keys_of ps) ≡ Some n
     → without_key name ps ≡ remove ps n
 one_goes name [] n are at = let bad : None ≡ Some n = at in absurd (cc)

@@ -26,7 +26,7 @@ complement bs = map (λ b. 255 - b) bs
 pub ranks_alone : (xs ys : List ℕ) (o : Ordering) → Ranks xs ys o → bytes_cmp xs ys ≡ o
 ranks_alone xs ys o h = ap₂ bytes_cmp (sym (append-nil xs)) (sym (append-nil ys)) ∙ h.ranks [] [] ∙ then_Equal o
 
--- behind equal first bytes the rests rank so
+-- after equal first bytes the rests rank so
 Ranks-tail : (x : ℕ) (xs ys : List ℕ) (o : Ordering) → Ranks (x ∷ xs) (x ∷ ys) o → Ranks xs ys o
 Ranks-tail x xs ys o h = record { ranks = λ r s. ap (λ p. ordering_then p (bytes_cmp (xs ++ r) (ys ++ s))) (sym (nat_cmp_refl x)) ∙ h.ranks r s }
 

@@ -58,7 +58,7 @@ values_joined : (front left : List (List ℕ × Tree)) → values_of (front ++ l
 values_joined [] left = refl
 values_joined (p ∷ ps) left = ap (λ ts. p.1 ∷ ts) (values_joined ps left)
 
--- where a document of the next value is refused, those of all values are
+-- if a document of the next value fails, those of all values are
 pub pair_refused_in_list : (form : Form) (made : List (String Global × OwnedJsonb)) (key : List ℕ) (t : Tree) (left whole : List (List ℕ × Tree)) (e : Error)
     → Made (IsPairOf form) made ((key, t) ∷ left) whole → IsOutOfMemoryOrTooLarge form t e
     → (e ≡ OutOfMemory) ⊎ ((e ≡ TooLarge) × Any (IsTooLarge form) (values_of whole))

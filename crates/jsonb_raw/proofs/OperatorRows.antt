@@ -51,7 +51,7 @@ nested_in_itself = refl
 greatest_not_there : contains (list (n 1 ∷ n 1 ∷ n 2 ∷ number (number_from decimal64 (pos 10) 1) ∷ [])) (list (n 18446744073709551615 ∷ [])) ≡ false
 greatest_not_there = refl
 
--- an inner array is no part of the array
+-- an inner array is not a part of the array
 inner_array : contains (list (n 1 ∷ n 2 ∷ list (n 1 ∷ n 3 ∷ []) ∷ [])) (list (n 1 ∷ n 3 ∷ [])) ≡ false
 inner_array = refl
 

@@ -1,4 +1,4 @@
--- Bytes that are put in front of those of a word: a number's digits and a text, the last of them first.
+-- Bytes that are put before those of a word: a number's digits and a string, the last of them first.
 use Rattle.std.proofs.Common.{◌≡◌, ℕ, zero, suc, ◌+◌, ◌-◌, ◌/◌, ◌%◌, ◌<◌, ◌≤◌, ◌++◌, Bool, List, [], ◌∷◌, map, length, take, refl, sym, ap, ap₂, ◌∙◌, append_assoc, append-nil, arith, w16}
 use Rattle.std.specs.Int.{to_be_bytes}
 use Rattle.std.specs.Int.Digits.{digits_of}
@@ -12,7 +12,7 @@ use Rattle.jsonb_raw.specs.Private.Complements.{complement_byte, complement_byte
 use Rattle.jsonb_raw.proofs.DigitSteps.{count_step, digit_written, no_digits}
 use Rattle.jsonb_raw.proofs.TextChunks.{text_bytes-append}
 
--- one byte more, in front
+-- one byte more, at the front
 pub packed_behind : (len byte : ℕ) (now before : List ℕ) → len < 16 → now ≡ byte ∷ take 15 before → take (len + 1) now ≡ byte ∷ take len before
 packed_behind len byte now before room is =
     let next : len + 1 ≡ suc len = omega arith in
@@ -22,7 +22,7 @@ packed_behind len byte now before room is =
 pub packed_pushed : (old one two bytes : List ℕ) (len at : ℕ) → at ≡ length old + len → one ≡ old ++ bytes → two ≡ take at one → two ≡ old ++ take len bytes
 packed_pushed old one two bytes len at place pushed cut = cut ∙ ap₂ take place pushed ∙ take-append-add old bytes len
 
--- the digits that are left, and the bytes that are packed: together the number's digits and the end byte
+-- Holds if the digits that are left and the packed bytes are together the number's digits and the end marker.
 pub record DigitsPacked (negative : Bool) (n left len : ℕ) (bytes : List ℕ) : Type 0 where
   pub counted : len + length (digits_of 10 left) ≡ length (digits_of 10 n) + 1
   pub few : length (digits_of 10 n) ≤ 9
@@ -55,7 +55,7 @@ module _ (negative : Bool) (n left len : ℕ) (bytes : List ℕ) (h : DigitsPack
   pub all_counted : left ≡ 0 → len ≡ length (digits_of 10 n) + 1
   all_counted none = let counted = h.counted in let nothing = ap length (no_digits left none) in omega (arith, nothing, counted)
 
--- the exponent's bytes in front of the digits
+-- the exponent's bytes before the digits
 pub magnitude_packed : (negative : Bool) (exponent digits : List ℕ) (n shorter scale e : ℕ) → e ≡ length (digits_of 10 n) + 1000 - scale
     → digits_of 10 shorter ≡ significant (digits_of 10 n) → exponent ≡ complement_bytes negative (to_be_bytes w16 e)
     → digits ≡ complement_bytes negative (map suc (digits_of 10 shorter) ++ 0 ∷ []) → exponent ++ digits ≡ complement_bytes negative (magnitude_bytes n scale)
@@ -65,7 +65,7 @@ magnitude_packed negative exponent digits n shorter scale e moved same front bac
     (back ∙ ap (λ ds. complement_bytes negative (map suc ds ++ 0 ∷ [])) same)
     ∙ sym (map-append (complement_byte negative) (to_be_bytes w16 (length (digits_of 10 n) + 1000 - scale)) (map suc (significant (digits_of 10 n)) ++ 0 ∷ []))
 
--- what is left of a text, and the bytes that are packed: together the text's bytes
+-- what is left of a string, and the bytes that are packed: together the text's bytes
 pub record TextPacked (text left : List ℕ) (len : ℕ) (bytes : List ℕ) : Type 0 where
   pub counted : len + length left ≡ length text + 1
   pub packed : flat_map escaped_byte left ++ bytes ≡ text_bytes text

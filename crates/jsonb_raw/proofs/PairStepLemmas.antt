@@ -1,4 +1,4 @@
--- Steps along pairs whose keys rise.
+-- Steps along pairs whose keys are sorted.
 use Rattle.std.proofs.Common.{◌≡◌, ℕ, List, [], ◌∷◌, Some, None, refl, sym, ap, ◌∙◌, Ordering, Less, Equal, Greater}
 use Rattle.std.specs.Ordering.{nat_cmp, is_eq, ordering_reverse}
 use Rattle.std.specs.Cmp.Lexicographic.{slice_cmp}
@@ -19,7 +19,7 @@ above_key k key less = nat_list_cmp_total.antisymm k key ∙ ap ordering_reverse
 pub below_key : (k key : List ℕ) → slice_cmp nat_cmp k key ≡ Greater → slice_cmp nat_cmp key k ≡ Less
 below_key k key greater = nat_list_cmp_total.antisymm key k ∙ ap ordering_reverse greater
 
--- what is below a key is below those behind it
+-- what is below a key is below those after it
 pub below_further : (low k : List ℕ) (ks : List (List ℕ)) → slice_cmp nat_cmp low k ≡ Less → IsBelowFirst k ks → IsBelowFirst low ks
 below_further low k [] less below = tt
 below_further low k (next ∷ ks) less below = nat_list_cmp_total.trans low k next less below

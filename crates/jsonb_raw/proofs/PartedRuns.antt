@@ -40,7 +40,7 @@ pub parted_rising : (wanted : Bool) (set : TextSet) (ps : List Member) → AreRi
 parted_rising true set ps rising = AreRising-filter (λ p. is_in set p.0) ps rising
 parted_rising false set ps rising = AreRising-filter (λ p. not (is_in set p.0)) ps rising
 
--- what a test of two truth values tells
+-- what a test of two Booleans determines
 pub other_truth : (a b : Bool) → not (beq a b) ≡ true → a ≡ not b
 other_truth true true differ = absurd (cc)
 other_truth true false differ = refl

@@ -13,7 +13,7 @@ use Rattle.jsonb_keypath.specs.KeyPathGrammar.{Key, index, quoted_name, unquoted
 use Rattle.jsonb_raw.specs.Places.{children, asked_key, child_position, location, tree_at, tree_at_steps}
 use Rattle.jsonb_raw.specs.Private.Steps.{child_met}
 
--- ---- the child that a step meets
+-- ---- the child that a step selects
 
 below : (m n : ℕ) → m < n → nat_lt m n ≡ true
 below m n h = grind (arith, nat_tests)
@@ -27,7 +27,7 @@ shifted n len true e =
 shifted n len false e =
     let e' : nat_lt (1 + n) (suc len) ≡ false = grind (arith, nat_tests) in rw (e, e') refl
 
--- the first position at which a test holds, in a list with one more in front
+-- the first position at which a test holds, in a list with one more at the front
 pub position-cons : {A : Type 0} (p : A → Bool) (x : A) (xs : List A) (b : Bool) → p x ≡ b
     → position p (x ∷ xs) ≡ cond b (Some 0) (option_map suc (position p xs))
 position-cons p x xs true e = let e' = below 0 (suc (length xs)) (omega arith) in rw (e, e') refl
@@ -51,7 +51,7 @@ value_at_key name (pair key value ps) = by (value_at_key name ps) (bytes_eq key 
     by rest true e = rw (position-cons (λ key. bytes_eq key name) key (keys ps) true e, e) refl
     by rest false e = rw (position-cons (λ key. bytes_eq key name) key (keys ps) false e, e) (past _ ∙ rest)
 
--- a step meets the value of an object under the key that it asks for
+-- a step selects the value of its key in an object
 pub field_met : (step : Key) (ps : Pairs) → child_met step (object ps) ≡ value_under (asked_key step) ps
 field_met (index i) ps = value_at_key _ ps
 field_met (quoted_name name) ps = value_at_key name ps
@@ -65,7 +65,7 @@ pub quoted_met : (name : List ℕ) (t : Tree) → child_met (quoted_name name) t
 quoted_met name (object ps) = value_at_key name ps
 quoted_met name _ = refl
 
--- an index meets nothing in an item that is no container
+-- an index selects nothing in an item that is not a container
 pub none_in_scalar : (form : Form) (i : ℤ) (x : Item) (t : Tree) → StandsFor form x t
     → ((bytes : _) → x ≡ item.Array bytes → ⊥) → ((bytes : _) → x ≡ item.Object bytes → ⊥) → child_met (index i) t ≡ None
 none_in_scalar form i (item.Array bytes) t h no_array no_object = absurd (no_array bytes refl)
@@ -74,7 +74,7 @@ none_in_scalar form i _ t h no_array no_object = rw h refl
 
 -- ---- several steps
 
--- the steps meet what the others meet in the child that the first meets
+-- the steps select what the others select in the child that the first selects
 pub step_by_step : (step : Key) (steps : List Key) (t : Tree)
     → tree_at_steps (step ∷ steps) t ≡ option_and_then (tree_at_steps steps) (child_met step t)
 step_by_step step steps t = at_position (child_position step t)

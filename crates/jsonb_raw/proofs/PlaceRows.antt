@@ -43,6 +43,6 @@ name_at_array = refl
 step_at_scalar : location (index (pos 0) ∷ index (pos 0) ∷ []) row ≡ None
 step_at_scalar = refl
 
--- at an object an index asks for the key that it is in decimal
+-- at an object an index denotes the key that is its decimal text
 index_at_object : location (index (pos 7) ∷ []) (object (pairs_of ((55 ∷ [], v) ∷ []))) ≡ Some (0 ∷ [])
 index_at_object = rw (decimal_digit 7 (lit< tt)) refl

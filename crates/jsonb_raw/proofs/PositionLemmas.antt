@@ -1,4 +1,4 @@
--- The position of the child that a step meets, found by its index or by its key.
+-- The position of the child that a step selects, found by its index or by its key.
 use Rattle.std.proofs.Common.{◌≡◌, ℕ, suc, ◌+◌, ℤ, true, false, List, [], ◌∷◌, length, Option, Some, None, Result, Ok, Err, IsOkAnd, refl, ap, ◌∙◌, arith, Global, MatchResult}
 use Rattle.std.specs.Prelude.{position, option_map}
 use Rattle.std.specs.Borrow.{Bor}
@@ -52,7 +52,7 @@ nothing_at (index i) _ e = refl
 nothing_at (quoted_name name) _ e = refl
 nothing_at (unquoted_name name) _ e = refl
 
--- an item that is no container has no child
+-- an item that is not a container has no child
 pub no_child_in_scalar : (x : Item) (t : Tree) (step : Key) → ((b : Bor (List ℕ)) → x ≡ item.Array b → ⊥) → ((b : Bor (List ℕ)) → x ≡ item.Object b → ⊥)
     → StandsFor any x t
     → None ≡ child_position step t
@@ -121,7 +121,7 @@ pub no_more_keys : (ks : List (List ℕ)) (after : KeyIter) → TakesKey ks None
 no_more_keys [] after h = refl
 no_more_keys (k ∷ ks) after h = absurd h
 
--- ---- the position among the keys that are left, behind those that were passed
+-- ---- the position among the keys that are left, after those that were passed
 
 abbrev pub position_behind : ℕ → List ℕ → List (List ℕ) → Option ℕ
 position_behind passed name ks = option_map (λ n. passed + n) (position (λ key. bytes_eq key name) ks)

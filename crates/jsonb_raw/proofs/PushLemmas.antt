@@ -1,11 +1,11 @@
--- Parts put one behind the other.
+-- Parts put one after the other.
 use Rattle.std.proofs.Common.{◌≡◌, ℕ, ◌+◌, ◌-◌, ◌^◌, ◌<◌, List, ◌++◌, length, take, drop, Result, Ok, Err, refl, sym, ap, ◌∙◌, arith, append_assoc, MatchResult}
 use Rattle.std.proofs.lemmas.List.{length-append, take_at, drop_at}
 use Rattle.jsonb_doc.specs.declared.error.Error.{Error}
 use Rattle.jsonb_doc.specs.Format.{container_entry, entry_word}
 use Rattle.jsonb_doc.specs.Answer.{IsOutOfMemory}
 
--- what was pushed behind an earlier part
+-- what was pushed after an earlier part
 pub pushed_behind : {A : Type 0} (r : Result A Error) (before part rest between after : List ℕ) → between ≡ before ++ part
     → MatchResult r (λ _. after ≡ between ++ rest) IsOutOfMemory
     → MatchResult r (λ _. after ≡ before ++ (part ++ rest)) IsOutOfMemory

@@ -1,5 +1,5 @@
--- A loop over a document's parts that pushes into a builder: what is held, followed by what the parts that are left give, is
--- the whole. `gives` is what the parts that are left are to give, `whole` what all of them give.
+-- A loop over a document's parts that pushes into a builder: what is held, followed by what the parts that are left
+-- give, is the whole. `gives` is what the parts that are left are to give, `whole` what all of them give.
 use Rattle.std.proofs.Common.{◌≡◌, List, [], ◌∷◌, ◌++◌, Option, Some, Result, Ok, subst}
 use Rattle.jsonb_doc.specs.declared.error.Error.{Error}
 use Rattle.jsonb_doc.specs.declared.item.Item.{Item}
@@ -31,7 +31,7 @@ module _ (form : Form) (gives : Trees → List Tree) (whole : List Tree) (before
       → HoldsFront form before (part ∷ gives ts) whole
   next_front t part ts same front = subst (λ (us : List Tree). HoldsFront form before us whole) same front
 
-  -- with what the next element gives behind the others, what the rest gives is left
+  -- with what the next element gives after the others, what the rest gives is left
   pub elements_pushed : (part : Tree → Tree) (after : Parts)
       → ((t : Tree) (ts : Trees) → StandsFor form x t → gives (tree t ts) ≡ part t ∷ gives ts)
       → ((t : Tree) (held : List Tree) → StandsFor form x t → HoldsElements form before held → HoldsElements form after (held ++ part t ∷ []))
@@ -42,7 +42,7 @@ module _ (form : Form) (gives : Trees → List Tree) (whole : List Tree) (before
       let f = next_front t (part t) ts (next t ts stands) front in
       record { trees = ts; left = left; fact = front_pushed form before (part t) (gives ts) whole f after (pushed t f.held stands f.holds) })
 
-  -- where that push is refused, the whole is
+  -- if that push fails, the whole is
   pub elements_refused : (part : Tree → Tree) (e : Error)
       → ((t : Tree) (ts : Trees) → StandsFor form x t → gives (tree t ts) ≡ part t ∷ gives ts)
       → ((t : Tree) (held : List Tree) → StandsFor form x t → HoldsElements form before held
@@ -54,7 +54,7 @@ module _ (form : Form) (gives : Trees → List Tree) (whole : List Tree) (before
       let f = next_front t (part t) ts (next t ts stands) front in
       front_refused form before (part t) (gives ts) whole f e (refused t f.held stands f.holds))
 
-  -- an element that gives nothing is passed over
+  -- an element that yields nothing is passed over
   pub elements_skipped : ((t : Tree) (ts : Trees) → StandsFor form x t → gives (tree t ts) ≡ gives ts) → HeldElements form before it' gives whole
   elements_skipped next =
       SomeElements-first form it it' r x (λ ts. HoldsFront form before (gives ts) whole) is step h

@@ -46,7 +46,7 @@ positive_pushed old (pos (suc n)) scale h ne = append_assoc old (0x81 ∷ []) (c
     ∙ ap (λ x. old ++ 0x81 ∷ x) (same_bytes (magnitude_bytes (suc n) scale))
 positive_pushed old (negsuc n) scale h ne = absurd (true≢false h)
 
--- a sign byte and a magnitude make a number, where v is the whole value as it was read
+-- a sign byte and a magnitude make a number, if v is the whole value unchanged read
 pub number_steps : (old first : List ℕ) (sign m : ℕ) (z v : ℤ) (scale : ℕ) → v ≡ z → z ≢ pos 0 → m ≡ nat_abs v → first ≡ old ++ sign ∷ []
     → ((int_lt v (pos 0) ≡ true) × (sign ≡ 0x7f)) ⊎ ((int_lt v (pos 0) ≡ false) × (sign ≡ 0x81))
     → first ++ complement_bytes (int_lt v (pos 0)) (magnitude_bytes m scale) ≡ old ++ number_bytes z scale
@@ -59,7 +59,7 @@ number_steps old first sign m z v scale e ne a f (inr h) =
     ∙ ap (λ b. (old ++ 0x81 ∷ []) ++ complement_bytes b (magnitude_bytes (nat_abs z) scale)) h.0
     ∙ positive_pushed old z scale (subst (λ x. int_lt x (pos 0) ≡ false) e h.0) ne
 
--- a buffer that holds the sign byte, the exponent, the digits and the end byte is appended
+-- a buffer that holds the sign byte, the exponent, the digits and the end marker is appended
 pub buffer_steps : (negative : Bool) (old last whole front tail : List ℕ) (sign n scale e byte : ℕ) → e ≡ length (digits_of 10 n) + 1000 - scale
     → whole ≡ sign ∷ front → front ≡ complement_bytes negative (to_be_bytes w16 e) ++ tail
     → tail ≡ complement_bytes negative (map suc (significant (digits_of 10 n))) ++ byte ∷ [] → byte ≡ complement_byte negative 0 → last ≡ old ++ whole

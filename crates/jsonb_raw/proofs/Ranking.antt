@@ -71,7 +71,7 @@ Ranks-bytes_high_first (suc k) m n =
     (mod_below n (256 ^ k) (one-le-pow k 256 (omega arith)))) ∙ ap₂ nat_cmp (byte_place k m) (byte_place k n))
     (Ranks-head (byte_at k m) (byte_at k n) (bytes_high_first k m) (bytes_high_first k n) (nat_cmp (m % 256 ^ k) (n % 256 ^ k)) (Ranks-bytes_high_first k m n))
 
--- ---- texts
+-- ---- strings
 
 Ranks-escaped : (a b : ℕ) → Ranks (escaped_byte a) (escaped_byte b) (nat_cmp a b)
 Ranks-escaped zero zero = record { ranks = λ r s. refl }

@@ -32,7 +32,7 @@ same_place (step ∷ steps) t = rw (same_child step t) (by (same_place steps) (c
 abbrev pub PrintsToItsPlace : List Key → Type 0
 PrintsToItsPlace steps = (found : List Key) × (key_path (key_path_text steps) ≡ Some found) × ((t : Tree) → location found t ≡ location steps t)
 
--- a text that reads back with the same steps, but for quotes, has the same place on every tree
+-- a string that reads back with the same steps, except for quotes, has the same place on every tree
 pub prints_to_its_place : (o : Option (List Key)) → IfSome o ReadsBack → IfSome o PrintsToItsPlace
 prints_to_its_place None h = tt
 prints_to_its_place (Some steps) h =

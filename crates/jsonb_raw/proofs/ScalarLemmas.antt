@@ -6,20 +6,23 @@ use Rattle.jsonb_doc.specs.Item.{StandsFor}
 use Rattle.jsonb_doc.specs.declared.number.Number as code
 use Rattle.jsonb_doc.specs.declared.item.Item.{Item}
 use Rattle.jsonb_doc.specs.declared.item.Item.TheVariants.{Null, Boolean, Number, String, Extension, Array, Object}
+use Rattle.jsonb_doc.specs.Shapes.{HasShape}
+use Rattle.jsonb_doc.specs.declared.shape.Shape.{Shape}
+use Rattle.jsonb_doc.specs.declared.shape.Shape.TheVariants as shapes
 use Rattle.jsonb_raw.specs.Casts.{text_of}
 use Rattle.jsonb_raw.specs.Scalars.{IsWholeNumber}
 
--- an item that is no number stands for no whole one
-pub no_whole : (form : Form) (item : Item) (t : Tree) → StandsFor form item t → ((n : code.Number) → item ≡ Number n → ⊥) → (z : ℤ) → IsWholeNumber t z → ⊥
-no_whole form Null t s other z w = let w' = rw s at w in w'
-no_whole form (Boolean b) t s other z w = let w' = rw s at w in w'
-no_whole form (Number n) t s other z w = other n refl
-no_whole form (String text) t s other z w = let w' = rw s at w in w'
-no_whole form (Extension x) t s other z w = let w' = rw s at w in w'
-no_whole form (Array bytes) t (ts, e, d) other z w = let w' = rw e at w in w'
-no_whole form (Object bytes) t (ps, e, d) other z w = let w' = rw e at w in w'
+-- a shape that is not a number is that of no whole one
+pub no_whole : (shape : Shape) (t : Tree) → HasShape shape t → ((n : code.Number) → shape ≡ shapes.Number n → ⊥) → (z : ℤ) → IsWholeNumber t z → ⊥
+no_whole shapes.Null t s other z w = let w' = rw s at w in w'
+no_whole (shapes.Boolean b) t s other z w = let w' = rw s at w in w'
+no_whole (shapes.Number n) t s other z w = other n refl
+no_whole (shapes.Text text) t s other z w = let w' = rw s at w in w'
+no_whole (shapes.Extension x) t s other z w = let w' = rw s at w in w'
+no_whole shapes.Array t (ts, e) other z w = let w' = rw e at w in w'
+no_whole shapes.Object t (ps, e) other z w = let w' = rw e at w in w'
 
--- an item that is no boolean, number or string stands for a tree without a text
+-- an item that is not a boolean, number or string represents a tree without a string
 pub no_text : (form : Form) (item : Item) (t : Tree) → StandsFor form item t → ((b : Bool) → item ≡ Boolean b → ⊥) → ((n : code.Number) → item ≡ Number n → ⊥)
     → ((s : Bor (List ℕ)) → item ≡ String s → ⊥) → text_of t ≡ None
 no_text form Null t is not_boolean not_number not_string = rw is refl

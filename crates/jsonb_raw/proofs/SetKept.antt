@@ -1,10 +1,8 @@
 -- What the loops of the set functions keep true.
-use Rattle.std.proofs.Common.{ap₂, ◌≡◌, ℕ, ◌+◌, ◌<◌, ◌^◌, suc, Bool, true, false, ◌||◌, cond, List, [], ◌∷◌, ◌++◌, length, map, filter, Option, Some, None, inl, inr, refl, sym, ap, subst, ◌∙◌, append_assoc, append-nil, arith}
+use Rattle.std.proofs.Common.{ap₂, ◌≡◌, ◌+◌, ◌<◌, ◌^◌, suc, Bool, true, false, ◌||◌, cond, List, [], ◌∷◌, ◌++◌, length, map, filter, Option, Some, None, inl, inr, refl, sym, ap, subst, ◌∙◌, append_assoc, append-nil, arith}
 use Rattle.std.specs.List.{AllByRecursion, list_any}
 use Rattle.jsonb_doc.specs.Tree.{Tree, array, object, Trees, no_trees, tree, elements, count, trees_of}
-use Rattle.jsonb_doc.specs.Payload.{Form, canonical, number_reader}
-use Rattle.jsonb_doc.specs.Format.{IsContent}
-use Rattle.jsonb_doc.specs.Private.Stored.{Stores}
+use Rattle.jsonb_doc.specs.Payload.{Form, canonical}
 use Rattle.jsonb_doc.specs.Kinds.{kind_number}
 use Rattle.jsonb_doc.specs.declared.entry_iter.StoredEntry.{StoredEntry}
 use Rattle.jsonb_doc.specs.Limits.{Fits, AreInRange, IsShort, HasShortParts, HasShortElements, IsWithinLimits, IsTooLarge}
@@ -20,12 +18,11 @@ use Rattle.jsonb_doc.specs.Equal.{is_equal}
 use Rattle.jsonb_doc.specs.Proofs.Equality.{is_equal_equiv}
 use Rattle.jsonb_raw.specs.Sets.{Occurrence, occurrences, overlap}
 use Rattle.jsonb_raw.specs.Private.SetCounts.{keeps, kept_one, CountsBehind}
-use Rattle.jsonb_raw.specs.Private.Entries.{HoldTrees, AreElementsOf, RunsHold, IsFirst, TakesFirst, Holding, HasRunMore}
-use Rattle.jsonb_raw.specs.declared.functions.parts.Entries.{Entries}
-use Rattle.jsonb_raw.specs.declared.functions.parts.FirstEntry.{FirstEntry}
+use Rattle.jsonb_raw.specs.Private.Entries.{HoldTrees, AreElementsOf, RunsHold, IsFirst, TakesFirst, Holding}
+use Rattle.jsonb_doc.specs.declared.cursor.Entries.{Entries}
 use Rattle.jsonb_raw.specs.declared.functions.array.counts.KeyCounts.{KeyCounts}
-use Rattle.jsonb_raw.specs.declared.functions.array.sets.Occurrences.{Occurrences}
-use Rattle.jsonb_raw.proofs.RunLemmas.{holding_begun, holding_kept, holding_again, holding_pushed}
+use Rattle.jsonb_raw.specs.declared.functions.array.sets.SetOperation.{SetOperation}
+use Rattle.jsonb_raw.proofs.RunLemmas.{holding_begun, holding_kept, holding_again}
 
 -- ---- the elements of a document
 
@@ -54,7 +51,7 @@ pub members_fit : (t : Tree) → Fits t → AllByRecursion Fits (as_elements t)
 members_fit (array ts) f = elements_fit ts f
 members_fit t f = (f, tt)
 
--- where there is an iterator over elements, the tree is an array; else it counts as one element
+-- Holds if the tree is an array whose elements the iterator has. Without an iterator the tree counts as one element.
 pub record IsArrayOf (form : Form) (it : ElementIter) (t : Tree) : Type 0 where
   pub trees : Trees
   pub is : t ≡ array trees
@@ -84,11 +81,11 @@ overlap_one (t ∷ ts) u = ap₂ (λ a b. a || b) (or_false (is_equal t u) ∙ i
 
 -- ---- what is kept
 
--- those elements of what is left that are kept, behind the elements `before`
-abbrev pub kept_behind : Occurrences → List Tree → List Tree → List Tree → List Tree
+-- The elements of `left` that are kept, after the elements `before`.
+abbrev pub kept_behind : SetOperation → List Tree → List Tree → List Tree → List Tree
 kept_behind kind other before left = map (λ o. o.1) (filter (keeps kind other) (occurrences before left))
 
-kept_next : (kind : Occurrences) (other before : List Tree) (t : Tree) (left : List Tree)
+kept_next : (kind : SetOperation) (other before : List Tree) (t : Tree) (left : List Tree)
     → kept_one kind other (before, t) ++ kept_behind kind other (t ∷ before) left ≡ kept_behind kind other before (t ∷ left)
 kept_next kind other before t left = by (keeps kind other (before, t))
   where
@@ -100,7 +97,7 @@ kept_next kind other before t left = by (keeps kind other (before, t))
     by false = refl
 
 -- What is held, followed by what is kept of the elements that are left, is the whole.
-pub record KeptLeft (form : Form) (kind : Occurrences) (m : KeyCounts) (other : List Tree) (parts : Parts) (left whole : List Tree) : Type 0 where
+pub record KeptLeft (form : Form) (kind : SetOperation) (m : KeyCounts) (other : List Tree) (parts : Parts) (left whole : List Tree) : Type 0 where
   pub before : List Tree
   pub held : List Tree
   pub few : length before + length left < 2 ^ 63
@@ -109,17 +106,17 @@ pub record KeptLeft (form : Form) (kind : Occurrences) (m : KeyCounts) (other : 
   pub holds : HoldsElements form parts held
   pub joined : held ++ kept_behind kind other before left ≡ whole
 
-pub KeptLeft-all : (form : Form) (kind : Occurrences) (m : KeyCounts) (other : List Tree) (parts : Parts) (ts : List Tree) → parts ≡ no_parts → length ts < 2 ^ 63
+pub KeptLeft-all : (form : Form) (kind : SetOperation) (m : KeyCounts) (other : List Tree) (parts : Parts) (ts : List Tree) → parts ≡ no_parts → length ts < 2 ^ 63
     → AllByRecursion Fits ts → CountsBehind kind m other []
     → KeptLeft form kind m other parts ts (kept_behind kind other [] ts)
 KeptLeft-all form kind m other parts ts is few fit behind =
     record { before = []; held = []; few = omega arith; fit = fit; behind = behind; holds = rw is (refl, refl); joined = refl }
 
-pub KeptLeft-done : (form : Form) (kind : Occurrences) (m : KeyCounts) (other : List Tree) (parts : Parts) (whole : List Tree)
+pub KeptLeft-done : (form : Form) (kind : SetOperation) (m : KeyCounts) (other : List Tree) (parts : Parts) (whole : List Tree)
     → KeptLeft form kind m other parts [] whole → HoldsElements form parts whole
 KeptLeft-done form kind m other parts whole h = subst (HoldsElements form parts) (sym (append-nil h.held) ∙ h.joined) h.holds
 
-module _ (form : Form) (kind : Occurrences) (m : KeyCounts) (other : List Tree) (parts : Parts) (first : Tree) (rest whole : List Tree)
+module _ (form : Form) (kind : SetOperation) (m : KeyCounts) (other : List Tree) (parts : Parts) (first : Tree) (rest whole : List Tree)
     (h : KeptLeft form kind m other parts (first ∷ rest) whole) where
   joined_next : (h.held ++ kept_one kind other (h.before, first)) ++ kept_behind kind other (first ∷ h.before) rest ≡ whole
   joined_next =
@@ -153,22 +150,17 @@ module _ (form : Form) (kind : Occurrences) (m : KeyCounts) (other : List Tree) 
 
 -- ---- what is kept, in runs
 
--- an entry of this kind and content stores what they are
-pub stores_next : (form : Form) (t : Tree) (entry : StoredEntry) (first : FirstEntry) → entry.kind ≡ first.kind → entry.content.now ≡ first.content.now
-    → IsContent (number_reader form) t (kind_number first.kind) first.content.now → Stores form entry t
-stores_next form t entry first kind content part = record { content = rw (kind, content) part }
-
-kept_in : (kind : Occurrences) (other before : List Tree) (t : Tree) (left : List Tree) → keeps kind other (before, t) ≡ true
+kept_in : (kind : SetOperation) (other before : List Tree) (t : Tree) (left : List Tree) → keeps kind other (before, t) ≡ true
     → kept_behind kind other before (t ∷ left) ≡ t ∷ kept_behind kind other (t ∷ before) left
 kept_in kind other before t left is = rw is refl
 
-kept_out : (kind : Occurrences) (other before : List Tree) (t : Tree) (left : List Tree) → keeps kind other (before, t) ≡ false
+kept_out : (kind : SetOperation) (other before : List Tree) (t : Tree) (left : List Tree) → keeps kind other (before, t) ≡ false
     → kept_behind kind other before (t ∷ left) ≡ kept_behind kind other (t ∷ before) left
 kept_out kind other before t left is = rw is refl
 
--- The runs, and the run that is open, hold what is kept so far; followed by what is kept of the elements that are left, it is
--- the whole.
-pub record KeptRuns (form : Form) (kind : Occurrences) (m : KeyCounts) (other : List Tree) (runs : List Entries) (run left : Entries)
+-- The runs, and the run that is open, hold what is kept so far; followed by what is kept of the elements that are left,
+-- it is the whole.
+pub record KeptRuns (form : Form) (kind : SetOperation) (m : KeyCounts) (other : List Tree) (runs : List Entries) (run left : Entries)
     (whole : List Tree) : Type 0 where
   pub before : List Tree
   pub held : List Tree
@@ -179,7 +171,7 @@ pub record KeptRuns (form : Form) (kind : Occurrences) (m : KeyCounts) (other : 
   pub holds : Holding form runs run left held rest
   pub joined : held ++ kept_behind kind other before rest ≡ whole
 
-pub KeptRuns-all : (form : Form) (kind : Occurrences) (m : KeyCounts) (other : List Tree) (runs : List Entries) (entries : Entries) (ts : List Tree) → runs ≡ []
+pub KeptRuns-all : (form : Form) (kind : SetOperation) (m : KeyCounts) (other : List Tree) (runs : List Entries) (entries : Entries) (ts : List Tree) → runs ≡ []
     → HoldTrees form entries ts → AllByRecursion Fits ts → length ts < 2 ^ 63 → CountsBehind kind m other []
     → KeptRuns form kind m other runs entries entries (kept_behind kind other [] ts)
 KeptRuns-all form kind m other runs entries ts is h fit few behind = record {
@@ -193,17 +185,10 @@ KeptRuns-all form kind m other runs entries ts is h fit few behind = record {
   joined = refl;
 }
 
-module _ (form : Form) (kind : Occurrences) (m : KeyCounts) (other : List Tree) (runs : List Entries) (run left : Entries) (whole : List Tree)
+module _ (form : Form) (kind : SetOperation) (m : KeyCounts) (other : List Tree) (runs : List Entries) (run left : Entries) (whole : List Tree)
     (h : KeptRuns form kind m other runs run left whole) where
   pub KeptRuns-left : HoldTrees form left h.rest
   KeptRuns-left = h.holds.left_hold
-
-  -- once the run is pushed, the runs hold all of it
-  pub run_held : (runs' : List Entries)
-      → ((words contents : List ℕ) → run.words.now ≡ words ++ left.words.now → run.contents.now ≡ contents ++ left.contents.now
-      → HasRunMore runs words contents runs')
-      → RunsHold form runs' h.held
-  run_held runs' pushed = holding_pushed form runs runs' run left h.held h.rest h.holds pushed
 
   pub KeptRuns-done : TakesFirst form left h.rest None → h.held ≡ whole
   KeptRuns-done none = go h.rest h.joined none
@@ -212,13 +197,14 @@ module _ (form : Form) (kind : Occurrences) (m : KeyCounts) (other : List Tree) 
       go [] j g = sym (append-nil h.held) ∙ j
       go (t ∷ ts) j g = absurd g
 
-module _ (form : Form) (kind : Occurrences) (m : KeyCounts) (other : List Tree) (runs : List Entries) (run left : Entries) (whole : List Tree)
-    (h : KeptRuns form kind m other runs run left whole) (first : FirstEntry) (mine : TakesFirst form left h.rest (Some first)) where
+module _ (form : Form) (kind : SetOperation) (m : KeyCounts) (other : List Tree) (runs : List Entries) (run left : Entries) (whole : List Tree)
+    (h : KeptRuns form kind m other runs run left whole) (entry : StoredEntry) (after_it : Entries)
+    (mine : TakesFirst form left h.rest (Some (entry, after_it))) where
   -- the element that is next
   pub record Next : Type 0 where
     pub t : Tree
     pub ts : List Tree
-    pub first_is : IsFirst form left t ts (kind_number first.kind) first.content.now first.others
+    pub first_is : IsFirst form left t ts (kind_number entry.kind) entry.content.now after_it
     pub opened : Holding form runs run left h.held (t ∷ ts)
     pub few : length h.before + length (t ∷ ts) < 2 ^ 63
     pub fit : AllByRecursion Fits (t ∷ ts)
@@ -228,7 +214,7 @@ module _ (form : Form) (kind : Occurrences) (m : KeyCounts) (other : List Tree) 
   next_of = go h.rest h.holds h.few h.fit h.joined mine
     where
       go : (ts : List Tree) → Holding form runs run left h.held ts → length h.before + length ts < 2 ^ 63 → AllByRecursion Fits ts
-          → h.held ++ kept_behind kind other h.before ts ≡ whole → TakesFirst form left ts (Some first) → Next
+          → h.held ++ kept_behind kind other h.before ts ≡ whole → TakesFirst form left ts (Some (entry, after_it)) → Next
       go [] o few fit j g = absurd g
       go (t ∷ ts) o few fit j g = record { t = t; ts = ts; first_is = g; opened = o; few = few; fit = fit; whole_is = j }
 
@@ -236,7 +222,7 @@ module _ (form : Form) (kind : Occurrences) (m : KeyCounts) (other : List Tree) 
   next_few n = let few : length h.before + length (n.t ∷ n.ts) < 2 ^ 63 = n.few in omega arith
 
   pub KeptRuns-kept : (n : Next) (after : KeyCounts) → keeps kind other (h.before, n.t) ≡ true → CountsBehind kind after other (n.t ∷ h.before)
-      → KeptRuns form kind after other runs run first.others whole
+      → KeptRuns form kind after other runs run after_it whole
   KeptRuns-kept n after is behind = record {
     before = n.t ∷ h.before;
     held = h.held ++ n.t ∷ [];
@@ -244,13 +230,13 @@ module _ (form : Form) (kind : Occurrences) (m : KeyCounts) (other : List Tree) 
     few = let few : length h.before + length (n.t ∷ n.ts) < 2 ^ 63 = n.few in omega arith;
     fit = n.fit.1;
     behind = behind;
-    holds = holding_kept form runs run left first.others h.held n.ts n.t (kind_number first.kind) first.content.now n.opened n.first_is;
+    holds = holding_kept form runs run left after_it h.held n.ts n.t (kind_number entry.kind) entry.content.now n.opened n.first_is;
     joined = append_assoc h.held (n.t ∷ []) (kept_behind kind other (n.t ∷ h.before) n.ts)
         ∙ ap (λ (l : List Tree). h.held ++ l) (sym (kept_in kind other h.before n.t n.ts is)) ∙ n.whole_is;
   }
 
   pub KeptRuns-dropped : (n : Next) (after : KeyCounts) (runs' : List Entries) → RunsHold form runs' h.held → keeps kind other (h.before, n.t) ≡ false
-      → CountsBehind kind after other (n.t ∷ h.before) → KeptRuns form kind after other runs' first.others first.others whole
+      → CountsBehind kind after other (n.t ∷ h.before) → KeptRuns form kind after other runs' after_it after_it whole
   KeptRuns-dropped n after runs' pushed is behind = record {
     before = n.t ∷ h.before;
     held = h.held;
@@ -258,6 +244,6 @@ module _ (form : Form) (kind : Occurrences) (m : KeyCounts) (other : List Tree) 
     few = let few : length h.before + length (n.t ∷ n.ts) < 2 ^ 63 = n.few in omega arith;
     fit = n.fit.1;
     behind = behind;
-    holds = holding_again form runs' first.others h.held n.ts pushed n.first_is.others_hold;
+    holds = holding_again form runs' after_it h.held n.ts pushed n.first_is.others_hold;
     joined = ap (λ (l : List Tree). h.held ++ l) (sym (kept_out kind other h.before n.t n.ts is)) ∙ n.whole_is;
   }

@@ -12,7 +12,7 @@ use Rattle.jsonb_raw.specs.Partition.{IsPartitionedInto}
 
 -- ---- a test and its opposite deal
 
--- the elements that pass a test, behind the elements `before`
+-- the elements that pass a test, after the elements `before`
 abbrev kept_behind : (Occurrence → Bool) → List Tree → List Tree → List Tree
 kept_behind test before ts = map (λ o. o.1) (filter test (occurrences before ts))
 
@@ -80,7 +80,7 @@ step true false before left found limit told h = let e : false
 step false true before left found limit told h = omega arith
 step false false before left found limit told h = omega arith
 
--- Where a test keeps a value up to a limit, that is how often it is kept.
+-- If a test keeps a value up to a limit, that is how often it is kept.
 module _ (test : Occurrence → Bool) (limit : Tree → ℕ)
     (told : (before : List Tree) (x : Tree) → test (before, x) ≡ nat_lt (count_of x before) (limit x))
     (same : (x t : Tree) → is_equal x t ≡ true → limit x ≡ limit t) where
@@ -126,7 +126,7 @@ distinct_counts ts t =
 
 -- ---- overlap
 
--- a tree is counted where it occurs
+-- a tree is counted if it occurs
 counted : (t x : Tree) (ts : List Tree) → is_equal x t ≡ true → 0 < count_of t (x ∷ ts)
 counted t x ts e = let h : count_of t (x ∷ ts) ≡ 1 + count_of t ts = count-cons t x ts ∙ ap (λ b. cond b 1 0 + count_of t ts) e in omega arith
 
@@ -136,7 +136,7 @@ counted_behind t x ts h = let e = count-cons t x ts in omega arith
 behind_another : (t x : Tree) (ts : List Tree) → is_equal x t ≡ false → 0 < count_of t (x ∷ ts) → 0 < count_of t ts
 behind_another t x ts e h = let h' : count_of t (x ∷ ts) ≡ 0 + count_of t ts = count-cons t x ts ∙ ap (λ b. cond b 1 0 + count_of t ts) e in omega arith
 
--- some tree equals it exactly where it is counted
+-- some tree equals it if and only if it is counted
 any_from_count : (t : Tree) (ts : List Tree) → 0 < count_of t ts → list_any (λ u. is_equal t u) ts ≡ true
 any_from_count t [] h = absurd (omega (arith, h))
 any_from_count t (x ∷ ts) h = by (is_equal t x) (equal_per.symm t x) (any_from_count t ts)

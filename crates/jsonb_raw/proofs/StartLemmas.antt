@@ -1,4 +1,4 @@
--- Where searches begin, and which of the wanted trees are containers.
+-- Starts of searches, and which of the trees to be found are containers.
 use Rattle.std.proofs.Common.{◌≡◌, ℕ, zero, suc, ◌<◌, ◌==◌, ◌||◌, ◌&&◌, Bool, true, false, List, [], ◌∷◌, length, replicate, slice_index_or, slice_set, refl, sym, ap, ◌∙◌, arith, true≢false}
 use Rattle.std.specs.List.{list_any}
 use Rattle.jsonb_doc.specs.Tree.{Tree, null, boolean, number, text, extension, array, object, Trees, no_trees, tree}
@@ -8,7 +8,7 @@ use Rattle.jsonb_doc.specs.Kinds.{kind_number}
 use Rattle.jsonb_doc.specs.declared.entry_iter.EntryIter.{EntryIter}
 use Rattle.jsonb_doc.specs.declared.entry_iter.StoredEntry.{StoredEntry}
 use Rattle.jsonb_raw.specs.Contains.{is_part_of, each_is_matched}
-use Rattle.jsonb_raw.specs.Private.Starts.{is_container, scalars_matched}
+use Rattle.jsonb_raw.specs.Private.StartHints.{is_container, scalars_matched}
 use Rattle.jsonb_raw.proofs.Aside.{Aside, part_holds}
 use Rattle.jsonb_raw.proofs.EntriesLeft.{SomeEntries}
 
@@ -27,7 +27,7 @@ module _ {A : Type 0} (P : A → Type 0) (d : A) where
   repeated_each (suc n) p zero = p
   repeated_each (suc n) p (suc k) = repeated_each n p k
 
--- the kind of an entry tells a container
+-- the kind of an entry determines a container
 container_kind : (form : Form) (e : StoredEntry) (t : Tree) → Stores form e t → is_container t ≡ (kind_number e.kind == 5)
 container_kind form e null h = rw h.content.0 refl
 container_kind form e (boolean true) h = rw h.content.0 refl
@@ -58,11 +58,11 @@ module _ (y : Tree) (ys : Trees) (xs : List Tree) (whole : Bool) (is : scalars_m
       by true e = rw (sym e) at is
       by false e = rw (sym e, k) at is
 
-  -- what is missing tells
+  -- what is missing determines
   pub missing_tells : is_container y ≡ false → list_any (is_part_of y) xs ≡ false → false ≡ whole
   missing_tells k l = rw (k, l) at is
 
--- where one that is no container is missing, not each element is matched
+-- if one that is not a container is missing, not each element is matched
 pub scalars_decide : (ys : Trees) (xs : List Tree) → scalars_matched ys xs ≡ false → each_is_matched ys xs ≡ false
 scalars_decide no_trees xs h = absurd (true≢false h)
 scalars_decide (tree y ys) xs h = by (is_container y) (list_any (is_part_of y) xs) (scalars_matched ys xs) (each_is_matched ys xs) h (scalars_decide ys xs)
@@ -72,7 +72,7 @@ scalars_decide (tree y ys) xs h = by (is_container y) (list_any (is_part_of y) x
     by true true s e k f = f k
     by false true s e k f = f k
 
--- each that is no container is found
+-- each that is not a container is found
 pub scalar_found : (y : Tree) (ys : Trees) (xs : List Tree) → scalars_matched (tree y ys) xs ≡ true → is_container y ≡ false → list_any (is_part_of y) xs ≡ true
 scalar_found y ys xs h k = by (list_any (is_part_of y) xs) (rw k at h)
   where
@@ -87,7 +87,7 @@ scalars_left y ys xs h = by (is_container y || list_any (is_part_of y) xs) h
     by true l = l
     by false l = absurd (true≢false (sym l))
 
--- one that is there is read whatever would be read behind the last
+-- one that is there is read whatever would be read after the last
 pub any_default : {A : Type 0} → (xs : List A) (k : ℕ) (d e : A) → k < length xs → slice_index_or xs k d ≡ slice_index_or xs k e
 any_default [] k d e h = absurd (omega arith)
 any_default (x ∷ xs) zero d e h = refl

@@ -1,4 +1,4 @@
--- The first so many of a list, one by one.
+-- The first that many of a list, one by one.
 use Rattle.std.proofs.Common.{◌≡◌, ◌||◌, ◌⊎◌, inl, inr, true≢false, ℕ, zero, suc, ◌-◌, ◌<◌, ◌≤◌, Bool, true, false, List, [], ◌∷◌, take, drop, refl, sym, ap, ap₂, ◌∙◌, arith}
 use Rattle.std.specs.List.{list_any}
 use Rattle.jsonb_doc.specs.Tree.{Tree}
@@ -22,7 +22,7 @@ module _ {X : Type 0} where
   take_zero zero xs h = refl
   take_zero (suc n) xs h = absurd (omega arith)
 
-  -- one of a list is one of its first so many, or one of the others
+  -- one of a list is one of its first that many, or one of the others
   pub any_split : (test : X → Bool) (n : ℕ) (xs : List X) → list_any test xs ≡ (list_any test (take n xs) || list_any test (drop n xs))
   any_split test zero xs = refl
   any_split test (suc n) [] = refl
@@ -74,7 +74,7 @@ overlap_split n (t ∷ ts) us =
     ∙ shuffled (list_any (is_equal t) (take n us)) (list_any (is_equal t) (drop n us)) (overlap ts (take n us)) (overlap ts (drop n us))
 
 module _ (n : ℕ) (ts us : List Tree) (whole : Bool) (is : overlap ts us ≡ whole) where
-  -- the first so many of the others overlap
+  -- the first that many of the others overlap
   pub first_overlap : overlap ts (take n us) ≡ true → true ≡ whole
   first_overlap e = rw e at (sym (overlap_split n ts us) ∙ is)
 

@@ -1,4 +1,4 @@
--- What calls told of texts that are joined.
+-- What calls decided of strings that are joined.
 use Rattle.std.proofs.Common.{◌≡◌, ◌==◌, ℕ, Option, Some, None, ◌+◌, zero, suc, Bool, true, false, List, [], ◌∷◌, ◌++◌, length, refl, ◌∙◌, arith, length-append, true≢false}
 use Rattle.std.proofs.lemmas.Bool.{eqb-true}
 use Rattle.jsonb_doc.specs.Payload.{number_reader}
@@ -36,7 +36,7 @@ module _ {X : Type 0} (P : X → Type 0) where
   all_head x xs p h zero d below = p
   all_head x xs p h (suc k) d below = h k d (omega arith)
 
--- The texts that are left, and those that were not asked about, decide what all tell.
+-- The strings that are left, and those that were not asked about, decide what all determine.
 pub record Leaves {F : Type 0} (calls : Shared F (Bor (List ℕ) × Unit {0}) Bool) (func : F) (form : Form) (all left : List (List ℕ))
     (large : Option Item) : Type 0 where
   pub found : Tells calls func left true → Tells calls func all true
@@ -56,7 +56,7 @@ module _ {F : Type 0} (calls : Shared F (Bor (List ℕ) × Unit {0}) Bool) (func
   pub told_first : (xs ys : List (List ℕ)) → Tells calls func xs true → Tells calls func (xs ++ ys) true
   told_first xs ys h = any_in_first (Answered true) xs ys h
 
-  -- each call on the first of them answered false, so the others decide
+  -- each call on the first of them returned false, so the others decide
   pub told_then : (xs ys : List (List ℕ)) → Tells calls func xs false → (answer : Bool) → Tells calls func ys answer → Tells calls func (xs ++ ys) answer
   told_then xs ys h true k = any_in_second (Answered true) xs ys k
   told_then xs ys h false k = All-append (Answered false) xs ys h k
@@ -76,7 +76,7 @@ module _ {F : Type 0} (calls : Shared F (Bor (List ℕ) × Unit {0}) Bool) (func
     pub leaves_all : Leaves calls func form all all None
     leaves_all = record { found = λ h. h; rest = λ h. h }
 
-    -- each call on the first of them answered false
+    -- each call on the first of them returned false
     pub leaves_after : (large : Option Item) (xs ys : List (List ℕ)) → Tells calls func xs false → Leaves calls func form all (xs ++ ys) large
         → Leaves calls func form all ys large
     leaves_after large xs ys none l = record {
@@ -108,7 +108,7 @@ module _ (form : Form) (e : StoredEntry) where
       let told = text_content (number_reader form) (kind_number e.kind) e.content.now t is h.content in
       rw told.0 refl
 
-  -- what is neither a text nor a container has none
+  -- what is neither a string nor a container has none
   pub no_texts : (t : Tree) → Stores form e t → (kind_number e.kind == 1) ≡ false → (kind_number e.kind == 5) ≡ false → texts t ≡ []
   no_texts null h k l = refl
   no_texts (boolean b) h k l = refl

@@ -1,4 +1,4 @@
--- Trees that are texts, as the keys of an object are.
+-- Trees that are strings, as the keys of an object are.
 use Rattle.std.proofs.Common.{◌≡◌, ℕ, List, [], ◌∷◌, ◌&&◌, Bool, true, false, refl, sym, ap, ◌∙◌}
 use Rattle.std.specs.Prelude.{⊤}
 use Rattle.std.specs.Str.{bytes_eq}
@@ -8,7 +8,7 @@ use Rattle.jsonb_doc.specs.Payload.{Form}
 use Rattle.jsonb_doc.specs.Private.Stored.{Stores, key_trees}
 use Rattle.jsonb_doc.specs.declared.entry_iter.StoredEntry.{StoredEntry}
 
--- each of them is a text
+-- each of them is a string
 abbrev pub AreTexts : Trees → Type 0
 AreTexts no_trees = ⊤
 AreTexts (tree (text s) ts) = AreTexts ts
@@ -23,7 +23,7 @@ pub first_text : (form : Form) (e : StoredEntry) (t : Tree) (ts : Trees) → Are
 first_text form e (text s) ts are h = (ap text (sym h.content.1), are)
 first_text form e _ ts are h = absurd are
 
--- texts are equal where their bytes are
+-- strings are equal if their bytes are
 pub texts_by_bytes : (form other_form : Form) (e o : StoredEntry) (t u : Tree) (ts us : Trees) → AreTexts (tree t ts) → AreTexts (tree u us) → Stores form e t
     → Stores other_form o u
     → is_equal t u ≡ bytes_eq e.content.now o.content.now
@@ -37,7 +37,7 @@ exchanged true false true d = refl
 exchanged true false false d = refl
 exchanged false b c d = refl
 
--- pairs are equal where their keys and their values are
+-- pairs are equal if their keys and their values are
 pub equal_by_parts : (ps qs : Pairs) → (are_equal (key_trees (keys ps)) (key_trees (keys qs)) && are_equal (values ps) (values qs)) ≡ pairs_are_equal ps qs
 equal_by_parts no_pairs no_pairs = refl
 equal_by_parts no_pairs (pair l u qs) = refl

@@ -1,4 +1,4 @@
--- The keys of trees, with any rests behind them, rank as the trees do.
+-- The keys of trees, with any rests after them, rank as the trees do.
 use Rattle.std.proofs.Common.{◌≡◌, ◌≢◌, ◌⊎◌, ℕ, suc, ◌+◌, ◌<◌, ◌≤◌, List, [], ◌∷◌, ◌++◌, Bool, true, false, inl, inr, refl, sym, ap, ap₂, subst, ◌∙◌, arith, nat_cmp, Ordering, Less, Greater, append_assoc, mod-eq_of_lt, w8}
 use Rattle.std.specs.Ordering.{ordering_then}
 use Rattle.std.specs.Int.{Width, to_be_bytes, byte_len}
@@ -30,7 +30,7 @@ depth_ranks : (w : Width) (d e : ℕ) (r s : List ℕ) → d < depths w → e < 
 depth_ranks w d e r s hd he = (Ranks-bytes_high_first (byte_len w) d e).ranks r s
     ∙ ap (λ o. ordering_then o (bytes_cmp r s)) (ap₂ nat_cmp (mod-eq_of_lt hd) (mod-eq_of_lt he))
 
--- two items at one depth: their kinds decide, and else their contents with what follows them
+-- two items at one depth: their kinds decide, and otherwise their contents with what follows them
 pub items_rank : (w : Width) (d k l : ℕ) (xs ys r s : List ℕ) → d < depths w
     → bytes_cmp (item_bytes w d k xs ++ r) (item_bytes w d l ys ++ s) ≡ ordering_then (nat_cmp k l) (bytes_cmp (xs ++ r) (ys ++ s))
 items_rank w d k l xs ys r s h =
@@ -58,7 +58,7 @@ IsRest-deeper : (w : Width) (d : ℕ) (r : List ℕ) → IsRest w d r → IsRest
 IsRest-deeper w d r (inl e) = inl e
 IsRest-deeper w d r (inr h) = inr (h.0, h.1, omega arith, h.3)
 
--- an item, with anything behind it, may follow an item at its depth
+-- an item, with anything after it, may follow an item at its depth
 pub IsRest-item : (w : Width) (d k : ℕ) (xs r : List ℕ) → IsRest w d (item_bytes w d k xs ++ r)
 IsRest-item w d k xs r = inr (d, k ∷ xs ++ r, omega arith, append_assoc (to_be_bytes w d) (k ∷ xs) r)
 
@@ -71,7 +71,7 @@ pub nothing_above_depth : (w : Width) (d : ℕ) (r : List ℕ) → bytes_cmp (to
 nothing_above_depth w8 d r = refl
 nothing_above_depth _ d r = refl
 
--- a rest is below an item that lies deeper
+-- a rest is below an item that is deeper
 rest_below : (w : Width) (d k : ℕ) (xs r s : List ℕ) → suc d < depths w → IsRest w d r → bytes_cmp r (item_bytes w (suc d) k xs ++ s) ≡ Less
 rest_below w d k xs r s h (inl e) = ap₂ bytes_cmp e (append_assoc (to_be_bytes w (suc d)) (k ∷ xs) s) ∙ nothing_below_depth w (suc d) (k ∷ xs ++ s)
 rest_below w d k xs r s h (inr f) =

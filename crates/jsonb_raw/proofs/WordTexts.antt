@@ -1,4 +1,4 @@
--- Short texts made in a word.
+-- Short strings made in a word.
 use Rattle.std.proofs.Common.{◌≡◌, ◌≤◌, ◌<◌, ◌+◌, ◌*◌, ◌-◌, ◌/◌, ◌%◌, ◌^◌, ℕ, zero, suc, true, List, [], ◌∷◌, ◌++◌, length, take, drop, refl, sym, ap, ap₂, ◌∙◌, append-nil, arith, get_or, w16, w32}
 use Rattle.std.specs.Int.{byte_at, bytes_low_first, from_le_bytes, to_le_bytes, w64}
 use Rattle.std.proofs.Math.Nat.{div-div-eq-div-mul, pow-succ'}

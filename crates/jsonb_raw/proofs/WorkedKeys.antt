@@ -47,6 +47,6 @@ equality_row : equality_key
     ≡ 6 ∷ 0 ∷ 0 ∷ 0 ∷ 2 ∷ 5 ∷ 0x61 ∷ 0 ∷ 8 ∷ 5 ∷ 0x62 ∷ 0 ∷ 7 ∷ 0 ∷ 0 ∷ 0 ∷ 1 ∷ 8 ∷ []
 equality_row = refl
 
--- a text, a missing value and null, as three columns
+-- a string, a missing value and null, as three columns
 composite_row : flat_map (column_key w8) (Some (Tree.text (118 ∷ [])) ∷ None ∷ Some Tree.null ∷ []) ≡ 0 ∷ 5 ∷ 118 ∷ 0 ∷ 0 ∷ 0 ∷ 0 ∷ 8 ∷ []
 composite_row = refl

@@ -1,4 +1,4 @@
--- Casts of documents to truth values, integers and texts.
+-- Casts of documents to Booleans, integers and strings.
 use Rattle.std.specs.Prelude.{◌≡◌, ◌⊎◌, ◌^◌, ◌<◌, ℕ, Bool, true, false, if◌then◌else◌, List, map, Option, Some, None, ℤ, pos, FitsSigned, Result, Err, MatchResult, codes, String, string_bytes}
 use Rattle.std.specs.Char.{to_ascii_lowercase}
 use Rattle.std.specs.Int.{w64}
@@ -13,7 +13,7 @@ use Rattle.jsonb_doc.specs.declared.error.Error.TheVariants.{InvalidCast}
 
 -- ---- what a tree is cast to
 
--- the word, where the case of ASCII letters doesn't count
+-- Holds if the string is this word, ignoring ASCII case.
 abbrev pub Spells : List ℕ → List ℕ → Type 0
 Spells word s = map to_ascii_lowercase s ≡ word
 
@@ -29,14 +29,14 @@ IsBoolOf _ value = ⊥
 abbrev pub bool_number : Bool → ℕ
 bool_number b = if b then 1 else 0
 
--- A text is a sign, where there is one, and one or more digits.
+-- Holds if the string is an optional sign and one or more digits, and has this value.
 abbrev pub IsSignedOf : Tree → ℤ → Type 0
 IsSignedOf (boolean b) z = z ≡ pos (bool_number b)
 IsSignedOf (number n) z = z ≡ rounded n
 IsSignedOf (text s) z = IsNumeral 10 (without_leading_sign s) × (z ≡ signed_digits_value 10 s)
 IsSignedOf _ z = ⊥
 
--- A text is a plus, where there is one, and one or more digits.
+-- Holds if the string is an optional plus and one or more digits, and has this value.
 abbrev pub IsUnsignedOf : Tree → ℕ → Type 0
 IsUnsignedOf (boolean b) n = n ≡ bool_number b
 IsUnsignedOf (number m) n = pos n ≡ rounded m
@@ -52,9 +52,9 @@ text_of (number n) = Some (number_text n)
 text_of (text s) = Some s
 text_of _ = None
 
--- ---- what a cast answers
+-- ---- results of casts
 
--- a value that the tree is cast to, or `InvalidCast` where there is none
+-- Holds if the result is a value to which the tree is cast, or `InvalidCast` if there is none.
 abbrev pub Casts : {A : Type 0} → (A → Type 0) → Result A Error → Type 0
 Casts {A = A} IsValue r = MatchResult r IsValue (λ e. (e ≡ InvalidCast) × ((a : A) → IsValue a → ⊥))
 
@@ -67,7 +67,7 @@ CastsToI64 t r = Casts (λ z. IsSignedOf t z × FitsSigned w64 z) r
 abbrev pub CastsToU64 : Tree → Result ℕ Error → Type 0
 CastsToU64 t r = Casts (λ n. IsUnsignedOf t n × (n < 2 ^ 64)) r
 
--- the text that there is, which takes memory, or `InvalidCast`
+-- Holds if the result is the string, or `InvalidCast` if there is none, unless an allocation failed.
 abbrev pub CastsToText : Option (List ℕ) → Result (String Global) Error → Type 0
 CastsToText (Some wanted) r = MatchResult r (λ s. string_bytes s ≡ wanted) IsOutOfMemory
 CastsToText None r = r ≡ Err InvalidCast

@@ -1,4 +1,4 @@
--- What the calls on the children of a document answer.
+-- Definitions of the functions on the children of a document.
 use Rattle.std.specs.Prelude.{ℕ, ℤ, Bool, not, List, filter, length, slice_get, Option, Some, None, option_map, option_and_then, unwrap_or, if◌then◌else◌}
 use Rattle.std.specs.List.{find, remove}
 use Rattle.std.specs.Option.{option_or}
@@ -8,29 +8,29 @@ use Rattle.jsonb_raw.specs.Places.{index_position}
 use Rattle.jsonb_raw.specs.Arrays.{array_values}
 use Rattle.jsonb_raw.specs.Exists.{is_text}
 
--- the element at a position of an array
+-- The element at a position of an array.
 abbrev pub element_at : ℕ → Tree → Option Tree
 element_at i t = option_and_then (λ ts. slice_get ts i) (array_values t)
 
--- the value of an object's first pair whose key is the name in some case of ASCII letters
+-- The value of an object's first member whose key equals the name under ASCII case folding.
 abbrev pub field_ignoring_case : List ℕ → Tree → Option Tree
 field_ignoring_case name (object ps) =
     option_map (λ p. p.1) (find (λ p. str_eq_ignore_ascii_case p.0 name) (members ps))
 field_ignoring_case name _ = None
 
--- the value under a name, or else, where the case is ignored, under the first key that is the name in some case
+-- The value of a name, otherwise, ignoring case, of the first key that equals the name.
 abbrev pub named_child : List ℕ → Bool → Tree → Option Tree
 named_child name ignore_case t = option_or (field_of name t) (if ignore_case then field_ignoring_case name t else None)
 
--- a list without the element that an index means, counted from the end where it is negative
+-- The list without the element at an index, counted from the end if negative.
 abbrev pub without_position : ℤ → List Tree → List Tree
 without_position i ts = unwrap_or (option_map (remove ts) (index_position (length ts) i)) ts
 
--- an array without the element that an index means
+-- The array without the element that an index denotes.
 abbrev pub without_index : ℤ → Tree → Option Tree
 without_index i t = option_map (λ ts. array (trees_of (without_position i ts))) (array_values t)
 
--- an array without the texts that are the name, an object without the key
+-- The array without the strings equal to the name, or the object without the key.
 abbrev pub without_name : List ℕ → Tree → Option Tree
 without_name name (array ts) = Some (array (trees_of (filter (λ t. not (is_text name t)) (elements ts))))
 without_name name (object ps) = Some (object (pairs_of (filter (λ p. not (bytes_eq p.0 name)) (members ps))))

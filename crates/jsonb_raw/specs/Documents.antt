@@ -1,4 +1,4 @@
--- Documents, and what the calls that read and make them answer.
+-- Documents, and the results of functions that read and build them.
 use Rattle.std.specs.Prelude.{ℕ, List, Option, Some, None, Result, IsNone, IsSomeAnd, MatchResult}
 use Rattle.jsonb_doc.specs.Tree.{Tree}
 use Rattle.jsonb_doc.specs.Payload.{Form}
@@ -12,11 +12,12 @@ use Rattle.jsonb_raw.specs.declared.owned.OwnedJsonb.{OwnedJsonb}
 abbrev pub raw_bytes : RawJsonb → List ℕ
 raw_bytes raw = raw.bytes.now
 
--- a document of this form that decodes to the tree; else memory was refused, or the tree passes the limits
+-- Holds if the result is a document of this form that decodes to the tree, unless an allocation failed or the tree
+-- exceeds the limits.
 abbrev pub Makes : Form → Tree → Result OwnedJsonb Error → Type 0
 Makes form t r = MatchResult r (λ made. Decodes form made t) (IsOutOfMemoryOrTooLarge form t)
 
--- a document of the tree that there is, or none where there is none
+-- Holds if the result is a document of the tree, or `None` if there is none.
 abbrev pub MakesOption : Form → Option Tree → Result (Option OwnedJsonb) Error → Type 0
 MakesOption form (Some t) r =
     MatchResult r (λ found. IsSomeAnd found (λ made. Decodes form made t)) (IsOutOfMemoryOrTooLarge form t)

@@ -1,4 +1,4 @@
--- The equality key of a tree: bytes that two trees share exactly where they are equal by value.
+-- The equality key of a tree: bytes that two trees share if and only if they are equal by value.
 use Rattle.std.specs.Prelude.{ℕ, List, [], ◌∷◌, ◌++◌, length}
 use Rattle.std.specs.Int.{w32, w64, to_be_bytes}
 use Rattle.jsonb_doc.specs.Tree.{Tree, Trees, Pairs, count, keys}
@@ -6,7 +6,7 @@ use Rattle.jsonb_doc.specs.Order.{rank}
 use Rattle.jsonb_doc.specs.Payload.{extension_payload}
 use Rattle.jsonb_raw.specs.SortableKey.{number_bytes, text_bytes}
 
--- a kind byte and the content: counts in four bytes, the length of an extension's payload in eight
+-- A type byte and the content: counts in four bytes, the length of an extension's payload in eight.
 abbrev mutual
   pub equality_key : Tree → List ℕ
   equality_key (Tree.number n) = 4 ∷ number_bytes n.whole n.scale

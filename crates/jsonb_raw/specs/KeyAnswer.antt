@@ -1,4 +1,4 @@
--- What a call that writes a sortable key answers.
+-- Results of functions that write a sortable key.
 use Rattle.std.specs.Prelude.{◌≡◌, ◌⊎◌, ◌↔◌, ◌≤◌, ◌<◌, ℕ, List, Result, MatchResult, IfOk, Vec}
 use Rattle.std.specs.Int.{Width}
 use Rattle.std.specs.Ordering.{nat_cmp}
@@ -12,25 +12,26 @@ use Rattle.jsonb_doc.specs.Depth.{deepest}
 use Rattle.jsonb_raw.specs.NoExtension.{HasNoExtension}
 use Rattle.jsonb_raw.specs.SortableKey.{sortable_key, depths, HasKey}
 
--- memory was refused, or an item of what was asked for lies too deep
+-- Holds if an allocation failed, or an item is too deep.
 abbrev pub IsOutOfMemoryOrTooDeep : ℕ → ℕ → Error → Type 0
 IsOutOfMemoryOrTooDeep deepest_item limit e = (e ≡ OutOfMemory) ⊎ ((e ≡ TooDeep) × (limit ≤ deepest_item))
 
--- What is made of the tree's sortable key. It is refused as too deep exactly where an item lies too deep for the width.
+-- Holds if the result is the tree's sortable key. It fails with `TooDeep` if and only if an item is too deep for the
+-- width.
 abbrev pub GivesKey : {A : Type 0} → Width → Tree → Result A Error → (A → Type 0) → Type 0
 GivesKey w tree r IsMade =
     MatchResult r (λ made. IsMade made × (deepest tree < depths w)) (IsOutOfMemoryOrTooDeep (deepest tree) (depths w))
 
--- the sortable key of a document
+-- Holds if the result is the sortable key of a document.
 abbrev pub MakesKey : Width → Tree → Result (Vec ℕ Global) Error → Type 0
 MakesKey w tree r = GivesKey w tree r (λ v. v.items ≡ sortable_key w tree 0)
 
--- the same call, where the key is written into a vector that then has these items
+-- Holds if the key was written to a vector that then has these items.
 abbrev pub WritesKey : Width → Tree → Result (Unit {0}) Error → List ℕ → Type 0
 WritesKey w tree r items = GivesKey w tree r (λ _. items ≡ sortable_key w tree 0)
 
--- An answer for a tree without extensions compares with the key of each tree that has one as the trees do, and is that
--- key exactly where the two are equal by value.
+-- Holds if the result for a tree without extensions compares with the key of each tree that has one as the trees do,
+-- and is that key if and only if the two are equal by value.
 abbrev pub RanksAsTree : Width → Tree → Result (Vec ℕ Global) Error → Type 0
 RanksAsTree w t r = HasNoExtension t → (u : Tree) → HasKey w u 0 → IfOk r (λ v.
     (slice_cmp nat_cmp v.items (sortable_key w u 0) ≡ tree_cmp t u) × ((v.items ≡ sortable_key w u 0) ↔ IsEqual t u))

@@ -3,38 +3,38 @@ use Rattle.std.specs.Prelude.{ℕ, suc, pos, Bool, true, false, List, [], ◌∷
 use Rattle.jsonb_doc.specs.Tree.{Tree, array, object, Trees, no_trees, tree, Pairs, no_pairs, pair}
 use Rattle.jsonb_keypath.specs.KeyPathGrammar.{Key, index, unquoted_name}
 
--- the steps to a part, and the part
+-- The steps to a value, and the value.
 abbrev pub Leaf : Type 0
 Leaf = List Key × Tree
 
--- the same leaves, with the steps to what they lie in, in front
+-- These leaves, with the steps to their container prepended.
 abbrev pub behind : List Key → List Leaf → List Leaf
 behind steps within = map (λ leaf. (steps ++ leaf.0, leaf.1)) within
 
--- whether a part is a leaf: a scalar, an empty container, and where arrays are ignored each array
+-- Whether a value is a leaf: a scalar, an empty container, and if arrays are ignored each array.
 abbrev pub is_leaf : Bool → Tree → Bool
 is_leaf ignore_array (array (tree t ts)) = ignore_array
 is_leaf ignore_array (object (pair key t ps)) = false
 is_leaf ignore_array _ = true
 
--- the leaves at the part that a step meets: the part itself where it is a leaf, else those within it
+-- The leaves at the child that a step selects: the child itself if it is a leaf, otherwise those in it.
 abbrev pub leaves_at : Bool → Key → Tree → List Leaf → List Leaf
 leaves_at ignore_array step t within = behind (step ∷ []) (if is_leaf ignore_array t then ([], t) ∷ [] else within)
 
 abbrev mutual
-  -- the leaves within a tree, in stored order; where arrays are ignored, nothing lies in them
+  -- The leaves in a tree, in stored order; if arrays are ignored, an array has none.
   pub leaves : Bool → Tree → List Leaf
   leaves ignore_array (array ts) = if ignore_array then [] else leaves_of_trees ignore_array 0 ts
   leaves ignore_array (object ps) = leaves_of_pairs ignore_array ps
   leaves ignore_array _ = []
 
-  -- those at elements, the first of which has this position
+  -- The leaves at elements, the first of which has this position.
   pub leaves_of_trees : Bool → ℕ → Trees → List Leaf
   leaves_of_trees ignore_array n no_trees = []
   leaves_of_trees ignore_array n (tree t ts) =
       leaves_at ignore_array (index (pos n)) t (leaves ignore_array t) ++ leaves_of_trees ignore_array (suc n) ts
 
-  -- those at the values of pairs
+  -- The leaves at the values of members.
   pub leaves_of_pairs : Bool → Pairs → List Leaf
   leaves_of_pairs ignore_array no_pairs = []
   leaves_of_pairs ignore_array (pair key t ps) =

@@ -1,5 +1,6 @@
 pub mod Documents
 pub mod Computes
+pub mod Roots
 pub mod Iterators
 pub mod Places
 pub mod NoExtension

@@ -1,7 +1,7 @@
 -- Whether extensions are among the items of a tree.
 use Rattle.jsonb_doc.specs.Tree.{Tree, Trees, Pairs}
 
--- no extension occurs in the tree
+-- Holds if no extension occurs in the tree.
 abbrev mutual
   pub HasNoExtension : Tree → Type 0
   HasNoExtension (Tree.extension x) = ⊥

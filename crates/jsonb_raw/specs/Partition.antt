@@ -1,8 +1,7 @@
--- Lists that are dealt out.
+-- Lists that are partitioned.
 use Rattle.std.specs.Prelude.{◌≡◌, ◌⊎◌, List, [], ◌∷◌}
 
--- The first list deals its elements out, in order: each goes to the second list or to the third, and to one of them
--- alone.
+-- Holds if each element of the first list goes, in order, to the second list or to the third, and only to one of them.
 abbrev pub IsPartitionedInto : {A : Type 0} → List A → List A → List A → Type 0
 IsPartitionedInto [] xs ys = (xs ≡ []) × (ys ≡ [])
 IsPartitionedInto {A} (z ∷ zs) xs ys =

@@ -1,4 +1,4 @@
--- What the contracts of private functions say beyond the words of the others. No public clause cites these.
+-- Definitions that only contracts of private functions use. No public clause cites them.
 pub mod Compared
 pub mod Cursors
 pub mod EqualityParts
@@ -15,7 +15,7 @@ pub mod KeyWidth
 pub mod PairSteps
 pub mod SetCounts
 pub mod Hashes
-pub mod Starts
+pub mod StartHints
 pub mod Complements
 pub mod WrittenBefore
 pub mod PackedBytes

@@ -1,4 +1,4 @@
--- The kinds of trees, and what a scalar holds.
+-- The types of trees, and the values of scalars.
 use Rattle.std.specs.Prelude.{◌≡◌, ◌||◌, ℕ, Bool, true, false, not, List, Option, Some, None, ℤ, is_some, codes}
 use Rattle.std.specs.declared.alloc.Global.{Global}
 use Rattle.std.specs.declared.borrow.CowStr.{CowStr}
@@ -38,17 +38,17 @@ abbrev pub timestamp_in : Tree → Option ℤ
 timestamp_in (extension (timestamp value)) = Some value
 timestamp_in _ = None
 
--- the offset and the value
+-- The offset and the value.
 abbrev pub timestamp_tz_in : Tree → Option (ℤ × ℤ)
 timestamp_tz_in (extension (timestamp_tz offset value)) = Some (offset, value)
 timestamp_tz_in _ = None
 
--- the months, the days and the microseconds
+-- The months, the days and the microseconds.
 abbrev pub interval_in : Tree → Option (ℤ × ℤ × ℤ)
 interval_in (extension (interval months days micros)) = Some (months, days, micros)
 interval_in _ = None
 
--- ---- kinds. A tree is of the other kinds exactly where it has a part of that kind.
+-- ---- types. A tree is of the other types if and only if it has a value of that type.
 
 abbrev pub is_null : Tree → Bool
 is_null null = true
@@ -65,13 +65,13 @@ is_object _ = false
 abbrev pub is_extension_value : Tree → Bool
 is_extension_value t = is_some (extension_in t)
 
--- the name of a stored form of numbers
+-- The name of a stored form of numbers.
 abbrev pub number_type : Variant → List ℕ
 number_type int64 = codes "INTEGER"
 number_type uint64 = codes "INTEGER"
 number_type _ = codes "DECIMAL"
 
--- The name of a tree's kind. Each zero is the unsigned one, and so an integer.
+-- The name of a tree's type. Each zero is the unsigned one, and so an integer.
 abbrev pub type_name : Tree → List ℕ
 type_name null = codes "NULL_VALUE"
 type_name (boolean b) = codes "BOOLEAN"
@@ -85,18 +85,18 @@ type_name (extension (interval months days micros)) = codes "INTERVAL"
 type_name (array ts) = codes "ARRAY"
 type_name (object ps) = codes "OBJECT"
 
--- ---- answers
+-- ---- results
 
--- the text is borrowed, and it is this one
+-- Holds if the string is borrowed, and is this one.
 abbrev pub BorrowsText : CowStr Global → List ℕ → Type 0
 BorrowsText (Borrowed s) wanted = s.now ≡ wanted
 BorrowsText (Owned s) wanted = ⊥
 
--- the tree is a number that is this whole one
+-- Holds if the tree is a number that is this integer.
 abbrev pub IsWholeNumber : Tree → ℤ → Type 0
 IsWholeNumber (number n) z = IsWhole n z
 IsWholeNumber _ z = ⊥
 
--- null, a boolean, a number or a string
+-- Whether the tree is null, a Boolean, a number or a string.
 abbrev pub is_json_scalar : Tree → Bool
 is_json_scalar t = not (is_array t || is_object t || is_extension_value t)

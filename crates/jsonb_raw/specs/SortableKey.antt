@@ -10,24 +10,24 @@ use Rattle.jsonb_doc.specs.Order.{rank}
 use Rattle.jsonb_doc.specs.Payload.{extension_payload}
 use Rattle.jsonb_raw.specs.NoExtension.{HasNoExtension}
 
--- the digits up to the last that is not 0
+-- The digits up to the last that is not 0.
 abbrev pub significant : List ℕ → List ℕ
 significant [] = []
 significant (c ∷ cs) = if list_all (λ d. d == 0) (c ∷ cs) then [] else c ∷ significant cs
 
--- The number n / 10 ^ scale above 0 is 0.c1..ck times ten to the E, where c1 and ck are not 0: E + 1000 in two
--- bytes, each digit plus 1, and an end byte. E is the count of n's digits less the scale.
+-- The bytes of the number n / 10 ^ scale above 0, which is 0.c1..ck times ten to the E, with c1 and ck not 0: E + 1000
+-- in two bytes, each digit plus 1, and an end marker. E is the number of n's digits minus the scale.
 unfoldable pub magnitude_bytes : ℕ → ℕ → List ℕ
 magnitude_bytes n scale =
     to_be_bytes w16 (length (digits_of 10 n) + 1000 - scale) ++ (map suc (significant (digits_of 10 n)) ++ 0 ∷ [])
 
--- A negative number has the complement of each byte, so that a greater magnitude is below.
+-- The bytes of a number. A negative one has the complement of each byte, so that a greater magnitude is below.
 abbrev pub number_bytes : ℤ → ℕ → List ℕ
 number_bytes (pos zero) scale = 0x80 ∷ []
 number_bytes (pos (suc n)) scale = 0x81 ∷ magnitude_bytes (suc n) scale
 number_bytes (negsuc n) scale = 0x7f ∷ map (λ b. 255 - b) (magnitude_bytes (suc n) scale)
 
--- the bytes 0 and 1 are escaped, since the byte 0 ends a text
+-- The bytes of an escaped byte. The bytes 0 and 1 are escaped, because the byte 0 ends a string.
 abbrev pub escaped_byte : ℕ → List ℕ
 escaped_byte zero = 1 ∷ 1 ∷ []
 escaped_byte (suc zero) = 1 ∷ 2 ∷ []
@@ -37,7 +37,7 @@ abbrev pub text_bytes : List ℕ → List ℕ
 text_bytes [] = 0 ∷ []
 text_bytes (b ∷ bs) = escaped_byte b ++ text_bytes bs
 
--- an item at a depth: the depth in the width's bytes, its kind and its content
+-- An item at a depth: the depth in the width's bytes, its type and its content.
 abbrev pub item_bytes : Width → ℕ → ℕ → List ℕ → List ℕ
 item_bytes w depth kind content = to_be_bytes w depth ++ kind ∷ content
 
@@ -59,16 +59,16 @@ abbrev mutual
   keys_of_pairs w (Pairs.pair k v ps) d = item_bytes w d 5 (text_bytes k)
       ++ (sortable_key w v d ++ keys_of_pairs w ps d)
 
--- how many depths the width's bytes tell apart
+-- The number of depths that the width's bytes distinguish.
 abbrev pub depths : Width → ℕ
 depths w = 256 ^ byte_len w
 
--- a tree at a depth has a key in the width, whose order is promised
+-- Holds if a tree at a depth has a key in the width, whose order is specified.
 pub record HasKey (w : Width) (t : Tree) (depth : ℕ) : Type 0 where
   pub in_range : IsInRange t
   pub no_extension : HasNoExtension t
   pub deep : depth + deepest t < depths w
 
--- what may stand behind the key of an item at a depth: nothing, or an item that lies no deeper
+-- Holds if the bytes may follow the key of an item at a depth: nothing, or an item that is no deeper.
 abbrev pub IsRest : Width → ℕ → List ℕ → Type 0
 IsRest w d r = (r ≡ []) ⊎ ((e : ℕ) × (x : List ℕ) × (e ≤ d) × (r ≡ to_be_bytes w e ++ x))

@@ -1,9 +1,9 @@
--- A tree without the pairs whose value is null.
+-- The tree without the members whose value is null.
 use Rattle.std.specs.Prelude.{if◌then◌else◌}
 use Rattle.jsonb_doc.specs.Tree.{Tree, array, object, Trees, no_trees, tree, Pairs, no_pairs, pair}
 use Rattle.jsonb_raw.specs.Scalars.{is_null}
 
--- at every depth; elements of arrays and the root stay
+-- At every depth; elements of arrays and the root remain.
 abbrev mutual
   pub strip : Tree → Tree
   strip (array ts) = array (strip_trees ts)

@@ -1,19 +1,19 @@
-//! The answer of a walk along two containers that leaves a pair of parts to its caller.
+//! The result of comparing two containers except for one pair of their children.
 
 use jsonb_doc::{Item, StoredEntry};
 
-/// What a walk along two containers answers. It goes into all pairs of their parts but one, so that calls nest no
-/// deeper than the lengths can be halved.
+/// The result of comparing two containers. All pairs of their children are compared except at most one, so that the
+/// recursion depth is logarithmic in the lengths.
 #[derive(Clone, Copy)]
 pub(crate) enum Compared<'a> {
-    /// The answer.
+    /// The result.
     Known(bool),
-    /// The answer is that for these two, a pair of parts that was not compared since it is longer than half of all.
-    AsOf(Item<'a>, Item<'a>),
+    /// The result is that of these two, a pair of children that was not compared because it is longer than half of all.
+    Deferred(Item<'a>, Item<'a>),
 }
 
-/// Whether an entry is a container that is longer than this.
+/// Returns `true` if an entry is a container longer than this.
 #[inline(always)]
-pub(crate) fn is_beyond(entry: &StoredEntry<'_>, len: usize) -> bool {
+pub(crate) fn is_container_longer_than(entry: &StoredEntry<'_>, len: usize) -> bool {
     entry.is_container() && entry.content.len() > len
 }

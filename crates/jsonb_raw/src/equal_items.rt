@@ -1,5 +1,5 @@
-//! Equality by value, of items and of stored entries. It takes no memory, and calls nest no deeper than the length can
-//! be halved.
+//! Equality by value, of items and of stored entries. It does not allocate, and the recursion depth is logarithmic in
+//! the length.
 
 ghost use Rattle.std.specs.Prelude.{◌≡◌, ◌+◌, ℕ, true, List, length, take, IsOkAnd, IfOk, IfErr, IfSome};
 ghost use Rattle.std.specs.List.{list_any};
@@ -15,47 +15,47 @@ ghost use Rattle.jsonb_doc.specs.View.{number_view, extension_view};
 ghost use Rattle.jsonb_doc.specs.Answer.{IsDecodingError};
 ghost use Rattle.jsonb_raw.specs.Private.Compared.{Decides, IsShorter, IsShortOf, PassesOver};
 
-use crate::compared::{Compared, is_beyond};
+use crate::compared::{Compared, is_container_longer_than};
 use jsonb_doc::{
     EntryIter, Error, ExtensionValue, Item, Number, ShortNumber, StoredEntry, array_entries,
     object_entries, short_equal,
 };
 
-/// Whether two items are equal by value: of one shape, with numbers of one exact value and extensions of the same
-/// fields.
+/// Returns `true` if two items are equal by value: of one type, with numbers of one exact value and extensions of the
+/// same fields.
 ///
-/// It goes into a pair of parts that is longer than half of all by this loop, and into the others by a call.
-/// `InvalidJsonb` or `UnsupportedNumber` only where an item's bytes don't decode.
+/// This loop enters a pair of children that is longer than half of all, and calls enter the others. Fails with
+/// `InvalidJsonb` or `UnsupportedNumber` only if an item's bytes do not decode.
 #[cycle(equal)]
 pub(crate) fn items_equal(item: &Item<'_>, other: &Item<'_>) -> Result<bool, Error>
     ensures equal { (form other_form : Form) (t u : Tree) → StandsFor form item.now t → StandsFor other_form other.now u
         → IsOkAnd result (λ b. b ≡ is_equal t u) }
     ensures errors { IfErr result IsDecodingError }
 {
-    let mut left = Compared::AsOf(*item, *other);
+    let mut left = Compared::Deferred(*item, *other);
     loop {
         left = match left {
             Compared::Known(answer) => return Ok(answer),
-            Compared::AsOf(part, other_part) => parts_equal(&part, &other_part)?,
+            Compared::Deferred(part, other_part) => parts_equal(&part, &other_part)?,
         };
     }
 }
 
-/// Whether two numbers have one exact value.
+/// Returns `true` if two numbers have one exact value.
 fn numbers_equal(number: &Number, other: &Number) -> bool
     ensures { result ≡ eq_by_cmp number_cmp (number_view number.now) (number_view other.now) }
 {
     number == other
 }
 
-/// Whether two extension values are of one kind, with the same fields.
+/// Returns `true` if two extension values are of one type, with the same fields.
 fn extensions_equal(value: &ExtensionValue<'_>, other: &ExtensionValue<'_>) -> bool
     ensures { result ≡ is_same_extension (extension_view value.now) (extension_view other.now) }
 {
     value == other
 }
 
-/// The same of two items, but for a pair of parts of theirs.
+/// Compares two items, except for one pair of their children.
 #[cycle(equal)]
 fn parts_equal<'a>(item: &Item<'a>, other: &Item<'a>) -> Result<Compared<'a>, Error>
     ensures equal { (form other_form : Form) (t u : Tree) → StandsFor form item.now t → StandsFor other_form other.now u
@@ -77,7 +77,7 @@ fn parts_equal<'a>(item: &Item<'a>, other: &Item<'a>) -> Result<Compared<'a>, Er
     }
 }
 
-/// Whether two objects have the same keys, and equal values under them, but for a pair of values.
+/// Returns whether two objects have the same keys with equal values, except for one pair of values.
 #[cycle(equal)]
 fn objects_equal<'a>(bytes: &'a [u8], others: &'a [u8]) -> Result<Compared<'a>, Error>
     ensures equal { (form other_form : Form) (ps qs : Pairs)
@@ -94,7 +94,7 @@ fn objects_equal<'a>(bytes: &'a [u8], others: &'a [u8]) -> Result<Compared<'a>, 
     entries_equal(found.values(), wanted.values(), bytes.len() / 2)
 }
 
-/// Whether the entries of texts that are left are equal, one by one.
+/// Returns whether the remaining entries, which are strings, are equal, one by one.
 fn texts_equal(found: EntryIter<'_>, others: EntryIter<'_>) -> Result<bool, Error>
     ensures equal { (form other_form : Form) (ks ls : List (List ℕ))
         → HasEntriesLeft form found.entry (key_trees ks) → HasEntriesLeft other_form others.entry (key_trees ls)
@@ -115,8 +115,8 @@ fn texts_equal(found: EntryIter<'_>, others: EntryIter<'_>) -> Result<bool, Erro
     Ok(rest.next().is_none())
 }
 
-/// Whether the entries that are left are equal, one by one, but for a pair of containers whose first is longer than
-/// `half`.
+/// Returns whether the remaining entries are equal, one by one, except for a pair of containers whose first is longer
+/// than `half`.
 #[cycle(equal)]
 fn entries_equal<'a>(
     found: EntryIter<'a>,
@@ -137,7 +137,7 @@ fn entries_equal<'a>(
             return Ok(Compared::Known(false));
         };
         let other = other?;
-        if large.is_none() && is_beyond(&entry, half) {
+        if large.is_none() && is_container_longer_than(&entry, half) {
             large = Some((entry, other));
         } else if !stored_equal(&entry, &other, other.short_number())? {
             return Ok(Compared::Known(false));
@@ -149,11 +149,11 @@ fn entries_equal<'a>(
     let Some((entry, other)) = large else {
         return Ok(Compared::Known(true));
     };
-    Ok(Compared::AsOf(entry.item()?, other.item()?))
+    Ok(Compared::Deferred(entry.item()?, other.item()?))
 }
 
-/// Whether an entry equals the wanted one, which is this number where it is a short one. Items are made of them only
-/// where the bytes don't tell.
+/// Returns whether an entry equals another one, whose short number is given if it has one. They are read as items
+/// only if their bytes do not decide.
 #[cycle(equal)]
 #[inline(always)]
 pub(crate) fn stored_equal(
@@ -172,7 +172,7 @@ pub(crate) fn stored_equal(
     }
 }
 
-/// The same by items of them. It stands apart, so that loops over entries stay small.
+/// Compares two entries as items. It is a function of its own so that loops over entries stay small.
 #[cycle(equal)]
 #[inline(never)]
 fn stored_items_equal(entry: &StoredEntry<'_>, wanted: &StoredEntry<'_>) -> Result<bool, Error>
@@ -183,7 +183,7 @@ fn stored_items_equal(entry: &StoredEntry<'_>, wanted: &StoredEntry<'_>) -> Resu
     items_equal(&entry.item()?, &wanted.item()?)
 }
 
-/// Whether an entry equals the wanted one, where their bytes tell it.
+/// Returns whether an entry equals another one, if their bytes decide.
 #[inline(always)]
 fn bytes_tell(
     entry: &StoredEntry<'_>,
@@ -209,7 +209,7 @@ fn bytes_tell(
     None
 }
 
-/// Whether one of the entries that are left equals the wanted one. It stops behind the first that does.
+/// Returns whether one of the remaining entries equals the given one, and advances past the first that does.
 pub(crate) fn find_equal(found: &mut EntryIter<'_>, wanted: &StoredEntry<'_>) -> Result<bool, Error>
     ensures found { (form other_form : Form) (ts : Trees) (u : Tree) → HasEntriesLeft form found.old ts
         → Stores other_form wanted.now u → IsOkAnd result (λ b. b ≡ list_any (λ t. is_equal t u) (elements ts)) }
@@ -228,7 +228,7 @@ pub(crate) fn find_equal(found: &mut EntryIter<'_>, wanted: &StoredEntry<'_>) ->
     Ok(false)
 }
 
-/// Whether the next of the entries equals the wanted one. It is passed then.
+/// Returns whether the next of the entries equals the given one, and advances past it if so.
 pub(crate) fn next_equals(
     found: &mut EntryIter<'_>,
     wanted: &StoredEntry<'_>,
@@ -250,7 +250,7 @@ pub(crate) fn next_equals(
     Ok(true)
 }
 
-/// Whether one of the first entries, of so many at most, equals the wanted one.
+/// Returns whether one of the first `count` entries equals the given one.
 pub(crate) fn find_equal_among(
     found: EntryIter<'_>,
     wanted: &StoredEntry<'_>,

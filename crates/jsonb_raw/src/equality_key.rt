@@ -1,12 +1,13 @@
-//! The equality key of a document: a walk over its items that writes kinds, counts and contents.
+//! The equality key of a document: the types, counts and contents of its items.
 
-ghost use Rattle.std.specs.Prelude.{◌≡◌, ◌≤◌, ◌+◌, ◌++◌, ◌∷◌, ℕ, List, Some, length, take, drop, IfOk, IfErr, MatchResult};
+ghost use Rattle.std.specs.Prelude.{◌≡◌, ◌≤◌, ◌+◌, ◌++◌, ◌∷◌, ℕ, List, Some, length, take, drop, IfOk, IfErr, MatchResult, OnOk};
 ghost use Rattle.std.specs.Int.{w32, w64, to_be_bytes};
 ghost use Rattle.jsonb_doc.specs.Tree.{Tree};
 ghost use Rattle.jsonb_doc.specs.View.{number_view, extension_view};
+ghost use Rattle.jsonb_raw.specs.Roots.{HasRoot};
 ghost use Rattle.jsonb_raw.specs.EqualityKey.{equality_key};
 ghost use Rattle.jsonb_raw.specs.Private.EqualityParts.{equality_start, equality_part_start, AppendsEqualityStart};
-ghost use Rattle.jsonb_raw.specs.Private.Levels.{Part, IsKeyOf, IsLevelOf, IsLevelWithin};
+ghost use Rattle.jsonb_raw.specs.Private.Levels.{EntryPrefix, IsKeyOf, IsLevelOf, IsLevelWithin};
 ghost use Rattle.jsonb_raw.specs.SortableKey.{text_bytes};
 ghost use Rattle.jsonb_doc.specs.Payload.{Form, number_reader};
 ghost use Rattle.jsonb_doc.specs.Format.{Decodes, IsContent, container_entry};
@@ -17,14 +18,14 @@ ghost use Rattle.jsonb_doc.specs.declared.error.Error.TheVariants.{OutOfMemory};
 
 use crate::key_bytes::{push_number, push_short_number, push_text};
 use crate::key_kind;
-use crate::level::Level;
+use crate::level::ChildCursor;
 use crate::packed::ROOM;
 use jsonb_doc::{
     Error, ExtensionValue, Item, Number, StoredEntry, push_extension_payload, root_item,
 };
 use std::alloc::Global;
 
-/// Appends a kind and a count in four bytes, the highest first.
+/// Appends a type and a count in four bytes, the highest first.
 fn push_count(out: &mut Vec<u8>, kind: u8, count: usize) -> Result<(), Error>
     ensures { MatchResult result (λ _. out.new.items ≡ out.old.items ++ kind ∷ to_be_bytes w32 count) IsOutOfMemory }
 {
@@ -34,7 +35,7 @@ fn push_count(out: &mut Vec<u8>, kind: u8, count: usize) -> Result<(), Error>
     Ok(())
 }
 
-/// Writes a length over the eight bytes at a place.
+/// Writes a length over the eight bytes at a position.
 fn set_len(out: &mut Vec<u8>, at: usize, len: u64)
     requires { at + 8 ≤ length out.old.items }
     ensures { out.new.items ≡ take at out.old.items ++ (to_be_bytes w64 len ++ drop (at + 8) out.old.items) }
@@ -42,8 +43,8 @@ fn set_len(out: &mut Vec<u8>, at: usize, len: u64)
     out[at..at + 8].copy_from_slice(&len.to_be_bytes());
 }
 
-/// Appends the kind, the length in eight bytes and the payload of an extension. The length is written over zeros, once
-/// the payload stands behind them.
+/// Appends the type, the length in eight bytes and the payload of an extension. The length is written over zeros, once
+/// the payload follows them.
 fn push_extension(out: &mut Vec<u8>, value: &ExtensionValue<'_>) -> Result<(), Error>
     ensures { MatchResult result
         (λ _. out.new.items ≡ out.old.items ++ equality_key (Tree.extension (extension_view value.now))) IsOutOfMemory }
@@ -58,7 +59,7 @@ fn push_extension(out: &mut Vec<u8>, value: &ExtensionValue<'_>) -> Result<(), E
     Ok(())
 }
 
-/// Appends the key of a text, also of an object's key.
+/// Appends the key of a string, also of an object's key.
 #[inline(always)]
 fn push_string(out: &mut Vec<u8>, text: &[u8]) -> Result<(), Error>
     ensures { MatchResult result (λ _. out.new.items ≡ out.old.items ++ 5 ∷ text_bytes text.now) IsOutOfMemory }
@@ -78,22 +79,22 @@ fn push_number_key(out: &mut Vec<u8>, number: &Number) -> Result<(), Error>
     Ok(())
 }
 
-/// Appends what stands before the parts of a container, which it hands out.
+/// Appends what precedes the children of a container, and returns them.
 #[inline(always)]
-fn push_container<'a>(out: &mut Vec<u8>, bytes: &'a [u8]) -> Result<Option<Level<'a>>, Error>
+fn push_container<'a>(out: &mut Vec<u8>, bytes: &'a [u8]) -> Result<Option<ChildCursor<'a>>, Error>
     ensures key { (form : Form) (tree : Tree) → IsContent (number_reader form) tree container_entry bytes.now
         → AppendsEqualityStart form (equality_start tree) tree out.old.items result out.new.items }
     ensures within { IfOk result (IsLevelWithin (length bytes.now)) }
     ensures errors { IfErr result (IsDecodingError or OutOfMemory) }
 {
-    let level = Level::of_container(bytes)?;
+    let level = ChildCursor::of_container(bytes)?;
     push_count(out, key_kind::of_level(&level), level.len())?;
     Ok(Some(level))
 }
 
-/// Appends the key of an item that has no parts, and of any other what stands before its parts, which it hands out.
+/// Appends the key of an item without children, or what precedes the children of a container, which it returns.
 #[inline(always)]
-fn push_start<'a>(out: &mut Vec<u8>, item: &Item<'a>) -> Result<Option<Level<'a>>, Error>
+fn push_start<'a>(out: &mut Vec<u8>, item: &Item<'a>) -> Result<Option<ChildCursor<'a>>, Error>
     ensures key { (form : Form) (tree : Tree) → StandsFor form item.now tree
         → AppendsEqualityStart form (equality_start tree) tree out.old.items result out.new.items }
     ensures within { IfOk result (IsLevelWithin (item_size item.now)) }
@@ -111,9 +112,13 @@ fn push_start<'a>(out: &mut Vec<u8>, item: &Item<'a>) -> Result<Option<Level<'a>
     Ok(None)
 }
 
-/// The same of an entry. An item is made of an extension value and of a long decimal alone.
+/// Appends the key of an entry, or what precedes its children. Only an extension value and a long decimal are read as
+/// items.
 #[inline(always)]
-fn push_entry<'a>(out: &mut Vec<u8>, entry: &StoredEntry<'a>) -> Result<Option<Level<'a>>, Error>
+fn push_entry<'a>(
+    out: &mut Vec<u8>,
+    entry: &StoredEntry<'a>,
+) -> Result<Option<ChildCursor<'a>>, Error>
     ensures key { (form : Form) (tree : Tree) → Stores form entry.now tree
         → AppendsEqualityStart form (equality_start tree) tree out.old.items result out.new.items }
     ensures within { IfOk result (IsLevelWithin (length entry.now.content.now)) }
@@ -138,14 +143,14 @@ fn push_entry<'a>(out: &mut Vec<u8>, entry: &StoredEntry<'a>) -> Result<Option<L
     push_start(out, &entry.item()?)
 }
 
-/// Appends the start of a part, behind its key where it has one, and hands out its own parts.
+/// Appends the start of a child, after its key if it has one, and returns its own children.
 #[inline(always)]
 fn push_part<'a>(
     out: &mut Vec<u8>,
     key: Option<&[u8]>,
     entry: &StoredEntry<'a>,
-) -> Result<Option<Level<'a>>, Error>
-    ensures key { (form : Form) (part : Part) → IsKeyOf key.entry part.0 → Stores form entry.now part.1
+) -> Result<Option<ChildCursor<'a>>, Error>
+    ensures key { (form : Form) (part : EntryPrefix) → IsKeyOf key.entry part.0 → Stores form entry.now part.1
         → AppendsEqualityStart form (equality_part_start part) part.1 out.old.items result out.new.items }
     ensures within { IfOk result (IsLevelWithin (length entry.now.content.now)) }
     ensures errors { IfErr result (IsDecodingError or OutOfMemory) }
@@ -156,9 +161,9 @@ fn push_part<'a>(
     push_entry(out, entry)
 }
 
-/// Appends the keys of a tree's parts, behind what stands before them. What is left of the containers that the walk is
-/// within lies in a `Vec`.
-fn push_parts(alloc: Global, out: &mut Vec<u8>, found: Level<'_>) -> Result<(), Error>
+/// Appends the keys of a tree's children, after what precedes them. What remains of the enclosing containers is in a
+/// `Vec`.
+fn push_parts(alloc: Global, out: &mut Vec<u8>, found: ChildCursor<'_>) -> Result<(), Error>
     ensures key { (form : Form) (tree : Tree) (front : List ℕ) → IsLevelOf form tree (Some found.entry)
         → out.old.items ≡ front ++ equality_start tree
         → MatchResult result (λ _. out.new.items ≡ front ++ equality_key tree) IsOutOfMemory }
@@ -194,8 +199,8 @@ fn push_item(alloc: Global, out: &mut Vec<u8>, item: &Item<'_>) -> Result<(), Er
     }
 }
 
-/// How many bytes a key is begun with, so that it seldom grows. Both words of a `Packed` stand behind it for a moment:
-/// there is room for them.
+/// Returns the initial capacity of a key, so that it seldom grows. It includes both words of a `PackedBytes`, which are
+/// written first.
 fn first_capacity(item: &Item<'_>) -> usize {
     match item {
         Item::String(text) => text.len().saturating_add(ROOM + 1),
@@ -204,7 +209,7 @@ fn first_capacity(item: &Item<'_>) -> usize {
     }
 }
 
-/// The equality key of an item.
+/// Returns the equality key of an item.
 pub fn item_key(alloc: Global, item: &Item<'_>) -> Result<Vec<u8>, Error>
     ensures key { (form : Form) (tree : Tree) → StandsFor form item.now tree
         → MatchResult result (λ v. v.items ≡ equality_key tree) IsOutOfMemory }
@@ -215,10 +220,10 @@ pub fn item_key(alloc: Global, item: &Item<'_>) -> Result<Vec<u8>, Error>
     Ok(out)
 }
 
-/// How many bytes the key of a number of 64 bits takes at most, and of a truth value.
+/// The greatest length of the key of a 64-bit number, and of a Boolean.
 const SHORT_KEY: usize = 25;
 
-/// Makes a vector the equality key of an entry. What it held is lost.
+/// Replaces the contents of a vector by the equality key of an entry.
 pub fn write_entry_key(
     alloc: Global,
     out: &mut Vec<u8>,
@@ -241,6 +246,7 @@ pub fn push_equality_key(alloc: Global, out: &mut Vec<u8>, bytes: &[u8]) -> Resu
     ensures key { (form : Form) (tree : Tree) → Decodes form bytes.now tree
         → MatchResult result (λ _. out.new.items ≡ out.old.items ++ equality_key tree) IsOutOfMemory }
     ensures errors { IfErr result (IsDecodingError or OutOfMemory) }
+    ensures reads { OnOk result (HasRoot bytes.now) }
 {
     let root = root_item(bytes)?;
     out.reserve(bytes.len().saturating_add(ROOM))?;

@@ -1,4 +1,4 @@
-//! The calls on documents.
+//! The functions on documents.
 
 mod array;
 mod cast;
@@ -10,3 +10,5 @@ mod parts;
 mod path;
 mod runs;
 mod scalar;
+
+pub use self::operator::{push_column_key, push_column_key_wide};

@@ -1,4 +1,4 @@
-//! The kind bytes of keys. Kinds stand in the order of their bytes, the lowest first.
+//! The type bytes of keys, in ascending order.
 
 ghost use Rattle.std.specs.Prelude.{◌≡◌, IfSome};
 ghost use Rattle.jsonb_doc.specs.Tree.{Tree};
@@ -8,7 +8,7 @@ ghost use Rattle.jsonb_doc.specs.Private.Stored.{Stores};
 ghost use Rattle.jsonb_raw.specs.Private.Levels.{HasAllLeft};
 ghost use Rattle.jsonb_raw.specs.Private.KeyKinds.{IsLiteralKind};
 
-use crate::level::Level;
+use crate::level::ChildCursor;
 use jsonb_doc::StoredEntry;
 use jsonb_doc::layout::EntryKind;
 
@@ -28,18 +28,18 @@ pub const ARRAY: u8 = 7;
 
 pub const NULL: u8 = 8;
 
-/// The kind of the container with these parts.
+/// Returns the type of a container by its children.
 #[inline(always)]
-pub fn of_level(level: &Level<'_>) -> u8
+pub fn of_level(level: &ChildCursor<'_>) -> u8
     ensures { (form : Form) (t : Tree) → HasAllLeft form t level.now → result ≡ rank t }
 {
     match level {
-        Level::Elements(_) => ARRAY,
-        Level::Pairs(_) => OBJECT,
+        ChildCursor::Elements(_) => ARRAY,
+        ChildCursor::Pairs(_) => OBJECT,
     }
 }
 
-/// The kind of a null or a truth value.
+/// Returns the type of a null or a Boolean.
 #[inline(always)]
 pub fn of_literal(entry: &StoredEntry<'_>) -> Option<u8>
     ensures { (form : Form) (t : Tree) → Stores form entry.now t → IfSome result (IsLiteralKind t) }

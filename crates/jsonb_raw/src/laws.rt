@@ -1,4 +1,4 @@
-//! What is true of the definitions, whatever the calls do. The functions answer nothing.
+//! Theorems about the definitions. The functions do nothing.
 
 ghost use Rattle.std.specs.Prelude.{◌≡◌, ◌≢◌, ◌↔◌, ◌+◌, ◌-◌, ◌*◌, ◌^◌, ◌<◌, min, ℕ, Bool, true, false, not, IsTrue};
 ghost use Rattle.std.specs.Prelude.{List, [], ◌∷◌, ◌++◌, length, flat_map, Contains, Option, Some, None, IfSome};
@@ -30,21 +30,21 @@ ghost use Rattle.jsonb_raw.specs.Contains.{contains};
 ghost use Rattle.jsonb_raw.specs.Concat.{concat};
 ghost use Rattle.jsonb_raw.specs.Iterators.{YieldsItemsLeft};
 
-/// The place of no steps is the whole tree.
+/// The tree at the location of no steps is the whole tree.
 pub fn no_steps_meet_the_whole()
     ensures place { (t : Tree) → location [] t ≡ Some [] }
     ensures tree { (t : Tree) → tree_at_steps [] t ≡ Some t }
 {}
 
-/// Each text that is a key path prints to a text that reads as a key path with the same place on every tree.
+/// Text that is a key path prints to text that parses as a key path with the same location on every tree.
 pub fn printed_key_paths_keep_their_place(text: &[u8])
     ensures { IfSome (key_path text.now) (λ steps. (found : List Key)
         × (key_path (key_path_text steps) ≡ Some found) × ((t : Tree) → location found t ≡ location steps t)) }
 {}
 
-/// Sortable keys of trees without extensions are in order as the trees are, in every width of depths. A tree below
-/// another has the lower key, whatever may follow each of the two, and trees that are equal by value have one key. So
-/// the byte order of the keys of two documents is the order of the documents, and they have one key exactly where they
+/// Sortable keys of trees without extensions are ordered as the trees are, in every width of depths. A lesser tree
+/// has the lesser key, whatever may follow each of the two, and trees that are equal by value have one key. So the
+/// byte order of the keys of two documents is the order of the documents, and they have one key if and only if they
 /// are equal by value.
 pub fn sortable_keys()
     ensures below { (w : Width) (t u : Tree) (d : ℕ) (r s : List ℕ)
@@ -58,15 +58,15 @@ pub fn sortable_keys()
         → HasKey w t 0 → HasKey w u 0 → (sortable_key w t 0 ≡ sortable_key w u 0) ↔ IsEqual t u }
 {}
 
-/// Sortable keys of several values, one behind the other, are in order as the lists of values are: the key of an index
-/// on several columns. A missing value is written as an item of kind 0, and comes before all others.
+/// Concatenated sortable keys of several values are ordered as the lists of values are: the key of an index on
+/// several columns. A missing value is written as an item of type 0, and comes before all others.
 pub fn composite_keys()
     ensures { (w : Width) (ts us : List (Option Tree)) → HaveKeys w ts → HaveKeys w us
         → slice_cmp nat_cmp (flat_map (column_key w) ts) (flat_map (column_key w) us)
         ≡ slice_cmp (option_cmp tree_cmp) ts us }
 {}
 
-/// Two trees have one equality key exactly where they are equal by value, at every depth, also where extensions occur.
+/// Two trees have one equality key if and only if they are equal by value, at every depth, with extensions too.
 pub fn equality_keys()
     ensures { (t u : Tree) → Fits t → Fits u → (equality_key t ≡ equality_key u) ↔ IsEqual t u }
 {}
@@ -98,25 +98,25 @@ pub fn distinct_elements()
     ensures { (ts : List Tree) (t : Tree) → count_of t (distinct ts) ≡ min (count_of t ts) 1 }
 {}
 
-/// Two lists overlap exactly where their intersection is not empty.
+/// Two lists overlap if and only if their intersection is not empty.
 pub fn overlap()
     ensures { (ts other : List Tree) → IsTrue (overlap ts other) ↔ (intersection_of ts other ≢ []) }
 {}
 
-/// At the place of each leaf's key path stands the leaf, also where arrays are ignored.
+/// The tree at each leaf's key path is the leaf, with arrays ignored too.
 pub fn leaves_are_in_place()
     ensures { (ignore_array : Bool) (t : Tree) → Fits t → (leaf : Leaf)
         → Contains (leaves ignore_array t) leaf → tree_at_steps leaf.0 t ≡ Some leaf.1 }
 {}
 
-/// A document has all of no texts, and none of no texts.
+/// A document has all of no names, and not any of no names.
 pub fn all_of_no_texts_and_any_of_no_texts()
     ensures all { (t : Tree) → has_all [] t ≡ true }
     ensures any { (t : Tree) → has_any [] t ≡ false }
 {}
 
-/// Where the steps before the last meet an object, so that the last may meet a pair, the steps meet nothing in the tree
-/// without their place.
+/// If the steps before the last select an object, so that the last may select a member, the steps select nothing in
+/// the tree without their location.
 pub fn pairs_that_are_taken_out_are_gone()
     ensures { (t : Tree) → Fits t → (front : List Key) (last : Key) (ps : Pairs)
         → tree_at_steps front t ≡ Some (object ps)
@@ -130,12 +130,12 @@ pub fn pick_and_delete_part_objects()
         × IsPartitionedInto (members ps) (members picked) (members others) }
 {}
 
-/// What is stripped has nothing to strip.
+/// Stripping nulls twice is stripping them once.
 pub fn strip_twice_is_strip()
     ensures { (t : Tree) → strip (strip t) ≡ strip t }
 {}
 
-/// A document whose root is no extension contains itself.
+/// A document whose root is not an extension contains itself.
 pub fn contains_is_reflexive()
     ensures { (t : Tree) → IsTrue (not (is_extension_value t)) → IsTrue (contains t t) }
 {}
@@ -145,7 +145,7 @@ pub fn contains_is_transitive()
     ensures { (t u v : Tree) → IsTrue (contains t u) → IsTrue (contains u v) → IsTrue (contains t v) }
 {}
 
-/// Which two of three arrays, or of three objects, are put together first does not matter.
+/// Concatenation of three arrays, or of three objects, is associative.
 pub fn concat_is_associative()
     ensures arrays { (ts us vs : Trees)
         → concat (concat (array ts) (array us)) (array vs) ≡ concat (array ts) (concat (array us) (array vs)) }
@@ -153,7 +153,7 @@ pub fn concat_is_associative()
         → concat (concat (object ps) (object qs)) (object rs) ≡ concat (object ps) (concat (object qs) (object rs)) }
 {}
 
-/// `iter()` of a slice or a `Vec` yields its items in order, as the calls that take an iterator ask of it.
+/// `iter()` of a slice or a `Vec` yields its items in order, as the functions that take an iterator require.
 pub fn slices_yield_their_items<T>()
     ensures { YieldsItemsLeft (iter_steps {A = T}) iter_rest }
 {}

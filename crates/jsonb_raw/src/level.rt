@@ -1,5 +1,5 @@
-//! What a walk has left of a container. A walk keeps the levels that it is within in a `Vec`, so that depth takes none
-//! of the machine's stack.
+//! The remaining children of a container during a traversal. Levels are kept in a `Vec`, so that stack use does not
+//! depend on the depth.
 
 ghost use Rattle.std.specs.Prelude.{◌≡◌, IsOkAnd, IfOk, IfSome, IfErr, List, length};
 ghost use Rattle.jsonb_doc.specs.Tree.{Tree};
@@ -7,19 +7,19 @@ ghost use Rattle.jsonb_doc.specs.Payload.{Form, number_reader};
 ghost use Rattle.jsonb_doc.specs.Format.{IsContent, container_entry};
 ghost use Rattle.jsonb_doc.specs.Answer.{IsDecodingError};
 ghost use Rattle.jsonb_raw.specs.Scalars.{is_array};
-ghost use Rattle.jsonb_raw.specs.Private.Levels.{Part, HasPartsLeft, HasAllLeft, IsLevelWithin, TakesPart, IsSmaller};
+ghost use Rattle.jsonb_raw.specs.Private.Levels.{EntryPrefix, HasPartsLeft, HasAllLeft, IsLevelWithin, TakesPart, IsSmaller};
 
 use jsonb_doc::layout::{HeaderKind, split_header};
 use jsonb_doc::{EntryIter, Error, PairEntryIter, StoredEntry, array_entries, object_entries};
 
-/// The elements or the pairs of a container that are left, as they are stored.
+/// The remaining elements or members of a container, as they are stored.
 #[derive(Clone, Copy)]
-pub enum Level<'a> {
+pub enum ChildCursor<'a> {
     Elements(EntryIter<'a>),
     Pairs(PairEntryIter<'a>),
 }
 
-/// Whether a container is an array, by its header.
+/// Returns `true` if a container is an array, by its header.
 #[inline(always)]
 pub fn is_array(bytes: &[u8]) -> bool
     ensures { (form : Form) (t : Tree) → IsContent (number_reader form) t container_entry bytes.now
@@ -31,10 +31,10 @@ pub fn is_array(bytes: &[u8]) -> bool
     }
 }
 
-impl<'a> Level<'a> {
-    /// All parts of an array or an object, by its header. Other bytes are `InvalidJsonb`.
+impl<'a> ChildCursor<'a> {
+    /// Returns all children of an array or an object, by its header. Fails with `InvalidJsonb` for other bytes.
     #[inline(always)]
-    pub fn of_container(bytes: &'a [u8]) -> Result<Level<'a>, Error>
+    pub fn of_container(bytes: &'a [u8]) -> Result<ChildCursor<'a>, Error>
         ensures level { (form : Form) (t : Tree) → IsContent (number_reader form) t container_entry bytes.now
             → IsOkAnd result (HasAllLeft form t) }
         ensures within { IfOk result (λ level. IsLevelWithin (length bytes.now) (Some level)) }
@@ -44,38 +44,38 @@ impl<'a> Level<'a> {
             return Err(Error::InvalidJsonb);
         };
         match kind {
-            HeaderKind::Array => Ok(Level::Elements(array_entries(bytes)?)),
-            HeaderKind::Object => Ok(Level::Pairs(object_entries(bytes)?)),
+            HeaderKind::Array => Ok(ChildCursor::Elements(array_entries(bytes)?)),
+            HeaderKind::Object => Ok(ChildCursor::Pairs(object_entries(bytes)?)),
             HeaderKind::Scalar => Err(Error::InvalidJsonb),
         }
     }
 
-    /// How many parts are left.
+    /// Returns the number of remaining children.
     pub fn len(&self) -> usize
-        ensures { (form : Form) (ps : List Part) → HasPartsLeft form self.now ps → result ≡ length ps }
+        ensures { (form : Form) (ps : List EntryPrefix) → HasPartsLeft form self.now ps → result ≡ length ps }
     {
         match self {
-            Level::Elements(left) => left.len(),
-            Level::Pairs(left) => left.keys().len(),
+            ChildCursor::Elements(left) => left.len(),
+            ChildCursor::Pairs(left) => left.keys().len(),
         }
     }
 
-    /// Takes the first of what is left: the bytes of its key, where it is a value of an object, and its entry.
+    /// Removes and returns the first child: the bytes of its key, if it is a value of an object, and its entry.
     #[inline(always)]
     pub fn take(&mut self) -> Result<Option<(Option<&'a [u8]>, StoredEntry<'a>)>, Error>
-        ensures takes { (form : Form) (ps : List Part) → HasPartsLeft form self.old ps
+        ensures takes { (form : Form) (ps : List EntryPrefix) → HasPartsLeft form self.old ps
             → TakesPart form ps result self.new }
         ensures smaller { IfOk result (λ found. IfSome found (λ given. IsSmaller self.old given.1 self.new)) }
         ensures errors { IfErr result IsDecodingError }
     {
         match self {
-            Level::Elements(left) => {
+            ChildCursor::Elements(left) => {
                 let Some(entry) = left.next() else {
                     return Ok(None);
                 };
                 Ok(Some((None, entry?)))
             }
-            Level::Pairs(left) => {
+            ChildCursor::Pairs(left) => {
                 let Some(pair) = left.next() else {
                     return Ok(None);
                 };

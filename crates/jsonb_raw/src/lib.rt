@@ -16,5 +16,6 @@ mod sortable_key;
 #[cfg(test)]
 mod tests;
 
+pub use functions::{push_column_key, push_column_key_wide};
 pub use owned::OwnedJsonb;
 pub use raw::RawJsonb;

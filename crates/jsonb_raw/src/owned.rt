@@ -15,7 +15,7 @@ use jsonb_doc::{Error, Spot, spot_entry};
 use std::alloc::Global;
 use std::marker::Model;
 
-/// The bytes of a document, owned. `as_raw` gives the calls on it.
+/// The bytes of a document, owned. `as_raw` borrows it for the functions of `RawJsonb`.
 #[derive(Debug, Drop)]
 pub struct OwnedJsonb {
     bytes: Vec<u8>,
@@ -30,19 +30,27 @@ impl Model for OwnedJsonb {
 }
 
 impl OwnedJsonb {
-    /// These bytes, as they are. They need not decode.
+    /// Creates a document of these bytes, unchanged.
     ///
-    /// # Cost
+    /// They need not decode.
     ///
-    /// Constant, without memory.
+    /// # Complexity
+    ///
+    /// O(1). Does not allocate.
+    ///
+    /// # Examples
+    ///
+    /// ```rust crates/jsonb_examples/src/invoice.rt
+    /// Ok(OwnedJsonb::new(builder.build()?))
+    /// ```
     pub fn new(bytes: Vec<u8>) -> OwnedJsonb
         ensures { result ≡ bytes.items }
     {
         Self { bytes }
     }
 
-    /// The item at a spot of these bytes as a document of its own. `TooLarge` is for an item that passes the limits
-    /// of a document, `InvalidJsonb` and `UnsupportedNumber` come only where the bytes don't decode.
+    /// Returns the item at a position of these bytes as a new document. Fails with `TooLarge` if the item exceeds the
+    /// limits of a document, and with `InvalidJsonb` or `UnsupportedNumber` only if the bytes do not decode.
     pub(crate) fn from_spot(alloc: Global, bytes: &[u8], spot: Spot) -> Result<OwnedJsonb, Error>
         ensures document { (form : Form) (whole t : Tree) → Decodes form bytes.now whole → Locates bytes.now spot t
             → Makes form t result }
@@ -52,22 +60,36 @@ impl OwnedJsonb {
         entry_document(alloc, entry.kind, entry.content)
     }
 
-    /// The document, borrowed.
+    /// Returns the document, borrowed.
     ///
-    /// # Cost
+    /// # Complexity
     ///
-    /// Constant, without memory.
+    /// O(1). Does not allocate.
+    ///
+    /// # Examples
+    ///
+    /// ```rust crates/jsonb_examples/src/calls.rt
+    /// let merged = defaults.concat(alloc, user)?;
+    /// let settings = merged.as_raw().strip_nulls(alloc)?;
+    /// ```
     pub fn as_raw(&self) -> RawJsonb<'_>
         ensures { raw_bytes result ≡ self.now }
     {
         RawJsonb::new(self.bytes.as_slice())
     }
 
-    /// The bytes.
+    /// Returns the bytes, and consumes the document.
     ///
-    /// # Cost
+    /// # Complexity
     ///
-    /// Constant, without memory.
+    /// O(1). Does not allocate.
+    ///
+    /// # Examples
+    ///
+    /// ```rust crates/jsonb_examples/src/calls.rt
+    /// let settings = merged.as_raw().strip_nulls(alloc)?;
+    /// Ok(settings.to_vec())
+    /// ```
     pub fn to_vec(self) -> Vec<u8>
         ensures { result.items ≡ self }
     {
@@ -75,15 +97,21 @@ impl OwnedJsonb {
         bytes
     }
 
-    /// The same bytes in memory of their own.
+    /// Returns a copy of the document.
     ///
     /// # Errors
     ///
-    /// `OutOfMemory` where memory is refused.
+    /// `OutOfMemory` if an allocation fails.
     ///
-    /// # Cost
+    /// # Complexity
     ///
-    /// Linear in n. Takes memory once.
+    /// O(n). Allocates once.
+    ///
+    /// # Examples
+    ///
+    /// ```rust crates/jsonb_examples/src/calls.rt
+    /// versions.push(document.clone(alloc)?)?;
+    /// ```
     pub fn clone(&self, alloc: Global) -> Result<OwnedJsonb, Error>
         ensures { MatchResult result (λ copy. copy ≡ self.now) IsOutOfMemory }
     {

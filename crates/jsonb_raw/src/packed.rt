@@ -1,5 +1,5 @@
-//! Up to 16 bytes of a key, made in two words from the last byte on and appended at once. No byte of them is stored
-//! alone: a load of many would have to wait for such stores.
+//! Up to 16 bytes of a key, composed in two words from the last byte on and appended at once. No byte of them is stored
+//! by itself: a load of several bytes would have to wait for such stores.
 
 ghost use Rattle.std.specs.Prelude.{◌≡◌, ◌≤◌, ◌<◌, ◌+◌, ◌++◌, [], ◌∷◌, OnOk, take};
 ghost use Rattle.std.specs.Int.{to_le_bytes, w64};
@@ -7,71 +7,71 @@ ghost use Rattle.jsonb_raw.specs.Private.PackedBytes.{packed_bytes};
 
 use std::alloc::AllocError;
 
-/// How many bytes a word has.
+/// The number of bytes of a word.
 const WORD: usize = 8;
 
-/// How many bytes there can be.
+/// The greatest number of bytes.
 pub const ROOM: usize = 2 * WORD;
 
-/// Some bytes: so many of those of two words, the lowest of each first.
+/// Up to 16 bytes, packed into two words, the lowest of each first.
 #[derive(Clone, Copy)]
-pub struct Packed {
+pub struct PackedBytes {
     first: u64,
     second: u64,
     pub len: usize,
 }
 
-/// A word with a byte in front of its bytes, the last of which is lost.
+/// Returns a word with a byte before its bytes, the last of which is lost.
 #[inline(always)]
-fn word_behind(byte: u8, word: u64) -> u64
+fn prepend_byte(byte: u8, word: u64) -> u64
     ensures { to_le_bytes w64 result ≡ byte ∷ take 7 (to_le_bytes w64 word) }
 {
     (word << 8) + u64::from(byte)
 }
 
-impl Packed {
-    /// One byte.
+impl PackedBytes {
+    /// Returns one byte.
     #[inline(always)]
-    pub fn one(byte: u8) -> Packed
+    pub fn one(byte: u8) -> PackedBytes
         ensures bytes { packed_bytes result ≡ byte ∷ [] }
         ensures len { result.len ≡ 1 }
     {
-        Packed {
-            first: word_behind(byte, 0),
+        PackedBytes {
+            first: prepend_byte(byte, 0),
             second: 0,
             len: 1,
         }
     }
 
-    /// So many bytes of a word, and zeros behind it.
+    /// Returns the first `count` bytes of a word, followed by zeros.
     #[inline(always)]
-    pub fn of_word(word: u64, len: usize) -> Packed
+    pub fn of_word(word: u64, len: usize) -> PackedBytes
         ensures bytes { packed_bytes result ≡ take len (to_le_bytes w64 word ++ to_le_bytes w64 0) }
         ensures len { result.len ≡ len }
     {
-        Packed {
+        PackedBytes {
             first: word,
             second: 0,
             len,
         }
     }
 
-    /// The same bytes behind another.
+    /// Returns these bytes with one before them.
     #[inline(always)]
-    pub fn behind(self, byte: u8) -> Packed
+    pub fn behind(self, byte: u8) -> PackedBytes
         requires { self.len < 16 }
         ensures bytes { packed_bytes result ≡ byte ∷ packed_bytes self }
         ensures len { result.len ≡ self.len + 1 }
     {
         let last = ((self.first >> 56) % 256) as u8;
-        Packed {
-            first: word_behind(byte, self.first),
-            second: word_behind(last, self.second),
+        PackedBytes {
+            first: prepend_byte(byte, self.first),
+            second: prepend_byte(last, self.second),
             len: self.len + 1,
         }
     }
 
-    /// The bytes of both words.
+    /// Returns the bytes of both words.
     #[inline(always)]
     fn to_words(self) -> [u8; ROOM]
         ensures { result ≡ to_le_bytes w64 self.first ++ to_le_bytes w64 self.second }
@@ -82,7 +82,7 @@ impl Packed {
         bytes
     }
 
-    /// Appends them. For a moment both words stand there, so that room is asked for once.
+    /// Appends the bytes. Both words are written first and then cut to the length, so that capacity is reserved once.
     #[inline(always)]
     pub fn push(self, out: &mut Vec<u8>) -> Result<(), AllocError>
         requires { self.len ≤ 16 }

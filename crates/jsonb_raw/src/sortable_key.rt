@@ -1,6 +1,6 @@
-//! The sortable key of a document: a walk over its items that writes each behind its depth and its kind.
+//! The sortable key of a document: each item after its depth and its type.
 
-ghost use Rattle.std.specs.Prelude.{◌≡◌, ◌≤◌, ◌<◌, ◌++◌, ℕ, [], length, List, Option, IfOk, IfErr, MatchResult};
+ghost use Rattle.std.specs.Prelude.{◌≡◌, ◌≤◌, ◌<◌, ◌++◌, ℕ, [], length, List, Option, IfOk, IfErr, MatchResult, OnOk};
 ghost use Rattle.std.specs.Int.{to_be_bytes};
 ghost use Rattle.jsonb_doc.specs.Tree.{Tree};
 ghost use Rattle.jsonb_doc.specs.Payload.{Form, number_reader};
@@ -8,6 +8,7 @@ ghost use Rattle.jsonb_doc.specs.Format.{Decodes, IsContent, container_entry, nu
 ghost use Rattle.jsonb_doc.specs.Item.{StandsFor};
 ghost use Rattle.jsonb_doc.specs.Kinds.{kind_number};
 ghost use Rattle.jsonb_doc.specs.Private.Stored.{Stores};
+ghost use Rattle.jsonb_raw.specs.Roots.{HasRoot};
 ghost use Rattle.jsonb_raw.specs.SortableKey.{text_bytes, number_bytes, depths};
 ghost use Rattle.jsonb_raw.specs.Private.PackedBytes.{packed_bytes};
 ghost use Rattle.jsonb_doc.specs.Private.Short.{short_value};
@@ -22,13 +23,13 @@ use crate::key_bytes::{
     pack_number, pack_text, push_number, push_unpacked_number, push_unpacked_text,
 };
 use crate::key_kind;
-use crate::level::Level;
-use crate::packed::{Packed, ROOM};
+use crate::level::ChildCursor;
+use crate::packed::{PackedBytes, ROOM};
 use jsonb_doc::layout::EntryKind;
 use jsonb_doc::{Error, Item, ShortNumber, StoredEntry, push_extension_payload, root_item};
 use std::alloc::Global;
 
-/// How many bytes a key has for each depth.
+/// The number of bytes that a key has for each depth.
 #[derive(Clone, Copy)]
 pub enum DepthWidth {
     /// Depths up to 255.
@@ -37,16 +38,16 @@ pub enum DepthWidth {
     TwoBytes,
 }
 
-/// How deep an item lies, and how many bytes a key has for it.
+/// The depth of an item, and the number of bytes that a key has for it.
 #[derive(Clone, Copy)]
 struct Depth {
     value: usize,
     width: DepthWidth,
 }
 
-/// The bytes of an item behind its depth. `TooDeep` where the width has no bytes for the depth.
+/// Returns the item after the bytes of its depth. Fails with `TooDeep` if the width has no bytes for it.
 #[inline(always)]
-fn behind_depth(item: Packed, depth: Depth) -> Result<Packed, Error>
+fn behind_depth(item: PackedBytes, depth: Depth) -> Result<PackedBytes, Error>
     requires { item.len ≤ 14 }
     ensures placed { MatchResult result
         (λ p. (packed_bytes p ≡ to_be_bytes (width_of depth.width) depth.value ++ packed_bytes item)
@@ -71,9 +72,9 @@ fn behind_depth(item: Packed, depth: Depth) -> Result<Packed, Error>
     }
 }
 
-/// Appends an item behind its depth and its kind.
+/// Appends an item after its depth and its type.
 #[inline(always)]
-fn push_packed(out: &mut Vec<u8>, depth: Depth, kind: u8, content: Packed) -> Result<(), Error>
+fn push_packed(out: &mut Vec<u8>, depth: Depth, kind: u8, content: PackedBytes) -> Result<(), Error>
     requires { content.len ≤ 13 }
     ensures { AppendsItem depth kind (packed_bytes content) out.old.items result out.new.items }
 {
@@ -82,17 +83,17 @@ fn push_packed(out: &mut Vec<u8>, depth: Depth, kind: u8, content: Packed) -> Re
     Ok(())
 }
 
-/// Appends the depth and the kind of an item.
+/// Appends the depth and the type of an item.
 #[inline(always)]
 fn push_front(out: &mut Vec<u8>, depth: Depth, kind: u8) -> Result<(), Error>
     ensures { AppendsItem depth kind [] out.old.items result out.new.items }
 {
-    let item = behind_depth(Packed::one(kind), depth)?;
+    let item = behind_depth(PackedBytes::one(kind), depth)?;
     item.push(out)?;
     Ok(())
 }
 
-/// Appends the key of a text, also of an object's key.
+/// Appends the key of a string, also of an object's key.
 #[inline(always)]
 fn push_string(out: &mut Vec<u8>, text: &[u8], depth: Depth) -> Result<(), Error>
     ensures { AppendsItem depth 5 (text_bytes text.now) out.old.items result out.new.items }
@@ -119,20 +120,24 @@ fn push_short(out: &mut Vec<u8>, number: ShortNumber, depth: Depth) -> Result<()
     Ok(())
 }
 
-/// Appends what stands before the parts of a container, which it hands out.
+/// Appends what precedes the children of a container, and returns them.
 #[inline(always)]
-fn push_container<'a>(out: &mut Vec<u8>, bytes: &'a [u8], depth: Depth) -> Result<Level<'a>, Error>
+fn push_container<'a>(
+    out: &mut Vec<u8>,
+    bytes: &'a [u8],
+    depth: Depth,
+) -> Result<ChildCursor<'a>, Error>
     ensures key { (form : Form) (tree : Tree) → IsContent (number_reader form) tree container_entry bytes.now
         → AppendsStart form depth tree out.old.items result out.new.items }
     ensures within { IfOk result (λ level. IsLevelWithin (length bytes.now) (Some level)) }
     ensures errors { IfErr result (IsDecodingError or OutOfMemory or TooDeep) }
 {
-    let level = Level::of_container(bytes)?;
+    let level = ChildCursor::of_container(bytes)?;
     push_front(out, depth, key_kind::of_level(&level))?;
     Ok(level)
 }
 
-/// Appends the key of an item that is no container.
+/// Appends the key of a scalar item.
 #[inline(always)]
 fn push_scalar_item(out: &mut Vec<u8>, item: &Item<'_>, depth: Depth) -> Result<(), Error>
     ensures key { (form : Form) (tree : Tree) → StandsFor form item.now tree
@@ -158,8 +163,8 @@ fn push_scalar_item(out: &mut Vec<u8>, item: &Item<'_>, depth: Depth) -> Result<
     Ok(())
 }
 
-/// Appends the key of an entry of this kind that is no container, by its item. It stands apart, so that a walk over the
-/// commonest entries has no room for items, and takes the entry's parts, so that the walk keeps no entry in memory.
+/// Appends the key of a scalar entry of this type, by its item. It is a separate function so that traversing the most
+/// common entries needs no space for items. It takes the entry's parts, so that the caller keeps no entry in memory.
 #[inline(never)]
 fn push_stored_item(
     out: &mut Vec<u8>,
@@ -175,8 +180,8 @@ fn push_stored_item(
     push_scalar_item(out, &entry.item()?, depth)
 }
 
-/// Appends the key of a number, as it is stored. It stands apart, so that what a number is packed into takes no room of
-/// the walk over texts.
+/// Appends the key of a number, as it is stored. It is a separate function so that a packed number takes no space while
+/// strings are traversed.
 #[inline(never)]
 fn push_stored_number(out: &mut Vec<u8>, content: &[u8], depth: Depth) -> Result<(), Error>
     ensures key { (form : Form) (tree : Tree) → IsContent (number_reader form) tree number_entry content.now
@@ -190,7 +195,7 @@ fn push_stored_number(out: &mut Vec<u8>, content: &[u8], depth: Depth) -> Result
     }
 }
 
-/// Appends the key of an entry that is no container. Only of an extension value and of a long decimal is an item made.
+/// Appends the key of a scalar entry. Only an extension value and a long decimal are read as items.
 #[inline(always)]
 fn push_scalar(out: &mut Vec<u8>, entry: &StoredEntry<'_>, depth: Depth) -> Result<(), Error>
     ensures key { (form : Form) (tree : Tree) → Stores form entry.now tree
@@ -209,7 +214,7 @@ fn push_scalar(out: &mut Vec<u8>, entry: &StoredEntry<'_>, depth: Depth) -> Resu
     }
 }
 
-/// Appends the key of a part, where it has one, as it stands before the part.
+/// Appends the key of a child, if it has one, as it precedes the child.
 #[inline(always)]
 fn push_name(out: &mut Vec<u8>, name: Option<&[u8]>, depth: Depth) -> Result<(), Error>
     ensures key { (k : Option (List ℕ)) → IsKeyOf name.entry k → MatchResult result
@@ -223,7 +228,7 @@ fn push_name(out: &mut Vec<u8>, name: Option<&[u8]>, depth: Depth) -> Result<(),
     }
 }
 
-/// Appends the key of a container. What is left of the containers that the walk is within lies in a `Vec`.
+/// Appends the key of a container. What remains of the enclosing containers is in a `Vec`.
 fn push_parts(
     alloc: Global,
     out: &mut Vec<u8>,
@@ -268,6 +273,7 @@ pub fn push_sortable_key(
     ensures key { (form : Form) (tree : Tree) → Decodes form bytes.now tree
         → AppendsKey (width_of width) tree out.old.items result out.new.items }
     ensures errors { IfErr result (IsDecodingError or OutOfMemory or TooDeep) }
+    ensures reads { OnOk result (HasRoot bytes.now) }
 {
     let root = root_item(bytes)?;
     out.reserve(bytes.len().saturating_add(ROOM))?;
@@ -277,13 +283,14 @@ pub fn push_sortable_key(
     }
 }
 
-/// The sortable key of a document.
+/// Returns the sortable key of a document.
 pub fn sortable_key(alloc: Global, bytes: &[u8], width: DepthWidth) -> Result<Vec<u8>, Error>
     ensures key { (form : Form) (tree : Tree) → Decodes form bytes.now tree
         → MakesKey (width_of width) tree result }
     ensures order { (form : Form) (tree : Tree) → Decodes form bytes.now tree
         → RanksAsTree (width_of width) tree result }
     ensures errors { IfErr result (IsDecodingError or OutOfMemory or TooDeep) }
+    ensures reads { OnOk result (HasRoot bytes.now) }
 {
     let mut out = Vec::new(alloc);
     push_sortable_key(alloc, &mut out, bytes, width)?;

@@ -1,4 +1,4 @@
-//! The calls on documents: tables of answers, deep documents, and what is borrowed or kept.
+//! The functions on documents: example rows, deep documents, and what is borrowed or unchanged.
 
 ghost use Rattle.jsonb_doc.specs.Tree.{Tree};
 ghost use Rattle.jsonb_doc.specs.Payload.{Form};
@@ -23,7 +23,7 @@ use std::test::Fail;
 const HOME: &[u8] =
     b"\x40\0\0\x02\x10\0\0\x06\x10\0\0\x04\x20\0\0\x05\x10\0\0\x04numbertype\x50\0\x38\xc5\x05home";
 
-/// The part at the place of a key path: a caller, with what it knows of the answer.
+/// Returns the value at a key path: a caller, with what it knows of the result.
 fn part_at(
     alloc: Global,
     document: &RawJsonb<'_>,

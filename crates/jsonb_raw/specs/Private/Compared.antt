@@ -1,4 +1,4 @@
--- What walks along two containers tell, and which parts they leave.
+-- Results of walks along two containers, and the children that they leave.
 use Rattle.std.specs.Prelude.{◌≡◌, ℕ, ◌<◌, ◌≤◌, ◌||◌, Bool, true, false, List, ◌++◌, take, Option, Some, None, IfSome, ⊤}
 use Rattle.std.specs.List.{list_any}
 use Rattle.jsonb_doc.specs.Tree.{Tree, Trees, elements}
@@ -12,30 +12,30 @@ use Rattle.jsonb_doc.specs.declared.entry_iter.StoredEntry.{StoredEntry}
 use Rattle.jsonb_doc.specs.declared.entry_iter.EntryIter.{EntryIter}
 use Rattle.jsonb_raw.specs.Contains.{is_part_of}
 use Rattle.jsonb_raw.specs.declared.compared.Compared.{Compared}
-use Rattle.jsonb_raw.specs.declared.functions.operator.contains.Part.{Part}
-use Rattle.jsonb_raw.specs.declared.compared.Compared.TheVariants.{Known, AsOf}
+use Rattle.jsonb_raw.specs.declared.functions.operator.contains.EntryPrefix.{EntryPrefix}
+use Rattle.jsonb_raw.specs.declared.compared.Compared.TheVariants.{Known, Deferred}
 
--- the answer of a test for two trees is the one that is known, or that for the two parts
+-- the result of a test for two trees is the known one, or that for the two children
 abbrev pub Decides : (Tree → Tree → Bool) → Form → Form → Compared → Bool → Type 0
 Decides test form other_form (Known b) answer = b ≡ answer
-Decides test form other_form (AsOf x y) answer =
+Decides test form other_form (Deferred x y) answer =
     (t : Tree) × (u : Tree) × StandsFor form x t × StandsFor other_form y u × (test t u ≡ answer)
 
 -- the first of the parts is shorter than this
 abbrev pub IsShorter : Compared → ℕ → Type 0
 IsShorter (Known b) len = ⊤
-IsShorter (AsOf x y) len = item_size x < len
+IsShorter (Deferred x y) len = item_size x < len
 
 -- the first of the parts is shorter than the one length, and the second than the other
 abbrev pub IsWithin : Compared → ℕ → ℕ → Type 0
 IsWithin (Known b) len other_len = ⊤
-IsWithin (AsOf x y) len other_len = (item_size x < len) × (item_size y < other_len)
+IsWithin (Deferred x y) len other_len = (item_size x < len) × (item_size y < other_len)
 
 -- the first tree matches the second
 abbrev pub matches : Tree → Tree → Bool
 matches x y = is_part_of y x
 
--- the entry is this number, where it is given
+-- the entry is this number, if it is given
 pub record IsShortOf (entry : StoredEntry) (short : Option ShortNumber) : Type 0 where
   pub kind : IfSome short (λ n. kind_number entry.kind ≡ 2)
   pub number : IfSome short (λ n. number_of entry.content.now ≡ Some (short_value n))
@@ -52,18 +52,18 @@ pub record IsTailOf (all left : EntryIter) : Type 0 where
   pub last : (form : Form) (ts : Trees) → HasEntriesLeft form all ts
       → (us : Trees) × HasEntriesLeft form left us × ((front : List Tree) × (elements ts ≡ front ++ elements us))
 
--- the answer of the test for the entry that was put aside, and false where there is none
+-- the result of the test for the entry that was put aside, and false if there is none
 abbrev pub IsOneAnswer : (Tree → Bool) → Form → Option StoredEntry → Bool → Type 0
 IsOneAnswer test form None b = b ≡ false
 IsOneAnswer test form (Some entry) b = (t : Tree) × Stores form entry t × (test t ≡ b)
 
--- a search tells that the test holds of one, or leaves that to the entry that was put aside
+-- a search finds that the test holds of one, or leaves that to the entry that was put aside
 abbrev pub FindsOne : (Tree → Bool) → Form → Bool → Option EntryIter → Option StoredEntry → Type 0
 FindsOne test form whole (Some rest) large = whole ≡ true
 FindsOne test form whole None large = IsOneAnswer test form large whole
 
 -- one of the trees is among the first entries of the one part, or among those of the other
-abbrev pub ArePartsOf : Form → Trees → Part → Part → Type 0
+abbrev pub ArePartsOf : Form → Trees → EntryPrefix → EntryPrefix → Type 0
 ArePartsOf form xs first second =
     (ts : Trees) × (us : Trees) × HasEntriesLeft form first.entries ts × HasEntriesLeft form second.entries us
     × ((test : Tree → Bool)

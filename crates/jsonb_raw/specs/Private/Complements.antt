@@ -1,4 +1,4 @@
--- The bytes of a number as they are, or their complements where it is negative.
+-- The bytes of a number, or their complements if it is negative.
 use Rattle.std.specs.Prelude.{ℕ, ◌-◌, List, map, Bool, true, false}
 
 abbrev pub complement_byte : Bool → ℕ → ℕ

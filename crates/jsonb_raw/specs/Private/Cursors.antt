@@ -1,7 +1,7 @@
--- Where names are looked up among the texts of a document.
-use Rattle.std.specs.Prelude.{◌≡◌, ℕ, Bool, true, false, List, Option, Some, None, ⊤}
+-- Looking up names among the strings of a document.
+use Rattle.std.specs.Prelude.{◌≡◌, ℕ, Bool, true, false, List, length, Option, Some, None, ⊤}
 use Rattle.std.specs.Borrow.{Bor}
-use Rattle.std.specs.List.{list_any}
+use Rattle.std.specs.List.{list_any, All}
 use Rattle.std.specs.Ordering.{nat_cmp}
 use Rattle.std.specs.Cmp.Lexicographic.{slice_cmp}
 use Rattle.std.specs.Str.{bytes_eq}
@@ -13,10 +13,11 @@ use Rattle.jsonb_doc.specs.Private.Stored.{HasEntriesLeft, key_trees}
 use Rattle.jsonb_raw.specs.Exists.{has_text, has_all, has_any}
 use Rattle.jsonb_raw.specs.declared.functions.path.exists.KeyCursor.{KeyCursor}
 use Rattle.jsonb_raw.specs.declared.functions.path.exists.KeySearch.{KeySearch}
+use Rattle.jsonb_raw.specs.declared.functions.path.exists.KeyTable.{KeyTable}
 use Rattle.jsonb_raw.specs.declared.functions.path.exists.Texts.{Texts}
 use Rattle.jsonb_raw.specs.declared.functions.path.exists.Texts.TheVariants.{Keys, Elements, Root, Without}
 
--- the key that was passed last, where there is one, is below the name
+-- the key that was visited last, if there is one, is less than the name
 abbrev pub IsPassed : Option (Bor (List ℕ)) → List ℕ → Type 0
 IsPassed None name = ⊤
 IsPassed (Some key) name = slice_cmp nat_cmp key.now name ≡ Less
@@ -26,7 +27,7 @@ abbrev pub IsBefore : Option (Bor (List ℕ)) → List (List ℕ) → Type 0
 IsBefore None ks = ⊤
 IsBefore (Some key) ks = IsBelowFirst key.now ks
 
--- The cursor stands among these keys. Names above the one that was passed last are looked up behind it.
+-- The cursor is among these keys. Names greater than the one visited last are looked up after it.
 pub record IsCursorOf (form : Form) (c : KeyCursor) (ks : List (List ℕ)) : Type 0 where
   pub all_keys : AreKeys ks
   pub all : HasEntriesLeft form c.all (key_trees ks)
@@ -37,20 +38,26 @@ pub record IsCursorOf (form : Form) (c : KeyCursor) (ks : List (List ℕ)) : Typ
   pub decides : (name : List ℕ) → IsPassed c.passed name
       → list_any (λ key. bytes_eq key name) behind ≡ list_any (λ key. bytes_eq key name) ks
 
--- each cursor of the search stands among these keys
+-- each cursor of the search is among these keys
 pub record IsSearchOf (form : Form) (s : KeySearch) (ks : List (List ℕ)) : Type 0 where
   pub near : IsCursorOf form s.near ks
   pub middle : IsCursorOf form s.middle ks
   pub behind : IsCursorOf form s.behind ks
 
--- these are the texts of the tree
+-- The table is one of these keys: each of its cursors, and the one at which the last search ended, is a cursor of them.
+pub record IsTableOf (form : Form) (s : KeyTable) (ks : List (List ℕ)) : Type 0 where
+  pub near : IsCursorOf form s.near.cursor ks
+  pub places : All (λ c. IsCursorOf form c ks) s.places
+  pub size : length s.places ≡ 64
+
+-- these are the strings of the tree
 abbrev pub HoldsTexts : Form → Texts → Tree → Type 0
 HoldsTexts form (Keys s) t = (ps : Pairs) × (t ≡ object ps) × IsSearchOf form s (keys ps)
 HoldsTexts form (Elements bytes) t = (ts : Trees) × (t ≡ array ts) × Decodes form bytes.now (array ts)
 HoldsTexts form (Root s) t = t ≡ text s.now
 HoldsTexts form Without t = (name : List ℕ) → has_text name t ≡ false
 
--- the tree has one of the texts, where that decides, or else each of them
+-- the tree has one of the names, if that decides, or otherwise each of them
 abbrev pub has_by : Bool → List (List ℕ) → Tree → Bool
 has_by true names t = has_any names t
 has_by false names t = has_all names t

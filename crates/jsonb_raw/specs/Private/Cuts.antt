@@ -23,7 +23,7 @@ pub record HoldEntries (bytes : List ℕ) (es : List EntryParts) : Type 0 where
   pub within : FitEntries es
   pub joined : bytes ≡ head ++ (words_of_entries es ++ contents_of_entries es)
 
--- the place of an entry that these others stand before, of so many
+-- the range of an entry that these others precede
 pub record IsPlaceOf (place : EntryPlace) (total : ℕ) (front : List EntryParts) (e : EntryParts) : Type 0 where
   pub word : place.word ≡ 4 + 4 * length front
   pub start : place.start ≡ 4 + 4 * total + length (contents_of_entries front)
@@ -53,11 +53,11 @@ around bytes (Some key) value =
 abbrev pub without_child : List ℕ → ChildEntries → List ℕ
 without_child bytes child = child.header ++ around bytes child.key child.value
 
--- the place lies within so many bytes, its word before its content
+-- the range is within this many bytes, its word before its content
 abbrev pub LiesWithin : EntryPlace → ℕ → Type 0
 LiesWithin place len = (place.word + 4 ≤ place.start) × (place.start ≤ place.end) × (place.end ≤ len)
 
--- behind a header, the words of the entries stand before their contents, a key's before its value's
+-- after a header, the words of the entries precede their contents, a key's its value's
 abbrev pub AreInOrder : Option EntryPlace → EntryPlace → ℕ → Type 0
 AreInOrder None value len = (4 ≤ value.word) × LiesWithin value len
 AreInOrder (Some key) value len =
@@ -65,7 +65,7 @@ AreInOrder (Some key) value len =
     × (key.end ≤ value.start)
     × (value.start ≤ value.end) × (value.end ≤ len)
 
--- The entries are those of the child at a position of a container's tree: its content stands there, and without it, or
+-- The entries are those of the child at a position of a container's tree: its content is there, and without it, or
 -- with another content in its place, the bytes are those of the changed tree.
 pub record AreOfChild (number_at : NumberReader) (bytes : List ℕ) (t : Tree) (n : ℕ) (child : Tree)
     (entries : ChildEntries) : Type 0 where
@@ -84,7 +84,7 @@ pub record AreOfChild (number_at : NumberReader) (bytes : List ℕ) (t : Tree) (
   pub no_longer : (content' : List ℕ) → length content' ≤ length (content_at bytes entries.value)
       → length (with_content bytes entries.value content') ≤ length bytes
 
--- how many bytes the entry of a key takes, where there is one
+-- the length of the entry of a key, if there is one
 abbrev pub key_size : Option EntryPlace → ℕ
 key_size None = 0
 key_size (Some key) = key.end - key.start + 4
@@ -95,7 +95,7 @@ entries_size child = (child.value.end - child.value.start + 4) + key_size child.
 
 -- ---- children within children
 
--- the child at a position is a container, whose content stands at this place
+-- the child at a position is a container, whose content is in this range
 pub record StepsInto (number_at : NumberReader) (bytes : List ℕ) (t : Tree) (n : ℕ) (child : Tree)
     (place : EntryPlace) : Type 0 where
   pub entries : ChildEntries
@@ -112,7 +112,7 @@ LeadTo number_at bytes t (n ∷ ns) (place ∷ places) inner u =
     × LeadTo number_at (content_at bytes place) child ns places inner u
 LeadTo number_at bytes t _ _ inner u = ⊥
 
--- the same, and the last is a container with a child at this position
+-- Holds if `LeadTo` does, and the last child is a container with a child at this position.
 pub record LeadInto (number_at : NumberReader) (bytes : List ℕ) (t : Tree) (ns : List ℕ) (places : List EntryPlace)
     (inner : List ℕ) (last : ℕ) : Type 0 where
   pub u : Tree
@@ -121,23 +121,23 @@ pub record LeadInto (number_at : NumberReader) (bytes : List ℕ) (t : Tree) (ns
   pub content : IsContent number_at u container_entry inner
   pub there : slice_get (children u) last ≡ Some child
 
--- the bytes in front of the content of a child that is told to be so many bytes shorter
+-- the bytes before the content of a child that becomes this many bytes shorter
 abbrev pub front_of : List ℕ → EntryPlace → ℕ → List ℕ
 front_of bytes place removed =
     slice_range bytes 0 place.word ++ (entry_word container_entry (place.end - place.start - removed)
     ++ slice_range bytes (place.word + 4) place.start)
 
--- those in front of the innermost child
+-- those before the innermost child
 abbrev pub fronts : List ℕ → List EntryPlace → ℕ → List ℕ
 fronts bytes [] removed = []
 fronts bytes (place ∷ places) removed = front_of bytes place removed ++ fronts (content_at bytes place) places removed
 
--- where the innermost child stands
+-- the position of the innermost child
 abbrev pub starts : List EntryPlace → ℕ
 starts [] = 0
 starts (place ∷ places) = place.start + starts places
 
--- the bytes of a container of this tree, of so many bytes at most, were put behind the others
+-- the bytes of a container of this tree, at most this many, were appended
 pub record IsPushed (number_at : NumberReader) (t : Tree) (most : ℕ) (before after : List ℕ) : Type 0 where
   pub bytes : List ℕ
   pub joined : after ≡ before ++ bytes

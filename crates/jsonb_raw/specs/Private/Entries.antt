@@ -1,38 +1,24 @@
 -- Entries of containers in runs, as they are stored.
-use Rattle.std.specs.Prelude.{◌≡◌, ℕ, List, [], ◌∷◌, ◌++◌, map, flat_map, Option, Some, None, ⊤}
+use Rattle.std.specs.Prelude.{◌≡◌, ℕ, List, [], ◌∷◌, ◌++◌, map, Option, Some, None, ⊤}
 use Rattle.std.specs.Map.{keys_of, values_of}
-use Rattle.jsonb_doc.specs.Tree.{Tree, no_trees, tree, text, array, object, elements, members, trees_of}
+use Rattle.jsonb_doc.specs.Tree.{Tree, no_trees, tree, text, array, object, elements, keys, members, trees_of}
 use Rattle.jsonb_doc.specs.Payload.{Form, number_reader}
-use Rattle.jsonb_doc.specs.Format.{IsContent, AreEntries, BeginWith, text_entry}
-use Rattle.jsonb_doc.specs.ArrayBuilder.{HoldsElements}
+use Rattle.jsonb_doc.specs.Format.{AreEntries, AreKeys, text_entry}
+pub use Rattle.jsonb_doc.specs.Private.Cursor.{HoldTrees, IsFirst, TakesFirst, RunsHold}
 use Rattle.jsonb_doc.specs.Limits.{IsShort}
 use Rattle.jsonb_doc.specs.Kinds.{kind_number}
 use Rattle.jsonb_doc.specs.declared.error.Error.{Error}
 use Rattle.jsonb_doc.specs.declared.error.Error.TheVariants.{TooLarge}
 use Rattle.jsonb_raw.specs.Arrays.{as_elements}
-use Rattle.jsonb_raw.specs.declared.functions.parts.Entries.{Entries}
+use Rattle.jsonb_doc.specs.declared.cursor.Entries.{Entries}
 use Rattle.jsonb_raw.specs.declared.functions.parts.EntryWithWord.{EntryWithWord}
-use Rattle.jsonb_raw.specs.declared.functions.parts.FirstEntry.{FirstEntry}
 use Rattle.jsonb_raw.specs.declared.functions.parts.PairEntries.{PairEntries}
 use Rattle.jsonb_raw.specs.declared.functions.parts.FirstPair.{FirstPair}
 use Rattle.jsonb_raw.specs.declared.functions.parts.PairRuns.{PairRuns}
 use Rattle.jsonb_raw.specs.declared.functions.parts.Elements.{Elements}
 use Rattle.jsonb_raw.specs.declared.functions.parts.Elements.TheVariants.{Array, Root}
-
--- the words and the contents are those of these trees
-pub record HoldTrees (form : Form) (run : Entries) (ts : List Tree) : Type 0 where
-  pub entries : AreEntries (number_reader form) (trees_of ts) run.words.now run.contents.now
-
--- the words of runs, one run behind the other, and their contents
-abbrev pub words_of_runs : List Entries → List ℕ
-words_of_runs runs = flat_map (λ run. run.words.now) runs
-
-abbrev pub contents_of_runs : List Entries → List ℕ
-contents_of_runs runs = flat_map (λ run. run.contents.now) runs
-
--- all runs together hold these trees
-pub record RunsHold (form : Form) (runs : List Entries) (ts : List Tree) : Type 0 where
-  pub parts : HoldsElements form (record { words = words_of_runs runs; contents = contents_of_runs runs }) ts
+use Rattle.jsonb_raw.specs.declared.functions.parts.ContainerEntries.{ContainerEntries}
+use Rattle.jsonb_doc.specs.declared.layout.HeaderKind.TheVariants as header_kind
 
 -- the entries of an array, none of another tree
 abbrev pub AreElementsOf : Form → Tree → Option Entries → Type 0
@@ -56,25 +42,9 @@ HoldElements form (Root entry) ts = (t : Tree) × (ts ≡ t ∷ []) × HoldsTree
 abbrev pub IsTooLongRoot : Form → Tree → Error → Type 0
 IsTooLongRoot form t e = (e ≡ TooLarge) × (IsShort form t → ⊥)
 
--- the same of a tree that is no array
+-- Holds if a tree that is not an array is too long for an element.
 abbrev pub IsTooLongElement : Form → Tree → Error → Type 0
 IsTooLongElement form t e = IsTooLongRoot form t e × (as_elements t ≡ t ∷ [])
-
--- ---- entries gone through one by one
-
--- the run begins with an entry of this tree, of this kind and content, and these others follow
-pub record IsFirst (form : Form) (run : Entries) (t : Tree) (ts : List Tree) (kind : ℕ) (content : List ℕ)
-    (others : Entries) : Type 0 where
-  pub part : IsContent (number_reader form) t kind content
-  pub begin : BeginWith run.words.now run.contents.now kind content others.words.now others.contents.now
-  pub others_hold : HoldTrees form others ts
-
-abbrev pub TakesFirst : Form → Entries → List Tree → Option FirstEntry → Type 0
-TakesFirst form run [] None = ⊤
-TakesFirst form run [] (Some first) = ⊥
-TakesFirst form run (t ∷ ts) None = ⊥
-TakesFirst form run (t ∷ ts) (Some first) =
-    IsFirst form run t ts (kind_number first.kind) first.content.now first.others
 
 -- ---- pairs
 
@@ -105,18 +75,16 @@ TakesFirstPair form run (p ∷ ps) (Some first) = IsFirstPair form run p ps firs
 
 -- ---- runs
 
--- these words and contents were put behind those of the runs
-abbrev pub HasRunMore : List Entries → List ℕ → List ℕ → List Entries → Type 0
-HasRunMore before words contents after =
-    (words_of_runs after ≡ words_of_runs before ++ words)
-    × (contents_of_runs after ≡ contents_of_runs before ++ contents)
-
--- The runs, and the run in front of what is left of it, hold the first of the trees; the others are left.
+-- Holds if the runs hold trees, the run up to what is left of it holds the others of the first trees, and what is left
+-- holds the last ones.
 pub record Holding (form : Form) (runs : List Entries) (run left : Entries) (xs ys : List Tree) : Type 0 where
+  pub before : List Tree
+  pub here : List Tree
   pub run_words : List ℕ
   pub run_contents : List ℕ
-  pub held : AreEntries (number_reader form) (trees_of xs) (words_of_runs runs ++ run_words)
-      (contents_of_runs runs ++ run_contents)
+  pub trees_joined : xs ≡ before ++ here
+  pub held : RunsHold form runs before
+  pub run_held : AreEntries (number_reader form) (trees_of here) run_words run_contents
   pub words_joined : run.words.now ≡ run_words ++ left.words.now
   pub contents_joined : run.contents.now ≡ run_contents ++ left.contents.now
   pub left_hold : HoldTrees form left ys
@@ -126,8 +94,26 @@ pub record PairsHeld (form : Form) (runs : PairRuns) (ps : List (List ℕ × Tre
   pub names : RunsHold form runs.keys.items (map text (keys_of ps))
   pub parts : RunsHold form runs.values.items (values_of ps)
 
--- the runs, and the run in front of what is left of it, hold the first of the pairs; the others are left
+-- Holds if the runs, and the run before what is left of it, hold the first of the members, and the others are left.
 pub record PairsOpen (form : Form) (runs : PairRuns) (run left : PairEntries)
     (xs ys : List (List ℕ × Tree)) : Type 0 where
   pub names : Holding form runs.keys.items run.keys left.keys (map text (keys_of xs)) (map text (keys_of ys))
   pub parts : Holding form runs.values.items run.values left.values (values_of xs) (values_of ys)
+
+-- ---- containers
+
+-- Holds if these are the entries of a container of this tree.
+abbrev pub AreEntriesOf : Form → Tree → ContainerEntries → Type 0
+AreEntriesOf form (array ts) e =
+    (e.kind ≡ header_kind.Array) × HoldTrees form e.keys [] × HoldTrees form e.values (elements ts)
+AreEntriesOf form (object ps) e =
+    (e.kind ≡ header_kind.Object) × AreKeys (keys ps)
+    × HoldPairs form (record { keys = e.keys; values = e.values }) (members ps)
+AreEntriesOf form _ e = ⊥
+
+-- Holds if these are the entries of a container, or `None` and the tree is not one.
+abbrev pub AreContainerEntries : Form → Tree → Option ContainerEntries → Type 0
+AreContainerEntries form t (Some e) = AreEntriesOf form t e
+AreContainerEntries form (array ts) None = ⊥
+AreContainerEntries form (object ps) None = ⊥
+AreContainerEntries form _ None = ⊤

@@ -6,22 +6,22 @@ use Rattle.jsonb_doc.specs.Tree.{Tree, count, keys}
 use Rattle.jsonb_doc.specs.Payload.{Form}
 use Rattle.jsonb_doc.specs.Answer.{IsOutOfMemory}
 use Rattle.jsonb_doc.specs.declared.error.Error.{Error}
-use Rattle.jsonb_raw.specs.declared.level.Level.{Level}
-use Rattle.jsonb_raw.specs.Private.Levels.{Part, IsLevelOf}
+use Rattle.jsonb_raw.specs.declared.level.ChildCursor.{ChildCursor}
+use Rattle.jsonb_raw.specs.Private.Levels.{EntryPrefix, IsLevelOf}
 use Rattle.jsonb_raw.specs.EqualityKey.{equality_key}
 use Rattle.jsonb_raw.specs.SortableKey.{text_bytes}
 
--- what stands before the keys of a tree's parts: of a tree without parts the whole key
+-- what precedes the keys of a tree's children: of a tree without children the whole key
 abbrev pub equality_start : Tree → List ℕ
 equality_start (spec.array ts) = 7 ∷ to_be_bytes w32 (count ts)
 equality_start (spec.object ps) = 6 ∷ to_be_bytes w32 (length (keys ps))
 equality_start t = equality_key t
 
-abbrev pub equality_part_start : Part → List ℕ
+abbrev pub equality_part_start : EntryPrefix → List ℕ
 equality_part_start (None, t) = equality_start t
 equality_part_start (Some k, t) = (5 ∷ text_bytes k) ++ equality_start t
 
--- the start of an item, written behind the bytes `old`, which hands out the level of the tree's parts
-abbrev pub AppendsEqualityStart : Form → List ℕ → Tree → List ℕ → Result (Option Level) Error → List ℕ → Type 0
+-- the start of an item, appended to the bytes `old`, which returns the level of the tree's children
+abbrev pub AppendsEqualityStart : Form → List ℕ → Tree → List ℕ → Result (Option ChildCursor) Error → List ℕ → Type 0
 AppendsEqualityStart form bytes t old r new =
     MatchResult r (λ found. (new ≡ old ++ bytes) × IsLevelOf form t found) IsOutOfMemory

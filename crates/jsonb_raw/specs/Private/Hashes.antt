@@ -9,7 +9,7 @@ abbrev pub value_hash : ℤ → ℕ
 value_hash (pos a) = a / 64 % 2048 * 2
 value_hash (negsuc a) = suc a / 64 % 2048 * 2 + 1
 
--- of a text
+-- of a string
 unfoldable pub text_hash : List ℕ → ℕ
 text_hash s = (write initial s).state % 4096
 

@@ -4,7 +4,7 @@ use Rattle.jsonb_doc.specs.Tree as spec
 use Rattle.jsonb_doc.specs.Tree.{Tree}
 use Rattle.jsonb_doc.specs.Order.{rank}
 
--- the kind of a null or a truth value
+-- the type of a null or a Boolean
 abbrev pub IsLiteralKind : Tree → ℕ → Type 0
 IsLiteralKind spec.null kind = kind ≡ rank spec.null
 IsLiteralKind (spec.boolean b) kind = kind ≡ rank (spec.boolean b)

@@ -10,7 +10,7 @@ use Rattle.jsonb_keypath.specs.declared.key_path.KeyPaths.{KeyPaths}
 use Rattle.jsonb_keypath.specs.KeyPathGrammar.{Key, index, unquoted_name}
 use Rattle.jsonb_keypath.specs.KeyPathViews.{key_paths_view}
 use Rattle.jsonb_raw.specs.declared.functions.path.leaves.Step.{Step}
-use Rattle.jsonb_raw.specs.declared.level.Level.{Level}
+use Rattle.jsonb_raw.specs.declared.level.ChildCursor.{ChildCursor}
 use Rattle.jsonb_raw.specs.Private.Levels.{parts, HasPartsLeft}
 use Rattle.jsonb_raw.specs.Leaves.{Leaf, is_leaf}
 
@@ -18,7 +18,7 @@ use Rattle.jsonb_raw.specs.Leaves.{Leaf, is_leaf}
 abbrev pub IsKept : {A : Type 0} → (Tree → A → Type 0) → KeyPaths × A → Leaf → Type 0
 IsKept IsOf kept leaf = (key_paths_view kept.0 ≡ leaf.0) × IsOf leaf.1 kept.1
 
--- one more stands behind those that there are: what is kept of a leaf, with this path
+-- one more is appended: what is kept of a leaf, with this path
 pub record IsOneMore {A : Type 0} (Is : A → Type 0) (path : KeyPaths) (before after : List (KeyPaths × A)) : Type 0 where
   pub part : A
   pub pushed : after ≡ before ++ (path, part) ∷ []
@@ -39,7 +39,7 @@ step_key step = step_at step.key step.index
 abbrev pub step_keys : List Step → List Key
 step_keys steps = map step_key steps
 
--- a part that is no leaf has its own parts left
-abbrev pub IsEntered : Form → Bool → Tree → Option Level → Type 0
+-- a child that is not a leaf has its own children left
+abbrev pub IsEntered : Form → Bool → Tree → Option ChildCursor → Type 0
 IsEntered form ignore_array t (Some level) = (is_leaf ignore_array t ≡ false) × HasPartsLeft form level (parts t)
 IsEntered form ignore_array t None = is_leaf ignore_array t ≡ true

@@ -1,4 +1,4 @@
--- Where a name stands among keys.
+-- The position of a name among keys.
 use Rattle.std.specs.Prelude.{ℕ, List, Option, position}
 use Rattle.std.specs.Option.{option_or}
 use Rattle.std.specs.Str.{bytes_eq, str_eq_ignore_ascii_case}

@@ -1,4 +1,4 @@
--- Pairs by where their keys stand.
+-- Members by the order of their keys.
 use Rattle.std.specs.Prelude.{ℕ, Bool, true, false, not, List, filter}
 use Rattle.std.specs.Ordering.{nat_cmp, match_ordering}
 use Rattle.std.specs.Cmp.Lexicographic.{slice_cmp}

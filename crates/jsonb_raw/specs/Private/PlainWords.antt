@@ -1,4 +1,4 @@
--- Short texts in which no byte has to be escaped, as words.
+-- Short strings in which no byte has to be escaped, as words.
 use Rattle.std.specs.Prelude.{◌≡◌, ◌≤◌, ◌+◌, ◌*◌, ◌-◌, ◌++◌, ℕ, List, [], ◌∷◌, Bool, true, length, take, drop, nat_lt}
 use Rattle.std.specs.Int.{to_le_bytes, w64}
 use Rattle.std.specs.List.{list_all}
@@ -7,7 +7,7 @@ use Rattle.std.specs.List.{list_all}
 abbrev pub is_plain_text : List ℕ → Bool
 is_plain_text text = list_all (λ b. nat_lt 1 b) text
 
--- the first n bytes of a text and its last n, which together are all of it, and none has to be escaped
+-- the first n bytes of a string and its last n, which together are all of it, and none has to be escaped
 pub record ArePlainEnds (n : ℕ) (text first last : List ℕ) : Type 0 where
   pub long : n ≤ length text
   pub few : length text ≤ 2 * n
@@ -15,7 +15,7 @@ pub record ArePlainEnds (n : ℕ) (text first last : List ℕ) : Type 0 where
   pub back : last ≡ drop (length text - n) text
   pub plain : is_plain_text text ≡ true
 
--- a word whose lowest bytes are those of a text, and no byte of them has to be escaped
+-- a word whose lowest bytes are those of a string, and no byte of them has to be escaped
 pub record IsPlainWord (text : List ℕ) (word : ℕ) : Type 0 where
   pub few : length text ≤ 8
   pub plain : is_plain_text text ≡ true

@@ -12,8 +12,8 @@ use Rattle.jsonb_doc.specs.Limits.{Fits}
 use Rattle.jsonb_raw.specs.EqualityKey.{equality_key}
 use Rattle.jsonb_raw.specs.Sets.{Occurrence, is_first, is_shared}
 use Rattle.jsonb_raw.specs.declared.functions.array.counts.KeyCounts.{KeyCounts}
-use Rattle.jsonb_raw.specs.declared.functions.array.sets.Occurrences.{Occurrences}
-use Rattle.jsonb_raw.specs.declared.functions.array.sets.Occurrences.TheVariants.{First, Shared, Unshared}
+use Rattle.jsonb_raw.specs.declared.functions.array.sets.SetOperation.{SetOperation}
+use Rattle.jsonb_raw.specs.declared.functions.array.sets.SetOperation.TheVariants.{First, Shared, Unshared}
 
 -- the order of keys, as a map compares them
 abbrev pub key_cmp : Vec ℕ Global → Vec ℕ Global → Ordering
@@ -36,24 +36,24 @@ abbrev pub CountsKeys : KeyCounts → List Tree → Type 0
 CountsKeys m ts = (key : Vec ℕ Global) → counted m key ≡ with_key key ts
 
 -- which occurrences are kept
-abbrev pub keeps : Occurrences → List Tree → Occurrence → Bool
+abbrev pub keeps : SetOperation → List Tree → Occurrence → Bool
 keeps First other o = is_first o
 keeps Shared other o = is_shared other o
 keeps Unshared other o = not (is_shared other o)
 
--- the element itself where its occurrence is kept
-abbrev pub kept_one : Occurrences → List Tree → Occurrence → List Tree
+-- the element itself if its occurrence is kept
+abbrev pub kept_one : SetOperation → List Tree → Occurrence → List Tree
 kept_one kind other o = if keeps kind other o then o.1 ∷ [] else []
 
--- how often a key is counted behind the elements `before`: as often as they have it, or as they leave it of the other
--- list
-abbrev pub count_behind : Occurrences → List Tree → List Tree → Vec ℕ Global → ℕ
+-- the count of a key after the elements `before`: as often as they have it, or as they leave it of the other list
+abbrev pub count_behind : SetOperation → List Tree → List Tree → Vec ℕ Global → ℕ
 count_behind First other before key = with_key key before
 count_behind Shared other before key = with_key key other - with_key key before
 count_behind Unshared other before key = with_key key other - with_key key before
 
--- The counts are those behind the elements `before`, and all elements fit, so that keys tell them apart.
-pub record CountsBehind (kind : Occurrences) (m : KeyCounts) (other before : List Tree) : Type 0 where
+-- The counts are those after the elements `before`, and all elements are within the limits, so that keys distinguish
+-- them.
+pub record CountsBehind (kind : SetOperation) (m : KeyCounts) (other before : List Tree) : Type 0 where
   pub counts : (key : Vec ℕ Global) → counted m key ≡ count_behind kind other before key
   pub fit_other : AllByRecursion Fits other
   pub fit_before : AllByRecursion Fits before

@@ -1,106 +1,91 @@
--- Containers that are being written again, without the nulls of their objects.
-use Rattle.std.specs.Prelude.{◌≡◌, ℕ, ◌+◌, ◌≤◌, ◌==◌, Bool, true, false, List, [], ◌∷◌, ◌++◌, length, Option, Some, None, Result, Ok, if◌then◌else◌, ⊤}
+-- Containers that are written again without the nulls of their objects.
+use Rattle.std.specs.Prelude.{◌≡◌, ℕ, Bool, true, false, List, [], ◌∷◌, ◌++◌, map, Option, Some, None, if◌then◌else◌, reverse, ⊤}
 use Rattle.std.specs.Borrow.{Bor}
-use Rattle.jsonb_doc.specs.Kinds.{kind_number}
-use Rattle.jsonb_doc.specs.declared.error.Error.{Error}
-use Rattle.jsonb_doc.specs.Tree.{Tree}
+use Rattle.jsonb_doc.specs.Tree.{Tree, text, array, object, elements, values, keys, trees_of}
 use Rattle.jsonb_doc.specs.Payload.{Form, number_reader}
-use Rattle.jsonb_doc.specs.Format.{IsContent, container_entry, null_entry, text_entry, IsBelowFirst}
-use Rattle.jsonb_doc.specs.Encoding.{EntryParts}
-use Rattle.jsonb_doc.specs.Private.ObjectBytes.{words_of_entries, contents_of_entries}
-use Rattle.jsonb_raw.specs.declared.functions.operator.stripping.Writing.{Writing}
-use Rattle.jsonb_raw.specs.declared.functions.operator.stripping.NextEntry.{NextEntry}
-use Rattle.jsonb_raw.specs.Private.Cuts.{FitEntries}
+use Rattle.jsonb_doc.specs.Format.{IsContent, AreEntries, IsBelowFirst, container_entry}
+use Rattle.jsonb_doc.specs.Private.Writer.{Around, IsWriting}
+use Rattle.jsonb_doc.specs.declared.cursor.Entries.{Entries}
+use Rattle.jsonb_doc.specs.declared.rewriting.Writer.{Writer}
+use Rattle.jsonb_raw.specs.declared.functions.operator.stripping.ValuesLeft.{ValuesLeft}
+use Rattle.jsonb_raw.specs.declared.functions.operator.stripping.Outer.{Outer}
+use Rattle.jsonb_raw.specs.Private.Entries.{HoldTrees}
 use Rattle.jsonb_raw.specs.Scalars.{is_null}
-use Rattle.jsonb_raw.specs.Strip.{strip}
+use Rattle.jsonb_raw.specs.Strip.{strip, strip_pairs}
 
--- whether a part is left out
+-- Holds if the keys are above the last one before them, if there is one.
+abbrev pub IsAboveLast : Option (Bor (List ℕ)) → List (List ℕ) → Type 0
+IsAboveLast None ks = ⊤
+IsAboveLast (Some last) ks = IsBelowFirst last.now ks
+
+-- Holds if these are the entry words of these trees.
+pub record WordsHold (form : Form) (words : List ℕ) (ts : List Tree) : Type 0 where
+  pub contents : List ℕ
+  pub entries : AreEntries (number_reader form) (trees_of ts) words contents
+
+-- Whether a value is left out, of an object or not, that is null or not.
 abbrev pub leaves_out : Bool → Bool → Bool
 leaves_out true is_none = is_none
 leaves_out false is_none = false
 
--- the entries that stay: of an object those that are no nulls
-abbrev pub staying : Bool → List EntryParts → List EntryParts
-staying is_object [] = []
-staying is_object (e ∷ es) =
-    if leaves_out is_object (e.0 == null_entry) then staying is_object es else e ∷ staying is_object es
-
--- the trees that stay, without the nulls within them
+-- The trees that stay, without the nulls within them.
 abbrev pub stripped : Bool → List Tree → List Tree
 stripped is_object [] = []
 stripped is_object (t ∷ ts) =
     if leaves_out is_object (is_null t) then stripped is_object ts else strip t ∷ stripped is_object ts
 
--- what stands beside the entries that are no nulls
-abbrev pub beside : {A : Type 0} → List EntryParts → List A → List A
-beside (e ∷ es) (x ∷ xs) = if e.0 == null_entry then beside es xs else x ∷ beside es xs
+-- The keys of the trees that are not null.
+abbrev pub beside : List Tree → List (List ℕ) → List (List ℕ)
+beside (t ∷ ts) (key ∷ ks) = if is_null t then beside ts ks else key ∷ beside ts ks
 beside _ _ = []
 
--- keys as entries
-abbrev pub key_entries : List (List ℕ) → List EntryParts
-key_entries [] = []
-key_entries (key ∷ ks) = (text_entry, key) ∷ key_entries ks
+-- The elements or values of a container that stay.
+abbrev pub values_kept : Tree → List Tree
+values_kept (array ts) = stripped false (elements ts)
+values_kept (object ps) = stripped true (elements (values ps))
+values_kept _ = []
 
--- the keys are above the last one before them
-abbrev pub IsAboveLast : Option (Bor (List ℕ)) → List (List ℕ) → Type 0
-IsAboveLast None ks = ⊤
-IsAboveLast (Some last) ks = IsBelowFirst last.now ks
+-- The entries that stay, an object's keys before its values.
+abbrev pub entries_kept : Tree → List Tree
+entries_kept (object ps) = map text (keys (strip_pairs ps)) ++ values_kept (object ps)
+entries_kept t = values_kept t
 
--- each entry is of its tree
-abbrev pub AreOfEach : Form → List Tree → List EntryParts → Type 0
-AreOfEach form [] [] = ⊤
-AreOfEach form [] (e ∷ es) = ⊥
-AreOfEach form (t ∷ ts) [] = ⊥
-AreOfEach form (t ∷ ts) (e ∷ es) = IsContent (number_reader form) t e.0 e.1 × AreOfEach form ts es
+-- Whether a tree changes: it is a container, or left out.
+abbrev pub stops : Bool → Tree → Bool
+stops is_object (array ts) = true
+stops is_object (object ps) = true
+stops is_object t = leaves_out is_object (is_null t)
 
--- the entry that was read, and what is left behind it
-pub record IsEntry (given : NextEntry) (e : EntryParts) (es : List EntryParts) : Type 0 where
-  pub kind : kind_number given.kind ≡ e.0
-  pub content : given.content.now ≡ e.1
-  pub words : given.words.now ≡ words_of_entries es
-  pub contents : given.contents.now ≡ contents_of_entries es
-
-abbrev pub ReadsEntry : List EntryParts → Result (Option NextEntry) Error → Type 0
-ReadsEntry [] (Ok None) = ⊤
-ReadsEntry [] _ = ⊥
-ReadsEntry (e ∷ es) (Ok (Some given)) = IsEntry given e es
-ReadsEntry (e ∷ es) _ = ⊥
-
--- Behind what was there before, a container is written up to the entries that are left: a header and an object's key
--- words, the words of all entries that stay, an object's keys, and the contents so far. Once the others are written it
--- is the container of the target, of so many bytes at most.
-pub record IsWrittenTo (form : Form) (is_object : Bool) (before out : List ℕ) (start word : ℕ) (es : List EntryParts)
-    (ts : List Tree) (target : Tree)
-    (most : ℕ) : Type 0 where
-  pub front : List ℕ
-  pub keys : List ℕ
-  pub done : List EntryParts
-  pub made : List Tree
-  pub joined : out ≡ before ++ (front ++
-      ((words_of_entries done ++ words_of_entries (staying is_object es)) ++ (keys ++ contents_of_entries done)))
-  pub start_is : start ≡ length before
-  pub word_is : word ≡ length before + length front + length (words_of_entries done)
-  pub done_within : FitEntries done
-  pub done_are : AreOfEach form made done
-  pub left_within : FitEntries es
-  pub left_are : AreOfEach form ts es
-  pub closes : (xs : List EntryParts) → FitEntries xs → AreOfEach form (made ++ stripped is_object ts) xs
-      → IsContent (number_reader form) target container_entry
-      (front ++ (words_of_entries xs ++ (keys ++ contents_of_entries xs)))
-  pub short : length front + length (words_of_entries done) + length (words_of_entries (staying is_object es))
-      + length keys + length
-      (contents_of_entries done) + length (contents_of_entries es) ≤ most
-
--- the same, where the words and the contents of the entries that are left are these
-pub record IsOpen (form : Form) (is_object : Bool) (before out : List ℕ) (start word : ℕ) (words contents : List ℕ)
-    (target : Tree) (most : ℕ) : Type 0 where
-  pub entries : List EntryParts
+-- Holds if all values of a container are left.
+pub record HoldValues (form : Form) (left : ValuesLeft) (t : Tree) : Type 0 where
   pub trees : List Tree
-  pub words_are : words ≡ words_of_entries entries
-  pub contents_are : contents ≡ contents_of_entries entries
-  pub written : IsWrittenTo form is_object before out start word entries trees target most
+  pub holds : HoldTrees form left.entries trees
+  pub kept : stripped left.is_object trees ≡ values_kept t
 
--- the container of a tree is begun behind what was there
-abbrev pub Begins : Form → Tree → List ℕ → List ℕ → List ℕ → Writing → Type 0
-Begins form t container before out w =
-    IsOpen form w.is_object before out w.start w.word w.words.now w.contents.now (strip t) (length container)
+-- Holds if the values that are left, without nulls, are what the innermost container still gets.
+pub record Begins (form : Form) (left : ValuesLeft) (w : Writer) (around : Around) (whole : Tree) : Type 0 where
+  pub trees : List Tree
+  pub holds : HoldTrees form left.entries trees
+  pub writing : IsWriting form w (stripped left.is_object trees) around whole
+
+-- Holds if this is the content of the next container and the entries after it, or `None` and nothing is left.
+abbrev pub AreWritten : Form → Bool → Writer → Around → Tree → Option (Bor (List ℕ) × Entries) → Type 0
+AreWritten form is_object w around whole None = IsWriting form w [] around whole
+AreWritten form is_object w around whole (Some found) =
+    (t : Tree) × (ts : List Tree) × IsContent (number_reader form) t container_entry found.0.now
+    × HoldTrees form found.1 ts × IsWriting form w (strip t ∷ stripped is_object ts) around whole
+
+-- The containers around, the innermost first, each with the trees that come after it.
+abbrev pub AreLeft : Form → List Outer → Around → Type 0
+AreLeft form [] [] = ⊤
+AreLeft form (o ∷ os) (l ∷ ls) =
+    ((ts : List Tree) × HoldTrees form o.left.entries ts × (l ≡ (o.open, stripped o.left.is_object ts)))
+    × AreLeft form os ls
+AreLeft form _ _ = ⊥
+
+-- Holds if what is written becomes the whole with the values that are left without nulls, here and in the containers
+-- around, of which the `Vec` holds the innermost last.
+pub record IsStripping (form : Form) (w : Writer) (left : ValuesLeft) (around : List Outer) (whole : Tree) : Type 0 where
+  pub outside : Around
+  pub are_left : AreLeft form (reverse around) outside
+  pub begun : Begins form left w outside whole

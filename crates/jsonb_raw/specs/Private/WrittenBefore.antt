@@ -1,4 +1,4 @@
--- Bytes that are written in front of a place of a buffer.
+-- Bytes that are written before a position of a buffer.
 use Rattle.std.specs.Prelude.{◌≡◌, ◌++◌, ℕ, List, length, drop}
 
 -- from `place` on the buffer has the bytes, and then what stood from `end` on; it is as long as before

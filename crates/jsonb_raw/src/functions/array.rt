@@ -1,6 +1,6 @@
-//! The calls on arrays.
+//! The functions on arrays.
 //!
-//! On bytes that don't decode each call returns; which answer or refusal it gives is not fixed.
+//! On bytes that do not decode each function returns; its result is not specified.
 
 ghost use Rattle.std.specs.Prelude.{◌≡◌, List, [], ◌∷◌, IfErr, IsOkAnd, MatchResult};
 ghost use Rattle.std.specs.List.{insert, Any, AllZip};
@@ -21,25 +21,34 @@ pub(crate) mod hashes;
 mod overlap;
 mod sets;
 
-use crate::functions::entries::{element_entries, entry_count, entry_document, split_at_most};
+use crate::functions::entries::{element_entries, entry_count, entry_document};
 use crate::functions::joined::array_of;
 use crate::functions::parts::{Elements, Entries, EntryWithWord};
-use crate::functions::runs::first_entry;
 use crate::owned::OwnedJsonb;
 use crate::raw::RawJsonb;
 use jsonb_doc::{Error, elements};
 use std::alloc::Global;
 
 impl RawJsonb<'_> {
-    /// How many elements the array has, and `None` where the root is no array. PostgreSQL has `jsonb_array_length`.
+    /// Returns the number of elements, or `None` if the root is not an array.
+    ///
+    /// Like PostgreSQL's `jsonb_array_length`.
     ///
     /// # Errors
     ///
-    /// Those of reading.
+    /// Decoding errors.
     ///
-    /// # Cost
+    /// # Complexity
     ///
-    /// Constant, without memory.
+    /// O(1). Does not allocate.
+    ///
+    /// # Examples
+    ///
+    /// <!-- rows: calls: array_length -->
+    /// | Document | Result |
+    /// |---|---|
+    /// | `[false,10,{"k":"v"}]` | `3` |
+    /// | `{"asd":"adf"}` | none |
     pub fn array_length(&self) -> Result<Option<usize>, Error>
         ensures length { Computes array_length (raw_bytes self.now) result }
         ensures errors { IfErr result IsDecodingError }
@@ -50,16 +59,24 @@ impl RawJsonb<'_> {
         Ok(Some(elements.len()))
     }
 
-    /// The elements, each as a document of its own, and `None` where the root is no array. PostgreSQL has
-    /// `jsonb_array_elements`.
+    /// Returns the elements, each as a new document, or `None` if the root is not an array.
+    ///
+    /// Like PostgreSQL's `jsonb_array_elements`.
     ///
     /// # Errors
     ///
-    /// Those of making documents.
+    /// Construction errors.
     ///
-    /// # Cost
+    /// # Complexity
     ///
-    /// Linear in n, each element copied. Takes memory.
+    /// O(n). Allocates; each element is copied.
+    ///
+    /// # Examples
+    ///
+    /// <!-- rows: calls: array_values -->
+    /// | Document | Result |
+    /// |---|---|
+    /// | `[false,10,{"k":"v"}]` | `false`, `10`, `{"k":"v"}` |
     pub fn array_values(&self, alloc: Global) -> Result<Option<Vec<OwnedJsonb>>, Error>
         ensures values { (form : Form) (t : Tree) → Decodes form (raw_bytes self.now) t
             → MakesEach form (array_values t) result }
@@ -71,17 +88,33 @@ impl RawJsonb<'_> {
         Ok(Some(entry_documents(alloc, entries)?))
     }
 
-    /// The array with the root of the other document as one element more. It gets the place `pos`, counted from the
-    /// end where `pos` is negative and moved into 0 to the length. A root that is no array counts as an array of one
-    /// element. PostgreSQL has `jsonb_insert`.
+    /// Returns the array with the root of the other document as one more element, at position `pos`.
+    ///
+    /// A negative position counts from the end; a position before the start is 0, and one past the end the length. A
+    /// root that is not an array counts as an array of one element. Like PostgreSQL's `jsonb_insert`.
     ///
     /// # Errors
     ///
-    /// Those of making documents.
+    /// Construction errors.
     ///
-    /// # Cost
+    /// # Complexity
     ///
-    /// Linear in n of both, each byte copied once. Takes memory.
+    /// O(n) of both. Allocates; each byte is copied once.
+    ///
+    /// # Examples
+    ///
+    /// ```rust crates/jsonb_examples/src/calls.rt
+    /// let longer = queue.array_insert(alloc, i32::MAX, entry)?;
+    /// Ok(Some(longer))
+    /// ```
+    ///
+    /// <!-- rows: calls: array_insert -->
+    /// | Document | Arguments | Result |
+    /// |---|---|---|
+    /// | `[1]` | `2147483647`, `9` | `[1,9]` |
+    /// | `1` | `0`, `9` | `[9,1]` |
+    /// | `[10,20,30]` | `1`, `9` | `[10,9,20,30]` |
+    /// | `[10,20,30]` | `-1`, `9` | `[10,20,9,30]` |
     pub fn array_insert(
         &self,
         alloc: Global,
@@ -96,7 +129,7 @@ impl RawJsonb<'_> {
     }
 }
 
-/// Each of these entries as a document of its own.
+/// Returns each of these entries as a new document.
 fn entry_documents(alloc: Global, entries: Entries<'_>) -> Result<Vec<OwnedJsonb>, Error>
     ensures documents { (form : Form) (ts : List Tree) → HoldTrees form entries.entry ts
         → MatchResult result (λ made. AllZip (Decodes form) made.items ts)
@@ -105,15 +138,15 @@ fn entry_documents(alloc: Global, entries: Entries<'_>) -> Result<Vec<OwnedJsonb
 {
     let mut documents = Vec::with_capacity(alloc, entry_count(entries))?;
     let mut left = entries;
-    while let Some(entry) = first_entry(left)? {
+    while let Some((entry, others)) = left.first()? {
         documents.push(entry_document(alloc, entry.kind, entry.content)?)?;
-        left = entry.others;
+        left = others;
     }
     Ok(documents)
 }
 
-/// The place that a position means in a list of this length: from the end where it is negative, and moved into 0 to the
-/// length.
+/// Returns the position to insert at in a list of this length: counted from the end if negative, and clamped to the
+/// range from 0 to the length.
 fn insert_place(len: usize, pos: i32) -> usize
     ensures { result ≡ insert_place len pos }
 {
@@ -126,7 +159,7 @@ fn insert_place(len: usize, pos: i32) -> usize
     }
 }
 
-/// The elements of a document, with the root of another as one element more at the place that a position means.
+/// Returns the elements of a document with the root of another one inserted at a position.
 fn array_with_element<'a>(
     alloc: Global,
     bytes: &'a [u8],
@@ -144,7 +177,7 @@ fn array_with_element<'a>(
     array_with_entry(alloc, entries, place, element.as_entries())
 }
 
-/// The array of these entries, with another one in front of the one at a place or behind the last.
+/// Returns the array of these entries with another one inserted at a position.
 fn array_with_entry<'a>(
     alloc: Global,
     entries: Entries<'a>,
@@ -156,6 +189,6 @@ fn array_with_entry<'a>(
         → Makes form (array (trees_of (insert ts place t))) result }
     ensures errors { IfErr result (IsDecodingError or OutOfMemory or TooLarge) }
 {
-    let (front, back) = split_at_most(entries, place)?;
+    let (front, back) = entries.split(place)?;
     array_of(alloc, &[front, element, back])
 }

@@ -1,14 +1,14 @@
-//! Casts of documents to truth values, integers and texts.
+//! Casts of documents to Booleans, integers and strings.
 //!
-//! On bytes that don't decode each call returns; which answer or refusal it gives is not fixed.
-//! Only the root is read.
+//! On bytes that do not decode each function returns; its result is not specified. Only the root is read.
 
-ghost use Rattle.std.specs.Prelude.{◌≡◌, IfErr};
+ghost use Rattle.std.specs.Prelude.{◌≡◌, IfErr, OnOk};
 ghost use Rattle.jsonb_doc.specs.Tree as spec;
 ghost use Rattle.jsonb_doc.specs.Tree.{Tree};
 ghost use Rattle.jsonb_doc.specs.Payload.{Form};
 ghost use Rattle.jsonb_doc.specs.Format.{Decodes};
 ghost use Rattle.jsonb_doc.specs.View.{number_parts};
+ghost use Rattle.jsonb_raw.specs.Roots.{HasRoot};
 ghost use Rattle.jsonb_raw.specs.Documents.{raw_bytes};
 ghost use Rattle.jsonb_raw.specs.Casts.{CastsToBool, CastsToI64, CastsToU64, CastsToText, text_of, bool_text};
 ghost use Rattle.jsonb_doc.specs.Answer.{IsDecodingError, ◌or◌};
@@ -19,18 +19,27 @@ use jsonb_doc::{Error, Item, Number, root_item};
 use std::alloc::Global;
 
 impl RawJsonb<'_> {
-    /// The truth value, which is also read from the strings true, yes, false and no in any case of ASCII letters.
+    /// Returns the Boolean; the strings true, yes, false and no in any ASCII case are cast.
     ///
     /// # Errors
     ///
-    /// `InvalidCast` for every other document, and those of reading.
+    /// `InvalidCast` if and only if the document is anything else, and decoding errors.
     ///
-    /// # Cost
+    /// # Complexity
     ///
-    /// Constant, but a text is read whole. No memory.
+    /// O(1), or O(n) for a string. Does not allocate.
+    ///
+    /// # Examples
+    ///
+    /// <!-- rows: calls: to_bool -->
+    /// | Document | Result |
+    /// |---|---|
+    /// | `"YES"` | true |
+    /// | `"1"` | refused: `InvalidCast` |
     pub fn to_bool(&self) -> Result<bool, Error>
         ensures value { (form : Form) (tree : Tree) → Decodes form (raw_bytes self.now) tree → CastsToBool tree result }
         ensures errors { IfErr result (IsDecodingError or InvalidCast) }
+        ensures reads { OnOk result (HasRoot (raw_bytes self.now)) }
     {
         match root_item(self.as_bytes())? {
             Item::Boolean(value) => Ok(value),
@@ -39,19 +48,30 @@ impl RawJsonb<'_> {
         }
     }
 
-    /// The document as an `i64`: a boolean as 1 or 0, a number rounded half away from zero (this project's profile),
-    /// and a string as Rust's `parse` reads it, which is an optional `+` or `-` and one or more ASCII digits.
+    /// Returns the document as an `i64`: a Boolean as 1 or 0, a number rounded half away from zero (this project's
+    /// profile), and a string as Rust's `parse` reads it, an optional `+` or `-` and one or more ASCII digits.
     ///
     /// # Errors
     ///
-    /// `InvalidCast` for every other document and where the value doesn't fit, and those of reading.
+    /// `InvalidCast` for every other document and if the value does not fit, and decoding errors.
     ///
-    /// # Cost
+    /// # Complexity
     ///
-    /// Constant, but a text is read whole. No memory.
+    /// O(1), or O(n) for a string. Does not allocate.
+    ///
+    /// # Examples
+    ///
+    /// <!-- rows: calls: to_i64 -->
+    /// | Document | Result |
+    /// |---|---|
+    /// | `true` | `1` |
+    /// | `2.5` | `3` |
+    /// | `"-5"` | `-5` |
+    /// | `"2.5"` | refused: `InvalidCast` |
     pub fn to_i64(&self) -> Result<i64, Error>
         ensures value { (form : Form) (tree : Tree) → Decodes form (raw_bytes self.now) tree → CastsToI64 tree result }
         ensures errors { IfErr result (IsDecodingError or InvalidCast) }
+        ensures reads { OnOk result (HasRoot (raw_bytes self.now)) }
     {
         match root_item(self.as_bytes())? {
             Item::Boolean(value) => Ok(i64::from(value)),
@@ -61,19 +81,27 @@ impl RawJsonb<'_> {
         }
     }
 
-    /// The document as a `u64`: a boolean as 1 or 0, a number rounded half away from zero (this project's profile),
-    /// and a string as Rust's `parse` reads it, which is an optional `+` and one or more ASCII digits.
+    /// Returns the document as a `u64`: a Boolean as 1 or 0, a number rounded half away from zero (this project's
+    /// profile), and a string as Rust's `parse` reads it, an optional `+` and one or more ASCII digits.
     ///
     /// # Errors
     ///
-    /// `InvalidCast` for every other document and where the value doesn't fit, and those of reading.
+    /// `InvalidCast` for every other document and if the value does not fit, and decoding errors.
     ///
-    /// # Cost
+    /// # Complexity
     ///
-    /// Constant, but a text is read whole. No memory.
+    /// O(1), or O(n) for a string. Does not allocate.
+    ///
+    /// # Examples
+    ///
+    /// <!-- rows: calls: to_u64 -->
+    /// | Document | Result |
+    /// |---|---|
+    /// | `-0.5` | refused: `InvalidCast` |
     pub fn to_u64(&self) -> Result<u64, Error>
         ensures value { (form : Form) (tree : Tree) → Decodes form (raw_bytes self.now) tree → CastsToU64 tree result }
         ensures errors { IfErr result (IsDecodingError or InvalidCast) }
+        ensures reads { OnOk result (HasRoot (raw_bytes self.now)) }
     {
         match root_item(self.as_bytes())? {
             Item::Boolean(value) => Ok(u64::from(value)),
@@ -83,20 +111,29 @@ impl RawJsonb<'_> {
         }
     }
 
-    /// The document as a text: a boolean as `true` or `false`, a number in decimal, as it prints, and a string as it
-    /// is.
+    /// Returns the document as a string: a Boolean as `true` or `false`, a number in decimal, as it prints, and a
+    /// string unchanged.
     ///
     /// # Errors
     ///
-    /// `InvalidCast` for every other document, and those of taking memory.
+    /// `InvalidCast` for every other document, and allocation errors.
     ///
-    /// # Cost
+    /// # Complexity
     ///
-    /// Linear in the text, which is copied. Takes memory.
+    /// O(n). Allocates; the string is copied.
+    ///
+    /// # Examples
+    ///
+    /// <!-- rows: calls: to_str -->
+    /// | Document | Result |
+    /// |---|---|
+    /// | `-0.005` | `-0.005` |
+    /// | `null` | refused: `InvalidCast` |
     pub fn to_str(&self, alloc: Global) -> Result<String, Error>
         ensures value { (form : Form) (tree : Tree) → Decodes form (raw_bytes self.now) tree
             → CastsToText (text_of tree) result }
         ensures errors { IfErr result (IsDecodingError or OutOfMemory or InvalidCast) }
+        ensures reads { OnOk result (HasRoot (raw_bytes self.now)) }
     {
         match root_item(self.as_bytes())? {
             Item::Boolean(value) => Ok(String::from_str(alloc, bool_text(value))?),

@@ -1,6 +1,6 @@
-//! The calls on objects.
+//! The functions on objects.
 //!
-//! On bytes that don't decode each call returns; which answer or refusal it gives is not fixed.
+//! On bytes that do not decode each function returns; its result is not specified.
 
 ghost use Rattle.std.specs.List.{Any, AllZip};
 ghost use Rattle.std.specs.Map.{keys_of, values_of};
@@ -33,15 +33,22 @@ use std::alloc::Global;
 use std::collections::BTreeSet;
 
 impl RawJsonb<'_> {
-    /// The object of the pairs whose keys are in the set.
+    /// Returns the object of the members whose keys are in the set.
     ///
     /// # Errors
     ///
-    /// `InvalidObject` where the root is no object, and those of making documents.
+    /// `InvalidObject` if and only if the root is not an object, and construction errors.
     ///
-    /// # Cost
+    /// # Complexity
     ///
-    /// Linear in n, and a look-up in the set for each pair. Takes memory.
+    /// O(n), and a look-up in the set for each member. Allocates.
+    ///
+    /// # Examples
+    ///
+    /// <!-- rows: calls: object_pick -->
+    /// | Document | Arguments | Result |
+    /// |---|---|---|
+    /// | `{"a":null,"b":[null]}` | `a`, `missing` | `{"a":null}` |
     pub fn object_pick(&self, alloc: Global, keys: &BTreeSet<&str>) -> Result<OwnedJsonb, Error>
         ensures pairs { (form : Form) (t : Tree) → Decodes form (raw_bytes self.now) t
             → MatchOption (object_pick keys.now t) (result ≡ Err InvalidObject) (λ wanted. Makes form wanted result) }
@@ -53,15 +60,24 @@ impl RawJsonb<'_> {
         pairs_by_set(alloc, pairs, keys, true)
     }
 
-    /// The object without the pairs whose keys are in the set. PostgreSQL has `-` with an array of texts.
+    /// Returns the object without the members whose keys are in the set.
+    ///
+    /// Like PostgreSQL's `-` with an array.
     ///
     /// # Errors
     ///
-    /// `InvalidObject` where the root is no object, and those of making documents.
+    /// `InvalidObject` if and only if the root is not an object, and construction errors.
     ///
-    /// # Cost
+    /// # Complexity
     ///
-    /// Linear in n, and a look-up in the set for each pair. Takes memory.
+    /// O(n), and a look-up in the set for each member. Allocates.
+    ///
+    /// # Examples
+    ///
+    /// <!-- rows: calls: object_delete -->
+    /// | Document | Arguments | Result |
+    /// |---|---|---|
+    /// | `{"a":null,"b":[null]}` | `a`, `missing` | `{"b":[null]}` |
     pub fn object_delete(&self, alloc: Global, keys: &BTreeSet<&str>) -> Result<OwnedJsonb, Error>
         ensures pairs { (form : Form) (t : Tree) → Decodes form (raw_bytes self.now) t
             → MatchOption (object_delete keys.now t) (result ≡ Err InvalidObject) (λ wanted. Makes form wanted result) }
@@ -73,16 +89,25 @@ impl RawJsonb<'_> {
         pairs_by_set(alloc, pairs, keys, false)
     }
 
-    /// The keys of the object, in order, each with its value as a document of its own, and `None` where the root is
-    /// no object. PostgreSQL has `jsonb_each`.
+    /// Returns the keys of the object, in order, each with its value as a new document, or `None` if the root is not an
+    /// object.
+    ///
+    /// Like PostgreSQL's `jsonb_each`.
     ///
     /// # Errors
     ///
-    /// Those of making documents.
+    /// Construction errors.
     ///
-    /// # Cost
+    /// # Complexity
     ///
-    /// Linear in n, each key and value copied. Takes memory.
+    /// O(n). Allocates; each key and value is copied.
+    ///
+    /// # Examples
+    ///
+    /// <!-- rows: calls: object_each -->
+    /// | Document | Result |
+    /// |---|---|
+    /// | `{"a":null,"b":[null]}` | `a`: `null`, `b`: `[null]` |
     pub fn object_each(&self, alloc: Global) -> Result<Option<Vec<(String, OwnedJsonb)>>, Error>
         ensures pairs { (form : Form) (t : Tree) → Decodes form (raw_bytes self.now) t
             → MakesPairs form (object_each t) result }
@@ -94,16 +119,24 @@ impl RawJsonb<'_> {
         Ok(Some(owned_pairs(alloc, pairs)?))
     }
 
-    /// The keys of the object, in order, as an array, and `None` where the root is no object. PostgreSQL has
-    /// `jsonb_object_keys`.
+    /// Returns an array of the object's keys, in order, or `None` if the root is not an object.
+    ///
+    /// Like PostgreSQL's `jsonb_object_keys`.
     ///
     /// # Errors
     ///
-    /// Those of making documents.
+    /// Construction errors.
     ///
-    /// # Cost
+    /// # Complexity
     ///
-    /// Linear in k and the keys' bytes, which are copied. Takes memory.
+    /// O(k), and the keys' bytes, which are copied. Allocates.
+    ///
+    /// # Examples
+    ///
+    /// <!-- rows: calls: object_keys -->
+    /// | Document | Result |
+    /// |---|---|
+    /// | `{"a":null,"b":[null]}` | `["a","b"]` |
     pub fn object_keys(&self, alloc: Global) -> Result<Option<OwnedJsonb>, Error>
         ensures keys { (form : Form) (t : Tree) → Decodes form (raw_bytes self.now) t
             → MakesOption form (object_keys t) result }
@@ -117,17 +150,34 @@ impl RawJsonb<'_> {
         Ok(Some(array_of(alloc, &[object.keys])?))
     }
 
-    /// The object with one pair more: this key with the root of the other document. Where the key is there, its value
-    /// is replaced if `update_flag` is set. PostgreSQL has `jsonb_set` and `jsonb_insert`.
+    /// Returns the object with another member: this key with the root of the other document.
+    ///
+    /// If the key exists, its value is replaced if `update_flag` is set. Like PostgreSQL's `jsonb_set` and
+    /// `jsonb_insert`.
     ///
     /// # Errors
     ///
-    /// `InvalidObject` where the root is no object, `ObjectDuplicateKey` where the key is there and the flag isn't
-    /// set, and those of making documents.
+    /// `InvalidObject` if and only if the root is not an object, `ObjectDuplicateKey` if and only if the key exists
+    /// and the flag is not set, and construction errors.
     ///
-    /// # Cost
+    /// # Complexity
     ///
-    /// Linear in n of both and the key. Takes memory.
+    /// O(n) of both and the key. Allocates.
+    ///
+    /// # Examples
+    ///
+    /// ```rust crates/jsonb_examples/src/configuration.rt
+    /// let new = old.as_raw().object_insert(alloc, name, value, true)?;
+    /// configuration.object_insert(alloc, section, &new.as_raw(), true)
+    /// ```
+    ///
+    /// <!-- rows: calls: object_insert object_update -->
+    /// | Function | Document | Arguments | Result |
+    /// |---|---|---|---|
+    /// | `object_insert` | `{"asd":"adf"}` | `b`, `1` | `{"asd":"adf","b":1}` |
+    /// | `object_update` | `{"asd":"adf"}` | `asd`, `1` | `{"asd":1}` |
+    /// | `object_insert` | `{"asd":"adf"}` | `asd`, `1` | refused: `ObjectDuplicateKey` |
+    /// | `object_insert` | `[1]` | `a`, `1` | refused: `InvalidObject` |
     pub fn object_insert(
         &self,
         alloc: Global,
@@ -155,7 +205,7 @@ impl RawJsonb<'_> {
     }
 }
 
-/// The object of the pairs whose keys are in the set, or of those whose keys are not.
+/// Returns the object of the members whose keys are in the set, or of those whose keys are not.
 fn pairs_by_set<'a>(
     alloc: Global,
     pairs: PairEntries<'a>,
@@ -183,7 +233,7 @@ fn pairs_by_set<'a>(
     runs.object(alloc)
 }
 
-/// The keys of these pairs, each with its value as a document of its own.
+/// Returns the keys of these members, each with its value as a new document.
 fn owned_pairs(alloc: Global, pairs: PairEntries<'_>) -> Result<Vec<(String, OwnedJsonb)>, Error>
     ensures pairs { (form : Form) (ps : List (List ℕ × Tree)) → HoldPairs form pairs.entry ps
         → MatchResult result (λ made. AllZip (IsPairOf form) made.items ps)
@@ -199,7 +249,7 @@ fn owned_pairs(alloc: Global, pairs: PairEntries<'_>) -> Result<Vec<(String, Own
     Ok(each)
 }
 
-/// The key of a pair, and the value as a document of its own.
+/// Returns the key of a member, and the value as a new document.
 #[inline(always)]
 fn owned_pair(alloc: Global, pair: FirstPair<'_>) -> Result<(String, OwnedJsonb), Error>
     ensures pair { (form : Form) (t : Tree) → IsUtf8 pair.entry.key.now

@@ -1,16 +1,18 @@
-//! Functions on documents of every kind.
+//! Functions on documents of any type.
 
-ghost use Rattle.std.specs.Prelude.{◌≡◌, [], IfErr, IfOk, MatchResult};
+ghost use Rattle.std.specs.Prelude.{◌≡◌, [], IfErr, IfOk, MatchResult, OnOk};
 ghost use Rattle.std.specs.Int.{w8, w16};
 ghost use Rattle.jsonb_doc.specs.Tree.{Tree};
 ghost use Rattle.jsonb_doc.specs.Payload.{Form};
 ghost use Rattle.jsonb_doc.specs.Format.{Decodes};
 ghost use Rattle.jsonb_doc.specs.Answer.{IsOutOfMemory, IsDecodingError, ◌or◌};
 ghost use Rattle.jsonb_doc.specs.declared.error.Error.TheVariants.{OutOfMemory, TooDeep};
+ghost use Rattle.jsonb_raw.specs.Roots.{HasRoot};
 ghost use Rattle.jsonb_raw.specs.Documents.{raw_bytes};
 ghost use Rattle.jsonb_raw.specs.KeyAnswer.{MakesKey, WritesKey, RanksAsTree};
 ghost use Rattle.jsonb_raw.specs.EqualityKey.{equality_key};
 
+mod column_key;
 mod concat;
 mod contains;
 mod starts;
@@ -21,6 +23,7 @@ mod stripping;
 mod tests;
 mod traverse;
 
+pub use self::column_key::{push_column_key, push_column_key_wide};
 use crate::equality_key::{item_key, push_equality_key};
 use crate::raw::RawJsonb;
 use crate::sortable_key::{DepthWidth, push_sortable_key, sortable_key};
@@ -28,99 +31,153 @@ use jsonb_doc::{Error, root_item};
 use std::alloc::Global;
 
 impl RawJsonb<'_> {
-    /// The sortable key: bytes that compare, as bytes do, as the documents compare. docs/FORMAT.md has its layout and
-    /// the order.
+    /// Returns the sortable key: bytes that compare as the documents do. docs/FORMAT.md has its layout and the order.
     ///
-    /// Two documents without extensions have one key exactly where they are equal by value. Where an extension occurs
-    /// no order is promised, and documents that differ may share a key. Nor is anything promised beside a key of
-    /// `convert_to_comparable_wide`.
+    /// Two documents without extensions have one key if and only if they are equal by value. With extensions the
+    /// order is not specified, and different documents may share a key. Keys of `convert_to_comparable_wide` are not
+    /// comparable with these.
     ///
     /// # Errors
     ///
-    /// `TooDeep` exactly where an item lies deeper than 255 (the root lies at 0, an object's keys as deep as its
-    /// values), and those of taking memory.
+    /// `TooDeep` if and only if an item is deeper than 255 (0 for the root; an object's keys are as deep as its
+    /// values), and allocation errors.
     ///
-    /// # Cost
+    /// # Complexity
     ///
-    /// Linear in n. Takes memory.
+    /// O(n). Allocates.
+    ///
+    /// # Examples
+    ///
+    /// ```rust crates/jsonb_examples/src/first.rt
+    /// let key = edited.as_raw().convert_to_comparable(alloc)?; // sorts as the document does
+    /// assert!(rt; key > fred.convert_to_comparable(alloc)?);
+    /// ```
+    ///
+    /// <!-- rows: calls: convert_to_comparable -->
+    /// | Document | Result |
+    /// |---|---|
+    /// | `0` | `00 04 80` |
     pub fn convert_to_comparable(&self, alloc: Global) -> Result<Vec<u8>, Error>
         ensures key { (form : Form) (tree : Tree) → Decodes form (raw_bytes self.now) tree
             → MakesKey w8 tree result }
         ensures order { (form : Form) (tree : Tree) → Decodes form (raw_bytes self.now) tree
             → RanksAsTree w8 tree result }
         ensures errors { IfErr result (IsDecodingError or OutOfMemory or TooDeep) }
+        ensures reads { OnOk result (HasRoot (raw_bytes self.now)) }
     {
         sortable_key(alloc, self.as_bytes(), DepthWidth::OneByte)
     }
 
-    /// The wide sortable key: as `convert_to_comparable`, with each depth in two bytes, the high byte first. Nothing
-    /// is promised of it beside a key of that call.
+    /// Returns the wide sortable key: like `convert_to_comparable`, with each depth in two bytes.
+    ///
+    /// It is not comparable with keys of that function.
     ///
     /// # Errors
     ///
-    /// `TooDeep` exactly where an item lies deeper than 65,535, and those of taking memory.
+    /// `TooDeep` if and only if an item is deeper than 65,535, and allocation errors.
     ///
-    /// # Cost
+    /// # Complexity
     ///
-    /// Linear in n. Takes memory.
+    /// O(n). Allocates.
+    ///
+    /// # Examples
+    ///
+    /// <!-- rows: calls: convert_to_comparable_wide -->
+    /// | Document | Result |
+    /// |---|---|
+    /// | `1` | `0000 04 81 03e9 02 00` |
     pub fn convert_to_comparable_wide(&self, alloc: Global) -> Result<Vec<u8>, Error>
         ensures key { (form : Form) (tree : Tree) → Decodes form (raw_bytes self.now) tree
             → MakesKey w16 tree result }
         ensures order { (form : Form) (tree : Tree) → Decodes form (raw_bytes self.now) tree
             → RanksAsTree w16 tree result }
         ensures errors { IfErr result (IsDecodingError or OutOfMemory or TooDeep) }
+        ensures reads { OnOk result (HasRoot (raw_bytes self.now)) }
     {
         sortable_key(alloc, self.as_bytes(), DepthWidth::TwoBytes)
     }
 
-    /// The equality key: bytes that two documents share exactly where they are equal by value, at every depth and
-    /// with extensions. Their order means nothing. docs/FORMAT.md has its layout.
+    /// Returns the equality key: bytes that two documents share if and only if they are equal by value, at every depth
+    /// and with extensions.
+    ///
+    /// Their order has no meaning. docs/FORMAT.md has its layout.
     ///
     /// # Errors
     ///
-    /// Those of taking memory.
+    /// Allocation errors.
     ///
-    /// # Cost
+    /// # Complexity
     ///
-    /// Linear in n. Takes memory.
+    /// O(n). Allocates.
+    ///
+    /// # Examples
+    ///
+    /// <!-- rows: calls: equality_key -->
+    /// | Document | Result |
+    /// |---|---|
+    /// | `1` | `04 81 03e9 02 00` |
     pub fn equality_key(&self, alloc: Global) -> Result<Vec<u8>, Error>
         ensures key { (form : Form) (tree : Tree) → Decodes form (raw_bytes self.now) tree
             → MatchResult result (λ v. v.items ≡ equality_key tree) IsOutOfMemory }
         ensures errors { IfErr result (IsDecodingError or OutOfMemory) }
+        ensures reads { OnOk result (HasRoot (raw_bytes self.now)) }
     {
         item_key(alloc, &root_item(self.as_bytes())?)
     }
 
-    /// Writes what `convert_to_comparable` answers into a vector that is used again: what it held is gone, and its
-    /// memory is kept.
+    /// Writes the result of `convert_to_comparable` to a vector that is reused: its contents are replaced, and its
+    /// capacity is kept.
     ///
     /// # Errors
     ///
-    /// Those of `convert_to_comparable`. Then the vector is empty.
+    /// Those of `convert_to_comparable`. The vector is then empty.
     ///
-    /// # Cost
+    /// # Complexity
     ///
-    /// Linear in n. Takes memory where the vector has to grow, and for the levels that the document is deep.
+    /// O(n). Allocates if the vector has to grow, and for the levels of a deep document.
+    ///
+    /// # Examples
+    ///
+    /// ```rust crates/jsonb_examples/src/calls.rt
+    /// let mut key = Vec::new(alloc);
+    /// let mut last = Vec::new(alloc);
+    /// for document in documents {
+    ///     document.convert_to_comparable_into(alloc, &mut key)?;
+    ///     if key < last {
+    ///         return Ok(false);
+    ///     }
+    ///     swap(&mut key, &mut last);
+    /// }
+    /// ```
     pub fn convert_to_comparable_into(&self, alloc: Global, key: &mut Vec<u8>) -> Result<(), Error>
         ensures key { (form : Form) (tree : Tree) → Decodes form (raw_bytes self.now) tree
             → WritesKey w8 tree result key.new.items }
         ensures empty { IfErr result (λ _. key.new.items ≡ []) }
         ensures errors { IfErr result (IsDecodingError or OutOfMemory or TooDeep) }
+        ensures reads { OnOk result (HasRoot (raw_bytes self.now)) }
     {
         key.clear();
         let written = push_sortable_key(alloc, key, self.as_bytes(), DepthWidth::OneByte);
         kept_where_written(key, written)
     }
 
-    /// Writes what `convert_to_comparable_wide` answers into a vector that is used again.
+    /// Writes the result of `convert_to_comparable_wide` to a vector that is reused.
     ///
     /// # Errors
     ///
-    /// Those of `convert_to_comparable_wide`. Then the vector is empty.
+    /// Those of `convert_to_comparable_wide`. The vector is then empty.
     ///
-    /// # Cost
+    /// # Complexity
     ///
     /// That of `convert_to_comparable_into`.
+    ///
+    /// # Examples
+    ///
+    /// ```rust crates/jsonb_examples/src/calls.rt
+    /// first.convert_to_comparable_wide_into(alloc, &mut key)?;
+    /// second.convert_to_comparable_wide_into(alloc, &mut other)?;
+    /// Ok(key < other)
+    /// ```
     pub fn convert_to_comparable_wide_into(
         &self,
         alloc: Global,
@@ -130,26 +187,37 @@ impl RawJsonb<'_> {
             → WritesKey w16 tree result key.new.items }
         ensures empty { IfErr result (λ _. key.new.items ≡ []) }
         ensures errors { IfErr result (IsDecodingError or OutOfMemory or TooDeep) }
+        ensures reads { OnOk result (HasRoot (raw_bytes self.now)) }
     {
         key.clear();
         let written = push_sortable_key(alloc, key, self.as_bytes(), DepthWidth::TwoBytes);
         kept_where_written(key, written)
     }
 
-    /// Writes what `equality_key` answers into a vector that is used again.
+    /// Writes the result of `equality_key` to a vector that is reused.
     ///
     /// # Errors
     ///
-    /// Those of `equality_key`. Then the vector is empty.
+    /// Those of `equality_key`. The vector is then empty.
     ///
-    /// # Cost
+    /// # Complexity
     ///
     /// That of `convert_to_comparable_into`.
+    ///
+    /// # Examples
+    ///
+    /// ```rust crates/jsonb_examples/src/calls.rt
+    /// document.equality_key_into(alloc, &mut key)?;
+    /// if !keys.contains(&key) {
+    ///     keys.insert(key.clone()?)?;
+    /// }
+    /// ```
     pub fn equality_key_into(&self, alloc: Global, key: &mut Vec<u8>) -> Result<(), Error>
         ensures key { (form : Form) (tree : Tree) → Decodes form (raw_bytes self.now) tree
             → MatchResult result (λ _. key.new.items ≡ equality_key tree) IsOutOfMemory }
         ensures empty { IfErr result (λ _. key.new.items ≡ []) }
         ensures errors { IfErr result (IsDecodingError or OutOfMemory) }
+        ensures reads { OnOk result (HasRoot (raw_bytes self.now)) }
     {
         key.clear();
         let written = push_equality_key(alloc, key, self.as_bytes());
@@ -157,7 +225,7 @@ impl RawJsonb<'_> {
     }
 }
 
-/// The vector as it is where it was written, and an empty one where that was refused.
+/// Returns the result, and clears the vector if it is an error.
 fn kept_where_written(key: &mut Vec<u8>, written: Result<(), Error>) -> Result<(), Error>
     ensures same { result ≡ written }
     ensures kept { IfOk result (λ _. key.new.items ≡ key.old.items) }

@@ -1,16 +1,7 @@
-//! What containers are cut into and joined of: their entries, as they are stored.
+//! The parts that containers are cut into and composed of: their entries, as they are stored.
 
-ghost use Rattle.std.specs.Prelude.{◌^◌, ◌<◌, length};
-
-use jsonb_doc::layout::{EntryKind, WORD};
-
-/// The words and the contents of some entries, in their order.
-#[derive(Clone, Copy)]
-pub struct Entries<'a> {
-    pub words: &'a [u8],
-    pub contents: &'a [u8],
-    ghost short: { length words.now < 2 ^ 32 },
-}
+pub use jsonb_doc::cursor::Entries;
+use jsonb_doc::layout::{EntryKind, HeaderKind, WORD};
 
 /// An entry with its word.
 #[derive(Clone, Copy)]
@@ -26,22 +17,14 @@ pub enum Elements<'a> {
     Root(EntryWithWord<'a>),
 }
 
-/// The first of some entries, and the others.
-#[derive(Clone, Copy)]
-pub struct FirstEntry<'a> {
-    pub kind: EntryKind,
-    pub content: &'a [u8],
-    pub others: Entries<'a>,
-}
-
-/// The pairs of an object: the entries of their keys, and those of their values.
+/// The members of an object: the entries of their keys, and those of their values.
 #[derive(Clone, Copy)]
 pub struct PairEntries<'a> {
     pub keys: Entries<'a>,
     pub values: Entries<'a>,
 }
 
-/// The key of the first of some pairs, the entry of its value, and the others.
+/// The key of the first of some members, the entry of its value, and the other members.
 #[derive(Clone, Copy)]
 pub struct FirstPair<'a> {
     pub key: &'a [u8],
@@ -50,9 +33,17 @@ pub struct FirstPair<'a> {
     pub others: PairEntries<'a>,
 }
 
-/// Runs of pairs that an object is made of.
+/// The runs of members that an object is composed of.
 #[derive(Drop)]
 pub struct PairRuns<'a> {
     pub keys: Vec<Entries<'a>>,
     pub values: Vec<Entries<'a>>,
+}
+
+/// The entries of a container: those of an object's keys, none of an array, and those of its values or elements.
+#[derive(Clone, Copy)]
+pub struct ContainerEntries<'a> {
+    pub kind: HeaderKind,
+    pub keys: Entries<'a>,
+    pub values: Entries<'a>,
 }

@@ -1,4 +1,4 @@
-//! The calls on the places of a document.
+//! The functions on the locations of a document.
 
 ghost use Rattle.std.specs.Prelude.{negsuc, List, length, slice_get, option_and_then, IsOkAnd, IfErr, MatchResult};
 ghost use Rattle.std.specs.Iterator.{IsFinite};
@@ -29,7 +29,7 @@ use jsonb_doc::{Error, Item, Spot, child_spots, field_spot, root_spot, spot_item
 use jsonb_keypath::KeyPath;
 use std::alloc::Global;
 
-/// The child at a position.
+/// Returns the child at a position.
 fn nth_child(bytes: &[u8], spot: Spot, position: usize) -> Result<Option<Spot>, Error>
     ensures child { (t : Tree) → Locates bytes.now spot t
         → IsOkAnd result (λ found. SameOption (Locates bytes.now) found (slice_get (children t) position)) }
@@ -47,7 +47,7 @@ fn nth_child(bytes: &[u8], spot: Spot, position: usize) -> Result<Option<Spot>, 
     Ok(Some(child?.by_parts()))
 }
 
-/// The child that so many others follow.
+/// Returns the child that this many others follow.
 fn child_from_end(bytes: &[u8], spot: Spot, after: usize) -> Result<Option<Spot>, Error>
     ensures child { (t : Tree) → Locates bytes.now spot t
         → IsOkAnd result (λ found. SameOption (Locates bytes.now) found
@@ -64,7 +64,7 @@ fn child_from_end(bytes: &[u8], spot: Spot, after: usize) -> Result<Option<Spot>
     nth_child(bytes, spot, count - after - 1)
 }
 
-/// The element that an index means, from the end where it is negative.
+/// Returns the element at an index, from the end if negative.
 fn element_at(bytes: &[u8], spot: Spot, index: i32) -> Result<Option<Spot>, Error>
     ensures element { (t : Tree) → Locates bytes.now spot t
         → IsOkAnd result (λ found. SameOption (Locates bytes.now) found
@@ -80,7 +80,7 @@ fn element_at(bytes: &[u8], spot: Spot, index: i32) -> Result<Option<Spot>, Erro
     }
 }
 
-/// The child that an index meets: an element, or the value under the index in decimal.
+/// Returns the child that an index selects: an element, or the value of the key that is the index in decimal.
 fn indexed_child(alloc: Global, bytes: &[u8], spot: Spot, index: i32) -> Result<Option<Spot>, Error>
     ensures child { (t : Tree) → Locates bytes.now spot t
         → MatchResult result (λ found. SameOption (Locates bytes.now) found
@@ -97,7 +97,7 @@ fn indexed_child(alloc: Global, bytes: &[u8], spot: Spot, index: i32) -> Result<
     }
 }
 
-/// The child that a step meets.
+/// Returns the child that a step selects.
 fn child_at_step(
     alloc: Global,
     bytes: &[u8],
@@ -117,18 +117,34 @@ fn child_at_step(
 }
 
 impl RawJsonb<'_> {
-    /// The part of the document at the place that the steps meet, as a document of its own. At an array only an index
-    /// meets an element, counted from the end where it is negative. At an object a name meets the value under it, and
-    /// an index the value under its decimal text. `None` where a step meets nothing. Without steps it is the whole
-    /// document. The iterator must end. PostgreSQL has `#>`.
+    /// Returns the value at the location of the steps, as a new document.
+    ///
+    /// On an array only an index selects an element, counted from the end if negative. On an object a name selects the
+    /// value of that key, and an index that of its decimal text. Returns `None` if a step selects nothing. Without
+    /// steps it is the whole document. The iterator must end. Like PostgreSQL's `#>`.
     ///
     /// # Errors
     ///
-    /// Those of making documents.
+    /// Construction errors.
     ///
-    /// # Cost
+    /// # Complexity
     ///
-    /// Linear in the elements or pairs of each container on the way, and the part is copied. Takes memory.
+    /// O(k) for each container on the way. Allocates; the value is copied.
+    ///
+    /// # Examples
+    ///
+    /// ```rust crates/jsonb_examples/src/configuration.rt
+    /// let steps = parse_key_paths(alloc, path.as_bytes())?;
+    /// configuration.get_by_keypath(alloc, steps.paths.iter())
+    /// ```
+    ///
+    /// <!-- rows: calls: get_by_keypath -->
+    /// | Document | Arguments | Result |
+    /// |---|---|---|
+    /// | `[false,10,{"k":"v"}]` | `{2,k}` | `"v"` |
+    /// | `[false,10,{"k":"v"}]` | `{-1,k}` | `"v"` |
+    /// | `[false,10,{"k":"v"}]` | `{-4}` | none |
+    /// | `{"-1":false,"0":true}` | `{0}` | `true` |
     pub fn get_by_keypath<'k, I: Iterator<Item = &'k KeyPath<'k>> + Drop>(
         &self,
         alloc: Global,

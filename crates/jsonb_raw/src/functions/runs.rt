@@ -1,32 +1,38 @@
-//! Entries that are gone through one by one, and runs of them that are kept.
+//! Entries of objects one by one, and runs of entries that are kept.
 
-ghost use Rattle.std.specs.Prelude.{◌≡◌, ◌++◌, ◌<◌, ℕ, List, map, length, position as first_position, IfOk, IfSome, IsOkAnd, IfErr, MatchResult};
+ghost use Rattle.std.specs.Prelude.{◌≡◌, ◌+◌, ◌^◌, ◌<◌, ◌≤◌, ◌++◌, [], ℕ, List, map, length, position as first_position, IfOk, IfSome, IsSomeAnd, IsOkAnd, IfErr, MatchResult};
 ghost use Rattle.std.specs.Str.{bytes_eq};
-ghost use Rattle.jsonb_doc.specs.Tree.{Tree, text};
-ghost use Rattle.jsonb_doc.specs.Payload.{Form};
+ghost use Rattle.jsonb_doc.specs.Tree.{Tree, Pairs, text, object, members};
+ghost use Rattle.jsonb_doc.specs.Payload.{Form, number_reader};
+ghost use Rattle.jsonb_doc.specs.Private.Containers.{Holds};
+ghost use Rattle.jsonb_doc.specs.declared.container.Container.TheVariants.{Object};
 ghost use Rattle.jsonb_doc.specs.Format.{Decodes};
 ghost use Rattle.jsonb_doc.specs.Answer.{IsDecodingError, IsOutOfMemory, ◌or◌};
 ghost use Rattle.jsonb_doc.specs.declared.error.Error.TheVariants.{OutOfMemory};
-ghost use Rattle.jsonb_raw.specs.Private.Entries.{HoldTrees, HoldPairs, ArePairsOf, TakesFirst, TakesFirstPair, HasRunMore};
+ghost use Rattle.jsonb_doc.specs.Private.Writer.{Around, IsWriting};
+ghost use Rattle.jsonb_raw.specs.Private.Entries.{HoldTrees, HoldPairs, ArePairsOf, AreContainerEntries, TakesFirstPair, RunsHold, Holding};
 
 use crate::functions::joined::object_of;
-use crate::functions::parts::{Entries, FirstEntry, FirstPair, PairEntries, PairRuns};
+use crate::functions::parts::{ContainerEntries, Entries, FirstPair, PairEntries, PairRuns};
 use crate::owned::OwnedJsonb;
-use jsonb_doc::layout::split_entry;
-use jsonb_doc::{Container, Error, read_container};
+use jsonb_doc::layout::HeaderKind;
+use jsonb_doc::rewriting::Writer;
+use jsonb_doc::{Container, Error, ObjectParts, read_container};
 use std::alloc::Global;
 
-/// The entries of an object's pairs, and `None` where the root is no object.
-pub fn pair_entries(bytes: &[u8]) -> Result<Option<PairEntries<'_>>, Error>
-    ensures entries { (form : Form) (t : Tree) → Decodes form bytes.now t → IsOkAnd result (ArePairsOf form t) }
+/// Returns the entries of an object's pairs.
+fn entries_of_pairs(parts: ObjectParts<'_>) -> Result<PairEntries<'_>, Error>
+    requires keys { length parts.key_words.now < 2 ^ 32 }
+    requires values { length parts.value_words.now < 2 ^ 32 }
+    ensures entries { (form : Form) (ps : Pairs) → Holds (number_reader form) (object ps) (Object parts.entry)
+        → IsOkAnd result (λ pairs. HoldPairs form pairs (members ps)) }
+    ensures room { IfOk result (λ pairs. (pairs.values.words.now ≡ parts.entry.value_words.now)
+        × (length pairs.values.contents.now ≤ length parts.entry.contents.now)) }
     ensures errors { IfErr result IsDecodingError }
 {
-    let Container::Object(parts) = read_container(bytes)? else {
-        return Ok(None);
-    };
     let values = parts.value_contents()?;
     let (keys, _) = parts.contents.split_at(parts.contents.len() - values.len());
-    Ok(Some(PairEntries {
+    Ok(PairEntries {
         keys: Entries {
             words: parts.key_words,
             contents: keys,
@@ -35,35 +41,53 @@ pub fn pair_entries(bytes: &[u8]) -> Result<Option<PairEntries<'_>>, Error>
             words: parts.value_words,
             contents: values,
         },
-    }))
+    })
 }
 
-/// The first of the entries, and `None` where there is none. Where its end isn't known it is `InvalidJsonb`.
-#[inline(always)]
-pub fn first_entry(entries: Entries<'_>) -> Result<Option<FirstEntry<'_>>, Error>
-    ensures first { (form : Form) (ts : List Tree) → HoldTrees form entries.entry ts
-        → IsOkAnd result (TakesFirst form entries.entry ts) }
-    ensures fewer { IfOk result
-        (λ found. IfSome found (λ first. length first.others.words.now < length entries.entry.words.now)) }
+/// Returns the entries of an object's pairs, or `None` if the root is not an object.
+pub fn pair_entries(bytes: &[u8]) -> Result<Option<PairEntries<'_>>, Error>
+    ensures entries { (form : Form) (t : Tree) → Decodes form bytes.now t → IsOkAnd result (ArePairsOf form t) }
     ensures errors { IfErr result IsDecodingError }
 {
-    if entries.words.is_empty() {
+    let Container::Object(parts) = read_container(bytes)? else {
         return Ok(None);
-    }
-    match split_entry(entries.words, entries.contents) {
-        Some(entry) => Ok(Some(FirstEntry {
-            kind: entry.kind,
-            content: entry.content,
-            others: Entries {
-                words: entry.other_words,
-                contents: entry.other_contents,
+    };
+    Ok(Some(entries_of_pairs(parts)?))
+}
+
+/// Returns the entries of a container, or `None` if the root is not one.
+pub fn container_entries(bytes: &[u8]) -> Result<Option<ContainerEntries<'_>>, Error>
+    ensures entries { (form : Form) (t : Tree) → Decodes form bytes.now t
+        → IsOkAnd result (AreContainerEntries form t) }
+    ensures room { IfOk result (λ found. IfSome found (λ e.
+        length e.values.words.now + length e.values.contents.now + 4 ≤ length bytes.now)) }
+    ensures errors { IfErr result IsDecodingError }
+{
+    match read_container(bytes)? {
+        Container::Scalar(_) => Ok(None),
+        Container::Array(parts) => Ok(Some(ContainerEntries {
+            kind: HeaderKind::Array,
+            keys: Entries {
+                words: &[],
+                contents: &[],
+            },
+            values: Entries {
+                words: parts.words,
+                contents: parts.contents,
             },
         })),
-        None => Err(Error::InvalidJsonb),
+        Container::Object(parts) => {
+            let PairEntries { keys, values } = entries_of_pairs(parts)?;
+            Ok(Some(ContainerEntries {
+                kind: HeaderKind::Object,
+                keys,
+                values,
+            }))
+        }
     }
 }
 
-/// The first of the pairs, and `None` where there is none. Where its end isn't known it is `InvalidJsonb`.
+/// Returns the first member, or `None` if there is none. Fails with `InvalidJsonb` if its end is not known.
 #[inline(always)]
 pub fn first_pair(pairs: PairEntries<'_>) -> Result<Option<FirstPair<'_>>, Error>
     ensures first { (form : Form) (ps : List (List ℕ × Tree)) → HoldPairs form pairs.entry ps
@@ -72,10 +96,10 @@ pub fn first_pair(pairs: PairEntries<'_>) -> Result<Option<FirstPair<'_>>, Error
         (λ found. IfSome found (λ first. length first.others.keys.words.now < length pairs.entry.keys.words.now)) }
     ensures errors { IfErr result IsDecodingError }
 {
-    let Some(key) = first_entry(pairs.keys)? else {
+    let Some((key, other_keys)) = pairs.keys.first()? else {
         return Ok(None);
     };
-    let Some(value) = first_entry(pairs.values)? else {
+    let Some((value, other_values)) = pairs.values.first()? else {
         return Err(Error::InvalidJsonb);
     };
     Ok(Some(FirstPair {
@@ -83,13 +107,13 @@ pub fn first_pair(pairs: PairEntries<'_>) -> Result<Option<FirstPair<'_>>, Error
         kind: value.kind,
         content: value.content,
         others: PairEntries {
-            keys: key.others,
-            values: value.others,
+            keys: other_keys,
+            values: other_values,
         },
     }))
 }
 
-/// The position of the first of the entries, which are texts, that is this name.
+/// Returns the position of the first of the entries, which are strings, that is this name.
 pub fn name_position(entries: Entries<'_>, name: &[u8]) -> Result<Option<usize>, Error>
     ensures position { (form : Form) (ks : List (List ℕ)) → HoldTrees form entries.entry (map text ks)
         → IsOkAnd result (λ found. found ≡ first_position (λ key. bytes_eq key name.now) ks) }
@@ -97,39 +121,65 @@ pub fn name_position(entries: Entries<'_>, name: &[u8]) -> Result<Option<usize>,
 {
     let mut passed = 0;
     let mut left = entries;
-    while let Some(key) = first_entry(left)? {
+    while let Some((key, others)) = left.first()? {
         if key.content == name {
             return Ok(Some(passed));
         }
         passed += 1;
-        left = key.others;
+        left = others;
     }
     Ok(None)
 }
 
-/// Puts the entries of a run in front of those that are left of it behind the other runs.
+/// Returns the entries of a run before the remaining ones, or `None` if more remain than the run has.
+#[inline(always)]
+fn entries_before<'a>(run: Entries<'a>, left: Entries<'a>) -> Option<Entries<'a>>
+    ensures { (words contents : List ℕ) → run.entry.words.now ≡ words ++ left.entry.words.now
+        → run.entry.contents.now ≡ contents ++ left.entry.contents.now
+        → IsSomeAnd result (λ piece. (piece.words.now ≡ words) × (piece.contents.now ≡ contents)) }
+{
+    let words_len = run.words.len().wrapping_sub(left.words.len());
+    let contents_len = run.contents.len().wrapping_sub(left.contents.len());
+    let words = run.words.get(..words_len)?;
+    let contents = run.contents.get(..contents_len)?;
+    Some(Entries { words, contents })
+}
+
+/// Appends the entries of a run before the remaining ones to the runs, if there are any.
 pub fn push_run<'a>(
     runs: &mut Vec<Entries<'a>>,
     run: Entries<'a>,
     left: Entries<'a>,
 ) -> Result<(), Error>
-    ensures pushed { (words contents : List ℕ) → run.entry.words.now ≡ words ++ left.entry.words.now
-        → run.entry.contents.now ≡ contents ++ left.entry.contents.now
-        → MatchResult result (λ _. HasRunMore runs.old.items words contents runs.new.items) IsOutOfMemory }
+    ensures pushed { (form : Form) (xs ys : List Tree) → Holding form runs.old.items run.entry left.entry xs ys
+        → MatchResult result (λ _. RunsHold form runs.new.items xs) IsOutOfMemory }
     ensures errors { IfErr result (IsDecodingError or OutOfMemory) }
 {
-    let words_len = run.words.len().wrapping_sub(left.words.len());
-    let contents_len = run.contents.len().wrapping_sub(left.contents.len());
-    if words_len == 0 && contents_len == 0 {
+    let Some(piece) = entries_before(run, left) else {
+        return Err(Error::InvalidJsonb);
+    };
+    if piece.words.is_empty() {
         return Ok(());
     }
-    let Some(words) = run.words.get(..words_len) else {
+    runs.push(piece)?;
+    Ok(())
+}
+
+/// Appends the entries of a run before the remaining ones to a container.
+#[inline(always)]
+pub fn copy_run(writer: &mut Writer, run: Entries<'_>, left: Entries<'_>) -> Result<(), Error>
+    ensures copied { (form : Form) (xs ys coming : List Tree) (around : Around) (whole : Tree)
+        → Holding form [] run.entry left.entry xs ys → IsWriting form writer.old (xs ++ coming) around whole
+        → MatchResult result (λ _. IsWriting form writer.new coming around whole) IsOutOfMemory }
+    ensures errors { IfErr result (IsDecodingError or OutOfMemory) }
+{
+    let Some(piece) = entries_before(run, left) else {
         return Err(Error::InvalidJsonb);
     };
-    let Some(contents) = run.contents.get(..contents_len) else {
-        return Err(Error::InvalidJsonb);
-    };
-    runs.push(Entries { words, contents })?;
+    if piece.words.is_empty() {
+        return Ok(());
+    }
+    writer.copy(piece)?;
     Ok(())
 }
 
@@ -138,13 +188,13 @@ impl<'a> PairRuns<'a> {
     ghost use Rattle.std.specs.Map.{keys_of};
     ghost use Rattle.jsonb_doc.specs.Tree.{Tree, object, pairs_of};
     ghost use Rattle.jsonb_doc.specs.Payload.{Form};
-    ghost use Rattle.jsonb_doc.specs.Format.{AreKeys};
+    ghost use Rattle.jsonb_doc.specs.Private.Writer.{AreSortedKeys};
     ghost use Rattle.jsonb_doc.specs.Answer.{IsDecodingError, IsOutOfMemory, ◌or◌};
     ghost use Rattle.jsonb_doc.specs.declared.error.Error.TheVariants.{OutOfMemory, TooLarge};
     ghost use Rattle.jsonb_raw.specs.Documents.{Makes};
     ghost use Rattle.jsonb_raw.specs.Private.Entries.{HoldPairs, PairsHeld, PairsOpen};
 
-    /// No runs. It takes no memory yet.
+    /// Creates an empty list of runs. Does not allocate.
     pub fn new(alloc: Global) -> PairRuns<'a>
         ensures keys { result.keys.items ≡ [] }
         ensures values { result.values.items ≡ [] }
@@ -155,7 +205,7 @@ impl<'a> PairRuns<'a> {
         }
     }
 
-    /// Puts the pairs of a run in front of those that are left of it behind the others.
+    /// Appends the members of a run before the remaining ones.
     pub fn push_run(&mut self, run: PairEntries<'a>, left: PairEntries<'a>) -> Result<(), Error>
         ensures pushed { (form : Form) (xs ys : List (List ℕ × Tree))
             → PairsOpen form self.old run.entry left.entry xs ys
@@ -167,7 +217,7 @@ impl<'a> PairRuns<'a> {
         Ok(())
     }
 
-    /// Puts pairs behind the others.
+    /// Appends members.
     pub fn push(&mut self, pairs: PairEntries<'a>) -> Result<(), Error>
         ensures pushed { (form : Form) (xs ys : List (List ℕ × Tree)) → PairsHeld form self.old xs
             → HoldPairs form pairs.entry ys
@@ -179,9 +229,10 @@ impl<'a> PairRuns<'a> {
         Ok(())
     }
 
-    /// The object of all pairs.
+    /// Returns the object of all members.
     pub fn object(&self, alloc: Global) -> Result<OwnedJsonb, Error>
-        ensures object { (form : Form) (ps : List (List ℕ × Tree)) → PairsHeld form self.now ps → AreKeys (keys_of ps)
+        ensures object { (form : Form) (ps : List (List ℕ × Tree)) → PairsHeld form self.now ps
+            → AreSortedKeys (keys_of ps)
             → Makes form (object (pairs_of ps)) result }
         ensures errors { IfErr result (IsDecodingError or OutOfMemory or TooLarge) }
     {

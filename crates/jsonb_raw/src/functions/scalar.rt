@@ -1,8 +1,8 @@
-//! What kind of value a document is, and the value of a scalar.
+//! The type of a document, and the value of a scalar.
 //!
-//! On bytes that don't decode each call returns; which answer or refusal it gives is not fixed. Only the root is read.
+//! On bytes that do not decode each function returns; its result is not specified. Only the root is read.
 
-ghost use Rattle.std.specs.Prelude.{◌≡◌, ◌↔◌, ◌^◌, ◌<◌, ℕ, ℤ, pos, FitsSigned, IfErr, IsOkAnd, IsSome, IsTrue, MatchOption, MatchResult, is_some};
+ghost use Rattle.std.specs.Prelude.{◌≡◌, ◌↔◌, ◌^◌, ◌<◌, ℕ, ℤ, pos, FitsSigned, IfErr, IsOkAnd, IsSome, IsTrue, MatchOption, MatchResult, OnOk, is_some};
 ghost use Rattle.std.specs.Int.{w64};
 ghost use Rattle.jsonb_doc.specs.Tree.{Tree, extension};
 ghost use Rattle.jsonb_doc.specs.Payload.{Form};
@@ -11,6 +11,7 @@ ghost use Rattle.jsonb_doc.specs.Answer.{SameOption, ◌or◌, IsDecodingError, 
 ghost use Rattle.jsonb_doc.specs.View.{number_parts, extension_view};
 ghost use Rattle.jsonb_raw.specs.Computes.{Computes};
 ghost use Rattle.jsonb_raw.specs.Documents.{raw_bytes};
+ghost use Rattle.jsonb_raw.specs.Roots.{HasRoot, HasRootShape};
 ghost use Rattle.jsonb_doc.specs.declared.error.Error.TheVariants.{OutOfMemory};
 ghost use Rattle.jsonb_raw.specs.Scalars.{boolean_in, number_in, text_in, extension_in};
 ghost use Rattle.jsonb_raw.specs.Scalars.{binary_in, date_in, timestamp_in, timestamp_tz_in, interval_in};
@@ -22,352 +23,522 @@ mod tests;
 
 use crate::raw::RawJsonb;
 use jsonb_doc::{
-    Date, Error, ExtensionValue, Interval, Item, Number, Timestamp, TimestampTz, root_item,
+    Date, Error, ExtensionValue, Interval, Item, Number, Shape, Timestamp, TimestampTz, root_item,
+    root_shape,
 };
 use std::alloc::Global;
 use std::borrow::CowStr;
 
 impl<'a> RawJsonb<'a> {
-    /// The kind of the root: `NULL_VALUE`, `BOOLEAN`, `INTEGER`, `DECIMAL`, `STRING`, `BINARY`, `DATE`, `TIMESTAMP`,
-    /// `TIMESTAMP_TZ`, `INTERVAL`, `ARRAY` or `OBJECT` (this project's profile). A zero is an `INTEGER`, whatever
-    /// variant it is stored as. PostgreSQL has `jsonb_typeof`, with other words.
+    /// Returns the type of the root: `NULL_VALUE`, `BOOLEAN`, `INTEGER`, `DECIMAL`, `STRING`, `BINARY`, `DATE`,
+    /// `TIMESTAMP`, `TIMESTAMP_TZ`, `INTERVAL`, `ARRAY` or `OBJECT` (this project's profile).
+    ///
+    /// A zero is an `INTEGER`, in any variant. Like PostgreSQL's `jsonb_typeof`, with other names.
     ///
     /// # Errors
     ///
-    /// Those of reading.
+    /// Decoding errors.
     ///
-    /// # Cost
+    /// # Complexity
     ///
-    /// Constant, but a text is read whole. No memory.
+    /// O(1). Does not allocate.
+    ///
+    /// # Examples
+    ///
+    /// <!-- rows: calls: type_of -->
+    /// | Document | Result |
+    /// |---|---|
+    /// | 0 as a decimal | `INTEGER` |
+    /// | the date 1 | `DATE` |
+    /// | `null` | `NULL_VALUE` |
+    /// | `12.34` | `DECIMAL` |
     pub fn type_of(&self) -> Result<&'static str, Error>
         ensures name { (form : Form) (tree : Tree) → Decodes form (raw_bytes self.now) tree
             → IsOkAnd result (λ name. name.now ≡ type_name tree) }
         ensures errors { IfErr result IsDecodingError }
+        ensures reads { OnOk result (HasRootShape (raw_bytes self.now)) }
     {
-        match root_item(self.as_bytes())? {
-            Item::Null => Ok("NULL_VALUE"),
-            Item::Boolean(_) => Ok("BOOLEAN"),
-            Item::Number(number) => Ok(number_type(&number)),
-            Item::String(_) => Ok("STRING"),
-            Item::Extension(value) => Ok(extension_type(&value)),
-            Item::Array(_) => Ok("ARRAY"),
-            Item::Object(_) => Ok("OBJECT"),
+        match root_shape(self.as_bytes())? {
+            Shape::Null => Ok("NULL_VALUE"),
+            Shape::Boolean(_) => Ok("BOOLEAN"),
+            Shape::Number(number) => Ok(number_type(&number)),
+            Shape::Text(_) => Ok("STRING"),
+            Shape::Extension(value) => Ok(extension_type(&value)),
+            Shape::Array => Ok("ARRAY"),
+            Shape::Object => Ok("OBJECT"),
         }
     }
 
-    /// Whether the document is null.
+    /// Returns `true` if the root is null.
     ///
     /// # Errors
     ///
-    /// Those of reading.
+    /// Decoding errors.
     ///
-    /// # Cost
+    /// # Complexity
     ///
-    /// Constant, but a text is read whole. No memory.
+    /// O(1). Does not allocate.
+    ///
+    /// # Examples
+    ///
+    /// <!-- rows: calls: is_null -->
+    /// | Document | Result |
+    /// |---|---|
+    /// | `null` | true |
     pub fn is_null(&self) -> Result<bool, Error>
         ensures kind { Computes is_null (raw_bytes self.now) result }
         ensures errors { IfErr result IsDecodingError }
+        ensures reads { OnOk result (HasRootShape (raw_bytes self.now)) }
     {
-        Ok(matches!(root_item(self.as_bytes())?, Item::Null))
+        Ok(matches!(root_shape(self.as_bytes())?, Shape::Null))
     }
 
-    /// Whether the document is a truth value.
+    /// Returns `true` if the root is a Boolean.
     ///
     /// # Errors
     ///
-    /// Those of reading.
+    /// Decoding errors.
     ///
-    /// # Cost
+    /// # Complexity
     ///
-    /// Constant, but a text is read whole. No memory.
+    /// O(1). Does not allocate.
+    ///
+    /// # Examples
+    ///
+    /// <!-- rows: calls: is_boolean -->
+    /// | Document | Result |
+    /// |---|---|
+    /// | `false` | true |
     pub fn is_boolean(&self) -> Result<bool, Error>
         ensures kind { Computes (λ tree. is_some (boolean_in tree)) (raw_bytes self.now) result }
         ensures errors { IfErr result IsDecodingError }
+        ensures reads { OnOk result (HasRootShape (raw_bytes self.now)) }
     {
-        Ok(matches!(root_item(self.as_bytes())?, Item::Boolean(_)))
+        Ok(matches!(root_shape(self.as_bytes())?, Shape::Boolean(_)))
     }
 
-    /// Whether the document is a number.
+    /// Returns `true` if the root is a number.
     ///
     /// # Errors
     ///
-    /// Those of reading.
+    /// Decoding errors.
     ///
-    /// # Cost
+    /// # Complexity
     ///
-    /// Constant, but a text is read whole. No memory.
+    /// O(1). Does not allocate.
+    ///
+    /// # Examples
+    ///
+    /// <!-- rows: calls: is_number -->
+    /// | Document | Result |
+    /// |---|---|
+    /// | `1.0` | true |
     pub fn is_number(&self) -> Result<bool, Error>
         ensures kind { Computes (λ tree. is_some (number_in tree)) (raw_bytes self.now) result }
         ensures errors { IfErr result IsDecodingError }
+        ensures reads { OnOk result (HasRootShape (raw_bytes self.now)) }
     {
-        Ok(matches!(root_item(self.as_bytes())?, Item::Number(_)))
+        Ok(matches!(root_shape(self.as_bytes())?, Shape::Number(_)))
     }
 
-    /// Whether the document is a text.
+    /// Returns `true` if the root is a string.
     ///
     /// # Errors
     ///
-    /// Those of reading.
+    /// Decoding errors.
     ///
-    /// # Cost
+    /// # Complexity
     ///
-    /// Constant, but a text is read whole. No memory.
+    /// O(1). Does not allocate.
+    ///
+    /// # Examples
+    ///
+    /// <!-- rows: calls: is_string -->
+    /// | Document | Result |
+    /// |---|---|
+    /// | `"ab"` | true |
     pub fn is_string(&self) -> Result<bool, Error>
         ensures kind { Computes (λ tree. is_some (text_in tree)) (raw_bytes self.now) result }
         ensures errors { IfErr result IsDecodingError }
+        ensures reads { OnOk result (HasRootShape (raw_bytes self.now)) }
     {
-        Ok(matches!(root_item(self.as_bytes())?, Item::String(_)))
+        Ok(matches!(root_shape(self.as_bytes())?, Shape::Text(_)))
     }
 
-    /// Whether the document is an array.
+    /// Returns `true` if the root is an array.
     ///
     /// # Errors
     ///
-    /// Those of reading.
+    /// Decoding errors.
     ///
-    /// # Cost
+    /// # Complexity
     ///
-    /// Constant, but a text is read whole. No memory.
+    /// O(1). Does not allocate.
+    ///
+    /// # Examples
+    ///
+    /// <!-- rows: calls: is_array -->
+    /// | Document | Result |
+    /// |---|---|
+    /// | `[]` | true |
     pub fn is_array(&self) -> Result<bool, Error>
         ensures kind { Computes is_array (raw_bytes self.now) result }
         ensures errors { IfErr result IsDecodingError }
+        ensures reads { OnOk result (HasRootShape (raw_bytes self.now)) }
     {
-        Ok(matches!(root_item(self.as_bytes())?, Item::Array(_)))
+        Ok(matches!(root_shape(self.as_bytes())?, Shape::Array))
     }
 
-    /// Whether the document is an object.
+    /// Returns `true` if the root is an object.
     ///
     /// # Errors
     ///
-    /// Those of reading.
+    /// Decoding errors.
     ///
-    /// # Cost
+    /// # Complexity
     ///
-    /// Constant, but a text is read whole. No memory.
+    /// O(1). Does not allocate.
+    ///
+    /// # Examples
+    ///
+    /// <!-- rows: calls: is_object -->
+    /// | Document | Result |
+    /// |---|---|
+    /// | `{}` | true |
     pub fn is_object(&self) -> Result<bool, Error>
         ensures kind { Computes is_object (raw_bytes self.now) result }
         ensures errors { IfErr result IsDecodingError }
+        ensures reads { OnOk result (HasRootShape (raw_bytes self.now)) }
     {
-        Ok(matches!(root_item(self.as_bytes())?, Item::Object(_)))
+        Ok(matches!(root_shape(self.as_bytes())?, Shape::Object))
     }
 
-    /// Whether the document is a value that JSON itself lacks.
+    /// Returns `true` if the root is an extension value: binary, a date, a timestamp or an interval.
     ///
     /// # Errors
     ///
-    /// Those of reading.
+    /// Decoding errors.
     ///
-    /// # Cost
+    /// # Complexity
     ///
-    /// Constant, but a text is read whole. No memory.
+    /// O(1). Does not allocate.
+    ///
+    /// # Examples
+    ///
+    /// ```rust crates/jsonb_examples/src/calls.rt
+    /// if !value.is_extension_value()? {
+    ///     return Ok("JSONB");
+    /// }
+    /// ```
     pub fn is_extension_value(&self) -> Result<bool, Error>
         ensures kind { Computes is_extension_value (raw_bytes self.now) result }
         ensures errors { IfErr result IsDecodingError }
+        ensures reads { OnOk result (HasRootShape (raw_bytes self.now)) }
     {
-        Ok(matches!(root_item(self.as_bytes())?, Item::Extension(_)))
+        Ok(matches!(root_shape(self.as_bytes())?, Shape::Extension(_)))
     }
 
-    /// Whether the document is a binary value.
+    /// Returns `true` if the root is binary.
     ///
     /// # Errors
     ///
-    /// Those of reading.
+    /// Decoding errors.
     ///
-    /// # Cost
+    /// # Complexity
     ///
-    /// Constant, but a text is read whole. No memory.
+    /// O(1). Does not allocate.
+    ///
+    /// # Examples
+    ///
+    /// ```rust crates/jsonb_examples/src/calls.rt
+    /// if value.is_binary()? {
+    ///     return Ok("BYTEA");
+    /// }
+    /// ```
     pub fn is_binary(&self) -> Result<bool, Error>
         ensures kind { Computes (λ tree. is_some (binary_in tree)) (raw_bytes self.now) result }
         ensures errors { IfErr result IsDecodingError }
+        ensures reads { OnOk result (HasRootShape (raw_bytes self.now)) }
     {
         Ok(matches!(
-            root_item(self.as_bytes())?,
-            Item::Extension(ExtensionValue::Binary(_))
+            root_shape(self.as_bytes())?,
+            Shape::Extension(ExtensionValue::Binary(_))
         ))
     }
 
-    /// Whether the document is a day.
+    /// Returns `true` if the root is a date.
     ///
     /// # Errors
     ///
-    /// Those of reading.
+    /// Decoding errors.
     ///
-    /// # Cost
+    /// # Complexity
     ///
-    /// Constant, but a text is read whole. No memory.
+    /// O(1). Does not allocate.
+    ///
+    /// # Examples
+    ///
+    /// ```rust crates/jsonb_examples/src/calls.rt
+    /// if value.is_date()? {
+    ///     return Ok("DATE");
+    /// }
+    /// ```
     pub fn is_date(&self) -> Result<bool, Error>
         ensures kind { Computes (λ tree. is_some (date_in tree)) (raw_bytes self.now) result }
         ensures errors { IfErr result IsDecodingError }
+        ensures reads { OnOk result (HasRootShape (raw_bytes self.now)) }
     {
         Ok(matches!(
-            root_item(self.as_bytes())?,
-            Item::Extension(ExtensionValue::Date(_))
+            root_shape(self.as_bytes())?,
+            Shape::Extension(ExtensionValue::Date(_))
         ))
     }
 
-    /// Whether the document is a point in time without a time zone.
+    /// Returns `true` if the root is a timestamp without a time zone.
     ///
     /// # Errors
     ///
-    /// Those of reading.
+    /// Decoding errors.
     ///
-    /// # Cost
+    /// # Complexity
     ///
-    /// Constant, but a text is read whole. No memory.
+    /// O(1). Does not allocate.
+    ///
+    /// # Examples
+    ///
+    /// ```rust crates/jsonb_examples/src/calls.rt
+    /// if value.is_timestamp()? {
+    ///     return Ok("TIMESTAMP");
+    /// }
+    /// ```
     pub fn is_timestamp(&self) -> Result<bool, Error>
         ensures kind { Computes (λ tree. is_some (timestamp_in tree)) (raw_bytes self.now) result }
         ensures errors { IfErr result IsDecodingError }
+        ensures reads { OnOk result (HasRootShape (raw_bytes self.now)) }
     {
         Ok(matches!(
-            root_item(self.as_bytes())?,
-            Item::Extension(ExtensionValue::Timestamp(_))
+            root_shape(self.as_bytes())?,
+            Shape::Extension(ExtensionValue::Timestamp(_))
         ))
     }
 
-    /// Whether the document is a point in time with a time zone.
+    /// Returns `true` if the root is a timestamp with a time zone.
     ///
     /// # Errors
     ///
-    /// Those of reading.
+    /// Decoding errors.
     ///
-    /// # Cost
+    /// # Complexity
     ///
-    /// Constant, but a text is read whole. No memory.
+    /// O(1). Does not allocate.
+    ///
+    /// # Examples
+    ///
+    /// ```rust crates/jsonb_examples/src/calls.rt
+    /// if value.is_timestamp_tz()? {
+    ///     return Ok("TIMESTAMP WITH TIME ZONE");
+    /// }
+    /// ```
     pub fn is_timestamp_tz(&self) -> Result<bool, Error>
         ensures kind { Computes (λ tree. is_some (timestamp_tz_in tree)) (raw_bytes self.now) result }
         ensures errors { IfErr result IsDecodingError }
+        ensures reads { OnOk result (HasRootShape (raw_bytes self.now)) }
     {
         Ok(matches!(
-            root_item(self.as_bytes())?,
-            Item::Extension(ExtensionValue::TimestampTz(_))
+            root_shape(self.as_bytes())?,
+            Shape::Extension(ExtensionValue::TimestampTz(_))
         ))
     }
 
-    /// Whether the document is a length of time.
+    /// Returns `true` if the root is an interval.
     ///
     /// # Errors
     ///
-    /// Those of reading.
+    /// Decoding errors.
     ///
-    /// # Cost
+    /// # Complexity
     ///
-    /// Constant, but a text is read whole. No memory.
+    /// O(1). Does not allocate.
+    ///
+    /// # Examples
+    ///
+    /// ```rust crates/jsonb_examples/src/calls.rt
+    /// if value.is_interval()? {
+    ///     return Ok("INTERVAL");
+    /// }
+    /// ```
     pub fn is_interval(&self) -> Result<bool, Error>
         ensures kind { Computes (λ tree. is_some (interval_in tree)) (raw_bytes self.now) result }
         ensures errors { IfErr result IsDecodingError }
+        ensures reads { OnOk result (HasRootShape (raw_bytes self.now)) }
     {
         Ok(matches!(
-            root_item(self.as_bytes())?,
-            Item::Extension(ExtensionValue::Interval(_))
+            root_shape(self.as_bytes())?,
+            Shape::Extension(ExtensionValue::Interval(_))
         ))
     }
 
-    /// Whether the document is a number that is whole and fits `i64`. The decimal 1.0 is whole.
+    /// Returns `true` if the root is an integer that fits `i64`.
+    ///
+    /// The decimal 1.0 is an integer.
     ///
     /// # Errors
     ///
-    /// Those of reading.
+    /// Decoding errors.
     ///
-    /// # Cost
+    /// # Complexity
     ///
-    /// Constant, but a text is read whole. No memory.
+    /// O(1). Does not allocate.
+    ///
+    /// # Examples
+    ///
+    /// <!-- rows: calls: is_i64 -->
+    /// | Document | Result |
+    /// |---|---|
+    /// | `1.0` | true |
+    /// | `1.5` | false |
     pub fn is_i64(&self) -> Result<bool, Error>
         ensures kind { (form : Form) (tree : Tree) → Decodes form (raw_bytes self.now) tree
             → IsOkAnd result (λ b. IsTrue b ↔ ((z : ℤ) × IsWholeNumber tree z × FitsSigned w64 z)) }
         ensures errors { IfErr result IsDecodingError }
+        ensures reads { OnOk result (HasRootShape (raw_bytes self.now)) }
     {
         Ok(self.as_i64()?.is_some())
     }
 
-    /// Whether the document is a number that is whole and fits `u64`. The decimal 1.0 is whole.
+    /// Returns `true` if the root is an integer that fits `u64`.
+    ///
+    /// The decimal 1.0 is an integer.
     ///
     /// # Errors
     ///
-    /// Those of reading.
+    /// Decoding errors.
     ///
-    /// # Cost
+    /// # Complexity
     ///
-    /// Constant, but a text is read whole. No memory.
+    /// O(1). Does not allocate.
+    ///
+    /// # Examples
+    ///
+    /// <!-- rows: calls: is_u64 -->
+    /// | Document | Result |
+    /// |---|---|
+    /// | `1.0` | true |
     pub fn is_u64(&self) -> Result<bool, Error>
         ensures kind { (form : Form) (tree : Tree) → Decodes form (raw_bytes self.now) tree
             → IsOkAnd result (λ b. IsTrue b ↔ ((n : ℕ) × IsWholeNumber tree (pos n) × (n < 2 ^ 64))) }
         ensures errors { IfErr result IsDecodingError }
+        ensures reads { OnOk result (HasRootShape (raw_bytes self.now)) }
     {
         Ok(self.as_u64()?.is_some())
     }
 
-    /// `()` where the document is null, else `None`.
+    /// Returns `Some(())` if the root is null, and otherwise `None`.
     ///
     /// # Errors
     ///
-    /// Those of reading.
+    /// Decoding errors.
     ///
-    /// # Cost
+    /// # Complexity
     ///
-    /// Constant, but a text is read whole. No memory.
+    /// O(1). Does not allocate.
+    ///
+    /// # Examples
+    ///
+    /// <!-- rows: calls: as_null -->
+    /// | Document | Result |
+    /// |---|---|
+    /// | `false` | none |
     pub fn as_null(&self) -> Result<Option<()>, Error>
         ensures value { (form : Form) (tree : Tree) → Decodes form (raw_bytes self.now) tree
             → IsOkAnd result (λ found. is_some found ≡ is_null tree) }
         ensures errors { IfErr result IsDecodingError }
+        ensures reads { OnOk result (HasRootShape (raw_bytes self.now)) }
     {
-        match root_item(self.as_bytes())? {
-            Item::Null => Ok(Some(())),
+        match root_shape(self.as_bytes())? {
+            Shape::Null => Ok(Some(())),
             _ => Ok(None),
         }
     }
 
-    /// The truth value, where the document is one, else `None`.
+    /// Returns the Boolean, or `None` if the root is of another type.
     ///
     /// # Errors
     ///
-    /// Those of reading.
+    /// Decoding errors.
     ///
-    /// # Cost
+    /// # Complexity
     ///
-    /// Constant, but a text is read whole. No memory.
+    /// O(1). Does not allocate.
+    ///
+    /// # Examples
+    ///
+    /// <!-- rows: calls: as_bool -->
+    /// | Document | Result |
+    /// |---|---|
+    /// | `false` | `false` |
     pub fn as_bool(&self) -> Result<Option<bool>, Error>
         ensures value { Computes boolean_in (raw_bytes self.now) result }
         ensures errors { IfErr result IsDecodingError }
+        ensures reads { OnOk result (HasRootShape (raw_bytes self.now)) }
     {
-        match root_item(self.as_bytes())? {
-            Item::Boolean(value) => Ok(Some(value)),
+        match root_shape(self.as_bytes())? {
+            Shape::Boolean(value) => Ok(Some(value)),
             _ => Ok(None),
         }
     }
 
-    /// The number, where the document is one, else `None`. A zero is `UInt64(0)`, whatever variant it is stored as.
+    /// Returns the number, or `None` if the root is of another type.
+    ///
+    /// A zero is `UInt64(0)`, in any stored variant.
     ///
     /// # Errors
     ///
-    /// Those of reading.
+    /// Decoding errors.
     ///
-    /// # Cost
+    /// # Complexity
     ///
-    /// Constant, but a text is read whole. No memory.
+    /// O(1). Does not allocate.
+    ///
+    /// # Examples
+    ///
+    /// <!-- rows: calls: as_number -->
+    /// | Document | Result |
+    /// |---|---|
+    /// | `1.0` | `1.0` |
     pub fn as_number(&self) -> Result<Option<Number>, Error>
         ensures value { (form : Form) (tree : Tree) → Decodes form (raw_bytes self.now) tree
             → IsOkAnd result (λ found. SameOption (λ n m. number_parts n ≡ m) found (number_in tree)) }
         ensures errors { IfErr result IsDecodingError }
+        ensures reads { OnOk result (HasRootShape (raw_bytes self.now)) }
     {
-        match root_item(self.as_bytes())? {
-            Item::Number(number) => Ok(Some(number)),
+        match root_shape(self.as_bytes())? {
+            Shape::Number(number) => Ok(Some(number)),
             _ => Ok(None),
         }
     }
 
-    /// The text, borrowed, where the document is one, else `None`.
+    /// Returns the string, borrowed, or `None` if the root is of another type.
     ///
     /// # Errors
     ///
-    /// Those of reading.
+    /// Decoding errors.
     ///
-    /// # Cost
+    /// # Complexity
     ///
-    /// Constant, but a text is read whole. No memory.
+    /// O(1), or O(n) for a string. Does not allocate.
+    ///
+    /// # Examples
+    ///
+    /// <!-- rows: calls: as_str -->
+    /// | Document | Result |
+    /// |---|---|
+    /// | `"ab"` | `ab` |
     pub fn as_str(&self) -> Result<Option<CowStr<'a, Global>>, Error>
         ensures value { (form : Form) (tree : Tree) → Decodes form (raw_bytes self.now) tree
             → IsOkAnd result (λ found. SameOption BorrowsText found (text_in tree)) }
         ensures errors { IfErr result IsDecodingError }
+        ensures reads { OnOk result (HasRoot (raw_bytes self.now)) }
     {
         match root_item(self.as_bytes())? {
             Item::String(text) => Ok(Some(CowStr::Borrowed(text))),
@@ -375,173 +546,251 @@ impl<'a> RawJsonb<'a> {
         }
     }
 
-    /// The extension value, where the document is one, else `None`.
+    /// Returns the extension value, or `None` if the root is of another type.
     ///
     /// # Errors
     ///
-    /// Those of reading.
+    /// Decoding errors.
     ///
-    /// # Cost
+    /// # Complexity
     ///
-    /// Constant, but a text is read whole. No memory.
+    /// O(1). Does not allocate.
+    ///
+    /// # Examples
+    ///
+    /// ```rust crates/jsonb_examples/src/calls.rt
+    /// let Some(extension) = value.as_extension_value()? else {
+    ///     return Ok(None);
+    /// };
+    /// let text = match extension {
+    ///     ExtensionValue::Binary(bytes) => format!(in alloc; "{} bytes", bytes.len())?,
+    ///     ExtensionValue::Date(date) => format!(in alloc; "day {}", date.value)?,
+    /// ```
     pub fn as_extension_value(&self) -> Result<Option<ExtensionValue<'a>>, Error>
         ensures value { (form : Form) (tree : Tree) → Decodes form (raw_bytes self.now) tree
             → IsOkAnd result (λ found. SameOption (λ x y. extension_view x ≡ y) found (extension_in tree)) }
         ensures errors { IfErr result IsDecodingError }
+        ensures reads { OnOk result (HasRootShape (raw_bytes self.now)) }
     {
-        match root_item(self.as_bytes())? {
-            Item::Extension(value) => Ok(Some(value)),
+        match root_shape(self.as_bytes())? {
+            Shape::Extension(value) => Ok(Some(value)),
             _ => Ok(None),
         }
     }
 
-    /// The day, where the document is one, else `None`.
+    /// Returns the date, or `None` if the root is of another type.
     ///
     /// # Errors
     ///
-    /// Those of reading.
+    /// Decoding errors.
     ///
-    /// # Cost
+    /// # Complexity
     ///
-    /// Constant, but a text is read whole. No memory.
+    /// O(1). Does not allocate.
+    ///
+    /// # Examples
+    ///
+    /// ```rust crates/jsonb_examples/src/calls.rt
+    /// let date = value.as_date()?;
+    /// Ok(date.map(|it| it.value))
+    /// ```
     pub fn as_date(&self) -> Result<Option<Date>, Error>
         ensures value { (form : Form) (tree : Tree) → Decodes form (raw_bytes self.now) tree
             → IsOkAnd result (λ found. SameOption (λ day value. day.value ≡ value) found (date_in tree)) }
         ensures errors { IfErr result IsDecodingError }
+        ensures reads { OnOk result (HasRootShape (raw_bytes self.now)) }
     {
-        match root_item(self.as_bytes())? {
-            Item::Extension(ExtensionValue::Date(date)) => Ok(Some(date)),
+        match root_shape(self.as_bytes())? {
+            Shape::Extension(ExtensionValue::Date(date)) => Ok(Some(date)),
             _ => Ok(None),
         }
     }
 
-    /// The point in time without a time zone, where the document is one, else `None`.
+    /// Returns the timestamp without a time zone, or `None` if the root is of another type.
     ///
     /// # Errors
     ///
-    /// Those of reading.
+    /// Decoding errors.
     ///
-    /// # Cost
+    /// # Complexity
     ///
-    /// Constant, but a text is read whole. No memory.
+    /// O(1). Does not allocate.
+    ///
+    /// # Examples
+    ///
+    /// ```rust crates/jsonb_examples/src/calls.rt
+    /// if let Some(time) = value.as_timestamp()? {
+    ///     return Ok(Some(time.value));
+    /// }
+    /// ```
     pub fn as_timestamp(&self) -> Result<Option<Timestamp>, Error>
         ensures value { (form : Form) (tree : Tree) → Decodes form (raw_bytes self.now) tree
             → IsOkAnd result (λ found. SameOption (λ time value. time.value ≡ value) found (timestamp_in tree)) }
         ensures errors { IfErr result IsDecodingError }
+        ensures reads { OnOk result (HasRootShape (raw_bytes self.now)) }
     {
-        match root_item(self.as_bytes())? {
-            Item::Extension(ExtensionValue::Timestamp(timestamp)) => Ok(Some(timestamp)),
+        match root_shape(self.as_bytes())? {
+            Shape::Extension(ExtensionValue::Timestamp(timestamp)) => Ok(Some(timestamp)),
             _ => Ok(None),
         }
     }
 
-    /// The point in time with a time zone, where the document is one, else `None`.
+    /// Returns the timestamp with a time zone, or `None` if the root is of another type.
     ///
     /// # Errors
     ///
-    /// Those of reading.
+    /// Decoding errors.
     ///
-    /// # Cost
+    /// # Complexity
     ///
-    /// Constant, but a text is read whole. No memory.
+    /// O(1). Does not allocate.
+    ///
+    /// # Examples
+    ///
+    /// ```rust crates/jsonb_examples/src/calls.rt
+    /// match value.as_timestamp_tz()? {
+    ///     Some(time) => Ok(Some(time.value)),
+    ///     None => Ok(None),
+    /// }
+    /// ```
     pub fn as_timestamp_tz(&self) -> Result<Option<TimestampTz>, Error>
         ensures value { (form : Form) (tree : Tree) → Decodes form (raw_bytes self.now) tree
             → IsOkAnd result (λ found.
             SameOption (λ time parts. (time.offset, time.value) ≡ parts) found (timestamp_tz_in tree)) }
         ensures errors { IfErr result IsDecodingError }
+        ensures reads { OnOk result (HasRootShape (raw_bytes self.now)) }
     {
-        match root_item(self.as_bytes())? {
-            Item::Extension(ExtensionValue::TimestampTz(timestamp)) => Ok(Some(timestamp)),
+        match root_shape(self.as_bytes())? {
+            Shape::Extension(ExtensionValue::TimestampTz(timestamp)) => Ok(Some(timestamp)),
             _ => Ok(None),
         }
     }
 
-    /// The length of time, where the document is one, else `None`.
+    /// Returns the interval, or `None` if the root is of another type.
     ///
     /// # Errors
     ///
-    /// Those of reading.
+    /// Decoding errors.
     ///
-    /// # Cost
+    /// # Complexity
     ///
-    /// Constant, but a text is read whole. No memory.
+    /// O(1). Does not allocate.
+    ///
+    /// # Examples
+    ///
+    /// ```rust crates/jsonb_examples/src/calls.rt
+    /// match value.as_interval()? {
+    ///     Some(period) => Ok(Some((period.months, period.days))),
+    ///     None => Ok(None),
+    /// }
+    /// ```
     pub fn as_interval(&self) -> Result<Option<Interval>, Error>
         ensures value { (form : Form) (tree : Tree) → Decodes form (raw_bytes self.now) tree
             → IsOkAnd result (λ found.
             SameOption (λ time parts. (time.months, time.days, time.micros) ≡ parts) found (interval_in tree)) }
         ensures errors { IfErr result IsDecodingError }
+        ensures reads { OnOk result (HasRootShape (raw_bytes self.now)) }
     {
-        match root_item(self.as_bytes())? {
-            Item::Extension(ExtensionValue::Interval(interval)) => Ok(Some(interval)),
+        match root_shape(self.as_bytes())? {
+            Shape::Extension(ExtensionValue::Interval(interval)) => Ok(Some(interval)),
             _ => Ok(None),
         }
     }
 
-    /// A copy of the bytes, where the document is a binary value, else `None`.
+    /// Returns a copy of the bytes of a binary value, or `None` if the root is of another type.
     ///
     /// # Errors
     ///
-    /// Those of taking memory.
+    /// Allocation errors.
     ///
-    /// # Cost
+    /// # Complexity
     ///
-    /// Linear in the bytes, which are copied. Takes memory.
+    /// O(n). Allocates; the bytes are copied.
+    ///
+    /// # Examples
+    ///
+    /// ```rust crates/jsonb_examples/src/calls.rt
+    /// match value.as_binary(alloc)? {
+    ///     Some(bytes) => Ok(bytes),
+    ///     None => Ok(Vec::new(alloc)),
+    /// }
+    /// ```
     pub fn as_binary(&self, alloc: Global) -> Result<Option<Vec<u8>>, Error>
         ensures value { (form : Form) (tree : Tree) → Decodes form (raw_bytes self.now) tree
             → MatchResult result (λ found. SameOption (λ copy bytes. copy.items ≡ bytes) found (binary_in tree))
             (λ e. IsOutOfMemory e × IsSome (binary_in tree)) }
         ensures errors { IfErr result (IsDecodingError or OutOfMemory) }
+        ensures reads { OnOk result (HasRootShape (raw_bytes self.now)) }
     {
-        match root_item(self.as_bytes())? {
-            Item::Extension(ExtensionValue::Binary(bytes)) => {
+        match root_shape(self.as_bytes())? {
+            Shape::Extension(ExtensionValue::Binary(bytes)) => {
                 Ok(Some(Vec::from_slice(alloc, bytes)?))
             }
             _ => Ok(None),
         }
     }
 
-    /// The number as an `i64`, where the document is a number that is whole and fits, else `None`. The decimal 1.0 is
-    /// whole.
+    /// Returns the number as an `i64`, or `None` if the root is not an integer that fits.
+    ///
+    /// The decimal 1.0 is an integer.
     ///
     /// # Errors
     ///
-    /// Those of reading.
+    /// Decoding errors.
     ///
-    /// # Cost
+    /// # Complexity
     ///
-    /// Constant, but a text is read whole. No memory.
+    /// O(1). Does not allocate.
+    ///
+    /// # Examples
+    ///
+    /// <!-- rows: calls: as_i64 -->
+    /// | Document | Result |
+    /// |---|---|
+    /// | `1.0` | `1` |
+    /// | `1.5` | none |
     pub fn as_i64(&self) -> Result<Option<i64>, Error>
         ensures value { (form : Form) (tree : Tree) → Decodes form (raw_bytes self.now) tree
             → IsOkAnd result (λ found. MatchOption found
             ((z : ℤ) → IsWholeNumber tree z → FitsSigned w64 z → ⊥)
             (λ z. IsWholeNumber tree z)) }
         ensures errors { IfErr result IsDecodingError }
+        ensures reads { OnOk result (HasRootShape (raw_bytes self.now)) }
     {
-        match root_item(self.as_bytes())? {
-            Item::Number(number) => Ok(number.as_i64()),
+        match root_shape(self.as_bytes())? {
+            Shape::Number(number) => Ok(number.as_i64()),
             _ => Ok(None),
         }
     }
 
-    /// The number as a `u64`, where the document is a number that is whole and fits, else `None`. The decimal 1.0 is
-    /// whole.
+    /// Returns the number as a `u64`, or `None` if the root is not an integer that fits.
+    ///
+    /// The decimal 1.0 is an integer.
     ///
     /// # Errors
     ///
-    /// Those of reading.
+    /// Decoding errors.
     ///
-    /// # Cost
+    /// # Complexity
     ///
-    /// Constant, but a text is read whole. No memory.
+    /// O(1). Does not allocate.
+    ///
+    /// # Examples
+    ///
+    /// <!-- rows: calls: as_u64 -->
+    /// | Document | Result |
+    /// |---|---|
+    /// | `1.0` | `1` |
     pub fn as_u64(&self) -> Result<Option<u64>, Error>
         ensures value { (form : Form) (tree : Tree) → Decodes form (raw_bytes self.now) tree
             → IsOkAnd result (λ found. MatchOption found
             ((n : ℕ) → IsWholeNumber tree (pos n) → n < 2 ^ 64 → ⊥)
             (λ n. IsWholeNumber tree (pos n))) }
         ensures errors { IfErr result IsDecodingError }
+        ensures reads { OnOk result (HasRootShape (raw_bytes self.now)) }
     {
-        match root_item(self.as_bytes())? {
-            Item::Number(number) => Ok(number.as_u64()),
+        match root_shape(self.as_bytes())? {
+            Shape::Number(number) => Ok(number.as_u64()),
             _ => Ok(None),
         }
     }

@@ -23,7 +23,7 @@ use jsonb_keypath::parse_key_paths;
 use std::alloc::{AllocError, Global};
 use std::collections::BTreeSet;
 
-/// What a call is made on, what it is given, and the answer that is wanted.
+/// The document and the arguments of a call, and the expected result.
 #[derive(Drop)]
 struct Asked<'d, 'o, 't> {
     alloc: Global,
@@ -33,7 +33,7 @@ struct Asked<'d, 'o, 't> {
     wanted: &'t str,
 }
 
-/// The names of a text with commas in between.
+/// Returns the names of a comma-separated list.
 fn names<'a>(alloc: Global, text: &'a str) -> Result<Vec<&'a str>, AllocError> {
     let mut names = Vec::new(alloc);
     if !text.is_empty() {
@@ -42,7 +42,7 @@ fn names<'a>(alloc: Global, text: &'a str) -> Result<Vec<&'a str>, AllocError> {
     Ok(names)
 }
 
-/// The same names as a set.
+/// Returns the names of a comma-separated list as a set.
 fn name_set<'a>(alloc: Global, text: &'a str) -> Result<BTreeSet<&'a str>, AllocError> {
     let mut set = BTreeSet::new(alloc);
     if !text.is_empty() {
@@ -51,7 +51,7 @@ fn name_set<'a>(alloc: Global, text: &'a str) -> Result<BTreeSet<&'a str>, Alloc
     Ok(set)
 }
 
-/// Whether the document has all of the texts: a caller, with what it knows of the answer.
+/// Returns whether the document has all of the names: a caller, with what it knows of the result.
 fn has_each(document: &RawJsonb<'_>, names: &[&str]) -> Result<bool, Error>
     ensures { (form : Form) (t : Tree) → Decodes form (raw_bytes document.now) t
         → IsOkAnd result (λ b. b ≡ has_all (map (λ name. name.now) names.now) t) }
@@ -59,13 +59,13 @@ fn has_each(document: &RawJsonb<'_>, names: &[&str]) -> Result<bool, Error>
     document.exists_all_keys(names.iter().copied())
 }
 
-/// A number of a text, 0 of any other text.
+/// Returns the number of an argument, 0 if it is not one.
 fn index(text: &str) -> i32 {
     text.parse::<i32>().unwrap_or(0)
 }
 
 impl Asked<'_, '_, '_> {
-    /// Whether the call answers what is wanted, which may be a refusal.
+    /// Returns whether the call has the expected result, which may be an error.
     fn holds(&self, call: &str) -> Result<bool, Error> {
         match self.place_holds(call) {
             Ok(is_so) => Ok(is_so),
@@ -76,18 +76,18 @@ impl Asked<'_, '_, '_> {
         }
     }
 
-    /// Whether these bytes are wanted.
+    /// Returns whether these bytes are the expected result.
     fn is_wanted(&self, bytes: &[u8]) -> Result<bool, Error> {
         Ok(digits(self.alloc, bytes)?.as_str() == self.wanted)
     }
 
-    /// The part at a key path.
+    /// Returns the value at a key path.
     fn part(&self) -> Result<Option<OwnedJsonb>, Error> {
         let path = parse_key_paths(self.alloc, self.text.as_bytes())?;
         part_at(self.alloc, &self.document, &path)
     }
 
-    /// Of calls that read a place.
+    /// Runs functions that return a value of the document.
     fn place_holds(&self, call: &str) -> Result<bool, Error> {
         let (alloc, document, text) = (self.alloc, &self.document, self.text);
         let found = match call {
@@ -104,7 +104,7 @@ impl Asked<'_, '_, '_> {
         }
     }
 
-    /// Of calls that answer several documents.
+    /// Runs functions that return several documents.
     fn list_holds(&self, call: &str) -> Result<bool, Error> {
         match call {
             "array_values" => self.elements_hold(),
@@ -134,7 +134,7 @@ impl Asked<'_, '_, '_> {
         Ok(listed_leaves(self.alloc, &leaves)?.as_str() == self.wanted)
     }
 
-    /// The object with the pairs of a set of names alone, or without them.
+    /// Returns the object with only the members of a set of names, or without them.
     fn by_names(&self, is_picked: bool) -> Result<OwnedJsonb, Error> {
         let names = name_set(self.alloc, self.text)?;
         if is_picked {
@@ -144,14 +144,14 @@ impl Asked<'_, '_, '_> {
         }
     }
 
-    /// The document without the part at a key path.
+    /// Returns the document without the value at a key path.
     fn without_part(&self) -> Result<OwnedJsonb, Error> {
         let path = parse_key_paths(self.alloc, self.text.as_bytes())?;
         self.document
             .delete_by_keypath(self.alloc, path.paths.iter())
     }
 
-    /// Of calls that answer a document.
+    /// Runs functions that return a document.
     fn edit_holds(&self, call: &str) -> Result<bool, Error> {
         let (alloc, document, other, text) = (self.alloc, &self.document, &self.other, self.text);
         let made = match call {
@@ -173,7 +173,7 @@ impl Asked<'_, '_, '_> {
         self.is_wanted(made?.as_raw().as_bytes())
     }
 
-    /// Of keys of documents.
+    /// Runs functions that return a key.
     fn key_holds(&self, call: &str) -> Result<bool, Error> {
         let (alloc, document) = (self.alloc, &self.document);
         let key = match call {
@@ -185,7 +185,7 @@ impl Asked<'_, '_, '_> {
         self.is_wanted(&key?)
     }
 
-    /// Whether all or any of the names are there.
+    /// Returns `true` if all, or any, of the names exist.
     fn names_exist(&self, all: bool) -> Result<bool, Error> {
         let names = names(self.alloc, self.text)?;
         if all {
@@ -195,7 +195,7 @@ impl Asked<'_, '_, '_> {
         }
     }
 
-    /// Of calls that say whether something is so.
+    /// Runs functions that return a Boolean.
     fn truth_holds(&self, call: &str) -> Result<bool, Error> {
         let (document, other, text) = (&self.document, &self.other, self.text);
         let is_so = match call {
@@ -211,7 +211,7 @@ impl Asked<'_, '_, '_> {
     }
 }
 
-/// The parts of a row: the call, its document, another one, a text, and the answer.
+/// Returns the columns of a row: the call, its document, another one, a string, and the result.
 fn parts(row: &str) -> Option<(&str, &str, &str, &str, &str)> {
     let (asked, wanted) = row.split_once(" =>")?;
     let (call, rest) = asked.split_once(' ')?;
@@ -226,7 +226,7 @@ fn parts(row: &str) -> Option<(&str, &str, &str, &str, &str)> {
     ))
 }
 
-/// Whether a row says what is answered.
+/// Returns whether a row states the result.
 fn holds(alloc: Global, row: &str) -> Result<bool, Error> {
     let Some((call, document, other, text, wanted)) = parts(row) else {
         return Ok(false);

@@ -3,7 +3,7 @@
 use crate::OwnedJsonb;
 use crate::raw::RawJsonb;
 use crate::tests::documents::{
-    ALONE, EMPTY_ARRAY, EMPTY_OBJECT, Level, MEMBER, NULL_IN_ARRAY, nested,
+    ALONE, ChildCursor, EMPTY_ARRAY, EMPTY_OBJECT, MEMBER, NULL_IN_ARRAY, nested,
 };
 use jsonb_doc::{Error, Value};
 use jsonb_keypath::{KeyPath, KeyPaths};
@@ -20,15 +20,15 @@ const X_IN_OBJECT: &[u8] = b"\x40\0\0\x01\x10\0\0\x01\x10\0\0\x01ax";
 const TRUE_IN_ARRAY: &[u8] = b"\x80\0\0\x01\x40\0\0\0";
 
 /// `[child,null]`
-const FIRST: Level = (b"\x80\0\0\x02", b"\0\0\0\0");
+const FIRST: ChildCursor = (b"\x80\0\0\x02", b"\0\0\0\0");
 
 /// `[null,child]`
-const LAST: Level = (b"\x80\0\0\x02\0\0\0\0", b"");
+const LAST: ChildCursor = (b"\x80\0\0\x02\0\0\0\0", b"");
 
-/// So many steps into levels that have the child alone: by its index, or by its key.
+/// Returns this many steps into levels that have only the child: by its index, or by its key.
 fn steps_into(
     alloc: Global,
-    level: Level,
+    level: ChildCursor,
     count: u32,
 ) -> Result<Vec<KeyPath<'static>>, AllocError> {
     let mut steps = Vec::new(alloc);
@@ -42,9 +42,9 @@ fn steps_into(
     Ok(steps)
 }
 
-/// So many levels of a kind, the container within, and how many steps lead to what is taken out; then how many levels
-/// are left, and the container within.
-type TakenOut = (Level, u32, &'static [u8], u32, u32, &'static [u8]);
+/// A number of levels of a kind, the container within, and the number of steps to what is deleted; then the levels
+/// that remain, and the container within.
+type TakenOut = (ChildCursor, u32, &'static [u8], u32, u32, &'static [u8]);
 
 static TAKEN_OUT: [TakenOut; 4] = [
     (ALONE, 199_999, X_IN_ARRAY, 200_000, 199_999, EMPTY_ARRAY),
@@ -53,10 +53,10 @@ static TAKEN_OUT: [TakenOut; 4] = [
     (ALONE, 299, EMPTY_ARRAY, 300, 299, EMPTY_ARRAY),
 ];
 
-/// What is left of a document.
+/// Returns what remains of a document.
 fn left_of(
     alloc: Global,
-    level: Level,
+    level: ChildCursor,
     levels: u32,
     core: &[u8],
     steps: u32,
@@ -66,7 +66,7 @@ fn left_of(
     RawJsonb::new(&document).delete_by_keypath(alloc, steps.iter())
 }
 
-/// Whether that is left which is wanted.
+/// Returns whether the rest is the expected one.
 fn is_taken_out(alloc: Global, row: &TakenOut) -> Result<bool, Error> {
     let (level, levels, core, steps, levels_left, core_left) = *row;
     let wanted = nested(alloc, &[level], levels_left, core_left)?;
@@ -81,20 +81,20 @@ fn parts_taken_out_of_deep_documents(rt: HostRuntime) {
     }
 }
 
-/// Whether the document's equality key is so long and ends with the text `x`.
+/// Returns `true` if the equality key of the document has this length and ends with the string `x`.
 fn has_equality_key(alloc: Global, document: RawJsonb<'_>, len: usize) -> Result<bool, Error> {
     let key = document.equality_key(alloc)?;
     Ok(key.len() == len && key.ends_with(b"\x05x\0"))
 }
 
-/// Whether nothing is stripped of the document.
+/// Returns `true` if nothing is stripped of the document.
 fn keeps_all(alloc: Global, document: RawJsonb<'_>) -> Result<bool, Error> {
     let stripped = document.strip_nulls(alloc)?;
     Ok(stripped.as_raw().as_bytes() == document.as_bytes())
 }
 
-/// Whether a step leads into a level that has the child alone.
-fn leads_into(level: Level, step: &KeyPath<'_>) -> bool {
+/// Returns `true` if a step selects the child of a level that has only the child.
+fn leads_into(level: ChildCursor, step: &KeyPath<'_>) -> bool {
     match step {
         KeyPath::Index(index) => level.1.is_empty() && *index == 0,
         KeyPath::Name(name) => !level.1.is_empty() && name.as_str() == "a",
@@ -102,8 +102,8 @@ fn leads_into(level: Level, step: &KeyPath<'_>) -> bool {
     }
 }
 
-/// Whether a leaf is the text `x`, 200,000 steps into levels of this kind.
-fn is_deep_leaf(leaf: &(KeyPaths<'_>, Value<'_>), level: Level) -> bool {
+/// Returns `true` if a leaf is the string `x`, 200,000 steps into levels of this type.
+fn is_deep_leaf(leaf: &(KeyPaths<'_>, Value<'_>), level: ChildCursor) -> bool {
     let Value::String(text) = &leaf.1 else {
         return false;
     };
@@ -114,8 +114,8 @@ fn is_deep_leaf(leaf: &(KeyPaths<'_>, Value<'_>), level: Level) -> bool {
     is_so
 }
 
-/// Whether the document's only leaf is one.
-fn has_deep_leaf(alloc: Global, document: RawJsonb<'_>, level: Level) -> Result<bool, Error> {
+/// Returns `true` if the only leaf of the document is such a leaf.
+fn has_deep_leaf(alloc: Global, document: RawJsonb<'_>, level: ChildCursor) -> Result<bool, Error> {
     let found = document.extract_scalar_key_values(alloc, false)?;
     Ok(match found.as_slice() {
         [leaf] => is_deep_leaf(leaf, level),
@@ -123,11 +123,12 @@ fn has_deep_leaf(alloc: Global, document: RawJsonb<'_>, level: Level) -> Result<
     })
 }
 
-/// Whether the walks over a document of 200,000 levels of this kind answer what its only text `x` lets them.
+/// Returns whether the walks over a document of 200,000 levels of this kind return what its only string `x` lets
+/// them.
 fn is_walked(
     alloc: Global,
     document: RawJsonb<'_>,
-    level: Level,
+    level: ChildCursor,
     key_len: usize,
 ) -> Result<bool, Error> {
     let is_deep = document.depth()? == 200_000;
@@ -159,7 +160,8 @@ fn nothing_is_stripped_of_300_arrays(rt: HostRuntime) -> Result<(), AllocError> 
     Ok(())
 }
 
-/// Whether what is distinct in a document has so many bytes, and is what it shares with itself; nothing else is left.
+/// Returns whether the distinct elements of a document have this many bytes, and are what it shares with itself;
+/// nothing else remains.
 fn has_sets(alloc: Global, document: RawJsonb<'_>, len: usize) -> Result<bool, Error> {
     let distinct = document.array_distinct(alloc)?;
     let shared = document.array_intersection(alloc, &document)?;
@@ -171,7 +173,7 @@ fn has_sets(alloc: Global, document: RawJsonb<'_>, len: usize) -> Result<bool, E
     )
 }
 
-/// Whether a document has nothing that it does not share with itself.
+/// Returns `true` if a document has nothing that it does not share with itself.
 fn has_nothing_alone(alloc: Global, document: RawJsonb<'_>) -> Result<bool, Error> {
     let unshared = document.array_except(alloc, &document)?;
     Ok(unshared.as_raw().as_bytes() == EMPTY_ARRAY)
@@ -187,16 +189,21 @@ fn sets_of_deep_documents(rt: HostRuntime) -> Result<(), AllocError> {
     Ok(())
 }
 
-/// How many bytes the wide key of such a document has.
-fn wide_key_len(alloc: Global, level: Level, levels: u32, core: &[u8]) -> Result<usize, Error> {
+/// Returns the number of bytes of the wide key of such a document.
+fn wide_key_len(
+    alloc: Global,
+    level: ChildCursor,
+    levels: u32,
+    core: &[u8],
+) -> Result<usize, Error> {
     let document = nested(alloc, &[level], levels, core)?;
     let key = RawJsonb::new(&document).convert_to_comparable_wide(alloc)?;
     Ok(key.len())
 }
 
-/// How many levels of a kind, the container within, and how long the key is: a depth in two bytes and a kind for each of
-/// 65,536 values, and the text's byte and end.
-static WIDE_KEYS: [(Level, u32, &[u8], Result<usize, Error>); 5] = [
+/// The number of levels of a type, the container within, and the length of the key: a depth in two bytes and a type for
+/// each of 65,536 values, and the string's byte and end marker.
+static WIDE_KEYS: [(ChildCursor, u32, &[u8], Result<usize, Error>); 5] = [
     (ALONE, 65_534, X_IN_ARRAY, Ok(196_610)),
     (ALONE, 65_535, X_IN_ARRAY, Err(Error::TooDeep)),
     (ALONE, 199_999, X_IN_ARRAY, Err(Error::TooDeep)),
@@ -212,23 +219,23 @@ fn wide_keys_of_deep_documents(rt: HostRuntime) {
     }
 }
 
-/// Whether a document of these levels contains itself.
-fn contains_itself(alloc: Global, levels: &[Level]) -> Result<bool, Error> {
+/// Returns `true` if a document of these levels contains itself.
+fn contains_itself(alloc: Global, levels: &[ChildCursor]) -> Result<bool, Error> {
     let document = nested(alloc, levels, 100_000, NULL_IN_ARRAY)?;
     let raw = RawJsonb::new(&document);
     raw.contains(&raw)
 }
 
-/// Whether two documents of these levels overlap that differ in the innermost value.
-fn overlap(alloc: Global, levels: &[Level]) -> Result<bool, Error> {
+/// Returns `true` if two documents of these levels overlap that differ in the innermost value.
+fn overlap(alloc: Global, levels: &[ChildCursor]) -> Result<bool, Error> {
     let one = nested(alloc, levels, 100_000, NULL_IN_ARRAY)?;
     let other = nested(alloc, levels, 100_000, TRUE_IN_ARRAY)?;
     RawJsonb::new(&one).array_overlap(&RawJsonb::new(&other))
 }
 
-static CONTAINED: [[Level; 2]; 2] = [[FIRST, LAST], [MEMBER, ALONE]];
+static CONTAINED: [[ChildCursor; 2]; 2] = [[FIRST, LAST], [MEMBER, ALONE]];
 
-static COMPARED: [[Level; 2]; 2] = [[ALONE, ALONE], [ALONE, MEMBER]];
+static COMPARED: [[ChildCursor; 2]; 2] = [[ALONE, ALONE], [ALONE, MEMBER]];
 
 #[test]
 fn deep_documents_are_compared(rt: HostRuntime) {

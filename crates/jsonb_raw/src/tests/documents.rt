@@ -31,25 +31,25 @@ pub(crate) const FLOAT: &[u8] = b"\x20\0\0\0\x20\0\0\x09\x60\x3f\xf8\0\0\0\0\0\0
 /// `[null]`
 pub(crate) const NULL_IN_ARRAY: &[u8] = b"\x80\0\0\x01\0\0\0\0";
 
-/// A kind of container around one that goes on: what stands before and behind the entry word of that one.
-pub(crate) type Level = (&'static [u8], &'static [u8]);
+/// A kind of container around one that continues: what precedes and follows the entry word of that one.
+pub(crate) type ChildCursor = (&'static [u8], &'static [u8]);
 
 /// `[child]`
-pub(crate) const ALONE: Level = (b"\x80\0\0\x01", b"");
+pub(crate) const ALONE: ChildCursor = (b"\x80\0\0\x01", b"");
 
 /// `{"a":child}`
-pub(crate) const MEMBER: Level = (b"\x40\0\0\x01\x10\0\0\x01", b"a");
+pub(crate) const MEMBER: ChildCursor = (b"\x40\0\0\x01\x10\0\0\x01", b"a");
 
-/// The bytes of a level, its entry word among them.
-fn level_len(level: Level) -> u32 {
+/// Returns the number of bytes of a level, its entry word among them.
+fn level_len(level: ChildCursor) -> u32 {
     let around = level.0.len().wrapping_add(level.1.len());
     u32::try_from(around).unwrap_or(0).wrapping_add(4)
 }
 
-/// A container in so many rounds of these levels, the first one outermost.
+/// Returns a container in this many rounds of these levels, the first one outermost.
 pub(crate) fn nested(
     alloc: Global,
-    levels: &[Level],
+    levels: &[ChildCursor],
     rounds: u32,
     core: &[u8],
 ) -> Result<Vec<u8>, AllocError> {

@@ -1,4 +1,4 @@
-//! Leaves as values. What leaves are as documents stands in the tables of docs/CALLS.md.
+//! Leaves as values. Leaves as documents are rows of docs/rows/calls.tsv.
 
 use crate::RawJsonb;
 use crate::tests::documents::{
@@ -32,7 +32,7 @@ const TRUE: &[u8] = b"\x20\0\0\0\x40\0\0\0";
 /// A printed key path, and a document of the value.
 type Leaf = (&'static str, &'static [u8]);
 
-/// Documents, their leaves, and those where arrays are ignored.
+/// Documents, their leaves, and those with arrays ignored.
 static LEAVES: [(&[u8], &[Leaf], &[Leaf]); 17] = [
     // [false,10,{"k":"v"}]
     (
@@ -101,7 +101,7 @@ static LEAVES: [(&[u8], &[Leaf], &[Leaf]); 17] = [
         &[("{\"a b\"}", NULL)],
         &[("{\"a b\"}", NULL)],
     ),
-    // the root is no leaf
+    // the root is not a leaf
     (EMPTY_ARRAY, &[], &[]),
     (EMPTY_OBJECT, &[], &[]),
     (NULL, &[], &[]),
@@ -111,7 +111,7 @@ static LEAVES: [(&[u8], &[Leaf], &[Leaf]); 17] = [
     (DATE, &[], &[]),
 ];
 
-/// Whether a leaf's path prints so, and its value is that of the document.
+/// Returns `true` if the path of a leaf prints this text, and its value is that of the document.
 fn is_leaf(
     alloc: Global,
     leaf: &(KeyPaths<'static>, Value<'static>),
@@ -122,7 +122,7 @@ fn is_leaf(
     Ok(printed.as_str() == path && leaf.1 == to_value(alloc, &root_item(document)?)?)
 }
 
-/// Whether a document has these leaves.
+/// Returns `true` if a document has these leaves.
 fn has_leaves(
     alloc: Global,
     document: &'static [u8],
@@ -147,7 +147,7 @@ fn leaves_come_in_stored_order(rt: HostRuntime) {
     }
 }
 
-/// Whether a leaf has the names and texts that it borrows: the last one of `[false, 10, {"k":"v"}]`.
+/// Returns whether a leaf has the names and strings that it borrows: the last one of `[false, 10, {"k":"v"}]`.
 fn is_borrowed(leaf: &(KeyPaths<'_>, Value<'_>)) -> bool {
     let is_path_borrowed = matches!(
         leaf.0.paths.as_slice(),
@@ -156,7 +156,7 @@ fn is_borrowed(leaf: &(KeyPaths<'_>, Value<'_>)) -> bool {
     is_path_borrowed && matches!(&leaf.1, Value::String(CowStr::Borrowed("v")))
 }
 
-/// Whether the last leaf is one.
+/// Returns `true` if the last leaf borrows its names and strings.
 fn has_borrowed_leaf(alloc: Global, document: &[u8]) -> Result<bool, Error> {
     let found = RawJsonb::new(document).extract_scalar_key_values(alloc, false)?;
     Ok(match found.last() {

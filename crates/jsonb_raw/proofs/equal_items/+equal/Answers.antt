@@ -25,8 +25,8 @@ entries_equal-returns-in_err-other-clause-equal t c = λ form other_form ts us d
     SomeEntries-first form _ _ _ _ _ c.in_ok-entry.was c.in-Some.ensures.steps (c.loop-entry.invariant.left form other_form ts us d e)
     (λ first rest left stored fact. SomeEntries-error other_form _ _ _ _ _ c.in_err-other.was c.in-Some-next.ensures.steps fact)
 
-pub entries_equal-loop-entry-preserved-then-is_beyond : goal.entries_equal-loop-entry-preserved-then-is_beyond
-entries_equal-loop-entry-preserved-then-is_beyond t c =
+pub entries_equal-loop-entry-preserved-then-is_container_longer_than : goal.entries_equal-loop-entry-preserved-then-is_container_longer_than
+entries_equal-loop-entry-preserved-then-is_container_longer_than t c =
     let none : c.loop-entry.large ≡ None = search rules in
     let size = rw c.in_ok-entry.was at c.in-Some.ensures.steps.size in
     record {
@@ -128,18 +128,18 @@ entries_equal-returns-clause-equal t c = λ form other_form ts us d e.
 pub items_equal-returns-in-Known-clause-equal : goal.items_equal-returns-in-Known-clause-equal
 items_equal-returns-in-Known-clause-equal t c = λ form other_form s u h i. rw c.in-Known.is at (c.loop-left.invariant.left form other_form s u h i)
 
-pub items_equal-returns-in_err-left-in-AsOf-clause-equal : goal.items_equal-returns-in_err-left-in-AsOf-clause-equal
-items_equal-returns-in_err-left-in-AsOf-clause-equal t c = λ form other_form s u h i.
-    let l = rw c.in-AsOf.is at (c.loop-left.invariant.left form other_form s u h i) in
-    absurd (c.in_err-left-in-AsOf.ensures.equal form other_form l.0 l.1 l.2 l.3)
+pub items_equal-returns-in_err-left-in-Deferred-clause-equal : goal.items_equal-returns-in_err-left-in-Deferred-clause-equal
+items_equal-returns-in_err-left-in-Deferred-clause-equal t c = λ form other_form s u h i.
+    let l = rw c.in-Deferred.is at (c.loop-left.invariant.left form other_form s u h i) in
+    absurd (c.in_err-left-in-Deferred.ensures.equal form other_form l.0 l.1 l.2 l.3)
 
 pub items_equal-loop-left-preserved : goal.items_equal-loop-left-preserved
 items_equal-loop-left-preserved t c = record {
-  shorter = let size = rw c.in-AsOf.is at c.loop-left.invariant.shorter in
-      omega (arith, size, first_falls _ _ c.in_ok-left-in-AsOf.ensures.shorter);
+  shorter = let size = rw c.in-Deferred.is at c.loop-left.invariant.shorter in
+      omega (arith, size, first_falls _ _ c.in_ok-left-in-Deferred.ensures.shorter);
   left = λ form other_form s u h i.
-      decided_along is_equal form other_form _ _ _ _ (rw c.in-AsOf.is at (c.loop-left.invariant.left form other_form s u h i))
-      (c.in_ok-left-in-AsOf.ensures.equal form other_form);
+      decided_along is_equal form other_form _ _ _ _ (rw c.in-Deferred.is at (c.loop-left.invariant.left form other_form s u h i))
+      (c.in_ok-left-in-Deferred.ensures.equal form other_form);
 }
 
 pub objects_equal-returns-in_err-found-clause-equal : goal.objects_equal-returns-in_err-found-clause-equal

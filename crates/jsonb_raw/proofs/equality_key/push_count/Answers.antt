@@ -2,7 +2,7 @@ use Rattle.std.proofs.Common.{arith, ap₂, ◌∙◌, ◌≡◌, ℕ, ◌%◌, 
 use Rattle.std.specs.Int.{w32, to_be_bytes}
 use Rattle.jsonb_raw.proofs.equality_key.push_count.Goals as goal
 
--- four bytes hold a count but for its multiples of 2 ^ 32
+-- four bytes hold a count except for its multiples of 2 ^ 32
 low_bytes : (n : ℕ) → to_be_bytes w32 (n % 4294967296) ≡ to_be_bytes w32 n
 low_bytes n =
     let a : n % 4294967296 / 16777216 % 256 ≡ n / 16777216 % 256 = omega arith in

@@ -1,8 +1,11 @@
-use Rattle.std.proofs.Common.{◌≡◌, ◌++◌, drop}
+use Rattle.std.proofs.Common.{◌≡◌, ◌++◌, length}
 use Rattle.std.specs.List.{flat_map}
 use Rattle.jsonb_raw.specs.SortableKey.{escaped_byte}
 use Rattle.jsonb_raw.proofs.key_bytes.push_escaped.Given as goal
 
 -- what is written, followed by what is left, is the whole
-abbrev pub invariant-loop-byte : goal.invariant-loop-byte
-invariant-loop-byte l = l.out.items ++ flat_map escaped_byte (drop l.byte-index l.bytes) ≡ l.fn.out.items ++ flat_map escaped_byte l.fn.bytes
+abbrev pub invariant-loop-left : goal.invariant-loop-left
+invariant-loop-left l = l.out.items ++ flat_map escaped_byte l.left ≡ l.fn.out.items ++ flat_map escaped_byte l.fn.bytes
+
+abbrev pub decreases-loop-left : goal.decreases-loop-left
+decreases-loop-left l = length l.left

@@ -17,4 +17,5 @@ returns-in_default c = record {
       subst (λ (old : List ℕ). AppendsKey (width_of c.args.width) tree old c.push_scalar_item.result c.push_scalar_item.new.out.items) c.reserve.ensures.items
       (rw scalar.1 (c.push_scalar_item.ensures.key form tree stands scalar.0));
   errors = search rules;
+  reads = search rules;
 }

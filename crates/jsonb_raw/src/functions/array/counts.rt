@@ -16,7 +16,7 @@ pub(super) struct KeyCounts {
 }
 
 impl KeyCounts {
-    /// No key is counted yet. It takes no memory.
+    /// Creates an empty count, without allocating.
     pub(super) fn new(alloc: Global) -> KeyCounts
         ensures { (key : Vec ℕ Global) → counted result key ≡ 0 }
     {
@@ -25,7 +25,7 @@ impl KeyCounts {
         }
     }
 
-    /// Counts the key once more, and answers how often it was counted before. A key that is new is copied.
+    /// Increments the key's count, and returns what it was. A new key is copied.
     pub(super) fn add(&mut self, alloc: Global, key: &Vec<u8>) -> Result<usize, Error>
         ensures before { MatchResult result (λ before. before ≡ counted self.old key.now) IsOutOfMemory }
         ensures more { MatchResult result (λ _. counted self.old key.now < 2 ^ 63
@@ -42,7 +42,7 @@ impl KeyCounts {
         Ok(0)
     }
 
-    /// Takes one from the key's count, and answers whether there was one.
+    /// Decrements the key's count if it is positive, and returns whether it was.
     pub(super) fn take(&mut self, key: &Vec<u8>) -> bool
         ensures taken { result ≡ nat_lt 0 (counted self.old key.now) }
         ensures less { (other : Vec ℕ Global)

@@ -1,4 +1,4 @@
-//! Hashes of entries: entries that are equal by value have one hash. So what has a hash that no entry of a list has
+//! Hashes of entries. Entries that are equal by value have one hash, so an entry whose hash no entry of a list has
 //! equals none of them.
 
 ghost use Rattle.std.specs.Prelude.{◌≡◌, ◌<◌, ◌≤◌, ◌*◌, ◌-◌, ◌^◌, ℕ, pos, neg_ℤ, true, false, IfSome};
@@ -13,10 +13,10 @@ use jsonb_doc::layout::EntryKind;
 use jsonb_doc::{ShortNumber, StoredEntry};
 use std::hash::{FoldHasher, Hasher};
 
-/// How many hashes there are.
+/// The number of hashes.
 pub(crate) const HASHES: usize = 4096;
 
-/// `10 ^ (6 - scale)`, where the scale is at most 6.
+/// Returns `10 ^ (6 - scale)`, or `None` if the scale is greater than 6.
 fn millionths(scale: u8) -> Option<u64>
     ensures { IfSome result (λ power. (scale ≤ 6) × (power ≡ 10 ^ (6 - scale)) × (power ≤ 1000000)) }
 {
@@ -32,7 +32,7 @@ fn millionths(scale: u8) -> Option<u64>
     }
 }
 
-/// The hash of a whole value, which is a product.
+/// Returns the hash of an integer that is a product.
 fn product_hash(magnitude: u64, power: u64, is_negative: bool) -> usize
     requires { power ≤ 1000000 }
     ensures above { is_negative ≡ false → result ≡ value_hash (pos (magnitude * power)) }
@@ -45,7 +45,7 @@ fn product_hash(magnitude: u64, power: u64, is_negative: bool) -> usize
     if is_negative { place + 1 } else { place }
 }
 
-/// The hash of a number, and `None` where it has more than six decimals.
+/// Returns the hash of a number, or `None` if it has more than six decimals.
 fn number_hash(number: ShortNumber) -> Option<usize>
     ensures hash { IfSome result (IsHashOf (Tree.number (short_value number))) }
     ensures few { IfSome result (λ m. m < 4096) }
@@ -64,7 +64,7 @@ fn number_hash(number: ShortNumber) -> Option<usize>
     }
 }
 
-/// The hash of a text.
+/// Returns the hash of a string.
 #[tactic(auto, unfolding(crate::specs::Private::Hashes::text_hash))]
 fn text_hash(text: &[u8]) -> usize
     ensures hash { result ≡ text_hash text.now }
@@ -75,7 +75,7 @@ fn text_hash(text: &[u8]) -> usize
     (hasher.finish() % 4096) as usize
 }
 
-/// The hash of an entry. A number that is not short, or has more than six decimals, has none.
+/// Returns the hash of an entry, or `None` for a number that is not short or has more than six decimals.
 pub(crate) fn entry_hash(entry: &StoredEntry<'_>) -> Option<usize>
     ensures hash { (form : Form) (t : Tree) → Stores form entry.now t → IfSome result (IsHashOf t) }
     ensures few { IfSome result (λ m. m < 4096) }
@@ -96,16 +96,16 @@ pub(crate) fn entry_hash(entry: &StoredEntry<'_>) -> Option<usize>
     }
 }
 
-/// Which hashes some entries have.
+/// The hashes that some entries have.
 #[derive(Drop)]
 pub(super) struct Hashes {
     taken: [bool; HASHES],
-    /// Whether one of them has none, so that all are taken.
+    /// Whether one of the entries has no hash, so that it may equal any other.
     all: bool,
 }
 
 impl Hashes {
-    /// No entry has a hash.
+    /// Creates a set without hashes.
     pub(super) fn new() -> Hashes {
         Hashes {
             taken: [false; HASHES],
@@ -113,7 +113,7 @@ impl Hashes {
         }
     }
 
-    /// Takes the hash of an entry. Where it has none, all are taken.
+    /// Adds the hash of an entry. An entry without one adds all hashes.
     pub(super) fn add(&mut self, entry: &StoredEntry<'_>)
         ensures kept { (t : Tree) → Covers self.old t → Covers self.new t }
         ensures added { (form : Form) (t u : Tree) → Stores form entry.now u → is_equal t u ≡ true → Covers self.new t }
@@ -124,7 +124,7 @@ impl Hashes {
         }
     }
 
-    /// Whether the hash of an entry is taken, or it has none.
+    /// Returns `true` if the hash of an entry is in the set, or the entry has none.
     pub(super) fn may_have(&self, entry: &StoredEntry<'_>) -> bool
         ensures { (form : Form) (t : Tree) → Stores form entry.now t → Covers self.now t → result ≡ true }
     {

@@ -1,7 +1,7 @@
-//! Whether two lists of entries share a value, without memory: the hashes of some entries of the one tell most entries
-//! of the other that they equal none of these.
+//! Whether two lists of entries share a value, without allocating. The hashes of some entries of one list exclude most
+//! entries of the other.
 
-ghost use Rattle.std.specs.Prelude.{◌≡◌, ◌<◌, ◌≤◌, true, false, [], take, drop, IsOkAnd, IfOk, IfErr};
+ghost use Rattle.std.specs.Prelude.{◌≡◌, ◌⊎◌, ◌<◌, ◌≤◌, true, false, [], take, drop, IsOkAnd, IfOk, IfErr};
 ghost use Rattle.std.specs.List.{list_any};
 ghost use Rattle.jsonb_doc.specs.Tree.{Tree, Trees, elements as elements_of};
 ghost use Rattle.jsonb_doc.specs.Equal.{is_equal};
@@ -12,13 +12,18 @@ ghost use Rattle.jsonb_raw.specs.Sets.{overlap};
 ghost use Rattle.jsonb_raw.specs.Private.Hashes.{Covers};
 
 use super::hashes::Hashes;
-use crate::equal_items::find_equal_among;
+use crate::equal_items::{find_equal, find_equal_among};
 use jsonb_doc::{EntryIter, Error};
 
-/// How many entries' hashes are taken at once. They are so few that most hashes are free.
+/// The number of entries whose hashes are in the table at once. They are so few that most hashes are free.
 const BLOCK: usize = 64;
 
-/// Takes the hashes of the next entries, of so many at most, and goes on behind them. Whether all entries were taken.
+/// The number of entries on both sides up to which all pairs are compared without a table of hashes. A table has 4 KB,
+/// which takes longer to clear.
+const FEW: usize = 8;
+
+/// Adds the hashes of the next entries, at most this many, and advances past them. Returns whether all entries were
+/// added.
 fn take_hashes(hashes: &mut Hashes, rest: &mut EntryIter<'_>, count: usize) -> Result<bool, Error>
     requires { 0 < count }
     ensures passed { (form : Form) (us : Trees) → HasEntriesLeft form rest.old us
@@ -45,7 +50,7 @@ fn take_hashes(hashes: &mut Hashes, rest: &mut EntryIter<'_>, count: usize) -> R
     Ok(false)
 }
 
-/// Whether an entry equals one of the first of the others, whose hashes these are.
+/// Returns `true` if an entry equals one of the first of the others, whose hashes these are.
 fn block_overlaps(
     found: EntryIter<'_>,
     hashes: &Hashes,
@@ -70,17 +75,53 @@ fn block_overlaps(
     Ok(false)
 }
 
-/// Whether an entry that is left equals one of the others.
+/// Returns `true` if an entry equals one of the others.
 pub(super) fn entries_overlap(found: EntryIter<'_>, others: EntryIter<'_>) -> Result<bool, Error>
     ensures overlap { (form other_form : Form) (ts us : Trees) → HasEntriesLeft form found.entry ts
         → HasEntriesLeft other_form others.entry us
         → IsOkAnd result (λ b. b ≡ overlap (elements_of ts) (elements_of us)) }
     ensures errors { IfErr result IsDecodingError }
 {
+    let count = found.len();
+    let other_count = others.len();
+    if count <= 1 || other_count <= 1 || (count <= FEW && other_count <= FEW) {
+        let (few, many) = fewer_first(found, others);
+        return pairs_overlap(few, many);
+    }
     blocks_overlap(found, others, BLOCK)
 }
 
-/// The same, by so many of the others at once.
+/// Returns both iterators, first the one with fewer entries.
+#[inline(always)]
+fn fewer_first<'a>(found: EntryIter<'a>, others: EntryIter<'a>) -> (EntryIter<'a>, EntryIter<'a>)
+    ensures { ((result.0 ≡ found.entry) × (result.1 ≡ others.entry))
+        ⊎ ((result.0 ≡ others.entry) × (result.1 ≡ found.entry)) }
+{
+    if found.len() <= others.len() {
+        (found, others)
+    } else {
+        (others, found)
+    }
+}
+
+/// Returns `true` if an entry equals one of the others. Compares all pairs, fastest if there are more others.
+fn pairs_overlap(found: EntryIter<'_>, others: EntryIter<'_>) -> Result<bool, Error>
+    ensures overlap { (form other_form : Form) (ts us : Trees) → HasEntriesLeft form found.entry ts
+        → HasEntriesLeft other_form others.entry us
+        → IsOkAnd result (λ b. b ≡ overlap (elements_of ts) (elements_of us)) }
+    ensures errors { IfErr result IsDecodingError }
+{
+    for entry in found {
+        let entry = entry?;
+        let mut rest = others;
+        if find_equal(&mut rest, &entry)? {
+            return Ok(true);
+        }
+    }
+    Ok(false)
+}
+
+/// Returns `true` if an entry equals one of the others. Compares with `count` of the others at once.
 fn blocks_overlap(found: EntryIter<'_>, others: EntryIter<'_>, count: usize) -> Result<bool, Error>
     requires { 0 < count }
     ensures overlap { (form other_form : Form) (ts us : Trees) → HasEntriesLeft form found.entry ts

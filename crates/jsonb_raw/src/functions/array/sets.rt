@@ -1,4 +1,4 @@
-//! Arrays as sets: elements are compared by their equality keys, and by value where no memory is taken.
+//! Arrays as sets. Elements are compared by their equality keys, or by value in functions that do not allocate.
 
 ghost use Rattle.std.specs.Prelude.{◌≡◌, ◌<◌, ◌^◌, List, [], ◌∷◌, ◌++◌, length, IsOkAnd, OnOk, IfErr, MatchResult};
 ghost use Rattle.std.specs.List.{AllByRecursion, list_any};
@@ -25,30 +25,28 @@ use crate::equal_items::items_equal;
 use crate::equality_key::{item_key, write_entry_key};
 use crate::functions::entries::element_entries;
 use crate::functions::joined::array_of;
-use crate::functions::parts::{Entries, FirstEntry};
-use crate::functions::runs::{first_entry, push_run};
+use crate::functions::parts::Entries;
+use crate::functions::runs::push_run;
 use crate::owned::OwnedJsonb;
 use crate::raw::RawJsonb;
-use jsonb_doc::{
-    ArrayBuilder, ElementIter, Error, Item, StoredEntry, array_entries, elements, root_item,
-};
+use jsonb_doc::{ArrayBuilder, ElementIter, Error, Item, array_entries, elements, root_item};
 use std::alloc::Global;
 
-/// Which occurrences of elements of an array are kept.
+/// Which occurrences of elements of an array are kept, and what the counts mean.
 #[derive(Clone, Copy)]
-enum Occurrences {
-    /// The first of each group of equal ones. Those that were met are counted.
+enum SetOperation {
+    /// The first of each group of equal elements. The counts are those of the elements visited so far.
     First,
-    /// Those that another array holds too, as often as it does. What is left of the other one is counted.
+    /// Those that another array has too, as often as it does. The counts are those of its elements that remain.
     Shared,
     /// Those that the intersection drops.
     Unshared,
 }
 
-/// Decides whether an element with this key is kept. The counts move on behind it.
+/// Returns `true` if an element with this key is kept, and updates the counts for the elements after it.
 fn decide(
     alloc: Global,
-    kind: Occurrences,
+    kind: SetOperation,
     counts: &mut KeyCounts,
     key: &Vec<u8>,
 ) -> Result<bool, Error>
@@ -61,28 +59,16 @@ fn decide(
     ensures errors { IfErr result IsOutOfMemory }
 {
     match kind {
-        Occurrences::First => Ok(counts.add(alloc, key)? == 0),
-        Occurrences::Shared => Ok(counts.take(key)),
-        Occurrences::Unshared => Ok(!counts.take(key)),
+        SetOperation::First => Ok(counts.add(alloc, key)? == 0),
+        SetOperation::Shared => Ok(counts.take(key)),
+        SetOperation::Unshared => Ok(!counts.take(key)),
     }
 }
 
-/// The first entry as it is stored.
-#[inline(always)]
-fn stored<'a>(first: &FirstEntry<'a>) -> StoredEntry<'a>
-    ensures kind { result.kind ≡ first.now.kind }
-    ensures content { result.content.now ≡ first.now.content.now }
-{
-    StoredEntry {
-        kind: first.kind,
-        content: first.content,
-    }
-}
-
-/// The array of those elements that are kept, copied in runs.
+/// Returns the array of the elements that are kept, copied in runs.
 fn kept_elements(
     alloc: Global,
-    kind: Occurrences,
+    kind: SetOperation,
     mut counts: KeyCounts,
     entries: Entries<'_>,
 ) -> Result<OwnedJsonb, Error>
@@ -95,22 +81,22 @@ fn kept_elements(
     let mut runs = Vec::new(alloc);
     let mut run = entries;
     let mut left = entries;
-    while let Some(first) = first_entry(left)? {
-        write_entry_key(alloc, &mut key, &stored(&first))?;
+    while let Some((entry, others)) = left.first()? {
+        write_entry_key(alloc, &mut key, &entry)?;
         if !decide(alloc, kind, &mut counts, &key)? {
             push_run(&mut runs, run, left)?;
-            run = first.others;
+            run = others;
         }
-        left = first.others;
+        left = others;
     }
     push_run(&mut runs, run, left)?;
     array_of(alloc, runs.as_slice())
 }
 
-/// Adds the item behind the elements that the builder holds, where it is kept. The counts move on behind it.
+/// Appends the item to the builder if it is kept, and updates the counts for the elements after it.
 fn push_kept(
     alloc: Global,
-    kind: Occurrences,
+    kind: SetOperation,
     counts: &mut KeyCounts,
     builder: &mut ArrayBuilder,
     item: &Item<'_>,
@@ -133,10 +119,10 @@ fn push_kept(
     builder.push_item(item)
 }
 
-/// The array of an item that counts as one element, or no element where it is not kept.
+/// Returns the array of the item if it is kept, as an array of one element, and otherwise an empty array.
 fn kept_item(
     alloc: Global,
-    kind: Occurrences,
+    kind: SetOperation,
     mut counts: KeyCounts,
     item: &Item<'_>,
 ) -> Result<OwnedJsonb, Error>
@@ -150,10 +136,10 @@ fn kept_item(
     Ok(OwnedJsonb::new(builder.build()?))
 }
 
-/// The same of a document, where a root that is no array counts as one element.
+/// Returns the array of the elements of a document that are kept. A root that is not an array counts as one element.
 fn kept_of_document(
     alloc: Global,
-    kind: Occurrences,
+    kind: SetOperation,
     counts: KeyCounts,
     bytes: &[u8],
 ) -> Result<OwnedJsonb, Error>
@@ -177,10 +163,10 @@ fn count_elements(alloc: Global, entries: Entries<'_>) -> Result<KeyCounts, Erro
     let mut counts = KeyCounts::new(alloc);
     let mut key = Vec::new(alloc);
     let mut left = entries;
-    while let Some(first) = first_entry(left)? {
-        write_entry_key(alloc, &mut key, &stored(&first))?;
+    while let Some((entry, others)) = left.first()? {
+        write_entry_key(alloc, &mut key, &entry)?;
         counts.add(alloc, &key)?;
-        left = first.others;
+        left = others;
     }
     Ok(counts)
 }
@@ -196,7 +182,7 @@ fn count_item(alloc: Global, item: &Item<'_>) -> Result<KeyCounts, Error>
     Ok(counts)
 }
 
-/// Counts the keys of a document's elements, where a root that is no array counts as one.
+/// Counts the keys of a document's elements. A root that is not an array counts as one element.
 fn count_document(alloc: Global, bytes: &[u8]) -> Result<KeyCounts, Error>
     ensures counts { (form : Form) (t : Tree) → Decodes form bytes.now t
         → MatchResult result (λ m. CountsKeys m (as_elements t)) IsOutOfMemory }
@@ -209,7 +195,7 @@ fn count_document(alloc: Global, bytes: &[u8]) -> Result<KeyCounts, Error>
     }
 }
 
-/// Whether an element equals the item by value.
+/// Returns `true` if an element equals the item by value.
 fn has_element(found: ElementIter<'_>, item: &Item<'_>) -> Result<bool, Error>
     ensures has { (form other_form : Form) (ts : Trees) (t : Tree) → HasElementsLeft form found.entry ts
         → StandsFor other_form item.now t → IsOkAnd result (λ b. b ≡ list_any (is_equal t) (elements_of ts)) }
@@ -223,7 +209,8 @@ fn has_element(found: ElementIter<'_>, item: &Item<'_>) -> Result<bool, Error>
     Ok(false)
 }
 
-/// Whether an element of one document equals one of the other, where a root that is no array counts as one element.
+/// Returns `true` if an element of one document equals one of the other. A root that is not an array counts as one
+/// element.
 fn documents_overlap(bytes: &[u8], other: &[u8]) -> Result<bool, Error>
     ensures overlap { (form other_form : Form) (t u : Tree) → Decodes form bytes.now t
         → Decodes other_form other.now u → IsOkAnd result (λ b. b ≡ overlap (as_elements t) (as_elements u)) }
@@ -238,16 +225,29 @@ fn documents_overlap(bytes: &[u8], other: &[u8]) -> Result<bool, Error>
 }
 
 impl RawJsonb<'_> {
-    /// The array of the first of each group of elements that are equal by value, in order. A document that is no
-    /// array becomes an array of one.
+    /// Returns the array of the elements without repetitions: of elements that are equal by value the first, in order.
+    ///
+    /// A root that is not an array counts as one element.
     ///
     /// # Errors
     ///
-    /// Those of making documents.
+    /// Construction errors.
     ///
-    /// # Cost
+    /// # Complexity
     ///
-    /// Linear in n, and k times log k comparisons of equality keys. Takes memory.
+    /// O(n), and O(k log k) comparisons of equality keys. Allocates.
+    ///
+    /// # Examples
+    ///
+    /// ```rust crates/jsonb_examples/src/tags.rt
+    /// let joined = tags.concat(alloc, others)?;
+    /// joined.as_raw().array_distinct(alloc)
+    /// ```
+    ///
+    /// <!-- rows: calls: array_distinct -->
+    /// | Document | Result |
+    /// |---|---|
+    /// | `[1,1,2,1.0]` | `[1,2]` |
     pub fn array_distinct(&self, alloc: Global) -> Result<OwnedJsonb, Error>
         ensures distinct { (form : Form) (t : Tree) → Decodes form (raw_bytes self.now) t
             → Makes form (array (trees_of (distinct (as_elements t)))) result }
@@ -255,22 +255,38 @@ impl RawJsonb<'_> {
     {
         kept_of_document(
             alloc,
-            Occurrences::First,
+            SetOperation::First,
             KeyCounts::new(alloc),
             self.as_bytes(),
         )
     }
 
-    /// The array of the elements that the other document holds too: an element stays while fewer elements before it
-    /// equal it by value than elements of the other document do. A document that is no array counts as one element.
+    /// Returns the array of the elements that the other document has too, in order.
+    ///
+    /// Repetitions count: of elements that are equal by value as many are kept as the other document has, the first
+    /// ones. A root that is not an array counts as one element.
     ///
     /// # Errors
     ///
-    /// Those of making documents.
+    /// Construction errors.
     ///
-    /// # Cost
+    /// # Complexity
     ///
-    /// Linear in n of both, and k times log k comparisons of equality keys. Takes memory.
+    /// O(n) of both, and O((k + m) log m) comparisons of equality keys for m elements of the other document. Allocates.
+    ///
+    /// # Examples
+    ///
+    /// ```rust crates/jsonb_examples/src/calls.rt
+    /// if !tags.array_overlap(others)? {
+    ///     return Ok(None);
+    /// }
+    /// let shared = tags.array_intersection(alloc, others)?;
+    /// ```
+    ///
+    /// <!-- rows: calls: array_intersection -->
+    /// | Document | Arguments | Result |
+    /// |---|---|---|
+    /// | `[1,1,2,1.0]` | `[1,1]` | `[1,1]` |
     pub fn array_intersection(
         &self,
         alloc: Global,
@@ -282,18 +298,30 @@ impl RawJsonb<'_> {
         ensures errors { IfErr result (IsDecodingError or OutOfMemory or TooLarge) }
     {
         let counts = count_document(alloc, other.as_bytes())?;
-        kept_of_document(alloc, Occurrences::Shared, counts, self.as_bytes())
+        kept_of_document(alloc, SetOperation::Shared, counts, self.as_bytes())
     }
 
-    /// The array of the elements that `array_intersection` drops, in order.
+    /// Returns the array of the elements that `array_intersection` drops, in order.
     ///
     /// # Errors
     ///
-    /// Those of making documents.
+    /// Construction errors.
     ///
-    /// # Cost
+    /// # Complexity
     ///
-    /// That of `array_intersection`.
+    /// That of `array_intersection`. Allocates.
+    ///
+    /// # Examples
+    ///
+    /// ```rust crates/jsonb_examples/src/tags.rt
+    /// let added = new.array_except(alloc, old)?;
+    /// let removed = old.array_except(alloc, new)?;
+    /// ```
+    ///
+    /// <!-- rows: calls: array_except -->
+    /// | Document | Arguments | Result |
+    /// |---|---|---|
+    /// | `[1,1,2,1.0]` | `[1]` | `[1,2,1.0]` |
     pub fn array_except(&self, alloc: Global, other: &RawJsonb<'_>) -> Result<OwnedJsonb, Error>
         ensures unshared { (form other_form : Form) (t u : Tree) → Decodes form (raw_bytes self.now) t
             → Decodes other_form (raw_bytes other.now) u
@@ -301,19 +329,34 @@ impl RawJsonb<'_> {
         ensures errors { IfErr result (IsDecodingError or OutOfMemory or TooLarge) }
     {
         let counts = count_document(alloc, other.as_bytes())?;
-        kept_of_document(alloc, Occurrences::Unshared, counts, self.as_bytes())
+        kept_of_document(alloc, SetOperation::Unshared, counts, self.as_bytes())
     }
 
-    /// Whether an element equals one of the other document by value, where a document that is no array counts as one
-    /// element. PostgreSQL has `&&` of arrays.
+    /// Returns `true` if an element equals one of the other document by value.
+    ///
+    /// A root that is not an array counts as one element. Like PostgreSQL's `&&` of arrays.
     ///
     /// # Errors
     ///
-    /// Those of reading.
+    /// Decoding errors.
     ///
-    /// # Cost
+    /// # Complexity
     ///
-    /// Up to a comparison of each element with each of the other's. No memory.
+    /// At most k m comparisons of elements for m elements of the other document. Does not allocate.
+    ///
+    /// # Examples
+    ///
+    /// ```rust crates/jsonb_examples/src/calls.rt
+    /// if !tags.array_overlap(others)? {
+    ///     return Ok(None);
+    /// }
+    /// ```
+    ///
+    /// <!-- rows: calls: array_overlap -->
+    /// | Document | Arguments | Result |
+    /// |---|---|---|
+    /// | `[1]` | `[1.0]` | true |
+    /// | `[10,20,30]` | `[1]` | false |
     pub fn array_overlap(&self, other: &RawJsonb<'_>) -> Result<bool, Error>
         ensures overlap { (form other_form : Form) (t u : Tree) → Decodes form (raw_bytes self.now) t
             → Decodes other_form (raw_bytes other.now) u

@@ -1,21 +1,9 @@
-//! A new pair of an object, and the parts of the object around it.
+//! The position of a new member of an object.
 
-use crate::functions::parts::Entries;
-
-/// Where a pair goes into an object: behind so many of its keys, in place of so many of its pairs, which is one at
-/// most.
+/// The position of a member in an object: the number of keys before it, and the number of members that it replaces, at
+/// most one.
 #[derive(Clone, Copy)]
 pub struct PairPlace {
     pub passed: usize,
     pub taken: usize,
-}
-
-/// How many pairs of an object stay, and their entries: those before a pair's key, those between the key and the value,
-/// and those behind the value.
-#[derive(Clone, Copy)]
-pub struct KeptEntries<'a> {
-    pub pairs: usize,
-    pub before: Entries<'a>,
-    pub between: Entries<'a>,
-    pub behind: Entries<'a>,
 }

@@ -1,8 +1,8 @@
-//! Two documents put together.
+//! Concatenation of two documents.
 
 ghost use Rattle.std.specs.Prelude.{ℕ, ◌++◌, List, IfErr};
 ghost use Rattle.std.specs.Map.{keys_of};
-ghost use Rattle.jsonb_doc.specs.Tree.{Tree, Pairs, array, object, trees_of, members, pairs_of};
+ghost use Rattle.jsonb_doc.specs.Tree.{Tree, array, object, trees_of, pairs_of};
 ghost use Rattle.jsonb_doc.specs.Payload.{Form};
 ghost use Rattle.jsonb_doc.specs.Format.{Decodes, AreKeys};
 ghost use Rattle.jsonb_doc.specs.Answer.{IsDecodingError, ◌or◌};
@@ -17,22 +17,39 @@ use crate::functions::parts::{Elements, PairEntries, PairRuns};
 use crate::functions::runs::{first_pair, pair_entries};
 use crate::owned::OwnedJsonb;
 use crate::raw::RawJsonb;
-use jsonb_doc::{Error, Item, root_item};
+use jsonb_doc::Error;
 use std::alloc::Global;
 use std::cmp::Ordering;
 
 impl RawJsonb<'_> {
-    /// Two objects give the object of all their pairs, with the other's value where both have the key. Any other two
-    /// documents give the array of their elements, where one that is no array counts as one element. PostgreSQL has
-    /// `||`.
+    /// Returns the object of the members of both objects, with the value of the other document for a key that both
+    /// have.
+    ///
+    /// If one of them is not an object, returns the array of the elements of both; a root that is not an array counts
+    /// as one element. Like PostgreSQL's `||`.
     ///
     /// # Errors
     ///
-    /// Those of making documents.
+    /// Construction errors.
     ///
-    /// # Cost
+    /// # Complexity
     ///
-    /// Linear in n of both, each byte copied once. Takes memory.
+    /// O(n) of both. Allocates; each byte is copied once.
+    ///
+    /// # Examples
+    ///
+    /// ```rust crates/jsonb_examples/src/calls.rt
+    /// let merged = defaults.concat(alloc, user)?;
+    /// let settings = merged.as_raw().strip_nulls(alloc)?;
+    /// ```
+    ///
+    /// <!-- rows: calls: concat -->
+    /// | Document | Arguments | Result |
+    /// |---|---|---|
+    /// | `[1]` | `[[1]]` | `[1,[1]]` |
+    /// | `1` | `2` | `[1,2]` |
+    /// | `{"a":1,"b":2}` | `{"b":3,"c":4}` | `{"a":1,"b":3,"c":4}` |
+    /// | `{"k":"v"}` | `[1]` | `[{"k":"v"},1]` |
     pub fn concat(&self, alloc: Global, other: &RawJsonb<'_>) -> Result<OwnedJsonb, Error>
         ensures document { (form : Form) (tree other_tree : Tree)
             → Decodes form (raw_bytes self.now) tree → Decodes form (raw_bytes other.now) other_tree
@@ -41,31 +58,18 @@ impl RawJsonb<'_> {
     {
         let bytes = self.as_bytes();
         let others = other.as_bytes();
-        match (root_item(bytes)?, root_item(others)?) {
-            (Item::Object(_), Item::Object(_)) => joined_objects(alloc, bytes, others),
-            _ => joined_arrays(alloc, bytes, others),
-        }
+        let Some(first) = pair_entries(bytes)? else {
+            return joined_arrays(alloc, bytes, others);
+        };
+        let Some(second) = pair_entries(others)? else {
+            return joined_arrays(alloc, bytes, others);
+        };
+        merged_pairs(alloc, first, second)
     }
 }
 
-/// The object of two objects' pairs, with the second's value where both have the key.
-fn joined_objects<'a>(alloc: Global, bytes: &'a [u8], others: &'a [u8]) -> Result<OwnedJsonb, Error>
-    ensures document { (form : Form) (ps qs : Pairs)
-        → Decodes form bytes.now (object ps) → Decodes form others.now (object qs)
-        → Makes form (object (pairs_of (merged (members ps) (members qs)))) result }
-    ensures errors { IfErr result (IsDecodingError or OutOfMemory or TooLarge) }
-{
-    let Some(first) = pair_entries(bytes)? else {
-        return Err(Error::InvalidJsonb);
-    };
-    let Some(second) = pair_entries(others)? else {
-        return Err(Error::InvalidJsonb);
-    };
-    merged_pairs(alloc, first, second)
-}
-
-/// The object of these and those pairs, by rising keys. Both are gone through in step, and those that come from one in
-/// a row are copied as one run. Where both have a key, the first's pair is passed over.
+/// Returns the object of the members of both, sorted by key. Both are visited in step, and consecutive members of one
+/// are copied as one run. If both have a key, the member of the first is left out.
 fn merged_pairs<'a>(
     alloc: Global,
     first: PairEntries<'a>,
@@ -110,7 +114,7 @@ fn merged_pairs<'a>(
     runs.object(alloc)
 }
 
-/// The array of the elements of two documents, where one that is no array is one element.
+/// Returns the array of the elements of two documents. A root that is not an array counts as one element.
 fn joined_arrays<'a>(alloc: Global, bytes: &'a [u8], others: &'a [u8]) -> Result<OwnedJsonb, Error>
     ensures document { (form : Form) (t u : Tree) → Decodes form bytes.now t → Decodes form others.now u
         → Makes form (array (trees_of (as_elements t ++ as_elements u))) result }

@@ -1,4 +1,5 @@
-//! Whether each of some entries equals one of a list, without memory: where searches in the list begin.
+//! Whether each of some entries equals one of a list, without allocating: the positions at which searches in the list
+//! begin.
 
 ghost use Rattle.std.specs.Prelude.{◌≡◌, ◌<◌, true, IsOkAnd, IfOk, IfErr, IfSome};
 ghost use Rattle.std.specs.List.{list_any};
@@ -8,30 +9,30 @@ ghost use Rattle.jsonb_doc.specs.Payload.{Form};
 ghost use Rattle.jsonb_doc.specs.Private.Stored.{HasEntriesLeft, Stores};
 ghost use Rattle.jsonb_doc.specs.Answer.{IsDecodingError};
 ghost use Rattle.jsonb_raw.specs.Private.Compared.{PassesOver};
-ghost use Rattle.jsonb_raw.specs.Private.Starts.{AreStarts, scalars_matched};
+ghost use Rattle.jsonb_raw.specs.Private.StartHints.{AreStarts, scalars_matched};
 
 use crate::equal_items::{find_equal, next_equals};
 use crate::functions::array::hashes::{HASHES, entry_hash};
 use jsonb_doc::{EntryIter, Error, StoredEntry};
 
-/// For how many wanted entries a start is looked up at once.
+/// The number of entries for which a start is looked up at once.
 const BLOCK: usize = 32;
 
-/// In so few entries no start is looked up.
+/// The number of entries up to which no start is looked up.
 const FEW: usize = 16;
 
-/// The next of the wanted entries that are no containers, by their hashes.
+/// The next of the scalar entries to be found, by their hashes.
 #[derive(Drop)]
-struct Wanted<'a> {
+struct NeedleBlock<'a> {
     contents: [&'a [u8]; BLOCK],
-    /// The place among them of one with this hash, or `BLOCK`.
+    /// The index among them of one with this hash, or `BLOCK`.
     places: [u8; HASHES],
 }
 
-impl<'a> Wanted<'a> {
-    /// The first of the entries.
-    fn of(entries: EntryIter<'a>) -> Wanted<'a> {
-        let mut wanted = Wanted {
+impl<'a> NeedleBlock<'a> {
+    /// Returns the first of the entries.
+    fn of(entries: EntryIter<'a>) -> NeedleBlock<'a> {
+        let mut wanted = NeedleBlock {
             contents: [&[]; BLOCK],
             places: [BLOCK as u8; HASHES],
         };
@@ -51,7 +52,7 @@ impl<'a> Wanted<'a> {
         wanted
     }
 
-    /// Puts an entry at its place.
+    /// Stores an entry at an index.
     fn put(&mut self, place: usize, entry: &StoredEntry<'a>)
         requires { place < 32 }
     {
@@ -61,7 +62,7 @@ impl<'a> Wanted<'a> {
         }
     }
 
-    /// The place of one with the content of the entry.
+    /// Returns the index of one with the content of the entry.
     fn place_of(&self, entry: &StoredEntry<'_>) -> Option<usize>
         ensures { IfSome result (λ place. place < 32) }
     {
@@ -74,35 +75,35 @@ impl<'a> Wanted<'a> {
     }
 }
 
-/// Where in a list searches begin.
+/// The positions in a list at which searches begin.
 #[derive(Drop)]
-struct Starts<'a> {
-    /// Behind the entry that was found last.
+struct StartHints<'a> {
+    /// The entries after the one found last.
     left: EntryIter<'a>,
-    /// Where the next of the wanted entries may be found, each at its place.
+    /// A position from which each of the next entries may be found.
     at: [EntryIter<'a>; BLOCK],
-    /// How many of these are passed.
+    /// The number of these that were used.
     passed: usize,
 }
 
-impl<'a> Starts<'a> {
-    /// All searches begin with the first entry.
-    fn new(all: EntryIter<'a>) -> Starts<'a>
+impl<'a> StartHints<'a> {
+    /// Creates starts of which all are the first entry.
+    fn new(all: EntryIter<'a>) -> StartHints<'a>
         ensures { AreStarts all.entry result }
     {
-        Starts {
+        StartHints {
             left: all,
             at: [all; BLOCK],
             passed: BLOCK,
         }
     }
 
-    /// Looks up where the next of the wanted entries are found.
+    /// Looks up positions from which the next entries may be found.
     fn fill(&mut self, all: EntryIter<'a>, entries: EntryIter<'_>)
         requires { AreStarts all self.old }
         ensures { AreStarts all.entry self.new }
     {
-        let wanted = Wanted::of(entries);
+        let wanted = NeedleBlock::of(entries);
         self.passed = 0;
         let mut rest = all;
         'walk: loop {
@@ -116,7 +117,7 @@ impl<'a> Starts<'a> {
         }
     }
 
-    /// Where the search for the next wanted entry begins, where that is known.
+    /// Returns the start of the search for the next entry, or all entries if it is not known.
     fn take(&mut self, all: EntryIter<'a>) -> EntryIter<'a>
         requires { AreStarts all self.old }
         ensures starts { AreStarts all.entry self.new }
@@ -130,7 +131,7 @@ impl<'a> Starts<'a> {
         self.at[place]
     }
 
-    /// Where the search for the next wanted entry begins, which is the first of these.
+    /// Returns the start of the search for the next entry, which is the first of these.
     fn next(&mut self, all: EntryIter<'a>, entries: EntryIter<'_>) -> EntryIter<'a>
         requires { AreStarts all self.old }
         ensures starts { AreStarts all.entry self.new }
@@ -146,8 +147,8 @@ impl<'a> Starts<'a> {
         self.take(all)
     }
 
-    /// Whether one of all entries equals the wanted one, the first of the wanted entries that are left. It is looked
-    /// for behind the last that was found, then where it may be found, and then among all.
+    /// Returns `true` if one of all entries equals the given one, which is the first of `entries`. The search starts
+    /// after the entry found last, continues at a position from which it may be found, and then visits all.
     fn find(
         &mut self,
         all: EntryIter<'a>,
@@ -178,8 +179,8 @@ impl<'a> Starts<'a> {
     }
 }
 
-/// Whether each of the wanted entries that is no container equals one of the entries. It stands apart, so that calls
-/// that nest hold none of its tables.
+/// Returns `true` if each of the scalar entries equals one of the list. It is a separate function so that recursive
+/// calls hold none of its tables.
 #[inline(never)]
 pub(super) fn scalars_matched(all: EntryIter<'_>, wanted: EntryIter<'_>) -> Result<bool, Error>
     ensures matched { (form other_form : Form) (xs ys : Trees) → HasEntriesLeft form all.entry xs
@@ -187,7 +188,7 @@ pub(super) fn scalars_matched(all: EntryIter<'_>, wanted: EntryIter<'_>) -> Resu
         → IsOkAnd result (λ b. b ≡ scalars_matched ys (elements xs)) }
     ensures errors { IfErr result IsDecodingError }
 {
-    let mut starts = Starts::new(all);
+    let mut starts = StartHints::new(all);
     let mut rest = wanted;
     'walk: loop {
         let here = rest;

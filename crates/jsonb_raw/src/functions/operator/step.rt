@@ -1,4 +1,4 @@
-//! Walks along the pairs of an object, whose keys rise.
+//! Look-up of sorted keys among the members of an object.
 
 ghost use Rattle.std.specs.Prelude.{Some, IsOkAnd, IfOk, IfSome, IfErr, ◌≤◌, length};
 ghost use Rattle.jsonb_doc.specs.Tree.{Pairs, value_under};
@@ -10,8 +10,8 @@ ghost use Rattle.jsonb_raw.specs.Private.PairSteps.{pairs_above};
 use jsonb_doc::{Error, PairEntryIter, StoredEntry};
 use std::cmp::Ordering;
 
-/// The entry under a key among the pairs that are left. Where it is there, those with keys above are left then.
-pub fn take_entry<'a>(
+/// Returns the value of a key among the remaining members, and advances past the keys up to it.
+pub fn advance_to_key<'a>(
     left: &mut PairEntryIter<'a>,
     key: &[u8],
 ) -> Result<Option<StoredEntry<'a>>, Error>

@@ -1,84 +1,60 @@
-//! Containers written again without the nulls of their objects, into one buffer, in which each byte is written once.
+//! Containers written without the null members of their objects. Each byte is written once.
 
-ghost use Rattle.std.specs.Prelude.{◌≡◌, ℕ, ◌+◌, ◌*◌, ◌^◌, ◌<◌, ◌≤◌, true, List, ◌∷◌, ◌++◌, length, IfOk, IfSome, IfErr, MatchResult};
-ghost use Rattle.jsonb_doc.specs.Tree.{Tree, array, object, Trees, Pairs, count, keys};
+ghost use Rattle.std.specs.Prelude.{◌≡◌, ℕ, ◌+◌, ◌≤◌, true, List, [], ◌∷◌, ◌++◌, map, length, IfOk, IfSome, IfErr, IsOkAnd, MatchResult, ⊤};
+ghost use Rattle.jsonb_doc.specs.Tree.{Tree, text};
 ghost use Rattle.jsonb_doc.specs.Payload.{Form, number_reader};
-ghost use Rattle.jsonb_doc.specs.Format.{IsContent, container_entry, AreKeys, key_bytes};
-ghost use Rattle.jsonb_doc.specs.Encoding.{EntryParts};
-ghost use Rattle.jsonb_doc.specs.Private.ObjectBytes.{words_of_entries, contents_of_entries};
-ghost use Rattle.jsonb_doc.specs.Answer.{IsOutOfMemory, IsDecodingError, ◌or◌};
-ghost use Rattle.jsonb_doc.specs.declared.error.Error.TheVariants.{OutOfMemory};
-ghost use Rattle.jsonb_raw.specs.Private.Cuts.{FitEntries};
+ghost use Rattle.jsonb_doc.specs.Format.{Decodes, IsContent, container_entry};
+ghost use Rattle.jsonb_doc.specs.Kinds.{kind_number};
+ghost use Rattle.jsonb_doc.specs.Answer.{IsOutOfMemory, IsOutOfMemoryOrTooLarge, IsDecodingError, ◌or◌};
+ghost use Rattle.jsonb_doc.specs.declared.error.Error.TheVariants.{OutOfMemory, TooLarge};
+ghost use Rattle.jsonb_doc.specs.Private.Writer.{AreSortedKeys, Around, IsWriting};
 ghost use Rattle.jsonb_raw.specs.Strip.{strip};
-ghost use Rattle.jsonb_raw.specs.Private.Stripping.{beside, key_entries, IsAboveLast, ReadsEntry, Begins};
+ghost use Rattle.jsonb_raw.specs.Private.Entries.{HoldTrees, AreEntriesOf};
+ghost use Rattle.jsonb_raw.specs.Private.Stripping.{IsAboveLast, stops, stripped, beside, entries_kept, values_kept, Begins, HoldValues, AreWritten};
 
-use crate::functions::path::cut::set_container_word;
-use jsonb_doc::layout::{
-    EntryKind, HeaderKind, WORD, read_entry_word, split_header, word_of_header,
-};
-use jsonb_doc::{Error, contents_len};
+use crate::functions::parts::{ContainerEntries, Entries};
+use crate::functions::runs::{container_entries, copy_run};
+use jsonb_doc::Error;
+use jsonb_doc::layout::{EntryKind, HeaderKind, split_entry_word};
+use jsonb_doc::rewriting::{OpenContainer, Writer};
 use std::alloc::Global;
 use std::cmp::Ordering;
 
-/// An entry of the source, and what is left behind it.
+/// The values of a container that remain in the source, and whether nulls among them are left out.
 #[derive(Clone, Copy)]
-struct NextEntry<'a> {
-    kind: EntryKind,
-    content: &'a [u8],
-    words: &'a [u8],
-    contents: &'a [u8],
-}
-
-/// A container that is being written. Its header, its keys and the words of its entries are written at once; the word
-/// of a container among them is written again when that container is done, with the length that it has then.
-#[derive(Clone, Copy)]
-struct Writing<'a> {
-    /// The words and the contents of the entries that are left in the source.
-    words: &'a [u8],
-    contents: &'a [u8],
-    /// Whether it is an object, in which nulls are left out.
+struct ValuesLeft<'a> {
+    entries: Entries<'a>,
     is_object: bool,
-    /// Where it begins in what is written.
-    start: usize,
-    /// Where the word of the next entry that stays stands in what is written.
-    word: usize,
 }
 
-/// The first of the entries that are left. Words that no contents are there for are `InvalidJsonb`.
+/// A container around the innermost one, and its values after that one.
+#[derive(Clone, Copy)]
+struct Outer<'a> {
+    open: OpenContainer,
+    left: ValuesLeft<'a>,
+}
+
+/// Returns `true` if an entry is not copied as it is stored: a container, or a null of an object.
 #[inline(always)]
-fn next_entry<'a>(words: &'a [u8], contents: &'a [u8]) -> Result<Option<NextEntry<'a>>, Error>
-    ensures reads { (es : List EntryParts) → FitEntries es → words.now ≡ words_of_entries es
-        → contents.now ≡ contents_of_entries es
-        → ReadsEntry es result }
-    ensures shorter { IfOk result (λ found. IfSome found (λ given. (length given.words.now + 4 ≡ length words.now)
-        × (length given.content.now + length given.contents.now ≡ length contents.now))) }
-    ensures errors { IfErr result (IsDecodingError or OutOfMemory) }
+fn stops(kind: EntryKind, is_object: bool) -> bool
+    ensures { (form : Form) (t : Tree) (content : List ℕ) → IsContent (number_reader form) t (kind_number kind) content
+        → result ≡ stops is_object t }
 {
-    let Some((word, words)) = words.split_first_chunk::<WORD>() else {
-        return Ok(None);
-    };
-    let (kind, len) = read_entry_word(word);
-    let Some((content, contents)) = contents.split_at_checked(len) else {
-        return Err(Error::InvalidJsonb);
-    };
-    Ok(Some(NextEntry {
-        kind,
-        content,
-        words,
-        contents,
-    }))
+    match kind {
+        EntryKind::Container => true,
+        EntryKind::Null => is_object,
+        _ => false,
+    }
 }
 
-/// How many of these entry words are no nulls.
-fn count_kept(words: &[u8]) -> usize
-    ensures count { (es : List EntryParts) → FitEntries es → words.now ≡ words_of_entries es
-        → result ≡ length (beside es es) }
-    ensures few { 4 * result ≤ length words.now }
+/// Returns the number of values that are not null.
+fn count_values(values: Entries<'_>) -> usize
+    ensures { (form : Form) (ts : List Tree) → HoldTrees form values.entry ts → result ≡ length (stripped true ts) }
 {
     let mut count = 0;
-    let mut left = words;
-    while let Some((word, others)) = left.split_first_chunk::<WORD>() {
-        if read_entry_word(word).0 != EntryKind::Null {
+    let mut left = values.words;
+    while let Some((kind, _, others)) = split_entry_word(left) {
+        if kind != EntryKind::Null {
             count += 1;
         }
         left = others;
@@ -86,29 +62,7 @@ fn count_kept(words: &[u8]) -> usize
     count
 }
 
-/// Appends those of these words that stand beside no null.
-fn push_words_kept(out: &mut Vec<u8>, words: &[u8], value_words: &[u8]) -> Result<(), Error>
-    ensures pushed { (es xs : List EntryParts) → FitEntries es → length xs ≡ length es
-        → value_words.now ≡ words_of_entries es → words.now ≡ words_of_entries xs
-        → MatchResult result (λ _. out.new.items ≡ out.old.items ++ words_of_entries (beside es xs)) IsOutOfMemory }
-    ensures errors { IfErr result (IsDecodingError or OutOfMemory) }
-{
-    let mut words_left = words;
-    let mut values_left = value_words;
-    while let Some((value, values)) = values_left.split_first_chunk::<WORD>() {
-        let Some((word, others)) = words_left.split_first_chunk::<WORD>() else {
-            return Err(Error::InvalidJsonb);
-        };
-        if read_entry_word(value).0 != EntryKind::Null {
-            out.extend_from_slice(word)?;
-        }
-        words_left = others;
-        values_left = values;
-    }
-    Ok(())
-}
-
-/// Whether a key is above the one before it, if any.
+/// Returns `true` if a key is above the one before it, if there is one.
 #[inline(always)]
 fn is_above(last: Option<&[u8]>, key: &[u8]) -> bool
     ensures { (ks : List (List ℕ)) → IsAboveLast last.entry (key.now ∷ ks) → result ≡ true }
@@ -122,158 +76,190 @@ fn is_above(last: Option<&[u8]>, key: &[u8]) -> bool
     }
 }
 
-/// Appends those of these keys that stand beside no null. Keys that don't rise are `InvalidJsonb`.
-fn push_keys_kept(
-    out: &mut Vec<u8>,
-    key_words: &[u8],
-    keys: &[u8],
-    value_words: &[u8],
-) -> Result<(), Error>
-    ensures pushed { (es : List EntryParts) (ks : List (List ℕ)) → FitEntries es → AreKeys ks → length ks ≡ length es
-        → value_words.now ≡ words_of_entries es → key_words.now ≡ words_of_entries (key_entries ks)
-        → keys.now ≡ contents_of_entries (key_entries ks)
-        → MatchResult result (λ _. out.new.items ≡ out.old.items ++ key_bytes (beside es ks)) IsOutOfMemory }
-    ensures errors { IfErr result (IsDecodingError or OutOfMemory) }
+/// Fails with `InvalidJsonb` if keys are not sorted.
+fn check_keys(keys: Entries<'_>) -> Result<(), Error>
+    ensures sorted { (form : Form) (ks : List (List ℕ)) → HoldTrees form keys.entry (map text ks) → AreSortedKeys ks
+        → IsOkAnd result (λ _. ⊤) }
+    ensures errors { IfErr result IsDecodingError }
 {
-    let mut words_left = key_words;
-    let mut keys_left = keys;
-    let mut values_left = value_words;
+    let mut left = keys;
     let mut last = None;
-    while let Some((value, values)) = values_left.split_first_chunk::<WORD>() {
-        let Some(key) = next_entry(words_left, keys_left)? else {
-            return Err(Error::InvalidJsonb);
-        };
+    while let Some((key, others)) = left.first()? {
         if !is_above(last, key.content) {
             return Err(Error::InvalidJsonb);
         }
         last = Some(key.content);
-        words_left = key.words;
-        keys_left = key.contents;
-        values_left = values;
-        if read_entry_word(value).0 != EntryKind::Null {
-            out.extend_from_slice(key.content)?;
-        }
+        left = others;
     }
     Ok(())
 }
 
-/// Begins an array of so many elements.
-fn begin_array<'a>(
-    out: &mut Vec<u8>,
-    container: &'a [u8],
-    elements: usize,
-) -> Result<Writing<'a>, Error>
-    requires { elements < 2 ^ 29 }
-    ensures begun { (form : Form) (ts : Trees)
-        → IsContent (number_reader form) (array ts) container_entry container.now → elements ≡ count ts
-        → MatchResult result (λ w. Begins form (array ts) container.now out.old.items out.new.items w) IsOutOfMemory }
-    ensures room { IfOk result (λ w. length w.words.now + length w.contents.now + 4 ≤ length container.now) }
-    ensures errors { IfErr result (IsDecodingError or OutOfMemory) }
+/// Returns the number of elements or members of a container that remain.
+fn count_kept(container: &ContainerEntries<'_>) -> usize
+    ensures { (form : Form) (t : Tree) → AreEntriesOf form t container.now → result ≡ length (values_kept t) }
 {
-    let Some((front, contents)) = container.split_at_checked(WORD + WORD * elements) else {
-        return Err(Error::InvalidJsonb);
-    };
-    let start = out.len();
-    out.extend_from_slice(front)?;
-    Ok(Writing {
-        words: &front[WORD..],
-        contents,
-        is_object: false,
-        start,
-        word: start + WORD,
-    })
-}
-
-/// Begins an object of so many pairs with those whose values are no nulls.
-fn begin_object<'a>(
-    out: &mut Vec<u8>,
-    container: &'a [u8],
-    pairs: usize,
-) -> Result<Writing<'a>, Error>
-    requires { pairs < 2 ^ 29 }
-    ensures begun { (form : Form) (ps : Pairs)
-        → IsContent (number_reader form) (object ps) container_entry container.now
-        → pairs ≡ length (keys ps)
-        → MatchResult result (λ w. Begins form (object ps) container.now out.old.items out.new.items w) IsOutOfMemory }
-    ensures room { IfOk result (λ w. length w.words.now + length w.contents.now + 4 ≤ length container.now) }
-    ensures errors { IfErr result (IsDecodingError or OutOfMemory) }
-{
-    let len = WORD * pairs;
-    let Some((all_words, behind)) = container.split_at_checked(WORD + 2 * len) else {
-        return Err(Error::InvalidJsonb);
-    };
-    let key_words = &all_words[WORD..WORD + len];
-    let words = &all_words[WORD + len..];
-    let Some((keys, contents)) = behind.split_at_checked(contents_len(key_words)) else {
-        return Err(Error::InvalidJsonb);
-    };
-    let start = out.len();
-    out.extend_from_slice(&word_of_header(HeaderKind::Object, count_kept(words)))?;
-    push_words_kept(out, key_words, words)?;
-    let word = out.len();
-    push_words_kept(out, words, words)?;
-    push_keys_kept(out, key_words, keys, words)?;
-    Ok(Writing {
-        words,
-        contents,
-        is_object: true,
-        start,
-        word,
-    })
-}
-
-/// Begins a container.
-fn begin<'a>(out: &mut Vec<u8>, container: &'a [u8]) -> Result<Writing<'a>, Error>
-    ensures begun { (form : Form) (t : Tree) → IsContent (number_reader form) t container_entry container.now
-        → MatchResult result (λ w. Begins form t container.now out.old.items out.new.items w) IsOutOfMemory }
-    ensures room { IfOk result (λ w. length w.words.now + length w.contents.now + 4 ≤ length container.now) }
-    ensures errors { IfErr result (IsDecodingError or OutOfMemory) }
-{
-    let Some((kind, entries, _)) = split_header(container) else {
-        return Err(Error::InvalidJsonb);
-    };
-    match kind {
-        HeaderKind::Array => begin_array(out, container, entries),
-        HeaderKind::Object => begin_object(out, container, entries),
-        HeaderKind::Scalar => Err(Error::InvalidJsonb),
+    match container.kind {
+        HeaderKind::Object => count_values(container.values),
+        _ => container.values.len(),
     }
 }
 
-/// A container without the nulls of its objects. What is left of the containers that the walk is within lies in a
-/// `Vec`.
-pub fn strip_container(alloc: Global, container: &[u8]) -> Result<Vec<u8>, Error>
-    ensures stripped { (form : Form) (t : Tree) → IsContent (number_reader form) t container_entry container.now
-        → MatchResult result (λ made. IsContent (number_reader form)
-        (strip t) container_entry made.items) IsOutOfMemory }
+/// Appends the keys of the members whose values are not null, in runs.
+#[inline(never)]
+fn put_keys_kept(writer: &mut Writer, keys: Entries<'_>, values: Entries<'_>) -> Result<(), Error>
+    ensures put { (form : Form) (ks : List (List ℕ)) (vs coming : List Tree) (around : Around) (whole : Tree)
+        → HoldTrees form keys.entry (map text ks) → HoldTrees form values.entry vs → length ks ≤ length vs
+        → IsWriting form writer.old (map text (beside vs ks) ++ coming) around whole
+        → MatchResult result (λ _. IsWriting form writer.new coming around whole) IsOutOfMemory }
     ensures errors { IfErr result (IsDecodingError or OutOfMemory) }
 {
-    let mut out = Vec::with_capacity(alloc, container.len())?;
-    let mut inner = begin(&mut out, container)?;
+    let mut run = keys;
+    let mut left = keys;
+    let mut words = values.words;
+    while let Some((_, others)) = left.first()? {
+        let Some((kind, _, other_words)) = split_entry_word(words) else {
+            return Err(Error::InvalidJsonb);
+        };
+        if kind == EntryKind::Null {
+            copy_run(writer, run, left)?;
+            run = others;
+        }
+        left = others;
+        words = other_words;
+    }
+    copy_run(writer, run, left)
+}
+
+/// Appends the keys of a container's members, of which `count` remain. If all remain, they are copied as one run. Fails
+/// with `InvalidJsonb` if keys are not sorted.
+#[inline(always)]
+fn put_keys(
+    writer: &mut Writer,
+    container: &ContainerEntries<'_>,
+    count: usize,
+) -> Result<(), Error>
+    ensures put { (form : Form) (t : Tree) (around : Around) (whole : Tree) → AreEntriesOf form t container.now
+        → count ≡ length (values_kept t) → IsWriting form writer.old (entries_kept t) around whole
+        → MatchResult result (λ _. IsWriting form writer.new (values_kept t) around whole) IsOutOfMemory }
+    ensures errors { IfErr result (IsDecodingError or OutOfMemory) }
+{
+    check_keys(container.keys)?;
+    if count >= container.keys.len() {
+        writer.copy(container.keys)?;
+        return Ok(());
+    }
+    put_keys_kept(writer, container.keys, container.values)
+}
+
+/// Returns all values of a container.
+fn all_values<'a>(container: &ContainerEntries<'a>) -> ValuesLeft<'a>
+    ensures values { (form : Form) (t : Tree) → AreEntriesOf form t container.now → HoldValues form result t }
+    ensures entries { result.entries ≡ container.now.values }
+{
+    ValuesLeft {
+        entries: container.values,
+        is_object: container.kind == HeaderKind::Object,
+    }
+}
+
+/// Appends the values before the next container, without the nulls that are left out. Returns that container and the
+/// entries after it, or `None` if there is none.
+fn put_scalars<'a>(
+    writer: &mut Writer,
+    left: ValuesLeft<'a>,
+) -> Result<Option<(&'a [u8], Entries<'a>)>, Error>
+    ensures put { (form : Form) (ts : List Tree) (around : Around) (whole : Tree)
+        → HoldTrees form left.entry.entries ts
+        → IsWriting form writer.old (stripped left.entry.is_object ts) around whole
+        → MatchResult result (AreWritten form left.entry.is_object writer.new around whole) IsOutOfMemory }
+    ensures room { IfOk result (λ found. IfSome found (λ f.
+        length f.0.now + (length f.1.words.now + length f.1.contents.now) + 4
+        ≤ length left.entry.entries.words.now + length left.entry.entries.contents.now)) }
+    ensures errors { IfErr result (IsDecodingError or OutOfMemory) }
+{
+    let mut run = left.entries;
+    let mut rest = left.entries;
+    while let Some((entry, others)) = rest.first()? {
+        if stops(entry.kind, left.is_object) {
+            copy_run(writer, run, rest)?;
+            if entry.kind == EntryKind::Container {
+                return Ok(Some((entry.content, others)));
+            }
+            run = others;
+        }
+        rest = others;
+    }
+    copy_run(writer, run, rest)?;
+    Ok(None)
+}
+
+/// Creates a writer of a container without nulls, and appends its keys.
+fn begin<'a>(
+    alloc: Global,
+    container: &ContainerEntries<'a>,
+    capacity: usize,
+) -> Result<(Writer, ValuesLeft<'a>), Error>
+    ensures begun { (form : Form) (t : Tree) → AreEntriesOf form t container.now
+        → MatchResult result (λ begun. Begins form begun.1 begun.0 [] (strip t))
+        (IsOutOfMemoryOrTooLarge form (strip t)) }
+    ensures errors { IfErr result (IsDecodingError or OutOfMemory or TooLarge) }
+{
+    let count = count_kept(container);
+    let mut writer = Writer::new(alloc, container.kind, count, capacity)?;
+    put_keys(&mut writer, container, count)?;
+    Ok((writer, all_values(container)))
+}
+
+/// Opens a container without nulls as the next entry, and appends its keys.
+fn enter<'a>(
+    writer: &mut Writer,
+    container: &'a [u8],
+) -> Result<(OpenContainer, ValuesLeft<'a>), Error>
+    ensures entered { (form : Form) (t : Tree) (coming : List Tree) (around : Around) (whole : Tree)
+        → IsContent (number_reader form) t container_entry container.now
+        → IsWriting form writer.old (strip t ∷ coming) around whole
+        → MatchResult result (λ entered. Begins form entered.1 writer.new ((entered.0, coming) ∷ around) whole)
+        (IsOutOfMemoryOrTooLarge form whole) }
+    ensures room { IfOk result (λ entered.
+        length entered.1.entries.words.now + length entered.1.entries.contents.now + 4 ≤ length container.now) }
+    ensures errors { IfErr result (IsDecodingError or OutOfMemory or TooLarge) }
+{
+    let Some(entries) = container_entries(container)? else {
+        return Err(Error::InvalidJsonb);
+    };
+    let count = count_kept(&entries);
+    let outer = writer.enter(entries.kind, count)?;
+    put_keys(writer, &entries, count)?;
+    Ok((outer, all_values(&entries)))
+}
+
+/// Returns the document of a container without the null members of its objects. The containers around the innermost one
+/// are kept in a `Vec`.
+pub fn strip_container(
+    alloc: Global,
+    container: &ContainerEntries<'_>,
+    capacity: usize,
+) -> Result<Vec<u8>, Error>
+    ensures stripped { (form : Form) (t : Tree) → AreEntriesOf form t container.now
+        → MatchResult result (λ made. Decodes form made.items (strip t)) (IsOutOfMemoryOrTooLarge form (strip t)) }
+    ensures errors { IfErr result (IsDecodingError or OutOfMemory or TooLarge) }
+{
+    let (mut writer, mut left) = begin(alloc, container, capacity)?;
     let mut around = Vec::new(alloc);
     'walk: loop {
-        match next_entry(inner.words, inner.contents)? {
-            Some(entry) => {
-                inner.words = entry.words;
-                inner.contents = entry.contents;
-                match entry.kind {
-                    EntryKind::Container => {
-                        around.push(inner)?;
-                        inner = begin(&mut out, entry.content)?;
-                    }
-                    EntryKind::Null if inner.is_object => {}
-                    _ => {
-                        out.extend_from_slice(entry.content)?;
-                        inner.word = inner.word.wrapping_add(WORD);
-                    }
-                }
+        match put_scalars(&mut writer, left)? {
+            Some((container, others)) => {
+                left.entries = others;
+                let (open, inner) = enter(&mut writer, container)?;
+                around.push(Outer { open, left })?;
+                left = inner;
             }
             None => {
                 let Some(outer) = around.pop() else {
-                    return Ok(out);
+                    return writer.finish();
                 };
-                set_container_word(&mut out, outer.word, inner.start)?;
-                inner = outer;
-                inner.word = inner.word.wrapping_add(WORD);
+                writer.leave(outer.open)?;
+                left = outer.left;
             }
         }
     }

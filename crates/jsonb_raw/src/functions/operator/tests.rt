@@ -1,5 +1,6 @@
-//! Keys of deep documents, and keys into a vector that is used again.
+//! Keys of deep documents, keys into a vector that is used again, and composite keys.
 
+use crate::functions::operator::{push_column_key, push_column_key_wide};
 use crate::raw::RawJsonb;
 use crate::tests::documents::{
     ALONE, DATE, EMPTY_ARRAY, EMPTY_OBJECT, FLOAT, NULL, NULLS, ONE_ELEMENT, nested,
@@ -16,13 +17,13 @@ const ONE_AND_TWO: &[u8] =
 /// `{"k":null}`
 const NULL_PAIR: &[u8] = b"\x40\0\0\x01\x10\0\0\x01\0\0\0\0k";
 
-/// Why a container in so many arrays has no sortable key, where it has none.
+/// Returns why a container in this many arrays has no sortable key, if it has none.
 fn refusal(alloc: Global, innermost: &[u8], arrays: u32) -> Result<Option<Error>, AllocError> {
     let document = nested(alloc, &[ALONE], arrays, innermost)?;
     Ok(RawJsonb::new(&document).convert_to_comparable(alloc).err())
 }
 
-/// Containers, in how many arrays, and the refusal.
+/// Containers, the number of arrays around each, and the error.
 static REFUSALS: [(&[u8], u32, Option<Error>); 4] = [
     (EMPTY_ARRAY, 255, None),
     (EMPTY_ARRAY, 256, Some(Error::TooDeep)),
@@ -38,7 +39,7 @@ fn keys_by_depth(rt: HostRuntime) {
     }
 }
 
-/// Whether the wide key of a document is so long and ends so.
+/// Returns `true` if the wide key of a document has this length and this end.
 fn has_wide_key(alloc: Global, document: &[u8], len: usize, end: &[u8]) -> Result<bool, Error> {
     let key = RawJsonb::new(document).convert_to_comparable_wide(alloc)?;
     Ok(key.len() == len && key.ends_with(end))
@@ -52,7 +53,7 @@ fn a_wide_key_goes_deeper(rt: HostRuntime) -> Result<(), AllocError> {
     Ok(())
 }
 
-/// Whether each key that is put into a vector is the one that the call without it gives.
+/// Returns `true` if each key that is written to a vector is the one that the function without it returns.
 fn has_same_keys(alloc: Global, document: RawJsonb<'_>, key: &mut Vec<u8>) -> Result<bool, Error> {
     document.convert_to_comparable_into(alloc, key)?;
     let sortable = *key == document.convert_to_comparable(alloc)?;
@@ -74,7 +75,51 @@ fn keys_in_a_vector_that_is_used_again(rt: HostRuntime) {
     assert!(rt; key.is_empty());
 }
 
-/// Whether the sortable key of one document is below that of the other.
+/// Two columns, and their composite key, narrow and wide.
+static COLUMNS: [(&[Option<&[u8]>], &[u8], &[u8]); 4] = [
+    (&[Some(NULL), None], b"\0\x08\0\0", b"\0\0\x08\0\0\0"),
+    (&[None, Some(NULL)], b"\0\0\0\x08", b"\0\0\0\0\0\x08"),
+    (&[None, None], b"\0\0\0\0", b"\0\0\0\0\0\0"),
+    (
+        &[Some(NULL), Some(NULL)],
+        b"\0\x08\0\x08",
+        b"\0\0\x08\0\0\x08",
+    ),
+];
+
+/// Returns `true` if these are the narrow and the wide composite key of the columns.
+fn has_column_keys(
+    alloc: Global,
+    columns: &[Option<&[u8]>],
+    narrow: &[u8],
+    wide: &[u8],
+) -> Result<bool, Error> {
+    let mut key = Vec::new(alloc);
+    let mut wide_key = Vec::new(alloc);
+    for column in columns {
+        push_column_key(alloc, &mut key, column.map(|bytes| RawJsonb::new(bytes)))?;
+        push_column_key_wide(
+            alloc,
+            &mut wide_key,
+            column.map(|bytes| RawJsonb::new(bytes)),
+        )?;
+    }
+    Ok(key.as_slice() == narrow && wide_key.as_slice() == wide)
+}
+
+#[test]
+fn composite_keys(rt: HostRuntime) {
+    for (columns, narrow, wide) in &COLUMNS {
+        let is_so = has_column_keys(rt.alloc(), columns, narrow, wide);
+        assert!(rt; is_so == Ok(true), "{columns:?}");
+    }
+    let mut key = Vec::new(rt.alloc());
+    let float = push_column_key(rt.alloc(), &mut key, Some(RawJsonb::new(FLOAT)));
+    assert!(rt; float == Err(Error::UnsupportedNumber));
+    assert!(rt; key.is_empty());
+}
+
+/// Returns `true` if the sortable key of one document is below that of the other.
 fn is_below(alloc: Global, one: &[u8], other: &[u8]) -> Result<bool, Error> {
     let low = RawJsonb::new(one).convert_to_comparable(alloc)?;
     let high = RawJsonb::new(other).convert_to_comparable(alloc)?;

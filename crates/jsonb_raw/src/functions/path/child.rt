@@ -1,8 +1,8 @@
-//! The calls on the children of a document: the elements of an array and the values of an object.
+//! The functions on the children of a document: the elements of an array and the values of an object.
 //!
-//! On bytes that don't decode each call returns; which answer or refusal it gives is not fixed.
+//! On bytes that do not decode each function returns; its result is not specified.
 
-ghost use Rattle.std.specs.Prelude.{◌≡◌, ◌↔◌, ℕ, List, not, true, None, Ok, filter, map, length, IsTrue, IfErr, IsOkAnd, MatchResult, MatchOption, Err};
+ghost use Rattle.std.specs.Prelude.{◌≡◌, ◌↔◌, ℕ, List, not, true, None, Ok, filter, map, length, IsTrue, IfErr, IsOkAnd, MatchResult, MatchOption, Err, OnOk};
 ghost use Rattle.std.specs.List.{remove};
 ghost use Rattle.std.specs.Map.{keys_of};
 ghost use Rattle.std.specs.Str.{bytes_eq};
@@ -13,6 +13,7 @@ ghost use Rattle.jsonb_doc.specs.Format.{Decodes, AreKeys};
 ghost use Rattle.jsonb_doc.specs.Item.{StandsFor};
 ghost use Rattle.jsonb_doc.specs.Answer.{IsOutOfMemory, IsDecodingError, ◌or◌};
 ghost use Rattle.jsonb_doc.specs.declared.error.Error.TheVariants.{OutOfMemory, TooLarge, InvalidJsonType};
+ghost use Rattle.jsonb_raw.specs.Roots.{HasRoot, HasRootShape};
 ghost use Rattle.jsonb_raw.specs.Private.Entries.{HoldTrees, HoldPairs};
 ghost use Rattle.jsonb_raw.specs.Documents.{raw_bytes, Makes, MakesOption};
 ghost use Rattle.jsonb_raw.specs.Places.{index_position};
@@ -21,37 +22,53 @@ ghost use Rattle.jsonb_raw.specs.Private.NamePositions.{position_in_some_case};
 ghost use Rattle.jsonb_raw.specs.Exists.{is_text};
 
 use super::nth_child;
-use crate::functions::entries::{
-    around_entry, element_entries, entry_count, entry_document, split_at_most,
-};
+use crate::functions::entries::{around_entries, element_entries, entry_count, entry_document};
 use crate::functions::joined::{array_of_both, object_of};
 use crate::functions::parts::{Entries, PairEntries};
-use crate::functions::runs::{first_entry, name_position, pair_entries};
+use crate::functions::runs::{name_position, pair_entries};
 use crate::owned::OwnedJsonb;
 use crate::raw::RawJsonb;
-use jsonb_doc::{ArrayBuilder, Error, Item, array_elements, field_spot, root_item, root_spot};
+use jsonb_doc::{
+    ArrayBuilder, Error, Item, Shape, array_elements, field_spot, root_item, root_shape, root_spot,
+};
 use std::alloc::Global;
 
 impl RawJsonb<'_> {
-    /// The element at a position, counted from 0, as a document of its own, and `None` where there is none or where
-    /// the root is no array. PostgreSQL has `->` with a number.
+    /// Returns the element at a zero-based index, as a new document.
+    ///
+    /// Returns `None` if there is no such element or the root is not an array. Like PostgreSQL's `->` with an integer.
     ///
     /// # Errors
     ///
-    /// Those of making documents.
+    /// Construction errors.
     ///
-    /// # Cost
+    /// # Complexity
     ///
-    /// Linear in the position, and the element is copied. Takes memory.
+    /// O(index). Allocates; the element is copied.
+    ///
+    /// # Examples
+    ///
+    /// ```rust crates/jsonb_examples/src/calls.rt
+    /// let Some(first) = queue.get_by_index(alloc, 0)? else {
+    ///     return Ok(None);
+    /// };
+    /// ```
+    ///
+    /// <!-- rows: calls: get_by_index -->
+    /// | Document | Arguments | Result |
+    /// |---|---|---|
+    /// | `[10,20,30]` | `1` | `20` |
+    /// | `[10,20,30]` | `3` | none |
     pub fn get_by_index(&self, alloc: Global, index: usize) -> Result<Option<OwnedJsonb>, Error>
         ensures element { (form : Form) (t : Tree) → Decodes form (raw_bytes self.now) t
             → MakesOption form (element_at index t) result }
         ensures none { (form : Form) (t : Tree) → Decodes form (raw_bytes self.now) t → element_at index t ≡ None
             → result ≡ Ok None }
         ensures errors { IfErr result (IsDecodingError or OutOfMemory or TooLarge) }
+        ensures reads { OnOk result (HasRootShape (raw_bytes self.now)) }
     {
         let bytes = self.as_bytes();
-        let Item::Array(_) = root_item(bytes)? else {
+        let Shape::Array = root_shape(bytes)? else {
             return Ok(None);
         };
         let root = root_spot(bytes)?;
@@ -61,17 +78,35 @@ impl RawJsonb<'_> {
         Ok(Some(OwnedJsonb::from_spot(alloc, bytes, spot)?))
     }
 
-    /// The value under the name, as a document of its own. With `ignore_case` and no such key it is the value of the
-    /// first pair, in the order of the keys, whose key is the name in some case of ASCII letters. `None` where there
-    /// is no such value, or where the root is no object. PostgreSQL has `->` with a text.
+    /// Returns the value of a key, as a new document.
+    ///
+    /// With `ignore_case`, if the key itself is missing, returns the value of the first key, in sorted order, that
+    /// equals it under ASCII case folding. Returns `None` if there is no such key or the root is not an object. Like
+    /// PostgreSQL's `->` with a `text`.
     ///
     /// # Errors
     ///
-    /// Those of making documents.
+    /// Construction errors.
     ///
-    /// # Cost
+    /// # Complexity
     ///
-    /// Linear in k and, with `ignore_case`, the keys' bytes, and the value is copied. Takes memory.
+    /// O(k), and with `ignore_case` the bytes of the keys. Allocates; the value is copied.
+    ///
+    /// # Examples
+    ///
+    /// ```rust crates/jsonb_examples/src/configuration.rt
+    /// let Some(old) = configuration.get_by_name(alloc, section, false)? else {
+    ///     return Err(Error::InvalidObject);
+    /// };
+    /// ```
+    ///
+    /// <!-- rows: calls: get_by_name get_by_name_ignore_case -->
+    /// | Function | Document | Arguments | Result |
+    /// |---|---|---|---|
+    /// | `get_by_name_ignore_case` | `{"asd":"adf"}` | `ASD` | `"adf"` |
+    /// | `get_by_name` | `{"asd":"adf"}` | `ASD` | none |
+    /// | `get_by_name` | `{"asd":"adf"}` | `asd` | `"adf"` |
+    /// | `get_by_name` | `{"a":` a float `}` | `a` | refused: `UnsupportedNumber` |
     pub fn get_by_name(
         &self,
         alloc: Global,
@@ -95,16 +130,31 @@ impl RawJsonb<'_> {
         }
     }
 
-    /// The array without the element that an index means, counted from the end where it is negative. Where there is
-    /// no such element the answer has the same bytes. PostgreSQL has `-` with a number.
+    /// Returns the array without the element at an index, which counts from the end if negative.
+    ///
+    /// Returns the same bytes if there is no such element. Like PostgreSQL's `-` with an integer.
     ///
     /// # Errors
     ///
-    /// `InvalidJsonType` where the root is no array, and those of making documents.
+    /// `InvalidJsonType` if and only if the root is not an array, and construction errors.
     ///
-    /// # Cost
+    /// # Complexity
     ///
-    /// Linear in n, each byte copied once. Takes memory.
+    /// O(n). Allocates; each byte is copied once.
+    ///
+    /// # Examples
+    ///
+    /// ```rust crates/jsonb_examples/src/calls.rt
+    /// let rest = queue.delete_by_index(alloc, 0)?;
+    /// Ok(Some((first, rest)))
+    /// ```
+    ///
+    /// <!-- rows: calls: delete_by_index -->
+    /// | Document | Arguments | Result |
+    /// |---|---|---|
+    /// | `[10,20,30]` | `-1` | `[10,20]` |
+    /// | `[10,20,30]` | `3` | `[10,20,30]` |
+    /// | `{"asd":"adf"}` | `0` | refused: `InvalidJsonType` |
     pub fn delete_by_index(&self, alloc: Global, index: i32) -> Result<OwnedJsonb, Error>
         ensures deleted { (form : Form) (t : Tree) → Decodes form (raw_bytes self.now) t
             → MatchOption (without_index index t) (result ≡ Err InvalidJsonType) (λ wanted. Makes form wanted result) }
@@ -123,20 +173,32 @@ impl RawJsonb<'_> {
         }
     }
 
-    /// The object without the key, or the array without the texts that are the name. PostgreSQL has `-` with a text.
+    /// Returns the object without a key, or the array without the strings that equal the name.
+    ///
+    /// Like PostgreSQL's `-` with a `text`.
     ///
     /// # Errors
     ///
-    /// `InvalidJsonType` where the root is neither, and those of making documents.
+    /// `InvalidJsonType` if and only if the root is neither an object nor an array, and construction errors.
     ///
-    /// # Cost
+    /// # Complexity
     ///
-    /// Linear in n. Takes memory.
+    /// O(n). Allocates.
+    ///
+    /// # Examples
+    ///
+    /// <!-- rows: calls: delete_by_name -->
+    /// | Document | Arguments | Result |
+    /// |---|---|---|
+    /// | `["a",1,"a","b",["a"]]` | `a` | `[1,"b",["a"]]` |
+    /// | `{"a":null,"b":[null]}` | `a` | `{"b":[null]}` |
+    /// | `5` | `a` | refused: `InvalidJsonType` |
     pub fn delete_by_name(&self, alloc: Global, name: &str) -> Result<OwnedJsonb, Error>
         ensures deleted { (form : Form) (t : Tree) → Decodes form (raw_bytes self.now) t
             → MatchOption (without_name name.now t) (result ≡ Err InvalidJsonType)
             (λ wanted. Makes form wanted result) }
         ensures errors { IfErr result (IsDecodingError or OutOfMemory or TooLarge or InvalidJsonType) }
+        ensures reads { OnOk result (HasRoot (raw_bytes self.now)) }
     {
         match root_item(self.as_bytes())? {
             Item::Array(bytes) => array_without_text(alloc, bytes, name),
@@ -146,10 +208,10 @@ impl RawJsonb<'_> {
     }
 }
 
-/// Whether there are as many bytes, and the last ones are the same in some case of ASCII letters. Keys stand in order,
-/// so that those side by side differ at their ends more often than where they begin.
+/// Returns `true` if the lengths are equal, and the last bytes under ASCII case folding. Sorted keys share prefixes, so
+/// neighbors differ at their ends more often than at their beginnings.
 #[inline(always)]
-fn ends_alike(key: &[u8], name: &[u8]) -> bool
+fn same_len_and_last_byte(key: &[u8], name: &[u8]) -> bool
     ensures { map to_ascii_lowercase key.now ≡ map to_ascii_lowercase name.now → IsTrue result }
 {
     if key.len() != name.len() {
@@ -161,16 +223,16 @@ fn ends_alike(key: &[u8], name: &[u8]) -> bool
     }
 }
 
-/// Whether a key is the name in some case of ASCII letters.
+/// Returns `true` if a key equals the name under ASCII case folding.
 #[inline(always)]
-fn is_in_some_case(key: &[u8], name: &[u8]) -> bool
+fn eq_ignore_ascii_case(key: &[u8], name: &[u8]) -> bool
     ensures test { IsTrue result ↔ (map to_ascii_lowercase key.now ≡ map to_ascii_lowercase name.now) }
 {
-    ends_alike(key, name) && key.eq_ignore_ascii_case(name)
+    same_len_and_last_byte(key, name) && key.eq_ignore_ascii_case(name)
 }
 
-/// The position of the first of the entries, which are texts, that is this name, or else of the first that is it in
-/// some case of ASCII letters.
+/// Returns the position of the first of the entries, which are strings, that is this name, otherwise of the first that
+/// equals it under ASCII case folding.
 fn position_ignoring_case(entries: Entries<'_>, name: &[u8]) -> Result<Option<usize>, Error>
     ensures position { (form : Form) (ks : List (List ℕ)) → HoldTrees form entries.entry (map text ks)
         → IsOkAnd result (λ found. found ≡ position_in_some_case name.now ks) }
@@ -179,20 +241,20 @@ fn position_ignoring_case(entries: Entries<'_>, name: &[u8]) -> Result<Option<us
     let mut passed = 0;
     let mut in_other_case = None;
     let mut left = entries;
-    while let Some(key) = first_entry(left)? {
-        if is_in_some_case(key.content, name) {
+    while let Some((key, others)) = left.first()? {
+        if eq_ignore_ascii_case(key.content, name) {
             if key.content == name {
                 return Ok(Some(passed));
             }
             in_other_case = in_other_case.or(Some(passed));
         }
         passed += 1;
-        left = key.others;
+        left = others;
     }
     Ok(in_other_case)
 }
 
-/// The value under the name, or else of the first pair whose key is the name in some case of ASCII letters.
+/// Returns the value of the key, otherwise that of the first key that equals it under ASCII case folding.
 fn value_ignoring_case(alloc: Global, bytes: &[u8], name: &str) -> Result<Option<OwnedJsonb>, Error>
     ensures value { (form : Form) (t : Tree) → Decodes form bytes.now t
         → MakesOption form (named_child name.now true t) result }
@@ -206,14 +268,14 @@ fn value_ignoring_case(alloc: Global, bytes: &[u8], name: &str) -> Result<Option
     let Some(position) = position_ignoring_case(pairs.keys, name.as_bytes())? else {
         return Ok(None);
     };
-    let (_, values) = split_at_most(pairs.values, position)?;
-    let Some(value) = first_entry(values)? else {
+    let (_, values) = pairs.values.split(position)?;
+    let Some((value, _)) = values.first()? else {
         return Err(Error::InvalidJsonb);
     };
     Ok(Some(entry_document(alloc, value.kind, value.content)?))
 }
 
-/// The position of the element that an index means in an array of this length.
+/// Returns the position that an index denotes in an array of this length, from the end if negative.
 pub fn index_position(len: usize, index: i32) -> Option<usize>
     ensures { result ≡ index_position len index }
 {
@@ -228,7 +290,7 @@ pub fn index_position(len: usize, index: i32) -> Option<usize>
     }
 }
 
-/// The array of these entries without the one at a position.
+/// Returns the array of these entries without the one at a position.
 fn array_without_element(
     alloc: Global,
     entries: Entries<'_>,
@@ -238,11 +300,11 @@ fn array_without_element(
         → Makes form (array (trees_of (remove ts position))) result }
     ensures errors { IfErr result (IsDecodingError or OutOfMemory or TooLarge) }
 {
-    let (front, back) = around_entry(entries, position)?;
+    let (front, back) = around_entries(entries, position, 1)?;
     array_of_both(alloc, front, back)
 }
 
-/// Whether the item is this text.
+/// Returns `true` if the item is this string.
 fn is_text(item: &Item<'_>, name: &str) -> bool
     ensures { (form : Form) (t : Tree) → StandsFor form item.now t → result ≡ is_text name.now t }
 {
@@ -252,7 +314,7 @@ fn is_text(item: &Item<'_>, name: &str) -> bool
     }
 }
 
-/// The array without the texts that are the name.
+/// Returns the array without the strings that equal the name.
 fn array_without_text(alloc: Global, bytes: &[u8], name: &str) -> Result<OwnedJsonb, Error>
     ensures deleted { (form : Form) (ts : Trees) → Decodes form bytes.now (array ts)
         → Makes form (array (trees_of (filter (λ t. not (is_text name.now t)) (element_list ts)))) result }
@@ -269,7 +331,7 @@ fn array_without_text(alloc: Global, bytes: &[u8], name: &str) -> Result<OwnedJs
     Ok(OwnedJsonb::new(builder.build()?))
 }
 
-/// The object without the key.
+/// Returns the object without the key.
 fn object_without_key(alloc: Global, bytes: &[u8], name: &str) -> Result<OwnedJsonb, Error>
     ensures deleted { (form : Form) (ps : Pairs) → Decodes form bytes.now (object ps)
         → Makes form (object (pairs_of (filter (λ p. not (bytes_eq p.0 name.now)) (members ps)))) result }
@@ -284,7 +346,7 @@ fn object_without_key(alloc: Global, bytes: &[u8], name: &str) -> Result<OwnedJs
     object_without_pair(alloc, pairs, position)
 }
 
-/// The object of these pairs without the one at a position.
+/// Returns the object of these members without the one at a position.
 fn object_without_pair(
     alloc: Global,
     pairs: PairEntries<'_>,
@@ -294,7 +356,7 @@ fn object_without_pair(
         → AreKeys (keys_of (remove ps position)) → Makes form (object (pairs_of (remove ps position))) result }
     ensures errors { IfErr result (IsDecodingError or OutOfMemory or TooLarge) }
 {
-    let (keys, other_keys) = around_entry(pairs.keys, position)?;
-    let (values, other_values) = around_entry(pairs.values, position)?;
+    let (keys, other_keys) = around_entries(pairs.keys, position, 1)?;
+    let (values, other_values) = around_entries(pairs.values, position, 1)?;
     object_of(alloc, &[keys, other_keys], &[values, other_values])
 }

@@ -20,7 +20,7 @@ use jsonb_doc::layout::{
 use jsonb_doc::{Error, contents_len};
 use std::alloc::Global;
 
-/// The place of the entry that so many others stand before, of so many in all.
+/// Returns the range of an entry, given the number of all entries and of those before it.
 fn entry_place(container: &[u8], total: usize, passed: usize) -> Option<EntryPlace>
     requires total { total < 2 ^ 30 }
     requires passed { passed < total }
@@ -39,7 +39,7 @@ fn entry_place(container: &[u8], total: usize, passed: usize) -> Option<EntryPla
     })
 }
 
-/// The entries of the child at a position.
+/// Returns the entries of the child at a position.
 fn child_entries(container: &[u8], position: usize) -> Option<ChildEntries>
     ensures { (form : Form) (t child : Tree) → IsContent (number_reader form) t container_entry container.now
         → slice_get (children t) position ≡ Some child
@@ -65,7 +65,7 @@ fn child_entries(container: &[u8], position: usize) -> Option<ChildEntries>
     }
 }
 
-/// Puts a part of these bytes at the end. A part that they don't have is `InvalidJsonb`.
+/// Appends a range of these bytes. Fails with `InvalidJsonb` if they have no such range.
 fn push_part(out: &mut Vec<u8>, bytes: &[u8], start: usize, end: usize) -> Result<(), Error>
     ensures pushed { start ≤ end → end ≤ length bytes.now
         → MatchResult result (λ _. out.new.items ≡ out.old.items ++ slice_range bytes.now start end) IsOutOfMemory }
@@ -78,7 +78,7 @@ fn push_part(out: &mut Vec<u8>, bytes: &[u8], start: usize, end: usize) -> Resul
     Ok(())
 }
 
-/// Puts the parts around an element's entry at the end.
+/// Appends the bytes of an array around the entry of an element, without its header.
 fn push_around_element(out: &mut Vec<u8>, array: &[u8], value: EntryPlace) -> Result<(), Error>
     ensures pushed { AreInOrder None value (length array.now)
         → MatchResult result (λ _. out.new.items ≡ out.old.items ++ around array.now None value) IsOutOfMemory }
@@ -89,7 +89,7 @@ fn push_around_element(out: &mut Vec<u8>, array: &[u8], value: EntryPlace) -> Re
     push_part(out, array, value.end, array.len())
 }
 
-/// Puts the parts around a pair's entries at the end.
+/// Appends the bytes of an object around a member's entries, without its header.
 fn push_around_pair(
     out: &mut Vec<u8>,
     object: &[u8],
@@ -107,7 +107,7 @@ fn push_around_pair(
     push_part(out, object, value.end, object.len())
 }
 
-/// Puts a container without the child of these entries at the end.
+/// Appends a container without the child of these entries.
 fn push_without_child(
     out: &mut Vec<u8>,
     container: &[u8],
@@ -125,31 +125,7 @@ fn push_without_child(
     }
 }
 
-/// Writes a word over the four bytes at a place.
-fn set_word(out: &mut Vec<u8>, at: usize, word: [u8; WORD])
-    requires { at + 4 ≤ length out.old.items }
-    ensures { out.new.items ≡ take at out.old.items ++ (word ++ drop (at + 4) out.old.items) }
-{
-    out[at..at + WORD].copy_from_slice(&word);
-}
-
-/// Writes the entry word of a container that goes from here to the end over the word at a place.
-pub fn set_container_word(out: &mut Vec<u8>, word: usize, start: usize) -> Result<(), Error>
-    ensures set { (front old between content : List ℕ) → out.old.items ≡ front ++ (old ++ (between ++ content))
-        → length old ≡ 4 → word ≡ length front → start ≡ length front + 4 + length between → length content < 2 ^ 28
-        → IsOkAnd result (λ _. out.new.items
-        ≡ front ++ (entry_word container_entry (length content) ++ (between ++ content))) }
-    ensures errors { IfErr result (IsDecodingError or OutOfMemory) }
-{
-    let end = out.len();
-    if start > end || end - start > MAX_CONTENT || end < WORD || word > end - WORD {
-        return Err(Error::InvalidJsonb);
-    }
-    set_word(out, word, word_of_entry(EntryKind::Container, end - start));
-    Ok(())
-}
-
-/// How many bytes the entries of a child take, with their words.
+/// Returns the number of bytes of the entries of a child, with their words.
 fn entries_len(entries: &ChildEntries) -> usize
     ensures { (len : ℕ) → len < 2 ^ 64 → AreInOrder entries.now.key entries.now.value len
         → result ≡ entries_size entries.now }
@@ -164,7 +140,7 @@ fn entries_len(entries: &ChildEntries) -> usize
     }
 }
 
-/// The places of the children at these positions, each within the one before it, and the content of the last.
+/// Returns the ranges of the children at these positions, each within the one before it, and the content of the last.
 fn places_within<'a>(
     alloc: Global,
     container: &'a [u8],
@@ -193,7 +169,7 @@ fn places_within<'a>(
     Ok((places, inner))
 }
 
-/// Puts the bytes in front of a child's content at the end. The child, a container, is told to be so many bytes
+/// Appends the bytes before a child's content. The length of the child, a container, is written `removed` bytes
 /// shorter.
 fn push_front(
     out: &mut Vec<u8>,
@@ -219,8 +195,8 @@ fn push_front(
     push_part(out, container, child.word + WORD, child.start)
 }
 
-/// Puts the bytes in front of the innermost of the children at these places at the end, each told to be so many bytes
-/// shorter. Tells where the innermost stands.
+/// Appends the bytes before the innermost of the children in these ranges. The length of each is written `removed`
+/// bytes shorter. Returns the start of the innermost one.
 fn push_fronts(
     out: &mut Vec<u8>,
     container: &[u8],
@@ -246,8 +222,8 @@ fn push_fronts(
     Ok(start)
 }
 
-/// Puts a container without the place of these positions at the end. One walk down finds where each child stands, so
-/// that the words on the way are written with their new lengths and each byte is copied once.
+/// Appends a container without the value at the location of these positions. The ranges of all children on the way are
+/// found first, so that their new lengths are known and each byte is copied once.
 pub fn push_without(
     alloc: Global,
     out: &mut Vec<u8>,

@@ -1,4 +1,4 @@
-//! A document without the place that steps meet.
+//! A document without the value at a key path.
 
 ghost use Rattle.std.specs.Prelude.{◌≡◌, List, length, position as first_position, not, IsTrue, IsOkAnd, IsErrOf, IfErr, ◌⊎◌, MatchResult};
 ghost use Rattle.std.specs.Iterator.{IsFinite};
@@ -28,7 +28,7 @@ use jsonb_doc::{Error, Item, Spot, array_elements, keys, root_item, root_spot, s
 use jsonb_keypath::KeyPath;
 use std::alloc::Global;
 
-/// The position that an index means in an array, from the end where it is negative.
+/// Returns the position that an index denotes in an array, from the end if negative.
 fn element_position(bytes: &[u8], index: i32) -> Result<Option<usize>, Error>
     ensures position { (form : Form) (ts : Trees) → Decodes form bytes.now (array ts)
         → IsOkAnd result (λ found. found ≡ index_position (length (elements ts)) index) }
@@ -38,7 +38,7 @@ fn element_position(bytes: &[u8], index: i32) -> Result<Option<usize>, Error>
     Ok(index_position(elements.len(), index))
 }
 
-/// The position of the first key of an object that is this name.
+/// Returns the position of the key of an object that is this name.
 fn key_position(bytes: &[u8], name: &str) -> Result<Option<usize>, Error>
     ensures position { (form : Form) (ps : Pairs) → Decodes form bytes.now (object ps)
         → IsOkAnd result (λ found. found ≡ first_position (λ key. bytes_eq key name.now) (keys ps)) }
@@ -57,7 +57,7 @@ fn key_position(bytes: &[u8], name: &str) -> Result<Option<usize>, Error>
     Ok(None)
 }
 
-/// The position of the key of an object that is an index in decimal.
+/// Returns the position of the key of an object that is an index in decimal.
 fn decimal_position(alloc: Global, bytes: &[u8], index: i32) -> Result<Option<usize>, Error>
     ensures position { (form : Form) (ps : Pairs) → Decodes form bytes.now (object ps)
         → MatchResult result (λ found. found
@@ -68,7 +68,7 @@ fn decimal_position(alloc: Global, bytes: &[u8], index: i32) -> Result<Option<us
     key_position(bytes, key.as_str())
 }
 
-/// The position of the child that a step meets.
+/// Returns the position of the child that a step selects.
 fn position_met(
     alloc: Global,
     bytes: &[u8],
@@ -88,7 +88,7 @@ fn position_met(
     }
 }
 
-/// The positions of the children that the steps meet, each in the one before it.
+/// Returns the positions of the children that the steps select, each in the one before it.
 fn place_met<'k, I: Iterator<Item = &'k KeyPath<'k>> + Drop>(
     alloc: Global,
     bytes: &[u8],
@@ -117,14 +117,14 @@ fn place_met<'k, I: Iterator<Item = &'k KeyPath<'k>> + Drop>(
     Ok(Some(positions))
 }
 
-/// Whether an item is null, a boolean, a number or a string.
+/// Returns `true` if an item is null, a Boolean, a number or a string.
 fn is_json_scalar(item: &Item<'_>) -> bool
     ensures { (form : Form) (t : Tree) → StandsFor form item.now t → result ≡ is_json_scalar t }
 {
     !matches!(item, Item::Array(_) | Item::Object(_) | Item::Extension(_))
 }
 
-/// The same bytes in memory of their own.
+/// Returns a copy of the bytes.
 fn copied(alloc: Global, bytes: &[u8]) -> Result<OwnedJsonb, Error>
     ensures same { MatchResult result (λ made. made ≡ bytes.now) IsOutOfMemory }
 {
@@ -132,18 +132,34 @@ fn copied(alloc: Global, bytes: &[u8]) -> Result<OwnedJsonb, Error>
 }
 
 impl RawJsonb<'_> {
-    /// The document without the place that the steps meet, as `get_by_keypath` walks them: an element of an array, or
-    /// a pair of an object. The same bytes where there are no steps, where a step meets nothing, and where the root
-    /// is an extension value. The iterator must end. PostgreSQL has `#-`.
+    /// Returns the document without the value at the location of the steps, which are those of `get_by_keypath`: an
+    /// element of an array, or a member of an object.
+    ///
+    /// Returns the same bytes if there are no steps, if a step selects nothing, and if the root is an extension value.
+    /// The iterator must end. Like PostgreSQL's `#-`.
     ///
     /// # Errors
     ///
-    /// `InvalidJsonType` exactly where the root is null, a boolean, a number or a string, and those of taking memory.
-    /// `TooLarge` never comes: the answer is no larger than the document.
+    /// `InvalidJsonType` if and only if the root is null, a Boolean, a number or a string, and allocation errors.
+    /// `TooLarge` does not occur, because the result is no longer than the document.
     ///
-    /// # Cost
+    /// # Complexity
     ///
-    /// Linear in n, and what is left is copied once. Takes memory.
+    /// O(n). Allocates; what remains is copied once.
+    ///
+    /// # Examples
+    ///
+    /// ```rust crates/jsonb_examples/src/configuration.rt
+    /// let steps = parse_key_paths(alloc, path.as_bytes())?;
+    /// configuration.delete_by_keypath(alloc, steps.paths.iter())
+    /// ```
+    ///
+    /// <!-- rows: calls: delete_by_keypath -->
+    /// | Document | Arguments | Result |
+    /// |---|---|---|
+    /// | `[false,10,{"k":"v"}]` | `{2,k}` | `[false,10,{}]` |
+    /// | `[false,10,{"k":"v"}]` | `{-4}` | `[false,10,{"k":"v"}]` |
+    /// | `5` | `{0}` | refused: `InvalidJsonType` |
     pub fn delete_by_keypath<'k, I: Iterator<Item = &'k KeyPath<'k>> + Drop>(
         &self,
         alloc: Global,

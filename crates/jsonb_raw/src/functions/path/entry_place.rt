@@ -1,10 +1,10 @@
-//! Where entries stand in the bytes of a container.
+//! Ranges of entries in the bytes of a container.
 
 ghost use Rattle.std.specs.Prelude.{◌<◌, ◌^◌};
 
 use jsonb_doc::layout::WORD;
 
-/// Where an entry stands in the bytes of a container: its word, and its content.
+/// The range of an entry in the bytes of a container: its word, and its content.
 #[derive(Clone, Copy)]
 pub struct EntryPlace {
     pub word: usize,
@@ -13,8 +13,8 @@ pub struct EntryPlace {
     ghost small: { word < 2 ^ 33 },
 }
 
-/// The entries of a child: that of its key, where its parent is an object, and its own. Beside them the header that the
-/// parent has without it.
+/// The entries of a child: that of its key, if its parent is an object, and its own; and the parent's header without
+/// it.
 #[derive(Clone, Copy)]
 pub struct ChildEntries {
     pub header: [u8; WORD],

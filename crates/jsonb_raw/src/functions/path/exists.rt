@@ -1,28 +1,29 @@
-//! Which texts a document has.
+//! Existence of names: keys of an object, strings in an array, or the string that is the root.
 
-ghost use Rattle.std.specs.Prelude.{◌≡◌, ℕ, List, IsTrue, IsOkAnd, IfOk, IfErr};
+ghost use Rattle.std.specs.Prelude.{◌≡◌, ℕ, List, IsTrue, IsOkAnd, IfOk, IfErr, OnOk};
 ghost use Rattle.std.specs.List.{list_any};
 ghost use Rattle.std.specs.Iterator.{IsFinite};
 ghost use Rattle.std.specs.Str.{bytes_eq};
-ghost use Rattle.jsonb_doc.specs.Tree.{Tree, Trees, array, elements};
+ghost use Rattle.jsonb_doc.specs.Tree.{Tree, Trees, Pairs, array, object, elements, keys as key_list};
 ghost use Rattle.jsonb_doc.specs.Payload.{Form};
 ghost use Rattle.jsonb_doc.specs.Format.{Decodes, AreKeys};
 ghost use Rattle.jsonb_doc.specs.Private.Stored.{HasEntriesLeft, key_trees};
 ghost use Rattle.jsonb_doc.specs.Answer.{IsDecodingError};
+ghost use Rattle.jsonb_raw.specs.Roots.{HasRoot};
 ghost use Rattle.jsonb_raw.specs.Computes.{Computes};
 ghost use Rattle.jsonb_raw.specs.Documents.{raw_bytes};
 ghost use Rattle.jsonb_raw.specs.Exists.{is_text, has_text, has_all, has_any};
-ghost use Rattle.jsonb_raw.specs.Private.Cursors.{IsCursorOf, IsSearchOf, IsPassed, HoldsTexts, has_by};
+ghost use Rattle.jsonb_raw.specs.Private.Cursors.{IsCursorOf, IsSearchOf, IsTableOf, IsPassed, HoldsTexts, has_by};
 ghost use Rattle.jsonb_raw.specs.Iterators.{YieldsItemsLeft};
 
 use crate::raw::RawJsonb;
-use jsonb_doc::{EntryIter, Error, Item, elements, object_entries, root_item};
+use jsonb_doc::{EntryIter, Error, Item, bytes_cmp, elements, object_entries, root_item};
 use std::cmp::Ordering;
 
-/// A place among the keys of an object: all of them, and those that are left behind the last one that was passed.
+/// A position among the keys of an object: all of them, and those that remain after the last one visited.
 ///
-/// Entry words hold lengths and no places, so that a key is reached only along those before it. A name that is above
-/// the key that was passed last is looked up from there.
+/// Entry words hold lengths and no offsets, so a key is reached only along those before it. A name greater than the
+/// key visited last is searched from there.
 #[derive(Clone, Copy)]
 pub(crate) struct KeyCursor<'a> {
     all: EntryIter<'a>,
@@ -42,20 +43,30 @@ impl<'a> KeyCursor<'a> {
         }
     }
 
-    /// Whether the key that was passed last, where there is one, is below the name.
+    /// Returns `true` if the key visited last, if there is one, is less than the name.
     fn is_below(&self, name: &[u8]) -> bool
         ensures { IsTrue result → IsPassed self.now.passed name.now }
     {
         let Some(passed) = self.passed else {
             return true;
         };
-        if let Ordering::Less = passed.cmp(&name) {
+        if let Ordering::Less = bytes_cmp(passed, name) {
             return true;
         }
         false
     }
 
-    /// Goes back to the front, unless the key that was passed last is below the name.
+    /// Moves before the first key.
+    fn rewind_to_front(&mut self)
+        ensures cursor { (form : Form) (ks : List (List ℕ)) → IsCursorOf form self.old ks
+            → IsCursorOf form self.new ks }
+        ensures passed { (name : List ℕ) → IsPassed self.new.passed name }
+    {
+        self.left = self.all;
+        self.passed = None;
+    }
+
+    /// Moves before the first key, unless the key visited last is less than the name.
     fn rewind(&mut self, name: &[u8])
         ensures cursor { (form : Form) (ks : List (List ℕ)) → IsCursorOf form self.old ks
             → IsCursorOf form self.new ks }
@@ -69,18 +80,19 @@ impl<'a> KeyCursor<'a> {
     }
 }
 
-/// How many keys a cursor goes on before the one behind it follows.
+/// The number of keys by which a cursor advances before the one after it follows.
 const STRIDE: usize = 64;
 
-/// A search for names among the keys of an object. Names that rise are found in one walk. Where a name falls, the
-/// search goes on from a cursor some keys behind, if the name is above that, and else from the front.
+/// A search for names among the keys of an object. Sorted names are found in one walk. If a name is less than the one
+/// before, the search continues from a cursor some keys back, if the name is greater than its key, and otherwise from
+/// the beginning.
 #[derive(Clone, Copy)]
 pub(crate) struct KeySearch<'a> {
     near: KeyCursor<'a>,
-    /// Where `near` was at the last stride, and at the one before that.
+    /// The positions of `near` at the last stride, and at the one before that.
     middle: KeyCursor<'a>,
     behind: KeyCursor<'a>,
-    /// How many keys `near` has passed since the last stride.
+    /// The number of keys that `near` has visited since the last stride.
     run: usize,
 }
 
@@ -98,8 +110,8 @@ impl<'a> KeySearch<'a> {
         }
     }
 
-    /// Goes back, unless the key that was passed last is below the name.
-    fn turn_back(&mut self, name: &[u8])
+    /// Moves back, unless the key visited last is less than the name.
+    fn rewind(&mut self, name: &[u8])
         ensures search { (form : Form) (ks : List (List ℕ)) → IsSearchOf form self.old ks
             → IsSearchOf form self.new ks }
         ensures passed { IsPassed self.new.near.passed name.now }
@@ -114,8 +126,8 @@ impl<'a> KeySearch<'a> {
         self.run = 0;
     }
 
-    /// Goes on to this place among the keys.
-    fn go_on(&mut self, place: KeyCursor<'a>)
+    /// Advances to this position among the keys.
+    fn advance_to(&mut self, place: KeyCursor<'a>)
         ensures search { (form : Form) (ks : List (List ℕ)) → IsSearchOf form self.old ks
             → IsCursorOf form place.entry ks → IsSearchOf form self.new ks }
         ensures near { self.new.near ≡ place.entry }
@@ -130,7 +142,7 @@ impl<'a> KeySearch<'a> {
         self.run = 0;
     }
 
-    /// Whether a key is this name.
+    /// Returns whether a key equals the name.
     fn has(&mut self, name: &[u8]) -> Result<bool, Error>
         ensures has { (form : Form) (ks : List (List ℕ)) → IsSearchOf form self.old ks
             → IsOkAnd result (λ b. b ≡ list_any (λ key. bytes_eq key name.now) ks) }
@@ -138,17 +150,17 @@ impl<'a> KeySearch<'a> {
             → IfOk result (λ _. IsSearchOf form self.new ks) }
         ensures errors { IfErr result IsDecodingError }
     {
-        self.turn_back(name);
+        self.rewind(name);
         let all = self.near.all;
         let mut ahead = self.near.left;
         while let Some(entry) = ahead.next() {
             let key = entry?.content;
-            match key.cmp(&name) {
+            match bytes_cmp(key, name) {
                 Ordering::Less => {}
                 Ordering::Equal => return Ok(true),
                 Ordering::Greater => return Ok(false),
             }
-            self.go_on(KeyCursor {
+            self.advance_to(KeyCursor {
                 all,
                 left: ahead,
                 passed: Some(key),
@@ -158,7 +170,171 @@ impl<'a> KeySearch<'a> {
     }
 }
 
-/// Whether an array has this text as an element.
+/// The number of cursors in a table.
+const PLACES: usize = 64;
+
+/// A cursor, and where it is relative to the cursors of a table.
+#[derive(Clone, Copy)]
+pub(crate) struct Place<'a> {
+    cursor: KeyCursor<'a>,
+    /// The index of the last cursor of the table that is not after this one.
+    at: u8,
+    /// The number of keys between the two.
+    run: usize,
+}
+
+/// A search for many names in any order among the keys of an object. The keys are divided into as many blocks as the
+/// table has cursors. The cursor before each block is stored when the search first passes it, so that a name is
+/// searched in its block only.
+#[derive(Clone, Copy)]
+pub(crate) struct KeyTable<'a> {
+    places: [KeyCursor<'a>; PLACES],
+    /// The number of stored cursors. The others are before the first key.
+    known: usize,
+    /// The number of keys in a block.
+    stride: usize,
+    /// The cursor at which the last search ended.
+    near: Place<'a>,
+}
+
+impl<'a> KeyTable<'a> {
+    fn new(keys: EntryIter<'a>) -> KeyTable<'a>
+        ensures { (form : Form) (ks : List (List ℕ)) → AreKeys ks → HasEntriesLeft form keys.entry (key_trees ks)
+            → IsTableOf form result ks }
+    {
+        let front = KeyCursor::new(keys);
+        KeyTable {
+            places: [front; PLACES],
+            known: 1,
+            stride: keys.len() / PLACES,
+            near: Place {
+                cursor: front,
+                at: 0,
+                run: 0,
+            },
+        }
+    }
+
+    /// Returns the last stored cursor whose key is less than the name.
+    fn nearest(&self, name: &[u8]) -> Place<'a>
+        ensures cursor { (form : Form) (ks : List (List ℕ)) → IsTableOf form self.now ks
+            → IsCursorOf form result.cursor ks }
+        ensures passed { IsPassed result.cursor.passed name.now }
+    {
+        let mut cursor = self.near.cursor;
+        cursor.rewind_to_front();
+        let mut at = 0;
+        let mut low = 1;
+        let mut high = self.known.min(PLACES);
+        while low < high {
+            let middle = low + (high - low) / 2;
+            let place = self.places[middle];
+            if place.is_below(name) {
+                cursor = place;
+                at = middle;
+                low = middle + 1;
+            } else {
+                high = middle;
+            }
+        }
+        Place {
+            cursor,
+            at: at as u8,
+            run: 0,
+        }
+    }
+
+    /// Returns `true` if the cursor before the next block is stored and its key is less than the name.
+    fn is_past_block(&self, name: &[u8]) -> bool {
+        let next = usize::from(self.near.at) + 1;
+        next < self.known.min(PLACES) && self.places[next].is_below(name)
+    }
+
+    /// Returns the cursor at which the search for the name begins.
+    fn start(&self, name: &[u8]) -> Place<'a>
+        ensures cursor { (form : Form) (ks : List (List ℕ)) → IsTableOf form self.now ks
+            → IsCursorOf form result.cursor ks }
+        ensures passed { IsPassed result.cursor.passed name.now }
+    {
+        if self.near.cursor.is_below(name) && !self.is_past_block(name) {
+            return self.near;
+        }
+        self.nearest(name)
+    }
+
+    /// Moves forward to this cursor, and stores it if a block begins there.
+    fn advance_to(&mut self, cursor: KeyCursor<'a>)
+        ensures table { (form : Form) (ks : List (List ℕ)) → IsTableOf form self.old ks
+            → IsCursorOf form cursor.entry ks → IsTableOf form self.new ks }
+        ensures near { self.new.near.cursor ≡ cursor.entry }
+    {
+        self.near.cursor = cursor;
+        if self.near.run < self.stride {
+            self.near.run += 1;
+            return;
+        }
+        let next = usize::from(self.near.at) + 1;
+        if next < PLACES {
+            self.places[next] = cursor;
+            self.known = self.known.max(next + 1);
+            self.near.at = next as u8;
+            self.near.run = 0;
+        }
+    }
+
+    /// Returns whether a key equals the name.
+    fn has(&mut self, name: &[u8]) -> Result<bool, Error>
+        ensures has { (form : Form) (ks : List (List ℕ)) → IsTableOf form self.old ks
+            → IsOkAnd result (λ b. b ≡ list_any (λ key. bytes_eq key name.now) ks) }
+        ensures table { (form : Form) (ks : List (List ℕ)) → IsTableOf form self.old ks
+            → IfOk result (λ _. IsTableOf form self.new ks) }
+        ensures errors { IfErr result IsDecodingError }
+    {
+        self.near = self.start(name);
+        let all = self.near.cursor.all;
+        let mut ahead = self.near.cursor.left;
+        while let Some(entry) = ahead.next() {
+            let next = entry?.content;
+            match bytes_cmp(next, name) {
+                Ordering::Less => {}
+                Ordering::Equal => return Ok(true),
+                Ordering::Greater => return Ok(false),
+            }
+            self.advance_to(KeyCursor {
+                all,
+                left: ahead,
+                passed: Some(next),
+            });
+        }
+        Ok(false)
+    }
+}
+
+/// Returns whether the keys of an object include any (`found`) or all of the names, as `short_circuit` does.
+#[inline(never)]
+fn keys_decide<'k, I: Iterator<Item = &'k str> + Drop>(
+    keys: EntryIter<'_>,
+    names: I,
+    found: bool,
+) -> Result<bool, Error>
+    requires can { I.can_next names }
+    requires ends { IsFinite (I.remaining names) }
+    ensures has { (left : I → List (List ℕ)) → YieldsItemsLeft I.next_gives left
+        → (form : Form) (ps : Pairs) → AreKeys (key_list ps) → HasEntriesLeft form keys.entry (key_trees (key_list ps))
+        → IsOkAnd result (λ b. b ≡ has_by found (left names) (object ps)) }
+    ensures errors { IfErr result IsDecodingError }
+{
+    let mut table = KeyTable::new(keys);
+    for name in names {
+        let has = table.has(name.as_bytes())?;
+        if has == found {
+            return Ok(found);
+        }
+    }
+    Ok(!found)
+}
+
+/// Returns whether the string is an element of the array.
 fn array_has(bytes: &[u8], name: &str) -> Result<bool, Error>
     ensures has { (form : Form) (ts : Trees) → Decodes form bytes.now (array ts)
         → IsOkAnd result (λ b. b ≡ list_any (is_text name.now) (elements ts)) }
@@ -176,12 +352,12 @@ fn array_has(bytes: &[u8], name: &str) -> Result<bool, Error>
     Ok(false)
 }
 
-/// The texts of a document.
+/// The strings of a document.
 #[derive(Clone, Copy)]
 pub(crate) enum Texts<'a> {
     /// The keys of an object.
     Keys(KeySearch<'a>),
-    /// Those among the elements of an array, which are read as items, so that floats are refused.
+    /// The strings among the elements of an array, which are read as items, so that floats are rejected.
     Elements(&'a [u8]),
     /// The root.
     Root(&'a str),
@@ -189,11 +365,12 @@ pub(crate) enum Texts<'a> {
     Without,
 }
 
-/// The texts of a document.
+/// Returns the strings of a document.
 fn document_texts(bytes: &[u8]) -> Result<Texts<'_>, Error>
     ensures texts { (form : Form) (t : Tree) → Decodes form bytes.now t
         → IsOkAnd result (λ texts. HoldsTexts form texts t) }
     ensures errors { IfErr result IsDecodingError }
+    ensures reads { OnOk result (HasRoot bytes.now) }
 {
     match root_item(bytes)? {
         Item::Object(object) => Ok(Texts::Keys(KeySearch::new(object_entries(object)?.keys()))),
@@ -203,7 +380,7 @@ fn document_texts(bytes: &[u8]) -> Result<Texts<'_>, Error>
     }
 }
 
-/// Whether this text is one of them.
+/// Returns whether the name is one of the strings.
 fn texts_have(texts: &mut Texts<'_>, name: &str) -> Result<bool, Error>
     ensures has { (form : Form) (t : Tree) → HoldsTexts form texts.old t
         → IsOkAnd result (λ b. b ≡ has_text name.now t) }
@@ -219,9 +396,12 @@ fn texts_have(texts: &mut Texts<'_>, name: &str) -> Result<bool, Error>
     }
 }
 
-/// Whether one of the texts is there, where finding one decides, or else each of them is: the first that decides ends
-/// the walk.
-fn first_decides<'k, I: Iterator<Item = &'k str> + Drop>(
+/// The number of keys up to which no table is made. A table has 3 KB, more than a search among so few keys reads.
+const FEW: usize = 128;
+
+/// Returns whether one of the names exists, if finding one decides, or otherwise each of them does: the first that
+/// decides ends the walk.
+fn short_circuit<'k, I: Iterator<Item = &'k str> + Drop>(
     bytes: &[u8],
     names: I,
     found: bool,
@@ -231,8 +411,14 @@ fn first_decides<'k, I: Iterator<Item = &'k str> + Drop>(
     ensures has { (left : I → List (List ℕ)) → YieldsItemsLeft I.next_gives left
         → Computes (has_by found (left names)) bytes.now result }
     ensures errors { IfErr result IsDecodingError }
+    ensures reads { OnOk result (HasRoot bytes.now) }
 {
     let mut texts = document_texts(bytes)?;
+    if let Texts::Keys(search) = texts {
+        if search.near.all.len() > FEW {
+            return keys_decide(search.near.all, names, found);
+        }
+    }
     for name in names {
         let has = texts_have(&mut texts, name)?;
         if has == found {
@@ -243,16 +429,29 @@ fn first_decides<'k, I: Iterator<Item = &'k str> + Drop>(
 }
 
 impl RawJsonb<'_> {
-    /// Whether the document has all of these texts: as keys of an object, as strings in an array, or as a string that
-    /// is the root. Without texts it is true. The iterator must end. PostgreSQL has `?&`.
+    /// Returns `true` if the document has all of these names: as keys of an object, as strings in an array, or as a
+    /// string that is the root.
+    ///
+    /// Without names it is true. The iterator must end. Like PostgreSQL's `?&`.
     ///
     /// # Errors
     ///
-    /// Those of reading.
+    /// Decoding errors.
     ///
-    /// # Cost
+    /// # Complexity
     ///
-    /// Of an object k while the texts rise, and else k for each. Of an array n for each. No memory.
+    /// Objects: O(k) if the names are sorted, otherwise O(k / 64) per name, and O(k) up to 128 keys. Arrays: O(n) per
+    /// name. Does not allocate.
+    ///
+    /// # Examples
+    ///
+    /// <!-- rows: calls: exists_all_keys -->
+    /// | Document | Arguments | Result |
+    /// |---|---|---|
+    /// | `"a"` | no names | true |
+    /// | `{"a":null,"b":[null]}` | `b`, `a`, `b` | true |
+    /// | `[1,"a"]` | `a` | true |
+    /// | `[1,"a"]` | `1` | false |
     pub fn exists_all_keys<'k, I: Iterator<Item = &'k str> + Drop>(
         &self,
         names: I,
@@ -262,20 +461,31 @@ impl RawJsonb<'_> {
         ensures all { (left : I → List (List ℕ)) → YieldsItemsLeft I.next_gives left
             → Computes (has_all (left names)) (raw_bytes self.now) result }
         ensures errors { IfErr result IsDecodingError }
+        ensures reads { OnOk result (HasRoot (raw_bytes self.now)) }
     {
-        first_decides(self.as_bytes(), names, false)
+        short_circuit(self.as_bytes(), names, false)
     }
 
-    /// Whether the document has one of these texts: as a key of an object, as a string in an array, or as a string
-    /// that is the root. Without texts it is false. The iterator must end. PostgreSQL has `?|`, and `?` for one.
+    /// Returns `true` if the document has one of these names: as a key of an object, as a string in an array, or as a
+    /// string that is the root.
+    ///
+    /// Without names it is false. The iterator must end. Like PostgreSQL's `?|`, and `?` for one.
     ///
     /// # Errors
     ///
-    /// Those of reading.
+    /// Decoding errors.
     ///
-    /// # Cost
+    /// # Complexity
     ///
     /// That of `exists_all_keys`.
+    ///
+    /// # Examples
+    ///
+    /// <!-- rows: calls: exists_any_keys -->
+    /// | Document | Arguments | Result |
+    /// |---|---|---|
+    /// | `{"asd":"adf"}` | `asd` | true |
+    /// | `"a"` | `a` | true |
     pub fn exists_any_keys<'k, I: Iterator<Item = &'k str> + Drop>(
         &self,
         names: I,
@@ -285,7 +495,8 @@ impl RawJsonb<'_> {
         ensures any { (left : I → List (List ℕ)) → YieldsItemsLeft I.next_gives left
             → Computes (has_any (left names)) (raw_bytes self.now) result }
         ensures errors { IfErr result IsDecodingError }
+        ensures reads { OnOk result (HasRoot (raw_bytes self.now)) }
     {
-        first_decides(self.as_bytes(), names, true)
+        short_circuit(self.as_bytes(), names, true)
     }
 }

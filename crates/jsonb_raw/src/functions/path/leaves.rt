@@ -1,6 +1,6 @@
 //! The leaves of a document, with their key paths.
 
-ghost use Rattle.std.specs.Prelude.{◌≡◌, ◌⊎◌, ◌+◌, ◌%◌, ◌^◌, ◌<◌, ◌&&◌, ◌++◌, [], ◌∷◌, ℕ, List, Option, length, vec_len, vec_capacity, IsOkAnd, IfOk, IfErr, MatchResult};
+ghost use Rattle.std.specs.Prelude.{◌≡◌, ◌⊎◌, ◌+◌, ◌%◌, ◌^◌, ◌<◌, ◌&&◌, ◌++◌, [], ◌∷◌, ℕ, List, Option, length, vec_len, vec_capacity, IsOkAnd, IfOk, IfErr, MatchResult, OnOk};
 ghost use Rattle.std.specs.List.{Any, AllZip};
 ghost use Rattle.jsonb_doc.specs.Tree.{Tree, text, number};
 ghost use Rattle.jsonb_doc.specs.Payload.{Form, number_reader};
@@ -14,6 +14,7 @@ ghost use Rattle.jsonb_doc.specs.declared.error.Error.TheVariants.{OutOfMemory};
 ghost use Rattle.jsonb_doc.specs.Value.{value_tree, value_parts};
 ghost use Rattle.jsonb_keypath.specs.KeyPathGrammar.{unquoted_name};
 ghost use Rattle.jsonb_keypath.specs.KeyPathViews.{key_view, keys_view, key_paths_view};
+ghost use Rattle.jsonb_raw.specs.Roots.{HasRoot};
 ghost use Rattle.jsonb_raw.specs.Documents.{raw_bytes};
 ghost use Rattle.jsonb_raw.specs.Scalars.{is_array};
 ghost use Rattle.jsonb_raw.specs.Leaves.{leaves};
@@ -24,7 +25,7 @@ ghost use Rattle.jsonb_raw.specs.Private.Levels.{IsKeyOf, IsLevelWithin};
 
 mod documents;
 
-use crate::level::{Level, is_array};
+use crate::level::{ChildCursor, is_array};
 use crate::raw::RawJsonb;
 use jsonb_doc::layout::EntryKind;
 use jsonb_doc::{Error, Item, ShortNumber, StoredEntry, Value, root_item, to_value};
@@ -32,16 +33,16 @@ use jsonb_keypath::{KeyPath, KeyPaths};
 use std::alloc::Global;
 use std::borrow::CowStr;
 
-/// The step to a part of a container.
+/// The step to a child of a container.
 #[derive(Clone, Copy, Drop)]
 struct Step<'a> {
-    /// The key of the part, where it is a value of an object.
+    /// The key of the child, if it is a value of an object.
     key: Option<&'a str>,
-    /// How many parts stand before it, as an index counts them.
+    /// The number of children before it, as an index counts them.
     index: u32,
 }
 
-/// The step to a key. It takes the key as an argument, so that a step is written at once where it stays.
+/// Returns the step to a key. It takes the key as an argument, so that a step is written directly to its destination.
 #[inline(always)]
 fn name_step(key: &str) -> KeyPath<'_>
     ensures { key_view result ≡ unquoted_name key.now }
@@ -49,7 +50,7 @@ fn name_step(key: &str) -> KeyPath<'_>
     KeyPath::Name(CowStr::Borrowed(key))
 }
 
-/// Puts a step behind the others: its key, where it has one, and else its index.
+/// Appends a step: its key, if it has one, and otherwise its index.
 #[inline(always)]
 fn push_step<'a>(steps: &mut Vec<KeyPath<'a>>, step: &Step<'a>)
     requires room { vec_len steps.old < vec_capacity steps.old }
@@ -63,7 +64,7 @@ fn push_step<'a>(steps: &mut Vec<KeyPath<'a>>, step: &Step<'a>)
     }
 }
 
-/// Takes the last step away, and answers the index behind it.
+/// Removes the last step, and returns the index after it.
 fn pop_step(steps: &mut Vec<Step<'_>>) -> u32
     ensures { (front : List Step) (last : Step) → steps.old.items ≡ front ++ last ∷ []
         → (steps.new.items ≡ front) × (result ≡ (last.index + 1) % 2 ^ 32) }
@@ -74,7 +75,7 @@ fn pop_step(steps: &mut Vec<Step<'_>>) -> u32
     }
 }
 
-/// The path of these steps and one more.
+/// Returns the path of these steps and one more.
 fn path_to<'a>(alloc: Global, steps: &[Step<'a>], last: Step<'a>) -> Result<KeyPaths<'a>, Error>
     ensures { MatchResult result
         (λ path. key_paths_view path ≡ step_keys steps.now ++ step_key last.entry ∷ []) IsOutOfMemory }
@@ -87,51 +88,54 @@ fn path_to<'a>(alloc: Global, steps: &[Step<'a>], last: Step<'a>) -> Result<KeyP
     Ok(KeyPaths { paths })
 }
 
-/// Whether a container is an array that is ignored.
+/// Returns `true` if a container is an array and arrays are ignored.
 #[inline(always)]
-fn is_ignored(bytes: &[u8], ignore_array: bool) -> bool
+fn is_ignored_array(bytes: &[u8], ignore_array: bool) -> bool
     ensures { (form : Form) (t : Tree) → IsContent (number_reader form) t container_entry bytes.now
         → result ≡ (ignore_array && is_array t) }
 {
     ignore_array && is_array(bytes)
 }
 
-/// The parts of a container that is entered. `None` is for a leaf.
+/// Returns the children of a container that is entered, or `None` for a leaf.
 #[inline(always)]
-fn container_entered(bytes: &[u8], ignore_array: bool) -> Result<Option<Level<'_>>, Error>
+fn descend_into_container(
+    bytes: &[u8],
+    ignore_array: bool,
+) -> Result<Option<ChildCursor<'_>>, Error>
     ensures leaf { (form : Form) (t : Tree) → IsContent (number_reader form) t container_entry bytes.now
         → IsOkAnd result (IsEntered form ignore_array t) }
     ensures within { IfOk result (IsLevelWithin (length bytes.now)) }
     ensures errors { IfErr result IsDecodingError }
 {
-    if is_ignored(bytes, ignore_array) {
+    if is_ignored_array(bytes, ignore_array) {
         return Ok(None);
     }
-    let level = Level::of_container(bytes)?;
+    let level = ChildCursor::of_container(bytes)?;
     if level.len() == 0 {
         return Ok(None);
     }
     Ok(Some(level))
 }
 
-/// The parts of an item that is entered. `None` is for a leaf.
-fn parts_entered<'a>(item: &Item<'a>, ignore_array: bool) -> Result<Option<Level<'a>>, Error>
+/// Returns the children of an item that is entered, or `None` for a leaf.
+fn parts_entered<'a>(item: &Item<'a>, ignore_array: bool) -> Result<Option<ChildCursor<'a>>, Error>
     ensures leaf { (form : Form) (t : Tree) → StandsFor form item.now t
         → IsOkAnd result (IsEntered form ignore_array t) }
     ensures errors { IfErr result IsDecodingError }
 {
     match item {
-        Item::Array(bytes) | Item::Object(bytes) => container_entered(bytes, ignore_array),
+        Item::Array(bytes) | Item::Object(bytes) => descend_into_container(bytes, ignore_array),
         _ => Ok(None),
     }
 }
 
-/// The same of an entry.
+/// Returns the children of an entry that is entered, or `None` for a leaf.
 #[inline(always)]
 fn entry_entered<'a>(
     entry: &StoredEntry<'a>,
     ignore_array: bool,
-) -> Result<Option<Level<'a>>, Error>
+) -> Result<Option<ChildCursor<'a>>, Error>
     ensures leaf { (form : Form) (t : Tree) → Stores form entry.now t
         → IsOkAnd result (IsEntered form ignore_array t) }
     ensures within { IfOk result (IsLevelWithin (length entry.now.content.now)) }
@@ -140,10 +144,10 @@ fn entry_entered<'a>(
     if !entry.is_container() {
         return Ok(None);
     }
-    container_entered(entry.content, ignore_array)
+    descend_into_container(entry.content, ignore_array)
 }
 
-/// The key of a part as a name.
+/// Returns the key of a child as a name. Fails with `InvalidJsonb` if it is not UTF-8.
 #[inline(always)]
 fn name_of(key: Option<&[u8]>) -> Result<Option<&str>, Error>
     ensures name { (k : Option (List ℕ)) → IsKeyOf key.entry k → IsOkAnd result (λ name. IsKeyOf name k) }
@@ -158,8 +162,8 @@ fn name_of(key: Option<&[u8]>) -> Result<Option<&str>, Error>
     }
 }
 
-/// What a walk over leaves keeps of each.
-trait LeafPart<'a>: Drop {
+/// A type that is collected for each leaf.
+trait LeafOutput<'a>: Drop {
     ghost use Rattle.jsonb_doc.specs.Tree.{Tree};
     ghost use Rattle.jsonb_doc.specs.Payload.{Form};
     ghost use Rattle.jsonb_doc.specs.declared.error.Error.{Error};
@@ -170,7 +174,7 @@ trait LeafPart<'a>: Drop {
 
     ghost Refusals: { Error → Type 0 };
 
-    /// Puts the leaf that an entry stores behind those that were found.
+    /// Appends the leaf that an entry stores.
     fn push_leaf(
         alloc: Global,
         entry: &StoredEntry<'a>,
@@ -183,7 +187,7 @@ trait LeafPart<'a>: Drop {
         ensures errors { IfErr result Refusals };
 }
 
-/// Puts a leaf behind those that were found.
+/// Appends a leaf.
 #[inline(always)]
 fn push_part<'a, P: Drop>(
     path: KeyPaths<'a>,
@@ -197,7 +201,8 @@ fn push_part<'a, P: Drop>(
     Ok(())
 }
 
-/// A text as a value. It takes the text as an argument, so that the value is written at once where it stays.
+/// Returns a string as a value. It takes the string as an argument, so that the value is written directly to its
+/// destination.
 #[inline(always)]
 fn text_value(characters: &str) -> Value<'_>
     ensures tree { value_tree result ≡ text characters.now }
@@ -206,7 +211,7 @@ fn text_value(characters: &str) -> Value<'_>
     Value::String(CowStr::Borrowed(characters))
 }
 
-/// A text with these bytes, behind the leaves that were found.
+/// Appends the leaf of a string with these bytes.
 #[inline(always)]
 fn push_text<'a>(
     bytes: &'a [u8],
@@ -223,7 +228,7 @@ fn push_text<'a>(
     }
 }
 
-/// A number as a value.
+/// Returns a number as a value.
 #[inline(always)]
 fn number_value<'a>(short: ShortNumber) -> Value<'a>
     ensures tree { value_tree result ≡ number (short_value short) }
@@ -232,8 +237,8 @@ fn number_value<'a>(short: ShortNumber) -> Value<'a>
     Value::Number(short.to_number())
 }
 
-/// The value of a leaf of another kind, behind those that were found. It takes the entry's parts, so that the walk
-/// keeps no entry in memory. Of a number of 64 bits no item is made.
+/// Appends the leaf of a value of another type. It takes the entry's parts, so that the walk keeps no entry in
+/// memory. A 64-bit number is not read as an item.
 #[inline(never)]
 fn push_value<'a>(
     alloc: Global,
@@ -256,7 +261,7 @@ fn push_value<'a>(
     }
 }
 
-impl<'a> LeafPart<'a> for Value<'a> {
+impl<'a> LeafOutput<'a> for Value<'a> {
     ghost use Rattle.jsonb_doc.specs.Answer.{IsOutOfMemory, ◌or◌, IsDecodingError};
     ghost use Rattle.jsonb_doc.specs.declared.error.Error.TheVariants.{OutOfMemory};
     ghost use Rattle.jsonb_raw.specs.Private.LeafSteps.{IsValueOf};
@@ -267,7 +272,7 @@ impl<'a> LeafPart<'a> for Value<'a> {
 
     ghost Refusals = { IsDecodingError or OutOfMemory };
 
-    // Texts and null are known by their kinds, so that no item is made of them.
+    // Strings and null are known by their types, so they are not read as items.
     #[inline(always)]
     fn push_leaf(
         alloc: Global,
@@ -283,9 +288,9 @@ impl<'a> LeafPart<'a> for Value<'a> {
     }
 }
 
-/// The leaves within an item. What is left of the containers that the walk is within lies in a `Vec`, and so do the
-/// steps into them, which are copied for each leaf.
-fn leaves_within<'a, P: LeafPart<'a>>(
+/// Returns the leaves of an item. What remains of the enclosing containers is in a `Vec`, and so are the steps to them,
+/// which are copied for each leaf.
+fn leaves_within<'a, P: LeafOutput<'a>>(
     alloc: Global,
     item: &Item<'a>,
     ignore_array: bool,
@@ -335,18 +340,30 @@ fn leaves_within<'a, P: LeafPart<'a>>(
 }
 
 impl<'a> RawJsonb<'a> {
-    /// The leaves of the document in stored order, each with its key path: an index for an element, a name for a key.
-    /// A leaf is a scalar or an empty container, and with `ignore_array` every array; the other containers are
-    /// entered. The root itself is never a leaf, and with `ignore_array` an array as the root has no leaves. Names
-    /// and texts are borrowed from the document.
+    /// Returns the leaves of the document in stored order, each with its key path: an index for an element, a name for
+    /// a key.
+    ///
+    /// A leaf is a scalar or an empty container, and with `ignore_array` every array; the other containers are entered.
+    /// The root itself is never a leaf, and with `ignore_array` an array root has no leaves. Names and strings are
+    /// borrowed from the document.
     ///
     /// # Errors
     ///
-    /// Those of taking memory.
+    /// Allocation errors.
     ///
-    /// # Cost
+    /// # Complexity
     ///
-    /// Linear in n, and for each leaf in the length of its key path. Takes memory.
+    /// O(n), and the length of its key path for each leaf. Allocates.
+    ///
+    /// # Examples
+    ///
+    /// ```rust crates/jsonb_examples/src/calls.rt
+    /// for (path, leaf) in document.extract_scalar_key_values(alloc, false)? {
+    ///     if leaf == *value {
+    ///         paths.push(path)?;
+    ///     }
+    /// }
+    /// ```
     pub fn extract_scalar_key_values(
         &self,
         alloc: Global,
@@ -359,6 +376,7 @@ impl<'a> RawJsonb<'a> {
         ensures parts { (form : Form) (t : Tree) → Decodes form (raw_bytes self.now) t
             → IfOk result (λ found. leaves_seen value_parts found.items ≡ leaves ignore_array t) }
         ensures errors { IfErr result (IsDecodingError or OutOfMemory) }
+        ensures reads { OnOk result (HasRoot (raw_bytes self.now)) }
     {
         leaves_within(alloc, &root_item(self.as_bytes())?, ignore_array)
     }

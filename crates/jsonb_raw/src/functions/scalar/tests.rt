@@ -45,7 +45,7 @@ static EXTENSIONS: [(&[u8], ExtensionValue<'static>, [Result<bool, Error>; 6]); 
     ),
 ];
 
-/// Whether a document is said to be binary, a date, a timestamp, one with an offset, an interval, and any of these.
+/// Returns whether a document is binary, a date, a timestamp, one with an offset, an interval, and any of these.
 fn kinds(document: &RawJsonb<'_>) -> [Result<bool, Error>; 6] {
     [
         document.is_binary(),
@@ -57,7 +57,7 @@ fn kinds(document: &RawJsonb<'_>) -> [Result<bool, Error>; 6] {
     ]
 }
 
-/// Whether the call for its kind reads this value.
+/// Returns `true` if the function of its type returns this value.
 fn is_read(
     alloc: Global,
     document: &RawJsonb<'_>,

@@ -2,7 +2,7 @@
 
 use std::alloc::{AllocError, Global};
 
-/// The value of a digit in small letters.
+/// Returns the value of a lower-case digit.
 fn value(digit: u8) -> u8 {
     match digit {
         b'0'..=b'9' => digit - b'0',
@@ -11,7 +11,7 @@ fn value(digit: u8) -> u8 {
     }
 }
 
-/// The bytes that a text of digits gives.
+/// Returns the bytes of hexadecimal digits.
 pub fn bytes(alloc: Global, text: &str) -> Result<Vec<u8>, AllocError> {
     let mut bytes = Vec::new(alloc);
     let mut high = None;
@@ -27,7 +27,7 @@ pub fn bytes(alloc: Global, text: &str) -> Result<Vec<u8>, AllocError> {
     Ok(bytes)
 }
 
-/// The digit of a value below 16.
+/// Returns the digit of a value below 16.
 fn digit(value: u8) -> char {
     char::from_digit(u32::from(value), 16).unwrap_or('?')
 }
@@ -41,7 +41,7 @@ pub fn push_digits(text: &mut String, bytes: &[u8]) -> Result<(), AllocError> {
     Ok(())
 }
 
-/// The bytes in hexadecimal.
+/// Returns the bytes in hexadecimal.
 pub fn digits(alloc: Global, bytes: &[u8]) -> Result<String, AllocError> {
     let mut text = String::new(alloc);
     push_digits(&mut text, bytes)?;

@@ -1,4 +1,4 @@
-//! Answers of several documents, in hexadecimal with spaces in between.
+//! Results of several documents, in hexadecimal with spaces between them.
 
 use super::hexadecimal::push_digits;
 use crate::OwnedJsonb;
@@ -11,7 +11,7 @@ fn push_document(text: &mut String, document: &OwnedJsonb) -> Result<(), AllocEr
     text.push(' ')
 }
 
-/// Documents.
+/// Returns documents in hexadecimal.
 pub fn listed(alloc: Global, documents: &[OwnedJsonb]) -> Result<String, AllocError> {
     let mut text = String::new(alloc);
     for document in documents {
@@ -21,7 +21,7 @@ pub fn listed(alloc: Global, documents: &[OwnedJsonb]) -> Result<String, AllocEr
     Ok(text)
 }
 
-/// Keys and their values.
+/// Returns keys and their values.
 pub fn listed_pairs(alloc: Global, pairs: &[(String, OwnedJsonb)]) -> Result<String, AllocError> {
     let mut text = String::new(alloc);
     for (key, value) in pairs {
@@ -33,7 +33,7 @@ pub fn listed_pairs(alloc: Global, pairs: &[(String, OwnedJsonb)]) -> Result<Str
     Ok(text)
 }
 
-/// Key paths of leaves and their documents.
+/// Returns the key paths of leaves and their documents.
 pub fn listed_leaves(
     alloc: Global,
     leaves: &[(KeyPaths<'_>, OwnedJsonb)],

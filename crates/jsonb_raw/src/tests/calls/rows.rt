@@ -1,6 +1,6 @@
-//! The rows of the tables of answers in docs/, as tools/check_quotes.py --write writes them.
+//! The rows of docs/rows/, as tools/check_quotes.py --write writes them.
 
-/// A line for each row, with spaces between: the call, its document, another one, a text, an arrow, and the answer.
+/// A line for each row, with spaces between: the call, its document, another one, a string, an arrow, and the result.
 pub const ROWS: &str = "
 get_by_keypath 8000000330000000200000025000000e500a4000000110000001100000016b76 - {2,k} => 200000001000000176
 get_by_keypath 8000000330000000200000025000000e500a4000000110000001100000016b76 - {-1,k} => 200000001000000176

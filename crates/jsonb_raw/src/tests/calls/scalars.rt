@@ -5,12 +5,12 @@ use jsonb_doc::Error;
 use std::alloc::Global;
 use std::fmt;
 
-/// Whether a row says that something is so, or that it is not.
+/// Returns `true` if a row states this result.
 pub fn says(wanted: &str, is_so: bool) -> bool {
     wanted == if is_so { "true" } else { "false" }
 }
 
-/// Whether what is there prints so, or is not there where `none` is wanted.
+/// Returns whether the value prints so, or is missing if `none` is expected.
 fn prints<T: fmt::Display + Drop>(
     alloc: Global,
     value: Result<Option<T>, Error>,
@@ -22,7 +22,7 @@ fn prints<T: fmt::Display + Drop>(
     }
 }
 
-/// Of calls that give the value of a root, as it is or cast.
+/// Runs functions that return the value of a root, unchanged or cast.
 pub fn scalar_holds(
     alloc: Global,
     call: &str,
@@ -52,7 +52,7 @@ pub fn scalar_holds(
     }
 }
 
-/// Of calls that tell the kind of a root, and its truth value.
+/// Runs functions that return the type of a root, and its Boolean.
 fn kind_holds(call: &str, document: &RawJsonb<'_>, wanted: &str) -> Result<bool, Error> {
     let is_so = match call {
         "to_bool" => document.to_bool(),

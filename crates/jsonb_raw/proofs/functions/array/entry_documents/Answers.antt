@@ -12,10 +12,10 @@ loop-documents-init c = λ form ts h. (ts, h, none_made (Decodes form) _ ts c.in
 pub loop-documents-preserved : goal.loop-documents-preserved
 loop-documents-preserved c = λ form ts h.
     let i = c.loop-documents.invariant form ts h in
-    let f = entry_taken form _ i.0 _ _ c.in-Some.is (c.in_ok-entry.ensures.first form _ i.1) in
+    let f = entry_taken form _ i.0 _ _ _ c.in-Some.is (c.in_ok-entry.ensures.first form _ i.1) in
     let added : c.push.new.self.items ≡ c.loop-documents.documents.items ++ c.in_ok-entry_document.field-0 ∷ [] = c.in_ok-push.ensures.items in (
       f.rest,
-      f.others,
+      f.others_hold,
       one_made (Decodes form) _ _ c.in_ok-entry_document.field-0 f.t f.rest ts added
           (c.in_ok-entry_document.ensures.document form f.t f.part) (rw f.split at i.2),
     )
@@ -24,7 +24,7 @@ pub returns-in_err-entry_document-clause-documents : goal.returns-in_err-entry_d
 returns-in_err-entry_document-clause-documents c = λ form ts h.
     let p = err_from_is_err_and c.from_residual-in_err-entry_document.result c.from_residual-in_err-entry_document.ensures.1 in
     let i = c.loop-documents.invariant form ts h in
-    let f = entry_taken form _ i.0 _ _ c.in-Some.is (c.in_ok-entry.ensures.first form _ i.1) in
+    let f = entry_taken form _ i.0 _ _ _ c.in-Some.is (c.in_ok-entry.ensures.first form _ i.1) in
     rw (p.1, p.2) (element_refused_in_list form _ f.t f.rest ts c.in_err-entry_document.field-0.0 (rw f.split at i.2)
     (c.in_err-entry_document.ensures.document form f.t f.part))
 

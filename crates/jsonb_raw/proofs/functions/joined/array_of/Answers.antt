@@ -1,13 +1,13 @@
-use Rattle.std.proofs.Common.{inr, refl}
+use Rattle.std.proofs.Common.{inr, refl, length, ◌++◌, []}
 use Rattle.jsonb_doc.specs.Tree.{array, trees_of}
-use Rattle.jsonb_raw.proofs.JoinedEntries.{too_many_entries, runs_built, container_made}
+use Rattle.jsonb_doc.specs.declared.layout.HeaderKind.TheVariants as header_kind
+use Rattle.jsonb_raw.proofs.JoinedEntries.{no_runs, array_made, too_many_made}
 use Rattle.jsonb_raw.proofs.functions.joined.array_of.Goals as goal
 
 pub returns-in_default-clause-array : goal.returns-in_default-clause-array
 returns-in_default-clause-array c = λ form ts h.
-    inr (refl, too_many_entries form c.args.runs.now ts h (rw c.in_default.is at c.words_len.ensures))
+    inr (refl, too_many_made form header_kind.Array (length ts) (ts ++ []) (array (trees_of ts)) (array_made (length ts) ts refl) (rw c.in_default.is at (c.count_entries.ensures form ts h)))
 
 pub returns-clause-array : goal.returns-clause-array
 returns-clause-array c = λ form ts h.
-    container_made form (array (trees_of ts)) c.container_of.result _ c.container_of.ensures.container c.container_of.ensures.errors
-    (λ made is. runs_built form c.args.runs.now ts made c.in-Some.len h c.in-Some.ensures.0 c.in-Some.ensures.1 is)
+    c.container_of.ensures.container form ts [] _ h (no_runs form) (array_made c.in-Some.count ts (c.in-Some.ensures form ts h))

@@ -1,14 +1,18 @@
-use Rattle.std.proofs.Common.{inr, refl}
-use Rattle.jsonb_doc.specs.Tree.{object, pairs_of}
-use Rattle.jsonb_raw.proofs.JoinedEntries.{container_made}
-use Rattle.jsonb_raw.proofs.RunLemmas.{too_many_pairs, pairs_built}
+use Rattle.std.proofs.Common.{inr, refl, length, map, ◌++◌}
+use Rattle.std.specs.Map.{keys_of, values_of}
+use Rattle.jsonb_doc.specs.Tree.{text, object, pairs_of}
+use Rattle.jsonb_doc.specs.declared.layout.HeaderKind.TheVariants as header_kind
+use Rattle.jsonb_raw.proofs.JoinedEntries.{object_made, too_many_made}
 use Rattle.jsonb_raw.proofs.functions.joined.object_of.Goals as goal
 
 pub returns-in_default-clause-object : goal.returns-in_default-clause-object
-returns-in_default-clause-object c = λ form ps are k v.
-    inr (refl, too_many_pairs form c.args.keys.now c.args.values.now ps k v (rw c.in_default.is at c.words_len.ensures))
+returns-in_default-clause-object c = λ form ps sorted k v.
+    inr (
+      refl,
+      too_many_made form header_kind.Object (length (map text (keys_of ps))) (map text (keys_of ps) ++ values_of ps) (object (pairs_of ps))
+          (object_made (length (map text (keys_of ps))) ps sorted refl) (rw c.in_default.is at (c.count_entries.ensures form _ k)),
+    )
 
 pub returns-clause-object : goal.returns-clause-object
-returns-clause-object c = λ form ps are k v.
-    container_made form (object (pairs_of ps)) c.container_of.result _ c.container_of.ensures.container c.container_of.ensures.errors
-    (λ made is. pairs_built form c.args.keys.now c.args.values.now ps k v c.in-Some.len made c.in-Some.ensures.0 c.in-Some.ensures.1 are is)
+returns-clause-object c = λ form ps sorted k v.
+    c.container_of.ensures.container form _ _ _ k v (object_made c.in-Some.count ps sorted (c.in-Some.ensures form _ k))

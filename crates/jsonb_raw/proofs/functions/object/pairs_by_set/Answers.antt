@@ -5,7 +5,6 @@ use Rattle.jsonb_doc.proofs.BuilderSteps.{keys_rise}
 use Rattle.jsonb_raw.specs.Objects.{is_in}
 use Rattle.jsonb_raw.specs.Private.PairSteps.{parted}
 use Rattle.jsonb_raw.specs.Private.Entries.{PairsHeld}
-use Rattle.jsonb_raw.proofs.RunLemmas.{runs_are_keys}
 use Rattle.jsonb_raw.proofs.PartedRuns.{parting_begun, parting_kept, parting_dropped, parting_done, parted_rising, rest_of, other_truth, same_truth}
 use Rattle.jsonb_raw.proofs.functions.object.pairs_by_set.Goals as goal
 use Rattle.jsonb_raw.proofs.functions.object.pairs_by_set.Goals.{then-contains-wanted+in_ok-push_run, else-contains-wanted}
@@ -50,5 +49,4 @@ returns-clause-pairs c = λ form ps h a.
     let whole = parting_done form _ _ _ _ _ _ m none in
     let all = subst (PairsHeld form c.push_run-2.new.self) whole (c.in_ok-push_run-2.ensures.pushed form m.held m.rest m.pairs) in
     c.object.ensures.object form (parted c.args.wanted c.args.names.now ps) all
-    (runs_are_keys form c.push_run-2.new.self.keys.items (keys_of (parted c.args.wanted c.args.names.now ps))
-    (parted_rising c.args.wanted c.args.names.now ps (keys_rise (keys_of ps) a)) all.names)
+    (parted_rising c.args.wanted c.args.names.now ps (keys_rise (keys_of ps) a))

@@ -6,7 +6,7 @@ use Rattle.jsonb_raw.proofs.functions.runs.name_position.Goals as goal
 pub returns-then-eq-clause-position : goal.returns-then-eq-clause-position
 returns-then-eq-clause-position c = λ form ks h.
     let i = c.loop-key.invariant.left form ks h in
-    let f = text_first form _ i.0 _ _ c.in-Some.is (c.in_ok-key.ensures.first form _ i.1) in
+    let f = text_first form _ i.0 _ _ _ c.in-Some.is (c.in_ok-key.ensures.first form _ i.1) in
     key_here c.loop-key.passed c.args.name.now _ i.0 f.rest _ f.split (sym c.eq.ensures ∙ c.if-eq.true) i.2
 
 pub loop-key-preserved : goal.loop-key-preserved
@@ -14,8 +14,8 @@ loop-key-preserved c = record {
   bound = search rules;
   left = λ form ks h.
       let i = c.loop-key.invariant.left form ks h in
-      let f = text_first form _ i.0 _ _ c.in-Some.is (c.in_ok-key.ensures.first form _ i.1) in
-      (f.rest, f.others, key_further c.loop-key.passed c.args.name.now _ i.0 f.rest _ f.split (sym c.eq.ensures ∙ c.if-eq.false) i.2);
+      let f = text_first form _ i.0 _ _ _ c.in-Some.is (c.in_ok-key.ensures.first form _ i.1) in
+      (f.rest, f.others_hold, key_further c.loop-key.passed c.args.name.now _ i.0 f.rest _ f.split (sym c.eq.ensures ∙ c.if-eq.false) i.2);
 }
 
 pub returns-clause-position : goal.returns-clause-position

@@ -7,7 +7,7 @@ use Rattle.jsonb_raw.specs.Private.Entries.{HoldTrees}
 use Rattle.jsonb_raw.proofs.PositionLemmas.{position_behind}
 use Rattle.jsonb_raw.proofs.functions.runs.name_position.Given as goal
 
--- the position is that among the keys that are left, behind those that were passed
+-- the position is that among the keys that are left, after those that were passed
 abbrev pub invariant-loop-key : goal.invariant-loop-key
 invariant-loop-key l = record {
   bound : l.passed + length l.left.words.now ≤ length l.entries.words.now;

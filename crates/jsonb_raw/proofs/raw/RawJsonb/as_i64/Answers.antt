@@ -1,10 +1,9 @@
 use Rattle.std.proofs.Common.{◌≡◌}
 use Rattle.jsonb_doc.specs.Tree as spec
-use Rattle.jsonb_doc.specs.View.{number_parts, number_view}
+use Rattle.jsonb_doc.specs.View.{number_parts}
 use Rattle.jsonb_raw.proofs.raw.RawJsonb.as_i64.Goals as goal
 
 pub returns-in-Number-clause-value : goal.returns-in-Number-clause-value
 returns-in-Number-clause-value c = λ form tree d.
-    let is : tree ≡ spec.number (number_view c.in-Number.number) = rw c.in-Number.is at (c.in_ok-number.ensures.decodes form tree (rw c.as_bytes.ensures d)) in
-    let normal : number_parts c.in-Number.number ≡ number_view c.in-Number.number = rw c.in-Number.is at c.in_ok-number.ensures.normal in
-    rw (is, ← normal) c.as_i64.ensures
+    let is : tree ≡ spec.number (number_parts c.in-Number.number) = rw c.in-Number.is at (c.in_ok-number.ensures.shape form tree (rw c.as_bytes.ensures d)) in
+    rw is c.as_i64.ensures

@@ -9,7 +9,7 @@ use Rattle.jsonb_raw.specs.Iterators.{YieldsItemsLeft}
 use Rattle.jsonb_raw.specs.Places.{tree_at_steps}
 use Rattle.jsonb_raw.proofs.raw.RawJsonb.get_by_keypath.Given as goal
 
--- the spot is the place of a tree in which the steps that are left meet what all steps meet in the whole
+-- the spot is the place of a tree in which the steps that are left select what all steps select in the whole
 abbrev pub invariant-loop-step : goal.invariant-loop-step
 invariant-loop-step g l = record {
   can : (goal.iterator-loop-step g).can_next l.step-iterator;

@@ -18,4 +18,5 @@ returns-in_default c = record {
       (search rules) c.in_default.not-Boolean c.in_default.not-Number c.in_default.not-String in
       rw is refl;
   errors = search rules;
+  reads = search rules;
 }

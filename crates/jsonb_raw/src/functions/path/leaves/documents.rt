@@ -1,16 +1,17 @@
-//! The leaves of a document as documents of their own, with their key paths.
+//! The leaves of a document as new documents, with their key paths.
 
-ghost use Rattle.std.specs.Prelude.{IfErr};
+ghost use Rattle.std.specs.Prelude.{IfErr, OnOk};
 ghost use Rattle.jsonb_doc.specs.Tree.{Tree};
 ghost use Rattle.jsonb_doc.specs.Payload.{Form};
 ghost use Rattle.jsonb_doc.specs.Format.{Decodes};
 ghost use Rattle.jsonb_doc.specs.Answer.{◌or◌, IsDecodingError};
 ghost use Rattle.jsonb_doc.specs.declared.error.Error.TheVariants.{OutOfMemory, TooLarge};
+ghost use Rattle.jsonb_raw.specs.Roots.{HasRoot};
 ghost use Rattle.jsonb_raw.specs.Documents.{raw_bytes};
 ghost use Rattle.jsonb_raw.specs.Leaves.{leaves};
 ghost use Rattle.jsonb_raw.specs.LeafDocuments.{MakesLeaves};
 
-use super::{LeafPart, leaves_within, push_part};
+use super::{LeafOutput, leaves_within, push_part};
 use crate::functions::entries::entry_document;
 use crate::owned::OwnedJsonb;
 use crate::raw::RawJsonb;
@@ -18,7 +19,7 @@ use jsonb_doc::{Error, StoredEntry, root_item};
 use jsonb_keypath::KeyPaths;
 use std::alloc::Global;
 
-impl<'a> LeafPart<'a> for OwnedJsonb {
+impl<'a> LeafOutput<'a> for OwnedJsonb {
     ghost use Rattle.jsonb_doc.specs.Answer.{IsOutOfMemoryOrTooLarge, ◌or◌, IsDecodingError};
     ghost use Rattle.jsonb_doc.specs.Format.{Decodes};
     ghost use Rattle.jsonb_doc.specs.declared.error.Error.TheVariants.{OutOfMemory, TooLarge};
@@ -42,16 +43,28 @@ impl<'a> LeafPart<'a> for OwnedJsonb {
 }
 
 impl<'a> RawJsonb<'a> {
-    /// The leaves that `extract_scalar_key_values` finds, each with its key path and as a document of its own: the one
-    /// that `get_by_keypath` gives for that path, without looking for it again. Names are borrowed from the document.
+    /// Returns the leaves that `extract_scalar_key_values` finds, each with its key path and as a new document, copied
+    /// as it is stored.
+    ///
+    /// Names are borrowed from the document.
     ///
     /// # Errors
     ///
-    /// Those of making documents. Where arrays are entered no leaf is too large.
+    /// Construction errors. If arrays are entered, no leaf is too large.
     ///
-    /// # Cost
+    /// # Complexity
     ///
-    /// Linear in n, and for each leaf in the length of its key path; each leaf is copied. Takes memory.
+    /// O(n), and the length of its key path for each leaf. Allocates; each leaf is copied.
+    ///
+    /// # Examples
+    ///
+    /// <!-- rows: calls: leaves leaves_ignoring_arrays -->
+    /// | Function | Document | Result |
+    /// |---|---|---|
+    /// | `leaves` | `[false,10,{"k":"v"}]` | `{0}`: `false`, `{1}`: `10`, `{2,k}`: `"v"` |
+    /// | `leaves_ignoring_arrays` | `{"a":null,"b":[null]}` | `{a}`: `null`, `{b}`: `[null]` |
+    /// | `leaves` | `[[],{}]` | `{0}`: `[]`, `{1}`: `{}` |
+    /// | `leaves` | `"v"` | nothing |
     pub fn leaf_documents(
         &self,
         alloc: Global,
@@ -60,6 +73,7 @@ impl<'a> RawJsonb<'a> {
         ensures leaves { (form : Form) (t : Tree) → Decodes form (raw_bytes self.now) t
             → MakesLeaves form (leaves ignore_array t) result }
         ensures errors { IfErr result (IsDecodingError or OutOfMemory or TooLarge) }
+        ensures reads { OnOk result (HasRoot (raw_bytes self.now)) }
     {
         leaves_within(alloc, &root_item(self.as_bytes())?, ignore_array)
     }

@@ -1,6 +1,5 @@
 use Rattle.std.proofs.lemmas.Result.{err_from_is_err_and}
 use Rattle.jsonb_raw.proofs.EntryWalks.{entry_taken, no_entry_left}
-use Rattle.jsonb_raw.proofs.SetKept.{stores_next}
 use Rattle.jsonb_raw.proofs.KeysCounted.{CountsLeft-all, CountsLeft-next, CountsLeft-done}
 use Rattle.jsonb_raw.proofs.functions.array.sets.count_elements.Goals as goal
 
@@ -11,11 +10,10 @@ pub loop-key-preserved : goal.loop-key-preserved
 loop-key-preserved c = record {
   left = λ form ts h few.
       let i = c.loop-key.invariant.left form ts h few in
-      let f = entry_taken form _ i.0 _ _ c.in-Some.is (c.in_ok-first.ensures.first form _ i.1) in
-      let key = c.in_ok-write_entry_key.ensures.key form f.t (stores_next form f.t c.stored.result c.in-Some.first c.stored.ensures.kind
-      c.stored.ensures.content f.part) in (
+      let f = entry_taken form _ i.0 _ _ _ c.in-Some.is (c.in_ok-entry.ensures.first form _ i.1) in
+      let key = c.in_ok-write_entry_key.ensures.key form f.t (record { content = f.part }) in (
         f.rest,
-        f.others,
+        f.others_hold,
         CountsLeft-next c.loop-key.counts c.add.new.self c.write_entry_key.new.out f.t f.rest ts (rw f.split at i.2) key few
             c.in_ok-add.ensures.more,
       );
@@ -25,12 +23,12 @@ pub returns-in_err-write_entry_key-clause-counts : goal.returns-in_err-write_ent
 returns-in_err-write_entry_key-clause-counts c = λ form ts h few.
     let p = err_from_is_err_and c.from_residual-in_err-write_entry_key.result c.from_residual-in_err-write_entry_key.ensures.1 in
     let i = c.loop-key.invariant.left form ts h few in
-    let f = entry_taken form _ i.0 _ _ c.in-Some.is (c.in_ok-first.ensures.first form _ i.1) in
+    let f = entry_taken form _ i.0 _ _ _ c.in-Some.is (c.in_ok-entry.ensures.first form _ i.1) in
     rw (p.1, p.2)
     (c.in_err-write_entry_key.ensures.key form f.t
-    (stores_next form f.t c.stored.result c.in-Some.first c.stored.ensures.kind c.stored.ensures.content f.part))
+    (record { content = f.part }))
 
 pub returns-clause-counts : goal.returns-clause-counts
 returns-clause-counts c = λ form ts h few.
     let i = c.loop-key.invariant.left form ts h few in
-    CountsLeft-done c.loop-key.counts ts (rw (no_entry_left form _ i.0 _ c.in_default.is (c.in_ok-first.ensures.first form _ i.1)) at i.2)
+    CountsLeft-done c.loop-key.counts ts (rw (no_entry_left form _ i.0 _ c.in_default.is (c.in_ok-entry.ensures.first form _ i.1)) at i.2)

@@ -3,9 +3,8 @@ use Rattle.std.proofs.lemmas.Result.{err_from_is_err_and}
 use Rattle.jsonb_raw.specs.Sets.{select_occurrences}
 use Rattle.jsonb_raw.specs.Private.Entries.{RunsHold}
 use Rattle.jsonb_raw.specs.Private.SetCounts.{keeps}
-use Rattle.jsonb_raw.proofs.SetKept.{KeptRuns-all, KeptRuns-left, KeptRuns-done, KeptRuns-kept, KeptRuns-dropped, run_held, stores_next, next_of, next_few}
+use Rattle.jsonb_raw.proofs.SetKept.{KeptRuns-all, KeptRuns-left, KeptRuns-done, KeptRuns-kept, KeptRuns-dropped, next_of, next_few}
 use Rattle.jsonb_raw.proofs.functions.array.sets.kept_elements.Goals as goal
-use Rattle.jsonb_raw.proofs.functions.array.sets.kept_elements.Goals.{then-not-branch+in_ok-push_run, else-not-branch}
 
 pub loop-runs-init : goal.loop-runs-init
 loop-runs-init c = record {
@@ -13,68 +12,72 @@ loop-runs-init c = record {
       KeptRuns-all form c.args.kind c.args.counts other c.new-runs.result.items c.args.entries ts c.new-runs.ensures.items h fit few b;
 }
 
-pub returns-in_err-first-clause-made : goal.returns-in_err-first-clause-made
-returns-in_err-first-clause-made c = λ form other ts h fit few b.
+pub returns-in_err-entry-clause-made : goal.returns-in_err-entry-clause-made
+returns-in_err-entry-clause-made c = λ form other ts h fit few b.
     let m = c.loop-runs.invariant.left form other ts h fit few b in
-    absurd (c.in_err-first.ensures.first form m.rest (KeptRuns-left form _ _ other _ _ _ _ m))
+    absurd (c.in_err-entry.ensures.first form m.rest (KeptRuns-left form _ _ other _ _ _ _ m))
 
 pub returns-in_err-write_entry_key-clause-made : goal.returns-in_err-write_entry_key-clause-made
 returns-in_err-write_entry_key-clause-made c = λ form other ts h fit few b.
     let p = err_from_is_err_and c.from_residual-in_err-write_entry_key.result c.from_residual-in_err-write_entry_key.ensures.1 in
     let m = c.loop-runs.invariant.left form other ts h fit few b in
-    let mine = rw c.in-Some.is at (c.in_ok-first.ensures.first form m.rest (KeptRuns-left form _ _ other _ _ _ _ m)) in
-    let n = next_of form _ _ other _ _ _ _ m c.in-Some.first mine in
-    rw (p.1, p.2) (inl (c.in_err-write_entry_key.ensures.key form n.t (stores_next form n.t c.stored.result c.in-Some.first c.stored.ensures.kind
-    c.stored.ensures.content n.first_is.part)))
+    let mine = rw c.in-Some.is at (c.in_ok-entry.ensures.first form m.rest (KeptRuns-left form _ _ other _ _ _ _ m)) in
+    let n = next_of form _ _ other _ _ _ _ m _ _ mine in
+    rw (p.1, p.2) (inl (c.in_err-write_entry_key.ensures.key form n.t (record { content = n.first_is.part })))
 
 pub returns-in_err-decide-clause-made : goal.returns-in_err-decide-clause-made
 returns-in_err-decide-clause-made c = λ form other ts h fit few b.
     let p = err_from_is_err_and c.from_residual-in_err-decide.result c.from_residual-in_err-decide.ensures.1 in
     let m = c.loop-runs.invariant.left form other ts h fit few b in
-    let mine = rw c.in-Some.is at (c.in_ok-first.ensures.first form m.rest (KeptRuns-left form _ _ other _ _ _ _ m)) in
-    let n = next_of form _ _ other _ _ _ _ m c.in-Some.first mine in
-    let key = c.in_ok-write_entry_key.ensures.key form n.t (stores_next form n.t c.stored.result c.in-Some.first c.stored.ensures.kind
-    c.stored.ensures.content n.first_is.part) in
-    rw (p.1, p.2) (inl (c.in_err-decide.ensures.kept other m.before n.t m.behind n.fit.0 key (next_few form _ _ other _ _ _ _ m c.in-Some.first mine n)))
+    let mine = rw c.in-Some.is at (c.in_ok-entry.ensures.first form m.rest (KeptRuns-left form _ _ other _ _ _ _ m)) in
+    let n = next_of form _ _ other _ _ _ _ m _ _ mine in
+    let key = c.in_ok-write_entry_key.ensures.key form n.t (record { content = n.first_is.part }) in
+    rw (p.1, p.2) (inl (c.in_err-decide.ensures.kept other m.before n.t m.behind n.fit.0 key (next_few form _ _ other _ _ _ _ m _ _ mine n)))
 
 pub returns-in_err-push_run-clause-made : goal.returns-in_err-push_run-clause-made
 returns-in_err-push_run-clause-made c = λ form other ts h fit few b.
     let p = err_from_is_err_and c.from_residual-in_err-push_run.result c.from_residual-in_err-push_run.ensures.1 in
     let m = c.loop-runs.invariant.left form other ts h fit few b in
-    rw (p.1, p.2) (inl (c.in_err-push_run.ensures.pushed m.holds.run_words m.holds.run_contents m.holds.words_joined m.holds.contents_joined))
+    rw (p.1, p.2) (inl (c.in_err-push_run.ensures.pushed form m.held m.rest m.holds))
+
+pub loop-runs-preserved-in_ok-push_run : goal.loop-runs-preserved-in_ok-push_run
+loop-runs-preserved-in_ok-push_run c = record {
+  left = λ form other ts h fit few b.
+      let m = c.loop-runs.invariant.left form other ts h fit few b in
+      let mine = rw c.in-Some.is at (c.in_ok-entry.ensures.first form m.rest (KeptRuns-left form _ _ other _ _ _ _ m)) in
+      let n = next_of form _ _ other _ _ _ _ m _ _ mine in
+      let short = next_few form _ _ other _ _ _ _ m _ _ mine n in
+      let key = c.in_ok-write_entry_key.ensures.key form n.t (record { content = n.first_is.part }) in
+      let kept = c.in_ok-decide.ensures.kept other m.before n.t m.behind n.fit.0 key short in
+      let behind = c.in_ok-decide.ensures.behind other m.before n.t m.behind n.fit.0 key short in
+      KeptRuns-dropped form _ _ other _ _ _ _ m _ _ mine n _ _ (c.in_ok-push_run.ensures.pushed form m.held m.rest m.holds)
+      (sym kept ∙ c.if-not-branch.true) behind;
+}
 
 pub loop-runs-preserved : goal.loop-runs-preserved
 loop-runs-preserved c = record {
   left = λ form other ts h fit few b.
       let m = c.loop-runs.invariant.left form other ts h fit few b in
-      let mine = rw c.in-Some.is at (c.in_ok-first.ensures.first form m.rest (KeptRuns-left form _ _ other _ _ _ _ m)) in
-      let n = next_of form _ _ other _ _ _ _ m c.in-Some.first mine in
-      let short = next_few form _ _ other _ _ _ _ m c.in-Some.first mine n in
-      let key = c.in_ok-write_entry_key.ensures.key form n.t (stores_next form n.t c.stored.result c.in-Some.first c.stored.ensures.kind
-      c.stored.ensures.content n.first_is.part) in
+      let mine = rw c.in-Some.is at (c.in_ok-entry.ensures.first form m.rest (KeptRuns-left form _ _ other _ _ _ _ m)) in
+      let n = next_of form _ _ other _ _ _ _ m _ _ mine in
+      let short = next_few form _ _ other _ _ _ _ m _ _ mine n in
+      let key = c.in_ok-write_entry_key.ensures.key form n.t (record { content = n.first_is.part }) in
       let kept = c.in_ok-decide.ensures.kept other m.before n.t m.behind n.fit.0 key short in
       let behind = c.in_ok-decide.ensures.behind other m.before n.t m.behind n.fit.0 key short in
-      elim c.if-not-branch.branch [
-        | then-not-branch+in_ok-push_run w ↦
-            rw (w.runs-is, w.run-is) (KeptRuns-dropped form _ _ other _ _ _ _ m c.in-Some.first mine n _ _
-            (run_held form _ _ other _ _ _ _ m _ w.in_ok-push_run.ensures.pushed)
-            (sym kept ∙ w.if-not-branch.true) behind)
-        | else-not-branch w ↦
-            rw (w.runs-is, w.run-is) (KeptRuns-kept form _ _ other _ _ _ _ m c.in-Some.first mine n _ (sym kept ∙ w.if-not-branch.false) behind)
-      ];
+      KeptRuns-kept form _ _ other _ _ _ _ m _ _ mine n _ (sym kept ∙ c.if-not-branch.false) behind;
 }
 
 pub returns-in_err-push_run-2-clause-made : goal.returns-in_err-push_run-2-clause-made
 returns-in_err-push_run-2-clause-made c = λ form other ts h fit few b.
     let p = err_from_is_err_and c.from_residual-in_err-push_run-2.result c.from_residual-in_err-push_run-2.ensures.1 in
     let m = c.loop-runs.invariant.left form other ts h fit few b in
-    rw (p.1, p.2) (inl (c.in_err-push_run-2.ensures.pushed m.holds.run_words m.holds.run_contents m.holds.words_joined m.holds.contents_joined))
+    rw (p.1, p.2) (inl (c.in_err-push_run-2.ensures.pushed form m.held m.rest m.holds))
 
 pub returns-clause-made : goal.returns-clause-made
 returns-clause-made c = λ form other ts h fit few b.
     let m = c.loop-runs.invariant.left form other ts h fit few b in
-    let none = rw c.in_default.is at (c.in_ok-first.ensures.first form m.rest (KeptRuns-left form _ _ other _ _ _ _ m)) in
+    let none = rw c.in_default.is at (c.in_ok-entry.ensures.first form m.rest (KeptRuns-left form _ _ other _ _ _ _ m)) in
     let whole = KeptRuns-done form _ _ other _ _ _ _ m none in
-    let held = run_held form _ _ other _ _ _ _ m _ c.in_ok-push_run-2.ensures.pushed in
+    let held = c.in_ok-push_run-2.ensures.pushed form m.held m.rest m.holds in
     c.array_of.ensures.array form (select_occurrences (keeps c.args.kind other) ts)
     (rw c.as_slice.ensures.value (subst (RunsHold form c.push_run-2.new.runs.items) whole held))

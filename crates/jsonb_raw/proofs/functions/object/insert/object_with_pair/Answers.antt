@@ -1,36 +1,90 @@
-use Rattle.std.proofs.Common.{◌≡◌, ◌∙◌, ◌++◌, inl, inr, refl, ap, arith}
-use Rattle.jsonb_raw.specs.Private.Inserts.{inserted_words, inserted_contents}
-use Rattle.jsonb_raw.proofs.InsertEntries.{is_cut, made_decodes, made_too_large}
+use Rattle.std.proofs.Common.{refl, arith, ◌+◌, [], ◌∷◌, ◌++◌}
+use Rattle.std.specs.Map.{values_of}
+use Rattle.std.proofs.lemmas.Result.{err_from_is_err_and}
+use Rattle.jsonb_doc.specs.Tree.{text, object}
+use Rattle.jsonb_raw.proofs.InsertEntries.{is_around, keys_around, values_around, all_coming, none_after}
 use Rattle.jsonb_raw.proofs.functions.object.insert.object_with_pair.Goals as goal
-use Rattle.jsonb_raw.proofs.functions.object.insert.object_with_pair.Goals.{then-key-gt-MAX_CONTENT-via-then-key-gt-MAX_CONTENT, then-key-gt-MAX_CONTENT-via-else-key-gt-MAX_CONTENT+then-value-gt-MAX_CONTENT, then-key-gt-MAX_CONTENT-via-else-key-gt-MAX_CONTENT+else-value-gt-MAX_CONTENT+then-kept-ge-MAX_ENTRIES}
+
+pub returns-in_err-pairs-clause-inserted : goal.returns-in_err-pairs-clause-inserted
+returns-in_err-pairs-clause-inserted c = λ form ps t d dv at. absurd (c.in_err-pairs.ensures.entries form (object ps) d)
 
 pub returns-in_default-clause-inserted : goal.returns-in_default-clause-inserted
 returns-in_default-clause-inserted c = λ form ps t d dv at.
-    let cut = is_cut form c.args.bytes.now ps d c.args.place c.args.key.now at in
-    absurd (rw c.in_default.is at (c.kept_entries.ensures _ _ _ _ _ cut))
+    absurd (rw c.in_default.is at (c.in_ok-pairs.ensures.entries form (object ps) d))
 
-pub returns-then-key-gt-MAX_CONTENT-clause-inserted : goal.returns-then-key-gt-MAX_CONTENT-clause-inserted
-returns-then-key-gt-MAX_CONTENT-clause-inserted c = λ form ps t d dv at.
-    let cut = is_cut form c.args.bytes.now ps d c.args.place c.args.key.now at in
-    let kept = c.in-Some.ensures _ _ _ _ _ cut in
+pub returns-in_err-keys-clause-inserted : goal.returns-in_err-keys-clause-inserted
+returns-in_err-keys-clause-inserted c = λ form ps t d dv at.
+    let h = rw c.in-Some.is at (c.in_ok-pairs.ensures.entries form (object ps) d) in
+    absurd (c.in_err-keys.ensures.around form _ h.names)
+
+pub returns-in_err-values-clause-inserted : goal.returns-in_err-values-clause-inserted
+returns-in_err-values-clause-inserted c = λ form ps t d dv at.
+    let h = rw c.in-Some.is at (c.in_ok-pairs.ensures.entries form (object ps) d) in
+    absurd (c.in_err-values.ensures.around form _ h.parts)
+
+pub returns-in_err-object-clause-inserted : goal.returns-in_err-object-clause-inserted
+returns-in_err-object-clause-inserted c = λ form ps t d dv at.
+    let e = err_from_is_err_and c.from_residual-in_err-object.result c.from_residual-in_err-object.ensures.1 in
+    let h = rw c.in-Some.is at (c.in_ok-pairs.ensures.entries form (object ps) d) in
+    let a = is_around form _ _ _ t ps c.in-Some.pairs d h at in
+    let keys = keys_around form _ _ t ps _ a _ _ (c.in_ok-keys.ensures.around form _ a.names) in
+    let makes = all_coming form _ _ t ps _ a (c.len.result + 1 + c.len-2.result)
+    (omega (arith, c.len.ensures.count form _ keys.0, c.len-2.ensures.count form _ keys.1)) in
+    rw (e.1, e.2) (c.in_err-object.ensures.opened form _ _ makes)
+
+pub returns-in_err-copy_with-clause-inserted : goal.returns-in_err-copy_with-clause-inserted
+returns-in_err-copy_with-clause-inserted c = λ form ps t d dv at.
+    let e = err_from_is_err_and c.from_residual-in_err-copy_with.result c.from_residual-in_err-copy_with.ensures.1 in
+    let h = rw c.in-Some.is at (c.in_ok-pairs.ensures.entries form (object ps) d) in
+    let a = is_around form _ _ _ t ps c.in-Some.pairs d h at in
+    let keys = keys_around form _ _ t ps _ a _ _ (c.in_ok-keys.ensures.around form _ a.names) in
+    let makes = all_coming form _ _ t ps _ a (c.len.result + 1 + c.len-2.result)
+    (omega (arith, c.len.ensures.count form _ keys.0, c.len-2.ensures.count form _ keys.1)) in
+    let begun = c.in_ok-object.ensures.opened form _ _ makes in
+    let rest = values_of a.front ++ (t ∷ values_of a.back) in
+    rw (e.1, e.2) (c.in_err-copy_with.ensures.copied form _ (text c.args.key.now) _ rest [] _ keys.0 (refl, c.as_bytes.ensures.value, c.utf8.key) keys.1 begun)
+
+pub returns-in_err-copy_with-2-clause-inserted : goal.returns-in_err-copy_with-2-clause-inserted
+returns-in_err-copy_with-2-clause-inserted c = λ form ps t d dv at.
+    let e = err_from_is_err_and c.from_residual-in_err-copy_with-2.result c.from_residual-in_err-copy_with-2.ensures.1 in
+    let h = rw c.in-Some.is at (c.in_ok-pairs.ensures.entries form (object ps) d) in
+    let a = is_around form _ _ _ t ps c.in-Some.pairs d h at in
+    let keys = keys_around form _ _ t ps _ a _ _ (c.in_ok-keys.ensures.around form _ a.names) in
+    let values = values_around form _ _ t ps _ a _ _ (c.in_ok-values.ensures.around form _ a.parts) in
+    let makes = all_coming form _ _ t ps _ a (c.len.result + 1 + c.len-2.result)
+    (omega (arith, c.len.ensures.count form _ keys.0, c.len-2.ensures.count form _ keys.1)) in
+    let begun = c.in_ok-object.ensures.opened form _ _ makes in
+    let rest = values_of a.front ++ (t ∷ values_of a.back) in
+    let keyed = c.in_ok-copy_with.ensures.copied form _ (text c.args.key.now) _ rest [] _ keys.0 (refl, c.as_bytes.ensures.value, c.utf8.key) keys.1 begun in
     let is = c.in_ok-value.ensures.entry form t dv in
-    let large = made_too_large form c.args.bytes.now ps d c.args.place c.args.key.now at t c.in-Some.kept kept c.in_ok-value.value is in
-    elim c.then-key-gt-MAX_CONTENT.branch [
-      | then-key-gt-MAX_CONTENT-via-then-key-gt-MAX_CONTENT w ↦ inr (refl, large (inl (omega arith)))
-      | then-key-gt-MAX_CONTENT-via-else-key-gt-MAX_CONTENT+then-value-gt-MAX_CONTENT w ↦
-          inr (refl, large (inr (inl (omega arith))))
-      | then-key-gt-MAX_CONTENT-via-else-key-gt-MAX_CONTENT+else-value-gt-MAX_CONTENT+then-kept-ge-MAX_ENTRIES w ↦
-          inr (refl, large (inr (inr (omega arith))))
-    ]
+    rw (e.1, e.2) (c.in_err-copy_with-2.ensures.copied form _ t _ [] [] _ values.0 is values.1 (none_after form _ _ _ t [] _ keyed))
+
+pub returns-in_err-finish-clause-inserted : goal.returns-in_err-finish-clause-inserted
+returns-in_err-finish-clause-inserted c = λ form ps t d dv at.
+    let h = rw c.in-Some.is at (c.in_ok-pairs.ensures.entries form (object ps) d) in
+    let a = is_around form _ _ _ t ps c.in-Some.pairs d h at in
+    let keys = keys_around form _ _ t ps _ a _ _ (c.in_ok-keys.ensures.around form _ a.names) in
+    let values = values_around form _ _ t ps _ a _ _ (c.in_ok-values.ensures.around form _ a.parts) in
+    let makes = all_coming form _ _ t ps _ a (c.len.result + 1 + c.len-2.result)
+    (omega (arith, c.len.ensures.count form _ keys.0, c.len-2.ensures.count form _ keys.1)) in
+    let begun = c.in_ok-object.ensures.opened form _ _ makes in
+    let rest = values_of a.front ++ (t ∷ values_of a.back) in
+    let keyed = c.in_ok-copy_with.ensures.copied form _ (text c.args.key.now) _ rest [] _ keys.0 (refl, c.as_bytes.ensures.value, c.utf8.key) keys.1 begun in
+    let is = c.in_ok-value.ensures.entry form t dv in
+    let all = c.in_ok-copy_with-2.ensures.copied form _ t _ [] [] _ values.0 is values.1 (none_after form _ _ _ t [] _ keyed) in
+    absurd (c.in_err-finish.ensures.written form _ all)
 
 pub returns-clause-inserted : goal.returns-clause-inserted
 returns-clause-inserted c = λ form ps t d dv at.
-    let cut = is_cut form c.args.bytes.now ps d c.args.place c.args.key.now at in
-    let kept = c.in-Some.ensures _ _ _ _ _ cut in
+    let h = rw c.in-Some.is at (c.in_ok-pairs.ensures.entries form (object ps) d) in
+    let a = is_around form _ _ _ t ps c.in-Some.pairs d h at in
+    let keys = keys_around form _ _ t ps _ a _ _ (c.in_ok-keys.ensures.around form _ a.names) in
+    let values = values_around form _ _ t ps _ a _ _ (c.in_ok-values.ensures.around form _ a.parts) in
+    let makes = all_coming form _ _ t ps _ a (c.len.result + 1 + c.len-2.result)
+    (omega (arith, c.len.ensures.count form _ keys.0, c.len-2.ensures.count form _ keys.1)) in
+    let begun = c.in_ok-object.ensures.opened form _ _ makes in
+    let rest = values_of a.front ++ (t ∷ values_of a.back) in
+    let keyed = c.in_ok-copy_with.ensures.copied form _ (text c.args.key.now) _ rest [] _ keys.0 (refl, c.as_bytes.ensures.value, c.utf8.key) keys.1 begun in
     let is = c.in_ok-value.ensures.entry form t dv in
-    let words = inserted_words c.in-Some.kept c.args.key.now c.in_ok-value.value in
-    let contents = inserted_contents c.in-Some.kept c.args.key.now c.in_ok-value.value in
-    let made : c.new.result ≡ words ++ contents = c.new.ensures ∙ c.in_ok-push_contents.ensures
-    ∙ ap (λ w. w ++ contents) (c.in_ok-push_words.ensures ∙ ap (λ w. w ++ words) c.in_ok-document.ensures.items) in
-    made_decodes form c.args.bytes.now ps d c.args.place c.args.key.now at t c.in-Some.kept kept c.in_ok-value.value is c.new.result made c.utf8.key
-    (omega arith) (omega arith) (omega arith)
+    let all = c.in_ok-copy_with-2.ensures.copied form _ t _ [] [] _ values.0 is values.1 (none_after form _ _ _ t [] _ keyed) in
+    rw c.new-2.ensures (c.in_ok-finish.ensures.written form _ all)

@@ -5,7 +5,6 @@ use Rattle.jsonb_doc.proofs.BuilderSteps.{keys_rise}
 use Rattle.jsonb_raw.specs.Concat.{merged}
 use Rattle.jsonb_raw.specs.Private.Entries.{PairsHeld}
 use Rattle.jsonb_raw.specs.declared.functions.parts.FirstPair.{FirstPair}
-use Rattle.jsonb_raw.proofs.RunLemmas.{runs_are_keys}
 use Rattle.jsonb_raw.proofs.MergedLemmas.{there_or_none, merged_rising, merging_begun, left_of, merging_less, merging_equal_second, merging_equal, merging_greater, merging_ended}
 use Rattle.jsonb_raw.proofs.functions.operator.concat.merged_pairs.Goals as goal
 use Rattle.jsonb_raw.proofs.functions.operator.concat.merged_pairs.Goals.{in_default, in_default-2}
@@ -115,4 +114,4 @@ returns-clause-merged c = λ form ps qs h g a b.
     ] in
     let all = subst (PairsHeld form c.push-2.new.self) whole three in
     c.object.ensures.object form (merged ps qs) all
-    (runs_are_keys form c.push-2.new.self.keys.items (keys_of (merged ps qs)) (merged_rising ps qs (keys_rise (keys_of ps) a)) all.names)
+    (merged_rising ps qs (keys_rise (keys_of ps) a))

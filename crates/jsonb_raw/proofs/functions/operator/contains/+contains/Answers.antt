@@ -31,10 +31,10 @@ item_matches-returns-in-Known-clause-answer t c = λ form other_form x y h i.
 
 pub item_matches-loop-answer-preserved : goal.item_matches-loop-answer-preserved
 item_matches-loop-answer-preserved t c = record {
-  shorter = let size = rw c.in-AsOf.is at c.in_ok-answer.ensures.within in omega (arith, size.0, size.1, c.loop-answer.invariant.shorter);
+  shorter = let size = rw c.in-Deferred.is at c.in_ok-answer.ensures.within in omega (arith, size.0, size.1, c.loop-answer.invariant.shorter);
   left = λ form other_form x y h i.
       let l = c.loop-answer.invariant.left form other_form x y h i in
-      let m = rw c.in-AsOf.is at (c.in_ok-answer.ensures.answer form other_form l.0 l.1 l.2 l.3) in
+      let m = rw c.in-Deferred.is at (c.in_ok-answer.ensures.answer form other_form l.0 l.1 l.2 l.3) in
       (m.0, m.1, m.2, m.3, m.4 ∙ l.4);
 }
 
@@ -122,7 +122,7 @@ pub array_contains-loop-wanted-preserved-then-wanted-others : goal.array_contain
 array_contains-loop-wanted-preserved-then-wanted-others t c =
     let none : c.loop-wanted.large ≡ None = search rules in
     let size = rw c.in_ok-wanted.was at c.in-Some.ensures.steps.size in
-    let within = rw c.in-AsOf.is at c.in_ok-container_match.ensures.within in
+    let within = rw c.in-Deferred.is at c.in_ok-container_match.ensures.within in
     record {
       can = tt;
       finite = tt;
@@ -133,25 +133,25 @@ array_contains-loop-wanted-preserved-then-wanted-others t c =
           SomeEntries-first other_form _ _ _ _ _ c.in_ok-wanted.was c.in-Some.ensures.steps
           (rw none at (c.loop-wanted.invariant.left form other_form xs ys d e))
           (λ first rest left stored fact.
-          let m = rw c.in-AsOf.is at (c.in_ok-container_match.ensures.answer form other_form xs first (c.in_ok-all.ensures.decodes form xs d) stored) in
+          let m = rw c.in-Deferred.is at (c.in_ok-container_match.ensures.answer form other_form xs first (c.in_ok-all.ensures.decodes form xs d) stored) in
           record {
             trees = rest;
             left = left;
             fact = (
               scalars_left first rest (elements xs) fact.0,
-              put_aside (IsItemAnswer matches form other_form None) (IsItemAnswer matches form other_form (Some (c.in-AsOf.item, c.in-AsOf.other)))
+              put_aside (IsItemAnswer matches form other_form None) (IsItemAnswer matches form other_form (Some (c.in-Deferred.item, c.in-Deferred.other)))
                   (list_any (is_part_of first) (elements xs)) (each_is_matched rest (elements xs)) (each_is_matched ys (elements xs)) (λ b h. h)
                   (m.0, m.1, m.2, m.3, m.4) fact.1,
             );
           });
     }
 
-pub array_contains-returns-in_err-item_matches-in-AsOf-clause-answer : goal.array_contains-returns-in_err-item_matches-in-AsOf-clause-answer
-array_contains-returns-in_err-item_matches-in-AsOf-clause-answer t c = λ form other_form xs ys d e.
+pub array_contains-returns-in_err-item_matches-in-Deferred-clause-answer : goal.array_contains-returns-in_err-item_matches-in-Deferred-clause-answer
+array_contains-returns-in_err-item_matches-in-Deferred-clause-answer t c = λ form other_form xs ys d e.
     SomeEntries-first other_form _ _ _ _ _ c.in_ok-wanted.was c.in-Some.ensures.steps (c.loop-wanted.invariant.left form other_form xs ys d e)
     (λ first rest left stored fact.
-    let m = rw c.in-AsOf.is at (c.in_ok-container_match.ensures.answer form other_form xs first (c.in_ok-all.ensures.decodes form xs d) stored) in
-    absurd (c.in_err-item_matches-in-AsOf.ensures.answer form other_form m.0 m.1 m.2 m.3))
+    let m = rw c.in-Deferred.is at (c.in_ok-container_match.ensures.answer form other_form xs first (c.in_ok-all.ensures.decodes form xs d) stored) in
+    absurd (c.in_err-item_matches-in-Deferred.ensures.answer form other_form m.0 m.1 m.2 m.3))
 
 pub array_contains-returns-then-not-branch-clause-answer : goal.array_contains-returns-then-not-branch-clause-answer
 array_contains-returns-then-not-branch-clause-answer t c = λ form other_form xs ys d e.
@@ -163,8 +163,8 @@ pub array_contains-returns-then-not-branch-2-clause-answer : goal.array_contains
 array_contains-returns-then-not-branch-2-clause-answer t c = λ form other_form xs ys d e.
     SomeEntries-first other_form _ _ _ _ _ c.in_ok-wanted.was c.in-Some.ensures.steps (c.loop-wanted.invariant.left form other_form xs ys d e)
     (λ first rest left stored fact.
-    let m = rw c.in-AsOf.is at (c.in_ok-container_match.ensures.answer form other_form xs first (c.in_ok-all.ensures.decodes form xs d) stored) in
-    let fails : list_any (is_part_of first) (elements xs) ≡ false = sym m.4 ∙ sym (c.in_ok-item_matches-in-AsOf.ensures.answer form other_form m.0 m.1 m.2 m.3)
+    let m = rw c.in-Deferred.is at (c.in_ok-container_match.ensures.answer form other_form xs first (c.in_ok-all.ensures.decodes form xs d) stored) in
+    let fails : list_any (is_part_of first) (elements xs) ≡ false = sym m.4 ∙ sym (c.in_ok-item_matches-in-Deferred.ensures.answer form other_form m.0 m.1 m.2 m.3)
     ∙ c.if-not-branch-2.true in
     part_fails _ (list_any (is_part_of first) (elements xs)) (each_is_matched rest (elements xs)) (each_is_matched ys (elements xs)) fails fact.1)
 
@@ -178,9 +178,9 @@ array_contains-loop-wanted-preserved t c = record {
   left = λ form other_form xs ys d e.
       SomeEntries-first other_form _ _ _ _ _ c.in_ok-wanted.was c.in-Some.ensures.steps (c.loop-wanted.invariant.left form other_form xs ys d e)
       (λ first rest left stored fact.
-      let m = rw c.in-AsOf.is at (c.in_ok-container_match.ensures.answer form other_form xs first (c.in_ok-all.ensures.decodes form xs d) stored) in
+      let m = rw c.in-Deferred.is at (c.in_ok-container_match.ensures.answer form other_form xs first (c.in_ok-all.ensures.decodes form xs d) stored) in
       matched_left other_form _ _ first rest (elements xs) (each_is_matched ys (elements xs)) left
-      (sym m.4 ∙ sym (c.in_ok-item_matches-in-AsOf.ensures.answer form other_form m.0 m.1 m.2 m.3) ∙ c.if-not-branch-2.false) fact);
+      (sym m.4 ∙ sym (c.in_ok-item_matches-in-Deferred.ensures.answer form other_form m.0 m.1 m.2 m.3) ∙ c.if-not-branch-2.false) fact);
 }
 
 pub array_contains-returns-in-Some-large-clause-answer : goal.array_contains-returns-in-Some-large-clause-answer
@@ -293,8 +293,8 @@ find_match-returns-in_default-clause-answer t c = λ form other_form xs y b h k 
     let a = rw take_no at (SomeEntries-none form _ _ _ c.in_default.ensures.steps (c.loop-more.invariant.left form other_form xs y b h k is)) in
     rw a.fact at a.is
 
-pub find_match-loop-more-preserved-then-is_beyond : goal.find_match-loop-more-preserved-then-is_beyond
-find_match-loop-more-preserved-then-is_beyond t c =
+pub find_match-loop-more-preserved-then-is_container_longer_than : goal.find_match-loop-more-preserved-then-is_container_longer_than
+find_match-loop-more-preserved-then-is_container_longer_than t c =
     let none : c.loop-more.large ≡ None = search rules in
     let size = rw c.in_ok-entry.was at c.in-Some.ensures.steps.size in
     record {
@@ -407,8 +407,8 @@ object_contains-returns-in_default-clause-answer t c = λ form other_form ps qs 
     let none = no_entry_found form _ (rw c.in_default.is at (c.in_ok-entry.ensures.value form some.pairs some.left)) in
     whole_fails _ _ _ (unmatched_key c.in_ok-key.key.now value rest some.pairs (keys_rise (keys some.pairs) some.left.are_keys) none) some.fact)
 
-pub object_contains-loop-pair-preserved-then-is_beyond-2 : goal.object_contains-loop-pair-preserved-then-is_beyond-2
-object_contains-loop-pair-preserved-then-is_beyond-2 t c =
+pub object_contains-loop-pair-preserved-then-is_container_longer_than-2 : goal.object_contains-loop-pair-preserved-then-is_container_longer_than-2
+object_contains-loop-pair-preserved-then-is_container_longer_than-2 t c =
     let none : c.loop-pair.large ≡ None = search rules in
     let size = rw c.in-Some-2.is at c.in_ok-entry.ensures.size in
     let wanted_size = rw c.in_ok-key.was at c.in-Some.ensures.steps.size in
@@ -416,7 +416,7 @@ object_contains-loop-pair-preserved-then-is_beyond-2 t c =
       can = tt;
       finite = tt;
       room = omega (arith, c.in-Some.ensures.steps.room, c.loop-pair.invariant.room);
-      room_left = omega (arith, c.take_entry.ensures.room, c.loop-pair.invariant.room_left);
+      room_left = omega (arith, c.advance_to_key.ensures.room, c.loop-pair.invariant.room_left);
       size = (omega (arith, size, c.loop-pair.invariant.room_left), omega (arith, wanted_size, c.loop-pair.invariant.room));
       left = λ form other_form ps qs d e.
           SomePairEntries-first other_form _ _ _ _ _ c.in_ok-key.was c.in-Some.ensures.steps (rw none at (c.loop-pair.invariant.left form other_form ps qs d e))
@@ -465,7 +465,7 @@ object_contains-loop-pair-preserved t c = record {
   can = tt;
   finite = tt;
   room = omega (arith, c.in-Some.ensures.steps.room, c.loop-pair.invariant.room);
-  room_left = omega (arith, c.take_entry.ensures.room, c.loop-pair.invariant.room_left);
+  room_left = omega (arith, c.advance_to_key.ensures.room, c.loop-pair.invariant.room_left);
   size = c.loop-pair.invariant.size;
   left = λ form other_form ps qs d e.
       SomePairEntries-first other_form _ _ _ _ _ c.in_ok-key.was c.in-Some.ensures.steps (c.loop-pair.invariant.left form other_form ps qs d e)

@@ -9,7 +9,7 @@ use Rattle.jsonb_doc.specs.Private.Stored.{HasEntriesLeft, Stores, entries_room}
 use Rattle.jsonb_doc.proofs.BuilderSteps.{AreRising}
 use Rattle.jsonb_raw.specs.Contains.{is_part_of, each_is_matched, each_pair_is_matched}
 use Rattle.jsonb_raw.specs.Private.Compared.{IsOneAnswer, IsTailOf, matches}
-use Rattle.jsonb_raw.specs.Private.Starts.{scalars_matched}
+use Rattle.jsonb_raw.specs.Private.StartHints.{scalars_matched}
 use Rattle.jsonb_raw.proofs.EntriesLeft.{SomeEntries, SomePairEntries}
 use Rattle.jsonb_raw.proofs.Aside.{Aside, IsAnswer, IsItemAnswer, OneAside}
 use Rattle.jsonb_raw.proofs.functions.operator.contains.+contains.Given as goal
@@ -46,7 +46,7 @@ invariant-item_matches-loop-answer l = record {
 abbrev pub decreases-item_matches-loop-answer : goal.decreases-item_matches-loop-answer
 decreases-item_matches-loop-answer l = item_size l.left + item_size l.right
 
--- the wanted elements that are left decide, with the pair that was put aside
+-- the given elements that are left decide, with the pair that was put aside
 abbrev pub invariant-array_contains-loop-wanted : goal.invariant-array_contains-loop-wanted
 invariant-array_contains-loop-wanted l = record {
   can : (goal.iterator-array_contains-loop-wanted).can_next l.wanted-iterator;
@@ -75,7 +75,7 @@ invariant-find_match-loop-more l = record {
 abbrev pub decreases-find_match-loop-more : goal.decreases-find_match-loop-more
 decreases-find_match-loop-more l = l.more
 
--- the wanted pairs that are left decide, by the pairs that are left, with the pair of values that was put aside
+-- the given pairs that are left decide, by the pairs that are left, with the pair of values that was put aside
 abbrev pub invariant-object_contains-loop-pair : goal.invariant-object_contains-loop-pair
 invariant-object_contains-loop-pair l = record {
   can : (goal.iterator-object_contains-loop-pair).can_next l.pair-iterator;

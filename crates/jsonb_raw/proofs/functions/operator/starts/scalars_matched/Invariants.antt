@@ -2,11 +2,11 @@ use Rattle.std.proofs.Common.{◌≡◌}
 use Rattle.jsonb_doc.specs.Tree.{Trees, elements}
 use Rattle.jsonb_doc.specs.Payload.{Form}
 use Rattle.jsonb_doc.specs.Private.Stored.{HasEntriesLeft, entries_bound}
-use Rattle.jsonb_raw.specs.Private.Starts.{AreStarts, scalars_matched}
+use Rattle.jsonb_raw.specs.Private.StartHints.{AreStarts, scalars_matched}
 use Rattle.jsonb_raw.proofs.EntriesLeft.{SomeEntries}
 use Rattle.jsonb_raw.proofs.functions.operator.starts.scalars_matched.Given as goal
 
--- the wanted entries that are left decide
+-- the given entries that are left decide
 abbrev pub invariant-walk : goal.invariant-walk
 invariant-walk l = record {
   starts : AreStarts l.all l.starts;

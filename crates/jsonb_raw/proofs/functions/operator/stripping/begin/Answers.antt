@@ -1,29 +1,26 @@
-use Rattle.std.proofs.Common.{arith, inl, inr, ap}
-use Rattle.jsonb_doc.specs.Private.Headers.{header_number}
-use Rattle.jsonb_raw.proofs.LevelStarts.{headed}
-use Rattle.jsonb_raw.proofs.StripWalk.{container_case}
+use Rattle.std.proofs.Common.{[], inl}
+use Rattle.std.proofs.lemmas.Result.{err_from_is_err_and}
+use Rattle.jsonb_raw.specs.Private.Stripping.{entries_kept}
+use Rattle.jsonb_raw.specs.Strip.{strip}
+use Rattle.jsonb_raw.proofs.StripLists.{kept_makes}
+use Rattle.jsonb_raw.proofs.StripWalk.{begun_with}
 use Rattle.jsonb_raw.proofs.functions.operator.stripping.begin.Goals as goal
 
-pub returns-in_default-clause-begun : goal.returns-in_default-clause-begun
-returns-in_default-clause-begun c = λ form t h. absurd (headed form t c.args.container.now h (rw c.in_default.is at c.split_header.ensures))
+pub returns-in_err-writer-clause-begun : goal.returns-in_err-writer-clause-begun
+returns-in_err-writer-clause-begun c = λ form t h.
+    let e = err_from_is_err_and c.from_residual.result c.from_residual.ensures.1 in
+    rw (e.1, e.2) (c.in_err-writer.ensures.opened form (entries_kept t) (strip t) (kept_makes form t _ _ h (c.count_kept-count.ensures form t h)))
 
-pub returns-in-Array-clause-begun : goal.returns-in-Array-clause-begun
-returns-in-Array-clause-begun c = λ form t h.
-    elim (container_case form c.args.container.now _ _ _ c.in-Some.ensures t h) [
-      | inl a ↦ rw a.1.is (c.begin_array.ensures.begun form a.1.trees a.1.content a.1.counted)
-      | inr o ↦ absurd (omega (arith, o.0, ap header_number c.in-Array.is))
-    ]
+pub returns-in_err-put_keys-clause-begun : goal.returns-in_err-put_keys-clause-begun
+returns-in_err-put_keys-clause-begun c = λ form t h.
+    let e = err_from_is_err_and c.from_residual-in_err-put_keys.result c.from_residual-in_err-put_keys.ensures.1 in
+    let count = c.count_kept-count.ensures form t h in
+    rw (e.1, e.2) (inl (c.in_err-put_keys.ensures.put form t [] (strip t) h count
+    (c.in_ok-writer.ensures.opened form (entries_kept t) (strip t) (kept_makes form t _ _ h count))))
 
-pub returns-in-Object-clause-begun : goal.returns-in-Object-clause-begun
-returns-in-Object-clause-begun c = λ form t h.
-    elim (container_case form c.args.container.now _ _ _ c.in-Some.ensures t h) [
-      | inl a ↦ absurd (omega (arith, a.0, ap header_number c.in-Object.is))
-      | inr o ↦ rw o.1.is (c.begin_object.ensures.begun form o.1.pairs o.1.content o.1.counted)
-    ]
-
-pub returns-in-Scalar-clause-begun : goal.returns-in-Scalar-clause-begun
-returns-in-Scalar-clause-begun c = λ form t h.
-    elim (container_case form c.args.container.now _ _ _ c.in-Some.ensures t h) [
-      | inl a ↦ absurd (omega (arith, a.0, ap header_number c.in-Scalar.is))
-      | inr o ↦ absurd (omega (arith, o.0, ap header_number c.in-Scalar.is))
-    ]
+pub returns-clause-begun : goal.returns-clause-begun
+returns-clause-begun c = λ form t h.
+    let count = c.count_kept-count.ensures form t h in
+    begun_with form _ _ [] t (strip t) (c.all_values.ensures.values form t h)
+    (c.in_ok-put_keys.ensures.put form t [] (strip t) h count
+    (c.in_ok-writer.ensures.opened form (entries_kept t) (strip t) (kept_makes form t _ _ h count)))

@@ -1,85 +1,76 @@
-use Rattle.std.proofs.Common.{arith, refl, ap}
+use Rattle.std.proofs.Common.{ℕ, Vec, Global, [], ◌∷◌, arith, inl, subst}
+use Rattle.jsonb_doc.specs.Format.{Decodes}
+use Rattle.jsonb_doc.specs.Answer.{IsOutOfMemoryOrTooLarge}
 use Rattle.std.proofs.lemmas.Result.{err_from_is_err_and}
-use Rattle.jsonb_doc.specs.Kinds.{kind_number}
-use Rattle.jsonb_doc.specs.declared.layout.EntryKind.TheVariants.{Null, Container}
-use Rattle.jsonb_doc.proofs.KindLemmas.{one_kind}
-use Rattle.jsonb_raw.proofs.StripWalk.{all_done, entry_skipped, entry_copied, entry_entered, one_done, word_place, rooms-pushed, begun_alone, null_out, other_stays, array_stays, first_content}
+use Rattle.jsonb_doc.specs.Private.Writer.{Around, IsWriting}
+use Rattle.jsonb_raw.specs.Strip.{strip}
+use Rattle.jsonb_raw.specs.Private.Stripping.{stripped}
 use Rattle.jsonb_raw.proofs.LeafWalk.{no_items}
+use Rattle.jsonb_raw.proofs.StripWalk.{pushed_outer, popped_outer, none_outside, rooms-pushed, only_ok}
 use Rattle.jsonb_raw.proofs.functions.operator.stripping.strip_container.Goals as goal
-use Rattle.jsonb_raw.proofs.functions.operator.stripping.strip_container.Goals.{in_default-via-in-Null+else-inner, in_default-via-in_default}
 
-pub walk-init : goal.walk-init
-walk-init c = record {
-  left = λ form t is. begun_alone form _ _ _ _ _ _ _ t _ _ c.in_ok-out.ensures.items c.new-around.ensures.items
-      (c.in_ok-inner.ensures.begun form t is);
-}
+pub returns-in_err-container-clause-stripped : goal.returns-in_err-container-clause-stripped
+returns-in_err-container-clause-stripped c = λ form t h.
+    let e = err_from_is_err_and c.from_residual-in_err-container.result c.from_residual-in_err-container.ensures.1 in
+    let s = c.walk.invariant form t h in
+    rw (e.1, e.2) (inl (c.in_err-container.ensures.put form s.begun.trees s.outside (strip t) s.begun.holds s.begun.writing))
 
-pub returns-in_err-inner-in-Container-clause-stripped : goal.returns-in_err-inner-in-Container-clause-stripped
-returns-in_err-inner-in-Container-clause-stripped c = λ form t is.
-    let p = err_from_is_err_and c.from_residual-in_err-inner-in-Container.result c.from_residual-in_err-inner-in-Container.ensures.1 in
-    first_content form _ _ _ _ _ _ _ _ c.in-Some.entry (λ es w a b. rw c.in-Some.is at (c.in_ok-entry.ensures.reads es w a b))
-    (c.walk.invariant.left form t is) (ap kind_number c.in-Container.is)
-    (λ u content. rw (p.1, p.2) (c.in_err-inner-in-Container.ensures.begun form u content))
+pub returns-in_err-open-in-Some-clause-stripped : goal.returns-in_err-open-in-Some-clause-stripped
+returns-in_err-open-in-Some-clause-stripped c = λ form t h.
+    let e = err_from_is_err_and c.from_residual-in_err-open-in-Some.result c.from_residual-in_err-open-in-Some.ensures.1 in
+    let s = c.walk.invariant form t h in
+    let found = rw c.in-Some.is at (c.in_ok-container.ensures.put form s.begun.trees s.outside (strip t) s.begun.holds s.begun.writing) in
+    rw (e.1, e.2) (c.in_err-open-in-Some.ensures.entered form found.0 (stripped c.walk.left.is_object found.1) s.outside (strip t) found.2 found.4)
 
-pub walk-smaller-in-Container-1 : goal.walk-smaller-in-Container-1
-walk-smaller-in-Container-1 c =
-    let read = rw c.in-Some.is at c.in_ok-entry.ensures.shorter in
-    omega (arith, rooms-pushed _ _ _ c.in_ok-push-in-Container.ensures.items, read.0, read.1, c.in_ok-inner-in-Container.ensures.room)
+pub walk-smaller-in-Some : goal.walk-smaller-in-Some
+walk-smaller-in-Some c =
+    let read = rw c.in-Some.is at c.in_ok-container.ensures.room in
+    let inner = c.in_ok-open-in-Some.ensures.room in
+    omega (arith, rooms-pushed _ _ _ c.in_ok-push-in-Some.ensures.items, read, inner)
 
-pub walk-preserved-in-Container-1 : goal.walk-preserved-in-Container-1
-walk-preserved-in-Container-1 c = record {
-  left = λ form t is.
-      entry_entered form _ _ _ _ _ _ _ _ c.in-Some.entry (λ es w a b. rw c.in-Some.is at (c.in_ok-entry.ensures.reads es w a b))
-      (c.walk.invariant.left form t is) _ _ _ _ _ _ _ _ refl refl refl refl refl c.in_ok-push-in-Container.ensures.items (ap kind_number c.in-Container.is)
-      (λ u content. c.in_ok-inner-in-Container.ensures.begun form u content);
-}
+pub walk-preserved-in-Some : goal.walk-preserved-in-Some
+walk-preserved-in-Some c = λ form t h.
+    let s = c.walk.invariant form t h in
+    let found = rw c.in-Some.is at (c.in_ok-container.ensures.put form s.begun.trees s.outside (strip t) s.begun.holds s.begun.writing) in
+    record {
+      outside = (c.in_ok-open-in-Some.open, stripped c.walk.left.is_object found.1) ∷ s.outside;
+      are_left = pushed_outer form _ _ _ s.outside found.1 c.in_ok-push-in-Some.ensures.items found.3 s.are_left;
+      begun = c.in_ok-open-in-Some.ensures.entered form found.0 (stripped c.walk.left.is_object found.1) s.outside (strip t) found.2 found.4;
+    }
 
-pub walk-preserved-then-inner : goal.walk-preserved-then-inner
-walk-preserved-then-inner c = record {
-  left = λ form t is.
-      entry_skipped form _ _ _ _ _ _ _ _ c.in-Some.entry (λ es w a b. rw c.in-Some.is at (c.in_ok-entry.ensures.reads es w a b))
-      (c.walk.invariant.left form t is) (null_out _ _ c.if-inner.true (ap kind_number c.in-Null.is));
-}
+pub returns-in_default-clause-stripped : goal.returns-in_default-clause-stripped
+returns-in_default-clause-stripped c = λ form t h.
+    let s = c.walk.invariant form t h in
+    let done = rw c.in-None.is at (c.in_ok-container.ensures.put form s.begun.trees s.outside (strip t) s.begun.holds s.begun.writing) in
+    let none = none_outside form c.walk.around.items s.outside
+    (no_items c.walk.around.items (omega (arith, c.in_default.ensures.cases.0, c.walk.around.ok.0))) s.are_left in
+    only_ok (λ (made : Vec ℕ Global). Decodes form made.items (strip t)) (IsOutOfMemoryOrTooLarge form (strip t)) c.finish.result
+    (c.finish.ensures.written form (strip t) (subst (λ (os : Around). IsWriting form c.put_scalars.new.writer [] os (strip t)) none done))
 
-pub walk-preserved-in_default : goal.walk-preserved-in_default
-walk-preserved-in_default c = record {
-  left = λ form t is.
-      elim c.in_default.branch [
-        | in_default-via-in-Null+else-inner w ↦
-            entry_copied form _ _ _ _ _ _ _ _ c.in-Some.entry (λ es u a b. rw c.in-Some.is at (c.in_ok-entry.ensures.reads es u a b))
-            (c.walk.invariant.left form t is) _ _ (array_stays c.walk.inner.is_object (kind_number c.in-Some.entry.kind) w.if-inner.false)
-            (λ k. omega (arith, k, ap kind_number w.in-Null.is)) (omega (arith, c.walk.out.ok.0)) refl
-            c.in_ok-extend_from_slice-in_default.ensures.items
-        | in_default-via-in_default w ↦
-            entry_copied form _ _ _ _ _ _ _ _ c.in-Some.entry (λ es u a b. rw c.in-Some.is at (c.in_ok-entry.ensures.reads es u a b))
-            (c.walk.invariant.left form t is) _ _ (other_stays c.walk.inner.is_object (kind_number c.in-Some.entry.kind)
-            (λ z. w.in_default.not-Null (one_kind _ Null z)))
-            (λ k. w.in_default.not-Container (one_kind _ Container k))
-            (omega (arith, c.walk.out.ok.0)) refl
-            c.in_ok-extend_from_slice-in_default.ensures.items
-      ];
-}
-
-pub returns-in_default-pop-clause-stripped : goal.returns-in_default-pop-clause-stripped
-returns-in_default-pop-clause-stripped c = λ form t is.
-    all_done form _ _ _ _ _ _ _ _ (λ es w a b. rw c.in-None.is at (c.in_ok-entry.ensures.reads es w a b)) (c.walk.invariant.left form t is)
-    (no_items c.walk.around.items (omega (arith, c.in_default-pop.ensures.cases.0, c.walk.around.ok.0)))
-
-pub returns-in_err-set_container_word-in-None-clause-stripped : goal.returns-in_err-set_container_word-in-None-clause-stripped
-returns-in_err-set_container_word-in-None-clause-stripped c = λ form t is.
-    word_place form _ _ _ _ _ _ _ _ (λ es w a b. rw c.in-None.is at (c.in_ok-entry.ensures.reads es w a b))
-    (c.walk.invariant.left form t is) _ _ c.in-Some-pop.ensures.items
-    (λ front old between content joined four at from short. absurd
-    (c.in_err-set_container_word-in-None.ensures.set front old between content joined four at from short))
+pub returns-in_err-leave-in-None-clause-stripped : goal.returns-in_err-leave-in-None-clause-stripped
+returns-in_err-leave-in-None-clause-stripped c = λ form t h.
+    let e = err_from_is_err_and c.from_residual-in_err-leave-in-None.result c.from_residual-in_err-leave-in-None.ensures.1 in
+    let s = c.walk.invariant form t h in
+    let done = rw c.in-None.is at (c.in_ok-container.ensures.put form s.begun.trees s.outside (strip t) s.begun.holds s.begun.writing) in
+    let p = popped_outer form _ _ c.in-Some-pop.outer s.outside c.in-Some-pop.ensures.items s.are_left in
+    let closed = subst (λ (os : Around). IsWriting form c.put_scalars.new.writer [] os (strip t)) p.outside_is done in
+    rw (e.1, e.2) (c.in_err-leave-in-None.ensures.left form (stripped c.in-Some-pop.outer.left.is_object p.trees) p.rest (strip t) closed)
 
 pub walk-smaller : goal.walk-smaller
 walk-smaller c = omega (arith, rooms-pushed _ _ _ c.in-Some-pop.ensures.items)
 
 pub walk-preserved : goal.walk-preserved
-walk-preserved c = record {
-  left = λ form t is.
-      one_done form _ _ _ _ _ _ _ _ (λ es w a b. rw c.in-None.is at (c.in_ok-entry.ensures.reads es w a b))
-      (c.walk.invariant.left form t is) _ _ _ _ c.in-Some-pop.ensures.items (omega (arith, c.walk.out.ok.0)) refl
-      (λ front old between content joined four at from short. c.in_ok-set_container_word-in-None.ensures.set front old between content joined four at from
-      short);
-}
+walk-preserved c = λ form t h.
+    let s = c.walk.invariant form t h in
+    let done = rw c.in-None.is at (c.in_ok-container.ensures.put form s.begun.trees s.outside (strip t) s.begun.holds s.begun.writing) in
+    let p = popped_outer form _ _ c.in-Some-pop.outer s.outside c.in-Some-pop.ensures.items s.are_left in
+    let closed = subst (λ (os : Around). IsWriting form c.put_scalars.new.writer [] os (strip t)) p.outside_is done in
+    record {
+      outside = p.rest;
+      are_left = p.are_left;
+      begun = record {
+        trees = p.trees;
+        holds = p.holds;
+        writing = c.in_ok-leave-in-None.ensures.left form (stripped c.in-Some-pop.outer.left.is_object p.trees) p.rest (strip t) closed;
+      };
+    }

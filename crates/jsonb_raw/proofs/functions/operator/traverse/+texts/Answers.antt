@@ -7,23 +7,23 @@ use Rattle.jsonb_raw.proofs.functions.operator.traverse.+texts.Goals as goal
 
 -- ---- items
 
-pub item_tells-returns-in_err-told-clause-told : goal.item_tells-returns-in_err-told-clause-told
-item_tells-returns-in_err-told-clause-told g t c = λ form tree stands.
+pub any_text_in_item-returns-in_err-told-clause-told : goal.any_text_in_item-returns-in_err-told-clause-told
+any_text_in_item-returns-in_err-told-clause-told g t c = λ form tree stands.
     let l = c.loop-told.invariant.left form tree stands in
     absurd (c.in_err-told.ensures.told form l.0 l.1)
 
-pub item_tells-returns-then-told-clause-told : goal.item_tells-returns-then-told-clause-told
-item_tells-returns-then-told-clause-told g t c = λ form tree stands.
+pub any_text_in_item-returns-then-told-clause-told : goal.any_text_in_item-returns-then-told-clause-told
+any_text_in_item-returns-then-told-clause-told g t c = λ form tree stands.
     let l = c.loop-told.invariant.left form tree stands in
     l.2 true (rw c.if-told.true at (c.in_ok-told.ensures.told form l.0 l.1))
 
-pub item_tells-returns-in_default-clause-told : goal.item_tells-returns-in_default-clause-told
-item_tells-returns-in_default-clause-told g t c = λ form tree stands.
+pub any_text_in_item-returns-in_default-clause-told : goal.any_text_in_item-returns-in_default-clause-told
+any_text_in_item-returns-in_default-clause-told g t c = λ form tree stands.
     let l = c.loop-told.invariant.left form tree stands in
     l.2 false (rw (c.if-told.false, c.in_default.is) at (c.in_ok-told.ensures.told form l.0 l.1))
 
-pub item_tells-loop-told-preserved : goal.item_tells-loop-told-preserved
-item_tells-loop-told-preserved g t c = record {
+pub any_text_in_item-loop-told-preserved : goal.any_text_in_item-loop-told-preserved
+any_text_in_item-loop-told-preserved g t c = record {
   shorter = let size = rw c.in-Some.is at c.in_ok-told.ensures.less in omega (arith, size, c.loop-told.invariant.shorter);
   left = λ form tree stands.
       let l = c.loop-told.invariant.left form tree stands in
@@ -31,35 +31,35 @@ item_tells-loop-told-preserved g t c = record {
       (m.0, m.1, λ b k. l.2 b (m.2 b k));
 }
 
-pub part_tells-returns-in-String-clause-told : goal.part_tells-returns-in-String-clause-told
-part_tells-returns-in-String-clause-told g t c = λ form tree stands.
+pub search_item_but_largest-returns-in-String-clause-told : goal.search_item_but_largest-returns-in-String-clause-told
+search_item_but_largest-returns-in-String-clause-told g t c = λ form tree stands.
     let is = rw c.in-String.is at stands in
     let told : FnReturnsAt g.F.Fn c.args.func.now c.in-String.text.now c.func.result = record
     { shown = c.as_bytes.result; shows = c.as_bytes.ensures.value; says = record { met = c.func.ensures } } in
     rw (is, c.of.ensures.answer, c.of.ensures.all) (leaves_told g.F.Fn c.args.func.now form [] (c.in-String.text.now ∷ []) c.func.result
     (told_alone g.F.Fn c.args.func.now _ c.func.result told))
 
-pub part_tells-returns-in-Array-clause-told : goal.part_tells-returns-in-Array-clause-told
-part_tells-returns-in-Array-clause-told g t c = λ form tree stands.
+pub search_item_but_largest-returns-in-Array-clause-told : goal.search_item_but_largest-returns-in-Array-clause-told
+search_item_but_largest-returns-in-Array-clause-told g t c = λ form tree stands.
     let (ts, is, d) = rw c.in-Array.is at stands in
     rw is (c.array_tells.ensures.told form ts d)
 
-pub part_tells-returns-in-Object-clause-told : goal.part_tells-returns-in-Object-clause-told
-part_tells-returns-in-Object-clause-told g t c = λ form tree stands.
+pub search_item_but_largest-returns-in-Object-clause-told : goal.search_item_but_largest-returns-in-Object-clause-told
+search_item_but_largest-returns-in-Object-clause-told g t c = λ form tree stands.
     let (ps, is, d) = rw c.in-Object.is at stands in
     rw is (c.object_tells.ensures.told form ps d)
 
 -- ---- entries
 
-pub entry_tells-returns-then-is_text-clause-told : goal.entry_tells-returns-then-is_text-clause-told
-entry_tells-returns-then-is_text-clause-told g t c = λ form tree stored.
+pub any_text_in_entry-returns-then-is_text-clause-told : goal.any_text_in_entry-returns-then-is_text-clause-told
+any_text_in_entry-returns-then-is_text-clause-told g t c = λ form tree stored.
     let is = text_stored form c.args.entry.now tree stored (sym c.is_text.ensures ∙ c.if-is_text.true) in
     let told : FnReturnsAt g.F.Fn c.args.func.now c.args.entry.now.content.now c.func.result = record
     { shown = c.args.entry.now.content; shows = refl; says = record { met = c.func.ensures } } in
     rw is (told_alone g.F.Fn c.args.func.now _ c.func.result told)
 
-pub entry_tells-returns-then-not-is_container-clause-told : goal.entry_tells-returns-then-not-is_container-clause-told
-entry_tells-returns-then-not-is_container-clause-told g t c = λ form tree stored.
+pub any_text_in_entry-returns-then-not-is_container-clause-told : goal.any_text_in_entry-returns-then-not-is_container-clause-told
+any_text_in_entry-returns-then-not-is_container-clause-told g t c = λ form tree stored.
     let none = no_texts form c.args.entry.now tree stored (sym c.is_text.ensures ∙ c.if-is_text.false)
     (sym c.is_container.ensures ∙ c.if-not-is_container.true) in
     rw none (told_none g.F.Fn c.args.func.now)
@@ -94,7 +94,7 @@ array_tells-loop-entry-preserved g t c = record {
         trees = rest;
         left = left;
         fact = leaves_after g.F.Fn c.args.func.now form (texts_of_trees ts) _ (texts first) (texts_of_trees rest)
-            (rw c.if-branch.false at (c.in_ok-entry_tells.ensures.told form first stored)) fact;
+            (rw c.if-branch.false at (c.in_ok-any_text_in_entry.ensures.told form first stored)) fact;
       });
 }
 
@@ -102,23 +102,23 @@ pub array_tells-returns-in_err-entry-clause-told : goal.array_tells-returns-in_e
 array_tells-returns-in_err-entry-clause-told g t c = λ form ts d.
     SomeEntries-error form _ _ _ _ _ c.in_err-entry.was c.in-Some.ensures.steps (c.loop-entry.invariant.left form ts d)
 
-pub array_tells-returns-in_err-entry_tells-clause-told : goal.array_tells-returns-in_err-entry_tells-clause-told
-array_tells-returns-in_err-entry_tells-clause-told g t c = λ form ts d.
+pub array_tells-returns-in_err-any_text_in_entry-clause-told : goal.array_tells-returns-in_err-any_text_in_entry-clause-told
+array_tells-returns-in_err-any_text_in_entry-clause-told g t c = λ form ts d.
     SomeEntries-first form _ _ _ _ _ c.in_ok-entry.was c.in-Some.ensures.steps (c.loop-entry.invariant.left form ts d)
-    (λ first rest left stored fact. absurd (c.in_err-entry_tells.ensures.told form first stored))
+    (λ first rest left stored fact. absurd (c.in_err-any_text_in_entry.ensures.told form first stored))
 
 pub array_tells-returns-then-branch-clause-told : goal.array_tells-returns-then-branch-clause-told
 array_tells-returns-then-branch-clause-told g t c = λ form ts d.
     SomeEntries-first form _ _ _ _ _ c.in_ok-entry.was c.in-Some.ensures.steps (c.loop-entry.invariant.left form ts d)
     (λ first rest left stored fact. rw c.of.ensures.answer (fact.found
-    (told_first g.F.Fn c.args.func.now (texts first) (texts_of_trees rest) (rw c.if-branch.true at (c.in_ok-entry_tells.ensures.told form first stored)))))
+    (told_first g.F.Fn c.args.func.now (texts first) (texts_of_trees rest) (rw c.if-branch.true at (c.in_ok-any_text_in_entry.ensures.told form first stored)))))
 
 pub array_tells-returns-clause-told : goal.array_tells-returns-clause-told
 array_tells-returns-clause-told g t c = λ form ts d.
     (SomeEntries-none form _ _ _ c.in-None.ensures.steps (c.loop-entry.invariant.left form ts d)).rest (told_none g.F.Fn c.args.func.now)
 
-pub array_tells-loop-entry-preserved-then-is_beyond : goal.array_tells-loop-entry-preserved-then-is_beyond
-array_tells-loop-entry-preserved-then-is_beyond g t c =
+pub array_tells-loop-entry-preserved-then-is_container_longer_than : goal.array_tells-loop-entry-preserved-then-is_container_longer_than
+array_tells-loop-entry-preserved-then-is_container_longer_than g t c =
     let none : c.loop-entry.large ≡ None = search rules in
     let size = rw c.in_ok-entry.was at c.in-Some.ensures.steps.size in
     record {
@@ -158,10 +158,10 @@ pub object_tells-returns-in_err-key-clause-told : goal.object_tells-returns-in_e
 object_tells-returns-in_err-key-clause-told g t c = λ form ps d.
     SomePairEntries-error form _ _ _ _ _ c.in_err-key.was c.in-Some.ensures.steps (c.loop-pair.invariant.left form ps d)
 
-pub object_tells-returns-in_err-entry_tells-clause-told : goal.object_tells-returns-in_err-entry_tells-clause-told
-object_tells-returns-in_err-entry_tells-clause-told g t c = λ form ps d.
+pub object_tells-returns-in_err-any_text_in_entry-clause-told : goal.object_tells-returns-in_err-any_text_in_entry-clause-told
+object_tells-returns-in_err-any_text_in_entry-clause-told g t c = λ form ps d.
     SomePairEntries-first form _ _ _ _ _ c.in_ok-key.was c.in-Some.ensures.steps (c.loop-pair.invariant.left form ps d)
-    (λ value rest left stored fact. absurd (c.in_err-entry_tells.ensures.told form value stored))
+    (λ value rest left stored fact. absurd (c.in_err-any_text_in_entry.ensures.told form value stored))
 
 pub object_tells-returns-then-func-clause-told : goal.object_tells-returns-then-func-clause-told
 object_tells-returns-then-func-clause-told g t c = λ form ps d.
@@ -178,7 +178,7 @@ object_tells-returns-then-branch-clause-told g t c = λ form ps d.
     let told : FnReturnsAt g.F.Fn c.args.func.now c.in_ok-key.key.now false = record
     { shown = c.in_ok-key.key; shows = refl; says = record { met = rw c.if-func.false at c.func.ensures } } in
     rw c.of-then-branch.ensures.answer (fact.found (told_after g.F.Fn c.args.func.now c.in_ok-key.key.now (texts value ++ texts_of_pairs rest) told true
-    (told_first g.F.Fn c.args.func.now (texts value) (texts_of_pairs rest) (rw c.if-branch.true at (c.in_ok-entry_tells.ensures.told form value stored))))))
+    (told_first g.F.Fn c.args.func.now (texts value) (texts_of_pairs rest) (rw c.if-branch.true at (c.in_ok-any_text_in_entry.ensures.told form value stored))))))
 
 pub object_tells-loop-pair-preserved : goal.object_tells-loop-pair-preserved
 object_tells-loop-pair-preserved g t c = record {
@@ -196,13 +196,13 @@ object_tells-loop-pair-preserved g t c = record {
         pairs = rest;
         left = left;
         fact = leaves_after g.F.Fn c.args.func.now form (texts_of_pairs ps) _ (texts value) (texts_of_pairs rest)
-            (rw c.if-branch.false at (c.in_ok-entry_tells.ensures.told form value stored))
+            (rw c.if-branch.false at (c.in_ok-any_text_in_entry.ensures.told form value stored))
             (leaves_after g.F.Fn c.args.func.now form (texts_of_pairs ps) _ (c.in_ok-key.key.now ∷ []) (texts value ++ texts_of_pairs rest) none fact);
       });
 }
 
-pub object_tells-loop-pair-preserved-then-is_beyond : goal.object_tells-loop-pair-preserved-then-is_beyond
-object_tells-loop-pair-preserved-then-is_beyond g t c =
+pub object_tells-loop-pair-preserved-then-is_container_longer_than : goal.object_tells-loop-pair-preserved-then-is_container_longer_than
+object_tells-loop-pair-preserved-then-is_container_longer_than g t c =
     let none : c.loop-pair.large ≡ None = search rules in
     let size = rw c.in_ok-key.was at c.in-Some.ensures.steps.size in
     record {

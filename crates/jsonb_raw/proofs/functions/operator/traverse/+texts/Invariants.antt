@@ -10,25 +10,25 @@ use Rattle.jsonb_raw.proofs.TextLemmas.{Leaves}
 use Rattle.jsonb_raw.proofs.EntriesLeft.{SomeEntries, SomePairEntries}
 use Rattle.jsonb_raw.proofs.functions.operator.traverse.+texts.Given as goal
 
-abbrev pub decreases-item_tells : goal.decreases-item_tells
-decreases-item_tells g l = 4 * item_size l.item.now + 2
+abbrev pub decreases-any_text_in_item : goal.decreases-any_text_in_item
+decreases-any_text_in_item g l = 4 * item_size l.item.now + 2
 
-abbrev pub decreases-part_tells : goal.decreases-part_tells
-decreases-part_tells g l = 4 * item_size l.item.now + 1
+abbrev pub decreases-search_item_but_largest : goal.decreases-search_item_but_largest
+decreases-search_item_but_largest g l = 4 * item_size l.item.now + 1
 
 -- the item that is left decides the whole
-abbrev pub invariant-item_tells-loop-told : goal.invariant-item_tells-loop-told
-invariant-item_tells-loop-told g l = record {
+abbrev pub invariant-any_text_in_item-loop-told : goal.invariant-any_text_in_item-loop-told
+invariant-any_text_in_item-loop-told g l = record {
   shorter : item_size l.left ≤ item_size l.fn.item;
   left : (form : Form) (tree : Tree) → StandsFor form l.fn.item tree
       → (t : Tree) × StandsFor form l.left t × ((b : Bool) → Tells g.F.Fn l.fn.func (texts t) b → Tells g.F.Fn l.fn.func (texts tree) b);
 }
 
-abbrev pub decreases-item_tells-loop-told : goal.decreases-item_tells-loop-told
-decreases-item_tells-loop-told g l = item_size l.left
+abbrev pub decreases-any_text_in_item-loop-told : goal.decreases-any_text_in_item-loop-told
+decreases-any_text_in_item-loop-told g l = item_size l.left
 
-abbrev pub decreases-entry_tells : goal.decreases-entry_tells
-decreases-entry_tells g l = 4 * length l.entry.now.content.now + 3
+abbrev pub decreases-any_text_in_entry : goal.decreases-any_text_in_entry
+decreases-any_text_in_entry g l = 4 * length l.entry.now.content.now + 3
 
 abbrev pub decreases-array_tells : goal.decreases-array_tells
 decreases-array_tells g l = 4 * length l.bytes.now
@@ -36,7 +36,7 @@ decreases-array_tells g l = 4 * length l.bytes.now
 abbrev pub decreases-object_tells : goal.decreases-object_tells
 decreases-object_tells g l = 4 * length l.bytes.now
 
--- each call so far answered false, so what is left decides
+-- each call so far returned false, so what is left decides
 abbrev pub invariant-array_tells-loop-entry : goal.invariant-array_tells-loop-entry
 invariant-array_tells-loop-entry g l = record {
   can : (goal.iterator-array_tells-loop-entry g).can_next l.entry-iterator;

@@ -1,4 +1,5 @@
-use Rattle.std.proofs.Common.{take, add-one}
+use Rattle.std.proofs.Common.{take}
+use Rattle.jsonb_raw.proofs.ChildAnswers.{drop_one_more}
 use Rattle.jsonb_raw.proofs.functions.path.child.array_without_element.Goals as goal
 
 pub returns-in_err-front-clause-deleted : goal.returns-in_err-front-clause-deleted
@@ -6,5 +7,5 @@ returns-in_err-front-clause-deleted c = λ form ts h. absurd (c.in_err-front.ens
 
 pub returns-clause-deleted : goal.returns-clause-deleted
 returns-clause-deleted c = λ form ts h.
-    let parts = rw add-one at (c.in_ok-front.ensures.around form ts h) in
+    let parts = rw drop_one_more at (c.in_ok-front.ensures.around form ts h) in
     c.array_of_both.ensures.array form (take c.args.position ts) _ parts.0 parts.1

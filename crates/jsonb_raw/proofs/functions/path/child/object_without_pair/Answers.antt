@@ -1,5 +1,6 @@
-use Rattle.std.proofs.Common.{add-one}
 use Rattle.std.specs.List.{remove}
+use Rattle.jsonb_doc.proofs.BuilderSteps.{keys_rise}
+use Rattle.jsonb_raw.proofs.ChildAnswers.{drop_one_more}
 use Rattle.jsonb_raw.proofs.JoinedEntries.{two_runs}
 use Rattle.jsonb_raw.proofs.NamedPairs.{names_around, values_around}
 use Rattle.jsonb_raw.proofs.functions.path.child.object_without_pair.Goals as goal
@@ -12,8 +13,8 @@ returns-in_err-values-clause-deleted c = λ form ps h are. absurd (c.in_err-valu
 
 pub returns-clause-deleted : goal.returns-clause-deleted
 returns-clause-deleted c = λ form ps h are.
-    let k = rw add-one at (c.in_ok-keys.ensures.around form _ h.names) in
-    let v = rw add-one at (c.in_ok-values.ensures.around form _ h.parts) in
-    c.object_of.ensures.object form (remove ps c.args.position) are
+    let k = rw drop_one_more at (c.in_ok-keys.ensures.around form _ h.names) in
+    let v = rw drop_one_more at (c.in_ok-values.ensures.around form _ h.parts) in
+    c.object_of.ensures.object form (remove ps c.args.position) (keys_rise _ are)
     (rw (names_around c.args.position ps) (two_runs form _ _ _ _ k.0 k.1))
     (rw (values_around c.args.position ps) (two_runs form _ _ _ _ v.0 v.1))

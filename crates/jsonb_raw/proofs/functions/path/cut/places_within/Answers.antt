@@ -1,5 +1,6 @@
 use Rattle.std.proofs.Common.{arith, inl, inr}
-use Rattle.jsonb_raw.proofs.CutWalks.{drop_number, none_behind, next_child, walked_on, walked_whole}
+use Rattle.jsonb_raw.proofs.CutWalks.{drop_number, next_child, walked_on, walked_whole}
+use Rattle.jsonb_raw.proofs.Lists.{none_behind}
 use Rattle.jsonb_raw.proofs.functions.path.cut.places_within.Goals as goal
 
 pub returns-in_default-clause-places : goal.returns-in_default-clause-places

@@ -6,7 +6,7 @@ use Rattle.jsonb_raw.specs.Places.{tree_at}
 use Rattle.jsonb_raw.proofs.CutWalks.{WalkedInto}
 use Rattle.jsonb_raw.proofs.functions.path.cut.places_within.Given as goal
 
--- places that lead on from here lead, behind those so far, from the whole
+-- places that lead on from here lead, after those so far, from the whole
 abbrev pub invariant-loop-position : goal.invariant-loop-position
 invariant-loop-position l = (form : Form) (t end : Tree) (last : ℕ) → IsContent (number_reader form) t container_entry l.container
     → tree_at (l.positions ++ last ∷ []) t ≡ Some end

@@ -1,7 +1,8 @@
 use Rattle.std.proofs.Common.{ap, arith, inl, inr, refl, length}
 use Rattle.std.proofs.lemmas.List.Edits.{length-between}
 use Rattle.std.proofs.lemmas.Result.{err_from_is_err_and}
-use Rattle.jsonb_raw.proofs.CutWalks.{drop_first, next_front, fronts_on}
+use Rattle.jsonb_raw.proofs.CutWalks.{next_front, fronts_on}
+use Rattle.jsonb_raw.proofs.Lists.{drop_first}
 use Rattle.jsonb_raw.proofs.functions.path.cut.push_fronts.Goals as goal
 
 pub returns-in_err-push_front-clause-pushed : goal.returns-in_err-push_front-clause-pushed

@@ -8,7 +8,7 @@ use Rattle.jsonb_doc.specs.ObjectKeys.{HasKeysLeft}
 use Rattle.jsonb_raw.proofs.PositionLemmas.{position_behind}
 use Rattle.jsonb_raw.proofs.functions.path.delete.key_position.Given as goal
 
--- the position is that among the keys that are left, behind those that were passed
+-- the position is that among the keys that are left, after those that were passed
 abbrev pub invariant-loop-key : goal.invariant-loop-key
 invariant-loop-key l = record {
   bound : l.passed + goal.iterator-loop-key.remaining l.key-iterator ≤ goal.iterator-loop-key.remaining l.initial.key-iterator;

@@ -9,7 +9,7 @@ use Rattle.jsonb_raw.specs.Places.{location}
 use Rattle.jsonb_raw.proofs.MetLemmas.{Walked}
 use Rattle.jsonb_raw.proofs.functions.path.delete.place_met.Given as goal
 
--- what the steps that are left meet in the tree at the spot comes behind the positions so far
+-- what the steps that are left select in the tree at the spot comes after the positions so far
 abbrev pub invariant-loop-step : goal.invariant-loop-step
 invariant-loop-step g l = record {
   can : (goal.iterator-loop-step g).can_next l.step-iterator;

@@ -9,5 +9,5 @@ returns-then-not-is_container-clause-leaf c = λ form t stored.
 
 pub returns-clause-leaf : goal.returns-clause-leaf
 returns-clause-leaf c = λ form t stored.
-    c.container_entered.ensures.leaf form t
+    c.descend_into_container.ensures.leaf form t
     (stored_container form c.args.entry.now t stored (sym c.is_container.ensures ∙ c.if-not-is_container.false))

@@ -12,7 +12,7 @@ walk-init g c = record {
   left = λ form t stands.
       let entered = rw c.in-Some.is at (c.in_ok-first.ensures.leaf form t stands) in
       parts_left form _ _ _ (parts t) [] entered.1 (rw c.new-around.ensures.items tt)
-      (walk_begun (IsKept (g.P.LeafPart.IsOf form)) c.args.ignore_array _ _ t c.new-found.ensures.items c.new-steps.ensures.items
+      (walk_begun (IsKept (g.P.LeafOutput.IsOf form)) c.args.ignore_array _ _ t c.new-found.ensures.items c.new-steps.ensures.items
       (item_leaves form c.args.item.now c.args.ignore_array t stands entered.0));
 }
 
@@ -43,7 +43,7 @@ walk-preserved-in-Some-3 g c = record {
       (λ part rest others keyed is left around fact.
       let entered = rw c.in-Some-3.is at (c.in_ok-inner-in-Some-2.ensures.leaf form part.1 is) in
       parts_left form _ _ _ (parts part.1) (rest ∷ others) entered.1 (pushed_around form _ _ _ rest others c.in_ok-push-in-Some-3.ensures.items left around)
-      (part_entered (IsKept (g.P.LeafPart.IsOf form)) c.args.ignore_array _ _ _ _ part rest others _ fact entered.0
+      (part_entered (IsKept (g.P.LeafOutput.IsOf form)) c.args.ignore_array _ _ _ _ part rest others _ fact entered.0
       (c.in_ok-key-in-Some-2.ensures.name part.0 keyed)
       (entry_leaves form _ c.args.ignore_array part.1 is entered.0) c.in_ok-push-in-Some-3-2.ensures.items));
 }
@@ -53,8 +53,8 @@ returns-in_err-push_leaf-in-None-2-clause-leaves g c = λ form t stands.
     let p = err_from_is_err_and c.from_residual-in_err-push_leaf-in-None-2.result c.from_residual-in_err-push_leaf-in-None-2.ensures.1 in
     SomeParts-first form _ _ _ _ _ _ (λ ps h. rw c.in-Some-2.is at (c.in_ok-name.ensures.takes form ps h)) (c.walk.invariant.left form t stands)
     (λ part rest others keyed is left around fact.
-    rw (p.1, p.2) (inr (leaf_of_whole (IsKept (g.P.LeafPart.IsOf form)) c.args.ignore_array
-    (λ leaf. g.P.LeafPart.IsRefusalOf form leaf.1 c.in_err-push_leaf-in-None-2.field-0.0) _ _ _ _ part rest others _ fact
+    rw (p.1, p.2) (inr (leaf_of_whole (IsKept (g.P.LeafOutput.IsOf form)) c.args.ignore_array
+    (λ leaf. g.P.LeafOutput.IsRefusalOf form leaf.1 c.in_err-push_leaf-in-None-2.field-0.0) _ _ _ _ part rest others _ fact
     (rw c.in-None-2.is at (c.in_ok-inner-in-Some-2.ensures.leaf form part.1 is)) (c.in_ok-key-in-Some-2.ensures.name part.0 keyed)
     (c.in_err-push_leaf-in-None-2.ensures.leaf form part.1 is))))
 
@@ -69,7 +69,7 @@ walk-preserved-in-None-2 g c = record {
       (λ part rest others keyed is left around fact.
       let more = c.in_ok-push_leaf-in-None-2.ensures.leaf form part.1 is in
       parts_left form _ _ _ rest others left around
-      (leaf_found (IsKept (g.P.LeafPart.IsOf form)) c.args.ignore_array _ _ _ _ _ part rest others _
+      (leaf_found (IsKept (g.P.LeafOutput.IsOf form)) c.args.ignore_array _ _ _ _ _ part rest others _
       (c.in_ok-path-in-None-2.path, more.part) fact
       (rw c.in-None-2.is at
       (c.in_ok-inner-in-Some-2.ensures.leaf form part.1 is)) (c.in_ok-key-in-Some-2.ensures.name part.0 keyed)
@@ -92,11 +92,11 @@ walk-preserved g c =
           popped_around form _ _ _ others c.in-Some-pop.ensures.items around
           (λ here more same left outside. parts_left form _ _ _ here more left outside
           (rw (popped.0, popped.1)
-          (level_done (IsKept (g.P.LeafPart.IsOf form)) c.args.ignore_array _ _ h.front h.last c.walk.index here others more _ same h.joined fact))));
+          (level_done (IsKept (g.P.LeafOutput.IsOf form)) c.args.ignore_array _ _ h.front h.last c.walk.index here others more _ same h.joined fact))));
     }
 
 pub returns-in-None-pop-clause-leaves : goal.returns-in-None-pop-clause-leaves
 returns-in-None-pop-clause-leaves g c = λ form t stands.
     SomeParts-none form _ _ _ _ (λ ps h. rw c.in-None.is at (c.in_ok-name.ensures.takes form ps h)) (c.walk.invariant.left form t stands)
-    (λ others around fact. walk_done (IsKept (g.P.LeafPart.IsOf form)) c.args.ignore_array _ _ c.walk.index others _
+    (λ others around fact. walk_done (IsKept (g.P.LeafOutput.IsOf form)) c.args.ignore_array _ _ c.walk.index others _
     (no_items c.walk.steps.items (omega (arith, c.walk.invariant.as_many, c.in-None-pop.ensures.cases.0, c.walk.around.ok.0))) fact)

@@ -15,7 +15,7 @@ invariant-walk g l = record {
   as_many : length l.steps.items ≡ length l.around.items;
   left : (form : Form) (t : Tree) → StandsFor form l.fn.item t
       → SomeParts form l.level l.around.items
-      (λ here others. LeavesToward (IsKept (g.P.LeafPart.IsOf form)) l.fn.ignore_array l.found.items l.steps.items l.index here others
+      (λ here others. LeavesToward (IsKept (g.P.LeafOutput.IsOf form)) l.fn.ignore_array l.found.items l.steps.items l.index here others
       (leaves l.fn.ignore_array t));
 }
 

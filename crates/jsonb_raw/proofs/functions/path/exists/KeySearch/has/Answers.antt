@@ -12,24 +12,24 @@ returns-in-Equal-clause-has c = λ form ks h.
     let n = rw c.loop-entry.invariant.ahead at c.in-Some.ensures.steps in
     cursor_meets form ks c.loop-entry.self.near c.next.new.self
     (c.loop-entry.invariant.search form ks h).near c.in-Some.entry c.in_ok-key.field-0 c.in_ok-key.was n c.args.name.now c.loop-entry.invariant.passed
-    (sym c.cmp.ensures ∙ c.in-Equal.is)
+    (sym c.bytes_cmp.ensures ∙ c.in-Equal.is)
 
 pub returns-in-Greater-clause-has : goal.returns-in-Greater-clause-has
 returns-in-Greater-clause-has c = λ form ks h.
     let n = rw c.loop-entry.invariant.ahead at c.in-Some.ensures.steps in
     cursor_misses form ks c.loop-entry.self.near c.next.new.self
     (c.loop-entry.invariant.search form ks h).near c.in-Some.entry c.in_ok-key.field-0 c.in_ok-key.was n c.args.name.now c.loop-entry.invariant.passed
-    (sym c.cmp.ensures ∙ c.in-Greater.is)
+    (sym c.bytes_cmp.ensures ∙ c.in-Greater.is)
 
 pub loop-entry-preserved : goal.loop-entry-preserved
 loop-entry-preserved c = record {
-  ahead = rw c.go_on.ensures.near refl;
-  all = rw c.go_on.ensures.near refl;
-  passed = rw c.go_on.ensures.near (sym c.cmp.ensures ∙ c.in-Less.is);
+  ahead = rw c.advance_to.ensures.near refl;
+  all = rw c.advance_to.ensures.near refl;
+  passed = rw c.advance_to.ensures.near (sym c.bytes_cmp.ensures ∙ c.in-Less.is);
   search = λ form ks h.
       let s = c.loop-entry.invariant.search form ks h in
       let n = rw c.loop-entry.invariant.ahead at c.in-Some.ensures.steps in
-      c.go_on.ensures.search form ks s
+      c.advance_to.ensures.search form ks s
       (rw c.loop-entry.invariant.all (cursor_next form ks c.loop-entry.self.near c.next.new.self s.near c.in-Some.entry c.in_ok-key.field-0 c.in_ok-key.was n));
 }
 

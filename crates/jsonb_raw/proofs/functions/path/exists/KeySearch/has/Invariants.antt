@@ -4,7 +4,7 @@ use Rattle.jsonb_doc.specs.Private.Stored.{entries_bound}
 use Rattle.jsonb_raw.specs.Private.Cursors.{IsSearchOf, IsPassed}
 use Rattle.jsonb_raw.proofs.functions.path.exists.KeySearch.has.Given as goal
 
--- the cursor stands in front of what is looked at next, and the keys it has passed are below the name
+-- the cursor precedes what is looked at next, and the keys it has passed are below the name
 abbrev pub invariant-loop-entry : goal.invariant-loop-entry
 invariant-loop-entry l = record {
   ahead : l.ahead ≡ l.self.near.left;

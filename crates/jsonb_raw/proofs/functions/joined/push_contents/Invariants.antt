@@ -1,7 +1,0 @@
-use Rattle.std.proofs.Common.{◌≡◌, ◌++◌, drop}
-use Rattle.jsonb_raw.specs.Private.Entries.{contents_of_runs}
-use Rattle.jsonb_raw.proofs.functions.joined.push_contents.Given as goal
-
--- what is written, followed by what is left, is the whole
-abbrev pub invariant-loop-run : goal.invariant-loop-run
-invariant-loop-run l = l.document.items ++ contents_of_runs (drop l.run-index l.runs) ≡ l.fn.document.items ++ contents_of_runs l.fn.runs

@@ -1,0 +1,10 @@
+use Rattle.jsonb_doc.specs.Private.Stored.{entries_bound}
+use Rattle.jsonb_raw.specs.Private.Compared.{PassesOver}
+use Rattle.jsonb_raw.specs.Private.StartHints.{AreStarts}
+use Rattle.jsonb_raw.proofs.functions.operator.starts.StartHints.fill.Given as goal
+
+abbrev pub invariant-walk : goal.invariant-walk
+invariant-walk l = record { starts : AreStarts l.all l.self; rest : PassesOver l.all l.rest }
+
+abbrev pub decreases-walk : goal.decreases-walk
+decreases-walk l = entries_bound l.rest

@@ -1,0 +1,12 @@
+use Rattle.std.proofs.Common.{refl}
+use Rattle.jsonb_raw.specs.Private.Compared.{PassesOver}
+use Rattle.jsonb_raw.proofs.EntriesLeft.{passes_none}
+use Rattle.jsonb_raw.proofs.StartLemmas.{repeated_each}
+use Rattle.jsonb_raw.proofs.functions.operator.starts.StartHints.new.Goals as goal
+
+pub returns : goal.returns
+returns c = record {
+  left = passes_none c.args.all;
+  many = refl;
+  at = repeated_each (PassesOver c.args.all) c.args.all 32 (passes_none c.args.all);
+}

@@ -1,0 +1,20 @@
+use Rattle.std.proofs.Common.{◌≡◌, ◌≤◌}
+use Rattle.jsonb_doc.specs.Tree.{Pairs, keys, value_under}
+use Rattle.jsonb_doc.specs.Payload.{Form}
+use Rattle.jsonb_doc.specs.Private.Stored.{HasPairEntriesLeft, entries_bound, entries_room}
+use Rattle.jsonb_doc.proofs.BuilderSteps.{AreRising}
+use Rattle.jsonb_raw.specs.Private.PairSteps.{pairs_above}
+use Rattle.jsonb_raw.proofs.EntriesLeft.{SomePairEntries}
+use Rattle.jsonb_raw.proofs.functions.operator.step.advance_to_key.Given as goal
+
+-- the keys so far are below, so those that are left decide
+abbrev pub invariant-loop-pair : goal.invariant-loop-pair
+invariant-loop-pair l = record {
+  room : entries_room l.left.values ≤ entries_room l.fn.left.values;
+  left : (form : Form) (ps : Pairs) → HasPairEntriesLeft form l.fn.left ps
+      → SomePairEntries form l.left
+      (λ left. (value_under l.key left ≡ value_under l.key ps) × (pairs_above l.key left ≡ pairs_above l.key ps) × AreRising (keys left));
+}
+
+abbrev pub decreases-loop-pair : goal.decreases-loop-pair
+decreases-loop-pair l = entries_bound l.left.keys

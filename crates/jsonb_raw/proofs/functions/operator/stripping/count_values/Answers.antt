@@ -1,0 +1,37 @@
+use Rattle.std.proofs.Common.{true, arith, ap, length}
+use Rattle.jsonb_doc.specs.declared.layout.EntryKind.TheVariants.{Null}
+use Rattle.jsonb_doc.proofs.KindLemmas.{differing_kind, equal_kind}
+use Rattle.jsonb_raw.specs.Private.Stripping.{stripped}
+use Rattle.jsonb_raw.proofs.StripWalk.{words_of_run, word_taken, no_word_left, value_null, value_kept}
+use Rattle.jsonb_raw.proofs.functions.operator.stripping.count_values.Goals as goal
+
+pub loop-kind-init : goal.loop-kind-init
+loop-kind-init c = record {
+  bound = omega arith;
+  left = λ form ts h. record { trees = ts; holds = words_of_run form _ ts h; sum = omega arith };
+}
+
+pub loop-kind-preserved-then-ne : goal.loop-kind-preserved-then-ne
+loop-kind-preserved-then-ne c = record {
+  bound = let size = c.in-Some.ensures.size in let before = c.loop-kind.invariant.bound in omega (arith, size, before);
+  left = λ form ts h.
+      let i = c.loop-kind.invariant.left form ts h in
+      let f = word_taken form _ i.trees _ _ _ i.holds c.in-Some.ensures.word in
+      value_kept form _ _ _ i _ _ f (differing_kind _ c.in-Some.kind Null c.ne.ensures c.if-ne.true);
+}
+
+pub loop-kind-preserved : goal.loop-kind-preserved
+loop-kind-preserved c = record {
+  bound = let size = c.in-Some.ensures.size in let before = c.loop-kind.invariant.bound in omega (arith, size, before);
+  left = λ form ts h.
+      let i = c.loop-kind.invariant.left form ts h in
+      let f = word_taken form _ i.trees _ _ _ i.holds c.in-Some.ensures.word in
+      value_null form _ _ _ i _ _ f (equal_kind _ c.in-Some.kind Null c.ne.ensures c.if-ne.false);
+}
+
+pub returns : goal.returns
+returns c = λ form ts h.
+    let i = c.loop-kind.invariant.left form ts h in
+    let none = no_word_left form _ i.trees i.holds c.in_default.ensures.word in
+    let sum = i.sum in
+    omega (arith, sum, ap (λ us. length (stripped true us)) none)

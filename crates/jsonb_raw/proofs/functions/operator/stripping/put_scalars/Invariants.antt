@@ -1,0 +1,20 @@
+use Rattle.std.proofs.Common.{◌+◌, ◌≤◌, List, length}
+use Rattle.jsonb_doc.specs.Tree.{Tree}
+use Rattle.jsonb_doc.specs.Payload.{Form}
+use Rattle.jsonb_doc.specs.Private.Writer.{Around, IsWriting}
+use Rattle.jsonb_raw.specs.Private.Entries.{HoldTrees}
+use Rattle.jsonb_raw.specs.Private.Stripping.{stripped}
+use Rattle.jsonb_raw.proofs.StripWalk.{ScalarsOpen}
+use Rattle.jsonb_raw.proofs.functions.operator.stripping.put_scalars.Given as goal
+
+-- the values that are left come next, without nulls
+abbrev pub invariant-loop-entry : goal.invariant-loop-entry
+invariant-loop-entry l = record {
+  room : length l.rest.words.now + length l.rest.contents.now ≤ length l.left.entries.words.now + length l.left.entries.contents.now;
+  values : (form : Form) (ts : List Tree) (around : Around) (whole : Tree) → HoldTrees form l.left.entries ts
+      → IsWriting form l.fn.writer (stripped l.left.is_object ts) around whole
+      → ScalarsOpen form l.left.is_object l.writer l.run l.rest around whole;
+}
+
+abbrev pub decreases-loop-entry : goal.decreases-loop-entry
+decreases-loop-entry l = length l.rest.words.now

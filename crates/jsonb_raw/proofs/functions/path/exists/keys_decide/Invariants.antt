@@ -1,0 +1,18 @@
+use Rattle.std.proofs.Common.{◌≡◌, ℕ, List}
+use Rattle.jsonb_doc.specs.Tree.{Pairs, object, keys}
+use Rattle.jsonb_doc.specs.Payload.{Form}
+use Rattle.jsonb_doc.specs.Format.{AreKeys}
+use Rattle.jsonb_doc.specs.Private.Stored.{HasEntriesLeft, key_trees}
+use Rattle.jsonb_raw.specs.Private.Cursors.{IsTableOf, has_by}
+use Rattle.jsonb_raw.specs.Iterators.{YieldsItemsLeft}
+use Rattle.jsonb_raw.proofs.functions.path.exists.keys_decide.Given as goal
+
+-- the strings that are left decide
+abbrev pub invariant-loop-name : goal.invariant-loop-name
+invariant-loop-name g l = record {
+  can : (goal.iterator-loop-name g).can_next l.name-iterator;
+  finite : (goal.iterator-loop-name g).is_finite l.name-iterator;
+  left : (left : _ → List (List ℕ)) → YieldsItemsLeft (goal.iterator-loop-name g).next_gives left → (form : Form) (ps : Pairs)
+      → AreKeys (keys ps) → HasEntriesLeft form l.keys (key_trees (keys ps))
+      → IsTableOf form l.table (keys ps) × (has_by l.found (left l.name-iterator) (object ps) ≡ has_by l.found (left l.fn.names) (object ps));
+}

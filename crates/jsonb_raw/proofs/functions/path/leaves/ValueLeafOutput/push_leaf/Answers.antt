@@ -1,0 +1,18 @@
+use Rattle.std.proofs.Common.{◌≡◌, sym, ap, ◌∙◌, rules}
+use Rattle.std.proofs.lemmas.Result.{MatchResult-weaker}
+use Rattle.jsonb_doc.specs.Tree.{null}
+use Rattle.jsonb_doc.specs.Payload.{number_reader}
+use Rattle.jsonb_doc.specs.Kinds.{kind_number}
+use Rattle.jsonb_doc.specs.Value.{value_tree, value_parts}
+use Rattle.jsonb_doc.specs.declared.value.Value.{Null, the_lemmas}
+use Rattle.jsonb_doc.proofs.ScalarLemmas.{null_content}
+use Rattle.jsonb_raw.proofs.functions.path.leaves.ValueLeafOutput.push_leaf.Goals as goal
+
+pub returns-in-Null-clause-leaf : goal.returns-in-Null-clause-leaf
+returns-in-Null-clause-leaf c = λ form t stored.
+    let entry = c.args.entry.now in
+    let same = sym (null_content (number_reader form) (kind_number entry.kind) entry.content.now t (ap kind_number c.in-Null.is) stored.content) in
+    let tree : value_tree Null ≡ null = search (rules, the_lemmas) in
+    let with_parts : value_parts Null ≡ null = search (rules, the_lemmas) in
+    MatchResult-weaker c.push_part.result c.push_part.ensures
+    (λ _ pushed. record { part = Null; pushed = pushed; is = (tree ∙ same, with_parts ∙ same) }) (λ e refused. refused)

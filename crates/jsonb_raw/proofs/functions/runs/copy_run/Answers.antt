@@ -1,0 +1,21 @@
+use Rattle.std.proofs.Common.{◌++◌, List, ap, sym, subst, length, ◌∙◌}
+use Rattle.jsonb_doc.specs.Tree.{Tree}
+use Rattle.jsonb_doc.specs.Private.Writer.{IsWriting}
+use Rattle.jsonb_raw.proofs.PushSteps.{zero_of}
+use Rattle.jsonb_raw.proofs.RunLemmas.{holding_none, holding_one}
+use Rattle.jsonb_raw.proofs.functions.runs.copy_run.Goals as goal
+
+pub returns-in_default-clause-copied : goal.returns-in_default-clause-copied
+returns-in_default-clause-copied c = λ form xs ys coming around whole h w.
+    absurd (rw c.in_default.is at (c.entries_before.ensures h.run_words h.run_contents h.words_joined h.contents_joined))
+
+pub returns-then-is_empty-clause-copied : goal.returns-then-is_empty-clause-copied
+returns-then-is_empty-clause-copied c = λ form xs ys coming around whole h w.
+    let piece = rw c.in-Some.is at (c.entries_before.ensures h.run_words h.run_contents h.words_joined h.contents_joined) in
+    let none = holding_none form _ _ _ xs ys h (ap length (sym piece.0) ∙ zero_of _ c.if-is_empty.ensures) in
+    subst (λ (us : List Tree). IsWriting form c.args.writer.now (us ++ coming) around whole) none w
+
+pub returns-clause-copied : goal.returns-clause-copied
+returns-clause-copied c = λ form xs ys coming around whole h w.
+    let piece = rw c.in-Some.is at (c.entries_before.ensures h.run_words h.run_contents h.words_joined h.contents_joined) in
+    c.in_ok-copy.ensures.copied form xs coming around whole (holding_one form _ _ xs ys h c.in-Some.piece piece.0 piece.1) w

@@ -1,9 +1,0 @@
-use Rattle.std.proofs.Common.{◌++◌, ap₂, arith}
-use Rattle.std.specs.Int.{to_le_bytes, w64}
-use Rattle.jsonb_raw.proofs.PackedDigits.{packed_behind}
-use Rattle.jsonb_raw.proofs.packed.Packed.behind.Goals as goal
-
-pub returns-clause-bytes : goal.returns-clause-bytes
-returns-clause-bytes c =
-    packed_behind c.args.self.len c.args.byte _ (to_le_bytes w64 c.args.self.first ++ to_le_bytes w64 c.args.self.second) (omega arith)
-    (ap₂ (λ xs ys. xs ++ ys) c.word_behind.ensures c.word_behind-2.ensures)
