@@ -1,4 +1,5 @@
--- A walk over the items below an item: what is given, and then what each level has left, the innermost first, is the whole.
+-- A walk over the items below an item: what is given, and then what each level has left, the innermost first, is the
+-- whole.
 use Rattle.std.proofs.Common.{◌≡◌, ℕ, ◌+◌, ◌^◌, ◌<◌, ◌≤◌, min, List, [], ◌∷◌, ◌++◌, flat_map, length, Option, Some, None, inl, inr, refl, sym, ap, subst, ◌∙◌, arith, append_assoc, append-nil}
 use Rattle.std.specs.Prelude.{reverse}
 use Rattle.std.proofs.lemmas.List.{reverse-append}
@@ -30,8 +31,8 @@ HaveLeft bytes [] [] = Unit {0}
 HaveLeft bytes (within ∷ os) (r ∷ rs) = HasLeft bytes within r.0 r.1 × HaveLeft bytes os rs
 HaveLeft bytes _ _ = ⊥
 
--- what is given, and what is left at the innermost level, which has this depth, and at those around it, which a `Vec` holds with the innermost last, is
--- the whole
+-- Holds if what is given, and what is left at the innermost level, which has this depth, and at those around it, which
+-- a `Vec` holds with the innermost last, is the whole.
 pub record Walking (bytes : List ℕ) (levels : Option Levels) (Left : List Tree → Type 0) (depth : ℕ) (around : List OpenLevel) (nodes : List Spot)
     (whole : List Tree) : Type 0 where
   pub here : List Tree
@@ -268,7 +269,7 @@ weight within = weight_of (spots_bound within.children) (spots_room within.child
 abbrev pub weights : List OpenLevel → ℕ
 weights os = weight_of_all weight os
 
--- the measure of a walk falls where an item is entered, where it is passed, and where a level is done
+-- the measure of a walk decreases if an item is entered, if it is passed, and if a level is done
 pub falls_within : (within within' inner : OpenLevel) (around around' : List OpenLevel) (size : ℕ) → size ≤ spots_room within.children
     → spots_room within'.children ≤ spots_room within.children → spots_bound within'.children < spots_bound within.children
     → spots_room inner.children < size → spots_bound inner.children < 2 ^ 64 → KeepsLevel around within' around'

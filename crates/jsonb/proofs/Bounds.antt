@@ -29,7 +29,7 @@ agree-first : {A B : Type 0} (k : ℕ) (rule rule' : Rule A) (next : A → Rule 
     Agree k (rule >>= next) (rule' >>= next)
 agree-first k rule rule' next same input short = rw (same input short) refl
 
--- what stands behind a byte is shorter
+-- what follows a byte is shorter
 agree-behind : {B : Type 0} (k : ℕ) (c : ℕ) (cs : List ℕ) (next other : Rule B) → Agree k next other →
     Agree (suc k) (bytes (c ∷ cs) >> next) (bytes (c ∷ cs) >> other)
 agree-behind k c cs next other same [] short = refl

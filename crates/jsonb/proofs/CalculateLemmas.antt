@@ -20,12 +20,12 @@ use Rattle.jsonb.specs.Values.{Value, number}
 use Rattle.jsonb.specs.declared.selector.document.Mode.{Mode}
 use Rattle.jsonb.proofs.GivesLemmas.{AllZip-append}
 
--- what is never refused for want of memory
+-- what never fails for lack of memory
 pub as_memory : {A B : Type 0} {R : A → B → Type 0} {r : Outcome A} {o : Outcome B} → Gives R (λ _. ⊥) r o → Gives R IsOutOfMemory r o
 as_memory {r = Ok x} h = record { ok = h.ok; err = tt }
 as_memory {r = Err e} h = record { ok = tt; err = inr (elim h.err [ inl none ↦ absurd none | inr is ↦ is ]) }
 
--- ---- a result of arithmetic is a number as a tree has it, where every zero is one number
+-- ---- a result of arithmetic is a number as in a tree, in which every zero is one number
 
 abbrev pub IsNormal : Number → Type 0
 IsNormal r = number_from r.variant r.whole r.scale ≡ r
@@ -54,7 +54,7 @@ calculated_normal o m n =
     chosen (op.is_decimal m.variant || op.is_decimal n.variant) (Err (Arithmetic DecimalOperand)) (on_integers o m.whole n.whole) tt
     (on_integers_normal o m.whole n.whole)
 
--- arithmetic is refused by an arithmetic fault alone
+-- arithmetic fails by an arithmetic fault alone
 module _ (mode : Mode) where
   one_of : (b : Bool) (o p : Outcome Number) → IfErr o (IsPathError mode) → IfErr p (IsPathError mode) → IfErr (if b then o else p) (IsPathError mode)
   one_of true o p h k = h
@@ -87,7 +87,7 @@ module _ (mode : Mode) where
   pub calculation_refused : (o : Operation) (m n : Number) (r : Outcome CodeNumber) → IsResultOf (calculated o m n) r → IfErr r (IsPathError mode)
   calculation_refused o m n r is = refused_so (calculated o m n) r is (calculated_refused o m n)
 
-  -- a path's refusal is one of a selection
+  -- a path's error is one of a selection
   pub refused_as_path : {A : Type 0} (r : Outcome A) → IfErr r (IsPathError mode) → IfErr r (IsSelectionError mode)
   refused_as_path (Ok x) h = tt
   refused_as_path (Err e) h = inr h
@@ -112,9 +112,9 @@ pub two_given : (o : Operation) (ls rs : List Value) (m n : CodeNumber) (r : Out
     → IsResultOf (calculated o (number_view m) (number_view n)) r → Gives IsNumberTree (λ _. ⊥) r (two_numbers o ls rs)
 two_given o ls rs m n r p q is = rw (two_are o ls rs _ _ p q) (outcome_given _ r (calculated_normal o (number_view m) (number_view n)) is)
 
--- ---- values behind a sign
+-- ---- values after a sign
 
--- a value that is no number is refused
+-- a value that is not a number fails
 pub other_refused : (vs : List Value) → are_numbers vs ≡ false → all_numbers vs ≡ Err InvalidJsonPath
 other_refused [] h = cc
 other_refused (number n ∷ rest) h = ap (λ o. and_then o (λ ns. Ok (n ∷ ns))) (other_refused rest h)

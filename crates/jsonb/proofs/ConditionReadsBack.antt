@@ -1,4 +1,4 @@
--- Printed expressions and steps, read with anything behind them that may stand there.
+-- Printed expressions and steps, read with anything after them that may be there.
 use Rattle.std.proofs.Common.{◌≡◌, ℕ, zero, suc, ◌<◌, ◌≤◌, List, [], ◌∷◌, ◌++◌, length, Bool, true, false, Some, None, refl, sym, ◌∙◌, ap, subst, arith, append_assoc, length-append}
 use Rattle.std.specs.Prelude.{◌==◌, ◌||◌, codes, MatchBool}
 use Rattle.std.proofs.lemmas.Bool.Decides.{nat_tests}
@@ -80,7 +80,7 @@ or-single : (nested : Bool → Rule Expression) (f : Bool) (input : List ℕ) (e
 or-single nested f input e rest r h = or-joined nested f input (e ∷ []) rest (list-single (and_with nested f)
     (literal "||") input e rest r h)
 
--- ---- what stands behind
+-- ---- what follows
 
 abbrev pub is_close : ℕ → Bool
 is_close b = b == 41
@@ -113,7 +113,7 @@ no_or-close rest h = rw (no_space-close rest h) (go rest h) where
   go [] h = refl
   go (b ∷ rest) h = let other : (124 == b) ≡ false = grind (arith, nat_tests) in rw other refl
 
--- ---- the texts, bracketed to the right
+-- ---- the text, bracketed to the right
 
 abbrev pub side : Expression → List ℕ
 side e = side_text e (expression_text e)
@@ -227,11 +227,11 @@ single-condition e j atom (suc n) f rest is h short =
 
 -- ---- two atoms
 
--- what stands behind the left side
+-- what follows the left side
 abbrev behind_left : BinaryOp → Expression → List ℕ → List ℕ
 behind_left op right rest = 32 ∷ operator_text op ++ (32 ∷ side right ++ rest)
 
--- the left side is read up to the operator, and the right one behind it
+-- the left side is read up to the operator, and the right one after it
 sides_read : (op : BinaryOp) (left right : Expression) → AtomReads left → AtomReads right → (n : ℕ) (f : Bool) (rest : List ℕ) →
     IsCondition f left → IsCondition f right → front is_close rest ≡ true → length (expression_text (binary op left right) ++ rest) < suc n →
     ReadsTo (atom_with (nested_or n) f) (side left ++ behind_left op right rest) (settled left) (behind_left op right rest)
@@ -412,7 +412,7 @@ step_start_is_step_end b h = grind (arith, nat_tests)
 close_is_step_end : (b : ℕ) → is_close b ≡ true → is_step_end b ≡ true
 close_is_step_end b h = grind (arith, nat_tests)
 
--- behind a step stands another one, or what ends the steps
+-- after a step is another one, or what ends the steps
 front-steps : (ss : Steps) (rest : List ℕ) → ArePathSteps ss → front is_close rest ≡ true → front is_step_end (steps_text ss ++ rest) ≡ true
 front-steps no_steps rest are h = front-implies is_close is_step_end close_is_step_end rest h
 front-steps (step s ss) rest are h =

@@ -1,4 +1,4 @@
--- From the documents that are made of a selection to what a call hands out.
+-- From the documents that are made of a selection to what a call returns.
 use Rattle.std.proofs.Common.{◌≡◌, List, Option, Some, None, Result, Ok, Err, ◌⊎◌, inl, inr, subst, sym, IsOkAnd}
 use Rattle.std.specs.Prelude.{IsSomeAnd}
 use Rattle.jsonb_doc.specs.Answer.{Outcome, Gives, IsOutOfMemory, ◌or◌when◌, SameOption}
@@ -43,12 +43,12 @@ pub handed_by : {A C D : Type 0} {Q : C → D → Type 0} {R : A → D → Type 
 handed_by IsPastLimits {o = Ok x} h go = go x h.ok
 handed_by IsPastLimits {o = Err e} h go = absurd h.ok
 
--- the path is refused, or memory was while it ran
+-- the path fails, or an allocation failed during its evaluation
 pub handed_refused : {A C D : Type 0} {Q : C → D → Type 0} (R : A → D → Type 0) (IsPastLimits : D → Type 0) {e : Error} {o : Outcome D}
     → Gives Q IsOutOfMemory (Err e) o → Gives R (IsOutOfMemory or TooLarge when IsOkAnd o IsPastLimits) (Err e) o
 handed_refused R IsPastLimits h = record { ok = tt; err = elim h.err [ inl memory ↦ inl (inl memory) | inr is ↦ inr is ] }
 
--- the same of an equal answer
+-- likewise for an equal result
 pub handed_same : {A B : Type 0} (R : A → B → Type 0) (IsPastLimits : B → Type 0) {r s : Outcome A} {o : Outcome B} → s ≡ r
     → Gives R (IsOutOfMemory or TooLarge when IsOkAnd o IsPastLimits) r o → Gives R (IsOutOfMemory or TooLarge when IsOkAnd o IsPastLimits) s o
 handed_same R IsPastLimits {o = o} is h = subst (λ z. Gives R (IsOutOfMemory or TooLarge when IsOkAnd o IsPastLimits) z o) (sym is) h

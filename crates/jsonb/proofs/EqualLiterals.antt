@@ -1,4 +1,4 @@
--- Literals are equal by `==` exactly where they are equal by value.
+-- Literals are equal by `==` if and only if they are equal by value.
 use Rattle.std.proofs.Common.{◌≡◌, ℕ, List, Bool, true, false, Some, refl}
 use Rattle.std.specs.Bool.{Decides}
 use Rattle.std.specs.Cmp.{Equal-is}

@@ -15,7 +15,7 @@ use Rattle.jsonb.specs.declared.selector.document.Expressions.TheVariants.{AreRe
 use Rattle.jsonb.specs.declared.selector.document.Mode.{Mode}
 use Rattle.jsonb.proofs.StepLemmas.{joined_one, refused_steps}
 
--- what is said of the items that were found
+-- the result for the items that were found
 abbrev met : List Tree → Outcome Truth
 met ts = Ok (Some (is_some_item ts))
 

@@ -45,7 +45,7 @@ join-ends : (op : BinaryOp) (separator : Rule (Unit {0})) (member : Rule Express
 join-ends op separator member e input none =
     rw (repeat-ends (separator >> member) input (rw none refl)) refl
 
--- a separator, with what stands behind it
+-- a separator, with what follows it
 join-next : (op : BinaryOp) (separator : Rule (Unit {0})) (member : Rule Expression) → ReadsSome (separator >> member) →
     (j : Joined) (after : List ℕ) → separator j.before.now ≡ Some (tt, after) →
     joined_behind op (separator >> member) (Some j) (member after) ≡ joined_from op (separator >> member) (Some (expression_view j.left.value, j.before.now))
@@ -140,7 +140,7 @@ partial-ends l e input none none' =
     sym (or-here l e input none
     ∙ join-ends or_op (spaced (literal "||")) (and_with expression l.is_in_filter) (joined_view or_op l.any (joined_view and_op l.all e)) input none')
 
--- ---- where a list may have ended
+-- ---- ends of lists
 
 -- what begins with one byte begins with no other
 one_front : (b c : ℕ) (front other input : List ℕ) (u : Unit {0}) (rest : List ℕ) → nat_eq b c ≡ false →
@@ -161,7 +161,7 @@ filter-unclosed input after e = go (bytes (63 ∷ []) (past is_space input)) ref
 
 -- ---- what fails
 
--- what an expression had, where no condition follows
+-- what an expression had, if no condition follows
 pub partial-ended-all : (l : PartialExpr) (j : Joined) → l.all ≡ Some j → spaced (literal "||") j.before.now ≡ None →
     partial_outcome l None ≡ Some (joined_view or_op l.any (expression_view j.left.value), j.before.now)
 unfolding partial_outcome
@@ -255,7 +255,7 @@ pub without_bound : (front front' : List Step) (input input' : List ℕ) →
 without_bound front front' input input' same = subst (λ (rule : Rule Step). behind front (repeat rule input) ≡ behind front' (repeat rule input'))
     path_step-is same
 
--- a filter, where no plain step stands
+-- a filter, if there is no plain step
 pub step-is_filter : (input inside : List ℕ) → spaced_inner input ≡ None → filter_front input ≡ Some (tt, inside) →
     path_with expression input ≡ filter_step (expression true inside)
 unfolding path_with filter_with filter_front ws
@@ -304,7 +304,7 @@ steps-end steps input none front = loop-ends (path_with expression) steps input 
 
 -- ---- the front of a path
 
--- the root alone, and the steps behind it
+-- the root alone, and the steps after it
 pub root-begins : (input : List ℕ) (s : Step) (rest : List ℕ) → Some (s, rest) ≡ path_root false input →
     behind (s ∷ []) (repeat path_step rest) ≡ plain_path input
 unfolding path_root plain_path front_steps first_step

@@ -1,4 +1,4 @@
--- Answers that give meanings: what a part's answer says of the whole.
+-- Results that refine meanings: what the result for a part says of the whole.
 use Rattle.std.proofs.Common.{◌≡◌, List, [], ◌∷◌, ◌++◌, Option, Some, None, option_map, Result, Ok, Err, OnOk, IfErr, IsOkAnd, refl, inl, inr, subst, sym, ap, append-nil, length, map, rules}
 use Rattle.std.specs.Prelude.{not, ◌==◌}
 use Rattle.jsonb_doc.specs.Answer.{Outcome, and_then, Gives, SameOption, IsOutOfMemory}
@@ -38,7 +38,7 @@ related_of_map {A} f xs ys is = subst (λ l. AllZip (Is f) xs l) is (each xs)
     each [] = tt
     each (x ∷ l) = (refl, each l)
 
--- ---- what is pushed behind a nodes
+-- ---- what is pushed after a list of nodes
 
 pub pushed_all : {A B : Type 0} (R : A → B → Type 0) (r : Result (Unit {0}) Error) (old new more : List A) (before us : List B) →
     OnOk r (new ≡ old ++ more) → IfErr r IsOutOfMemory → AllZip R old before → AllZip R more us →
@@ -59,7 +59,7 @@ pub unchanged : {A B : Type 0} (R : A → B → Type 0) (xs : List A) (before : 
     Gives {A = Unit {0}} (λ _ ts. AllZip R xs (before ++ ts)) IsOutOfMemory (Ok tt) (Ok [])
 unchanged R xs before a = record { ok = subst (λ l. AllZip R xs l) (sym (append-nil before)) a; err = tt }
 
--- a step that doesn't fit gives nothing, or is refused
+-- a step that doesn't fit yields nothing, or fails
 pub mismatches : {A : Type 0} (mode : Mode) (R : A → Tree → Type 0) (xs : List A) (before : List Tree) → AllZip R xs before →
     Gives (λ _ ts. AllZip R xs (before ++ ts)) IsOutOfMemory (mismatch mode) (list_or mode [] None)
 mismatches Lax R xs before a = unchanged R xs before a
@@ -67,11 +67,11 @@ mismatches Strict R xs before a = record { ok = tt; err = inr refl }
 
 -- ---- two parts, one after the other
 
--- the same answer at an equal outcome
+-- the same result at an equal outcome
 pub same_outcome : {A B : Type 0} {R : A → B → Type 0} {r : Outcome A} {o p : Outcome B} → p ≡ o → Gives R IsOutOfMemory r o → Gives R IsOutOfMemory r p
 same_outcome {A} {B} {R} {r} e h = subst (λ z. Gives R IsOutOfMemory r z) (sym e) h
 
--- the same outcome of an equal answer
+-- the same outcome of an equal result
 pub same_answer : {A B : Type 0} {R : A → B → Type 0} {r s : Outcome A} {o : Outcome B} → s ≡ r → Gives R IsOutOfMemory r o → Gives R IsOutOfMemory s o
 same_answer {A} {B} {R} {r} {s} {o} e h = subst (λ z. Gives R IsOutOfMemory z o) (sym e) h
 
@@ -79,12 +79,12 @@ same_answer {A} {B} {R} {r} {s} {o} e h = subst (λ z. Gives R IsOutOfMemory z o
 pub one_given : {A B : Type 0} (R : A → List B → Type 0) (ts : List B) {x : A} → R x ts → Gives R IsOutOfMemory (Ok x) (Ok ts)
 one_given R ts h = record { ok = h; err = tt }
 
--- a refusal, whatever the values would be
+-- an error, whatever the values would be
 pub refused_as : {A B C : Type 0} {R : A → B → Type 0} {Q : C → B → Type 0} {e : Error} {o : Outcome B} → Gives R IsOutOfMemory (Err e) o
     → Gives Q IsOutOfMemory (Err e) o
 refused_as h = record { ok = tt; err = h.err }
 
--- a value is never a refusal
+-- a value is never an error
 pub only_memory : {A B C D : Type 0} {R : A → B → Type 0} {Q : C → D → Type 0} {e : Error} {x : B} {y : D} → Gives R IsOutOfMemory (Err e) (Ok x)
     → Gives Q IsOutOfMemory (Err e) (Ok y)
 only_memory h = record { ok = tt; err = elim h.err [ inl memory ↦ inl memory | inr is ↦ cc ] }
@@ -100,7 +100,7 @@ pub continued : {B C : Type 0} (P : B → Type 0) (o : Outcome B) (next : B → 
 continued P (Ok us) next h = (us, h, refl)
 continued P (Err e) next h = absurd h
 
--- a refusal of the first part is that of the whole
+-- an error of the first part is that of the whole
 pub first_refused : {A B C D : Type 0} {R : A → B → Type 0} {S : C → D → Type 0} {e : Error} {o : Outcome B} (next : B → Outcome D) →
     Gives R IsOutOfMemory (Err e) o → Gives S IsOutOfMemory (Err e) (and_then o next)
 first_refused {e = e} {o = o} next h = record {
@@ -115,7 +115,7 @@ first_of_three_refused {e = e} {o = o} next last h = record {
   err = elim h.err [ inl memory ↦ inl memory | inr is ↦ inr (ap (λ v. and_then (and_then v next) last) is) ];
 }
 
--- a value of the first part, and the answer of what follows
+-- a value of the first part, and the result of what follows
 pub followed : {A B C D : Type 0} {R : A → B → Type 0} {S : C → D → Type 0} {x : A} {r : Outcome C} {o : Outcome B} (next : B → Outcome D) →
     Gives R IsOutOfMemory (Ok x) o → ((a : B) → R x a → Gives S IsOutOfMemory r (next a)) → Gives S IsOutOfMemory r (and_then o next)
 followed {R = R} {S = S} {x = x} {r = r} {o = o} next h go = with_ok (R x) (λ w. Gives S IsOutOfMemory r w) o next h.ok go

@@ -11,7 +11,7 @@ use Rattle.jsonb.specs.PathGrammar.{place, entry, levels, field, entries, spaced
 use Rattle.jsonb.specs.PathText.{path_text}
 use Rattle.jsonb_doc.proofs.Tables.{AreRows}
 
--- the steps of the text, where it is a path; `unfolding read` opens all that it takes
+-- the steps of the text, if it is a path; `unfolding read` opens all that it takes
 read : List ℕ → Option (List Step)
 unfolding json_path plain_path path_step front_steps first_step root_expression expression nested_or or_with and_with atom_with exists_with group_with
     path_with filter_with binary_atom unary_atom unary_operator operator arithmetic_operator spaced_operand operand literal_value path_root spaced_inner
@@ -19,7 +19,7 @@ unfolding json_path plain_path path_step front_steps first_step root_expression 
     four_hex_digits natural natural_below sign integer integer_within ws repeat up_to is_utf8 chars encode
 read input = json_path input
 
--- what the path prints, where the text is one; `unfolding printed` opens all that it takes
+-- what the path prints, if the text is one; `unfolding printed` opens all that it takes
 printed : List ℕ → Option (List ℕ)
 unfolding read digits
 printed input = option_map path_text (read input)

@@ -321,7 +321,7 @@ sign-minus : (rest : List ℕ) → sign (45 ∷ rest) ≡ Some (true, rest)
 unfolding sign
 sign-minus rest = refl
 
--- the digits of a number are what is left behind its sign
+-- the digits of a number are what is left after its sign
 behind_sign : (input : List ℕ) (s : SignedNumber input) (negative : Bool) (after : List ℕ) → sign input ≡ Some (negative, after) →
     natural after ≡ Some (s.n, s.rest)
 behind_sign input s negative after e =
@@ -370,7 +370,7 @@ YieldsWhere {A} G P rule = (input : List ℕ) → G input → (a : A) (rest : Li
 where-any : {A : Type 0} (G : List ℕ → Type 0) (P : A → Type 0) (rule : Rule A) → Yields P rule → YieldsWhere G P rule
 where-any G P rule h input g = h input
 
--- the second rule counts only where the first fails
+-- the second rule counts only if the first fails
 where-choice : {A : Type 0} (G : List ℕ → Type 0) (P : A → Type 0) (first second : Rule A) → YieldsWhere G P first → YieldsWhere
     (λ input. G input × (first input ≡ None)) P second → YieldsWhere G P (first </> second)
 where-choice G P first second h k input g a rest e = inside_choice (P a) first second input a rest e (λ r. h input g a rest r)

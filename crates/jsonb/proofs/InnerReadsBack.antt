@@ -1,4 +1,4 @@
--- Printed steps without expressions, read with anything behind them that may stand there.
+-- Printed steps without expressions, read with anything after them that may be there.
 use Rattle.std.proofs.Common.{◌≡◌, ℕ, zero, suc, ◌+◌, ◌<◌, ◌^◌, List, [], ◌∷◌, ◌++◌, length, Bool, true, false, not, Option, Some, None, refl, ◌∙◌, ap, arith, append_assoc, length-append, cond, drop}
 use Rattle.std.proofs.lemmas.List.{append-nil}
 use Rattle.std.specs.Prelude.{ℤ, pos, negsuc, nat_lt, ◌==◌, ◌&&◌, ◌||◌, flat_map, codes, if◌then◌else◌}
@@ -29,7 +29,7 @@ past-cons p b xs = go (p b) where
   go true = grind (arith, common_steps)
   go false = refl
 
--- what is left behind white space does not begin with more of it
+-- what is left after white space does not begin with more of it
 pub past-stops : (test : ℕ → Bool) (input : List ℕ) → stops test (past test input) ≡ true
 past-stops test [] = refl
 past-stops test (b ∷ rest) = go (past-stops test rest) (test b) refl where
@@ -54,11 +54,11 @@ spaced-none rule input e = rw e refl
 
 -- ---- places in an array
 
--- what stands behind a place: a comma, a bracket, or the space before `to`
+-- what follows a place: a comma, a bracket, or the space before `to`
 abbrev pub is_place_end : ℕ → Bool
 is_place_end b = b == 44 || b == 93 || b == 32
 
--- behind a place, and no sign behind white space
+-- after a place, and no sign after white space
 abbrev pub IsBehindPlace : List ℕ → Type 0
 IsBehindPlace rest = (front is_place_end rest ≡ true) × (begins is_sign (past is_space rest) ≡ false)
 
@@ -85,7 +85,7 @@ literal_plus-none : (input : List ℕ) → begins is_sign input ≡ false → li
 literal_plus-none [] h = refl
 literal_plus-none (b ∷ rest) h = let other : (43 == b) ≡ false = grind (arith, nat_tests) in rw other refl
 
--- behind `last`, where no sign stands
+-- after `last`, if there is no sign
 last-alone : (rest : List ℕ) → IsBehindPlace rest → place (codes "last" ++ rest) ≡ Some (from_last (pos 0), rest)
 unfolding place ws
 last-alone rest h =
@@ -134,7 +134,7 @@ place-text (from_last (negsuc n)) rest is h = go (n == 2147483647) refl where
 
 -- ---- entries
 
--- what has to stand behind an entry
+-- what has to follow an entry
 record IsBehindEntry (rest : List ℕ) : Type 0 where
   place : IsBehindPlace rest
   no_to : keyword "to" rest ≡ None
@@ -309,7 +309,7 @@ optional_levels-text (Some l) rest are h = rw (levels-shown l.start l.end rest a
 
 -- ---- steps
 
--- what may stand behind a step: another step, a space, or a parenthesis
+-- what may follow a step: another step, a space, or a parenthesis
 abbrev pub is_step_end : ℕ → Bool
 is_step_end b = b == 46 || b == 58 || b == 91 || b == 63 || b == 32 || b == 41
 
@@ -343,7 +343,7 @@ field-text text rest is h = go (is_plain_name text) refl where
       ) refl
   go false plain = rw (plain, quoted-quoted_text text rest is.0 is.1) refl
 
--- a point and no star behind it
+-- a point without a star after it
 no_star : (input : List ℕ) → begins (λ b. b == 42) input ≡ false → wildcard (46 ∷ input) ≡ None
 unfolding wildcard
 no_star [] h = refl
@@ -368,7 +368,7 @@ begins-name text rest = go (is_plain_name text) refl where
 place_start_is_no_star : (b : ℕ) → is_place_start b ≡ true → (b == 42) ≡ false
 place_start_is_no_star b h = grind (arith, nat_tests)
 
--- a bracket and no star behind it
+-- a bracket without a star after it
 no_star_in_brackets : (input : List ℕ) → stops is_space input ≡ true → begins (λ b. b == 42) input ≡ false → wildcard (91 ∷ input) ≡ None
 unfolding wildcard ws
 no_star_in_brackets [] h e = refl

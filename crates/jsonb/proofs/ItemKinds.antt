@@ -1,32 +1,34 @@
--- What the kind of an item says of its tree.
-use Rattle.std.proofs.Common.{◌≡◌, ℕ, List, flat_map, Some, None, refl, ap}
-use Rattle.std.specs.Borrow.{Bor}
+-- What the type of an item says of its tree.
+use Rattle.std.proofs.Common.{◌≡◌, List, ℕ, flat_map, Option, Some, None, Result, Ok, Err, IsOkAnd, refl, ap}
+use Rattle.jsonb_doc.specs.Answer.{SameOption}
+use Rattle.jsonb_doc.specs.Spots.{HasSpotsLeft}
 use Rattle.jsonb_doc.specs.Tree as tree
-use Rattle.jsonb_doc.specs.Tree.{Tree, children_of}
-use Rattle.jsonb_doc.specs.Payload.{any}
-use Rattle.jsonb_doc.specs.Item.{StandsFor}
-use Rattle.jsonb_doc.specs.declared.item.Item.{Item}
-use Rattle.jsonb_doc.specs.declared.item.Item.TheVariants.{Array, Object}
+use Rattle.jsonb_doc.specs.Tree.{Tree}
+use Rattle.jsonb_doc.specs.declared.error.Error.{Error}
+use Rattle.jsonb_doc.specs.declared.spot_iter.SpotIter.{SpotIter}
 use Rattle.jsonb_raw.specs.Arrays.{array_values}
 use Rattle.jsonb.specs.ItemSteps.{values_of}
 use Rattle.jsonb.specs.Values.{values_of_item, value_of_item}
 
--- the elements of an array are its children, and so are the values of an object
-pub array_children : (item : Item) (bytes : Bor (List ℕ)) (t : Tree) → item ≡ Array bytes → StandsFor any item t → children_of t ≡ array_values t
-array_children item bytes t is h = let s = rw is at h in rw s.1 refl
+-- the elements of an array, and the values of an object, as lists
+module _ (bytes : List ℕ) where
+  pub elements_listed : (t : Tree) (r : Result (Option SpotIter) Error)
+      → IsOkAnd r (λ found. SameOption (λ it ts. HasSpotsLeft bytes it (tree.elements ts)) found (tree.trees_in t))
+      → IsOkAnd r (λ found. SameOption (HasSpotsLeft bytes) found (array_values t))
+  elements_listed t (Err e) h = absurd h
+  elements_listed (tree.array ts) (Ok (Some it)) h = h
+  elements_listed (tree.array ts) (Ok None) h = absurd h
+  elements_listed _ (Ok (Some it)) h = absurd h
+  elements_listed _ (Ok None) h = tt
 
-pub object_children : (item : Item) (bytes : Bor (List ℕ)) (t : Tree) → item ≡ Object bytes → StandsFor any item t → children_of t ≡ values_of t
-object_children item bytes t is h = let s = rw is at h in rw s.1 refl
-
-pub no_elements : (item : Item) (t : Tree) → ((bytes : Bor (List ℕ)) → item ≡ Array bytes → ⊥) → StandsFor any item t → array_values t ≡ None
-no_elements (Array bytes) t n h = absurd (n bytes refl)
-no_elements (Object bytes) t n h = rw h.1 refl
-no_elements _ t n h = rw h refl
-
-pub no_values : (item : Item) (t : Tree) → ((bytes : Bor (List ℕ)) → item ≡ Object bytes → ⊥) → StandsFor any item t → values_of t ≡ None
-no_values (Array bytes) t n h = rw h.1 refl
-no_values (Object bytes) t n h = absurd (n bytes refl)
-no_values _ t n h = rw h refl
+  pub values_listed : (t : Tree) (r : Result (Option SpotIter) Error)
+      → IsOkAnd r (λ found. SameOption (λ it ps. HasSpotsLeft bytes it (tree.elements (tree.values ps))) found (tree.pairs_in t))
+      → IsOkAnd r (λ found. SameOption (HasSpotsLeft bytes) found (values_of t))
+  values_listed t (Err e) h = absurd h
+  values_listed (tree.object ps) (Ok (Some it)) h = h
+  values_listed (tree.object ps) (Ok None) h = absurd h
+  values_listed _ (Ok (Some it)) h = absurd h
+  values_listed _ (Ok None) h = tt
 
 -- the values of an array, and of another item
 pub values_of_array : (t : Tree) (ts : List Tree) → array_values t ≡ Some ts → values_of_item t ≡ flat_map value_of_item ts

@@ -46,7 +46,7 @@ module _ (mode : Mode) (top : Tree) where
       subst (λ x. IsSame mode top x e) p_is (subst (λ x. IsSame mode top q x) e_is a.0)
   same_part (q ∷ ps) (f ∷ fs) more e p (suc n) a d g = same_part ps fs more e p n a.1 d g
 
-  -- one more part, behind all that there are
+  -- one more part, after all existing
   pub one_part : (ps : List KeptPart) (all more : List Expression) (e : Expression) (p : KeptPart) → AreSame mode top ps all → (e ∷ more) ≡ drop (length ps) all
       → IsSame mode top p e → AreSame mode top (ps ++ p ∷ []) all
   one_part [] [] more e p a d s = cc
@@ -54,7 +54,7 @@ module _ (mode : Mode) (top : Tree) where
   one_part (q ∷ ps) [] more e p a d s = absurd a
   one_part (q ∷ ps) (f ∷ fs) more e p a d s = (a.0, one_part ps fs more e p a.1 d s)
 
--- the conditions behind the next one
+-- the conditions after the next one
 pub passed : {A : Type 0} (all more : List A) (e : A) (n : ℕ) → (e ∷ more) ≡ drop n all → more ≡ drop (n + 1) all
 passed {A} all more e n d = go all n d ∙ ap (λ m. drop m all) (sym (add-one n))
   where
@@ -64,7 +64,7 @@ passed {A} all more e n d = go all n d ∙ ap (λ m. drop m all) (sym (add-one n
     go (f ∷ fs) zero d = cc
     go (f ∷ fs) (suc n) d = go fs n d
 
--- no part stands there: the place is behind the last
+-- no part is there: the place is after the last
 pub at_last : (ps : List KeptPart) (n : ℕ) → slice_get ps n ≡ None → n ≤ length ps → n ≡ length ps
 at_last ps n none short = elim (slice_get_cases ps n).1 [
   | inl found ↦ cc
@@ -154,7 +154,7 @@ pub kept_same : (mode : Mode) (top : Tree) (k : Kept) (all more : List Expressio
 kept_same mode top kept.Nothing all more e p a g = cc
 kept_same mode top (kept.Parts k) all more e p a g = same_part mode top k.parts.items all more e p k.next a.0 a.1 g
 
--- ---- what the two answers of a call say together
+-- ---- what the two results of a call say together
 
 pub from_ok : {A : Type 0} (P : Type 0) (R : A → Type 0) (o : Outcome A) → IsOkAnd o (λ c. R c × P) → P
 from_ok P R (Ok c) h = h.1

@@ -1,4 +1,4 @@
--- An expression up to what stands last in it: its text, its parts, and whether two are the same.
+-- An expression up to what is last in it: its text, its parts, and whether two are the same.
 use Rattle.std.proofs.Common.{◌≡◌, ℕ, ◌<◌, ◌≤◌, List, [], ◌∷◌, ◌++◌, Bool, true, false, Option, None, Some, refl, sym, ap, ap₂, ◌∙◌, append_assoc, arith}
 use Rattle.std.specs.Borrow.{Bor}
 use Rattle.std.specs.Prelude.{codes, ◌&&◌, if◌then◌else◌, option_map}
@@ -120,7 +120,7 @@ mutual
   step_closes (whole_expression e) = down_closes e
   step_closes _ = refl
 
--- ---- the text of an expression: what stands before each that is last, and then the closing parentheses
+-- ---- the text of an expression: what precedes each that is last, and then the closing parentheses
 
 enclosed : (front text b c : List ℕ) → text ≡ b ++ c → Closes c → front ++ text ++ codes ")" ≡ front ++ b ++ (codes ")" ++ c)
 enclosed front text b c h k = ap (λ x. front ++ x ++ codes ")") h
@@ -133,7 +133,7 @@ right_side : (is_around : Bool) (text b c : List ℕ) → text ≡ b ++ c → Cl
 right_side true text b c h k = enclosed (codes "(") text b c h k
 right_side false text b c h k = h
 
--- the text between the sides, and what is open behind it, each by itself
+-- the text between the sides, and what is open after it, each by itself
 between : (left close space operator last_space a b c : List ℕ) →
     left ++ close ++ space ++ operator ++ last_space ++ (a ++ b ++ c)
     ≡ left ++ (close ++ space ++ operator ++ last_space) ++ a ++ b ++ c

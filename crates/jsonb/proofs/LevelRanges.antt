@@ -8,7 +8,7 @@ use Rattle.jsonb.specs.Private.Below.{AreLevelsOf, is_shut}
 use Rattle.jsonb.specs.declared.selector.levels.LevelRange.{LevelRange}
 use Rattle.jsonb.proofs.LevelLemmas.{preorder-left, preorder-shut}
 
--- the range has a level where an item of it is taken
+-- the range has a level if an item of it is taken
 pub range_taken : (levels : Option Levels) (range : LevelRange) (at n : ℕ) (is_taken : Bool) → AreLevelsOf levels range → at ≡ min n 256
     → is_taken ≡ (nat_le range.first at && nat_le at range.last) → is_taken ≡ (answer_at levels n).0
 range_taken levels range at n is_taken ranged place is = is ∙ ap (λ k. nat_le range.first k && nat_le k range.last) place ∙ ranged.taken n

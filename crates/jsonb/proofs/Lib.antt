@@ -30,9 +30,12 @@ pub mod MemberLemmas
 pub mod ExistsLemmas
 pub mod KeptLemmas
 pub mod ComparedLemmas
+pub mod MirrorLemmas
 pub mod ListLemmas
 pub mod SearchLemmas
 pub mod TermLemmas
+pub mod JumpLemmas
+pub mod TestLemmas
 pub mod CalculateLemmas
 pub mod SignLemmas
 pub mod ReadMeans

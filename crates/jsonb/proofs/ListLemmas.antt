@@ -1,4 +1,4 @@
--- Comparisons of members of the items of a list, in lax mode, where none is refused.
+-- Comparisons of members of the items of a list, in lax mode, in which none fails.
 use Rattle.std.proofs.Common.{◌≡◌, List, [], ◌∷◌, ◌++◌, flat_map, map, true, false, Some, None, Ok, Err, IsOkAnd, refl, sym, ap, ◌∙◌, inl, inr, append_assoc}
 use Rattle.std.proofs.Math.Bool.{beq}
 use Rattle.std.proofs.lemmas.Grind.{flat_map-append}
@@ -17,7 +17,7 @@ use Rattle.jsonb.specs.Private.Compared.{IsMemberCompared, IsListCompared, items
 use Rattle.jsonb.specs.Private.Kept.{is_comparison}
 use Rattle.jsonb.specs.Private.Members.{are_members}
 use Rattle.jsonb.specs.Private.Selection.{value_view, taken_step}
-use Rattle.jsonb.specs.declared.selector.compared_items.MemberCompared.{MemberCompared}
+use Rattle.jsonb.specs.declared.selector.plan.MemberCompared.{MemberCompared}
 use Rattle.jsonb.specs.declared.selector.compared_lists.ListCompared.{ListCompared}
 use Rattle.jsonb.specs.declared.selector.document.Expressions.TheVariants.{AreRefused}
 use Rattle.jsonb.specs.declared.selector.document.Mode.{Mode}
@@ -48,7 +48,7 @@ joined-append f [] ys = none_in_front (try_flat_map f ys)
 joined-append f (x ∷ xs) ys =
     ap (both_lists (f x)) (joined-append f xs ys) ∙ both_lists-assoc (f x) (try_flat_map f xs) (try_flat_map f ys)
 
--- steps of two lists, where none is refused
+-- steps of two lists, if none fails
 pub steps_in_parts : (ss : List math.Step) (top : Tree) (xs ys : List Tree) → AreTotal ss
     → steps_meaning Lax (steps_of ss) top (xs ++ ys) ≡ both_lists (steps_meaning Lax (steps_of ss) top xs) (steps_meaning Lax (steps_of ss) top ys)
 steps_in_parts [] top xs ys h = refl
@@ -85,7 +85,19 @@ first_stops (Some false ∷ xs) ys h = first_stops xs ys h
 first_stops (Some true ∷ xs) ys h = refl
 first_stops (None ∷ xs) ys h = refl
 
--- what a test tells whether a truth is known to be false
+-- if the first values decide nothing, the others decide
+pub compare_passes : (op : math.BinaryOp) (rs xs ys : List Value) → compare op xs rs ≡ Some false → compare op (xs ++ ys) rs ≡ compare op ys rs
+compare_passes op rs xs ys h =
+    let pairs = λ (vs : List Value). flat_map (λ l. map (λ r. pair_truth op l r) rs) vs in
+    ap first_decisive (flat_map-append (λ l. map (λ r. pair_truth op l r) rs) xs ys) ∙ first_passes (pairs xs) (pairs ys) h
+
+pub compare_stops : (op : math.BinaryOp) (rs xs ys : List Value) (b : Truth) → compare op xs rs ≡ b → (b ≡ Some false → ⊥) → compare op (xs ++ ys) rs ≡ b
+compare_stops op rs xs ys b is decides =
+    let pairs = λ (vs : List Value). flat_map (λ l. map (λ r. pair_truth op l r) rs) vs in
+    ap first_decisive (flat_map-append (λ l. map (λ r. pair_truth op l r) rs) xs ys)
+    ∙ first_stops (pairs xs) (pairs ys) (λ none. decides (sym is ∙ none)) ∙ is
+
+-- a test whether a result is known to be false
 pub is_false : (b : Truth) → not (option_eq beq b (Some false)) ≡ false → b ≡ Some false
 is_false (Some true) h = cc
 is_false (Some false) h = refl
@@ -97,7 +109,7 @@ is_not_false (Some false) h is = cc
 is_not_false None h is = cc
 
 module _ (c : MemberCompared) where
-  -- the truths of the values of items
+  -- The results of the values of items.
   abbrev truths : List Tree → List Truth
   truths ts = flat_map (λ l. map (λ r. pair_truth (operator_view c.op) l r) (value_view c.literal ∷ [])) (flat_map values_of_item ts)
 
@@ -137,7 +149,7 @@ module _ (c : MemberCompared) where
         ap (λ o. and_then o (told_by c)) (members-append (steps_view c.names.now) top (u ∷ []) rest k.members)
         ∙ stops_at _ _ b (members_total (steps_view c.names.now) top rest k.members) (sym (k.compares Lax top u) ∙ is) decides
 
-    -- one item is refused for want of memory alone
+    -- for one item only an allocation fails
     pub list_refused : {r : Error} {o : Outcome Truth} (u : Tree) → Gives {A = Truth} (λ b d. b ≡ d) IsOutOfMemory (Err r) (truth Lax e top u)
         → Gives {A = Truth} (λ b d. b ≡ d) IsOutOfMemory (Err r) o
     list_refused {r = r} {o = o} u h = go (truth Lax e top u) (comparison_total c e top u k) h
@@ -205,7 +217,7 @@ by_front list e top k =
     k.compares top
     ∙ ap (λ l. and_then (steps_meaning Lax (steps_of l) top (top ∷ [])) (items_truth list.comparison top)) (sym (refused_steps (steps_view list.front.now)))
 
--- no steps in front of the names: the member is the root's
+-- without steps before the names, the member is that of the root
 pub by_names : (list : ListCompared) (e : Expression) (top : Tree) (k : IsListCompared list e) → list.front.now ≡ []
     → truth Lax e top top ≡ truth Lax k.each top top
 by_names list e top k none =

@@ -103,7 +103,7 @@ no_steps_at_all = refl
 first_decides : of (p.root ∷ p.filter (p.binary p.eq (at []) (lit 1)) ∷ []) number_then_text ≡ Ok (number_then_text ∷ [])
 first_decides = refl
 
--- `$?(@ == 1)`, where an unknown pair comes first
+-- `$?(@ == 1)`, if an unknown pair comes first
 unknown_first : of (p.root ∷ p.filter (p.binary p.eq (at []) (lit 1)) ∷ []) text_then_number ≡ Ok []
 unknown_first = refl
 
@@ -207,7 +207,7 @@ decimal_operand = refl
 many_operands : of (p.whole_expression (p.binary p.add (from (p.bracket_wildcard ∷ [])) (lit 1)) ∷ []) tens ≡ Err InvalidJsonPath
 many_operands = refl
 
--- `-$[*]` where the second overflows
+-- `-$[*]` if the second overflows
 refused_behind_first : of (p.whole_expression (p.unary p.minus (from (p.bracket_wildcard ∷ []))) ∷ []) (arr (whole 1 ∷ whole 18446744073709551615 ∷ []))
     ≡ Err (Arithmetic Overflow)
 refused_behind_first = refl

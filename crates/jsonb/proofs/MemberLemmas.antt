@@ -21,12 +21,12 @@ member_taken : (expressions : Expressions) (s : Step) → is_member s ≡ true �
 member_taken expressions (math.whole_expression e) h = cc
 member_taken expressions _ h = refl
 
--- steps of no items give none
+-- steps of no items select no items
 pub none_left : (mode : Mode) (ss : Steps) (top : Tree) → steps_meaning mode ss top [] ≡ Ok []
 none_left mode no_steps top = refl
 none_left mode (math.step s rest) top = none_left mode rest top
 
--- what a step gives is what it gives with none behind it
+-- what a step selects is what it selects without a step after it
 pub nothing_behind : (mode : Mode) (top : Tree) (given : Outcome (List Tree)) → and_then given (steps_meaning mode no_steps top) ≡ given
 nothing_behind mode top (Ok ts) = refl
 nothing_behind mode top (Err e) = refl
@@ -49,7 +49,7 @@ module _ (steps : List Path) (i : ℕ) (s : Path) (h : i < length steps) (is : s
   left_is : drop i steps ≡ s ∷ drop (i + 1) steps
   left_is = drop-cons steps i s h ∙ ap (λ x. x ∷ drop (suc i) steps) (sym is) ∙ ap (λ n. s ∷ drop n steps) (sym (add-one i))
 
-  -- the first of the steps that are left, and those behind it
+  -- the first of the steps that are left, and those after it
   pub member_first : are_members (steps_view (drop i steps)) ≡ true → (is_member (step_view s) ≡ true) × (are_members (steps_view (drop (i + 1) steps)) ≡ true)
   member_first all = both_true (is_member (step_view s)) (are_members (steps_view (drop (i + 1) steps)))
       (sym (ap (λ l. are_members (steps_view l)) left_is) ∙ all)

@@ -1,4 +1,4 @@
--- Printed operands, signs and comparisons, read with anything behind them that may stand there.
+-- Printed operands, signs and comparisons, read with anything after them that may be there.
 use Rattle.std.proofs.Common.{◌≡◌, ℕ, ◌<◌, ◌≤◌, ◌^◌, List, [], ◌∷◌, ◌++◌, length, Bool, true, false, Some, None, refl, sym, ◌∙◌, ap, arith, append_assoc, length-append, length-drop}
 use Rattle.std.specs.Prelude.{pos, negsuc, nat_lt, ◌==◌, ◌||◌}
 use Rattle.std.specs.List.{prefix_len}
@@ -18,7 +18,7 @@ use Rattle.jsonb.specs.PathLaws.{settled_literal, settled_step, settled_steps, s
 use Rattle.jsonb.proofs.PathShape.{IsInner, AreInner, IsBeginning, IsLiteral, IsOperand, is_signed}
 use Rattle.jsonb.proofs.InnerReadsBack.{past-none, past-space, spaced-reads, spaced-none, past-stops, is_step_end, inner-text}
 
--- The rule reads the value, and what it leaves is the rest but for spaces in front.
+-- The rule reads the value, and what it leaves is the rest except for spaces at the front.
 pub record ReadsTo {A : Type 0} (rule : Rule A) (input : List ℕ) (a : A) (rest : List ℕ) : Type 0 where
   pub after : List ℕ
   pub reads : rule input ≡ Some (a, after)
@@ -49,7 +49,7 @@ pub spaced-to : {A : Type 0} (rule : Rule A) (input : List ℕ) (a : A) (rest : 
     spaced rule input ≡ Some (a, past is_space rest)
 spaced-to rule input a rest r = spaced-reads rule input a r.after r.reads ∙ ap (λ (left : List ℕ). Some (a, left)) r.same
 
--- ---- steps behind one another
+-- ---- steps after one another
 
 abbrev pub is_inner_start : ℕ → Bool
 is_inner_start b = b == 46 || b == 58 || b == 91
@@ -101,7 +101,7 @@ spaced_inner-text s rest is h = spaced-reads inner (step_text s ++ rest) s rest 
 abbrev pub is_operand_end : ℕ → Bool
 is_operand_end b = b == 32 || b == 41
 
--- behind an operand: a space, a parenthesis or the end, and no further step
+-- after an operand: a space, a parenthesis or the end, and no further step
 abbrev pub IsBehindOperand : List ℕ → Type 0
 IsBehindOperand rest = (front is_operand_end rest ≡ true) × (begins is_inner_start (past is_space rest) ≡ false)
 
@@ -363,7 +363,7 @@ root_is_no_sign b h = grind (arith, nat_tests)
 digit_is_no_sign : (b : ℕ) → is_ascii_digit b ≡ true → is_sign b ≡ false
 digit_is_no_sign b h = grind (arith, nat_tests)
 
--- no sign in front of what may be a left side
+-- no sign before what may be a left side
 pub unsigned_operand : (is_in_filter : Bool) (e : Expression) (rest : List ℕ) → IsOperand is_in_filter e → is_signed e ≡ false →
     begins is_sign (expression_text e ++ rest) ≡ false
 unsigned_operand is_in_filter (paths no_steps) rest is h = absurd is
@@ -437,7 +437,7 @@ operator-read and_op rest h = cc
 operator-read or_op rest h = cc
 operator-read _ rest h = refl
 
--- an operator between spaces stands behind an operand, and is no space itself
+-- an operator between spaces follows an operand, and is not a space itself
 pub behind_operator : (op : BinaryOp) (rest : List ℕ) → IsBehindOperand (32 ∷ operator_text op ++ rest) × (past is_space
     (32 ∷ operator_text op ++ rest) ≡ operator_text op ++ rest)
 behind_operator and_op rest = ((refl, refl), refl)

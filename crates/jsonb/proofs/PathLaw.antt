@@ -1,4 +1,4 @@
--- Each JSON path that the grammar reads prints to a text that reads as the same path but for variants.
+-- Each JSON path that the grammar accepts prints to text that parses as the same path except for variants.
 use Rattle.std.proofs.Common.{◌≡◌, ℕ, List, [], ◌∷◌, Option, Some, None, refl}
 use Rattle.std.specs.Prelude.{IfSome, IsSomeAnd, pos, map}
 use Rattle.jsonb.specs.PathTree.{Literal, signed, Step, filter, whole_expression, Steps, no_steps, step, Expression, paths, value, binary, unary, exists}
@@ -34,7 +34,7 @@ settled_path-twice : (p : List Step) → map settled_step p ≡ map settled_step
 settled_path-twice [] = refl
 settled_path-twice (s ∷ p) = rw (settled_step-twice s, ← settled_path-twice p) refl
 
--- the printed text reads, as a path that is the same but for variants
+-- the printed text reads, as a path that is the same except for variants
 abbrev pub ReadsBack : List Step → Type 0
 ReadsBack p = IsSomeAnd (json_path (path_text p)) (SameButVariants p)
 

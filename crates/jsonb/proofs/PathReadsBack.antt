@@ -34,7 +34,7 @@ unfolding root_expression
 root_expression-text e is = rw (spaced-to (expression false) (expression_text e ++ []) (settled e) [] (rw
     (no_space-condition false e [] is) (expression_at e is))) refl
 
--- a text that begins with no space, and one of the two rules
+-- text that does not begin with a space, and one of the two rules
 whole_path : (input : List ℕ) (p : List Step) → past is_space input ≡ input → (root_expression </> plain_path) input ≡ Some (p, []) →
     json_path input ≡ Some p
 unfolding json_path
@@ -236,7 +236,7 @@ plain_path-steps : (ss : List Step) → AllByRecursion IsPathStep ss → plain_p
 unfolding plain_path front_steps
 plain_path-steps ss are = rw (no_first_step (flat_map step_text ss) (begins-steps ss are), path_steps-text ss are) refl
 
--- ---- whole texts
+-- ---- whole text
 
 path-of_root : (ss : List Step) → AllByRecursion IsPathStep ss → json_path (path_text (root ∷ ss)) ≡ Some (root ∷ map settled_step ss)
 path-of_root ss are =

@@ -37,7 +37,7 @@ IsLiteral (string text) = IsName text
 IsLiteral (raw document) = ⊥
 IsLiteral _ = ⊤
 
--- a step that may stand in an operand: no filter, and not a beginning
+-- a step that may be in an operand: no filter, and not a beginning
 abbrev pub IsInner : Step → Type 0
 IsInner dot_wildcard = ⊤
 IsInner (recursive_dot_wildcard levels) = AreLevels levels
@@ -67,13 +67,13 @@ abbrev pub is_signed_literal : Literal → Bool
 is_signed_literal (signed z) = true
 is_signed_literal _ = false
 
--- whether a sign may stand in front; such an operand is no left side
+-- whether a sign may be at the front; such an operand is not a left side
 abbrev pub is_signed : Expression → Bool
 is_signed (value l) = is_signed_literal l
 is_signed _ = false
 
 abbrev mutual
-  -- a step behind the first one
+  -- a step after the first one
   pub IsPathStep : Step → Type 0
   IsPathStep (filter e) = IsCondition true e
   IsPathStep s = IsInner s
@@ -87,7 +87,7 @@ abbrev mutual
   IsExistsPath no_steps = ⊥
   IsExistsPath (step s ss) = IsBeginning true s × ArePathSteps ss
 
-  -- what an expression of the grammar is: operands stand only in comparisons, in arithmetic and behind a sign
+  -- what an expression of the grammar is: operands are only in comparisons, in arithmetic and after a sign
   pub IsCondition : Bool → Expression → Type 0
   IsCondition is_in_filter (paths steps) = ⊥
   IsCondition is_in_filter (value l) = ⊥

@@ -11,7 +11,7 @@ use Rattle.jsonb.specs.Compare.{Truth}
 use Rattle.jsonb.specs.Meaning.{operand_values, truth, truth_list, calculation, binary_meaning, expression_meaning, list_truth, expression_predicate}
 use Rattle.jsonb.specs.declared.selector.document.Mode.{Mode}
 
--- what a list says, and what is run for its refusal alone
+-- what a list says, and what is run for its error alone
 abbrev said : List Tree → Outcome Truth
 said ts = Ok (list_truth ts)
 
@@ -30,7 +30,7 @@ predicate_of mode (exists steps) top = truth mode (exists steps) top top
 predicate_of mode (value l) top = Ok None
 predicate_of mode e top = and_then (expression_meaning mode e top) nothing_said
 
--- a truth is said by its list
+-- a result is that of its list
 truth_said : (o : Outcome Truth) → and_then (truth_list o) said ≡ o
 truth_said (Ok (Some b)) = refl
 truth_said (Ok None) = refl
@@ -50,7 +50,7 @@ calculation_said op (Err e) r = refl
 calculation_said op (Ok ls) (Err e) = refl
 calculation_said op (Ok ls) (Ok rs) = two_said op ls rs
 
--- the numbers behind signs: the first of them decides that no truth stands alone
+-- the numbers after signs: the first of them decides that no result is alone
 front_said : (o : Outcome Number) (back : Outcome (List Tree)) →
     and_then (and_then (number_list o) (λ front. and_then back (λ ts. Ok (front ++ ts)))) said
     ≡ and_then (and_then (number_list o) (λ front. and_then back (λ ts. Ok (front ++ ts)))) nothing_said

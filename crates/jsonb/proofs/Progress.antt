@@ -1,4 +1,4 @@
--- Loops whose turns add lists: what is done so far, in front of what the rest gives, is the whole.
+-- Loops whose turns add lists: what is done so far, before what the rest gives, is the whole.
 use Rattle.std.proofs.Common.{◌≡◌, List, [], ◌∷◌, ◌++◌, Some, None, Result, Ok, Err, IsOkAnd, refl, inl, inr, subst, sym, ap, ◌∙◌, append_assoc, append-nil, ◌⊎◌, ℕ, ◌+◌, ◌<◌, ◌≤◌, length, drop, get_or, add-one, flat_map}
 use Rattle.std.proofs.Math.Seq.{drop-cons}
 use Rattle.std.proofs.Math.ListN.{drop_of_length-le}
@@ -13,7 +13,7 @@ use Rattle.jsonb_doc.specs.Spots.{Locates, HasSpotsLeft, GivesSpot}
 use Rattle.jsonb_doc.proofs.SpotsTaken.{taken_spot, no_refusal, no_spots_left}
 use Rattle.std.specs.List.{AllZip}
 
--- a list in front of a list, or its refusal
+-- a list before a list, or its error
 abbrev pub behind : {C : Type 0} → List C → Outcome (List C) → Outcome (List C)
 behind front o = and_then o (λ back. Ok (front ++ back))
 
@@ -67,7 +67,7 @@ module _ {B C : Type 0} (f : B → Outcome (List C)) where
       }
       added given t rest (Err e) eq l h is = absurd h
 
-  -- a refusal
+  -- an error
   pub refused_in : {G : Type 0} (Q : G → List C → Type 0) (Left Left' : List B → Type 0) (Done Done' : List C → Type 0) (P : B → Type 0) (e : Error)
       (outcome : Outcome (List C)) → Progress Left Done f outcome →
       ((rest : List B) → Left rest → First Left' P rest)
@@ -91,7 +91,7 @@ module _ {B C : Type 0} (f : B → Outcome (List C)) where
   at_end Left Done outcome p none = subst (λ o. IsOkAnd o Done)
       (sym (p.is ∙ ap (λ l. behind p.given (try_flat_map f l)) (none p.rest p.left) ∙ ap Ok (append-nil p.given))) p.done
 
--- parts that are never refused, behind what there was
+-- parts that never fail, after what there was
 pub total_start : {B C : Type 0} (g : B → List C) (Left : List B → Type 0) (Done : List C → Type 0) (ts : List B) (before : List C) → Left ts → Done before →
     Progress Left Done (λ t. Ok (g t)) (Ok (before ++ flat_map g ts))
 total_start g Left Done ts before l d = record { rest = ts; given = before; left = l; done = d; is = sym (ap (behind before) (joined_total g ts)) }
@@ -127,10 +127,10 @@ module _ {A B : Type 0} (R : A → B → Type 0) (xs : List A) where
       go [] a = refl
       go (t ∷ ts) a = absurd a
 
--- ---- over places of the bytes, each of whose lists goes behind those that were found before
+-- ---- over places of the bytes, each of whose lists goes after those that were found before
 
 module _ (f : Tree → Outcome (List Tree)) (bytes : List ℕ) (spots : List Spot) (ts : List Tree) where
-  -- so many places are passed, and this was found
+  -- that many places are passed, and this was found
   abbrev pub SpotsPassed : ℕ → List Spot → Type 0
   SpotsPassed i found = Progress (AllZip (Locates bytes) (drop i spots)) (AllZip (Locates bytes) found) f (try_flat_map f ts)
 
@@ -170,7 +170,7 @@ spot_first bytes it it' r spot is g rest l =
 pub spot_end : (bytes : List ℕ) (it it' : SpotIter) → GivesSpot it None it' → (rest : List Tree) → HasSpotsLeft bytes it rest → rest ≡ []
 spot_end bytes it it' g rest l = no_spots_left bytes rest it' (g.takes bytes rest l)
 
--- an iterator of bytes that decode refuses nothing
+-- an iterator of bytes that decode never fails
 pub spot_refused : {G : Type 0} {C : Type 0} (f : Tree → Outcome (List C)) (Done : List C → Type 0) (outcome : Outcome (List C)) (bytes : List ℕ)
     (it it' : SpotIter) (r : Result Spot Error) (e : Error) →
     r ≡ Err e → GivesSpot it (Some r) it' → Progress (HasSpotsLeft bytes it) Done f outcome → G

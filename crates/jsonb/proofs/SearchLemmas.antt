@@ -1,4 +1,5 @@
--- A walk to the first item that steps lead to, in lax mode: what is left, the innermost first, gives the list of the whole.
+-- A walk to the first item that steps lead to, in lax mode: what is left, the innermost first, gives the list of the
+-- whole.
 use Rattle.std.proofs.Common.{◌≡◌, ℕ, ◌+◌, ◌^◌, ◌<◌, List, [], ◌∷◌, ◌++◌, length, take, get_or, map, inl, inr, Bool, Option, Some, None, is_some, Result, Ok, Err, IsOkAnd, refl, sym, ap, subst, ◌∙◌, arith, append-nil}
 use Rattle.std.specs.Prelude.{reverse}
 use Rattle.std.proofs.lemmas.List.{map-append, reverse-append, take_more}
@@ -18,6 +19,7 @@ use Rattle.jsonb.specs.Meaning.{step_meaning, steps_meaning, truth, filtered, is
 use Rattle.jsonb.specs.SelectorAnswers.{first_item}
 use Rattle.jsonb.specs.Private.Search.{IsSearched, HasItems, items_bound, TakesItem, AreGiven, IsReached, BeginsAs}
 use Rattle.jsonb.specs.Private.Selection.{IsAt, AreSelected, node_spots, option_spots, taken_step}
+use Rattle.jsonb.specs.Private.Tests.{tests_in}
 use Rattle.jsonb.specs.declared.selector.document.Document.{Document}
 use Rattle.jsonb.specs.declared.path.Path.{Path}
 use Rattle.jsonb.specs.declared.selector.document.Expressions.{Expressions}
@@ -32,13 +34,14 @@ use Rattle.jsonb.specs.declared.selector.search.Waiting.{Waiting}
 use Rattle.jsonb.specs.declared.selector.node_list.NodeList.{NodeList}
 use Rattle.jsonb.specs.declared.selector.selected.Selected.{Selected}
 use Rattle.jsonb.specs.declared.selector.selected.Selected.TheVariants as selected
-use Rattle.jsonb.proofs.ComparedLemmas.{Any, AreTotal, listed_total, member_total, steps_total, comparison_total, joint_total}
+use Rattle.jsonb.proofs.ComparedLemmas.{Any, AreTotal, listed_total, member_total, steps_total}
 use Rattle.jsonb.proofs.GivesLemmas.{with_ok, continued}
 use Rattle.jsonb.proofs.ListLemmas.{both_lists, none_in_front, both_lists-assoc, steps_in_parts}
 use Rattle.jsonb.proofs.MemberLemmas.{none_left, no_member, one_member}
 use Rattle.jsonb.proofs.Progress.{First}
 use Rattle.jsonb.proofs.SelectedParts.{related_more}
 use Rattle.jsonb.proofs.StepLemmas.{joined_one}
+use Rattle.jsonb.proofs.TestLemmas.{condition_total}
 
 -- ---- none of these steps is refused
 
@@ -48,11 +51,8 @@ searched_total search.Values s top t h = subst (λ z. IsOkAnd (step_meaning Lax 
 searched_total search.Elements s top t h = subst (λ z. IsOkAnd (step_meaning Lax z top t) Any) (sym h) (listed_total (t ∷ []) (array_values t))
 searched_total (search.Positions entries) s top t h = subst (λ z. IsOkAnd (step_meaning Lax z top t) Any) (sym h) (listed_total [] _)
 searched_total (search.Levels levels) s top t h = subst (λ z. IsOkAnd (step_meaning Lax z top t) Any) (sym h) tt
-searched_total (search.Compared c) s top t h = subst (λ z. IsOkAnd (step_meaning Lax z top t) Any) (sym h.1)
-    (with_ok Any (λ o. IsOkAnd o Any) (truth Lax h.0 top t) (λ b. Ok (filtered t b)) (comparison_total c h.0 top t h.2) (λ b _. tt))
-searched_total (search.Joined all) s top t h = subst (λ z. IsOkAnd (step_meaning Lax z top t) Any) (sym h.1)
-    (with_ok Any (λ o. IsOkAnd o Any) (truth Lax h.0 top t) (λ b. Ok (filtered t b))
-    (subst (λ o. IsOkAnd o Any) (sym (h.2.joined Lax top t)) (joint_total all.join all.comparisons.items h.2.parts top t h.2.compared)) (λ b _. tt))
+searched_total (search.Tested condition) s top t h = subst (λ z. IsOkAnd (step_meaning Lax z top t) Any) (sym h.1)
+    (with_ok Any (λ o. IsOkAnd o Any) (truth Lax h.0 top t) (λ b. Ok (filtered t b)) (condition_total (tests_in condition) h.0 top t h.2) (λ b _. tt))
 
 pub all_searched : (xs : List SearchStep) (ss : List Step) → AllZip IsSearched xs ss → AreTotal ss
 all_searched [] [] h = tt
@@ -60,13 +60,13 @@ all_searched [] (s ∷ ss) h = absurd h
 all_searched (x ∷ xs) [] h = absurd h
 all_searched (x ∷ xs) (s ∷ ss) h = (λ top t. searched_total x s top t h.0, all_searched xs ss h.1)
 
--- where a value is, memory alone is refused
+-- if there is a value, only an allocation fails
 pub memory_alone : {A : Type 0} {R : A → List Tree → Type 0} {e : Error} (o : Outcome (List Tree)) → IsOkAnd o Any → Gives R IsOutOfMemory (Err e) o
     → IsOutOfMemory e
 memory_alone (Ok us) a h = elim h.err [ inl memory ↦ memory | inr is ↦ cc ]
 memory_alone (Err e) a h = absurd a
 
--- one step of an item, and those behind it
+-- one step of an item, and those after it
 pub step_taken : (P : List Tree → Type 0) (s : Step) (ss rest : List Step) (top u : Tree) → rest ≡ s ∷ ss → IsOkAnd (step_meaning Lax s top u) P
     → (us : List Tree) × P us × (steps_meaning Lax (steps_of rest) top (u ∷ []) ≡ steps_meaning Lax (steps_of ss) top us)
 step_taken P s ss rest top u is h =
@@ -114,7 +114,7 @@ none_behind : (o : Outcome (List Tree)) → o ≡ both_lists o (Ok [])
 none_behind (Ok xs) = ap Ok (sym (append-nil xs))
 none_behind (Err e) = refl
 
--- in front of a list that is not refused stands its first item
+-- a list that does not fail begins with its first item
 first_of_all : (bytes : List ℕ) (x : Spot) (us : List Tree) (o p : Outcome (List Tree)) → AllZip (Locates bytes) (option_spots (Some x)) us → IsOkAnd o Any
     → IsOkAnd p Any → IsOkAnd (both_lists (both_lists (Ok us) o) p) (λ all. SameOption (Locates bytes) (Some x) (first_item all))
 first_of_all bytes x [] o p h a b = absurd h
@@ -277,7 +277,7 @@ weight w = weight_of (items_bound w.items) (length w.steps.now)
 abbrev pub weights : List Waiting → ℕ
 weights ws = weight_of_all weight ws
 
--- the measure of a walk falls where an item leads to others, where it is passed, and where the items are done
+-- the measure of a walk decreases if an item leads to others, if it is passed, and if no item is left
 pub falls_within : (within within' inner : Waiting) (around around' : List Waiting) → within'.steps.now ≡ within.steps.now
     → items_bound within'.items < items_bound within.items → length inner.steps.now < length within.steps.now → items_bound inner.items < 2 ^ 64
     → around' ≡ around ++ within' ∷ [] → weight inner + weights (reverse around') < weight within + weights (reverse around)

@@ -111,13 +111,13 @@ pub first_some : (ts : List Tree) (e : Tree) → 0 < length ts → first_item ts
 first_some [] e h = absurd (omega (arith, h))
 first_some (t ∷ ts) e h = refl
 
--- the refusal of a part is one of the array that it goes into
+-- the error of a part is one of the array that it goes into
 pub part_refused : (form : Form) (ts : List Tree) (t u : Tree) (e : Error) → t ≡ u → IsOutOfMemoryOrTooLarge form u e
     → IsOutOfMemoryOrTooLarge form (array_of (ts ++ t ∷ [])) e
 part_refused form ts t u e is (inl memory) = inl memory
 part_refused form ts t u e is (inr (large, past)) = inr (large, array_too_large-element form ts [] t (rw is past))
 
--- the refusal of a part is one of the list
+-- the error of a part is one of the list
 pub list_refused : (form : Form) (ts : List Tree) (k : ℕ) (d : Tree) (e : Error) → k < length ts → IsOutOfMemoryOrTooLarge form (get_or ts k d) e
     → (IsOutOfMemory or TooLarge when Any (IsTooLarge form) ts) e
 list_refused form ts k d e short (inl memory) = inl memory

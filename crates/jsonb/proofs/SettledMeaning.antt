@@ -22,7 +22,7 @@ use Rattle.jsonb.specs.PathArithmetic.{operation, all_numbers, two_numbers, sign
 use Rattle.jsonb.specs.Meaning.{start, step_meaning, steps_meaning, operand_values, truth, calculation, binary_meaning, literal_list, expression_meaning, as_filter, meaning, truth_list, list_truth, expression_predicate, predicate}
 use Rattle.jsonb.specs.declared.selector.document.Mode.{Mode}
 
--- ---- numbers whose whole values are unsigned where they are not negative
+-- ---- numbers whose whole values are unsigned if they are not negative
 
 abbrev settled_variant : Variant → ℤ → Variant
 settled_variant int64 (pos n) = uint64
@@ -59,7 +59,7 @@ abbrev mutual
   settled_pairs tree.no_pairs = tree.no_pairs
   settled_pairs (tree.pair key t ps) = tree.pair key (settled_tree t) (settled_pairs ps)
 
--- the list with each tree settled, or the same refusal
+-- the list with each tree settled, or the same error
 abbrev settled_outcome : Outcome (List Tree) → Outcome (List Tree)
 settled_outcome o = and_then o (λ ts. Ok (map settled_tree ts))
 
@@ -125,7 +125,7 @@ literal-settled : (l : Literal)
 literal-settled (path.signed (pos zero)) = refl
 literal-settled _ = refl
 
--- ---- steps, operands and truths
+-- ---- steps, operands and results
 
 joined-same : {A B : Type 0} (f g : A → Outcome (List B)) → ((a : A) → f a ≡ g a) → (xs : List A) → try_flat_map f xs ≡ try_flat_map g xs
 joined-same f g h [] = refl
@@ -217,7 +217,7 @@ calculated-settled op m n = rw (decimal-settled m.variant m.whole, decimal-settl
 negated-settled : (n : Number) → negated (settled_number n) ≡ negated n
 negated-settled n = rw (decimal-settled n.variant n.whole) refl
 
--- a function of the values that sees no variant, but for those in its answer
+-- a function of the values that sees no variant, except for those in its result
 same_answer : (f : List Value → Outcome (List Tree)) → ((vs : List Value) → settled_outcome (f (map settled_value vs)) ≡ settled_outcome (f vs))
     → (o o' : Outcome (List Value)) → settled_values o' ≡ settled_values o →
     settled_outcome (and_then o' f) ≡ settled_outcome (and_then o f)
@@ -385,7 +385,7 @@ same_truth (Ok ts) (Ok us) e =
 same_truth (Err a) (Err b) e = ap Err (let k : a ≡ b = cc in k)
 same_truth _ _ e = cc
 
--- what an expression that is no literal says
+-- what an expression that is not a literal says
 told : (e : Expression) (mode : Mode) (top : Tree) →
     and_then (expression_meaning mode (settled e) top) (λ ts. Ok (list_truth ts)) ≡ and_then (expression_meaning mode e top) (λ ts. Ok (list_truth ts))
 told e mode top = same_truth (expression_meaning mode (settled e) top) (expression_meaning mode e top) (expression-meaning e mode top)
@@ -421,7 +421,7 @@ variants_change_no_meaning p q same mode top = (
 
 -- ---- printed paths
 
--- what is read back is the same path but for variants
+-- what is read back is the same path except for variants
 meant_back : (p : List Step) (o : Option (List Step)) → IsSomeAnd o (SameButVariants p) → IsSomeAnd o (MeanTheSame p)
 meant_back p (Some q) h = variants_change_no_meaning p q h
 meant_back p None h = absurd h

@@ -1,17 +1,15 @@
--- Numbers of the items that were found, each behind a sign.
+-- Numbers of the items that were found, each with a sign.
 use Rattle.std.proofs.Common.{◌≡◌, ℕ, ◌+◌, ◌<◌, ◌≤◌, List, [], ◌∷◌, ◌++◌, Ok, Err, OnOk, IfErr, IsOkAnd, refl, ap, ◌∙◌, inl, subst, map, flat_map, append_assoc, length, get_or, set, take, drop, arith}
 use Rattle.std.proofs.lemmas.List.{map-append, take_all, take_more_set, drop-set-lt}
 use Rattle.jsonb_doc.specs.Answer.{Outcome, and_then, try_flat_map, Gives, IsOutOfMemory}
-use Rattle.jsonb_doc.specs.Item.{StandsFor}
+use Rattle.jsonb_doc.specs.StoredValue.{IsStoredAs}
 use Rattle.jsonb_doc.specs.Number.{Number}
-use Rattle.jsonb_doc.specs.Payload.{any}
 use Rattle.jsonb_doc.specs.Tree.{Tree}
 use Rattle.jsonb_doc.specs.View.{number_view}
 use Rattle.jsonb_doc.specs.declared.error.Error.{Error}
 use Rattle.jsonb_doc.specs.declared.error.Error.TheVariants.{InvalidJsonPath}
-use Rattle.jsonb_doc.specs.declared.extension.ExtensionValue.{ExtensionValue}
-use Rattle.jsonb_doc.specs.declared.item.Item.{Item}
-use Rattle.jsonb_doc.specs.declared.item.Item.TheVariants as kind
+use Rattle.jsonb_doc.specs.declared.spot.content.StoredValue.{StoredValue}
+use Rattle.jsonb_doc.specs.declared.spot.content.StoredValue.TheVariants as stored
 use Rattle.jsonb_doc.specs.declared.number.Number.{Number as CodeNumber}
 use Rattle.jsonb.specs.PathArithmetic.{all_numbers, signed_number}
 use Rattle.jsonb.specs.PathTree.{UnaryOp, paths, steps_of}
@@ -53,15 +51,15 @@ numbers_of_parts g (t ∷ ts) =
     ∙ ap (λ o. and_then (all_numbers (g t)) (λ front. and_then o (λ back. Ok (front ++ back)))) (numbers_of_parts g ts)
 
 -- an item that is neither a number nor an extension value
-pub no_number : (item : Item) (t : Tree) → ((n : CodeNumber) → item ≡ kind.Number n → ⊥) → ((x : ExtensionValue) → item ≡ kind.Extension x → ⊥)
-    → StandsFor any item t → all_numbers (value_of_item t) ≡ Err InvalidJsonPath
-no_number (kind.Number n) t a b h = absurd (a n refl)
-no_number (kind.Extension x) t a b h = absurd (b x refl)
-no_number (kind.Array bytes) t a b h = rw h.1 refl
-no_number (kind.Object bytes) t a b h = rw h.1 refl
+pub no_number : (value : StoredValue) (t : Tree) → ((n : CodeNumber) → value ≡ stored.Number n → ⊥) → (value ≡ stored.Extension → ⊥)
+    → IsStoredAs value t → all_numbers (value_of_item t) ≡ Err InvalidJsonPath
+no_number (stored.Number n) t a b h = absurd (a n refl)
+no_number stored.Extension t a b h = absurd (b refl)
+no_number stored.Array t a b h = rw h.1 refl
+no_number stored.Object t a b h = rw h.1 refl
 no_number _ t a b h = rw h refl
 
--- ---- numbers behind those that there were
+-- ---- numbers after the existing ones
 
 abbrev pub Behind : List CodeNumber → List CodeNumber → List Number → Type 0
 Behind old new ns = map number_view new ≡ map number_view old ++ ns
@@ -78,7 +76,7 @@ more_behind old mid new (Err e) before first then = absurd then
 
 -- ---- numbers that are signed in their places
 
--- so many are signed, and the others are as they were
+-- Holds if the first `i` numbers are signed, and the others are unchanged.
 abbrev pub SignedUntil : UnaryOp → List CodeNumber → ℕ → Outcome (List Tree) → Type 0
 SignedUntil op xs i outcome = Progress (AllZip (Is number_view) (drop i xs)) (AllZip IsNumberItem (take i xs)) (signed_number op) outcome
 

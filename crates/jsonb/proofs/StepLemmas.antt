@@ -34,7 +34,7 @@ pub kept_found : (R : Spot → Tree → Type 0) (keeps : Bool) (o : Option Spot)
 kept_found R true o item t ts is k r = rw (is, k) (r, tt)
 kept_found R false o item t ts is k r = rw (is, k) tt
 
--- the steps from the i-th one on: that step, and those behind it
+-- the steps from the i-th one on: that step, and those after it
 pub steps_at : (mode : Mode) (expressions : Expressions) (steps : List Path) (i : ℕ) (s : Path) (top : Tree) (us : List Tree) → i < length steps
     → s ≡ get_or steps i s →
     steps_meaning mode (steps_of (map (taken_step expressions) (steps_view (drop i steps)))) top us
@@ -44,7 +44,7 @@ steps_at mode expressions steps i s top us h is =
     ap (λ l. steps_meaning mode (steps_of (map (taken_step expressions) (steps_view l))) top us)
     (drop-cons steps i s h ∙ ap (λ x. x ∷ drop (suc i) steps) (sym is) ∙ ap (λ n. s ∷ drop n steps) (sym (add-one i)))
 
--- expressions that are refused stay as they are, and those that are filters are seen as filters
+-- expressions that fail stay as they are, and those that are filters are seen as filters
 refused_step : (s : math.Step) → taken_step AreRefused s ≡ s
 refused_step (math.whole_expression e) = refl
 refused_step _ = refl

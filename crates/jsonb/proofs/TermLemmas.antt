@@ -1,7 +1,6 @@
 -- Expressions in the order in which they are executed.
 use Rattle.std.proofs.Common.{◌≡◌, ℕ, ◌+◌, ◌<◌, List, [], ◌∷◌, ◌++◌, length, drop, get_or, map, flat_map, Ok, Err, refl, sym, ap, ◌∙◌, append_assoc, append-nil, add-one}
 use Rattle.std.specs.Prelude.{reverse}
-use Rattle.std.specs.Borrow.{Bor}
 use Rattle.std.specs.List.{All}
 use Rattle.std.proofs.Math.Seq.{drop-cons}
 use Rattle.std.proofs.lemmas.Grind.{flat_map-append}
@@ -23,7 +22,7 @@ use Rattle.jsonb.specs.declared.selector.terms.Term.{Term as CodeTerm}
 
 -- ---- executing
 
--- what stands behind the last of three
+-- what follows the last of three
 behind_three : {A : Type 0} (a b : List A) (x : A) (rest : List A) → (a ++ (b ++ x ∷ [])) ++ rest ≡ a ++ (b ++ (x ∷ rest))
 behind_three a b x rest = append_assoc a (b ++ x ∷ []) rest ∙ ap (λ l. a ++ l) (append_assoc b (x ∷ []) rest)
 
@@ -45,7 +44,7 @@ module _ (mode : Mode) (top item : Tree) where
       ∙ (λ i. and_then o (λ a. right (join j ∷ rest) (a ∷ truths) i))
       ∙ two_parts o p (joining j) (λ c. executed mode top item rest (c ∷ truths))
 
-  -- the terms of an expression put its truth in front of the others
+  -- the terms of an expression leave its result before the others
   pub executed-behind : (e : Expression) (rest : List Term) (truths : List Truth) →
       executed mode top item (postorder e ++ rest) truths ≡ and_then (truth mode e top item) (λ b. executed mode top item rest (b ∷ truths))
   executed-behind (binary and_op l r) rest truths =
@@ -98,7 +97,7 @@ turned e terms order below = (
   All-permutation (IsBelow (size-Expr e)) terms (reverse terms) (IsPermutation-reverse terms) below,
 )
 
-pub none_waiting : (waiting : List (Bor Expr)) → length waiting ≡ 0 → waiting ≡ []
+pub none_waiting : {A : Type 0} (waiting : List A) → length waiting ≡ 0 → waiting ≡ []
 none_waiting [] none = refl
 none_waiting (e ∷ waiting) none = cc
 

@@ -1,4 +1,4 @@
--- Texts that grow by one part.
+-- Text that one part is appended to.
 use Rattle.std.proofs.Common.{◌≡◌, ℕ, ◌+◌, ◌/◌, ◌%◌, ◌<◌, List, [], ◌∷◌, ◌++◌, length, get_or, take, map, refl, sym, ap, ◌∙◌, append_assoc}
 use Rattle.std.specs.Prelude.{flat_map, slice_index}
 use Rattle.hex.specs.Hex.{encode_with, encode_lower, lower_digits}

@@ -22,7 +22,7 @@ use Rattle.jsonb.specs.declared.path.Path.{Path, out-Path}
 use Rattle.jsonb.specs.declared.path.Path.TheVariants as step
 use Rattle.jsonb.proofs.PathNodes.{step_is}
 
--- a step that is no expression is the same as a filter
+-- a step that is not an expression is the same as a filter
 others : (s : Path) (x : Path-F Expr Path) → out-Path s ≡ x → ((e : Box Expr Global) → s ≡ step.Expr e → ⊥)
     → (as_filter (step_view s) ≡ step_view s) × (step_expression (step_view s) ≡ None)
 others s (Path-F.Expr e) h n = absurd (n e (sym (roll-out-Path s) ∙ ap roll-Path h ∙ step.rolls-Expr e))
@@ -78,7 +78,7 @@ pub is_outcome : {B : Type 0} (o : Outcome B) (x : B) → IsOkAnd o (λ y. x ≡
 is_outcome (Ok y) x h = ap Ok (sym h)
 is_outcome (Err e) x h = absurd h
 
--- a call without memory
+-- a call that does not allocate
 pub without_memory : {A B : Type 0} {R : A → B → Type 0} {r : Outcome A} {o : Outcome B} → Gives R (λ (_ : Error). ⊥) r o → Gives R IsOutOfMemory r o
 without_memory {A} {B} {R} {r = Ok x} {o} h = record { ok = h.ok; err = tt }
 without_memory {A} {B} {R} {r = Err e} {o} h = record { ok = tt; err = elim h.err [ inl none ↦ absurd none | inr is ↦ inr is ] }

@@ -9,11 +9,11 @@ use Rattle.jsonb_doc.specs.Number.{number_cmp}
 use Rattle.jsonb.specs.PathTree.{BinaryOp, eq, not_eq, lt, lte, gt, gte, starts_with_op}
 use Rattle.jsonb.specs.Values.{Value, null, boolean, number, text, container}
 
--- true, false, or none for unknown
+-- True, false, or `None` for unknown.
 abbrev pub Truth : Type 0
 Truth = Option Bool
 
--- the order of two values of one kind
+-- The order of two values of one type.
 abbrev pub value_order : Value → Value → Option Ordering
 value_order null null = Some Equal
 value_order (boolean a) (boolean b) = Some (bool_cmp a b)
@@ -21,7 +21,7 @@ value_order (number m) (number n) = Some (number_cmp m n)
 value_order (text a) (text b) = Some (slice_cmp nat_cmp a b)
 value_order _ _ = None
 
--- whether the operator holds of two values in this order
+-- Whether the operator holds for two values in this order.
 abbrev pub is_met_by : BinaryOp → Ordering → Bool
 is_met_by eq o = is_eq o
 is_met_by not_eq o = not (is_eq o)
@@ -31,13 +31,14 @@ is_met_by gt o = is_gt o
 is_met_by gte o = not (is_lt o)
 is_met_by _ o = false
 
--- values of two kinds differ, and else nothing is known of them
+-- The result for two values in this order. Values of two types have none: they are unequal, and any other comparison is
+-- unknown.
 abbrev pub truth_of_order : BinaryOp → Option Ordering → Truth
 truth_of_order op (Some o) = Some (is_met_by op o)
 truth_of_order not_eq None = Some true
 truth_of_order op None = None
 
--- whether the right text begins the left one
+-- Whether the right string begins the left one.
 abbrev pub starts_with_truth : Value → Value → Truth
 starts_with_truth (text a) (text b) = Some (starts_with nat_eq a b)
 starts_with_truth _ _ = None
@@ -46,22 +47,22 @@ abbrev pub is_container : Value → Bool
 is_container container = true
 is_container _ = false
 
--- of one pair: with a container it is unknown
+-- The result of one pair: with a container it is unknown.
 abbrev pub pair_truth : BinaryOp → Value → Value → Truth
 pair_truth starts_with_op a b = starts_with_truth a b
 pair_truth op a b = if is_container a || is_container b then None else truth_of_order op (value_order a b)
 
--- the first that is true or unknown decides; where none is, it is false
+-- The first result that is true or unknown, and false if there is none.
 abbrev pub first_decisive : List Truth → Truth
 first_decisive [] = Some false
 first_decisive (Some false ∷ rest) = first_decisive rest
 first_decisive (decisive ∷ rest) = decisive
 
--- all pairs: for each left value all right values
+-- The result of all pairs: for each left value all right values.
 abbrev pub compare : BinaryOp → List Value → List Value → Truth
 compare op ls rs = first_decisive (flat_map (λ l. map (λ r. pair_truth op l r) rs) ls)
 
--- unknown where either side is
+-- Whether both are true, unknown if either is.
 abbrev pub and_truth : Truth → Truth → Truth
 and_truth (Some a) (Some b) = Some (a && b)
 and_truth _ _ = None

@@ -1,4 +1,4 @@
--- The steps that look at one item alone.
+-- Steps that depend on one item only.
 use Rattle.std.specs.Prelude.{ℕ, pos, int_le, Bool, ◌&&◌, List, [], ◌∷◌, filter, filter_map, flat_map, slice_get, length, option_map, Option, Some, None, Ok, Err}
 use Rattle.std.specs.Ordering.{int_eq}
 use Rattle.std.specs.List.{range_with_len}
@@ -12,35 +12,35 @@ use Rattle.jsonb.specs.Positions.{position}
 use Rattle.jsonb.specs.declared.selector.document.Mode.{Mode}
 use Rattle.jsonb.specs.declared.selector.document.Mode.TheVariants.{Lax, Strict}
 
--- the values of an object, in the order of its keys
+-- The values of an object, in the order of its keys.
 abbrev pub values_of : Tree → Option (List Tree)
 values_of (object ps) = Some (tree.elements (tree.values ps))
 values_of _ = None
 
--- the list; where there is none the step doesn't fit the item: lax mode gives the other list, and strict mode refuses
+-- The list; without one the step does not apply to the item: lax mode returns the other list, and strict mode fails.
 abbrev pub list_or : Mode → List Tree → Option (List Tree) → Outcome (List Tree)
 list_or mode otherwise (Some ts) = Ok ts
 list_or Lax otherwise None = Ok otherwise
 list_or Strict otherwise None = Err StrictPath
 
--- the value under the key of an object
+-- The value of a key of an object.
 abbrev pub field_step : Mode → List ℕ → Tree → Outcome (List Tree)
 field_step mode name t = list_or mode [] (option_map (λ u. u ∷ []) (field_of name t))
 
--- an object's values
+-- An object's values.
 abbrev pub values_step : Mode → Tree → Outcome (List Tree)
 values_step mode t = list_or mode [] (values_of t)
 
--- an array's elements; in lax mode another item is itself
+-- An array's elements; in lax mode another item itself.
 abbrev pub elements_step : Mode → Tree → Outcome (List Tree)
 elements_step mode t = list_or mode (t ∷ []) (array_values t)
 
--- whether an entry means a position of an array of this length
+-- Whether a subscript denotes a position of an array of this length.
 abbrev pub is_meant : ℕ → Entry → ℕ → Bool
 is_meant length (single place) k = int_eq (pos k) (position length place)
 is_meant length (slice first last) k = int_le (position length first) (pos k) && int_le (pos k) (position length last)
 
--- the elements at the positions that an entry means, ascending, and at those of one entry after the other
+-- The elements at the positions that a subscript denotes, ascending, and those of one subscript after the other.
 abbrev pub picked_by : Entry → List Tree → List Tree
 picked_by entry ts = filter_map (slice_get ts) (filter (is_meant (length ts) entry) (range_with_len 0 (length ts)))
 

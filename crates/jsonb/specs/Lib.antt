@@ -17,7 +17,7 @@ pub mod PathLaws
 pub mod PathEquality
 pub mod SamePath
 pub mod PathDocuments
--- what clauses cite of the crates below, for the crates above
+-- Definitions of the crates below that clauses cite, for the crates above.
 pub use Rattle.jsonb_doc.specs.declared.error.Error
 pub use Rattle.jsonb_doc.specs.ErrorText
 pub use Rattle.jsonb_doc.specs.Tree

@@ -1,4 +1,4 @@
--- What a path means on a tree: a list of items, or the first refusal.
+-- The meaning of a path on a tree: a list of items, or the first error.
 use Rattle.std.specs.Prelude.{◌≡◌, Bool, true, false, List, [], ◌∷◌, map, flat_map, Option, Some, None, is_some, Ok, Err, if◌then◌else◌}
 use Rattle.jsonb_doc.specs.Answer.{Outcome, and_then, try_flat_map}
 use Rattle.jsonb_doc.specs.Arithmetic.{Operation}
@@ -15,12 +15,12 @@ use Rattle.jsonb.specs.Preorder.{preorder}
 use Rattle.jsonb.specs.ItemSteps.{field_step, values_step, elements_step, indices_step}
 use Rattle.jsonb.specs.declared.selector.document.Mode.{Mode}
 
--- the item, where the filter is true
+-- The item, if the filter is true.
 abbrev pub filtered : Tree → Truth → List Tree
 filtered item (Some true) = item ∷ []
 filtered item _ = []
 
--- where a path within an expression starts: at the item where it begins with `@`, else at the root
+-- The start of a path within an expression: the item if the path begins with `@`, otherwise the root.
 abbrev pub start : Steps → Tree → Tree → Tree
 start (step current rest) top item = item
 start _ top item = top
@@ -30,7 +30,7 @@ is_some_item [] = false
 is_some_item (t ∷ ts) = true
 
 abbrev mutual
-  -- one step, of one item of the document `top`
+  -- One step, for one item of the document `top`.
   pub step_meaning : Mode → Step → Tree → Tree → Outcome (List Tree)
   step_meaning mode root top item = Ok (item ∷ [])
   step_meaning mode current top item = Ok (item ∷ [])
@@ -44,26 +44,26 @@ abbrev mutual
   step_meaning mode (filter e) top item = and_then (truth mode e top item) (λ b. Ok (filtered item b))
   step_meaning mode (whole_expression e) top item = Err InvalidJsonPath
 
-  -- one step after the other, each of all the items
+  -- One step after the other, each for all items.
   pub steps_meaning : Mode → Steps → Tree → List Tree → Outcome (List Tree)
   steps_meaning mode no_steps top items = Ok items
   steps_meaning mode (step s rest) top items =
       and_then (try_flat_map (step_meaning mode s top) items) (steps_meaning mode rest top)
 
-  -- the values of an operand
+  -- The values of an operand.
   pub operand_values : Mode → Expression → Tree → Tree → Outcome (List Value)
   operand_values mode (paths steps) top item =
       and_then (steps_meaning mode steps top (start steps top item ∷ [])) (λ ts. Ok (flat_map values_of_item ts))
   operand_values mode (value l) top item = Ok (values_of_literal (literal_item l))
   operand_values mode _ top item = Err InvalidJsonPath
 
-  -- whether an expression is true of an item
+  -- Whether an expression is true of an item.
   pub truth : Mode → Expression → Tree → Tree → Outcome Truth
   truth mode (binary and_op l r) top item =
       and_then (truth mode l top item) (λ a. and_then (truth mode r top item) (λ b. Ok (and_truth a b)))
   truth mode (binary or_op l r) top item =
       and_then (truth mode l top item) (λ a. and_then (truth mode r top item) (λ b. Ok (or_truth a b)))
-  -- arithmetic is unknown, its operands not looked at; a comparison takes the values of both operands first
+  -- Arithmetic is unknown, and its operands are not evaluated; a comparison takes the values of both operands first.
   truth mode (binary op l r) top item =
       if is_some (operation op) then Ok None else and_then (operand_values mode l top item)
       (λ ls. and_then (operand_values mode r top item) (λ rs. Ok (compare op ls rs)))
@@ -73,7 +73,7 @@ abbrev mutual
 
 -- ---- one expression as the whole path; the root is the item
 
--- a truth as an item: unknown is null
+-- A three-valued result as an item: unknown is null.
 abbrev pub truth_item : Truth → Tree
 truth_item (Some b) = tree.boolean b
 truth_item None = tree.null
@@ -81,17 +81,17 @@ truth_item None = tree.null
 abbrev pub truth_list : Outcome Truth → Outcome (List Tree)
 truth_list outcome = and_then outcome (λ b. Ok (truth_item b ∷ []))
 
--- arithmetic takes the values of both operands first
+-- Arithmetic takes the values of both operands first.
 abbrev pub calculation : Operation → Outcome (List Value) → Outcome (List Value) → Outcome (List Tree)
 calculation op left right = and_then left (λ ls. and_then right (λ rs. two_numbers op ls rs))
 
--- a number where the operator is one of arithmetic, else a truth
+-- A number if the operator is arithmetic, otherwise a three-valued result.
 abbrev pub binary_meaning : Mode → Option Operation → BinaryOp → Expression → Expression → Tree → Outcome (List Tree)
 binary_meaning mode (Some arithmetic) op l r top =
     calculation arithmetic (operand_values mode l top top) (operand_values mode r top top)
 binary_meaning mode None op l r top = truth_list (truth mode (binary op l r) top top)
 
--- an array of the literal; of a document as a literal `Means` says the list
+-- An array of the literal; for a document as a literal see `Means`.
 abbrev pub literal_list : Option Tree → Outcome (List Tree)
 literal_list (Some t) = Ok (tree.array (tree.trees_of (t ∷ [])) ∷ [])
 literal_list None = Err InvalidJsonPath
@@ -105,18 +105,18 @@ expression_meaning mode (exists steps) top = truth_list (truth mode (exists step
 
 -- ---- whole paths
 
--- among several steps an expression is a filter
+-- An expression among several steps, which is a filter.
 abbrev pub as_filter : Step → Step
 as_filter (whole_expression e) = filter e
 as_filter s = s
 
--- the list of a path on a tree, or its first refusal
+-- The list of a path on a tree, or its first error.
 abbrev pub meaning : Mode → List Step → Tree → Outcome (List Tree)
 meaning mode (whole_expression e ∷ []) top = expression_meaning mode e top
 meaning mode (current ∷ rest) top = Err InvalidJsonPath
 meaning mode path top = steps_meaning mode (steps_of (map as_filter path)) top (top ∷ [])
 
--- the path has this outcome on the tree; of one document alone it is the tree that its bytes decode to
+-- Holds if the path has this outcome on the tree; that of a single document is the tree that its bytes decode to.
 abbrev pub Means : Form → Mode → List Step → Tree → Outcome (List Tree) → Type 0
 Means form mode (whole_expression (value (raw document)) ∷ []) top outcome =
     (t : Tree) × Decodes form document t × (outcome ≡ Ok (t ∷ []))
@@ -124,17 +124,17 @@ Means form mode path top outcome = outcome ≡ meaning mode path top
 
 -- ---- what a path says as a predicate
 
--- the truth that a list of one item is
+-- The three-valued result that a list of one item is.
 abbrev pub list_truth : List Tree → Truth
 list_truth (tree.boolean b ∷ []) = Some b
 list_truth _ = None
 
--- the truth that its list is; a literal says nothing
+-- The three-valued result that the list of an expression is; a literal has none.
 abbrev pub expression_predicate : Mode → Expression → Tree → Outcome Truth
 expression_predicate mode (value l) top = Ok None
 expression_predicate mode e top = and_then (expression_meaning mode e top) (λ ts. Ok (list_truth ts))
 
--- nothing where the path is no single expression; unknown is none too
+-- The result of a path as a predicate, and `None` if it is not a single expression, or unknown.
 abbrev pub predicate : Mode → List Step → Tree → Outcome Truth
 predicate mode (whole_expression e ∷ []) top = expression_predicate mode e top
 predicate mode _ top = Ok None

@@ -10,7 +10,7 @@ use Rattle.jsonb_doc.specs.Tree.{Tree}
 use Rattle.jsonb.specs.PathTree.{BinaryOp, add, subtract, multiply, divide, modulo, UnaryOp, plus, minus}
 use Rattle.jsonb.specs.Values.{Value, number}
 
--- the operation of an operator, where it is one of arithmetic
+-- The operation of an operator, if it is arithmetic.
 abbrev pub operation : BinaryOp → Option Operation
 operation add = Some arith.add
 operation subtract = Some arith.subtract
@@ -19,26 +19,26 @@ operation divide = Some arith.divide
 operation modulo = Some arith.modulo
 operation _ = None
 
--- a number as a list of one item
+-- A number as a list of one item.
 abbrev pub number_list : Outcome Number → Outcome (List Tree)
 number_list outcome = and_then outcome (λ n. Ok (tree.number n ∷ []))
 
--- two operands, of one number each
+-- The result of two operands, of one number each.
 abbrev pub two_numbers : Operation → List Value → List Value → Outcome (List Tree)
 two_numbers op (number m ∷ []) (number n ∷ []) = number_list (calculated op m n)
 two_numbers op _ _ = Err InvalidJsonPath
 
--- the numbers that the values are; another value is refused
+-- The numbers that the values are; another value is an error.
 abbrev pub all_numbers : List Value → Outcome (List Number)
 all_numbers [] = Ok []
 all_numbers (number n ∷ rest) = and_then (all_numbers rest) (λ ns. Ok (n ∷ ns))
 all_numbers (value ∷ rest) = Err InvalidJsonPath
 
--- a sign in front of a number
+-- The number with a sign.
 abbrev pub signed_number : UnaryOp → Number → Outcome (List Tree)
 signed_number plus n = Ok (tree.number n ∷ [])
 signed_number minus n = number_list (negated n)
 
--- a sign in front of each value: first all have to be numbers, then the results are taken from left to right
+-- Each value with a sign: first all have to be numbers, then the results are computed from left to right.
 abbrev pub each_signed : UnaryOp → List Value → Outcome (List Tree)
 each_signed op values = and_then (all_numbers values) (try_flat_map (signed_number op))

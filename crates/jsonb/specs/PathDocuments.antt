@@ -28,6 +28,6 @@ abbrev mutual
 abbrev pub has_document : List Step → Bool
 has_document path = steps_have_document (steps_of path)
 
--- memory was refused, or there is a document, which can't be owned
+-- Holds if an allocation failed, or there is a document, which cannot be owned.
 abbrev pub IsOwningError : Bool → Error → Type 0
 IsOwningError has_document e = (e ≡ OutOfMemory) ⊎ ((e ≡ InvalidJsonPath) × (has_document ≡ true))

@@ -1,21 +1,22 @@
--- Which paths are equal: those of the same parts, with literals that are equal by value.
+-- Equality of paths: the same nodes, with literals that are equal by value.
 use Rattle.std.specs.Prelude.{◌≡◌, List, Option, Some}
 use Rattle.jsonb_doc.specs.Order.{IsEqual}
 use Rattle.jsonb_doc.specs.Tree.{Tree}
 use Rattle.jsonb.specs.PathTree.{Literal, Step, filter, whole_expression, Steps, no_steps, step, Expression, paths, value, binary, unary, exists, steps_of}
 use Rattle.jsonb.specs.Values.{literal_item}
 
--- two items, of equal value
+-- Holds if these are two items, of equal value.
 abbrev pub AreEqualItems : Option Tree → Option Tree → Type 0
 AreEqualItems (Some t) (Some u) = IsEqual t u
 AreEqualItems _ _ = ⊥
 
--- Literals go by the items that they are: null, truth values, numbers by exact value, and texts by bytes. A document
--- equals none, not even itself.
+-- Holds if literals are equal as the items that they are: null, Booleans, numbers by exact value, and strings by bytes.
+-- A document equals nothing, not even itself.
 abbrev pub SameLiteral : Literal → Literal → Type 0
 SameLiteral l m = AreEqualItems (literal_item l) (literal_item m)
 
--- one kind of step with the same names, index entries and levels; the expressions inside go part by part
+-- Holds for one type of step with the same names, subscripts and levels; the expressions inside are compared node by
+-- node.
 abbrev mutual
   pub SameStep : Step → Step → Type 0
   SameStep (filter e) (filter f) = SameExpression e f

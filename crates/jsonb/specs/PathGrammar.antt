@@ -1,4 +1,4 @@
--- Which texts are JSON paths, and which trees they stand for.
+-- The syntax of JSON paths, and their trees.
 use Rattle.std.specs.Prelude.{ℕ, zero, suc, ◌^◌, ◌+◌, ◌++◌, Bool, true, false, List, [], ◌∷◌, length, take, drop, Option, Some, None, ℤ, pos, neg_ℤ, fold, codes, if◌then◌else◌}
 use Rattle.std.specs.Str.{str_eq_ignore_ascii_case}
 use Prim.Native.String.{String}
@@ -6,7 +6,7 @@ use Rattle.jsonb_keypath.specs.Rules.{Rule, give, fail, ◌>>=◌, ◌>>◌, ◌
 use Rattle.jsonb_keypath.specs.Tokens.{ws, nat8, nat64, int32, int64, is_within, name, quoted}
 use Rattle.jsonb.specs.PathTree.{Place, from_front, from_last, Entry, single, slice, level, last_level, LevelEnd, Levels, Literal, null, boolean, unsigned, signed, string, BinaryOp, and_op, or_op, eq, not_eq, lt, lte, gt, gte, starts_with_op, add, subtract, multiply, divide, modulo, UnaryOp, plus, minus, Step, root, current, dot_wildcard, recursive_dot_wildcard, bracket_wildcard, dot_field, colon_field, object_field, array_indices, filter, whole_expression, Expression, paths, value, binary, unary, exists, steps_of}
 
--- these letters, each in any case
+-- These letters, each in any case.
 abbrev pub in_any_case : List ℕ → Rule (Unit {0})
 in_any_case text input =
     if str_eq_ignore_ascii_case (take (length text) input) text then Some (tt, drop (length text) input) else None
@@ -14,17 +14,17 @@ in_any_case text input =
 abbrev pub keyword : String → Rule (Unit {0})
 keyword text = in_any_case (codes text)
 
--- white space around the rule
+-- White space around the rule.
 abbrev pub spaced : {A : Type 0} → Rule A → Rule A
 spaced rule = do ws; a ← rule; ws; give a
 
 -- ---- steps without expressions
 
--- the negated number; the least one of 32 bits has no negation there, and gives the greatest
+-- The negated number; the least 32-bit one has no negation there, and becomes the greatest.
 abbrev pub negated : ℤ → ℤ
 negated z = if is_within (2 ^ 31) (neg_ℤ z) then neg_ℤ z else pos (2147483647)
 
--- `last`, this sign, and a number
+-- `last`, this sign, and a number.
 abbrev pub last_and : String → Rule ℤ
 last_and sign = do keyword "last"; ws; literal sign; ws; int32
 
@@ -39,7 +39,7 @@ entry =
     (do first ← place; ws; keyword "to"; ws; last ← place; give (slice first last))
     </> (place >>= λ p. give (single p))
 
--- `to`, and the level that the levels end at
+-- `to`, and the level at which the levels end.
 abbrev pub level_end : Rule LevelEnd
 level_end = do ws; keyword "to"; ws; (nat8 >>= λ n. give (level n)) </> (keyword "last" >> give last_level)
 
@@ -88,7 +88,7 @@ literal_value =
     </> (nat64 >>= λ n. give (unsigned n)) </> (int64 >>= λ z. give (signed z))
     </> (quoted >>= λ text. give (string text))
 
--- the root of a path, and the steps behind it
+-- The root of a path, and the steps after it.
 abbrev pub operand_steps : Bool → Rule (List Step)
 operand_steps is_in_filter = do first ← path_root is_in_filter; others ← repeat spaced_inner; give (first ∷ others)
 
@@ -123,25 +123,25 @@ binary_atom is_in_filter =
 
 -- ---- expressions
 
--- the members from the left on, joined two by two
+-- The members from the left on, joined two by two.
 abbrev pub joined_by : BinaryOp → List Expression → Expression
 joined_by op [] = value null
 joined_by op (first ∷ others) = fold (λ left right. binary op left right) first others
 
--- `nested` reads an expression inside parentheses, in a filter or not
+-- `nested` reads an expression inside parentheses, in a filter or not.
 module _ (nested : Bool → Rule Expression) where
-  -- `?( .. )`
+  -- `?( .. )`.
   unfoldable pub filter_with : Rule Expression
   filter_with = do literal "?"; ws; literal "("; ws; e ← nested true; ws; literal ")"; give e
 
   unfoldable pub path_with : Rule Step
   path_with = spaced_inner </> spaced (filter_with >>= λ e. give (filter e))
 
-  -- `( .. )`
+  -- `( .. )`.
   unfoldable pub group_with : Bool → Rule Expression
   group_with is_in_filter = do literal "("; ws; e ← nested is_in_filter; ws; literal ")"; give e
 
-  -- the root of a path in `exists`, and the steps behind it
+  -- The root of a path in `exists`, and the steps after it.
   abbrev pub exists_steps : Rule (List Step)
   exists_steps = do first ← path_root true; others ← repeat path_with; give (first ∷ others)
 
@@ -161,7 +161,7 @@ module _ (nested : Bool → Rule Expression) where
   or_with is_in_filter =
       list_of (and_with is_in_filter) (spaced (literal "||")) >>= λ members. give (joined_by or_op members)
 
--- An expression with at most so many parentheses within one another. The length of the input is bound enough.
+-- An expression with at most n nested parentheses. The length of the input is a sufficient bound.
 unfoldable pub nested_or : ℕ → Bool → Rule Expression
 nested_or zero is_in_filter = fail
 nested_or (suc n) is_in_filter = or_with (nested_or n) is_in_filter
@@ -169,7 +169,7 @@ nested_or (suc n) is_in_filter = or_with (nested_or n) is_in_filter
 unfoldable pub expression : Bool → Rule Expression
 expression is_in_filter input = nested_or (length input + 1) is_in_filter input
 
--- ---- whole texts
+-- ---- whole paths
 
 unfoldable pub root_expression : Rule (List Step)
 root_expression = spaced (expression false) >>= λ e. give (whole_expression e ∷ [])
@@ -177,17 +177,17 @@ root_expression = spaced (expression false) >>= λ e. give (whole_expression e �
 unfoldable pub first_step : Rule Step
 first_step = (literal "$" >> give root) </> (spaced name >>= λ text. give (dot_field text))
 
--- the first step, where one stands there
+-- The first step, if there is one.
 unfoldable pub front_steps : Rule (List Step)
 front_steps = (first_step >>= λ s. give (s ∷ [])) </> give []
 
--- one step of a path, where a filter may hold any expression
+-- One step of a path; a filter may contain any expression.
 unfoldable pub path_step : Rule Step
 path_step input = path_with (nested_or (length input + 1)) input
 
 unfoldable pub plain_path : Rule (List Step)
 plain_path = do front ← front_steps; others ← repeat path_step; give (front ++ others)
 
--- the steps of the path that a text is, where it is one
+-- The steps of the path that the text is, if it is one.
 unfoldable pub json_path : List ℕ → Option (List Step)
 json_path text = all_consuming (spaced (root_expression </> plain_path) text)

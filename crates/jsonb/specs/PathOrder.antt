@@ -1,5 +1,5 @@
--- How two literals of a path compare. Literals of two kinds do not compare, and a document compares with none, not even
--- with itself.
+-- The order of two literals of a path. Literals of two types do not compare, and a document compares with none, not
+-- even with itself.
 use Rattle.std.specs.Prelude.{Bool, Option, Some, None}
 use Rattle.std.specs.declared.cmp.Ordering.{Ordering}
 use Rattle.std.specs.declared.cmp.Ordering.TheVariants.{Equal}
@@ -12,7 +12,7 @@ use Rattle.jsonb.specs.declared.path.PathValue.{PathValue}
 use Rattle.jsonb.specs.declared.path.PathValue.TheVariants.{Null, Boolean, String}
 use Rattle.jsonb.specs.declared.path.PathValue.TheVariants as PathValue'
 
--- false is below true, numbers compare by exact value, and texts by their bytes
+-- False is less than true, numbers compare by exact value, and strings by their bytes.
 abbrev pub path_value_order : PathValue → PathValue → Option Ordering
 path_value_order Null Null = Some Equal
 path_value_order (Boolean b) (Boolean c) = Some (bool_cmp b c)
@@ -20,6 +20,6 @@ path_value_order (PathValue'.Number m) (PathValue'.Number n) = Some (number_cmp 
 path_value_order (String s) (String t) = Some (slice_cmp nat_cmp (cow_str_bytes s) (cow_str_bytes t))
 path_value_order _ _ = None
 
--- equal where the order says so
+-- Whether the order is equal.
 abbrev pub path_value_equal : PathValue → PathValue → Bool
 path_value_equal x y = is_some_and is_eq (path_value_order x y)

@@ -1,4 +1,4 @@
--- The text of a JSON path, from which it reads back.
+-- The text of a JSON path, which parses back.
 use Rattle.std.specs.Prelude.{ℕ, zero, suc, ◌==◌, List, [], ◌∷◌, ◌++◌, ℤ, pos, negsuc, Bool, true, false, Option, Some, None, codes, flat_map, if◌then◌else◌}
 use Rattle.std.specs.Fmt.{decimal, signed_decimal}
 use Rattle.hex.specs.Hex.{encode_lower}
@@ -6,7 +6,7 @@ use Rattle.jsonb_keypath.specs.KeyPathText.{quoted_text, name_text}
 use Rattle.jsonb_doc.specs.NumberText.{decimal_text}
 use Rattle.jsonb.specs.PathTree.{Place, from_front, from_last, Entry, single, slice, LevelEnd, level, last_level, Levels, Literal, null, boolean, unsigned, signed, decimal64, decimal128, string, raw, BinaryOp, and_op, or_op, eq, not_eq, lt, lte, gt, gte, starts_with_op, add, subtract, multiply, divide, modulo, UnaryOp, plus, minus, Step, root, current, dot_wildcard, recursive_dot_wildcard, bracket_wildcard, dot_field, colon_field, object_field, array_indices, filter, whole_expression, Steps, no_steps, step, Expression, paths, value, binary, unary, exists}
 
--- Nothing for 0, and else the number with its sign. The least number of 32 bits cannot stand behind a minus.
+-- Nothing for 0, otherwise the number with its sign. The least 32-bit number cannot follow a minus.
 abbrev pub offset_text : ℤ → List ℕ
 offset_text (pos zero) = []
 offset_text (pos (suc n)) = codes "+" ++ decimal (suc n)
@@ -32,7 +32,7 @@ level_end_text (Some last_level) = codes " to last"
 abbrev pub level_text : Levels → List ℕ
 level_text levels = decimal levels.start ++ level_end_text levels.end
 
--- a level between braces, where there is one
+-- A level between braces, if there is one.
 abbrev pub levels_text : Option Levels → List ℕ
 levels_text None = []
 levels_text (Some levels) = codes "{" ++ decimal levels.start ++ level_end_text levels.end ++ codes "}"
@@ -68,7 +68,7 @@ literal_text (decimal128 whole scale) = decimal_text whole scale
 literal_text (string text) = quoted_text text
 literal_text (raw document) = codes "raw(" ++ encode_lower document ++ codes ")"
 
--- whether the operator joins conditions
+-- Whether the operator joins conditions.
 abbrev pub joins : BinaryOp → Bool
 joins and_op = true
 joins or_op = true
@@ -78,7 +78,7 @@ abbrev pub needs_parentheses : Expression → Bool
 needs_parentheses (binary op left right) = joins op
 needs_parentheses _ = false
 
--- the text of a side of a binary expression: joined conditions stand in parentheses
+-- The text of a side of a binary expression: joined conditions are in parentheses.
 abbrev pub side_text : Expression → List ℕ → List ℕ
 side_text e text = if needs_parentheses e then codes "(" ++ text ++ codes ")" else text
 
@@ -109,6 +109,6 @@ abbrev mutual
   expression_text (unary op operand) = sign_text op ++ expression_text operand
   expression_text (exists steps) = codes "exists(" ++ steps_text steps ++ codes ")"
 
--- the steps of a whole path
+-- The steps of a whole path.
 abbrev pub path_text : List Step → List ℕ
 path_text steps = flat_map step_text steps

@@ -1,4 +1,4 @@
--- What the path types stand for in the grammar.
+-- The trees of the path types.
 use Rattle.std.specs.Prelude.{List, map, option_map}
 use Rattle.std.specs.Cow.{cow_str_bytes}
 use Rattle.jsonb_raw.specs.Documents.{raw_bytes}
@@ -71,7 +71,7 @@ abbrev pub sign_view : UnaryOperator → UnaryOp
 sign_view sign.Add = plus
 sign_view sign.Subtract = minus
 
--- one level, with each expression and step inside already seen as its tree
+-- One node, with the trees of the expressions and steps in it.
 abbrev pub step_layer : Path-F Expression Step → Step
 step_layer Path-F.Root = root
 step_layer Path-F.Current = current

@@ -1,19 +1,19 @@
--- The items that a recursive step gives.
+-- The items that a recursive step selects.
 use Rattle.std.specs.Prelude.{ℕ, ◌+◌, Bool, true, List, [], ◌∷◌, ◌++◌, Option, Some, None, if◌then◌else◌}
 use Rattle.jsonb_doc.specs.Tree.{Tree, array, object, Trees, no_trees, tree, Pairs, no_pairs, pair}
 use Rattle.jsonb.specs.PathTree.{Levels}
 use Rattle.jsonb.specs.LevelTable.{level_answer}
 
--- whether an item of this level is taken, and whether its children are looked at; without levels all are
+-- Whether an item of this level is selected, and whether its children are visited; without levels both.
 abbrev pub answer_at : Option Levels → ℕ → Bool × Bool
 answer_at (Some levels) n = level_answer levels n
 answer_at None n = (true, true)
 
--- the item itself, where its level is taken
+-- The item itself, if its level is selected.
 abbrev pub taken_item : Option Levels → ℕ → Tree → List Tree
 taken_item levels n t = if (answer_at levels n).0 then t ∷ [] else []
 
--- the items from this one down, each before its children
+-- The items from this one down, each before its children.
 abbrev mutual
   pub preorder : Option Levels → ℕ → Tree → List Tree
   preorder levels n (array ts) =

@@ -1,10 +1,12 @@
--- What the contracts of private functions say beyond the words of the others. No public clause cites these.
+-- Definitions that only contracts of private functions use. No public clause cites them.
 pub mod Positions
 pub mod Selection
 pub mod Selected
 pub mod Appends
 pub mod Kept
 pub mod Terms
+pub mod Jumps
+pub mod Tests
 pub mod Below
 pub mod Frames
 pub mod Parts

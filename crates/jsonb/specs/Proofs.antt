@@ -1,5 +1,4 @@
--- Proofs that the laws of impls cite, so that they have to stand in specs/. None of it need be believed: all is
--- checked.
+-- Proofs that laws of impls cite, and which therefore must be in specs/. Readers can ignore them: all are checked.
 pub mod PathOrder
 pub mod SameParts
 pub mod SamePath

@@ -1,4 +1,4 @@
--- Whether two paths have the same parts, as a test.
+-- Whether two paths have the same nodes, as a test.
 use Rattle.std.specs.Prelude.{Bool, true, false, ◌&&◌, nat_eq, Option, Some}
 use Rattle.std.specs.Cmp.Lexicographic.{pointwise}
 use Rattle.std.specs.Option.{option_eq}
@@ -27,7 +27,7 @@ is_same_end _ _ = false
 abbrev pub is_same_level : Levels → Levels → Bool
 is_same_level k l = nat_eq k.start l.start && option_eq is_same_end k.end l.end
 
--- operators and signs go by their texts
+-- Operators and signs compare by their text.
 abbrev pub is_same_operator : BinaryOp → BinaryOp → Bool
 is_same_operator a b = pointwise nat_eq (operator_text a) (operator_text b)
 
@@ -61,7 +61,7 @@ abbrev mutual
   are_same_steps (step s ss) (step t ts) = is_same_step s t && are_same_steps ss ts
   are_same_steps _ _ = false
 
-  -- the left sides come last, since they may be long chains
+  -- The left sides are compared last, since they may be long chains.
   pub is_same_expression : Expression → Expression → Bool
   is_same_expression (paths ss) (paths ts) = are_same_steps ss ts
   is_same_expression (value l) (value m) = is_same_literal l m

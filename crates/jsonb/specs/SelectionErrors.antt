@@ -1,4 +1,4 @@
--- What a selection answers on any bytes, whether they decode or not.
+-- The results of a selection on any bytes, whether they decode or not.
 use Rattle.std.specs.Prelude.{◌≡◌, ◌⊎◌, ⊤}
 use Rattle.jsonb_doc.specs.declared.error.Error.{Error}
 use Rattle.jsonb_doc.specs.declared.error.Error.TheVariants.{InvalidJsonPath, Arithmetic, StrictPath, TooLarge, OutOfMemory}
@@ -6,17 +6,17 @@ use Rattle.jsonb_doc.specs.Answer.{IsDecodingError, ◌or◌}
 use Rattle.jsonb.specs.declared.selector.document.Mode.{Mode}
 use Rattle.jsonb.specs.declared.selector.document.Mode.TheVariants.{Strict}
 
--- why a path has no list on a document; `StrictPath` only in strict mode
+-- Holds for the errors of evaluating a path on a document; `StrictPath` only in strict mode.
 abbrev pub IsPathError : Mode → Error → Type 0
 IsPathError mode InvalidJsonPath = ⊤
 IsPathError mode (Arithmetic fault) = ⊤
 IsPathError Strict StrictPath = ⊤
 IsPathError mode _ = ⊥
 
--- what a path that runs on any bytes may be refused with: what reading them is, or as the path is
+-- Holds for the errors of a path evaluated on any bytes: those of reading them, or of the path.
 abbrev pub IsSelectionError : Mode → Error → Type 0
 IsSelectionError mode e = (IsDecodingError or OutOfMemory) e ⊎ IsPathError mode e
 
--- the same of a call that hands out documents, which may pass the limits
+-- Holds for the errors of a call that returns documents, which may exceed the limits.
 abbrev pub IsDocumentError : Mode → Error → Type 0
 IsDocumentError mode e = IsSelectionError mode e ⊎ (e ≡ TooLarge)

@@ -1,7 +1,7 @@
-//! Laws of the definitions. These functions compute nothing; their contracts are the laws.
+//! Theorems about the definitions. The functions do nothing; their contracts are the theorems.
 //!
-//! Those of the crates below are here too: of documents and numbers in `documents`, of tokens and key paths in
-//! `key_paths`, and of what is asked of documents in `functions`.
+//! Those of the crates below are re-exported: of documents and numbers in `documents`, of tokens and key paths in
+//! `key_paths`, and of functions on documents in `functions`.
 
 ghost use Rattle.std.specs.Prelude.{◌≡◌, ◌↔◌, ℕ, ◌<◌, Bool, true, false, List, Ok, IfSome, IsSomeAnd};
 ghost use Rattle.jsonb.specs.PathDocuments.{has_document};
@@ -39,22 +39,20 @@ pub use jsonb_keypath::laws as key_paths;
 pub use jsonb_raw::laws as functions;
 pub use jsonb_raw::laws::printed_key_paths_keep_their_place;
 
-/// A JSON path that was read prints to a text that reads as the same path, but for which variant
-/// holds a whole number.
+/// A parsed JSON path prints to text that parses as the same path, except for the variant of an integer.
 pub fn printed_json_path_reads_back(text: &[u8])
     ensures { IfSome (json_path text.now) (λ p. IsSomeAnd (json_path (path_text p)) (SameButVariants p)) }
 {}
 
-/// The rules of the grammar hold without a bound on parentheses: what stands inside them is read
-/// by the same rules.
+/// The rules of the grammar hold without a bound on parentheses: their content is parsed by the same rules.
 pub fn rules_hold_without_bounds(text: &[u8])
     ensures expressions { (is_in_filter : Bool)
         → expression is_in_filter text.now ≡ or_with expression is_in_filter text.now }
     ensures steps { path_step text.now ≡ path_with expression text.now }
 {}
 
-/// Each rule that the grammar repeats reads a byte at least, inside parentheses too. So a repetition goes on
-/// until its rule fails.
+/// Each rule that the grammar repeats reads at least one byte, inside parentheses too. So a repetition continues until
+/// its rule fails.
 pub fn repeated_rules_read_some()
     ensures entries { ReadsSome (behind (literal ",") spaced_entry) }
     ensures operand_steps { ReadsSome spaced_inner }
@@ -66,97 +64,97 @@ pub fn repeated_rules_read_some()
         → ReadsSome (behind (spaced (literal "||")) (and_with (nested_or n) is_in_filter)) }
 {}
 
-/// Where the strict meaning of a path is a list, its lax meaning is the same list.
+/// If the strict meaning of a path is a list, its lax meaning is the same list.
 pub fn strict_implies_lax()
     ensures { (form : Form) (path : List Step) (top : Tree) (ts : List Tree)
         → Means form Strict path top (Ok ts) → Means form Lax path top (Ok ts) }
 {}
 
-/// Paths that differ at most in which variant holds a whole number mean the same on every tree: they have
-/// the same refusal, or lists that are equal by value, and the same answer as predicates.
+/// Paths that differ at most in the variant of an integer mean the same on every tree: they have the same error, or
+/// lists that are equal by value, and the same result as predicates.
 pub fn variants_change_no_meaning()
     ensures { (p q : List Step) → SameButVariants p q → MeanTheSame p q }
 {}
 
-/// A JSON path that was read prints to a text that reads as a path of the same meaning.
+/// A parsed JSON path prints to text that parses as a path of the same meaning.
 pub fn printed_json_path_keeps_its_meaning(text: &[u8])
     ensures { IfSome (json_path text.now) (λ p. IsSomeAnd (json_path (path_text p)) (MeanTheSame p)) }
 {}
 
-/// An index entry selects exactly the positions that `to_indices` holds.
+/// A subscript selects exactly the positions in the result of `to_indices`.
 pub fn selected_positions_are_meant()
     ensures { (entry : Entry) (length k : ℕ) → k < length
         → (is_meant length entry k ≡ true) ↔ IsPosition entry length k }
 {}
 
-/// JSON paths are equal by `==` exactly where they have the same steps, part by part.
+/// JSON paths are equal by `==` if and only if they have the same steps, node by node.
 pub fn json_paths_are_equal_by_steps(left: &JsonPath, right: &JsonPath)
     ensures { (json_paths_equal.it left.now right.now ≡ true) ↔ SamePath (path_view left.now) (path_view right.now) }
 {}
 
-/// Steps are equal by `==` exactly where they are of one kind with the same parts, whatever holds
-/// the texts.
+/// Steps are equal by `==` if and only if they are of one variant with the same nodes, whether they borrow or own
+/// strings.
 pub fn steps_are_equal_by_parts(left: &Path, right: &Path)
     ensures { (steps_equal.it left.now right.now ≡ true) ↔ SameStep (step_view left.now) (step_view right.now) }
 {}
 
-/// Expressions are equal by `==` exactly where they are of one kind with the same parts.
+/// Expressions are equal by `==` if and only if they are of one variant with the same nodes.
 pub fn expressions_are_equal_by_parts(left: &Expr, right: &Expr)
     ensures { (expressions_equal.it left.now right.now ≡ true) ↔
         SameExpression (expression_view left.now) (expression_view right.now) }
 {}
 
-/// Literals are equal by `==` exactly where they are equal by value.
+/// Literals are equal by `==` if and only if they are equal by value.
 pub fn literals_are_equal_by_value(left: &PathValue, right: &PathValue)
     ensures { (literals_equal.it left.now right.now ≡ true) ↔
         SameLiteral (literal_view left.now) (literal_view right.now) }
 {}
 
-/// Places in an array are equal by `==` exactly where they are counted from the same end, equally far.
+/// Positions in an array are equal by `==` if and only if they are counted from the same end, equally far.
 pub fn indices_are_equal_by_parts(left: &Index, right: &Index)
     ensures { (indices_equal.it left.now right.now ≡ true) ↔ (place_view left.now ≡ place_view right.now) }
 {}
 
-/// Index entries are equal by `==` exactly where they have the same places.
+/// Subscripts are equal by `==` if and only if they have the same positions.
 pub fn index_entries_are_equal_by_parts(left: &ArrayIndex, right: &ArrayIndex)
     ensures { (entries_equal.it left.now right.now ≡ true) ↔ (entry_view left.now ≡ entry_view right.now) }
 {}
 
-/// Ends of levels are equal by `==` exactly where they are the same level, or both the last.
+/// Ends of levels are equal by `==` if and only if they are the same level, or both the last.
 pub fn level_ends_are_equal_by_parts(left: &RecursiveLevelEnd, right: &RecursiveLevelEnd)
     ensures { (level_ends_equal.it left.now right.now ≡ true) ↔ (end_view left.now ≡ end_view right.now) }
 {}
 
-/// Levels are equal by `==` exactly where they have the same start and the same end.
+/// Levels are equal by `==` if and only if they have the same start and the same end.
 pub fn levels_are_equal_by_parts(left: &RecursiveLevel, right: &RecursiveLevel)
     ensures { (levels_equal.it left.now right.now ≡ true) ↔ (levels_view left.now ≡ levels_view right.now) }
 {}
 
-/// Operators are equal by `==` exactly where they are the same operator.
+/// Operators are equal by `==` if and only if they are the same operator.
 pub fn binary_operators_are_equal_by_kind(left: &BinaryOperator, right: &BinaryOperator)
     ensures { (operators_equal.it left.now right.now ≡ true) ↔ (operator_view left.now ≡ operator_view right.now) }
 {}
 
-/// Signs are equal by `==` exactly where they are the same sign.
+/// Signs are equal by `==` if and only if they are the same sign.
 pub fn unary_operators_are_equal_by_kind(left: &UnaryOperator, right: &UnaryOperator)
     ensures { (signs_equal.it left.now right.now ≡ true) ↔ (sign_view left.now ≡ sign_view right.now) }
 {}
 
-/// Having the same parts is symmetric and transitive. It is not reflexive: a document as a literal
-/// equals no literal, not even itself.
+/// Having the same nodes is symmetric and transitive. It is not reflexive: a document as a literal equals no literal,
+/// not even itself.
 pub fn same_paths()
     ensures symmetric { (p q : List Step) → SamePath p q → SamePath q p }
     ensures transitive { (p q r : List Step) → SamePath p q → SamePath q r → SamePath p r }
     ensures documents { (document : List ℕ) (l : Literal) → ¬ SameLiteral (raw document) l }
 {}
 
-/// A JSON path that was read equals itself, and prints to a text that reads as an equal path.
+/// A parsed JSON path equals itself, and prints to text that parses as an equal path.
 pub fn read_json_path_equals_what_it_prints(text: &[u8])
     ensures itself { IfSome (json_path text.now) (λ p. SamePath p p) }
     ensures printed { IfSome (json_path text.now) (λ p. IsSomeAnd (json_path (path_text p)) (SamePath p)) }
 {}
 
-/// A JSON path that was read has no document among its literals.
+/// A parsed JSON path has no document among its literals.
 pub fn read_json_path_has_no_document(text: &[u8])
     ensures { IfSome (json_path text.now) (λ p. has_document p ≡ false) }
 {}

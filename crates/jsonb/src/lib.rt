@@ -1,7 +1,8 @@
-//! JSON paths: read from texts, printed, built by hand, and run on documents.
+//! JSON paths: parsed from text, printed, built by hand, and evaluated on documents.
 //!
-//! The types of paths stand in `path`, `parse_json_path` in `parser`, and what runs paths in `selector`; all are also
-//! here. What the crates below offer is handed on: documents, numbers and key paths here, the latter also in `keypath`.
+//! The types of paths are in `path`, `parse_json_path` in `parser`, and their evaluation in `selector`; all are also
+//! here. The public items of the crates below are re-exported: documents, numbers and key paths here, key paths also
+//! in `keypath`.
 #![tactic(auto)]
 
 pub mod laws;
@@ -25,7 +26,7 @@ pub use jsonb_keypath as keypath;
 pub use jsonb_keypath::{
     KeyPath, KeyPaths, OwnedKeyPath, OwnedKeyPaths, parse_key_paths, read_name, read_quoted,
 };
-pub use jsonb_raw::{OwnedJsonb, RawJsonb};
+pub use jsonb_raw::{OwnedJsonb, RawJsonb, push_column_key, push_column_key_wide};
 
 #[cfg(test)]
 mod tests;

@@ -1,20 +1,20 @@
-//! How JSON paths are read.
+//! The parser of JSON paths.
 //!
-//! The grammar is one of ordered choices: of several forms the first that reads at a place is taken,
-//! and it is not taken back where the text then goes on otherwise. So `-1 == 1` is refused: `-1` reads
-//! as a sign with its operand, and nothing may stand behind that but `&&`, `||` or the end.
+//! The grammar is one of ordered choices: the first form that can be read at a position is taken, and no other is
+//! tried if the text then continues differently. So `-1 == 1` is rejected: `-1` parses as a sign with its operand,
+//! after which only `&&`, `||` or the end may follow.
 //!
-//! - A text is one expression, or else a list of steps; the empty text is a path with no steps.
-//! - A list of steps may begin with `$` or with a name that stands for `.name`. A step is one of
-//!   `.name`, `."a name"`, `:name`, `:"a name"`, `["a name"]`, `.*`, `.**`, `.**{1 to last}`, `[*]`,
+//! - The text is one expression, otherwise a list of steps; the empty text is a path with no steps.
+//! - A list of steps may begin with `$` or with a name, which is short for `.name`. A step is one of `.name`,
+//!   `."a name"`, `:name`, `:"a name"`, `["a name"]`, `.*`, `.**`, `.**{1 to last}`, `[*]`,
 //!   `[0, last - 1, 2 to last]`, and `?(..)` with an expression inside.
-//! - An expression is one or more conditions joined by `&&`, and these joined by `||`. A condition is
-//!   a sign with an operand, two operands with an operator between them, an expression in
-//!   parentheses, or `exists(..)` with a path inside.
-//! - An operand is a path of `$` and steps other than filters, or a literal. In a filter, and in
-//!   parentheses inside it, it may also begin with `@`; in `exists` the path always may.
-//! - `to` and `last` are read in any case of letters. White space may stand between the parts of a
-//!   step in brackets, and around steps, operands and operators, but not behind `.` and `:`.
+//! - An expression is one or more conditions joined by `&&`, and these joined by `||`. A condition is a sign with an
+//!   operand, two operands with an operator between them, an expression in parentheses, or `exists(..)` with a path
+//!   inside.
+//! - An operand is a path of `$` and steps other than filters, or a literal. In a filter, and in parentheses inside
+//!   it, it may also begin with `@`; in `exists` the path always may.
+//! - `to` and `last` are read in any case. White space is allowed between the parts of a step in brackets, and around
+//!   steps, operands and operators, but not after `.` and `:`.
 
 ghost use Rattle.std.specs.Prelude.{◌≡◌, ◌⊎◌, true, ◌++◌, [], ◌∷◌, Some, None, IfOk, MatchResult};
 ghost use Rattle.jsonb_doc.specs.declared.error.Error.TheVariants.{OutOfMemory, InvalidJsonPath};
@@ -44,22 +44,30 @@ mod opening;
 mod operand;
 mod token;
 
-/// What a rule reads at the front of the input, with the rest behind it; None where it fails.
-/// Nothing but want of memory refuses.
+/// The value that a rule reads at the beginning of the input, with the rest after it, or `None` if the rule fails. An
+/// error only if an allocation fails.
 type Reading<'a, T> = Result<Option<(T, &'a [u8])>, AllocError>;
 
-/// Reads a whole text, of any bytes, as a JSON path. docs/PATHS.md has the grammar, and how it differs from
-/// SQL/JSON's, PostgreSQL's and that of RFC 9535. A name without escapes borrows from the text.
+/// Parses a JSON path.
+///
+/// The input may be any bytes. docs/PATHS.md has the grammar, and how it differs from those of SQL/JSON, PostgreSQL and
+/// RFC 9535. A name without escapes borrows from the input.
 ///
 /// # Errors
 ///
-/// `InvalidJsonPath` exactly where the grammar does not read the whole text, else `OutOfMemory` where memory is
-/// refused.
+/// `InvalidJsonPath` if and only if the grammar does not accept the whole input, unless an allocation fails
+/// (`OutOfMemory`).
 ///
-/// # Cost
+/// # Complexity
 ///
-/// Linear in the text. Takes memory: what is open while an expression is read lies there too, so that a deep text
-/// takes no more of the machine's stack than a flat one.
+/// O(length of the input). Allocates, also for open expressions, so that deep text uses no more stack than flat text.
+///
+/// # Examples
+///
+/// ```rust crates/jsonb_examples/src/first.rt
+/// let home = parse_json_path(alloc, b"$.phones[*]?(@.type == \"home\").number")?;
+/// let numbers = fred.select_by_path(alloc, &home)?; // one document for each match
+/// ```
 #[tactic(auto, unfolding(crate::specs::PathGrammar::json_path))]
 pub fn parse_json_path(alloc: Global, input: &[u8]) -> Result<JsonPath<'_>, Error>
     ensures { MatchResult result
@@ -73,13 +81,13 @@ pub fn parse_json_path(alloc: Global, input: &[u8]) -> Result<JsonPath<'_>, Erro
     Ok(JsonPath { paths })
 }
 
-/// How a path begins: with the first atom of an expression, or with steps behind which no operator stands.
+/// The beginning of a path: the first atom of an expression, or steps that no operator follows.
 enum Front<'a> {
     Atom(Opening<'a>),
     Steps(Vec<Path<'a>>, &'a [u8]),
 }
 
-/// An expression, or else a list of steps. Steps at the front are read once, whichever of the two they begin.
+/// Reads an expression, otherwise a list of steps. Steps at the beginning are read once, whichever they begin.
 fn steps_at(alloc: Global, input: &[u8]) -> Result<(Vec<Path<'_>>, &[u8]), AllocError>
     ensures { IfOk result (λ p. Some (steps_view p.0.items, p.1.now) ≡ (root_expression </> plain_path) input.now) }
 {
@@ -120,7 +128,7 @@ fn operation_of<'a>(
     Ok(Expr::BinaryOp { op, left, right })
 }
 
-/// A path that is one expression.
+/// Returns a path that is one expression.
 fn one_step(alloc: Global, found: Expr<'_>) -> Result<Vec<Path<'_>>, AllocError>
     ensures { IfOk result (λ steps. steps_view steps.items ≡ whole_expression (expression_view found.entry) ∷ []) }
 {
@@ -137,7 +145,7 @@ fn plain_path_at(alloc: Global, input: &[u8]) -> Result<(Vec<Path<'_>>, &[u8]), 
     more_steps_at(alloc, steps, rest)
 }
 
-/// The steps from here on, behind these.
+/// Reads the remaining steps, after these.
 fn more_steps_at<'a>(
     alloc: Global,
     mut steps: Vec<Path<'a>>,
@@ -181,7 +189,7 @@ fn first_step_at(alloc: Global, input: &[u8]) -> Reading<'_, Path<'_>>
     }
 }
 
-/// One step: a plain one, or a filter.
+/// Reads one step: a plain one, or a filter.
 fn path_step_at(alloc: Global, input: &[u8]) -> Reading<'_, Path<'_>>
     ensures value { IfOk result (λ found. read_as step_view found ≡ path_step input.now) }
     ensures shrinks { IfOk result (LeavesLess input.now) }
@@ -195,7 +203,7 @@ fn path_step_at(alloc: Global, input: &[u8]) -> Reading<'_, Path<'_>>
     }
 }
 
-/// A filter as a step, from behind its front on.
+/// Reads a filter as a step, after its beginning.
 fn filter_at(alloc: Global, inside: &[u8]) -> Reading<'_, Path<'_>>
     ensures value { IfOk result (λ found. read_as step_view found ≡ filter_step (expression true inside.now)) }
     ensures shrinks { IfOk result (LeavesLess inside.now) }

@@ -1,9 +1,9 @@
 //! JSON paths as trees.
 //!
-//! A path is a list of steps. `parser` makes one of a text; a caller may also build one by hand.
-//! A path that was read prints as a text that reads as it, but for the variant of a whole number. Of a
-//! path that was built by hand nothing is promised: no text holds a number with a scale, a document as a
-//! literal, an empty name, or a step where the grammar has none.
+//! A path is a list of steps. `parser` parses one from text; a caller may also build one by hand. A parsed path prints
+//! as text that parses as the same path, except for the variant of an integer. A path built by hand may print as text
+//! that does not parse: one with a scaled number, a document as a literal, an empty name, or a list of steps that the
+//! grammar does not produce.
 
 use jsonb_doc::Number;
 use jsonb_raw::RawJsonb;
@@ -22,11 +22,11 @@ mod own;
 mod position;
 mod release;
 
-/// A JSON path: the steps that a selection takes one after the other, from the root on.
+/// A JSON path: the steps of a selection, in order, from the root.
 ///
-/// It prints so that it reads back, where it was read from a text. Two are equal where they have the same steps, part
-/// by part, and literals that are equal by value. Comparing and printing nest only as deep as parts that have something
-/// behind them: docs/STACK.md says where.
+/// A parsed path prints as text that parses back. Two paths are equal if they have the same steps, node by node, and
+/// literals that are equal by value. Comparing and printing recurse only into nodes that something follows: see
+/// docs/STACK.md.
 #[derive(PartialEq, Drop)]
 pub struct JsonPath<'a> {
     /// The steps, the first one first.
@@ -38,11 +38,21 @@ impl JsonPath<'_> {
     ghost use Rattle.jsonb.specs.PathTree.{is_predicate};
     ghost use Rattle.jsonb.specs.PathViews.{path_view};
 
-    /// Whether the path is one expression, as in `$.a == 1`, and no list of steps.
+    /// Returns `true` if the path is one expression, such as `$.a == 1`, and not a list of steps.
     ///
-    /// # Cost
+    /// # Complexity
     ///
-    /// Constant, without memory.
+    /// O(1). Does not allocate.
+    ///
+    /// # Examples
+    ///
+    /// ```rust crates/jsonb_examples/src/evaluation.rt
+    /// if !query.is_predicate() {
+    ///     return document.path_exists(alloc, query);
+    /// }
+    /// let result = document.path_match(alloc, query)?;
+    /// Ok(result == Some(true))
+    /// ```
     pub fn is_predicate(&self) -> bool
         ensures { result ≡ is_predicate (path_view self.now) }
     {
@@ -55,31 +65,31 @@ impl JsonPath<'_> {
 
 /// One step of a path.
 ///
-/// Names borrow from the text that was read, unless they have escapes there.
+/// Names borrow from the text that was parsed, unless they have escapes there.
 #[cycle(path)]
 #[derive(Drop)]
 pub enum Path<'a> {
-    /// `$`: the root of the document. As a later step it leaves the list as it is.
+    /// `$`: the root of the document. As a later step it leaves the list unchanged.
     Root,
-    /// `@`: the item that a filter looks at. As a later step it leaves the list as it is.
+    /// `@`: the item that a filter tests. As a later step it leaves the list unchanged.
     Current,
     /// `.*`: the values of an object.
     DotWildcard,
-    /// `.**`: the item and all that it holds, at every level or at some, as `.**{1 to last}`.
+    /// `.**`: the item and all that it contains, at every level or at some, such as `.**{1 to last}`.
     RecursiveDotWildcard(Option<RecursiveLevel>),
     /// `[*]`: the elements of an array.
     BracketWildcard,
-    /// `.name` or `."a name"`: the value under that key.
+    /// `.name` or `."a name"`: the value of that key.
     DotField(CowStr<'a, Global>),
-    /// `:name` or `:"a name"`: the value under that key.
+    /// `:name` or `:"a name"`: the value of that key.
     ColonField(CowStr<'a, Global>),
-    /// `["a name"]`: the value under that key.
+    /// `["a name"]`: the value of that key.
     ObjectField(CowStr<'a, Global>),
-    /// `[0, last, 1 to 3]`: elements of an array, entry after entry.
+    /// `[0, last, 1 to 3]`: elements of an array, subscript by subscript.
     ArrayIndices(Vec<ArrayIndex>),
     /// `?(@.a == 1)`: the items for which the expression is true.
     FilterExpr(Box<Expr<'a>>),
-    /// An expression that is the whole path, as `$.a == 1` or `-$.a`.
+    /// An expression that is the whole path, such as `$.a == 1` or `-$.a`.
     Expr(Box<Expr<'a>>),
 }
 
@@ -107,58 +117,58 @@ impl Path<'_> {
     }
 }
 
-/// A place in an array.
+/// A position in an array.
 #[derive(Clone, Copy, Debug, PartialEq)]
 pub enum Index {
-    /// `3`: counted from the first element, which is 0. A negative number is no place of any array.
+    /// `3`: counted from the first element, which is 0. A negative number is not a position of any array.
     Index(i32),
-    /// `last`, `last-1` or `last+1`: so many places behind the last element.
+    /// `last`, `last-1` or `last+1`: that many positions after the last element.
     LastIndex(i32),
 }
 
-/// One entry of an index list.
+/// A subscript.
 #[derive(Clone, Copy, Debug, PartialEq)]
 pub enum ArrayIndex {
-    /// One place.
+    /// One position.
     Index(Index),
-    /// `1 to last`: all places from the first to the second, both included.
+    /// `1 to last`: all positions from the first to the second, both included.
     Slice((Index, Index)),
 }
 
-/// Where the levels of a recursive step end.
+/// The end of the levels of a recursive step.
 #[derive(Clone, Copy, Debug, PartialEq)]
 pub enum RecursiveLevelEnd {
     /// At this level.
     Index(u8),
-    /// Nowhere: at the deepest level that there is.
+    /// At the deepest level.
     Last,
 }
 
-/// The levels of a recursive step, as in `.**{2}`, `.**{1 to 3}` and `.**{1 to last}`. The item that
+/// The levels of a recursive step, such as those of `.**{2}`, `.**{1 to 3}` and `.**{1 to last}`. The item that
 /// the step begins at has level 0, and its children have level 1.
 #[derive(Clone, Copy, Debug, PartialEq)]
 pub struct RecursiveLevel {
-    /// The first level that is taken.
+    /// The first level that is selected.
     pub start: u8,
-    /// None for the start alone.
+    /// The last level that is selected, or `None` if that is the first.
     pub end: Option<RecursiveLevelEnd>,
 }
 
 /// A literal of an expression.
 ///
-/// Two literals are equal exactly where `partial_cmp` answers `Equal`. So 1 equals 1.0, and a
-/// document equals none, not even itself: there is no `Eq`.
+/// Two literals are equal if and only if `partial_cmp` returns `Equal`. So 1 equals 1.0, and a document equals
+/// nothing, not even itself: there is no `Eq`.
 #[derive(Drop)]
 pub enum PathValue<'a> {
     /// `null`.
     Null,
     /// `true` or `false`.
     Boolean(bool),
-    /// A number. No text has one with a scale.
+    /// A number. A parsed path has none with a scale.
     Number(Number),
-    /// `"a text"`.
+    /// `"a string"`.
     String(CowStr<'a, Global>),
-    /// A document. No text has one; it prints as `raw(`, its bytes in hexadecimal, and `)`.
+    /// A document. A parsed path has none; it prints as `raw(`, its bytes in hexadecimal, and `)`.
     Raw(RawJsonb<'a>),
 }
 
@@ -195,7 +205,7 @@ pub enum BinaryOperator {
     Modulo,
 }
 
-/// A sign in front of an operand.
+/// A sign before an operand.
 #[derive(Clone, Copy, Debug, PartialEq)]
 pub enum UnaryOperator {
     /// `+`.
@@ -217,16 +227,16 @@ pub enum Expr<'a> {
         left: Box<Expr<'a>>,
         right: Box<Expr<'a>>,
     },
-    /// A sign in front of an operand.
+    /// A sign before an operand.
     UnaryOp {
         op: UnaryOperator,
         operand: Box<Expr<'a>>,
     },
-    /// `exists(@.a)`: whether the path meets anything.
+    /// `exists(@.a)`: whether the path selects an item.
     ExistsFunc(Vec<Path<'a>>),
 }
 
-/// A text of conditions may be as deep as it is long: it is let go in a loop.
+/// Drops an expression in a loop, since the text of conditions may be nested as deep as it is long.
 impl Drop for Expr<'_> {
     fn drop(self) {
         self.release();

@@ -1,7 +1,7 @@
-//! Selecting by JSON paths: the items of a document that a path selects.
+//! Evaluation of JSON paths: the items of a document that a path selects.
 //!
-//! A selection keeps a list of places in the bytes. Each step makes the next list of the one before;
-//! no item is copied before it is handed out.
+//! A selection is a list of positions in the bytes. Each step maps it to the next list. No item is copied before it is
+//! returned.
 
 ghost use Rattle.std.specs.Prelude.{◌≡◌, List, IsOkAnd, IfErr, OnOk};
 ghost use Rattle.jsonb_doc.specs.Payload.{Form};
@@ -20,18 +20,19 @@ ghost use Rattle.jsonb.specs.declared.selector.document.Document.{Document};
 mod by_path;
 mod calculate;
 mod children;
-mod compared_items;
 mod compared_lists;
 mod compared_member;
-mod comparisons;
+mod compile;
 mod document;
 mod documents;
+mod evaluate;
 mod exists;
 mod kept;
 mod levels;
 mod members;
 mod node_list;
 mod operand_value;
+mod plan;
 mod search;
 mod selected;
 mod signed_items;
@@ -50,31 +51,32 @@ use jsonb_doc::{Error, root_spot};
 use jsonb_raw::{OwnedJsonb, RawJsonb};
 use std::alloc::Global;
 
-/// Runs paths on a document. docs/PATHS.md says what a path selects, in lax and in strict mode, and how that differs
-/// from SQL/JSON.
+/// Evaluates paths on a document. docs/PATHS.md defines what a path selects in lax and in strict mode, and how that
+/// differs from SQL/JSON.
 ///
-/// Each call answers by the whole path, but `predicate_match` by a path that is a single expression alone: where an
-/// item is refused, the call is, also where it hands out another item. What it answers depends on the root, the mode
-/// and the path alone, so that a selector may be used again after any refusal.
+/// An error anywhere in the path fails the call, even after a first item. Only `predicate_match` does not evaluate a
+/// path that is not a single expression. Results depend only on the root, the mode and the path, so a selector can be
+/// used again after an error.
 ///
-/// Every call returns, whatever the root's bytes are. On bytes that don't decode it may answer all the same, also
-/// with documents that don't decode: ask `check` first of bytes from strangers.
+/// Every call returns, whatever the bytes are. On bytes that do not decode it may return a value, possibly a document
+/// that does not decode: call `check` first on untrusted bytes.
 ///
 /// # Errors
 ///
-/// Those of **selecting**, which all six calls have:
+/// Each method names its own errors, and these **selection errors**:
 ///
-/// - `InvalidJsonPath` where the path has no value on the document, `Arithmetic` where a number has no result, and in
-///   strict mode alone `StrictPath`: on a document that decodes exactly the path's own refusal;
-/// - `InvalidJsonb` and `UnsupportedNumber`, only where the root or a document in the path doesn't decode. Bytes
-///   whose root can't be read are never answered;
-/// - `OutOfMemory` where memory is refused.
+/// - `InvalidJsonPath` if the path cannot be evaluated on the document, `Arithmetic` if an operation has no result, and
+///   `StrictPath`, only in strict mode, if a step does not apply to an item. If the document decodes, the error is the
+///   first of the evaluation;
+/// - `InvalidJsonb` and `UnsupportedNumber` only if the root or a document in the path does not decode. If the root
+///   cannot be read, the call fails;
+/// - `OutOfMemory` if an allocation fails.
 ///
-/// # Cost
+/// # Complexity
 ///
-/// The sum of what each step walks over, `.**` the whole of each item that it begins at. A comparison looks at the
-/// pairs of both sides' values, up to their product. Takes memory for a list of places and for what is handed out,
-/// which is copied once. docs/STACK.md has the stack that filters and conditions take.
+/// The sum of the items that each step visits; `.**` visits all items within an item. A comparison examines pairs of
+/// the values of both sides, at most their product. Allocates lists of positions, and the results, which are copied
+/// once. docs/STACK.md lists the stack that filters and conditions need.
 #[derive(Drop)]
 pub struct Selector<'a> {
     alloc: Global,
@@ -92,11 +94,22 @@ impl<'a> Selector<'a> {
     ghost use Rattle.jsonb.specs.SelectorAnswers.{root_bytes, mode_of, first_item, single_or_array, ByMeanings, AreAll, IsArrayOf, IsPicked, IsFound, IsTruthOf};
     ghost use Rattle.jsonb.specs.declared.selector.document.Mode.TheVariants.{Lax, Strict};
 
-    /// A lax selector: a step that does not fit an item gives nothing of it, and `[*]` gives the item itself.
+    /// Creates a selector in lax mode: a step that does not apply to an item selects nothing of it, and `[*]` selects
+    /// the item itself.
     ///
-    /// # Cost
+    /// # Complexity
     ///
-    /// Constant, without memory.
+    /// O(1). Does not allocate.
+    ///
+    /// # Examples
+    ///
+    /// ```rust crates/jsonb_examples/src/evaluation.rt
+    /// let mut selector = Selector::new(alloc, store);
+    /// let titles = selector.select_values(&title)?;
+    /// let prices = selector.select_array(&price)?;
+    /// let first = selector.select_first(&title)?;
+    /// let is_cheap = selector.predicate_match(&cheap)?;
+    /// ```
     pub fn new(alloc: Global, root: RawJsonb<'a>) -> Selector<'a>
         ensures root { root_bytes result ≡ raw_bytes root.entry }
         ensures mode { mode_of result ≡ Lax }
@@ -108,15 +121,22 @@ impl<'a> Selector<'a> {
         }
     }
 
-    /// A strict selector: `StrictPath` where a step does not fit an item.
+    /// Creates a selector in strict mode: a step that does not apply to an item fails with `StrictPath`.
     ///
-    /// These do not fit: a field step on an item that is no object or lacks the name, `.*` on an item that is no
-    /// object, `[*]` and index entries on an item that is no array, within filters, operands and `exists` too. A
-    /// position past an array's end gives nothing, and `.**` is as in a lax selector.
+    /// These do not apply, in filters, operands and `exists` too: a key on an item that is not an object or lacks it,
+    /// `.*` on an item that is not an object, `[*]` and subscripts on an item that is not an array. A position past the
+    /// end of an array selects nothing, and `.**` is as in lax mode.
     ///
-    /// # Cost
+    /// # Complexity
     ///
-    /// Constant, without memory.
+    /// O(1). Does not allocate.
+    ///
+    /// # Examples
+    ///
+    /// ```rust crates/jsonb_examples/src/evaluation.rt
+    /// let mut selector = Selector::new_strict(alloc, document);
+    /// selector.select_array(&path)
+    /// ```
     pub fn new_strict(alloc: Global, root: RawJsonb<'a>) -> Selector<'a>
         ensures root { root_bytes result ≡ raw_bytes root.entry }
         ensures mode { mode_of result ≡ Strict }
@@ -128,15 +148,24 @@ impl<'a> Selector<'a> {
         }
     }
 
-    /// Each item of the path's list as a document, in order with repeats. PostgreSQL has `jsonb_path_query`.
+    /// Returns each item that the path selects as a document, in order, with repeats.
+    ///
+    /// Like PostgreSQL's `jsonb_path_query`.
     ///
     /// # Errors
     ///
-    /// Those of selecting, and `TooLarge` only where an item passes the limits of a document.
+    /// Selection errors, and `TooLarge` only if an item exceeds the limits of a document.
     ///
-    /// # Cost
+    /// # Complexity
     ///
-    /// That of selecting, and each item is copied once.
+    /// That of the evaluation. Allocates; each item is copied once.
+    ///
+    /// # Examples
+    ///
+    /// ```rust crates/jsonb_examples/src/evaluation.rt
+    /// let mut selector = Selector::new(alloc, store);
+    /// let titles = selector.select_values(&title)?;
+    /// ```
     pub fn select_values(&mut self, path: &JsonPath<'_>) -> Result<Vec<OwnedJsonb>, Error>
         ensures kept { self.new ≡ self.old }
         ensures values { ByMeanings (mode_of self.old) (root_bytes self.old) (path_view path.now) AreAll result }
@@ -147,15 +176,23 @@ impl<'a> Selector<'a> {
         documents(self.alloc, document, &selected)
     }
 
-    /// One array of the path's list. PostgreSQL has `jsonb_path_query_array`.
+    /// Returns an array of the items that the path selects.
+    ///
+    /// Like PostgreSQL's `jsonb_path_query_array`.
     ///
     /// # Errors
     ///
-    /// Those of selecting, and `TooLarge` only where the array passes the limits of a document.
+    /// Selection errors, and `TooLarge` only if the array exceeds the limits of a document.
     ///
-    /// # Cost
+    /// # Complexity
     ///
-    /// That of selecting, and the items are copied.
+    /// That of the evaluation. Allocates; each item is copied once.
+    ///
+    /// # Examples
+    ///
+    /// ```rust crates/jsonb_examples/src/evaluation.rt
+    /// let prices = selector.select_array(&price)?;
+    /// ```
     pub fn select_array(&mut self, path: &JsonPath<'_>) -> Result<OwnedJsonb, Error>
         ensures kept { self.new ≡ self.old }
         ensures array { ByMeanings (mode_of self.old) (root_bytes self.old) (path_view path.now) IsArrayOf result }
@@ -166,17 +203,24 @@ impl<'a> Selector<'a> {
         array_document(self.alloc, document, &selected)
     }
 
-    /// The first of the path's list, or none. A refusal behind the first item is the answer. PostgreSQL has
-    /// `jsonb_path_query_first`.
+    /// Returns the first item that the path selects, or `None`.
+    ///
+    /// An error after the first item fails the call. Like PostgreSQL's `jsonb_path_query_first`.
     ///
     /// # Errors
     ///
-    /// Those of selecting, and `TooLarge` only where the first item passes the limits of a document.
+    /// Selection errors, and `TooLarge` only if the first item exceeds the limits of a document.
     ///
-    /// # Cost
+    /// # Complexity
     ///
-    /// That of selecting, and the first item is copied. In lax mode only what leads to that item is walked over, where
-    /// each filter is such as `?(@.a == 1 && @.b > 2)`; index entries and `.**` list all their items.
+    /// That of the evaluation. Allocates; the item is copied. In lax mode the evaluation stops at the first item if all
+    /// filters are like `?(@.a == 1 && (@.b > @.c || exists(@.d)))`; subscripts and `.**` list all their items.
+    ///
+    /// # Examples
+    ///
+    /// ```rust crates/jsonb_examples/src/evaluation.rt
+    /// let first = selector.select_first(&title)?;
+    /// ```
     pub fn select_first(&mut self, path: &JsonPath<'_>) -> Result<Option<OwnedJsonb>, Error>
         ensures kept { self.new ≡ self.old }
         ensures first { ByMeanings (mode_of self.old) (root_bytes self.old) (path_view path.now)
@@ -191,15 +235,23 @@ impl<'a> Selector<'a> {
         first_document(self.alloc, document, &selected)
     }
 
-    /// `None` for an empty list, its only item, or one array of several.
+    /// Returns the item that the path selects if it is the only one, an array if there are several, or `None`.
     ///
     /// # Errors
     ///
-    /// Those of selecting, and `TooLarge` only where the item or the array passes the limits of a document.
+    /// Selection errors, and `TooLarge` only if the item or the array exceeds the limits of a document.
     ///
-    /// # Cost
+    /// # Complexity
     ///
-    /// That of selecting, and the items are copied.
+    /// That of the evaluation. Allocates; each item is copied once.
+    ///
+    /// # Examples
+    ///
+    /// ```rust crates/jsonb_examples/src/evaluation.rt
+    /// if selector.exists(path)? {
+    ///     return selector.select_value(path);
+    /// }
+    /// ```
     pub fn select_value(&mut self, path: &JsonPath<'_>) -> Result<Option<OwnedJsonb>, Error>
         ensures kept { self.new ≡ self.old }
         ensures value { ByMeanings (mode_of self.old) (root_bytes self.old) (path_view path.now)
@@ -211,16 +263,26 @@ impl<'a> Selector<'a> {
         value_document(self.alloc, document, &selected)
     }
 
-    /// Whether the path's list has an item. So it is true of every comparison that is not refused. PostgreSQL has
-    /// `@?` and `jsonb_path_exists`.
+    /// Returns `true` if the path selects an item.
+    ///
+    /// A predicate selects its result, so this is `true` of every predicate that does not fail. Like PostgreSQL's `@?`
+    /// and `jsonb_path_exists`.
     ///
     /// # Errors
     ///
-    /// Those of selecting.
+    /// Selection errors.
     ///
-    /// # Cost
+    /// # Complexity
     ///
-    /// That of `select_first`. Nothing is copied.
+    /// That of `select_first`, without a copy.
+    ///
+    /// # Examples
+    ///
+    /// ```rust crates/jsonb_examples/src/evaluation.rt
+    /// if selector.exists(path)? {
+    ///     return selector.select_value(path);
+    /// }
+    /// ```
     pub fn exists(&mut self, path: &JsonPath<'_>) -> Result<bool, Error>
         ensures kept { self.new ≡ self.old }
         ensures exists { ByMeanings (mode_of self.old) (root_bytes self.old) (path_view path.now) IsFound result }
@@ -233,17 +295,24 @@ impl<'a> Selector<'a> {
         Ok(is_some(&selected))
     }
 
-    /// Whether a path that is a comparison, `&&`, `||` or `exists` is true. `None` is for unknown. A sign or
-    /// arithmetic is executed, refused as it is, and else `None`. A path that is no single expression is `None` at
-    /// once. PostgreSQL has `@@` and `jsonb_path_match`.
+    /// Returns the result of a path that is a comparison, `&&`, `||` or `exists`, or `None` if it is unknown.
+    ///
+    /// For a sign or arithmetic, returns `None` unless its evaluation fails. For a path that is not a single
+    /// expression, returns `None` without evaluating it. Like PostgreSQL's `@@` and `jsonb_path_match`.
     ///
     /// # Errors
     ///
-    /// Those of selecting, and none for a path that is no single expression.
+    /// Selection errors. None for a path that is not a single expression.
     ///
-    /// # Cost
+    /// # Complexity
     ///
-    /// That of selecting. Nothing is copied. A path that is no single expression takes constant time and no memory.
+    /// That of the evaluation, without a copy. For a path that is not a single expression O(1), without allocating.
+    ///
+    /// # Examples
+    ///
+    /// ```rust crates/jsonb_examples/src/evaluation.rt
+    /// let is_cheap = selector.predicate_match(&cheap)?;
+    /// ```
     pub fn predicate_match(&mut self, path: &JsonPath<'_>) -> Result<Option<bool>, Error>
         ensures kept { self.new ≡ self.old }
         ensures other { is_predicate (path_view path.now) ≡ false → result ≡ Ok None }
@@ -264,7 +333,7 @@ impl<'a> Selector<'a> {
     }
 }
 
-/// The bytes of a document, with the place of its root in them. Bytes whose root can't be read are refused.
+/// Returns the bytes of a document with the position of its root. Fails if the root cannot be read.
 fn at_root(bytes: &[u8]) -> Result<Document<'_>, Error>
     ensures meant { (form : Form) (top : Tree) → Decodes form bytes.now top
         → IsOkAnd result (λ document. (document.bytes.now ≡ bytes.now) × HasTree document top) }
@@ -275,7 +344,7 @@ fn at_root(bytes: &[u8]) -> Result<Document<'_>, Error>
     Ok(Document { bytes, root })
 }
 
-/// What a path is executed with on a document.
+/// Returns the context in which a path is evaluated on a document.
 #[inline(always)]
 fn context_of<'a>(alloc: Global, mode: Mode, document: Document<'a>) -> Context<'a>
     ensures mode { result.mode ≡ mode }
@@ -288,7 +357,7 @@ fn context_of<'a>(alloc: Global, mode: Mode, document: Document<'a>) -> Context<
     }
 }
 
-/// The document with its root, and what the path selects of it.
+/// Returns the document with its root, and what the path selects.
 #[inline(always)]
 fn selected_at<'s>(
     alloc: Global,
@@ -307,7 +376,7 @@ fn selected_at<'s>(
     Ok((document, selected))
 }
 
-/// Whether anything is selected.
+/// Returns `true` if anything is selected.
 fn is_some(selected: &Selected<'_>) -> bool
     ensures { (form : Form) (document : Document) (ts : List Tree) → AreSelected form document selected.now ts
         → result ≡ is_some_item ts }

@@ -1,6 +1,6 @@
 //! What no clause says: rows worked by hand, and that names borrow.
 
-/// A table: each row stands in a line, and is a tuple.
+/// A table: each row is a line, and a tuple.
 macro_rules! rows {
     ($($($part:expr),+;)+) => { [$(($($part),+)),+] };
 }

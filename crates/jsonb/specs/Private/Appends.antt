@@ -3,6 +3,6 @@ use Rattle.std.specs.Prelude.{◌≡◌, ◌++◌, List, map, Result}
 use Rattle.jsonb_doc.specs.Answer.{Outcome, Gives, IsOutOfMemory}
 use Rattle.jsonb_doc.specs.declared.error.Error.{Error}
 
--- what the meaning gives stands, as members are viewed, behind what the list had
+-- the members of the meaning's value are appended to what the list had
 abbrev pub Appends : {A B : Type 0} → (A → B) → List A → List A → Result (Unit {0}) Error → Outcome (List B) → Type 0
 Appends view old new answer meaning = Gives (λ _ more. map view new ≡ map view old ++ more) IsOutOfMemory answer meaning

@@ -14,14 +14,14 @@ use Rattle.jsonb.specs.declared.selector.levels.OpenLevel.{OpenLevel}
 abbrev pub HasLeft : List ℕ → OpenLevel → List Tree → ℕ → Type 0
 HasLeft bytes within ts n = HasSpotsLeft bytes within.children ts × (within.level ≡ min n 256)
 
--- what is below an item: its children where they are looked at, else nothing
+-- what is below an item: its children if they are visited, otherwise nothing
 abbrev pub AreBelow : List ℕ → Option Levels → ℕ → Tree → Option OpenLevel → Type 0
 AreBelow bytes levels n t None = preorder levels n t ≡ taken_item levels n t
 AreBelow bytes levels n t (Some within) =
     (ts : List Tree) × HasLeft bytes within ts (n + 1)
     × (preorder levels n t ≡ taken_item levels n t ++ flat_map (preorder levels (n + 1)) ts)
 
--- items up to the first that may have children are put behind those before: all, or that item and others come next
+-- items up to the first that may have children are appended: all, or that item and others come next
 abbrev pub PassesLeaves : List ℕ → Option Levels → ℕ → List Tree → List Tree → List Spot
     → Option (Spot × SpotIter) → Type 0
 PassesLeaves bytes levels n ts before nodes None =
@@ -34,14 +34,14 @@ PassesLeaves bytes levels n ts before nodes (Some (spot, others)) =
 abbrev pub is_shut : Option Levels → ℕ → Bool
 is_shut levels n = not (answer_at levels n).0 && not (answer_at levels n).1
 
--- The range holds the levels at which these take an item, where more than 256 count as 256. Above its last level they
--- look at children, and from there on they do not, or nothing below is taken.
+-- The range holds the levels at which these select an item, with more than 256 counted as 256. Above its last level
+-- they visit children, and from there on they do not, or nothing below is selected.
 pub record AreLevelsOf (levels : Option Levels) (range : LevelRange) : Type 0 where
   pub taken : (n : ℕ) → (nat_le range.first (min n 256) && nat_le (min n 256) range.last) ≡ (answer_at levels n).0
   pub entered : (n : ℕ) → min n 256 < range.last → (answer_at levels n).1 ≡ true
   pub left : (n : ℕ) → range.last ≤ min n 256 → ((answer_at levels n).1 ≡ false) ⊎ (is_shut levels (n + 1) ≡ true)
 
--- the level is put behind those around it, or it has nothing left
+-- the level is added to those around it, or it has nothing left
 abbrev pub KeepsLevel : List OpenLevel → OpenLevel → List OpenLevel → Type 0
 KeepsLevel around within kept =
     (kept ≡ around ++ within ∷ [])

@@ -6,12 +6,12 @@ abbrev pub is_pair : Expression → Bool
 is_pair (binary op left right) = true
 is_pair _ = false
 
--- the left side of a pair, or what is no pair itself
+-- the left side of a pair, or any other expression itself
 abbrev pub left_of : Expression → Expression
 left_of (binary op left right) = left
 left_of e = e
 
--- the expression so many left sides below
+-- the expression n left sides below
 abbrev pub below : ℕ → Expression → Expression
 below zero e = e
 below (suc n) e = below n (left_of e)

@@ -1,11 +1,10 @@
--- The text of a chain of expressions in parts: what stands in front of it, its innermost expression, and its links from
--- there on.
+-- The text of a chain of expressions in parts: what precedes it, its innermost expression, and its links.
 use Rattle.std.specs.Prelude.{ℕ, zero, suc, List, [], ◌++◌, codes, if◌then◌else◌}
 use Rattle.jsonb.specs.PathText.{operator_text, needs_parentheses, side_text, expression_text}
 use Rattle.jsonb.specs.PathTree.{Expression, binary}
 use Rattle.jsonb.specs.Private.Chain.{left_of}
 
--- the parenthesis around a side, where it has one
+-- the parenthesis around a side, if it has one
 abbrev pub parenthesis : Expression → List ℕ → List ℕ
 parenthesis e text = if needs_parentheses e then text else []
 
@@ -17,7 +16,7 @@ abbrev pub fronts_text : ℕ → Expression → List ℕ
 fronts_text zero e = []
 fronts_text (suc n) e = front_text e ++ fronts_text n (left_of e)
 
--- what stands behind the left side of a pair
+-- what follows the left side of a pair
 abbrev pub link_text : Expression → List ℕ
 link_text (binary op left right) =
     parenthesis left (codes ")") ++ codes " " ++ operator_text op ++ codes " "

@@ -1,4 +1,4 @@
--- What stands around a part of an expression that is being copied, the outermost first.
+-- What surrounds a node of an expression that is being copied, the outermost first.
 use Rattle.std.specs.Prelude.{ℕ, ◌+◌, Bool, false, ◌||◌, List, [], ◌∷◌, ◌++◌}
 use Rattle.std.specs.Slice.Iter.{iter_rest}
 use Rattle.jsonb.specs.PathDocuments.{step_has_document, expression_has_document, has_document}

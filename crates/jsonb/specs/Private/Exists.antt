@@ -25,7 +25,7 @@ IsNested e nested = (are_members (steps_view nested.names.now) ≡ true)
     × (expression_view e
     ≡ exists (steps_of (steps_view nested.names.now ++ filter (expression_view nested.exists.now) ∷ [])))
 
--- the truth is that of the `exists` that is found, of its item; false where none is found; else the refusal
+-- the result is that of the `exists` that is found, for its item; false if none is found; otherwise the error
 abbrev pub LeadsTo : Mode → Document → Tree → Outcome (Option Asked) → Outcome Truth → Type 0
 LeadsTo mode document top (Ok (Some asked)) outcome =
     (u : Tree) × IsAt document asked.item u × (outcome ≡ truth mode (expression_view asked.exists.now) top u)

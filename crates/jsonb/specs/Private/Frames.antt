@@ -1,4 +1,9 @@
--- What is open while an expression is read, and what the rules make of it once what stands inside is read.
+-- What is open while an expression is parsed, and what the rules make of it once its content is parsed.
+--
+-- A frame is an expression of which a part is parsed, and what holds its next condition: `(`, or `?(` with the steps
+-- before it. The innermost frame is last. An invariant of the parser: what the frames make of what the innermost
+-- expression makes of the current atom is what the rule makes of the whole. An atom that fails fails all that is
+-- open, since a list that may have ended there is followed by `&&`, `||` or `?`, and not by `)`.
 use Rattle.std.specs.Prelude.{◌≡◌, ℕ, ◌+◌, ◌++◌, Bool, true, false, List, [], ◌∷◌, length, fold, Option, Some, None, option_and_then, IfSome}
 use Rattle.jsonb_keypath.specs.Rules.{Parsed, Rule, give, ◌>>=◌, ◌>>◌, parsed_map, literal, repeat}
 use Rattle.jsonb_keypath.specs.Tokens.{ws}
@@ -18,7 +23,7 @@ use Rattle.jsonb.specs.declared.parser.expression.Frame.{Frame}
 use Rattle.jsonb.specs.declared.parser.Front.{Front}
 use Rattle.jsonb.specs.declared.parser.Front.TheVariants as front
 
--- an operator, and the operand behind it
+-- an operator, and the operand after it
 unfoldable pub operation : Bool → Rule (BinaryOp × Expression)
 operation is_in_filter = do
   op ← operator
@@ -37,7 +42,7 @@ abbrev pub joined_view : BinaryOp → Option Joined → Expression → Expressio
 joined_view op None e = e
 joined_view op (Some j) e = binary op (expression_view j.left.value) e
 
--- the members so far, the next one and those that still follow; where the next one fails, the list ends before its
+-- the members so far, the next one and those that still follow; if the next one fails, the list ends before its
 -- separator
 abbrev pub joined_behind : BinaryOp → Rule Expression → Option Joined → Parsed Expression → Parsed Expression
 joined_behind op another j (Some p) = joined_from op another (Some (joined_view op j p.0, p.1))
@@ -102,7 +107,7 @@ exists_closed steps = option_and_then (λ (p : List Step × List ℕ). (do
   literal ")"
   give (exists (steps_of p.0))) p.1) steps
 
--- the steps so far, the next one and those that still follow; where the next one fails, the steps end before it
+-- the steps so far, the next one and those that still follow; if the next one fails, the steps end before it
 abbrev pub steps_behind : List Step → List ℕ → Parsed Step → Parsed (List Step)
 steps_behind steps before None = Some (steps, before)
 steps_behind steps before (Some p) =
@@ -114,7 +119,7 @@ opened_outcome opened.Group inside = closed inside
 opened_outcome (opened.Filter steps before) inside =
     exists_closed (steps_behind (steps_view steps.items) before.now (filter_step inside))
 
--- whether what stands inside is part of a filter
+-- whether the content is part of a filter
 abbrev pub goes_in_filter : Opened → Bool → Bool
 goes_in_filter opened.Group outer = outer
 goes_in_filter (opened.Filter steps before) outer = true
@@ -128,7 +133,7 @@ opening_outcome f opening.Nothing = None
 opening_outcome f (opening.Atom e rest) = Some (expression_view e, rest.now)
 opening_outcome f (opening.Inside o inside) = opened_outcome o (expression (goes_in_filter o f) inside.now)
 
--- how much of the input is left, where something is read
+-- the length of the remaining input, if something is read
 abbrev pub opening_size : Opening → ℕ
 opening_size opening.Nothing = 0
 opening_size (opening.Atom e rest) = length rest.now + 1
@@ -139,7 +144,7 @@ IsOpening opening.Nothing = Unit {0}
 IsOpening (opening.Atom e rest) = Unit {0}
 IsOpening (opening.Inside o inside) = IsOpened o
 
--- the whole expression, of what stands inside all that is open, the outermost first
+-- the whole expression, from the content of all that is open, the outermost first
 unfoldable pub resumed : List Frame → Parsed Expression → Parsed Expression
 resumed [] inside = inside
 resumed (frame ∷ frames) inside = partial_outcome frame.partial (opened_outcome frame.opened (resumed frames inside))
@@ -156,7 +161,7 @@ as_path whole = option_and_then (λ (p : Expression × List ℕ). (do
   ws
   give (whole_expression p.0 ∷ [])) p.1) whole
 
--- the text is an expression with this front, or no expression but these steps and those behind them
+-- the text is an expression with this beginning, or not an expression but these steps and those after them
 abbrev pub IsFront : List ℕ → Front → Type 0
 IsFront input (front.Atom first) = IsOpening first × (as_path (partial_outcome
     (record { is_in_filter = false; all = None; any = None }) (opening_outcome false first)) ≡ root_expression input)

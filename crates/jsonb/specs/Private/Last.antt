@@ -1,5 +1,5 @@
--- What stands last in an expression: the right side of a pair, the operand of a sign, or what the last step holds. And
--- what stands before it, and closes behind it.
+-- The last expression of an expression: the right side of a pair, the operand of a sign, or that of the last step.
+-- And what precedes and closes it.
 use Rattle.std.specs.Prelude.{ℕ, List, [], ◌++◌, Bool, true, false, ◌&&◌, ◌||◌, Option, Some, None, codes, if◌then◌else◌}
 use Rattle.jsonb.specs.PathText.{operator_text, sign_text, literal_text, step_text, steps_text, expression_text}
 use Rattle.jsonb.specs.PathTree.{Step, filter, whole_expression, Steps, no_steps, step, Expression, paths, value, binary, unary, exists}
@@ -41,7 +41,7 @@ last_of (binary op left right) = Some right
 last_of (unary op e) = Some e
 last_of (exists ss) = held_by_last (last_step ss)
 
--- what an expression gives, then what the one gives that stands last in it, and so on
+-- the result for an expression, then for its last expression, and so on
 abbrev mutual
   pub down : (Expression → List ℕ) → Expression → List ℕ
   down text (paths ss) = text (paths ss) ++ steps_down text ss
@@ -60,7 +60,7 @@ abbrev mutual
   step_down text (whole_expression e) = down text e
   step_down text _ = []
 
--- ---- the text before what stands last, and the parentheses behind it
+-- ---- the text before the last expression, and the parentheses after it
 
 abbrev pub step_before : Step → List ℕ
 step_before (filter e) = codes "?("
@@ -74,7 +74,7 @@ last_before (Some s) = step_before s
 abbrev pub steps_before : Steps → List ℕ
 steps_before ss = steps_text (but_last ss) ++ last_before (last_step ss)
 
--- what stands between the sides of a pair, and the parenthesis of the left one
+-- what is between the sides of a pair, and the parenthesis of the left one
 abbrev pub between_text : Expression → List ℕ
 between_text (binary op left right) = parenthesis left (codes ")") ++ codes " " ++ operator_text op ++ codes " "
 between_text _ = []
@@ -99,7 +99,7 @@ closing (binary op left right) = parenthesis right (codes ")")
 closing (unary op e) = []
 closing (exists ss) = if ends_in_filter (last_step ss) then codes "))" else codes ")"
 
--- ---- whether two are the same before what stands last in them
+-- ---- whether two are the same except for their last expressions
 
 -- whether the step is an expression
 abbrev pub is_expression : Step → Bool

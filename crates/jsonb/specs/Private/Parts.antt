@@ -1,4 +1,4 @@
--- How many parts a path has, and how many steps letting go of an expression still takes.
+-- The number of nodes of a path, and of steps that dropping an expression still takes.
 use Rattle.std.specs.Prelude.{ℕ, ◌+◌, Option, None, Some}
 use Rattle.std.specs.declared.alloc.Global.{Global}
 use Rattle.std.specs.declared.boxed.Box.{Box}
@@ -33,6 +33,6 @@ abbrev pub waiting_parts : Option (Box Expr Global) → ℕ
 waiting_parts None = 0
 waiting_parts (Some b) = parts b.value
 
--- how many steps letting go of what remains still takes, as of a value
+-- the number of steps that dropping what remains still takes
 abbrev pub remaining : Remaining → ℕ
 remaining r = to_release (parts r.next) (waiting_parts r.waiting)

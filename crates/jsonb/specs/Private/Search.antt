@@ -1,4 +1,4 @@
--- The first item that steps lead to, in lax mode, where each step is executed item by item.
+-- The first item that steps select, in lax mode. Each step is evaluated item by item.
 use Rattle.std.specs.Prelude.{◌≡◌, ℕ, ◌<◌, ◌^◌, true, List, [], ◌∷◌, map, length, reverse, option_map, Option, Some, None, Result, Ok}
 use Rattle.jsonb_doc.specs.Answer.{Outcome, Gives, IsOutOfMemory}
 use Rattle.jsonb_doc.specs.Payload.{Form}
@@ -10,9 +10,9 @@ use Rattle.jsonb.specs.PathTree.{Step, dot_wildcard, recursive_dot_wildcard, bra
 use Rattle.jsonb.specs.PathViews.{step_view, entry_view, levels_view}
 use Rattle.std.specs.List.{AllZip}
 use Rattle.jsonb.specs.Meaning.{steps_meaning}
-use Rattle.jsonb.specs.Private.Compared.{IsMemberCompared, AreCompared}
 use Rattle.jsonb.specs.Private.Members.{is_member}
 use Rattle.jsonb.specs.Private.Selection.{AreSelected, option_spots}
+use Rattle.jsonb.specs.Private.Tests.{tests_in, AreTestsOf}
 use Rattle.jsonb.specs.SelectorAnswers.{first_item}
 use Rattle.jsonb.specs.declared.selector.document.Document.{Document}
 use Rattle.jsonb.specs.declared.selector.document.Mode.TheVariants.{Lax}
@@ -33,8 +33,7 @@ IsSearched search.Values s = s ≡ dot_wildcard
 IsSearched search.Elements s = s ≡ bracket_wildcard
 IsSearched (search.Positions entries) s = s ≡ array_indices (map entry_view entries.now)
 IsSearched (search.Levels levels) s = s ≡ recursive_dot_wildcard (option_map levels_view levels)
-IsSearched (search.Compared c) s = (e : Expression) × (s ≡ filter e) × IsMemberCompared c e
-IsSearched (search.Joined all) s = (e : Expression) × (s ≡ filter e) × AreCompared all.join all.comparisons.items e
+IsSearched (search.Tested condition) s = (e : Expression) × (s ≡ filter e) × AreTestsOf (tests_in condition) e
 
 -- these items are left
 abbrev pub HasItems : List ℕ → Items → List Tree → Type 0
@@ -46,7 +45,7 @@ abbrev pub items_bound : Items → ℕ
 items_bound (items.Children children) = spots_bound children
 items_bound (items.Listed v) = length v.items
 
--- the answer is the place of the first of the items, and the others are left
+-- Holds if the result is the position of the first of the items, and the others are left.
 abbrev pub TakesItem : List ℕ → List Tree → Option (Result Spot Error) → Items → Type 0
 TakesItem bytes [] None after = HasItems bytes after []
 TakesItem bytes (t ∷ ts) (Some (Ok spot)) after = Locates bytes spot t × HasItems bytes after ts
@@ -57,7 +56,7 @@ abbrev pub AreGiven : List ℕ → Given → List Tree → Type 0
 AreGiven bytes (given.AtMostOne found) ts = AllZip (Locates bytes) (option_spots found) ts
 AreGiven bytes (given.Many left) ts = HasItems bytes left ts
 
--- the answer is what the step gives of the tree at a place
+-- Holds if the result is what the step selects of the tree at a position.
 abbrev pub GivesItems : List ℕ → Spot → Result Given Error → (Tree → Outcome (List Tree)) → Type 0
 GivesItems bytes item answer step =
     (t : Tree) → Locates bytes item t → Gives (AreGiven bytes) IsOutOfMemory answer (step t)

@@ -40,14 +40,14 @@ IsAt document spot t = Locates document.bytes.now spot t
 abbrev pub HasTree : Document → Tree → Type 0
 HasTree document t = IsAt document document.root t
 
--- what a step gives of the tree at a place stands behind the places that the list had
+-- what a step selects from the tree at a position is appended to the positions that the list had
 abbrev pub PushesStep : List ℕ → Spot → List Spot → List Spot → Result (Unit {0}) Error
     → (Tree → Outcome (List Tree)) → Type 0
 PushesStep bytes item old new answer step =
     (t : Tree) (before : List Tree) → Locates bytes item t → AllZip (Locates bytes) old before
     → Gives (λ _ ts. AllZip (Locates bytes) new (before ++ ts)) IsOutOfMemory answer (step t)
 
--- what a step answers that doesn't fit the item: in strict mode it is refused
+-- the result of a step that does not apply to the item: an error in strict mode
 abbrev pub mismatch : Mode → Result (Unit {0}) Error
 mismatch Lax = Ok tt
 mismatch Strict = Err StrictPath
@@ -96,7 +96,7 @@ AreSelected form document (selected.Nodes places) ts = AllZip (IsAt document) (n
 AreSelected form document (selected.Numbers v) ts = AllZip IsNumberItem v.items ts
 AreSelected form document (selected.Made part) ts = AllZip (IsMadeItem form) (part ∷ []) ts
 
--- the answer is that of the path's meaning on the document's tree
+-- the result is that of the path's meaning on the document's tree
 abbrev pub GivesMeant :
     (Form → Document → Selected → List Tree → Type 0) → Document → Mode → List Step → Outcome Selected → Type 0
 GivesMeant AreOf document mode path answer = (form : Form) (top : Tree) (outcome : Outcome (List Tree))
@@ -107,7 +107,7 @@ abbrev pub OfSelected : Document → Selected → (Form → List Tree → Type 0
 OfSelected document selected Holds = (form : Form) (top : Tree) (ts : List Tree)
     → Decodes form document.bytes.now top → AreSelected form document selected ts → Holds form ts
 
--- a document of these bytes, and what is selected of it: the trees of a list, or its refusal
+-- a document of these bytes, and what is selected from it: the trees of a list, or its error
 abbrev pub IsSelectionOf : List ℕ → Form → Outcome (List Tree) → Result (Document × Selected) Error → Type 0
 IsSelectionOf bytes form outcome answer =
     Gives (λ found ts. (found.0.bytes.now ≡ bytes) × AreSelected form found.0 found.1 ts) IsOutOfMemory answer outcome
@@ -125,7 +125,7 @@ abbrev pub is_filter : Step → Bool
 is_filter (filter e) = true
 is_filter s = false
 
--- a step that is no filter, and is what it is taken as
+-- a step that is not a filter, and is what it is taken as
 abbrev pub IsPlain : Expressions → Step → Type 0
 IsPlain all s = (is_filter s ≡ false) × (taken_step all s ≡ s)
 
@@ -154,12 +154,12 @@ abbrev pub are_numbers : List val.Value → Bool
 are_numbers [] = true
 are_numbers (v ∷ vs) = is_number v && are_numbers vs
 
--- a sign in front of a value; one that is no number is refused
+-- a sign before a value; an error if it is not a number
 abbrev pub signed_value : UnaryOp → val.Value → Outcome (List Tree)
 signed_value op (val.number n) = signed_number op n
 signed_value op _ = Err InvalidJsonPath
 
--- the one value, where it is one number
+-- the only value, if it is one number
 abbrev pub only_number : List val.Value → Option Number
 only_number (val.number n ∷ []) = Some n
 only_number _ = None

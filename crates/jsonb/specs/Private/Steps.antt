@@ -1,4 +1,4 @@
--- What the functions answer that execute steps and filters.
+-- Results of the functions that evaluate steps and filters.
 use Rattle.std.specs.Prelude.{◌≡◌, List, ◌++◌, OnOk}
 use Rattle.std.specs.List.{AllZip}
 use Rattle.jsonb_doc.specs.Answer.{Outcome, Gives, try_flat_map, IsOutOfMemory}
@@ -15,26 +15,27 @@ use Rattle.jsonb.specs.declared.selector.kept.Kept.{Kept}
 use Rattle.jsonb.specs.declared.selector.kept.KeptPart.{KeptPart}
 use Rattle.jsonb.specs.declared.selector.node_list.NodeList.{NodeList}
 
--- the answer is what the step gives of each of these items, in order
+-- the result is what the step selects from each of these items, in order
 abbrev pub GivesOfEach : Context → Step → List Spot → Outcome NodeList → Type 0
 GivesOfEach context s items answer = (top : Tree) (ts : List Tree) → HasTree context.document top
     → AllZip (IsAt context.document) items ts
     → Gives (λ found us. AllZip (IsAt context.document) (node_spots found) us) IsOutOfMemory answer
     (try_flat_map (step_meaning context.mode s top) ts)
 
--- the answer is whether the expression is true of the item
+-- the result is whether the expression is true for the item
 abbrev pub TellsTruth : Current → Expression → Outcome Truth → Type 0
 TellsTruth current e answer = (top t : Tree) → HasTree current.context.now.document top
     → IsAt current.context.now.document current.item t
     → Gives (λ b c. b ≡ c) IsOutOfMemory answer (truth current.context.now.mode e top t)
 
--- the same where this part of the expression is kept
+-- the result is whether the expression is true for the item, with this operand cached
 abbrev pub TellsByPart : Current → Expression → KeptPart → Outcome Truth → Type 0
 TellsByPart current e part answer = (top t : Tree) → HasTree current.context.now.document top
     → IsAt current.context.now.document current.item t → IsSame current.context.now.mode top part e
     → Gives (λ b c. b ≡ c) IsOutOfMemory answer (truth current.context.now.mode e top t)
 
--- the same where parts are kept of a filter's conditions, and these come next
+-- the result is whether the expression is true for the item, with operands of a filter's conditions cached, of which
+-- these come next
 abbrev pub TellsByKept : Current → Expression → List Expression → Kept → Outcome Truth → Type 0
 TellsByKept current e next kept answer = (top t : Tree) (all more : List Expression)
     → HasTree current.context.now.document top → IsAt current.context.now.document current.item t

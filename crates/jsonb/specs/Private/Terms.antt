@@ -40,18 +40,18 @@ pub data Term : Type 0 where
   condition : Expression → Term
   join : Join → Term
 
--- both sides come first, the left one in front
+-- both sides come first, the left one before the right one
 abbrev pub postorder : Expression → List Term
 postorder (binary and_op l r) = postorder l ++ (postorder r ++ join And ∷ [])
 postorder (binary or_op l r) = postorder l ++ (postorder r ++ join Or ∷ [])
 postorder e = condition e ∷ []
 
--- the last two truths become one
+-- the last two results become one
 abbrev pub joined : Join → List Truth → Outcome (List Truth)
 joined j (b ∷ a ∷ truths) = Ok (joining j a b ∷ truths)
 joined j truths = Err InvalidJsonPath
 
--- the truths behind all terms, the last one first
+-- the results after all terms, the last one first
 abbrev pub executed : Mode → Tree → Tree → List Term → List Truth → Outcome (List Truth)
 executed mode top item [] truths = Ok truths
 executed mode top item (condition e ∷ terms) truths =

@@ -9,15 +9,15 @@ use super::token::separator_at;
 use crate::path::{BinaryOperator, Expr};
 use std::alloc::{AllocError, Global};
 
-/// Conditions that are joined so far, and the place before the separator that was read behind them: where the
-/// next one fails, the list ends there.
+/// Conditions that are joined so far, and the position before the separator after them: if the next condition fails,
+/// the list ends there.
 #[derive(Drop)]
 pub(super) struct Joined<'a> {
     left: Box<Expr<'a>>,
     before: &'a [u8],
 }
 
-/// An expression of which a part is read: its conditions up to the next one.
+/// A partly read expression: its conditions up to the next one.
 #[derive(Drop)]
 pub(super) struct PartialExpr<'a> {
     pub is_in_filter: bool,
@@ -32,7 +32,7 @@ pub(super) enum AfterCondition<'a> {
 }
 
 impl<'a> PartialExpr<'a> {
-    /// Before the first condition.
+    /// Creates an expression before its first condition.
     pub(super) fn new(is_in_filter: bool) -> PartialExpr<'a>
         ensures { result ≡ record { is_in_filter = is_in_filter; all = None; any = None } }
     {
@@ -43,7 +43,7 @@ impl<'a> PartialExpr<'a> {
         }
     }
 
-    /// What is read where no condition follows any more.
+    /// Returns the expression read so far, if no condition follows.
     #[tactic(auto, unfolding(crate::specs::Private::Frames::partial_outcome))]
     pub(super) fn ended(self) -> Option<(Expr<'a>, &'a [u8])>
         requires { IsPartial self }
@@ -67,7 +67,7 @@ impl<'a> PartialExpr<'a> {
     }
 }
 
-/// The expression behind one condition more.
+/// Adds a condition to the expression.
 pub(super) fn behind_condition<'a>(
     alloc: Global,
     partial: PartialExpr<'a>,

@@ -1,6 +1,6 @@
-//! Expressions, which hold one another: in parentheses, in filters and in `exists`.
+//! Expressions, which contain each other: in parentheses, in filters and in `exists`.
 //!
-//! What is open lies in a list of frames, so that reading takes no more stack for a deep text than for a flat one.
+//! Open expressions are in a list of frames, so that parsing deep text uses no more stack than flat text.
 
 ghost use Rattle.std.specs.Prelude.{◌≡◌, ◌<◌, false, length, IfOk};
 ghost use Rattle.jsonb.specs.PathGrammar.{expression};
@@ -14,14 +14,14 @@ use super::opening::{Opened, Opening, closed_at, opening_at};
 use crate::path::Expr;
 use std::alloc::{AllocError, Global};
 
-/// An expression that waits for what stands inside an open parenthesis.
+/// An expression that waits for the content of an open parenthesis.
 #[derive(Drop)]
 struct Frame<'a> {
     partial: PartialExpr<'a>,
     opened: Opened<'a>,
 }
 
-/// A whole expression.
+/// Reads a whole expression.
 pub(super) fn expression_at(
     alloc: Global,
     is_in_filter: bool,
@@ -34,7 +34,7 @@ pub(super) fn expression_at(
     expression_from(alloc, is_in_filter, first)
 }
 
-/// A whole expression of which this is read, or opened, at its front.
+/// Reads a whole expression whose beginning was read or opened.
 pub(super) fn expression_from<'a>(
     alloc: Global,
     is_in_filter: bool,
@@ -78,7 +78,7 @@ pub(super) fn expression_from<'a>(
     }
 }
 
-/// What the outermost expression has so far: behind a separator or an open parenthesis nothing is read that ends well.
+/// Returns the outermost expression, unless it ends after a separator or an open parenthesis.
 fn failed<'a>(mut frames: Vec<Frame<'a>>, partial: PartialExpr<'a>) -> Option<(Expr<'a>, &'a [u8])>
     requires { AreFrames frames.items × IsPartial partial }
     ensures { read_as expression_view result ≡ resumed frames.entry.items (partial_outcome partial.entry None) }

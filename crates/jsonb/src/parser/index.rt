@@ -1,4 +1,4 @@
-//! Index entries: places in an array, and slices.
+//! Subscripts: positions in an array, and slices.
 
 ghost use Rattle.std.specs.Prelude.{◌≡◌, map, IfOk};
 ghost use Rattle.jsonb.specs.PathGrammar.{negated, place, entry, entries, spaced_entry};
@@ -12,7 +12,7 @@ use crate::path::{ArrayIndex, Index};
 use jsonb_keypath::token::{int32, literal, skip_space};
 use std::alloc::Global;
 
-/// The negated number; the least one has no negation here, and gives the greatest.
+/// Returns the negated number. The least one has no negation here, so the greatest is returned.
 fn negation(i: i32) -> i32
     ensures { result ≡ negated i }
 {
@@ -65,7 +65,7 @@ fn spaced_entry_at(input: &[u8]) -> Option<(ArrayIndex, &[u8])>
     Some((found, skip_space(rest)))
 }
 
-/// A comma and the entry behind it.
+/// Reads a comma and the subscript after it.
 fn another_entry_at(input: &[u8]) -> Option<(ArrayIndex, &[u8])>
     ensures value { read_as entry_view result ≡ another_entry input.now }
     ensures shrinks { LeavesLess input.now result }

@@ -1,4 +1,4 @@
-//! Steps that hold no expression.
+//! Steps without an expression.
 
 ghost use Rattle.std.specs.Prelude.{◌≡◌, ◌≤◌, ◌++◌, length, Some, None, IfOk};
 ghost use Rattle.jsonb_keypath.specs.Rules.{parsed_map, repeat};
@@ -123,7 +123,7 @@ pub(super) fn spaced_inner_at(alloc: Global, input: &[u8]) -> Reading<'_, Path<'
     }
 }
 
-/// The steps from here on, behind these.
+/// Reads the remaining steps, after these.
 pub(super) fn inner_steps_at<'a>(
     alloc: Global,
     mut steps: Vec<Path<'a>>,

@@ -1,4 +1,4 @@
-//! Atoms: those that hold no expression, and the fronts of those that do.
+//! Atoms without an expression, and the beginnings of atoms with one.
 
 ghost use Rattle.std.specs.Prelude.{◌≡◌, ◌++◌, ◌<◌, ◌≤◌, Bool, length, None, Some, IfOk, IfSome, option_map};
 ghost use Rattle.jsonb_keypath.specs.Rules.{parsed_map, repeat};
@@ -13,25 +13,25 @@ use crate::path::{Expr, Path};
 use jsonb_keypath::token::{literal, skip_space};
 use std::alloc::{AllocError, Global};
 
-/// What holds the expression that is read: `(`, or in `exists` the steps in front of `?(` and their end.
+/// What encloses the expression: `(`, or in `exists` the steps before `?(` and their end.
 #[derive(Drop)]
 pub(super) enum Opened<'a> {
     Group,
     Filter(Vec<Path<'a>>, &'a [u8]),
 }
 
-/// What stands where an atom is to be read.
+/// The beginning of an atom.
 pub(super) enum Opening<'a> {
     /// No atom.
     Nothing,
     /// A whole atom.
     Atom(Expr<'a>, &'a [u8]),
-    /// The front of an atom, up to the expression inside.
+    /// The beginning of an atom, up to the expression inside.
     Inside(Opened<'a>, &'a [u8]),
 }
 
 impl Opened<'_> {
-    /// Whether what stands inside is part of a filter, where this may itself be one.
+    /// Returns `true` if the content is part of a filter, given whether this is.
     pub(super) fn is_in_filter(&self, outer: bool) -> bool
         ensures { result ≡ goes_in_filter self.now outer }
     {
@@ -42,7 +42,7 @@ impl Opened<'_> {
     }
 }
 
-/// An atom, or the front of one.
+/// Reads an atom, or the beginning of one.
 #[tactic(auto, unfolding(crate::specs::PathGrammar::atom_with, crate::specs::PathGrammar::group_with, crate::specs::PathGrammar::exists_with, crate::specs::Private::Frames::opening_outcome, crate::specs::Private::Frames::opened_outcome))]
 pub(super) fn opening_at(
     alloc: Global,
@@ -86,7 +86,7 @@ fn exists_at(alloc: Global, input: &[u8]) -> Result<Opening<'_>, AllocError>
     exists_from(alloc, steps, rest)
 }
 
-/// `exists` from here on, behind these steps.
+/// Reads the rest of an `exists`, after these steps.
 fn exists_from<'a>(
     alloc: Global,
     steps: Vec<Path<'a>>,
@@ -104,7 +104,7 @@ fn exists_from<'a>(
     Ok(exists_end(steps, rest))
 }
 
-/// The end of `exists`, behind its steps.
+/// Reads the end of an `exists`, after its steps.
 #[tactic(auto, unfolding(crate::specs::Private::Frames::opening_outcome))]
 fn exists_end<'a>(steps: Vec<Path<'a>>, input: &'a [u8]) -> Opening<'a>
     ensures value { (f : Bool) →
@@ -118,7 +118,7 @@ fn exists_end<'a>(steps: Vec<Path<'a>>, input: &'a [u8]) -> Opening<'a>
     }
 }
 
-/// The input behind `?(`.
+/// Returns the input after `?(`.
 #[tactic(auto, unfolding(crate::specs::Private::Frames::filter_front))]
 pub(super) fn filter_inside(input: &[u8]) -> Option<&[u8]>
     ensures value { option_map (λ rest. (tt, rest.now)) result ≡ filter_front input.now }
@@ -129,14 +129,14 @@ pub(super) fn filter_inside(input: &[u8]) -> Option<&[u8]>
     Some(skip_space(inside))
 }
 
-/// A filter as a step.
+/// Returns a filter as a step.
 pub(super) fn filter_of<'a>(alloc: Global, found: Expr<'a>) -> Result<Path<'a>, AllocError>
     ensures { IfOk result (λ step. step_view step ≡ filter (expression_view found.entry)) }
 {
     Ok(Path::FilterExpr(Box::new(alloc, found)?))
 }
 
-/// What was opened, with the expression inside and what stands behind that.
+/// Returns what was opened, with the expression inside, and what follows it.
 pub(super) fn closed_at<'a>(
     alloc: Global,
     opened: Opened<'a>,

@@ -15,7 +15,7 @@ use jsonb_doc::Number;
 use jsonb_keypath::token::{int64, literal, nat64, skip_space};
 use std::alloc::Global;
 
-/// Returns what stands beside the first of the texts with which the input begins, and the rest.
+/// Returns the value of the first of these words with which the input begins, and the rest.
 macro_rules! return_first_of {
     ($input:expr, $($text:literal => $value:expr,)+) => {
         $(if let Some(rest) = literal($text, $input) {
@@ -91,7 +91,7 @@ fn literal_value_at(alloc: Global, input: &[u8]) -> Reading<'_, PathValue<'_>>
     }
 }
 
-/// Where a path begins: `$`, and in a filter also `@`.
+/// Reads the beginning of a path: `$`, and in a filter also `@`.
 #[tactic(auto, unfolding(crate::specs::PathGrammar::path_root))]
 pub(super) fn path_root_at(is_in_filter: bool, input: &[u8]) -> Option<(Path<'_>, &[u8])>
     ensures value { read_as step_view result ≡ path_root is_in_filter input.now }
@@ -108,7 +108,7 @@ pub(super) fn path_root_at(is_in_filter: bool, input: &[u8]) -> Option<(Path<'_>
     None
 }
 
-/// The first step and the steps behind it.
+/// Reads the first step and the steps after it.
 pub(super) fn operand_steps_at(
     alloc: Global,
     is_in_filter: bool,
@@ -193,7 +193,7 @@ pub(super) fn binary_atom_at(
     Ok(Some((Expr::BinaryOp { op, left, right }, rest)))
 }
 
-/// An operator, and the operand behind it.
+/// Reads an operator, and the operand after it.
 #[tactic(auto, unfolding(crate::specs::Private::Frames::operation))]
 pub(super) fn operation_at(
     alloc: Global,

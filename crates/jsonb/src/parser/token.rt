@@ -1,4 +1,4 @@
-//! Tokens at the front of the input.
+//! Tokens at the beginning of the input.
 
 ghost use Rattle.std.specs.Prelude.{◌≡◌, ◌+◌, ◌≤◌, length, option_map, IfSome, IfOk};
 ghost use Rattle.std.specs.Cow.{cow_str_bytes};
@@ -12,7 +12,7 @@ use jsonb_keypath::token::{literal, read_name, read_quoted, skip_space};
 use std::alloc::{AllocError, Global};
 use std::borrow::CowStr;
 
-/// A name at the front. Nothing but want of memory refuses it.
+/// Reads a name; fails only if an allocation fails.
 pub(super) fn name_at(alloc: Global, input: &[u8]) -> Reading<'_, CowStr<'_, Global>>
     ensures value { IfOk result (λ found. read_as cow_str_bytes found ≡ name input.now) }
     ensures shrinks { IfOk result (LeavesLess input.now) }
@@ -23,7 +23,7 @@ pub(super) fn name_at(alloc: Global, input: &[u8]) -> Reading<'_, CowStr<'_, Glo
     }
 }
 
-/// A text between quotes at the front. Nothing but want of memory refuses it.
+/// Reads a quoted string; fails only if an allocation fails.
 pub(super) fn quoted_at(alloc: Global, input: &[u8]) -> Reading<'_, CowStr<'_, Global>>
     ensures value { IfOk result (λ found. read_as cow_str_bytes found ≡ quoted input.now) }
     ensures shrinks { IfOk result (LeavesLess input.now) }
@@ -34,7 +34,7 @@ pub(super) fn quoted_at(alloc: Global, input: &[u8]) -> Reading<'_, CowStr<'_, G
     }
 }
 
-/// A name, or a text between quotes.
+/// Reads a name or a quoted string.
 #[tactic(auto, unfolding(crate::specs::PathGrammar::field))]
 pub(super) fn field_at(alloc: Global, input: &[u8]) -> Reading<'_, CowStr<'_, Global>>
     ensures value { IfOk result (λ found. read_as cow_str_bytes found ≡ field input.now) }
@@ -46,7 +46,7 @@ pub(super) fn field_at(alloc: Global, input: &[u8]) -> Reading<'_, CowStr<'_, Gl
     }
 }
 
-/// The input behind a keyword in any case of its letters.
+/// Returns the input after a keyword in any case.
 pub(super) fn keyword_at<'a>(text: &[u8], input: &'a [u8]) -> Option<&'a [u8]>
     ensures value { option_map (λ rest. (tt, rest.now)) result ≡ in_any_case text.now input.now }
     ensures shrinks { IfSome result (λ rest. length rest.now + length text.now ≡ length input.now) }
@@ -61,7 +61,7 @@ pub(super) fn keyword_at<'a>(text: &[u8], input: &'a [u8]) -> Option<&'a [u8]>
     None
 }
 
-/// These bytes with white space around them.
+/// Reads these bytes with white space around them.
 pub(super) fn separator_at<'a>(text: &[u8], input: &'a [u8]) -> Option<&'a [u8]>
     ensures value { option_map (λ rest. (tt, rest.now)) result ≡ spaced (bytes text.now) input.now }
     ensures shrinks { IfSome result (λ rest. length rest.now + length text.now ≤ length input.now) }

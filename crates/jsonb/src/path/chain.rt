@@ -1,4 +1,4 @@
-//! Chains of expressions: pairs whose left side is a pair again, as `a && b && c`.
+//! Chains of expressions: pairs whose left side is again a pair, such as `a && b && c`.
 
 ghost use Rattle.std.specs.Prelude.{◌≡◌, ◌<◌, true};
 ghost use Rattle.jsonb.specs.PathViews.{expression_view};
@@ -6,7 +6,7 @@ ghost use Rattle.jsonb.specs.Private.Chain.{is_pair, left_of, below};
 
 use super::Expr;
 
-/// How many left sides lie one in another, as far as a number counts them.
+/// Returns the number of nested left sides, saturating.
 pub(super) fn links_of(expression: &Expr<'_>) -> usize
     ensures { is_pair (expression_view expression.now) ≡ true → 0 < result }
 {
@@ -19,7 +19,7 @@ pub(super) fn links_of(expression: &Expr<'_>) -> usize
     links
 }
 
-/// The expression so many left sides below.
+/// Returns the expression that many left sides below.
 pub(super) fn below<'e, 'a>(expression: &'e Expr<'a>, links: usize) -> &'e Expr<'a>
     ensures { expression_view result.now ≡ below links (expression_view expression.now) }
 {
@@ -30,7 +30,7 @@ pub(super) fn below<'e, 'a>(expression: &'e Expr<'a>, links: usize) -> &'e Expr<
     inner
 }
 
-/// The left side of a pair; what is no pair is its own.
+/// Returns the left side of a pair, and any other expression itself.
 pub(super) fn left_of<'e, 'a>(expression: &'e Expr<'a>) -> &'e Expr<'a>
     ensures { expression_view result.now ≡ left_of (expression_view expression.now) }
 {

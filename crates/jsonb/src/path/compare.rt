@@ -1,4 +1,4 @@
-//! How two steps, expressions and literals compare.
+//! Equality and order of steps, expressions and literals.
 
 ghost use Rattle.std.specs.Prelude.{◌≡◌};
 ghost use Rattle.std.specs.Cmp.{on_per};
@@ -14,7 +14,7 @@ use super::last::{is_filter, last_of};
 use super::{Expr, Path, PathValue};
 use std::cmp::Ordering;
 
-/// Equal part by part, with literals that are equal by value.
+/// Equal node by node, with literals that are equal by value.
 impl PartialEq for Path<'_> {
     ghost eq = { λ s t. is_same_step (step_view s) (step_view t) };
 
@@ -25,7 +25,7 @@ impl PartialEq for Path<'_> {
     }
 }
 
-/// Equal part by part, with literals that are equal by value.
+/// Equal node by node, with literals that are equal by value.
 impl PartialEq for Expr<'_> {
     ghost eq = { λ e f. is_same_expression (expression_view e) (expression_view f) };
 
@@ -72,7 +72,8 @@ fn same_steps(steps: &[Path<'_>], others: &[Path<'_>]) -> bool
     rest.next().is_none()
 }
 
-/// Goes on with what stands last in both, so that no call has to come back from there.
+/// Returns `true` if two expressions are the same. Continues with the last expressions of both, so that no call has to
+/// return from there.
 #[cycle(same)]
 fn same_expression(expression: &Expr<'_>, other: &Expr<'_>) -> bool
     ensures { result ≡ is_same_expression (expression_view expression.now) (expression_view other.now) }
@@ -87,7 +88,7 @@ fn same_expression(expression: &Expr<'_>, other: &Expr<'_>) -> bool
     true
 }
 
-/// Whether two expressions are the same before what stands last in them.
+/// Returns `true` if two expressions are the same except for their last expressions.
 #[cycle(same)]
 fn same_before(expression: &Expr<'_>, other: &Expr<'_>) -> bool
     ensures { result ≡ is_same_before (expression_view expression.now) (expression_view other.now) }
@@ -109,7 +110,7 @@ fn same_before(expression: &Expr<'_>, other: &Expr<'_>) -> bool
     }
 }
 
-/// Whether the steps are the same, of the last ones only what stands before the expressions that they hold.
+/// Returns `true` if the steps are the same except for the expression in the last ones.
 #[cycle(same)]
 fn same_before_last(steps: &Vec<Path<'_>>, others: &Vec<Path<'_>>) -> bool
     ensures { result ≡ are_same_before
@@ -124,7 +125,7 @@ fn same_before_last(steps: &Vec<Path<'_>>, others: &Vec<Path<'_>>) -> bool
     }
 }
 
-/// Whether two steps hold expressions in the same way, or are the same.
+/// Returns `true` if two steps hold expressions in the same way, or are the same.
 #[cycle(same)]
 fn same_opening(step: &Path<'_>, other: &Path<'_>) -> bool
     ensures { result ≡ is_same_opening (step_view step.now) (step_view other.now) }
@@ -134,7 +135,7 @@ fn same_opening(step: &Path<'_>, other: &Path<'_>) -> bool
         || same_step(step, other)
 }
 
-/// Goes down the left sides of both, and looks at the right ones on the way.
+/// Returns `true` if two expressions are the same, visiting their left sides, and the right ones on the way.
 #[cycle(same)]
 fn same_chain(expression: &Expr<'_>, other: &Expr<'_>) -> bool
     ensures { result ≡ is_same_expression (expression_view expression.now) (expression_view other.now) }
@@ -159,8 +160,8 @@ fn same_chain(expression: &Expr<'_>, other: &Expr<'_>) -> bool
     same_expression(inner, other_inner)
 }
 
-/// Equal exactly where `partial_cmp` answers `Equal`. A document is equal to none, not even to
-/// itself, so there is no `Eq`.
+/// Equal if and only if `partial_cmp` returns `Equal`. A document equals nothing, not even itself, so there is no
+/// `Eq`.
 impl PartialEq for PathValue<'_> {
     ghost eq = { path_value_equal };
 
@@ -174,8 +175,8 @@ impl PartialEq for PathValue<'_> {
     }
 }
 
-/// Null is as null, false is below true, numbers compare by their exact values, and texts by their
-/// bytes. Two literals of different kinds do not compare, and a document compares with none.
+/// Null equals null, false is less than true, numbers compare by exact value, and strings by their bytes. Two
+/// literals of different types are not ordered, and a document is not ordered with anything.
 impl PartialOrd for PathValue<'_> {
     ghost partial_cmp = { path_value_order };
 

@@ -1,4 +1,4 @@
-//! `clone`, which takes memory, and answers the same parts.
+//! `clone` of paths and their nodes.
 
 ghost use Rattle.std.specs.Prelude.{◌≡◌, ◌<◌, IfOk, MatchResult};
 ghost use Rattle.jsonb_doc.specs.Answer.{IsOutOfMemory};
@@ -14,15 +14,25 @@ use jsonb_doc::Error;
 use std::alloc::Global;
 
 impl<'a> JsonPath<'a> {
-    /// The same steps. Names that borrow borrow again.
+    /// Returns a copy of the path.
+    ///
+    /// Borrowed names remain borrowed.
     ///
     /// # Errors
     ///
-    /// `OutOfMemory` where memory is refused.
+    /// `OutOfMemory` if an allocation fails.
     ///
-    /// # Cost
+    /// # Complexity
     ///
-    /// Linear in the path. Takes memory.
+    /// O(length of the path). Allocates.
+    ///
+    /// # Examples
+    ///
+    /// ```rust crates/jsonb_examples/src/evaluation.rt
+    /// let mut longer = path.clone(alloc)?;
+    /// longer.paths.push(Path::DotField(CowStr::Borrowed(key)))?;
+    /// Ok(longer)
+    /// ```
     pub fn clone(&self, alloc: Global) -> Result<JsonPath<'a>, Error>
         ensures { MatchResult result (λ copy. path_view copy ≡ path_view self.now) IsOutOfMemory }
     {
@@ -32,15 +42,25 @@ impl<'a> JsonPath<'a> {
 }
 
 impl<'a> Path<'a> {
-    /// The same step. Names that borrow borrow again.
+    /// Returns a copy of the step.
+    ///
+    /// Borrowed names remain borrowed.
     ///
     /// # Errors
     ///
-    /// `OutOfMemory` where memory is refused.
+    /// `OutOfMemory` if an allocation fails.
     ///
-    /// # Cost
+    /// # Complexity
     ///
-    /// Linear in the step. Takes memory only for a list, an expression, or a name that does not borrow.
+    /// O(length of the step). Allocates only for a list, an expression, or an owned name.
+    ///
+    /// # Examples
+    ///
+    /// ```rust crates/jsonb_examples/src/evaluation.rt
+    /// for step in front {
+    ///     paths.push(step.clone(alloc)?)?;
+    /// }
+    /// ```
     pub fn clone(&self, alloc: Global) -> Result<Path<'a>, Error>
         ensures { MatchResult result (λ copy. step_view copy ≡ step_view self.now) IsOutOfMemory }
     {
@@ -55,15 +75,26 @@ impl<'a> Path<'a> {
 }
 
 impl<'a> Expr<'a> {
-    /// The same expression. Texts that borrow borrow again.
+    /// Returns a copy of the expression.
+    ///
+    /// Borrowed strings remain borrowed.
     ///
     /// # Errors
     ///
-    /// `OutOfMemory` where memory is refused.
+    /// `OutOfMemory` if an allocation fails.
     ///
-    /// # Cost
+    /// # Complexity
     ///
-    /// Linear in the expression. Takes memory.
+    /// O(length of the expression). Allocates.
+    ///
+    /// # Examples
+    ///
+    /// ```rust crates/jsonb_examples/src/evaluation.rt
+    /// match path.paths.as_slice().last() {
+    ///     Some(Path::FilterExpr(condition)) => Ok(Some((**condition).clone(alloc)?)),
+    ///     _ => Ok(None),
+    /// }
+    /// ```
     pub fn clone(&self, alloc: Global) -> Result<Expr<'a>, Error>
         ensures { MatchResult result (λ copy. expression_view copy ≡ expression_view self.now) IsOutOfMemory }
     {
@@ -80,15 +111,26 @@ impl<'a> Expr<'a> {
 }
 
 impl<'a> PathValue<'a> {
-    /// The same literal. A text that borrows borrows again.
+    /// Returns a copy of the literal.
+    ///
+    /// A borrowed string remains borrowed.
     ///
     /// # Errors
     ///
-    /// `OutOfMemory` where memory is refused.
+    /// `OutOfMemory` if an allocation fails.
     ///
-    /// # Cost
+    /// # Complexity
     ///
-    /// Constant, without memory; a text that does not borrow is copied.
+    /// O(1). Allocates only for an owned string, which is copied.
+    ///
+    /// # Examples
+    ///
+    /// ```rust crates/jsonb_examples/src/evaluation.rt
+    /// match &**right {
+    ///     Expr::Value(literal) => Ok(Some((**literal).clone(alloc)?)),
+    ///     _ => Ok(None),
+    /// }
+    /// ```
     pub fn clone(&self, _alloc: Global) -> Result<PathValue<'a>, Error>
         ensures { MatchResult result (λ copy. literal_view copy ≡ literal_view self.now) IsOutOfMemory }
     {
@@ -115,7 +157,7 @@ fn copied_leaf<'e, 'a>(leaf: Leaf<'e, 'a, 'a>, alloc: Global) -> Result<Copied<'
     }
 }
 
-/// Copies the rest of the steps, up to one that holds an expression.
+/// Copies the remaining steps, up to one that holds an expression.
 fn copied_steps<'e, 'a>(
     mut steps: StepsSoFar<'e, 'a, 'a>,
     alloc: Global,
@@ -135,7 +177,7 @@ fn copied_steps<'e, 'a>(
     Ok(Copied::Whole(listed(steps.kind, steps.copies)))
 }
 
-/// The same step, but for an expression that it holds.
+/// Returns a copy of a step without the expression in it.
 fn copied_step<'e, 'a>(step: &'e Path<'a>, alloc: Global) -> Result<StepCopy<'e, 'a, 'a>, Error>
     ensures { MatchResult result (λ copy. step_copy_view copy ≡ step_view step.now) IsOutOfMemory }
 {
@@ -155,7 +197,7 @@ fn copied_step<'e, 'a>(step: &'e Path<'a>, alloc: Global) -> Result<StepCopy<'e,
     Ok(StepCopy::Whole(copy))
 }
 
-/// The same steps, one after the other.
+/// Copies the steps, one after the other.
 fn copy_steps<'a>(steps: &Vec<Path<'a>>, alloc: Global) -> Result<Vec<Path<'a>>, Error>
     ensures { MatchResult result (λ copies. steps_view copies.items ≡ steps_view steps.now.items) IsOutOfMemory }
 {

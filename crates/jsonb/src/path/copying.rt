@@ -1,4 +1,4 @@
-//! Copying an expression in a loop: what is still to be done around a part lies in frames.
+//! Copying an expression in a loop. What remains to be done around a node is in frames.
 
 ghost use Rattle.std.specs.Prelude.{◌≡◌, ◌+◌, ◌≤◌, false, IfOk, IfErr};
 ghost use Rattle.jsonb_doc.specs.Answer.{IsOutOfMemory};
@@ -13,12 +13,12 @@ use jsonb_doc::Error;
 use std::alloc::Global;
 use std::slice;
 
-/// What the steps of an expression make.
+/// What the steps of an expression are.
 #[derive(Clone, Copy)]
 pub(super) enum StepsKind {
     /// A path.
     Paths,
-    /// A test whether a path meets anything.
+    /// A test whether a path selects an item.
     Exists,
 }
 
@@ -37,7 +37,7 @@ pub(super) struct StepsSoFar<'e, 'a, 'b> {
     pub rest: slice::Iter<'e, Path<'a>>,
 }
 
-/// What stands around a part that is being copied.
+/// What surrounds a node that is being copied.
 #[derive(Drop)]
 pub(super) enum Frame<'e, 'a, 'b> {
     /// The part is a left side, and this is the right one.
@@ -59,26 +59,26 @@ pub(super) enum Frame<'e, 'a, 'b> {
     },
 }
 
-/// An expression that is no pair and has no sign.
+/// An expression that is neither a pair nor signed.
 #[derive(Drop)]
 pub(super) enum Leaf<'e, 'a, 'b> {
     Value(&'e PathValue<'a>),
     Steps(StepsSoFar<'e, 'a, 'b>),
 }
 
-/// How far a leaf is copied.
+/// The progress of copying a leaf.
 #[derive(Drop)]
 pub(super) enum Copied<'e, 'a, 'b> {
     /// To its end.
     Whole(Expr<'b>),
-    /// Up to an expression inside, around which this frame stands.
+    /// Up to an inner expression, which this frame surrounds.
     Within {
         inner: &'e Expr<'a>,
         frame: Frame<'e, 'a, 'b>,
     },
 }
 
-/// What is to be done next within the frames.
+/// What is done next within the frames.
 #[derive(Drop)]
 pub(super) enum Next<'e, 'a, 'b> {
     /// This right side is to be copied.
@@ -89,7 +89,7 @@ pub(super) enum Next<'e, 'a, 'b> {
     Whole(Expr<'b>),
 }
 
-/// How far a step is copied.
+/// The progress of copying a step.
 #[derive(Drop)]
 pub(super) enum StepCopy<'e, 'a, 'b> {
     /// To its end.
@@ -98,14 +98,14 @@ pub(super) enum StepCopy<'e, 'a, 'b> {
     Holding(Holder, &'e Expr<'a>),
 }
 
-/// A leaf, and what stands around it.
+/// A leaf, and what surrounds it.
 #[derive(Drop)]
 pub(super) struct ReachedLeaf<'e, 'a, 'b> {
     pub leaf: Leaf<'e, 'a, 'b>,
     pub frames: Vec<Frame<'e, 'a, 'b>>,
 }
 
-/// How far the whole is copied.
+/// The progress of copying the whole expression.
 #[derive(Drop)]
 pub(super) enum Progress<'e, 'a, 'b> {
     /// Up to this leaf.
@@ -114,7 +114,7 @@ pub(super) enum Progress<'e, 'a, 'b> {
     Whole(Expr<'b>),
 }
 
-/// The expression of such steps.
+/// Returns the expression of these steps.
 pub(super) fn listed(kind: StepsKind, steps: Vec<Path<'_>>) -> Expr<'_>
     ensures { expression_view result ≡ listed kind (steps_of (steps_view steps.entry.items)) }
 {
@@ -124,7 +124,7 @@ pub(super) fn listed(kind: StepsKind, steps: Vec<Path<'_>>) -> Expr<'_>
     }
 }
 
-/// The first leaf of an expression around which these frames stand.
+/// Returns the first leaf of an expression that these frames surround.
 pub(super) fn first_leaf<'e, 'a, 'b>(
     alloc: Global,
     expression: &'e Expr<'a>,
@@ -166,7 +166,7 @@ pub(super) fn first_leaf<'e, 'a, 'b>(
     }
 }
 
-/// Steps of which none is copied yet.
+/// Returns steps of which none is copied yet.
 fn none_copied<'e, 'a, 'b>(
     alloc: Global,
     kind: StepsKind,
@@ -186,7 +186,7 @@ fn none_copied<'e, 'a, 'b>(
     })
 }
 
-/// The next leaf, where one is copied so far as this, within the frames.
+/// Returns the next leaf after this copy within the frames, if there is one.
 pub(super) fn go_on<'e, 'a, 'b>(
     alloc: Global,
     copied: Copied<'e, 'a, 'b>,
@@ -216,7 +216,7 @@ pub(super) fn go_on<'e, 'a, 'b>(
     }
 }
 
-/// Puts a copy into what stands around it, up to the first frame in which something is not copied.
+/// Stores a copy in the frames, up to the first one in which something remains to be copied.
 pub(super) fn put_in<'e, 'a, 'b>(
     alloc: Global,
     copy: Expr<'b>,
@@ -254,7 +254,7 @@ pub(super) fn put_in<'e, 'a, 'b>(
     Ok(Next::Whole(copy))
 }
 
-/// The steps, with a copy of the expression that the next one holds.
+/// Returns the steps with a copy of the expression that the next one holds.
 fn with_held<'e, 'a, 'b>(
     alloc: Global,
     holder: Holder,
@@ -279,7 +279,7 @@ fn with_held<'e, 'a, 'b>(
     Ok(StepsSoFar { kind, copies, rest })
 }
 
-/// A step that holds an expression.
+/// Returns a step that holds an expression.
 pub(super) fn holding(holder: Holder, inner: Box<Expr<'_>>) -> Path<'_>
     ensures { step_view result ≡ held holder (expression_view inner.entry.value) }
 {

@@ -1,4 +1,4 @@
-//! Paths and their parts as a failed assertion prints them: by their texts.
+//! `Debug` of paths and their nodes, which prints their text.
 
 use super::{Expr, JsonPath, Path, PathValue};
 use std::fmt;

@@ -1,4 +1,4 @@
-//! How the parts of a path print.
+//! Printing of the nodes of a path.
 
 ghost use Rattle.std.specs.Prelude.{◌≡◌, [], ◌∷◌, ◌++◌, Some, codes, map, flat_map};
 ghost use Rattle.std.specs.Fmt.{WritesOnOk};
@@ -95,8 +95,8 @@ fn write_expression<W: fmt::Write>(expression: &Expr<'_>, f: &mut fmt::Formatter
     write_closings(expression, f)
 }
 
-/// Writes an expression without the parentheses that close at its end. What stands last in it comes last, so that no
-/// call has to come back from there.
+/// Writes an expression without the parentheses that close at its end. Its last expression is written last, so that no
+/// call has to return from there.
 #[cycle(write)]
 fn write_down<W: fmt::Write>(expression: &Expr<'_>, f: &mut fmt::Formatter<W>) -> fmt::Result
     ensures { WritesOnOk W.write_str_gives f.old result (down text_before (expression_view expression.now)) f.new }
@@ -109,7 +109,7 @@ fn write_down<W: fmt::Write>(expression: &Expr<'_>, f: &mut fmt::Formatter<W>) -
     Ok(())
 }
 
-/// Writes the parentheses that close at the end of an expression. They are all alike, so that the outer ones may come
+/// Writes the parentheses that close at the end of an expression. They are all equal, so the outer ones may be written
 /// first.
 fn write_closings<W: fmt::Write>(expression: &Expr<'_>, f: &mut fmt::Formatter<W>) -> fmt::Result
     ensures { WritesOnOk W.write_str_gives f.old result (down closing (expression_view expression.now)) f.new }
@@ -122,7 +122,7 @@ fn write_closings<W: fmt::Write>(expression: &Expr<'_>, f: &mut fmt::Formatter<W
     Ok(())
 }
 
-/// The parentheses that close behind what stands last.
+/// Returns the parentheses that close after the last expression.
 fn closing_of(expression: &Expr<'_>) -> &'static str
     ensures { result.now ≡ closing (expression_view expression.now) }
 {
@@ -135,8 +135,7 @@ fn closing_of(expression: &Expr<'_>) -> &'static str
     }
 }
 
-/// Writes what stands before the expression that is last in this one; where there is none, all but the parenthesis at
-/// the end.
+/// Writes what precedes the last expression of this one; without one, all except the parenthesis at the end.
 #[cycle(write)]
 fn write_before<W: fmt::Write>(expression: &Expr<'_>, f: &mut fmt::Formatter<W>) -> fmt::Result
     ensures { WritesOnOk W.write_str_gives f.old result (text_before (expression_view expression.now)) f.new }
@@ -158,7 +157,7 @@ fn write_before<W: fmt::Write>(expression: &Expr<'_>, f: &mut fmt::Formatter<W>)
     }
 }
 
-/// Writes the steps, of the last one only what stands before the expression that it holds.
+/// Writes the steps, of the last one only what precedes its expression.
 #[cycle(write)]
 fn write_before_last<W: fmt::Write>(steps: &Vec<Path<'_>>, f: &mut fmt::Formatter<W>) -> fmt::Result
     ensures { WritesOnOk W.write_str_gives f.old result (steps_before (steps_of (steps_view steps.now.items))) f.new }
@@ -170,7 +169,7 @@ fn write_before_last<W: fmt::Write>(steps: &Vec<Path<'_>>, f: &mut fmt::Formatte
     write_step_before(last, f)
 }
 
-/// Writes a step, or what stands before the expression that it holds.
+/// Writes a step, or what precedes its expression.
 #[cycle(write)]
 fn write_step_before<W: fmt::Write>(step: &Path<'_>, f: &mut fmt::Formatter<W>) -> fmt::Result
     ensures { WritesOnOk W.write_str_gives f.old result (step_before (step_view step.now)) f.new }
@@ -193,7 +192,7 @@ fn write_chain<W: fmt::Write>(expression: &Expr<'_>, f: &mut fmt::Formatter<W>) 
     write_links(expression, links, f)
 }
 
-/// Opens the parentheses of so many left sides, one in another.
+/// Opens the parentheses of that many nested left sides.
 fn write_fronts<W: fmt::Write>(
     chain: &Expr<'_>,
     links: usize,
@@ -209,7 +208,7 @@ fn write_fronts<W: fmt::Write>(
     Ok(())
 }
 
-/// Writes what stands in front of the left side of a pair.
+/// Writes what precedes the left side of a pair.
 fn write_front<W: fmt::Write>(pair: &Expr<'_>, f: &mut fmt::Formatter<W>) -> fmt::Result
     ensures { WritesOnOk W.write_str_gives f.old result (front_text (expression_view pair.now)) f.new }
 {
@@ -219,8 +218,8 @@ fn write_front<W: fmt::Write>(pair: &Expr<'_>, f: &mut fmt::Formatter<W>) -> fmt
     }
 }
 
-/// Writes the outermost links of a chain, the inner ones first. They can be reached from the outside alone: so each
-/// half is written by a call, the inner one first, and the calls nest as often as the number can be halved.
+/// Writes the outermost links of a chain, the inner ones first. They can only be reached from the outside, so each half
+/// is written by a call, the inner one first, and the recursion depth is logarithmic.
 #[cycle(write)]
 fn write_links<W: fmt::Write>(
     chain: &Expr<'_>,
@@ -240,7 +239,7 @@ fn write_links<W: fmt::Write>(
     }
 }
 
-/// Writes what stands behind the left side of a pair.
+/// Writes what follows the left side of a pair.
 #[cycle(write)]
 fn write_link<W: fmt::Write>(pair: &Expr<'_>, f: &mut fmt::Formatter<W>) -> fmt::Result
     ensures { WritesOnOk W.write_str_gives f.old result (link_text (expression_view pair.now)) f.new }
@@ -252,7 +251,7 @@ fn write_link<W: fmt::Write>(pair: &Expr<'_>, f: &mut fmt::Formatter<W>) -> fmt:
     write_side(right, f)
 }
 
-/// Writes what stands between the sides of a pair.
+/// Writes what is between the sides of a pair.
 fn write_between<W: fmt::Write>(pair: &Expr<'_>, f: &mut fmt::Formatter<W>) -> fmt::Result
     ensures { WritesOnOk W.write_str_gives f.old result (between_text (expression_view pair.now)) f.new }
 {
@@ -280,7 +279,7 @@ fn write_side<W: fmt::Write>(side: &Expr<'_>, f: &mut fmt::Formatter<W>) -> fmt:
     }
 }
 
-/// Writes the parenthesis in front of a side, where it has one.
+/// Writes the parenthesis before a side, if it has one.
 fn write_opening<W: fmt::Write>(side: &Expr<'_>, f: &mut fmt::Formatter<W>) -> fmt::Result
     ensures { WritesOnOk W.write_str_gives f.old result (parenthesis (expression_view side.now) (codes "(")) f.new }
 {
@@ -291,7 +290,7 @@ fn write_opening<W: fmt::Write>(side: &Expr<'_>, f: &mut fmt::Formatter<W>) -> f
     }
 }
 
-/// Whether the expression joins conditions: as a side it stands in parentheses.
+/// Returns `true` if the expression joins conditions: as a side it is in parentheses.
 fn needs_parentheses(expression: &Expr<'_>) -> bool
     ensures { result ≡ needs_parentheses (expression_view expression.now) }
 {
@@ -319,7 +318,7 @@ fn write_array_indices<W: fmt::Write>(
     f.write_str("]")
 }
 
-/// Writes each entry behind a comma and a space.
+/// Writes each subscript after a comma and a space.
 fn write_others<W: fmt::Write>(entries: &[ArrayIndex], f: &mut fmt::Formatter<W>) -> fmt::Result
     ensures { WritesOnOk W.write_str_gives f.old result (flat_map other_entry_text (map entry_view entries.now)) f.new }
 {
@@ -340,8 +339,8 @@ impl fmt::Display for Index {
     }
 }
 
-/// Writes a place that is counted from the last element. The least offset has no positive
-/// counterpart, so it does not stand behind a minus.
+/// Writes a position that is counted from the last element. The least offset has no positive counterpart, so it does
+/// not follow a minus.
 fn write_last<W: fmt::Write>(offset: i32, f: &mut fmt::Formatter<W>) -> fmt::Result
     ensures { WritesOnOk W.write_str_gives f.old result (codes "last" ++ offset_text offset) f.new }
 {

@@ -1,4 +1,4 @@
-//! What stands last in an expression: the right side of a pair, the operand of a sign, or what the last step holds.
+//! The last expression of an expression: the right side of a pair, the operand of a sign, or that of the last step.
 
 ghost use Rattle.std.specs.Prelude.{◌≡◌, option_map};
 ghost use Rattle.jsonb.specs.PathTree.{steps_of};
@@ -7,7 +7,7 @@ ghost use Rattle.jsonb.specs.Private.Last.{last_step, is_filter, ends_in_filter,
 
 use super::{Expr, Path};
 
-/// The expression that stands last in another one.
+/// Returns the last expression of another one.
 pub(super) fn last_of<'e, 'a>(expression: &'e Expr<'a>) -> Option<&'e Expr<'a>>
     ensures { option_map (λ last. expression_view last.now) result ≡ last_of (expression_view expression.now) }
 {
@@ -19,7 +19,7 @@ pub(super) fn last_of<'e, 'a>(expression: &'e Expr<'a>) -> Option<&'e Expr<'a>>
     }
 }
 
-/// The expression that the last step holds.
+/// Returns the expression that the last step holds.
 fn held_by_last<'e, 'a>(steps: &'e Vec<Path<'a>>) -> Option<&'e Expr<'a>>
     ensures { option_map (λ held. expression_view held.now) result
         ≡ held_by_last (last_step (steps_of (steps_view steps.now.items))) }
@@ -30,7 +30,7 @@ fn held_by_last<'e, 'a>(steps: &'e Vec<Path<'a>>) -> Option<&'e Expr<'a>>
     }
 }
 
-/// The expression that a step holds.
+/// Returns the expression that a step holds.
 fn held_by<'e, 'a>(step: &'e Path<'a>) -> Option<&'e Expr<'a>>
     ensures { option_map (λ held. expression_view held.now) result ≡ held_by (step_view step.now) }
 {
@@ -41,7 +41,7 @@ fn held_by<'e, 'a>(step: &'e Path<'a>) -> Option<&'e Expr<'a>>
     }
 }
 
-/// Whether the last step is a filter.
+/// Returns `true` if the last step is a filter.
 pub(super) fn ends_in_filter(steps: &Vec<Path<'_>>) -> bool
     ensures { result ≡ ends_in_filter (last_step (steps_of (steps_view steps.now.items))) }
 {

@@ -1,4 +1,4 @@
-//! What a recursive step does at a level.
+//! The effect of a recursive step at a level.
 
 ghost use Rattle.std.specs.Prelude.{◌≡◌};
 ghost use Rattle.jsonb.specs.LevelTable.{level_answer};
@@ -7,15 +7,22 @@ ghost use Rattle.jsonb.specs.PathViews.{levels_view};
 use super::{RecursiveLevel, RecursiveLevelEnd};
 
 impl RecursiveLevel {
-    /// Whether an item of this level is taken, and whether its children are looked at.
+    /// Returns whether an item of this level is selected, and whether its children are visited.
     ///
-    /// Below the start the item is not taken, and its children are looked at unless the end lies below the start.
-    /// From the start on: with no end the start alone is taken, and no children are looked at; with an end the items
-    /// up to it are taken and their children looked at, and nothing behind it; with `Last` both, always.
+    /// Before the start the item is not selected, and its children are visited unless the end is before the start. From
+    /// the start on, both are `true` up to the end; with `Last` they always are. Without an end only the start is
+    /// selected, and its children are not visited.
     ///
-    /// # Cost
+    /// # Complexity
     ///
-    /// Constant, without memory.
+    /// O(1). Does not allocate.
+    ///
+    /// # Examples
+    ///
+    /// ```rust crates/jsonb_examples/src/evaluation.rt
+    /// let (is_selected, _) = levels.check_recursive_level(level);
+    /// is_selected
+    /// ```
     pub fn check_recursive_level(&self, level: u8) -> (bool, bool)
         ensures { result ≡ level_answer (levels_view self.now) level }
     {

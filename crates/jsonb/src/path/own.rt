@@ -1,4 +1,4 @@
-//! `to_owned`: the same parts with texts of their own, which outlive the text that was read.
+//! `to_owned`: paths and their nodes with owned strings, which outlive the text that was parsed.
 
 ghost use Rattle.std.specs.Prelude.{◌≡◌, ◌<◌, false, IfOk, IfErr, OnOk};
 ghost use Rattle.std.specs.Cow.{cow_str_bytes};
@@ -17,16 +17,23 @@ use std::alloc::Global;
 use std::borrow::CowStr;
 
 impl JsonPath<'_> {
-    /// The same steps, with texts of their own.
+    /// Returns a copy of the path that owns its strings.
     ///
     /// # Errors
     ///
-    /// `InvalidJsonPath` where a literal is a document, which borrows its bytes (no path that was read from a text
-    /// has one), and `OutOfMemory` where memory is refused.
+    /// `InvalidJsonPath` if a literal is a document, which borrows its bytes (no parsed path has one), and
+    /// `OutOfMemory` if an allocation fails.
     ///
-    /// # Cost
+    /// # Complexity
     ///
-    /// Linear in the path. Takes memory.
+    /// O(length of the path). Allocates.
+    ///
+    /// # Examples
+    ///
+    /// ```rust crates/jsonb_examples/src/evaluation.rt
+    /// let path = parse_json_path(alloc, text.as_bytes())?;
+    /// path.to_owned(alloc)
+    /// ```
     pub fn to_owned(&self, alloc: Global) -> Result<JsonPath<'static>, Error>
         ensures copy { IfOk result (λ copy. path_view copy ≡ path_view self.now) }
         ensures whole { OnOk result (has_document (path_view self.now) ≡ false) }
@@ -38,15 +45,24 @@ impl JsonPath<'_> {
 }
 
 impl Path<'_> {
-    /// The same step, with texts of its own.
+    /// Returns a copy of the step that owns its strings.
     ///
     /// # Errors
     ///
-    /// `InvalidJsonPath` where a literal is a document, and `OutOfMemory` where memory is refused.
+    /// `InvalidJsonPath` if a literal is a document, and `OutOfMemory` if an allocation fails.
     ///
-    /// # Cost
+    /// # Complexity
     ///
-    /// Linear in the step. Takes memory for names, lists and expressions.
+    /// O(length of the step). Allocates for names, lists and expressions.
+    ///
+    /// # Examples
+    ///
+    /// ```rust crates/jsonb_examples/src/evaluation.rt
+    /// match path.paths.as_slice().last() {
+    ///     Some(step) => Ok(Some(step.to_owned(alloc)?)),
+    ///     None => Ok(None),
+    /// }
+    /// ```
     pub fn to_owned(&self, alloc: Global) -> Result<Path<'static>, Error>
         ensures copy { IfOk result (λ copy. step_view copy ≡ step_view self.now) }
         ensures whole { OnOk result (step_has_document (step_view self.now) ≡ false) }
@@ -63,15 +79,22 @@ impl Path<'_> {
 }
 
 impl Expr<'_> {
-    /// The same expression, with texts of its own.
+    /// Returns a copy of the expression that owns its strings.
     ///
     /// # Errors
     ///
-    /// `InvalidJsonPath` where a literal is a document, and `OutOfMemory` where memory is refused.
+    /// `InvalidJsonPath` if a literal is a document, and `OutOfMemory` if an allocation fails.
     ///
-    /// # Cost
+    /// # Complexity
     ///
-    /// Linear in the expression. Takes memory.
+    /// O(length of the expression). Allocates.
+    ///
+    /// # Examples
+    ///
+    /// ```rust crates/jsonb_examples/src/evaluation.rt
+    /// let condition = condition.to_owned(alloc)?;
+    /// Ok(Path::FilterExpr(Box::new(alloc, condition)?))
+    /// ```
     pub fn to_owned(&self, alloc: Global) -> Result<Expr<'static>, Error>
         ensures copy { IfOk result (λ copy. expression_view copy ≡ expression_view self.now) }
         ensures whole { OnOk result (expression_has_document (expression_view self.now) ≡ false) }
@@ -90,15 +113,22 @@ impl Expr<'_> {
 }
 
 impl PathValue<'_> {
-    /// The same literal, with a text of its own.
+    /// Returns a copy of the literal that owns its string.
     ///
     /// # Errors
     ///
-    /// `InvalidJsonPath` for a document, and `OutOfMemory` where memory is refused.
+    /// `InvalidJsonPath` for a document, and `OutOfMemory` if an allocation fails.
     ///
-    /// # Cost
+    /// # Complexity
     ///
-    /// Linear in the text. Takes memory for a text alone.
+    /// O(length of the string). Allocates only for a string.
+    ///
+    /// # Examples
+    ///
+    /// ```rust crates/jsonb_examples/src/evaluation.rt
+    /// let literal = literal.to_owned(alloc)?;
+    /// Ok(Expr::Value(Box::new(alloc, literal)?))
+    /// ```
     pub fn to_owned(&self, alloc: Global) -> Result<PathValue<'static>, Error>
         ensures copy { IfOk result (λ copy. literal_view copy ≡ literal_view self.now) }
         ensures whole { OnOk result (is_document (literal_view self.now) ≡ false) }
@@ -132,7 +162,7 @@ fn owned_leaf<'e, 'a>(
     }
 }
 
-/// The same step with texts of its own, but for an expression that it holds.
+/// Returns a copy of a step that owns its strings, without the expression in it.
 fn owned_step<'e, 'a>(step: &'e Path<'a>, alloc: Global) -> Result<StepCopy<'e, 'a, 'static>, Error>
     ensures copy { IfOk result (λ copy. step_copy_view copy ≡ step_view step.now) }
     ensures whole { IfOk result (λ copy. step_copy_has_document copy ≡ false) }
@@ -154,7 +184,7 @@ fn owned_step<'e, 'a>(step: &'e Path<'a>, alloc: Global) -> Result<StepCopy<'e, 
     Ok(StepCopy::Whole(copy))
 }
 
-/// Copies the rest of the steps, up to one that holds an expression.
+/// Copies the remaining steps, up to one that holds an expression.
 fn owned_rest<'e, 'a>(
     mut steps: StepsSoFar<'e, 'a, 'static>,
     alloc: Global,
@@ -177,7 +207,7 @@ fn owned_rest<'e, 'a>(
     Ok(Copied::Whole(listed(steps.kind, steps.copies)))
 }
 
-/// The same steps, one after the other.
+/// Copies the steps, one after the other, with owned strings.
 fn owned_steps(steps: &Vec<Path<'_>>, alloc: Global) -> Result<Vec<Path<'static>>, Error>
     ensures copy { IfOk result (λ copies. steps_view copies.items ≡ steps_view steps.now.items) }
     ensures whole { OnOk result (has_document (steps_view steps.now.items) ≡ false) }

@@ -1,4 +1,4 @@
-//! Which positions of an array an entry means.
+//! The positions of an array that a subscript denotes.
 
 ghost use Rattle.std.specs.Prelude.{◌≡◌, ◌<◌, ◌≤◌, ◌↔◌, ℕ, pos, ◌≤ℤ◌, ◌<ℤ◌, IsTrue, nat_eq, MatchResult};
 ghost use Rattle.std.specs.HashSet.{contains};
@@ -13,16 +13,25 @@ use std::alloc::Global;
 use std::collections::HashSet;
 
 impl ArrayIndex {
-    /// The positions of an array of `length` elements that the entry means: for a slice all from its first end to its
-    /// second, both included. Those that the array does not have are left out. The set's seed is fixed.
+    /// Returns the positions of an array of `length` elements that the subscript denotes: for a slice all from its
+    /// first end to its second, both included.
+    ///
+    /// Positions outside the array are left out. The set's seed is fixed.
     ///
     /// # Errors
     ///
-    /// `OutOfMemory` where memory is refused.
+    /// `OutOfMemory` if an allocation fails.
     ///
-    /// # Cost
+    /// # Complexity
     ///
-    /// Linear in the count of positions. It reserves for all of them first.
+    /// O(number of positions). Allocates for all of them first.
+    ///
+    /// # Examples
+    ///
+    /// ```rust crates/jsonb_examples/src/evaluation.rt
+    /// let positions = subscript.to_indices(alloc, length)?;
+    /// Ok(positions.contains(&position))
+    /// ```
     pub fn to_indices(&self, alloc: Global, length: usize) -> Result<HashSet<usize>, Error>
         ensures { MatchResult result (λ found. (k : ℕ) →
             IsTrue (contains nat_eq found k) ↔ IsPosition (entry_view self.now) length k) IsOutOfMemory }
@@ -35,8 +44,8 @@ impl ArrayIndex {
         Ok(found)
     }
 
-    /// The positions that the entry means in an array of `length` elements, from the first number up to below
-    /// the second.
+    /// Returns the positions that the subscript denotes in an array of `length` elements: those from the first number
+    /// up to, and without, the second.
     pub(crate) fn bounds(&self, length: usize) -> (usize, usize)
         ensures within { (result.0 ≤ result.1) × (result.1 ≤ length) }
         ensures meant { (k : ℕ) → k < length
@@ -57,7 +66,7 @@ impl ArrayIndex {
 }
 
 impl Index {
-    /// The number of the place in an array of this length.
+    /// Returns the number of the position in an array of this length.
     fn position(&self, length: usize) -> i128
         ensures { result ≡ position length (place_view self.now) }
     {
@@ -68,8 +77,7 @@ impl Index {
     }
 }
 
-/// The positions from the first number to the last, both included: from where they begin up to below where they
-/// end.
+/// Returns the positions from the first number to the last, both included, as a start and an end that is not included.
 fn bounds_between(first: i128, last: i128, length: usize) -> (usize, usize)
     ensures within { (result.0 ≤ result.1) × (result.1 ≤ length) }
     ensures meant { (k : ℕ) → k < length → ((result.0 ≤ k) × (k < result.1)) ↔ IsBetween first last length k }
@@ -78,7 +86,7 @@ fn bounds_between(first: i128, last: i128, length: usize) -> (usize, usize)
     (start, first_above(last, length).max(start))
 }
 
-/// The first position that is not below the number, or the length.
+/// Returns the first position that is not below the number, or the length.
 fn first_not_below(at: i128, length: usize) -> usize
     ensures within { result ≤ length }
     ensures splits { (k : ℕ) → k < length → (result ≤ k) ↔ (at ≤ℤ pos k) }
@@ -92,7 +100,7 @@ fn first_not_below(at: i128, length: usize) -> usize
     at as usize
 }
 
-/// The first position above the number, or the length.
+/// Returns the first position above the number, or the length.
 fn first_above(at: i128, length: usize) -> usize
     ensures within { result ≤ length }
     ensures splits { (k : ℕ) → k < length → (result ≤ k) ↔ (at <ℤ pos k) }

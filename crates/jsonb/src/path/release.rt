@@ -1,6 +1,6 @@
-//! Letting go of an expression, part by part in a loop, without memory.
+//! Dropping an expression in a loop over its nodes, without allocating.
 //!
-//! What waits for its turn lies in the boxes that the parts before it have left.
+//! A node that waits is stored in the boxes that the nodes before it have left.
 
 ghost use Rattle.std.specs.Prelude.{◌≡◌, ℕ, ◌+◌, ◌<◌, IfSome, vec_len, vec_capacity};
 ghost use Rattle.jsonb.specs.PathTree.{steps_of};
@@ -10,14 +10,14 @@ ghost use Rattle.jsonb.specs.Private.Parts.{step_parts, steps_parts, parts, wait
 
 use super::{BinaryOperator, Expr, Path};
 
-/// An expression that is next to be let go, and one that waits behind it.
+/// An expression to be dropped next, and one that waits after it.
 struct Remaining<'a> {
     next: Expr<'a>,
     waiting: Option<Box<Expr<'a>>>,
 }
 
 impl<'a> Expr<'a> {
-    /// Lets go of all parts.
+    /// Drops all nodes.
     pub(super) fn release(self) {
         let mut remaining = Some(Remaining {
             next: self,
@@ -28,7 +28,7 @@ impl<'a> Expr<'a> {
         }
     }
 
-    /// One step of letting go: what remains of the expression and of what waits.
+    /// Drops one node; returns what remains of the expression and of what waits.
     fn without_a_part(self, waiting: Option<Box<Expr<'a>>>) -> Option<Remaining<'a>>
         ensures { IfSome result (λ left. remaining left < to_release (parts self.entry) (waiting_parts waiting.entry)) }
     {
@@ -44,7 +44,7 @@ impl<'a> Expr<'a> {
     }
 }
 
-/// Nothing is left in front of what waits.
+/// Returns what waits as the next to be dropped.
 fn without_next(waiting: Option<Box<Expr<'_>>>) -> Option<Remaining<'_>>
     ensures { IfSome result (λ left. (n : ℕ) → 0 < n → remaining left < to_release n (waiting_parts waiting.entry)) }
 {
@@ -57,7 +57,8 @@ fn without_next(waiting: Option<Box<Expr<'_>>>) -> Option<Remaining<'_>>
     }
 }
 
-/// The left side is next. The right one waits, in front of what waits already, which takes the box of the left one.
+/// Returns the left side as the next to be dropped. The right one waits, before what already waits, which takes the box
+/// of the left one.
 fn without_pair<'a>(
     op: BinaryOperator,
     mut left: Box<Expr<'a>>,
@@ -87,7 +88,7 @@ fn without_pair<'a>(
     }
 }
 
-/// The steps without their last one, or what that holds.
+/// Returns the steps without their last one, or the expression that it holds.
 fn without_last<'a>(
     mut steps: Vec<Path<'a>>,
     waiting: Option<Box<Expr<'a>>>,
@@ -108,7 +109,7 @@ fn without_last<'a>(
     }
 }
 
-/// The expression that a step holds, if it is one that holds any.
+/// Returns the expression that a step holds, if it holds one.
 fn held(step: Path<'_>) -> Option<Box<Expr<'_>>>
     ensures { IfSome result (λ inner. step_parts (step_view step.entry) ≡ 1 + parts inner.value) }
 {
@@ -119,8 +120,8 @@ fn held(step: Path<'_>) -> Option<Box<Expr<'_>>>
     }
 }
 
-/// The steps and the expression that stood behind them. Where something waits already, it takes the room of that
-/// expression's step, and the steps take its box.
+/// Returns the steps and the expression that followed them. If something already waits, it is stored in the place of
+/// that expression's step, and the steps take its box.
 fn without_inner<'a>(
     mut steps: Vec<Path<'a>>,
     mut inner: Box<Expr<'a>>,

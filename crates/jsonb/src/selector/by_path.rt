@@ -1,4 +1,4 @@
-//! Paths on documents that are borrowed.
+//! Evaluation of JSON paths on borrowed documents.
 
 ghost use Rattle.std.specs.Prelude.{◌≡◌, ℕ, true, false, List, None, Ok, IfErr, OnOk};
 ghost use Rattle.jsonb_raw.specs.Documents.{raw_bytes};
@@ -15,48 +15,69 @@ use jsonb_doc::Error;
 use jsonb_raw::{OwnedJsonb, RawJsonb};
 use std::alloc::Global;
 
-/// Asks a document by JSON paths. Each call answers as the one of a new lax `Selector` does: errors and cost are
-/// those of that call.
+/// A type on which JSON paths are evaluated. Each method behaves as that of a new lax `Selector`, with its errors and
+/// its complexity.
 pub trait SelectByPath<'a> {
     ghost document: { Self → List ℕ };
 
-    /// The items that the path selects, each as a document, in their order and with repeats.
+    /// Returns each item that the path selects as a document, in order, with repeats.
     ///
     /// # Errors
     ///
-    /// Those of `Selector::select_values`, `StrictPath` apart.
+    /// Those of `Selector::select_values`, except `StrictPath`.
     ///
-    /// # Cost
+    /// # Complexity
     ///
     /// That of `Selector::select_values`.
+    ///
+    /// # Examples
+    ///
+    /// ```rust crates/jsonb_examples/src/first.rt
+    /// let home = parse_json_path(alloc, b"$.phones[*]?(@.type == \"home\").number")?;
+    /// let numbers = fred.select_by_path(alloc, &home)?; // one document for each match
+    /// ```
     fn select_by_path(&self, alloc: Global, path: &JsonPath<'_>) -> Result<Vec<OwnedJsonb>, Error>
         ensures values { ByMeanings Lax (document self.now) (path_view path.now) AreAll result }
         ensures errors { IfErr result (IsDocumentError Lax) }
         ensures readable { OnOk result (HasReadableRoot (document self.now)) };
 
-    /// One array of the items that the path selects.
+    /// Returns an array of the items that the path selects.
     ///
     /// # Errors
     ///
-    /// Those of `Selector::select_array`, `StrictPath` apart.
+    /// Those of `Selector::select_array`, except `StrictPath`.
     ///
-    /// # Cost
+    /// # Complexity
     ///
     /// That of `Selector::select_array`.
+    ///
+    /// # Examples
+    ///
+    /// ```rust crates/jsonb_examples/src/evaluation.rt
+    /// let array = document.select_array_by_path(alloc, &path)?;
+    /// Ok(Some(array))
+    /// ```
     fn select_array_by_path(&self, alloc: Global, path: &JsonPath<'_>) -> Result<OwnedJsonb, Error>
         ensures array { ByMeanings Lax (document self.now) (path_view path.now) IsArrayOf result }
         ensures errors { IfErr result (IsDocumentError Lax) }
         ensures readable { OnOk result (HasReadableRoot (document self.now)) };
 
-    /// The first item that the path selects; none where it selects nothing.
+    /// Returns the first item that the path selects, or `None`.
     ///
     /// # Errors
     ///
-    /// Those of `Selector::select_first`, `StrictPath` apart.
+    /// Those of `Selector::select_first`, except `StrictPath`.
     ///
-    /// # Cost
+    /// # Complexity
     ///
     /// That of `Selector::select_first`.
+    ///
+    /// # Examples
+    ///
+    /// ```rust crates/jsonb_examples/src/index.rt
+    /// let value = document.select_first_by_path(alloc, path)?;
+    /// push_column_key(alloc, key, value.as_ref().map(|it| it.as_raw()))
+    /// ```
     fn select_first_by_path(
         &self,
         alloc: Global,
@@ -66,15 +87,23 @@ pub trait SelectByPath<'a> {
         ensures errors { IfErr result (IsDocumentError Lax) }
         ensures readable { OnOk result (HasReadableRoot (document self.now)) };
 
-    /// The only item that the path selects, or one array of several; none where it selects nothing.
+    /// Returns the item that the path selects if it is the only one, an array if there are several, or `None`.
     ///
     /// # Errors
     ///
-    /// Those of `Selector::select_value`, `StrictPath` apart.
+    /// Those of `Selector::select_value`, except `StrictPath`.
     ///
-    /// # Cost
+    /// # Complexity
     ///
     /// That of `Selector::select_value`.
+    ///
+    /// # Examples
+    ///
+    /// ```rust crates/jsonb_examples/src/evaluation.rt
+    /// if !is_list {
+    ///     return document.select_value_by_path(alloc, &path);
+    /// }
+    /// ```
     fn select_value_by_path(
         &self,
         alloc: Global,
@@ -84,30 +113,50 @@ pub trait SelectByPath<'a> {
         ensures errors { IfErr result (IsDocumentError Lax) }
         ensures readable { OnOk result (HasReadableRoot (document self.now)) };
 
-    /// Whether the path selects anything.
+    /// Returns `true` if the path selects an item.
+    ///
+    /// A predicate selects its result, so this is `true` of every predicate that does not fail.
     ///
     /// # Errors
     ///
-    /// Those of `Selector::exists`, `StrictPath` apart.
+    /// Those of `Selector::exists`, except `StrictPath`.
     ///
-    /// # Cost
+    /// # Complexity
     ///
     /// That of `Selector::exists`.
+    ///
+    /// # Examples
+    ///
+    /// ```rust crates/jsonb_examples/src/evaluation.rt
+    /// if !query.is_predicate() {
+    ///     return document.path_exists(alloc, query);
+    /// }
+    /// ```
     fn path_exists(&self, alloc: Global, path: &JsonPath<'_>) -> Result<bool, Error>
         ensures exists { ByMeanings Lax (document self.now) (path_view path.now) IsFound result }
         ensures errors { IfErr result (IsSelectionError Lax) }
         ensures readable { OnOk result (HasReadableRoot (document self.now)) };
 
-    /// Whether a path that is a comparison, `&&`, `||` or `exists` is true of the document; none where that is
-    /// unknown, and for every other path. One that is no single expression is not executed.
+    /// Returns the result of a path that is a comparison, `&&`, `||` or `exists`, or `None` if it is unknown, and for
+    /// every other path.
+    ///
+    /// A path that is not a single expression is not evaluated.
     ///
     /// # Errors
     ///
-    /// Those of `Selector::predicate_match`, `StrictPath` apart.
+    /// Those of `Selector::predicate_match`, except `StrictPath`.
     ///
-    /// # Cost
+    /// # Complexity
     ///
     /// That of `Selector::predicate_match`.
+    ///
+    /// # Examples
+    ///
+    /// ```rust crates/jsonb_examples/src/filter.rt
+    /// if document.path_match(alloc, &path)? == Some(true) {
+    ///     found.push(*document)?;
+    /// }
+    /// ```
     fn path_match(&self, alloc: Global, path: &JsonPath<'_>) -> Result<Option<bool>, Error>
         ensures other { is_predicate (path_view path.now) ≡ false → result ≡ Ok None }
         ensures truth { IsTruthOf Lax (path_view path.now) (document self.now) result }

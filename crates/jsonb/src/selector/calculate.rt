@@ -16,7 +16,7 @@ use crate::path::{BinaryOperator, UnaryOperator};
 use jsonb_doc::{Error, Number};
 use std::alloc::Global;
 
-/// Whether the operator is one of arithmetic.
+/// Returns `true` if the operator is arithmetic.
 pub(crate) fn is_arithmetic(op: BinaryOperator) -> bool
     ensures { result ≡ is_some (operation (operator_view op)) }
 {
@@ -30,7 +30,7 @@ pub(crate) fn is_arithmetic(op: BinaryOperator) -> bool
     )
 }
 
-/// The number of two numbers. An operator that is none of arithmetic is refused.
+/// Applies an operator to two numbers. Fails if it is not arithmetic.
 fn calculate(op: BinaryOperator, left: Number, right: Number) -> Result<Number, Error>
     ensures meant { (o : Operation) → operation (operator_view op) ≡ Some o
         → IsResultOf (calculated o (number_view left) (number_view right)) result }
@@ -46,7 +46,7 @@ fn calculate(op: BinaryOperator, left: Number, right: Number) -> Result<Number, 
     }
 }
 
-/// The one value, where it is a number.
+/// Returns the only value, if it is a number.
 fn only_number(values: &[OperandValue<'_>]) -> Option<Number>
     ensures { option_map number_view result ≡ only_number (map value_view values.now) }
 {
@@ -56,8 +56,8 @@ fn only_number(values: &[OperandValue<'_>]) -> Option<Number>
     }
 }
 
-/// The number of two operands, each of which has to be one number. `InvalidJsonPath` is for another operand,
-/// and else `Arithmetic` for numbers without a result.
+/// Applies an operator to two operands, each of which must be one number. Fails with `InvalidJsonPath` for another
+/// operand, otherwise with `Arithmetic` if the numbers have no result.
 pub(crate) fn binary_number(
     op: BinaryOperator,
     left: &[OperandValue<'_>],
@@ -73,7 +73,7 @@ pub(crate) fn binary_number(
     }
 }
 
-/// Whether each value is a number.
+/// Returns `true` if each value is a number.
 #[inline(always)]
 fn are_numbers(values: &[OperandValue<'_>]) -> bool
     ensures { result ≡ are_numbers (map value_view values.now) }
@@ -99,7 +99,7 @@ fn is_number(value: &OperandValue<'_>) -> bool
     }
 }
 
-/// A number behind a sign.
+/// Applies a sign to a number.
 #[inline(always)]
 fn signed(op: UnaryOperator, number: Number) -> Result<Number, Error>
     ensures meant { Gives IsNumberTree (λ _. ⊥) result (signed_number (sign_view op) (number_view number)) }
@@ -111,7 +111,7 @@ fn signed(op: UnaryOperator, number: Number) -> Result<Number, Error>
     }
 }
 
-/// Each number behind a sign, in place of it, from left to right.
+/// Applies a sign to each number in place, from left to right.
 pub(crate) fn sign_each(op: UnaryOperator, numbers: &mut [Number]) -> Result<(), Error>
     ensures meant { Gives (λ _ ts. AllZip IsNumberItem numbers.new ts) IsOutOfMemory result
         (try_flat_map (signed_number (sign_view op)) (map number_view numbers.old)) }
@@ -123,7 +123,7 @@ pub(crate) fn sign_each(op: UnaryOperator, numbers: &mut [Number]) -> Result<(),
     Ok(())
 }
 
-/// A value behind a sign. A value that is no number is refused with `InvalidJsonPath`.
+/// Applies a sign to a value. Fails with `InvalidJsonPath` if it is not a number.
 #[inline(always)]
 fn signed_value(op: UnaryOperator, value: &OperandValue<'_>) -> Result<Number, Error>
     ensures meant { Gives IsNumberTree (λ _. ⊥) result (signed_value (sign_view op) (value_view value.now)) }
@@ -135,7 +135,7 @@ fn signed_value(op: UnaryOperator, value: &OperandValue<'_>) -> Result<Number, E
     }
 }
 
-/// Each value behind a sign, from left to right.
+/// Applies a sign to each value, from left to right.
 #[inline(always)]
 fn each_signed(
     alloc: Global,
@@ -153,8 +153,8 @@ fn each_signed(
     Ok(numbers)
 }
 
-/// Each value behind a sign. First all have to be numbers: `InvalidJsonPath` is for another value, and else
-/// `Arithmetic` for the first number without a result.
+/// Applies a sign to each value. First all have to be numbers: fails with `InvalidJsonPath` for another value,
+/// otherwise with `Arithmetic` for the first number without a result.
 pub(crate) fn unary_numbers(
     alloc: Global,
     op: UnaryOperator,

@@ -1,11 +1,9 @@
-//! The places of an item's children, and of what a step without an expression gives.
+//! The positions of an item's children, and of what a step without an expression selects.
 
 ghost use Rattle.std.specs.Prelude.{◌≡◌, ℕ, ◌<◌, ◌^◌, ◌++◌, ◌∷◌, [], map, List, Ok, false, IfOk, IfSome, IfErr, OnOk, IsOkAnd, if◌then◌else◌, pos, ⊤, MatchOption, filter_map, slice_get};
 ghost use Rattle.jsonb_doc.specs.Answer.{Gives, SameOption, IsOutOfMemory, ◌or◌, IsDecodingError};
 ghost use Rattle.jsonb_doc.specs.declared.error.Error.TheVariants.{OutOfMemory, StrictPath};
 ghost use Rattle.jsonb_doc.specs.Spots.{Locates, HasSpotsLeft, spots_bound};
-ghost use Rattle.jsonb_doc.specs.Payload.{any};
-ghost use Rattle.jsonb_doc.specs.Item.{StandsFor};
 ghost use Rattle.jsonb_doc.specs.Tree.{Tree};
 ghost use Rattle.jsonb_raw.specs.Arrays.{array_values};
 ghost use Rattle.jsonb.specs.PathTree.{single, from_front};
@@ -20,51 +18,32 @@ ghost use Rattle.jsonb.specs.declared.selector.document.Mode.TheVariants.{Lax, S
 use super::document::Mode;
 use super::levels::push_levels;
 use crate::path::{ArrayIndex, Index, Path};
-use jsonb_doc::{Error, Item, Spot, SpotIter, child_spots, field_spot, spot_item};
+use jsonb_doc::{Error, Spot, SpotIter, element_spots, field_spot, value_spots};
 use std::alloc::Global;
 
-/// The elements of an array. `None` is for another item.
+/// Returns the elements of an array, or `None` for another item.
+#[inline(always)]
 pub(crate) fn elements<'a>(bytes: &'a [u8], item: Spot) -> Result<Option<SpotIter<'a>>, Error>
     ensures meant { (t : Tree) → Locates bytes.now item t
         → IsOkAnd result (λ found. SameOption (HasSpotsLeft bytes.now) found (array_values t)) }
     ensures short { IfOk result (λ found. IfSome found (λ it. spots_bound it < 2 ^ 30)) }
     ensures errors { IfErr result IsDecodingError }
 {
-    array_elements(bytes, item, &spot_item(bytes, item)?)
+    element_spots(bytes, item)
 }
 
-/// The elements of an array that was read at this place. `None` is for another item.
+/// Returns the values of an object, in the order of their keys, or `None` for another item.
 #[inline(always)]
-pub(crate) fn array_elements<'a>(
-    bytes: &'a [u8],
-    spot: Spot,
-    item: &Item<'_>,
-) -> Result<Option<SpotIter<'a>>, Error>
-    ensures meant { (t : Tree) → Locates bytes.now spot t → StandsFor any item.now t
-        → IsOkAnd result (λ found. SameOption (HasSpotsLeft bytes.now) found (array_values t)) }
-    ensures short { IfOk result (λ found. IfSome found (λ it. spots_bound it < 2 ^ 30)) }
-    ensures errors { IfErr result IsDecodingError }
-{
-    match item {
-        Item::Array(_) => child_spots(bytes, spot),
-        _ => Ok(None),
-    }
-}
-
-/// The values of an object, in the order of their keys. `None` is for another item.
 pub(crate) fn values<'a>(bytes: &'a [u8], item: Spot) -> Result<Option<SpotIter<'a>>, Error>
     ensures meant { (t : Tree) → Locates bytes.now item t
         → IsOkAnd result (λ found. SameOption (HasSpotsLeft bytes.now) found (values_of t)) }
     ensures short { IfOk result (λ found. IfSome found (λ it. spots_bound it < 2 ^ 30)) }
     ensures errors { IfErr result IsDecodingError }
 {
-    match spot_item(bytes, item)? {
-        Item::Object(_) => child_spots(bytes, item),
-        _ => Ok(None),
-    }
+    value_spots(bytes, item)
 }
 
-/// One more place.
+/// Appends a position.
 #[inline(always)]
 pub(crate) fn push_spot(nodes: &mut Vec<Spot>, spot: Spot) -> Result<(), Error>
     ensures ok { OnOk result (nodes.new.items ≡ nodes.old.items ++ spot ∷ []) }
@@ -74,7 +53,7 @@ pub(crate) fn push_spot(nodes: &mut Vec<Spot>, spot: Spot) -> Result<(), Error>
     Ok(())
 }
 
-/// One more place, where the condition holds.
+/// Appends a position if the condition holds.
 #[inline(always)]
 pub(crate) fn push_if(condition: bool, spot: Spot, nodes: &mut Vec<Spot>) -> Result<(), Error>
     ensures meant { (bytes : List ℕ) (t : Tree) (before : List Tree) → Locates bytes spot t
@@ -90,7 +69,7 @@ pub(crate) fn push_if(condition: bool, spot: Spot, nodes: &mut Vec<Spot>) -> Res
     }
 }
 
-/// The places that are left in an iterator.
+/// Appends the remaining positions of an iterator.
 pub(crate) fn push_spots(spots: SpotIter<'_>, nodes: &mut Vec<Spot>) -> Result<(), Error>
     ensures meant { (bytes : List ℕ) (ts before : List Tree) → HasSpotsLeft bytes spots.entry ts
         → AllZip (Locates bytes) nodes.old.items before
@@ -104,7 +83,7 @@ pub(crate) fn push_spots(spots: SpotIter<'_>, nodes: &mut Vec<Spot>) -> Result<(
     Ok(())
 }
 
-/// One step of one item that is no filter, behind the nodes that there are.
+/// Appends what a step that is not a filter selects of one item.
 #[inline(always)]
 pub(crate) fn push_step(
     alloc: Global,
@@ -133,7 +112,7 @@ pub(crate) fn push_step(
     }
 }
 
-/// A step that does not fit an item: in strict mode it is refused.
+/// Returns the result of a step that does not apply to an item: in strict mode an error.
 #[inline(always)]
 pub(crate) fn mismatch(mode: Mode) -> Result<(), Error>
     ensures answer { result ≡ mismatch mode }
@@ -147,7 +126,7 @@ pub(crate) fn mismatch(mode: Mode) -> Result<(), Error>
     }
 }
 
-/// The value under a key of an object, behind the nodes that there are.
+/// Appends the value of a key of an object.
 #[inline(always)]
 pub(crate) fn push_field(
     bytes: &[u8],
@@ -165,7 +144,7 @@ pub(crate) fn push_field(
     }
 }
 
-/// The values of an object, behind the nodes that there are.
+/// Appends the values of an object.
 fn push_values(bytes: &[u8], mode: Mode, item: Spot, nodes: &mut Vec<Spot>) -> Result<(), Error>
     ensures meant { PushesStep bytes.now item nodes.old.items nodes.new.items result (values_step mode) }
     ensures errors { IfErr result (IsSelectionError mode) }
@@ -176,7 +155,7 @@ fn push_values(bytes: &[u8], mode: Mode, item: Spot, nodes: &mut Vec<Spot>) -> R
     }
 }
 
-/// The elements of an array, behind the nodes that there are.
+/// Appends the elements of an array.
 fn push_elements(bytes: &[u8], mode: Mode, item: Spot, nodes: &mut Vec<Spot>) -> Result<(), Error>
     ensures meant { PushesStep bytes.now item nodes.old.items nodes.new.items result (elements_step mode) }
     ensures errors { IfErr result (IsSelectionError mode) }
@@ -190,7 +169,7 @@ fn push_elements(bytes: &[u8], mode: Mode, item: Spot, nodes: &mut Vec<Spot>) ->
     }
 }
 
-/// The elements at the positions of the entries, behind the nodes that there are.
+/// Appends the elements at the positions of the subscripts.
 pub(crate) fn push_positions(
     alloc: Global,
     bytes: &[u8],
@@ -209,8 +188,8 @@ pub(crate) fn push_positions(
     }
 }
 
-/// The elements at the positions of the entries. For one plain index the walk ends there; else all elements
-/// are walked once.
+/// Appends the elements at the positions of the subscripts. For a single index from the start the traversal ends there;
+/// otherwise all elements are visited once.
 fn push_picked(
     alloc: Global,
     elements: SpotIter<'_>,
@@ -231,7 +210,7 @@ fn push_picked(
     push_entries(entries, &spots, nodes)
 }
 
-/// The position of one index that counts from the front.
+/// Returns the position of a single index that counts from the start.
 fn plain_index(entries: &[ArrayIndex]) -> Option<usize>
     ensures { MatchOption result ⊤ (λ k. map entry_view entries.now ≡ single (from_front (pos k)) ∷ []) }
 {
@@ -241,7 +220,7 @@ fn plain_index(entries: &[ArrayIndex]) -> Option<usize>
     }
 }
 
-/// The element at a position.
+/// Appends the element at a position.
 fn push_nth(elements: SpotIter<'_>, position: usize, nodes: &mut Vec<Spot>) -> Result<(), Error>
     ensures meant { (bytes : List ℕ) (ts before : List Tree) → HasSpotsLeft bytes elements.entry ts
         → AllZip (Locates bytes) nodes.old.items before
@@ -260,7 +239,7 @@ fn push_nth(elements: SpotIter<'_>, position: usize, nodes: &mut Vec<Spot>) -> R
     Ok(())
 }
 
-/// The elements at the positions of one entry after the other.
+/// Appends the elements at the positions of each subscript, one subscript after the other.
 fn push_entries(
     entries: &[ArrayIndex],
     elements: &[Spot],
@@ -278,7 +257,7 @@ fn push_entries(
     Ok(())
 }
 
-/// The elements at the positions of one entry, ascending.
+/// Appends the elements at the positions of one subscript, ascending.
 fn push_entry(entry: &ArrayIndex, elements: &[Spot], nodes: &mut Vec<Spot>) -> Result<(), Error>
     ensures meant { (bytes : List ℕ) (ts before : List Tree) → AllZip (Locates bytes) elements.now ts
         → AllZip (Locates bytes) nodes.old.items before

@@ -1,4 +1,4 @@
-//! Comparisons of members of items with a literal, as `$[*].age > 1000`. No list is made of the members.
+//! Comparisons of members of items with a literal, such as `$[*].age > 1000`. The members are not collected in a list.
 
 ghost use Rattle.std.specs.Prelude.{◌≡◌, ◌≤◌, drop, length, List, true, MatchOption, ⊤, IfErr};
 ghost use Rattle.jsonb_doc.specs.Answer.{Gives, IsOutOfMemory};
@@ -14,23 +14,25 @@ ghost use Rattle.jsonb.specs.Private.Selection.{HasTree};
 ghost use Rattle.jsonb.specs.SelectionErrors.{IsSelectionError};
 ghost use Rattle.jsonb.specs.declared.selector.document.Mode.TheVariants.{Lax};
 
-use super::compared_items::{MemberCompared, item_truth, literal_of};
+use super::compared_member::{compared_member, item_truth, literal_truth};
+use super::compile::literal_of;
 use super::document::{Context, Current, Document, Expressions, Mode, TruthResult};
 use super::kept::is_comparison;
 use super::members::is_member;
+use super::plan::MemberCompared;
 use super::steps::{select_steps, truth};
 use crate::path::{Expr, Path};
 use jsonb_doc::Spot;
 use std::alloc::Global;
 
-/// Steps that lead to items, and the comparison of a member of each.
+/// The steps to items, and the comparison of a member of each.
 #[derive(Clone, Copy)]
 pub(crate) struct ListCompared<'s, 'a> {
     front: &'s [Path<'a>],
     comparison: MemberCompared<'s, 'a>,
 }
 
-/// Whether an expression is true of the root. None is for unknown.
+/// Returns whether an expression is true of the root, or `None` if it is unknown.
 pub(crate) fn root_truth<'a>(context: &Context<'a>, e: &'a Expr<'_>) -> TruthResult
     ensures meant { (top : Tree) → HasTree context.now.document top
         → Gives (λ b c. b ≡ c) IsOutOfMemory result (truth context.now.mode (expression_view e.now) top top) }
@@ -44,7 +46,7 @@ pub(crate) fn root_truth<'a>(context: &Context<'a>, e: &'a Expr<'_>) -> TruthRes
     }
 }
 
-/// The comparison of members of items that an expression is, if it is one.
+/// Returns the comparison of members of items that an expression is, if it is one.
 fn list_compared<'s, 'a>(e: &'s Expr<'a>) -> Option<ListCompared<'s, 'a>>
     ensures { MatchOption result ⊤ (λ list. IsListCompared list (expression_view e.now)) }
 {
@@ -67,7 +69,7 @@ fn list_compared<'s, 'a>(e: &'s Expr<'a>) -> Option<ListCompared<'s, 'a>>
     }
 }
 
-/// The steps that an operand is.
+/// Returns the steps that an operand is.
 fn operand_steps<'s, 'a>(operand: &'s Expr<'a>) -> Option<&'s [Path<'a>]>
     ensures { MatchOption result ⊤
         (λ steps. expression_view operand.now ≡ paths (steps_of (steps_view steps.now))) }
@@ -78,7 +80,7 @@ fn operand_steps<'s, 'a>(operand: &'s Expr<'a>) -> Option<&'s [Path<'a>]>
     }
 }
 
-/// Where the steps begin that name one member at most, up to the last step.
+/// Returns the index from which on all steps are `$`, `@` or names.
 fn members_behind(steps: &[Path<'_>]) -> usize
     ensures within { result ≤ length steps.now }
     ensures members { are_members (steps_view (drop result steps.now)) ≡ true }
@@ -90,7 +92,7 @@ fn members_behind(steps: &[Path<'_>]) -> usize
     start
 }
 
-/// The truth of a comparison of members of items. Where no steps stand in front of the names, the root is the item.
+/// Returns the result of a comparison of members of items. Without steps before the names, the root is the item.
 fn list_compared_truth<'a>(
     alloc: Global,
     list: &ListCompared<'a, '_>,
@@ -101,13 +103,7 @@ fn list_compared_truth<'a>(
     ensures errors { IfErr result (IsSelectionError Lax) }
 {
     if list.front.is_empty() {
-        return item_truth(
-            alloc,
-            Mode::Lax,
-            &list.comparison,
-            document.bytes,
-            document.root,
-        );
+        return item_truth(Mode::Lax, &list.comparison, document.bytes, document.root);
     }
     let context = Context {
         alloc,
@@ -116,24 +112,20 @@ fn list_compared_truth<'a>(
     };
     let all = Expressions::AreRefused;
     let found = select_steps(&context, all, list.front, document.root)?;
-    items_truth(alloc, &list.comparison, document.bytes, found.as_slice())
+    items_truth(&list.comparison, document.bytes, found.as_slice())
 }
 
-/// The first truth of an item that is true or unknown; false where none is. Behind that no item is looked at: in lax
-/// mode none is refused.
-fn items_truth(
-    alloc: Global,
-    comparison: &MemberCompared<'_, '_>,
-    bytes: &[u8],
-    items: &[Spot],
-) -> TruthResult
+/// Returns the first result of an item that is true or unknown, and otherwise false. No item after that one is visited:
+/// in lax mode none fails.
+fn items_truth(comparison: &MemberCompared<'_, '_>, bytes: &[u8], items: &[Spot]) -> TruthResult
     ensures meant { (e : Expression) (top : Tree) (ts : List Tree) → IsMemberCompared comparison.now e
         → AllZip (Locates bytes.now) items.now ts
         → Gives (λ b c. b ≡ c) IsOutOfMemory result (items_truth comparison.now top ts) }
     ensures errors { IfErr result (IsSelectionError Lax) }
 {
     for item in items {
-        let truth = item_truth(alloc, Mode::Lax, comparison, bytes, *item)?;
+        let found = compared_member(Mode::Lax, comparison, bytes, *item);
+        let truth = literal_truth(comparison, bytes, found)?;
         if truth != Some(false) {
             return Ok(truth);
         }

@@ -1,30 +1,91 @@
-//! Comparisons whose left side names one member at most. No list is made of a single value.
+//! Comparisons of an item with values, by its type and its bytes. The elements of an array are not collected in a list,
+//! and strings are not validated.
 
 ghost use Rattle.std.specs.Prelude.{◌≡◌, ◌∷◌, [], Ok, List, map, flat_map, true, IfErr};
-ghost use Rattle.jsonb_doc.specs.Answer.{Gives, and_then, IsOutOfMemory, IsDecodingError, ◌or◌};
-ghost use Rattle.jsonb_doc.specs.declared.error.Error.TheVariants.{OutOfMemory};
-ghost use Rattle.jsonb_doc.specs.Spots.{Locates};
+ghost use Rattle.jsonb_doc.specs.Answer.{Gives, and_then, IsOutOfMemory, IsDecodingError};
+ghost use Rattle.jsonb_doc.specs.Spots.{Locates, HasSpotsLeft};
 ghost use Rattle.jsonb_doc.specs.Tree.{Tree};
-ghost use Rattle.jsonb.specs.PathTree.{steps_of, paths};
+ghost use Rattle.jsonb.specs.PathTree.{Expression, steps_of, paths};
 ghost use Rattle.jsonb.specs.PathViews.{steps_view, operator_view};
-ghost use Rattle.std.specs.List.{AllZip};
 ghost use Rattle.jsonb.specs.Compare.{compare};
-ghost use Rattle.jsonb.specs.Values.{values_of_item};
-ghost use Rattle.jsonb.specs.Meaning.{operand_values};
+ghost use Rattle.jsonb.specs.Values.{values_of_item, value_of_item};
+ghost use Rattle.jsonb.specs.Meaning.{steps_meaning, operand_values, truth};
+ghost use Rattle.jsonb.specs.Private.Compared.{IsMemberCompared};
 ghost use Rattle.jsonb.specs.Private.Members.{are_members};
-ghost use Rattle.jsonb.specs.Private.Selection.{IsAt, HasTree, option_spots, value_view};
+ghost use Rattle.std.specs.List.{AllZip};
+ghost use Rattle.jsonb.specs.Private.Selection.{IsAt, HasTree, option_spots, taken_step, value_view};
+ghost use Rattle.jsonb.specs.declared.selector.document.Expressions.TheVariants.{AreRefused};
+ghost use Rattle.jsonb.specs.declared.selector.document.Mode.{Mode};
 ghost use Rattle.jsonb.specs.SelectionErrors.{IsSelectionError};
 
-use super::document::{Current, TruthResult};
-use super::members::{member, starting_item};
-use super::node_list::NodeList;
-use super::operand_value::{OperandValue, compare, compare_number, compare_one, value_of_item};
-use super::values::found_values;
+use super::children::elements;
+use super::document::{Current, Mode, TruthResult};
+use super::members::{member, member_of, starting_item};
+use super::operand_value::{OperandValue, compare_one, compare_short, value_of_item};
+use super::plan::MemberCompared;
 use crate::path::{BinaryOperator, Path};
-use jsonb_doc::{Item, Spot, spot_item};
-use std::alloc::Global;
+use jsonb_doc::{Error, Spot, SpotIter, spot_number, spot_value};
+use std::slice;
 
-/// How the values of the member that these steps name compare with others.
+/// The member that a comparison is of. One name alone is looked up without a call.
+#[inline(always)]
+pub(crate) fn compared_member(
+    mode: Mode,
+    comparison: &MemberCompared<'_, '_>,
+    bytes: &[u8],
+    item: Spot,
+) -> Result<Option<Spot>, Error>
+    ensures meant { (top t : Tree) → are_members (steps_view comparison.now.names.now) ≡ true
+        → Locates bytes.now item t
+        → Gives (λ found us. AllZip (Locates bytes.now) (option_spots found) us) IsOutOfMemory result
+        (steps_meaning mode (steps_of (map (taken_step AreRefused) (steps_view comparison.now.names.now)))
+        top (t ∷ [])) }
+    ensures errors { IfErr result (IsSelectionError mode) }
+{
+    match comparison.names {
+        [name] => member_of(mode, name, bytes, item),
+        names => member(mode, names, bytes, item.by_parts()),
+    }
+}
+
+/// Returns how the member that was looked up compares with the literal.
+#[inline(always)]
+pub(crate) fn literal_truth(
+    comparison: &MemberCompared<'_, '_>,
+    bytes: &[u8],
+    found: Result<Option<Spot>, Error>,
+) -> TruthResult
+    ensures meant { (e : Expression) (mode : Mode) (top t : Tree) → IsMemberCompared comparison.now e
+        → Gives (λ spot us. AllZip (Locates bytes.now) (option_spots spot) us) IsOutOfMemory found
+        (steps_meaning mode (steps_of (map (taken_step AreRefused) (steps_view comparison.now.names.now)))
+        top (t ∷ []))
+        → Gives (λ b c. b ≡ c) IsOutOfMemory result (truth mode e top t) }
+    ensures errors { (mode : Mode) → IfErr found (IsSelectionError mode) → IfErr result (IsSelectionError mode) }
+{
+    let member = found?;
+    let rights = slice::from_ref(&comparison.literal);
+    found_truth(comparison.op, bytes, member, rights)
+}
+
+/// Returns how a member of an item compares with the literal.
+///
+/// It is too large to be inlined. A loop that evaluates many items makes the two calls itself.
+pub(crate) fn item_truth(
+    mode: Mode,
+    comparison: &MemberCompared<'_, '_>,
+    bytes: &[u8],
+    item: Spot,
+) -> TruthResult
+    ensures meant { (e : Expression) (top t : Tree) → IsMemberCompared comparison.now e
+        → Locates bytes.now item t
+        → Gives (λ b c. b ≡ c) IsOutOfMemory result (truth mode e top t) }
+    ensures errors { IfErr result (IsSelectionError mode) }
+{
+    let found = compared_member(mode, comparison, bytes, item);
+    literal_truth(comparison, bytes, found)
+}
+
+/// Returns how the values of the member that these steps name compare with others.
 #[inline(always)]
 pub(crate) fn member_truth(
     current: Current<'_, '_>,
@@ -41,14 +102,13 @@ pub(crate) fn member_truth(
 {
     let Current { context, item } = current;
     let first = starting_item(steps, context.document, item);
-    let member = member(context.mode, steps, context.document.bytes, first)?;
-    compared_truth(context.alloc, op, context.document.bytes, member, rights)
+    let found = member(context.mode, steps, context.document.bytes, first)?;
+    found_truth(op, context.document.bytes, found, rights)
 }
 
-/// How the values of a member compare with others.
+/// Returns how the values of a member compare with others, if there is one.
 #[inline(always)]
-pub(crate) fn compared_truth(
-    alloc: Global,
+pub(crate) fn found_truth(
     op: BinaryOperator,
     bytes: &[u8],
     member: Option<Spot>,
@@ -57,36 +117,89 @@ pub(crate) fn compared_truth(
     ensures meant { (ts : List Tree) → AllZip (Locates bytes.now) (option_spots member) ts
         → Gives (λ b c. b ≡ c) IsOutOfMemory result
         (Ok (compare (operator_view op) (flat_map values_of_item ts) (map value_view rights.now))) }
-    ensures errors { IfErr result (IsDecodingError or OutOfMemory) }
+    ensures errors { IfErr result IsDecodingError }
 {
-    let Some(spot) = member else {
-        return Ok(Some(false));
-    };
-    let item = spot_item(bytes, spot)?;
-    match item {
-        Item::Array(_) => array_truth(alloc, op, bytes, spot, rights),
-        Item::Number(number) => Ok(compare_number(op, &number, rights)),
-        _ => match value_of_item(item) {
-            Some(value) => Ok(compare_one(op, &value, rights)),
-            None => Ok(Some(false)),
-        },
+    match member {
+        Some(found) => compared_truth(op, bytes, found, rights),
+        None => Ok(Some(false)),
     }
 }
 
-/// How the elements of an array compare with others.
-#[inline(never)]
-fn array_truth(
-    alloc: Global,
+/// Returns how the values of an item compare with others. A short number is compared by its digits.
+#[inline(always)]
+pub(crate) fn compared_truth(
     op: BinaryOperator,
     bytes: &[u8],
     item: Spot,
     rights: &[OperandValue<'_>],
 ) -> TruthResult
-    ensures meant { (ts : List Tree) → AllZip (Locates bytes.now) (item ∷ []) ts
+    ensures meant { (t : Tree) → Locates bytes.now item t
         → Gives (λ b c. b ≡ c) IsOutOfMemory result
-        (Ok (compare (operator_view op) (flat_map values_of_item ts) (map value_view rights.now))) }
-    ensures errors { IfErr result (IsDecodingError or OutOfMemory) }
+        (Ok (compare (operator_view op) (values_of_item t) (map value_view rights.now))) }
+    ensures errors { IfErr result IsDecodingError }
 {
-    let values = found_values(alloc, bytes, NodeList::One(item))?;
-    Ok(compare(op, values.as_slice(), rights))
+    match spot_number(bytes, item)? {
+        Some(number) => Ok(compare_short(op, number, rights)),
+        None => other_truth(op, bytes, item.by_parts(), rights),
+    }
+}
+
+/// Returns how the values of an item that is not a short number compare with others.
+#[inline(never)]
+fn other_truth(
+    op: BinaryOperator,
+    bytes: &[u8],
+    item: Spot,
+    rights: &[OperandValue<'_>],
+) -> TruthResult
+    ensures meant { (t : Tree) → Locates bytes.now item t
+        → Gives (λ b c. b ≡ c) IsOutOfMemory result
+        (Ok (compare (operator_view op) (values_of_item t) (map value_view rights.now))) }
+    ensures errors { IfErr result IsDecodingError }
+{
+    match elements(bytes, item)? {
+        Some(elements) => elements_truth(op, bytes, elements, rights),
+        None => element_truth(op, bytes, item, rights),
+    }
+}
+
+/// Returns how elements compare with others: the first result that is true or unknown decides.
+fn elements_truth(
+    op: BinaryOperator,
+    bytes: &[u8],
+    elements: SpotIter<'_>,
+    rights: &[OperandValue<'_>],
+) -> TruthResult
+    ensures meant { (ts : List Tree) → HasSpotsLeft bytes.now elements.entry ts
+        → Gives (λ b c. b ≡ c) IsOutOfMemory result
+        (Ok (compare (operator_view op) (flat_map value_of_item ts) (map value_view rights.now))) }
+    ensures errors { IfErr result IsDecodingError }
+{
+    for element in elements {
+        let truth = element_truth(op, bytes, element?, rights)?;
+        if truth != Some(false) {
+            return Ok(truth);
+        }
+    }
+    Ok(Some(false))
+}
+
+/// Returns how the value of an element, or of an item that is not an array, compares with others.
+#[inline(always)]
+fn element_truth(
+    op: BinaryOperator,
+    bytes: &[u8],
+    item: Spot,
+    rights: &[OperandValue<'_>],
+) -> TruthResult
+    ensures meant { (t : Tree) → Locates bytes.now item t
+        → Gives (λ b c. b ≡ c) IsOutOfMemory result
+        (Ok (compare (operator_view op) (value_of_item t) (map value_view rights.now))) }
+    ensures errors { IfErr result IsDecodingError }
+{
+    let stored = spot_value(bytes, item)?;
+    match value_of_item(stored) {
+        Some(value) => Ok(compare_one(op, &value, rights)),
+        None => Ok(Some(false)),
+    }
 }

@@ -1,21 +1,21 @@
-//! What a selection runs on.
+//! The document and the context of a selection.
 
 use jsonb_doc::{Error, Spot};
 use std::alloc::Global;
 
-/// The bytes of a document with the place of its root.
+/// The bytes of a document with the position of its root.
 #[derive(Clone, Copy)]
 pub(crate) struct Document<'a> {
     pub(crate) bytes: &'a [u8],
     pub(crate) root: Spot,
 }
 
-/// What a step does with an item that it does not fit.
+/// What a step does with an item to which it does not apply.
 #[derive(Clone, Copy, Debug, PartialEq, Eq)]
 pub(crate) enum Mode {
-    /// It gives nothing, or the item itself.
+    /// It selects nothing, or the item itself.
     Lax,
-    /// It is refused.
+    /// It fails.
     Strict,
 }
 
@@ -24,11 +24,11 @@ pub(crate) enum Mode {
 pub(crate) enum Expressions {
     /// A filter, as among the steps of a whole path.
     AreFilters,
-    /// Refused, as within an operand or `exists`.
+    /// It fails, as within an operand or `exists`.
     AreRefused,
 }
 
-/// What a path is executed with.
+/// The context in which a path is evaluated.
 #[derive(Clone, Copy)]
 pub(crate) struct Context<'a> {
     pub(crate) alloc: Global,
@@ -36,12 +36,12 @@ pub(crate) struct Context<'a> {
     pub(crate) document: Document<'a>,
 }
 
-/// The item that `@` is, in its context.
+/// The item that `@` denotes, in its context.
 #[derive(Clone, Copy)]
 pub(crate) struct Current<'c, 'a> {
     pub(crate) context: &'c Context<'a>,
     pub(crate) item: Spot,
 }
 
-/// Whether an expression is true of an item. None is for unknown.
+/// Whether an expression is true of an item, or `None` if it is unknown.
 pub(crate) type TruthResult = Result<Option<bool>, Error>;

@@ -1,6 +1,6 @@
-//! From what a path selects to documents.
+//! Documents of what a path selects.
 
-ghost use Rattle.std.specs.Prelude.{◌≡◌, ◌∷◌, ◌++◌, ◌<◌, [], List, Ok, IsOkAnd, IfErr, MatchResult};
+ghost use Rattle.std.specs.Prelude.{◌≡◌, ◌∷◌, ◌++◌, ◌<◌, [], List, Ok, IfErr, MatchResult};
 ghost use Rattle.std.specs.List.{HoldsAt, AllZip, Any};
 ghost use Rattle.jsonb_doc.specs.Tree.{Tree};
 ghost use Rattle.jsonb_doc.specs.Payload.{Form};
@@ -18,11 +18,11 @@ ghost use Rattle.jsonb.specs.Private.Selected.{selected_len};
 
 use super::document::Document;
 use super::selected::{MadeItem, Selected};
-use jsonb_doc::{ArrayBuilder, Error, Item, Number, Spot, encode_item, spot_document, spot_item};
+use jsonb_doc::{ArrayBuilder, Error, Item, Number, Spot, encode_item, spot_document};
 use jsonb_raw::OwnedJsonb;
 use std::alloc::Global;
 
-/// How many parts are selected.
+/// Returns the number of items that are selected.
 pub(crate) fn selected_len(selected: &Selected<'_>) -> usize
     ensures { result ≡ selected_len selected.now }
 {
@@ -33,28 +33,7 @@ pub(crate) fn selected_len(selected: &Selected<'_>) -> usize
     }
 }
 
-/// The part at a position, its slices borrowed from the document.
-fn part_at<'a>(
-    document: Document<'a>,
-    selected: &Selected<'a>,
-    position: usize,
-) -> Result<MadeItem<'a>, Error>
-    requires { position < selected_len selected.now }
-    ensures part { OfSelected document.entry selected.now
-        (λ form ts. IsOkAnd result (λ part. HoldsAt (IsMadeItem form part) ts position)) }
-    ensures errors { IfErr result IsDecodingError }
-{
-    match selected {
-        Selected::Nodes(spots) => {
-            let spot = spots.as_slice()[position];
-            Ok(MadeItem::Item(spot_item(document.bytes, spot)?))
-        },
-        Selected::Numbers(numbers) => Ok(MadeItem::Item(Item::Number(numbers[position]))),
-        Selected::Made(part) => Ok(*part),
-    }
-}
-
-/// The array of one item, as a document.
+/// Returns the array of one item, as a document.
 fn array_of_one(alloc: Global, item: &Item<'_>) -> Result<Vec<u8>, Error>
     ensures document { (form : Form) (t : Tree) → StandsFor form item.now t
         → MatchResult result (λ v. Decodes form v.items (array_of (t ∷ [])))
@@ -66,7 +45,7 @@ fn array_of_one(alloc: Global, item: &Item<'_>) -> Result<Vec<u8>, Error>
     builder.build()
 }
 
-/// A number as a document.
+/// Returns a number as a document.
 #[inline(always)]
 fn number_document(alloc: Global, number: Number) -> Result<OwnedJsonb, Error>
     ensures document { (form : Form) (t : Tree) → IsNumberItem number t → Makes form t result }
@@ -75,7 +54,7 @@ fn number_document(alloc: Global, number: Number) -> Result<OwnedJsonb, Error>
     Ok(OwnedJsonb::new(encode_item(alloc, &Item::Number(number))?))
 }
 
-/// A part that an expression makes, as a document.
+/// Returns the result of an expression as a document.
 fn made_document(alloc: Global, part: &MadeItem<'_>) -> Result<OwnedJsonb, Error>
     ensures document { (form : Form) (t : Tree) → IsMadeItem form part.now t → Makes form t result }
     ensures errors { IfErr result (IsOutOfMemory or TooLarge) }
@@ -86,7 +65,7 @@ fn made_document(alloc: Global, part: &MadeItem<'_>) -> Result<OwnedJsonb, Error
     }
 }
 
-/// The part at a position as a document. An item of the document is copied as it is stored.
+/// Returns the item at a position of the selection as a document. An item of the document is copied as it is stored.
 fn document_at(
     alloc: Global,
     document: Document<'_>,
@@ -108,7 +87,7 @@ fn document_at(
     }
 }
 
-/// Adds a part behind the other elements of an array.
+/// Appends the result of an expression to an array.
 fn push_part(alloc: Global, builder: &mut ArrayBuilder, part: &MadeItem<'_>) -> Result<(), Error>
     ensures pushed { (form : Form) (ts : List Tree) (t : Tree) → HoldsElements form builder.old ts
         → IsMadeItem form part.now t
@@ -125,7 +104,30 @@ fn push_part(alloc: Global, builder: &mut ArrayBuilder, part: &MadeItem<'_>) -> 
     }
 }
 
-/// Each part that is selected as a document, in order. `TooLarge` is for a part that is too large for one.
+/// Appends the item at a position of the selection to an array. An item of the document is copied as it is stored.
+fn push_at(
+    alloc: Global,
+    document: Document<'_>,
+    selected: &Selected<'_>,
+    position: usize,
+    builder: &mut ArrayBuilder,
+) -> Result<(), Error>
+    requires { position < selected_len selected.now }
+    ensures pushed { OfSelected document.entry selected.now (λ form ts. (before : List Tree)
+        → HoldsElements form builder.old before
+        → HoldsAt (λ t. MatchResult result (λ _. HoldsElements form builder.new (before ++ t ∷ []))
+        (IsOutOfMemoryOrTooLarge form (array_of (before ++ t ∷ [])))) ts position) }
+    ensures errors { IfErr result (IsDecodingError or OutOfMemory or TooLarge) }
+{
+    match selected {
+        Selected::Nodes(spots) => builder.push_spot(document.bytes, spots.as_slice()[position]),
+        Selected::Numbers(numbers) => builder.push_item(&Item::Number(numbers[position])),
+        Selected::Made(part) => push_part(alloc, builder, part),
+    }
+}
+
+/// Returns each selected item as a document, in order. Fails with `TooLarge` if an item exceeds the limits of a
+/// document.
 pub(crate) fn documents(
     alloc: Global,
     document: Document<'_>,
@@ -143,7 +145,7 @@ pub(crate) fn documents(
     }
 }
 
-/// The items at these places, each as a document, copied as it is stored.
+/// Returns the items at these positions, each as a document, copied as it is stored.
 fn node_documents(alloc: Global, bytes: &[u8], spots: &[Spot]) -> Result<Vec<OwnedJsonb>, Error>
     ensures documents { (form : Form) (top : Tree) (ts : List Tree) → Decodes form bytes.now top
         → AllZip (Locates bytes.now) spots.now ts
@@ -159,7 +161,7 @@ fn node_documents(alloc: Global, bytes: &[u8], spots: &[Spot]) -> Result<Vec<Own
     Ok(documents)
 }
 
-/// These numbers, each as a document.
+/// Returns these numbers, each as a document.
 fn number_documents(alloc: Global, numbers: &[Number]) -> Result<Vec<OwnedJsonb>, Error>
     ensures documents { (form : Form) (ts : List Tree) → AllZip IsNumberItem numbers.now ts
         → Gives (λ v us. AllZip (Decodes form) v.items us) (IsOutOfMemory or TooLarge when Any (IsTooLarge form) ts)
@@ -173,7 +175,7 @@ fn number_documents(alloc: Global, numbers: &[Number]) -> Result<Vec<OwnedJsonb>
     Ok(documents)
 }
 
-/// A part that an expression makes, as the only document.
+/// Returns the result of an expression as the only document.
 fn made_documents(alloc: Global, part: &MadeItem<'_>) -> Result<Vec<OwnedJsonb>, Error>
     ensures documents { (form : Form) (t : Tree) → IsMadeItem form part.now t
         → Gives (λ v us. AllZip (Decodes form) v.items us)
@@ -185,7 +187,7 @@ fn made_documents(alloc: Global, part: &MadeItem<'_>) -> Result<Vec<OwnedJsonb>,
     Ok(documents)
 }
 
-/// One array of the parts that are selected. `TooLarge` is for an array that passes the limits.
+/// Returns an array of the selected items. Fails with `TooLarge` if it exceeds the limits.
 pub(crate) fn array_document(
     alloc: Global,
     document: Document<'_>,
@@ -196,13 +198,13 @@ pub(crate) fn array_document(
 {
     let mut builder = ArrayBuilder::new(alloc);
     for position in 0..selected_len(selected) {
-        let part = part_at(document, selected, position)?;
-        push_part(alloc, &mut builder, &part)?;
+        push_at(alloc, document, selected, position, &mut builder)?;
     }
     Ok(OwnedJsonb::new(builder.build()?))
 }
 
-/// The first part that is selected as a document, or none. `TooLarge` is for a part that is too large for one.
+/// Returns the first selected item as a document, or `None`. Fails with `TooLarge` if it exceeds the limits of a
+/// document.
 pub(crate) fn first_document(
     alloc: Global,
     document: Document<'_>,
@@ -217,8 +219,8 @@ pub(crate) fn first_document(
     Ok(Some(document_at(alloc, document, selected, 0)?))
 }
 
-/// None where nothing is selected, the only part as a document, or one array of several.
-/// `TooLarge` is for a part or an array that passes the limits.
+/// Returns the selected item as a document if it is the only one, an array if there are several, or `None`. Fails with
+/// `TooLarge` if the item or the array exceeds the limits.
 pub(crate) fn value_document(
     alloc: Global,
     document: Document<'_>,

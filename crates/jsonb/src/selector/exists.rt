@@ -1,4 +1,4 @@
-//! `exists` of names and a filter by another `exists`: the innermost one is found by a loop.
+//! `exists` of names and a filter by another `exists`. The innermost one is found in a loop.
 
 ghost use Rattle.std.specs.Prelude.{◌≡◌, ◌<◌, ◌≤◌, true, MatchOption, IfOk, IfErr, ⊤};
 ghost use Rattle.jsonb_doc.specs.Tree.{Tree};
@@ -15,21 +15,21 @@ use super::members::{are_members, member, starting_item};
 use crate::path::{Expr, Path};
 use jsonb_doc::{Error, Spot};
 
-/// An `exists`, and the item of which it is asked.
+/// An `exists`, and the item for which it is evaluated.
 #[derive(Clone, Copy)]
 pub(crate) struct Asked<'s, 'p> {
     pub(crate) exists: &'s Expr<'p>,
     pub(crate) item: Spot,
 }
 
-/// Names, and the `exists` by which the member that they name is filtered.
+/// Names, and the `exists` that filters the member that they name.
 #[derive(Clone, Copy)]
 pub(crate) struct Nested<'s, 'p> {
     names: &'s [Path<'p>],
     exists: &'s Expr<'p>,
 }
 
-/// The `exists` that decides an `exists`, with its item; none where a member is not there.
+/// Returns the `exists` that decides an `exists`, with its item, or `None` if a member is missing.
 pub(crate) fn innermost<'s, 'p>(
     mode: Mode,
     exists: &'s Expr<'p>,
@@ -61,7 +61,7 @@ pub(crate) fn innermost<'s, 'p>(
     Ok(Some(asked))
 }
 
-/// The `exists` within one, if all before it are names.
+/// Returns the `exists` within another one, if all before it are names.
 fn nested_in<'s, 'p>(exists: &'s Expr<'p>) -> Option<Nested<'s, 'p>>
     ensures nested { MatchOption result ⊤ (IsNested exists.now) }
     ensures smaller { MatchOption result ⊤ (λ nested. size-Expr nested.exists.now < size-Expr exists.now) }
@@ -81,7 +81,7 @@ fn nested_in<'s, 'p>(exists: &'s Expr<'p>) -> Option<Nested<'s, 'p>>
     }
 }
 
-/// Whether an expression is an `exists`.
+/// Returns `true` if an expression is an `exists`.
 fn is_exists(expression: &Expr<'_>) -> bool
     ensures { result ≡ is_exists (expression_view expression.now) }
 {

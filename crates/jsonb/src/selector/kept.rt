@@ -1,4 +1,4 @@
-//! What a filter keeps from one item of a list to the next: its parts that begin at the root.
+//! What a filter caches from one item of a list to the next: its parts that begin at the root.
 
 ghost use Rattle.std.specs.Prelude.{◌≡◌, ◌∷◌, List, Ok, Some, None, true, MatchOption, OnOk, IfErr};
 ghost use Rattle.jsonb_doc.specs.Answer.{IsOutOfMemory};
@@ -15,7 +15,7 @@ use crate::path::{BinaryOperator, Expr, Path};
 use jsonb_doc::Error;
 use std::alloc::Global;
 
-/// What of a comparison or of `exists` is the same for each item.
+/// The part of a comparison or of `exists` that is the same for each item.
 #[derive(Drop)]
 pub(crate) enum KeptPart<'a> {
     Nothing,
@@ -24,25 +24,25 @@ pub(crate) enum KeptPart<'a> {
     Right(OperandValues<'a>),
 }
 
-/// Part after part, in the order in which the comparisons and `exists` of a filter are executed, as far as the
-/// first item has come.
+/// The parts in the order in which the comparisons and `exists` of a filter are evaluated, as far as the first item has
+/// come.
 #[derive(Drop)]
 pub(crate) struct KeptParts<'a> {
     parts: Vec<KeptPart<'a>>,
-    /// The place of the part that comes next.
+    /// The index of the next part.
     next: usize,
 }
 
-/// What is kept of a filter.
+/// What is cached of a filter.
 #[derive(Drop)]
 pub(crate) enum Kept<'a> {
-    /// The filter is executed for one item alone.
+    /// Nothing: the filter is evaluated for one item only.
     Nothing,
     Parts(KeptParts<'a>),
 }
 
 impl<'a> Kept<'a> {
-    /// For a list of items. It takes no memory.
+    /// Creates a cache for a list of items, without allocating.
     pub(crate) fn new(alloc: Global) -> Kept<'a>
         ensures { (mode : Mode) (top : Tree) (all : List Expression) → AreKept mode top result all all }
     {
@@ -52,7 +52,7 @@ impl<'a> Kept<'a> {
         })
     }
 
-    /// The part that comes next, if it is kept.
+    /// Returns the next part, if it is cached.
     #[inline(always)]
     pub(crate) fn part(&self) -> Option<&KeptPart<'a>>
         ensures { MatchOption result (kept_part self.now ≡ None) (λ part. kept_part self.now ≡ Some part.now) }
@@ -63,7 +63,7 @@ impl<'a> Kept<'a> {
         }
     }
 
-    /// Goes on behind a part that is kept.
+    /// Advances past a cached part.
     #[inline(always)]
     pub(crate) fn pass(&mut self)
         ensures { (mode : Mode) (top : Tree) (all more : List Expression) (e : Expression) (part : KeptPart)
@@ -80,7 +80,7 @@ impl<'a> Kept<'a> {
         }
     }
 
-    /// Keeps the part that comes next.
+    /// Caches the next part.
     pub(crate) fn add(&mut self, part: KeptPart<'a>) -> Result<(), Error>
         ensures ok { (mode : Mode) (top : Tree) (all more : List Expression) (e : Expression)
             → kept_part self.old ≡ None → IsSame mode top part.entry e → AreKept mode top self.old all (e ∷ more)
@@ -110,7 +110,7 @@ impl<'a> Kept<'a> {
     }
 }
 
-/// What of a comparison is the same for each item.
+/// Returns the part of a comparison that is the same for each item.
 pub(crate) fn comparison_part<'a>(
     left: &Expr<'_>,
     right: &Expr<'_>,
@@ -133,7 +133,7 @@ pub(crate) fn comparison_part<'a>(
     }
 }
 
-/// What of `exists` is the same for each item.
+/// Returns the part of `exists` that is the same for each item.
 pub(crate) fn exists_part<'a>(steps: &[Path<'_>], answer: Option<bool>) -> KeptPart<'a>
     ensures { (mode : Mode) (top t : Tree)
         → truth mode (exists (steps_of (steps_view steps.now))) top t ≡ Ok answer
@@ -146,7 +146,7 @@ pub(crate) fn exists_part<'a>(steps: &[Path<'_>], answer: Option<bool>) -> KeptP
     }
 }
 
-/// Whether an operand has the same values for each item.
+/// Returns `true` if an operand has the same values for each item.
 fn is_fixed(operand: &Expr<'_>) -> bool
     ensures { result ≡ is_fixed (expression_view operand.now) }
 {
@@ -156,7 +156,7 @@ fn is_fixed(operand: &Expr<'_>) -> bool
     }
 }
 
-/// Whether the first step is `@`.
+/// Returns `true` if the first step is `@`.
 #[inline(always)]
 pub(crate) fn begins_with_current(steps: &[Path<'_>]) -> bool
     ensures { result ≡ begins_with_current (steps_view steps.now) }
@@ -167,7 +167,7 @@ pub(crate) fn begins_with_current(steps: &[Path<'_>]) -> bool
     }
 }
 
-/// Whether a filter keeps an item of which it says this.
+/// Returns `true` if a filter with this result selects the item.
 #[inline(always)]
 pub(crate) fn is_kept(truth: Option<bool>) -> bool
     ensures { (t : Tree) → IsKept t result (filtered t truth) }
@@ -178,7 +178,7 @@ pub(crate) fn is_kept(truth: Option<bool>) -> bool
     }
 }
 
-/// Whether the operator compares values.
+/// Returns `true` if the operator compares values.
 #[inline(always)]
 pub(crate) fn is_comparison(op: BinaryOperator) -> bool
     ensures { result ≡ is_comparison (operator_view op) }

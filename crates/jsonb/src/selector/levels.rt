@@ -16,7 +16,7 @@ use crate::path::{RecursiveLevel, RecursiveLevelEnd};
 use jsonb_doc::{Error, Spot, SpotIter, child_spots};
 use std::alloc::Global;
 
-/// The levels at which items are taken: from the first to the last, and none where the last is before the first.
+/// The levels at which items are selected: from the first to the last, and none if the last is before the first.
 #[derive(Clone, Copy)]
 struct LevelRange {
     first: usize,
@@ -28,7 +28,7 @@ impl LevelRange {
     ghost use Rattle.jsonb.specs.PathViews.{levels_view};
     ghost use Rattle.jsonb.specs.Private.Below.{AreLevelsOf};
 
-    /// Those of a step: without levels all.
+    /// Returns the levels of a step: without levels all.
     fn of_step(levels: Option<RecursiveLevel>) -> LevelRange
         ensures { AreLevelsOf (option_map levels_view levels) result }
     {
@@ -53,7 +53,7 @@ impl LevelRange {
         }
     }
 
-    /// Whether a level is one of them.
+    /// Returns `true` if a level is one of them.
     #[inline(always)]
     fn contains(self, level: usize) -> bool
         ensures { result ≡ (nat_le self.first level && nat_le level self.last) }
@@ -62,15 +62,15 @@ impl LevelRange {
     }
 }
 
-/// The children that are left of a container, and their level.
+/// The remaining children of a container, and their level.
 #[derive(Clone, Copy)]
 pub(crate) struct OpenLevel<'a> {
     children: SpotIter<'a>,
     level: usize,
 }
 
-/// The items from this one down, each before its children, behind the nodes that there are. A level past 255, which no
-/// range names, counts as 256. What is left of the containers that the walk is within lies in a `Vec`.
+/// Appends the items from this one down, each before its children. A level past 255, which no range names, counts as
+/// 256. What remains of the enclosing containers is in a `Vec`.
 pub(crate) fn push_levels(
     alloc: Global,
     bytes: &[u8],
@@ -110,8 +110,8 @@ pub(crate) fn push_levels(
     }
 }
 
-/// These children up to the first that is a container, where they are taken, behind the nodes that there are. The
-/// answer is that container, with those behind it; none where all are passed.
+/// Appends these children up to the first container, if they are selected. Returns that container, with those after
+/// it, or `None` if all are visited.
 #[inline(always)]
 fn pass_leaves<'a>(
     is_taken: bool,
@@ -138,7 +138,7 @@ fn pass_leaves<'a>(
     Ok(None)
 }
 
-/// Keeps what is left of a level until the walk comes back to it. Nothing is kept of one that has nothing left.
+/// Stores what remains of a level until the traversal returns to it. A level of which nothing remains is not stored.
 #[inline(always)]
 fn keep_level<'a>(around: &mut Vec<OpenLevel<'a>>, within: OpenLevel<'a>) -> Result<(), Error>
     ensures kept { OnOk result (KeepsLevel around.old.items within.entry around.new.items) }
@@ -151,7 +151,7 @@ fn keep_level<'a>(around: &mut Vec<OpenLevel<'a>>, within: OpenLevel<'a>) -> Res
     Ok(())
 }
 
-/// An item where its level is taken, behind the nodes that there are, and its children where some below are taken.
+/// Appends an item if its level is selected, and its children if some below are.
 #[inline(always)]
 fn push_item<'a>(
     bytes: &'a [u8],
@@ -181,7 +181,7 @@ fn push_item<'a>(
     }
 }
 
-/// The level below.
+/// Returns the level below.
 #[inline(always)]
 fn next_level(level: usize) -> usize
     ensures { (n : ℕ) → level ≡ min n 256 → result ≡ min (n + 1) 256 }

@@ -1,4 +1,4 @@
-//! Paths that name one member at most: `$` or `@`, and the names of fields.
+//! Paths that name at most one member: `$` or `@`, and the names of fields.
 
 ghost use Rattle.std.specs.Prelude.{◌≡◌, ◌∷◌, [], Ok, map, true, MatchOption, ⊤, IfErr, IfSome};
 ghost use Rattle.jsonb_doc.specs.Answer.{Gives, IsOutOfMemory};
@@ -21,7 +21,7 @@ use super::kept::begins_with_current;
 use crate::path::{Expr, Path};
 use jsonb_doc::{Error, Spot, field_spot};
 
-/// Where a path within an expression starts.
+/// Returns the item at which a path within an expression starts.
 #[inline(always)]
 pub(crate) fn starting_item(steps: &[Path<'_>], document: Document<'_>, item: Spot) -> Spot
     ensures { (top t : Tree) → HasTree document.entry top → IsAt document.entry item t
@@ -34,7 +34,7 @@ pub(crate) fn starting_item(steps: &[Path<'_>], document: Document<'_>, item: Sp
     }
 }
 
-/// Whether each step is `$`, `@` or a name.
+/// Returns `true` if each step is `$`, `@` or a name.
 pub(crate) fn are_members(steps: &[Path<'_>]) -> bool
     ensures { result ≡ are_members (steps_view steps.now) }
 {
@@ -46,7 +46,7 @@ pub(crate) fn are_members(steps: &[Path<'_>]) -> bool
     true
 }
 
-/// Whether a step is `$`, `@` or a name.
+/// Returns `true` if a step is `$`, `@` or a name.
 #[inline(always)]
 pub(crate) fn is_member(step: &Path<'_>) -> bool
     ensures { result ≡ is_member (step_view step.now) }
@@ -66,7 +66,7 @@ pub(crate) fn is_member(step: &Path<'_>) -> bool
     }
 }
 
-/// The value under a key of an object.
+/// Returns the value of a key of an object.
 #[inline(always)]
 fn field(bytes: &[u8], mode: Mode, name: &str, item: Spot) -> Result<Option<Spot>, Error>
     ensures meant { (t : Tree) → Locates bytes.now item t
@@ -83,7 +83,7 @@ fn field(bytes: &[u8], mode: Mode, name: &str, item: Spot) -> Result<Option<Spot
     }
 }
 
-/// The name of a step that is one.
+/// Returns the name of a step that is one.
 #[inline(always)]
 pub(crate) fn member_name<'s>(step: &'s Path<'_>) -> Option<&'s str>
     ensures member { (mode : Mode) (top t : Tree) → is_member (step_view step.now) ≡ true
@@ -107,7 +107,7 @@ pub(crate) fn member_name<'s>(step: &'s Path<'_>) -> Option<&'s str>
     }
 }
 
-/// What one of these steps gives of an item.
+/// Returns what one of these steps selects of an item.
 #[inline(always)]
 pub(crate) fn member_of(
     mode: Mode,
@@ -126,7 +126,7 @@ pub(crate) fn member_of(
     }
 }
 
-/// The member that these steps name, from an item on.
+/// Returns the member that these steps name, starting at an item.
 #[inline(never)]
 pub(crate) fn member(
     mode: Mode,
@@ -150,7 +150,7 @@ pub(crate) fn member(
     Ok(Some(item.by_parts()))
 }
 
-/// The steps of an operand that names one member at most.
+/// Returns the steps of an operand that names at most one member.
 #[inline(always)]
 pub(crate) fn member_steps<'s, 'a>(operand: &'s Expr<'a>) -> Option<&'s [Path<'a>]>
     ensures { MatchOption result ⊤ (λ steps. (are_members (steps_view steps.now) ≡ true)

@@ -1,4 +1,4 @@
-//! The places that steps have found.
+//! The positions that steps have selected.
 
 ghost use Rattle.std.specs.Prelude.{◌≡◌};
 ghost use Rattle.jsonb.specs.Private.Selection.{node_spots, option_spots};
@@ -7,7 +7,7 @@ use jsonb_doc::Spot;
 use std::alloc::Global;
 use std::slice;
 
-/// The places of a list of items. One alone needs no memory.
+/// The positions of a list of items. A single one is not allocated.
 #[derive(Drop)]
 pub(crate) enum NodeList {
     One(Spot),

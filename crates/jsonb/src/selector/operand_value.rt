@@ -1,33 +1,31 @@
 //! The values of operands, and how they compare.
 
 ghost use Rattle.std.specs.Prelude.{◌≡◌, ◌∷◌, [], map, Some};
-ghost use Rattle.jsonb_doc.specs.Payload.{any};
 ghost use Rattle.jsonb_doc.specs.Tree.{Tree};
-ghost use Rattle.jsonb_doc.specs.Item.{StandsFor};
+ghost use Rattle.jsonb_doc.specs.StoredValue.{IsStoredAs};
 ghost use Rattle.jsonb.specs.PathViews.{operator_view, literal_view};
 ghost use Rattle.jsonb_doc.specs.Private.Short.{short_value};
-ghost use Rattle.jsonb_doc.specs.View.{number_view};
 ghost use Rattle.jsonb.specs.Values.{number, value_of_item, literal_item, values_of_literal};
 ghost use Rattle.jsonb.specs.Compare.{compare, pair_truth, value_order, is_met_by, truth_of_order, starts_with_truth, and_truth, or_truth, is_container};
 ghost use Rattle.jsonb.specs.Private.Selection.{value_view, values_view, option_values};
 
 use crate::path::{BinaryOperator, PathValue};
-use jsonb_doc::{Item, Number, ShortNumber, short_cmp};
+use jsonb_doc::{Number, ShortNumber, StoredValue, short_cmp};
 use std::alloc::Global;
 use std::cmp::Ordering;
 use std::slice;
 
-/// A value of an operand: a scalar, or a container, of which nothing is compared.
+/// A value of an operand: a scalar, or a container, which is not compared. A string is its bytes, not validated.
 #[derive(Clone, Copy)]
 pub(crate) enum OperandValue<'a> {
     Null,
     Boolean(bool),
     Number(Number),
-    String(&'a str),
+    String(&'a [u8]),
     Container,
 }
 
-/// The values of an operand. One alone needs no memory.
+/// The values of an operand. A single value is not allocated.
 #[derive(Drop)]
 pub(crate) enum OperandValues<'a> {
     One(OperandValue<'a>),
@@ -56,22 +54,23 @@ impl<'a> OperandValues<'a> {
     }
 }
 
-/// The value of an item that is no array, and of an element. An extension has none.
+/// Returns the value of an item that is not an array, or of an element. An extension value has none.
 #[inline(always)]
-pub(crate) fn value_of_item<'a>(item: Item<'a>) -> Option<OperandValue<'a>>
-    ensures { (t : Tree) → StandsFor any item.entry t → option_values result ≡ value_of_item t }
+pub(crate) fn value_of_item<'a>(stored: StoredValue<'a>) -> Option<OperandValue<'a>>
+    ensures { (t : Tree) → IsStoredAs stored.entry t → option_values result ≡ value_of_item t }
 {
-    match item {
-        Item::Null => Some(OperandValue::Null),
-        Item::Boolean(b) => Some(OperandValue::Boolean(b)),
-        Item::Number(n) => Some(OperandValue::Number(n)),
-        Item::String(s) => Some(OperandValue::String(s)),
-        Item::Extension(_) => None,
-        Item::Array(_) | Item::Object(_) => Some(OperandValue::Container),
+    match stored {
+        StoredValue::Null => Some(OperandValue::Null),
+        StoredValue::Boolean(b) => Some(OperandValue::Boolean(b)),
+        StoredValue::Number(n) => Some(OperandValue::Number(n)),
+        StoredValue::String(bytes) => Some(OperandValue::String(bytes)),
+        StoredValue::Extension => None,
+        StoredValue::Array | StoredValue::Object => Some(OperandValue::Container),
     }
 }
 
 /// The value of a literal.
+#[inline(always)]
 pub(crate) fn value_of_literal<'a>(literal: &'a PathValue<'_>) -> OperandValue<'a>
     ensures { option_values (Some result) ≡ values_of_literal (literal_item (literal_view literal.now)) }
 {
@@ -79,12 +78,12 @@ pub(crate) fn value_of_literal<'a>(literal: &'a PathValue<'_>) -> OperandValue<'
         PathValue::Null => OperandValue::Null,
         PathValue::Boolean(b) => OperandValue::Boolean(*b),
         PathValue::Number(n) => OperandValue::Number(*n),
-        PathValue::String(s) => OperandValue::String(s.as_str()),
+        PathValue::String(s) => OperandValue::String(s.as_str().as_bytes()),
         PathValue::Raw(_) => OperandValue::Container,
     }
 }
 
-/// Whether both sides are true, unknown where either is.
+/// Returns whether both are true, or `None` if either is unknown.
 pub(crate) fn and_truth(a: Option<bool>, b: Option<bool>) -> Option<bool>
     ensures { result ≡ and_truth a b }
 {
@@ -94,7 +93,7 @@ pub(crate) fn and_truth(a: Option<bool>, b: Option<bool>) -> Option<bool>
     }
 }
 
-/// Whether one side is true, unknown where either is.
+/// Returns whether one of the two is true, or `None` if either is unknown.
 pub(crate) fn or_truth(a: Option<bool>, b: Option<bool>) -> Option<bool>
     ensures { result ≡ or_truth a b }
 {
@@ -104,7 +103,7 @@ pub(crate) fn or_truth(a: Option<bool>, b: Option<bool>) -> Option<bool>
     }
 }
 
-/// All pairs, for each left value all right values: the first that is true or unknown decides.
+/// Compares all pairs, for each left value all right values: the first result that is true or unknown decides.
 pub(crate) fn compare(
     op: BinaryOperator,
     ls: &[OperandValue<'_>],
@@ -123,7 +122,7 @@ pub(crate) fn compare(
     Some(false)
 }
 
-/// One left value with all right values.
+/// Compares one left value with all right values.
 #[inline(always)]
 pub(crate) fn compare_one(
     op: BinaryOperator,
@@ -138,28 +137,28 @@ pub(crate) fn compare_one(
     }
 }
 
-/// One number with all right values.
+/// Compares one number that is stored in at most 64 bits with all right values.
 #[inline(always)]
-pub(crate) fn compare_number(
+pub(crate) fn compare_short(
     op: BinaryOperator,
-    l: &Number,
+    l: ShortNumber,
     rs: &[OperandValue<'_>],
 ) -> Option<bool>
-    ensures { result ≡ compare (operator_view op) (number (number_view l.now) ∷ []) (map value_view rs.now) }
+    ensures { result ≡ compare (operator_view op) (number (short_value l) ∷ []) (map value_view rs.now) }
 {
     match rs {
-        [OperandValue::Number(r)] => number_truth(op, l, r),
-        _ => compare(op, slice::from_ref(&OperandValue::Number(*l)), rs),
+        [r] => short_number_truth(op, l, r),
+        _ => compare(
+            op,
+            slice::from_ref(&OperandValue::Number(l.to_number())),
+            rs,
+        ),
     }
 }
 
-/// A number that is stored in at most 64 bits, with a right value.
+/// Compares a number that is stored in at most 64 bits with a right value.
 #[inline(always)]
-pub(crate) fn short_number_truth(
-    op: BinaryOperator,
-    l: ShortNumber,
-    r: &OperandValue<'_>,
-) -> Option<bool>
+fn short_number_truth(op: BinaryOperator, l: ShortNumber, r: &OperandValue<'_>) -> Option<bool>
     ensures { result ≡ pair_truth (operator_view op) (number (short_value l)) (value_view r.now) }
 {
     match (op, r) {
@@ -170,18 +169,8 @@ pub(crate) fn short_number_truth(
     }
 }
 
-/// Of a pair of numbers.
-#[inline(always)]
-fn number_truth(op: BinaryOperator, l: &Number, r: &Number) -> Option<bool>
-    ensures { result ≡ pair_truth (operator_view op) (number (number_view l.now)) (number (number_view r.now)) }
-{
-    match op {
-        BinaryOperator::StartsWith => None,
-        _ => truth_of_order(op, Some(l.cmp(r))),
-    }
-}
-
-/// Of one pair: with a container it is unknown.
+/// Compares one pair: with a container the result is unknown. Equal strings are of one length, so lengths are compared
+/// first.
 #[inline(always)]
 fn pair_truth(op: BinaryOperator, l: &OperandValue<'_>, r: &OperandValue<'_>) -> Option<bool>
     ensures { result ≡ pair_truth (operator_view op) (value_view l.now) (value_view r.now) }
@@ -192,17 +181,19 @@ fn pair_truth(op: BinaryOperator, l: &OperandValue<'_>, r: &OperandValue<'_>) ->
     if is_container(l) || is_container(r) {
         return None;
     }
-    truth_of_order(op, value_order(l, r))
+    match (op, l, r) {
+        (BinaryOperator::Eq, OperandValue::String(l), OperandValue::String(r)) => Some(l == r),
+        (BinaryOperator::NotEq, OperandValue::String(l), OperandValue::String(r)) => Some(l != r),
+        _ => truth_of_order(op, value_order(l, r)),
+    }
 }
 
-/// Whether the right text begins the left one.
+/// Returns whether the left string begins with the right one.
 fn starts_with_truth(l: &OperandValue<'_>, r: &OperandValue<'_>) -> Option<bool>
     ensures { result ≡ starts_with_truth (value_view l.now) (value_view r.now) }
 {
     match (l, r) {
-        (OperandValue::String(l), OperandValue::String(r)) => Some(
-            l.as_bytes().starts_with(r.as_bytes()),
-        ),
+        (OperandValue::String(l), OperandValue::String(r)) => Some(l.starts_with(r)),
         _ => None,
     }
 }
@@ -217,7 +208,7 @@ fn is_container(value: &OperandValue<'_>) -> bool
     }
 }
 
-/// The order of two values of one kind.
+/// Returns the order of two values of one type.
 #[inline(always)]
 fn value_order(l: &OperandValue<'_>, r: &OperandValue<'_>) -> Option<Ordering>
     ensures { result ≡ value_order (value_view l.now) (value_view r.now) }
@@ -231,7 +222,8 @@ fn value_order(l: &OperandValue<'_>, r: &OperandValue<'_>) -> Option<Ordering>
     }
 }
 
-/// Values of two kinds differ, and else nothing is known of them.
+/// Returns the result for two values in this order. Values of two types have none: they are unequal, and any other
+/// comparison is unknown.
 #[inline(always)]
 fn truth_of_order(op: BinaryOperator, order: Option<Ordering>) -> Option<bool>
     ensures { result ≡ truth_of_order (operator_view op) order }
@@ -243,7 +235,7 @@ fn truth_of_order(op: BinaryOperator, order: Option<Ordering>) -> Option<bool>
     }
 }
 
-/// Whether the operator holds of two values in this order.
+/// Returns `true` if the operator holds for two values in this order.
 #[inline(always)]
 fn is_met_by(op: BinaryOperator, order: Ordering) -> bool
     ensures { result ≡ is_met_by (operator_view op) order }

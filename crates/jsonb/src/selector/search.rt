@@ -1,4 +1,4 @@
-//! The first item that steps lead to, in lax mode: a walk goes down to it, and looks at nothing behind it.
+//! The first item that steps select, in lax mode: a traversal down to it that visits nothing after it.
 
 ghost use Rattle.std.specs.Prelude.{◌≡◌, ◌<◌, ◌^◌, ◌∷◌, [], ℕ, List, map, length, MatchOption, MatchResult, IfOk, IfSome, IfErr, ⊤};
 ghost use Rattle.jsonb_doc.specs.Answer.{Gives, SameOption, IsOutOfMemory, IsDecodingError, ◌or◌};
@@ -18,18 +18,20 @@ ghost use Rattle.jsonb.specs.SelectionErrors.{IsSelectionError};
 ghost use Rattle.jsonb.specs.declared.selector.document.Mode.TheVariants.{Lax};
 
 use super::children::{elements, push_positions, values};
-use super::compared_items::{MemberCompared, item_truth, member_compared};
-use super::comparisons::{JoinedComparisons, joined_comparisons, joint_truth};
+use super::compared_member::{compared_member, literal_truth};
+use super::compile::condition_of;
 use super::document::{Context, Document, Expressions, Mode};
+use super::evaluate::{filter_truth, question_truth};
 use super::kept::is_kept;
 use super::levels::push_levels;
 use super::members::{are_members, member_of};
+use super::plan::{Condition, Question};
 use super::steps::filter_of;
 use crate::path::{ArrayIndex, Expr, Path, RecursiveLevel};
 use jsonb_doc::{Error, Spot, SpotIter};
 use std::alloc::Global;
 
-/// A step that is refused of no item in lax mode.
+/// A step that does not fail for any item in lax mode.
 #[derive(Drop)]
 pub(crate) enum SearchStep<'s, 'p> {
     /// `$`, `@` or a name.
@@ -38,35 +40,33 @@ pub(crate) enum SearchStep<'s, 'p> {
     Elements,
     Positions(&'s [ArrayIndex]),
     Levels(Option<RecursiveLevel>),
-    /// A filter that compares a member with a literal.
-    Compared(MemberCompared<'s, 'p>),
-    /// A filter by several of these, which one operator joins.
-    Joined(JoinedComparisons<'s, 'p>),
+    /// A filter whose condition can be compiled to tests.
+    Tested(Condition<'s, 'p>),
 }
 
-/// Items that are left, in order.
+/// The remaining items, in order.
 #[derive(Drop)]
 pub(crate) enum Items<'a> {
     Children(SpotIter<'a>),
-    /// Places of a list, the first one last.
+    /// Positions of a list, the first one last.
     Listed(Vec<Spot>),
 }
 
-/// What steps give of an item.
+/// What steps select of an item.
 #[derive(Drop)]
 pub(crate) enum Given<'a> {
     AtMostOne(Option<Spot>),
     Many(Items<'a>),
 }
 
-/// Items that are left, and the steps that each of them has before it.
+/// The remaining items, and the steps that each of them has before it.
 #[derive(Drop)]
 pub(crate) struct Waiting<'t, 's, 'p, 'a> {
     items: Items<'a>,
     steps: &'t [SearchStep<'s, 'p>],
 }
 
-/// Where the steps lead to from an item: to one at most, or to many with steps before them.
+/// What steps reach from an item: at most one item, or many with steps before them.
 #[derive(Drop)]
 pub(crate) enum Reached<'t, 's, 'p, 'a> {
     AtMostOne(Option<Spot>),
@@ -74,7 +74,7 @@ pub(crate) enum Reached<'t, 's, 'p, 'a> {
 }
 
 impl<'a> Items<'a> {
-    /// The first of the items that are left.
+    /// Returns the first of the remaining items.
     #[inline(always)]
     fn next(&mut self) -> Option<Result<Spot, Error>>
         ensures takes { (bytes : List ℕ) (ts : List Tree) → HasItems bytes self.old ts
@@ -92,8 +92,10 @@ impl<'a> Items<'a> {
     }
 }
 
-/// The first item that steps lead to from one item on, if each of them can be executed item by item. Else nothing is
-/// told: in strict mode, where a later item may be refused, for names alone, and for other filters.
+/// Returns the first item that steps select from one item, if each step can be evaluated item by item.
+///
+/// The outer `None` means that it was not searched: in strict mode, in which a later item may fail, for steps that are
+/// names alone, and for other filters.
 #[inline(always)]
 pub(crate) fn search<'s>(
     context: &Context<'_>,
@@ -116,7 +118,8 @@ pub(crate) fn search<'s>(
     }
 }
 
-/// The same in lax mode. It stands apart, so that names alone pay nothing for it.
+/// Returns the first item that steps select in lax mode. It is a separate function so that names alone need no frame
+/// for it.
 #[inline(never)]
 fn lax_search<'s>(
     alloc: Global,
@@ -136,7 +139,7 @@ fn lax_search<'s>(
     Ok(Some(first_found(alloc, &searched, document.bytes, first)?))
 }
 
-/// The steps of a search, if each is one.
+/// Returns the steps of a search, if each can be one.
 fn searched_steps<'s, 'p>(
     alloc: Global,
     expressions: Expressions,
@@ -156,7 +159,7 @@ fn searched_steps<'s, 'p>(
     Ok(Some(searched))
 }
 
-/// The step of a search that a step is, if it is one.
+/// Returns a step as a step of a search, if it can be one.
 fn searched_step<'s, 'p>(
     alloc: Global,
     expressions: Expressions,
@@ -172,7 +175,7 @@ fn searched_step<'s, 'p>(
     }
 }
 
-/// The step of a search that a filter is, if it is one.
+/// Returns a filter as a step of a search, if it can be one.
 fn searched_filter<'s, 'p>(
     alloc: Global,
     e: &'s Expr<'p>,
@@ -181,16 +184,13 @@ fn searched_filter<'s, 'p>(
         (λ searched. IsSearched searched (filter (expression_view e.now)))) }
     ensures errors { IfErr result IsOutOfMemory }
 {
-    if let Some(comparison) = member_compared(e) {
-        return Ok(Some(SearchStep::Compared(comparison)));
-    }
-    match joined_comparisons(alloc, e)? {
-        Some(all) => Ok(Some(SearchStep::Joined(all))),
+    match condition_of(alloc, e)? {
+        Some(condition) => Ok(Some(SearchStep::Tested(condition))),
         None => Ok(None),
     }
 }
 
-/// The step of a search that a step without an expression is.
+/// Returns a step without an expression as a step of a search.
 fn searched_plain<'s, 'p>(step: &'s Path<'p>) -> Option<SearchStep<'s, 'p>>
     ensures { MatchOption result ⊤ (λ searched. IsSearched searched (step_view step.now)) }
 {
@@ -208,8 +208,7 @@ fn searched_plain<'s, 'p>(step: &'s Path<'p>) -> Option<SearchStep<'s, 'p>>
     }
 }
 
-/// The first item that the steps lead to from one item on. What is left of the items that the walk is within lies in
-/// a `Vec`.
+/// Returns the first item that the steps select from one item. What remains of the enclosing items is in a `Vec`.
 fn first_found(
     alloc: Global,
     steps: &[SearchStep<'_, '_>],
@@ -244,7 +243,8 @@ fn first_found(
     }
 }
 
-/// Where the steps lead to from an item: each that gives one item at most is executed, up to one that gives many.
+/// Returns what the steps reach from an item: each step that selects at most one item is evaluated, up to one that
+/// selects many.
 #[inline(always)]
 fn reach<'t, 's, 'p, 'a>(
     alloc: Global,
@@ -271,7 +271,7 @@ fn reach<'t, 's, 'p, 'a>(
     Ok(Reached::AtMostOne(Some(item)))
 }
 
-/// What a step gives of an item.
+/// Returns what a step selects of an item.
 #[inline(always)]
 fn step_items<'a>(
     alloc: Global,
@@ -301,19 +301,45 @@ fn step_items<'a>(
             push_levels(alloc, bytes, *levels, 0, item, &mut spots)?;
             Ok(listed(spots))
         }
-        SearchStep::Compared(comparison) => {
-            let truth = item_truth(alloc, Mode::Lax, comparison, bytes, item)?;
-            Ok(kept(truth, item))
-        }
-        SearchStep::Joined(all) => {
-            let comparisons = &all.comparisons;
-            let truth = joint_truth(alloc, Mode::Lax, all.join, comparisons, bytes, item)?;
-            Ok(kept(truth, item))
+        SearchStep::Tested(condition) => {
+            let Some((first, others)) = condition.as_slice().split_last() else {
+                return Ok(Given::AtMostOne(None));
+            };
+            // A comparison with a literal is evaluated here: as a call, it costs an item of 500 instructions 60 more.
+            match &first.question {
+                Question::Compared(comparison) => {
+                    let found = compared_member(Mode::Lax, comparison, bytes, item);
+                    let first_truth = literal_truth(comparison, bytes, found);
+                    let truth = filter_truth(
+                        alloc,
+                        Mode::Lax,
+                        first,
+                        others,
+                        first_truth,
+                        bytes,
+                        item,
+                    )?;
+                    Ok(kept(truth, item))
+                }
+                question => {
+                    let first_truth = question_truth(alloc, Mode::Lax, question, bytes, item);
+                    let truth = filter_truth(
+                        alloc,
+                        Mode::Lax,
+                        first,
+                        others,
+                        first_truth,
+                        bytes,
+                        item,
+                    )?;
+                    Ok(kept(truth, item))
+                }
+            }
         }
     }
 }
 
-/// An item, where a filter is true of it.
+/// Returns an item if a filter is true of it.
 #[inline(always)]
 fn kept<'a>(truth: Option<bool>, item: Spot) -> Given<'a>
     ensures kept { (bytes : List ℕ) (t : Tree) → Locates bytes item t → AreGiven bytes result (filtered t truth) }
@@ -322,7 +348,7 @@ fn kept<'a>(truth: Option<bool>, item: Spot) -> Given<'a>
     Given::AtMostOne(is_kept(truth).then_some(item.by_parts()))
 }
 
-/// The places of a list.
+/// Returns the positions of a list.
 #[inline(always)]
 fn listed<'a>(mut spots: Vec<Spot>) -> Given<'a>
     ensures given { (bytes : List ℕ) (ts : List Tree) → AllZip (Locates bytes) spots.items ts
@@ -333,7 +359,7 @@ fn listed<'a>(mut spots: Vec<Spot>) -> Given<'a>
     Given::Many(Items::Listed(spots))
 }
 
-/// The values of an object.
+/// Returns the values of an object.
 #[inline(always)]
 fn value_items<'a>(bytes: &'a [u8], item: Spot) -> Result<Given<'a>, Error>
     ensures meant { GivesItems bytes.now item result (values_step Lax) }
@@ -346,7 +372,7 @@ fn value_items<'a>(bytes: &'a [u8], item: Spot) -> Result<Given<'a>, Error>
     }
 }
 
-/// The elements of an array; another item is itself.
+/// Returns the elements of an array, or another item itself.
 #[inline(always)]
 fn element_items<'a>(bytes: &'a [u8], item: Spot) -> Result<Given<'a>, Error>
     ensures meant { GivesItems bytes.now item result (elements_step Lax) }

@@ -3,7 +3,7 @@
 use super::node_list::NodeList;
 use jsonb_doc::{Item, Number};
 
-/// What an expression makes: an item, or an array of one.
+/// The result of an expression: an item, or an array of one.
 #[derive(Clone, Copy)]
 pub(crate) enum MadeItem<'a> {
     Item(Item<'a>),
@@ -13,10 +13,10 @@ pub(crate) enum MadeItem<'a> {
 /// What a path selects.
 #[derive(Drop)]
 pub(crate) enum Selected<'a> {
-    /// Items of the document, by their places.
+    /// Items of the document, by their positions.
     Nodes(NodeList),
-    /// What a sign makes of each value.
+    /// The signed numbers of the values.
     Numbers(Vec<Number>),
-    /// What any other expression makes.
+    /// The result of any other expression.
     Made(MadeItem<'a>),
 }

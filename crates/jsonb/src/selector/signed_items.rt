@@ -1,10 +1,9 @@
-//! Items of the document behind a sign, as the whole path.
+//! Items of the document with a sign before them, as the whole path.
 
 ghost use Rattle.std.specs.Prelude.{◌≡◌, ◌++◌, ◌∷◌, [], List, OnOk, IfErr, IsOkAnd, MatchOption, ⊤, map, flat_map};
 ghost use Rattle.jsonb_doc.specs.Answer.{Gives, IsOutOfMemory, IsDecodingError};
-ghost use Rattle.jsonb_doc.specs.Item.{StandsFor};
-ghost use Rattle.jsonb_doc.specs.Payload.{any};
 ghost use Rattle.jsonb_doc.specs.Spots.{Locates, HasSpotsLeft};
+ghost use Rattle.jsonb_doc.specs.StoredValue.{IsStoredAs};
 ghost use Rattle.jsonb_doc.specs.Tree.{Tree};
 ghost use Rattle.jsonb_doc.specs.View.{number_view};
 ghost use Rattle.jsonb.specs.PathArithmetic.{all_numbers, each_signed};
@@ -17,13 +16,13 @@ ghost use Rattle.jsonb.specs.SelectionErrors.{IsSelectionError};
 ghost use Rattle.jsonb.specs.declared.selector.document.Mode.{Mode};
 
 use super::calculate::sign_each;
-use super::children::array_elements;
+use super::children::elements;
 use crate::path::UnaryOperator;
-use jsonb_doc::{Error, Item, Number, Spot, SpotIter, spot_item, spot_number};
+use jsonb_doc::{Error, Number, Spot, SpotIter, StoredValue, spot_number, spot_value};
 use std::alloc::Global;
 
-/// The numbers of items, each behind a sign. First all have to be numbers: `InvalidJsonPath` is for another value,
-/// and else `Arithmetic` for the first number without a result.
+/// Returns the numbers of items, each with a sign. First all have to be numbers: fails with `InvalidJsonPath` for
+/// another value, otherwise with `Arithmetic` for the first number without a result.
 pub(crate) fn signed_items(
     alloc: Global,
     op: UnaryOperator,
@@ -40,7 +39,7 @@ pub(crate) fn signed_items(
     Ok(numbers)
 }
 
-/// The numbers of items. `InvalidJsonPath` is for another value.
+/// Returns the numbers of items. Fails with `InvalidJsonPath` for another value.
 fn item_numbers(alloc: Global, bytes: &[u8], items: &[Spot]) -> Result<Vec<Number>, Error>
     ensures meant { (ts : List Tree) → AllZip (Locates bytes.now) items.now ts
         → Gives (λ v ns. map number_view v.items ≡ ns) IsOutOfMemory result
@@ -54,7 +53,7 @@ fn item_numbers(alloc: Global, bytes: &[u8], items: &[Spot]) -> Result<Vec<Numbe
     Ok(numbers)
 }
 
-/// The numbers of an item, behind those that there are: an array gives those of its elements.
+/// Appends the numbers of an item: of an array those of its elements.
 #[inline(always)]
 fn push_item(bytes: &[u8], item: &Spot, numbers: &mut Vec<Number>) -> Result<(), Error>
     ensures meant { (t : Tree) → Locates bytes.now item.now t
@@ -67,21 +66,20 @@ fn push_item(bytes: &[u8], item: &Spot, numbers: &mut Vec<Number>) -> Result<(),
     }
 }
 
-/// The same of an item that is no short number.
+/// Appends the numbers of an item that is not a short number.
 #[inline(never)]
 fn push_other(bytes: &[u8], item: Spot, numbers: &mut Vec<Number>) -> Result<(), Error>
     ensures meant { (t : Tree) → Locates bytes.now item t
         → Appends number_view numbers.old.items numbers.new.items result (all_numbers (values_of_item t)) }
     ensures errors { (mode : Mode) → IfErr result (IsSelectionError mode) }
 {
-    let found = spot_item(bytes, item)?;
-    match array_elements(bytes, item, &found)? {
+    match elements(bytes, item)? {
         Some(elements) => push_elements(bytes, elements, numbers),
-        None => push_found(&found, numbers),
+        None => push_found(spot_value(bytes, item)?, numbers),
     }
 }
 
-/// The number of each element.
+/// Appends the number of each element.
 fn push_elements(
     bytes: &[u8],
     elements: SpotIter<'_>,
@@ -98,7 +96,7 @@ fn push_elements(
     Ok(())
 }
 
-/// The number of an element. An extension gives none.
+/// Appends the number of an element, or nothing for an extension value.
 #[inline(always)]
 fn push_element(bytes: &[u8], item: Spot, numbers: &mut Vec<Number>) -> Result<(), Error>
     ensures meant { (t : Tree) → Locates bytes.now item t
@@ -107,24 +105,24 @@ fn push_element(bytes: &[u8], item: Spot, numbers: &mut Vec<Number>) -> Result<(
 {
     match number_at(bytes, item)? {
         Some(number) => push_number(numbers, number),
-        None => push_found(&spot_item(bytes, item)?, numbers),
+        None => push_found(spot_value(bytes, item)?, numbers),
     }
 }
 
-/// The same of an item that was read.
-fn push_found(item: &Item<'_>, numbers: &mut Vec<Number>) -> Result<(), Error>
-    ensures meant { (t : Tree) → StandsFor any item.now t
+/// Appends the number that a value is.
+fn push_found(stored: StoredValue<'_>, numbers: &mut Vec<Number>) -> Result<(), Error>
+    ensures meant { (t : Tree) → IsStoredAs stored.entry t
         → Appends number_view numbers.old.items numbers.new.items result (all_numbers (value_of_item t)) }
     ensures errors { (mode : Mode) → IfErr result (IsSelectionError mode) }
 {
-    match item {
-        Item::Number(number) => push_number(numbers, *number),
-        Item::Extension(_) => Ok(()),
+    match stored {
+        StoredValue::Number(number) => push_number(numbers, number),
+        StoredValue::Extension => Ok(()),
         _ => Err(Error::InvalidJsonPath),
     }
 }
 
-/// The number at a place, where it is stored as a short one.
+/// Returns the number at a position, if it is stored as a short one.
 #[inline(always)]
 fn number_at(bytes: &[u8], item: Spot) -> Result<Option<Number>, Error>
     ensures meant { (t : Tree) → Locates bytes.now item t
@@ -137,7 +135,7 @@ fn number_at(bytes: &[u8], item: Spot) -> Result<Option<Number>, Error>
     }
 }
 
-/// One more number.
+/// Appends a number.
 #[inline(always)]
 fn push_number(numbers: &mut Vec<Number>, number: Number) -> Result<(), Error>
     ensures ok { OnOk result (numbers.new.items ≡ numbers.old.items ++ number ∷ []) }

@@ -1,4 +1,4 @@
-//! The steps of a path, one after the other, and the filters in them.
+//! Evaluation of the steps of a path, one after the other, and of the filters in them.
 
 ghost use Rattle.std.specs.Prelude.{◌≡◌, ◌<◌, ◌++◌, ◌∷◌, [], List, map, None, true, false, ⊤, IfErr, OnOk, MatchOption};
 ghost use Rattle.jsonb_doc.specs.Answer.{Gives, try_flat_map, IsOutOfMemory};
@@ -20,10 +20,9 @@ ghost use Rattle.jsonb.specs.declared.path.Path.{size-Path};
 ghost use Rattle.jsonb.specs.SelectionErrors.{IsSelectionError};
 
 use super::children::{push_field, push_if, push_step};
-use super::compared_items::{compared_items, member_compared};
 use super::compared_member::member_truth;
-use super::comparisons::joined_filter;
 use super::document::{Context, Current, Expressions, Mode, TruthResult};
+use super::evaluate::tested_filter;
 use super::exists::innermost;
 use super::kept::{Kept, KeptPart, comparison_part, exists_part, is_comparison, is_kept};
 use super::members::{
@@ -38,7 +37,7 @@ use crate::path::{Expr, Path};
 use jsonb_doc::{Error, Spot};
 use std::alloc::Global;
 
-/// One step of one item that is no filter. What gives one item at most needs no memory.
+/// Evaluates a step that is not a filter for one item. Does not allocate for at most one item.
 #[inline(never)]
 fn plain_step(
     alloc: Global,
@@ -61,7 +60,7 @@ fn plain_step(
     Ok(NodeList::Many(nodes))
 }
 
-/// One step that is no filter of each of many items, in order.
+/// Evaluates a step that is not a filter for each of many items, in order.
 fn plain_steps(
     alloc: Global,
     mode: Mode,
@@ -85,7 +84,7 @@ fn plain_steps(
     Ok(NodeList::Many(nodes))
 }
 
-/// The values under a name of each of many items, in order.
+/// Returns the values of a name in each of many items, in order.
 #[inline(never)]
 fn named_values(
     alloc: Global,
@@ -106,7 +105,7 @@ fn named_values(
     Ok(NodeList::Many(nodes))
 }
 
-/// The expression of a step that is a filter.
+/// Returns the expression of a step that is a filter.
 #[inline(always)]
 pub(crate) fn filter_of<'s, 'a>(
     expressions: Expressions,
@@ -123,7 +122,7 @@ pub(crate) fn filter_of<'s, 'a>(
     }
 }
 
-/// One step of one item. What gives one item at most needs no memory.
+/// Evaluates one step for one item. Does not allocate for at most one item.
 #[cycle(steps)]
 #[inline(always)]
 fn step_item<'a>(
@@ -152,7 +151,7 @@ fn step_item<'a>(
     }
 }
 
-/// One step of each item of a list, in order. `$` and `@` leave the list as it is.
+/// Evaluates one step for each item of a list, in order. `$` and `@` leave the list unchanged.
 #[cycle(steps)]
 #[inline(always)]
 pub(crate) fn step_list<'a>(
@@ -173,7 +172,7 @@ pub(crate) fn step_list<'a>(
     }
 }
 
-/// One step of each of many items, in order.
+/// Evaluates one step for each of many items, in order.
 #[cycle(steps)]
 #[inline(never)]
 fn step_many<'a>(
@@ -193,16 +192,13 @@ fn step_many<'a>(
     let Some(e) = filter_of(expressions, step) else {
         return plain_steps(alloc, mode, step, document.bytes, items);
     };
-    if let Some(comparison) = member_compared(e) {
-        return compared_items(alloc, mode, comparison, document.bytes, items);
-    }
-    match joined_filter(alloc, mode, e, document.bytes, items)? {
+    match tested_filter(alloc, mode, e, document.bytes, items)? {
         Some(nodes) => Ok(nodes),
         None => filter_many(context, e, items),
     }
 }
 
-/// The items of a list that any filter keeps, in order.
+/// Returns the items of a list that any filter selects, in order.
 #[cycle(steps)]
 #[inline(never)]
 fn filter_many<'a>(
@@ -227,7 +223,7 @@ fn filter_many<'a>(
     Ok(NodeList::Many(nodes))
 }
 
-/// An item that a filter keeps, behind the nodes that there are.
+/// Appends an item if a filter selects it.
 #[cycle(steps)]
 #[inline(always)]
 fn push_kept<'a>(
@@ -255,7 +251,7 @@ fn push_kept<'a>(
     push_if(keeps, current.item, nodes)
 }
 
-/// Several steps, one after the other, from one item.
+/// Evaluates several steps, one after the other, from one item.
 #[cycle(steps)]
 #[inline(never)]
 pub(crate) fn select_steps<'a>(
@@ -281,7 +277,7 @@ pub(crate) fn select_steps<'a>(
     Ok(items)
 }
 
-/// Whether an expression is true of an item.
+/// Returns whether an expression is true of an item.
 #[cycle(steps)]
 #[inline(never)]
 pub(crate) fn truth<'a>(current: Current<'_, 'a>, e: &'a Expr<'_>) -> TruthResult
@@ -293,7 +289,7 @@ pub(crate) fn truth<'a>(current: Current<'_, 'a>, e: &'a Expr<'_>) -> TruthResul
     truth_by_kept(current, e, &terms, &mut run)
 }
 
-/// The same with what is kept from the items before.
+/// Returns whether an expression is true of an item, with what is cached from the items before.
 #[cycle(steps)]
 #[inline(always)]
 fn truth_by_kept<'a>(
@@ -315,7 +311,7 @@ fn truth_by_kept<'a>(
     }
 }
 
-/// The same of an expression that joins others: its terms one after the other.
+/// Evaluates an expression that joins others for an item: its terms one after the other.
 #[cycle(steps)]
 #[inline(never)]
 fn joined_truth<'a>(
@@ -347,7 +343,7 @@ fn joined_truth<'a>(
     }
 }
 
-/// The same of an expression that joins no others.
+/// Evaluates an expression that joins no others for an item.
 #[cycle(steps)]
 #[inline(always)]
 fn single_truth<'a>(current: Current<'_, 'a>, e: &'a Expr<'_>, kept: &mut Kept<'a>) -> TruthResult
@@ -370,7 +366,7 @@ fn single_truth<'a>(current: Current<'_, 'a>, e: &'a Expr<'_>, kept: &mut Kept<'
     }
 }
 
-/// Whether a comparison or `exists` is true of an item. What is the same for each item is kept.
+/// Returns whether a comparison or `exists` is true of an item. What is the same for each item is cached.
 #[cycle(steps)]
 #[inline(always)]
 fn condition<'a>(current: Current<'_, 'a>, e: &'a Expr<'_>, kept: &mut Kept<'a>) -> TruthResult
@@ -390,7 +386,7 @@ fn condition<'a>(current: Current<'_, 'a>, e: &'a Expr<'_>, kept: &mut Kept<'a>)
     }
 }
 
-/// The same of the first item, whose part is kept.
+/// Evaluates a comparison or `exists` for the first item, and caches what is the same for each item.
 #[cycle(steps)]
 #[inline(never)]
 fn first_kept<'a>(current: Current<'_, 'a>, e: &'a Expr<'_>, kept: &mut Kept<'a>) -> TruthResult
@@ -405,7 +401,7 @@ fn first_kept<'a>(current: Current<'_, 'a>, e: &'a Expr<'_>, kept: &mut Kept<'a>
     Ok(truth)
 }
 
-/// Whether a comparison or `exists` is true of an item, with what is kept of it.
+/// Evaluates a comparison or `exists` for an item, with what is cached of it.
 #[cycle(steps)]
 #[inline(always)]
 fn later_truth<'a>(current: Current<'_, 'a>, e: &'a Expr<'_>, part: &KeptPart<'a>) -> TruthResult
@@ -423,7 +419,7 @@ fn later_truth<'a>(current: Current<'_, 'a>, e: &'a Expr<'_>, part: &KeptPart<'a
     }
 }
 
-/// The same by the lists of the operands' values.
+/// Evaluates a comparison or `exists` for an item, by the lists of the operands' values.
 #[cycle(steps)]
 #[inline(never)]
 fn later_values<'a>(current: Current<'_, 'a>, e: &'a Expr<'_>, part: &KeptPart<'a>) -> TruthResult
@@ -447,7 +443,7 @@ fn later_values<'a>(current: Current<'_, 'a>, e: &'a Expr<'_>, part: &KeptPart<'
     }
 }
 
-/// Whether a comparison or `exists` is true of an item, and what of it is the same for each item.
+/// Evaluates a comparison or `exists` for an item, and returns what is the same for each item with the result.
 #[cycle(steps)]
 #[inline(never)]
 fn first_truth<'a>(
@@ -475,7 +471,8 @@ fn first_truth<'a>(
     }
 }
 
-/// Whether an `exists` is true of an item. Filters by `exists` behind names are no calls, however many they are.
+/// Returns whether an `exists` is true of an item. Filters by `exists` after names are not recursive calls, however
+/// many there are.
 #[cycle(steps)]
 #[inline(never)]
 fn exists_truth<'a>(current: Current<'_, 'a>, e: &'a Expr<'_>) -> TruthResult
@@ -496,7 +493,7 @@ fn exists_truth<'a>(current: Current<'_, 'a>, e: &'a Expr<'_>) -> TruthResult
     }
 }
 
-/// Whether the steps of an `exists` lead to any item.
+/// Returns `true` if the steps of an `exists` select an item.
 #[cycle(steps)]
 #[inline(always)]
 fn leads_to_any<'a>(
@@ -520,7 +517,7 @@ fn leads_to_any<'a>(
     }
 }
 
-/// The values of an operand.
+/// Returns the values of an operand.
 #[cycle(steps)]
 #[inline(never)]
 pub(crate) fn operand_values<'a>(

@@ -1,4 +1,4 @@
-//! Expressions in the order in which they are executed: their conditions, and the operators that join them.
+//! Expressions in the order of their evaluation: their conditions, and the operators that join them.
 
 ghost use Rattle.std.specs.Prelude.{◌≡◌, ◌<◌, ◌+◌, ◌++◌, ◌∷◌, ℕ, [], true, false, if◌then◌else◌, IfOk, IfErr, OnOk, MatchOption, All};
 ghost use Rattle.jsonb_doc.specs.Answer.{Gives, IsOutOfMemory};
@@ -14,19 +14,19 @@ use crate::path::{BinaryOperator, Expr};
 use jsonb_doc::Error;
 use std::alloc::Global;
 
-/// An operator that joins two truths.
+/// An operator that joins two results.
 #[derive(Clone, Copy)]
 pub(crate) enum Join {
     And,
     Or,
 }
 
-/// What comes next where an expression is executed.
+/// What comes next in the evaluation of an expression.
 #[derive(Clone, Copy)]
 pub(crate) enum Term<'s, 'p> {
     /// An expression that joins no others.
     Condition(&'s Expr<'p>),
-    /// The last two truths become one.
+    /// The last two results become one.
     Join(Join),
 }
 
@@ -38,7 +38,7 @@ pub(crate) struct Pair<'s, 'p> {
     pub(crate) right: &'s Expr<'p>,
 }
 
-/// The operator as one that joins truths.
+/// Returns the operator as one that joins results.
 fn join_of(op: BinaryOperator) -> Option<Join>
     ensures { result ≡ join_of (operator_view op) }
 {
@@ -49,7 +49,7 @@ fn join_of(op: BinaryOperator) -> Option<Join>
     }
 }
 
-/// Whether an expression is two that `&&` or `||` joins.
+/// Returns `true` if `&&` or `||` joins two expressions in this one.
 #[inline(always)]
 pub(crate) fn is_joined(e: &Expr<'_>) -> bool
     ensures { result ≡ is_joined (expression_view e.now) }
@@ -60,7 +60,7 @@ pub(crate) fn is_joined(e: &Expr<'_>) -> bool
     }
 }
 
-/// The two expressions that one is.
+/// Returns the two expressions that an operator joins in this one.
 pub(crate) fn pair_of<'s, 'p>(e: &'s Expr<'p>) -> Option<Pair<'s, 'p>>
     ensures { MatchOption result (is_joined (expression_view e.now) ≡ false) (IsPairOf e.now) }
 {
@@ -73,7 +73,7 @@ pub(crate) fn pair_of<'s, 'p>(e: &'s Expr<'p>) -> Option<Pair<'s, 'p>>
     }
 }
 
-/// The terms of an expression, in the order in which they are executed; none of one that joins no others.
+/// Returns the terms of an expression in the order of their evaluation, and none if it joins no others.
 pub(crate) fn terms_of<'s, 'p>(alloc: Global, e: &'s Expr<'p>) -> Result<Vec<Term<'s, 'p>>, Error>
     ensures terms { IfOk result (λ v. is_joined (expression_view e.now) ≡ true → AreTermsOf e.now v.items) }
     ensures errors { IfErr result IsOutOfMemory }
@@ -85,7 +85,8 @@ pub(crate) fn terms_of<'s, 'p>(alloc: Global, e: &'s Expr<'p>) -> Result<Vec<Ter
     }
 }
 
-/// The same of one that joins others. They are found from the last to the first; what waits lies in a `Vec`.
+/// Returns the terms of an expression that joins others. They are found from the last to the first; what waits is in
+/// a `Vec`.
 #[inline(never)]
 fn joined_terms<'s, 'p>(alloc: Global, e: &'s Expr<'p>) -> Result<Vec<Term<'s, 'p>>, Error>
     requires { is_joined (expression_view e.now) ≡ true }
@@ -102,8 +103,8 @@ fn joined_terms<'s, 'p>(alloc: Global, e: &'s Expr<'p>) -> Result<Vec<Term<'s, '
     Ok(terms)
 }
 
-/// The last term of an expression, behind those that come after it. The two that it joins wait, the right one in
-/// front.
+/// Appends the last term of an expression, after those that follow it. The two that it joins wait, the right one
+/// first.
 fn push_term<'s, 'p>(
     e: &'s Expr<'p>,
     terms: &mut Vec<Term<'s, 'p>>,
@@ -128,14 +129,14 @@ fn push_term<'s, 'p>(
     Ok(())
 }
 
-/// The truths that no operator has joined yet, the last one last.
+/// The results that no operator has joined yet, the last one last.
 #[derive(Drop)]
 pub(crate) struct Truths {
     truths: Vec<Option<bool>>,
 }
 
 impl Truths {
-    /// It takes no memory.
+    /// Creates an empty value, without allocating.
     #[inline(always)]
     pub(crate) fn new(alloc: Global) -> Truths
         ensures { truths_view result ≡ [] }
@@ -159,7 +160,7 @@ impl Truths {
         Ok(())
     }
 
-    /// The last truth.
+    /// Removes and returns the last result.
     pub(crate) fn pop(&mut self) -> Option<Option<bool>>
         ensures { MatchOption result (truths_view self.old ≡ [])
             (λ truth. truths_view self.old ≡ truth ∷ truths_view self.new) }
@@ -167,7 +168,7 @@ impl Truths {
         self.truths.pop()
     }
 
-    /// One truth in place of the last two.
+    /// Replaces the last two results by one.
     pub(crate) fn join(&mut self, join: Join) -> Result<(), Error>
         ensures meant { Gives (λ _ ts. truths_view self.new ≡ ts) IsOutOfMemory result
             (joined join (truths_view self.old)) }
@@ -183,7 +184,7 @@ impl Truths {
     }
 }
 
-/// One truth of two.
+/// Returns the result of two results.
 #[inline(always)]
 pub(crate) fn joining(join: Join, left: Option<bool>, right: Option<bool>) -> Option<bool>
     ensures { result ≡ joining join left right }
@@ -194,7 +195,7 @@ pub(crate) fn joining(join: Join, left: Option<bool>, right: Option<bool>) -> Op
     }
 }
 
-/// What is kept while an expression is executed for one item after the other.
+/// What is cached while an expression is evaluated for one item after the other.
 #[derive(Drop)]
 pub(crate) struct Run<'a> {
     pub(crate) kept: Kept<'a>,
@@ -202,7 +203,7 @@ pub(crate) struct Run<'a> {
 }
 
 impl<'a> Run<'a> {
-    /// It takes no memory.
+    /// Creates an empty value, without allocating.
     #[inline(always)]
     pub(crate) fn new(alloc: Global, kept: Kept<'a>) -> Run<'a>
         ensures { result.kept ≡ kept.entry }

@@ -4,21 +4,20 @@ ghost use Rattle.std.specs.Prelude.{◌≡◌, ◌++◌, ◌∷◌, [], List, Ok
 ghost use Rattle.jsonb_doc.specs.Answer.{Gives, IsOutOfMemory, IsDecodingError, ◌or◌};
 ghost use Rattle.jsonb_doc.specs.declared.error.Error.TheVariants.{OutOfMemory};
 ghost use Rattle.jsonb_doc.specs.Spots.{Locates, HasSpotsLeft};
-ghost use Rattle.jsonb_doc.specs.Payload.{any};
-ghost use Rattle.jsonb_doc.specs.Item.{StandsFor};
+ghost use Rattle.jsonb_doc.specs.StoredValue.{IsStoredAs};
 ghost use Rattle.jsonb_doc.specs.Tree.{Tree};
 ghost use Rattle.std.specs.List.{AllZip};
 ghost use Rattle.jsonb.specs.Values.{values_of_item, value_of_item};
 ghost use Rattle.jsonb.specs.Private.Appends.{Appends};
 ghost use Rattle.jsonb.specs.Private.Selection.{node_spots, value_view, values_view};
 
-use super::children::array_elements;
+use super::children::elements;
 use super::node_list::NodeList;
 use super::operand_value::{OperandValue, OperandValues, value_of_item};
-use jsonb_doc::{Error, Item, Spot, SpotIter, spot_item};
+use jsonb_doc::{Error, Spot, SpotIter, StoredValue, spot_value};
 use std::alloc::Global;
 
-/// The values of items.
+/// Returns the values of items.
 #[inline(never)]
 pub(crate) fn found_values<'a>(
     alloc: Global,
@@ -35,7 +34,7 @@ pub(crate) fn found_values<'a>(
     }
 }
 
-/// The values of many items.
+/// Returns the values of many items.
 fn many_values<'a>(
     alloc: Global,
     bytes: &'a [u8],
@@ -52,28 +51,28 @@ fn many_values<'a>(
     Ok(OperandValues::Many(values))
 }
 
-/// The values of one item. One value alone needs no memory.
+/// Returns the values of one item. Does not allocate for a single value.
 #[inline(always)]
 fn item_values<'a>(alloc: Global, bytes: &'a [u8], item: Spot) -> Result<OperandValues<'a>, Error>
     ensures meant { (t : Tree) → Locates bytes.now item t
         → Gives (λ values vs. values_view values ≡ vs) IsOutOfMemory result (Ok (values_of_item t)) }
     ensures errors { IfErr result (IsDecodingError or OutOfMemory) }
 {
-    let found = spot_item(bytes, item)?;
-    match array_elements(bytes, item, &found)? {
+    match elements(bytes, item)? {
         Some(elements) => {
             let mut values = Vec::new(alloc);
             push_each(bytes, elements, &mut values)?;
             Ok(OperandValues::Many(values))
         }
         None => {
-            let value = value_of_item(found);
+            let stored = spot_value(bytes, item)?;
+            let value = value_of_item(stored);
             Ok(OperandValues::at_most_one(alloc, value))
         }
     }
 }
 
-/// The values of an item, behind those that there are: an array gives those of its elements.
+/// Appends the values of an item: of an array those of its elements.
 #[inline(always)]
 fn push_values<'a>(
     bytes: &'a [u8],
@@ -84,14 +83,13 @@ fn push_values<'a>(
         → Appends value_view values.old.items values.new.items result (Ok (values_of_item t)) }
     ensures errors { IfErr result (IsDecodingError or OutOfMemory) }
 {
-    let found = spot_item(bytes, item)?;
-    match array_elements(bytes, item, &found)? {
+    match elements(bytes, item)? {
         Some(elements) => push_each(bytes, elements, values),
-        None => push_item(found, values),
+        None => push_item(spot_value(bytes, item)?, values),
     }
 }
 
-/// The value of each element.
+/// Appends the value of each element.
 fn push_each<'a>(
     bytes: &'a [u8],
     elements: SpotIter<'_>,
@@ -102,25 +100,25 @@ fn push_each<'a>(
     ensures errors { IfErr result (IsDecodingError or OutOfMemory) }
 {
     for element in elements {
-        push_item(spot_item(bytes, element?)?, values)?;
+        push_item(spot_value(bytes, element?)?, values)?;
     }
     Ok(())
 }
 
-/// The value of an item that is no array, or of an element.
+/// Appends the value of an item that is not an array, or of an element.
 #[inline(always)]
-fn push_item<'a>(item: Item<'a>, values: &mut Vec<OperandValue<'a>>) -> Result<(), Error>
-    ensures meant { (t : Tree) → StandsFor any item.entry t
+fn push_item<'a>(stored: StoredValue<'a>, values: &mut Vec<OperandValue<'a>>) -> Result<(), Error>
+    ensures meant { (t : Tree) → IsStoredAs stored.entry t
         → Appends value_view values.old.items values.new.items result (Ok (value_of_item t)) }
     ensures errors { IfErr result (IsDecodingError or OutOfMemory) }
 {
-    match value_of_item(item) {
+    match value_of_item(stored) {
         Some(value) => push_operand_value(values, value),
         None => Ok(()),
     }
 }
 
-/// One more value.
+/// Appends a value.
 #[inline(always)]
 fn push_operand_value<'a>(
     values: &mut Vec<OperandValue<'a>>,

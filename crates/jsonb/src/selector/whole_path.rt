@@ -30,7 +30,7 @@ use super::steps::{operand_values, select_steps};
 use crate::path::{BinaryOperator, Expr, Path, PathValue, UnaryOperator};
 use jsonb_doc::{Error, Item, Number, root_item};
 
-/// What a path selects.
+/// Returns what a path selects.
 pub(crate) fn selection<'a>(
     context: &Context<'a>,
     steps: &'a [Path<'_>],
@@ -49,7 +49,7 @@ pub(crate) fn selection<'a>(
     Ok(Selected::Nodes(spots))
 }
 
-/// What a path selects, for a caller who asks for the first item alone: in lax mode others may be left out.
+/// Returns what a path selects, for a caller that needs only the first item: in lax mode others may be left out.
 pub(crate) fn first_selection<'a>(
     context: &Context<'a>,
     steps: &'a [Path<'_>],
@@ -67,7 +67,7 @@ pub(crate) fn first_selection<'a>(
     }
 }
 
-/// The expression that is the whole path.
+/// Returns the expression that is the whole path.
 pub(crate) fn only_expression<'s, 'a>(steps: &'s [Path<'a>]) -> Option<&'s Expr<'a>>
     ensures { MatchOption result (only_expression (steps_view steps.now) ≡ None)
         (λ e. only_expression (steps_view steps.now) ≡ Some (expression_view e.now)) }
@@ -79,7 +79,7 @@ pub(crate) fn only_expression<'s, 'a>(steps: &'s [Path<'a>]) -> Option<&'s Expr<
     }
 }
 
-/// The expression of a step.
+/// Returns the expression of a step.
 fn step_expression<'s, 'a>(step: &'s Path<'a>) -> Option<&'s Expr<'a>>
     ensures { MatchOption result (step_expression (step_view step.now) ≡ None)
         (λ e. step_expression (step_view step.now) ≡ Some (expression_view e.now)) }
@@ -90,7 +90,7 @@ fn step_expression<'s, 'a>(step: &'s Path<'a>) -> Option<&'s Expr<'a>>
     }
 }
 
-/// What an expression makes that is the whole path.
+/// Returns the result of an expression that is the whole path.
 fn expression_selection<'a>(context: &Context<'a>, e: &'a Expr<'_>) -> Result<Selected<'a>, Error>
     ensures meant { GivesMeant AreSelected context.now.document context.now.mode
         (whole_expression (expression_view e.now) ∷ []) result }
@@ -115,7 +115,7 @@ fn expression_selection<'a>(context: &Context<'a>, e: &'a Expr<'_>) -> Result<Se
     }
 }
 
-/// A literal as the whole path: an array of it, and of a document the document.
+/// Returns the result of a literal that is the whole path: an array of it, and of a document the document.
 fn literal_selection<'a>(literal: &'a PathValue<'_>) -> Result<Selected<'a>, Error>
     ensures meant { (form : Form) (document : Document) (mode : Mode) (top : Tree) (outcome : Outcome (List Tree))
         → Means form mode (whole_expression (value (literal_view literal.now)) ∷ []) top outcome
@@ -134,7 +134,7 @@ fn literal_selection<'a>(literal: &'a PathValue<'_>) -> Result<Selected<'a>, Err
     }
 }
 
-/// The signed numbers of an operand.
+/// Returns the signed numbers of an operand.
 fn whole_unary<'a>(
     context: &Context<'a>,
     op: UnaryOperator,
@@ -165,7 +165,7 @@ fn whole_unary<'a>(
     }
 }
 
-/// The number of two operands, the values of both taken first.
+/// Returns the number of two operands. The values of both are taken first.
 fn whole_binary<'a>(
     context: &Context<'a>,
     op: BinaryOperator,
@@ -184,7 +184,7 @@ fn whole_binary<'a>(
     binary_number(op, lefts.as_slice(), rights.as_slice())
 }
 
-/// A comparison, `&&`, `||` or `exists`: its truth.
+/// Returns the Boolean of a comparison, `&&`, `||` or `exists`, or null if it is unknown.
 fn whole_truth<'a>(context: &Context<'a>, e: &'a Expr<'_>) -> Result<Selected<'a>, Error>
     ensures meant { (form : Form) (top : Tree) → HasTree context.now.document top
         → Gives (AreSelected form context.now.document) IsOutOfMemory result
@@ -195,7 +195,7 @@ fn whole_truth<'a>(context: &Context<'a>, e: &'a Expr<'_>) -> Result<Selected<'a
     Ok(one_item(MadeItem::Item(truth_item(truth))))
 }
 
-/// A truth as an item: unknown is null.
+/// Returns a three-valued result as an item: unknown is null.
 fn truth_item<'a>(truth: Option<bool>) -> Item<'a>
     ensures { (form : Form) → IsMadeItem form (made_item.Item result) (truth_item truth) }
 {
@@ -212,7 +212,7 @@ fn one_item<'a>(part: MadeItem<'a>) -> Selected<'a>
     Selected::Made(part)
 }
 
-/// What an expression says as a predicate.
+/// Returns the result of an expression as a predicate.
 pub(crate) fn expression_truth<'a>(context: &Context<'a>, e: &'a Expr<'_>) -> TruthResult
     ensures meant { (top : Tree) → HasTree context.now.document top
         → Gives (λ b c. b ≡ c) IsOutOfMemory result

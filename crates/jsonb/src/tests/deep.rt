@@ -22,7 +22,7 @@ enum Nesting {
     FiltersAndMore,
 }
 
-/// What stands innermost.
+/// The innermost expression.
 #[derive(Clone, Copy, Debug)]
 enum Innermost {
     True,
@@ -58,19 +58,19 @@ fn sign(alloc: Global, operand: Expr<'static>) -> Result<Expr<'static>, AllocErr
     })
 }
 
-// A number behind an expression.
+// A number after an expression.
 fn before_number(alloc: Global, left: Expr<'static>, n: u32) -> Result<Expr<'static>, AllocError> {
     let right = number(alloc, n)?;
     pair(alloc, left, right)
 }
 
-// `true` in front of an expression.
+// `true` before an expression.
 fn behind_truth(alloc: Global, right: Expr<'static>) -> Result<Expr<'static>, AllocError> {
     let left = truth(alloc)?;
     pair(alloc, left, right)
 }
 
-// `true` behind an expression.
+// `true` after an expression.
 fn before_truth(alloc: Global, left: Expr<'static>) -> Result<Expr<'static>, AllocError> {
     let right = truth(alloc)?;
     pair(alloc, left, right)
@@ -120,7 +120,7 @@ fn inner_expression(alloc: Global, inner: Innermost) -> Result<Expr<'static>, Al
     }
 }
 
-/// How an expression is nested, and what stands innermost.
+/// How an expression is nested, and its innermost one.
 type Nested = (Nesting, Innermost);
 
 // An expression of all levels.
@@ -189,7 +189,7 @@ fn deep_expressions_are_let_go(rt: HostRuntime) -> Result<(), Fail> {
     Ok(())
 }
 
-// Whether an expression, a copy of it and one of its own are nested so, the last two when the first is let go.
+// Whether an expression, its copy and its owned copy are nested so, the copies after the first is dropped.
 fn are_nested(alloc: Global, nesting: Nesting) -> Result<bool, Error> {
     let whole = nested(alloc, (nesting, Innermost::True))?;
     let is_whole = is_nested(nesting, &whole);
@@ -274,7 +274,7 @@ fn printed(alloc: Global, expression: Nested) -> Result<String, AllocError> {
     format!(in alloc; "{expression}")
 }
 
-/// Expressions, and what they print: what stands before the middle at each level, the middle, and what stands behind.
+/// Expressions, and what they print: what precedes the middle at each level, the middle, and what follows it.
 static PRINTED: [(Nested, &str, &str, &str); 2] = rows! {
     (Nesting::RightSides, Innermost::TrueAndTrue), "true && (", "true && true", ")";
     FILTERS, "exists(@?(", "true", "))";

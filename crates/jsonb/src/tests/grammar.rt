@@ -1,4 +1,4 @@
-//! Texts, and what they print or that they are refused.
+//! Inputs, and what they print or that they do not parse.
 
 use crate::{Expr, JsonPath, Path, PathValue, parse_json_path};
 use jsonb_doc::{Error, Number};
@@ -31,14 +31,14 @@ fn prints_as(alloc: Global, text: &[u8], wanted: &str) -> Result<bool, Error> {
     Ok(is_printed && reads_back && equals_its_copy(alloc, text)?)
 }
 
-// Whether both texts read as the same path.
+// Whether both inputs parse as the same path.
 fn are_same(alloc: Global, one: &[u8], other: &[u8]) -> Result<bool, Error> {
     let one = parse_json_path(alloc, one)?;
     let other = parse_json_path(alloc, other)?;
     Ok(one == other)
 }
 
-/// A refused text on each line.
+/// An input that does not parse on each line.
 const REFUSED: &str = r#"
 $["a
 $[""]
@@ -69,8 +69,8 @@ fn refuses(rt: HostRuntime) {
     assert!(rt; is_refused(rt.alloc(), b"$.\xff"));
 }
 
-/// A line for each text: the text, an arrow between spaces, and what is printed. Then texts of names, and those where
-/// the grammar leaves room: names take `&`, numbers take zeros in front, and a word alone is a name.
+/// A line for each input: the input, an arrow between spaces, and what is printed. Then inputs of names, and those
+/// that the grammar might have rejected: names with `&`, numbers with leading zeros, and a word alone as a name.
 const PRINTED: &str = r#"
 k1.k2:k3 => .k1.k2:k3
 $.store.book[0,1, last - 2].price => $.store.book[0, 1, last-2].price
@@ -103,7 +103,7 @@ null => .null
 (1 + 1) => 1 + 1
 (-$) => -$"#;
 
-/// Texts that no such line holds.
+/// Inputs that no such line holds.
 static PRINTED_WITH_ESCAPES: [(&str, &str); 3] = rows! {
     "", "";
     "$.a\n", "$.\"a\n\"";
@@ -140,7 +140,7 @@ fn parentheses_leave_nothing_behind(rt: HostRuntime) -> Result<(), Fail> {
     Ok(())
 }
 
-/// Texts, and whether the last name of the path of each borrows.
+/// Inputs, and whether the last name of the path of each is borrowed.
 static BORROWED: [(&str, bool); 6] = rows! {
     "$.a", true;
     "a", true;
@@ -189,7 +189,7 @@ fn is_signed_five(path: &JsonPath<'_>) -> bool {
     }
 }
 
-// A literal that is no negative number has the variant `UInt64`, but with a sign `Int64`.
+// A literal that is not negative has the variant `UInt64`, but with a sign `Int64`.
 #[test]
 fn a_sign_makes_another_variant(rt: HostRuntime) -> Result<(), Fail> {
     let found = parse_json_path(rt.alloc(), b"+ +5")?;

@@ -10,14 +10,14 @@ const TENS: &[u8] = b"\x80\0\0\x03\x20\0\0\x02\x20\0\0\x02\x20\0\0\x02\x50\x0a\x
 /// `[1]`
 const ONE: &[u8] = b"\x80\0\0\x01\x20\0\0\x02\x50\x01";
 
-/// The first item of a path that is parsed here.
+/// Returns the first item of a path that is parsed here.
 fn first(alloc: Global, document: &[u8], text: &[u8]) -> Result<Option<OwnedJsonb>, Error> {
     let path = parse_json_path(alloc, text)?;
     let mut selector = Selector::new(alloc, RawJsonb::new(document));
     selector.select_first(&path)
 }
 
-/// Whether both paths select something: one selector, two paths in two locals.
+/// Returns `true` if both paths select an item: one selector, two paths in two locals.
 fn have_both(alloc: Global, document: &[u8], one: &[u8], other: &[u8]) -> Result<bool, Error> {
     let one = parse_json_path(alloc, one)?;
     let other = parse_json_path(alloc, other)?;
@@ -27,7 +27,7 @@ fn have_both(alloc: Global, document: &[u8], one: &[u8], other: &[u8]) -> Result
     Ok(has_one && has_other)
 }
 
-/// In how many of the documents the path selects something.
+/// Returns the number of documents of which the path selects an item.
 fn count(alloc: Global, documents: &[&[u8]], text: &[u8]) -> Result<usize, Error> {
     let path = parse_json_path(alloc, text)?;
     let mut found: usize = 0;
@@ -73,7 +73,7 @@ impl OwnedRule {
     }
 }
 
-/// A document that keeps its selector and is asked by texts.
+/// A document that keeps its selector and takes the text of paths.
 #[derive(Drop)]
 struct Asked<'a> {
     selector: Selector<'a>,

@@ -45,7 +45,8 @@ fn positions(rt: HostRuntime) -> Result<(), Fail> {
     Ok(())
 }
 
-/// Where a range of levels starts and ends, a level, whether its item is taken, and whether its children are looked at.
+/// The start and end of a range of levels, a level, whether its item is selected, and whether its children are
+/// visited.
 static LEVELS: [(u8, RecursiveLevelEnd, u8, (bool, bool)); 4] = rows! {
     3, RecursiveLevelEnd::Index(2), 1, (false, false);
     3, RecursiveLevelEnd::Index(2), 3, (false, false);
@@ -165,7 +166,7 @@ fn parts_are_copied(rt: HostRuntime) -> Result<(), Fail> {
     Ok(())
 }
 
-/// Texts, and whether the path of each is an expression alone.
+/// Inputs, and whether the path of each is a single expression.
 static PREDICATES: [(&str, bool); 4] = [
     ("1 == -1", true),
     ("-5", true),

@@ -1,4 +1,4 @@
-//! What paths select. Rows name documents by their JSON texts.
+//! What paths select. Rows name documents by their JSON text.
 
 mod by_hand;
 mod calls;
@@ -11,14 +11,14 @@ use crate::{Error, JsonPath, OwnedJsonb, RawJsonb, Selector, parse_json_path};
 use std::alloc::Global;
 use std::test::Fail;
 
-/// A row: a document, a path and what is answered, which stands behind an arrow.
+/// Returns the parts of a row: a document, a path and, after an arrow, the result.
 fn cut(row: &str) -> Result<(&str, &str, &str), Fail> {
     let (document, rest) = row.split_once(' ').ok_or("a row without a path")?;
     let (path, answer) = rest.split_once(" =>").ok_or("a row without an answer")?;
     Ok((document, path, answer.trim_start()))
 }
 
-/// The names of the documents, with a space between two, or the error's name.
+/// Returns the names of the documents, with a space between two, or the error's name.
 fn shown(alloc: Global, answer: Result<Vec<OwnedJsonb>, Error>) -> Result<String, Fail> {
     let documents = match answer {
         Ok(documents) => documents,
@@ -34,7 +34,7 @@ fn shown(alloc: Global, answer: Result<Vec<OwnedJsonb>, Error>) -> Result<String
     Ok(text)
 }
 
-/// What the path selects of the document in a lax selector.
+/// Returns what the path selects of the document in lax mode.
 fn selected(alloc: Global, path: &str, document: &str) -> Result<String, Fail> {
     let document = bytes_of(alloc, document)?;
     let path = parse_json_path(alloc, path.as_bytes())?;
@@ -42,7 +42,7 @@ fn selected(alloc: Global, path: &str, document: &str) -> Result<String, Fail> {
     shown(alloc, selector.select_values(&path))
 }
 
-/// What the path selects of the document in a strict selector.
+/// Returns what the path selects of the document in strict mode.
 fn selected_strictly(alloc: Global, path: &str, document: &str) -> Result<String, Fail> {
     let document = bytes_of(alloc, document)?;
     let path = parse_json_path(alloc, path.as_bytes())?;

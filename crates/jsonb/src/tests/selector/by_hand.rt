@@ -15,32 +15,32 @@ enum Made {
     ExpressionWithinPath,
 }
 
-/// A literal in a box.
+/// Returns a literal in a box.
 fn literal<'a>(alloc: Global, value: PathValue<'a>) -> Result<Box<Expr<'a>>, AllocError> {
     let value = Box::new(alloc, value)?;
     Ok(Box::new(alloc, Expr::Value(value))?)
 }
 
-/// The literal 1.
+/// Returns the literal 1.
 fn one<'a>(alloc: Global) -> Result<Box<Expr<'a>>, AllocError> {
     literal(alloc, PathValue::Number(Number::UInt64(1)))
 }
 
-/// `$` as an expression.
+/// Returns `$` as an expression.
 fn path_as_expression(alloc: Global) -> Result<Vec<Path<'static>>, AllocError> {
     let root = vec![in alloc; Path::Root]?;
     let expression = Box::new(alloc, Expr::Paths(root))?;
     Ok(vec![in alloc; Path::Expr(expression)]?)
 }
 
-/// `$`, and `exists(@)` as no filter.
+/// Returns `$`, and `exists(@)` that is not a filter.
 fn expression_among_steps(alloc: Global) -> Result<Vec<Path<'static>>, AllocError> {
     let item = vec![in alloc; Path::Current]?;
     let expression = Box::new(alloc, Expr::ExistsFunc(item))?;
     Ok(vec![in alloc; Path::Root, Path::Expr(expression)]?)
 }
 
-/// `$?(+1 == 1)`
+/// Returns `$?(+1 == 1)`.
 fn signed_operand(alloc: Global) -> Result<Vec<Path<'static>>, AllocError> {
     let signed = Expr::UnaryOp {
         op: UnaryOperator::Add,
@@ -55,7 +55,7 @@ fn signed_operand(alloc: Global) -> Result<Vec<Path<'static>>, AllocError> {
     Ok(vec![in alloc; Path::Root, Path::FilterExpr(filter)]?)
 }
 
-/// `[*]?(exists(@ null))`
+/// Returns `[*]?(exists(@ null))`.
 fn expression_within_path(alloc: Global) -> Result<Vec<Path<'static>>, AllocError> {
     let null = literal(alloc, PathValue::Null)?;
     let inner = vec![in alloc; Path::Current, Path::Expr(null)]?;
@@ -74,7 +74,7 @@ fn steps(alloc: Global, made: Made) -> Result<Vec<Path<'static>>, AllocError> {
     }
 }
 
-/// What a path of these steps selects of a document.
+/// Returns what a path of these steps selects of a document.
 fn selected_by(alloc: Global, paths: Vec<Path<'_>>, document: &str) -> Result<String, Fail> {
     let document = bytes_of(alloc, document)?;
     let path = JsonPath { paths };

@@ -1,9 +1,9 @@
-//! The calls beside `select_values`, and a selector that is used again.
+//! The calls other than `select_values`, and a selector that is used again.
 
 use super::*;
 use crate::SelectByPath;
 
-/// A document's name, or `none`, or the error's name.
+/// Returns a document's name, or `none`, or the error's name.
 fn shown_option(alloc: Global, answer: Result<Option<OwnedJsonb>, Error>) -> Result<String, Fail> {
     match answer {
         Ok(Some(document)) => name_of(alloc, document.as_raw().as_bytes()),
@@ -12,7 +12,7 @@ fn shown_option(alloc: Global, answer: Result<Option<OwnedJsonb>, Error>) -> Res
     }
 }
 
-/// What the six calls answer for a path.
+/// Returns the results of the six calls for a path.
 fn answers_in<'a>(
     alloc: Global,
     document: &'a [u8],
@@ -28,7 +28,7 @@ fn answers_in<'a>(
     Ok(format!(in alloc; "{list};{array};{first};{value};{exists:?};{truth:?}")?)
 }
 
-/// What the six calls on the document itself answer.
+/// Returns the results of the six calls on the document itself.
 fn answers_by_path<'a>(
     alloc: Global,
     document: &'a [u8],
@@ -44,18 +44,20 @@ fn answers_by_path<'a>(
     Ok(format!(in alloc; "{list};{array};{first};{value};{exists:?};{truth:?}")?)
 }
 
-/// Behind the arrow the list, its array, its first item, its value, whether it has an item, and its truth.
+/// After the arrow, the list, its array, its first item, its value, whether it has an item, and the result as a
+/// predicate.
 const ANSWERS: &str = r#"
 [10,20,30] $[last, 0] => 30 10;[30,10];30;[30,10];Ok(true);Ok(None)
 [1] $[*] => 1;[1];1;1;Ok(true);Ok(None)
 [10,20,30] $[*] => 10 20 30;[10,20,30];10;[10,20,30];Ok(true);Ok(None)
 [] $[*] => ;[];none;none;Ok(false);Ok(None)
+[10,20,30] $[*]?(@ == 10 && @ == 20 || 5 < @) => 10 20 30;[10,20,30];10;[10,20,30];Ok(true);Ok(None)
 [1] 1 == -1 => false;[false];false;false;Ok(true);Ok(Some(false))
 [10,20,30] $[*] > 25 => true;[true];true;true;Ok(true);Ok(Some(true))
 [1,"a"] $[0] == 1 || $[1] == 1 => null;[null];null;null;Ok(true);Ok(None)
 [1] $.a => ;[];none;none;Ok(false);Ok(None)"#;
 
-/// Whether the calls of a selector answer so, and those on the document itself.
+/// Returns `true` if the calls of a selector, and those on the document itself, have this result.
 fn all_answer(alloc: Global, document: &str, path: &str, wanted: &str) -> Result<bool, Fail> {
     let document = bytes_of(alloc, document)?;
     let path = parse_json_path(alloc, path.as_bytes())?;
@@ -73,7 +75,7 @@ fn each_call_answers_by_the_same_list(rt: HostRuntime) -> Result<(), Fail> {
     Ok(())
 }
 
-/// What `select_first` and `exists` answer.
+/// Returns the results of `select_first` and `exists`.
 fn first_in(alloc: Global, mut selector: Selector<'_>, path: &str) -> Result<String, Fail> {
     let path = parse_json_path(alloc, path.as_bytes())?;
     let first = shown_option(alloc, selector.select_first(&path))?;
@@ -81,7 +83,7 @@ fn first_in(alloc: Global, mut selector: Selector<'_>, path: &str) -> Result<Str
     Ok(format!(in alloc; "{first};{exists:?}")?)
 }
 
-/// Behind the arrow the first item wherever it stands, and whether there is one. A refusal behind it is the answer.
+/// After the arrow, the first item at any position, and whether there is one. An error after it is the result.
 const FIRST: &str = r#"
 [5,{"b":2},{"a":1},{"a":[1]}] $[*].a => 1;Ok(true)
 [{"a":1},5] $[*].a => 1;Ok(true)
@@ -98,7 +100,7 @@ const FIRST: &str = r#"
 [1,18446744073709551615] -$[*] => Arithmetic(Overflow);Err(Arithmetic(Overflow))
 [{"a":1},{"b":2}] $[*]?(@.a == 1 || exists(@.b?(-@))) => InvalidJsonPath;Err(InvalidJsonPath)"#;
 
-/// The first item in a lax selector.
+/// Returns the first item in lax mode.
 fn first_of(alloc: Global, document: &str, path: &str) -> Result<String, Fail> {
     let document = bytes_of(alloc, document)?;
     first_in(alloc, Selector::new(alloc, RawJsonb::new(&document)), path)
@@ -123,7 +125,7 @@ fn a_strict_refusal_behind_the_first_is_the_answer(rt: HostRuntime) -> Result<()
     Ok(())
 }
 
-/// What a selector that is used again answers to a path's text.
+/// Returns the result of a selector that is used again, for a path.
 fn next_answer(alloc: Global, selector: &mut Selector<'_>, path: &str) -> Result<String, Fail> {
     let path = parse_json_path(alloc, path.as_bytes())?;
     shown(alloc, selector.select_values(&path))

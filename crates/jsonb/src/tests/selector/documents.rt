@@ -28,6 +28,21 @@ true 20000000 40000000
 1.5 20000000 20000009 603ff8000000000000
 "a" 20000000 10000001 61
 "v" 20000000 10000001 76
+"b" 20000000 10000001 62
+"я" 20000000 10000002 d18f
+"яя" 20000000 10000004 d18fd18f
+"ю" 20000000 10000002 d18e
+["я"] 80000001 10000002 d18f
+["ю","яя"] 80000002 10000002 10000004 d18e d18fd18f
+["яя","я"] 80000002 10000004 10000002 d18fd18f d18f
+["я","яя",5] 80000003 10000002 10000004 20000002 d18f d18fd18f 5005
+["я","ю","яя"] 80000003 10000002 10000002 10000004 d18f d18e d18fd18f
+["я","яя","ю"] 80000003 10000002 10000004 10000002 d18f d18fd18f d18e
+["b","я","abc"] 80000003 10000001 10000002 10000003 62 d18f 616263
+[[],"я"] 80000002 50000004 10000002 80000000 d18f
+[{},"я"] 80000002 50000004 10000002 40000000 d18f
+[["ю","я"]] 80000001 50000010 800000021000000210000002d18ed18f
+[["ю",5]] 80000001 50000010 800000021000000220000002d18e5005
 [] 80000000
 [1] 80000001 20000002 5001
 [null] 80000001 00000000
@@ -54,7 +69,7 @@ true 20000000 40000000
 [{"a":[]},{"a":[[],1]}] 80000002 50000011 5000001f 40000001 10000001 50000004 61 80000000 40000001 10000001 50000012 61 80000002 50000004 20000002 80000000 5001
 FRED 40000002 10000004 10000006 10000004 5000005a 6e616d65 70686f6e6573 46726564 80000002 50000027 50000027 40000002 10000006 10000004 20000005 10000004 6e756d626572 74797065 500038c505 686f6d65 40000002 10000006 10000004 20000005 10000004 6e756d626572 74797065 50004d3da3 776f726b"#;
 
-/// The bytes of a text of digits with spaces in between.
+/// Returns the bytes of digits with spaces between them.
 fn decoded(alloc: Global, digits: &str) -> Result<Vec<u8>, Fail> {
     let mut packed = String::new(alloc);
     for part in digits.split_ascii_whitespace() {
@@ -63,7 +78,7 @@ fn decoded(alloc: Global, digits: &str) -> Result<Vec<u8>, Fail> {
     Ok(hex::decode(alloc, packed.as_str())?)
 }
 
-/// The bytes of a document of that name.
+/// Returns the bytes of a document of that name.
 pub fn bytes_of(alloc: Global, name: &str) -> Result<Vec<u8>, Fail> {
     for line in DOCUMENTS.lines().skip(1) {
         let (listed, digits) = line.split_once(' ').ok_or("a document without bytes")?;
@@ -74,7 +89,7 @@ pub fn bytes_of(alloc: Global, name: &str) -> Result<Vec<u8>, Fail> {
     Err(format!(in alloc; "no document {name}")?)?
 }
 
-/// The name of the document that has these bytes, or the bytes in hexadecimal where none has them.
+/// Returns the name of the document that has these bytes, or the bytes in hexadecimal if none has them.
 pub fn name_of(alloc: Global, bytes: &[u8]) -> Result<String, Fail> {
     let found = hex::encode(alloc, bytes)?;
     for line in DOCUMENTS.lines().skip(1) {
@@ -86,7 +101,7 @@ pub fn name_of(alloc: Global, bytes: &[u8]) -> Result<String, Fail> {
     Ok(found)
 }
 
-/// Whether digits with spaces in between are these digits.
+/// Returns `true` if digits with spaces between them are these digits.
 fn is_same(spaced: &str, digits: &str) -> bool {
     let packed = spaced.bytes().filter(|byte| *byte != b' ');
     packed.eq(digits.bytes())

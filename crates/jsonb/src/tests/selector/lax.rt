@@ -13,7 +13,7 @@ const INDICES: &str = r#"
 [10,20,30] $[-2147483648 to 2147483647] => 10 20 30
 [10,20,30] $[last - 2147483647 to last] => 10 20 30"#;
 
-/// The steps beside entries.
+/// The steps other than subscripts.
 const STEPS: &str = r#"
 [1]  => [1]
 {"a":null,"b":[null]} $.* => null [null]
@@ -32,9 +32,34 @@ const FILTERS: &str = r#"
 {"a":null,"b":[null]} $.b[*]?(@ == null) => null
 [1,"a"] $?(@ == 1) => [1,"a"]
 ["a",1] $?(@ == 1) =>
+[10,20,30] $[*]?(20 <= @) => 20 30
+[10,20,30] $[*]?(15 < @ && @ < 25 || @ == 30) => 20 30
+[10,20,30] $[*]?(@ == 10 && (@ == 20 || @ == 10)) => 10
+[10,20,30] $[*]?(@ == 10 || @ + 1) =>
+[1,"a"] $[*]?("a" starts with @) => "a"
+[false,10,{"k":"v"}] $[*]?(exists(@.k) && @.k == "v" || @ == 10) => 10
+[{"a":1},{"b":2}] $[*]?(exists(@.b) && 1 < @.b || @.a >= 1).* => 1 2
+FRED $.phones[*]?(@.number == @.number && "home" == @.type) => {"number":3720453,"type":"home"}
+FRED $.phones[*]?(@.number == @.type) =>
+FRED $.phones[*]?(@.code == @.type || 4000000 > @.number) => {"number":3720453,"type":"home"}
+FRED $.phones[*]?(@.type == "home" || exists(@.code) || @.type > 5) =>
 [] $[*]?(-@.a) =>
 [1] $[*]?(-@.a) => InvalidJsonPath
 FRED $.phones[*]?(@.number == 3720453) => {"number":3720453,"type":"home"}"#;
+
+/// Strings are compared by their bytes.
+const STRINGS: &str = r#"
+["я","яя",5] $[*]?(@ == "я") => "я"
+["я","ю","яя"] $[*]?(@ != "я") => "ю" "яя"
+["я","яя","ю"] $[*]?(@ starts with "я") => "я" "яя"
+["b","я","abc"] $[*]?(@ > "abd") => "b" "я"
+["яя","я"] $[*]?(@ <= "я") => "я"
+["я"] $ == "я" => true
+["ю","яя"] $ == "я" => false
+[[],"я"] $[*] == "я" => true
+[{},"я"] $[*] == "я" => null
+[["ю","я"]] $[*] starts with "я" => true
+[["ю",5]] $[*] starts with "я" => null"#;
 
 /// An expression alone makes its truth.
 const TRUTHS: &str = r#"
@@ -61,7 +86,7 @@ const NUMBERS: &str = r#"
 -9223372036854775808 -$ => 9223372036854775808
 12.34 +$ => 12.34"#;
 
-/// Arithmetic that is refused.
+/// Arithmetic that fails.
 const REFUSED: &str = r#"
 [18446744073709551615] -$[*] => Arithmetic(Overflow)
 4294967296 $ * $ => Arithmetic(Overflow)
@@ -71,7 +96,7 @@ const REFUSED: &str = r#"
 [10,20,30] $[*] + 1 => InvalidJsonPath
 1.5 +$ => UnsupportedNumber"#;
 
-/// Asserts that each path of the rows selects what stands there.
+/// Asserts that each path of the rows selects the items in its row.
 fn assert_selected(rt: &impl Abort, alloc: Global, rows: &str) -> Result<(), Fail> {
     for row in rows.lines().skip(1) {
         let (document, path, wanted) = cut(row)?;
@@ -85,7 +110,8 @@ fn assert_selected(rt: &impl Abort, alloc: Global, rows: &str) -> Result<(), Fai
 fn steps_and_filters_select_items(rt: HostRuntime) -> Result<(), Fail> {
     assert_selected(&rt, rt.alloc(), INDICES)?;
     assert_selected(&rt, rt.alloc(), STEPS)?;
-    assert_selected(&rt, rt.alloc(), FILTERS)
+    assert_selected(&rt, rt.alloc(), FILTERS)?;
+    assert_selected(&rt, rt.alloc(), STRINGS)
 }
 
 #[test]
@@ -110,7 +136,7 @@ fn a_name_takes_a_line_end(rt: HostRuntime) -> Result<(), Fail> {
     Ok(())
 }
 
-/// So many arrays, each in the one before, and the last one empty.
+/// Returns that many arrays, each in the one before, and the last one empty.
 fn nested_arrays(alloc: Global, depth: u32) -> Result<Vec<u8>, Fail> {
     let mut bytes = Vec::new(alloc);
     for left in (1..depth.min(100_000)).rev() {
@@ -121,7 +147,7 @@ fn nested_arrays(alloc: Global, depth: u32) -> Result<Vec<u8>, Fail> {
     Ok(bytes)
 }
 
-/// How many items of the document the path selects.
+/// Returns the number of items that the path selects of the document.
 fn count(alloc: Global, document: &[u8], path: &str) -> Result<usize, Error> {
     let path = parse_json_path(alloc, path.as_bytes())?;
     let found = Selector::new(alloc, RawJsonb::new(document)).select_values(&path)?;
@@ -136,7 +162,7 @@ fn levels_are_counted_past_255(rt: HostRuntime) -> Result<(), Fail> {
     Ok(())
 }
 
-/// Whether the path selects something of the document.
+/// Returns `true` if the path selects an item of the document.
 fn is_there(alloc: Global, document: &[u8], path: &str) -> Result<bool, Error> {
     let path = parse_json_path(alloc, path.as_bytes())?;
     Selector::new(alloc, RawJsonb::new(document)).exists(&path)

@@ -1,8 +1,8 @@
-//! Paths in a strict selector, each beside a lax one.
+//! Paths in a strict selector, each compared with a lax one.
 
 use super::*;
 
-/// Behind the arrow what a strict selector answers, a semicolon, and what a lax one does.
+/// After the arrow, the result of a strict selector, a semicolon, and that of a lax one.
 const ROWS: &str = r#"
 {"a":null,"b":[null]} $.a => null;null
 {"a":null,"b":[null]} $.c => StrictPath;
@@ -30,6 +30,8 @@ FRED $.phones[*]?(@.number < 4000000 || @.type == "fax") => {"number":3720453,"t
 FRED $.phones[*]?(@.type == "fax" && @.code == 1) => StrictPath;
 FRED $.phones[*]?(@.code == 1 || @.type == "home") => StrictPath;{"number":3720453,"type":"home"}
 FRED $.phones[*]?(@.number > 5 || @ == 1) => ;
+FRED $.phones[*]?("fax" == @.type && exists(@.code)) => StrictPath;
+FRED $.phones[*]?(@.number == @.code || 4000000 > @.number) => StrictPath;{"number":3720453,"type":"home"}
 FRED $.phones[*]?(@.type == "work" && @.number < 5 || @.number == 3720453) => {"number":3720453,"type":"home"};{"number":3720453,"type":"home"}
 [false,10,{"k":"v"}] $[*]?(@.k == 1 && exists($?(-@.a))) => StrictPath;InvalidJsonPath
 [false,10,{"k":"v"}] $[*]?(exists($?(-@.a)) && @.k == 1) => InvalidJsonPath;InvalidJsonPath
@@ -37,7 +39,7 @@ FRED $.phones[*]?(@.type == "work" && @.number < 5 || @.number == 3720453) => {"
 [10,20,30] $[*]?(@.a + 1) => ;
 [1] $[*]?(-@.a) => InvalidJsonPath;InvalidJsonPath"#;
 
-/// What both selectors answer.
+/// Returns the results of both selectors.
 fn answers(alloc: Global, path: &str, document: &str) -> Result<String, Fail> {
     let strict = selected_strictly(alloc, path, document)?;
     let lax = selected(alloc, path, document)?;

@@ -8,7 +8,7 @@ use Rattle.jsonb.proofs.LastLemmas.{same_next, next_parts}
 use Rattle.jsonb.proofs.PartLemmas.{row_parts}
 use Rattle.jsonb.proofs.path.compare.+same.Given as goal
 
--- each looks at fewer parts than the one that calls it, or of the same parts at what stands before the last ones
+-- each looks at fewer parts than the one that calls it, or of the same parts at what precedes the last ones
 abbrev pub decreases-same_chain : goal.decreases-same_chain
 decreases-same_chain l = 4 * parts l.expression.now + 2
 

@@ -26,7 +26,8 @@ invariant-write_down-loop-next g l = record {
 abbrev pub decreases-write_down-loop-next : goal.decreases-write_down-loop-next
 decreases-write_down-loop-next g l = parts_of (seen l.next)
 
--- Each writes fewer parts than the one that calls it, or of the same part fewer links. A number of links is below 2 ^ 64.
+-- Each writes fewer parts than the one that calls it, or of the same part fewer links. A number of links is below
+-- 2 ^ 64.
 abbrev pub decreases-write_steps : goal.decreases-write_steps
 decreases-write_steps g l = 0x40000000000000000 * row_parts l.steps.now + 1
 

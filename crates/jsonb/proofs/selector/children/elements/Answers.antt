@@ -1,4 +1,5 @@
+use Rattle.jsonb.proofs.ItemKinds.{elements_listed}
 use Rattle.jsonb.proofs.selector.children.elements.Goals as goal
 
-pub returns-in_err-spot_item-clause-meant : goal.returns-in_err-spot_item-clause-meant
-returns-in_err-spot_item-clause-meant c = λ t m. absurd (c.in_err-spot_item.ensures.item t m)
+pub returns-clause-meant : goal.returns-clause-meant
+returns-clause-meant c = λ t m. elements_listed c.args.bytes.now t _ (c.element_spots.ensures.spots t m)

@@ -3,7 +3,7 @@ use Rattle.jsonb_doc.specs.Spots.{HasSpotsLeft}
 use Rattle.jsonb_doc.specs.Tree.{Tree}
 use Rattle.jsonb.proofs.selector.children.push_nth.Given as goal
 
--- of the elements that are left, so many stand before the one at the position
+-- of the elements that are left, that many precede the one at the position
 abbrev pub invariant-loop-element : goal.invariant-loop-element
 invariant-loop-element l = record {
   same : l.nodes.items ≡ l.fn.nodes.items;

@@ -2,6 +2,7 @@ use Rattle.std.proofs.Common.{Ok, Err, refl, ap, sym, ◌∙◌}
 use Rattle.std.proofs.lemmas.Result.{err_from_is_err_and}
 use Rattle.jsonb_doc.specs.Spots.{Locates}
 use Rattle.jsonb.specs.Private.Compared.{items_truth}
+use Rattle.jsonb.specs.declared.selector.document.Mode.TheVariants.{Lax}
 use Rattle.jsonb.proofs.GivesLemmas.{same_answer}
 use Rattle.jsonb.proofs.KeptLemmas.{known, value_is}
 use Rattle.jsonb.proofs.ListLemmas.{is_false, is_not_false, list_passes, list_stops, list_refused, list_none}
@@ -16,14 +17,14 @@ returns-in_err-truth-clause-meant c = λ e top ts k a.
     let inv = c.loop-item.invariant e top ts k a in
     let f = list_first (Locates c.args.bytes.now) c.args.items.now c.loop-item.item-index no_spot c.loop-item-test.true inv.0 inv.1 in
     let p = err_from_is_err_and c.from_residual.result c.from_residual.ensures.1 in
-    same_answer (p.1 ∙ ap Err p.2) (list_refused c.args.comparison.now e top k f.first (c.in_err-truth.ensures.meant e top f.first k f.holds))
+    same_answer (p.1 ∙ ap Err p.2) (list_refused c.args.comparison.now e top k f.first (c.in_err-truth.ensures.meant e Lax top f.first k (c.compared_member-found.ensures.meant top f.first k.members f.holds)))
 
 pub returns-then-ne-clause-meant : goal.returns-then-ne-clause-meant
 returns-then-ne-clause-meant c = λ e top ts k a.
     let inv = c.loop-item.invariant e top ts k a in
     let f = list_first (Locates c.args.bytes.now) c.args.items.now c.loop-item.item-index no_spot c.loop-item-test.true inv.0 inv.1 in
     known (inv.2 ∙ ap (items_truth c.args.comparison.now top) f.whole
-    ∙ list_stops c.args.comparison.now e top k f.first f.others c.in_ok-truth.truth (value_is (c.in_ok-truth.ensures.meant e top f.first k f.holds).ok)
+    ∙ list_stops c.args.comparison.now e top k f.first f.others c.in_ok-truth.truth (value_is (c.in_ok-truth.ensures.meant e Lax top f.first k (c.compared_member-found.ensures.meant top f.first k.members f.holds)).ok)
     (is_not_false c.in_ok-truth.truth (sym c.ne.ensures ∙ c.if-ne.true))) refl
 
 pub loop-item-preserved : goal.loop-item-preserved
@@ -34,7 +35,7 @@ loop-item-preserved c = λ e top ts k a.
       f.left,
       inv.2 ∙ ap (items_truth c.args.comparison.now top) f.whole
           ∙ list_passes c.args.comparison.now e top k f.first f.others
-          (value_is (c.in_ok-truth.ensures.meant e top f.first k f.holds).ok ∙ ap Ok (is_false c.in_ok-truth.truth (sym c.ne.ensures ∙ c.if-ne.false))),
+          (value_is (c.in_ok-truth.ensures.meant e Lax top f.first k (c.compared_member-found.ensures.meant top f.first k.members f.holds)).ok ∙ ap Ok (is_false c.in_ok-truth.truth (sym c.ne.ensures ∙ c.if-ne.false))),
     )
 
 pub returns-clause-meant : goal.returns-clause-meant

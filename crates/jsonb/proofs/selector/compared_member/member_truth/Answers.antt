@@ -15,8 +15,8 @@ joined : {A B C : Type 0} (o : Outcome A) (f : A → B) (g : B → Outcome C) �
 joined (Ok x) f g = refl
 joined (Err e) f g = refl
 
-pub returns-in_err-member-clause-meant : goal.returns-in_err-member-clause-meant
-returns-in_err-member-clause-meant c = λ top u all r s.
+pub returns-in_err-found-clause-meant : goal.returns-in_err-found-clause-meant
+returns-in_err-found-clause-meant c = λ top u all r s.
     let rights = map value_view c.args.rights.now in
     let compares = λ (vs : List Value). Ok (compare (operator_view c.args.op) vs rights) in
     let p = err_from_is_err_and c.from_residual.result c.from_residual.ensures.1 in
@@ -25,7 +25,7 @@ returns-in_err-member-clause-meant c = λ top u all r s.
     ∙ ap (λ o. and_then o (λ ts. compares (flat_map values_of_item ts)))
     (from_start c.args.current.context.now.mode c.args.steps.now c.args.steps.now c.args.steps.now top u refl refl))
     (first_refused (λ (ts : List Tree). compares (flat_map values_of_item ts))
-    (c.in_err-member.ensures.meant AreRefused top _ all (c.starting_item-first.ensures top u r s))))
+    (c.in_err-found.ensures.meant AreRefused top _ all (c.starting_item-first.ensures top u r s))))
 
 pub returns-clause-meant : goal.returns-clause-meant
 returns-clause-meant c = λ top u all r s.
@@ -36,5 +36,4 @@ returns-clause-meant c = λ top u all r s.
     ∙ ap (λ o. and_then o (λ ts. compares (flat_map values_of_item ts)))
     (from_start c.args.current.context.now.mode c.args.steps.now c.args.steps.now c.args.steps.now top u refl refl))
     (followed (λ (ts : List Tree). compares (flat_map values_of_item ts))
-    (c.in_ok-member.ensures.meant AreRefused top _ all (c.starting_item-first.ensures top u r s))
-    (λ ts related. c.compared_truth.ensures.meant ts related))
+    (c.in_ok-found.ensures.meant AreRefused top _ all (c.starting_item-first.ensures top u r s)) c.found_truth.ensures.meant)

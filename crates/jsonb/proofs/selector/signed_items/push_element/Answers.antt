@@ -14,8 +14,8 @@ returns-in-Some-clause-meant c = λ t l.
     (number_pushed c.push_number.result c.args.numbers.now.items c.push_number.new.numbers.items c.in-Some.number c.push_number.ensures.ok
     c.push_number.ensures.err)
 
-pub returns-in_err-spot_item-in-None-clause-meant : goal.returns-in_err-spot_item-in-None-clause-meant
-returns-in_err-spot_item-in-None-clause-meant c = λ t l. absurd (c.in_err-spot_item-in-None.ensures.item t l)
+pub returns-in_err-spot_value-in-None-clause-meant : goal.returns-in_err-spot_value-in-None-clause-meant
+returns-in_err-spot_value-in-None-clause-meant c = λ t l. absurd (c.in_err-spot_value-in-None.ensures.value t l)
 
-pub returns-in_ok-spot_item-in-None-clause-meant : goal.returns-in_ok-spot_item-in-None-clause-meant
-returns-in_ok-spot_item-in-None-clause-meant c = λ t l. c.push_found.ensures.meant t (c.in_ok-spot_item-in-None.ensures.item t l)
+pub returns-in_ok-spot_value-in-None-clause-meant : goal.returns-in_ok-spot_value-in-None-clause-meant
+returns-in_ok-spot_value-in-None-clause-meant c = λ t l. c.push_found.ensures.meant t (c.in_ok-spot_value-in-None.ensures.value t l)

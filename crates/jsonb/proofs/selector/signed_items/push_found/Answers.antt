@@ -14,7 +14,7 @@ returns-in-Number-clause-meant c = λ t s.
 
 pub returns-in-Extension-clause-meant : goal.returns-in-Extension-clause-meant
 returns-in-Extension-clause-meant c = λ t s.
-    same_outcome (ap (λ x. all_numbers (value_of_item x)) (rw c.in-Extension.is at s))
+    same_outcome (ap (λ x. all_numbers (value_of_item x)) (rw c.in-Extension.is at s).1)
     (record { ok = sym (append-nil (map number_view c.args.numbers.now.items)); err = tt })
 
 pub returns-in_default-clause-meant : goal.returns-in_default-clause-meant

@@ -142,11 +142,6 @@ step_list-returns-in-Many-clause-meant t c = λ top ts r a.
     (subst (λ l. AllZip (IsAt c.args.context.now.document) l ts) (sym c.deref.ensures.value)
     (subst (λ f. AllZip (IsAt c.args.context.now.document) (node_spots f) ts) c.in-Many.is a))
 
-pub step_many-returns-in-Some-member_compared-clause-meant : goal.step_many-returns-in-Some-member_compared-clause-meant
-step_many-returns-in-Some-member_compared-clause-meant t c = λ top ts r a.
-    same_outcome (ap (λ x. try_flat_map (step_meaning c.args.context.now.mode x top) ts) c.in-Some.ensures.expression)
-    (c.compared_items.ensures.meant (expression_view c.in-Some.e.now) top ts c.in-Some-member_compared.ensures a)
-
 pub step_many-returns-in_err-nodes-clause-meant : goal.step_many-returns-in_err-nodes-clause-meant
 step_many-returns-in_err-nodes-clause-meant t c = λ top ts r a.
     let p = err_from_is_err_and c.from_residual.result c.from_residual.ensures.1 in
@@ -232,7 +227,7 @@ operand_values-returns-in_ok-found-in-Paths-clause-meant t c = λ top u r s.
     (followed (λ ts. Ok (flat_map values_of_item ts)) (c.in_ok-found-in-Paths.ensures.meant top _ r (c.starting_item-first.ensures top u r s))
     (λ ts related. c.found_values.ensures.meant ts related))
 
--- ---- truths
+-- ---- results
 
 pub truth-returns-clause-meant : goal.truth-returns-clause-meant
 truth-returns-clause-meant t c = λ top u r s.
@@ -440,7 +435,7 @@ first_truth-returns-in_ok-rights-in-BinaryOp-clause-meant t c = λ top u is r s.
           (λ x. IsSame c.args.current.context.now.mode top c.comparison_part.result x) (sym view) same,
     )
 
--- `exists` takes the items that the path of the innermost one meets
+-- `exists` takes the items that the path of the innermost one selects
 pub exists_truth-returns-in_err-is_found-in-ExistsFunc-clause-meant : goal.exists_truth-returns-in_err-is_found-in-ExistsFunc-clause-meant
 exists_truth-returns-in_err-is_found-in-ExistsFunc-clause-meant t c = λ is top u r s.
     let asked = subst (λ found. LeadsTo c.args.current.context.now.mode c.args.current.context.now.document top (Ok found)

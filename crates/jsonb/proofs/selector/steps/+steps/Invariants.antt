@@ -27,7 +27,7 @@ invariant-filter_many-loop-item l =
     (try_flat_map (step_meaning l.context.mode (filter (expression_view l.e)) top) ts)
     × IsKeptFor l.context.mode top (expression_view l.e) l.run.kept
 
--- the terms that are left, with the truths so far, tell the truth of all; their conditions come next
+-- the terms that are left, with the results so far, determine the result of all; their conditions come next
 abbrev pub invariant-joined_truth-loop-term : goal.invariant-joined_truth-loop-term
 invariant-joined_truth-loop-term l =
     (top t : Tree) (all more : List Expression) → HasTree l.current.context.now.document top → IsAt l.current.context.now.document l.current.item t →

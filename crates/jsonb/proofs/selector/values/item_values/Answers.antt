@@ -8,23 +8,20 @@ use Rattle.jsonb.proofs.ItemKinds.{values_of_array, other_values}
 use Rattle.jsonb.proofs.GivesLemmas.{same_outcome, same_answer, only_memory}
 use Rattle.jsonb.proofs.selector.values.item_values.Goals as goal
 
-pub returns-in_err-found-clause-meant : goal.returns-in_err-found-clause-meant
-returns-in_err-found-clause-meant c = λ t m. absurd (c.in_err-found.ensures.item t m)
-
 pub returns-in_err-elements-clause-meant : goal.returns-in_err-elements-clause-meant
-returns-in_err-elements-clause-meant c = λ t m. absurd (c.in_err-elements.ensures.meant t m (c.in_ok-found.ensures.item t m))
+returns-in_err-elements-clause-meant c = λ t m. absurd (c.in_err-elements.ensures.meant t m)
 
 pub returns-in_err-push_each-in-Some-clause-meant : goal.returns-in_err-push_each-in-Some-clause-meant
 returns-in_err-push_each-in-Some-clause-meant c = λ t m.
     let found = some_spots c.args.bytes.now c.in-Some.elements (array_values t)
-    (rw c.in-Some.is at (c.in_ok-elements.ensures.meant t m (c.in_ok-found.ensures.item t m))) in
+    (rw c.in-Some.is at (c.in_ok-elements.ensures.meant t m)) in
     let p = err_from_is_err_and c.from_residual-in_err-push_each-in-Some.result c.from_residual-in_err-push_each-in-Some.ensures.1 in
     same_answer (p.1 ∙ ap Err p.2) (only_memory (c.in_err-push_each-in-Some.ensures.meant found.0 found.2))
 
 pub returns-in_ok-push_each-in-Some-clause-meant : goal.returns-in_ok-push_each-in-Some-clause-meant
 returns-in_ok-push_each-in-Some-clause-meant c = λ t m.
     let found = some_spots c.args.bytes.now c.in-Some.elements (array_values t)
-    (rw c.in-Some.is at (c.in_ok-elements.ensures.meant t m (c.in_ok-found.ensures.item t m))) in
+    (rw c.in-Some.is at (c.in_ok-elements.ensures.meant t m)) in
     same_outcome (ap Ok (values_of_array t found.0 found.1))
     (record {
       ok = (c.in_ok-push_each-in-Some.ensures.meant found.0 found.2).ok
@@ -32,7 +29,13 @@ returns-in_ok-push_each-in-Some-clause-meant c = λ t m.
       err = tt;
     })
 
-pub returns-in-None-clause-meant : goal.returns-in-None-clause-meant
-returns-in-None-clause-meant c = λ t m.
-    let none = no_spots c.args.bytes.now (array_values t) (rw c.in-None.is at (c.in_ok-elements.ensures.meant t m (c.in_ok-found.ensures.item t m))) in
-    record { ok = c.at_most_one.ensures ∙ c.value_of_item-value.ensures t (c.in_ok-found.ensures.item t m) ∙ sym (other_values t none); err = tt }
+pub returns-in_err-stored-in-None-clause-meant : goal.returns-in_err-stored-in-None-clause-meant
+returns-in_err-stored-in-None-clause-meant c = λ t m. absurd (c.in_err-stored-in-None.ensures.value t m)
+
+pub returns-in_ok-stored-in-None-clause-meant : goal.returns-in_ok-stored-in-None-clause-meant
+returns-in_ok-stored-in-None-clause-meant c = λ t m.
+    let none = no_spots c.args.bytes.now (array_values t) (rw c.in-None.is at (c.in_ok-elements.ensures.meant t m)) in
+    record {
+      ok = c.at_most_one.ensures ∙ c.value_of_item-value.ensures t (c.in_ok-stored-in-None.ensures.value t m) ∙ sym (other_values t none);
+      err = tt;
+    }

@@ -19,9 +19,9 @@ returns-in_err-element-clause-meant c = λ ts h.
     (Ok (map value_view c.args.values.now.items ++ flat_map value_of_item ts)) c.args.bytes.now
     c.loop-element.element-iterator _ c.in-Some.element _ c.in_err-element.was c.in-Some.ensures.steps (c.loop-element.invariant ts h)
 
-pub returns-in_err-spot_item-clause-meant : goal.returns-in_err-spot_item-clause-meant
-returns-in_err-spot_item-clause-meant c = λ ts h.
-    let p = err_from_is_err_and c.from_residual-in_err-spot_item.result c.from_residual-in_err-spot_item.ensures.1 in
+pub returns-in_err-spot_value-clause-meant : goal.returns-in_err-spot_value-clause-meant
+returns-in_err-spot_value-clause-meant c = λ ts h.
+    let p = err_from_is_err_and c.from_residual-in_err-spot_value.result c.from_residual-in_err-spot_value.ensures.1 in
     same_answer (p.1 ∙ ap Err p.2) (only_memory (refused_in (λ t. Ok (value_of_item t)) (λ (_ : Unit {0}) vs. map value_view c.loop-element.values.items ≡ vs)
     (HasSpotsLeft c.args.bytes.now c.loop-element.element-iterator) (HasSpotsLeft c.args.bytes.now c.next.new.self)
     (λ vs. map value_view c.loop-element.values.items ≡ vs) (λ vs. map value_view c.loop-element.values.items ≡ vs)
@@ -29,7 +29,7 @@ returns-in_err-spot_item-clause-meant c = λ ts h.
     (Ok (map value_view c.args.values.now.items ++ flat_map value_of_item ts)) (c.loop-element.invariant ts h)
     (spot_first c.args.bytes.now c.loop-element.element-iterator c.next.new.self c.in-Some.element
     c.in_ok-element.field-0 c.in_ok-element.was c.in-Some.ensures.steps)
-    (λ t so_far m d. absurd (c.in_err-spot_item.ensures.item t m))))
+    (λ t so_far m d. absurd (c.in_err-spot_value.ensures.value t m))))
 
 pub returns-in_err-push_item-clause-meant : goal.returns-in_err-push_item-clause-meant
 returns-in_err-push_item-clause-meant c = λ ts h.
@@ -41,7 +41,7 @@ returns-in_err-push_item-clause-meant c = λ ts h.
     (Ok (map value_view c.args.values.now.items ++ flat_map value_of_item ts)) (c.loop-element.invariant ts h)
     (spot_first c.args.bytes.now c.loop-element.element-iterator c.next.new.self c.in-Some.element
     c.in_ok-element.field-0 c.in_ok-element.was c.in-Some.ensures.steps)
-    (λ t so_far m d. only_memory (c.in_err-push_item.ensures.meant t (c.in_ok-spot_item.ensures.item t m)))))
+    (λ t so_far m d. only_memory (c.in_err-push_item.ensures.meant t (c.in_ok-spot_value.ensures.value t m)))))
 
 pub loop-element-preserved : goal.loop-element-preserved
 loop-element-preserved c = λ ts h.
@@ -51,7 +51,7 @@ loop-element-preserved c = λ ts h.
     (Ok (map value_view c.args.values.now.items ++ flat_map value_of_item ts)) (c.loop-element.invariant ts h)
     (spot_first c.args.bytes.now c.loop-element.element-iterator c.next.new.self c.in-Some.element
     c.in_ok-element.field-0 c.in_ok-element.was c.in-Some.ensures.steps)
-    (λ t so_far m d. (c.in_ok-push_item.ensures.meant t (c.in_ok-spot_item.ensures.item t m)).ok ∙ ap (λ l. l ++ value_of_item t) d)
+    (λ t so_far m d. (c.in_ok-push_item.ensures.meant t (c.in_ok-spot_value.ensures.value t m)).ok ∙ ap (λ l. l ++ value_of_item t) d)
 
 pub returns-clause-meant : goal.returns-clause-meant
 returns-clause-meant c = λ ts h. record {

@@ -5,19 +5,19 @@ use Rattle.jsonb.proofs.ItemKinds.{values_of_array, other_values}
 use Rattle.jsonb.proofs.GivesLemmas.{same_outcome}
 use Rattle.jsonb.proofs.selector.values.push_values.Goals as goal
 
-pub returns-in_err-found-clause-meant : goal.returns-in_err-found-clause-meant
-returns-in_err-found-clause-meant c = λ t m. absurd (c.in_err-found.ensures.item t m)
-
 pub returns-in_err-elements-clause-meant : goal.returns-in_err-elements-clause-meant
-returns-in_err-elements-clause-meant c = λ t m. absurd (c.in_err-elements.ensures.meant t m (c.in_ok-found.ensures.item t m))
+returns-in_err-elements-clause-meant c = λ t m. absurd (c.in_err-elements.ensures.meant t m)
 
 pub returns-in-Some-clause-meant : goal.returns-in-Some-clause-meant
 returns-in-Some-clause-meant c = λ t m.
     let found = some_spots c.args.bytes.now c.in-Some.elements (array_values t)
-    (rw c.in-Some.is at (c.in_ok-elements.ensures.meant t m (c.in_ok-found.ensures.item t m))) in
+    (rw c.in-Some.is at (c.in_ok-elements.ensures.meant t m)) in
     same_outcome (ap Ok (values_of_array t found.0 found.1)) (c.push_each.ensures.meant found.0 found.2)
 
-pub returns-in-None-clause-meant : goal.returns-in-None-clause-meant
-returns-in-None-clause-meant c = λ t m.
-    let none = no_spots c.args.bytes.now (array_values t) (rw c.in-None.is at (c.in_ok-elements.ensures.meant t m (c.in_ok-found.ensures.item t m))) in
-    same_outcome (ap Ok (other_values t none)) (c.push_item.ensures.meant t (c.in_ok-found.ensures.item t m))
+pub returns-in_err-spot_value-in-None-clause-meant : goal.returns-in_err-spot_value-in-None-clause-meant
+returns-in_err-spot_value-in-None-clause-meant c = λ t m. absurd (c.in_err-spot_value-in-None.ensures.value t m)
+
+pub returns-in_ok-spot_value-in-None-clause-meant : goal.returns-in_ok-spot_value-in-None-clause-meant
+returns-in_ok-spot_value-in-None-clause-meant c = λ t m.
+    let none = no_spots c.args.bytes.now (array_values t) (rw c.in-None.is at (c.in_ok-elements.ensures.meant t m)) in
+    same_outcome (ap Ok (other_values t none)) (c.push_item.ensures.meant t (c.in_ok-spot_value-in-None.ensures.value t m))

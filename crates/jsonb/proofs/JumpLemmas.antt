@@ -1,0 +1,156 @@
+-- Evaluating the branches of an expression returns its truth.
+use Rattle.std.proofs.Common.{◌≡◌, ℕ, ◌≤◌, List, [], ◌∷◌, length, Bool, true, false, Some, None, Ok, Err, refl, ap, ◌∙◌, arith}
+use Rattle.std.specs.Prelude.{if◌then◌else◌}
+use Rattle.std.proofs.lemmas.Bool.{le-leb, lt-leb}
+use Rattle.jsonb_doc.specs.Answer.{Outcome, and_then}
+use Rattle.jsonb_doc.specs.Tree.{Tree}
+use Rattle.jsonb.specs.Compare.{Truth, and_truth, or_truth}
+use Rattle.jsonb.specs.Meaning.{truth}
+use Rattle.jsonb.specs.PathTree.{Expression, binary, and_op, or_op}
+use Rattle.jsonb.specs.Private.Jumps.{Branch, branches_of, taken, passed, evaluated, branches_of_whole}
+use Rattle.jsonb.specs.declared.selector.document.Mode.{Mode}
+use Rattle.jsonb.specs.declared.selector.plan.Jump.{Jump}
+
+two_parts : {A B : Type 0} (o p : Outcome A) (f : A → A → A) (after : A → Outcome B) →
+    and_then o (λ a. and_then p (λ b. after (f a b))) ≡ and_then (and_then o (λ a. and_then p (λ b. Ok (f a b)))) after
+two_parts (Ok a) (Ok b) f after = refl
+two_parts (Ok a) (Err e) f after = refl
+two_parts (Err e) p f after = refl
+
+abbrev jump_at : ℕ → Bool → Jump
+jump_at left truth = record { left = left; truth = truth }
+
+same_after : {A B : Type 0} (o : Outcome A) (f g : A → Outcome B) → ((x : A) → f x ≡ g x) → and_then o f ≡ and_then o g
+same_after (Ok x) f g h = h x
+same_after (Err e) f g h = refl
+
+-- the branches of an expression precede the others
+pub longer : (e : Expression) (t f : ℕ) (others : List Branch) → length others ≤ length (branches_of e t f others)
+longer (binary and_op l r) t f others =
+    let right = longer r t f others in
+    let left = longer l (length (branches_of r t f others)) f (branches_of r t f others) in
+    omega (arith, right, left)
+longer (binary or_op l r) t f others =
+    let right = longer r t f others in
+    let left = longer l t (length (branches_of r t f others)) (branches_of r t f others) in
+    omega (arith, right, left)
+longer e t f others = omega arith
+
+module _ (mode : Mode) (top item : Tree) where
+  -- after an unknown branch the condition is unknown, and the other branches are evaluated
+  evaluated-unknown : (e : Expression) (t f : ℕ) (others : List Branch)
+      → evaluated mode top item (branches_of e t f others) None ≡ and_then (truth mode e top item) (λ b. evaluated mode top item others None)
+  evaluated-unknown (binary and_op l r) t f others =
+      evaluated-unknown l (length (branches_of r t f others)) f (branches_of r t f others)
+      ∙ same_after (truth mode l top item) _ _ (λ a. evaluated-unknown r t f others)
+      ∙ two_parts (truth mode l top item) (truth mode r top item) and_truth (λ c. evaluated mode top item others None)
+  evaluated-unknown (binary or_op l r) t f others =
+      evaluated-unknown l t (length (branches_of r t f others)) (branches_of r t f others)
+      ∙ same_after (truth mode l top item) _ _ (λ a. evaluated-unknown r t f others)
+      ∙ two_parts (truth mode l top item) (truth mode r top item) or_truth (λ c. evaluated mode top item others None)
+  evaluated-unknown e t f others = refl
+
+  leaf-passed : (e : Expression) (t f : ℕ) (others : List Branch) (go : Jump) → go.left ≤ length others
+      → evaluated mode top item (record { condition = e; on_true = t; on_false = f } ∷ others) (Some go)
+      ≡ and_then (truth mode e top item) (λ b. evaluated mode top item others (passed go b))
+  leaf-passed e t f others go short =
+      ap (λ here. and_then (truth mode e top item) (λ b. evaluated mode top item others (if here then taken t f b else passed go b)))
+      (lt-leb (length (record { condition = e; on_true = t; on_false = f } ∷ others)) go.left (omega (arith, short)))
+
+  -- branches that a jump passes over
+  evaluated-passed : (e : Expression) (t f : ℕ) (others : List Branch) (go : Jump) → go.left ≤ length others
+      → evaluated mode top item (branches_of e t f others) (Some go) ≡ and_then (truth mode e top item) (λ b. evaluated mode top item others (passed go b))
+  evaluated-passed (binary and_op l r) t f others go short =
+      evaluated-passed l (length (branches_of r t f others)) f (branches_of r t f others) go (let right = longer r t f others in omega (arith, short, right))
+      ∙ same_after (truth mode l top item) _ _ (after_left (evaluated-passed r t f others go short))
+      ∙ two_parts (truth mode l top item) (truth mode r top item) and_truth (λ c. evaluated mode top item others (passed go c))
+    where
+      both : (a : Bool) (b : Truth) → evaluated mode top item others (passed go b) ≡ evaluated mode top item others (passed go (and_truth (Some a) b))
+      both a (Some b) = refl
+      both a None = refl
+
+      after_left : (evaluated mode top item (branches_of r t f others) (Some go) ≡ and_then (truth mode r top item) (λ b. evaluated mode top item others (passed go b))) → (a : Truth) → evaluated mode top item (branches_of r t f others) (passed go a)
+          ≡ and_then (truth mode r top item) (λ b. evaluated mode top item others (passed go (and_truth a b)))
+      after_left right None = evaluated-unknown r t f others
+      after_left right (Some a) = right ∙ same_after (truth mode r top item) _ _ (both a)
+  evaluated-passed (binary or_op l r) t f others go short =
+      evaluated-passed l t (length (branches_of r t f others)) (branches_of r t f others) go (let right = longer r t f others in omega (arith, short, right))
+      ∙ same_after (truth mode l top item) _ _ (after_left (evaluated-passed r t f others go short))
+      ∙ two_parts (truth mode l top item) (truth mode r top item) or_truth (λ c. evaluated mode top item others (passed go c))
+    where
+      both : (a : Bool) (b : Truth) → evaluated mode top item others (passed go b) ≡ evaluated mode top item others (passed go (or_truth (Some a) b))
+      both a (Some b) = refl
+      both a None = refl
+
+      after_left : (evaluated mode top item (branches_of r t f others) (Some go) ≡ and_then (truth mode r top item) (λ b. evaluated mode top item others (passed go b))) → (a : Truth) → evaluated mode top item (branches_of r t f others) (passed go a)
+          ≡ and_then (truth mode r top item) (λ b. evaluated mode top item others (passed go (or_truth a b)))
+      after_left right None = evaluated-unknown r t f others
+      after_left right (Some a) = right ∙ same_after (truth mode r top item) _ _ (both a)
+  evaluated-passed e t f others go short = leaf-passed e t f others go short
+
+  leaf-taken : (e : Expression) (t f : ℕ) (others : List Branch) (go : Jump) → length (branches_of e t f others) ≤ go.left
+      → length (record { condition = e; on_true = t; on_false = f } ∷ others) ≤ go.left
+      → evaluated mode top item (record { condition = e; on_true = t; on_false = f } ∷ others) (Some go)
+      ≡ and_then (truth mode e top item) (λ b. evaluated mode top item others (taken t f b))
+  leaf-taken e t f others go _ here =
+      ap (λ here. and_then (truth mode e top item) (λ b. evaluated mode top item others (if here then taken t f b else passed go b)))
+      (le-leb (length (record { condition = e; on_true = t; on_false = f } ∷ others)) go.left here)
+
+  -- branches that no jump passes over: the truth determines the jump
+  pub evaluated-taken : (e : Expression) (t f : ℕ) (others : List Branch) (go : Jump) → length (branches_of e t f others) ≤ go.left
+      → t ≤ length others → f ≤ length others
+      → evaluated mode top item (branches_of e t f others) (Some go) ≡ and_then (truth mode e top item) (λ b. evaluated mode top item others (taken t f b))
+  evaluated-taken (binary and_op l r) t f others go here after_true after_false =
+      evaluated-taken l (length (branches_of r t f others)) f (branches_of r t f others) go here (omega arith)
+      (let right = longer r t f others in omega (arith, after_false, right))
+      ∙ same_after (truth mode l top item) _ _ (after_left (evaluated-taken r t f others (jump_at (length (branches_of r t f others)) true) (omega arith) after_true after_false))
+      ∙ two_parts (truth mode l top item) (truth mode r top item) and_truth (λ c. evaluated mode top item others (taken t f c))
+    where
+      if_true : (b : Truth) → evaluated mode top item others (taken t f b) ≡ evaluated mode top item others (taken t f (and_truth (Some true) b))
+      if_true (Some b) = refl
+      if_true None = refl
+
+      if_false : (b : Truth) → evaluated mode top item others (passed (jump_at f false) b) ≡ evaluated mode top item others (taken t f (and_truth (Some false) b))
+      if_false (Some b) = refl
+      if_false None = refl
+
+      after_left : (evaluated mode top item (branches_of r t f others) (Some (jump_at (length (branches_of r t f others)) true)) ≡ and_then (truth mode r top item) (λ b. evaluated mode top item others (taken t f b))) → (a : Truth) → evaluated mode top item (branches_of r t f others) (taken (length (branches_of r t f others)) f a)
+          ≡ and_then (truth mode r top item) (λ b. evaluated mode top item others (taken t f (and_truth a b)))
+      after_left right None = evaluated-unknown r t f others
+      after_left right (Some true) = right
+          ∙ same_after (truth mode r top item) _ _ if_true
+      after_left right (Some false) = evaluated-passed r t f others (jump_at f false) after_false ∙ same_after (truth mode r top item) _ _ if_false
+  evaluated-taken (binary or_op l r) t f others go here after_true after_false =
+      evaluated-taken l t (length (branches_of r t f others)) (branches_of r t f others) go here
+      (let right = longer r t f others in omega (arith, after_true, right)) (omega arith)
+      ∙ same_after (truth mode l top item) _ _ (after_left (evaluated-taken r t f others (jump_at (length (branches_of r t f others)) false) (omega arith) after_true after_false))
+      ∙ two_parts (truth mode l top item) (truth mode r top item) or_truth (λ c. evaluated mode top item others (taken t f c))
+    where
+      if_false : (b : Truth) → evaluated mode top item others (taken t f b) ≡ evaluated mode top item others (taken t f (or_truth (Some false) b))
+      if_false (Some b) = refl
+      if_false None = refl
+
+      if_true : (b : Truth) → evaluated mode top item others (passed (jump_at t true) b) ≡ evaluated mode top item others (taken t f (or_truth (Some true) b))
+      if_true (Some b) = refl
+      if_true None = refl
+
+      after_left : (evaluated mode top item (branches_of r t f others) (Some (jump_at (length (branches_of r t f others)) false)) ≡ and_then (truth mode r top item) (λ b. evaluated mode top item others (taken t f b))) → (a : Truth) → evaluated mode top item (branches_of r t f others) (taken t (length (branches_of r t f others)) a)
+          ≡ and_then (truth mode r top item) (λ b. evaluated mode top item others (taken t f (or_truth a b)))
+      after_left right None = evaluated-unknown r t f others
+      after_left right (Some false) = right
+          ∙ same_after (truth mode r top item) _ _ if_false
+      after_left right (Some true) = evaluated-passed r t f others (jump_at t true) after_true ∙ same_after (truth mode r top item) _ _ if_true
+  evaluated-taken e t f others go here after_true after_false = leaf-taken e t f others go here here
+
+  at_end : (o : Outcome Truth) → and_then o (λ b. evaluated mode top item [] (taken 0 0 b)) ≡ o
+  at_end (Ok (Some true)) = refl
+  at_end (Ok (Some false)) = refl
+  at_end (Ok None) = refl
+  at_end (Err e) = refl
+
+  -- the branches of a condition have its truth, and its first error
+  pub evaluated-whole : (e : Expression) (go : Jump) → length (branches_of_whole e) ≤ go.left
+      → evaluated mode top item (branches_of_whole e) (Some go) ≡ truth mode e top item
+  evaluated-whole e go here =
+      evaluated-taken e 0 0 [] go here (omega arith) (omega arith)
+      ∙ at_end (truth mode e top item)

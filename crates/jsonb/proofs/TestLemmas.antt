@@ -1,0 +1,319 @@
+-- Conditions that are compiled to tests.
+use Rattle.std.proofs.Common.{◌≡◌, ℕ, ◌+◌, ◌≤◌, List, [], ◌∷◌, ◌++◌, length, take, get_or, map, flat_map, option_to_list, Bool, true, false, Option, Some, None, is_some, Ok, Err, IsOkAnd, refl, sym, ap, ◌∙◌, subst, arith, length-append}
+use Rattle.std.specs.Prelude.{reverse, not, ◌==◌, ◌&&◌, if◌then◌else◌}
+use Rattle.std.specs.List.{AllZip}
+use Rattle.std.proofs.lemmas.Bool.{eqb-true, lt-leb}
+use Rattle.std.proofs.lemmas.List.{reverse-append, length-reverse, length-take-le, take_more}
+use Rattle.jsonb_doc.specs.Answer.{Outcome, and_then}
+use Rattle.jsonb_doc.specs.Tree.{Tree}
+use Rattle.jsonb_doc.specs.declared.spot.Spot.{Spot}
+use Rattle.jsonb.specs.Compare.{Truth, compare}
+use Rattle.jsonb.specs.Meaning.{steps_meaning, truth, filtered, is_some_item}
+use Rattle.jsonb.specs.PathTree.{BinaryOp, and_op, or_op, eq, not_eq, lt, lte, gt, gte, starts_with_op, add, subtract, multiply, divide, modulo, current, Steps, step, Expression, paths, binary, steps_of}
+use Rattle.jsonb.specs.PathViews.{steps_view, operator_view, expression_view}
+use Rattle.jsonb.specs.Private.Kept.{is_comparison}
+use Rattle.jsonb.specs.Private.Jumps.{Branch, branches_of, branches_of_whole, taken, next_jump, jump_truth, evaluated}
+use Rattle.jsonb.specs.Private.Selection.{option_spots, taken_step}
+use Rattle.jsonb.specs.Private.Terms.{is_joined, joining_op, IsPairOf}
+use Rattle.jsonb.specs.Private.Tests.{AreMembersCompared, IsQuestionOf, IsTestOf, AreBranches, AreTestsOf, is_settled, jump_to, left_true, left_false, left_of, right_of, pending, waiting_left}
+use Rattle.jsonb.specs.Values.{values_of_item}
+use Rattle.jsonb.specs.declared.selector.document.Expressions.TheVariants.{AreRefused}
+use Rattle.jsonb.specs.declared.selector.document.Mode.{Mode}
+use Rattle.jsonb.specs.declared.selector.document.Mode.TheVariants.{Lax, Strict}
+use Rattle.jsonb.specs.declared.selector.plan.Jump.{Jump}
+use Rattle.jsonb.specs.declared.selector.plan.MembersCompared.{MembersCompared}
+use Rattle.jsonb.specs.declared.selector.plan.Question.{Question}
+use Rattle.jsonb.specs.declared.selector.plan.Question.TheVariants as question
+use Rattle.jsonb.specs.declared.selector.plan.Test.{Test}
+use Rattle.jsonb.specs.declared.selector.compile.Waiting.{Waiting}
+use Rattle.jsonb.specs.declared.selector.terms.Join.{Join}
+use Rattle.jsonb.specs.declared.selector.terms.Join.TheVariants.{And, Or}
+use Rattle.jsonb.specs.declared.selector.terms.Pair.{Pair}
+use Rattle.jsonb.proofs.ComparedLemmas.{Any, comparison_total, members_total}
+use Rattle.jsonb.proofs.GivesLemmas.{with_ok}
+use Rattle.jsonb.proofs.JumpLemmas.{evaluated-whole}
+use Rattle.jsonb.proofs.KeptLemmas.{comparison_is}
+use Rattle.jsonb.proofs.MemberLemmas.{both_true}
+use Rattle.jsonb.proofs.SelectedParts.{related_length}
+use Rattle.jsonb.proofs.StepLemmas.{refused_steps}
+
+-- ---- compiling
+
+-- an expression that is not `&&` or `||` is one branch
+pub one_branch : (e : Expression) (t f : ℕ) (others : List Branch) → is_joined e ≡ false
+    → branches_of e t f others ≡ record { condition = e; on_true = t; on_false = f } ∷ others
+one_branch (binary and_op l r) t f others h = cc
+one_branch (binary or_op l r) t f others h = cc
+one_branch e t f others h = refl
+
+-- the branches of the left side precede those of the right one
+pair_branches : (j : Join) (l r : Expression) (t f : ℕ) (others : List Branch) → branches_of (binary (joining_op j) l r) t f others
+    ≡ branches_of l (jump_to (left_true j t) (length (branches_of r t f others))) (jump_to (left_false j f) (length (branches_of r t f others)))
+    (branches_of r t f others)
+pair_branches And l r t f others = refl
+pair_branches Or l r t f others = refl
+
+pub last_first : {A : Type 0} (xs : List A) (x : A) → reverse (xs ++ x ∷ []) ≡ x ∷ reverse xs
+last_first xs x = reverse-append xs (x ∷ [])
+
+-- the parts of a pair
+pair_parts : (waiting : List Waiting) (part : Waiting) (p : Pair) (t f : ℕ) (others : List Branch) → IsPairOf part.e.now p
+    → t ≡ jump_to part.on_true (length others) → f ≡ jump_to part.on_false (length others)
+    → pending (left_of p t f ∷ reverse waiting) (branches_of (expression_view p.right.now) t f others) ≡ pending (part ∷ reverse waiting) others
+pair_parts waiting part p t f others pair is_t is_f =
+    ap (pending (reverse waiting)) (sym (pair_branches p.join (expression_view p.left.now) (expression_view p.right.now) t f others)
+    ∙ (λ i. branches_of (sym pair.0 i) (is_t i) (is_f i) others))
+
+-- a pair whose left side waits
+pub left_waits : (waiting : List Waiting) (part : Waiting) (p : Pair) (t f : ℕ) (others : List Branch) → IsPairOf part.e.now p
+    → t ≡ jump_to part.on_true (length others) → f ≡ jump_to part.on_false (length others)
+    → pending (right_of p t f ∷ reverse (waiting ++ left_of p t f ∷ [])) others ≡ pending (part ∷ reverse waiting) others
+left_waits waiting part p t f others pair is_t is_f =
+    ap (λ ws. pending (right_of p t f ∷ ws) others) (last_first waiting (left_of p t f)) ∙ pair_parts waiting part p t f others pair is_t is_f
+
+-- a pair whose right side is a test
+pub right_pushed : (waiting : List Waiting) (part : Waiting) (p : Pair) (t f : ℕ) (others : List Branch) → IsPairOf part.e.now p
+    → is_joined (expression_view p.right.now) ≡ false
+    → t ≡ jump_to part.on_true (length others) → f ≡ jump_to part.on_false (length others)
+    → pending (left_of p t f ∷ reverse waiting) (record { condition = expression_view p.right.now; on_true = t; on_false = f } ∷ others)
+    ≡ pending (part ∷ reverse waiting) others
+right_pushed waiting part p t f others pair alone is_t is_f =
+    ap (pending (left_of p t f ∷ reverse waiting)) (sym (one_branch (expression_view p.right.now) t f others alone))
+    ∙ pair_parts waiting part p t f others pair is_t is_f
+
+-- a part that is a test
+pub test_pushed : (waiting : List Waiting) (part : Waiting) (t f : ℕ) (others : List Branch) → is_joined (expression_view part.e.now) ≡ false
+    → t ≡ jump_to part.on_true (length others) → f ≡ jump_to part.on_false (length others)
+    → pending (reverse waiting) (record { condition = expression_view part.e.now; on_true = t; on_false = f } ∷ others)
+    ≡ pending (part ∷ reverse waiting) others
+test_pushed waiting part t f others alone is_t is_f =
+    ap (pending (reverse waiting)) (sym (one_branch (expression_view part.e.now) t f others alone)
+    ∙ (λ i. branches_of (expression_view part.e.now) (is_t i) (is_f i) others))
+
+-- the last of the parts that wait
+pub popped : (old new : List Waiting) (found : Option Waiting) → old ≡ new ++ option_to_list found → (found ≡ None → old ≡ [])
+    → waiting_left found new ≡ reverse old
+popped old new (Some part) is empty = sym (ap reverse is ∙ last_first new part)
+popped old new None is empty = sym (ap reverse (empty refl))
+
+-- as many branches as tests
+pub as_many : (tests : List Test) (done : List Branch) → AreBranches (reverse tests) done → length tests ≡ length done
+as_many tests done a = sym (length-reverse tests) ∙ related_length IsTestOf (reverse tests) done a
+
+-- one more test before the others
+pub one_in_front : (tests : List Test) (test : Test) (e : Expression) (done : List Branch) → AreBranches (reverse tests) done
+    → IsQuestionOf test.question e → AreBranches (reverse (tests ++ test ∷ [])) (record { condition = e; on_true = test.on_true; on_false = test.on_false } ∷ done)
+one_in_front tests test e done a q =
+    subst (λ l. AreBranches l (record { condition = e; on_true = test.on_true; on_false = test.on_false } ∷ done)) (sym (last_first tests test))
+    (record { on_true = refl; on_false = refl; question = q }, a)
+
+-- ---- evaluating one test after the other
+
+-- the branch of the next test, and the branches that follow it
+pub record NextTest (before : List Test) (n : ℕ) (x : Test) (rest : List Branch) (state : Option Jump) (mode : Mode) (top t : Tree) : Type 0 where
+  pub condition : Expression
+  pub behind : List Branch
+  pub question : IsQuestionOf x.question condition
+  pub left : AreBranches (reverse before) behind
+  pub is : evaluated mode top t rest state
+      ≡ and_then (truth mode condition top t) (λ b. evaluated mode top t behind (next_jump x.on_true x.on_false n state b))
+
+pub next_branch : (tests before : List Test) (x : Test) (rest : List Branch) (state : Option Jump) (mode : Mode) (top t : Tree)
+    → tests ≡ before ++ x ∷ [] → AreBranches (reverse tests) rest → NextTest before (length tests) x rest state mode top t
+next_branch tests before x [] state mode top t is related =
+    absurd (subst (λ l. AreBranches l []) (ap reverse is ∙ last_first before x) related)
+next_branch tests before x (b ∷ bs) state mode top t is related =
+    let each : AreBranches (x ∷ reverse before) (b ∷ bs) = subst (λ l. AreBranches l (b ∷ bs)) (ap reverse is ∙ last_first before x) related in
+    let many : length (b ∷ bs) ≡ length tests = sym (related_length IsTestOf (reverse tests) (b ∷ bs) related) ∙ length-reverse tests in
+    record {
+      condition = b.condition;
+      behind = bs;
+      question = each.0.question;
+      left = each.1;
+      is = λ k. and_then (truth mode b.condition top t)
+          (λ v. evaluated mode top t bs (next_jump (sym each.0.on_true k) (sym each.0.on_false k) (many k) state v));
+    }
+
+pub next_test : (tests : List Test) (n i : ℕ) (x : Test) (rest : List Branch) (state : Option Jump) (mode : Mode) (top t : Tree)
+    → n ≤ length tests → n ≡ i + 1 → x ≡ get_or tests i x → AreBranches (reverse (take n tests)) rest
+    → NextTest (take i tests) n x rest state mode top t
+next_test tests n i x rest state mode top t within next is related =
+    subst (λ k. NextTest (take i tests) k x rest state mode top t) (length-take-le n tests within)
+    (next_branch (take n tests) (take i tests) x rest state mode top t
+    (ap (λ k. take k tests) next ∙ take_more tests i x (omega (arith, within, next)) ∙ ap (λ y. take i tests ++ y ∷ []) (sym is)) related)
+
+-- after its truth
+pub test_done : {before : List Test} {m : ℕ} {x : Test} {rest : List Branch} {state : Option Jump} {mode : Mode} {top t : Tree}
+    (n : NextTest before m x rest state mode top t) (v : Truth) (after : Option Jump) → truth mode n.condition top t ≡ Ok v
+    → after ≡ next_jump x.on_true x.on_false m state v → evaluated mode top t rest state ≡ evaluated mode top t n.behind after
+test_done {before} {m} {x} {rest} {state} {mode} {top} {t} n v after known next =
+    n.is ∙ ap (λ o. and_then o (λ b. evaluated mode top t n.behind (next_jump x.on_true x.on_false m state b))) known
+    ∙ ap (evaluated mode top t n.behind) (sym next)
+
+-- no test is left
+pub no_test : (tests : List Test) (n : ℕ) (rest : List Branch) → n ≡ 0 → AreBranches (reverse (take n tests)) rest → rest ≡ []
+no_test tests n [] none related = refl
+no_test tests n (b ∷ bs) none related = absurd (subst (λ k. AreBranches (reverse (take k tests)) (b ∷ bs)) none related)
+
+-- all tests, from a jump that passes over none
+pub from_first : (mode : Mode) (tests : List Test) (e : Expression) (top t : Tree) (state : Option Jump) (jump : Jump) → state ≡ Some jump
+    → jump.left ≡ length tests → AreTestsOf tests e → truth mode e top t ≡ evaluated mode top t (branches_of_whole e) state
+from_first mode tests e top t state jump is all related =
+    let many = related_length IsTestOf (reverse tests) (branches_of_whole e) related in
+    let same = length-reverse tests in
+    sym (ap (evaluated mode top t (branches_of_whole e)) is
+    ∙ evaluated-whole mode top t e jump (let few : length (branches_of_whole e) ≤ jump.left = omega (arith, many, same, all) in few))
+
+-- the first test of all, which is the last of the list
+pub first_test : (others : List Test) (x : Test) (e : Expression) (mode : Mode) (top t : Tree) → AreTestsOf (others ++ x ∷ []) e
+    → NextTest others (length others + 1) x (branches_of_whole e) (Some (record { left = length others + 1; truth = false })) mode top t
+    × (truth mode e top t ≡ evaluated mode top t (branches_of_whole e) (Some (record { left = length others + 1; truth = false })))
+first_test others x e mode top t a =
+    let start : Jump = record { left = length others + 1; truth = false } in
+    let many : length (others ++ x ∷ []) ≡ length others + 1 = length-append others (x ∷ []) in (
+      subst (λ n. NextTest others n x (branches_of_whole e) (Some start) mode top t) many
+          (next_branch (others ++ x ∷ []) others x (branches_of_whole e) (Some start) mode top t refl a),
+      from_first mode (others ++ x ∷ []) e top t (Some start) start refl (sym many) a,
+    )
+
+-- a condition has a test
+first_branch : (e : Expression) (t f : ℕ) (others : List Branch) → (b : Branch) × (bs : List Branch) × (branches_of e t f others ≡ b ∷ bs)
+first_branch (binary and_op l r) t f others = first_branch l (length (branches_of r t f others)) f (branches_of r t f others)
+first_branch (binary or_op l r) t f others = first_branch l t (length (branches_of r t f others)) (branches_of r t f others)
+first_branch e t f others = (record { condition = e; on_true = t; on_false = f }, others, refl)
+
+pub no_tests : {A : Type 0} (tests : List Test) (e : Expression) → length tests ≡ 0 → AreTestsOf tests e → A
+no_tests [] e none a = let k = first_branch e 0 0 [] in absurd (subst (λ bs. AreBranches [] bs) k.2 a)
+no_tests (x ∷ xs) e none a = cc
+
+-- ---- in lax mode no test fails
+
+pub question_total : (q : Question) (e : Expression) (top t : Tree) → IsQuestionOf q e → IsOkAnd (truth Lax e top t) Any
+question_total (question.Compared c) e top t h = comparison_total c e top t h
+question_total (question.MembersCompared c) e top t h =
+    subst (λ o. IsOkAnd o Any) (sym (h.compares Lax top t))
+    (with_ok Any (λ o. IsOkAnd o Any) (steps_meaning Lax (steps_of (steps_view c.left.now)) top (t ∷ []))
+    (λ ls. and_then (steps_meaning Lax (steps_of (steps_view c.right.now)) top (t ∷ []))
+    (λ rs. Ok (compare (operator_view c.op) (flat_map values_of_item ls) (flat_map values_of_item rs))))
+    (members_total (steps_view c.left.now) top (t ∷ []) h.left)
+    (λ ls _. with_ok Any (λ o. IsOkAnd o Any) (steps_meaning Lax (steps_of (steps_view c.right.now)) top (t ∷ []))
+    (λ rs. Ok (compare (operator_view c.op) (flat_map values_of_item ls) (flat_map values_of_item rs)))
+    (members_total (steps_view c.right.now) top (t ∷ []) h.right) (λ rs _. tt)))
+question_total (question.MemberFound found) e top t h =
+    subst (λ o. IsOkAnd o Any) (sym (h.finds Lax top t))
+    (with_ok Any (λ o. IsOkAnd o Any) (steps_meaning Lax (steps_of (steps_view found.names.now)) top (t ∷ [])) (λ ts. Ok (Some (is_some_item ts)))
+    (members_total (steps_view found.names.now) top (t ∷ []) h.members) (λ ts _. tt))
+question_total question.Unknown e top t h = subst (λ o. IsOkAnd o Any) (sym (h Lax top t)) tt
+
+branches_total : (tests : List Test) (branches : List Branch) (state : Option Jump) (top t : Tree) → AreBranches tests branches
+    → IsOkAnd (evaluated Lax top t branches state) Any
+branches_total [] [] state top t a = tt
+branches_total [] (b ∷ bs) state top t a = absurd a
+branches_total (x ∷ xs) [] state top t a = absurd a
+branches_total (x ∷ xs) (b ∷ bs) state top t a =
+    with_ok Any (λ o. IsOkAnd o Any) (truth Lax b.condition top t)
+    (λ v. evaluated Lax top t bs (next_jump b.on_true b.on_false (length (b ∷ bs)) state v)) (question_total x.question b.condition top t a.0.question)
+    (λ v _. branches_total xs bs (next_jump b.on_true b.on_false (length (b ∷ bs)) state v) top t a.1)
+
+pub condition_total : (tests : List Test) (e : Expression) (top t : Tree) → AreTestsOf tests e → IsOkAnd (truth Lax e top t) Any
+condition_total tests e top t a =
+    let jump : Jump = record { left = length tests; truth = false } in
+    subst (λ o. IsOkAnd o Any) (sym (from_first Lax tests e top t (Some jump) jump refl refl a)) (branches_total (reverse tests) (branches_of_whole e) (Some jump) top t a)
+
+-- ---- a filter whose result is determined
+
+-- the jump to the end, with false
+pub is_closed : (jump : Jump) → ((jump.left == 0) && not jump.truth) ≡ true → (jump.left ≡ 0) × (jump.truth ≡ false)
+is_closed jump h =
+    let k = both_true (jump.left == 0) (not jump.truth) h in (eqb-true jump.left 0 k.0, is_false jump.truth k.1)
+  where
+    is_false : (b : Bool) → not b ≡ true → b ≡ false
+    is_false true h = cc
+    is_false false h = refl
+
+pub settled : (tests : List Test) (branches : List Branch) (mode : Mode) (state : Option Jump) (top t : Tree) → is_settled mode state ≡ true
+    → AreBranches tests branches → and_then (evaluated mode top t branches state) (λ b. Ok (filtered t b)) ≡ Ok (filtered t (jump_truth state))
+settled tests branches Strict state top t h a = cc
+settled [] [] Lax state top t h a = refl
+settled [] (b ∷ bs) Lax state top t h a = absurd a
+settled (x ∷ xs) [] Lax state top t h a = absurd a
+settled (x ∷ xs) (b ∷ bs) Lax None top t h a =
+    go (truth Lax b.condition top t) (question_total x.question b.condition top t a.0.question) (settled xs bs Lax None top t h a.1)
+  where
+    go : (o : Outcome Truth) → IsOkAnd o Any → and_then (evaluated Lax top t bs None) (λ v. Ok (filtered t v)) ≡ Ok (filtered t None)
+        → and_then (and_then o (λ v. evaluated Lax top t bs (next_jump b.on_true b.on_false (length (b ∷ bs)) None v))) (λ v. Ok (filtered t v)) ≡ Ok (filtered t None)
+    go (Ok v) u rest = rest
+    go (Err e) u rest = absurd u
+settled (x ∷ xs) (b ∷ bs) Lax (Some jump) top t h a =
+    go (truth Lax b.condition top t) (question_total x.question b.condition top t a.0.question) (settled xs bs Lax (Some jump) top t h a.1)
+    (settled xs bs Lax None top t refl a.1) (is_closed jump h)
+  where
+    go : (o : Outcome Truth) → IsOkAnd o Any
+        → and_then (evaluated Lax top t bs (Some jump)) (λ v. Ok (filtered t v)) ≡ Ok (filtered t (Some jump.truth))
+        → and_then (evaluated Lax top t bs None) (λ v. Ok (filtered t v)) ≡ Ok (filtered t None)
+        → (jump.left ≡ 0) × (jump.truth ≡ false)
+        → and_then (and_then o (λ v. evaluated Lax top t bs (next_jump b.on_true b.on_false (length (b ∷ bs)) (Some jump) v))) (λ v. Ok (filtered t v))
+        ≡ Ok (filtered t (Some jump.truth))
+    go (Ok (Some v)) u rest unknown closed =
+        ap (λ here. and_then (evaluated Lax top t bs (if here then taken b.on_true b.on_false (Some v) else Some jump)) (λ w. Ok (filtered t w)))
+        (lt-leb (length (b ∷ bs)) jump.left (omega (arith, closed.0)))
+        ∙ rest
+    go (Ok None) u rest unknown closed =
+        ap (λ here. and_then (evaluated Lax top t bs (if here then None else None)) (λ w. Ok (filtered t w)))
+        (lt-leb (length (b ∷ bs)) jump.left (omega (arith, closed.0)))
+        ∙ unknown ∙ ap (λ v. Ok (filtered t (Some v))) (sym closed.1)
+    go (Err e) u rest unknown closed = absurd u
+
+-- ---- members
+
+-- what was found is there if and only if the list has an item
+pub found_is_item : (R : Spot → Tree → Type 0) (found : Option Spot) (ts : List Tree) → AllZip R (option_spots found) ts → is_some found ≡ is_some_item ts
+found_is_item R None [] a = refl
+found_is_item R None (t ∷ ts) a = absurd a
+found_is_item R (Some x) [] a = absurd a
+found_is_item R (Some x) (t ∷ ts) a = refl
+
+-- the truth by the steps as they are evaluated within an operand
+pub both_members : (c : MembersCompared) (e : Expression) (mode : Mode) (top t : Tree) → AreMembersCompared c e → truth mode e top t
+    ≡ and_then (steps_meaning mode (steps_of (map (taken_step AreRefused) (steps_view c.left.now))) top (t ∷ []))
+    (λ ls. and_then (steps_meaning mode (steps_of (map (taken_step AreRefused) (steps_view c.right.now))) top (t ∷ []))
+    (λ rs. Ok (compare (operator_view c.op) (flat_map values_of_item ls) (flat_map values_of_item rs))))
+both_members c e mode top t k =
+    k.compares mode top t
+    ∙ (λ i. and_then (steps_meaning mode (steps_of (sym (refused_steps (steps_view c.left.now)) i)) top (t ∷ []))
+    (λ ls. and_then (steps_meaning mode (steps_of (sym (refused_steps (steps_view c.right.now)) i)) top (t ∷ []))
+    (λ rs. Ok (compare (operator_view c.op) (flat_map values_of_item ls) (flat_map values_of_item rs)))))
+
+-- an expression whose operands are two members
+pub compares_members : (mode : Mode) (op : BinaryOp) (l r : Steps) (top t : Tree) → is_comparison op ≡ true
+    → truth mode (binary op (paths (step current l)) (paths (step current r))) top t
+    ≡ and_then (steps_meaning mode l top (t ∷ []))
+    (λ ls. and_then (steps_meaning mode r top (t ∷ [])) (λ rs. Ok (compare op (flat_map values_of_item ls) (flat_map values_of_item rs))))
+compares_members mode op l r top t compares =
+    comparison_is mode op (paths (step current l)) (paths (step current r)) top t compares
+    ∙ joined (steps_meaning mode l top (t ∷ [])) (steps_meaning mode r top (t ∷ []))
+  where
+    joined : (o p : Outcome (List Tree)) →
+        and_then (and_then o (λ ts. Ok (flat_map values_of_item ts))) (λ ls. and_then (and_then p (λ ts. Ok (flat_map values_of_item ts))) (λ rs. Ok (compare op ls rs)))
+        ≡ and_then o (λ ls. and_then p (λ rs. Ok (compare op (flat_map values_of_item ls) (flat_map values_of_item rs))))
+    joined (Ok ls) (Ok rs) = refl
+    joined (Ok ls) (Err e) = refl
+    joined (Err e) p = refl
+
+-- an operator that neither joins results nor compares is arithmetic, which is unknown
+pub arithmetic_unknown : (mode : Mode) (op : BinaryOp) (l r : Expression) (top t : Tree) → is_joined (binary op l r) ≡ false → is_comparison op ≡ false
+    → truth mode (binary op l r) top t ≡ Ok None
+arithmetic_unknown mode add l r top t h i = refl
+arithmetic_unknown mode subtract l r top t h i = refl
+arithmetic_unknown mode multiply l r top t h i = refl
+arithmetic_unknown mode divide l r top t h i = refl
+arithmetic_unknown mode modulo l r top t h i = refl
+arithmetic_unknown mode and_op l r top t h i = cc
+arithmetic_unknown mode or_op l r top t h i = cc
+arithmetic_unknown mode eq l r top t h i = cc
+arithmetic_unknown mode not_eq l r top t h i = cc
+arithmetic_unknown mode lt l r top t h i = cc
+arithmetic_unknown mode lte l r top t h i = cc
+arithmetic_unknown mode gt l r top t h i = cc
+arithmetic_unknown mode gte l r top t h i = cc
+arithmetic_unknown mode starts_with_op l r top t h i = cc

@@ -1,0 +1,46 @@
+use Rattle.std.proofs.Common.{ap, sym, ◌∙◌}
+use Rattle.jsonb.specs.PathTree as math
+use Rattle.jsonb.specs.PathTree.{steps_of}
+use Rattle.jsonb.specs.PathViews.{steps_view, expression_view, operator_view}
+use Rattle.jsonb.specs.Meaning.{truth}
+use Rattle.jsonb.specs.Private.Selection.{value_view}
+use Rattle.jsonb.proofs.ComparedLemmas.{compares_member}
+use Rattle.jsonb.proofs.MirrorLemmas.{member_mirrored}
+use Rattle.jsonb.proofs.TestLemmas.{compares_members}
+use Rattle.jsonb.proofs.selector.compile.comparison_of.Goals as goal
+
+pub returns-in_ok-literal-in-Some-None : goal.returns-in_ok-literal-in-Some-None
+returns-in_ok-literal-in-Some-None c = λ compares.
+    let k = c.in-Some-None in
+    let literal = c.in_ok-literal-in-Some-None in
+    record {
+      members = k.ensures.0;
+      compares = λ mode top t.
+          ap (λ x. truth mode (math.binary (operator_view c.args.op) x (expression_view c.args.right.now)) top t) k.ensures.1
+          ∙ compares_member mode (operator_view c.args.op) (steps_of (steps_view k.names.now)) (expression_view c.args.right.now)
+          (value_view literal.literal) top t compares (literal.ensures mode top t);
+    }
+
+pub returns-in-Some-Some : goal.returns-in-Some-Some
+returns-in-Some-Some c = λ compares.
+    let k = c.in-Some-Some in
+    record {
+      left = k.ensures.0;
+      right = k.ensures'.0;
+      compares = λ mode top t.
+          (λ i. truth mode (math.binary (operator_view c.args.op) (k.ensures.1 i) (k.ensures'.1 i)) top t)
+          ∙ compares_members mode (operator_view c.args.op) (steps_of (steps_view k.left.now)) (steps_of (steps_view k.right.now)) top t compares;
+    }
+
+pub returns-in_ok-turned-in-None-Some : goal.returns-in_ok-turned-in-None-Some
+returns-in_ok-turned-in-None-Some c = λ _.
+    let k = c.in-None-Some in
+    let literal = c.in_ok-literal-in-None-Some in
+    let turned = c.in_ok-turned-in-None-Some in
+    record {
+      members = k.ensures'.0;
+      compares = λ mode top t.
+          ap (λ x. truth mode (math.binary (operator_view c.args.op) (expression_view c.args.left.now) x) top t) k.ensures'.1
+          ∙ member_mirrored mode (operator_view c.args.op) (operator_view turned.turned) (expression_view c.args.left.now)
+          (value_view literal.literal) (steps_of (steps_view k.names.now)) top t (sym turned.ensures) (literal.ensures mode top t);
+    }

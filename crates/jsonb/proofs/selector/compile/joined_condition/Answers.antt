@@ -1,0 +1,25 @@
+use Rattle.std.proofs.Common.{[], ◌∷◌, ap, sym, ◌∙◌, subst, reverse}
+use Rattle.jsonb.specs.Private.Tests.{AreBranches, pending, waiting_left}
+use Rattle.jsonb.specs.declared.selector.compile.Target.TheVariants.{At}
+use Rattle.jsonb.specs.declared.selector.compile.Waiting.{Waiting}
+use Rattle.jsonb.proofs.selector.compile.joined_condition.Goals as goal
+
+pub loop-next-init : goal.loop-next-init
+loop-next-init c =
+    let whole : Waiting = record { e = c.args.e; on_true = At 0; on_false = At 0 } in (
+      [],
+      subst (λ l. AreBranches (reverse l) []) (sym c.new-tests.ensures.items) tt,
+      ap (λ ws. pending (whole ∷ reverse ws) []) c.new-waiting.ensures.items,
+    )
+
+pub loop-next-preserved : goal.loop-next-preserved
+loop-next-preserved c =
+    let inv = c.loop-next.invariant in
+    let before = ap (λ p. pending (waiting_left p c.loop-next.waiting.items) inv.0) (sym c.in-Some.is) ∙ inv.2 in
+    let k = (rw c.in-Some-2.is at c.in_ok-after.ensures.tests) inv.0 inv.1 in (k.0, k.1, k.2 ∙ before)
+
+pub returns-clause-tests : goal.returns-clause-tests
+returns-clause-tests c =
+    let inv = c.loop-next.invariant in
+    subst (AreBranches (reverse c.loop-next.tests.items))
+    (ap (λ p. pending (waiting_left p c.loop-next.waiting.items) inv.0) (sym c.in_default.is) ∙ inv.2) inv.1

@@ -1,0 +1,57 @@
+use Rattle.std.proofs.Common.{Err, ap, subst, ◌∙◌}
+use Rattle.std.proofs.lemmas.Result.{err_from_is_err_and}
+use Rattle.jsonb.specs.PathTree.{filter}
+use Rattle.jsonb.specs.Meaning.{step_meaning}
+use Rattle.jsonb.specs.Private.Tests.{AreTestsOf}
+use Rattle.jsonb.proofs.GivesLemmas.{same_answer}
+use Rattle.jsonb.proofs.Progress.{none_passed, spot_passed, spot_not_passed, all_passed}
+use Rattle.jsonb.proofs.TestLemmas.{no_tests}
+use Rattle.jsonb.proofs.selector.evaluate.tested_items.Goals as goal
+use Rattle.jsonb.proofs.selector.evaluate.tested_items.Goals.{in-Compared+in_ok-push_tested-in-Compared, in_default-question+in_ok-push_tested-in_default-question}
+
+pub returns-in_default-clause-meant : goal.returns-in_default-clause-meant
+returns-in_default-clause-meant c = λ e top ts k a. no_tests c.args.tests.now e c.in_default.ensures.cases k
+
+pub loop-item-init : goal.loop-item-init
+loop-item-init c = λ e top ts k a.
+    none_passed (step_meaning c.args.mode (filter e) top) c.args.bytes.now c.args.items.now ts c.new-nodes.result.items c.new-nodes.ensures.items a
+
+pub returns-in_err-push_tested-in-Compared-clause-meant : goal.returns-in_err-push_tested-in-Compared-clause-meant
+returns-in_err-push_tested-in-Compared-clause-meant c = λ e top ts k a.
+    let p = err_from_is_err_and c.from_residual.result c.from_residual.ensures.1 in
+    same_answer (p.1 ∙ ap Err p.2)
+    (spot_not_passed (step_meaning c.args.mode (filter e) top) c.args.bytes.now c.args.items.now ts c.loop-item.item-index c.loop-item.nodes.items
+    c.push_tested.new.nodes.items (c.loop-item.invariant e top ts k a) _ _ c.loop-item-test.true
+    (λ u before s b. c.in_err-push_tested-in-Compared.ensures.meant e top u before (subst (λ l. AreTestsOf l e) c.in-Some.ensures.cases.0 k) s
+    (λ condition h. let is = rw c.in-Compared.is at h in
+    c.literal_truth-truth.ensures.meant condition c.args.mode top u is (c.compared_member-found.ensures.meant top u is.members s)) b))
+
+pub returns-in_err-push_tested-in_default-question-clause-meant : goal.returns-in_err-push_tested-in_default-question-clause-meant
+returns-in_err-push_tested-in_default-question-clause-meant c = λ e top ts k a.
+    let p = err_from_is_err_and c.from_residual-in_err-push_tested-in_default-question.result c.from_residual-in_err-push_tested-in_default-question.ensures.1 in
+    same_answer (p.1 ∙ ap Err p.2)
+    (spot_not_passed (step_meaning c.args.mode (filter e) top) c.args.bytes.now c.args.items.now ts c.loop-item.item-index c.loop-item.nodes.items
+    c.push_tested-in_default-question.new.nodes.items (c.loop-item.invariant e top ts k a) _ _ c.loop-item-test.true
+    (λ u before s b. c.in_err-push_tested-in_default-question.ensures.meant e top u before (subst (λ l. AreTestsOf l e) c.in-Some.ensures.cases.0 k) s
+    (λ condition h. c.question_truth-truth.ensures.meant condition top u h s) b))
+
+pub loop-item-preserved : goal.loop-item-preserved
+loop-item-preserved c = λ e top ts k a.
+    let compiled = subst (λ l. AreTestsOf l e) c.in-Some.ensures.cases.0 k in
+    elim c.match-first.branch [
+      | in-Compared+in_ok-push_tested-in-Compared w ↦ rw w.nodes-is (spot_passed (step_meaning c.args.mode (filter e) top) c.args.bytes.now c.args.items.now ts
+          c.loop-item.item-index c.loop-item.nodes.items w.push_tested.new.nodes.items (c.loop-item.invariant e top ts k a) c.loop-item-test.true
+          (λ u before s b. (w.in_ok-push_tested-in-Compared.ensures.meant e top u before compiled s
+          (λ condition h. let is = rw w.in-Compared.is at h in
+          w.literal_truth-truth.ensures.meant condition c.args.mode top u is (w.compared_member-found.ensures.meant top u is.members s)) b).ok))
+      | in_default-question+in_ok-push_tested-in_default-question w ↦ rw w.nodes-is (spot_passed (step_meaning c.args.mode (filter e) top) c.args.bytes.now
+          c.args.items.now ts c.loop-item.item-index c.loop-item.nodes.items w.push_tested-in_default-question.new.nodes.items
+          (c.loop-item.invariant e top ts k a) c.loop-item-test.true
+          (λ u before s b. (w.in_ok-push_tested-in_default-question.ensures.meant e top u before compiled s
+          (λ condition h. w.question_truth-truth.ensures.meant condition top u h s) b).ok))
+    ]
+
+pub returns-clause-meant : goal.returns-clause-meant
+returns-clause-meant c = λ e top ts k a.
+    let passed = c.loop-item.invariant e top ts k a in
+    record { ok = all_passed (step_meaning c.args.mode (filter e) top) c.args.bytes.now _ ts _ _ passed c.loop-item-test.false; err = tt }

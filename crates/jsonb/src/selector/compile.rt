@@ -1,0 +1,292 @@
+//! Compiles an expression to the tests of a condition.
+
+ghost use Rattle.std.specs.Prelude.{◌≡◌, ◌<◌, ◌+◌, ◌++◌, ◌∷◌, [], List, Ok, Some, map, true, false, option_map, reverse, MatchOption, IfSome, ⊤, IfOk, IfErr};
+ghost use Rattle.jsonb_doc.specs.Answer.{IsOutOfMemory};
+ghost use Rattle.jsonb_doc.specs.Tree.{Tree};
+ghost use Rattle.jsonb.specs.PathTree.{steps_of, step, current, paths, binary, exists};
+ghost use Rattle.jsonb.specs.PathViews.{expression_view, operator_view, steps_view};
+ghost use Rattle.jsonb.specs.Meaning.{operand_values};
+ghost use Rattle.jsonb.specs.Private.Compared.{mirrored};
+ghost use Rattle.jsonb.specs.Private.Jumps.{Branch};
+ghost use Rattle.jsonb.specs.Private.Kept.{is_comparison};
+ghost use Rattle.jsonb.specs.Private.Members.{are_members};
+ghost use Rattle.jsonb.specs.Private.Parts.{parts};
+ghost use Rattle.jsonb.specs.Private.Selection.{value_view};
+ghost use Rattle.jsonb.specs.Private.Terms.{is_joined};
+ghost use Rattle.jsonb.specs.Private.Tests.{IsMemberFound, IsQuestionOf, AreBranches, AreTestsOf, tests_in, jump_to, left_of, right_of, pending, waiting_left, parts_waiting, parts_to_compile};
+ghost use Rattle.jsonb.specs.declared.selector.document.Mode.{Mode};
+
+use super::kept::is_comparison;
+use super::members::{are_members, member_steps};
+use super::operand_value::{OperandValue, value_of_literal};
+use super::plan::{Condition, MemberCompared, MemberFound, MembersCompared, Question, Test};
+use super::terms::{Join, Pair, is_joined, pair_of};
+use crate::path::{BinaryOperator, Expr, Path};
+use jsonb_doc::Error;
+use std::alloc::Global;
+
+/// The place at which a part of a condition continues.
+#[derive(Clone, Copy)]
+pub(crate) enum Target {
+    /// At the test after the part.
+    Next,
+    /// At the test from which as many are left.
+    At(usize),
+}
+
+/// A part of a condition that is compiled after the parts that follow it.
+#[derive(Clone, Copy)]
+pub(crate) struct Waiting<'s, 'p> {
+    pub(crate) e: &'s Expr<'p>,
+    pub(crate) on_true: Target,
+    pub(crate) on_false: Target,
+}
+
+/// Returns the tests of an expression, if no part of it needs a path other than a member of the item.
+pub(crate) fn condition_of<'s, 'p>(
+    alloc: Global,
+    e: &'s Expr<'p>,
+) -> Result<Option<Condition<'s, 'p>>, Error>
+    ensures tests { IfOk result (λ found. MatchOption found ⊤
+        (λ condition. AreTestsOf (tests_in condition) (expression_view e.now))) }
+    ensures errors { IfErr result IsOutOfMemory }
+{
+    if is_joined(e) {
+        return joined_condition(alloc, e);
+    }
+    match question_of(e) {
+        Some(question) => Ok(Some(Condition::One(Test {
+            question,
+            on_true: 0,
+            on_false: 0,
+        }))),
+        None => Ok(None),
+    }
+}
+
+/// Returns the tests of an expression that joins others.
+///
+/// They are found from the last to the first, so that the number of tests after each is known.
+#[inline(never)]
+fn joined_condition<'s, 'p>(
+    alloc: Global,
+    e: &'s Expr<'p>,
+) -> Result<Option<Condition<'s, 'p>>, Error>
+    ensures tests { IfOk result (λ found. MatchOption found ⊤
+        (λ condition. AreTestsOf (tests_in condition) (expression_view e.now))) }
+    ensures errors { IfErr result IsOutOfMemory }
+{
+    let mut tests = Vec::new(alloc);
+    let mut waiting = Vec::new(alloc);
+    let mut next = Some(Waiting {
+        e,
+        on_true: Target::At(0),
+        on_false: Target::At(0),
+    });
+    while let Some(part) = next {
+        match compile_part(part, &mut tests, &mut waiting)? {
+            Some(after) => next = after,
+            None => return Ok(None),
+        }
+    }
+    Ok(Some(Condition::Many(tests)))
+}
+
+/// Compiles the last test of a part of a condition, which the tests so far follow. Returns the part that comes
+/// next, and `None` if the test cannot be compiled.
+#[inline(always)]
+fn compile_part<'s, 'p>(
+    part: Waiting<'s, 'p>,
+    tests: &mut Vec<Test<'s, 'p>>,
+    waiting: &mut Vec<Waiting<'s, 'p>>,
+) -> Result<Option<Option<Waiting<'s, 'p>>>, Error>
+    ensures tests { IfOk result (λ compiled. IfSome compiled (λ next. (done : List Branch)
+        → AreBranches (reverse tests.old.items) done
+        → (more : List Branch) × AreBranches (reverse tests.new.items) more
+        × (pending (waiting_left next waiting.new.items) more
+        ≡ pending (part.entry ∷ reverse waiting.old.items) done))) }
+    ensures fewer { IfOk result (λ compiled. IfSome compiled (λ next. parts_to_compile next waiting.new.items
+        < parts part.entry.e.now + parts_waiting waiting.old.items)) }
+    ensures errors { IfErr result IsOutOfMemory }
+{
+    let on_true = jump_to(part.on_true, tests.len());
+    let on_false = jump_to(part.on_false, tests.len());
+    let Some(pair) = pair_of(part.e) else {
+        if !push_test(part.e, on_true, on_false, tests)? {
+            return Ok(None);
+        }
+        return Ok(Some(waiting.pop()));
+    };
+    let left = left_of(pair, on_true, on_false);
+    if is_joined(pair.right) {
+        waiting.push(left)?;
+        return Ok(Some(Some(right_of(pair, on_true, on_false))));
+    }
+    if !push_test(pair.right, on_true, on_false, tests)? {
+        return Ok(None);
+    }
+    Ok(Some(Some(left)))
+}
+
+/// Appends the test of an expression that joins no others. Returns whether it can be compiled.
+fn push_test<'s, 'p>(
+    e: &'s Expr<'p>,
+    on_true: usize,
+    on_false: usize,
+    tests: &mut Vec<Test<'s, 'p>>,
+) -> Result<bool, Error>
+    ensures tests { IfOk result (λ compiled. compiled ≡ true → is_joined (expression_view e.now) ≡ false
+        → (done : List Branch) → AreBranches (reverse tests.old.items) done → AreBranches (reverse tests.new.items)
+        (record { condition = expression_view e.now; on_true = on_true; on_false = on_false } ∷ done)) }
+    ensures errors { IfErr result IsOutOfMemory }
+{
+    let Some(question) = question_of(e) else {
+        return Ok(false);
+    };
+    tests.push(Test {
+        question,
+        on_true,
+        on_false,
+    })?;
+    Ok(true)
+}
+
+/// Returns the left part of a pair, which the right part follows.
+#[inline(always)]
+fn left_of<'s, 'p>(pair: Pair<'s, 'p>, on_true: usize, on_false: usize) -> Waiting<'s, 'p>
+    ensures { result ≡ left_of pair.entry on_true on_false }
+{
+    match pair.join {
+        Join::And => Waiting {
+            e: pair.left,
+            on_true: Target::Next,
+            on_false: Target::At(on_false),
+        },
+        Join::Or => Waiting {
+            e: pair.left,
+            on_true: Target::At(on_true),
+            on_false: Target::Next,
+        },
+    }
+}
+
+/// Returns the right part of a pair, whose result is that of the pair if it is evaluated.
+#[inline(always)]
+fn right_of<'s, 'p>(pair: Pair<'s, 'p>, on_true: usize, on_false: usize) -> Waiting<'s, 'p>
+    ensures { result ≡ right_of pair.entry on_true on_false }
+{
+    Waiting {
+        e: pair.right,
+        on_true: Target::At(on_true),
+        on_false: Target::At(on_false),
+    }
+}
+
+/// Returns the number of tests that are left at a target, if `left` tests follow the part.
+#[inline(always)]
+fn jump_to(target: Target, left: usize) -> usize
+    ensures { result ≡ jump_to target left }
+{
+    match target {
+        Target::Next => left,
+        Target::At(at) => at,
+    }
+}
+
+/// Returns the question that an expression is, if it is not `&&` or `||`.
+fn question_of<'s, 'p>(e: &'s Expr<'p>) -> Option<Question<'s, 'p>>
+    ensures { is_joined (expression_view e.now) ≡ false
+        → MatchOption result ⊤ (λ question. IsQuestionOf question (expression_view e.now)) }
+{
+    match e {
+        Expr::BinaryOp { op, left, right } => {
+            if is_comparison(*op) {
+                comparison_of(*op, left, right)
+            } else {
+                Some(Question::Unknown)
+            }
+        }
+        Expr::ExistsFunc(steps) => Some(Question::MemberFound(member_found(steps)?)),
+        Expr::Paths(_) | Expr::Value(_) | Expr::UnaryOp { .. } => None,
+    }
+}
+
+/// Returns the question that a comparison of two operands is, if one is a member of the item, and the other a member
+/// or a literal. A literal on the left is compared from the right.
+#[inline(always)]
+fn comparison_of<'s, 'p>(
+    op: BinaryOperator,
+    left: &'s Expr<'p>,
+    right: &'s Expr<'p>,
+) -> Option<Question<'s, 'p>>
+    ensures { is_comparison (operator_view op) ≡ true → MatchOption result ⊤ (λ question. IsQuestionOf question
+        (binary (operator_view op) (expression_view left.now) (expression_view right.now))) }
+{
+    match (names_of(left), names_of(right)) {
+        (Some(names), None) => {
+            let literal = literal_of(right)?;
+            Some(Question::Compared(MemberCompared { op, names, literal }))
+        }
+        (None, Some(names)) => {
+            let literal = literal_of(left)?;
+            let turned = mirrored(op)?;
+            Some(Question::Compared(MemberCompared {
+                op: turned,
+                names,
+                literal,
+            }))
+        }
+        (Some(left), Some(right)) => {
+            Some(Question::MembersCompared(MembersCompared { op, left, right }))
+        }
+        (None, None) => None,
+    }
+}
+
+/// Returns the operator that compares two values as `op` does with its sides exchanged.
+fn mirrored(op: BinaryOperator) -> Option<BinaryOperator>
+    ensures { option_map operator_view result ≡ mirrored (operator_view op) }
+{
+    match op {
+        BinaryOperator::Eq => Some(BinaryOperator::Eq),
+        BinaryOperator::NotEq => Some(BinaryOperator::NotEq),
+        BinaryOperator::Lt => Some(BinaryOperator::Gt),
+        BinaryOperator::Lte => Some(BinaryOperator::Gte),
+        BinaryOperator::Gt => Some(BinaryOperator::Lt),
+        BinaryOperator::Gte => Some(BinaryOperator::Lte),
+        _ => None,
+    }
+}
+
+/// Returns the steps after `@` of an operand that is a member of the item.
+fn names_of<'s, 'p>(operand: &'s Expr<'p>) -> Option<&'s [Path<'p>]>
+    ensures { MatchOption result ⊤ (λ names. (are_members (steps_view names.now) ≡ true)
+        × (expression_view operand.now ≡ paths (step current (steps_of (steps_view names.now))))) }
+{
+    match member_steps(operand)? {
+        [Path::Current, names @ ..] => Some(names),
+        _ => None,
+    }
+}
+
+/// The value of an operand that is a literal.
+#[inline(always)]
+pub(crate) fn literal_of<'s>(operand: &'s Expr<'_>) -> Option<OperandValue<'s>>
+    ensures { MatchOption result ⊤ (λ literal. (mode : Mode) (top t : Tree)
+        → operand_values mode (expression_view operand.now) top t ≡ Ok (value_view literal ∷ [])) }
+{
+    match operand {
+        Expr::Value(literal) => Some(value_of_literal(literal)),
+        Expr::Paths(_) | Expr::BinaryOp { .. } | Expr::UnaryOp { .. } | Expr::ExistsFunc(_) => None,
+    }
+}
+
+/// Returns the member that the path of an `exists` is, if it is a member of the item.
+fn member_found<'s, 'p>(steps: &'s [Path<'p>]) -> Option<MemberFound<'s, 'p>>
+    ensures { MatchOption result ⊤ (λ found. IsMemberFound found (exists (steps_of (steps_view steps.now)))) }
+{
+    match steps {
+        [Path::Current, names @ ..] if are_members(names) => Some(MemberFound { names }),
+        _ => None,
+    }
+}

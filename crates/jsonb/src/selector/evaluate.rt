@@ -1,0 +1,256 @@
+//! Evaluation of the tests of a condition for an item.
+
+ghost use Rattle.std.specs.Prelude.{◌≡◌, ◌++◌, ◌∷◌, [], List, Ok, reverse, IfErr};
+ghost use Rattle.jsonb_doc.specs.Answer.{Gives, and_then, try_flat_map, IsOutOfMemory};
+ghost use Rattle.jsonb_doc.specs.Spots.{Locates};
+ghost use Rattle.jsonb_doc.specs.Tree.{Tree};
+ghost use Rattle.jsonb.specs.PathTree.{Expression, filter};
+ghost use Rattle.jsonb.specs.PathViews.{expression_view};
+ghost use Rattle.std.specs.List.{AllZip};
+ghost use Rattle.jsonb.specs.Meaning.{step_meaning, truth, filtered};
+ghost use Rattle.jsonb.specs.Private.Compared.{GivesIfAny};
+ghost use Rattle.jsonb.specs.Private.Jumps.{Branch, evaluated, next_jump, jump_truth};
+ghost use Rattle.jsonb.specs.Private.Tests.{AreMembersCompared, IsQuestionOf, IsTruthOf, AreBranches, AreTestsOf, is_settled};
+ghost use Rattle.jsonb.specs.Private.Selection.{node_spots};
+ghost use Rattle.jsonb.specs.SelectionErrors.{IsSelectionError};
+
+use super::children::push_if;
+use super::compared_member::{compared_member, found_truth, item_truth, literal_truth};
+use super::compile::condition_of;
+use super::document::{Mode, TruthResult};
+use super::kept::is_kept;
+use super::members::member;
+use super::node_list::NodeList;
+use super::plan::{Jump, MembersCompared, Question, Test};
+use super::values::found_values;
+use crate::path::Expr;
+use jsonb_doc::{Error, Spot};
+use std::alloc::Global;
+
+/// Returns the items of a list that a filter selects, in order, if the filter can be compiled to tests.
+///
+/// It has a frame of its own, so that filters within filters do not need that stack.
+#[inline(never)]
+pub(crate) fn tested_filter(
+    alloc: Global,
+    mode: Mode,
+    e: &Expr<'_>,
+    bytes: &[u8],
+    items: &[Spot],
+) -> Result<Option<NodeList>, Error>
+    ensures kept { (top : Tree) (ts : List Tree) → AllZip (Locates bytes.now) items.now ts
+        → GivesIfAny (λ found us. AllZip (Locates bytes.now) (node_spots found) us) result
+        (try_flat_map (step_meaning mode (filter (expression_view e.now)) top) ts) }
+    ensures errors { IfErr result (IsSelectionError mode) }
+{
+    let Some(condition) = condition_of(alloc, e)? else {
+        return Ok(None);
+    };
+    let nodes = tested_items(alloc, mode, condition.as_slice(), bytes, items)?;
+    Ok(Some(nodes))
+}
+
+/// Returns the items of a list for which the condition is true, in order.
+///
+/// The first test determines the result for most items. If it is a comparison, it is inlined here.
+fn tested_items(
+    alloc: Global,
+    mode: Mode,
+    tests: &[Test<'_, '_>],
+    bytes: &[u8],
+    items: &[Spot],
+) -> Result<NodeList, Error>
+    ensures meant { (e : Expression) (top : Tree) (ts : List Tree) → AreTestsOf tests.now e
+        → AllZip (Locates bytes.now) items.now ts
+        → Gives (λ found us. AllZip (Locates bytes.now) (node_spots found) us)
+        IsOutOfMemory result (try_flat_map (step_meaning mode (filter e) top) ts) }
+    ensures errors { IfErr result (IsSelectionError mode) }
+{
+    let mut nodes = Vec::new(alloc);
+    let Some((first, others)) = tests.split_last() else {
+        return Ok(NodeList::Many(nodes));
+    };
+    for item in items {
+        match &first.question {
+            Question::Compared(comparison) => {
+                let found = compared_member(mode, comparison, bytes, *item);
+                let truth = literal_truth(comparison, bytes, found);
+                push_tested(alloc, mode, first, others, truth, bytes, *item, &mut nodes)?;
+            }
+            question => {
+                let truth = question_truth(alloc, mode, question, bytes, *item);
+                push_tested(alloc, mode, first, others, truth, bytes, *item, &mut nodes)?;
+            }
+        }
+    }
+    Ok(NodeList::Many(nodes))
+}
+
+/// Appends an item if the condition is true whose first test has this truth.
+#[inline(always)]
+fn push_tested(
+    alloc: Global,
+    mode: Mode,
+    first: &Test<'_, '_>,
+    others: &[Test<'_, '_>],
+    first_truth: TruthResult,
+    bytes: &[u8],
+    item: Spot,
+    nodes: &mut Vec<Spot>,
+) -> Result<(), Error>
+    ensures meant { (e : Expression) (top t : Tree) (before : List Tree)
+        → AreTestsOf (others.now ++ first.now ∷ []) e → Locates bytes.now item t
+        → IsTruthOf mode top t first.now.question first_truth → AllZip (Locates bytes.now) nodes.old.items before
+        → Gives (λ _ ts. AllZip (Locates bytes.now) nodes.new.items (before ++ ts)) IsOutOfMemory result
+        (step_meaning mode (filter e) top t) }
+    ensures errors { IfErr first_truth (IsSelectionError mode) → IfErr result (IsSelectionError mode) }
+{
+    let keeps = is_kept(filter_truth(alloc, mode, first, others, first_truth, bytes, item)?);
+    push_if(keeps, item, nodes)
+}
+
+/// Returns the truth of a condition whose first test has this truth, as far as it determines whether a filter selects
+/// the item.
+#[inline(always)]
+pub(crate) fn filter_truth(
+    alloc: Global,
+    mode: Mode,
+    first: &Test<'_, '_>,
+    others: &[Test<'_, '_>],
+    first_truth: TruthResult,
+    bytes: &[u8],
+    item: Spot,
+) -> TruthResult
+    ensures meant { (e : Expression) (top t : Tree) → AreTestsOf (others.now ++ first.now ∷ []) e
+        → Locates bytes.now item t → IsTruthOf mode top t first.now.question first_truth
+        → Gives (λ b ts. filtered t b ≡ ts) IsOutOfMemory result (step_meaning mode (filter e) top t) }
+    ensures errors { IfErr first_truth (IsSelectionError mode) → IfErr result (IsSelectionError mode) }
+{
+    let truth = first_truth?;
+    let left = others.len() + 1;
+    let start = Some(Jump { left, truth: false });
+    let state = next_jump(first, left, start, truth);
+    if is_settled(mode, state) {
+        return Ok(jump_truth(state));
+    }
+    tests_truth(alloc, mode, others, state, bytes, item)
+}
+
+/// Returns the truth of a condition of which these tests are left, as far as it determines whether a filter selects
+/// the item. In lax mode the tests after one that determines it are not evaluated.
+#[inline(always)]
+fn tests_truth(
+    alloc: Global,
+    mode: Mode,
+    tests: &[Test<'_, '_>],
+    start: Option<Jump>,
+    bytes: &[u8],
+    item: Spot,
+) -> TruthResult
+    ensures meant { (branches : List Branch) (top t : Tree) → AreBranches (reverse tests.now) branches
+        → Locates bytes.now item t
+        → Gives (λ b ts. filtered t b ≡ ts) IsOutOfMemory result
+        (and_then (evaluated mode top t branches start) (λ b. Ok (filtered t b))) }
+    ensures errors { IfErr result (IsSelectionError mode) }
+{
+    let mut state = start;
+    let mut left = tests.len();
+    while left > 0 {
+        let test = &tests[left - 1];
+        let truth = question_truth(alloc, mode, &test.question, bytes, item)?;
+        state = next_jump(test, left, state, truth);
+        if is_settled(mode, state) {
+            return Ok(jump_truth(state));
+        }
+        left -= 1;
+    }
+    Ok(jump_truth(state))
+}
+
+/// Returns the jump after a test, the first of `left`, or `None` if its result is unknown.
+#[inline(always)]
+fn next_jump(
+    test: &Test<'_, '_>,
+    left: usize,
+    state: Option<Jump>,
+    truth: Option<bool>,
+) -> Option<Jump>
+    ensures { result ≡ next_jump test.now.on_true test.now.on_false left state truth }
+{
+    let jump = state?;
+    let truth = truth?;
+    if left > jump.left {
+        return Some(jump);
+    }
+    let left = if truth { test.on_true } else { test.on_false };
+    Some(Jump { left, truth })
+}
+
+/// Returns the result of a condition of which no test remains.
+#[inline(always)]
+fn jump_truth(state: Option<Jump>) -> Option<bool>
+    ensures { result ≡ jump_truth state }
+{
+    match state {
+        Some(jump) => Some(jump.truth),
+        None => None,
+    }
+}
+
+/// Returns `true` if no remaining test changes what a filter selects. In strict mode each is evaluated, since it may
+/// fail.
+#[inline(always)]
+fn is_settled(mode: Mode, state: Option<Jump>) -> bool
+    ensures { result ≡ is_settled mode state }
+{
+    match (mode, state) {
+        (Mode::Strict, _) => false,
+        (Mode::Lax, None) => true,
+        (Mode::Lax, Some(jump)) => jump.left == 0 && !jump.truth,
+    }
+}
+
+/// Evaluates a question for an item.
+#[inline(always)]
+pub(crate) fn question_truth(
+    alloc: Global,
+    mode: Mode,
+    question: &Question<'_, '_>,
+    bytes: &[u8],
+    item: Spot,
+) -> TruthResult
+    ensures meant { (e : Expression) (top t : Tree) → IsQuestionOf question.now e → Locates bytes.now item t
+        → Gives (λ b c. b ≡ c) IsOutOfMemory result (truth mode e top t) }
+    ensures errors { IfErr result (IsSelectionError mode) }
+{
+    match question {
+        Question::Compared(comparison) => item_truth(mode, comparison, bytes, item),
+        Question::MembersCompared(comparison) => {
+            members_truth(alloc, mode, comparison, bytes, item.by_parts())
+        }
+        Question::MemberFound(asked) => {
+            let found = member(mode, asked.names, bytes, item.by_parts())?;
+            Ok(Some(found.is_some()))
+        }
+        Question::Unknown => Ok(None),
+    }
+}
+
+/// Returns how two members of an item compare.
+#[inline(never)]
+fn members_truth(
+    alloc: Global,
+    mode: Mode,
+    comparison: &MembersCompared<'_, '_>,
+    bytes: &[u8],
+    item: Spot,
+) -> TruthResult
+    ensures meant { (e : Expression) (top t : Tree) → AreMembersCompared comparison.now e
+        → Locates bytes.now item t → Gives (λ b c. b ≡ c) IsOutOfMemory result (truth mode e top t) }
+    ensures errors { IfErr result (IsSelectionError mode) }
+{
+    let left = member(mode, comparison.left, bytes, item)?;
+    let right = member(mode, comparison.right, bytes, item)?;
+    let rights = found_values(alloc, bytes, NodeList::at_most_one(alloc, right))?;
+    found_truth(comparison.op, bytes, left, rights.as_slice())
+}
